@@ -1,0 +1,42 @@
+use Rattle.disk.specs.AnodeBlocks.{anodeIn}
+use borrow.Author.Needs.{needs}
+use Rattle.disk.proofs.anode_in.Statement.{statement}
+use Rattle.disk.proofs.anode_in.Tie as tie
+
+mul-at : tie.Need-mul-at
+mul-at c = search needs
+
+add-at : tie.Need-add-at
+add-at c = search needs
+
+read16-requires : tie.Need-read16-requires
+read16-requires c κs = search needs
+
+add-read16 : tie.Need-add-read16
+add-read16 c = search needs
+
+read16-requires-2 : tie.Need-read16-requires-2
+read16-requires-2 c κs = search needs
+
+add-read16-2 : tie.Need-add-read16-2
+add-read16-2 c = search needs
+
+read16-requires-3 : tie.Need-read16-requires-3
+read16-requires-3 c κs = search needs
+
+returns : tie.Need-returns
+unfolding anodeIn
+returns c = cc
+
+pub anode-in-spec : {M : Type 1} → statement M
+anode-in-spec =
+    tie.close
+    (tie.spec
+    mul-at
+    add-at
+    read16-requires
+    add-read16
+    read16-requires-2
+    add-read16-2
+    read16-requires-3
+    returns)

@@ -1,0 +1,213 @@
+-- What a reader of bytes gets after a store, and the steps of the loops that store a run. Assumes nothing.
+use mathlib.Core.Path.{_≡_, refl, sym, _∙_}
+use Prim.Native.Nat.{ℕ, zero, suc, _+_, _/_, _%_, _-_, _<_, _≤_}
+use mathlib.Core.List.{List, [], _∷_}
+use mathlib.Core.Bool.{Bool, true, false}
+use mathlib.Core.Logic.{_⊎_, inl, inr, ⊎-elim}
+use lib.Dec.{leb, eqb}
+use borrow.Author.Tests.{leb-true, leb-false, eqb-true, eqb-false}
+use native.Mathlib.Omega.{arith}
+use native.Mathlib.Numerals.{add-one}
+use native.Mathlib.Nat.{not-suc-le-zero}
+use lib.ListN.{length, getD, set, take, drop, replicate, length-set, length-replicate, getD-replicate, List·getD-eq-default}
+use lib.Seq.{set-out, getD-set-same, getD-set-other, getD-take, getD-drop, drop-cons, length-sets}
+use Rattle.endian.specs.Bytes.{be16, be32, put16, put32, stored, cleared}
+
+-- ---- cases
+
+pub le-or-lt : (a b : ℕ) → (a ≤ b) ⊎ (b < a)
+le-or-lt a b = go (leb a b) refl where
+  go : (t : Bool) → leb a b ≡ t → (a ≤ b) ⊎ (b < a)
+  go true e = inl (leb-true a b e)
+  go false e = inr (leb-false a b e)
+
+pub eq-or-ne : (a b : ℕ) → (a ≡ b) ⊎ (a ≡ b → ⊥)
+eq-or-ne a b = go (eqb a b) refl where
+  go : (t : Bool) → eqb a b ≡ t → (a ≡ b) ⊎ (a ≡ b → ⊥)
+  go true e = inl (eqb-true a b e)
+  go false e = inr (eqb-false a b e)
+
+-- ---- numbers
+
+-- equal bytes make equal numbers
+pub be16-bytes : (l m : List ℕ) (k j : ℕ) → getD l k 0 ≡ getD m j 0 → getD l (k + 1) 0 ≡ getD m (j + 1) 0 → be16 l k ≡ be16 m j
+unfolding be16
+be16-bytes l m k j p q = rw (p, q)
+
+-- and so do equal halves
+pub be32-halves : (l m : List ℕ) (k j : ℕ) → be16 l k ≡ be16 m j → be16 l (k + 2) ≡ be16 m (j + 2) → be32 l k ≡ be32 m j
+unfolding be32
+be32-halves l m k j p q = rw (p, q)
+
+-- a number past the end is 0
+pub be16-out : (l : List ℕ) (at : ℕ) → length l ≤ at → be16 l at ≡ 0
+unfolding be16
+be16-out l at h = rw (List·getD-eq-default l 0 h, List·getD-eq-default l 0 {n = at + 1} (omega arith))
+
+pub be32-out : (l : List ℕ) (at : ℕ) → length l ≤ at → be32 l at ≡ 0
+unfolding be32
+be32-out l at h = rw (be16-out l at h, be16-out l (at + 2) (omega arith))
+
+-- a number read in a part is that read in the whole
+pub be16-part : (l : List ℕ) (from n k : ℕ) → k + 1 < n → be16 (take n (drop from l)) k ≡ be16 l (from + k)
+be16-part l from n k h =
+    let e : from + (k + 1) ≡ from + k + 1 = omega arith in
+    be16-bytes (take n (drop from l)) l k (from + k)
+    (getD-take n (drop from l) k 0 (omega arith) ∙ getD-drop from l k 0)
+    (getD-take n (drop from l) (k + 1) 0 h ∙ getD-drop from l (k + 1) 0 ∙ rw e)
+
+pub be16-set-other : (l : List ℕ) (at v k : ℕ) → (k ≡ at → ⊥) → (k + 1 ≡ at → ⊥) → be16 (set l at v) k ≡ be16 l k
+be16-set-other l at v k n0 n1 = be16-bytes (set l at v) l k k (getD-set-other l at k v 0 n0) (getD-set-other l at (k + 1) v 0 n1)
+
+module _ (l : List ℕ) (at v : ℕ) where
+  pub length-put16 : length (put16 l at v) ≡ length l
+  unfolding put16
+  length-put16 = simp length-set
+
+  pub put16-out : length l ≤ at → put16 l at v ≡ l
+  unfolding put16
+  put16-out h = rw (set-out l at (v / 256) h, set-out l (at + 1) (v % 256) (omega arith))
+
+  pub be16-put16-same : at + 1 < length l → be16 (put16 l at v) at ≡ v
+  unfolding be16 put16
+  be16-put16-same h =
+      rw (
+        getD-set-other (set l at (v / 256)) (at + 1) at (v % 256) 0 (λ e. omega arith),
+        getD-set-same l at (v / 256) 0 (omega arith),
+        getD-set-same (set l at (v / 256)) (at + 1) (v % 256) 0 (simp length-set h),
+      )
+      (omega arith)
+
+  pub getD-put16-other : (k : ℕ) → (k ≡ at → ⊥) → (k ≡ at + 1 → ⊥) → getD (put16 l at v) k 0 ≡ getD l k 0
+  unfolding put16
+  getD-put16-other k n0 n1 = getD-set-other (set l at (v / 256)) (at + 1) k (v % 256) 0 n1 ∙ getD-set-other l at k (v / 256) 0 n0
+
+  pub be16-put16-other : (k : ℕ) → (k ≡ at → ⊥) → (k + 1 ≡ at → ⊥) → (k ≡ at + 1 → ⊥) → be16 (put16 l at v) k ≡ be16 l k
+  be16-put16-other k n0 n1 n2 =
+      be16-bytes (put16 l at v) l k k (getD-put16-other k n0 n2) (getD-put16-other (k + 1) n1 (λ e. n0 (omega arith)))
+
+module _ (l : List ℕ) (at v : ℕ) where
+  pub length-put32 : length (put32 l at v) ≡ length l
+  unfolding put32
+  length-put32 = simp length-put16
+
+  pub put32-out : length l ≤ at → put32 l at v ≡ l
+  unfolding put32
+  put32-out h = rw (put16-out l at (v / 65536) h, put16-out l (at + 2) (v % 65536) (omega arith))
+
+  pub be32-put32-same : at + 3 < length l → be32 (put32 l at v) at ≡ v
+  unfolding be32 put32
+  be32-put32-same h =
+      let m = put16 l at (v / 65536) in
+      rw (
+        be16-put16-other m (at + 2) (v % 65536) at (λ e. omega arith) (λ e. omega arith) (λ e. omega arith),
+        be16-put16-same l at (v / 65536) (omega arith),
+        be16-put16-same m (at + 2) (v % 65536) (simp length-put16 (omega arith)),
+      )
+      (omega arith)
+
+-- ---- runs
+
+pub length-stored : (l : List ℕ) (at : ℕ) (s : List ℕ) → length (stored l at s) ≡ length l
+unfolding stored
+length-stored l at s = length-sets l at s
+
+pub stored-none : (l : List ℕ) (at : ℕ) → stored l at [] ≡ l
+unfolding stored
+stored-none l at = refl
+
+pub stored-cons : (l : List ℕ) (at v : ℕ) (s : List ℕ) → stored l at (v ∷ s) ≡ stored (set l at v) (at + 1) s
+unfolding stored
+stored-cons l at v s = rw (add-one at)
+
+-- one more byte of the run, from its byte `j` on
+pub stored-step : (l : List ℕ) (at : ℕ) (s : List ℕ) (j : ℕ) → j < length s
+    → stored l at (drop j s) ≡ stored (set l at (getD s j 0)) (at + 1) (drop (j + 1) s)
+stored-step l at s j h = rw (drop-cons s j 0 h, add-one j) (stored-cons l at (getD s j 0) (drop (suc j) s))
+
+-- nothing is stored past the end
+pub stored-out : (l : List ℕ) (at : ℕ) (s : List ℕ) → length l ≤ at → stored l at s ≡ l
+stored-out l at [] h = stored-none l at
+stored-out l at (v ∷ s) h = stored-cons l at v s ∙ rw (set-out l at v h) (stored-out l (at + 1) s (omega arith))
+
+-- as many bytes are stored as there are
+pub stored-take : (l : List ℕ) (at : ℕ) (s : List ℕ) (k : ℕ) → length l ≤ at + k → stored l at (take k s) ≡ stored l at s
+stored-take l at s zero h = stored-none l at ∙ sym (stored-out l at s (omega arith))
+stored-take l at [] (suc k) h = refl
+stored-take l at (v ∷ s) (suc k) h =
+    rw (stored-cons l at v (take k s), stored-cons l at v s) (stored-take (set l at v) (at + 1) s k (simp length-set (omega arith)))
+
+pub getD-stored-before : (l : List ℕ) (at : ℕ) (s : List ℕ) (i : ℕ) → i < at → getD (stored l at s) i 0 ≡ getD l i 0
+getD-stored-before l at [] i h = rw (stored-none l at)
+getD-stored-before l at (v ∷ s) i h =
+    rw (stored-cons l at v s) (getD-stored-before (set l at v) (at + 1) s i (omega arith) ∙ getD-set-other l at i v 0 (omega arith))
+
+pub getD-stored-after : (l : List ℕ) (at : ℕ) (s : List ℕ) (i : ℕ) → at + length s ≤ i → getD (stored l at s) i 0 ≡ getD l i 0
+getD-stored-after l at [] i h = rw (stored-none l at)
+getD-stored-after l at (v ∷ s) i h =
+    rw (stored-cons l at v s) (getD-stored-after (set l at v) (at + 1) s i (omega arith) ∙ getD-set-other l at i v 0 (omega arith))
+
+-- byte `k` of the run, where the list is long enough
+pub getD-stored-in : (l : List ℕ) (at : ℕ) (s : List ℕ) (i k : ℕ) → i ≡ at + k → k < length s → i < length l
+    → getD (stored l at s) i 0 ≡ getD s k 0
+getD-stored-in l at [] i k e h g = absurd (not-suc-le-zero h)
+getD-stored-in l at (v ∷ s) i zero e h g =
+    let a : i ≡ at = omega arith in
+    rw (stored-cons l at v s, getD-stored-before (set l at v) (at + 1) s i (omega arith), a) (getD-set-same l at v 0 (omega arith))
+getD-stored-in l at (v ∷ s) i (suc k) e h g =
+    rw (stored-cons l at v s) (getD-stored-in (set l at v) (at + 1) s i k (omega arith) (omega arith) (simp length-set g))
+
+pub be16-stored-before : (l : List ℕ) (at : ℕ) (s : List ℕ) (k : ℕ) → k + 1 < at → be16 (stored l at s) k ≡ be16 l k
+be16-stored-before l at s k h =
+    be16-bytes (stored l at s) l k k (getD-stored-before l at s k (omega arith)) (getD-stored-before l at s (k + 1) h)
+
+pub be16-stored-after : (l : List ℕ) (at : ℕ) (s : List ℕ) (k : ℕ) → at + length s ≤ k → be16 (stored l at s) k ≡ be16 l k
+be16-stored-after l at s k h =
+    be16-bytes (stored l at s) l k k (getD-stored-after l at s k h) (getD-stored-after l at s (k + 1) (omega arith))
+
+-- zeros are a run like any other
+pub cleared-stored : (l : List ℕ) (at n : ℕ) → cleared l at n ≡ stored l at (replicate n 0)
+unfolding cleared stored
+cleared-stored l at n = refl
+
+pub length-cleared : (l : List ℕ) (at n : ℕ) → length (cleared l at n) ≡ length l
+length-cleared l at n = rw (cleared-stored l at n) (length-stored l at (replicate n 0))
+
+pub cleared-none : (l : List ℕ) (at : ℕ) → cleared l at 0 ≡ l
+cleared-none l at = cleared-stored l at 0 ∙ stored-none l at
+
+pub cleared-step : (l : List ℕ) (at n m : ℕ) → n ≡ m + 1 → cleared l at n ≡ cleared (set l at 0) (at + 1) m
+cleared-step l at n m e =
+    rw (e, add-one m, cleared-stored l at (suc m), cleared-stored (set l at 0) (at + 1) m) (stored-cons l at 0 (replicate m 0))
+
+pub cleared-out : (l : List ℕ) (at n : ℕ) → length l ≤ at → cleared l at n ≡ l
+cleared-out l at n h = cleared-stored l at n ∙ stored-out l at (replicate n 0) h
+
+pub getD-cleared-before : (l : List ℕ) (at n i : ℕ) → i < at → getD (cleared l at n) i 0 ≡ getD l i 0
+getD-cleared-before l at n i h = rw (cleared-stored l at n) (getD-stored-before l at (replicate n 0) i h)
+
+pub getD-cleared-after : (l : List ℕ) (at n i : ℕ) → at + n ≤ i → getD (cleared l at n) i 0 ≡ getD l i 0
+getD-cleared-after l at n i h =
+    let e = length-replicate {A = ℕ} n 0 in
+    rw (cleared-stored l at n) (getD-stored-after l at (replicate n 0) i (omega arith))
+
+-- a byte of the run is 0, and so is one past the end
+pub getD-cleared-in : (l : List ℕ) (at n i : ℕ) → at ≤ i → i < at + n → getD (cleared l at n) i 0 ≡ 0
+getD-cleared-in l at n i h g =
+    let e = length-replicate {A = ℕ} n 0 in
+    ⊎-elim
+    (λ o. List·getD-eq-default (cleared l at n) 0 (rw (length-cleared l at n) o))
+    (λ t. rw (cleared-stored l at n) (getD-stored-in l at (replicate n 0) i (i - at) (omega arith) (omega arith) t ∙ getD-replicate {A = ℕ} n (i - at) 0 0 (omega arith)))
+    (le-or-lt (length l) i)
+
+pub be16-cleared-before : (l : List ℕ) (at n k : ℕ) → k + 1 < at → be16 (cleared l at n) k ≡ be16 l k
+be16-cleared-before l at n k h = rw (cleared-stored l at n) (be16-stored-before l at (replicate n 0) k h)
+
+pub be16-cleared-after : (l : List ℕ) (at n k : ℕ) → at + n ≤ k → be16 (cleared l at n) k ≡ be16 l k
+be16-cleared-after l at n k h =
+    let e = length-replicate {A = ℕ} n 0 in
+    rw (cleared-stored l at n) (be16-stored-after l at (replicate n 0) k (omega arith))
+
+pub be16-cleared-in : (l : List ℕ) (at n k : ℕ) → at ≤ k → k + 1 < at + n → be16 (cleared l at n) k ≡ 0
+unfolding be16
+be16-cleared-in l at n k h g = rw (getD-cleared-in l at n k h (omega arith), getD-cleared-in l at n (k + 1) (omega arith) g)

@@ -1,0 +1,136 @@
+-- 01, "Refusal numbers, in the order they are tried", 1 to 16: the test of each row, and the table.
+use Prim.Native.Nat.{ℕ, _+_, _/_, _%_}
+use mathlib.Core.Bool.{Bool, not, _&&_, _||_}
+use mathlib.Core.List.{List}
+use lib.ListN.{length}
+use lib.Dec.{eqb, leb, ltb}
+use Rattle.disk.specs.Blocks.{blockOf}
+use Rattle.disk.specs.Root.{pfs0, rootIn, slotOf}
+use Rattle.disk.specs.AnodeBlocks.{anodeMark, anodeHeadIn}
+use Rattle.rules.specs.Counting.{_if_else_, firstOf, anyBelow, anyIn, times}
+use Rattle.rules.specs.Anodes.{Anodes, limit, anodesOf}
+use Rattle.rules.specs.Chains.{chainOf, followed, preds, heads, owners, systemOwns, side}
+use Rattle.rules.specs.Walk.{walkOf, faultIn, naming}
+
+-- N, the disk's size in blocks
+unfoldable pub diskSize : List ℕ → ℕ
+diskSize img = length img / 512
+
+-- 1: image not a multiple of 512, or N blocks with N under 5 or over 65,535
+unfoldable pub wrongSize : List ℕ → Bool
+wrongSize img = not (eqb (length img % 512) 0) || (ltb (diskSize img) 5 || ltb 65535 (diskSize img))
+
+-- 2: block table under N entries, or anode table under 3,444
+unfoldable pub shortTables : List ℕ → ℕ → ℕ → Bool
+shortTables img blocks anodes = ltb blocks (diskSize img) || ltb anodes limit
+
+-- 3: disk type differs
+unfoldable pub wrongType : List ℕ → Bool
+wrongType img = not (eqb (rootIn (blockOf img 2) .signature) pfs0)
+
+-- last reserved
+unfoldable pub lastReserved : List ℕ → ℕ
+lastReserved img = rootIn (blockOf img 2) .last .0
+
+-- 4: first reserved not 0; last reserved under 2 or not under N; name length 0 or over 31
+unfoldable pub wrongRoot : List ℕ → Bool
+wrongRoot img =
+    not (eqb (rootIn (blockOf img 2) .first .0) 0)
+    || (ltb (lastReserved img) 2
+    || (leb (diskSize img) (lastReserved img)
+    || (eqb (rootIn (blockOf img 2) .name) 0
+    || ltb 31 (rootIn (blockOf img 2) .name))))
+
+-- 5: a used slot's block is under 3 or not under N, its mark is not `AB`, or its sequence number is not the slot's
+unfoldable pub wrongSlot : List ℕ → ℕ → Bool
+wrongSlot img s =
+    not (eqb (slotOf img s) 0)
+    && (ltb (slotOf img s) 3
+    || (leb (diskSize img) (slotOf img s)
+    || (not (eqb (anodeHeadIn (blockOf img (slotOf img s)) .mark) anodeMark)
+    || not (eqb (anodeHeadIn (blockOf img (slotOf img s)) .sequence) s))))
+
+-- 5: slot 0 empty, or a slot is wrong
+unfoldable pub wrongSlots : List ℕ → Bool
+wrongSlots img = eqb (slotOf img 0) 0 || anyBelow (wrongSlot img) 42
+
+-- 6: anode 0 not (0, 65535, 0); anode 1's count not 0 or block not 65535; anode 2 or 5 free
+unfoldable pub wrongFixed : Anodes → Bool
+wrongFixed s =
+    not (eqb (s .count 0) 0 && (eqb (s .block 0) 65535 && eqb (s .next 0) 0))
+    || (not (eqb (s .count 1) 0 && eqb (s .block 1) 65535)
+    || (eqb (s .block 2) 0
+    || eqb (s .block 5) 0))
+
+-- 7: an anode in use, not 0, has count above 0 and end above N, or a next that is neither 0 nor an existing anode in use
+unfoldable pub outOfRange : Anodes → ℕ → ℕ → Bool
+outOfRange s n a =
+    not (eqb a 0)
+    && ((ltb 0 (s .count a) && ltb n (s .block a + s .count a))
+    || (not (eqb (s .next a) 0) && eqb (s .block (s .next a)) 0))
+
+-- 8: an anode in use has two predecessors or a chain that never ends (0 is nobody's next)
+unfoldable pub wrongLink : Anodes → ℕ → Bool
+wrongLink s a = ltb 1 (preds limit (s .next) a) || not (eqb (followed (s .next) limit a) 0)
+
+unfoldable pub wrongAt : Anodes → ℕ → Bool
+wrongAt s a = not (eqb a 0) && (not (eqb (s .block a) 0) && wrongLink s a)
+
+-- 8: or 1, 3, 4 or 5 has a predecessor
+unfoldable pub hasPred : Anodes → ℕ → Bool
+hasPred s a = ltb 0 (preds limit (s .next) a)
+
+unfoldable pub wrongLinks : Anodes → Bool
+wrongLinks s = anyBelow (wrongAt s) limit || (hasPred s 1 || (hasPred s 3 || (hasPred s 4 || hasPred s 5)))
+
+-- 9: after 1 and before 2 only free blocks above last reserved, from 2 on only such up to last reserved
+unfoldable pub notAbove : Anodes → ℕ → ℕ → Bool
+notAbove s last a = ltb 0 (s .count a) && leb (s .block a) last
+
+unfoldable pub notUpTo : Anodes → ℕ → ℕ → Bool
+notUpTo s last a = ltb 0 (s .count a) && ltb (last + 1) (s .block a + s .count a)
+
+-- 9: 2 not on 1's chain, or a free extent on the wrong side
+unfoldable pub wrongFreeList : Anodes → ℕ → Bool
+wrongFreeList s last =
+    eqb (times 2 (chainOf (s .next) limit 1)) 0
+    || (anyIn (notAbove s last) (side limit s 1)
+    || anyIn (notUpTo s last) (chainOf (s .next) limit 2))
+
+-- 10: a block has two owners; 11: a block has no owner
+unfoldable pub ownersOf : List ℕ → Anodes → ℕ → ℕ
+ownersOf img s = owners limit (s .count) (s .block) (systemOwns img)
+
+unfoldable pub twoOwners : List ℕ → Anodes → Bool
+twoOwners img s = anyBelow (λ x. ltb 1 (ownersOf img s x)) (diskSize img)
+
+unfoldable pub noOwner : List ℕ → Anodes → Bool
+noOwner img s = anyBelow (λ x. eqb (ownersOf img s x) 0) (diskSize img)
+
+-- 16: a chain from 6 up that no reached entry names
+unfoldable pub unnamed : List ℕ → Anodes → ℕ → Bool
+unnamed img s x = eqb (naming img s x) 0
+
+unfoldable pub unnamedChain : List ℕ → Anodes → ℕ → Bool
+unnamedChain img s x = leb 6 x && (eqb (heads limit (s .next) (s .block) x) 1 && unnamed img s x)
+
+-- the damage that the anodes and directories show: 6 to 11, then the walk's own, 12 to 15, then 16
+unfoldable pub damageIn : List ℕ → Anodes → ℕ
+damageIn img s =
+    6 if wrongFixed s
+    else 7 if anyBelow (outOfRange s (diskSize img)) limit
+    else 8 if wrongLinks s
+    else 9 if wrongFreeList s (lastReserved img)
+    else 10 if twoOwners img s
+    else 11 if noOwner img s
+    else firstOf (faultIn (walkOf img s)) (16 if anyBelow (unnamedChain img s) limit else 0)
+
+-- the whole table: the check's answer for an image and tables of these lengths
+unfoldable pub checkAnswer : List ℕ → ℕ → ℕ → ℕ
+checkAnswer img blocks anodes =
+    1 if wrongSize img
+    else 2 if shortTables img blocks anodes
+    else 3 if wrongType img
+    else 4 if wrongRoot img
+    else 5 if wrongSlots img
+    else damageIn img (anodesOf img)

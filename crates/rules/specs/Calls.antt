@@ -1,0 +1,201 @@
+-- What each call answers, leaves and hands out, for every image and every argument; the refusals of each in 01's order.
+-- Every call but format runs the whole check first; refusals 20 and above leave the image and show it in the tables; a done change leaves tables for the new image.
+use Prim.Native.Nat.{ℕ, zero, suc, _+_, _/_, _%_}
+use mathlib.Core.Bool.{Bool, true, false, cond, not, _||_}
+use mathlib.Core.List.{List, [], _∷_}
+use mathlib.Core.Option.{Option, none, some}
+use lib.ListN.{length, getD, take, drop, replicate}
+use lib.Dec.{eqb, leb}
+use Rattle.disk.specs.Blocks.{blockOf}
+use Rattle.directory.specs.declared.Entry.{Entry}
+use Rattle.directory.specs.declared.Kind.the-variants.{File}
+use Rattle.directory.specs.Entries.{goodName, goodComment, nameLength, entryIn}
+use Rattle.rules.specs.Counting.{_if_else_, firstOf, sumList}
+use Rattle.rules.specs.Anodes.{Anodes, anodesOf}
+use Rattle.rules.specs.Chains.{blockCount}
+use Rattle.rules.specs.Walk.{Entered, Item, reached, reachedDirs}
+use Rattle.rules.specs.Accepted.{diskSize, checkAnswer}
+use Rattle.rules.specs.Tables.{blocksLeft, anodesLeft}
+use Rattle.rules.specs.Lookup.{noDirectory, entriesOf, nameAt, entryNamed, nth, isThere, namesDir, fullDir, pastEnd, contents}
+use Rattle.rules.specs.Format.{formatAnswer, formatted}
+use Rattle.rules.specs.Changes.{Left, left, NewEntry, resized, made, written, removed}
+
+-- all that a call settles: its answer, the image, both tables, the output and, of list, the name
+pub record Outcome : Type 0 where
+  pub answer : ℕ
+  pub image : List ℕ
+  pub blocks : List ℕ
+  pub anodes : List ℕ
+  pub output : List ℕ
+  pub name : List ℕ
+
+-- what is left of image and tables settles the rest
+unfoldable pub settled : Left → List ℕ → List ℕ → List ℕ → List ℕ → Outcome
+settled l blocks anodes output name = record {
+  answer = l .answer;
+  image = l .image;
+  blocks = blocksLeft (l .answer) (l .image) blocks;
+  anodes = anodesLeft (l .answer) (l .image) anodes;
+  output = output;
+  name = name;
+}
+
+-- Check
+unfoldable pub checkOutcome : List ℕ → List ℕ → List ℕ → Outcome
+checkOutcome img blocks anodes = settled (left (checkAnswer img (length blocks) (length anodes)) img) blocks anodes [] []
+
+-- Summary: N, free blocks (those of 1's chain), files, directories with the root; zeros where the check refuses
+unfoldable pub fileCount : List ℕ → Anodes → ℕ
+fileCount img s = sumList (λ i. cond (i .dir) 0 1) (reached img s)
+
+unfoldable pub dirCount : List ℕ → Anodes → ℕ
+dirCount img s = length (reachedDirs img s)
+
+unfoldable pub summaryOf : List ℕ → Anodes → List ℕ
+summaryOf img s = diskSize img ∷ blockCount s 1 ∷ fileCount img s ∷ dirCount img s ∷ []
+
+unfoldable pub summaryAfter : ℕ → List ℕ → List ℕ
+summaryAfter zero img = summaryOf img (anodesOf img)
+summaryAfter (suc n) img = replicate 4 0
+
+unfoldable pub summaryOutcome : List ℕ → List ℕ → List ℕ → Outcome
+summaryOutcome img blocks anodes =
+    settled (left (checkAnswer img (length blocks) (length anodes)) img) blocks anodes (summaryAfter (checkAnswer img (length blocks) (length anodes)) img) []
+
+-- Format is lent no tables
+abbrev pub formatLeft : ℕ → List ℕ → List ℕ → Left
+formatLeft zero img new = left 0 new
+formatLeft (suc n) img new = left (suc n) img
+
+unfoldable pub formatOutcome : List ℕ → ℕ → ℕ → List ℕ → ℕ → ℕ → ℕ → ℕ → Left
+formatOutcome img last k name day minute tick protection =
+    formatLeft (formatAnswer img last k name) img (formatted img last k name day minute tick protection)
+
+-- read and write: 21, 22, 24, 26
+unfoldable pub spanAnswer : List ℕ → Anodes → ℕ → List ℕ → ℕ → ℕ → ℕ
+spanAnswer img s h name offset len =
+    21 if noDirectory img s h
+    else 22 if not (isThere (entryNamed img s h name))
+    else 24 if namesDir (entryNamed img s h name)
+    else 26 if pastEnd (entryNamed img s h name) offset len
+    else 0
+
+-- resize: 21, 22, 24, then 27 and 28 by its steps
+unfoldable pub resizeAnswer : List ℕ → Anodes → ℕ → List ℕ → ℕ
+resizeAnswer img s h name =
+    21 if noDirectory img s h
+    else 22 if not (isThere (entryNamed img s h name))
+    else 24 if namesDir (entryNamed img s h name)
+    else 0
+
+-- remove: 21, 22, 25, then 28 by its steps
+unfoldable pub removeAnswer : List ℕ → Anodes → ℕ → List ℕ → ℕ
+removeAnswer img s h name =
+    21 if noDirectory img s h
+    else 22 if not (isThere (entryNamed img s h name))
+    else 25 if fullDir img s (entryNamed img s h name)
+    else 0
+
+-- make: type, name or comment against the entry rules 20, then 21, 23, then 27 and 28 by its steps
+unfoldable pub wrongEntry : ℕ → List ℕ → List ℕ → Bool
+wrongEntry type name comment = not (eqb type 253 || eqb type 2) || (not (goodName name) || not (goodComment comment))
+
+unfoldable pub makeAnswer : List ℕ → Anodes → ℕ → ℕ → List ℕ → List ℕ → ℕ
+makeAnswer img s h type name comment =
+    20 if wrongEntry type name comment
+    else 21 if noDirectory img s h
+    else 23 if isThere (entryNamed img s h name)
+    else 0
+
+-- list: 21, 22
+unfoldable pub listAnswer : List ℕ → Anodes → ℕ → ℕ → ℕ
+listAnswer img s h n =
+    21 if noDirectory img s h
+    else 22 if not (isThere (nth (entriesOf img s h) n))
+    else 0
+
+-- a number that is not 0 refuses; otherwise the change of the named entry is made (22, were there none)
+abbrev pub changeNamed : ℕ → List ℕ → Option Entered → (Entered → Left) → Left
+changeNamed (suc n) img e f = left (suc n) img
+changeNamed zero img none f = left 22 img
+changeNamed zero img (some e) f = f e
+
+-- Read: a done read fills the output buffer, whose length is the length asked; a refused one leaves it unchanged
+abbrev pub bytesRead : ℕ → List ℕ → Anodes → Option Entered → ℕ → List ℕ → List ℕ
+bytesRead (suc n) img s e offset out = out
+bytesRead zero img s none offset out = out
+bytesRead zero img s (some e) offset out = take (length out) (drop offset (contents img s e))
+
+unfoldable pub readAnswer : List ℕ → List ℕ → List ℕ → ℕ → List ℕ → ℕ → ℕ → ℕ
+readAnswer img blocks anodes h name offset len =
+    firstOf (checkAnswer img (length blocks) (length anodes)) (spanAnswer img (anodesOf img) h name offset len)
+
+unfoldable pub readOutcome : List ℕ → List ℕ → List ℕ → ℕ → List ℕ → ℕ → List ℕ → Outcome
+readOutcome img blocks anodes h name offset out =
+    settled (left (readAnswer img blocks anodes h name offset (length out)) img) blocks anodes
+    (bytesRead (readAnswer img blocks anodes h name offset (length out)) img (anodesOf img) (entryNamed img (anodesOf img) h name) offset out) []
+
+-- List: type, anode, size, day, minute, tick, protection, the name's offset in the image and length, the comment's; zero fields and an empty name after a refusal
+unfoldable pub fieldList : Entry → ℕ → ℕ → List ℕ
+fieldList e type place =
+    type ∷ e .anode .0 ∷ e .size ∷ e .day ∷ e .minute ∷ e .tick ∷ e .protection
+    ∷ (place + 16) ∷ e .name ∷ (place + 17 + e .name) ∷ e .comment ∷ []
+
+unfoldable pub fieldsAt : List ℕ → ℕ → List ℕ
+fieldsAt img place =
+    fieldList (entryIn (blockOf img (place / 512)) (place % 512) File) (getD (blockOf img (place / 512)) (place % 512 + 1) 0) place
+
+abbrev pub fieldsListed : ℕ → List ℕ → Option Entered → List ℕ
+fieldsListed (suc n) img e = replicate 11 0
+fieldsListed zero img none = replicate 11 0
+fieldsListed zero img (some e) = fieldsAt img (e .place)
+
+abbrev pub nameListed : ℕ → List ℕ → Option Entered → List ℕ
+nameListed (suc n) img e = []
+nameListed zero img none = []
+nameListed zero img (some e) = nameAt img (e .place)
+
+unfoldable pub listAnswered : List ℕ → List ℕ → List ℕ → ℕ → ℕ → ℕ
+listAnswered img blocks anodes h n = firstOf (checkAnswer img (length blocks) (length anodes)) (listAnswer img (anodesOf img) h n)
+
+unfoldable pub listOutcome : List ℕ → List ℕ → List ℕ → ℕ → ℕ → Outcome
+listOutcome img blocks anodes h n =
+    settled (left (listAnswered img blocks anodes h n) img) blocks anodes
+    (fieldsListed (listAnswered img blocks anodes h n) img (nth (entriesOf img (anodesOf img) h) n))
+    (nameListed (listAnswered img blocks anodes h n) img (nth (entriesOf img (anodesOf img) h) n))
+
+-- Make
+abbrev pub madeAfter : ℕ → List ℕ → ℕ → NewEntry → Left
+madeAfter zero img h new = made img (anodesOf img) h new
+madeAfter (suc n) img h new = left (suc n) img
+
+unfoldable pub makeOutcome : List ℕ → List ℕ → List ℕ → ℕ → ℕ → List ℕ → List ℕ → ℕ → ℕ → ℕ → ℕ → Outcome
+makeOutcome img blocks anodes h type name comment day minute tick protection =
+    settled
+    (madeAfter (firstOf (checkAnswer img (length blocks) (length anodes)) (makeAnswer img (anodesOf img) h type name comment)) img h
+    (record { dir = eqb type 2; name = name; comment = comment; day = day; minute = minute; tick = tick; protection = protection }))
+    blocks anodes [] []
+
+-- Resize
+unfoldable pub resizeOutcome : List ℕ → List ℕ → List ℕ → ℕ → List ℕ → ℕ → Outcome
+resizeOutcome img blocks anodes h name new =
+    settled
+    (changeNamed (firstOf (checkAnswer img (length blocks) (length anodes)) (resizeAnswer img (anodesOf img) h name)) img
+    (entryNamed img (anodesOf img) h name) (λ e. resized img (anodesOf img) e new))
+    blocks anodes [] []
+
+-- Write
+unfoldable pub writeOutcome : List ℕ → List ℕ → List ℕ → ℕ → List ℕ → ℕ → List ℕ → Outcome
+writeOutcome img blocks anodes h name offset bytes =
+    settled
+    (changeNamed (readAnswer img blocks anodes h name offset (length bytes)) img
+    (entryNamed img (anodesOf img) h name) (λ e. left 0 (written img (anodesOf img) e offset bytes)))
+    blocks anodes [] []
+
+-- Remove
+unfoldable pub removeOutcome : List ℕ → List ℕ → List ℕ → ℕ → List ℕ → Outcome
+removeOutcome img blocks anodes h name =
+    settled
+    (changeNamed (firstOf (checkAnswer img (length blocks) (length anodes)) (removeAnswer img (anodesOf img) h name)) img
+    (entryNamed img (anodesOf img) h name) (λ e. removed img (anodesOf img) e))
+    blocks anodes [] []

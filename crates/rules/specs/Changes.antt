@@ -1,0 +1,192 @@
+-- 01, "The changes", Resize, Make, Write and Remove: the steps that are planned on the anodes, and the image that they leave. A refused plan leaves the image that came.
+use Prim.Native.Nat.{ℕ, zero, suc, _+_, _-_, _*_, _/_, _%_}
+use mathlib.Core.Bool.{Bool, true, false, cond, not, _&&_}
+use mathlib.Core.List.{List, [], _∷_, _++_}
+use mathlib.Core.Option.{Option, none, some}
+use lib.ListN.{length, getD, take, drop, replicate}
+use lib.Dec.{eqb, leb, ltb}
+use Rattle.endian.specs.Bytes.{put32, stored, cleared}
+use Rattle.disk.specs.Blocks.{blockOf, withBlock}
+use Rattle.directory.specs.declared.Entry.{Entry}
+use Rattle.directory.specs.declared.Kind.the-variants.{File, Directory}
+use Rattle.directory.specs.Entries.{directoryMark, putDirectoryHead, entryLength, putEntry}
+use Rattle.rules.specs.Anodes.{Anodes, limit, exists, anodesOf, withAnodes}
+use Rattle.rules.specs.Chains.{blocksOf, blockCount}
+use Rattle.rules.specs.Walk.{Dir, Entered, blocksFor, reachedDirs}
+use Rattle.rules.specs.Accepted.{lastReserved}
+use Rattle.rules.specs.Lookup.{bytesOf}
+use Rattle.rules.specs.Space as Space
+use Rattle.rules.specs.Space.{Plan, refused, planned, rewritten}
+use Rattle.rules.specs.Format.{zeroBlock}
+
+-- what a change answers, and the image that it leaves
+pub record Left : Type 0 where
+  pub answer : ℕ
+  pub image : List ℕ
+
+abbrev pub left : ℕ → List ℕ → Left
+left answer image = record { answer = answer; image = image }
+
+-- refused if any step is; a done plan leaves the image that f makes of its anodes and blocks
+abbrev pub leftBy : Plan → List ℕ → (Anodes → List ℕ → List ℕ) → Left
+leftBy (refused n) img f = left n img
+leftBy (planned t ys) img f = left 0 (f t ys)
+
+-- the image with one block of it changed by f
+unfoldable pub inBlock : List ℕ → ℕ → (List ℕ → List ℕ) → List ℕ
+inBlock img y f = withBlock img y (f (blockOf img y))
+
+-- the image with the same bytes in each of some blocks
+unfoldable pub withBlocks : List ℕ → List ℕ → List ℕ → List ℕ
+withBlocks img [] new = img
+withBlocks img (y ∷ ys) new = withBlocks (withBlock img y new) ys new
+
+-- ---- Resize
+
+-- takes or gives back one block at a time until the count fits
+unfoldable pub resizePlan : List ℕ → Anodes → ℕ → ℕ → Plan
+resizePlan img s h blocks =
+    cond (leb (blockCount s h) blocks)
+    (Space.takeMany limit (exists img) (lastReserved img) false (blocks - blockCount s h) s h)
+    (Space.giveMany limit (exists img) (lastReserved img) (blockCount s h - blocks) s h)
+
+-- when the size grows, the old last block is zeroed from the old size to its end
+unfoldable pub zeroTail : List ℕ → Anodes → Entered → ℕ → List ℕ
+zeroTail img s e new =
+    cond (ltb (e .size) new && not (eqb (e .size % 512) 0))
+    (inBlock img (getD (blocksOf s (e .anode)) (e .size / 512) 0) (λ b. cleared b (e .size % 512) (512 - e .size % 512)))
+    img
+
+-- of the entry only the size changes
+unfoldable pub withSize : List ℕ → ℕ → ℕ → List ℕ
+withSize img place new = inBlock img (place / 512) (λ b. put32 b (place % 512 + 4) new)
+
+-- each block taken is zeroed; blocks given back keep their bytes
+unfoldable pub zeroTaken : List ℕ → Entered → ℕ → List ℕ → List ℕ
+zeroTaken img e new ys = cond (ltb (e .size) new) (withBlocks img ys zeroBlock) img
+
+unfoldable pub resizedImage : List ℕ → Anodes → Entered → ℕ → Anodes → List ℕ → List ℕ
+resizedImage img s e new t ys = withSize (zeroTail (zeroTaken (withAnodes img t) e new ys) s e new) (e .place) new
+
+unfoldable pub resized : List ℕ → Anodes → Entered → ℕ → Left
+resized img s e new = leftBy (resizePlan img s (e .anode) (blocksFor new)) img (resizedImage img s e new)
+
+-- ---- Make
+
+-- the end mark's place in a directory block
+unfoldable pub endFrom : ℕ → List ℕ → ℕ → ℕ
+endFrom zero b at = at
+endFrom (suc k) b at = cond (eqb (getD b at 0) 0) at (endFrom k b (at + getD b at 0))
+
+unfoldable pub entriesEnd : List ℕ → ℕ
+entriesEnd b = endFrom 28 b 16
+
+-- the end of the first block with room for the entry and the end mark, as a place in the image
+unfoldable pub firstRoom : List ℕ → ℕ → List ℕ → Option ℕ
+firstRoom img len [] = none
+firstRoom img len (y ∷ ys) =
+    elim (leb (entriesEnd (blockOf img y) + len) 510) [ true ↦ some (y * 512 + entriesEnd (blockOf img y)) | false ↦ firstRoom img len ys ]
+
+-- a directory then takes one block into its head
+unfoldable pub ownBlock : List ℕ → Bool → Anodes → ℕ → Plan
+ownBlock img true s f = Space.takeBlock limit (exists img) (lastReserved img) true s f
+ownBlock img false s f = planned s []
+
+-- else the parent takes one
+unfoldable pub parentBlock : List ℕ → Option ℕ → Anodes → ℕ → Plan
+parentBlock img none s h = Space.takeBlock limit (exists img) (lastReserved img) true s h
+parentBlock img (some place) s h = planned s []
+
+-- new directory blocks are zeroed, then headed
+unfoldable pub newDirectoryBlock : ℕ → ℕ → List ℕ
+newDirectoryBlock owner parent = putDirectoryHead zeroBlock (record { mark = directoryMark; owner = record { 0 = owner }; parent = record { 0 = parent } })
+
+-- the head of a reached directory's parent; the root's is 0
+unfoldable pub parentOf : List Dir → ℕ → ℕ
+parentOf [] h = 0
+parentOf (d ∷ ds) h = cond (eqb (d .head) h) (d .parent) (parentOf ds h)
+
+-- where the entry goes: the room that was found, else the new block's first place
+abbrev pub entryPlace : Option ℕ → List ℕ → ℕ
+entryPlace (some place) ys = place
+entryPlace none [] = 0
+entryPlace none (y ∷ ys) = y * 512 + 16
+
+-- size is 0; the other fields are the caller's
+pub record NewEntry : Type 0 where
+  pub dir : Bool
+  pub name : List ℕ
+  pub comment : List ℕ
+  pub day : ℕ
+  pub minute : ℕ
+  pub tick : ℕ
+  pub protection : ℕ
+
+unfoldable pub entryOf : NewEntry → ℕ → Entry
+entryOf new f = record {
+  kind = cond (new .dir) Directory File;
+  anode = record { 0 = f };
+  size = 0;
+  day = new .day;
+  minute = new .minute;
+  tick = new .tick;
+  protection = new .protection;
+  name = length (new .name);
+  comment = length (new .comment);
+}
+
+-- the image with the entry, after its blocks f's own (ys) and the parent's (zs) are headed
+unfoldable pub madeImage : List ℕ → Anodes → ℕ → NewEntry → ℕ → Option ℕ → List ℕ → Anodes → List ℕ → List ℕ
+madeImage img s h new f room ys t zs =
+    inBlock
+    (withBlocks
+    (withBlocks (withAnodes img t)
+    ys (newDirectoryBlock f h))
+    zs (newDirectoryBlock h (parentOf (reachedDirs img s) h)))
+    (entryPlace room zs / 512)
+    (λ b. putEntry b (entryPlace room zs % 512) (entryOf new f) (new .name) (new .comment))
+
+-- the parent's step, after the new directory's
+abbrev pub madeIn : Plan → List ℕ → Anodes → ℕ → NewEntry → ℕ → Option ℕ → Left
+madeIn (refused n) img s h new f room = left n img
+madeIn (planned t ys) img s h new f room = leftBy (parentBlock img room t h) img (madeImage img s h new f room ys)
+
+-- the lowest free anode from 6 up as head, (0, 65535, 0); 28 if none
+unfoldable pub madeWith : List ℕ → Anodes → ℕ → NewEntry → ℕ → Left
+madeWith img s h new f =
+    madeIn (ownBlock img (new .dir) (rewritten s f 0 65535) f) img s h new f
+    (firstRoom img (entryLength (length (new .name)) (length (new .comment))) (blocksOf s h))
+
+unfoldable pub made : List ℕ → Anodes → ℕ → NewEntry → Left
+made img s h new =
+    cond (ltb (Space.lowestFree limit (exists img) (lastReserved img) s) limit)
+    (madeWith img s h new (Space.lowestFree limit (exists img) (lastReserved img) s))
+    (left 28 img)
+
+-- ---- Write
+
+-- the image with these bytes in some blocks, 512 in each
+unfoldable pub spread : List ℕ → List ℕ → List ℕ → List ℕ
+spread img [] bytes = img
+spread img (y ∷ ys) bytes = spread (withBlock img y (take 512 bytes)) ys (drop 512 bytes)
+
+-- replaces bytes within the size
+unfoldable pub written : List ℕ → Anodes → Entered → ℕ → List ℕ → List ℕ
+written img s e offset bytes = spread img (blocksOf s (e .anode)) (stored (bytesOf img s (e .anode)) offset bytes)
+
+-- ---- Remove
+
+-- closes the gap in the directory block, and zeroes, behind the last entry, as many bytes as the removed entry had
+unfoldable pub gapClosed : List ℕ → ℕ → ℕ → ℕ → List ℕ
+gapClosed b at len end = take at b ++ (take (end - (at + len)) (drop (at + len) b) ++ (replicate len 0 ++ drop end b))
+
+unfoldable pub withoutEntry : List ℕ → ℕ → List ℕ
+withoutEntry img place = inBlock img (place / 512) (λ b. gapClosed b (place % 512) (getD b (place % 512) 0) (entriesEnd b))
+
+-- gives back all blocks, last first, zeroes the anodes still in its chain
+unfoldable pub removedImage : List ℕ → Entered → Anodes → List ℕ → List ℕ
+removedImage img e t ys = withoutEntry (withAnodes img (Space.dropped limit (exists img) (lastReserved img) t (e .anode))) (e .place)
+
+unfoldable pub removed : List ℕ → Anodes → Entered → Left
+removed img s e =
+    leftBy (Space.giveMany limit (exists img) (lastReserved img) (blockCount s (e .anode)) s (e .anode)) img (removedImage img e)

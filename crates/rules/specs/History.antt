@@ -1,0 +1,57 @@
+-- Demand 3's list of calls: each call with its arguments, its outcome for an image, and what is said after every call of a list.
+use Prim.Native.Nat.{ℕ, _≤_, _<_}
+use mathlib.Core.Path.{_≡_}
+use mathlib.Core.List.{List, [], _∷_}
+use Rattle.rules.specs.Anodes.{limit}
+use Rattle.rules.specs.Accepted.{diskSize, checkAnswer}
+use Rattle.rules.specs.Totals.{total}
+use Rattle.rules.specs.Changes.{Left}
+use Rattle.rules.specs.Calls.{Outcome, checkOutcome, summaryOutcome, formatOutcome, readOutcome, listOutcome, makeOutcome, resizeOutcome, writeOutcome, removeOutcome}
+
+-- a call with all that it is lent or handed but the image; tables and buffers may have any length and content
+pub data Call : Type 0 where
+  check : (blocks anodes : List ℕ) → Call
+  summary : (blocks anodes : List ℕ) → Call
+  format : (last anodeBlocks : ℕ) (name : List ℕ) (day minute tick protection : ℕ) → Call
+  read : (blocks anodes : List ℕ) (directory : ℕ) (name : List ℕ) (offset : ℕ) (out : List ℕ) → Call
+  list : (blocks anodes : List ℕ) (directory place : ℕ) → Call
+  make : (blocks anodes : List ℕ) (directory type : ℕ) (name comment : List ℕ) (day minute tick protection : ℕ) → Call
+  resize : (blocks anodes : List ℕ) (directory : ℕ) (name : List ℕ) (size : ℕ) → Call
+  write : (blocks anodes : List ℕ) (directory : ℕ) (name : List ℕ) (offset : ℕ) (bytes : List ℕ) → Call
+  remove : (blocks anodes : List ℕ) (directory : ℕ) (name : List ℕ) → Call
+
+-- format is lent no tables and hands nothing out
+abbrev pub ofLeft : Left → Outcome
+ofLeft l = record { answer = l .answer; image = l .image; blocks = []; anodes = []; output = []; name = [] }
+
+-- each call's outcome is the one that its contract equals
+unfoldable pub outcome : List ℕ → Call → Outcome
+outcome img (check blocks anodes) = checkOutcome img blocks anodes
+outcome img (summary blocks anodes) = summaryOutcome img blocks anodes
+outcome img (format last k name day minute tick protection) = ofLeft (formatOutcome img last k name day minute tick protection)
+outcome img (read blocks anodes h name offset out) = readOutcome img blocks anodes h name offset out
+outcome img (list blocks anodes h n) = listOutcome img blocks anodes h n
+outcome img (make blocks anodes h type name comment day minute tick protection) =
+    makeOutcome img blocks anodes h type name comment day minute tick protection
+outcome img (resize blocks anodes h name new) = resizeOutcome img blocks anodes h name new
+outcome img (write blocks anodes h name offset bytes) = writeOutcome img blocks anodes h name offset bytes
+outcome img (remove blocks anodes h name) = removeOutcome img blocks anodes h name
+
+-- the outcomes of a list of calls; only the image passes from call to call
+unfoldable pub outcomes : List ℕ → List Call → List Outcome
+outcomes img [] = []
+outcomes img (c ∷ cs) = outcome img c ∷ outcomes (outcome img c .image) cs
+
+-- lent tables as long as 2 asks, the check answers 0, and the kinds of blocks add up to the disk's size
+pub record Sound (img : List ℕ) : Type 0 where
+  pub accepted : checkAnswer img (diskSize img) limit ≡ 0
+  pub adds-up : total img ≡ diskSize img
+
+-- to report damage in the image is to answer one of 3 to 16
+abbrev pub Damage : ℕ → Type 0
+Damage n = (3 ≤ n) × (n ≤ 16)
+
+-- sound at the start and after every call, and no call reports damage
+abbrev pub SoundThroughout : List ℕ → List Call → Type 0
+SoundThroughout img [] = Sound img
+SoundThroughout img (c ∷ cs) = Sound img × (Damage (outcome img c .answer) → ⊥) × SoundThroughout (outcome img c .image) cs

@@ -1,0 +1,15 @@
+-- The rules of 01, a file for each chapter.
+pub mod Counting
+pub mod Anodes
+pub mod Chains
+pub mod Walk
+pub mod Accepted
+pub mod Tables
+pub mod Lookup
+pub mod Space
+pub mod Format
+pub mod Changes
+pub mod Calls
+pub mod Totals
+pub mod History
+pub mod Worked

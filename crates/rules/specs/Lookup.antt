@@ -1,0 +1,74 @@
+-- 01, refusals 21 to 26, and the bytes of a file: what a directory number and a name stand for in an accepted image.
+use Prim.Native.Nat.{ℕ, zero, suc, _+_, _/_, _%_}
+use mathlib.Core.Bool.{Bool, true, false, cond, not}
+use mathlib.Core.List.{List, [], _∷_, map}
+use mathlib.Core.Option.{Option, none, some}
+use lib.ListN.{take}
+use lib.Dec.{eqb, ltb}
+use Rattle.disk.specs.Blocks.{blockOf}
+use Rattle.directory.specs.Entries.{nameIn}
+use Rattle.rules.specs.Counting.{times, gather, sameBytes}
+use Rattle.rules.specs.Anodes.{Anodes, limit}
+use Rattle.rules.specs.Chains.{chainOf, blocksOf}
+use Rattle.rules.specs.Walk.{Dir, Entered, entriesIn, reachedDirs}
+
+-- 21: directory number is not a reached directory's head
+unfoldable pub noDirectory : List ℕ → Anodes → ℕ → Bool
+noDirectory img s h = eqb (times h (map (λ d. d .head) (reachedDirs img s))) 0
+
+-- the entries of the directory that h heads, blocks in chain order, entries in byte order
+unfoldable pub entriesOf : List ℕ → Anodes → ℕ → List Entered
+entriesOf img s h = gather (λ a. entriesIn img (s .block a)) (chainOf (s .next) limit h)
+
+-- the name of the entry at a place of the image
+unfoldable pub nameAt : List ℕ → ℕ → List ℕ
+nameAt img place = nameIn (blockOf img (place / 512)) (place % 512)
+
+-- names match byte for byte
+unfoldable pub isNamed : List ℕ → List ℕ → Entered → Bool
+isNamed img name e = sameBytes (nameAt img (e .place)) name
+
+-- the first match counts
+unfoldable pub firstNamed : List ℕ → List ℕ → List Entered → Option Entered
+firstNamed img name [] = none
+firstNamed img name (e ∷ es) = elim (isNamed img name e) [ true ↦ some e | false ↦ firstNamed img name es ]
+
+unfoldable pub entryNamed : List ℕ → Anodes → ℕ → List ℕ → Option Entered
+entryNamed img s h name = firstNamed img name (entriesOf img s h)
+
+-- the n-th entry of a list, from 0
+unfoldable pub nth : List Entered → ℕ → Option Entered
+nth [] n = none
+nth (e ∷ es) zero = some e
+nth (e ∷ es) (suc n) = nth es n
+
+-- 22 and 23: name or place not there, already there
+abbrev pub isThere : Option Entered → Bool
+isThere none = false
+isThere (some e) = true
+
+-- 24: a directory where a file is needed
+abbrev pub namesDir : Option Entered → Bool
+namesDir none = false
+namesDir (some e) = e .dir
+
+-- 25: directory not empty
+unfoldable pub notEmpty : List ℕ → Anodes → Entered → Bool
+notEmpty img s e = isThere (nth (entriesOf img s (e .anode)) 0)
+
+abbrev pub fullDir : List ℕ → Anodes → Option Entered → Bool
+fullDir img s none = false
+fullDir img s (some e) = cond (e .dir) (notEmpty img s e) false
+
+-- 26: offset + length above size; the sum is a whole number
+abbrev pub pastEnd : Option Entered → ℕ → ℕ → Bool
+pastEnd none offset len = false
+pastEnd (some e) offset len = ltb (e .size) (offset + len)
+
+-- the bytes of a chain's blocks, in chain order
+unfoldable pub bytesOf : List ℕ → Anodes → ℕ → List ℕ
+bytesOf img s h = gather (blockOf img) (blocksOf s h)
+
+-- the file's bytes: those of its blocks, cut at its size
+unfoldable pub contents : List ℕ → Anodes → Entered → List ℕ
+contents img s e = take (e .size) (bytesOf img s (e .anode))

@@ -1,0 +1,160 @@
+-- 01, "Refusal numbers", 12 to 15: one walk, directories breadth first from the root, blocks in chain order, entries in byte order; the first fault met answers.
+use Prim.Native.Nat.{ℕ, zero, suc, _+_, _*_, _/_}
+use mathlib.Core.Bool.{Bool, true, false, cond, _&&_, _||_}
+use mathlib.Core.List.{List, [], _∷_, _++_, map}
+use lib.ListN.{getD}
+use lib.Dec.{eqb, leb}
+use Rattle.disk.specs.Blocks.{blockOf}
+use Rattle.directory.specs.declared.Walked.{Walked}
+use Rattle.directory.specs.declared.Walked.the-variants.{Found, End, Fault}
+use Rattle.directory.specs.declared.Kind.{Kind}
+use Rattle.directory.specs.declared.Kind.the-variants.{File, Directory}
+use Rattle.directory.specs.Entries.{directoryMark, directoryHeadIn, walkedAt}
+use Rattle.rules.specs.Counting.{_if_else_, firstOf, times, gather}
+use Rattle.rules.specs.Anodes.{Anodes, limit}
+use Rattle.rules.specs.Chains.{chainOf, heads, blockCount}
+
+-- a directory: its head anode and its parent's
+pub record Dir : Type 0 where
+  pub head : ℕ
+  pub parent : ℕ
+
+-- 5 heads the root directory
+abbrev pub root : Dir
+root = record { head = 5; parent = 0 }
+
+-- an entry as it stands in a directory block: whether it breaks the entry rules, whether it names a directory, its anode and size, its first byte's place in the image
+pub record Entered : Type 0 where
+  pub broken : Bool
+  pub dir : Bool
+  pub anode : ℕ
+  pub size : ℕ
+  pub place : ℕ
+
+abbrev pub isDir : Kind → Bool
+isDir File = false
+isDir Directory = true
+
+-- what stands at a place, with the entries behind it
+abbrev pub withRest : Walked → ℕ → List Entered → List Entered
+withRest (Found e) place rest = record { broken = false; dir = isDir (e .kind); anode = e .anode .0; size = e .size; place = place } ∷ rest
+withRest End place rest = []
+withRest (Fault r) place rest = record { broken = true; dir = false; anode = 0; size = 0; place = place } ∷ []
+
+-- the entries of block y from a place of it on, in byte order, up to the end mark or the first that breaks the rules
+unfoldable pub entriesFrom : ℕ → List ℕ → ℕ → ℕ → List Entered
+entriesFrom zero block y at = []
+entriesFrom (suc k) block y at = withRest (walkedAt block at) (y * 512 + at) (entriesFrom k block y (at + getD block at 0))
+
+-- the entries of a directory block, from 16 on; 27 of the shortest fill it
+unfoldable pub entriesIn : List ℕ → ℕ → List Entered
+entriesIn img y = entriesFrom 28 (blockOf img y) y 16
+
+-- block y is marked as the directory's: mark, owner, parent; the root's own parent field is not examined
+unfoldable pub isBlockOf : List ℕ → Dir → ℕ → Bool
+isBlockOf img d y =
+    eqb (directoryHeadIn (blockOf img y) .mark) directoryMark
+    && (eqb (directoryHeadIn (blockOf img y) .owner .0) (d .head)
+    && (eqb (d .head) 5 || eqb (directoryHeadIn (blockOf img y) .parent .0) (d .parent)))
+
+-- what the walk meets: the number that is tried before 14, the one after it, and what is named where
+pub record Item : Type 0 where
+  pub early : ℕ
+  pub late : ℕ
+  pub dir : Bool
+  pub anode : ℕ
+  pub place : ℕ
+
+-- 15: the blocks that a size asks for: size / 512, rounded up
+unfoldable pub blocksFor : ℕ → ℕ
+blocksFor size = (size + 511) / 512
+
+-- 13: anode under 6, missing, free, or with a predecessor
+unfoldable pub wrongAnode : Anodes → ℕ → ℕ
+wrongAnode s a = cond (leb 6 a && eqb (heads limit (s .next) (s .block) a) 1) 0 13
+
+-- 15: a file's chain does not hold the blocks of its size
+unfoldable pub wrongFileSize : Anodes → Entered → ℕ
+wrongFileSize s e = cond (e .dir) 0 (cond (eqb (blockCount s (e .anode)) (blocksFor (e .size))) 0 15)
+
+-- an entry under the eyes of the walk: 12 where it breaks the rules, else 13, else (after 14) 15
+unfoldable pub itemOf : Anodes → Entered → Item
+itemOf s e = record {
+  early = cond (e .broken) 12 (wrongAnode s (e .anode));
+  late = wrongFileSize s e;
+  dir = e .dir;
+  anode = e .anode;
+  place = e .place;
+}
+
+-- a directory anode with count other than 1, or whose block is not the directory's: 12
+abbrev pub brokenBlock : ℕ → Item
+brokenBlock y = record { early = 12; late = 0; dir = false; anode = 0; place = y * 512 }
+
+-- what anode a of directory d gives
+unfoldable pub itemsAt : List ℕ → Anodes → Dir → ℕ → List Item
+itemsAt img s d a =
+    cond (eqb (s .count a) 1 && isBlockOf img d (s .block a))
+    (map (itemOf s) (entriesIn img (s .block a)))
+    (brokenBlock (s .block a) ∷ [])
+
+-- what directory d gives, anode by anode
+unfoldable pub itemsOf : List ℕ → Anodes → Dir → List Item
+itemsOf img s d = gather (itemsAt img s d) (chainOf (s .next) limit (d .head))
+
+-- the directory that an item of d names
+unfoldable pub subDirs : Dir → Item → List Dir
+subDirs d i = cond (i .dir) (record { head = i .anode; parent = d .head } ∷ []) []
+
+-- the first fault of an item, after these anodes were named: 14 where its anode is one of them
+unfoldable pub faultOf : Item → List ℕ → ℕ
+faultOf i named = firstOf (i .early) (14 if leb 1 (times (i .anode) named) else i .late)
+
+-- a directory's items: the first fault, or the queue and the named anodes behind them
+pub data Scanned : Type 0 where
+  faulty : ℕ → Scanned
+  fine : List Dir → List ℕ → Scanned
+
+unfoldable pub scan : Dir → List Item → List Dir → List ℕ → Scanned
+scan d [] queue named = fine queue named
+scan d (i ∷ is) queue named =
+    elim (faultOf i named) [ zero ↦ scan d is (queue ++ subDirs d i) (i .anode ∷ named) | suc n ↦ faulty (suc n) ]
+
+-- the walk: the first fault, or the directories in the order they were taken from the queue
+pub data Walk : Type 0 where
+  fault : ℕ → Walk
+  done : List Dir → Walk
+
+unfoldable pub visited : Dir → Walk → Walk
+visited d (fault n) = fault n
+visited d (done ds) = done (d ∷ ds)
+
+module _ (items : Dir → List Item) where
+  unfoldable pub walk : ℕ → List Dir → List ℕ → Walk
+  walk zero [] named = done []
+  walk zero (d ∷ queue) named = fault 14
+  walk (suc k) [] named = done []
+  walk (suc k) (d ∷ queue) named = elim (scan d (items d) queue named) [ faulty n ↦ fault n | fine q l ↦ visited d (walk k q l) ]
+
+-- the walk over an image's directories, from the root on
+unfoldable pub walkOf : List ℕ → Anodes → Walk
+walkOf img s = walk (itemsOf img s) limit (root ∷ []) []
+
+abbrev pub faultIn : Walk → ℕ
+faultIn (fault n) = n
+faultIn (done ds) = 0
+
+abbrev pub dirsIn : Walk → List Dir
+dirsIn (fault n) = []
+dirsIn (done ds) = ds
+
+-- the reached directories, and the items of all of them in the walk's order
+unfoldable pub reachedDirs : List ℕ → Anodes → List Dir
+reachedDirs img s = dirsIn (walkOf img s)
+
+unfoldable pub reached : List ℕ → Anodes → List Item
+reached img s = gather (itemsOf img s) (reachedDirs img s)
+
+-- how often reached entries name an anode
+unfoldable pub naming : List ℕ → Anodes → ℕ → ℕ
+naming img s x = times x (map (λ i. i .anode) (reached img s))

@@ -1,0 +1,49 @@
+-- 01, "Worked values": W1 to W11, one table under one statement.
+use Prim.Native.Nat.{ℕ, _+_}
+use mathlib.Core.Path.{_≡_, refl}
+use mathlib.Core.List.{List, [], _∷_, map}
+use Rattle.disk.specs.AnodeBlocks.{anodeByte, slotFor, placeFor}
+use Rattle.directory.specs.Entries.{entryLength}
+use Rattle.rules.specs.Counting.{_if_else_, changed}
+use Rattle.rules.specs.Anodes.{Anodes}
+use Rattle.rules.specs.Walk.{blocksFor}
+use Rattle.rules.specs.Accepted.{outOfRange}
+
+-- a row: what the definitions give, and what the paper states
+pub record Row : Type 0 where
+  pub given : List ℕ
+  pub stated : List ℕ
+
+abbrev row : List ℕ → List ℕ → Row
+row given stated = record { given = given; stated = stated }
+
+-- anodes of which 6 alone is in use, with c blocks from b upward
+abbrev oneExtent : ℕ → ℕ → Anodes
+oneExtent c b = record { count = changed (λ a. 0) 6 c; block = changed (λ a. 0) 6 b; next = λ a. 0 }
+
+-- an extent's end, and its refusal on a disk of n blocks
+abbrev extent : ℕ → ℕ → ℕ → List ℕ
+extent c b n = (b + c) ∷ (7 if outOfRange (oneExtent c b) n 6 else 0) ∷ []
+
+abbrev pub rows : List Row
+rows =
+    -- W1 to W3: the length of an entry with name and comment of 1 and 0, 4 and 0, 107 and 79 bytes
+    row (entryLength 1 0 ∷ []) (18 ∷ [])
+    ∷ row (entryLength 4 0 ∷ []) (22 ∷ [])
+    ∷ row (entryLength 107 79 ∷ []) (204 ∷ [])
+    -- W4, W5: block 65,530 with count 10 ends at 65,540 and is refused with 7 on 65,535 blocks; with count 5 it is in range
+    ∷ row (extent 10 65530 65535) (65540 ∷ 7 ∷ [])
+    ∷ row (extent 5 65530 65535) (65535 ∷ 0 ∷ [])
+    -- W6 to W8: the blocks of sizes 0, 512, 513
+    ∷ row (blocksFor 0 ∷ []) (0 ∷ [])
+    ∷ row (blocksFor 512 ∷ []) (1 ∷ [])
+    ∷ row (blocksFor 513 ∷ []) (2 ∷ [])
+    -- W9 to W11: slot and byte of anodes 81 and 82, slot and place of anode 3,443
+    ∷ row (slotFor 81 ∷ anodeByte (placeFor 81) ∷ []) (0 ∷ 502 ∷ [])
+    ∷ row (slotFor 82 ∷ anodeByte (placeFor 82) ∷ []) (1 ∷ 16 ∷ [])
+    ∷ row (slotFor 3443 ∷ placeFor 3443 ∷ []) (41 ∷ 81 ∷ [])
+    ∷ []
+
+pub worked-values : map (λ r. r .given) rows ≡ map (λ r. r .stated) rows
+unfolding entryLength outOfRange changed blocksFor
+worked-values = refl

@@ -1,0 +1,1 @@
+// The rules are definitions alone; they stand in specs/.

@@ -1,0 +1,1 @@
+// Facts that the checker computes of the rules; they stand in specs/.
