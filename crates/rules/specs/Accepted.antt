@@ -114,7 +114,11 @@ unnamed img s x = eqb (naming img s x) 0
 unfoldable pub unnamedChain : List ℕ → Anodes → ℕ → Bool
 unnamedChain img s x = leb 6 x && (eqb (heads limit (s .next) (s .block) x) 1 && unnamed img s x)
 
--- the damage that the anodes and directories show: 6 to 11, then the walk's own, 12 to 15, then 16
+-- the walk's own fault, 12 to 15, then 16
+unfoldable pub treeFault : List ℕ → Anodes → ℕ
+treeFault img s = firstOf (faultIn (walkOf img s)) (16 if anyBelow (unnamedChain img s) limit else 0)
+
+-- the damage that the anodes and directories show: 6 to 11, then 12 to 16
 unfoldable pub damageIn : List ℕ → Anodes → ℕ
 damageIn img s =
     6 if wrongFixed s
@@ -123,7 +127,7 @@ damageIn img s =
     else 9 if wrongFreeList s (lastReserved img)
     else 10 if twoOwners img s
     else 11 if noOwner img s
-    else firstOf (faultIn (walkOf img s)) (16 if anyBelow (unnamedChain img s) limit else 0)
+    else treeFault img s
 
 -- the whole table: the check's answer for an image and tables of these lengths
 unfoldable pub checkAnswer : List ℕ → ℕ → ℕ → ℕ

@@ -88,19 +88,20 @@ itemOf s e = record {
 }
 
 -- a directory anode with count other than 1, or whose block is not the directory's: 12
-abbrev pub brokenBlock : ℕ → Item
-brokenBlock y = record { early = 12; late = 0; dir = false; anode = 0; place = y * 512 }
+abbrev pub broken : Item
+broken = record { early = 12; late = 0; dir = false; anode = 0; place = 0 }
 
--- what anode a of directory d gives
-unfoldable pub itemsAt : List ℕ → Anodes → Dir → ℕ → List Item
-itemsAt img s d a =
-    cond (eqb (s .count a) 1 && isBlockOf img d (s .block a))
-    (map (itemOf s) (entriesIn img (s .block a)))
-    (brokenBlock (s .block a) ∷ [])
+-- what anode a of directory d gives, where `entries` are those of a block and `marked` says whether a block is a directory's
+unfoldable pub itemsAt : (ℕ → List Entered) → (Dir → ℕ → Bool) → Anodes → Dir → ℕ → List Item
+itemsAt entries marked s d a =
+    cond (eqb (s .count a) 1 && marked d (s .block a)) (map (itemOf s) (entries (s .block a))) (broken ∷ [])
 
 -- what directory d gives, anode by anode
+unfoldable pub itemsBy : (ℕ → List Entered) → (Dir → ℕ → Bool) → Anodes → Dir → List Item
+itemsBy entries marked s d = gather (itemsAt entries marked s d) (chainOf (s .next) limit (d .head))
+
 unfoldable pub itemsOf : List ℕ → Anodes → Dir → List Item
-itemsOf img s d = gather (itemsAt img s d) (chainOf (s .next) limit (d .head))
+itemsOf img s = itemsBy (entriesIn img) (isBlockOf img) s
 
 -- the directory that an item of d names
 unfoldable pub subDirs : Dir → Item → List Dir

@@ -1,0 +1,37 @@
+// Tables of two-byte numbers in lent memory. Reading past the end gives 0 and writing past it changes nothing.
+ghost use mathlib.Core.List.{_++_};
+ghost use mathlib.Core.Path.{_≡_};
+ghost use Prim.Native.Nat.{_≤_};
+ghost use lib.ListN.{length, getD, set, drop, replicate};
+
+// The number at `i`.
+pub fn entry(table: &[u16], i: usize) -> u16
+    ensures { λ r. ⌜ r ≡ getD (now (table .entry)) i 0 ⌝ }
+{
+    if table.len() <= i {
+        return 0;
+    }
+    table[i]
+}
+
+// Stores a number at `i`.
+pub fn set_entry(table: &mut [u16], i: usize, v: u16)
+    ensures { λ _. ⌜ now (table .exit) ≡ set (now (table .entry)) i v ⌝ }
+{
+    if table.len() <= i {
+        return;
+    }
+    table[i] = v;
+}
+
+// Zeroes the first `n` numbers.
+pub fn zero_first(table: &mut [u16], n: usize)
+    requires { ⌜ n ≤ length (now table) ⌝ }
+    ensures { λ _. ⌜ now (table .exit) ≡ replicate n 0 ++ drop n (now (table .entry)) ⌝ }
+{
+    let mut i = 0;
+    while i < n {
+        table[i] = 0;
+        i += 1;
+    }
+}
