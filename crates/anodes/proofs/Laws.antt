@@ -1,0 +1,97 @@
+-- What an anode is seen as, and the tables with one more of them. Assumes nothing.
+use mathlib.Core.Path.{_≡_, refl, sym, _∙_}
+use mathlib.Core.Logic.{⊎-elim}
+use Prim.Native.Nat.{ℕ, _+_, _*_, _/_, _%_, _<_, _≤_}
+use mathlib.Core.List.{List, []}
+use native.Mathlib.Omega.{arith}
+use native.Mathlib.Nat.{not-suc-le-zero}
+use lib.ListN.{length, getD, set, List·getD-eq-default}
+use lib.Seq.{getD-set-same, getD-set-other}
+use borrow.Author.Tests.{eq-eqb, ne-eqb}
+use Rattle.endian.proofs.Laws.{le-or-lt, eq-or-ne, be16-out}
+use Rattle.disk.specs.declared.Anode.{Anode}
+use Rattle.disk.specs.Root.{slotOf}
+use Rattle.disk.specs.Blocks.{blockOf}
+use Rattle.disk.specs.AnodeBlocks.{anodeMade, anodeIn, anodeOf}
+use Rattle.disk.proofs.Laws.{slotOf-high, anodeOf-missing, anodeOf-there}
+use Rattle.rules.specs.Anodes.{Anodes, fieldsOf, inUse, anodesOf}
+use Rattle.anodes.specs.Loaded.{anodesFrom, asSeen, LoadedBelow}
+
+-- ---- the anodes of a slot
+
+pub in-empty : (img : List ℕ) (s p : ℕ) → p < 82 → slotOf img s ≡ 0 → anodeIn [] p ≡ anodeOf img (s * 82 + p)
+unfolding anodeIn
+in-empty img s p h e =
+    let q : (s * 82 + p) / 82 ≡ s = omega arith in
+    rw (anodeOf-missing img (s * 82 + p) (rw q e), be16-out [] (16 + 6 * p) (omega arith), be16-out [] (16 + 6 * p + 2) (omega arith), be16-out [] (16 + 6 * p + 4) (omega arith))
+
+pub in-block : (img : List ℕ) (s p b : ℕ) → p < 82 → slotOf img s ≡ b → (b ≡ 0 → ⊥) → anodeIn (blockOf img b) p ≡ anodeOf img (s * 82 + p)
+in-block img s p b h e n =
+    let q : (s * 82 + p) / 82 ≡ s = omega arith in
+    let r : (s * 82 + p) % 82 ≡ p = omega arith in
+    sym (anodeOf-there img (s * 82 + p) b (rw q e) n ∙ rw r)
+
+-- ---- an anode as it is seen
+
+pub asSeen-free : (x : Anode) → x .block .0 ≡ 0 → asSeen x ≡ anodeMade 0 0 0
+unfolding asSeen
+asSeen-free x e = rw (eq-eqb (x .block .0) 0 e)
+
+pub asSeen-used : (x : Anode) → (x .block .0 ≡ 0 → ⊥) → asSeen x ≡ x
+unfolding asSeen
+asSeen-used x n = rw (ne-eqb (x .block .0) 0 n)
+
+-- the three fields that the rules see of anode `a`
+pub seen-fields : (img : List ℕ) (a : ℕ) (x y : Anode) → y ≡ anodeOf img a → x ≡ asSeen y
+    → (x .count ≡ anodesOf img .count a) × (x .block .0 ≡ anodesOf img .block a) × (x .next .0 ≡ anodesOf img .next a)
+unfolding asSeen anodesOf inUse fieldsOf anodeOf
+seen-fields img a x y at is =
+    ⊎-elim
+    (λ e. rw (is, at, eq-eqb (anodeOf img a .block .0) 0 (rw at at e)) (refl, sym (rw at at e), refl))
+    (λ n. rw (is, at, ne-eqb (anodeOf img a .block .0) 0 (rw at at n)) (refl, refl, refl))
+    (eq-or-ne (y .block .0) 0)
+
+-- a missing anode is seen as (0, 0, 0)
+seen-high : (img : List ℕ) (a : ℕ) → 3444 ≤ a → asSeen (anodeOf img a) ≡ anodeMade 0 0 0
+seen-high img a h = rw (anodeOf-missing img a (slotOf-high img (a / 82) (omega arith))) (asSeen-free (anodeMade 0 0 0) refl)
+
+-- ---- the tables
+
+-- a list that holds f below k, with one number more
+held-more : (f : ℕ → ℕ) (l : List ℕ) (k v : ℕ) → k < length l → ((a : ℕ) → a < k → getD l a 0 ≡ f a) → v ≡ f k
+    → (a : ℕ) → a < k + 1 → getD (set l k v) a 0 ≡ f a
+held-more f l k v room held is a h =
+    ⊎-elim (λ e. rw e (getD-set-same l k v 0 room ∙ is)) (λ n. getD-set-other l k a v 0 n ∙ held a (omega arith)) (eq-or-ne a k)
+
+module _ (s : Anodes) (c b n : List ℕ) where
+  pub loaded-none : LoadedBelow s c b n 0
+  loaded-none = record { counts = λ a h. absurd (not-suc-le-zero h); blocks = λ a h. absurd (not-suc-le-zero h); nexts = λ a h. absurd (not-suc-le-zero h) }
+
+  pub loaded-more : (k : ℕ) (x : Anode) → k < length c → k < length b → k < length n → LoadedBelow s c b n k
+      → (x .count ≡ s .count k) × (x .block .0 ≡ s .block k) × (x .next .0 ≡ s .next k)
+      → LoadedBelow s (set c k (x .count)) (set b k (x .block .0)) (set n k (x .next .0)) (k + 1)
+  loaded-more k x p q r l e = record {
+    counts = held-more (s .count) c k (x .count) p (l .counts) (e .0);
+    blocks = held-more (s .block) b k (x .block .0) q (l .blocks) (e .1);
+    nexts = held-more (s .next) n k (x .next .0) r (l .nexts) (e .2);
+  }
+
+same-anodes : (s t : Anodes) → ((a : ℕ) → s .count a ≡ t .count a) → ((a : ℕ) → s .block a ≡ t .block a) → ((a : ℕ) → s .next a ≡ t .next a) → s ≡ t
+same-anodes s t p q r = λ i. record { count = λ a. p a i; block = λ a. q a i; next = λ a. r a i }
+
+-- a list that holds f below its length, where f is 0 from there on
+held-all : (f : ℕ → ℕ) (l : List ℕ) → length l ≡ 3444 → ((a : ℕ) → a < 3444 → getD l a 0 ≡ f a) → ((a : ℕ) → 3444 ≤ a → f a ≡ 0)
+    → (a : ℕ) → getD l a 0 ≡ f a
+held-all f l e held out a =
+    ⊎-elim (λ h. List·getD-eq-default l 0 (rw e h) ∙ sym (out a h)) (λ h. held a h) (le-or-lt 3444 a)
+
+pub loaded-all : (img : List ℕ) (c b n : List ℕ) → length c ≡ 3444 → length b ≡ 3444 → length n ≡ 3444
+    → LoadedBelow (anodesOf img) c b n 3444 → anodesFrom c b n ≡ anodesOf img
+unfolding anodesFrom
+loaded-all img c b n p q r l =
+    let high : (a : ℕ) → 3444 ≤ a → (0 ≡ anodesOf img .count a) × (0 ≡ anodesOf img .block a) × (0 ≡ anodesOf img .next a) =
+    λ a h. seen-fields img a (anodeMade 0 0 0) (anodeOf img a) refl (sym (seen-high img a h)) in
+    same-anodes (anodesFrom c b n) (anodesOf img)
+    (held-all (anodesOf img .count) c p (l .counts) (λ a h. sym (high a h .0)))
+    (held-all (anodesOf img .block) b q (l .blocks) (λ a h. sym (high a h .1)))
+    (held-all (anodesOf img .next) n r (l .nexts) (λ a h. sym (high a h .2)))

@@ -1,0 +1,2 @@
+-- Laws of the tables that are loaded.
+pub mod Laws

@@ -1,0 +1,2 @@
+-- The anodes of an image in three lists.
+pub mod Loaded

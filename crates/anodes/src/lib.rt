@@ -1,0 +1,59 @@
+// Loads the anodes of an image, as the rules see them, into three lent tables.
+ghost use mathlib.Core.Path.{_≡_};
+ghost use Prim.Native.Nat.{ℕ, _+_, _*_, _<_};
+ghost use lib.ListN.{length};
+ghost use Rattle.disk.specs.AnodeBlocks.{anodeIn, anodeOf};
+ghost use Rattle.rules.specs.Anodes.{anodesOf};
+ghost use Rattle.anodes.specs.Loaded.{anodesFrom, asSeen, LoadedBelow};
+use disk::Anode;
+use disk::anode_in;
+use disk::block_part;
+use disk::no_anode;
+use disk::slot_of;
+
+// An anode as the rules see it: a free one is (0, 0, 0).
+fn as_seen(x: Anode) -> Anode
+    ensures { λ r. ⌜ r ≡ asSeen x ⌝ }
+{
+    if x.block.0 == 0 {
+        return no_anode();
+    }
+    x
+}
+
+// The bytes in which the anodes of slot `s` stand; none for a slot that holds 0, and its anodes read (0, 0, 0).
+fn slot_part(image: &[u8], s: usize) -> &[u8]
+    ensures { λ r. ⌜ ((p : ℕ) → p < 82 → anodeIn (now r) p ≡ anodeOf (now (image .entry)) (s * 82 + p)) ⌝ }
+{
+    let slot = slot_of(image, s);
+    if slot.0 == 0 {
+        return &image[0..0];
+    }
+    block_part(image, slot)
+}
+
+// Loads the 82 anodes of slot `s`, after those of the slots before it.
+fn load_slot(image: &[u8], s: usize, counts: &mut [u16], firsts: &mut [u16], nexts: &mut [u16])
+    requires { ⌜ (s < 42) × (length (now counts) ≡ 3444) × (length (now firsts) ≡ 3444) × (length (now nexts) ≡ 3444) ⌝ }
+    requires { ⌜ LoadedBelow (anodesOf (now image)) (now counts) (now firsts) (now nexts) (s * 82) ⌝ }
+    ensures { λ _. ⌜ LoadedBelow (anodesOf (now (image .entry))) (now (counts .exit)) (now (firsts .exit)) (now (nexts .exit)) (s * 82 + 82) ⌝ }
+{
+    let part = slot_part(image, s);
+    for p in 0..82 {
+        let x = as_seen(anode_in(part, p));
+        let a = s * 82 + p;
+        counts[a] = x.count;
+        firsts[a] = x.block.0;
+        nexts[a] = x.next.0;
+    }
+}
+
+// Loads every anode; a free or missing one is (0, 0, 0).
+pub fn load(image: &[u8], counts: &mut [u16], firsts: &mut [u16], nexts: &mut [u16])
+    requires { ⌜ (length (now counts) ≡ 3444) × (length (now firsts) ≡ 3444) × (length (now nexts) ≡ 3444) ⌝ }
+    ensures { λ _. ⌜ anodesFrom (now (counts .exit)) (now (firsts .exit)) (now (nexts .exit)) ≡ anodesOf (now (image .entry)) ⌝ }
+{
+    for s in 0..42 {
+        load_slot(image, s, counts, firsts, nexts);
+    }
+}

@@ -1,0 +1,2 @@
+-- Laws of the rules' sums and searches.
+pub mod Laws

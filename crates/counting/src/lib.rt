@@ -1,0 +1,1 @@
+// The laws of the rules' sums and searches; they stand in specs/.
