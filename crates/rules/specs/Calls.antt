@@ -29,16 +29,13 @@ pub record Outcome : Type 0 where
   pub output : List ℕ
   pub name : List ℕ
 
+abbrev pub outcomeOf : ℕ → List ℕ → List ℕ → List ℕ → List ℕ → List ℕ → Outcome
+outcomeOf answer image blocks anodes output name = record { answer = answer; image = image; blocks = blocks; anodes = anodes; output = output; name = name }
+
 -- what is left of image and tables settles the rest
 unfoldable pub settled : Left → List ℕ → List ℕ → List ℕ → List ℕ → Outcome
-settled l blocks anodes output name = record {
-  answer = l .answer;
-  image = l .image;
-  blocks = blocksLeft (l .answer) (l .image) blocks;
-  anodes = anodesLeft (l .answer) (l .image) anodes;
-  output = output;
-  name = name;
-}
+settled l blocks anodes output name =
+    outcomeOf (l .answer) (l .image) (blocksLeft (l .answer) (l .image) blocks) (anodesLeft (l .answer) (l .image) anodes) output name
 
 -- Check
 unfoldable pub checkOutcome : List ℕ → List ℕ → List ℕ → Outcome

@@ -6,7 +6,7 @@ use Rattle.rules.specs.Anodes.{limit}
 use Rattle.rules.specs.Accepted.{diskSize, checkAnswer}
 use Rattle.rules.specs.Totals.{total}
 use Rattle.rules.specs.Changes.{Left}
-use Rattle.rules.specs.Calls.{Outcome, checkOutcome, summaryOutcome, formatOutcome, readOutcome, listOutcome, makeOutcome, resizeOutcome, writeOutcome, removeOutcome}
+use Rattle.rules.specs.Calls.{Outcome, outcomeOf, checkOutcome, summaryOutcome, formatOutcome, readOutcome, listOutcome, makeOutcome, resizeOutcome, writeOutcome, removeOutcome}
 
 -- a call with all that it is lent or handed but the image; tables and buffers may have any length and content
 pub data Call : Type 0 where
@@ -22,7 +22,7 @@ pub data Call : Type 0 where
 
 -- format is lent no tables and hands nothing out
 abbrev pub ofLeft : Left → Outcome
-ofLeft l = record { answer = l .answer; image = l .image; blocks = []; anodes = []; output = []; name = [] }
+ofLeft l = outcomeOf (l .answer) (l .image) [] [] [] []
 
 -- each call's outcome is the one that its contract equals
 unfoldable pub outcome : List ℕ → Call → Outcome

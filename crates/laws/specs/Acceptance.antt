@@ -1,0 +1,280 @@
+-- The check's table: its answer is 0 exactly if every test fails, and what the tests 6 to 11 say in numbers.
+use Prim.Native.Nat.{ℕ, zero, suc, _+_, _/_, _%_, _≤_, _<_}
+use mathlib.Core.Path.{_≡_, refl, sym, ap, _∙_}
+use mathlib.Core.Logic.{_≢_, _⊎_, inl, inr}
+use mathlib.Core.Bool.{Bool, true, false, cond, not, _&&_, _||_}
+use mathlib.Core.List.{List, [], _∷_}
+use native.Mathlib.Omega.{arith}
+use lib.Dec.{T, eqb, leb, ltb}
+use lib.ListN.{length, getD}
+use borrow.Author.Tests.{ltb-true, ltb-false, leb-false, eqb-true, eqb-false, not-true, not-false, lt-ltb, le-ltb, lt-leb, eq-eqb, ne-eqb}
+use Rattle.rules.specs.Counting.{_if_else_, firstOf, anyBelow, anyIn, times, oneAt}
+use Rattle.rules.specs.Anodes.{Anodes, limit, exists, anodesOf}
+use Rattle.rules.specs.Chains.{chainOf, followed, preds, heads, owners, systemOwns, side}
+use Rattle.rules.specs.Walk.{Walk, fault, done, walkOf, faultIn}
+use Rattle.rules.specs.Accepted.{diskSize, wrongSize, shortTables, wrongType, lastReserved, wrongRoot, wrongSlots, wrongFixed, outOfRange, wrongLink, wrongAt, hasPred, wrongLinks, notAbove, notUpTo, wrongFreeList, ownersOf, twoOwners, noOwner, unnamedChain, treeFault, damageIn, checkAnswer}
+use Rattle.counting.specs.Laws.{neither, anyBelow-each, anyBelow-all}
+use Rattle.laws.specs.Sums.{oneAt-cases, oneAt-same}
+use Rattle.laws.specs.Bags.{times-nil, times-cons}
+use Rattle.laws.specs.Tests.{same?}
+use Rattle.laws.specs.Segments.{followed-zero}
+use Rattle.laws.specs.Passes.{Reading, Passes}
+
+-- ---- Booleans
+
+pub none-or : (a b : Bool) → a ≡ false → b ≡ false → (a || b) ≡ false
+none-or a b p q = rw (p, q)
+
+-- a conjunction that fails, given its first part
+pub and-none : (a b : Bool) → (a && b) ≡ false → a ≡ true → b ≡ false
+and-none a b e t = rw t at e
+
+pub none-and : (a b : Bool) → (a ≡ true → b ≡ false) → (a && b) ≡ false
+none-and true b f = f refl
+none-and false b f = refl
+
+-- a conjunction that holds
+pub and-both : (a b : Bool) → (a && b) ≡ true → (a ≡ true) × (b ≡ true)
+and-both true b e = (refl, e)
+and-both false b e = absurd (let z : _≡_ {A = ℕ} 0 1 = cc in omega arith)
+
+-- a number that is another, and one that is the same
+pub other : (a b : ℕ) → a ≢ b → not (eqb a b) ≡ true
+other a b p = rw (ne-eqb a b p)
+
+pub same : (a b : ℕ) → a ≡ b → not (eqb a b) ≡ false
+same a b p = rw (eq-eqb a b p)
+
+-- no number of a list passes
+pub in-none : (test : ℕ → Bool) (l : List ℕ) → anyIn test l ≡ false → (x : ℕ) → 0 < times x l → test x ≡ false
+unfolding anyIn
+in-none test [] e x p = absurd (omega (arith, p, times-nil x))
+in-none test (y ∷ l) e x p =
+    let o = neither (test y) (anyIn test l) e in
+    elim (oneAt-cases y x) [
+      | inl q ↦ rw (sym (q .0)) (o .0)
+      | inr q ↦ in-none test l (o .1) x (omega (arith, p, times-cons x y l, q .1))
+    ]
+
+pub none-in : (test : ℕ → Bool) (l : List ℕ) → ((x : ℕ) → 0 < times x l → test x ≡ false) → anyIn test l ≡ false
+unfolding anyIn
+none-in test [] f = refl
+none-in test (y ∷ l) f =
+    none-or (test y) (anyIn test l) (f y (omega (arith, times-cons y y l, oneAt-same y y refl))) (none-in test l (λ x p. f x (omega (arith, p, times-cons x y l))))
+
+-- ---- the table
+
+-- a row that answers 0 has failed, and so has the rest
+pub if-zero : (n : ℕ) (t : Bool) (rest : ℕ) → n ≢ 0 → (n if t else rest) ≡ 0 → (t ≡ false) × (rest ≡ 0)
+if-zero n true rest p e = absurd (p e)
+if-zero n false rest p e = (refl, e)
+
+pub zero-if : (n : ℕ) (t : Bool) (rest : ℕ) → t ≡ false → rest ≡ 0 → (n if t else rest) ≡ 0
+zero-if n t rest p e = rw p e
+
+pub firstOf-zero : (a b : ℕ) → firstOf a b ≡ 0 → (a ≡ 0) × (b ≡ 0)
+unfolding firstOf
+firstOf-zero zero b e = (refl, e)
+firstOf-zero (suc a) b e = absurd (omega arith)
+
+pub zero-firstOf : (a b : ℕ) → a ≡ 0 → b ≡ 0 → firstOf a b ≡ 0
+unfolding firstOf
+zero-firstOf a b p q = rw p q
+
+-- no test of the table holds
+pub record Passed (img : List ℕ) (blocks anodes : ℕ) : Type 0 where
+  pub size-right : wrongSize img ≡ false
+  pub tables-long : shortTables img blocks anodes ≡ false
+  pub type-right : wrongType img ≡ false
+  pub root-right : wrongRoot img ≡ false
+  pub slots-right : wrongSlots img ≡ false
+  pub fixed-right : wrongFixed (anodesOf img) ≡ false
+  pub in-range : anyBelow (outOfRange (anodesOf img) (diskSize img)) limit ≡ false
+  pub links-right : wrongLinks (anodesOf img) ≡ false
+  pub free-right : wrongFreeList (anodesOf img) (lastReserved img) ≡ false
+  pub none-twice : twoOwners img (anodesOf img) ≡ false
+  pub all-owned : noOwner img (anodesOf img) ≡ false
+  pub walked : faultIn (walkOf img (anodesOf img)) ≡ 0
+  pub all-named : anyBelow (unnamedChain img (anodesOf img)) limit ≡ false
+
+pub passed-of : (img : List ℕ) (blocks anodes : ℕ) → checkAnswer img blocks anodes ≡ 0 → Passed img blocks anodes
+unfolding checkAnswer damageIn treeFault
+passed-of img blocks anodes e =
+    let r1 = if-zero 1 (wrongSize img) _ (omega arith) e in
+    let r2 = if-zero 2 (shortTables img blocks anodes) _ (omega arith) (r1 .1) in
+    let r3 = if-zero 3 (wrongType img) _ (omega arith) (r2 .1) in
+    let r4 = if-zero 4 (wrongRoot img) _ (omega arith) (r3 .1) in
+    let r5 = if-zero 5 (wrongSlots img) _ (omega arith) (r4 .1) in
+    let r6 = if-zero 6 (wrongFixed (anodesOf img)) _ (omega arith) (r5 .1) in
+    let r7 = if-zero 7 (anyBelow (outOfRange (anodesOf img) (diskSize img)) limit) _ (omega arith) (r6 .1) in
+    let r8 = if-zero 8 (wrongLinks (anodesOf img)) _ (omega arith) (r7 .1) in
+    let r9 = if-zero 9 (wrongFreeList (anodesOf img) (lastReserved img)) _ (omega arith) (r8 .1) in
+    let r10 = if-zero 10 (twoOwners img (anodesOf img)) _ (omega arith) (r9 .1) in
+    let r11 = if-zero 11 (noOwner img (anodesOf img)) _ (omega arith) (r10 .1) in
+    let r12 = firstOf-zero (faultIn (walkOf img (anodesOf img))) _ (r11 .1) in
+    let r16 = if-zero 16 (anyBelow (unnamedChain img (anodesOf img)) limit) 0 (omega arith) (r12 .1) in
+    record {
+      size-right = r1 .0;
+      tables-long = r2 .0;
+      type-right = r3 .0;
+      root-right = r4 .0;
+      slots-right = r5 .0;
+      fixed-right = r6 .0;
+      in-range = r7 .0;
+      links-right = r8 .0;
+      free-right = r9 .0;
+      none-twice = r10 .0;
+      all-owned = r11 .0;
+      walked = r12 .0;
+      all-named = r16 .0;
+    }
+
+pub passed-accepted : (img : List ℕ) (blocks anodes : ℕ) → Passed img blocks anodes → checkAnswer img blocks anodes ≡ 0
+unfolding checkAnswer damageIn treeFault
+passed-accepted img blocks anodes p =
+    rw (p .size-right, p .tables-long, p .type-right, p .root-right, p .slots-right, p .fixed-right, p .in-range, p .links-right, p .free-right, p .none-twice, p .all-owned, p .all-named)
+    (zero-firstOf (faultIn (walkOf img (anodesOf img))) 0 (p .walked) refl)
+
+-- ---- 6 to 11
+
+module _ (s : Anodes) (n last : ℕ) (system : ℕ → ℕ) (ex : ℕ → Bool) where
+  -- the tests as they are computed
+  pub record Tested : Type 0 where
+    pub fixed-right : wrongFixed s ≡ false
+    pub in-range : anyBelow (outOfRange s n) limit ≡ false
+    pub links-right : wrongLinks s ≡ false
+    pub free-right : wrongFreeList s last ≡ false
+    pub none-twice : anyBelow (λ x. ltb 1 (owners limit (s .count) (s .block) system x)) n ≡ false
+    pub all-owned : anyBelow (λ x. eqb (owners limit (s .count) (s .block) system x) 0) n ≡ false
+
+  -- the tests in numbers: what is proved of accepted images stands on this form
+  pub tested-passes : Reading limit ex n last s → Tested → Passes limit ex n last s system
+  unfolding wrongFixed outOfRange wrongLinks wrongAt wrongLink hasPred wrongFreeList notAbove notUpTo
+  tested-passes r t = record {
+    count-0 = eqb-true _ _ (f0 .0);
+    block-0 = eqb-true _ _ (f00 .0);
+    next-0 = eqb-true _ _ (f00 .1);
+    count-1 = eqb-true _ _ (f1 .0);
+    block-1 = eqb-true _ _ (f1 .1);
+    block-2 = eqb-false _ _ (k2 .0);
+    block-5 = eqb-false _ _ (k2 .1);
+    fits = fits;
+    closed = closed;
+    one-pred = λ x x0 u. ltb-false 1 _ (link x x0 u .0);
+    ends = ends;
+    first-1 = none-before 1 (p1 .0);
+    first-3 = none-before 3 (p3 .0);
+    first-4 = none-before 4 (p4 .0);
+    first-5 = none-before 5 (p4 .1);
+    two-on = positive _ (eqb-false _ 0 (w .0));
+    high = λ a p c. leb-false _ last (and-none _ _ (in-none (notAbove s last) (side limit s 1) (w1 .0) a p) (lt-ltb 0 _ c));
+    low = λ a p c. omega (arith, ltb-false (last + 1) _ (and-none _ _ (in-none (notUpTo s last) (chainOf (s .next) limit 2) (w1 .1) a p) (lt-ltb 0 _ c)));
+    not-two = λ x l. ltb-false 1 _ (anyBelow-each (λ x. ltb 1 (owners limit (s .count) (s .block) system x)) x n l (t .none-twice));
+    not-none = λ x l. positive _ (eqb-false _ 0 (anyBelow-each (λ x. eqb (owners limit (s .count) (s .block) system x) 0) x n l (t .all-owned)));
+  }
+    where
+      positive : (k : ℕ) → k ≢ 0 → 1 ≤ k
+      positive k p = omega arith
+
+      g : (not (eqb (s .count 0) 0 && (eqb (s .block 0) 65535 && eqb (s .next 0) 0)) ≡ false) × ((not (eqb (s .count 1) 0 && eqb (s .block 1) 65535) || (eqb (s .block 2) 0 || eqb (s .block 5) 0)) ≡ false)
+      g = neither _ _ (t .fixed-right)
+
+      g1 : (not (eqb (s .count 1) 0 && eqb (s .block 1) 65535) ≡ false) × ((eqb (s .block 2) 0 || eqb (s .block 5) 0) ≡ false)
+      g1 = neither _ _ (g .1)
+
+      f0 : (eqb (s .count 0) 0 ≡ true) × ((eqb (s .block 0) 65535 && eqb (s .next 0) 0) ≡ true)
+      f0 = and-both _ _ (not-false _ (g .0))
+
+      f00 : (eqb (s .block 0) 65535 ≡ true) × (eqb (s .next 0) 0 ≡ true)
+      f00 = and-both _ _ (f0 .1)
+
+      f1 : (eqb (s .count 1) 0 ≡ true) × (eqb (s .block 1) 65535 ≡ true)
+      f1 = and-both _ _ (not-false _ (g1 .0))
+
+      k2 : (eqb (s .block 2) 0 ≡ false) × (eqb (s .block 5) 0 ≡ false)
+      k2 = neither _ _ (g1 .1)
+
+      range : (a : ℕ) → a < limit → a ≢ 0 → ((ltb 0 (s .count a) && ltb n (s .block a + s .count a)) ≡ false) × ((not (eqb (s .next a) 0) && eqb (s .block (s .next a)) 0) ≡ false)
+      range a l a0 = neither _ _ (and-none (not (eqb a 0)) _ (anyBelow-each (outOfRange s n) a limit l (t .in-range)) (other a 0 a0))
+
+      fits : (a : ℕ) → a < limit → 0 < s .count a → s .block a + s .count a ≤ n
+      fits a l c = elim (same? a 0) [
+        | inl e ↦ absurd (omega (arith, c, ap (s .count) e, eqb-true (s .count 0) 0 (f0 .0)))
+        | inr e ↦ ltb-false n _ (and-none _ _ (range a l e .0) (lt-ltb 0 _ c))
+      ]
+
+      closed : (a : ℕ) → a < limit → s .next a ≢ 0 → s .block (s .next a) ≢ 0
+      closed a l h = elim (same? a 0) [
+        | inl e ↦ absurd (h (ap (s .next) e ∙ eqb-true (s .next 0) 0 (f00 .1)))
+        | inr e ↦ eqb-false _ 0 (and-none _ _ (range a l e .1) (other (s .next a) 0 h))
+      ]
+
+      o : (anyBelow (wrongAt s) limit ≡ false) × ((hasPred s 1 || (hasPred s 3 || (hasPred s 4 || hasPred s 5))) ≡ false)
+      o = neither _ _ (t .links-right)
+
+      p1 : (hasPred s 1 ≡ false) × ((hasPred s 3 || (hasPred s 4 || hasPred s 5)) ≡ false)
+      p1 = neither _ _ (o .1)
+
+      p3 : (hasPred s 3 ≡ false) × ((hasPred s 4 || hasPred s 5) ≡ false)
+      p3 = neither _ _ (p1 .1)
+
+      p4 : (hasPred s 4 ≡ false) × (hasPred s 5 ≡ false)
+      p4 = neither _ _ (p3 .1)
+
+      none-before : (a : ℕ) → hasPred s a ≡ false → preds limit (s .next) a ≡ 0
+      none-before a e = omega (arith, ltb-false 0 (preds limit (s .next) a) e)
+
+      link : (x : ℕ) → x ≢ 0 → s .block x ≢ 0 → (ltb 1 (preds limit (s .next) x) ≡ false) × (not (eqb (followed (s .next) limit x) 0) ≡ false)
+      link x x0 u = neither _ _ (and-none _ _ (and-none _ _ (anyBelow-each (wrongAt s) x limit (r .low x u) (o .0)) (other x 0 x0)) (other (s .block x) 0 u))
+
+      ends : (a : ℕ) → s .block a ≢ 0 → followed (s .next) limit a ≡ 0
+      ends a u = elim (same? a 0) [
+        | inl e ↦ rw e (followed-zero (s .next) limit (eqb-true _ _ (f00 .1)))
+        | inr e ↦ eqb-true _ 0 (not-false _ (link a e u .1))
+      ]
+
+      w : (eqb (times 2 (chainOf (s .next) limit 1)) 0 ≡ false) × ((anyIn (notAbove s last) (side limit s 1) || anyIn (notUpTo s last) (chainOf (s .next) limit 2)) ≡ false)
+      w = neither _ _ (t .free-right)
+
+      w1 : (anyIn (notAbove s last) (side limit s 1) ≡ false) × (anyIn (notUpTo s last) (chainOf (s .next) limit 2) ≡ false)
+      w1 = neither _ _ (w .1)
+
+  -- and the tests from the numbers
+  pub passes-tested : Passes limit ex n last s system → Tested
+  unfolding wrongFixed outOfRange wrongLinks wrongAt wrongLink hasPred wrongFreeList notAbove notUpTo
+  passes-tested p = record {
+    fixed-right = rw (eq-eqb (s .count 0) 0 (p .count-0), eq-eqb (s .block 0) 65535 (p .block-0), eq-eqb (s .next 0) 0 (p .next-0), eq-eqb (s .count 1) 0 (p .count-1), eq-eqb (s .block 1) 65535 (p .block-1), ne-eqb (s .block 2) 0 (p .block-2), ne-eqb (s .block 5) 0 (p .block-5));
+    in-range = anyBelow-all (outOfRange s n) limit range;
+    links-right = none-or _ _ (anyBelow-all (wrongAt s) limit link)
+        (none-or _ _ (le-ltb 0 _ (none 1 (p .first-1))) (none-or _ _ (le-ltb 0 _ (none 3 (p .first-3))) (none-or _ _ (le-ltb 0 _ (none 4 (p .first-4))) (le-ltb 0 _ (none 5 (p .first-5))))));
+    free-right = none-or _ _ (ne-eqb (times 2 (chainOf (s .next) limit 1)) 0 (λ e. omega (arith, e, p .two-on)))
+        (none-or _ _ (none-in (notAbove s last) (side limit s 1) above) (none-in (notUpTo s last) (chainOf (s .next) limit 2) up-to));
+    none-twice = anyBelow-all (λ x. ltb 1 (owners limit (s .count) (s .block) system x)) n (λ x l. le-ltb 1 _ (p .not-two x l));
+    all-owned = anyBelow-all (λ x. eqb (owners limit (s .count) (s .block) system x) 0) n (λ x l. ne-eqb (owners limit (s .count) (s .block) system x) 0 (λ e. omega (arith, e, p .not-none x l)));
+  }
+    where
+      none : (a : ℕ) → preds limit (s .next) a ≡ 0 → preds limit (s .next) a ≤ 0
+      none a e = omega arith
+
+      range : (a : ℕ) → a < limit → outOfRange s n a ≡ false
+      range a l =
+          none-and (not (eqb a 0)) (ltb 0 (s .count a) && ltb n (s .block a + s .count a) || not (eqb (s .next a) 0) && eqb (s .block (s .next a)) 0) (λ e.
+          none-or (ltb 0 (s .count a) && ltb n (s .block a + s .count a)) (not (eqb (s .next a) 0) && eqb (s .block (s .next a)) 0)
+          (none-and (ltb 0 (s .count a)) (ltb n (s .block a + s .count a)) (λ c. le-ltb n (s .block a + s .count a) (p .fits a l (ltb-true 0 (s .count a) c))))
+          (none-and (not (eqb (s .next a) 0)) (eqb (s .block (s .next a)) 0) (λ c. ne-eqb (s .block (s .next a)) 0 (p .closed a l (eqb-false (s .next a) 0 (not-true (eqb (s .next a) 0) c))))))
+
+      link : (a : ℕ) → a < limit → wrongAt s a ≡ false
+      link a l =
+          none-and (not (eqb a 0)) (not (eqb (s .block a) 0) && wrongLink s a) (λ e.
+          none-and (not (eqb (s .block a) 0)) (wrongLink s a) (λ u.
+          none-or (ltb 1 (preds limit (s .next) a)) (not (eqb (followed (s .next) limit a) 0))
+          (le-ltb 1 (preds limit (s .next) a) (p .one-pred a (eqb-false a 0 (not-true (eqb a 0) e)) (eqb-false (s .block a) 0 (not-true (eqb (s .block a) 0) u))))
+          (same (followed (s .next) limit a) 0 (p .ends a (eqb-false (s .block a) 0 (not-true (eqb (s .block a) 0) u))))))
+
+      above : (a : ℕ) → 0 < times a (side limit s 1) → notAbove s last a ≡ false
+      above a q = none-and (ltb 0 (s .count a)) (leb (s .block a) last) (λ c. lt-leb (s .block a) last (p .high a q (ltb-true 0 (s .count a) c)))
+
+      up-to : (a : ℕ) → 0 < times a (chainOf (s .next) limit 2) → notUpTo s last a ≡ false
+      up-to a q =
+          none-and (ltb 0 (s .count a)) (ltb (last + 1) (s .block a + s .count a)) (λ c.
+          le-ltb (last + 1) (s .block a + s .count a) (omega (arith, p .low a q (ltb-true 0 (s .count a) c))))

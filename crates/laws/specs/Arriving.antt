@@ -1,0 +1,125 @@
+-- The block y in hand comes to the chain of the anode z: z gains it, or a fresh anode after z.
+use Prim.Native.Nat.{ℕ, suc, _+_, _*_, _≤_, _<_}
+use mathlib.Core.Path.{_≡_, refl, sym, ap, _∙_}
+use mathlib.Core.Logic.{_≢_, _⊎_, inl, inr}
+use mathlib.Core.Bool.{Bool, _&&_}
+use mathlib.Core.List.{List, [], _∷_}
+use native.Mathlib.Omega.{arith}
+use native.Mathlib.Numerals.{add-one}
+use lib.Dec.{T, eqb, leb, ltb, eqb→eq, leb→le, ltb→lt, lt→ltb}
+use Rattle.rules.specs.Counting.{oneAt, least, changed}
+use Rattle.rules.specs.Anodes.{Anodes}
+use Rattle.rules.specs.Chains.{covers}
+use Rattle.rules.specs.Space.{refused, planned, rewritten, insertedAfter, free, lowestFree, append}
+use Rattle.laws.specs.Tests.{cond-cases, both}
+use Rattle.laws.specs.Sums.{changed-other, least-cases}
+use Rattle.laws.specs.Ownership.{covers-none, covers-end, covers-front, hand}
+use Rattle.laws.specs.LinkChanges.{first, second, third, insertAfter, insertAfter-cases}
+use Rattle.laws.specs.HeadChanges.{insert-head-was, rewrite-head-was}
+use Rattle.laws.specs.Blocks.{blocks-rewrite, blocks-fresh}
+use Rattle.laws.specs.Held.{held-rewrite, held-fresh}
+use Rattle.laws.specs.Space.{Good, rewrite-good, insert-good}
+use Rattle.laws.specs.Moves.{Placed}
+
+module _ (A : ℕ) (ex : ℕ → Bool) (last : ℕ) where
+  pub free-is : (s : Anodes) (f : ℕ) → T (free A ex last s f) → (6 ≤ f) × (s .block f ≡ 0) × T (ex f)
+  unfolding free
+  free-is s f t =
+      let a = both (leb 6 f) (eqb (s .block f) 0 && ex f) t in
+      let b = both (eqb (s .block f) 0) (ex f) (a .1) in
+      (leb→le 6 f (a .0), eqb→eq (s .block f) 0 (b .0), b .1)
+
+  -- an append is done with a free anode, the lowest, or refused with 28 where there is none
+  pub append-cases : (s : Anodes) (z y : ℕ) →
+      ((lowestFree A ex last s < A) × T (free A ex last s (lowestFree A ex last s)) × (append A ex last s z y ≡ planned (insertedAfter s z (lowestFree A ex last s) 1 y) (y ∷ [])))
+      ⊎ ((append A ex last s z y ≡ refused 28) × ((f : ℕ) → f < A → T (free A ex last s f) → ⊥))
+  unfolding append lowestFree
+  append-cases s z y =
+      elim (cond-cases (ltb (lowestFree A ex last s) A) (planned (insertedAfter s z (lowestFree A ex last s) 1 y) (y ∷ [])) (refused 28)) [
+        | inl c ↦ elim (least-cases (free A ex last s) A) [
+          | inl d ↦ inl (d .0, d .1, c .1)
+          | inr d ↦ absurd (omega (arith, ltb→lt (least (free A ex last s) A) A (c .0), d .0))
+        ]
+        | inr c ↦ elim (least-cases (free A ex last s) A) [
+          | inl d ↦ absurd (c .0 (lt→ltb (least (free A ex last s) A) A (d .0)))
+          | inr d ↦ inr (c .1, d .1)
+        ]
+      ]
+
+pub refused≢planned : (k : ℕ) (t : Anodes) (ys : List ℕ) → refused k ≡ planned t ys → ⊥
+refused≢planned k t ys e = let z : _≡_ {A = ℕ} 0 1 = cc in omega arith
+
+pub planned-same : (s t : Anodes) (xs ys : List ℕ) → planned s xs ≡ planned t ys → (s ≡ t) × (ys ≡ xs)
+planned-same s t xs ys e = (cc, cc)
+
+module _ {A : ℕ} {ex : ℕ → Bool} {n last : ℕ} {s : Anodes} (system : ℕ → ℕ) {hd sd : ℕ → ℕ} (y : ℕ) (g : Good A ex n last s (hand system y) hd sd) (y0 : y ≢ 0) (yn : y < n)
+    (z : ℕ) (z0 : z ≢ 0) (u : s .block z ≢ 0) (high : sd z ≡ 1 → last < y) (low : sd z ≡ 2 → y ≤ last) where
+  -- z becomes (c, b) and has gained y
+  module _ (z1 : z ≢ 1) (c b : ℕ) (e : c ≡ suc (s .count z)) (b0 : b ≢ 0) (gains : (x : ℕ) → covers c b x ≡ covers (s .count z) (s .block z) x + oneAt y x)
+      (fits : b + c ≤ n) (is-high : sd z ≡ 1 → last < b) (is-low : sd z ≡ 2 → b + c ≤ suc last) where
+    gained : Placed A ex n last s system hd (hd z) y (rewritten s z c b)
+    unfolding rewritten
+    gained = record {
+      hd′ = hd;
+      sd′ = sd;
+      good = rewrite-good g z c b system u b0 z0 z1 (λ x. omega (arith, gains x)) (λ l. fits) (λ q l. is-high q) (λ q l. is-low q);
+      kept = λ a q. refl;
+      more = λ h. omega (arith, blocks-rewrite A hd (s .count) z c (g .view .below z u) h, ap (λ (i : ℕ). oneAt (hd z) h * i) e);
+      got = λ h x. omega (arith, held-rewrite A hd (s .count) (s .block) z c b (g .view .below z u) h x, ap (λ (i : ℕ). oneAt (hd z) h * i) (gains x));
+      apart = λ a v q. record { same-count = changed-other (s .count) z c a (λ i. q (ap hd i)); same-block = changed-other (s .block) z b a (λ i. q (ap hd i)); same-next = refl };
+      no-new = λ a d. rewrite-head-was (s .block) z b u b0 (s .next) a d;
+    }
+
+  -- an empty anode is filled
+  pub filled : z ≢ 1 → s .count z ≡ 0 → Placed A ex n last s system hd (hd z) y (rewritten s z 1 y)
+  filled z1 e = gained z1 1 y (omega arith) y0
+      (λ x. rw e (omega (arith, covers-front 0 y x, covers-none (suc y) x, covers-none (s .block z) x)))
+      (omega arith) high (λ q. omega (arith, low q))
+
+  -- y comes after the end of z
+  pub grown : z ≢ 1 → s .count z ≢ 0 → s .block z + s .count z ≡ y → Placed A ex n last s system hd (hd z) y (rewritten s z (s .count z + 1) (s .block z))
+  grown z1 c0 e = gained z1 (s .count z + 1) (s .block z) (omega arith) u
+      (λ x. rw (add-one (s .count z)) (omega (arith, covers-end (s .count z) (s .block z) x, ap (λ (k : ℕ). oneAt k x) e)))
+      (omega arith) (λ q. g .high z q (omega arith)) (λ q. omega (arith, low q))
+
+  -- or before its start
+  pub grown-before : z ≢ 1 → s .count z ≢ 0 → y + 1 ≡ s .block z → Placed A ex n last s system hd (hd z) y (rewritten s z (s .count z + 1) y)
+  grown-before z1 c0 e = gained z1 (s .count z + 1) y (omega arith) y0
+      (λ x. rw (add-one (s .count z)) (omega (arith, covers-front (s .count z) y x, ap (λ (k : ℕ). covers (s .count z) k x) next-is)))
+      (omega (arith, e, g .own .fits z (g .view .below z u) (omega arith))) high (λ q. omega (arith, e, g .low z q (omega arith)))
+    where
+      next-is : suc y ≡ s .block z
+      next-is = omega arith
+
+  -- a fresh anode after z has y alone
+  appended : (f : ℕ) → f < A → T (free A ex last s f) → Placed A ex n last s system hd (hd z) y (insertedAfter s z f 1 y)
+  unfolding insertedAfter insertAfter
+  appended f fA t =
+      let i = free-is A ex last s f t in
+      record {
+        hd′ = changed hd f (hd z);
+        sd′ = changed sd f (sd z);
+        good = insert-good g z f 1 y system z0 u (i .0) (i .2) fA (i .1) y0 (λ x. omega (arith, one x)) (λ p. omega arith) (λ q l. high q) (λ q l. omega (arith, low q));
+        kept = λ a q. changed-other hd f (hd z) a (λ e. q (ap (s .block) e ∙ i .1));
+        more = λ h. omega (arith, blocks-fresh A hd (s .count) f (hd z) 1 fA (g .free-none f (i .1)) h);
+        got = λ h x. omega (arith, held-fresh A hd (s .count) (s .block) f (hd z) 1 y fA (g .free-none f (i .1)) h x, ap (λ (k : ℕ). oneAt (hd z) h * k) (one x));
+        apart = λ a v q. record {
+          same-count = changed-other (s .count) f 1 a (λ e. v (ap (s .block) e ∙ i .1));
+          same-block = changed-other (s .block) f y a (λ e. v (ap (s .block) e ∙ i .1));
+          same-next = elim (insertAfter-cases (s .next) z f a) [ first c ↦ absurd (q (ap hd (c .0))) | second c ↦ absurd (v (ap (s .block) (c .1) ∙ i .1)) | third c ↦ c .2 ];
+        };
+        no-new = λ a d. insert-head-was (g .view) (g .linked) hd (g .heads) z f y z0 u (λ e. omega (arith, e, i .0)) (i .1) fA y0 a d .1;
+      }
+    where
+      one : (x : ℕ) → covers 1 y x ≡ oneAt y x
+      one x = omega (arith, covers-front 0 y x, covers-none (suc y) x)
+
+  -- a plan for y that is done
+  pub placed-by : (r t : Anodes) (ys : List ℕ) → planned r (y ∷ []) ≡ planned t ys → Placed A ex n last s system hd (hd z) y r → Placed A ex n last s system hd (hd z) y t × (ys ≡ y ∷ [])
+  placed-by r t ys e w = let q = planned-same r t (y ∷ []) ys e in (rw (q .0) at w, q .1)
+
+  pub append-placed : (t : Anodes) (ys : List ℕ) → append A ex last s z y ≡ planned t ys → Placed A ex n last s system hd (hd z) y t × (ys ≡ y ∷ [])
+  append-placed t ys e = elim (append-cases A ex last s z y) [
+    | inl c ↦ placed-by (insertedAfter s z (lowestFree A ex last s) 1 y) t ys (sym (c .2) ∙ e) (appended (lowestFree A ex last s) (c .0) (c .1))
+    | inr c ↦ absurd (refused≢planned 28 t ys (sym (c .0) ∙ e))
+  ]

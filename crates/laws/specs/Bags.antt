@@ -1,0 +1,125 @@
+-- Sums over a list, and how often a number stands in one.
+use Prim.Native.Nat.{ℕ, _+_, _*_, _≤_}
+use mathlib.Core.Path.{_≡_, refl, sym}
+use mathlib.Core.Logic.{inl, inr}
+use mathlib.Core.List.{List, [], _∷_, _++_, map}
+use native.Mathlib.Omega.{arith}
+use lib.ListN.{length}
+use Rattle.rules.specs.Counting.{oneAt, sumBelow, sumList, times, gather}
+use Rattle.laws.specs.Tests.{less?}
+use Rattle.laws.specs.Sums.{oneAt-same, sum-congr, sum-mono, sum-const, sum-zero, sum-add, sum-pick}
+
+module _ {ℓ} {X : Type ℓ} where
+  pub list-nil : (w : X → ℕ) → sumList w [] ≡ 0
+  unfolding sumList
+  list-nil w = refl
+
+  pub list-cons : (w : X → ℕ) (x : X) (l : List X) → sumList w (x ∷ l) ≡ w x + sumList w l
+  unfolding sumList
+  list-cons w x l = refl
+
+  pub list-append : (w : X → ℕ) (l m : List X) → sumList w (l ++ m) ≡ sumList w l + sumList w m
+  unfolding sumList
+  list-append w [] m = omega arith
+  list-append w (x ∷ l) m = omega (arith, list-append w l m)
+
+  pub list-one : (w : X → ℕ) (x : X) → sumList w (x ∷ []) ≡ w x
+  unfolding sumList
+  list-one w x = omega arith
+
+  pub list-add : (w u : X → ℕ) (l : List X) → sumList (λ x. w x + u x) l ≡ sumList w l + sumList u l
+  unfolding sumList
+  list-add w u [] = refl
+  list-add w u (x ∷ l) = omega (arith, list-add w u l)
+
+  pub list-mono : (w u : X → ℕ) (l : List X) → ((x : X) → w x ≤ u x) → sumList w l ≤ sumList u l
+  unfolding sumList
+  list-mono w u [] h = omega arith
+  list-mono w u (x ∷ l) h = omega (arith, list-mono w u l h, h x)
+
+  pub list-congr : (w u : X → ℕ) (l : List X) → ((x : X) → w x ≡ u x) → sumList w l ≡ sumList u l
+  unfolding sumList
+  list-congr w u [] h = refl
+  list-congr w u (x ∷ l) h = omega (arith, list-congr w u l h, h x)
+
+  -- where a guard has no weight on the list, what holds where the guard is 0 may be used
+  pub list-mono-where : (g w u : X → ℕ) (l : List X) → sumList g l ≡ 0 → ((x : X) → g x ≡ 0 → w x ≤ u x) → sumList w l ≤ sumList u l
+  unfolding sumList
+  list-mono-where g w u [] z h = omega arith
+  list-mono-where g w u (x ∷ l) z h = omega (arith, list-mono-where g w u l (omega arith) h, h x (omega arith))
+
+  pub list-congr-where : (g w u : X → ℕ) (l : List X) → sumList g l ≡ 0 → ((x : X) → g x ≡ 0 → w x ≡ u x) → sumList w l ≡ sumList u l
+  unfolding sumList
+  list-congr-where g w u [] z h = omega arith
+  list-congr-where g w u (x ∷ l) z h = omega (arith, list-congr-where g w u l (omega arith) h, h x (omega arith))
+
+  pub list-zero : (w : X → ℕ) (l : List X) → ((x : X) → w x ≡ 0) → sumList w l ≡ 0
+  unfolding sumList
+  list-zero w [] h = refl
+  list-zero w (x ∷ l) h = omega (arith, list-zero w l h, h x)
+
+  pub list-scale : (w : X → ℕ) (c : ℕ) (l : List X) → sumList (λ x. w x * c) l ≡ sumList w l * c
+  unfolding sumList
+  list-scale w c [] = omega arith
+  list-scale w c (x ∷ l) = omega (arith, list-scale w c l)
+
+  pub list-length : (l : List X) → sumList (λ x. 1) l ≡ length l
+  unfolding sumList
+  list-length [] = refl
+  list-length (x ∷ l) = omega (arith, list-length l)
+
+  pub list-swap : (f : X → ℕ → ℕ) (l : List X) (k : ℕ) → sumList (λ x. sumBelow (f x) k) l ≡ sumBelow (λ i. sumList (λ x. f x i) l) k
+  unfolding sumList
+  list-swap f [] k = sym (sum-zero (λ i. 0) k (λ i l. refl))
+  list-swap f (x ∷ l) k = omega (arith, list-swap f l k, sum-add (f x) (λ i. sumList (λ y. f y i) l) k)
+
+module _ {ℓ κ} {X : Type ℓ} {Y : Type κ} where
+  pub gather-sum : (f : X → List Y) (w : Y → ℕ) (l : List X) → sumList w (gather f l) ≡ sumList (λ x. sumList w (f x)) l
+  unfolding sumList gather
+  gather-sum f w [] = refl
+  gather-sum f w (x ∷ l) = omega (arith, list-append w (f x) (gather f l), gather-sum f w l)
+
+  pub map-sum : (f : X → Y) (w : Y → ℕ) (l : List X) → sumList w (map f l) ≡ sumList (λ x. w (f x)) l
+  unfolding sumList
+  map-sum f w [] = refl
+  map-sum f w (x ∷ l) = omega (arith, map-sum f w l)
+
+-- ---- lists of numbers: how often a number stands in one
+
+pub times-nil : (x : ℕ) → times x [] ≡ 0
+unfolding times
+times-nil x = list-nil (λ y. oneAt y x)
+
+pub times-cons : (x y : ℕ) (l : List ℕ) → times x (y ∷ l) ≡ oneAt y x + times x l
+unfolding times
+times-cons x y l = list-cons (λ z. oneAt z x) y l
+
+pub times-append : (x : ℕ) (l m : List ℕ) → times x (l ++ m) ≡ times x l + times x m
+unfolding times
+times-append x l m = list-append (λ z. oneAt z x) l m
+
+-- a weight's sum over a list of numbers below k, by how often each number stands there
+pub sum-by-times : (w : ℕ → ℕ) (l : List ℕ) (k : ℕ) → ((x : ℕ) → k ≤ x → times x l ≡ 0) → sumList w l ≡ sumBelow (λ x. times x l * w x) k
+unfolding sumList
+sum-by-times w [] k h = sym (sum-zero (λ x. times x [] * w x) k (λ i l. rw times-nil (omega arith)))
+sum-by-times w (y ∷ l) k h = elim (less? y k) [
+  | inl b ↦ omega (arith, sum-by-times w l k rest, sum-add (λ x. oneAt y x * w x) (λ x. times x l * w x) k, sum-pick w y k b, split)
+  | inr b ↦ absurd (omega (arith, h y b, times-cons y y l, oneAt-same y y refl))
+]
+  where
+    rest : (x : ℕ) → k ≤ x → times x l ≡ 0
+    rest x b = omega (arith, h x b, times-cons x y l)
+
+    split : sumBelow (λ x. times x (y ∷ l) * w x) k ≡ sumBelow (λ x. oneAt y x * w x + times x l * w x) k
+    split = sum-congr _ _ k (λ i m. rw (times-cons i y l) (omega arith))
+
+-- the pigeonhole principle: numbers below k, each at most once, are at most k
+pub pigeonhole : (l : List ℕ) (k : ℕ) → ((x : ℕ) → k ≤ x → times x l ≡ 0) → ((x : ℕ) → times x l ≤ 1) → length l ≤ k
+pigeonhole l k below once =
+    omega (
+      arith,
+      list-length l,
+      sum-by-times (λ x. 1) l k below,
+      sum-mono (λ x. times x l * 1) (λ x. 1) k (λ i m. omega (arith, once i)),
+      sum-const 1 k,
+    )

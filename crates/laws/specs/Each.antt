@@ -1,0 +1,44 @@
+-- What holds of each member of a list.
+use Prim.Native.Nat.{ℕ, _≤_}
+use mathlib.Core.Path.{_≡_, refl}
+use mathlib.Core.List.{List, [], _∷_, _++_}
+use native.Mathlib.Omega.{arith}
+use Rattle.rules.specs.Counting.{sumList}
+
+abbrev pub Each {ℓ} : {X : Type ℓ} → (X → Type 0) → List X → Type 0
+Each P [] = Unit {0}
+Each P (x ∷ l) = P x × Each P l
+
+pub each-map {ℓ} : {X : Type ℓ} (P Q : X → Type 0) (l : List X) → ((x : X) → P x → Q x) → Each P l → Each Q l
+each-map P Q [] f e = tt
+each-map P Q (x ∷ l) f e = (f x (e .0), each-map P Q l f (e .1))
+
+pub each-both {ℓ} : {X : Type ℓ} (P Q R : X → Type 0) (l : List X) → ((x : X) → P x → Q x → R x) → Each P l → Each Q l → Each R l
+each-both P Q R [] f p q = tt
+each-both P Q R (x ∷ l) f p q = (f x (p .0) (q .0), each-both P Q R l f (p .1) (q .1))
+
+pub each-right {ℓ} : {X : Type ℓ} (P : X → Type 0) (l m : List X) → Each P (l ++ m) → Each P m
+each-right P [] m e = e
+each-right P (x ∷ l) m e = each-right P l m (e .1)
+
+pub list-congr-each {ℓ} : {X : Type ℓ} (w u : X → ℕ) (l : List X) → Each (λ x. w x ≡ u x) l → sumList w l ≡ sumList u l
+unfolding sumList
+list-congr-each w u [] e = refl
+list-congr-each w u (x ∷ l) e = omega (arith, list-congr-each w u l (e .1), e .0)
+
+pub list-mono-each {ℓ} : {X : Type ℓ} (w u : X → ℕ) (l : List X) → Each (λ x. w x ≤ u x) l → sumList w l ≤ sumList u l
+unfolding sumList
+list-mono-each w u [] e = omega arith
+list-mono-each w u (x ∷ l) e = omega (arith, list-mono-each w u l (e .1), e .0)
+
+-- what has no weight on a list is 0 at each member
+pub each-zero {ℓ} : {X : Type ℓ} (g : X → ℕ) (l : List X) → sumList g l ≡ 0 → Each (λ x. g x ≡ 0) l
+unfolding sumList
+each-zero g [] z = tt
+each-zero g (x ∷ l) z = (omega arith, each-zero g l (omega arith))
+
+-- and so for many weights at once
+pub each-none {ℓ} : {X : Type ℓ} (g : ℕ → X → ℕ) (Q : ℕ → Type 0) (l : List X) → ((x : ℕ) → Q x → sumList (g x) l ≡ 0) → Each (λ d. (x : ℕ) → Q x → g x d ≡ 0) l
+unfolding sumList
+each-none g Q [] h = tt
+each-none g Q (d ∷ l) h = (λ x q. omega (arith, h x q), each-none g Q l (λ x q. omega (arith, h x q)))

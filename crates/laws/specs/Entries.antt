@@ -1,0 +1,185 @@
+-- The items that the entries of directory blocks give in a state of the anodes.
+use Prim.Native.Nat.{ℕ, _≤_, _<_}
+use mathlib.Core.Path.{_≡_, refl, sym, ap, _∙_}
+use mathlib.Core.Logic.{_≢_, _⊎_, inl, inr}
+use mathlib.Core.Bool.{Bool, true, false, cond, _&&_}
+use mathlib.Core.List.{List, [], _∷_, map}
+use native.Mathlib.Omega.{arith}
+use lib.Dec.{T, eqb, leb, eqb→eq, leb→le}
+use Rattle.rules.specs.Counting.{sumList, times}
+use Rattle.rules.specs.Anodes.{limit, Anodes}
+use Rattle.rules.specs.Chains.{chainOf, heads, blockCount}
+use Rattle.rules.specs.Walk.{Dir, Entered, Item, blocksFor, wrongAnode, wrongFileSize, itemOf, broken, itemsAt, itemsBy}
+use Rattle.laws.specs.Tests.{cond-cases, T-true, eqb-true, leb-true, both}
+use Rattle.laws.specs.Bags.{list-one, list-mono, list-congr, list-congr-where, list-zero, gather-sum, map-sum}
+use Rattle.laws.specs.Space.{Alike}
+use Rattle.laws.specs.Frame.{kept-sum-where}
+use Rattle.laws.specs.Items.{wrong, weighItem}
+use Rattle.laws.specs.TreeChanges.{AlikeItems}
+
+-- a weight of an entry, its place aside
+abbrev pub weighEntry : (Bool → Bool → ℕ → ℕ → ℕ) → Entered → ℕ
+weighEntry v e = v (e .broken) (e .dir) (e .anode) (e .size)
+
+pub broken-wrong : wrong broken ≡ 12
+unfolding wrong
+broken-wrong = refl
+
+-- ---- an entry with nothing wrong
+
+module _ (s : Anodes) where
+  right-anode : (a : ℕ) → wrongAnode s a ≡ 0 → (6 ≤ a) × (heads limit (s .next) (s .block) a ≡ 1)
+  unfolding wrongAnode
+  right-anode a z = elim (cond-cases {A = ℕ} (leb 6 a && eqb (heads limit (s .next) (s .block) a) 1) 0 13) [
+    | inl q ↦ (let b = both (leb 6 a) (eqb (heads limit (s .next) (s .block) a) 1) (q .0) in (leb→le 6 a (b .0), eqb→eq (heads limit (s .next) (s .block) a) 1 (b .1)))
+    | inr q ↦ absurd (omega (arith, z, q .1))
+  ]
+
+  anode-right : (a : ℕ) → 6 ≤ a → heads limit (s .next) (s .block) a ≡ 1 → wrongAnode s a ≡ 0
+  unfolding wrongAnode
+  anode-right a l e = rw (leb-true 6 a l, eqb-true (heads limit (s .next) (s .block) a) 1 e)
+
+  right-size : (e : Entered) → wrongFileSize s e ≡ 0 → (e .dir ≡ true) ⊎ (blockCount s (e .anode) ≡ blocksFor (e .size))
+  unfolding wrongFileSize
+  right-size e z = go (e .dir) z
+    where
+      go : (b : Bool) → cond {A = ℕ} b 0 (cond (eqb (blockCount s (e .anode)) (blocksFor (e .size))) 0 15) ≡ 0 → (b ≡ true) ⊎ (blockCount s (e .anode) ≡ blocksFor (e .size))
+      go true z = inl refl
+      go false z = elim (cond-cases {A = ℕ} (eqb (blockCount s (e .anode)) (blocksFor (e .size))) 0 15) [
+        | inl q ↦ inr (eqb→eq (blockCount s (e .anode)) (blocksFor (e .size)) (q .0))
+        | inr q ↦ absurd (omega (arith, z, q .1))
+      ]
+
+  size-right : (e : Entered) → (e .dir ≡ true) ⊎ (blockCount s (e .anode) ≡ blocksFor (e .size)) → wrongFileSize s e ≡ 0
+  unfolding wrongFileSize
+  size-right e (inl q) = rw q
+  size-right e (inr q) = rw (eqb-true (blockCount s (e .anode)) (blocksFor (e .size)) q) (go (e .dir))
+    where
+      go : (b : Bool) → cond {A = ℕ} b 0 0 ≡ 0
+      go true = refl
+      go false = refl
+
+  -- what it is for an entry to have nothing wrong: it keeps the entry rules, names a head from 6 up, and a file has the blocks of its size
+  pub item-fine : (e : Entered) → wrong (itemOf s e) ≡ 0 →
+      (e .broken ≡ false) × (6 ≤ e .anode) × (heads limit (s .next) (s .block) (e .anode) ≡ 1) × ((e .dir ≡ true) ⊎ (blockCount s (e .anode) ≡ blocksFor (e .size)))
+  unfolding wrong itemOf
+  item-fine e z = go (e .broken) refl (omega arith)
+    where
+      go : (b : Bool) → e .broken ≡ b → cond b 12 (wrongAnode s (e .anode)) ≡ 0 →
+          (e .broken ≡ false) × (6 ≤ e .anode) × (heads limit (s .next) (s .block) (e .anode) ≡ 1) × ((e .dir ≡ true) ⊎ (blockCount s (e .anode) ≡ blocksFor (e .size)))
+      go true q y = absurd (omega (arith, y))
+      go false q y = let a = right-anode (e .anode) y in (q, a .0, a .1, right-size e (omega arith))
+
+  pub fine-item : (e : Entered) → e .broken ≡ false → 6 ≤ e .anode → heads limit (s .next) (s .block) (e .anode) ≡ 1 →
+      (e .dir ≡ true) ⊎ (blockCount s (e .anode) ≡ blocksFor (e .size)) → wrong (itemOf s e) ≡ 0
+  unfolding wrong itemOf
+  fine-item e b l h z = omega (arith, ap (λ (q : Bool). cond q 12 (wrongAnode s (e .anode))) b, anode-right (e .anode) l h, size-right e z)
+
+  pub item-anode : (e : Entered) → (itemOf s e) .anode ≡ e .anode
+  unfolding itemOf
+  item-anode e = refl
+
+  pub item-dir : (e : Entered) → (itemOf s e) .dir ≡ e .dir
+  unfolding itemOf
+  item-dir e = refl
+
+  -- a weight of an item, as one of its entry
+  pub asEntry : (ℕ → Bool → ℕ → ℕ) → Bool → Bool → ℕ → ℕ → ℕ
+  asEntry w b d a z = weighItem w (itemOf s (record { broken = b; dir = d; anode = a; size = z; place = 0 }))
+
+  pub weigh-item : (w : ℕ → Bool → ℕ → ℕ) (e : Entered) → weighItem w (itemOf s e) ≡ weighEntry (asEntry w) e
+  unfolding asEntry wrong itemOf wrongFileSize
+  weigh-item w e = refl
+
+  pub entries-sum : (w : ℕ → Bool → ℕ → ℕ) (l : List Entered) → sumList (weighItem w) (map (itemOf s) l) ≡ sumList (weighEntry (asEntry w)) l
+  entries-sum w l = map-sum (itemOf s) (weighItem w) l ∙ list-congr (λ e. weighItem w (itemOf s e)) (weighEntry (asEntry w)) l (weigh-item w)
+
+-- where an entry is as wrong in two states, it weighs the same
+pub weigh-same : (s t : Anodes) (w : ℕ → Bool → ℕ → ℕ) (e : Entered) → wrong (itemOf t e) ≡ wrong (itemOf s e) → weighItem w (itemOf t e) ≡ weighItem w (itemOf s e)
+unfolding itemOf
+weigh-same s t w e q = ap (λ (f : ℕ). w f (e .dir) (e .anode)) q
+
+-- ---- the items of a directory
+
+module _ (entries : ℕ → List Entered) (marked : Dir → ℕ → Bool) (s : Anodes) (d : Dir) where
+  pub items-sum : (w : Item → ℕ) → sumList w (itemsBy entries marked s d) ≡ sumList (λ a. sumList w (itemsAt entries marked s d a)) (chainOf (s .next) limit (d .head))
+  unfolding itemsBy
+  items-sum w = gather-sum (itemsAt entries marked s d) w (chainOf (s .next) limit (d .head))
+
+  -- one anode of a directory is broken, or gives the items of its block
+  pub itemsAt-cases : (a : ℕ) →
+      ((s .count a ≡ 1) × T (marked d (s .block a)) × (itemsAt entries marked s d a ≡ map (itemOf s) (entries (s .block a)))) ⊎ (itemsAt entries marked s d a ≡ broken ∷ [])
+  unfolding itemsAt
+  itemsAt-cases a = elim (cond-cases (eqb (s .count a) 1 && marked d (s .block a)) (map (itemOf s) (entries (s .block a))) (broken ∷ [])) [
+    | inl q ↦ (let b = both (eqb (s .count a) 1) (marked d (s .block a)) (q .0) in inl (eqb→eq (s .count a) 1 (b .0), b .1, q .1))
+    | inr q ↦ inr (q .1)
+  ]
+
+  pub itemsAt-whole : (a : ℕ) → s .count a ≡ 1 → T (marked d (s .block a)) → itemsAt entries marked s d a ≡ map (itemOf s) (entries (s .block a))
+  unfolding itemsAt
+  itemsAt-whole a c m = rw (eqb-true (s .count a) 1 c, T-true (marked d (s .block a)) m)
+
+  -- a weight that is at most another at every entry
+  pub items-mono : (w u : Item → ℕ) → ((e : Entered) → w (itemOf s e) ≤ u (itemOf s e)) → w broken ≤ u broken → sumList w (itemsBy entries marked s d) ≤ sumList u (itemsBy entries marked s d)
+  items-mono w u h b = omega (
+    arith,
+    items-sum w,
+    items-sum u,
+    list-mono (λ a. sumList w (itemsAt entries marked s d a)) (λ a. sumList u (itemsAt entries marked s d a)) (chainOf (s .next) limit (d .head)) at,
+  )
+    where
+      at : (a : ℕ) → sumList w (itemsAt entries marked s d a) ≤ sumList u (itemsAt entries marked s d a)
+      at a = elim (itemsAt-cases a) [
+        | inl q ↦ rw (q .2) (omega (arith, map-sum (itemOf s) w (entries (s .block a)), map-sum (itemOf s) u (entries (s .block a)), list-mono (λ e. w (itemOf s e)) (λ e. u (itemOf s e)) (entries (s .block a)) h))
+        | inr q ↦ rw q (omega (arith, list-one w broken, list-one u broken, b))
+      ]
+
+-- ---- the same entries, their sizes apart
+
+module _ (s t : Anodes) (φ : Entered → Entered) (guard : Item → ℕ) (guard-broken : guard broken ≢ 0)
+    (like : (e : Entered) → guard (itemOf s e) ≡ 0 → (φ e .dir ≡ e .dir) × (φ e .anode ≡ e .anode) × (wrong (itemOf t (φ e)) ≡ 0)) where
+  entries-alike : (l : List Entered) → sumList guard (map (itemOf s) l) ≡ 0 → (w : Bool → ℕ → ℕ) →
+      sumList (λ j. w (j .dir) (j .anode)) (map (itemOf t) (map φ l)) ≡ sumList (λ j. w (j .dir) (j .anode)) (map (itemOf s) l)
+  unfolding itemOf
+  entries-alike l z w =
+      map-sum (itemOf t) (λ j. w (j .dir) (j .anode)) (map φ l) ∙ map-sum φ (λ e. w (e .dir) (e .anode)) l
+      ∙ list-congr-where (λ e. guard (itemOf s e)) (λ e. w (φ e .dir) (φ e .anode)) (λ e. w (e .dir) (e .anode)) l (sym (map-sum (itemOf s) guard l) ∙ z)
+      (λ e q. let k = like e q in rw (k .0, k .1))
+      ∙ sym (map-sum (itemOf s) (λ j. w (j .dir) (j .anode)) l)
+
+  entries-fine : (l : List Entered) → sumList guard (map (itemOf s) l) ≡ 0 → sumList wrong (map (itemOf t) (map φ l)) ≡ 0
+  entries-fine l z =
+      map-sum (itemOf t) wrong (map φ l) ∙ map-sum φ (λ e. wrong (itemOf t e)) l
+      ∙ list-congr-where (λ e. guard (itemOf s e)) (λ e. wrong (itemOf t (φ e))) (λ e. 0) l (sym (map-sum (itemOf s) guard l) ∙ z) (λ e q. like e q .2)
+      ∙ list-zero {X = Entered} (λ e. 0) l (λ e. refl)
+
+  module _ (entries entries′ : ℕ → List Entered) (marked marked′ : Dir → ℕ → Bool) (d : Dir) where
+    -- one anode of the directory
+    at-alike : (a : ℕ) → Alike s t a → (s .count a ≡ 1 → (entries′ (s .block a) ≡ map φ (entries (s .block a))) × (marked′ d (s .block a) ≡ marked d (s .block a))) →
+        sumList guard (itemsAt entries marked s d a) ≡ 0 →
+        ((w : Bool → ℕ → ℕ) → sumList (λ j. w (j .dir) (j .anode)) (itemsAt entries′ marked′ t d a) ≡ sumList (λ j. w (j .dir) (j .anode)) (itemsAt entries marked s d a))
+        × (sumList wrong (itemsAt entries′ marked′ t d a) ≡ 0)
+    at-alike a e cont z = elim (itemsAt-cases entries marked s d a) [
+      | inr q ↦ absurd (guard-broken (omega (arith, rw q at z, list-one guard broken)))
+      | inl q ↦ (let k = cont (q .0) in
+          let there : itemsAt entries′ marked′ t d a ≡ map (itemOf t) (map φ (entries (s .block a)))
+          = itemsAt-whole entries′ marked′ t d a (e .same-count ∙ q .0) (rw (e .same-block, k .1) (q .1)) ∙ ap (map (itemOf t)) (ap entries′ (e .same-block) ∙ k .0) in
+          let fine : sumList guard (map (itemOf s) (entries (s .block a))) ≡ 0 = rw (q .2) at z in
+          rw (there, q .2) (entries-alike (entries (s .block a)) fine, entries-fine (entries (s .block a)) fine))
+    ]
+
+    -- the whole directory, its chain kept
+    pub items-alike : chainOf (t .next) limit (d .head) ≡ chainOf (s .next) limit (d .head) → ((a : ℕ) → 0 < times a (chainOf (s .next) limit (d .head)) → Alike s t a) →
+        ((a : ℕ) → 0 < times a (chainOf (s .next) limit (d .head)) → s .count a ≡ 1 → (entries′ (s .block a) ≡ map φ (entries (s .block a))) × (marked′ d (s .block a) ≡ marked d (s .block a))) →
+        sumList guard (itemsBy entries marked s d) ≡ 0 → AlikeItems (itemsBy entries marked s) (itemsBy entries′ marked′ t) d
+    items-alike same on cont z = (
+      λ w. items-sum entries′ marked′ t d (λ j. w (j .dir) (j .anode)) ∙ ap (sumList (λ a. sumList (λ j. w (j .dir) (j .anode)) (itemsAt entries′ marked′ t d a))) same
+          ∙ kept-sum-where (λ a. sumList guard (itemsAt entries marked s d a)) (λ a. sumList (λ j. w (j .dir) (j .anode)) (itemsAt entries marked s d a))
+          (λ a. sumList (λ j. w (j .dir) (j .anode)) (itemsAt entries′ marked′ t d a)) (chainOf (s .next) limit (d .head)) (sym (items-sum entries marked s d guard) ∙ z)
+          (λ a k q. at-alike a (on a k) (cont a k) q .0 w)
+          ∙ sym (items-sum entries marked s d (λ j. w (j .dir) (j .anode))),
+      items-sum entries′ marked′ t d wrong ∙ ap (sumList (λ a. sumList wrong (itemsAt entries′ marked′ t d a))) same
+          ∙ kept-sum-where (λ a. sumList guard (itemsAt entries marked s d a)) (λ a. 0) (λ a. sumList wrong (itemsAt entries′ marked′ t d a)) (chainOf (s .next) limit (d .head))
+          (sym (items-sum entries marked s d guard) ∙ z) (λ a k q. at-alike a (on a k) (cont a k) q .1)
+          ∙ list-zero {X = ℕ} (λ a. 0) (chainOf (s .next) limit (d .head)) (λ a. refl),
+    )

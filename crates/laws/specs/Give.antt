@@ -1,0 +1,150 @@
+-- A give that is done leaves a good state, and one block has gone from the giver's chain to the free list.
+use Prim.Native.Nat.{ℕ, _+_, _-_, _≤_, _<_}
+use mathlib.Core.Path.{_≡_, refl, sym, ap, _∙_}
+use mathlib.Core.Logic.{_≢_, _⊎_, inl, inr}
+use mathlib.Core.Bool.{Bool}
+use mathlib.Core.List.{List, [], _∷_}
+use native.Mathlib.Omega.{arith}
+use lib.Dec.{eqb, ltb, eqb→eq, ltb→lt, lt→ltb}
+use Rattle.rules.specs.Counting.{lastOf}
+use Rattle.rules.specs.Anodes.{Anodes}
+use Rattle.rules.specs.Chains.{chainOf, side}
+use Rattle.rules.specs.Space.{refused, planned, rewritten, emptied, Found, nowhere, found, lastFull, append, withoutLast, sideOf, joinBefore, joinAfter, joinFilling, join, release, giveFrom, giveBack}
+use Rattle.laws.specs.Tests.{same?, less?, cond-cases, eq→eqb, eqb-true, eqb-false}
+use Rattle.laws.specs.Ownership.{hand}
+use Rattle.laws.specs.Links.{the-chain}
+use Rattle.laws.specs.Heads.{Head}
+use Rattle.laws.specs.Space.{Good, on-chain}
+use Rattle.laws.specs.Sides.{head-of-1, side-head, side-start, side-sd}
+use Rattle.laws.specs.Searches.{FoundIn, lastFull-found, last-on}
+use Rattle.laws.specs.Moves.{InHand, Placed, Moved, moved-by}
+use Rattle.laws.specs.Leaving.{only-gone, last-gone, full-used, full-6, shrunk, unlinked-out}
+use Rattle.laws.specs.Arriving.{refused≢planned, filled, grown, grown-before, placed-by, append-placed}
+
+-- ---- out of the giver's chain
+
+module _ {A : ℕ} {ex : ℕ → Bool} {n last : ℕ} {s : Anodes} {system hd sd : ℕ → ℕ} (g : Good A ex n last s system hd sd) (h : ℕ) (d : Head (s .next) (s .block) h) (h1 : h ≢ 1)
+    (p x : ℕ) (f : FoundIn (s .count) (s .next) h (chainOf (s .next) A h) 0 p x) where
+  on-h : hd x ≡ h
+  on-h = on-chain g h d x (f .on) .0
+
+  -- one that is not the head stands after p
+  after-p : x ≢ h → s .next p ≡ x
+  after-p q = elim (f .before) [ inl c ↦ absurd (q (c .0)) | inr c ↦ c ]
+
+  not-2 : x ≢ 2
+  not-2 e = h1 (sym on-h ∙ ap hd e ∙ g .two-on)
+
+  pub withoutLast-out : InHand A ex n last s system hd h (s .block x + (s .count x - 1)) (withoutLast A ex last s h p x)
+  unfolding withoutLast emptied
+  withoutLast-out = rw on-h at out
+    where
+      first-too : s .count x ≡ 1 → s .block x + (s .count x - 1) ≡ s .block x
+      first-too e = omega arith
+
+      out : InHand A ex n last s system hd (hd x) (s .block x + (s .count x - 1)) (withoutLast A ex last s h p x)
+      out = elim (same? (s .count x) 1) [
+        | inr q ↦ rw (eqb-false (s .count x) 1 q) (shrunk g x (f .full) (s .count x - 1) (s .block x) (s .block x + (s .count x - 1)) (omega (arith, f .full)) (full-used g x (f .full))
+            (λ w. last-gone (s .count x) (s .block x) w (f .full)) (λ l. (omega arith, omega arith)))
+        | inl q ↦ rw (first-too q, eqb-true (s .count x) 1 q) (elim (same? x h) [
+          | inl e ↦ rw (eqb-true x h e) (shrunk g x (f .full) 0 65535 (s .block x) q (omega arith) (λ w. only-gone (s .count x) (s .block x) w 65535 q) (λ l. absurd (omega arith)))
+          | inr e ↦ rw (eqb-false x h e) (unlinked-out g x (f .full) q p (after-p e) (full-6 g x (f .full) p (after-p e) not-2))
+        ])
+      ]
+
+-- ---- into the free list
+
+sideOf-cases : (A : ℕ) (ex : ℕ → Bool) (last y : ℕ) → ((last < y) × (sideOf A ex last y ≡ 1)) ⊎ ((y ≤ last) × (sideOf A ex last y ≡ 2))
+unfolding sideOf
+sideOf-cases A ex last y = elim (cond-cases {A = ℕ} (ltb last y) 1 2) [
+  | inl c ↦ inl (ltb→lt last y (c .0), c .1)
+  | inr c ↦ elim (less? last y) [ inl l ↦ absurd (c .0 (lt→ltb last y l)) | inr l ↦ inr (l, c .1) ]
+]
+
+module _ {A : ℕ} {ex : ℕ → Bool} {n last : ℕ} {s : Anodes} (system : ℕ → ℕ) {hd sd : ℕ → ℕ} (y : ℕ) (g : Good A ex n last s (hand system y) hd sd) (y0 : y ≢ 0) (yn : y < n) where
+  m : ℕ
+  m = sideOf A ex last y
+
+  end : ℕ
+  end = lastOf (sideOf A ex last y) (side A s (sideOf A ex last y))
+
+  one-side : (m ≡ 1) ⊎ (m ≡ 2)
+  unfolding m
+  one-side = elim (sideOf-cases A ex last y) [ inl c ↦ inl (c .1) | inr c ↦ inr (c .1) ]
+
+  end-side : sd end ≡ m
+  unfolding m end
+  end-side = elim (last-on m (side A s m)) [
+    | inl c ↦ ap sd c ∙ g .sides .at-head m (side-start g m one-side)
+    | inr c ↦ side-sd g m one-side (lastOf m (side A s m)) c
+  ]
+
+  m0 : m ≢ 0
+  m0 q = elim one-side [ inl c ↦ omega (arith, q, c) | inr c ↦ omega (arith, q, c) ]
+
+  e0 : end ≢ 0
+  e0 q = m0 (sym end-side ∙ ap sd q ∙ g .sides .off-zero)
+
+  u : s .block end ≢ 0
+  u q = m0 (sym end-side ∙ g .sides .off end q)
+
+  e-head : hd end ≡ 1
+  e-head = side-head g end e0 u ∙ ap hd end-side ∙ elim one-side [ inl c ↦ ap hd c ∙ head-of-1 g | inr c ↦ ap hd c ∙ g .two-on ]
+
+  high : sd end ≡ 1 → last < y
+  unfolding m
+  high q = elim (sideOf-cases A ex last y) [ inl c ↦ c .0 | inr c ↦ absurd (omega (arith, q, end-side, c .1)) ]
+
+  low : sd end ≡ 2 → y ≤ last
+  unfolding m
+  low q = elim (sideOf-cases A ex last y) [ inl c ↦ absurd (omega (arith, q, end-side, c .1)) | inr c ↦ c .0 ]
+
+  join-placed : (t : Anodes) (ys : List ℕ) → join A ex last s end y ≡ planned t ys → Placed A ex n last s system hd (hd end) y t × (ys ≡ y ∷ [])
+  unfolding join joinFilling joinAfter joinBefore
+  join-placed t ys e = elim (cond-cases (eqb end 1) (append A ex last s end y) (joinFilling A ex last s end y)) [
+    | inl c ↦ appended t ys (sym (c .1) ∙ e)
+    | inr c ↦ (let e1 : end ≢ 1 = λ q. c .0 (eq→eqb end 1 q) in
+        elim (cond-cases (eqb (s .count end) 0) (planned (rewritten s end 1 y) (y ∷ [])) (joinAfter A ex last s end y)) [
+          | inl k ↦ by (rewritten s end 1 y) (sym (k .1) ∙ sym (c .1) ∙ e) (filled system y g y0 yn end e0 u high low e1 (eqb→eq (s .count end) 0 (k .0)))
+          | inr k ↦ (let c0 : s .count end ≢ 0 = λ q. k .0 (eq→eqb (s .count end) 0 q) in
+              elim (cond-cases (eqb (s .block end + s .count end) y) (planned (rewritten s end (s .count end + 1) (s .block end)) (y ∷ [])) (joinBefore A ex last s end y)) [
+                | inl i ↦ by (rewritten s end (s .count end + 1) (s .block end)) (sym (i .1) ∙ sym (k .1) ∙ sym (c .1) ∙ e)
+                    (grown system y g y0 yn end e0 u high low e1 c0 (eqb→eq (s .block end + s .count end) y (i .0)))
+                | inr i ↦ elim (cond-cases (eqb (y + 1) (s .block end)) (planned (rewritten s end (s .count end + 1) y) (y ∷ [])) (append A ex last s end y)) [
+                  | inl j ↦ by (rewritten s end (s .count end + 1) y) (sym (j .1) ∙ sym (i .1) ∙ sym (k .1) ∙ sym (c .1) ∙ e)
+                      (grown-before system y g y0 yn end e0 u high low e1 c0 (eqb→eq (y + 1) (s .block end) (j .0)))
+                  | inr j ↦ appended t ys (sym (j .1) ∙ sym (i .1) ∙ sym (k .1) ∙ sym (c .1) ∙ e)
+                ]
+              ])
+        ])
+  ]
+    where
+      by : (r : Anodes) → planned r (y ∷ []) ≡ planned t ys → Placed A ex n last s system hd (hd end) y r → Placed A ex n last s system hd (hd end) y t × (ys ≡ y ∷ [])
+      by r e w = placed-by system y g y0 yn end e0 u high low r t ys e w
+
+      appended : (t : Anodes) (ys : List ℕ) → append A ex last s end y ≡ planned t ys → Placed A ex n last s system hd (hd end) y t × (ys ≡ y ∷ [])
+      appended = append-placed system y g y0 yn end e0 u high low
+
+  pub release-placed : (t : Anodes) (ys : List ℕ) → release A ex last s y ≡ planned t ys → Placed A ex n last s system hd 1 y t × (ys ≡ y ∷ [])
+  unfolding release end
+  release-placed t ys e = rw e-head at (join-placed t ys e)
+
+-- ---- the whole
+
+module _ {A : ℕ} {ex : ℕ → Bool} {n last : ℕ} {s : Anodes} {system hd sd : ℕ → ℕ} (g : Good A ex n last s system hd sd) (h : ℕ) (d : Head (s .next) (s .block) h) (h1 : h ≢ 1) where
+  giveFrom-moves : (p x : ℕ) → FoundIn (s .count) (s .next) h (chainOf (s .next) A h) 0 p x → (t : Anodes) (ys : List ℕ) →
+      giveFrom A ex last s h p x ≡ planned t ys → Moved A ex n last s system hd h 1 ys t
+  unfolding giveFrom
+  giveFrom-moves p x f t ys e =
+      let i = withoutLast-out g h d h1 p x f in
+      let u = full-used g x (f .full) in
+      let w = release-placed system (s .block x + (s .count x - 1)) (i .good) (λ q. u (omega arith)) (omega (arith, g .own .fits x (g .view .below x u) (f .full), f .full)) t ys e in
+      moved-by i (w .0) (w .1)
+
+  pub give-good : (t : Anodes) (ys : List ℕ) → giveBack A ex last s h ≡ planned t ys → Moved A ex n last s system hd h 1 ys t
+  unfolding giveBack
+  give-good t ys e = go (lastFull (s .count) 0 (chainOf (s .next) A h)) refl e
+    where
+      go : (c : Found) → lastFull (s .count) 0 (chainOf (s .next) A h) ≡ c → elim c [ nowhere ↦ refused 0 | found p x ↦ giveFrom A ex last s h p x ] ≡ planned t ys → Moved A ex n last s system hd h 1 ys t
+      go nowhere q e = absurd (refused≢planned 0 t ys e)
+      go (found p x) q e = giveFrom-moves p x (lastFull-found (s .count) (s .next) h 0 0 (chainOf (s .next) A h) (the-chain (g .view) (g .linked) h (λ q. d .in-use)) p x q) t ys e

@@ -1,0 +1,94 @@
+-- Which blocks the chain of each head has.
+use Prim.Native.Nat.{ℕ, zero, suc, _+_, _*_, _≤_, _<_}
+use mathlib.Core.Path.{_≡_, sym, ap, _∙_}
+use mathlib.Core.Logic.{inl, inr}
+use native.Mathlib.Omega.{arith}
+use Rattle.rules.specs.Counting.{oneAt, sumBelow, sumList, gather, changed}
+use Rattle.rules.specs.Chains.{chainOf, covers, run}
+use Rattle.laws.specs.Tests.{less?}
+use Rattle.laws.specs.Sums.{changed-same, changed-other, sum-congr, sum-zero, sum-add, sum-scale, sum-swap, sum-update, sum-pick}
+use Rattle.laws.specs.Bags.{gather-sum}
+use Rattle.laws.specs.Ownership.{covers-none, covers-front}
+use Rattle.laws.specs.Links.{View, Linked}
+use Rattle.laws.specs.Heads.{Head, Heads, chain-sum}
+
+-- how often the anodes that the table gives the head m cover the block y
+unfoldable pub held : ℕ → (ℕ → ℕ) → (ℕ → ℕ) → (ℕ → ℕ) → ℕ → ℕ → ℕ
+held A hd count block m y = sumBelow (λ a. oneAt (hd a) m * covers (count a) (block a) y) A
+
+module _ (A : ℕ) (hd count block : ℕ → ℕ) where
+  -- x keeps its head and becomes (c, b)
+  pub held-rewrite : (x c b : ℕ) → x < A → (m y : ℕ) →
+      held A hd (changed count x c) (changed block x b) m y + oneAt (hd x) m * covers (count x) (block x) y ≡ held A hd count block m y + oneAt (hd x) m * covers c b y
+  unfolding held
+  held-rewrite x c b l m y = omega (
+    arith,
+    sum-update (λ a. oneAt (hd a) m * covers (count a) (block a) y) (λ a. oneAt (hd a) m * covers (changed count x c a) (changed block x b a) y) x A l
+        (λ j k e. rw (changed-other count x c j e, changed-other block x b j e)),
+    at-x,
+  )
+    where
+      at-x : oneAt (hd x) m * covers (changed count x c x) (changed block x b x) y ≡ oneAt (hd x) m * covers c b y
+      at-x = rw (changed-same count x c, changed-same block x b)
+
+  -- x, with no block, comes to the head h as (c, b)
+  pub held-fresh : (x h c b : ℕ) → x < A → count x ≡ 0 → (m y : ℕ) →
+      held A (changed hd x h) (changed count x c) (changed block x b) m y ≡ held A hd count block m y + oneAt h m * covers c b y
+  unfolding held
+  held-fresh x h c b l z m y = omega (
+    arith,
+    sum-update (λ a. oneAt (hd a) m * covers (count a) (block a) y) (λ a. oneAt (changed hd x h a) m * covers (changed count x c a) (changed block x b a) y) x A l
+        (λ j k e. rw (changed-other count x c j e, changed-other block x b j e, changed-other hd x h j e)),
+    at-x,
+    was,
+  )
+    where
+      at-x : oneAt (changed hd x h x) m * covers (changed count x c x) (changed block x b x) y ≡ oneAt h m * covers c b y
+      at-x = rw (changed-same count x c, changed-same block x b, changed-same hd x h)
+
+      was : oneAt (hd x) m * covers (count x) (block x) y ≡ 0
+      was = rw (z, covers-none (block x) y) (omega arith)
+
+-- ---- the blocks of a chain in its order
+
+pub run-sum : (f : ℕ → ℕ) (b c n : ℕ) → b + c ≤ n → sumList f (run b c) ≡ sumBelow (λ y. covers c b y * f y) n
+unfolding run sumList
+run-sum f b zero n l = sym (sum-zero (λ y. covers 0 b y * f y) n (λ y q. rw (covers-none b y) (omega arith)))
+run-sum f b (suc c) n l =
+    omega (
+      arith,
+      run-sum f (suc b) c n (omega arith),
+      sum-congr (λ y. covers (suc c) b y * f y) (λ y. oneAt b y * f y + covers c (suc b) y * f y) n
+          (λ y q. rw (covers-front c b y) (omega arith)),
+      sum-add (λ y. oneAt b y * f y) (λ y. covers c (suc b) y * f y) n,
+      sum-pick f b n (omega arith),
+    )
+
+module _ {A : ℕ} {next block : ℕ → ℕ} (v : View A next block) (k : Linked A next block) (hd : ℕ → ℕ) (t : Heads next block hd) (count : ℕ → ℕ) (n : ℕ)
+    (fits : (a : ℕ) → a < A → 0 < count a → block a + count a ≤ n) where
+  each-run : (f : ℕ → ℕ) (a : ℕ) → a < A → sumList f (run (block a) (count a)) ≡ sumBelow (λ y. covers (count a) (block a) y * f y) n
+  unfolding run sumList
+  each-run f a l = elim (less? 0 (count a)) [
+    | inl p ↦ run-sum f (block a) (count a) n (fits a l p)
+    | inr p ↦ rw (nothing p) (sym (sum-zero (λ y. covers 0 (block a) y * f y) n (λ y q. rw (covers-none (block a) y) (omega arith))))
+  ]
+    where
+      nothing : count a ≤ 0 → count a ≡ 0
+      nothing p = omega arith
+
+  -- a sum over the blocks of a chain, in its order, is one over all blocks
+  pub chain-blocks : (f : ℕ → ℕ) (h : ℕ) → Head next block h → sumList f (gather (λ a. run (block a) (count a)) (chainOf next A h)) ≡ sumBelow (λ y. held A hd count block h y * f y) n
+  unfolding held
+  chain-blocks f h d =
+      gather-sum (λ a. run (block a) (count a)) f (chainOf next A h)
+      ∙ chain-sum v k hd t (λ a. sumList f (run (block a) (count a))) h d
+      ∙ sum-congr (λ a. oneAt (hd a) h * sumList f (run (block a) (count a))) (λ a. sumBelow (λ y. oneAt (hd a) h * (covers (count a) (block a) y * f y)) n) A
+      (λ a l. ap (λ (q : ℕ). oneAt (hd a) h * q) (each-run f a l) ∙ sym (sum-scale (λ y. covers (count a) (block a) y * f y) (oneAt (hd a) h) n))
+      ∙ sum-swap (λ a y. oneAt (hd a) h * (covers (count a) (block a) y * f y)) A n
+      ∙ sum-congr (λ y. sumBelow (λ a. oneAt (hd a) h * (covers (count a) (block a) y * f y)) A) (λ y. sumBelow (λ a. oneAt (hd a) h * covers (count a) (block a) y) A * f y) n (λ y q. each-block y)
+    where
+      each-block : (y : ℕ) → sumBelow (λ a. oneAt (hd a) h * (covers (count a) (block a) y * f y)) A ≡ sumBelow (λ a. oneAt (hd a) h * covers (count a) (block a) y) A * f y
+      each-block y =
+          sum-congr (λ a. oneAt (hd a) h * (covers (count a) (block a) y * f y)) (λ a. f y * (oneAt (hd a) h * covers (count a) (block a) y)) A (λ a l. omega arith)
+          ∙ sum-scale (λ a. oneAt (hd a) h * covers (count a) (block a) y) (f y) A
+          ∙ omega arith

@@ -1,0 +1,53 @@
+-- What the anodes of an image are, whatever the image: free and missing ones read (0, 0, 0), and one in use exists.
+use Prim.Native.Nat.{ℕ, zero, suc, _+_, _/_, _%_, _≤_, _<_}
+use mathlib.Core.Path.{_≡_, refl, sym, ap, _∙_}
+use mathlib.Core.Logic.{_≢_, inl, inr}
+use mathlib.Core.Bool.{Bool, true, false, cond}
+use mathlib.Core.List.{List, []}
+use native.Mathlib.Omega.{arith}
+use lib.Dec.{T, eqb, ltb}
+use lib.ListN.{length, getD}
+use borrow.Author.Tests.{lt-ltb, eq-eqb, ne-eqb}
+use Rattle.disk.specs.Root.{slotOf}
+use Rattle.disk.specs.AnodeBlocks.{anodesIn, anodeSlots, anodeAt, anodeOf, anodeMade, listed}
+use Rattle.disk.proofs.Laws.{slotOf-high, anodeOf-missing, anodeSlots-at, length-listed}
+use Rattle.rules.specs.Anodes.{Anodes, limit, fieldsOf, existsIn, exists, inUse, anodesOf}
+use Rattle.laws.specs.Tests.{same?, less?}
+use Rattle.laws.specs.Passes.{Reading}
+
+module _ (img : List ℕ) where
+  -- the three fields of an anode, as they are stored where its block field is not 0
+  pub block-at : (a : ℕ) → anodesOf img .block a ≡ (anodeOf img a) .block .0
+  unfolding anodesOf inUse fieldsOf anodeOf
+  block-at a = refl
+
+  pub count-at : (a : ℕ) → anodesOf img .block a ≢ 0 → anodesOf img .count a ≡ (anodeOf img a) .count
+  unfolding anodesOf inUse fieldsOf anodeOf
+  count-at a u = rw (ne-eqb ((anodeAt (anodeSlots img) a) .block .0) 0 u)
+
+  pub next-at : (a : ℕ) → anodesOf img .block a ≢ 0 → anodesOf img .next a ≡ (anodeOf img a) .next .0
+  unfolding anodesOf inUse fieldsOf anodeOf
+  next-at a u = rw (ne-eqb ((anodeAt (anodeSlots img) a) .block .0) 0 u)
+
+  -- a slot that holds 0 has no anode in use
+  pub slot-there : (a : ℕ) → anodesOf img .block a ≢ 0 → slotOf img (a / 82) ≢ 0
+  slot-there a u z = u (block-at a ∙ rw (anodeOf-missing img a z))
+
+  pub slot-exists : (a s : ℕ) → slotOf img (a / 82) ≡ s → s ≢ 0 → exists img a ≡ true
+  unfolding exists existsIn anodesIn
+  slot-exists a zero e n = absurd (n refl)
+  slot-exists a (suc s) e n = lt-ltb (a % 82) _ (rw (anodeSlots-at img (a / 82), e) (rw (length-listed (Rattle.disk.specs.AnodeBlocks.anodeIn (Rattle.disk.specs.Blocks.blockOf img (suc s))) 0 82) (omega arith)))
+
+  pub reading-of : (n last : ℕ) → Reading limit (exists img) n last (anodesOf img)
+  reading-of n last = record {
+    low = λ a u. elim (less? a limit) [ inl l ↦ l | inr l ↦ absurd (slot-there a u (slotOf-high img (a / 82) (omega arith))) ];
+    exist = λ a u. rw (slot-exists a (slotOf img (a / 82)) refl (slot-there a u)) tt;
+    free-count = free-count;
+    free-next = free-next;
+  }
+    where
+      free-count : (a : ℕ) → anodesOf img .block a ≡ 0 → anodesOf img .count a ≡ 0
+      free-count a z = unfold anodesOf inUse in rw (eq-eqb (fieldsOf (anodeSlots img) .block a) 0 z)
+
+      free-next : (a : ℕ) → anodesOf img .block a ≡ 0 → anodesOf img .next a ≡ 0
+      free-next a z = unfold anodesOf inUse in rw (eq-eqb (fieldsOf (anodeSlots img) .block a) 0 z)

@@ -1,0 +1,88 @@
+-- What the items of a directory name, and how much is wrong with them.
+use Prim.Native.Nat.{ℕ, _+_, _≤_}
+use mathlib.Core.Path.{_≡_, _∙_}
+use mathlib.Core.Bool.{Bool, true, false, cond}
+use mathlib.Core.List.{List, [], _∷_, map}
+use native.Mathlib.Omega.{arith}
+use Rattle.rules.specs.Counting.{oneAt, sumList, times, gather}
+use Rattle.rules.specs.Walk.{Dir, Item, subDirs}
+use Rattle.laws.specs.Bags.{list-nil, list-one, list-mono, list-congr, gather-sum, map-sum}
+
+-- the numbers of the faults of an item: what is tried before 14, and after it
+unfoldable pub wrong : Item → ℕ
+wrong i = i .early + i .late
+
+-- a weight of an item, its place aside: what is wrong, whether it names a directory, and the anode
+abbrev pub weighItem : (ℕ → Bool → ℕ → ℕ) → Item → ℕ
+weighItem w i = w (wrong i) (i .dir) (i .anode)
+
+abbrev pub names : List Item → List ℕ
+names is = map (λ i. i .anode) is
+
+pub names-sum : (x : ℕ) (is : List Item) → times x (names is) ≡ sumList (λ i. oneAt (i .anode) x) is
+unfolding times
+names-sum x is = map-sum (λ i. i .anode) (λ y. oneAt y x) is
+
+-- the weight of the directory that an item names, in the directory with head h
+abbrev pub giving : (Dir → ℕ) → ℕ → Item → ℕ
+giving w h i = cond (i .dir) (w (record { head = i .anode; parent = h })) 0
+
+pub giving-le : (w : Dir → ℕ) (h : ℕ) (i : Item) → giving w h i ≤ w (record { head = i .anode; parent = h })
+giving-le w h i = go (i .dir)
+  where
+    go : (b : Bool) → cond b (w (record { head = i .anode; parent = h })) 0 ≤ w (record { head = i .anode; parent = h })
+    go true = omega arith
+    go false = omega arith
+
+-- the directories that items name, one by one
+pub dirs-sum : (w : Dir → ℕ) (d : Dir) (is : List Item) → sumList w (gather (subDirs d) is) ≡ sumList (giving w (d .head)) is
+unfolding subDirs
+dirs-sum w d is = gather-sum (subDirs d) w is ∙ list-congr (λ i. sumList w (subDirs d i)) (giving w (d .head)) is (λ i. one (i .dir) (record { head = i .anode; parent = d .head }))
+  where
+    one : (b : Bool) (e : Dir) → sumList w (cond b (e ∷ []) []) ≡ cond b (w e) 0
+    one true e = list-one w e
+    one false e = list-nil w
+
+-- a directory is named by its head
+pub dirs-named : (d : Dir) (x : ℕ) (is : List Item) → sumList (λ e. oneAt (e .head) x) (gather (subDirs d) is) ≤ times x (names is)
+dirs-named d x is = omega (
+  arith,
+  dirs-sum (λ e. oneAt (e .head) x) d is,
+  names-sum x is,
+  list-mono (giving (λ e. oneAt (e .head) x) (d .head)) (λ i. oneAt (i .anode) x) is (λ i. giving-le (λ e. oneAt (e .head) x) (d .head) i),
+)
+
+pub dirs-few : (d : Dir) (is : List Item) → sumList (λ e. 1) (gather (subDirs d) is) ≤ sumList (λ x. 1) (names is)
+dirs-few d is = omega (
+  arith,
+  dirs-sum (λ e. 1) d is,
+  map-sum (λ i. i .anode) (λ x. 1) is,
+  list-mono (giving (λ e. 1) (d .head)) (λ i. 1) is (λ i. giving-le (λ e. 1) (d .head) i),
+)
+
+module _ (items : Dir → List Item) where
+  -- the directories that d names
+  unfoldable pub subs : Dir → List Dir
+  subs d = gather (subDirs d) (items d)
+
+  -- a weight of the directories that d names, how often d names x, and what is wrong with its items
+  abbrev pub below : (Dir → ℕ) → Dir → ℕ
+  below w d = sumList w (subs d)
+
+  abbrev pub namedIn : ℕ → Dir → ℕ
+  namedIn x d = times x (names (items d))
+
+  abbrev pub faults : Dir → ℕ
+  faults d = sumList wrong (items d)
+
+  pub below-items : (w : Dir → ℕ) (d : Dir) → below w d ≡ sumList (giving w (d .head)) (items d)
+  unfolding subs
+  below-items w d = dirs-sum w d (items d)
+
+  pub subs-named : (x : ℕ) (d : Dir) → sumList (λ e. oneAt (e .head) x) (subs d) ≤ namedIn x d
+  unfolding subs
+  subs-named x d = dirs-named d x (items d)
+
+  pub subs-few : (d : Dir) → sumList (λ e. 1) (subs d) ≤ sumList (λ x. 1) (names (items d))
+  unfolding subs
+  subs-few d = dirs-few d (items d)

@@ -1,0 +1,339 @@
+-- The changes of links: a fresh anode inserted after another, one unlinked, a fresh head, whole chains dropped.
+use Prim.Native.Nat.{ℕ, suc, _+_, _*_, _<_}
+use mathlib.Core.Path.{_≡_, refl, sym, ap, _∙_}
+use mathlib.Core.Logic.{_≢_, _⊎_, inl, inr}
+use mathlib.Core.Bool.{Bool, cond}
+use mathlib.Core.List.{List, _∷_, _++_}
+use native.Mathlib.Omega.{arith}
+use lib.Dec.{T}
+use Rattle.rules.specs.Counting.{oneAt, times, changed}
+use Rattle.laws.specs.Tests.{same?, cond-cases}
+use Rattle.laws.specs.Sums.{oneAt-same, changed-cases, changed-same, changed-other, changed-pos}
+use Rattle.laws.specs.Bags.{times-cons, times-append}
+use Rattle.laws.specs.Segments.{Seg, Chain, seg-append, seg-split, seg-keep}
+use Rattle.laws.specs.Links.{View, Linked, used, next-pos, seg-once, seg-used}
+
+pub data Which (P Q R : Type 0) : Type 0 where
+  first : P → Which P Q R
+  second : Q → Which P Q R
+  third : R → Which P Q R
+
+-- ---- f after p
+
+unfoldable pub insertAfter : (ℕ → ℕ) → ℕ → ℕ → ℕ → ℕ
+insertAfter next p f = changed (changed next f (next p)) p f
+
+pub insertAfter-cases : (next : ℕ → ℕ) (p f x : ℕ) → Which ((x ≡ p) × (insertAfter next p f x ≡ f)) ((x ≢ p) × (x ≡ f) × (insertAfter next p f x ≡ next p)) ((x ≢ p) × (x ≢ f) × (insertAfter next p f x ≡ next x))
+unfolding insertAfter
+insertAfter-cases next p f x = elim (changed-cases (changed next f (next p)) p f x) [
+  | inl e ↦ first e
+  | inr e ↦ elim (changed-cases next f (next p) x) [ inl d ↦ second (e .0, d .0, e .1 ∙ d .1) | inr d ↦ third (e .0, d .0, e .1 ∙ d .1) ]
+]
+
+-- ---- x unlinked after p, and zeroed
+
+unfoldable pub unlink : (ℕ → ℕ) → ℕ → ℕ → ℕ → ℕ
+unlink next p x = changed (changed next p (next x)) x 0
+
+pub unlink-cases : (next : ℕ → ℕ) (p x a : ℕ) → Which ((a ≡ x) × (unlink next p x a ≡ 0)) ((a ≢ x) × (a ≡ p) × (unlink next p x a ≡ next x)) ((a ≢ x) × (a ≢ p) × (unlink next p x a ≡ next a))
+unfolding unlink
+unlink-cases next p x a = elim (changed-cases (changed next p (next x)) x 0 a) [
+  | inl e ↦ first e
+  | inr e ↦ elim (changed-cases next p (next x) a) [ inl d ↦ second (e .0, d .0, e .1 ∙ d .1) | inr d ↦ third (e .0, d .0, e .1 ∙ d .1) ]
+]
+
+-- ---- what is dead reads 0
+
+unfoldable pub without : (ℕ → Bool) → (ℕ → ℕ) → ℕ → ℕ
+without dead F a = cond (dead a) 0 (F a)
+
+pub without-cases : (dead : ℕ → Bool) (F : ℕ → ℕ) (a : ℕ) → (T (dead a) × (without dead F a ≡ 0)) ⊎ ((T (dead a) → ⊥) × (without dead F a ≡ F a))
+unfolding without
+without-cases dead F a = cond-cases (dead a) 0 (F a)
+
+module _ {A : ℕ} {next block : ℕ → ℕ} (v : View A next block) (k : Linked A next block) where
+  module _ (p f b : ℕ) (p0 : p ≢ 0) (up : block p ≢ 0) (f0 : f ≢ 0) (fresh : block f ≡ 0) (fA : f < A) (b0 : b ≢ 0) where
+    pub after-other : p ≢ f
+    after-other e = up (ap block e ∙ fresh)
+
+    -- nobody has f for next
+    pub fresh-no-next : (x : ℕ) → next x ≢ f
+    fresh-no-next x e = k .closed x (λ z. f0 (sym e ∙ z)) (ap block e ∙ fresh)
+
+    pub insert-view : View A (insertAfter next p f) (changed block f b)
+    insert-view = record {
+      below = λ a h. elim (changed-cases block f b a) [ inl e ↦ rw (e .0) fA | inr e ↦ v .below a (rw (e .1) at h) ];
+      free-end = λ a h. elim (insertAfter-cases next p f a) [
+        | first e ↦ absurd (up (ap block (sym (e .0)) ∙ sym (changed-other block f b a (λ q. after-other (sym (e .0) ∙ q))) ∙ h))
+        | second e ↦ absurd (b0 (sym (changed-same block f b) ∙ ap (changed block f b) (sym (e .1)) ∙ h))
+        | third e ↦ e .2 ∙ v .free-end a (sym (changed-other block f b a (e .1)) ∙ h)
+      ];
+      zero-end = elim (insertAfter-cases next p f 0) [
+        | first e ↦ absurd (p0 (sym (e .0)))
+        | second e ↦ absurd (f0 (sym (e .1)))
+        | third e ↦ e .2 ∙ v .zero-end
+      ];
+    }
+
+    f-used : changed block f b f ≢ 0
+    f-used = rw (changed-same block f b) b0
+
+    ranks : ℕ → ℕ
+    ranks = changed (λ x. 2 * k .rank x) f (2 * k .rank (next p) + 1)
+
+    rank-f : ranks f ≡ 2 * k .rank (next p) + 1
+    unfolding ranks
+    rank-f = changed-same (λ x. 2 * k .rank x) f (2 * k .rank (next p) + 1)
+
+    rank-other : (x : ℕ) → x ≢ f → ranks x ≡ 2 * k .rank x
+    unfolding ranks
+    rank-other x h = changed-other (λ x. 2 * k .rank x) f (2 * k .rank (next p) + 1) x h
+
+    pub insert-linked : Linked A (insertAfter next p f) (changed block f b)
+    insert-linked = record {
+      closed = λ a h. elim (insertAfter-cases next p f a) [
+        | first e ↦ rw (e .1) f-used
+        | second e ↦ rw (e .2) (changed-pos block f b (next p) b0 (k .closed p (rw (e .2) at h)))
+        | third e ↦ rw (e .2) (changed-pos block f b (next a) b0 (k .closed a (rw (e .2) at h)))
+      ];
+      uniq = λ x y h q. elim (insertAfter-cases next p f x) [
+        | first e ↦ elim (insertAfter-cases next p f y) [
+          | first d ↦ e .0 ∙ sym (d .0)
+          | second d ↦ absurd (fresh-no-next p (sym (d .2) ∙ sym q ∙ e .1))
+          | third d ↦ absurd (fresh-no-next y (sym (d .2) ∙ sym q ∙ e .1))
+        ]
+        | second e ↦ elim (insertAfter-cases next p f y) [
+          | first d ↦ absurd (fresh-no-next p (sym (e .2) ∙ q ∙ d .1))
+          | second d ↦ e .1 ∙ sym (d .1)
+          | third d ↦ absurd (d .0 (sym (k .uniq p y (rw (e .2) at h) (sym (e .2) ∙ q ∙ d .2))))
+        ]
+        | third e ↦ elim (insertAfter-cases next p f y) [
+          | first d ↦ absurd (fresh-no-next x (sym (e .2) ∙ q ∙ d .1))
+          | second d ↦ absurd (e .0 (k .uniq x p (rw (e .2) at h) (sym (e .2) ∙ q ∙ d .2)))
+          | third d ↦ k .uniq x y (rw (e .2) at h) (sym (e .2) ∙ q ∙ d .2)
+        ]
+      ];
+      rank = ranks;
+      falls = λ a a0 u. elim (insertAfter-cases next p f a) [
+        | first e ↦ rw (e .1, e .0) (omega (arith, rank-f, rank-other p after-other, k .falls p p0 up))
+        | second e ↦ rw (e .2, e .1) (omega (arith, rank-f, rank-other (next p) (fresh-no-next p)))
+        | third e ↦ rw (e .2) (omega (arith, rank-other (next a) (fresh-no-next a), rank-other a (e .1), k .falls a a0 (rw (changed-other block f b a (e .1)) at u)))
+      ];
+    }
+
+    at-p : insertAfter next p f p ≡ f
+    unfolding insertAfter
+    at-p = changed-same (changed next f (next p)) p f
+
+    at-f : insertAfter next p f f ≡ next p
+    unfolding insertAfter
+    at-f = changed-other (changed next f (next p)) p f f (λ e. after-other (sym e)) ∙ changed-same next f (next p)
+
+    -- what a chain becomes: one without p stays, and f comes after p in the other
+    pub insert-apart : (a z : ℕ) (l : List ℕ) → (a ≢ 0 → block a ≢ 0) → Seg next a l z → times p l ≡ 0 → Seg (insertAfter next p f) a l z
+    insert-apart a z l u c h = seg-keep next (insertAfter next p f) a z l keep c
+      where
+        keep : (x : ℕ) → 0 < times x l → insertAfter next p f x ≡ next x
+        keep x m = elim (insertAfter-cases next p f x) [
+          | first e ↦ absurd (omega (arith, ap (λ (y : ℕ). times y l) (e .0)))
+          | second e ↦ absurd (omega (arith, seg-used v k a z l x u c (ap block (e .1) ∙ fresh)))
+          | third e ↦ e .2
+        ]
+
+    pub insert-after : (a : ℕ) (l m : List ℕ) → (a ≢ 0 → block a ≢ 0) → Chain next a (l ++ (p ∷ m)) → Chain (insertAfter next p f) a (l ++ (p ∷ (f ∷ m)))
+    insert-after a l m u c =
+        let once = seg-once v k a 0 (l ++ (p ∷ m)) p u c in
+        let s = seg-split next a 0 l (p ∷ m) c in
+        seg-append (insertAfter next p f) a (s .0) 0 l (p ∷ (f ∷ m))
+        (insert-apart a (s .0) l u (s .1) (omega (arith, once, times-append p l (p ∷ m), times-cons p p m, oneAt-same p p refl)))
+        (s .2 .0, s .2 .1, (at-p, f0, rw at-f (insert-apart (next p) 0 m (k .closed p) (s .2 .2) (omega (arith, once, times-append p l (p ∷ m), times-cons p p m, oneAt-same p p refl)))))
+
+  -- ---- x unlinked after p
+
+  module _ (p x : ℕ) (x0 : x ≢ 0) (px : next p ≡ x) where
+    pub next-there : next p ≢ 0
+    next-there e = x0 (sym px ∙ e)
+
+    pub pred-used : block p ≢ 0
+    pred-used = used v p next-there
+
+    pub unlink-used : block x ≢ 0
+    unlink-used = rw px at (k .closed p next-there)
+
+    pub pred-pos : p ≢ 0
+    pred-pos = next-pos v p next-there
+
+    ranked : k .rank x < k .rank p
+    ranked = rw px at (k .falls p pred-pos pred-used)
+
+    pub pred-other : p ≢ x
+    pred-other e = omega (arith, ranked, ap (k .rank) e)
+
+    kept : (a : ℕ) → a ≢ x → block a ≢ 0 → changed block x 0 a ≢ 0
+    kept a h u = rw (changed-other block x 0 a h) u
+
+    pub unlink-view : View A (unlink next p x) (changed block x 0)
+    unlink-view = record {
+      below = λ a h. elim (changed-cases block x 0 a) [ inl e ↦ absurd (h (e .1)) | inr e ↦ v .below a (rw (e .1) at h) ];
+      free-end = λ a h. elim (unlink-cases next p x a) [
+        | first e ↦ e .1
+        | second e ↦ absurd (kept a (e .0) (rw (e .1) pred-used) h)
+        | third e ↦ e .2 ∙ v .free-end a (sym (changed-other block x 0 a (e .0)) ∙ h)
+      ];
+      zero-end = elim (unlink-cases next p x 0) [
+        | first e ↦ e .1
+        | second e ↦ absurd (pred-pos (sym (e .1)))
+        | third e ↦ e .2 ∙ v .zero-end
+      ];
+    }
+
+    pub unlink-linked : Linked A (unlink next p x) (changed block x 0)
+    unlink-linked = record {
+      closed = λ a h. elim (unlink-cases next p x a) [
+        | first e ↦ absurd (h (e .1))
+        | second e ↦ rw (e .2) (kept (next x) (λ q. omega (arith, k .falls x x0 unlink-used, ap (k .rank) q)) (k .closed x (rw (e .2) at h)))
+        | third e ↦ rw (e .2) (kept (next a) (λ q. e .1 (sym (k .uniq p a next-there (px ∙ sym q)))) (k .closed a (rw (e .2) at h)))
+      ];
+      uniq = λ a c h q. elim (unlink-cases next p x a) [
+        | first e ↦ absurd (h (e .1))
+        | second e ↦ elim (unlink-cases next p x c) [
+          | first d ↦ absurd (h (q ∙ d .1))
+          | second d ↦ e .1 ∙ sym (d .1)
+          | third d ↦ absurd (d .0 (sym (k .uniq x c (rw (e .2) at h) (sym (e .2) ∙ q ∙ d .2))))
+        ]
+        | third e ↦ elim (unlink-cases next p x c) [
+          | first d ↦ absurd (h (q ∙ d .1))
+          | second d ↦ absurd (e .0 (k .uniq a x (rw (e .2) at h) (sym (e .2) ∙ q ∙ d .2)))
+          | third d ↦ k .uniq a c (rw (e .2) at h) (sym (e .2) ∙ q ∙ d .2)
+        ]
+      ];
+      rank = k .rank;
+      falls = λ a a0 u. elim (unlink-cases next p x a) [
+        | first e ↦ absurd (u (ap (changed block x 0) (e .0) ∙ changed-same block x 0))
+        | second e ↦ rw (e .2, e .1) (omega (arith, ranked, k .falls x x0 unlink-used))
+        | third e ↦ rw (e .2) (k .falls a a0 (rw (changed-other block x 0 a (e .0)) at u))
+      ];
+    }
+
+    pub unlink-apart : (a z : ℕ) (l : List ℕ) → Seg next a l z → times p l ≡ 0 → times x l ≡ 0 → Seg (unlink next p x) a l z
+    unlink-apart a z l c h g = seg-keep next (unlink next p x) a z l keep c
+      where
+        keep : (y : ℕ) → 0 < times y l → unlink next p x y ≡ next y
+        keep y m = elim (unlink-cases next p x y) [
+          | first e ↦ absurd (omega (arith, ap (λ (y : ℕ). times y l) (e .0)))
+          | second e ↦ absurd (omega (arith, ap (λ (y : ℕ). times y l) (e .1)))
+          | third e ↦ e .2
+        ]
+
+    un-p : unlink next p x p ≡ next x
+    unfolding unlink
+    un-p = changed-other (changed next p (next x)) x 0 p pred-other ∙ changed-same next p (next x)
+
+    pub unlink-after : (a : ℕ) (l m : List ℕ) → (a ≢ 0 → block a ≢ 0) → Chain next a (l ++ (p ∷ (x ∷ m))) → Chain (unlink next p x) a (l ++ (p ∷ m))
+    unlink-after a l m u c =
+        let cp : times p (l ++ (p ∷ (x ∷ m))) ≡ times p l + (1 + (oneAt x p + times p m)) = parts p in
+        let cx : times x (l ++ (p ∷ (x ∷ m))) ≡ times x l + (oneAt p x + (1 + times x m)) = parts′ x in
+        let op = seg-once v k a 0 (l ++ (p ∷ (x ∷ m))) p u c in
+        let ox = seg-once v k a 0 (l ++ (p ∷ (x ∷ m))) x u c in
+        let s = seg-split next a 0 l (p ∷ (x ∷ m)) c in
+        seg-append (unlink next p x) a (s .0) 0 l (p ∷ m)
+        (unlink-apart a (s .0) l (s .1) (omega arith) (omega arith))
+        (s .2 .0, s .2 .1, rw un-p (unlink-apart (next x) 0 m (s .2 .2 .2) (omega arith) (omega arith)))
+      where
+        parts : (y : ℕ) → times p (l ++ (p ∷ (x ∷ m))) ≡ times p l + (1 + (oneAt x p + times p m))
+        parts y = omega (arith, times-append p l (p ∷ (x ∷ m)), times-cons p p (x ∷ m), times-cons p x m, oneAt-same p p refl)
+
+        parts′ : (y : ℕ) → times x (l ++ (p ∷ (x ∷ m))) ≡ times x l + (oneAt p x + (1 + times x m))
+        parts′ y = omega (arith, times-append x l (p ∷ (x ∷ m)), times-cons x p (x ∷ m), times-cons x x m, oneAt-same x x refl)
+
+  -- ---- a fresh anode is a chain of its own: no next changes
+
+  module _ (f b : ℕ) (f0 : f ≢ 0) (fresh : block f ≡ 0) (fA : f < A) (b0 : b ≢ 0) where
+    pub head-view : View A next (changed block f b)
+    head-view = record {
+      below = λ a h. elim (changed-cases block f b a) [ inl e ↦ rw (e .0) fA | inr e ↦ v .below a (rw (e .1) at h) ];
+      free-end = λ a h. elim (changed-cases block f b a) [ inl e ↦ absurd (b0 (sym (e .1) ∙ h)) | inr e ↦ v .free-end a (sym (e .1) ∙ h) ];
+      zero-end = v .zero-end;
+    }
+
+    pub head-linked : Linked A next (changed block f b)
+    head-linked = record {
+      closed = λ a h. changed-pos block f b (next a) b0 (k .closed a h);
+      uniq = k .uniq;
+      rank = changed (k .rank) f (suc (k .rank 0));
+      falls = λ a a0 u. elim (changed-cases block f b a) [
+        | inl e ↦ rw (e .0, v .free-end f fresh, changed-same (k .rank) f (suc (k .rank 0)), changed-other (k .rank) f (suc (k .rank 0)) 0 (λ q. f0 (sym q))) (omega arith)
+        | inr e ↦ omega (arith, changed-other (k .rank) f (suc (k .rank 0)) a (e .0), changed-other (k .rank) f (suc (k .rank 0)) (next a) (not-f a (same? (next a) 0)), k .falls a a0 (rw (e .1) at u))
+      ];
+    }
+      where
+        not-f : (a : ℕ) → (next a ≡ 0) ⊎ (next a ≢ 0) → next a ≢ f
+        not-f a (inl z) q = f0 (sym q ∙ z)
+        not-f a (inr z) q = k .closed a z (ap block q ∙ fresh)
+
+  -- ---- whole chains dropped: what `dead` says goes, and it says the same of an anode and its next
+
+  module _ (dead : ℕ → Bool) (along : (a : ℕ) → next a ≢ 0 → dead (next a) ≡ dead a) where
+    pub drop-view : View A (without dead next) (without dead block)
+    drop-view = record {
+      below = λ a h. elim (without-cases dead block a) [ inl e ↦ absurd (h (e .1)) | inr e ↦ v .below a (rw (e .1) at h) ];
+      free-end = λ a h. elim (without-cases dead next a) [
+        | inl e ↦ e .1
+        | inr e ↦ elim (without-cases dead block a) [ inl d ↦ absurd (e .0 (d .0)) | inr d ↦ e .1 ∙ v .free-end a (sym (d .1) ∙ h) ]
+      ];
+      zero-end = elim (without-cases dead next 0) [ inl e ↦ e .1 | inr e ↦ e .1 ∙ v .zero-end ];
+    }
+
+    pub drop-linked : Linked A (without dead next) (without dead block)
+    drop-linked = record {
+      closed = λ a h. elim (without-cases dead next a) [
+        | inl e ↦ absurd (h (e .1))
+        | inr e ↦ rw (e .1) (elim (without-cases dead block (next a)) [
+          | inl d ↦ absurd (e .0 (rw (along a (rw (e .1) at h)) at (d .0)))
+          | inr d ↦ rw (d .1) (k .closed a (rw (e .1) at h))
+        ])
+      ];
+      uniq = λ a c h q. elim (without-cases dead next a) [
+        | inl e ↦ absurd (h (e .1))
+        | inr e ↦ elim (without-cases dead next c) [
+          | inl d ↦ absurd (h (q ∙ d .1))
+          | inr d ↦ k .uniq a c (rw (e .1) at h) (sym (e .1) ∙ q ∙ d .1)
+        ]
+      ];
+      rank = k .rank;
+      falls = λ a a0 u. elim (without-cases dead block a) [
+        | inl e ↦ absurd (u (e .1))
+        | inr e ↦ elim (without-cases dead next a) [
+          | inl d ↦ absurd (e .0 (d .0))
+          | inr d ↦ rw (d .1) (k .falls a a0 (rw (e .1) at u))
+        ]
+      ];
+    }
+
+    pub drop-apart : (a z : ℕ) (l : List ℕ) → Seg next a l z → ((x : ℕ) → 0 < times x l → T (dead x) → ⊥) → Seg (without dead next) a l z
+    drop-apart a z l c h = seg-keep next (without dead next) a z l
+        (λ x m. elim (without-cases dead next x) [ inl e ↦ absurd (h x m (e .0)) | inr e ↦ e .1 ]) c
+
+-- ---- an anode in use rewritten to another in use leaves the links alone
+
+module _ (block : ℕ → ℕ) (x b : ℕ) (u : block x ≢ 0) (b0 : b ≢ 0) where
+  pub same-use : (a : ℕ) → changed block x b a ≡ 0 → block a ≡ 0
+  same-use a h = elim (changed-cases block x b a) [ inl e ↦ absurd (b0 (sym (e .1) ∙ h)) | inr e ↦ sym (e .1) ∙ h ]
+
+  pub use-same : (a : ℕ) → block a ≡ 0 → changed block x b a ≡ 0
+  use-same a h = elim (changed-cases block x b a) [ inl e ↦ absurd (u (ap block (sym (e .0)) ∙ h)) | inr e ↦ e .1 ∙ h ]
+
+  pub rewrite-view : {A : ℕ} {next : ℕ → ℕ} → View A next block → View A next (changed block x b)
+  rewrite-view v = record {
+    below = λ a h. v .below a (λ z. h (use-same a z));
+    free-end = λ a h. v .free-end a (same-use a h);
+    zero-end = v .zero-end;
+  }
+
+  pub rewrite-linked : {A : ℕ} {next : ℕ → ℕ} → Linked A next block → Linked A next (changed block x b)
+  rewrite-linked {next = next} k = record {
+    closed = λ a h z. k .closed a h (same-use (next a) z);
+    uniq = k .uniq;
+    rank = k .rank;
+    falls = λ a a0 h. k .falls a a0 (λ z. h (use-same a z));
+  }

@@ -1,0 +1,105 @@
+-- In every accepted image every block has one owner, every chain ends, and every chain in use is named once, by the system or by an entry reached from the root directory.
+use Prim.Native.Nat.{ℕ, zero, suc, _+_, _*_, _≤_, _<_}
+use mathlib.Core.Path.{_≡_, refl, sym, ap, _∙_}
+use mathlib.Core.Logic.{_≢_, _⊎_, inl, inr}
+use mathlib.Core.Bool.{Bool, _&&_}
+use mathlib.Core.List.{List, [], _∷_, _++_, map}
+use native.Mathlib.Omega.{arith}
+use lib.Dec.{T, eqb, leb, ltb}
+use borrow.Author.Tests.{le-leb, eq-eqb, eqb-false}
+use Rattle.rules.specs.Counting.{oneAt, times, sumList, gather}
+use Rattle.rules.specs.Anodes.{Anodes, limit, exists, anodesOf}
+use Rattle.rules.specs.Chains.{followed, heads, headOf, systemOwns, cut}
+use Rattle.rules.specs.Walk.{Dir, Item, Walk, fault, done, walk, walkOf, faultIn, dirsIn, itemsOf, reached, reachedDirs, naming, root}
+use Rattle.rules.specs.Accepted.{diskSize, lastReserved, ownersOf, twoOwners, noOwner, unnamed, unnamedChain, checkAnswer}
+use Rattle.counting.specs.Laws.{anyBelow-each}
+use Rattle.laws.specs.Tests.{same?}
+use Rattle.laws.specs.Bags.{times-nil, list-congr, gather-sum}
+use Rattle.laws.specs.Heads.{Head, heads-cases}
+use Rattle.laws.specs.Space.{Good}
+use Rattle.laws.specs.Passes.{Reading, Passes, good-of}
+use Rattle.laws.specs.Items.{names-sum, namedIn}
+use Rattle.laws.specs.Walks.{walk-found}
+use Rattle.laws.specs.Acceptance.{and-none, Passed, passed-of, Tested, tested-passes}
+use Rattle.laws.specs.ImageAnodes.{reading-of}
+
+pub record OneOwner (img : List ℕ) : Type 0 where
+  pub one-owner : (x : ℕ) → x < diskSize img → ownersOf img (anodesOf img) x ≡ 1
+  pub ends : (a : ℕ) → anodesOf img .block a ≢ 0 → followed (anodesOf img .next) limit a ≡ 0
+  -- from 6 up a head is named by exactly one reached entry; below, it is the head of a chain of the system's
+  pub named-once : (h : ℕ) → heads limit (anodesOf img .next) (anodesOf img .block) h ≡ 1 → 6 ≤ h → naming img (anodesOf img) h ≡ 1
+  pub systems : (h : ℕ) → heads limit (anodesOf img .next) (anodesOf img .block) h ≡ 1 → h < 6 → (h ≡ 1) ⊎ ((h ≡ 3) ⊎ ((h ≡ 4) ⊎ (h ≡ 5)))
+
+-- the anodes that the items of some directories name
+naming-sum : (items : Dir → List Item) (x : ℕ) (dirs : List Dir) → times x (map (λ i. i .anode) (gather items dirs)) ≡ sumList (namedIn items x) dirs
+naming-sum items x dirs =
+    names-sum x (gather items dirs) ∙ gather-sum items (λ i. oneAt (i .anode) x) dirs
+    ∙ list-congr (λ d. sumList (λ i. oneAt (i .anode) x) (items d)) (namedIn items x) dirs (λ d. sym (names-sum x (items d)))
+
+module _ (img : List ℕ) (blocks anodes : ℕ) (p : Passed img blocks anodes) where
+  abbrev s : Anodes
+  s = anodesOf img
+
+  tested : Tested s (diskSize img) (lastReserved img) (systemOwns img) (exists img)
+  unfolding twoOwners noOwner ownersOf
+  tested = record {
+    fixed-right = p .fixed-right;
+    in-range = p .in-range;
+    links-right = p .links-right;
+    free-right = p .free-right;
+    none-twice = p .none-twice;
+    all-owned = p .all-owned;
+  }
+
+  pub passes : Passes limit (exists img) (diskSize img) (lastReserved img) s (systemOwns img)
+  passes = tested-passes s (diskSize img) (lastReserved img) (systemOwns img) (exists img) (reading-of img (diskSize img) (lastReserved img)) tested
+
+  good : Good limit (exists img) (diskSize img) (lastReserved img) s (systemOwns img) (headOf limit (s .next) (s .block)) (headOf limit (cut (s .next)) (s .block))
+  good = good-of (reading-of img (diskSize img) (lastReserved img)) passes
+
+  head-is : (h : ℕ) → heads limit (s .next) (s .block) h ≡ 1 → Head (s .next) (s .block) h
+  head-is h e = elim (heads-cases (good .view) (good .linked) h) [ inl q ↦ q .0 | inr q ↦ absurd (omega (arith, e, q .1)) ]
+
+  -- the walk was done, and named no anode twice
+  walk-done : (w : Walk) → walkOf img s ≡ w → faultIn w ≡ 0 → (x : ℕ) → times x (map (λ i. i .anode) (gather (itemsOf img s) (dirsIn w))) ≤ 1
+  unfolding walkOf gather
+  walk-done (fault n) e z x = omega (arith, times-nil x)
+  walk-done (done dirs) e z x = omega (arith, naming-sum (itemsOf img s) x dirs, walk-found (itemsOf img s) limit (root ∷ []) [] dirs e .once x (omega (arith, times-nil x)), times-nil x)
+
+  pub once : (x : ℕ) → naming img s x ≤ 1
+  unfolding naming reached reachedDirs
+  once x = walk-done (walkOf img s) refl (p .walked) x
+
+  named : (h : ℕ) → heads limit (s .next) (s .block) h ≡ 1 → 6 ≤ h → naming img s h ≢ 0
+  unfolding unnamedChain unnamed
+  named h e l =
+      let u = head-is h e .in-use in
+      eqb-false (naming img s h) 0 (and-none (eqb (heads limit (s .next) (s .block) h) 1) (unnamed img s h)
+      (and-none (leb 6 h) (eqb (heads limit (s .next) (s .block) h) 1 && unnamed img s h) (anyBelow-each (unnamedChain img s) h limit (reading-of img (diskSize img) (lastReserved img) .low h u) (p .all-named)) (le-leb 6 h l))
+      (eq-eqb (heads limit (s .next) (s .block) h) 1 e))
+
+  -- 2 stands on 1's chain and so heads none
+  not-two : (h : ℕ) → Head (s .next) (s .block) h → h ≢ 2
+  not-two h d e = omega (arith, good .two-on, good .heads .at-head h d, ap (headOf limit (s .next) (s .block)) e)
+
+  below-6 : (h : ℕ) → h ≢ 0 → h ≢ 2 → h < 6 → (h ≡ 1) ⊎ ((h ≡ 3) ⊎ ((h ≡ 4) ⊎ (h ≡ 5)))
+  below-6 h a b l = elim (same? h 1) [
+    | inl e ↦ inl e
+    | inr e1 ↦ elim (same? h 3) [
+      | inl e ↦ inr (inl e)
+      | inr e3 ↦ elim (same? h 4) [ inl e ↦ inr (inr (inl e)) | inr e4 ↦ inr (inr (inr (omega arith))) ]
+    ]
+  ]
+
+  pub one-owner-of : OneOwner img
+  unfolding ownersOf
+  one-owner-of = record {
+    one-owner = λ x l. omega (arith, passes .not-two x l, passes .not-none x l);
+    ends = passes .ends;
+    named-once = λ h e l. omega (arith, once h, named h e l);
+    systems = λ h e l. below-6 h (head-is h e .pos) (not-two h (head-is h e)) l;
+  }
+
+-- THE THEOREM, from the check's answer
+pub accepted-one-owner : (img : List ℕ) (blocks anodes : ℕ) → checkAnswer img blocks anodes ≡ 0 → OneOwner img
+accepted-one-owner img blocks anodes e = one-owner-of img blocks anodes (passed-of img blocks anodes e)

@@ -1,0 +1,66 @@
+-- The owner of a block: in a good state each block is the system's, or stands in the chain of exactly one head.
+use Prim.Native.Nat.{ℕ, _+_, _*_, _<_}
+use mathlib.Core.Path.{_≡_, ap, _∙_}
+use mathlib.Core.Logic.{_≢_, inl, inr}
+use mathlib.Core.Bool.{Bool}
+use native.Mathlib.Omega.{arith}
+use Rattle.rules.specs.Counting.{oneAt, sumBelow}
+use Rattle.rules.specs.Anodes.{Anodes}
+use Rattle.rules.specs.Chains.{covers, owners}
+use Rattle.laws.specs.Tests.{same?}
+use Rattle.laws.specs.Sums.{oneAt-cases, sum-congr, sum-swap, sum-none, sum-some, sum-one, sum-at}
+use Rattle.laws.specs.Ownership.{covers-none}
+use Rattle.laws.specs.Heads.{Head, head-of-is}
+use Rattle.laws.specs.Held.{held}
+use Rattle.laws.specs.Space.{Good}
+
+pub held-all : (A : ℕ) (hd count block : ℕ → ℕ) → ((a : ℕ) → hd a < A) → (y : ℕ) → sumBelow (λ m. held A hd count block m y) A ≡ sumBelow (λ a. covers (count a) (block a) y) A
+unfolding held
+held-all A hd count block low y =
+    sum-swap (λ m a. oneAt (hd a) m * covers (count a) (block a) y) A A
+    ∙ sum-congr (λ a. sumBelow (λ m. oneAt (hd a) m * covers (count a) (block a) y) A) (λ a. covers (count a) (block a) y) A (λ a l. sum-at (hd a) (covers (count a) (block a) y) A (low a))
+
+module _ {A : ℕ} {ex : ℕ → Bool} {n last : ℕ} {s : Anodes} {system hd sd : ℕ → ℕ} (g : Good A ex n last s system hd sd) where
+  pub hd-below : (a : ℕ) → hd a < A
+  hd-below a = elim (same? a 0) [
+    | inl e ↦ rw (e, g .heads .off-zero) some
+    | inr e ↦ elim (same? (s .block a) 0) [
+      | inl u ↦ rw (g .heads .off a u) some
+      | inr u ↦ g .view .below (hd a) (head-of-is (g .view) (g .linked) hd (g .heads) a e u .in-use)
+    ]
+  ]
+    where
+      some : 0 < A
+      some = omega (arith, g .view .below 5 (g .block-5))
+
+  total-held : (y : ℕ) → y < n → system y + sumBelow (λ m. held A hd (s .count) (s .block) m y) A ≡ 1
+  unfolding owners
+  total-held y l = omega (arith, held-all A hd (s .count) (s .block) hd-below y, g .own .not-two y l, g .own .not-none y l)
+
+  -- who holds a block is a head
+  pub holder : (m y : ℕ) → 0 < held A hd (s .count) (s .block) m y → Head (s .next) (s .block) m
+  unfolding held
+  holder m y p =
+      let q = sum-some (λ a. oneAt (hd a) m * covers (s .count a) (s .block a) y) A p in
+      at (q .0) (q .2)
+    where
+      at : (a : ℕ) → 0 < oneAt (hd a) m * covers (s .count a) (s .block a) y → Head (s .next) (s .block) m
+      at a i = elim (oneAt-cases (hd a) m) [
+        | inr e ↦ absurd (omega (arith, rw (e .1) at i))
+        | inl e ↦ rw (e .0) at (head-of-is (g .view) (g .linked) hd (g .heads) a
+            (λ z. none (ap (s .count) z ∙ g .count-0)) (λ z. none (g .free-none a z)))
+      ]
+        where
+          none : s .count a ≡ 0 → ⊥
+          none z = omega (arith, rw (z, covers-none (s .block a) y) at i)
+
+  -- a block that is not the system's has one owner
+  pub owner : (y : ℕ) → y < n → system y ≡ 0 →
+      (m : ℕ) × (m < A) × (held A hd (s .count) (s .block) m y ≡ 1) × ((j : ℕ) → j < A → j ≢ m → held A hd (s .count) (s .block) j y ≡ 0) × Head (s .next) (s .block) m
+  owner y l z =
+      let q = sum-one (λ m. held A hd (s .count) (s .block) m y) A (omega (arith, total-held y l, z)) in
+      (q .0, q .1, q .2, q .3, holder (q .0) y (omega (arith, q .2)))
+
+  -- and the system's has none
+  pub system-block : (y : ℕ) → y < n → system y ≡ 1 → (m : ℕ) → m < A → held A hd (s .count) (s .block) m y ≡ 0
+  system-block y l z m k = sum-none (λ m. held A hd (s .count) (s .block) m y) A (omega (arith, total-held y l, z)) m k

@@ -1,0 +1,150 @@
+-- Who owns a block: what an extent covers, and that each block has one owner, which a move of blocks keeps.
+use Prim.Native.Nat.{ℕ, zero, suc, _+_, _≤_, _<_}
+use mathlib.Core.Path.{_≡_}
+use mathlib.Core.Logic.{_≢_, _⊎_, inl, inr}
+use mathlib.Core.Bool.{_&&_}
+use native.Mathlib.Omega.{arith}
+use lib.Dec.{leb, ltb, leb→le, le→leb, ltb→lt, lt→ltb}
+use Rattle.rules.specs.Counting.{oneAt, sumBelow, changed}
+use Rattle.rules.specs.Chains.{covers, owners}
+use Rattle.laws.specs.Tests.{same?, less?, cond-cases, both, and}
+use Rattle.laws.specs.Sums.{oneAt-cases, changed-same, changed-other, sum-congr, sum-const, sum-zero, sum-add, sum-swap, sum-update, sum-members, sum-oneAt}
+
+pub covers-cases : (c b x : ℕ) → ((b ≤ x) × (x < b + c) × (covers c b x ≡ 1)) ⊎ ((b ≤ x → x < b + c → ⊥) × (covers c b x ≡ 0))
+unfolding covers
+covers-cases c b x = elim (cond-cases {A = ℕ} (leb b x && ltb x (b + c)) 1 0) [
+  | inl h ↦ (let p = both (leb b x) (ltb x (b + c)) (h .0) in inl (leb→le b x (p .0), ltb→lt x (b + c) (p .1), h .1))
+  | inr h ↦ inr (λ l m. h .0 (and (leb b x) (ltb x (b + c)) (le→leb b x l) (lt→ltb x (b + c) m)), h .1)
+]
+
+pub covers-in : (c b x : ℕ) → b ≤ x → x < b + c → covers c b x ≡ 1
+covers-in c b x l m = elim (covers-cases c b x) [ inl h ↦ h .2 | inr h ↦ absurd (h .0 l m) ]
+
+pub covers-under : (c b x : ℕ) → x < b → covers c b x ≡ 0
+covers-under c b x l = elim (covers-cases c b x) [ inl h ↦ absurd (omega arith) | inr h ↦ h .1 ]
+
+pub covers-over : (c b x : ℕ) → b + c ≤ x → covers c b x ≡ 0
+covers-over c b x l = elim (covers-cases c b x) [ inl h ↦ absurd (omega arith) | inr h ↦ h .1 ]
+
+pub covers-none : (b x : ℕ) → covers 0 b x ≡ 0
+covers-none b x = elim (covers-cases 0 b x) [ inl h ↦ absurd (omega arith) | inr h ↦ h .1 ]
+
+-- at its end: one more
+pub covers-end : (c b x : ℕ) → covers (suc c) b x ≡ covers c b x + oneAt (b + c) x
+covers-end c b x = elim (oneAt-cases (b + c) x) [
+  | inl e ↦ omega (arith, covers-in (suc c) b x (omega arith) (omega arith), covers-over c b x (omega arith))
+  | inr e ↦ elim (less? x (b + c)) [
+    | inl l ↦ elim (less? x b) [
+      | inl m ↦ omega (arith, covers-under (suc c) b x m, covers-under c b x m)
+      | inr m ↦ omega (arith, covers-in (suc c) b x m (omega arith), covers-in c b x m l)
+    ]
+    | inr l ↦ omega (arith, covers-over (suc c) b x (omega arith), covers-over c b x l)
+  ]
+]
+
+-- at its front: one more
+pub covers-front : (c b x : ℕ) → covers (suc c) b x ≡ oneAt b x + covers c (suc b) x
+covers-front c b x = elim (oneAt-cases b x) [
+  | inl e ↦ omega (arith, covers-in (suc c) b x (omega arith) (omega arith), covers-under c (suc b) x (omega arith))
+  | inr e ↦ elim (less? x (b + suc c)) [
+    | inl l ↦ elim (less? x b) [
+      | inl m ↦ omega (arith, covers-under (suc c) b x m, covers-under c (suc b) x (omega arith))
+      | inr m ↦ omega (arith, covers-in (suc c) b x m l, covers-in c (suc b) x (omega arith) (omega arith))
+    ]
+    | inr l ↦ omega (arith, covers-over (suc c) b x l, covers-over c (suc b) x (omega arith))
+  ]
+]
+
+-- how many it covers
+pub covers-sum : (c b n : ℕ) → b + c ≤ n → sumBelow (covers c b) n ≡ c
+covers-sum zero b n l = sum-zero (covers 0 b) n (λ i m. covers-none b i)
+covers-sum (suc c) b n l =
+    omega (
+      arith,
+      sum-congr (covers (suc c) b) (λ x. covers c b x + oneAt (b + c) x) n (λ i m. covers-end c b i),
+      sum-add (covers c b) (oneAt (b + c)) n,
+      covers-sum c b n (omega arith),
+      sum-oneAt (b + c) n (omega arith),
+    )
+
+-- the system's blocks, with the block y in hand
+abbrev pub hand : (ℕ → ℕ) → ℕ → ℕ → ℕ
+hand system y x = system x + oneAt y x
+
+module _ (A : ℕ) where
+  -- what refusals 10 (two owners), 11 (none) and the first half of 7 compute
+  pub record EachOnce (count block system : ℕ → ℕ) (n : ℕ) : Type 0 where
+    pub not-two : (x : ℕ) → x < n → owners A count block system x ≤ 1
+    pub not-none : (x : ℕ) → x < n → 1 ≤ owners A count block system x
+    pub fits : (a : ℕ) → a < A → 0 < count a → block a + count a ≤ n
+
+  -- the total: counts and system blocks make the disk's size
+  pub total : (count block system : ℕ → ℕ) (n : ℕ) → EachOnce count block system n → sumBelow system n + sumBelow count A ≡ n
+  unfolding owners
+  total count block system n e =
+      omega (
+        arith,
+        sum-congr (owners A count block system) (λ x. 1) n (λ x l. omega (arith, e .not-two x l, e .not-none x l)),
+        sum-const 1 n,
+        sum-add system (λ x. sumBelow (λ a. covers (count a) (block a) x) A) n,
+        sum-swap (λ x a. covers (count a) (block a) x) n A,
+        sum-congr (λ a. sumBelow (λ x. covers (count a) (block a) x) n) count A each,
+      )
+    where
+      each : (a : ℕ) → a < A → sumBelow (λ x. covers (count a) (block a) x) n ≡ count a
+      each a l = elim (less? 0 (count a)) [
+        | inl p ↦ covers-sum (count a) (block a) n (e .fits a l p)
+        | inr p ↦ rw (zero-is p) (sum-zero (λ x. covers 0 (block a) x) n (λ i m. covers-none (block a) i))
+      ]
+        where
+          zero-is : count a ≤ 0 → count a ≡ 0
+          zero-is p = omega arith
+
+  -- one anode a is rewritten to (c, b): x's owners change by what a covered and covers
+  pub owners-changed : (count block system : ℕ → ℕ) (a c b x : ℕ) → a < A → owners A (changed count a c) (changed block a b) system x + covers (count a) (block a) x ≡ owners A count block system x + covers c b x
+  unfolding owners
+  owners-changed count block system a c b x l =
+      omega (
+        arith,
+        sum-update (λ i. covers (count i) (block i) x) (λ i. covers (changed count a c i) (changed block a b i) x) a A l
+            (λ j m e. rw (changed-other count a c j e, changed-other block a b j e)),
+        at-a,
+      )
+    where
+      at-a : covers (changed count a c a) (changed block a b a) x ≡ covers c b x
+      at-a = rw (changed-same count a c, changed-same block a b)
+
+  -- where every anode covers what it covered, nothing changes
+  pub own-same : (count block count′ block′ system : ℕ → ℕ) (n : ℕ) → ((a x : ℕ) → covers (count′ a) (block′ a) x ≡ covers (count a) (block a) x) → ((a : ℕ) → a < A → 0 < count′ a → block′ a + count′ a ≤ n) →
+      EachOnce count block system n → EachOnce count′ block′ system n
+  unfolding owners
+  own-same count block count′ block′ system n same f e = record {
+    not-two = λ x m. omega (arith, e .not-two x m, eq x);
+    not-none = λ x m. omega (arith, e .not-none x m, eq x);
+    fits = f;
+  }
+    where
+      eq : (x : ℕ) → owners A count′ block′ system x ≡ owners A count block system x
+      eq x = omega (arith, sum-congr (λ a. covers (count′ a) (block′ a) x) (λ a. covers (count a) (block a) x) A (λ a l. same a x))
+
+  module _ (count block system : ℕ → ℕ) (n a : ℕ) (l : a < A) where
+    -- every move: a is rewritten to (c, b), the system's blocks (the hand with them) change to system′, and the two changes make up for one another at every block
+    pub move : (c b : ℕ) (system′ : ℕ → ℕ) → ((x : ℕ) → system x + covers (count a) (block a) x ≡ system′ x + covers c b x) → (0 < c → b + c ≤ n) →
+        EachOnce count block system n → EachOnce (changed count a c) (changed block a b) system′ n
+    unfolding owners
+    move c b system′ same f e = record {
+      not-two = λ x m. omega (arith, e .not-two x m, owners-changed count block system′ a c b x l, same x);
+      not-none = λ x m. omega (arith, e .not-none x m, owners-changed count block system′ a c b x l, same x);
+      fits = fits′;
+    }
+      where
+        fits′ : (i : ℕ) → i < A → 0 < changed count a c i → changed block a b i + changed count a c i ≤ n
+        fits′ i m = elim (same? i a) [
+          | inl q ↦ rw (q, changed-same count a c, changed-same block a b) f
+          | inr q ↦ rw (changed-other count a c i q, changed-other block a b i q) (e .fits i m)
+        ]
+
+  -- two anodes own no block in common, and no anode owns one of the system's
+  pub disjoint : (count block system : ℕ → ℕ) (n : ℕ) → EachOnce count block system n → (a b y : ℕ) → a < A → b < A → a ≢ b → y < n → system y + covers (count a) (block a) y + covers (count b) (block b) y ≤ 1
+  unfolding owners
+  disjoint count block system n e a b y la lb ne l = omega (arith, e .not-two y l, sum-members (λ i. covers (count i) (block i) y) a b A la lb ne)

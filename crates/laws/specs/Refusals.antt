@@ -1,0 +1,99 @@
+-- What a refused take says: 27, no free block is left; 28, there is no anode to be had once the block is out of the free list.
+use Prim.Native.Nat.{ℕ, _+_, _*_, _<_}
+use mathlib.Core.Path.{_≡_, refl, sym, ap, _∙_}
+use mathlib.Core.Logic.{_≢_, _⊎_, inl, inr}
+use mathlib.Core.Bool.{Bool, true, false, not, _&&_}
+use mathlib.Core.List.{List, [], _∷_}
+use native.Mathlib.Omega.{arith}
+use lib.Dec.{T, eqb}
+use Rattle.rules.specs.Counting.{oneAt, times, lastOf}
+use Rattle.rules.specs.Anodes.{Anodes}
+use Rattle.rules.specs.Chains.{chainOf, cut, side}
+use Rattle.rules.specs.Space.{Plan, refused, planned, rewritten, insertedAfter, Found, nowhere, found, firstFull, free, lowestFree, append, growOrAppend, put, withoutFirst, takeFrom, takeSide, takeBlock}
+use Rattle.laws.specs.Tests.{same?, cond-cases}
+use Rattle.laws.specs.Sums.{oneAt-cases, sum-zero}
+use Rattle.laws.specs.Heads.{Head, head-of-is, on-own}
+use Rattle.laws.specs.Blocks.{blocks}
+use Rattle.laws.specs.Cut.{cut-other, cut-view, cut-linked}
+use Rattle.laws.specs.Space.{Good}
+use Rattle.laws.specs.Sides.{side-head}
+use Rattle.laws.specs.Searches.{firstFull-none}
+use Rattle.laws.specs.Arriving.{append-cases, refused≢planned}
+
+refused-same : (j k : ℕ) → refused j ≡ refused k → j ≡ k
+refused-same j k e = cc
+
+planned≢refused : (t : Anodes) (ys : List ℕ) (k : ℕ) → planned t ys ≡ refused k → ⊥
+planned≢refused t ys k e = refused≢planned k t ys (sym e)
+
+module _ (A : ℕ) (ex : ℕ → Bool) (last : ℕ) where
+  -- 28 and no other number, and then no anode is to be had
+  pub append-refused : (s : Anodes) (z y k : ℕ) → append A ex last s z y ≡ refused k → (k ≡ 28) × ((f : ℕ) → f < A → T (free A ex last s f) → ⊥)
+  append-refused s z y k e = elim (append-cases A ex last s z y) [
+    | inl c ↦ absurd (planned≢refused (insertedAfter s z (lowestFree A ex last s) 1 y) (y ∷ []) k (sym (c .2) ∙ e))
+    | inr c ↦ (refused-same k 28 (sym e ∙ c .0), c .1)
+  ]
+
+  pub put-refused : (own : Bool) (s : Anodes) (z y k : ℕ) → put A ex last own s z y ≡ refused k → (k ≡ 28) × ((f : ℕ) → f < A → T (free A ex last s f) → ⊥)
+  unfolding put growOrAppend
+  put-refused own s z y k e = elim (cond-cases (eqb (s .count z) 0) (planned (rewritten s z 1 y) (y ∷ [])) (growOrAppend A ex last own s z y)) [
+    | inl c ↦ absurd (planned≢refused (rewritten s z 1 y) (y ∷ []) k (sym (c .1) ∙ e))
+    | inr c ↦ elim (cond-cases (not own && eqb (s .block z + s .count z) y) (planned (rewritten s z (s .count z + 1) (s .block z)) (y ∷ [])) (append A ex last s z y)) [
+      | inl d ↦ absurd (planned≢refused (rewritten s z (s .count z + 1) (s .block z)) (y ∷ []) k (sym (d .1) ∙ sym (c .1) ∙ e))
+      | inr d ↦ append-refused s z y k (sym (d .1) ∙ sym (c .1) ∙ e)
+    ]
+  ]
+
+module _ {A : ℕ} {ex : ℕ → Bool} {n last : ℕ} {s : Anodes} {system hd sd : ℕ → ℕ} (g : Good A ex n last s system hd sd) where
+  -- an anode of 1's chain is on one of the two sides
+  pub on-side : (a : ℕ) → a ≢ 0 → s .block a ≢ 0 → hd a ≡ 1 → (sd a ≡ 1) ⊎ (sd a ≡ 2)
+  on-side a a0 u e = elim (same? (sd a) 2) [
+    | inl q ↦ inr q
+    | inr q ↦ inl (sym (g .heads .at-head (sd a) (record { pos = d .pos; in-use = d .in-use; no-pred = λ p i. d .no-pred p (cut-other (s .next) p (λ j. q (sym i ∙ j)) ∙ i) }))
+        ∙ sym (side-head g a a0 u) ∙ e)
+  ]
+    where
+      d : Head (cut (s .next)) (s .block) (sd a)
+      d = head-of-is (cut-view (g .view)) (cut-linked (g .linked)) sd (g .sides) a a0 u
+
+  -- no anode of either side has a block: the free chain has none
+  no-block : firstFull (s .count) 0 (side A s 1) ≡ nowhere → firstFull (s .count) 0 (side A s 2) ≡ nowhere → blocks A hd (s .count) 1 ≡ 0
+  unfolding blocks side
+  no-block e f = sum-zero (λ a. oneAt (hd a) 1 * s .count a) A (λ a l. elim (oneAt-cases (hd a) 1) [
+    | inr c ↦ rw (c .1) (omega arith)
+    | inl c ↦ rw (empty a (c .0)) (omega arith)
+  ])
+    where
+      on : (a m : ℕ) → a ≢ 0 → s .block a ≢ 0 → sd a ≡ m → 0 < times a (side A s m)
+      on a m a0 u q = rw (← q) (omega (arith, on-own (cut-view (g .view)) (cut-linked (g .linked)) sd (g .sides) a a0 u))
+
+      empty : (a : ℕ) → hd a ≡ 1 → s .count a ≡ 0
+      empty a q = elim (same? a 0) [
+        | inl i ↦ ap (s .count) i ∙ g .count-0
+        | inr i ↦ elim (same? (s .block a) 0) [
+          | inl u ↦ g .free-none a u
+          | inr u ↦ elim (on-side a i u q) [
+            | inl j ↦ firstFull-none (s .count) 0 (side A s 1) e a (on a 1 i u j)
+            | inr j ↦ firstFull-none (s .count) 0 (side A s 2) f a (on a 2 i u j)
+          ]
+        ]
+      ]
+
+  side-27 : (own : Bool) (h m : ℕ) (other : Plan) → takeSide A ex last own s h m other ≡ refused 27 → (firstFull (s .count) 0 (side A s m) ≡ nowhere) × (other ≡ refused 27)
+  unfolding takeSide takeFrom
+  side-27 own h m other e = go (firstFull (s .count) 0 (side A s m)) refl e
+    where
+      go : (c : Found) → firstFull (s .count) 0 (side A s m) ≡ c → elim c [ nowhere ↦ other | found p x ↦ takeFrom A ex last own s h p x ] ≡ refused 27 →
+          (firstFull (s .count) 0 (side A s m) ≡ nowhere) × (other ≡ refused 27)
+      go nowhere q e = (q, e)
+      go (found p x) q e = absurd (omega (arith, put-refused A ex last own (withoutFirst A ex last s p x) (lastOf h (chainOf (withoutFirst A ex last s p x .next) A h)) (s .block x) 27 e .0))
+
+  -- 27 only where no free block is left
+  pub take-27 : (own : Bool) (h : ℕ) → takeBlock A ex last own s h ≡ refused 27 → blocks A hd (s .count) 1 ≡ 0
+  unfolding takeBlock
+  take-27 true h e =
+      let a = side-27 true h 2 (takeSide A ex last true s h 1 (refused 27)) e in
+      let b = side-27 true h 1 (refused 27) (a .1) in no-block (b .0) (a .0)
+  take-27 false h e =
+      let a = side-27 false h 1 (takeSide A ex last false s h 2 (refused 27)) e in
+      let b = side-27 false h 2 (refused 27) (a .1) in no-block (a .0) (b .0)

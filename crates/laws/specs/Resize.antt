@@ -1,0 +1,118 @@
+-- A file resized: takes or gives, one block at a time, and its entry's new size.
+use Prim.Native.Nat.{ℕ, zero, suc, _+_, _*_, _≤_}
+use mathlib.Core.Path.{_≡_, refl, sym, ap, _∙_}
+use mathlib.Core.Logic.{_≢_}
+use mathlib.Core.Bool.{Bool}
+use mathlib.Core.List.{List, [], _++_, map}
+use native.Mathlib.Omega.{arith}
+use Rattle.rules.specs.Counting.{oneAt, sumList, times}
+use Rattle.rules.specs.Anodes.{limit, Anodes}
+use Rattle.rules.specs.Walk.{Dir, Entered, blocksFor, itemsBy}
+use Rattle.rules.specs.Space.{Plan, refused, planned, takeBlock, giveBack, after, takeMany, giveMany}
+use Rattle.laws.specs.Sums.{oneAt-same, oneAt-other}
+use Rattle.laws.specs.Bags.{times-nil, times-cons}
+use Rattle.laws.specs.Heads.{Head}
+use Rattle.laws.specs.Blocks.{blocks}
+use Rattle.laws.specs.Held.{held}
+use Rattle.laws.specs.Space.{Good}
+use Rattle.laws.specs.Moves.{Moved}
+use Rattle.laws.specs.Arriving.{refused≢planned, planned-same}
+use Rattle.laws.specs.Take.{take-good}
+use Rattle.laws.specs.Give.{give-good}
+use Rattle.laws.specs.Frame.{Shift, moved-stays, take-shift, give-shift, shift-trans}
+use Rattle.laws.specs.Totals.{file-size}
+use Rattle.laws.specs.Whole.{Whole, blocks-count, file-head, change-file}
+
+-- from s to t by steps on the chain of h, which now has so many blocks: those of ys have gone from one head's chain to another's, and other chains are the same
+module _ (A : ℕ) (ex : ℕ → Bool) (n last : ℕ) where
+  pub record Ran (s : Anodes) (system hd : ℕ → ℕ) (from to h size : ℕ) (ys : List ℕ) (t : Anodes) : Type 0 where
+    pub hd′ : ℕ → ℕ
+    pub sd′ : ℕ → ℕ
+    pub good : Good A ex n last t system hd′ sd′
+    pub shift : Shift s hd t hd′ h
+    pub has : blocks A hd′ (t .count) h ≡ size
+    pub passed : (m y : ℕ) → held A hd′ (t .count) (t .block) m y + oneAt from m * times y ys ≡ held A hd (s .count) (s .block) m y + oneAt to m * times y ys
+
+after-planned : (A : ℕ) (ex : ℕ → Bool) (last : ℕ) (ys : List ℕ) (p : Plan) (t : Anodes) (zs : List ℕ) → after A ex last ys p ≡ planned t zs → (xs : List ℕ) × (p ≡ planned t xs) × (zs ≡ ys ++ xs)
+unfolding after
+after-planned A ex last ys (refused k) t zs e = absurd (refused≢planned k t zs e)
+after-planned A ex last ys (planned r xs) t zs e = let q = planned-same r t (ys ++ xs) zs e in (xs, rw (q .0), q .1)
+
+module _ {A : ℕ} {ex : ℕ → Bool} {n last : ℕ} where
+  ran-none : {s : Anodes} {system hd sd : ℕ → ℕ} → Good A ex n last s system hd sd → (from to h : ℕ) → Ran A ex n last s system hd from to h (blocks A hd (s .count) h) [] s
+  ran-none {s} {system} {hd} {sd} g from to h = record {
+    hd′ = hd;
+    sd′ = sd;
+    good = g;
+    has = refl;
+    shift = record { stays = λ m d. d; no-new = λ m d. d; apart = λ a u q i. record { same-count = refl; same-block = refl; same-next = refl }; same-hd = λ a u q i. refl };
+    passed = λ m y. rw (times-nil y) (omega arith);
+  }
+
+  -- a step, and the steps after it
+  ran-after : {s r t : Anodes} {system hd : ℕ → ℕ} {from to h size : ℕ} {ys xs zs : List ℕ} → (w : Moved A ex n last s system hd from to ys r) → Shift s hd r (w .hd′) h →
+      Ran A ex n last r system (w .hd′) from to h size xs t → zs ≡ ys ++ xs → Ran A ex n last s system hd from to h size zs t
+  ran-after {from = from} {to = to} {xs = xs} {zs = zs} w a b e = record {
+    hd′ = b .hd′;
+    sd′ = b .sd′;
+    good = b .good;
+    has = b .has;
+    shift = shift-trans a (b .shift);
+    passed = λ m y. omega (arith, w .passed m y, b .passed m y, ap (λ (k : ℕ). oneAt from m * k) (all y), ap (λ (k : ℕ). oneAt to m * k) (all y));
+  }
+    where
+      all : (y : ℕ) → times y zs ≡ oneAt (w .block) y + times y xs
+      all y = ap (times y) (e ∙ ap (λ (l : List ℕ). l ++ xs) (w .handed)) ∙ times-cons y (w .block) xs
+
+  pub grow-ran : (k h : ℕ) → h ≢ 1 → (own : Bool) (t : Anodes) (zs : List ℕ) (s : Anodes) (system hd sd : ℕ → ℕ) → Good A ex n last s system hd sd → Head (s .next) (s .block) h →
+      takeMany A ex last own k s h ≡ planned t zs → Ran A ex n last s system hd 1 h h (blocks A hd (s .count) h + k) zs t
+  unfolding takeMany
+  grow-ran zero h h1 own t zs s system hd sd g d e =
+      let q = planned-same s t [] zs e in rw (← (q .0), q .1) (rw plus at (ran-none g 1 h h))
+    where
+      plus : blocks A hd (s .count) h ≡ blocks A hd (s .count) h + 0
+      plus = omega arith
+  grow-ran (suc k) h h1 own t zs s system hd sd g d e = go (takeBlock A ex last own s h) refl e (grow-ran k h h1 own t)
+    where
+      go : (p : Plan) → takeBlock A ex last own s h ≡ p → elim p [ refused i ↦ refused i | planned r ys ↦ after A ex last ys (takeMany A ex last own k r h) ] ≡ planned t zs →
+          ((zs : List ℕ) (s : Anodes) (system hd sd : ℕ → ℕ) → Good A ex n last s system hd sd → Head (s .next) (s .block) h → takeMany A ex last own k s h ≡ planned t zs →
+          Ran A ex n last s system hd 1 h h (blocks A hd (s .count) h + k) zs t) →
+          Ran A ex n last s system hd 1 h h (blocks A hd (s .count) h + suc k) zs t
+      go (refused i) q e rec = absurd (refused≢planned i t zs e)
+      go (planned r ys) q e rec =
+          let w = take-good g h d h1 own r ys q in
+          let f = after-planned A ex last ys (takeMany A ex last own k r h) t zs e in
+          let more : blocks A (w .hd′) (r .count) h + k ≡ blocks A hd (s .count) h + suc k = omega (arith, w .moved h, oneAt-same h h refl, oneAt-other 1 h (λ i. h1 (sym i))) in
+          ran-after w (take-shift g w) (rw more at (rec (f .0) r system (w .hd′) (w .sd′) (w .good) (moved-stays g w h d) (f .1))) (f .2)
+
+  pub shrink-ran : (k h : ℕ) → h ≢ 1 → (t : Anodes) (zs : List ℕ) (s : Anodes) (system hd sd : ℕ → ℕ) (size : ℕ) → blocks A hd (s .count) h ≡ size + k → Good A ex n last s system hd sd →
+      Head (s .next) (s .block) h → giveMany A ex last k s h ≡ planned t zs → Ran A ex n last s system hd h 1 h size zs t
+  unfolding giveMany
+  shrink-ran zero h h1 t zs s system hd sd size b g d e =
+      let q = planned-same s t [] zs e in rw (← (q .0), q .1) (rw plus at (ran-none g h 1 h))
+    where
+      plus : blocks A hd (s .count) h ≡ size
+      plus = omega arith
+  shrink-ran (suc k) h h1 t zs s system hd sd size b g d e = go (giveBack A ex last s h) refl e (shrink-ran k h h1 t)
+    where
+      go : (p : Plan) → giveBack A ex last s h ≡ p → elim p [ refused i ↦ refused i | planned r ys ↦ after A ex last ys (giveMany A ex last k r h) ] ≡ planned t zs →
+          ((zs : List ℕ) (s : Anodes) (system hd sd : ℕ → ℕ) (size : ℕ) → blocks A hd (s .count) h ≡ size + k → Good A ex n last s system hd sd → Head (s .next) (s .block) h →
+          giveMany A ex last k s h ≡ planned t zs → Ran A ex n last s system hd h 1 h size zs t) →
+          Ran A ex n last s system hd h 1 h size zs t
+      go (refused i) q e rec = absurd (refused≢planned i t zs e)
+      go (planned r ys) q e rec =
+          let w = give-good g h d h1 r ys q in
+          let f = after-planned A ex last ys (giveMany A ex last k r h) t zs e in
+          ran-after w (give-shift g w)
+          (rec (f .0) r system (w .hd′) (w .sd′) size (omega (arith, b, w .moved h, oneAt-same h h refl, oneAt-other 1 h (λ i. h1 (sym i)))) (w .good) (moved-stays g w h d) (f .1)) (f .2)
+
+-- a file resized leaves an accepted state: after the steps its chain has as many blocks as its entry's new size asks for
+pub resized : {ex : ℕ → Bool} {n last : ℕ} {s : Anodes} {system hd sd : ℕ → ℕ} {entries : ℕ → List Entered} {marked : Dir → ℕ → Bool} {dirs : List Dir} →
+    Whole ex n last s system hd sd entries marked dirs → (h : ℕ) → 1 ≤ sumList (λ d. sumList (file-size (λ x. oneAt x h)) (itemsBy entries marked s d)) dirs →
+    {from to size : ℕ} {ys : List ℕ} {t : Anodes} → (ran : Ran limit ex n last s system hd from to h size ys t) → (φ : Entered → Entered) (entries′ : ℕ → List Entered) (marked′ : Dir → ℕ → Bool) →
+    ((e : Entered) → (φ e .broken ≡ e .broken) × (φ e .dir ≡ e .dir) × (φ e .anode ≡ e .anode)) → ((e : Entered) → e .anode ≢ h → φ e .size ≡ e .size) →
+    ((e : Entered) → e .anode ≡ h → blocksFor (φ e .size) ≡ size) →
+    ((a : ℕ) → s .count a ≡ 1 → hd a ≢ 1 → hd a ≢ h → (entries′ (s .block a) ≡ map φ (entries (s .block a))) × ((d : Dir) → marked′ d (s .block a) ≡ marked d (s .block a))) →
+    Whole ex n last t system (ran .hd′) (ran .sd′) entries′ marked′ dirs
+resized w h file ran φ entries′ marked′ keeps other mine cont =
+    change-file w h file (ran .good) (ran .shift) φ entries′ marked′ keeps other (λ e i. sym (blocks-count (ran .good) h (ran .shift .stays h (file-head w h file .2))) ∙ ran .has ∙ sym (mine e i)) cont

@@ -1,0 +1,77 @@
+-- Walks along next, and the chains that they find.
+use Prim.Native.Nat.{ℕ, zero, suc, _+_, _≤_, _<_}
+use mathlib.Core.Path.{_≡_, refl, sym, _∙_}
+use mathlib.Core.Logic.{_≢_}
+use mathlib.Core.List.{List, [], _∷_, _++_}
+use native.Mathlib.Omega.{arith}
+use lib.ListN.{length}
+use Rattle.rules.specs.Counting.{times}
+use Rattle.rules.specs.Chains.{chainOf, followed}
+use Rattle.laws.specs.Sums.{oneAt-same, oneAt-other}
+use Rattle.laws.specs.Bags.{times-nil, times-cons}
+
+-- from a, following next, the anodes of l are met, none of them 0, and then z
+
+abbrev pub Seg : (ℕ → ℕ) → ℕ → List ℕ → ℕ → Type 0
+Seg next a [] z = a ≡ z
+Seg next a (b ∷ l) z = (a ≡ b) × (b ≢ 0) × Seg next (next b) l z
+
+-- and then 0
+abbrev pub Chain : (ℕ → ℕ) → ℕ → List ℕ → Type 0
+Chain next a l = Seg next a l 0
+
+-- ---- the walk with fuel and the chain
+
+pub followed-zero : (next : ℕ → ℕ) (k : ℕ) → next 0 ≡ 0 → followed next k 0 ≡ 0
+unfolding followed
+followed-zero next zero z = refl
+followed-zero next (suc k) z = rw z (followed-zero next k z)
+
+-- where the walk ends within k steps, `chainOf` with that fuel is the chain
+pub chainOf-is : (next : ℕ → ℕ) (k a : ℕ) → followed next k a ≡ 0 → Chain next a (chainOf next k a)
+unfolding followed chainOf
+chainOf-is next zero a h = h
+chainOf-is next (suc k) zero h = refl
+chainOf-is next (suc k) (suc a) h = (refl, (λ e. omega arith), chainOf-is next k (next (suc a)) h)
+
+-- a chain is what `chainOf` gives with fuel enough
+pub chain-is : (next : ℕ → ℕ) (k a : ℕ) (l : List ℕ) → Chain next a l → length l ≤ k → chainOf next k a ≡ l
+unfolding chainOf
+chain-is next zero a [] c h = refl
+chain-is next zero a (b ∷ l) c h = absurd (omega arith)
+chain-is next (suc k) zero [] c h = refl
+chain-is next (suc k) zero (b ∷ l) c h = absurd (c .1 (sym (c .0)))
+chain-is next (suc k) (suc a) [] c h = absurd (omega arith)
+chain-is next (suc k) (suc a) (b ∷ l) c h = rw (c .0, chain-is next k (next b) l (c .2) (omega arith))
+
+pub chain-ends : (next : ℕ → ℕ) (k a : ℕ) (l : List ℕ) → next 0 ≡ 0 → Chain next a l → length l ≤ k → followed next k a ≡ 0
+unfolding followed
+chain-ends next k a [] z c h = rw c (followed-zero next k z)
+chain-ends next zero a (b ∷ l) z c h = absurd (omega arith)
+chain-ends next (suc k) a (b ∷ l) z c h = rw (c .0) (chain-ends next k (next b) l z (c .2) (omega arith))
+
+-- there is one chain from a
+pub chain-one : (next : ℕ → ℕ) (a : ℕ) (l m : List ℕ) → Chain next a l → Chain next a m → l ≡ m
+chain-one next a l m c d =
+    sym (chain-is next (length l + length m) a l c (omega arith)) ∙ chain-is next (length l + length m) a m d (omega arith)
+
+-- ---- parts of a walk
+
+pub seg-append : (next : ℕ → ℕ) (a y z : ℕ) (l m : List ℕ) → Seg next a l y → Seg next y m z → Seg next a (l ++ m) z
+seg-append next a y z [] m c d = rw c d
+seg-append next a y z (b ∷ l) m c d = (c .0, c .1, seg-append next (next b) y z l m (c .2) d)
+
+pub seg-split : (next : ℕ → ℕ) (a z : ℕ) (l m : List ℕ) → Seg next a (l ++ m) z → (y : ℕ) × Seg next a l y × Seg next y m z
+seg-split next a z [] m c = (a, refl, c)
+seg-split next a z (b ∷ l) m c = let r = seg-split next (next b) z l m (c .2) in (r .0, (c .0, c .1, r .1), r .2)
+
+-- a walk whose anodes keep their next is unchanged
+pub seg-keep : (next next′ : ℕ → ℕ) (a z : ℕ) (l : List ℕ) → ((x : ℕ) → 0 < times x l → next′ x ≡ next x) → Seg next a l z → Seg next′ a l z
+seg-keep next next′ a z [] h c = c
+seg-keep next next′ a z (b ∷ l) h c =
+    (c .0, c .1, rw (h b (omega (arith, times-cons b b l, oneAt-same b b refl))) (seg-keep next next′ (next b) z l (λ x p. h x (omega (arith, times-cons x b l))) (c .2)))
+
+-- 0 stands in no walk
+pub seg-zero : (next : ℕ → ℕ) (a z : ℕ) (l : List ℕ) → Seg next a l z → times 0 l ≡ 0
+seg-zero next a z [] c = times-nil 0
+seg-zero next a z (b ∷ l) c = omega (arith, times-cons 0 b l, oneAt-other b 0 (c .1), seg-zero next (next b) z l (c .2))

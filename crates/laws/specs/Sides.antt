@@ -1,0 +1,51 @@
+-- The two sides of the free list in a good state.
+use Prim.Native.Nat.{ℕ, _<_}
+use mathlib.Core.Path.{_≡_, sym, ap, _∙_}
+use mathlib.Core.Logic.{_≢_, _⊎_, inl, inr}
+use mathlib.Core.Bool.{Bool}
+use Rattle.rules.specs.Counting.{times}
+use Rattle.rules.specs.Anodes.{Anodes}
+use Rattle.rules.specs.Chains.{cut, side}
+use Rattle.laws.specs.Segments.{Chain}
+use Rattle.laws.specs.Links.{View, Linked, the-chain}
+use Rattle.laws.specs.Heads.{Head, chain-ind, seg-head}
+use Rattle.laws.specs.Cut.{cut-cases, cut-view, cut-linked, cut-head, cut-head-2}
+use Rattle.laws.specs.Space.{Good, head-1}
+
+module _ {A : ℕ} {ex : ℕ → Bool} {n last : ℕ} {s : Anodes} {system hd sd : ℕ → ℕ} (g : Good A ex n last s system hd sd) where
+  cv : View A (cut (s .next)) (s .block)
+  cv = cut-view (g .view)
+
+  ck : Linked A (cut (s .next)) (s .block)
+  ck = cut-linked (g .linked)
+
+  pub head-of-1 : hd 1 ≡ 1
+  head-of-1 = g .heads .at-head 1 (head-1 g)
+
+  -- an anode has its side's head for head
+  pub side-head : (a : ℕ) → a ≢ 0 → s .block a ≢ 0 → hd a ≡ hd (sd a)
+  side-head = chain-ind cv ck (λ a. hd a ≡ hd (sd a))
+      (λ a d. ap hd (sym (g .sides .at-head a d)))
+      (λ a h q. elim (cut-cases (s .next) a) [
+        | inl c ↦ absurd (h (c .1))
+        | inr c ↦ ap hd (c .1) ∙ g .heads .along a (rw (c .1) at h) ∙ q ∙ ap hd (sym (g .sides .along a h))
+      ])
+
+  -- so one of another head is on no side of the free list
+  pub not-free : (a : ℕ) → hd a ≢ 1 → s .block a ≢ 0 → a ≢ 0 → (sd a ≢ 1) × (sd a ≢ 2)
+  not-free a h u a0 = (λ e. h (side-head a a0 u ∙ ap hd e ∙ head-of-1), λ e. h (side-head a a0 u ∙ ap hd e ∙ g .two-on))
+
+  -- the two sides
+  pub side-start : (m : ℕ) → (m ≡ 1) ⊎ (m ≡ 2) → Head (cut (s .next)) (s .block) m
+  side-start m (inl e) = rw e (cut-head (head-1 g))
+  side-start m (inr e) = rw e (cut-head-2 (s .next) (g .block-2))
+
+  pub side-chain : (m : ℕ) → (m ≡ 1) ⊎ (m ≡ 2) → Chain (cut (s .next)) m (side A s m)
+  unfolding side
+  side-chain m o = the-chain cv ck m (λ q. side-start m o .in-use)
+
+  pub side-sd : (m : ℕ) → (m ≡ 1) ⊎ (m ≡ 2) → (x : ℕ) → 0 < times x (side A s m) → sd x ≡ m
+  unfolding side
+  side-sd m o x c =
+      let d = side-start m o in
+      seg-head cv ck sd (g .sides) m 0 (side A s m) (the-chain cv ck m (λ q. d .in-use)) x c ∙ g .sides .at-head m d

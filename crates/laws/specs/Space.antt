@@ -1,0 +1,334 @@
+-- The accepted state of anodes and blocks, refusals 6 to 11, in the form to prove with, and the elementary changes that keep it.
+use Prim.Native.Nat.{ℕ, suc, _+_, _≤_, _<_}
+use mathlib.Core.Path.{_≡_, sym, ap, _∙_}
+use mathlib.Core.Logic.{_≢_, inl, inr}
+use mathlib.Core.Bool.{Bool}
+use native.Mathlib.Omega.{arith}
+use lib.Dec.{T, leb→le, le→leb}
+use Rattle.rules.specs.Counting.{times, changed}
+use Rattle.rules.specs.Anodes.{Anodes}
+use Rattle.rules.specs.Chains.{chainOf, covers, cut}
+use Rattle.rules.specs.Space.{rewritten, insertedAfter, unlinked, onChain, dropped}
+use Rattle.laws.specs.Tests.{same?, T-same}
+use Rattle.laws.specs.Sums.{oneAt-cases, oneAt-same, changed-cases, changed-same, changed-other}
+use Rattle.laws.specs.Ownership.{covers-none, EachOnce, own-same, move}
+use Rattle.laws.specs.Links.{View, Linked}
+use Rattle.laws.specs.Heads.{Head, Heads, times-on-chain}
+use Rattle.laws.specs.LinkChanges.{first, second, third, insertAfter, insertAfter-cases, unlink, unlink-cases, without, without-cases, insert-view, insert-linked, unlink-view, unlink-linked, head-view, head-linked, drop-view, drop-linked, same-use, use-same, rewrite-view, rewrite-linked}
+use Rattle.laws.specs.HeadChanges.{insert-heads, unlink-heads, fresh-heads, drop-heads, rewrite-heads}
+use Rattle.laws.specs.Cut.{cut-cases, cut-other, cut-view, cut-linked, cut-insertAfter, cut-unlink, cut-drop}
+
+-- the anode a reads the same in two states
+pub record Alike (s t : Anodes) (a : ℕ) : Type 0 where
+  pub same-count : t .count a ≡ s .count a
+  pub same-block : t .block a ≡ s .block a
+  pub same-next : t .next a ≡ s .next a
+
+pub alike-trans : {s t r : Anodes} {a : ℕ} → Alike s t a → Alike t r a → Alike s r a
+alike-trans e f = record { same-count = f .same-count ∙ e .same-count; same-block = f .same-block ∙ e .same-block; same-next = f .same-next ∙ e .same-next }
+
+-- A: how many anodes there may be; ex: those that exist; n: the disk's size; last: last reserved
+module _ (A : ℕ) (ex : ℕ → Bool) (n last : ℕ) where
+  -- hd is the table of heads, sd that of the sides
+  pub record Good (s : Anodes) (system hd sd : ℕ → ℕ) : Type 0 where
+    pub view : View A (s .next) (s .block)
+    pub linked : Linked A (s .next) (s .block)
+    pub exist : (a : ℕ) → s .block a ≢ 0 → T (ex a)
+    pub free-none : (a : ℕ) → s .block a ≡ 0 → s .count a ≡ 0
+    pub own : EachOnce A (s .count) (s .block) system n
+    pub count-0 : s .count 0 ≡ 0
+    pub block-0 : s .block 0 ≡ 65535
+    pub count-1 : s .count 1 ≡ 0
+    pub block-1 : s .block 1 ≡ 65535
+    pub block-2 : s .block 2 ≢ 0
+    pub block-5 : s .block 5 ≢ 0
+    pub first-1 : (p : ℕ) → s .next p ≢ 1
+    pub first-3 : (p : ℕ) → s .next p ≢ 3
+    pub first-4 : (p : ℕ) → s .next p ≢ 4
+    pub first-5 : (p : ℕ) → s .next p ≢ 5
+    pub heads : Heads (s .next) (s .block) hd
+    pub two-on : hd 2 ≡ 1
+    pub sides : Heads (cut (s .next)) (s .block) sd
+    pub high : (a : ℕ) → sd a ≡ 1 → 0 < s .count a → last < s .block a
+    pub low : (a : ℕ) → sd a ≡ 2 → 0 < s .count a → s .block a + s .count a ≤ suc last
+
+module _ {A : ℕ} {ex : ℕ → Bool} {n last : ℕ} {s : Anodes} {system hd sd : ℕ → ℕ} (g : Good A ex n last s system hd sd) where
+  pub head-1 : Head (s .next) (s .block) 1
+  head-1 = record { pos = omega arith; in-use = λ z. omega (arith, z, g .block-1); no-pred = g .first-1 }
+
+  pub head-5 : Head (s .next) (s .block) 5
+  head-5 = record { pos = omega arith; in-use = g .block-5; no-pred = g .first-5 }
+
+  -- an anode in use, neither 0 nor 1, is rewritten to (c, b)
+  module _ (x c b : ℕ) (system′ : ℕ → ℕ) (u : s .block x ≢ 0) (b0 : b ≢ 0) (x0 : x ≢ 0) (x1 : x ≢ 1)
+      (moved : (y : ℕ) → system y + covers (s .count x) (s .block x) y ≡ system′ y + covers c b y) (fits : 0 < c → b + c ≤ n)
+      (is-high : sd x ≡ 1 → 0 < c → last < b) (is-low : sd x ≡ 2 → 0 < c → b + c ≤ suc last) where
+    pub rewrite-good : Good A ex n last (rewritten s x c b) system′ hd sd
+    unfolding rewritten
+    rewrite-good = record {
+      view = rewrite-view (s .block) x b u b0 (g .view);
+      linked = rewrite-linked (s .block) x b u b0 (g .linked);
+      exist = λ a h. g .exist a (λ z. h (use-same (s .block) x b u b0 a z));
+      free-none = λ a h. elim (changed-cases (s .count) x c a) [
+        | inl e ↦ absurd (u (ap (s .block) (sym (e .0)) ∙ same-use (s .block) x b u b0 a h))
+        | inr e ↦ e .1 ∙ g .free-none a (same-use (s .block) x b u b0 a h)
+      ];
+      own = move A (s .count) (s .block) system n x (g .view .below x u) c b system′ moved fits (g .own);
+      count-0 = changed-other (s .count) x c 0 (λ q. x0 (sym q)) ∙ g .count-0;
+      block-0 = changed-other (s .block) x b 0 (λ q. x0 (sym q)) ∙ g .block-0;
+      count-1 = changed-other (s .count) x c 1 (λ q. x1 (sym q)) ∙ g .count-1;
+      block-1 = changed-other (s .block) x b 1 (λ q. x1 (sym q)) ∙ g .block-1;
+      block-2 = λ z. g .block-2 (same-use (s .block) x b u b0 2 z);
+      block-5 = λ z. g .block-5 (same-use (s .block) x b u b0 5 z);
+      first-1 = g .first-1;
+      first-3 = g .first-3;
+      first-4 = g .first-4;
+      first-5 = g .first-5;
+      heads = rewrite-heads (s .block) x b u b0 (g .heads);
+      two-on = g .two-on;
+      sides = rewrite-heads (s .block) x b u b0 (g .sides);
+      high = λ a q. elim (same? a x) [
+        | inl e ↦ rw (e, changed-same (s .count) x c, changed-same (s .block) x b) (is-high (ap sd (sym e) ∙ q))
+        | inr e ↦ rw (changed-other (s .count) x c a e, changed-other (s .block) x b a e) (g .high a q)
+      ];
+      low = λ a q. elim (same? a x) [
+        | inl e ↦ rw (e, changed-same (s .count) x c, changed-same (s .block) x b) (is-low (ap sd (sym e) ∙ q))
+        | inr e ↦ rw (changed-other (s .count) x c a e, changed-other (s .block) x b a e) (g .low a q)
+      ];
+    }
+
+  -- x, with no block and from 6 up, is unlinked after p and zeroed
+  module _ (p x : ℕ) (px : s .next p ≡ x) (x6 : 6 ≤ x) (none : s .count x ≡ 0) where
+    x0 : x ≢ 0
+    x0 = omega arith
+
+    pub unlink-good : Good A ex n last (unlinked s p x) system (changed hd x 0) (changed sd x 0)
+    unfolding unlinked unlink
+    unlink-good = record {
+      view = unlink-view (g .view) (g .linked) p x x0 px;
+      linked = unlink-linked (g .view) (g .linked) p x x0 px;
+      exist = λ a h. elim (changed-cases (s .block) x 0 a) [ inl e ↦ absurd (h (e .1)) | inr e ↦ g .exist a (rw (e .1) at h) ];
+      free-none = λ a h. elim (changed-cases (s .count) x 0 a) [ inl e ↦ e .1 | inr e ↦ e .1 ∙ g .free-none a (sym (changed-other (s .block) x 0 a (e .0)) ∙ h) ];
+      own = move A (s .count) (s .block) system n x (g .view .below x ux) 0 0 system
+          (λ y. rw none (omega (arith, covers-none (s .block x) y, covers-none 0 y))) (λ q. absurd (omega arith)) (g .own);
+      count-0 = other-count 0 (omega arith) ∙ g .count-0;
+      block-0 = other-block 0 (omega arith) ∙ g .block-0;
+      count-1 = other-count 1 (omega arith) ∙ g .count-1;
+      block-1 = other-block 1 (omega arith) ∙ g .block-1;
+      block-2 = rw (other-block 2 (omega arith)) (g .block-2);
+      block-5 = rw (other-block 5 (omega arith)) (g .block-5);
+      first-1 = first-of 1 (omega arith) (g .first-1);
+      first-3 = first-of 3 (omega arith) (g .first-3);
+      first-4 = first-of 4 (omega arith) (g .first-4);
+      first-5 = first-of 5 (omega arith) (g .first-5);
+      heads = unlink-heads (g .view) (g .linked) hd (g .heads) p x x0 px;
+      two-on = changed-other hd x 0 2 (omega arith) ∙ g .two-on;
+      sides = rw (cut-unlink (s .next) p x) at (unlink-heads (cut-view (g .view)) (cut-linked (g .linked)) sd (g .sides) p x x0 (cut-other (s .next) p (λ q. omega (arith, px, q)) ∙ px));
+      high = λ a q. elim (changed-cases sd x 0 a) [
+        | inl e ↦ absurd (omega (arith, q, e .1))
+        | inr e ↦ rw (other-count a (e .0), other-block a (e .0)) (g .high a (sym (e .1) ∙ q))
+      ];
+      low = λ a q. elim (changed-cases sd x 0 a) [
+        | inl e ↦ absurd (omega (arith, q, e .1))
+        | inr e ↦ rw (other-count a (e .0), other-block a (e .0)) (g .low a (sym (e .1) ∙ q))
+      ];
+    }
+      where
+        ux : s .block x ≢ 0
+        ux = rw px at (g .linked .closed p (λ z. x0 (sym px ∙ z)))
+
+        other-count : (a : ℕ) → a ≢ x → changed (s .count) x 0 a ≡ s .count a
+        other-count a h = changed-other (s .count) x 0 a h
+
+        other-block : (a : ℕ) → a ≢ x → changed (s .block) x 0 a ≡ s .block a
+        other-block a h = changed-other (s .block) x 0 a h
+
+        first-of : (m : ℕ) → m ≢ 0 → ((q : ℕ) → s .next q ≢ m) → (q : ℕ) → unlink (s .next) p x q ≢ m
+        first-of m m0 f q e = elim (unlink-cases (s .next) p x q) [
+          | first c ↦ m0 (sym e ∙ c .1)
+          | second c ↦ f x (sym (c .2) ∙ e)
+          | third c ↦ f q (sym (c .2) ∙ e)
+        ]
+
+  -- a fresh anode f is made (c, b) after p
+  module _ (p f c b : ℕ) (system′ : ℕ → ℕ) (p0 : p ≢ 0) (up : s .block p ≢ 0) (f6 : 6 ≤ f) (there : T (ex f)) (fA : f < A) (fresh : s .block f ≡ 0) (b0 : b ≢ 0)
+      (moved : (y : ℕ) → system y ≡ system′ y + covers c b y) (fits : 0 < c → b + c ≤ n)
+      (is-high : sd p ≡ 1 → 0 < c → last < b) (is-low : sd p ≡ 2 → 0 < c → b + c ≤ suc last) where
+    f0 : f ≢ 0
+    f0 = omega arith
+
+    pub insert-good : Good A ex n last (insertedAfter s p f c b) system′ (changed hd f (hd p)) (changed sd f (sd p))
+    unfolding insertedAfter insertAfter
+    insert-good = record {
+      view = insert-view (g .view) (g .linked) p f b p0 up f0 fresh fA b0;
+      linked = insert-linked (g .view) (g .linked) p f b p0 up f0 fresh fA b0;
+      exist = λ a h. elim (changed-cases (s .block) f b a) [ inl e ↦ rw (e .0) there | inr e ↦ g .exist a (rw (e .1) at h) ];
+      free-none = λ a h. elim (changed-cases (s .block) f b a) [ inl e ↦ absurd (b0 (sym (e .1) ∙ h)) | inr e ↦ other-count a (e .0) ∙ g .free-none a (sym (e .1) ∙ h) ];
+      own = move A (s .count) (s .block) system n f fA c b system′ (λ y. rw (g .free-none f fresh) (omega (arith, covers-none (s .block f) y, moved y))) fits (g .own);
+      count-0 = other-count 0 (omega arith) ∙ g .count-0;
+      block-0 = other-block 0 (omega arith) ∙ g .block-0;
+      count-1 = other-count 1 (omega arith) ∙ g .count-1;
+      block-1 = other-block 1 (omega arith) ∙ g .block-1;
+      block-2 = rw (other-block 2 (omega arith)) (g .block-2);
+      block-5 = rw (other-block 5 (omega arith)) (g .block-5);
+      first-1 = first-of 1 (omega arith) (g .first-1);
+      first-3 = first-of 3 (omega arith) (g .first-3);
+      first-4 = first-of 4 (omega arith) (g .first-4);
+      first-5 = first-of 5 (omega arith) (g .first-5);
+      heads = insert-heads (g .view) (g .linked) hd (g .heads) p f b p0 up f0 fresh fA b0;
+      two-on = changed-other hd f (hd p) 2 (omega arith) ∙ g .two-on;
+      sides = rw (cut-insertAfter (s .next) p f (omega arith)) at (insert-heads (cut-view (g .view)) (cut-linked (g .linked)) sd (g .sides) p f b p0 up f0 fresh fA b0);
+      high = λ a q. elim (changed-cases sd f (sd p) a) [
+        | inl e ↦ rw (e .0, changed-same (s .count) f c, changed-same (s .block) f b) (is-high (sym (e .1) ∙ q))
+        | inr e ↦ rw (other-count a (e .0), other-block a (e .0)) (g .high a (sym (e .1) ∙ q))
+      ];
+      low = λ a q. elim (changed-cases sd f (sd p) a) [
+        | inl e ↦ rw (e .0, changed-same (s .count) f c, changed-same (s .block) f b) (is-low (sym (e .1) ∙ q))
+        | inr e ↦ rw (other-count a (e .0), other-block a (e .0)) (g .low a (sym (e .1) ∙ q))
+      ];
+    }
+      where
+        other-count : (a : ℕ) → a ≢ f → changed (s .count) f c a ≡ s .count a
+        other-count a h = changed-other (s .count) f c a h
+
+        other-block : (a : ℕ) → a ≢ f → changed (s .block) f b a ≡ s .block a
+        other-block a h = changed-other (s .block) f b a h
+
+        first-of : (m : ℕ) → m < 6 → ((q : ℕ) → s .next q ≢ m) → (q : ℕ) → insertAfter (s .next) p f q ≢ m
+        first-of m l t q e = elim (insertAfter-cases (s .next) p f q) [
+          | first d ↦ omega (arith, d .1, e)
+          | second d ↦ t p (sym (d .2) ∙ e)
+          | third d ↦ t q (sym (d .2) ∙ e)
+        ]
+
+  -- a fresh anode f is made a head with no block
+  module _ (f b : ℕ) (f6 : 6 ≤ f) (there : T (ex f)) (fA : f < A) (fresh : s .block f ≡ 0) (b0 : b ≢ 0) where
+    pub head-good : Good A ex n last (rewritten s f 0 b) system (changed hd f f) (changed sd f f)
+    unfolding rewritten
+    head-good = record {
+      view = head-view (g .view) (g .linked) f b (omega arith) fresh fA b0;
+      linked = head-linked (g .view) (g .linked) f b (omega arith) fresh fA b0;
+      exist = λ a h. elim (changed-cases (s .block) f b a) [ inl e ↦ rw (e .0) there | inr e ↦ g .exist a (rw (e .1) at h) ];
+      free-none = λ a h. elim (changed-cases (s .count) f 0 a) [ inl e ↦ e .1 | inr e ↦ e .1 ∙ g .free-none a (sym (other-block a (e .0)) ∙ h) ];
+      own = move A (s .count) (s .block) system n f fA 0 b system (λ y. rw (g .free-none f fresh) (omega (arith, covers-none (s .block f) y, covers-none b y))) (λ q. absurd (omega arith)) (g .own);
+      count-0 = other-count 0 (omega arith) ∙ g .count-0;
+      block-0 = other-block 0 (omega arith) ∙ g .block-0;
+      count-1 = other-count 1 (omega arith) ∙ g .count-1;
+      block-1 = other-block 1 (omega arith) ∙ g .block-1;
+      block-2 = rw (other-block 2 (omega arith)) (g .block-2);
+      block-5 = rw (other-block 5 (omega arith)) (g .block-5);
+      first-1 = g .first-1;
+      first-3 = g .first-3;
+      first-4 = g .first-4;
+      first-5 = g .first-5;
+      heads = fresh-heads (g .view) (g .linked) hd (g .heads) f b (omega arith) fresh fA b0;
+      two-on = changed-other hd f f 2 (omega arith) ∙ g .two-on;
+      sides = fresh-heads (cut-view (g .view)) (cut-linked (g .linked)) sd (g .sides) f b (omega arith) fresh fA b0;
+      high = λ a q. elim (changed-cases sd f f a) [
+        | inl e ↦ absurd (omega (arith, q, e .1))
+        | inr e ↦ rw (other-count a (e .0), other-block a (e .0)) (g .high a (sym (e .1) ∙ q))
+      ];
+      low = λ a q. elim (changed-cases sd f f a) [
+        | inl e ↦ absurd (omega (arith, q, e .1))
+        | inr e ↦ rw (other-count a (e .0), other-block a (e .0)) (g .low a (sym (e .1) ∙ q))
+      ];
+    }
+      where
+        other-count : (a : ℕ) → a ≢ f → changed (s .count) f 0 a ≡ s .count a
+        other-count a h = changed-other (s .count) f 0 a h
+
+        other-block : (a : ℕ) → a ≢ f → changed (s .block) f b a ≡ s .block a
+        other-block a h = changed-other (s .block) f b a h
+
+  -- what stands on the chain of a head has it for head and is in use
+  pub on-chain : (m : ℕ) → Head (s .next) (s .block) m → (a : ℕ) → 0 < times a (chainOf (s .next) A m) → (hd a ≡ m) × (s .block a ≢ 0)
+  on-chain m d a p = elim (oneAt-cases (hd a) m) [
+    | inl e ↦ (e .0, λ z. d .pos (sym (e .0) ∙ g .heads .off a z))
+    | inr e ↦ absurd (omega (arith, p, times-on-chain (g .view) (g .linked) hd (g .heads) m d a, e .1))
+  ]
+
+  -- the chain of the head h, from 6 up and with no block, is dropped
+  module _ (h : ℕ) (h6 : 6 ≤ h) (d : Head (s .next) (s .block) h) (none : (a : ℕ) → hd a ≡ h → s .count a ≡ 0) where
+    abbrev dead : ℕ → Bool
+    dead = onChain A ex last s h
+
+    pub dead-head : (a : ℕ) → T (dead a) → hd a ≡ h
+    unfolding onChain
+    dead-head a t = on-chain h d a (leb→le 1 (times a (chainOf (s .next) A h)) t) .0
+
+    pub head-dead : (a : ℕ) → hd a ≡ h → T (dead a)
+    unfolding onChain
+    head-dead a e = le→leb 1 (times a (chainOf (s .next) A h)) (omega (arith, times-on-chain (g .view) (g .linked) hd (g .heads) h d a, oneAt-same (hd a) h e))
+
+    pub dead-along : (a : ℕ) → s .next a ≢ 0 → dead (s .next a) ≡ dead a
+    dead-along a n = T-same (dead (s .next a)) (dead a)
+        (λ t. head-dead a (sym (g .heads .along a n) ∙ dead-head (s .next a) t))
+        (λ t. head-dead (s .next a) (g .heads .along a n ∙ dead-head a t))
+
+    pub drop-good : Good A ex n last (dropped A ex last s h) system (without dead hd) (without dead sd)
+    unfolding dropped without
+    drop-good = record {
+      view = drop-view (g .view) (g .linked) dead dead-along;
+      linked = drop-linked (g .view) (g .linked) dead dead-along;
+      exist = λ a q. elim (without-cases dead (s .block) a) [ inl e ↦ absurd (q (e .1)) | inr e ↦ g .exist a (rw (e .1) at q) ];
+      free-none = λ a q. elim (without-cases dead (s .count) a) [
+        | inl e ↦ e .1
+        | inr e ↦ e .1 ∙ g .free-none a (sym (alive (s .block) a (e .0)) ∙ q)
+      ];
+      own = own-same A (s .count) (s .block) (without dead (s .count)) (without dead (s .block)) system n covered
+          (λ a l. elim (without-cases dead (s .count) a) [
+            | inl e ↦ rw (e .1) (λ q. absurd (omega arith))
+            | inr e ↦ rw (e .1, alive (s .block) a (e .0)) (g .own .fits a l)
+          ]) (g .own);
+      count-0 = alive (s .count) 0 dead-0 ∙ g .count-0;
+      block-0 = alive (s .block) 0 dead-0 ∙ g .block-0;
+      count-1 = alive (s .count) 1 dead-1 ∙ g .count-1;
+      block-1 = alive (s .block) 1 dead-1 ∙ g .block-1;
+      block-2 = rw (alive (s .block) 2 dead-2) (g .block-2);
+      block-5 = rw (alive (s .block) 5 dead-5) (g .block-5);
+      first-1 = first-of 1 (omega arith) (g .first-1);
+      first-3 = first-of 3 (omega arith) (g .first-3);
+      first-4 = first-of 4 (omega arith) (g .first-4);
+      first-5 = first-of 5 (omega arith) (g .first-5);
+      heads = drop-heads (g .view) (g .linked) hd (g .heads) dead dead-along;
+      two-on = alive hd 2 dead-2 ∙ g .two-on;
+      sides = rw (cut-drop (s .next) dead) at (drop-heads (cut-view (g .view)) (cut-linked (g .linked)) sd (g .sides) dead cut-along);
+      high = λ a q. elim (without-cases dead sd a) [
+        | inl e ↦ absurd (omega (arith, q, e .1))
+        | inr e ↦ rw (alive (s .count) a (e .0), alive (s .block) a (e .0)) (g .high a (sym (e .1) ∙ q))
+      ];
+      low = λ a q. elim (without-cases dead sd a) [
+        | inl e ↦ absurd (omega (arith, q, e .1))
+        | inr e ↦ rw (alive (s .count) a (e .0), alive (s .block) a (e .0)) (g .low a (sym (e .1) ∙ q))
+      ];
+    }
+      where
+        cut-along : (a : ℕ) → cut (s .next) a ≢ 0 → dead (cut (s .next) a) ≡ dead a
+        cut-along a q = elim (cut-cases (s .next) a) [ inl c ↦ absurd (q (c .1)) | inr c ↦ rw (c .1) (dead-along a (rw (c .1) at q)) ]
+
+        alive : (F : ℕ → ℕ) (a : ℕ) → (T (dead a) → ⊥) → without dead F a ≡ F a
+        alive F a q = elim (without-cases dead F a) [ inl e ↦ absurd (q (e .0)) | inr e ↦ e .1 ]
+
+        live : (a m : ℕ) → hd a ≡ m → m < 6 → T (dead a) → ⊥
+        live a m e l t = omega (arith, dead-head a t)
+
+        dead-0 : T (dead 0) → ⊥
+        dead-0 = live 0 0 (g .heads .off-zero) (omega arith)
+
+        dead-1 : T (dead 1) → ⊥
+        dead-1 = live 1 1 (g .heads .at-head 1 head-1) (omega arith)
+
+        dead-2 : T (dead 2) → ⊥
+        dead-2 = live 2 1 (g .two-on) (omega arith)
+
+        dead-5 : T (dead 5) → ⊥
+        dead-5 = live 5 5 (g .heads .at-head 5 head-5) (omega arith)
+
+        covered : (a y : ℕ) → covers (without dead (s .count) a) (without dead (s .block) a) y ≡ covers (s .count a) (s .block a) y
+        covered a y = elim (without-cases dead (s .count) a) [
+          | inl e ↦ rw (e .1, none a (dead-head a (e .0))) (covers-none (without dead (s .block) a) y ∙ sym (covers-none (s .block a) y))
+          | inr e ↦ rw (e .1, alive (s .block) a (e .0))
+        ]
+
+        first-of : (m : ℕ) → m ≢ 0 → ((q : ℕ) → s .next q ≢ m) → (q : ℕ) → without dead (s .next) q ≢ m
+        first-of m m0 t q e = elim (without-cases dead (s .next) q) [ inl c ↦ m0 (sym e ∙ c .1) | inr c ↦ t q (sym (c .1) ∙ e) ]

@@ -1,0 +1,85 @@
+-- Cases on numbers, and what Boolean tests say.
+use Prim.Native.Nat.{ℕ, zero, suc, _≤_, _<_}
+use mathlib.Core.Path.{_≡_, refl}
+use mathlib.Core.Logic.{_≢_, _⊎_, inl, inr}
+use mathlib.Core.Bool.{Bool, true, false, cond, _&&_, _||_}
+use native.Mathlib.Omega.{arith}
+use native.Mathlib.Decide.{ℕ-discrete, decLt}
+use lib.Dec.{T, eqb, leb, eqb→eq, eqb-refl, le→leb}
+use Rattle.rules.specs.Counting.{_if_else_, anyBelow}
+
+pub same? : (a b : ℕ) → (a ≡ b) ⊎ (a ≢ b)
+same? a b = elim (ℕ-discrete a b) [ yes e ↦ inl e | no e ↦ inr e ]
+
+pub less? : (a b : ℕ) → (a < b) ⊎ (b ≤ a)
+less? a b = elim (decLt a b) [ yes e ↦ inl e | no e ↦ inr (omega arith) ]
+
+pub cond-cases {ℓ} : {A : Type ℓ} (t : Bool) (x y : A) → (T t × (cond t x y ≡ x)) ⊎ ((T t → ⊥) × (cond t x y ≡ y))
+cond-cases true x y = inl (tt, refl)
+cond-cases false x y = inr ((λ h. h), refl)
+
+pub if-cases : (n : ℕ) (t : Bool) (r : ℕ) → (T t × ((n if t else r) ≡ n)) ⊎ ((T t → ⊥) × ((n if t else r) ≡ r))
+if-cases n true r = inl (tt, refl)
+if-cases n false r = inr ((λ h. h), refl)
+
+pub T-true : (t : Bool) → T t → t ≡ true
+T-true true h = refl
+T-true false h = absurd h
+
+pub T-false : (t : Bool) → (T t → ⊥) → t ≡ false
+T-false true h = absurd (h tt)
+T-false false h = refl
+
+pub T-same : (s t : Bool) → (T s → T t) → (T t → T s) → s ≡ t
+T-same true t f g = rw (T-true t (f tt))
+T-same false t f g = rw (T-false t g)
+
+pub eq→eqb : (a b : ℕ) → a ≡ b → T (eqb a b)
+eq→eqb a b e = rw (← e) (eqb-refl a)
+
+pub eqb-true : (a b : ℕ) → a ≡ b → eqb a b ≡ true
+eqb-true a b e = T-true (eqb a b) (eq→eqb a b e)
+
+pub eqb-false : (a b : ℕ) → a ≢ b → eqb a b ≡ false
+eqb-false a b h = T-false (eqb a b) (λ t. h (eqb→eq a b t))
+
+pub leb-true : (a b : ℕ) → a ≤ b → leb a b ≡ true
+leb-true a b l = T-true (leb a b) (le→leb a b l)
+
+pub both : (a b : Bool) → T (a && b) → T a × T b
+both true b h = (tt, h)
+both false b h = absurd h
+
+pub and : (a b : Bool) → T a → T b → T (a && b)
+and true b p q = q
+and false b p q = p
+
+pub either : (a b : Bool) → T (a || b) → T a ⊎ T b
+either true b h = inl tt
+either false b h = inr h
+
+pub or-left : (a b : Bool) → T a → T (a || b)
+or-left true b h = tt
+or-left false b h = absurd h
+
+pub or-right : (a b : Bool) → T b → T (a || b)
+or-right true b h = tt
+or-right false b h = h
+
+pub any-some : (t : ℕ → Bool) (k : ℕ) → T (anyBelow t k) → (i : ℕ) × (i < k) × T (t i)
+unfolding anyBelow
+any-some t zero h = absurd h
+any-some t (suc k) h = go (any-some t k) (either (anyBelow t k) (t k) h)
+  where
+    go : (T (anyBelow t k) → (i : ℕ) × (i < k) × T (t i)) → T (anyBelow t k) ⊎ T (t k) → (i : ℕ) × (i < suc k) × T (t i)
+    go r (inl h) = let s = r h in (s .0, omega arith, s .2)
+    go r (inr h) = (k, omega arith, h)
+
+pub some-any : (t : ℕ → Bool) (k : ℕ) (i : ℕ) → i < k → T (t i) → T (anyBelow t k)
+unfolding anyBelow
+some-any t zero i l h = absurd (omega arith)
+some-any t (suc k) i l h = go (some-any t k i) (same? i k)
+  where
+    go : (i < k → T (t i) → T (anyBelow t k)) → (i ≡ k) ⊎ (i ≢ k) → T (anyBelow t k || t k)
+    go r (inl e) = or-right (anyBelow t k) (t k) (rw e at h)
+    go r (inr e) = or-left (anyBelow t k) (t k) (r (omega arith) h)

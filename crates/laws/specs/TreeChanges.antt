@@ -1,0 +1,283 @@
+-- The tree when a directory gains or loses an item, or its items change their faults alone.
+use Prim.Native.Nat.{ℕ, suc, _+_, _*_, _≤_, _<_}
+use mathlib.Core.Path.{_≡_, refl, sym, ap, _∙_}
+use mathlib.Core.Logic.{_≢_, _⊎_, inl, inr}
+use mathlib.Core.Bool.{Bool, true, false, cond}
+use mathlib.Core.List.{List, [], _∷_, _++_}
+use native.Mathlib.Omega.{arith}
+use Rattle.rules.specs.Counting.{oneAt, sumList, times, changed}
+use Rattle.rules.specs.Walk.{Dir, Item}
+use Rattle.laws.specs.Sums.{oneAt-cases, oneAt-same, oneAt-other, oneBelow, oneBelow-cases, oneBelow-suc, changed-same, changed-other}
+use Rattle.laws.specs.Bags.{list-nil, list-cons, list-append, list-add, list-mono, list-congr-where, list-zero}
+use Rattle.laws.specs.Each.{Each, each-map, each-both, each-right, list-congr-each, list-mono-each, each-zero}
+use Rattle.laws.specs.Items.{wrong, weighItem, names, names-sum, giving, subs, below, namedIn, faults, below-items, subs-named}
+use Rattle.laws.specs.Trees.{not-lower, lowering, Tree}
+
+not-lower-is : (height : ℕ → ℕ) (m : ℕ) (e : Dir) → not-lower height m e ≡ oneBelow m (suc (height (e .head)))
+unfolding not-lower
+not-lower-is height m e = refl
+
+never : (a : ℕ) → oneBelow a 0 ≡ 0
+never a = elim (oneBelow-cases a 0) [ inl c ↦ absurd (omega arith) | inr c ↦ c .1 ]
+
+-- how many have the head h
+unfoldable pub headed : ℕ → List Dir → ℕ
+headed h l = sumList (λ d. oneAt (d .head) h) l
+
+pub none-headed : (h : ℕ) (l : List Dir) → sumList (λ d. oneAt (d .head) h) l ≡ 0 → Each (λ d. d .head ≢ h) l
+none-headed h l z = each-map (λ d. oneAt (d .head) h ≡ 0) (λ d. d .head ≢ h) l (λ d y e. omega (arith, y, oneAt-same (d .head) h e)) (each-zero (λ d. oneAt (d .head) h) l z)
+
+list-gain : (w u : Dir → ℕ) (h c : ℕ) (l : List Dir) → Each (λ d. u d ≡ w d + oneAt (d .head) h * c) l → sumList u l ≡ sumList w l + headed h l * c
+unfolding sumList headed
+list-gain w u h c [] e = omega arith
+list-gain w u h c (d ∷ l) e = omega (arith, list-gain w u h c l (e .1), e .0)
+
+-- under items′ the directory d has what it had, places aside, and i too if its head is h
+abbrev pub Gain : (Dir → List Item) → (Dir → List Item) → ℕ → Item → Dir → Type 0
+Gain items items′ h i d = (w : ℕ → Bool → ℕ → ℕ) → sumList (weighItem w) (items′ d) ≡ sumList (weighItem w) (items d) + oneAt (d .head) h * weighItem w i
+
+module _ (items items′ : Dir → List Item) (h : ℕ) (i : Item) where
+  gain-below : (w : Dir → ℕ) (d : Dir) → Gain items items′ h i d → below items′ w d ≡ below items w d + oneAt (d .head) h * giving w h i
+  gain-below w d g =
+      below-items items′ w d ∙ g (λ f b a. cond b (w (record { head = a; parent = d .head })) 0) ∙ omega (arith, below-items items w d, at-h)
+    where
+      at-h : oneAt (d .head) h * giving w (d .head) i ≡ oneAt (d .head) h * giving w h i
+      at-h = elim (oneAt-cases (d .head) h) [
+        | inl e ↦ ap (λ (k : ℕ). oneAt (d .head) h * giving w k i) (e .0)
+        | inr e ↦ rw (e .1) (omega arith)
+      ]
+
+  gain-named : (x : ℕ) (d : Dir) → Gain items items′ h i d → namedIn items′ x d ≡ namedIn items x d + oneAt (d .head) h * oneAt (i .anode) x
+  gain-named x d g = omega (arith, names-sum x (items′ d), names-sum x (items d), g (λ f b a. oneAt a x))
+
+  module _ (dirs : List Dir) (once : headed h dirs ≡ 1) (gains : Each (Gain items items′ h i) dirs) where
+    pub sum-below : (w : Dir → ℕ) → sumList (below items′ w) dirs ≡ sumList (below items w) dirs + giving w h i
+    sum-below w = omega (
+      arith,
+      list-gain (below items w) (below items′ w) h (giving w h i) dirs
+          (each-map (Gain items items′ h i) (λ d. below items′ w d ≡ below items w d + oneAt (d .head) h * giving w h i) dirs (λ d g. gain-below w d g) gains),
+      ap (λ (n : ℕ). n * giving w h i) once,
+    )
+
+    pub sum-named : (x : ℕ) → sumList (namedIn items′ x) dirs ≡ sumList (namedIn items x) dirs + oneAt (i .anode) x
+    sum-named x = omega (
+      arith,
+      list-gain (namedIn items x) (namedIn items′ x) h (oneAt (i .anode) x) dirs
+          (each-map (Gain items items′ h i) (λ d. namedIn items′ x d ≡ namedIn items x d + oneAt (d .head) h * oneAt (i .anode) x) dirs (λ d g. gain-named x d g) gains),
+      ap (λ (n : ℕ). n * oneAt (i .anode) x) once,
+    )
+
+    pub sum-faults : sumList (faults items′) dirs ≡ sumList (faults items) dirs + wrong i
+    sum-faults = omega (
+      arith,
+      list-gain (faults items) (faults items′) h (wrong i) dirs
+          (each-map (Gain items items′ h i) (λ d. faults items′ d ≡ faults items d + oneAt (d .head) h * wrong i) dirs (λ d g. g (λ f b a. f)) gains),
+      ap (λ (n : ℕ). n * wrong i) once,
+    )
+
+    module _ (top : Dir) where
+      once-named : Tree items top dirs → sumList (namedIn items (i .anode)) dirs ≡ 0 → (x : ℕ) → sumList (namedIn items′ x) dirs ≤ 1
+      once-named t free x = elim (oneAt-cases (i .anode) x) [
+        | inl c ↦ omega (arith, sum-named x, free, ap (λ (y : ℕ). sumList (namedIn items y) dirs) (c .0))
+        | inr c ↦ omega (arith, sum-named x, t .once x)
+      ]
+
+      -- a directory gains a file
+      pub add-file : Tree items top dirs → i .dir ≡ false → wrong i ≡ 0 → sumList (namedIn items (i .anode)) dirs ≡ 0 → Tree items′ top dirs
+      add-file t file fine free = record {
+        exact = λ w. omega (arith, t .exact w, sum-below w, no-dir w);
+        faultless = omega (arith, sum-faults, t .faultless);
+        once = once-named t free;
+        height = t .height;
+        lower = list-congr-each (lowering items′ (t .height)) (lowering items (t .height)) dirs
+            (each-map (Gain items items′ h i) (λ d. lowering items′ (t .height) d ≡ lowering items (t .height) d) dirs
+            (λ d g. gain-below (not-lower (t .height) (t .height (d .head))) d g ∙ rw (no-dir (not-lower (t .height) (t .height (d .head)))) (omega arith)) gains)
+            ∙ t .lower;
+      }
+        where
+          no-dir : (w : Dir → ℕ) → giving w h i ≡ 0
+          no-dir w = rw file
+
+      -- a directory gains a directory with nothing in it
+      pub add-dir : Tree items top dirs → i .dir ≡ true → wrong i ≡ 0 → sumList (namedIn items (i .anode)) dirs ≡ 0 → i .anode ≢ top .head →
+          items′ (record { head = i .anode; parent = h }) ≡ [] → Tree items′ top (record { head = i .anode; parent = h } ∷ dirs)
+      add-dir t isdir fine free other empty = record {
+        exact = λ w. omega (arith, t .exact w, sum-below w, the-dir w, list-cons w e dirs, list-cons (below items′ w) e dirs, below-e w);
+        faultless = omega (arith, sum-faults, t .faultless, list-cons (faults items′) e dirs, ap (sumList wrong) empty, list-nil wrong);
+        once = λ x. omega (arith, once-named t free x, list-cons (namedIn items′ x) e dirs, ap (λ (l : List Item). times x (names l)) empty, names-sum x [], list-nil {X = Item} (λ j. oneAt (j .anode) x));
+        height = ht;
+        lower = omega (
+          arith,
+          list-cons (lowering items′ ht) e dirs,
+          below-e (not-lower ht (ht (e .head))),
+          list-congr-each (lowering items′ ht) (lowering items (t .height)) dirs
+              (each-both (λ d. here d + below items here d ≡ 0) (Gain items items′ h i) (λ d. lowering items′ ht d ≡ lowering items (t .height) d) dirs low (each-zero (λ d. here d + below items here d) dirs guards) gains),
+          t .lower,
+        );
+      }
+        where
+          e : Dir
+          e = record { head = i .anode; parent = h }
+
+          the-dir : (w : Dir → ℕ) → giving w h i ≡ w e
+          the-dir w = rw isdir
+
+          below-e : (w : Dir → ℕ) → below items′ w e ≡ 0
+          below-e w = below-items items′ w e ∙ ap (sumList (giving w (i .anode))) empty ∙ list-nil (giving w (i .anode))
+
+          ht : ℕ → ℕ
+          ht = changed (λ x. suc (t .height x)) (i .anode) 0
+
+          here : Dir → ℕ
+          here d = oneAt (d .head) (i .anode)
+
+          -- the new directory's head is no directory's of the tree
+          below-none : sumList (below items here) dirs ≡ 0
+          below-none = omega (arith, list-mono (below items here) (namedIn items (i .anode)) dirs (λ d. subs-named items (i .anode) d), free)
+
+          guards : sumList (λ d. here d + below items here d) dirs ≡ 0
+          guards = omega (arith, list-add here (below items here) dirs, t .exact here, below-none, oneAt-other (top .head) (i .anode) (λ q. other (sym q)))
+
+          away : (d : Dir) → here d ≡ 0 → d .head ≢ i .anode
+          away d g q = omega (arith, g, oneAt-same (d .head) (i .anode) q)
+
+          ht-other : (d : Dir) → here d ≡ 0 → ht (d .head) ≡ suc (t .height (d .head))
+          ht-other d g = changed-other (λ x. suc (t .height x)) (i .anode) 0 (d .head) (away d g)
+
+          low : (d : Dir) → here d + below items here d ≡ 0 → Gain items items′ h i d → lowering items′ ht d ≡ lowering items (t .height) d
+          low d z g =
+              gain-below (not-lower ht (ht (d .head))) d g
+              ∙ omega (arith, product, list-congr-where here (not-lower ht (ht (d .head))) (not-lower (t .height) (t .height (d .head))) (subs items d) (omega arith) shifted)
+            where
+              product : oneAt (d .head) h * giving (not-lower ht (ht (d .head))) h i ≡ 0
+              product = rw (
+                the-dir (not-lower ht (ht (d .head))),
+                not-lower-is ht (ht (d .head)) e,
+                ht-other d (omega arith),
+                changed-same (λ x. suc (t .height x)) (i .anode) 0,
+                oneBelow-suc (t .height (d .head)) 0,
+                never (t .height (d .head)),
+              ) (omega arith)
+
+              shifted : (c : Dir) → here c ≡ 0 → not-lower ht (ht (d .head)) c ≡ not-lower (t .height) (t .height (d .head)) c
+              shifted c y = rw (not-lower-is ht (ht (d .head)) c, not-lower-is (t .height) (t .height (d .head)) c, ht-other d (omega arith), ht-other c y)
+                  (oneBelow-suc (t .height (d .head)) (suc (t .height (c .head))))
+
+-- ---- a directory loses an item: under read it has what it has under read′, and i too
+
+-- a member of a list, and the list parted there
+pub find-dir : (x p : ℕ) (l : List Dir) → 0 < sumList (λ d. oneAt (d .head) x * oneAt (d .parent) p) l →
+    (l₁ : List Dir) × (l₂ : List Dir) × (l ≡ l₁ ++ (record { head = x; parent = p } ∷ l₂))
+find-dir x p [] h = absurd (omega (arith, list-nil {X = Dir} (λ d. oneAt (d .head) x * oneAt (d .parent) p)))
+find-dir x p (d ∷ l) h = go (oneAt-cases (d .head) x) (oneAt-cases (d .parent) p) (find-dir x p l)
+  where
+    tail : oneAt (d .head) x * oneAt (d .parent) p ≡ 0 → 0 < sumList (λ d. oneAt (d .head) x * oneAt (d .parent) p) l
+    tail z = omega (arith, list-cons {X = Dir} (λ d. oneAt (d .head) x * oneAt (d .parent) p) d l)
+
+    later : (l₁ : List Dir) × (l₂ : List Dir) × (l ≡ l₁ ++ (record { head = x; parent = p } ∷ l₂)) →
+        (l₁ : List Dir) × (l₂ : List Dir) × (d ∷ l ≡ l₁ ++ (record { head = x; parent = p } ∷ l₂))
+    later s = (d ∷ s .0, s .1, ap (λ (m : List Dir). d ∷ m) (s .2))
+
+    go : ((d .head ≡ x) × (oneAt (d .head) x ≡ 1)) ⊎ ((d .head ≢ x) × (oneAt (d .head) x ≡ 0)) →
+        ((d .parent ≡ p) × (oneAt (d .parent) p ≡ 1)) ⊎ ((d .parent ≢ p) × (oneAt (d .parent) p ≡ 0)) →
+        (0 < sumList (λ d. oneAt (d .head) x * oneAt (d .parent) p) l → (l₁ : List Dir) × (l₂ : List Dir) × (l ≡ l₁ ++ (record { head = x; parent = p } ∷ l₂))) →
+        (l₁ : List Dir) × (l₂ : List Dir) × (d ∷ l ≡ l₁ ++ (record { head = x; parent = p } ∷ l₂))
+    go (inl a) (inl b) r = ([], l, ap (λ (e : Dir). e ∷ l) (λ j. record { head = a .0 j; parent = b .0 j }))
+    go (inl a) (inr b) r = later (r (tail (rw (b .1) (omega arith))))
+    go (inr a) b r = later (r (tail (rw (a .1) (omega arith))))
+
+module _ (items items′ : Dir → List Item) (h : ℕ) (i : Item) (top : Dir) where
+  -- what the item names is in the tree
+  pub dir-there : (dirs : List Dir) → headed h dirs ≡ 1 → Each (Gain items′ items h i) dirs → Tree items top dirs → i .dir ≡ true →
+      (l₁ : List Dir) × (l₂ : List Dir) × (dirs ≡ l₁ ++ (record { head = i .anode; parent = h } ∷ l₂))
+  dir-there dirs one gains t isdir =
+      find-dir (i .anode) h dirs (omega (arith, t .exact w, sum-below items′ items h i dirs one gains w, given))
+    where
+      w : Dir → ℕ
+      w d = oneAt (d .head) (i .anode) * oneAt (d .parent) h
+
+      given : giving w h i ≡ 1
+      given = rw (isdir, oneAt-same (i .anode) (i .anode) refl, oneAt-same h h refl) (omega arith)
+
+  -- under read′ nothing has more below it
+  less-below : (w : Dir → ℕ) (d : Dir) → Gain items′ items h i d → below items′ w d ≤ below items w d
+  less-below w d g = omega (arith, gain-below items′ items h i w d g)
+
+  pub remove-file : (dirs : List Dir) → headed h dirs ≡ 1 → Each (Gain items′ items h i) dirs → Tree items top dirs → i .dir ≡ false → Tree items′ top dirs
+  remove-file dirs one gains t file = record {
+    exact = λ w. omega (arith, t .exact w, sum-below items′ items h i dirs one gains w, no-dir w);
+    faultless = omega (arith, t .faultless, sum-faults items′ items h i dirs one gains);
+    once = λ x. omega (arith, t .once x, sum-named items′ items h i dirs one gains x);
+    height = t .height;
+    lower = omega (
+      arith,
+      t .lower,
+      list-mono-each (lowering items′ (t .height)) (lowering items (t .height)) dirs
+          (each-map (Gain items′ items h i) (λ d. lowering items′ (t .height) d ≤ lowering items (t .height) d) dirs (λ d g. less-below (not-lower (t .height) (t .height (d .head))) d g) gains),
+    );
+  }
+    where
+      no-dir : (w : Dir → ℕ) → giving w h i ≡ 0
+      no-dir w = rw file
+
+  -- a directory with nothing in it goes, with the item that names it
+  pub remove-dir : (l₁ l₂ : List Dir) → headed h (l₁ ++ (record { head = i .anode; parent = h } ∷ l₂)) ≡ 1 →
+      Each (Gain items′ items h i) (l₁ ++ (record { head = i .anode; parent = h } ∷ l₂)) → Tree items top (l₁ ++ (record { head = i .anode; parent = h } ∷ l₂)) →
+      i .dir ≡ true → items (record { head = i .anode; parent = h }) ≡ [] → Tree items′ top (l₁ ++ l₂)
+  remove-dir l₁ l₂ one gains t isdir empty = record {
+    exact = λ w. omega (arith, t .exact w, sum-below items′ items h i dirs one gains w, the-dir w, split w, split (below items′ w), below-e w);
+    faultless = omega (arith, t .faultless, sum-faults items′ items h i dirs one gains, split (faults items′));
+    once = λ x. omega (arith, t .once x, sum-named items′ items h i dirs one gains x, split (namedIn items′ x));
+    height = t .height;
+    lower = omega (
+      arith,
+      t .lower,
+      split (lowering items′ (t .height)),
+      list-mono-each (lowering items′ (t .height)) (lowering items (t .height)) dirs
+          (each-map (Gain items′ items h i) (λ d. lowering items′ (t .height) d ≤ lowering items (t .height) d) dirs (λ d g. less-below (not-lower (t .height) (t .height (d .head))) d g) gains),
+    );
+  }
+    where
+      e : Dir
+      e = record { head = i .anode; parent = h }
+
+      dirs : List Dir
+      dirs = l₁ ++ (e ∷ l₂)
+
+      the-dir : (w : Dir → ℕ) → giving w h i ≡ w e
+      the-dir w = rw isdir
+
+      split : (w : Dir → ℕ) → sumList w dirs ≡ sumList w (l₁ ++ l₂) + w e
+      split w = omega (arith, list-append w l₁ (e ∷ l₂), list-append w l₁ l₂, list-cons w e l₂)
+
+      below-e : (w : Dir → ℕ) → below items′ w e ≡ 0
+      below-e w = omega (arith, less-below w e (each-right (Gain items′ items h i) l₁ (e ∷ l₂) gains .0), below-items items w e, ap (sumList (giving w (i .anode))) empty, list-nil (giving w (i .anode)))
+
+-- ---- the items stay, but for the numbers of their faults: a size changes
+
+abbrev pub AlikeItems : (Dir → List Item) → (Dir → List Item) → Dir → Type 0
+AlikeItems items items′ d = ((w : Bool → ℕ → ℕ) → sumList (λ j. w (j .dir) (j .anode)) (items′ d) ≡ sumList (λ j. w (j .dir) (j .anode)) (items d)) × (faults items′ d ≡ 0)
+
+pub alike-named : (items items′ : Dir → List Item) (d : Dir) → AlikeItems items items′ d → (x : ℕ) → namedIn items′ x d ≡ namedIn items x d
+alike-named items items′ d g x = names-sum x (items′ d) ∙ g .0 (λ b a. oneAt a x) ∙ sym (names-sum x (items d))
+
+pub alike-tree : (items items′ : Dir → List Item) (top : Dir) (dirs : List Dir) → Each (AlikeItems items items′) dirs → Tree items top dirs → Tree items′ top dirs
+alike-tree items items′ top dirs each t = record {
+  exact = λ w. omega (arith, t .exact w, list-congr-each (below items′ w) (below items w) dirs (to (λ d. below items′ w d ≡ below items w d) (λ d g. at w d g)));
+  faultless = list-congr-each (faults items′) (λ d. 0) dirs (to (λ d. faults items′ d ≡ 0) (λ d g. g .1)) ∙ list-zero {X = Dir} (λ d. 0) dirs (λ d. refl);
+  once = λ x. omega (
+    arith,
+    t .once x,
+    list-congr-each (namedIn items′ x) (namedIn items x) dirs
+        (to (λ d. namedIn items′ x d ≡ namedIn items x d) (λ d g. names-sum x (items′ d) ∙ g .0 (λ b a. oneAt a x) ∙ sym (names-sum x (items d)))),
+  );
+  height = t .height;
+  lower = list-congr-each (lowering items′ (t .height)) (lowering items (t .height)) dirs
+      (to (λ d. lowering items′ (t .height) d ≡ lowering items (t .height) d) (λ d g. at (not-lower (t .height) (t .height (d .head))) d g)) ∙ t .lower;
+}
+  where
+    to : (Q : Dir → Type 0) → ((d : Dir) → AlikeItems items items′ d → Q d) → Each Q dirs
+    to Q f = each-map (AlikeItems items items′) Q dirs f each
+
+    at : (w : Dir → ℕ) (d : Dir) → AlikeItems items items′ d → below items′ w d ≡ below items w d
+    at w d g = below-items items′ w d ∙ g .0 (λ b a. cond b (w (record { head = a; parent = d .head })) 0) ∙ sym (below-items items w d)

@@ -1,0 +1,231 @@
+-- The whole accepted state, refusals 6 to 16, in the form to prove with, and that a change of one file's chain and size keeps it.
+use Prim.Native.Nat.{ℕ, _+_, _*_, _≤_, _<_}
+use mathlib.Core.Path.{_≡_, refl, sym, ap, _∙_}
+use mathlib.Core.Logic.{_≢_, _⊎_, inl, inr}
+use mathlib.Core.Bool.{Bool, true, cond, _&&_}
+use mathlib.Core.List.{List, map}
+use native.Mathlib.Omega.{arith}
+use lib.Dec.{eqb, leb, eqb→eq, leb→le}
+use Rattle.rules.specs.Counting.{oneAt, sumBelow, sumList, times}
+use Rattle.rules.specs.Anodes.{limit, Anodes}
+use Rattle.rules.specs.Chains.{chainOf, heads, blocksOf, blockCount}
+use Rattle.rules.specs.Walk.{Dir, root, Entered, Item, blocksFor, itemOf, itemsBy}
+use Rattle.laws.specs.Tests.{same?, less?, cond-cases, eqb-true, leb-true, both}
+use Rattle.laws.specs.Sums.{oneAt-cases, oneAt-same, oneAt-other, oneAt-le}
+use Rattle.laws.specs.Bags.{list-add, list-mono, list-congr}
+use Rattle.laws.specs.Heads.{Head, heads-cases, times-on-chain}
+use Rattle.laws.specs.Blocks.{blocks, blocks-chain}
+use Rattle.laws.specs.Held.{held, chain-blocks}
+use Rattle.laws.specs.Space.{Good, head-5, on-chain}
+use Rattle.laws.specs.Owners.{hd-below}
+use Rattle.laws.specs.Frame.{kept-count, Shift, kept-chain}
+use Rattle.laws.specs.Each.{Each, each-map, each-both, list-congr-each, each-zero}
+use Rattle.laws.specs.Items.{wrong, names-sum, giving, giving-le, below, namedIn, faults, below-items}
+use Rattle.laws.specs.Trees.{Tree}
+use Rattle.laws.specs.TreeChanges.{none-headed, AlikeItems, alike-named, alike-tree}
+use Rattle.laws.specs.Totals.{file-size, names-parts, filesOf, dirsOf, tree-total}
+use Rattle.laws.specs.Entries.{broken-wrong, item-fine, fine-item, item-anode, items-mono, items-alike}
+
+-- 1 for a directory whose head is below 5 or heads no chain
+unfoldable odd : Anodes → Dir → ℕ
+odd s d = cond (leb 5 (d .head) && eqb (heads limit (s .next) (s .block) (d .head)) 1) 0 1
+
+odd-none : (s : Anodes) (d : Dir) → 5 ≤ d .head → heads limit (s .next) (s .block) (d .head) ≡ 1 → odd s d ≡ 0
+unfolding odd
+odd-none s d l e = rw (leb-true 5 (d .head) l, eqb-true (heads limit (s .next) (s .block) (d .head)) 1 e)
+
+none-odd : (s : Anodes) (d : Dir) → odd s d ≡ 0 → (5 ≤ d .head) × (heads limit (s .next) (s .block) (d .head) ≡ 1)
+unfolding odd
+none-odd s d z = elim (cond-cases {A = ℕ} (leb 5 (d .head) && eqb (heads limit (s .next) (s .block) (d .head)) 1) 0 1) [
+  | inl q ↦ (let b = both (leb 5 (d .head)) (eqb (heads limit (s .next) (s .block) (d .head)) 1) (q .0) in
+      (leb→le 5 (d .head) (b .0), eqb→eq (heads limit (s .next) (s .block) (d .head)) 1 (b .1)))
+  | inr q ↦ absurd (omega (arith, z, q .1))
+]
+
+odd-le : (s : Anodes) (d : Dir) → odd s d ≤ 1
+unfolding odd
+odd-le s d = elim (cond-cases {A = ℕ} (leb 5 (d .head) && eqb (heads limit (s .next) (s .block) (d .head)) 1) 0 1) [ inl q ↦ omega (arith, q .1) | inr q ↦ omega (arith, q .1) ]
+
+-- what an entry with nothing wrong names is a head from 6 up
+odd-item : (s : Anodes) (h : ℕ) (e : Entered) → giving (odd s) h (itemOf s e) ≤ wrong (itemOf s e)
+odd-item s h e = elim (less? 0 (wrong (itemOf s e))) [
+  | inl p ↦ omega (arith, giving-le (odd s) h (itemOf s e), odd-le s (record { head = (itemOf s e) .anode; parent = h }))
+  | inr p ↦ (let f = item-fine s e (omega arith) in
+      omega (
+        arith,
+        giving-le (odd s) h (itemOf s e),
+        odd-none s (record { head = (itemOf s e) .anode; parent = h })
+            (rw (item-anode s e) (omega (arith, f .1))) (rw (item-anode s e) (f .2)),
+      ))
+]
+
+-- an item with nothing wrong names no anode that is no head from 6 up
+pub named-item : (s : Anodes) (x : ℕ) → (6 ≤ x → heads limit (s .next) (s .block) x ≡ 1 → ⊥) → (e : Entered) → oneAt ((itemOf s e) .anode) x ≤ wrong (itemOf s e)
+named-item s x k e = elim (oneAt-cases ((itemOf s e) .anode) x) [
+  | inr c ↦ omega (arith, c .1)
+  | inl c ↦ elim (less? 0 (wrong (itemOf s e))) [
+    | inl q ↦ omega (arith, c .1)
+    | inr q ↦ (let f = item-fine s e (omega arith) in let i : e .anode ≡ x = sym (item-anode s e) ∙ c .0 in absurd (k (omega (arith, f .1, i)) (rw i at (f .2))))
+  ]
+]
+
+-- and so a directory with nothing wrong in it names heads from 6 up
+pub named-le : (entries : ℕ → List Entered) (marked : Dir → ℕ → Bool) (s : Anodes) (x : ℕ) → (6 ≤ x → heads limit (s .next) (s .block) x ≡ 1 → ⊥) → (d : Dir) →
+    namedIn (itemsBy entries marked s) x d ≤ faults (itemsBy entries marked s) d
+named-le entries marked s x k d = omega (
+  arith,
+  names-sum x (itemsBy entries marked s d),
+  items-mono entries marked s d (λ i. oneAt (i .anode) x) wrong (named-item s x k) (omega (arith, broken-wrong, oneAt-le 0 x)),
+)
+
+module _ (ex : ℕ → Bool) (n last : ℕ) where
+  pub record Whole (s : Anodes) (system hd sd : ℕ → ℕ) (entries : ℕ → List Entered) (marked : Dir → ℕ → Bool) (dirs : List Dir) : Type 0 where
+    pub good : Good limit ex n last s system hd sd
+    pub tree : Tree (itemsBy entries marked s) root dirs
+    -- 16
+    pub all-named : (x : ℕ) → 6 ≤ x → Head (s .next) (s .block) x → 1 ≤ sumList (namedIn (itemsBy entries marked s) x) dirs
+
+-- a head, counted and said
+module _ {ex : ℕ → Bool} {n last : ℕ} {s : Anodes} {system hd sd : ℕ → ℕ} (g : Good limit ex n last s system hd sd) where
+  pub head-counts : (m : ℕ) → Head (s .next) (s .block) m → heads limit (s .next) (s .block) m ≡ 1
+  head-counts m d = elim (heads-cases (g .view) (g .linked) m) [ inl q ↦ q .1 | inr q ↦ absurd (q .0 d) ]
+
+  pub counts-head : (m : ℕ) → heads limit (s .next) (s .block) m ≡ 1 → Head (s .next) (s .block) m
+  counts-head m e = elim (heads-cases (g .view) (g .linked) m) [ inl q ↦ q .0 | inr q ↦ absurd (omega (arith, e, q .1)) ]
+
+  -- x is a head from 6 up, or is not
+  pub names-head : (x : ℕ) → ((6 ≤ x) × Head (s .next) (s .block) x) ⊎ (6 ≤ x → heads limit (s .next) (s .block) x ≡ 1 → ⊥)
+  names-head x = elim (less? x 6) [
+    | inl l ↦ inr (λ a b. omega (arith, a, l))
+    | inr l ↦ elim (heads-cases (g .view) (g .linked) x) [ inl q ↦ inl (l, q .0) | inr q ↦ inr (λ a b. q .0 (counts-head x b)) ]
+  ]
+
+  -- a head's blocks are those of its chain, how many and which
+  pub blocks-count : (h : ℕ) → Head (s .next) (s .block) h → blocks limit hd (s .count) h ≡ blockCount s h
+  unfolding blockCount
+  blocks-count h d = blocks-chain (g .view) (g .linked) hd (g .heads) (s .count) (g .free-none) (g .count-0) h d
+
+  pub blocks-sum : (f : ℕ → ℕ) (h : ℕ) → Head (s .next) (s .block) h → sumList f (blocksOf s h) ≡ sumBelow (λ y. held limit hd (s .count) (s .block) h y * f y) n
+  unfolding blocksOf
+  blocks-sum f h d = chain-blocks (g .view) (g .linked) hd (g .heads) (s .count) n (g .own .fits) f h d
+
+  -- an anode stands once on the chain of its own head, and on no other's
+  pub on-dir : (a h : ℕ) → hd a ≡ h → (m : ℕ) → Head (s .next) (s .block) m → times a (chainOf (s .next) limit m) ≡ oneAt m h
+  on-dir a h e m d = times-on-chain (g .view) (g .linked) hd (g .heads) m d a ∙ elim (oneAt-cases m h) [
+    | inl q ↦ oneAt-same (hd a) m (e ∙ sym (q .0)) ∙ sym (q .1)
+    | inr q ↦ oneAt-other (hd a) m (λ i. q .0 (sym i ∙ e)) ∙ sym (q .1)
+  ]
+
+module _ {ex : ℕ → Bool} {n last : ℕ} {s : Anodes} {system hd sd : ℕ → ℕ} {entries : ℕ → List Entered} {marked : Dir → ℕ → Bool} {dirs : List Dir}
+    (w : Whole ex n last s system hd sd entries marked dirs) where
+  items : Dir → List Item
+  items = itemsBy entries marked s
+
+  all-even : sumList (odd s) dirs ≡ 0
+  unfolding items
+  all-even = omega (
+    arith,
+    w .tree .exact (odd s),
+    odd-none s root (omega arith) (head-counts (w .good) 5 (head-5 (w .good))),
+    list-mono (below items (odd s)) (faults items) dirs (λ d. under d),
+    w .tree .faultless,
+  )
+    where
+      under : (d : Dir) → below items (odd s) d ≤ faults items d
+      under d = omega (arith, below-items items (odd s) d, items-mono entries marked s d (giving (odd s) (d .head)) wrong (odd-item s (d .head)) (omega arith))
+
+  -- every directory of the tree is the chain of a head other than 1
+  pub dir-heads : Each (λ d. Head (s .next) (s .block) (d .head) × (d .head ≢ 1)) dirs
+  dir-heads = each-map (λ d. odd s d ≡ 0) (λ d. Head (s .next) (s .block) (d .head) × (d .head ≢ 1)) dirs
+      (λ d z. let e = none-odd s d z in (counts-head (w .good) (d .head) (e .1), λ q. omega (arith, e .0, q))) (each-zero (odd s) dirs all-even)
+
+  -- what is named is a head from 6 up
+  pub named-heads : (x : ℕ) → 0 < sumList (namedIn (itemsBy entries marked s) x) dirs → (6 ≤ x) × (x < limit) × Head (s .next) (s .block) x
+  named-heads x p = elim (names-head (w .good) x) [
+    | inl q ↦ (q .0, w .good .view .below x (q .1 .in-use), q .1)
+    | inr k ↦ absurd (omega (arith, p, w .tree .faultless, list-mono (namedIn (itemsBy entries marked s) x) (faults (itemsBy entries marked s)) dirs (named-le entries marked s x k)))
+  ]
+
+  -- the sum of demand 3 of an accepted state
+  pub whole-total : sumBelow system n + (blocks limit hd (s .count) 1 + filesOf (itemsBy entries marked s) (blocks limit hd (s .count)) dirs + dirsOf (blocks limit hd (s .count)) dirs
+      + blocks limit hd (s .count) 3 + blocks limit hd (s .count) 4) ≡ n
+  whole-total = tree-total (w .good .view) (w .good .linked) hd (w .good .heads) (s .count) (w .good .free-none) (w .good .count-0)
+      (itemsBy entries marked s) root dirs (w .tree) refl (omega arith) (w .good .two-on) named-heads (w .all-named) system n (w .good .own) (head-below-limit)
+    where
+      head-below-limit : (a : ℕ) → hd a < limit
+      head-below-limit = hd-below (w .good)
+
+  -- h is a file's: some reached entry of a file names it
+  module _ (h : ℕ) (file : 1 ≤ sumList (λ d. sumList (file-size (λ x. oneAt x h)) (itemsBy entries marked s d)) dirs) where
+    by-kind : sumList (namedIn items h) dirs ≡ sumList (λ d. sumList (file-size (λ x. oneAt x h)) (items d)) dirs + sumList (below items (λ e. oneAt (e .head) h)) dirs
+    unfolding times
+    by-kind =
+        list-congr (namedIn items h) (λ d. sumList (file-size (λ x. oneAt x h)) (items d) + below items (λ e. oneAt (e .head) h) d) dirs (λ d. names-parts items (λ x. oneAt x h) d)
+        ∙ list-add (λ d. sumList (file-size (λ x. oneAt x h)) (items d)) (below items (λ e. oneAt (e .head) h)) dirs
+
+    pub file-head : (6 ≤ h) × (h < limit) × Head (s .next) (s .block) h
+    unfolding items
+    file-head = named-heads h (omega (arith, by-kind, file))
+
+    not-dir : Each (λ d. d .head ≢ h) dirs
+    unfolding items
+    not-dir = none-headed h dirs (omega (arith, w .tree .exact (λ d. oneAt (d .head) h), oneAt-other 5 h (λ e. omega (arith, e, file-head .0)), w .tree .once h, file, by-kind))
+
+    -- a file's chain is changed, by takes or gives, its entry's size with it, and nothing else of the directories
+    pub change-file : {t : Anodes} {hd′ sd′ : ℕ → ℕ} → Good limit ex n last t system hd′ sd′ → Shift s hd t hd′ h →
+        (φ : Entered → Entered) (entries′ : ℕ → List Entered) (marked′ : Dir → ℕ → Bool) →
+        ((e : Entered) → (φ e .broken ≡ e .broken) × (φ e .dir ≡ e .dir) × (φ e .anode ≡ e .anode)) →
+        ((e : Entered) → e .anode ≢ h → φ e .size ≡ e .size) →
+        ((e : Entered) → e .anode ≡ h → blockCount t h ≡ blocksFor (φ e .size)) →
+        ((a : ℕ) → s .count a ≡ 1 → hd a ≢ 1 → hd a ≢ h → (entries′ (s .block a) ≡ map φ (entries (s .block a))) × ((d : Dir) → marked′ d (s .block a) ≡ marked d (s .block a))) →
+        Whole ex n last t system hd′ sd′ entries′ marked′ dirs
+    unfolding items
+    change-file {t} {hd′} {sd′} g′ sh φ entries′ marked′ keeps other mine cont = record {
+      good = g′;
+      tree = alike-tree items items′ root dirs alikes (w .tree);
+      all-named = λ x l d. omega (
+        arith,
+        w .all-named x l (sh .no-new x d),
+        list-congr-each (namedIn items′ x) (namedIn items x) dirs
+            (each-map (AlikeItems items items′) (λ d. namedIn items′ x d ≡ namedIn items x d) dirs (λ d e. alike-named items items′ d e x) alikes),
+      );
+    }
+      where
+        items′ : Dir → List Item
+        items′ = itemsBy entries′ marked′ t
+
+        same-chain : (m : ℕ) → Head (s .next) (s .block) m → m ≢ 1 → m ≢ h → chainOf (t .next) limit m ≡ chainOf (s .next) limit m
+        same-chain m d m1 mh = kept-chain (w .good) g′ h (sh .stays) (sh .no-new) (sh .apart) m d m1 mh
+
+        on : (m : ℕ) → Head (s .next) (s .block) m → m ≢ 1 → m ≢ h → (a : ℕ) → 0 < times a (chainOf (s .next) limit m) → (s .block a ≢ 0) × (hd a ≢ 1) × (hd a ≢ h)
+        on m d m1 mh a k = let o = on-chain (w .good) m d a k in (o .1, λ q. m1 (sym (o .0) ∙ q), λ q. mh (sym (o .0) ∙ q))
+
+        same-count : (m : ℕ) → Head (s .next) (s .block) m → m ≢ 1 → m ≢ h → blockCount t m ≡ blockCount s m
+        same-count m d m1 mh = kept-count s t m (same-chain m d m1 mh) (λ a k. let o = on m d m1 mh a k in sh .apart a (o .0) (o .1) (o .2) .same-count)
+
+        size : (e : Entered) → Head (s .next) (s .block) (e .anode) → 6 ≤ e .anode → (e .dir ≡ true) ⊎ (blockCount s (e .anode) ≡ blocksFor (e .size)) →
+            (φ e .dir ≡ true) ⊎ (blockCount t (φ e .anode) ≡ blocksFor (φ e .size))
+        size e d l (inl q) = inl (keeps e .1 ∙ q)
+        size e d l (inr q) = elim (same? (e .anode) h) [
+          | inl i ↦ inr (ap (blockCount t) (keeps e .2 ∙ i) ∙ mine e i)
+          | inr i ↦ inr (ap (blockCount t) (keeps e .2) ∙ same-count (e .anode) d (omega arith) i ∙ q ∙ ap blocksFor (sym (other e i)))
+        ]
+
+        like : (e : Entered) → wrong (itemOf s e) ≡ 0 → (φ e .dir ≡ e .dir) × (φ e .anode ≡ e .anode) × (wrong (itemOf t (φ e)) ≡ 0)
+        like e z =
+            let f = item-fine s e z in
+            let d = counts-head (w .good) (e .anode) (f .2) in (
+              keeps e .1,
+              keeps e .2,
+              fine-item t (φ e) (keeps e .0 ∙ f .0) (rw (keeps e .2) (f .1))
+                  (rw (keeps e .2) (head-counts g′ (e .anode) (sh .stays (e .anode) d))) (size e d (f .1) (f .3)),
+            )
+
+        one : (d : Dir) → Head (s .next) (s .block) (d .head) × (d .head ≢ 1) → (d .head ≢ h) × (faults items d ≡ 0) → AlikeItems items items′ d
+        one d p q = items-alike s t φ wrong (λ z. omega (arith, z, broken-wrong)) like entries entries′ marked marked′ d (same-chain (d .head) (p .0) (p .1) (q .0))
+            (λ a k. let o = on (d .head) (p .0) (p .1) (q .0) a k in sh .apart a (o .0) (o .1) (o .2))
+            (λ a k i. let o = on (d .head) (p .0) (p .1) (q .0) a k in let e = cont a i (o .1) (o .2) in (e .0, e .1 d)) (q .1)
+
+        alikes : Each (AlikeItems items items′) dirs
+        alikes = each-both (λ d. Head (s .next) (s .block) (d .head) × (d .head ≢ 1)) (λ d. (d .head ≢ h) × (faults items d ≡ 0)) (AlikeItems items items′) dirs one dir-heads
+            (each-both (λ d. d .head ≢ h) (λ d. faults items d ≡ 0) (λ d. (d .head ≢ h) × (faults items d ≡ 0)) dirs (λ d a b. (a, b)) not-dir (each-zero (faults items) dirs (w .tree .faultless)))

@@ -1,0 +1,119 @@
+-- Laws of the marks. Assumes nothing.
+use mathlib.Core.Path.{_≡_, refl, sym, _∙_}
+use mathlib.Core.Logic.{_≢_, ⊎-elim, inl, inr}
+use mathlib.Core.List.{List}
+use Prim.Native.Nat.{ℕ, _+_, _<_, _≤_}
+use native.Mathlib.Omega.{arith}
+use native.Mathlib.Nat.{zero-add}
+use lib.Dec.{eqb}
+use lib.ListN.{length, getD, set, drop, length-drop}
+use lib.Seq.{getD-set-same, getD-set-other, getD-drop, ext-getD}
+use borrow.Author.Tests.{eqb-true, eq-eqb, ne-eqb}
+use Rattle.endian.proofs.Laws.{eq-or-ne}
+use Rattle.rules.specs.Chains.{covers}
+use Rattle.laws.specs.Ownership.{covers-cases, covers-in}
+use Rattle.owners.specs.Marks.{KeptOutside, RunFilled, RunHit, Marked, OwnedTwice}
+
+-- ---- a run
+
+pub run-none : (t : List ℕ) (first mark : ℕ) → RunFilled t t first first mark
+run-none t first mark = record { free = λ x l m. absurd (omega arith); filled = λ x l m. absurd (omega arith) }
+
+pub kept-none : (t : List ℕ) (first : ℕ) → KeptOutside t t first first
+kept-none t first = record { outside = λ x out. refl }
+
+pub kept-wider : (old t : List ℕ) (first i end : ℕ) → i ≤ end → KeptOutside old t first i → KeptOutside old t first end
+kept-wider old t first i end l kept = record { outside = λ x out. kept .outside x (λ p q. out p (omega arith)) }
+
+-- the run up to block i, and block i
+module _ (old t : List ℕ) (first i : ℕ) (kept : KeptOutside old t first i) (from : first ≤ i) where
+  same : getD t i 0 ≡ getD old i 0
+  same = kept .outside i (λ p q. omega arith)
+
+  pub kept-more : (mark : ℕ) → KeptOutside old (set t i mark) first (i + 1)
+  kept-more mark = record {
+    outside = λ x out. getD-set-other t i x mark 0 (λ e. out (omega arith) (omega arith)) ∙ kept .outside x (λ p q. out p (omega arith));
+  }
+
+  pub run-more : (mark : ℕ) → RunFilled old t first i mark → i < length t → getD t i 0 ≡ 0 → RunFilled old (set t i mark) first (i + 1) mark
+  run-more mark run room free = record {
+    free = λ x l m. ⊎-elim (λ e. rw e (sym same ∙ free)) (λ n. run .free x l (omega arith)) (eq-or-ne x i);
+    filled = λ x l m. ⊎-elim (λ e. rw e (getD-set-same t i mark 0 room)) (λ n. getD-set-other t i x mark 0 n ∙ run .filled x l (omega arith)) (eq-or-ne x i);
+  }
+
+  pub run-hit : (end : ℕ) → i < end → getD t i 0 ≢ 0 → RunHit old first end
+  run-hit end below some = record { block = i; from = from; below = below; taken = λ e. some (same ∙ e) }
+
+-- a run within the first n blocks leaves the table from there on
+pub kept-drop : (old t : List ℕ) (first count n : ℕ) → KeptOutside old t first (first + count) → (0 < count → first + count ≤ n)
+    → length t ≡ length old → drop n t ≡ drop n old
+kept-drop old t first count n kept within same =
+    ext-getD 0 (drop n t) (drop n old) (rw (length-drop n t, length-drop n old, same))
+    (λ i l. rw (getD-drop n t i 0, getD-drop n old i 0) (kept .outside (n + i) (λ p q. let w = within (omega arith) in omega arith)))
+
+-- ---- a marked table
+
+-- an entry that is not 0 has an owner
+marked-owner : (n : ℕ) (N E : ℕ → ℕ) (t : List ℕ) → Marked n N E t → (x : ℕ) → x < n → getD t x 0 ≢ 0 → N x ≢ 0
+marked-owner n N E t m x l some e = some (eqb-true (getD t x 0) 0 (m .zeros x l ∙ eq-eqb (N x) 0 e))
+
+-- and one that is 0 has none
+pub marked-free : (n : ℕ) (N E : ℕ → ℕ) (t : List ℕ) → Marked n N E t → (x : ℕ) → x < n → getD t x 0 ≡ 0 → N x ≡ 0
+marked-free n N E t m x l e = eqb-true (N x) 0 (sym (m .zeros x l) ∙ eq-eqb (getD t x 0) 0 e)
+
+-- the same owners and entries under other names
+pub marked-same : (n : ℕ) (N E N′ E′ : ℕ → ℕ) (t : List ℕ) → Marked n N E t → ((x : ℕ) → x < n → N′ x ≡ N x) → ((x : ℕ) → x < n → E′ x ≡ E x)
+    → Marked n N′ E′ t
+marked-same n N E N′ E′ t m p q = record {
+  once = λ x l. rw (p x l) (m .once x l);
+  entries = λ x l. m .entries x l ∙ sym (q x l);
+  zeros = λ x l. rw (p x l) (m .zeros x l);
+}
+
+pub marked-none : (n : ℕ) (t : List ℕ) → ((x : ℕ) → x < n → getD t x 0 ≡ 0) → Marked n (λ x. 0) (λ x. 0) t
+marked-none n t zeros = record { once = λ x l. omega arith; entries = zeros; zeros = λ x l. rw (zeros x l) }
+
+module _ (n : ℕ) (N E : ℕ → ℕ) (t : List ℕ) (m : Marked n N E t) (first count : ℕ) where
+  -- a run of free blocks more
+  pub marked-run : (N′ E′ : ℕ → ℕ) (t′ : List ℕ) (mark : ℕ) → RunFilled t t′ first (first + count) mark → KeptOutside t t′ first (first + count)
+      → (0 < count → mark ≢ 0)
+      → ((x : ℕ) → x < n → N′ x ≡ N x + covers count first x)
+      → ((x : ℕ) → x < n → covers count first x ≡ 0 → E′ x ≡ E x)
+      → ((x : ℕ) → x < n → covers count first x ≡ 1 → E′ x ≡ E x + mark)
+      → Marked n N′ E′ t′
+  marked-run N′ E′ t′ mark run kept some owners out within = record {
+    once = λ x l. each x l .0;
+    entries = λ x l. each x l .1;
+    zeros = λ x l. each x l .2;
+  }
+    where
+      each : (x : ℕ) → x < n → (N′ x ≤ 1) × (getD t′ x 0 ≡ E′ x) × (eqb (getD t′ x 0) 0 ≡ eqb (N′ x) 0)
+      each x l = elim (covers-cases count first x) [
+        | inl c ↦ (
+            let e = run .filled x (c .0) (c .1) in
+            let z = marked-free n N E t m x l (run .free x (c .0) (c .1)) in
+            let o : N′ x ≡ 1 = omega (arith, owners x l, c .2) in
+            let v : E′ x ≡ mark = within x l (c .2) ∙ rw (sym (m .entries x l) ∙ run .free x (c .0) (c .1)) (zero-add mark) in
+            (omega arith, e ∙ sym v, rw (e, o, ne-eqb mark 0 (some (omega arith))))
+            )
+        | inr c ↦ (
+            let e = kept .outside x (c .0) in
+            let o : N′ x ≡ N x = omega (arith, owners x l, c .1) in
+            (rw o (m .once x l), e ∙ m .entries x l ∙ sym (out x l (c .1)), rw (e, o) (m .zeros x l))
+            )
+      ]
+
+  -- a run with a marked block
+  pub marked-hit : RunHit t first (first + count) → (0 < count → first + count ≤ n) → OwnedTwice n (λ x. N x + covers count first x)
+  marked-hit hit within =
+      let x = hit .block in
+      let w = within (omega (arith, hit .from, hit .below)) in
+      let l : x < n = omega (arith, hit .below) in
+      record {
+        block = x;
+        below = l;
+        twice = omega (arith, marked-owner n N E t m x l (hit .taken), covers-in count first x (hit .from) (hit .below));
+      }
+
+pub owned-more : (n : ℕ) (N N′ : ℕ → ℕ) → OwnedTwice n N → ((x : ℕ) → x < n → 1 < N x → 1 < N′ x) → OwnedTwice n N′
+owned-more n N N′ o more = record { block = o .block; below = o .below; twice = more (o .block) (o .below) (o .twice) }

@@ -1,0 +1,51 @@
+-- What a marked table shows of the rules: refusal 11, and the block table. Assumes nothing.
+use mathlib.Core.Path.{_≡_, sym, ap, _∙_}
+use mathlib.Core.Logic.{inl, inr}
+use mathlib.Core.List.{List, _++_}
+use Prim.Native.Nat.{ℕ, _<_, _≤_}
+use native.Mathlib.Omega.{arith}
+use native.Mathlib.Nat.{zero-add}
+use lib.Dec.{eqb}
+use lib.ListN.{length, getD, take, drop, take-append-drop}
+use lib.Seq.{length-take-le, getD-take, ext-getD}
+use Rattle.disk.specs.AnodeBlocks.{listed}
+use Rattle.disk.proofs.Laws.{length-listed, getD-listed}
+use Rattle.rules.specs.Counting.{anyBelow}
+use Rattle.rules.specs.Anodes.{Anodes}
+use Rattle.rules.specs.Accepted.{diskSize, ownersOf, noOwner}
+use Rattle.rules.specs.Tables.{chainHead, headWhere, ownerHead, blockEntry, blockTable}
+use Rattle.counting.specs.Laws.{anyBelow-same}
+use Rattle.laws.specs.Sums.{sum-congr}
+use Rattle.laws.specs.Ownership.{covers-cases}
+use Rattle.owners.specs.Marks.{Marked, headMark, ownerEntry, OwnersMarked}
+
+-- 11: an entry of 0 is a block with no owner
+pub marked-no-owner : (img : List ℕ) (s : Anodes) (E : ℕ → ℕ) (t : List ℕ) → Marked (diskSize img) (ownersOf img s) E t
+    → anyBelow (λ x. eqb (getD t x 0) 0) (diskSize img) ≡ noOwner img s
+unfolding noOwner
+marked-no-owner img s E t m = anyBelow-same (λ x. eqb (getD t x 0) 0) (λ x. eqb (ownersOf img s x) 0) (diskSize img) (m .zeros)
+
+module _ (img : List ℕ) (s : Anodes) (heads : List ℕ) (are : (a : ℕ) → a < 3444 → 0 < s .count a → getD heads a 0 ≡ chainHead s a) where
+  mark-is : (x a : ℕ) → a < 3444 → headMark s heads x a ≡ headWhere s x a
+  unfolding headMark headWhere
+  mark-is x a l = elim (covers-cases (s .count a) (s .block a) x) [
+    | inl c ↦ rw (c .2) (are a l (omega arith))
+    | inr c ↦ rw (c .1)
+  ]
+
+  entry-is : (x : ℕ) → ownerEntry img s heads x ≡ blockEntry img s x
+  unfolding ownerEntry blockEntry ownerHead
+  entry-is x = rw (sum-congr (headMark s heads x) (headWhere s x) 3444 (mark-is x))
+
+  -- with the heads of all chains, the table is the block table and what stands behind it
+  pub marked-table : (t : List ℕ) → diskSize img ≤ length t → OwnersMarked img s heads t → t ≡ blockTable img s ++ drop (diskSize img) t
+  unfolding blockTable
+  marked-table t room m =
+      let n = diskSize img in
+      let short = length-take-le n t room in
+      let front : take n t ≡ listed (blockEntry img s) 0 n =
+      ext-getD 0 (take n t) (listed (blockEntry img s) 0 n) (short ∙ sym (length-listed (blockEntry img s) 0 n))
+      (λ x l.
+      let below : x < n = omega arith in
+      getD-take n t x 0 below ∙ m .entries x below ∙ entry-is x ∙ sym (getD-listed (blockEntry img s) 0 n x 0 below ∙ ap (blockEntry img s) (zero-add x))) in
+      sym (ap (λ (l : List ℕ). l ++ drop n t) (sym front) ∙ take-append-drop n t)

@@ -1,0 +1,122 @@
+use mathlib.Core.Path.{_≡_, sym, _∙_}
+use mathlib.Core.Bool.{true≢false}
+use Prim.Native.Nat.{_-_, _≤_}
+use native.Mathlib.Omega.{arith}
+use lib.ListN.{length, drop}
+use Rattle.rules.specs.Accepted.{diskSize}
+use Rattle.owners.specs.Marks.{Marked}
+use Rattle.owners.proofs.Laws.{kept-drop}
+use Rattle.owners.proofs.Owners.{size-some, none-at-zero, extent-within, ownersBelow, entryBelow, anode-first, anode-more, head-some, anode-hit, system-twice, two-owners, one-owner, anode-done}
+use borrow.Author.Needs.{needs}
+use Rattle.owners.proofs.mark_owners.Statement.{statement}
+use Rattle.owners.proofs.mark_owners.Tie as tie
+
+abbrev Inv-loop : tie.InvT-loop
+Inv-loop image counts firsts heads blocks₀ a₀ blocks a = (a ≤ 3444) × (length blocks ≡ length blocks₀) × (drop (diskSize image) blocks ≡ drop (diskSize image) blocks₀) × Marked (diskSize image) (ownersBelow image counts firsts a) (entryBelow image counts firsts heads a) blocks
+
+abbrev μ-loop : tie.MeasureT-loop
+μ-loop image counts firsts heads blocks₀ a₀ blocks a = 3444 - a
+
+mark-system-requires : tie.Need-mark-system-requires Inv-loop μ-loop
+mark-system-requires c κs = search needs
+
+same-length : tie.Need-same-length Inv-loop μ-loop
+same-length c = search needs
+
+returns : tie.Need-returns Inv-loop μ-loop
+returns c =
+    let o = rw (c .if1 .taken) at (c .before .before .before .mark-system .ensures .0) in
+    (λ n. sym (two-owners _ _ _ n (system-twice _ _ _ _ o)), (λ e. absurd (true≢false e), c .before .before .before .mark-system .ensures .1))
+
+loop-holds : tie.Need-loop-holds Inv-loop μ-loop
+loop-holds c = (search needs, search needs, search needs, anode-first _ _ _ _ _ _ (rw (c .if1 .left) at (c .before .before .before .mark-system .ensures .0)))
+
+mul-mark-run : tie.Need-mul-mark-run Inv-loop μ-loop
+mul-mark-run c = search needs
+
+shared-slice-read-mark-run : tie.Need-shared-slice-read-mark-run Inv-loop μ-loop
+shared-slice-read-mark-run c = search needs
+
+mul-mark-run-2 : tie.Need-mul-mark-run-2 Inv-loop μ-loop
+mul-mark-run-2 c = search needs
+
+shared-slice-read-mark-run-2 : tie.Need-shared-slice-read-mark-run-2 Inv-loop μ-loop
+shared-slice-read-mark-run-2 c = search needs
+
+mul-mark-run-3 : tie.Need-mul-mark-run-3 Inv-loop μ-loop
+mul-mark-run-3 c = search needs
+
+shared-slice-read-mark-run-3 : tie.Need-shared-slice-read-mark-run-3 Inv-loop μ-loop
+shared-slice-read-mark-run-3 c = search needs
+
+mark-run-requires : tie.Need-mark-run-requires Inv-loop μ-loop
+mark-run-requires c κs = λ z.
+    let s = c .before .before .before .before .before .before .before .before .before .before .before .before .before .before .before .before .pre .1 .1 .1 .0 in
+    let w = extent-within _ _ (s .0) (s .1) _ (s .2) (c .before .before .before .before .before .loop .a) (c .before .before .before .before .loop-test .taken) z in
+    search needs
+
+same-length-2 : tie.Need-same-length-2 Inv-loop μ-loop
+same-length-2 c = search needs
+
+returns-2 : tie.Need-returns-2 Inv-loop μ-loop
+returns-2 c =
+    let l = c .before .before .before .before .before .before .before .before .before .loop in
+    let s = c .before .before .before .before .before .before .before .before .before .before .before .before .before .before .before .before .before .before .before .before .pre .1 .1 .1 .0 in
+    let within = extent-within _ _ (s .0) (s .1) _ (s .2) (l .a) (c .before .before .before .before .before .before .before .before .loop-test .taken) in
+    let o = anode-hit _ _ _ _ _ (l .a) _ (l .inv .3) (c .before .before .before .before .before .before .before .before .loop-test .taken) (rw (c .if2 .taken) at (c .before .before .before .mark-run .ensures .0)) within in
+    (λ n. sym (two-owners _ _ _ n o), (λ e. absurd (true≢false e), kept-drop _ _ _ _ _ (c .before .before .before .mark-run .ensures .1) within (search needs) ∙ l .inv .2 ∙ c .before .before .before .before .before .before .before .before .before .before .before .before .before .mark-system .ensures .1))
+
+add-a : tie.Need-add-a Inv-loop μ-loop
+add-a c = search needs
+
+loop-less : tie.Need-loop-less Inv-loop μ-loop
+loop-less c = search needs
+
+loop-again : tie.Need-loop-again Inv-loop μ-loop
+loop-again c =
+    let l = c .before .before .before .before .before .before .before .before .before .loop in
+    let s = c .before .before .before .before .before .before .before .before .before .before .before .before .before .before .before .before .before .before .before .before .pre .1 .1 .1 .0 in
+    let within = extent-within _ _ (s .0) (s .1) _ (s .2) (l .a) (c .before .before .before .before .before .before .before .before .loop-test .taken) in
+    let size = size-some _ (c .before .before .before .before .before .before .before .before .before .before .before .before .before .before .before .before .before .before .before .before .pre .1 .0 .0) in
+    let run = rw (c .if2 .left) at (c .before .before .before .mark-run .ensures .0) in
+    let some = head-some _ _ _ _ _ (l .a) _ (l .inv .3) _ run (omega arith) (none-at-zero _ _ (s .0) (s .1)) (c .before .before .before .before .before .before .before .before .before .before .before .before .before .before .before .before .before .before .before .before .pre .1 .1 .1 .1 (l .a)) in (
+      search needs,
+      search needs,
+      kept-drop _ _ _ _ _ (c .before .before .before .mark-run .ensures .1) within (search needs) ∙ l .inv .2,
+      anode-more _ _ _ _ _ (l .a) _ (l .inv .3) _ run (c .before .before .before .mark-run .ensures .1) some,
+    )
+
+same-length-3 : tie.Need-same-length-3 Inv-loop μ-loop
+same-length-3 c = search needs
+
+returns-3 : tie.Need-returns-3 Inv-loop μ-loop
+returns-3 c =
+    let l = c .before .loop in
+    let e : l .a ≡ 3444 = omega arith in
+    let m = rw e at (l .inv .3) in
+    (λ n. sym (one-owner _ _ _ n _ _ m), (λ r n. anode-done _ _ _ _ n _ _ m, l .inv .2 ∙ c .before .before .before .before .before .mark-system .ensures .1))
+
+pub mark-owners-spec : {M : Type 1} → statement M
+mark-owners-spec =
+    tie.close
+    (tie.spec
+    Inv-loop
+    μ-loop
+    mark-system-requires
+    same-length
+    returns
+    loop-holds
+    mul-mark-run
+    shared-slice-read-mark-run
+    mul-mark-run-2
+    shared-slice-read-mark-run-2
+    mul-mark-run-3
+    shared-slice-read-mark-run-3
+    mark-run-requires
+    same-length-2
+    returns-2
+    add-a
+    loop-less
+    loop-again
+    same-length-3
+    returns-3)
