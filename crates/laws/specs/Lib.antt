@@ -38,3 +38,4 @@ pub mod Accepted
 pub mod Acceptance
 pub mod ImageAnodes
 pub mod OneOwner
+pub mod Damage

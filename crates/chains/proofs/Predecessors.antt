@@ -1,0 +1,101 @@
+-- The table of predecessors, one anode after the other.
+use Prim.Native.Nat.{ℕ, _+_, _≤_, _<_}
+use mathlib.Core.Path.{_≡_, sym, ap, _∙_}
+use mathlib.Core.Logic.{_≢_, inl, inr}
+use mathlib.Core.List.{List}
+use native.Mathlib.Omega.{arith}
+use lib.ListN.{length, getD, set, replicate, getD-replicate, List·getD-eq-default, length-replicate}
+use lib.Seq.{getD-set-same, getD-set-other}
+use Rattle.rules.specs.Counting.{oneAt}
+use Rattle.rules.specs.Chains.{preds}
+use Rattle.laws.specs.Tests.{same?, less?}
+use Rattle.laws.specs.Sums.{oneAt-same, oneAt-other, oneAt-cases, oneAt-le, sum-member, sum-members, sum-zero, sum-le-one}
+use Rattle.chains.specs.Predecessors.{PredTable, NotedBelow, Twice}
+
+pub zeros : (k i : ℕ) → getD {A = ℕ} (replicate k 0) i 0 ≡ 0
+zeros k i = elim (less? i k) [
+  | inl l ↦ getD-replicate {A = ℕ} k i 0 0 l
+  | inr l ↦ List·getD-eq-default (replicate k 0) 0 (rw (length-replicate {A = ℕ} k 0) l)
+]
+
+pub noted-none : (n : List ℕ) → NotedBelow (replicate 3444 0) n 0
+noted-none n = record {
+  is-pred = λ x h. absurd (h (zeros 3444 x));
+  earlier = λ x h. absurd (h (zeros 3444 x));
+  only = λ p l. absurd (omega arith);
+}
+
+module _ (t n : List ℕ) (a : ℕ) (w : NotedBelow t n a) where
+  pub noted-skip : getD n a 0 ≡ 0 → NotedBelow t n (a + 1)
+  noted-skip z = record {
+    is-pred = w .is-pred;
+    earlier = λ x h. omega (arith, w .earlier x h);
+    only = λ p l h. elim (same? p a) [ inl e ↦ absurd (h (ap (λ (q : ℕ). getD n q 0) e ∙ z)) | inr e ↦ w .only p (omega arith) h ];
+  }
+
+  module _ (x : ℕ) (is : getD n a 0 ≡ x) (some : x ≢ 0) where
+    pub noted-twice : a < 3444 → getD t x 0 ≢ 0 → Twice n
+    unfolding preds
+    noted-twice l h = record {
+      anode = x;
+      before = a;
+      some = some;
+      leads = is;
+      two = omega (
+        arith,
+        sum-members (λ p. oneAt (getD n p 0) x) (getD t x 0) a 3444 (omega (arith, w .earlier x h)) l (λ e. omega (arith, w .earlier x h)),
+        oneAt-same (getD n (getD t x 0) 0) x (w .is-pred x h),
+        oneAt-same (getD n a 0) x is,
+      );
+    }
+
+    pub noted-set : x < length t → getD n 0 0 ≡ 0 → getD t x 0 ≡ 0 → NotedBelow (set t x a) n (a + 1)
+    noted-set l first z = record {
+      is-pred = λ y g. elim (same? y x) [
+        | inl e ↦ rw (e, getD-set-same t x a 0 l) is
+        | inr e ↦ rw (getD-set-other t x y a 0 e) (w .is-pred y (rw (getD-set-other t x y a 0 e) at g))
+      ];
+      earlier = λ y g. elim (same? y x) [
+        | inl e ↦ rw (e, getD-set-same t x a 0 l) (omega arith)
+        | inr e ↦ rw (getD-set-other t x y a 0 e) (omega (arith, w .earlier y (rw (getD-set-other t x y a 0 e) at g)))
+      ];
+      only = λ p m g. elim (same? p a) [
+        | inl e ↦ rw (e, is) (getD-set-same t x a 0 l)
+        | inr e ↦ (let old = w .only p (omega arith) g in
+            rw (getD-set-other t x (getD n p 0) a 0 (λ q. g (ap (λ (y : ℕ). getD n y 0) (sym old ∙ ap (λ (y : ℕ). getD t y 0) q ∙ z) ∙ first))) old)
+      ];
+    }
+
+-- ---- the whole table
+
+pub table-of : (t n : List ℕ) → length n ≡ 3444 → NotedBelow t n 3444 → PredTable t n
+table-of t n whole w = record {
+  is-pred = w .is-pred;
+  only = λ p h. elim (less? p 3444) [ inl l ↦ w .only p l h | inr l ↦ absurd (h (List·getD-eq-default n 0 (rw whole l))) ];
+}
+
+module _ (t n : List ℕ) (w : PredTable t n) where
+  -- a predecessor is the entry
+  pred-is : (p x : ℕ) → x ≢ 0 → getD n p 0 ≡ x → getD t x 0 ≡ p
+  pred-is p x h e = rw e at (w .only p (λ z. h (sym e ∙ z)))
+
+  pub no-pred : getD n 0 0 ≡ 0 → (x : ℕ) → x ≢ 0 → getD t x 0 ≡ 0 → (p : ℕ) → getD n p 0 ≢ x
+  no-pred first x h z p e = h (sym e ∙ ap (λ (q : ℕ). getD n q 0) (sym (pred-is p x h e) ∙ z) ∙ first)
+
+  pub preds-none : getD n 0 0 ≡ 0 → (x : ℕ) → x ≢ 0 → getD t x 0 ≡ 0 → preds 3444 (λ a. getD n a 0) x ≡ 0
+  unfolding preds
+  preds-none first x h z = sum-zero (λ p. oneAt (getD n p 0) x) 3444 (λ p l. oneAt-other (getD n p 0) x (no-pred first x h z p))
+
+  pub preds-some : length n ≡ 3444 → (x : ℕ) → x ≢ 0 → getD t x 0 ≢ 0 → 0 < preds 3444 (λ a. getD n a 0) x
+  unfolding preds
+  preds-some whole x h z = elim (less? (getD t x 0) 3444) [
+    | inl l ↦ omega (arith, sum-member (λ p. oneAt (getD n p 0) x) (getD t x 0) 3444 l, oneAt-same (getD n (getD t x 0) 0) x (w .is-pred x z))
+    | inr l ↦ absurd (h (sym (w .is-pred x z) ∙ List·getD-eq-default n 0 (rw whole l)))
+  ]
+
+  pub preds-one : (x : ℕ) → x ≢ 0 → preds 3444 (λ a. getD n a 0) x ≤ 1
+  unfolding preds
+  preds-one x h = sum-le-one (λ p. oneAt (getD n p 0) x) 3444 (λ p. oneAt-le (getD n p 0) x) (λ p q lp lq u v. sym (pred-is p x h (is p u)) ∙ pred-is q x h (is q v))
+    where
+      is : (p : ℕ) → 0 < oneAt (getD n p 0) x → getD n p 0 ≡ x
+      is p l = elim (oneAt-cases (getD n p 0) x) [ inl e ↦ e .0 | inr e ↦ absurd (omega arith) ]

@@ -1,0 +1,48 @@
+-- A number stored along a walk, one step after the other.
+use Prim.Native.Nat.{ℕ, zero, suc, _+_}
+use mathlib.Core.Path.{_≡_, refl, _∙_}
+use mathlib.Core.Logic.{_≢_, inl, inr}
+use mathlib.Core.List.{List}
+use native.Mathlib.Numerals.{add-one}
+use lib.ListN.{length, getD, set, length-set, List·getD-eq-default}
+use lib.Seq.{getD-set-same, getD-set-other}
+use Rattle.laws.specs.Tests.{same?, less?}
+use Rattle.chains.specs.Storing.{storedAlong}
+
+module _ (links : List ℕ) (v : ℕ) where
+  pub stored-none : (m : List ℕ) (a : ℕ) → storedAlong 0 links m v a ≡ m
+  unfolding storedAlong
+  stored-none m a = refl
+
+  pub stored-zero : (k : ℕ) (m : List ℕ) → storedAlong k links m v 0 ≡ m
+  unfolding storedAlong
+  stored-zero zero m = refl
+  stored-zero (suc k) m = refl
+
+  pub stored-step : (k j a : ℕ) (m : List ℕ) → k ≡ j + 1 → a ≢ 0 → storedAlong k links m v a ≡ storedAlong j links (set m a v) v (getD links a 0)
+  unfolding storedAlong
+  stored-step k j zero m e h = absurd (h refl)
+  stored-step k j (suc a) m e h = rw (e, add-one j)
+
+  pub stored-length : (k : ℕ) (m : List ℕ) (a : ℕ) → length (storedAlong k links m v a) ≡ length m
+  unfolding storedAlong
+  stored-length zero m a = refl
+  stored-length (suc k) m zero = refl
+  stored-length (suc k) m (suc a) = stored-length k (set m (suc a) v) (getD links (suc a) 0) ∙ length-set m (suc a) v
+
+  module _ (some : v ≢ 0) where
+    -- storing takes no entry away
+    pub set-kept : (m : List ℕ) (i x : ℕ) → getD m x 0 ≢ 0 → getD (set m i v) x 0 ≢ 0
+    set-kept m i x h = elim (same? x i) [
+      | inl e ↦ elim (less? i (length m)) [
+        | inl l ↦ rw (e, getD-set-same m i v 0 l) some
+        | inr l ↦ absurd (h (List·getD-eq-default m 0 (rw e l)))
+      ]
+      | inr e ↦ rw (getD-set-other m i x v 0 e) h
+    ]
+
+    pub stored-kept : (k : ℕ) (m : List ℕ) (a x : ℕ) → getD m x 0 ≢ 0 → getD (storedAlong k links m v a) x 0 ≢ 0
+    unfolding storedAlong
+    stored-kept zero m a x h = h
+    stored-kept (suc k) m zero x h = h
+    stored-kept (suc k) m (suc a) x h = stored-kept k (set m (suc a) v) (getD links (suc a) 0) x (set-kept m (suc a) x h)

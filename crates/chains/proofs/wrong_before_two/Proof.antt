@@ -1,0 +1,86 @@
+use Prim.Native.Nat.{_-_}
+use mathlib.Core.Path.{_≡_, sym, _∙_}
+use native.Mathlib.Omega.{arith}
+use borrow.Author.Needs.{needs}
+use Rattle.rules.specs.Accepted.{notAbove}
+use Rattle.anodes.specs.Loaded.{anodesFrom}
+use Rattle.chains.specs.FreeList.{wrongBefore}
+use Rattle.chains.proofs.FreeList.{before-none, before-zero, before-two, before-hit, before-step}
+use Rattle.chains.proofs.wrong_before_two.Statement.{statement}
+use Rattle.chains.proofs.wrong_before_two.Tie as tie
+
+abbrev Inv-loop : tie.InvT-loop
+Inv-loop counts firsts nexts last at₀ fuel₀ at fuel = wrongBefore (anodesFrom counts firsts nexts) last fuel at ≡ wrongBefore (anodesFrom counts firsts nexts) last 3444 1
+
+abbrev μ-loop : tie.MeasureT-loop
+μ-loop counts firsts nexts last at₀ fuel₀ at fuel = fuel
+
+loop-holds : tie.Need-loop-holds Inv-loop μ-loop
+loop-holds c = search needs
+
+returns : tie.Need-returns Inv-loop μ-loop
+returns c = let l = c .before .before .loop in sym (before-two _ _ (l .fuel) (l .fuel - 1) (omega arith)) ∙ rw (c .if1 .taken) at (l .inv)
+
+returns-2 : tie.Need-returns-2 Inv-loop μ-loop
+returns-2 c = let l = c .before .before .before .loop in sym (before-zero _ _ (l .fuel)) ∙ rw (c .if2 .taken) at (l .inv)
+
+entry-requires : tie.Need-entry-requires Inv-loop μ-loop
+entry-requires c κs = search needs
+
+entry-requires-2 : tie.Need-entry-requires-2 Inv-loop μ-loop
+entry-requires-2 c κs = search needs
+
+not-above-requires : tie.Need-not-above-requires Inv-loop μ-loop
+not-above-requires c κs = search needs
+
+returns-3 : tie.Need-returns-3 Inv-loop μ-loop
+unfolding notAbove anodesFrom
+returns-3 c =
+    let l = c .before .before .before .before .before .before .before .loop in
+    sym (before-hit _ _ (l .fuel) (l .fuel - 1) (l .at) (omega arith) (c .before .before .before .before .if2 .left) (c .before .before .before .before .before .if1 .left)
+    (rw (← c .before .before .before .entry .ensures, ← c .before .before .entry2 .ensures) (sym (c .before .not-above .ensures) ∙ c .if3 .taken)))
+    ∙ l .inv
+
+entry-requires-3 : tie.Need-entry-requires-3 Inv-loop μ-loop
+entry-requires-3 c κs = search needs
+
+cast-at : tie.Need-cast-at Inv-loop μ-loop
+cast-at c = search needs
+
+sub-fuel : tie.Need-sub-fuel Inv-loop μ-loop
+sub-fuel c = search needs
+
+loop-less : tie.Need-loop-less Inv-loop μ-loop
+loop-less c = search needs
+
+loop-again : tie.Need-loop-again Inv-loop μ-loop
+unfolding notAbove anodesFrom
+loop-again c =
+    let l = c .before .before .before .before .before .before .before .before .loop in
+    rw (c .entry3 .ensures)
+    (sym (before-step _ _ (l .fuel) (l .fuel - 1) (l .at) (omega arith) (c .before .before .before .before .before .if2 .left) (c .before .before .before .before .before .before .if1 .left)
+    (rw (← c .before .before .before .before .entry .ensures, ← c .before .before .before .entry2 .ensures) (sym (c .before .before .not-above .ensures) ∙ c .before .if3 .left)))
+    ∙ l .inv)
+
+returns-4 : tie.Need-returns-4 Inv-loop μ-loop
+returns-4 c = let e : c .before .loop .fuel ≡ 0 = omega arith in sym (before-none _ _ (c .before .loop .at)) ∙ rw e at (c .before .loop .inv)
+
+pub wrong-before-two-spec : {M : Type 1} → statement M
+wrong-before-two-spec =
+    tie.close
+    (tie.spec
+    Inv-loop
+    μ-loop
+    loop-holds
+    returns
+    returns-2
+    entry-requires
+    entry-requires-2
+    not-above-requires
+    returns-3
+    entry-requires-3
+    cast-at
+    sub-fuel
+    loop-less
+    loop-again
+    returns-4)

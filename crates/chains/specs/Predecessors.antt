@@ -1,0 +1,36 @@
+-- The predecessors of anodes, over the tables of next and of first blocks.
+use Prim.Native.Nat.{ℕ, _<_}
+use mathlib.Core.Path.{_≡_}
+use mathlib.Core.Logic.{_≢_}
+use mathlib.Core.Bool.{Bool, true, false}
+use mathlib.Core.List.{List}
+use lib.ListN.{getD}
+use Rattle.rules.specs.Chains.{preds}
+
+-- every next that is not 0 is in use
+pub record Closed (nexts firsts : List ℕ) : Type 0 where
+  pub next-used : (a : ℕ) → getD nexts a 0 ≢ 0 → getD firsts (getD nexts a 0) 0 ≢ 0
+
+-- an entry that is not 0 is a predecessor, and a predecessor is the entry: so where the entry is 0 there is none
+pub record PredTable (table nexts : List ℕ) : Type 0 where
+  pub is-pred : (x : ℕ) → getD table x 0 ≢ 0 → getD nexts (getD table x 0) 0 ≡ x
+  pub only : (p : ℕ) → getD nexts p 0 ≢ 0 → getD table (getD nexts p 0) 0 ≡ p
+
+-- the same of the predecessors below k alone
+pub record NotedBelow (table nexts : List ℕ) (k : ℕ) : Type 0 where
+  pub is-pred : (x : ℕ) → getD table x 0 ≢ 0 → getD nexts (getD table x 0) 0 ≡ x
+  pub earlier : (x : ℕ) → getD table x 0 ≢ 0 → getD table x 0 < k
+  pub only : (p : ℕ) → p < k → getD nexts p 0 ≢ 0 → getD table (getD nexts p 0) 0 ≡ p
+
+-- some anode has two predecessors
+pub record Twice (nexts : List ℕ) : Type 0 where
+  pub anode : ℕ
+  pub before : ℕ
+  pub some : anode ≢ 0
+  pub leads : getD nexts before 0 ≡ anode
+  pub two : 1 < preds 3444 (λ a. getD nexts a 0) anode
+
+-- what the notes say, by whether a second predecessor was found
+abbrev pub Noted : Bool → List ℕ → List ℕ → ℕ → Type 0
+Noted true table nexts k = Twice nexts
+Noted false table nexts k = NotedBelow table nexts k

@@ -1,0 +1,331 @@
+// Refusals 6 to 9 and the heads of chains, over the anodes in three lent tables.
+ghost use mathlib.Core.Bool.{_&&_, _||_, false, not};
+ghost use mathlib.Core.List.{List, _++_};
+ghost use mathlib.Core.Path.{_≡_};
+ghost use Prim.Native.Nat.{ℕ, _+_, _≤_, _<_};
+ghost use lib.Dec.{eqb, leb, ltb};
+ghost use lib.ListN.{length, getD, drop, replicate};
+ghost use Rattle.rules.specs.Counting.{anyBelow, anyIn};
+ghost use Rattle.rules.specs.Chains.{chainOf};
+ghost use Rattle.rules.specs.Accepted.{wrongFixed, outOfRange, wrongLinks, notUpTo, wrongFreeList};
+ghost use Rattle.rules.specs.Tables.{anodeTable};
+ghost use Rattle.laws.specs.Links.{View, Linked};
+ghost use Rattle.anodes.specs.Loaded.{anodesFrom};
+ghost use Rattle.chains.specs.Predecessors.{Closed, PredTable, NotedBelow, Noted};
+ghost use Rattle.chains.specs.Storing.{storedAlong};
+ghost use Rattle.chains.specs.Endings.{EndsBelow, unmarked, Ends};
+ghost use Rattle.chains.specs.FreeList.{wrongBefore};
+ghost use Rattle.chains.specs.Filling.{FilledBelow};
+use tables::entry;
+use tables::set_entry;
+
+// Anode 0 is not (0, 65535, 0).
+fn wrong_zero(counts: &[u16], firsts: &[u16], nexts: &[u16]) -> bool
+    ensures { λ r. ⌜ r ≡ not (eqb (getD (now (counts .entry)) 0 0) 0 && (eqb (getD (now (firsts .entry)) 0 0) 65535 && eqb (getD (now (nexts .entry)) 0 0) 0)) ⌝ }
+{
+    if entry(counts, 0) != 0 {
+        return true;
+    }
+    if entry(firsts, 0) != 65535 {
+        return true;
+    }
+    entry(nexts, 0) != 0
+}
+
+// Anode 1's count is not 0, or its block not 65535.
+fn wrong_one(counts: &[u16], firsts: &[u16]) -> bool
+    ensures { λ r. ⌜ r ≡ not (eqb (getD (now (counts .entry)) 1 0) 0 && eqb (getD (now (firsts .entry)) 1 0) 65535) ⌝ }
+{
+    if entry(counts, 1) != 0 {
+        return true;
+    }
+    entry(firsts, 1) != 65535
+}
+
+// 6: the fixed anodes.
+pub fn wrong_fixed(counts: &[u16], firsts: &[u16], nexts: &[u16]) -> bool
+    ensures { λ r. ⌜ r ≡ wrongFixed (anodesFrom (now (counts .entry)) (now (firsts .entry)) (now (nexts .entry))) ⌝ }
+{
+    if wrong_zero(counts, firsts, nexts) {
+        return true;
+    }
+    if wrong_one(counts, firsts) {
+        return true;
+    }
+    if entry(firsts, 2) == 0 {
+        return true;
+    }
+    entry(firsts, 5) == 0
+}
+
+// A non-empty extent ends past the disk's end; the end is the whole-number sum.
+fn past_end(count: u16, first: u16, size: usize) -> bool
+    ensures { λ r. ⌜ r ≡ (ltb 0 count && ltb size (first + count)) ⌝ }
+{
+    if count == 0 {
+        return false;
+    }
+    let end = first as usize + count as usize;
+    size < end
+}
+
+// 7 for one anode.
+fn anode_out_of_range(counts: &[u16], firsts: &[u16], nexts: &[u16], size: usize, a: usize) -> bool
+    ensures { λ r. ⌜ r ≡ outOfRange (anodesFrom (now (counts .entry)) (now (firsts .entry)) (now (nexts .entry))) size a ⌝ }
+{
+    if a == 0 {
+        return false;
+    }
+    if past_end(entry(counts, a), entry(firsts, a), size) {
+        return true;
+    }
+    let next = entry(nexts, a);
+    if next == 0 {
+        return false;
+    }
+    entry(firsts, next as usize) == 0
+}
+
+// 7: an extent past the disk's end, or a next that is not in use.
+pub fn out_of_range(counts: &[u16], firsts: &[u16], nexts: &[u16], size: usize) -> bool
+    ensures { λ r. ⌜ r ≡ anyBelow (outOfRange (anodesFrom (now (counts .entry)) (now (firsts .entry)) (now (nexts .entry))) size) 3444 ⌝ }
+{
+    for a in 0..3444 {
+        if anode_out_of_range(counts, firsts, nexts, size, a) {
+            return true;
+        }
+    }
+    false
+}
+
+// Notes anode `a` as the predecessor of its next; true if that has one already.
+fn note_pred(nexts: &[u16], preds: &mut [u16], a: u16) -> bool
+    requires { ⌜ (a < 3444) × (length (now preds) ≡ 3444) × (getD (now nexts) 0 0 ≡ 0) × ((x : ℕ) → getD (now nexts) x 0 < 3444) × NotedBelow (now preds) (now nexts) a ⌝ }
+    ensures { λ r. ⌜ Noted r (now (preds .exit)) (now (nexts .entry)) (a + 1) ⌝ }
+{
+    let next = entry(nexts, a as usize) as usize;
+    if next == 0 {
+        return false;
+    }
+    if entry(preds, next) != 0 {
+        return true;
+    }
+    set_entry(preds, next, a);
+    false
+}
+
+// Notes each anode's predecessor; true if one has two.
+fn note_preds(nexts: &[u16], preds: &mut [u16]) -> bool
+    requires { ⌜ (now preds ≡ replicate 3444 0) × (getD (now nexts) 0 0 ≡ 0) × ((x : ℕ) → getD (now nexts) x 0 < 3444) ⌝ }
+    ensures { λ r. ⌜ Noted r (now (preds .exit)) (now (nexts .entry)) 3444 ⌝ }
+{
+    for a in 0..3444 {
+        if note_pred(nexts, preds, a) {
+            return true;
+        }
+    }
+    false
+}
+
+// Anode 1, 3, 4 or 5 has a predecessor.
+fn fixed_has_pred(preds: &[u16]) -> bool
+    ensures { λ r. ⌜ r ≡ (not (eqb (getD (now (preds .entry)) 1 0) 0) || (not (eqb (getD (now (preds .entry)) 3 0) 0) || (not (eqb (getD (now (preds .entry)) 4 0) 0) || not (eqb (getD (now (preds .entry)) 5 0) 0)))) ⌝ }
+{
+    if entry(preds, 1) != 0 {
+        return true;
+    }
+    if entry(preds, 3) != 0 {
+        return true;
+    }
+    if entry(preds, 4) != 0 {
+        return true;
+    }
+    entry(preds, 5) != 0
+}
+
+// Stores `v` at `from` and along the links from there, until 0.
+fn store_along(links: &[u16], table: &mut [u16], v: u16, from: usize)
+    ensures { λ _. ⌜ now (table .exit) ≡ storedAlong 3444 (now (links .entry)) (now (table .entry)) v from ⌝ }
+{
+    let mut at = from;
+    let mut fuel: usize = 3444;
+    while 0 < fuel {
+        if at == 0 {
+            return;
+        }
+        set_entry(table, at, v);
+        at = entry(links, at) as usize;
+        fuel -= 1;
+    }
+}
+
+// Marks the chain of `a`, from there back, where `a` is its last anode.
+fn mark_end(firsts: &[u16], nexts: &[u16], preds: &[u16], marks: &mut [u16], a: usize)
+    requires { ⌜ (a < 3444) × (length (now nexts) ≡ 3444) × (getD (now nexts) 0 0 ≡ 0) × PredTable (now preds) (now nexts) × EndsBelow (now marks) (now nexts) (now firsts) a ⌝ }
+    ensures { λ _. ⌜ EndsBelow (now (marks .exit)) (now (nexts .entry)) (now (firsts .entry)) (a + 1) ⌝ }
+{
+    if entry(firsts, a) == 0 {
+        return;
+    }
+    if entry(nexts, a) != 0 {
+        return;
+    }
+    store_along(preds, marks, 1, a);
+}
+
+// Marks the anodes whose chains end.
+fn mark_ends(firsts: &[u16], nexts: &[u16], preds: &[u16], marks: &mut [u16])
+    requires { ⌜ (now marks ≡ replicate 3444 0) × (length (now nexts) ≡ 3444) × (getD (now nexts) 0 0 ≡ 0) × PredTable (now preds) (now nexts) ⌝ }
+    ensures { λ _. ⌜ EndsBelow (now (marks .exit)) (now (nexts .entry)) (now (firsts .entry)) 3444 ⌝ }
+{
+    for a in 0..3444 {
+        mark_end(firsts, nexts, preds, marks, a);
+    }
+}
+
+// An anode in use, not 0, is not marked.
+fn is_unmarked(firsts: &[u16], marks: &[u16], a: usize) -> bool
+    ensures { λ r. ⌜ r ≡ unmarked (now (firsts .entry)) (now (marks .entry)) a ⌝ }
+{
+    if a == 0 {
+        return false;
+    }
+    if entry(firsts, a) == 0 {
+        return false;
+    }
+    entry(marks, a) == 0
+}
+
+// Some anode in use, not 0, is not marked.
+fn some_unmarked(firsts: &[u16], marks: &[u16]) -> bool
+    ensures { λ r. ⌜ r ≡ anyBelow (unmarked (now (firsts .entry)) (now (marks .entry))) 3444 ⌝ }
+{
+    for a in 0..3444 {
+        if is_unmarked(firsts, marks, a) {
+            return true;
+        }
+    }
+    false
+}
+
+// Some anode's chain never ends.
+fn some_endless(firsts: &[u16], nexts: &[u16], preds: &[u16]) -> bool
+    requires { ⌜ (length (now firsts) ≡ 3444) × (length (now nexts) ≡ 3444) × (getD (now nexts) 0 0 ≡ 0) × PredTable (now preds) (now nexts) × Closed (now nexts) (now firsts) ⌝ }
+    ensures { λ r. ⌜ Ends r (now (nexts .entry)) (now (firsts .entry)) ⌝ }
+{
+    let mut marks = [0u16; 3444];
+    mark_ends(firsts, nexts, preds, &mut marks);
+    some_unmarked(firsts, &marks)
+}
+
+// 8: two predecessors, a chain that never ends, or a predecessor of 1, 3, 4 or 5; where there is none, `preds` holds each anode's predecessor.
+pub fn wrong_links(firsts: &[u16], nexts: &[u16], preds: &mut [u16]) -> bool
+    requires { ⌜ (now preds ≡ replicate 3444 0) × (length (now firsts) ≡ 3444) × (length (now nexts) ≡ 3444) × View 3444 (λ a. getD (now nexts) a 0) (λ a. getD (now firsts) a 0) × Closed (now nexts) (now firsts) ⌝ }
+    ensures answer { λ r. ⌜ ((c : List ℕ) → r ≡ wrongLinks (anodesFrom c (now (firsts .entry)) (now (nexts .entry)))) ⌝ }
+    ensures noted { λ r. ⌜ (r ≡ false → PredTable (now (preds .exit)) (now (nexts .entry))) ⌝ }
+{
+    if note_preds(nexts, preds) {
+        return true;
+    }
+    if fixed_has_pred(preds) {
+        return true;
+    }
+    some_endless(firsts, nexts, preds)
+}
+
+// Stores `a` along its chain where `a` is its head.
+fn fill_head(firsts: &[u16], nexts: &[u16], preds: &[u16], heads: &mut [u16], a: u16)
+    requires { ⌜ (0 < a) × View 3444 (λ x. getD (now nexts) x 0) (λ x. getD (now firsts) x 0) × Linked 3444 (λ x. getD (now nexts) x 0) (λ x. getD (now firsts) x 0) × PredTable (now preds) (now nexts) × FilledBelow (now heads) (now nexts) (now firsts) a ⌝ }
+    ensures { λ _. ⌜ (drop 3444 (now (heads .exit)) ≡ drop 3444 (now (heads .entry))) × FilledBelow (now (heads .exit)) (now (nexts .entry)) (now (firsts .entry)) (a + 1) ⌝ }
+{
+    let from = a as usize;
+    if entry(firsts, from) == 0 {
+        return;
+    }
+    if entry(preds, from) != 0 {
+        return;
+    }
+    store_along(nexts, heads, a, from);
+}
+
+// The head of each anode's chain, or 0 for anode 0 and free ones, in the first 3,444 entries of the lent table.
+pub fn fill_heads(firsts: &[u16], nexts: &[u16], preds: &[u16], heads: &mut [u16])
+    requires { ⌜ (3444 ≤ length (now heads)) × ((a : ℕ) → a < 3444 → getD (now heads) a 0 ≡ 0) × View 3444 (λ a. getD (now nexts) a 0) (λ a. getD (now firsts) a 0) × Linked 3444 (λ a. getD (now nexts) a 0) (λ a. getD (now firsts) a 0) × PredTable (now preds) (now nexts) ⌝ }
+    ensures { λ _. ⌜ ((c : List ℕ) → now (heads .exit) ≡ anodeTable (anodesFrom c (now (firsts .entry)) (now (nexts .entry))) ++ drop 3444 (now (heads .entry))) ⌝ }
+{
+    for a in 1..3444 {
+        fill_head(firsts, nexts, preds, heads, a);
+    }
+}
+
+// A free extent that does not start above last reserved.
+fn not_above(count: u16, first: u16, last: u16) -> bool
+    ensures { λ r. ⌜ r ≡ (ltb 0 count && leb first last) ⌝ }
+{
+    if count == 0 {
+        return false;
+    }
+    first <= last
+}
+
+// A free extent that ends behind last reserved.
+fn not_up_to(count: u16, first: u16, last: u16) -> bool
+    ensures { λ r. ⌜ r ≡ (ltb 0 count && ltb (last + 1) (first + count)) ⌝ }
+{
+    if count == 0 {
+        return false;
+    }
+    let end = first as u32 + count as u32;
+    last as u32 + 1 < end
+}
+
+// 9 from anode 1 until 2 is met.
+fn wrong_before_two(counts: &[u16], firsts: &[u16], nexts: &[u16], last: u16) -> bool
+    ensures { λ r. ⌜ r ≡ wrongBefore (anodesFrom (now (counts .entry)) (now (firsts .entry)) (now (nexts .entry))) last 3444 1 ⌝ }
+{
+    let mut at: usize = 1;
+    let mut fuel: usize = 3444;
+    while 0 < fuel {
+        if at == 2 {
+            return false;
+        }
+        if at == 0 {
+            return true;
+        }
+        if not_above(entry(counts, at), entry(firsts, at), last) {
+            return true;
+        }
+        at = entry(nexts, at) as usize;
+        fuel -= 1;
+    }
+    true
+}
+
+// 9 from anode 2 on.
+fn wrong_from_two(counts: &[u16], firsts: &[u16], nexts: &[u16], last: u16) -> bool
+    ensures { λ r. ⌜ r ≡ anyIn (notUpTo (anodesFrom (now (counts .entry)) (now (firsts .entry)) (now (nexts .entry))) last) (chainOf (anodesFrom (now (counts .entry)) (now (firsts .entry)) (now (nexts .entry)) .next) 3444 2) ⌝ }
+{
+    let mut at: usize = 2;
+    let mut fuel: usize = 3444;
+    while 0 < fuel {
+        if at == 0 {
+            return false;
+        }
+        if not_up_to(entry(counts, at), entry(firsts, at), last) {
+            return true;
+        }
+        at = entry(nexts, at) as usize;
+        fuel -= 1;
+    }
+    false
+}
+
+// 9: 2 not on 1's chain, or a free extent on the wrong side.
+pub fn wrong_free_list(counts: &[u16], firsts: &[u16], nexts: &[u16], last: u16) -> bool
+    ensures { λ r. ⌜ r ≡ wrongFreeList (anodesFrom (now (counts .entry)) (now (firsts .entry)) (now (nexts .entry))) last ⌝ }
+{
+    if wrong_before_two(counts, firsts, nexts, last) {
+        return true;
+    }
+    wrong_from_two(counts, firsts, nexts, last)
+}

@@ -1,0 +1,97 @@
+use native.Mathlib.Omega.{arith}
+use lib.ListN.{length}
+use Rattle.format.proofs.Laws.{taken, root-lent, root-stored, anodes-blank, directory-stored}
+use borrow.Author.Needs.{needs}
+use Rattle.format.proofs.make.Statement.{statement}
+use Rattle.format.proofs.make.Tie as tie
+
+disk-size-requires : tie.Need-disk-size-requires
+disk-size-requires c κs = search needs
+
+cast-n : tie.Need-cast-n
+cast-n c =
+    let t = taken _ _ _ _ (c .before .before .before .before .pre .0) (c .before .before .before .before .pre .1) in
+    let e = c .disk-size .ensures in
+    search needs
+
+start-disk-requires : tie.Need-start-disk-requires
+start-disk-requires c κs =
+    let t = taken _ _ _ _ (c .before .before .before .before .before .pre .0) (c .before .before .before .before .before .pre .1) in
+    omega arith
+
+sub-put-root-block : tie.Need-sub-put-root-block
+sub-put-root-block c = search needs
+
+part-put-root-block-start : tie.Need-part-put-root-block-start
+part-put-root-block-start c = search needs
+
+part-put-root-block-end : tie.Need-part-put-root-block-end
+part-put-root-block-end c =
+    let t = taken _ _ _ _ (c .before .before .before .before .before .before .before .before .pre .0) (c .before .before .before .before .before .before .before .before .pre .1) in
+    omega arith
+
+put-root-block-requires : tie.Need-put-root-block-requires
+put-root-block-requires c κs =
+    let t = taken _ _ _ _ (c .before .before .before .before .before .before .before .before .before .pre .0) (c .before .before .before .before .before .before .before .before .before .pre .1) in
+    (root-lent _ (length (c .before .before .before .before .before .before .before .before .before .args .image .now)) (omega arith) (c .before .before .before .start-disk .ensures), t .few, t .short)
+
+put-anode-blocks-requires : tie.Need-put-anode-blocks-requires
+put-anode-blocks-requires c κs =
+    let p = c .before .before .before .before .before .before .before .before .before .before .before .before .before .pre in
+    let t = taken _ _ _ _ (p .0) (p .1) in
+    let e = root-stored _ _ _ _ _ _ _ _ (p .0) (p .1) _ _ (c .before .before .before .before .before .before .before .start-disk .ensures) (c .before .before .before .put-root-block .ensures) in
+    (t .room, omega arith, omega arith, anodes-blank _ _ _ _ _ _ _ _ (p .0) (p .1) _ e)
+
+add-from : tie.Need-add-from
+add-from c = search needs
+
+mul-from : tie.Need-mul-from
+mul-from c = search needs
+
+add-end : tie.Need-add-end
+add-end c = search needs
+
+sub-put-directory-head : tie.Need-sub-put-directory-head
+sub-put-directory-head c = search needs
+
+part-put-directory-head-start : tie.Need-part-put-directory-head-start
+part-put-directory-head-start c = search needs
+
+part-put-directory-head-end : tie.Need-part-put-directory-head-end
+part-put-directory-head-end c =
+    let t = taken _ _ _ _ (c .before .before .before .before .before .before .before .before .before .before .before .before .before .before .before .before .pre .0) (c .before .before .before .before .before .before .before .before .before .before .before .before .before .before .before .before .pre .1) in
+    omega arith
+
+put-directory-head-requires : tie.Need-put-directory-head-requires
+put-directory-head-requires c κs = search needs
+
+same-length : tie.Need-same-length
+same-length c = search needs
+
+returns : tie.Need-returns
+returns c =
+    let p = c .before .before .before .before .before .before .before .before .before .before .before .before .before .before .before .before .before .before .before .before .pre in
+    let e = root-stored _ _ _ _ _ _ _ _ (p .0) (p .1) _ _ (c .before .before .before .before .before .before .before .before .before .before .before .before .before .before .start-disk .ensures) (c .before .before .before .before .before .before .before .before .before .before .put-root-block .ensures) in
+    directory-stored _ _ _ _ _ _ _ _ (p .0) (p .1) _ _ _ _ e (c .before .before .before .before .before .before .before .before .before .before .before .before .before .before .before .before .disk-size .ensures) (c .before .before .before .before .before .before .put-anode-blocks .ensures) (c .before .before .put-directory-head .ensures)
+
+pub make-spec : {M : Type 1} → statement M
+make-spec =
+    tie.close
+    (tie.spec
+    disk-size-requires
+    cast-n
+    start-disk-requires
+    sub-put-root-block
+    part-put-root-block-start
+    part-put-root-block-end
+    put-root-block-requires
+    put-anode-blocks-requires
+    add-from
+    mul-from
+    add-end
+    sub-put-directory-head
+    part-put-directory-head-start
+    part-put-directory-head-end
+    put-directory-head-requires
+    same-length
+    returns)

@@ -1,0 +1,122 @@
+-- Which numbers the check answers: the walk's faults are 12 to 15, and damage found in anodes and directories is 6 to 16.
+use Prim.Native.Nat.{ℕ, zero, suc, _+_, _≤_, _<_}
+use mathlib.Core.Path.{_≡_, refl, sym, _∙_}
+use mathlib.Core.Logic.{_⊎_, inl, inr}
+use mathlib.Core.Bool.{Bool, true, false, cond, _&&_}
+use mathlib.Core.List.{List, [], _∷_, _++_, map}
+use native.Mathlib.Omega.{arith}
+use lib.Dec.{eqb, leb}
+use Rattle.rules.specs.Counting.{_if_else_, firstOf, times, gather, anyBelow}
+use Rattle.rules.specs.Anodes.{Anodes, limit}
+use Rattle.rules.specs.Chains.{chainOf, heads, blockCount}
+use Rattle.rules.specs.Walk.{Dir, Entered, Item, Scanned, faulty, fine, Walk, fault, done, walk, walkOf, visited, faultIn, scan, faultOf, subDirs, itemOf, itemsAt, itemsBy, itemsOf, broken, wrongAnode, wrongFileSize, blocksFor, entriesIn, isBlockOf, root}
+use Rattle.rules.specs.Accepted.{diskSize, lastReserved, wrongFixed, outOfRange, wrongLinks, wrongFreeList, twoOwners, noOwner, unnamedChain, treeFault, damageIn}
+
+-- 0, or one of the numbers from a up to b
+abbrev pub NoneOr : ℕ → ℕ → ℕ → Type 0
+NoneOr a b n = (n ≡ 0) ⊎ ((a ≤ n) × (n ≤ b))
+
+either-number : (t : Bool) (a b x y : ℕ) → NoneOr a b x → NoneOr a b y → NoneOr a b (cond t x y)
+either-number true a b x y p q = p
+either-number false a b x y p q = q
+
+first-number : (a b x y : ℕ) → NoneOr a b x → NoneOr a b y → NoneOr a b (firstOf x y)
+unfolding firstOf
+first-number a b zero y p q = q
+first-number a b (suc x) y p q = p
+
+pub if-number : (n : ℕ) (t : Bool) (a b rest : ℕ) → a ≤ n → n ≤ b → NoneOr a b rest → NoneOr a b (n if t else rest)
+if-number n true a b rest l m q = inr (l, m)
+if-number n false a b rest l m q = q
+
+-- what the walk may say of an item
+abbrev Told : Item → Type 0
+Told i = NoneOr 12 15 (i .early) × NoneOr 12 15 (i .late)
+
+abbrev AllTold : List Item → Type 0
+AllTold [] = Unit {0}
+AllTold (i ∷ is) = Told i × AllTold is
+
+told-append : (is js : List Item) → AllTold is → AllTold js → AllTold (is ++ js)
+told-append [] js p q = q
+told-append (i ∷ is) js p q = (p .0, told-append is js (p .1) q)
+
+told-entry : (s : Anodes) (e : Entered) → Told (itemOf s e)
+unfolding itemOf wrongAnode wrongFileSize
+told-entry s e = (
+  either-number (e .broken) 12 15 12 _ (inr (omega arith, omega arith)) (either-number (leb 6 (e .anode) && eqb (heads limit (s .next) (s .block) (e .anode)) 1) 12 15 0 13 (inl refl) (inr (omega arith, omega arith))),
+  either-number (e .dir) 12 15 0 _ (inl refl) (either-number (eqb (blockCount s (e .anode)) (blocksFor (e .size))) 12 15 0 15 (inl refl) (inr (omega arith, omega arith))),
+)
+
+told-entries : (s : Anodes) (es : List Entered) → AllTold (map (itemOf s) es)
+told-entries s [] = tt
+told-entries s (e ∷ es) = (told-entry s e, told-entries s es)
+
+told-at : (t : Bool) (s : Anodes) (es : List Entered) → AllTold (cond t (map (itemOf s) es) (broken ∷ []))
+told-at true s es = told-entries s es
+told-at false s es = ((inr (omega arith, omega arith), inl refl), tt)
+
+told-gather : (f : ℕ → List Item) → ((a : ℕ) → AllTold (f a)) → (l : List ℕ) → AllTold (gather f l)
+unfolding gather
+told-gather f p [] = tt
+told-gather f p (a ∷ l) = told-append (f a) (gather f l) (p a) (told-gather f p l)
+
+told-items : (img : List ℕ) (s : Anodes) (d : Dir) → AllTold (itemsOf img s d)
+unfolding itemsOf itemsBy itemsAt
+told-items img s d = told-gather (itemsAt (entriesIn img) (isBlockOf img) s d) (λ a. told-at (eqb (s .count a) 1 && isBlockOf img d (s .block a)) s (entriesIn img (s .block a))) (chainOf (s .next) limit (d .head))
+
+fault-told : (i : Item) (named : List ℕ) → Told i → NoneOr 12 15 (faultOf i named)
+unfolding faultOf
+fault-told i named p = first-number 12 15 (i .early) _ (p .0) (if-number 14 (leb 1 (times (i .anode) named)) 12 15 (i .late) (omega arith) (omega arith) (p .1))
+
+-- a fault that a scan or a walk answers
+abbrev Faulty : Scanned → Type 0
+Faulty (faulty n) = (12 ≤ n) × (n ≤ 15)
+Faulty (fine q l) = Unit {0}
+
+scan-told : (d : Dir) (is : List Item) (q : List Dir) (named : List ℕ) → AllTold is → Faulty (scan d is q named)
+unfolding scan
+scan-told d [] q named p = tt
+scan-told d (i ∷ is) q named p = go (faultOf i named) (fault-told i named (p .0)) (scan-told d is (q ++ subDirs d i) (i .anode ∷ named) (p .1))
+  where
+    go : (n : ℕ) → NoneOr 12 15 n → Faulty (scan d is (q ++ subDirs d i) (i .anode ∷ named)) → Faulty (elim n [ zero ↦ scan d is (q ++ subDirs d i) (i .anode ∷ named) | suc m ↦ faulty (suc m) ])
+    go zero r rest = rest
+    go (suc m) (inl z) rest = absurd (omega arith)
+    go (suc m) (inr r) rest = r
+
+visited-told : (d : Dir) (w : Walk) → NoneOr 12 15 (faultIn w) → NoneOr 12 15 (faultIn (visited d w))
+unfolding visited
+visited-told d (fault n) p = p
+visited-told d (done ds) p = inl refl
+
+walk-told : (items : Dir → List Item) → ((d : Dir) → AllTold (items d)) → (k : ℕ) (q : List Dir) (named : List ℕ) → NoneOr 12 15 (faultIn (walk items k q named))
+unfolding walk
+walk-told items p zero [] named = inl refl
+walk-told items p zero (d ∷ q) named = inr (omega arith, omega arith)
+walk-told items p (suc k) [] named = inl refl
+walk-told items p (suc k) (d ∷ q) named = go (scan d (items d) q named) (scan-told d (items d) q named (p d)) (walk-told items p k)
+  where
+    go : (c : Scanned) → Faulty c → ((q : List Dir) (l : List ℕ) → NoneOr 12 15 (faultIn (walk items k q l)))
+        → NoneOr 12 15 (faultIn (elim c [ faulty n ↦ fault n | fine q l ↦ visited d (walk items k q l) ]))
+    go (faulty n) r rest = inr r
+    go (fine q l) r rest = visited-told d (walk items k q l) (rest q l)
+
+pub walk-range : (img : List ℕ) (s : Anodes) → NoneOr 12 15 (faultIn (walkOf img s))
+unfolding walkOf
+walk-range img s = walk-told (itemsOf img s) (told-items img s) limit (root ∷ []) []
+
+wider : (a b c d n : ℕ) → c ≤ a → b ≤ d → NoneOr a b n → NoneOr c d n
+wider a b c d n l m (inl z) = inl z
+wider a b c d n l m (inr r) = inr (omega arith, omega arith)
+
+pub damage-range : (img : List ℕ) (s : Anodes) → NoneOr 6 16 (damageIn img s)
+unfolding damageIn treeFault
+damage-range img s =
+    if-number 6 (wrongFixed s) 6 16 _ (omega arith) (omega arith)
+    (if-number 7 (anyBelow (outOfRange s (diskSize img)) limit) 6 16 _ (omega arith) (omega arith)
+    (if-number 8 (wrongLinks s) 6 16 _ (omega arith) (omega arith)
+    (if-number 9 (wrongFreeList s (lastReserved img)) 6 16 _ (omega arith) (omega arith)
+    (if-number 10 (twoOwners img s) 6 16 _ (omega arith) (omega arith)
+    (if-number 11 (noOwner img s) 6 16 _ (omega arith) (omega arith)
+    (first-number 6 16 (faultIn (walkOf img s)) _ (wider 12 15 6 16 (faultIn (walkOf img s)) (omega arith) (omega arith) (walk-range img s))
+    (if-number 16 (anyBelow (unnamedChain img s) limit) 6 16 0 (omega arith) (omega arith) (inl refl))))))))
