@@ -1,0 +1,74 @@
+-- The check accepts a formatted image, and what its summary says.
+use Prim.Native.Nat.{ℕ, _+_, _-_, _≤_, _<_}
+use mathlib.Core.Path.{_≡_, ap}
+use mathlib.Core.Bool.{false}
+use mathlib.Core.List.{List, [], _∷_}
+use lib.Dec.{leb}
+use borrow.Author.Tests.{leb-true}
+use Rattle.rules.specs.Anodes.{Anodes, limit, exists, anodesOf}
+use Rattle.rules.specs.Chains.{systemOwns, blockCount}
+use Rattle.rules.specs.Walk.{root, reached, reachedDirs, faultIn}
+use Rattle.rules.specs.Accepted.{diskSize, wrongSize, ownersOf, twoOwners, noOwner, unnamedChain, checkAnswer}
+use Rattle.rules.specs.Format.{wrongFormat, formatted}
+use Rattle.counting.specs.Laws.{anyBelow-all}
+use Rattle.laws.specs.Acceptance.{none-and, Passed, passed-accepted, Tested, passes-tested}
+use Rattle.format.proofs.Laws.{Taken, taken}
+use Rattle.format_laws.specs.Anodes.{Laid, laid}
+use Rattle.format_laws.specs.Links.{no-head, free-blocks}
+use Rattle.format_laws.specs.Owners.{system-owns}
+use Rattle.format_laws.specs.Passes.{laid-passes}
+use Rattle.format_laws.specs.Blocks.{disk-size, size-right, tables-long, type-right, last-is, root-right, slots-right}
+use Rattle.format_laws.specs.Walk.{walked, root-reached, none-reached}
+
+module _ (img : List ℕ) (last k : ℕ) (name : List ℕ) (day minute tick protection : ℕ) (size : wrongSize img ≡ false) (good : wrongFormat img last k name ≡ false) where
+  abbrev disk : List ℕ
+  disk = formatted img last k name day minute tick protection
+
+  abbrev s : Anodes
+  s = anodesOf disk
+
+  args : Taken img last k name
+  args = taken img last k name size good
+
+  anodes-laid : Laid s (diskSize img) last k
+  anodes-laid = laid img last k name day minute tick protection size good
+
+  tested : Tested s (diskSize img) last (systemOwns disk) (exists disk)
+  tested = passes-tested s (diskSize img) last (systemOwns disk) (exists disk)
+      (laid-passes anodes-laid (args .room) (args .there) (systemOwns disk) (system-owns img last k name day minute tick protection size good) (exists disk))
+
+  named : (x : ℕ) → x < limit → unnamedChain disk s x ≡ false
+  unfolding unnamedChain
+  named x l = none-and (leb 6 x) _ (λ h. rw (no-head anodes-laid x (leb-true 6 x h)))
+
+  passed : (blocks anodes : ℕ) → diskSize img ≤ blocks → limit ≤ anodes → Passed disk blocks anodes
+  unfolding twoOwners noOwner ownersOf
+  passed blocks anodes b a = record {
+    size-right = size-right img last k name day minute tick protection size good;
+    tables-long = tables-long img last k name day minute tick protection size good blocks anodes b a;
+    type-right = type-right img last k name day minute tick protection size good;
+    root-right = root-right img last k name day minute tick protection size good;
+    slots-right = slots-right img last k name day minute tick protection size good;
+    fixed-right = tested .fixed-right;
+    in-range = rw (disk-size img last k name day minute tick protection) (tested .in-range);
+    links-right = tested .links-right;
+    free-right = rw (last-is img last k name day minute tick protection size good) (tested .free-right);
+    none-twice = rw (disk-size img last k name day minute tick protection) (tested .none-twice);
+    all-owned = rw (disk-size img last k name day minute tick protection) (tested .all-owned);
+    walked = ap faultIn (walked img last k name day minute tick protection size good s anodes-laid);
+    all-named = anyBelow-all (unnamedChain disk s) limit named;
+  }
+
+  pub formatted-accepted : (blocks anodes : ℕ) → diskSize img ≤ blocks → 3444 ≤ anodes → checkAnswer disk blocks anodes ≡ 0
+  formatted-accepted blocks anodes b a = passed-accepted disk blocks anodes (passed blocks anodes b a)
+
+  -- ---- what its summary says
+
+  pub formatted-free : blockCount s 1 ≡ diskSize img - (4 + k)
+  formatted-free = free-blocks anodes-laid (args .room) (args .there)
+
+  pub formatted-items : reached disk s ≡ []
+  formatted-items = none-reached img last k name day minute tick protection size good s anodes-laid
+
+  pub formatted-dirs : reachedDirs disk s ≡ root ∷ []
+  formatted-dirs = root-reached img last k name day minute tick protection size good s anodes-laid

@@ -1,0 +1,139 @@
+-- The anodes of a formatted image: in use are 0, 1, 2, 5 and, where blocks lie above last reserved, 6.
+use Prim.Native.Nat.{ℕ, _+_, _-_, _<_}
+use mathlib.Core.Path.{_≡_, ap, _∙_}
+use mathlib.Core.Logic.{_≢_, _⊎_, inl, inr}
+use mathlib.Core.Bool.{false}
+use mathlib.Core.List.{List}
+use native.Mathlib.Omega.{arith}
+use borrow.Author.Tests.{eq-eqb, ne-eqb}
+use Rattle.disk.specs.declared.Anode.{Anode}
+use Rattle.disk.specs.AnodeBlocks.{anodeMade, anodeOf}
+use Rattle.rules.specs.Anodes.{Anodes, anodesOf}
+use Rattle.rules.specs.Accepted.{diskSize, wrongSize}
+use Rattle.rules.specs.Format.{wrongFormat, lowerAnode, upperAnode, listHead, formatted}
+use Rattle.laws.specs.Tests.{same?}
+use Rattle.laws.specs.ImageAnodes.{block-at, count-at, next-at, reading-of}
+use Rattle.format.proofs.Laws.{anodeOf-formatted-0, anodeOf-formatted-1, anodeOf-formatted-2, anodeOf-formatted-5, anodeOf-formatted-6, anodeOf-formatted-other}
+
+-- the three fields of an anode
+pub record At (s : Anodes) (a c b m : ℕ) : Type 0 where
+  pub count : s .count a ≡ c
+  pub block : s .block a ≡ b
+  pub next : s .next a ≡ m
+
+-- an anode that may be in use, by its number, or a free one
+pub data Which (s : Anodes) : ℕ → Type 0 where
+  is-0 : Which s 0
+  is-1 : Which s 1
+  is-2 : Which s 2
+  is-5 : Which s 5
+  is-6 : Which s 6
+  free : (a : ℕ) → At s a 0 0 0 → Which s a
+
+-- 1 links to 2 and 6 is free, or 1 links to 6 and that to 2
+pub data Linking (s : Anodes) : Type 0 where
+  plain : At s 1 0 65535 2 → At s 6 0 0 0 → Linking s
+  over : At s 1 0 65535 6 → s .block 6 ≢ 0 → s .next 6 ≡ 2 → Linking s
+
+-- an anode owns c blocks, from b on where there are any
+pub record Owns (s : Anodes) (a c b : ℕ) : Type 0 where
+  pub count : s .count a ≡ c
+  pub start : 0 < c → s .block a ≡ b
+
+-- what the anodes of a formatted image are: free blocks are 2's and 6's, the root directory's is 5's
+pub record Laid (s : Anodes) (n last k : ℕ) : Type 0 where
+  pub at-0 : At s 0 0 65535 0
+  pub owns-2 : Owns s 2 (last - (3 + k)) (4 + k)
+  pub block-2 : s .block 2 ≢ 0
+  pub next-2 : s .next 2 ≡ 0
+  pub at-5 : At s 5 1 (3 + k) 0
+  pub owns-6 : Owns s 6 (n - (last + 1)) (last + 1)
+  pub linking : Linking s
+  pub which : (a : ℕ) → Which s a
+
+-- ---- the fields by what is stored
+
+module _ (img : List ℕ) (a : ℕ) where
+  at-used : (c b m : ℕ) → anodeOf img a ≡ anodeMade c b m → b ≢ 0 → At (anodesOf img) a c b m
+  at-used c b m e u =
+      let is : anodesOf img .block a ≡ b = block-at img a ∙ ap (λ (x : Anode). x .block .0) e in
+      let v : anodesOf img .block a ≢ 0 = rw is u in
+      record { count = count-at img a v ∙ ap (λ (x : Anode). x .count) e; block = is; next = next-at img a v ∙ ap (λ (x : Anode). x .next .0) e }
+
+  at-free : anodeOf img a ≡ anodeMade 0 0 0 → At (anodesOf img) a 0 0 0
+  at-free e =
+      let is : anodesOf img .block a ≡ 0 = block-at img a ∙ ap (λ (x : Anode). x .block .0) e in
+      let r = reading-of img 0 0 in
+      record { count = r .free-count a is; block = is; next = r .free-next a is }
+
+module _ (img : List ℕ) (last k : ℕ) (name : List ℕ) (day minute tick protection : ℕ) (size : wrongSize img ≡ false) (good : wrongFormat img last k name ≡ false) where
+  abbrev disk : List ℕ
+  disk = formatted img last k name day minute tick protection
+
+  -- anode 2, without and with blocks
+  lower : (At (anodesOf disk) 2 0 65535 0 × (last ≡ 3 + k)) ⊎ At (anodesOf disk) 2 (last - (3 + k)) (4 + k) 0
+  unfolding lowerAnode
+  lower =
+      let e = anodeOf-formatted-2 img last k name day minute tick protection size good in
+      elim (same? last (3 + k)) [
+        | inl q ↦ inl (at-used disk 2 0 65535 0 (e ∙ rw (eq-eqb last (3 + k) q)) (omega arith), q)
+        | inr q ↦ inr (at-used disk 2 (last - (3 + k)) (4 + k) 0 (e ∙ rw (ne-eqb last (3 + k) q)) (omega arith))
+      ]
+
+  -- anodes 1 and 6, without and with blocks above last reserved
+  upper : (At (anodesOf disk) 1 0 65535 2 × At (anodesOf disk) 6 0 0 0 × (last + 1 ≡ diskSize img))
+      ⊎ (At (anodesOf disk) 1 0 65535 6 × At (anodesOf disk) 6 (diskSize img - (last + 1)) (last + 1) 2)
+  unfolding upperAnode listHead
+  upper =
+      let e = anodeOf-formatted-1 img last k name day minute tick protection size good in
+      let f = anodeOf-formatted-6 img last k name day minute tick protection size good in
+      elim (same? (last + 1) (diskSize img)) [
+        | inl q ↦ inl (
+          at-used disk 1 0 65535 2 (e ∙ rw (eq-eqb (last + 1) (diskSize img) q)) (omega arith),
+          at-free disk 6 (f ∙ rw (eq-eqb (last + 1) (diskSize img) q)),
+          q,
+        )
+        | inr q ↦ inr (
+          at-used disk 1 0 65535 6 (e ∙ rw (ne-eqb (last + 1) (diskSize img) q)) (omega arith),
+          at-used disk 6 (diskSize img - (last + 1)) (last + 1) 2 (f ∙ rw (ne-eqb (last + 1) (diskSize img) q)) (omega arith),
+        )
+      ]
+
+  which : (a : ℕ) → Which (anodesOf disk) a
+  which a = elim (same? a 0) [
+    | inl e ↦ rw e is-0
+    | inr n0 ↦ elim (same? a 1) [
+      | inl e ↦ rw e is-1
+      | inr n1 ↦ elim (same? a 2) [
+        | inl e ↦ rw e is-2
+        | inr n2 ↦ elim (same? a 5) [
+          | inl e ↦ rw e is-5
+          | inr n5 ↦ elim (same? a 6) [
+            | inl e ↦ rw e is-6
+            | inr n6 ↦ free a (at-free disk a (anodeOf-formatted-other img last k name day minute tick protection size good a n0 n1 n2 n5 n6))
+          ]
+        ]
+      ]
+    ]
+  ]
+
+  pub laid : Laid (anodesOf disk) (diskSize img) last k
+  laid = record {
+    at-0 = at-used disk 0 0 65535 0 (anodeOf-formatted-0 img last k name day minute tick protection size good) (omega arith);
+    owns-2 = elim lower [
+      | inl e ↦ record { count = omega (arith, e .0 .count, e .1); start = λ p. absurd (omega (arith, e .1)) }
+      | inr e ↦ record { count = e .count; start = λ p. e .block }
+    ];
+    block-2 = elim lower [ inl e ↦ rw (e .0 .block) (omega arith) | inr e ↦ rw (e .block) (omega arith) ];
+    next-2 = elim lower [ inl e ↦ e .0 .next | inr e ↦ e .next ];
+    at-5 = at-used disk 5 1 (3 + k) 0 (anodeOf-formatted-5 img last k name day minute tick protection size good) (omega arith);
+    owns-6 = elim upper [
+      | inl e ↦ record { count = omega (arith, e .1 .count, e .2); start = λ p. absurd (omega (arith, e .2)) }
+      | inr e ↦ record { count = e .1 .count; start = λ p. e .1 .block }
+    ];
+    linking = elim upper [
+      | inl e ↦ plain (e .0) (e .1)
+      | inr e ↦ over (e .0) (rw (e .1 .block) (omega arith)) (e .1 .next)
+    ];
+    which = which;
+  }

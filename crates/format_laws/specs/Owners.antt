@@ -1,0 +1,120 @@
+-- Each block of a formatted image has one owner.
+use Prim.Native.Nat.{ℕ, _+_, _-_, _≤_, _<_}
+use mathlib.Core.Path.{_≡_, refl, sym, _∙_}
+use mathlib.Core.Logic.{_≢_, inl, inr}
+use mathlib.Core.Bool.{false}
+use mathlib.Core.List.{List}
+use native.Mathlib.Omega.{arith}
+use borrow.Author.Tests.{lt-ltb, le-ltb, ne-eqb}
+use Rattle.rules.specs.Counting.{oneAt, sumBelow, changed}
+use Rattle.rules.specs.Anodes.{Anodes, limit}
+use Rattle.rules.specs.Chains.{covers, holds, systemOwns, owners}
+use Rattle.rules.specs.Accepted.{wrongSize}
+use Rattle.rules.specs.Format.{wrongFormat, formatted}
+use Rattle.laws.specs.Tests.{less?}
+use Rattle.laws.specs.Sums.{oneAt-same, oneAt-other, changed-cases, changed-same, changed-other, sum-zero, sum-single, sum-update}
+use Rattle.laws.specs.Ownership.{covers-in, covers-under, covers-over, covers-none}
+use Rattle.format.proofs.Laws.{Taken, taken, slotOf-formatted-some, slotOf-formatted-none}
+use Rattle.format_laws.specs.Anodes.{Which, is-0, is-1, is-2, is-5, is-6, free, Owns, Laid}
+use Rattle.format_laws.specs.Links.{count-1}
+
+-- the first c blocks, and the d behind them
+covers-join : (c d e x : ℕ) → e ≡ c + d → covers c 0 x + covers d c x ≡ covers e 0 x
+covers-join c d e x q = elim (less? x c) [
+  | inl h ↦ omega (arith, covers-in c 0 x (omega arith) (omega arith), covers-under d c x h, covers-in e 0 x (omega arith) (omega arith))
+  | inr h ↦ elim (less? x e) [
+    | inl g ↦ omega (arith, covers-over c 0 x (omega arith), covers-in d c x h (omega arith), covers-in e 0 x (omega arith) (omega arith))
+    | inr g ↦ omega (arith, covers-over c 0 x (omega arith), covers-over d c x (omega arith), covers-over e 0 x (omega arith))
+  ]
+]
+
+-- a sum where all but three vanish
+sum-three : (f : ℕ → ℕ) (i j l n : ℕ) → i < n → j < n → l < n → i ≢ j → i ≢ l → j ≢ l → ((a : ℕ) → a ≢ i → a ≢ j → a ≢ l → f a ≡ 0) → sumBelow f n ≡ f i + f j + f l
+sum-three f i j l n i< j< l< ij il jl z =
+    let g = changed f i 0 in
+    let h = changed g j 0 in
+    omega (
+      arith,
+      sum-update f g i n i< (λ a m e. sym (changed-other f i 0 a e)),
+      changed-same f i 0,
+      sum-update g h j n j< (λ a m e. sym (changed-other g j 0 a e)),
+      changed-same g j 0,
+      changed-other f i 0 j (λ e. ij (sym e)),
+      sum-single h l n l< rest,
+      changed-other g j 0 l (λ e. jl (sym e)),
+      changed-other f i 0 l (λ e. il (sym e)),
+    )
+  where
+    rest : (a : ℕ) → a < n → a ≢ l → changed (changed f i 0) j 0 a ≡ 0
+    rest a m al = elim (changed-cases (changed f i 0) j 0 a) [
+      | inl e ↦ e .1
+      | inr e ↦ e .1 ∙ elim (changed-cases f i 0 a) [ inl d ↦ d .1 | inr d ↦ d .1 ∙ z a (d .0) (e .0) al ]
+    ]
+
+module _ {s : Anodes} {n last k : ℕ} (m : Laid s n last k) where
+  owned : (a c b x : ℕ) → Owns s a c b → covers (s .count a) (s .block a) x ≡ covers c b x
+  owned a c b x o = elim (less? 0 c) [
+    | inl p ↦ rw (o .count, o .start p)
+    | inr p ↦ (let e : c ≡ 0 = omega arith in rw (o .count, e) (covers-none (s .block a) x ∙ sym (covers-none b x)))
+  ]
+
+  none-owned : (a x : ℕ) → s .count a ≡ 0 → covers (s .count a) (s .block a) x ≡ 0
+  none-owned a x e = rw e (covers-none (s .block a) x)
+
+  others : (x a : ℕ) → Which s a → a ≢ 2 → a ≢ 5 → a ≢ 6 → covers (s .count a) (s .block a) x ≡ 0
+  others x _ is-0 n2 n5 n6 = none-owned 0 x (m .at-0 .count)
+  others x _ is-1 n2 n5 n6 = none-owned 1 x (count-1 m)
+  others x _ is-2 n2 n5 n6 = absurd (n2 refl)
+  others x _ is-5 n2 n5 n6 = absurd (n5 refl)
+  others x _ is-6 n2 n5 n6 = absurd (n6 refl)
+  others x _ (free a f) n2 n5 n6 = none-owned a x (f .count)
+
+  pub one-owner : (system : ℕ → ℕ) (x : ℕ) → system x ≡ covers (3 + k) 0 x → 3 + k ≤ last → last < n → x < n → owners limit (s .count) (s .block) system x ≡ 1
+  unfolding owners
+  one-owner system x sys room there l = omega (
+    arith,
+    sum-three (λ a. covers (s .count a) (s .block a) x) 2 5 6 limit (omega arith) (omega arith) (omega arith) (omega arith) (omega arith) (omega arith) (λ a. others x a (m .which a)),
+    owned 2 (last - (3 + k)) (4 + k) x (m .owns-2),
+    owned 5 1 (3 + k) x (record { count = m .at-5 .count; start = λ p. m .at-5 .block }),
+    owned 6 (n - (last + 1)) (last + 1) x (m .owns-6),
+    covers-join (3 + k) 1 (4 + k) x (omega arith),
+    covers-join (4 + k) (last - (3 + k)) (last + 1) x (omega arith),
+    covers-join (last + 1) (n - (last + 1)) n x (omega arith),
+    covers-in n 0 x (omega arith) (omega arith),
+  )
+
+-- ---- the system's blocks
+
+module _ (img : List ℕ) (last k : ℕ) (name : List ℕ) (day minute tick protection : ℕ) (size : wrongSize img ≡ false) (good : wrongFormat img last k name ≡ false) where
+  abbrev disk : List ℕ
+  disk = formatted img last k name day minute tick protection
+
+  -- handed to `omega`
+  args : Taken img last k name
+  args = taken img last k name size good
+
+  -- slot s holds block 3 + s where it is below k, else none
+  holds-some : (x s : ℕ) → s < k → holds disk x s ≡ oneAt (3 + s) x
+  unfolding holds
+  holds-some x s h = rw (slotOf-formatted-some img last k name day minute tick protection size good s h, ne-eqb (3 + s) 0 (omega arith))
+
+  holds-none : (x s : ℕ) → (s < k → 3 + s ≢ x) → holds disk x s ≡ 0
+  unfolding holds
+  holds-none x s o = elim (less? s k) [
+    | inl h ↦ holds-some x s h ∙ oneAt-other (3 + s) x (o h)
+    | inr h ↦ rw (slotOf-formatted-none img last k name day minute tick protection size good s h)
+  ]
+
+  slots-hold : (x : ℕ) → 3 ≤ x → sumBelow (holds disk x) 42 ≡ covers (3 + k) 0 x
+  slots-hold x l = elim (less? x (3 + k)) [
+    | inl h ↦ sum-single (holds disk x) (x - 3) 42 (omega (arith, args)) (λ s g e. holds-none x s (λ i. omega arith))
+        ∙ holds-some x (x - 3) (omega arith) ∙ oneAt-same (3 + (x - 3)) x (omega arith) ∙ sym (covers-in (3 + k) 0 x (omega arith) (omega arith))
+    | inr h ↦ sum-zero (holds disk x) 42 (λ s g. holds-none x s (λ i. omega arith)) ∙ sym (covers-over (3 + k) 0 x (omega arith))
+  ]
+
+  pub system-owns : (x : ℕ) → systemOwns disk x ≡ covers (3 + k) 0 x
+  unfolding systemOwns
+  system-owns x = elim (less? x 3) [
+    | inl l ↦ rw (lt-ltb x 3 l) (sym (covers-in (3 + k) 0 x (omega arith) (omega arith)))
+    | inr l ↦ rw (le-ltb x 3 l) (slots-hold x l)
+  ]

@@ -1,0 +1,91 @@
+-- The walk over a formatted image: the root directory alone, with no entry.
+use Prim.Native.Nat.{ℕ, zero, suc, _+_}
+use mathlib.Core.Path.{_≡_, refl, _∙_}
+use mathlib.Core.Bool.{true, false}
+use mathlib.Core.List.{List, [], _∷_}
+use native.Mathlib.Omega.{arith}
+use lib.ListN.{getD, length-replicate, getD-replicate}
+use borrow.Author.Tests.{eq-eqb}
+use Rattle.disk.specs.Blocks.{blockOf}
+use Rattle.directory.specs.declared.DirectoryHead.{DirectoryHead}
+use Rattle.directory.specs.declared.Walked.the-variants.{End}
+use Rattle.directory.specs.Entries.{directoryMark, directoryHeadIn, walkedAt}
+use Rattle.directory.proofs.Laws.{getD-putDirectoryHead-after, directoryHeadIn-putDirectoryHead}
+use Rattle.rules.specs.Counting.{gather}
+use Rattle.rules.specs.Anodes.{Anodes}
+use Rattle.rules.specs.Accepted.{diskSize, wrongSize}
+use Rattle.rules.specs.Walk.{Dir, root, Item, entriesFrom, entriesIn, isBlockOf, itemsBy, itemsOf, scan, done, visited, walk, walkOf, reachedDirs, reached}
+use Rattle.rules.specs.Format.{wrongFormat, zeroBlock, rootDirectory, formatted}
+use Rattle.laws.specs.Entries.{itemsAt-whole}
+use Rattle.format.proofs.Laws.{blockOf-formatted-directory}
+use Rattle.format_laws.specs.Anodes.{Laid}
+use Rattle.format_laws.specs.Links.{root-is}
+
+-- ---- the root directory's block
+
+abbrev rootHead : DirectoryHead
+rootHead = record { mark = directoryMark; owner = record { 0 = 5 }; parent = record { 0 = 0 } }
+
+head-root : directoryHeadIn rootDirectory ≡ rootHead
+unfolding rootDirectory
+head-root = directoryHeadIn-putDirectoryHead zeroBlock rootHead (omega (arith, length-replicate {A = ℕ} 512 0))
+
+ends-root : walkedAt rootDirectory 16 ≡ End
+unfolding walkedAt rootDirectory
+ends-root =
+    let first : getD rootDirectory 16 0 ≡ 0 = getD-putDirectoryHead-after zeroBlock rootHead 16 (omega arith) ∙ getD-replicate {A = ℕ} 512 16 0 0 (omega arith) in
+    rw (eq-eqb (getD rootDirectory 16 0) 0 first)
+
+-- where the end mark stands first there is no entry
+entries-end : (f : ℕ) (b : List ℕ) (y at : ℕ) → walkedAt b at ≡ End → entriesFrom (suc f) b y at ≡ []
+unfolding entriesFrom
+entries-end f b y at e = rw e
+
+-- ---- a walk from a directory with no item
+
+module _ (items : Dir → List Item) where
+  walk-empty : (k : ℕ) → walk items k [] [] ≡ done []
+  unfolding walk
+  walk-empty zero = refl
+  walk-empty (suc k) = refl
+
+  walk-alone : (k : ℕ) (d : Dir) → items d ≡ [] → walk items (suc k) (d ∷ []) [] ≡ done (d ∷ [])
+  unfolding walk scan visited
+  walk-alone k d none = rw (none, walk, walk-empty k)
+
+module _ (img : List ℕ) (last k : ℕ) (name : List ℕ) (day minute tick protection : ℕ) (size : wrongSize img ≡ false) (good : wrongFormat img last k name ≡ false) where
+  abbrev disk : List ℕ
+  disk = formatted img last k name day minute tick protection
+
+  directory-is : blockOf disk (3 + k) ≡ rootDirectory
+  directory-is = blockOf-formatted-directory img last k name day minute tick protection size good
+
+  no-entries : entriesIn disk (3 + k) ≡ []
+  unfolding entriesIn
+  no-entries = entries-end 27 (blockOf disk (3 + k)) (3 + k) 16 (rw directory-is ends-root)
+
+  marked : isBlockOf disk root (3 + k) ≡ true
+  unfolding isBlockOf
+  marked = rw (directory-is, head-root)
+
+  module _ (s : Anodes) (m : Laid s (diskSize img) last k) where
+    no-items : itemsOf disk s root ≡ []
+    unfolding itemsOf itemsBy gather
+    no-items = rw (
+      root-is m,
+      itemsAt-whole (entriesIn disk) (isBlockOf disk) s root 5 (m .at-5 .count) (rw (m .at-5 .block, marked) tt),
+      m .at-5 .block,
+      no-entries,
+    )
+
+    pub walked : walkOf disk s ≡ done (root ∷ [])
+    unfolding walkOf
+    walked = walk-alone (itemsOf disk s) 3443 root no-items
+
+    pub root-reached : reachedDirs disk s ≡ root ∷ []
+    unfolding reachedDirs
+    root-reached = rw walked
+
+    pub none-reached : reached disk s ≡ []
+    unfolding reached gather
+    none-reached = rw (root-reached, no-items)

@@ -1,0 +1,1 @@
+// Theorems about a formatted image; they stand in specs/.
