@@ -1,0 +1,314 @@
+-- Laws of the definitions of `specs/`. Assumes nothing.
+use Prim.Native.Nat.{ℕ, zero, suc, _+_, _*_, _<_, _≤_}
+use mathlib.Core.Path.{_≡_, refl, ap, _∙_}
+use mathlib.Core.Bool.{Bool, true, false, cond, or-true, false≢true}
+use mathlib.Core.Logic.{⊎-elim}
+use mathlib.Core.List.{List, [], _∷_, _++_, map}
+use native.Mathlib.Nat.{not-suc-le-zero, zero-add, add-zero, eq-or-lt-of-le, le-of-suc-le-suc}
+use native.Mathlib.Numerals.{add-one}
+use native.Mathlib.Omega.{arith}
+use lib.Dec.{eqb, leb, ltb}
+use lib.ListN.{length, getD, set, drop, length-set, length-append, drop-of-length-le}
+use lib.Seq.{drop-append-le, getD-set-same, getD-set-other}
+use borrow.Author.Tests.{eq-eqb, ne-eqb, leb-true, ltb-true}
+use Rattle.disk.specs.declared.Refusal.{Refusal}
+use Rattle.disk.specs.Blocks.{blockOf}
+use Rattle.directory.specs.declared.Kind.{Kind}
+use Rattle.directory.specs.declared.Kind.the-variants.{File, Directory}
+use Rattle.directory.specs.declared.Entry.{Entry}
+use Rattle.directory.specs.declared.Walked.the-variants.{Found, End, Fault}
+use Rattle.directory.specs.Entries.{walkedAt}
+use Rattle.rules.specs.Counting.{anyBelow, sumList, gather}
+use Rattle.rules.specs.Anodes.{Anodes, limit}
+use Rattle.rules.specs.Chains.{chainOf}
+use Rattle.rules.specs.Walk.{Dir, Entered, Item, entriesFrom, entriesIn, isBlockOf, blocksFor}
+use Rattle.tree.specs.Steps.{dirMade, sumFrom, headAt, enteredAt, itemIn, Progress, stopped, going, refuse, enterItem, onward, enterAll, itemsFor, itemsAlong, halted, ended, afterDir, runFrom, dirsFrom, queueOf, marked}
+
+-- ---- the sum along a chain
+
+pub sum-none : (counts nexts : List ℕ) (a : ℕ) → sumFrom counts nexts 0 a ≡ 0
+unfolding sumFrom sumList chainOf
+sum-none counts nexts a = refl
+
+pub sum-end : (counts nexts : List ℕ) (k a : ℕ) → a ≡ 0 → sumFrom counts nexts k a ≡ 0
+unfolding sumFrom sumList chainOf
+sum-end counts nexts zero a e = refl
+sum-end counts nexts (suc k) a e = rw e
+
+pub sum-step : (counts nexts : List ℕ) (k m a : ℕ) → k ≡ m + 1 → (a ≡ 0 → ⊥)
+    → sumFrom counts nexts k a ≡ getD counts a 0 + sumFrom counts nexts m (getD nexts a 0)
+unfolding sumFrom sumList chainOf
+sum-step counts nexts k m zero e n = absurd (n refl)
+sum-step counts nexts k m (suc a) e n = rw (e, add-one m)
+
+-- ---- marks
+
+-- an anode that an entry may name has a place in the tables
+pub head-range : (heads : List ℕ) (a : ℕ) → headAt heads a ≡ true → (6 ≤ a) × (a < limit)
+unfolding headAt
+head-range heads a h = go (leb 6 a) (ltb a limit) refl refl h where
+  go : (p q : Bool) → leb 6 a ≡ p → ltb a limit ≡ q → cond p (cond q (eqb (getD heads a 0) a) false) false ≡ true → (6 ≤ a) × (a < limit)
+  go false q e f t = absurd (false≢true t)
+  go true false e f t = absurd (false≢true t)
+  go true true e f t = (leb-true 6 a e, ltb-true a limit f)
+
+pub marked-more : (marks : List ℕ) (i : ℕ) → i < length marks → getD marks i 0 ≡ 0 → marked (set marks i 1) ≡ marked marks + 1
+unfolding marked sumList
+marked-more [] i h e = absurd (not-suc-le-zero h)
+marked-more (x ∷ l) zero h e = rw e (omega arith)
+marked-more (x ∷ l) (suc i) h e = omega (arith, marked-more l i (omega arith) e)
+
+one-most : (b : Bool) → cond b 0 1 ≤ 1
+one-most true = omega arith
+one-most false = omega arith
+
+pub marked-most : (marks : List ℕ) → marked marks ≤ length marks
+unfolding marked sumList
+marked-most [] = omega arith
+marked-most (x ∷ l) = omega (arith, marked-most l, one-most (eqb x 0))
+
+-- so one more fits where n have marks of their own
+pub marked-room : (heads marks : List ℕ) (a n : ℕ) → headAt heads a ≡ true → getD marks a 0 ≡ 0 → length marks ≡ limit → n ≤ marked marks
+    → (n < limit) × (n + 1 ≤ marked (set marks a 1))
+marked-room heads marks a n h e whole fits =
+    let range = head-range heads a h in
+    let more = marked-more marks a (omega arith) e in
+    let most = marked-most (set marks a 1) in
+    let same = length-set marks a 1 in
+    (omega arith, omega arith)
+
+-- ---- the queue
+
+dirs-push : (queue parents : List ℕ) (i n j a h : ℕ) → j ≡ i + n → j < length queue → j < length parents
+    → dirsFrom (set queue j a) (set parents j h) i (suc n) ≡ dirsFrom queue parents i n ++ (dirMade a h ∷ [])
+unfolding dirsFrom
+dirs-push queue parents i zero j a h e p q =
+    let k : i ≡ j = omega arith in
+    rw (k, getD-set-same queue j a 0 p, getD-set-same parents j h 0 q)
+dirs-push queue parents i (suc n) j a h e p q =
+    rw (getD-set-other queue j i a 0 (omega arith), getD-set-other parents j i h 0 (omega arith), dirs-push queue parents (suc i) n j a h (omega arith) p q)
+
+pub queue-push : (queue parents : List ℕ) (n a h : ℕ) → n < length queue → n < length parents
+    → queueOf (set queue n a) (set parents n h) (n + 1) ≡ queueOf queue parents n ++ (dirMade a h ∷ [])
+unfolding queueOf
+queue-push queue parents n a h p q = rw (add-one n) (dirs-push queue parents 0 n n a h (omega arith) p q)
+
+dirs-pop : (queue parents : List ℕ) (i j n : ℕ) → j < n
+    → drop j (dirsFrom queue parents i n) ≡ dirMade (getD queue (i + j) 0) (getD parents (i + j) 0) ∷ drop (suc j) (dirsFrom queue parents i n)
+unfolding dirsFrom
+dirs-pop queue parents i j zero h = absurd (not-suc-le-zero h)
+dirs-pop queue parents i zero (suc n) h = rw (add-zero i)
+dirs-pop queue parents i (suc j) (suc n) h =
+    let e : i + suc j ≡ suc i + j = omega arith in
+    rw e (dirs-pop queue parents (suc i) j n (omega arith))
+
+queue-pop : (queue parents : List ℕ) (j n : ℕ) → j < n
+    → drop j (queueOf queue parents n) ≡ dirMade (getD queue j 0) (getD parents j 0) ∷ drop (j + 1) (queueOf queue parents n)
+unfolding queueOf
+queue-pop queue parents j n h = rw (add-one j) (dirs-pop queue parents 0 j n h ∙ rw (zero-add j))
+
+length-dirs : (queue parents : List ℕ) (i n : ℕ) → length (dirsFrom queue parents i n) ≡ n
+unfolding dirsFrom
+length-dirs queue parents i zero = refl
+length-dirs queue parents i (suc n) = ap suc (length-dirs queue parents (suc i) n)
+
+length-queue : (queue parents : List ℕ) (n : ℕ) → length (queueOf queue parents n) ≡ n
+unfolding queueOf
+length-queue queue parents n = length-dirs queue parents 0 n
+
+-- ---- one entry
+
+module _ (counts nexts heads : List ℕ) (head : ℕ) (kind : Kind) (a size place : ℕ) (queue : List Dir) (marks : List ℕ) (files : ℕ) where
+  pub enter-no-head : headAt heads a ≡ false → enterItem head (itemIn counts nexts heads (enteredAt kind a size place)) queue marks files ≡ stopped 13
+  unfolding enterItem itemIn enteredAt
+  enter-no-head h = rw h
+
+  pub enter-twice : headAt heads a ≡ true → (getD marks a 0 ≡ 0 → ⊥)
+      → enterItem head (itemIn counts nexts heads (enteredAt kind a size place)) queue marks files ≡ stopped 14
+  unfolding enterItem itemIn enteredAt
+  enter-twice h n = rw (h, ne-eqb (getD marks a 0) 0 n)
+
+  pub enter-size : headAt heads a ≡ true → getD marks a 0 ≡ 0 → kind ≡ File → (sumFrom counts nexts limit a ≡ blocksFor size → ⊥)
+      → enterItem head (itemIn counts nexts heads (enteredAt kind a size place)) queue marks files ≡ stopped 15
+  unfolding enterItem itemIn enteredAt
+  enter-size h m k n = rw (h, eq-eqb (getD marks a 0) 0 m, k, ne-eqb (sumFrom counts nexts limit a) (blocksFor size) n)
+
+  pub enter-file : headAt heads a ≡ true → getD marks a 0 ≡ 0 → kind ≡ File → sumFrom counts nexts limit a ≡ blocksFor size
+      → enterItem head (itemIn counts nexts heads (enteredAt kind a size place)) queue marks files ≡ going queue (set marks a 1) (files + 1)
+  unfolding enterItem itemIn enteredAt
+  enter-file h m k n = rw (h, eq-eqb (getD marks a 0) 0 m, k, eq-eqb (sumFrom counts nexts limit a) (blocksFor size) n)
+
+  pub enter-dir : headAt heads a ≡ true → getD marks a 0 ≡ 0 → kind ≡ Directory
+      → enterItem head (itemIn counts nexts heads (enteredAt kind a size place)) queue marks files ≡ going (queue ++ (dirMade a head ∷ [])) (set marks a 1) files
+  unfolding enterItem itemIn enteredAt
+  enter-dir h m k = rw (h, eq-eqb (getD marks a 0) 0 m, k)
+
+-- ---- the entries of a block, from a place on
+
+pub block-whole : (img : List ℕ) (y : ℕ) (block : List ℕ) → block ≡ blockOf img y → entriesFrom 28 block y 16 ≡ entriesIn img y
+unfolding entriesIn
+block-whole img y block e = rw e
+
+pub block-none : (item : Entered → Item) (head y : ℕ) (block : List ℕ) (k at : ℕ) (queue : List Dir) (marks : List ℕ) (files : ℕ) → k ≡ 0
+    → enterAll head (map item (entriesFrom k block y at)) queue marks files ≡ going queue marks files
+unfolding entriesFrom enterAll
+block-none item head y block k at queue marks files e = rw e
+
+module _ (item : Entered → Item) (head y : ℕ) (block : List ℕ) (k m at : ℕ) (queue : List Dir) (marks : List ℕ) (files : ℕ) (fuel : k ≡ m + 1) where
+  pub block-end : walkedAt block at ≡ End → enterAll head (map item (entriesFrom k block y at)) queue marks files ≡ going queue marks files
+  unfolding entriesFrom enterAll
+  block-end e = rw (fuel, add-one m, e)
+
+  pub block-stop : (e : Entry) → walkedAt block at ≡ Found e → (n : ℕ)
+      → enterItem head (item (enteredAt (e .kind) (e .anode .0) (e .size) (y * 512 + at))) queue marks files ≡ stopped n
+      → enterAll head (map item (entriesFrom k block y at)) queue marks files ≡ stopped n
+  unfolding entriesFrom enterAll enteredAt
+  block-stop e w n h = rw (fuel, add-one m, w, h)
+
+  pub block-step : (e : Entry) → walkedAt block at ≡ Found e → (q : List Dir) (l : List ℕ) (f : ℕ)
+      → enterItem head (item (enteredAt (e .kind) (e .anode .0) (e .size) (y * 512 + at))) queue marks files ≡ going q l f
+      → enterAll head (map item (entriesFrom k block y at)) queue marks files ≡ enterAll head (map item (entriesFrom m block y (at + getD block at 0))) q l f
+  unfolding entriesFrom enterAll enteredAt
+  block-step e w q l f h = rw (fuel, add-one m, w, h)
+
+pub block-broken : (counts nexts heads : List ℕ) (head y : ℕ) (block : List ℕ) (k m at : ℕ) (queue : List Dir) (marks : List ℕ) (files : ℕ)
+    → k ≡ m + 1 → (r : Refusal) → walkedAt block at ≡ Fault r
+    → enterAll head (map (itemIn counts nexts heads) (entriesFrom k block y at)) queue marks files ≡ stopped 12
+unfolding entriesFrom enterAll enterItem itemIn
+block-broken counts nexts heads head y block k m at queue marks files fuel r w = rw (fuel, add-one m, w)
+
+-- ---- the anodes of a directory
+
+onward-twice : (p : Progress) (f g h : List Dir → List ℕ → ℕ → Progress)
+    → ((q : List Dir) (m : List ℕ) (n : ℕ) → f q m n ≡ onward (g q m n) h) → onward p f ≡ onward (onward p g) h
+onward-twice (stopped n) f g h e = refl
+onward-twice (going q m n) f g h e = e q m n
+
+-- the items of two lists, one behind the other
+enter-append : (head : ℕ) (is js : List Item) (queue : List Dir) (marks : List ℕ) (files : ℕ)
+    → enterAll head (is ++ js) queue marks files ≡ onward (enterAll head is queue marks files) (enterAll head js)
+unfolding enterAll
+enter-append head [] js queue marks files = refl
+enter-append head (i ∷ is) js queue marks files =
+    onward-twice (enterItem head i queue marks files) (enterAll head (is ++ js)) (enterAll head is) (enterAll head js)
+    (λ q m n. enter-append head is js q m n)
+
+module _ (item : Entered → Item) (img : List ℕ) (s : Anodes) (d : Dir) (a head : ℕ) (queue : List Dir) (marks : List ℕ) (files : ℕ) where
+  pub anode-count : (s .count a ≡ 1 → ⊥) → enterAll head (itemsFor item img s d a) queue marks files ≡ stopped 12
+  unfolding itemsFor enterAll enterItem
+  anode-count n = rw (ne-eqb (s .count a) 1 n)
+
+  pub anode-mark : s .count a ≡ 1 → isBlockOf img d (s .block a) ≡ false → enterAll head (itemsFor item img s d a) queue marks files ≡ stopped 12
+  unfolding itemsFor enterAll enterItem
+  anode-mark n h = rw (eq-eqb (s .count a) 1 n, h)
+
+  pub anode-block : s .count a ≡ 1 → isBlockOf img d (s .block a) ≡ true
+      → enterAll head (itemsFor item img s d a) queue marks files ≡ enterAll head (map item (entriesIn img (s .block a))) queue marks files
+  unfolding itemsFor
+  anode-block n h = rw (eq-eqb (s .count a) 1 n, h)
+
+  pub along-none : (k : ℕ) → k ≡ 0 → enterAll head (itemsAlong item img s d k a) queue marks files ≡ going queue marks files
+  unfolding itemsAlong chainOf gather enterAll
+  along-none k e = rw e
+
+  pub along-end : (k m : ℕ) → k ≡ m + 1 → a ≡ 0 → enterAll head (itemsAlong item img s d k a) queue marks files ≡ going queue marks files
+  unfolding itemsAlong chainOf gather enterAll
+  along-end k m e z = rw (e, add-one m, z)
+
+along-items : (item : Entered → Item) (img : List ℕ) (s : Anodes) (d : Dir) (a k m : ℕ) → k ≡ m + 1 → (a ≡ 0 → ⊥)
+    → itemsAlong item img s d k a ≡ itemsFor item img s d a ++ itemsAlong item img s d m (s .next a)
+unfolding itemsAlong chainOf gather
+along-items item img s d zero k m e n = absurd (n refl)
+along-items item img s d (suc a) k m e n = rw (e, add-one m)
+
+module _ (item : Entered → Item) (img : List ℕ) (s : Anodes) (d : Dir) (a head : ℕ) (queue : List Dir) (marks : List ℕ) (files k m : ℕ) (fuel : k ≡ m + 1) (some : a ≡ 0 → ⊥) where
+  pub along-stop : (n : ℕ) → enterAll head (itemsFor item img s d a) queue marks files ≡ stopped n
+      → enterAll head (itemsAlong item img s d k a) queue marks files ≡ stopped n
+  along-stop n h = rw (along-items item img s d a k m fuel some, enter-append head (itemsFor item img s d a) (itemsAlong item img s d m (s .next a)) queue marks files, h)
+
+  pub along-step : (q : List Dir) (l : List ℕ) (f : ℕ) → enterAll head (itemsFor item img s d a) queue marks files ≡ going q l f
+      → enterAll head (itemsAlong item img s d k a) queue marks files ≡ enterAll head (itemsAlong item img s d m (s .next a)) q l f
+  along-step q l f h = rw (along-items item img s d a k m fuel some, enter-append head (itemsFor item img s d a) (itemsAlong item img s d m (s .next a)) queue marks files, h)
+
+-- ---- the queue without the directories taken from it
+
+abbrev dropped : ℕ → Progress → Progress
+dropped v (stopped n) = stopped n
+dropped v (going queue marks files) = going (drop v queue) marks files
+
+abbrev Longer : ℕ → Progress → Type 0
+Longer v (stopped n) = Unit {0}
+Longer v (going queue marks files) = v ≤ length queue
+
+module _ (v : ℕ) where
+  item-cases : (early : ℕ) (new : Bool) (late : ℕ) (dir : Bool) (queue : List Dir) (x : Dir) (marks : List ℕ) (f g : ℕ) → v ≤ length queue
+      → (refuse early (cond new (refuse late (cond dir (going (drop v queue ++ (x ∷ [])) marks f) (going (drop v queue) marks g))) (stopped 14))
+      ≡ dropped v (refuse early (cond new (refuse late (cond dir (going (queue ++ (x ∷ [])) marks f) (going queue marks g))) (stopped 14))))
+      × Longer v (refuse early (cond new (refuse late (cond dir (going (queue ++ (x ∷ [])) marks f) (going queue marks g))) (stopped 14)))
+  item-cases (suc e) new late dir queue x marks f g h = (refl, tt)
+  item-cases zero false late dir queue x marks f g h = (refl, tt)
+  item-cases zero true (suc l) dir queue x marks f g h = (refl, tt)
+  item-cases zero true zero false queue x marks f g h = (refl, h)
+  item-cases zero true zero true queue x marks f g h =
+      (rw (drop-append-le v queue (x ∷ []) h), omega (arith, length-append queue (x ∷ [])))
+
+  onward-dropped : (p : Progress) (f : List Dir → List ℕ → ℕ → Progress) → Longer v p
+      → ((q : List Dir) (m : List ℕ) (n : ℕ) → v ≤ length q → f (drop v q) m n ≡ dropped v (f q m n))
+      → onward (dropped v p) f ≡ dropped v (onward p f)
+  onward-dropped (stopped n) f l e = refl
+  onward-dropped (going q m n) f l e = e q m n l
+
+  enter-dropped : (head : ℕ) (is : List Item) (queue : List Dir) (marks : List ℕ) (files : ℕ) → v ≤ length queue
+      → enterAll head is (drop v queue) marks files ≡ dropped v (enterAll head is queue marks files)
+  unfolding enterAll enterItem
+  enter-dropped head [] queue marks files h = refl
+  enter-dropped head (i ∷ is) queue marks files h =
+      let w = item-cases (i .early) (eqb (getD marks (i .anode) 0) 0) (i .late) (i .dir) queue (dirMade (i .anode) head) (set marks (i .anode) 1) files (files + 1) h in
+      rw (w .0) (onward-dropped (enterItem head i queue marks files) (enterAll head is) (w .1) (enter-dropped head is))
+
+-- ---- the queue, from its directory `first` on
+
+module _ (items : Dir → List Item) (k : ℕ) (queue parents : List ℕ) (first last : ℕ) (marks : List ℕ) (files n : ℕ) where
+  pub run-end : last ≤ first → runFrom items k (drop first (queueOf queue parents last)) marks files n ≡ ended marks files n
+  unfolding runFrom
+  run-end h = rw (drop-of-length-le (queueOf queue parents last) {i = first} (rw length-queue h)) (none k) where
+    none : (k : ℕ) → runFrom items k [] marks files n ≡ ended marks files n
+    none zero = refl
+    none (suc k) = refl
+
+  module _ (m : ℕ) (fuel : k ≡ m + 1) (some : first < last) where
+    run-pop : runFrom items k (drop first (queueOf queue parents last)) marks files n
+        ≡ afterDir (dropped (first + 1) (enterAll (getD queue first 0) (items (dirMade (getD queue first 0) (getD parents first 0))) (queueOf queue parents last) marks files))
+        (λ q l f. runFrom items m q l f (n + 1))
+    unfolding runFrom
+    run-pop =
+        rw (
+          queue-pop queue parents first last some,
+          fuel,
+          add-one m,
+          enter-dropped (first + 1) (getD queue first 0) (items (dirMade (getD queue first 0) (getD parents first 0))) (queueOf queue parents last) marks files (rw length-queue (omega arith)),
+        )
+
+    pub run-stop : (r : ℕ) → enterAll (getD queue first 0) (items (dirMade (getD queue first 0) (getD parents first 0))) (queueOf queue parents last) marks files ≡ stopped r
+        → runFrom items k (drop first (queueOf queue parents last)) marks files n ≡ halted r
+    run-stop r e = run-pop ∙ rw e
+
+    pub run-step : (q : List Dir) (l : List ℕ) (f : ℕ) → enterAll (getD queue first 0) (items (dirMade (getD queue first 0) (getD parents first 0))) (queueOf queue parents last) marks files ≡ going q l f
+        → runFrom items k (drop first (queueOf queue parents last)) marks files n ≡ runFrom items m (drop (first + 1) q) l f (n + 1)
+    run-step q l f e = run-pop ∙ rw e
+
+-- ---- a test of the numbers below a bound
+
+pub any-none : (f : ℕ → Bool) → anyBelow f 0 ≡ false
+unfolding anyBelow
+any-none f = refl
+
+pub any-more : (f : ℕ → Bool) (i : ℕ) → anyBelow f i ≡ false → f i ≡ false → anyBelow f (i + 1) ≡ false
+unfolding anyBelow
+any-more f i p q = rw (add-one i, p, q)
+
+pub any-hit : (f : ℕ → Bool) (i n : ℕ) → i < n → f i ≡ true → anyBelow f n ≡ true
+unfolding anyBelow
+any-hit f i zero l q = absurd (not-suc-le-zero l)
+any-hit f i (suc n) l q =
+    ⊎-elim (λ e. rw (← e, q) (or-true (anyBelow f i))) (λ k. rw (any-hit f i n k q)) (eq-or-lt-of-le (le-of-suc-le-suc l))

@@ -1,0 +1,410 @@
+-- The walk by tables comes to what the rules' walk comes to. Assumes nothing.
+use Prim.Native.Nat.{ℕ, zero, suc, _+_, _<_, _≤_}
+use mathlib.Core.Path.{_≡_, refl, sym, ap, _∙_, subst, fun-ext}
+use mathlib.Core.Bool.{Bool, true, false, cond, _&&_, and-false}
+use mathlib.Core.Logic.{⊎-elim}
+use mathlib.Core.List.{List, [], _∷_, _++_, map, append-nil}
+use native.Mathlib.Nat.{not-suc-le-zero}
+use native.Mathlib.Omega.{arith}
+use lib.Dec.{eqb}
+use lib.ListN.{length, getD, set, replicate, length-set, length-replicate, List·getD-eq-default}
+use lib.Seq.{getD-set-same, getD-set-other}
+use borrow.Author.Tests.{eq-eqb, ne-eqb, le-leb, lt-leb, le-ltb, lt-ltb, eqb-true, eqb-false}
+use Rattle.endian.proofs.Laws.{le-or-lt, eq-or-ne}
+use Rattle.disk.specs.Refusals.{numberOf}
+use Rattle.rules.specs.Counting.{_if_else_, firstOf, anyBelow, oneAt, sumList, times, gather}
+use Rattle.rules.specs.Anodes.{Anodes, limit}
+use Rattle.rules.specs.Chains.{chainOf, heads, blockCount}
+use Rattle.rules.specs.Walk.{Dir, root, Entered, entriesIn, isBlockOf, Item, wrongAnode, wrongFileSize, itemOf, broken, itemsAt, itemsBy, itemsOf, subDirs, faultOf, Scanned, faulty, fine, scan, Walk, fault, done, visited, walk, walkOf, faultIn, reachedDirs, reached, naming}
+use Rattle.rules.specs.Accepted.{unnamed, unnamedChain, treeFault}
+use Rattle.rules.specs.Calls.{fileCount, dirCount}
+use Rattle.anodes.specs.Loaded.{anodesFrom}
+use Rattle.tree.specs.declared.TreeRead.{TreeRead}
+use Rattle.tree.specs.declared.TreeRead.the-variants.{Counted, Fault}
+use Rattle.tree.specs.Tree.{HeadTable}
+use Rattle.tree.specs.Steps.{sumFrom, headAt, itemIn, Progress, stopped, going, enterItem, enterAll, itemsFor, itemsAlong, itemsWith, Run, halted, ended, afterDir, runFrom, conclusion, dirsFrom, queueOf, unnamedAt, marked}
+use Rattle.tree.proofs.Laws.{head-range, marked-more}
+
+-- ---- how often a list of items names an anode, and how many files it names
+
+namings : ℕ → List Item → ℕ
+namings x is = sumList (λ i. oneAt (i .anode) x) is
+
+filesIn : List Item → ℕ
+filesIn is = sumList (λ i. cond (i .dir) 0 1) is
+
+sum-append : (w : Item → ℕ) (is js : List Item) → sumList w (is ++ js) ≡ sumList w is + sumList w js
+unfolding sumList
+sum-append w [] js = omega arith
+sum-append w (i ∷ is) js = omega (arith, sum-append w is js)
+
+times-namings : (x : ℕ) (is : List Item) → times x (map (λ i. i .anode) is) ≡ namings x is
+unfolding times namings sumList
+times-namings x [] = refl
+times-namings x (i ∷ is) = omega (arith, times-namings x is)
+
+times-none : (x : ℕ) → times x [] ≡ 0
+unfolding times sumList
+times-none x = refl
+
+times-cons : (x a : ℕ) (named : List ℕ) → times x (a ∷ named) ≡ oneAt a x + times x named
+unfolding times sumList
+times-cons x a named = refl
+
+one-same : (a x : ℕ) → a ≡ x → oneAt a x ≡ 1
+unfolding oneAt
+one-same a x e = rw (eq-eqb a x e)
+
+one-other : (a x : ℕ) → (a ≡ x → ⊥) → oneAt a x ≡ 0
+unfolding oneAt
+one-other a x n = rw (ne-eqb a x n)
+
+-- ---- marks
+
+-- an anode from 6 up is marked where t is not 0
+abbrev Agree : List ℕ → (ℕ → ℕ) → Type 0
+Agree marks t = (x : ℕ) → 6 ≤ x → x < limit → (getD marks x 0 ≡ 0 → t x ≡ 0) × ((getD marks x 0 ≡ 0 → ⊥) → 1 ≤ t x)
+
+agree-same : (marks : List ℕ) (t u : ℕ → ℕ) → ((x : ℕ) → t x ≡ u x) → Agree marks t → Agree marks u
+agree-same marks t u e h x lo hi = (λ z. sym (e x) ∙ h x lo hi .0 z, λ n. rw (sym (e x)) (h x lo hi .1 n))
+
+agree-more : (marks : List ℕ) (a : ℕ) (named : List ℕ) → length marks ≡ limit → a < limit → Agree marks (λ x. times x named)
+    → Agree (set marks a 1) (λ x. times x (a ∷ named))
+agree-more marks a named whole room h x lo hi =
+    ⊎-elim
+    (λ e. let one : getD (set marks a 1) x 0 ≡ 1 = rw e (getD-set-same marks a 1 0 (omega arith)) in
+    let more : times x (a ∷ named) ≡ 1 + times x named = times-cons x a named ∙ rw (one-same a x (sym e)) in
+    (λ z. absurd (omega arith), λ n. omega arith))
+    (λ n. let same = getD-set-other marks a x 1 0 n in
+    let less : times x (a ∷ named) ≡ times x named = times-cons x a named ∙ rw (one-other a x (λ q. n (sym q))) (omega arith) in
+    (λ z. less ∙ h x lo hi .0 (sym same ∙ z), λ m. rw less (h x lo hi .1 (λ z. m (same ∙ z)))))
+    (eq-or-ne x a)
+
+-- ---- the items of one directory
+
+-- an item without an early fault names an anode that has a mark
+abbrev InRange : List Item → Type 0
+InRange [] = Unit {0}
+InRange (i ∷ is) = (i .early ≡ 0 → (6 ≤ i .anode) × (i .anode < limit)) × InRange is
+
+-- what is behind the items: one fault in both walks, or one queue, marks for the named anodes and the files counted
+abbrev ScanMatch : List Item → ℕ → List ℕ → Progress → Scanned → Type 0
+ScanMatch is files named (stopped n) (faulty m) = (n ≡ m) × (1 ≤ n)
+ScanMatch is files named (stopped n) (fine q l) = ⊥
+ScanMatch is files named (going q m f) (faulty n) = ⊥
+ScanMatch is files named (going q m f) (fine r l) =
+    (q ≡ r) × (length m ≡ limit) × Agree m (λ x. times x l) × ((x : ℕ) → times x l ≡ namings x is + times x named) × (f ≡ files + filesIn is)
+
+-- one item more in front
+scan-widen : (i : Item) (is : List Item) (files g : ℕ) (named : List ℕ) (p : Progress) (s : Scanned) → g ≡ files + cond (i .dir) 0 1
+    → ScanMatch is g (i .anode ∷ named) p s → ScanMatch (i ∷ is) files named p s
+unfolding namings filesIn sumList
+scan-widen i is files g named (stopped n) (faulty m) e h = h
+scan-widen i is files g named (stopped n) (fine q l) e h = h
+scan-widen i is files g named (going q m f) (faulty n) e h = h
+scan-widen i is files g named (going q m f) (fine r l) e h =
+    (h .0, h .1, h .2, λ x. omega (arith, h .3 x, times-cons x (i .anode) named), omega arith)
+
+module _ (d : Dir) (i : Item) (is : List Item) (queue : List Dir) (named : List ℕ) where
+  scan-stop : (n : ℕ) → faultOf i named ≡ suc n → scan d (i ∷ is) queue named ≡ faulty (suc n)
+  unfolding scan
+  scan-stop n e = rw (e, scan)
+
+  scan-step : faultOf i named ≡ 0 → scan d (i ∷ is) queue named ≡ scan d is (queue ++ subDirs d i) (i .anode ∷ named)
+  unfolding scan
+  scan-step e = rw (e, scan)
+
+fault-named : (i : Item) (named : List ℕ) → i .early ≡ 0 → 1 ≤ times (i .anode) named → faultOf i named ≡ 14
+unfolding faultOf firstOf
+fault-named i named e h = rw (e, le-leb 1 (times (i .anode) named) h)
+
+fault-late : (i : Item) (named : List ℕ) → i .early ≡ 0 → times (i .anode) named ≡ 0 → faultOf i named ≡ i .late
+unfolding faultOf firstOf
+fault-late i named e h = rw (e, lt-leb 1 (times (i .anode) named) (omega arith))
+
+abbrev itemMade : ℕ → ℕ → Bool → ℕ → ℕ → Item
+itemMade early late dir a place = record { early = early; late = late; dir = dir; anode = a; place = place }
+
+module _ (d : Dir) where
+  item-match : (early late : ℕ) (dir : Bool) (a place : ℕ) (is : List Item) (queue : List Dir) (marks : List ℕ) (files : ℕ) (named : List ℕ)
+      → (early ≡ 0 → (6 ≤ a) × (a < limit)) → length marks ≡ limit → Agree marks (λ x. times x named)
+      → ((q : List Dir) (m : List ℕ) (f : ℕ) (l : List ℕ) → length m ≡ limit → Agree m (λ x. times x l) → ScanMatch is f l (enterAll (d .head) is q m f) (scan d is q l))
+      → ScanMatch (itemMade early late dir a place ∷ is) files named
+      (enterAll (d .head) (itemMade early late dir a place ∷ is) queue marks files)
+      (scan d (itemMade early late dir a place ∷ is) queue named)
+  unfolding enterAll enterItem faultOf firstOf subDirs
+  item-match (suc e) late dir a place is queue marks files named range whole agree ih = rw (scan-stop d (itemMade (suc e) late dir a place) is queue named e refl) (refl, omega arith)
+  item-match zero late dir a place is queue marks files named range whole agree ih = go (eqb (getD marks a 0) 0) refl late dir where
+    made : ℕ → Bool → Item
+    made late dir = itemMade 0 late dir a place
+
+    none : eqb (getD marks a 0) 0 ≡ true → times a named ≡ 0
+    none e = agree a (range refl .0) (range refl .1) .0 (eqb-true (getD marks a 0) 0 e)
+
+    behind : (dir : Bool) (q : List Dir) (f : ℕ) → f ≡ files + cond dir 0 1
+        → ScanMatch (made 0 dir ∷ is) files named (enterAll (d .head) is q (set marks a 1) f) (scan d is q (a ∷ named))
+    behind dir q f e =
+        scan-widen (made 0 dir) is files f named (enterAll (d .head) is q (set marks a 1) f) (scan d is q (a ∷ named)) e
+        (ih q (set marks a 1) f (a ∷ named) (length-set marks a 1 ∙ whole) (agree-more marks a named whole (range refl .1) agree))
+
+    go : (b : Bool) → eqb (getD marks a 0) 0 ≡ b → (late : ℕ) (dir : Bool)
+        → ScanMatch (made late dir ∷ is) files named (enterAll (d .head) (made late dir ∷ is) queue marks files) (scan d (made late dir ∷ is) queue named)
+    go false e late dir =
+        rw (e, scan-stop d (made late dir) is queue named 13 (fault-named (made late dir) named refl (agree a (range refl .0) (range refl .1) .1 (eqb-false (getD marks a 0) 0 e))))
+        (refl, omega arith)
+    go true e (suc l) dir = rw (e, scan-stop d (made (suc l) dir) is queue named l (fault-late (made (suc l) dir) named refl (none e))) (refl, omega arith)
+    go true e zero false =
+        rw (e, scan-step d (made 0 false) is queue named (fault-late (made 0 false) named refl (none e)), append-nil queue)
+        (behind false queue (files + 1) refl)
+    go true e zero true =
+        rw (e, scan-step d (made 0 true) is queue named (fault-late (made 0 true) named refl (none e)))
+        (behind true (queue ++ (record { head = a; parent = d .head } ∷ [])) files (omega arith))
+
+  scan-match : (is : List Item) (queue : List Dir) (marks : List ℕ) (files : ℕ) (named : List ℕ) → InRange is → length marks ≡ limit → Agree marks (λ x. times x named)
+      → ScanMatch is files named (enterAll (d .head) is queue marks files) (scan d is queue named)
+  unfolding enterAll scan namings filesIn sumList
+  scan-match [] queue marks files named range whole agree = (refl, whole, agree, λ x. omega arith, omega arith)
+  scan-match (i ∷ is) queue marks files named range whole agree =
+      item-match (i .early) (i .late) (i .dir) (i .anode) (i .place) is queue marks files named (range .0) whole agree
+      (λ q m f l. scan-match is q m f l (range .1))
+
+-- ---- the whole walk
+
+module _ (items : Dir → List Item) where
+  -- one fault in both walks, or marks, files and directories for those that the rules' walk reached
+  abbrev WalkMatch : ℕ → ℕ → List ℕ → Run → Walk → Type 0
+  WalkMatch files n named (halted r) (fault m) = (r ≡ m) × (1 ≤ r)
+  WalkMatch files n named (halted r) (done ds) = ⊥
+  WalkMatch files n named (ended m f k) (fault r) = ⊥
+  WalkMatch files n named (ended m f k) (done ds) =
+      Agree m (λ x. namings x (gather items ds) + times x named) × (f ≡ files + filesIn (gather items ds)) × (k ≡ n + length ds)
+
+  -- one directory more in front
+  walk-widen : (d : Dir) (files g n : ℕ) (named l : List ℕ) (r : Run) (w : Walk) → g ≡ files + filesIn (items d)
+      → ((x : ℕ) → times x l ≡ namings x (items d) + times x named) → WalkMatch g (n + 1) l r w → WalkMatch files n named r (visited d w)
+  unfolding visited gather namings filesIn
+  walk-widen d files g n named l (halted r) (fault m) e t h = h
+  walk-widen d files g n named l (halted r) (done ds) e t h = h
+  walk-widen d files g n named l (ended m f k) (fault r) e t h = h
+  walk-widen d files g n named l (ended m f k) (done ds) e t h = (
+    agree-same m (λ x. namings x (gather items ds) + times x l) (λ x. namings x (items d ++ gather items ds) + times x named)
+        (λ x. omega (arith, t x, sum-append (λ i. oneAt (i .anode) x) (items d) (gather items ds))) (h .0),
+    omega (arith, sum-append (λ i. cond (i .dir) 0 1) (items d) (gather items ds)),
+    omega arith,
+  )
+
+  after-match : (d : Dir) (k files n : ℕ) (named : List ℕ) (p : Progress) (s : Scanned) → ScanMatch (items d) files named p s
+      → ((q : List Dir) (m : List ℕ) (f n : ℕ) (l : List ℕ) → length m ≡ limit → Agree m (λ x. times x l) → WalkMatch f n l (runFrom items k q m f n) (walk items k q l))
+      → WalkMatch files n named (afterDir p (λ q m f. runFrom items k q m f (n + 1)))
+      (elim s [ faulty r ↦ fault r | fine q l ↦ visited d (walk items k q l) ])
+  after-match d k files n named (stopped r) (faulty m) h ih = h
+  after-match d k files n named (stopped r) (fine q l) h ih = absurd h
+  after-match d k files n named (going q m f) (faulty r) h ih = absurd h
+  after-match d k files n named (going q m f) (fine r l) h ih =
+      rw (← h .0) (walk-widen d files f n named l (runFrom items k q m f (n + 1)) (walk items k q l) (h .4) (h .3) (ih q m f (n + 1) l (h .1) (h .2)))
+
+  walk-match : ((d : Dir) → InRange (items d)) → (k : ℕ) (queue : List Dir) (marks : List ℕ) (files n : ℕ) (named : List ℕ)
+      → length marks ≡ limit → Agree marks (λ x. times x named) → WalkMatch files n named (runFrom items k queue marks files n) (walk items k queue named)
+  unfolding runFrom walk gather namings filesIn sumList
+  walk-match range zero [] marks files n named whole agree =
+      (agree-same marks (λ x. times x named) (λ x. 0 + times x named) (λ x. omega arith) agree, omega arith, omega arith)
+  walk-match range zero (d ∷ queue) marks files n named whole agree = (refl, omega arith)
+  walk-match range (suc k) [] marks files n named whole agree =
+      (agree-same marks (λ x. times x named) (λ x. 0 + times x named) (λ x. omega arith) agree, omega arith, omega arith)
+  walk-match range (suc k) (d ∷ queue) marks files n named whole agree =
+      after-match d k files n named (enterAll (d .head) (items d) queue marks files) (scan d (items d) queue named)
+      (scan-match d (items d) queue marks files named (range d) whole agree)
+      (λ q m f c l. walk-match range k q m f c l)
+
+-- ---- the items by tables are those of the rules
+
+range-append : (is js : List Item) → InRange is → InRange js → InRange (is ++ js)
+range-append [] js p q = q
+range-append (i ∷ is) js p q = (p .0, range-append is js (p .1) q)
+
+module _ (counts nexts heads : List ℕ) where
+  early-range : (b : Bool) (a : ℕ) → _≡_ {A = ℕ} (cond b 12 (cond (headAt heads a) 0 13)) 0 → (6 ≤ a) × (a < limit)
+  early-range true a e = absurd (omega arith)
+  early-range false a e = go (headAt heads a) refl e where
+    go : (h : Bool) → headAt heads a ≡ h → _≡_ {A = ℕ} (cond h 0 13) 0 → (6 ≤ a) × (a < limit)
+    go true h e = head-range heads a h
+    go false h e = absurd (omega arith)
+
+  range-map : (es : List Entered) → InRange (map (itemIn counts nexts heads) es)
+  unfolding itemIn
+  range-map [] = tt
+  range-map (e ∷ es) = (early-range (e .broken) (e .anode), range-map es)
+
+  module _ (img : List ℕ) (s : Anodes) where
+    range-for : (d : Dir) (a : ℕ) → InRange (itemsFor (itemIn counts nexts heads) img s d a)
+    unfolding itemsFor
+    range-for d a = go (eqb (s .count a) 1 && isBlockOf img d (s .block a)) where
+      go : (b : Bool) → InRange (cond b (map (itemIn counts nexts heads) (entriesIn img (s .block a))) (broken ∷ []))
+      go true = range-map (entriesIn img (s .block a))
+      go false = (λ e. absurd (omega arith), tt)
+
+    range-gather : (d : Dir) (l : List ℕ) → InRange (gather (itemsFor (itemIn counts nexts heads) img s d) l)
+    unfolding gather
+    range-gather d [] = tt
+    range-gather d (a ∷ l) = range-append (itemsFor (itemIn counts nexts heads) img s d a) _ (range-for d a) (range-gather d l)
+
+    range-items : (d : Dir) → InRange (itemsWith (itemIn counts nexts heads) img s d)
+    unfolding itemsWith itemsAlong
+    range-items d = range-gather d (chainOf (s .next) limit (d .head))
+
+-- an anode without a block heads no chain
+heads-none : (next block : ℕ → ℕ) (a : ℕ) → block a ≡ 0 → heads limit next block a ≡ 0
+unfolding heads
+heads-none next block a e = rw (eq-eqb (block a) 0 e, and-false)
+
+eqb-both : (a b c d : ℕ) → (a ≡ b → c ≡ d) → (c ≡ d → a ≡ b) → eqb a b ≡ eqb c d
+eqb-both a b c d f g = ⊎-elim (λ e. eq-eqb a b e ∙ sym (eq-eqb c d (f e))) (λ n. ne-eqb a b n ∙ sym (ne-eqb c d (λ e. n (g e)))) (eq-or-ne a b)
+
+module _ (t : List ℕ) (s : Anodes) (table : HeadTable t s) where
+  -- in the table's range, the heads are those of the rules
+  head-test : (a : ℕ) → 6 ≤ a → a < limit → eqb (heads limit (s .next) (s .block) a) 1 ≡ eqb (getD t a 0) a
+  head-test a lo hi = eqb-both (heads limit (s .next) (s .block) a) 1 (getD t a 0) a (table a lo hi .1) (table a lo hi .0)
+
+  module _ (past : (a : ℕ) → limit ≤ a → s .block a ≡ 0) where
+    head-same : (a : ℕ) → wrongAnode s a ≡ cond (headAt t a) 0 13
+    unfolding wrongAnode headAt
+    head-same a =
+        ⊎-elim
+        (λ lo. ⊎-elim
+        (λ hi. rw (le-leb 6 a lo, le-ltb a limit hi, heads-none (s .next) (s .block) a (past a hi)))
+        (λ hi. rw (le-leb 6 a lo, lt-ltb a limit hi, head-test a lo hi))
+        (le-or-lt limit a))
+        (λ lo. rw (lt-leb 6 a lo))
+        (le-or-lt 6 a)
+
+any-same : (f g : ℕ → Bool) (n : ℕ) → ((x : ℕ) → x < n → f x ≡ g x) → anyBelow f n ≡ anyBelow g n
+unfolding anyBelow
+any-same f g zero h = refl
+any-same f g (suc n) h = rw (any-same f g n (λ x l. h x (omega arith)), h n (omega arith))
+
+first-some : (a b : ℕ) → 1 ≤ a → firstOf a b ≡ a
+unfolding firstOf
+first-some zero b h = absurd (not-suc-le-zero h)
+first-some (suc a) b h = refl
+
+-- what the walk's answer and the marks behind it say of the rules
+abbrev Says : List ℕ → Anodes → List ℕ → TreeRead → List ℕ → Type 0
+Says img s t (Counted files n) marks =
+    ((b : Bool) → anyBelow (unnamedAt t marks) limit ≡ b → treeFault img s ≡ 16 if b else 0) × (files ≡ fileCount img s) × (n ≡ dirCount img s)
+Says img s t (Fault r) marks = numberOf r ≡ treeFault img s
+
+module _ (counts nexts t : List ℕ) (s : Anodes) (table : HeadTable t s) (past : (a : ℕ) → limit ≤ a → s .block a ≡ 0)
+    (sums : (a : ℕ) → sumFrom counts nexts limit a ≡ blockCount s a) where
+  item-same : (e : Entered) → itemIn counts nexts t e ≡ itemOf s e
+  unfolding itemIn itemOf wrongFileSize
+  item-same e = rw (head-same t s table past (e .anode), sums (e .anode))
+
+  items-same : (img : List ℕ) → itemsWith (itemIn counts nexts t) img s ≡ itemsOf img s
+  unfolding itemsWith itemsAlong itemsFor itemsOf itemsBy itemsAt
+  items-same img = ap (λ (item : Entered → Item). itemsWith item img s) (fun-ext item-same)
+
+  -- ---- what the walk answers
+
+  -- the walk from the root, with no mark from 6 up
+  module _ (img marks : List ℕ) (whole : length marks ≡ limit) (clean : (x : ℕ) → 6 ≤ x → getD marks x 0 ≡ 0) where
+    run-match : WalkMatch (itemsOf img s) 0 0 [] (runFrom (itemsWith (itemIn counts nexts t) img s) limit (root ∷ []) marks 0 0) (walkOf img s)
+    unfolding walkOf times sumList
+    run-match =
+        subst
+        (λ (f : Dir → List Item). WalkMatch f 0 0 [] (runFrom (itemsWith (itemIn counts nexts t) img s) limit (root ∷ []) marks 0 0) (walk f limit (root ∷ []) []))
+        (items-same img)
+        (walk-match (itemsWith (itemIn counts nexts t) img s) (range-items counts nexts t img s) limit (root ∷ []) marks 0 0 [] whole
+        (λ x lo hi. (λ z. refl, λ n. absurd (n (clean x lo)))))
+
+    tree-halted : (r : ℕ) → runFrom (itemsWith (itemIn counts nexts t) img s) limit (root ∷ []) marks 0 0 ≡ halted r → treeFault img s ≡ r
+    unfolding treeFault
+    tree-halted r e = go (walkOf img s) refl (rw e at run-match) where
+      go : (w : Walk) → walkOf img s ≡ w → WalkMatch (itemsOf img s) 0 0 [] (halted r) w
+          → firstOf (faultIn (walkOf img s)) (16 if anyBelow (unnamedChain img s) limit else 0) ≡ r
+      go (fault m) w h = rw (w, ← h .0) (first-some r _ (h .1))
+      go (done ds) w h = absurd h
+
+    module _ (m : List ℕ) (f k : ℕ) (e : runFrom (itemsWith (itemIn counts nexts t) img s) limit (root ∷ []) marks 0 0 ≡ ended m f k) where
+      -- the directories that the rules' walk reached, with the counts and marks for them
+      reached-all : (ds : List Dir) × (walkOf img s ≡ done ds) × WalkMatch (itemsOf img s) 0 0 [] (ended m f k) (done ds)
+      reached-all = go (walkOf img s) refl (rw e at run-match) where
+        go : (w : Walk) → walkOf img s ≡ w → WalkMatch (itemsOf img s) 0 0 [] (ended m f k) w
+            → (ds : List Dir) × (walkOf img s ≡ done ds) × WalkMatch (itemsOf img s) 0 0 [] (ended m f k) (done ds)
+        go (fault r) w h = absurd h
+        go (done ds) w h = (ds, w, h)
+
+      tree-files : f ≡ fileCount img s
+      unfolding fileCount reached reachedDirs filesIn
+      tree-files = rw (reached-all .1) (omega (arith, reached-all .2 .1))
+
+      tree-dirs : k ≡ dirCount img s
+      unfolding dirCount reachedDirs
+      tree-dirs = rw (reached-all .1) (omega (arith, reached-all .2 .2))
+
+      naming-reached : (x : ℕ) → namings x (gather (itemsOf img s) (reached-all .0)) + times x [] ≡ naming img s x
+      unfolding naming reached reachedDirs
+      naming-reached x = rw (reached-all .1) (omega (arith, times-none x, times-namings x (gather (itemsOf img s) (reached-all .0))))
+
+      naming-agrees : Agree m (naming img s)
+      naming-agrees = agree-same m (λ x. namings x (gather (itemsOf img s) (reached-all .0)) + times x []) (naming img s) naming-reached (reached-all .2 .0)
+
+      unnamed-same : (x : ℕ) → x < limit → unnamedChain img s x ≡ unnamedAt t m x
+      unfolding unnamedChain unnamed unnamedAt
+      unnamed-same x hi =
+          ⊎-elim
+          (λ lo. rw (
+            le-leb 6 x lo,
+            head-test t s table x lo hi,
+            eqb-both (naming img s x) 0 (getD m x 0) 0
+                (λ z. ⊎-elim (λ e. e) (λ n. absurd (omega (arith, naming-agrees x lo hi .1 n))) (eq-or-ne (getD m x 0) 0))
+                (naming-agrees x lo hi .0),
+          ))
+          (λ lo. rw (lt-leb 6 x lo))
+          (le-or-lt 6 x)
+
+      tree-ended : (b : Bool) → anyBelow (unnamedAt t m) limit ≡ b → treeFault img s ≡ 16 if b else 0
+      unfolding treeFault firstOf
+      tree-ended b h = rw (reached-all .1, any-same (unnamedChain img s) (unnamedAt t m) limit unnamed-same, h)
+
+    says : (r : TreeRead) (m : List ℕ) → conclusion r m ≡ runFrom (itemsWith (itemIn counts nexts t) img s) limit (root ∷ []) marks 0 0 → Says img s t r m
+    says (Counted files n) m e = (tree-ended m files n (sym e), tree-files m files n (sym e), tree-dirs m files n (sym e))
+    says (Fault r) m e = sym (tree-halted (numberOf r) (sym e))
+
+-- ---- the tables at the start: a mark for the root, and the root in the queue
+
+zeros : (n i : ℕ) → _≡_ {A = ℕ} (getD (replicate n 0) i 0) 0
+zeros zero i = refl
+zeros (suc n) zero = refl
+zeros (suc n) (suc i) = zeros n i
+
+abbrev startMarks : List ℕ
+startMarks = set (replicate limit 0) 5 1
+
+start-whole : length startMarks ≡ limit
+start-whole = length-set (replicate {A = ℕ} limit 0) 5 1 ∙ length-replicate {A = ℕ} limit 0
+
+start-clean : (x : ℕ) → 6 ≤ x → getD startMarks x 0 ≡ 0
+start-clean x h = getD-set-other (replicate limit 0) 5 x 1 0 (omega arith) ∙ zeros limit x
+
+pub start-fits : 1 ≤ marked startMarks
+start-fits =
+    let l = length-replicate {A = ℕ} limit 0 in
+    omega (arith, marked-more (replicate limit 0) 5 (omega arith) (zeros limit 5))
+
+start-queue : queueOf (set (replicate limit 0) 0 5) (replicate limit 0) 1 ≡ root ∷ []
+unfolding queueOf dirsFrom
+start-queue = refl
+
+module _ (img counts firsts nexts t : List ℕ) (whole : length firsts ≡ limit) (table : HeadTable t (anodesFrom counts firsts nexts)) where
+  past : (a : ℕ) → limit ≤ a → anodesFrom counts firsts nexts .block a ≡ 0
+  unfolding anodesFrom
+  past a h = List·getD-eq-default firsts 0 (rw whole h)
+
+  sums : (a : ℕ) → sumFrom counts nexts limit a ≡ blockCount (anodesFrom counts firsts nexts) a
+  unfolding sumFrom blockCount anodesFrom
+  sums a = refl
+
+  pub answered : (r : TreeRead) (m : List ℕ)
+      → conclusion r m ≡ runFrom (itemsWith (itemIn counts nexts t) img (anodesFrom counts firsts nexts)) limit (queueOf (set (replicate limit 0) 0 5) (replicate limit 0) 1) startMarks 0 0
+      → Says img (anodesFrom counts firsts nexts) t r m
+  answered r m e = says counts nexts t (anodesFrom counts firsts nexts) table past sums img startMarks start-whole start-clean r m (rw start-queue at e)

@@ -1,0 +1,14 @@
+use Rattle.rules.specs.Walk.{blocksFor}
+use borrow.Author.Needs.{needs}
+use Rattle.tree.proofs.blocks_for.Statement.{statement}
+use Rattle.tree.proofs.blocks_for.Tie as tie
+
+add-result : tie.Need-add-result
+add-result c = search needs
+
+returns : tie.Need-returns
+unfolding blocksFor
+returns c = search needs
+
+pub blocks-for-spec : {M : Type 1} → statement M
+blocks-for-spec = tie.close (tie.spec add-result returns)

@@ -1,0 +1,142 @@
+use mathlib.Core.Path.{sym, _∙_}
+use Prim.Native.Nat.{_+_}
+use native.Mathlib.Omega.{arith}
+use borrow.Author.Tests.{not-true, not-false}
+use Rattle.tree.proofs.Laws.{marked-room, queue-push, enter-no-head, enter-twice, enter-size, enter-file, enter-dir}
+use borrow.Author.Needs.{needs}
+use Rattle.tree.proofs.enter.Statement.{statement}
+use Rattle.tree.proofs.enter.Tie as tie
+
+cast-i : tie.Need-cast-i
+cast-i c = search needs
+
+head-at-requires : tie.Need-head-at-requires
+head-at-requires c κs = search needs
+
+returns : tie.Need-returns
+returns c = λ place. (sym (enter-no-head _ _ _ _ _ _ _ place _ _ _ (sym (c .before .head-at .ensures) ∙ not-true _ (c .if1 .taken))), search needs)
+
+entry-requires : tie.Need-entry-requires
+entry-requires c κs = search needs
+
+same-length : tie.Need-same-length
+same-length c = search needs
+
+returns-2 : tie.Need-returns-2
+returns-2 c =
+    let head = sym (c .before .before .before .before .head-at .ensures) ∙ not-false _ (c .before .before .before .if1 .left) in
+    λ place. (sym (enter-twice _ _ _ _ _ _ _ place _ _ _ head (λ z. c .if2 .taken (c .before .entry .ensures ∙ z))), search needs)
+
+enum-told : tie.Need-enum-told
+enum-told c = search needs
+
+chain-sum-requires : tie.Need-chain-sum-requires
+chain-sum-requires c κs = search needs
+
+cast-if3 : tie.Need-cast-if3
+cast-if3 c = search needs
+
+blocks-for-requires : tie.Need-blocks-for-requires
+blocks-for-requires c κs = search needs
+
+same-length-2 : tie.Need-same-length-2
+same-length-2 c = search needs
+
+returns-3 : tie.Need-returns-3
+returns-3 c =
+    let head = sym (c .before .before .before .before .before .before .before .before .before .head-at .ensures) ∙ not-false _ (c .before .before .before .before .before .before .before .before .if1 .left) in
+    let new = sym (c .before .before .before .before .before .before .entry .ensures) ∙ c .before .before .before .before .before .if2 .left in
+    λ place. (sym (enter-size _ _ _ _ _ _ _ place _ _ _ head new (c .before .before .before .enum-told .given .1) (λ z. c .if3 .taken (c .before .before .chain-sum .ensures ∙ z ∙ sym (c .before .blocks-for .ensures)))), search needs)
+
+set-entry-requires : tie.Need-set-entry-requires
+set-entry-requires c κs = search needs
+
+with-file-requires : tie.Need-with-file-requires
+with-file-requires c κs =
+    let x = c .before .before .before .before .before .before .before .before .before .before .before .before .before .before .before .before .before .before .before .before .before .before .args in
+    let head = sym (c .before .before .before .before .before .before .before .before .before .before .before .before .before .head-at .ensures) ∙ not-false _ (c .before .before .before .before .before .before .before .before .before .before .before .before .if1 .left) in
+    let new = sym (c .before .before .before .before .before .before .before .before .before .before .entry .ensures) ∙ c .before .before .before .before .before .before .before .before .before .if2 .left in
+    let room = marked-room (x .heads .now) (x .marks .now) (x .e .anode .0) (x .t .last + x .t .files) head new (c .before .before .before .before .before .before .before .before .before .before .before .before .before .before .before .before .before .before .before .before .before .before .pre .0) (c .before .before .before .before .before .before .before .before .before .before .before .before .before .before .before .before .before .before .before .before .before .before .pre .3) in
+    omega arith
+
+enum-told-2 : tie.Need-enum-told-2
+enum-told-2 c = search needs
+
+set-entry-requires-2 : tie.Need-set-entry-requires-2
+set-entry-requires-2 c κs = search needs
+
+set-entry-requires-3 : tie.Need-set-entry-requires-3
+set-entry-requires-3 c κs = search needs
+
+set-entry-requires-4 : tie.Need-set-entry-requires-4
+set-entry-requires-4 c κs = search needs
+
+with-directory-requires : tie.Need-with-directory-requires
+with-directory-requires c κs =
+    let x = c .before .before .before .before .before .before .before .before .before .before .before .before .before .before .before .before .before .before .before .before .before .before .before .before .before .before .before .args in
+    let head = sym (c .before .before .before .before .before .before .before .before .before .before .before .before .before .before .before .before .before .before .head-at .ensures) ∙ not-false _ (c .before .before .before .before .before .before .before .before .before .before .before .before .before .before .before .before .before .if1 .left) in
+    let new = sym (c .before .before .before .before .before .before .before .before .before .before .before .before .before .before .before .entry .ensures) ∙ c .before .before .before .before .before .before .before .before .before .before .before .before .before .before .if2 .left in
+    let room = marked-room (x .heads .now) (x .marks .now) (x .e .anode .0) (x .t .last + x .t .files) head new (c .before .before .before .before .before .before .before .before .before .before .before .before .before .before .before .before .before .before .before .before .before .before .before .before .before .before .before .pre .0) (c .before .before .before .before .before .before .before .before .before .before .before .before .before .before .before .before .before .before .before .before .before .before .before .before .before .before .before .pre .3) in
+    omega arith
+
+same-length-3 : tie.Need-same-length-3
+same-length-3 c = search needs
+
+returns-4 : tie.Need-returns-4
+returns-4 c =
+    let x = c .before .before .before .before .before .before .before .before .before .before .before .before .before .before .before .before .before .before .before .before .before .before .before .args in
+    let head = sym (c .before .before .before .before .before .before .before .before .before .before .before .before .before .before .head-at .ensures) ∙ not-false _ (c .before .before .before .before .before .before .before .before .before .before .before .before .before .if1 .left) in
+    let new = sym (c .before .before .before .before .before .before .before .before .before .before .before .entry .ensures) ∙ c .before .before .before .before .before .before .before .before .before .before .if2 .left in
+    let size = sym (c .before .before .before .before .before .before .before .chain-sum .ensures) ∙ c .before .before .before .before .before .if3 .left ∙ c .before .before .before .before .before .before .blocks-for .ensures in
+    let room = marked-room (x .heads .now) (x .marks .now) (x .e .anode .0) (x .t .last + x .t .files) head new (c .before .before .before .before .before .before .before .before .before .before .before .before .before .before .before .before .before .before .before .before .before .before .before .pre .0) (c .before .before .before .before .before .before .before .before .before .before .before .before .before .before .before .before .before .before .before .before .before .before .before .pre .3) in
+    rw (c .with-file .ensures, c .before .before .before .set-entry .ensures)
+    (λ place. (sym (enter-file _ _ _ _ _ _ _ place _ _ _ head new (c .before .before .before .before .before .before .before .before .enum-told .given .1) size), omega arith))
+
+same-length-4 : tie.Need-same-length-4
+same-length-4 c = search needs
+
+same-length-5 : tie.Need-same-length-5
+same-length-5 c = search needs
+
+same-length-6 : tie.Need-same-length-6
+same-length-6 c = search needs
+
+returns-5 : tie.Need-returns-5
+returns-5 c =
+    let x = c .before .before .before .before .before .before .before .before .before .before .before .before .before .before .before .before .before .before .before .before .before .before .before .before .before .before .before .before .args in
+    let head = sym (c .before .before .before .before .before .before .before .before .before .before .before .before .before .before .before .before .before .before .before .head-at .ensures) ∙ not-false _ (c .before .before .before .before .before .before .before .before .before .before .before .before .before .before .before .before .before .before .if1 .left) in
+    let new = sym (c .before .before .before .before .before .before .before .before .before .before .before .before .before .before .before .before .entry .ensures) ∙ c .before .before .before .before .before .before .before .before .before .before .before .before .before .before .before .if2 .left in
+    let room = marked-room (x .heads .now) (x .marks .now) (x .e .anode .0) (x .t .last + x .t .files) head new (c .before .before .before .before .before .before .before .before .before .before .before .before .before .before .before .before .before .before .before .before .before .before .before .before .before .before .before .before .pre .0) (c .before .before .before .before .before .before .before .before .before .before .before .before .before .before .before .before .before .before .before .before .before .before .before .before .before .before .before .before .pre .3) in
+    let push = queue-push (x .queue .now) (x .parents .now) (x .t .last) (x .e .anode .0) (x .head .0) (omega arith) (omega arith) in
+    rw (c .with-directory .ensures, c .before .before .before .before .before .before .before .before .before .before .before .set-entry2 .ensures, c .before .before .before .before .before .before .before .set-entry3 .ensures, c .before .before .before .set-entry4 .ensures)
+    (λ place. (rw push (sym (enter-dir _ _ _ _ _ _ _ place _ _ _ head new (c .before .before .before .before .before .before .before .before .before .before .before .before .before .enum-told2 .given .1))), omega arith))
+
+pub enter-spec : {M : Type 1} → statement M
+enter-spec =
+    tie.close
+    (tie.spec
+    cast-i
+    head-at-requires
+    returns
+    entry-requires
+    same-length
+    returns-2
+    enum-told
+    chain-sum-requires
+    cast-if3
+    blocks-for-requires
+    same-length-2
+    returns-3
+    set-entry-requires
+    with-file-requires
+    enum-told-2
+    set-entry-requires-2
+    set-entry-requires-3
+    set-entry-requires-4
+    with-directory-requires
+    same-length-3
+    returns-4
+    same-length-4
+    same-length-5
+    same-length-6
+    returns-5)

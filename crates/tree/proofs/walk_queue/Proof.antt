@@ -1,0 +1,113 @@
+use mathlib.Core.Path.{_≡_, sym, _∙_}
+use Prim.Native.Nat.{_+_, _-_, _≤_}
+use native.Mathlib.Omega.{arith}
+use lib.ListN.{drop}
+use Rattle.anodes.specs.Loaded.{anodesFrom}
+use Rattle.tree.specs.Steps.{itemIn, itemsWith, runFrom, queueOf, Room}
+use Rattle.tree.proofs.Laws.{marked-most, run-end, run-stop, run-step}
+use borrow.Author.Needs.{needs}
+use Rattle.tree.proofs.walk_queue.Statement.{statement}
+use Rattle.tree.proofs.walk_queue.Tie as tie
+
+abbrev Inv-loop : tie.InvT-loop
+Inv-loop image counts firsts nexts heads marks₀ queue₀ parents₀ tally₀ first₀ marks queue parents tally first =
+    Room tally marks queue parents
+    × (first ≤ 3444)
+    × (runFrom (itemsWith (itemIn counts nexts heads) image (anodesFrom counts firsts nexts)) (3444 - first) (drop first (queueOf queue parents (tally .last))) marks (tally .files) first ≡ runFrom (itemsWith (itemIn counts nexts heads) image (anodesFrom counts firsts nexts)) 3444 (queueOf queue₀ parents₀ 1) marks₀ 0 0)
+
+abbrev μ-loop : tie.MeasureT-loop
+μ-loop image counts firsts nexts heads marks₀ queue₀ parents₀ tally₀ first₀ marks queue parents tally first = 3444 - first
+
+loop-holds : tie.Need-loop-holds Inv-loop μ-loop
+loop-holds c = search needs
+
+entry-requires : tie.Need-entry-requires Inv-loop μ-loop
+entry-requires c κs = search needs
+
+entry-requires-2 : tie.Need-entry-requires-2 Inv-loop μ-loop
+entry-requires-2 c κs = search needs
+
+enter-directory-requires : tie.Need-enter-directory-requires Inv-loop μ-loop
+enter-directory-requires c κs = search needs
+
+enum-known-step : tie.Need-enum-known-step Inv-loop μ-loop
+enum-known-step c = search needs
+
+enum-known-step-2 : tie.Need-enum-known-step-2 Inv-loop μ-loop
+enum-known-step-2 c = search needs
+
+same-length : tie.Need-same-length Inv-loop μ-loop
+same-length c = c .before .before .before .before .before .before .before .before .before .enter-directory .kept .1 .1 .1 .1 .1 .0 ∙ c .before .before .before .before .before .before .before .before .before .before .before .before .before .before .before .before .before .before .before .loop .inv .0 .0 ∙ sym (c .before .before .before .before .before .before .before .before .before .before .before .before .before .before .before .before .before .before .before .before .before .before .before .before .before .before .before .before .pre .0)
+
+same-length-2 : tie.Need-same-length-2 Inv-loop μ-loop
+same-length-2 c = c .before .before .before .before .before .before .before .before .before .enter-directory .kept .1 .1 .1 .1 .1 .1 .0 ∙ c .before .before .before .before .before .before .before .before .before .before .before .before .before .before .before .before .before .before .before .loop .inv .0 .1 ∙ sym (c .before .before .before .before .before .before .before .before .before .before .before .before .before .before .before .before .before .before .before .before .before .before .before .before .before .before .before .before .pre .1)
+
+same-length-3 : tie.Need-same-length-3 Inv-loop μ-loop
+same-length-3 c = c .before .before .before .before .before .before .before .before .before .enter-directory .kept .1 .1 .1 .1 .1 .1 .1 .0 ∙ c .before .before .before .before .before .before .before .before .before .before .before .before .before .before .before .before .before .before .before .loop .inv .0 .2 ∙ sym (c .before .before .before .before .before .before .before .before .before .before .before .before .before .before .before .before .before .before .before .before .before .before .before .before .before .before .before .before .pre .2)
+
+returns : tie.Need-returns Inv-loop μ-loop
+returns c =
+    let l = c .before .before .before .before .before .before .before .before .before .before .before .before .before .before .before .before .before .before .before .loop in
+    let g = c .before .step2 .given in
+    let room = marked-most (l .marks) in
+    let e = rw (c .before .before .before .before .before .before .before .before .before .before .before .before .before .before .before .entry .ensures, c .before .before .before .before .before .before .before .before .before .before .before .before .before .entry2 .ensures, g .1) at (sym (c .before .before .before .before .before .before .before .before .before .enter-directory .ensures .0)) in
+    sym (run-stop _ _ _ _ _ _ _ _ _ (3444 - (l .first + 1)) (omega arith) (c .before .before .before .before .before .before .before .before .before .before .before .before .before .before .before .before .before .if1 .taken) _ e) ∙ l .inv .2
+
+add-first : tie.Need-add-first Inv-loop μ-loop
+add-first c = search needs
+
+loop-less : tie.Need-loop-less Inv-loop μ-loop
+loop-less c =
+    let room = marked-most (c .before .before .before .before .before .before .before .before .before .before .before .before .before .before .before .before .before .before .before .loop .marks) in
+    omega arith
+
+loop-again : tie.Need-loop-again Inv-loop μ-loop
+loop-again c =
+    let l = c .before .before .before .before .before .before .before .before .before .before .before .before .before .before .before .before .before .before .before .loop in
+    let g = c .before .step .given in
+    let room = marked-most (l .marks) in
+    let e = rw (c .before .before .before .before .before .before .before .before .before .before .before .before .before .before .before .entry .ensures, c .before .before .before .before .before .before .before .before .before .before .before .before .before .entry2 .ensures, g .1) at (sym (c .before .before .before .before .before .before .before .before .before .enter-directory .ensures .0)) in (
+      (search needs, search needs, search needs, rw (g .1) at (c .before .before .before .before .before .before .before .before .before .enter-directory .ensures .1)),
+      omega arith,
+      sym (run-step _ _ _ _ _ _ _ _ _ (3444 - (l .first + 1)) (omega arith) (c .before .before .before .before .before .before .before .before .before .before .before .before .before .before .before .before .before .if1 .taken) _ _ _ e) ∙ l .inv .2,
+    )
+
+cast-t28 : tie.Need-cast-t28 Inv-loop μ-loop
+cast-t28 c = search needs
+
+same-length-4 : tie.Need-same-length-4 Inv-loop μ-loop
+same-length-4 c = search needs
+
+same-length-5 : tie.Need-same-length-5 Inv-loop μ-loop
+same-length-5 c = search needs
+
+same-length-6 : tie.Need-same-length-6 Inv-loop μ-loop
+same-length-6 c = search needs
+
+returns-2 : tie.Need-returns-2 Inv-loop μ-loop
+returns-2 c = sym (run-end _ _ _ _ _ _ _ _ _ (c .if1 .left)) ∙ c .before .before .loop .inv .2
+
+pub walk-queue-spec : {M : Type 1} → statement M
+walk-queue-spec =
+    tie.close
+    (tie.spec
+    Inv-loop
+    μ-loop
+    loop-holds
+    entry-requires
+    entry-requires-2
+    enter-directory-requires
+    enum-known-step
+    enum-known-step-2
+    same-length
+    same-length-2
+    same-length-3
+    returns
+    add-first
+    loop-less
+    loop-again
+    cast-t28
+    same-length-4
+    same-length-5
+    same-length-6
+    returns-2)

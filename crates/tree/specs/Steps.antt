@@ -1,0 +1,147 @@
+-- The walk as the code makes it: a table of marks for the named anodes, two tables for the queue, and counts.
+use Prim.Native.Nat.{ℕ, zero, suc, _+_, _≤_}
+use mathlib.Core.Path.{_≡_}
+use mathlib.Core.Bool.{Bool, false, cond, _&&_}
+use mathlib.Core.List.{List, [], _∷_, _++_, map}
+use lib.ListN.{length, getD, set}
+use lib.Dec.{eqb, leb, ltb}
+use Rattle.disk.specs.Refusals.{numberOf}
+use Rattle.directory.specs.declared.Kind.{Kind}
+use Rattle.rules.specs.Counting.{sumList, gather}
+use Rattle.rules.specs.Anodes.{Anodes, limit}
+use Rattle.rules.specs.Chains.{chainOf}
+use Rattle.rules.specs.Walk.{Dir, Entered, Item, isDir, entriesIn, isBlockOf, blocksFor, broken}
+use Rattle.tree.specs.declared.Tally.{Tally}
+use Rattle.tree.specs.declared.Step.{Step}
+use Rattle.tree.specs.declared.Step.the-variants.{Go, Fault}
+use Rattle.tree.specs.declared.TreeRead.{TreeRead}
+use Rattle.tree.specs.declared.TreeRead.the-variants.{Counted, Fault as Refused}
+
+abbrev pub dirMade : ℕ → ℕ → Dir
+dirMade head parent = record { head = head; parent = parent }
+
+-- the sum of the counts along a chain of at most k anodes
+unfoldable pub sumFrom : List ℕ → List ℕ → ℕ → ℕ → ℕ
+sumFrom counts nexts k a = sumList (λ x. getD counts x 0) (chainOf (λ x. getD nexts x 0) k a)
+
+-- an anode that an entry may name: from 6 up, and its own head in the table of heads
+unfoldable pub headAt : List ℕ → ℕ → Bool
+headAt heads a = cond (leb 6 a) (cond (ltb a limit) (eqb (getD heads a 0) a) false) false
+
+-- an entry that keeps the entry rules
+unfoldable pub enteredAt : Kind → ℕ → ℕ → ℕ → Entered
+enteredAt kind a size place = record { broken = false; dir = isDir kind; anode = a; size = size; place = place }
+
+-- an entry under the eyes of the walk, by the tables
+unfoldable pub itemIn : List ℕ → List ℕ → List ℕ → Entered → Item
+itemIn counts nexts heads e = record {
+  early = cond (e .broken) 12 (cond (headAt heads (e .anode)) 0 13);
+  late = cond (e .dir) 0 (cond (eqb (sumFrom counts nexts limit (e .anode)) (blocksFor (e .size))) 0 15);
+  dir = e .dir;
+  anode = e .anode;
+  place = e .place;
+}
+
+-- how far the walk is: the first fault, or all directories queued so far, the marks and the number of files
+pub data Progress : Type 0 where
+  stopped : ℕ → Progress
+  going : List Dir → List ℕ → ℕ → Progress
+
+abbrev pub refuse : ℕ → Progress → Progress
+refuse zero p = p
+refuse (suc n) p = stopped (suc n)
+
+-- one item of the directory with this head
+unfoldable pub enterItem : ℕ → Item → List Dir → List ℕ → ℕ → Progress
+enterItem head i queue marks files =
+    refuse (i .early)
+    (cond (eqb (getD marks (i .anode) 0) 0)
+    (refuse (i .late)
+    (cond (i .dir) (going (queue ++ (dirMade (i .anode) head ∷ [])) (set marks (i .anode) 1) files)
+    (going queue (set marks (i .anode) 1) (files + 1))))
+    (stopped 14))
+
+abbrev pub onward : Progress → (List Dir → List ℕ → ℕ → Progress) → Progress
+onward (stopped n) f = stopped n
+onward (going queue marks files) f = f queue marks files
+
+unfoldable pub enterAll : ℕ → List Item → List Dir → List ℕ → ℕ → Progress
+enterAll head [] queue marks files = going queue marks files
+enterAll head (i ∷ is) queue marks files = onward (enterItem head i queue marks files) (enterAll head is)
+
+-- what anode a of directory d gives, and what the chain of at most k anodes from a on gives, where `item` looks at an entry
+unfoldable pub itemsFor : (Entered → Item) → List ℕ → Anodes → Dir → ℕ → List Item
+itemsFor item img s d a =
+    cond (eqb (s .count a) 1 && isBlockOf img d (s .block a)) (map item (entriesIn img (s .block a))) (broken ∷ [])
+
+unfoldable pub itemsAlong : (Entered → Item) → List ℕ → Anodes → Dir → ℕ → ℕ → List Item
+itemsAlong item img s d k a = gather (itemsFor item img s d) (chainOf (s .next) k a)
+
+-- what directory d gives
+unfoldable pub itemsWith : (Entered → Item) → List ℕ → Anodes → Dir → List Item
+itemsWith item img s d = itemsAlong item img s d limit (d .head)
+
+-- the end of the walk: the first fault, or the marks, the files and the directories taken from the queue
+pub data Run : Type 0 where
+  halted : ℕ → Run
+  ended : List ℕ → ℕ → ℕ → Run
+
+abbrev pub afterDir : Progress → (List Dir → List ℕ → ℕ → Run) → Run
+afterDir (stopped n) f = halted n
+afterDir (going queue marks files) f = f queue marks files
+
+module _ (items : Dir → List Item) where
+  unfoldable pub runFrom : ℕ → List Dir → List ℕ → ℕ → ℕ → Run
+  runFrom zero [] marks files n = ended marks files n
+  runFrom zero (d ∷ queue) marks files n = halted 14
+  runFrom (suc k) [] marks files n = ended marks files n
+  runFrom (suc k) (d ∷ queue) marks files n =
+      afterDir (enterAll (d .head) (items d) queue marks files) (λ q m f. runFrom k q m f (n + 1))
+
+-- the n directories of the two tables from i on, and the first n
+unfoldable pub dirsFrom : List ℕ → List ℕ → ℕ → ℕ → List Dir
+dirsFrom queue parents i zero = []
+dirsFrom queue parents i (suc n) = dirMade (getD queue i 0) (getD parents i 0) ∷ dirsFrom queue parents (suc i) n
+
+unfoldable pub queueOf : List ℕ → List ℕ → ℕ → List Dir
+queueOf queue parents n = dirsFrom queue parents 0 n
+
+-- the walk's answer and the marks that it leaves
+abbrev pub conclusion : TreeRead → List ℕ → Run
+conclusion (Counted files n) marks = ended marks files n
+conclusion (Refused r) marks = halted (numberOf r)
+
+-- a chain from 6 up whose head has no mark
+unfoldable pub unnamedAt : List ℕ → List ℕ → ℕ → Bool
+unnamedAt heads marks x = leb 6 x && (eqb (getD heads x 0) x && eqb (getD marks x 0) 0)
+
+-- how many entries of a table are marked
+unfoldable pub marked : List ℕ → ℕ
+marked marks = sumList (λ x. cond (eqb x 0) 0 1) marks
+
+-- the items of the directory with this head, entered after a tally and in these tables
+abbrev pub entering : Tally → List ℕ → List ℕ → List ℕ → ℕ → List Item → Progress
+entering t marks queue parents head is = enterAll head is (queueOf queue parents (t .last)) marks (t .files)
+
+-- the step's answer and the tables that it leaves
+abbrev pub progress : Step → List ℕ → List ℕ → List ℕ → Progress
+progress (Go t) marks queue parents = going (queueOf queue parents (t .last)) marks (t .files)
+progress (Fault r) marks queue parents = stopped (numberOf r)
+
+abbrev pub tallyMade : ℕ → ℕ → Tally
+tallyMade last files = record { last = last; files = files }
+
+-- every directory queued and every file has a mark of its own, so that the tables suffice
+abbrev pub Fits : Tally → List ℕ → Type 0
+Fits t marks = t .last + t .files ≤ marked marks
+
+abbrev pub Room : Tally → List ℕ → List ℕ → List ℕ → Type 0
+Room t marks queue parents = (length marks ≡ limit) × (length queue ≡ limit) × (length parents ≡ limit) × Fits t marks
+
+abbrev pub StepFits : Step → List ℕ → Type 0
+StepFits (Go t) marks = Fits t marks
+StepFits (Fault r) marks = Unit {0}
+
+-- a step that comes to p and leaves tables that suffice
+abbrev pub Leaves : Step → List ℕ → List ℕ → List ℕ → Progress → Type 0
+Leaves r marks queue parents p = (progress r marks queue parents ≡ p) × StepFits r marks

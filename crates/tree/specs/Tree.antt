@@ -1,0 +1,27 @@
+-- The answer of the walk: the number and values of each case, and the table of heads that it is lent.
+use Prim.Native.Nat.{ℕ, _≤_, _<_}
+use mathlib.Core.Path.{_≡_}
+use mathlib.Core.List.{List}
+use lib.ListN.{getD}
+use Rattle.disk.specs.Refusals.{numberOf}
+use Rattle.rules.specs.Anodes.{Anodes, limit}
+use Rattle.rules.specs.Chains.{heads}
+use Rattle.rules.specs.Calls.{fileCount, dirCount}
+use Rattle.tree.specs.declared.TreeRead.{TreeRead}
+use Rattle.tree.specs.declared.TreeRead.the-variants.{Counted, Fault}
+
+-- 0, or the refusal's number
+abbrev pub treeNumber : TreeRead → ℕ
+treeNumber (Counted files dirs) = 0
+treeNumber (Fault r) = numberOf r
+
+-- the files, and the directories with the root
+abbrev pub Counts : TreeRead → List ℕ → Anodes → Type 0
+Counts (Counted files dirs) img s = (files ≡ fileCount img s) × (dirs ≡ dirCount img s)
+Counts (Fault r) img s = Unit {0}
+
+-- a table in which exactly the heads of chains stand for themselves
+abbrev pub HeadTable : List ℕ → Anodes → Type 0
+HeadTable t s =
+    (a : ℕ) → 6 ≤ a → a < limit
+    → (getD t a 0 ≡ a → heads limit (s .next) (s .block) a ≡ 1) × (heads limit (s .next) (s .block) a ≡ 1 → getD t a 0 ≡ a)

@@ -1,0 +1,392 @@
+// Refusals 12 to 16: the walk over the directories, breadth first from the root.
+ghost use mathlib.Core.Path.{_≡_};
+ghost use Prim.Native.Nat.{ℕ, _+_, _<_};
+ghost use mathlib.Core.List.{map};
+ghost use lib.ListN.{length};
+ghost use Rattle.rules.specs.Accepted.{treeFault};
+ghost use Rattle.rules.specs.Counting.{anyBelow};
+ghost use Rattle.rules.specs.Walk.{blocksFor, isBlockOf, entriesIn};
+ghost use Rattle.anodes.specs.Loaded.{anodesFrom};
+ghost use Rattle.tree.specs.Tree.{treeNumber, Counts, HeadTable};
+ghost use Rattle.tree.specs.Steps.{dirMade, sumFrom, headAt, enteredAt, itemIn, enterItem, itemsFor, itemsWith, queueOf, entering, Leaves, runFrom, conclusion, tallyMade, Room, unnamedAt};
+use directory::Entry;
+use directory::Kind;
+use directory::Walked;
+use directory::directory_head_in;
+use directory::entry_at;
+use disk::AnodeNo;
+use disk::BlockNo;
+use disk::Refusal;
+use disk::block_part;
+use endian::read8;
+use tables::entry;
+use tables::set_entry;
+
+// What the walk finds: the files and the directories with the root, or the first fault.
+pub enum TreeRead {
+    Counted(u16, u16),
+    Fault(Refusal),
+}
+
+// How many directories were queued and how many files met.
+struct Tally {
+    last: usize,
+    files: u16,
+}
+
+// What a part of the walk comes to: the tally after it, or the first fault.
+enum Step {
+    Go(Tally),
+    Fault(Refusal),
+}
+
+// The blocks that the chain from `a` owns.
+pub fn chain_sum(counts: &[u16], nexts: &[u16], a: AnodeNo) -> u32
+    ensures { λ r. ⌜ r ≡ sumFrom (now (counts .entry)) (now (nexts .entry)) 3444 (a .0) ⌝ }
+{
+    let mut sum: u32 = 0;
+    let mut at = a.0 as usize;
+    let mut fuel: usize = 3444;
+    while fuel > 0 {
+        if at == 0 {
+            return sum;
+        }
+        sum += entry(counts, at) as u32;
+        at = entry(nexts, at) as usize;
+        fuel -= 1;
+    }
+    sum
+}
+
+// The blocks that a file of this size asks for.
+fn blocks_for(size: u32) -> u64
+    ensures { λ r. ⌜ r ≡ blocksFor size ⌝ }
+{
+    ((size as u64) + 511) / 512
+}
+
+// Whether an entry may name anode `a`.
+fn head_at(heads: &[u16], a: AnodeNo) -> bool
+    ensures { λ r. ⌜ r ≡ headAt (now (heads .entry)) (a .0) ⌝ }
+{
+    let i = a.0 as usize;
+    if i < 6 {
+        return false;
+    }
+    if 3444 <= i {
+        return false;
+    }
+    entry(heads, i) == a.0
+}
+
+// Whether block `b` is marked as the directory's; the root's parent is not examined.
+fn is_block_of(image: &[u8], head: AnodeNo, parent: AnodeNo, b: BlockNo) -> bool
+    ensures { λ r. ⌜ r ≡ isBlockOf (now (image .entry)) (dirMade (head .0) (parent .0)) (b .0) ⌝ }
+{
+    let found = directory_head_in(block_part(image, b));
+    if found.mark != 0x4442 {
+        return false;
+    }
+    if found.owner.0 != head.0 {
+        return false;
+    }
+    if head.0 == 5 {
+        return true;
+    }
+    found.parent.0 == parent.0
+}
+
+// The tally with one file more.
+fn with_file(t: Tally) -> Tally
+    requires { ⌜ t .files < 3444 ⌝ }
+    ensures { λ r. ⌜ r ≡ tallyMade (t .last) (t .files + 1) ⌝ }
+{
+    Tally {
+        last: t.last,
+        files: t.files + 1,
+    }
+}
+
+// The tally with one directory more.
+fn with_directory(t: Tally) -> Tally
+    requires { ⌜ t .last < 3444 ⌝ }
+    ensures { λ r. ⌜ r ≡ tallyMade (t .last + 1) (t .files) ⌝ }
+{
+    Tally {
+        last: t.last + 1,
+        files: t.files,
+    }
+}
+
+// Holds one entry of the directory with this head to 13, 14 and 15, marks its anode, and counts the file or queues the directory.
+fn enter(
+    counts: &[u16],
+    nexts: &[u16],
+    heads: &[u16],
+    marks: &mut [u16],
+    queue: &mut [u16],
+    parents: &mut [u16],
+    head: AnodeNo,
+    e: Entry,
+    t: Tally,
+) -> Step
+    requires { ⌜ Room t (now marks) (now queue) (now parents) ⌝ }
+    ensures { λ r. ⌜ ((place : ℕ) → Leaves r (now (marks .exit)) (now (queue .exit)) (now (parents .exit)) (enterItem (head .0) (itemIn (now (counts .entry)) (now (nexts .entry)) (now (heads .entry)) (enteredAt (e .kind) (e .anode .0) (e .size) place)) (queueOf (now (queue .entry)) (now (parents .entry)) (t .last)) (now (marks .entry)) (t .files))) ⌝ }
+{
+    let a = e.anode;
+    let kind = e.kind;
+    let i = a.0 as usize;
+    if !head_at(heads, a) {
+        return Step::Fault(Refusal::EntryAnode);
+    }
+    if entry(marks, i) != 0 {
+        return Step::Fault(Refusal::NamedTwice);
+    }
+    match kind {
+        Kind::File => {
+            if chain_sum(counts, nexts, a) as u64 != blocks_for(e.size) {
+                return Step::Fault(Refusal::FileSize);
+            }
+            set_entry(marks, i, 1);
+            Step::Go(with_file(t))
+        }
+        Kind::Directory => {
+            set_entry(marks, i, 1);
+            set_entry(queue, t.last, a.0);
+            set_entry(parents, t.last, head.0);
+            Step::Go(with_directory(t))
+        }
+    }
+}
+
+// Enters the entries of block `b` of the directory with this head, in byte order.
+fn enter_block(
+    image: &[u8],
+    counts: &[u16],
+    nexts: &[u16],
+    heads: &[u16],
+    marks: &mut [u16],
+    queue: &mut [u16],
+    parents: &mut [u16],
+    head: AnodeNo,
+    b: BlockNo,
+    t: Tally,
+) -> Step
+    requires { ⌜ Room t (now marks) (now queue) (now parents) ⌝ }
+    ensures { λ r. ⌜ Leaves r (now (marks .exit)) (now (queue .exit)) (now (parents .exit)) (entering t (now (marks .entry)) (now (queue .entry)) (now (parents .entry)) (head .0) (map (itemIn (now (counts .entry)) (now (nexts .entry)) (now (heads .entry))) (entriesIn (now (image .entry)) (b .0)))) ⌝ }
+{
+    let block = block_part(image, b);
+    let mut tally = t;
+    let mut at: usize = 16;
+    let mut fuel: usize = 28;
+    while fuel > 0 {
+        let found = entry_at(block, at);
+        let e = match found {
+            Walked::Found(e) => e,
+            Walked::End => return Step::Go(tally),
+            Walked::Fault(_) => return Step::Fault(Refusal::DirectoryBlock),
+        };
+        let step = enter(counts, nexts, heads, marks, queue, parents, head, e, tally);
+        let Step::Go(after) = step else {
+            return step;
+        };
+        tally = after;
+        at += read8(block, at) as usize;
+        fuel -= 1;
+    }
+    Step::Go(tally)
+}
+
+// Enters what anode `a` of a directory holds: one block that is marked as the directory's.
+fn enter_anode(
+    image: &[u8],
+    counts: &[u16],
+    firsts: &[u16],
+    nexts: &[u16],
+    heads: &[u16],
+    marks: &mut [u16],
+    queue: &mut [u16],
+    parents: &mut [u16],
+    head: AnodeNo,
+    parent: AnodeNo,
+    a: usize,
+    t: Tally,
+) -> Step
+    requires { ⌜ Room t (now marks) (now queue) (now parents) ⌝ }
+    ensures { λ r. ⌜ Leaves r (now (marks .exit)) (now (queue .exit)) (now (parents .exit)) (entering t (now (marks .entry)) (now (queue .entry)) (now (parents .entry)) (head .0) (itemsFor (itemIn (now (counts .entry)) (now (nexts .entry)) (now (heads .entry))) (now (image .entry)) (anodesFrom (now (counts .entry)) (now (firsts .entry)) (now (nexts .entry))) (dirMade (head .0) (parent .0)) a)) ⌝ }
+{
+    if entry(counts, a) != 1 {
+        return Step::Fault(Refusal::DirectoryBlock);
+    }
+    let b = BlockNo(entry(firsts, a));
+    if !is_block_of(image, head, parent, b) {
+        return Step::Fault(Refusal::DirectoryBlock);
+    }
+    enter_block(
+        image,
+        counts,
+        nexts,
+        heads,
+        marks,
+        queue,
+        parents,
+        head,
+        b,
+        t,
+    )
+}
+
+// Enters what a directory holds, anode by anode of its chain.
+fn enter_directory(
+    image: &[u8],
+    counts: &[u16],
+    firsts: &[u16],
+    nexts: &[u16],
+    heads: &[u16],
+    marks: &mut [u16],
+    queue: &mut [u16],
+    parents: &mut [u16],
+    head: AnodeNo,
+    parent: AnodeNo,
+    t: Tally,
+) -> Step
+    requires { ⌜ Room t (now marks) (now queue) (now parents) ⌝ }
+    ensures { λ r. ⌜ Leaves r (now (marks .exit)) (now (queue .exit)) (now (parents .exit)) (entering t (now (marks .entry)) (now (queue .entry)) (now (parents .entry)) (head .0) (itemsWith (itemIn (now (counts .entry)) (now (nexts .entry)) (now (heads .entry))) (now (image .entry)) (anodesFrom (now (counts .entry)) (now (firsts .entry)) (now (nexts .entry))) (dirMade (head .0) (parent .0)))) ⌝ }
+{
+    let mut tally = t;
+    let mut at = head.0 as usize;
+    let mut fuel: usize = 3444;
+    while fuel > 0 {
+        if at == 0 {
+            return Step::Go(tally);
+        }
+        let step = enter_anode(
+            image,
+            counts,
+            firsts,
+            nexts,
+            heads,
+            marks,
+            queue,
+            parents,
+            head,
+            parent,
+            at,
+            tally,
+        );
+        let Step::Go(after) = step else {
+            return step;
+        };
+        tally = after;
+        at = entry(nexts, at) as usize;
+        fuel -= 1;
+    }
+    Step::Go(tally)
+}
+
+// Takes directory after directory from the queue, until none is left.
+fn walk_queue(
+    image: &[u8],
+    counts: &[u16],
+    firsts: &[u16],
+    nexts: &[u16],
+    heads: &[u16],
+    marks: &mut [u16],
+    queue: &mut [u16],
+    parents: &mut [u16],
+) -> TreeRead
+    requires { ⌜ Room (tallyMade 1 0) (now marks) (now queue) (now parents) ⌝ }
+    ensures { λ r. ⌜ conclusion r (now (marks .exit)) ≡ runFrom (itemsWith (itemIn (now (counts .entry)) (now (nexts .entry)) (now (heads .entry))) (now (image .entry)) (anodesFrom (now (counts .entry)) (now (firsts .entry)) (now (nexts .entry)))) 3444 (queueOf (now (queue .entry)) (now (parents .entry)) 1) (now (marks .entry)) 0 0 ⌝ }
+{
+    let mut tally = Tally { last: 1, files: 0 };
+    let mut first: usize = 0;
+    while first < tally.last {
+        let head = AnodeNo(entry(queue, first));
+        let parent = AnodeNo(entry(parents, first));
+        let step = enter_directory(
+            image,
+            counts,
+            firsts,
+            nexts,
+            heads,
+            marks,
+            queue,
+            parents,
+            head,
+            parent,
+            tally,
+        );
+        match step {
+            Step::Go(after) => {
+                tally = after;
+            }
+            Step::Fault(r) => {
+                return TreeRead::Fault(r);
+            }
+        }
+        first += 1;
+    }
+    TreeRead::Counted(tally.files, first as u16)
+}
+
+// Whether anode `x` from 6 up heads a chain and has no mark.
+fn is_unnamed(heads: &[u16], marks: &[u16], x: usize) -> bool
+    ensures { λ r. ⌜ r ≡ unnamedAt (now (heads .entry)) (now (marks .entry)) x ⌝ }
+{
+    if x < 6 {
+        return false;
+    }
+    if entry(heads, x) as usize != x {
+        return false;
+    }
+    entry(marks, x) == 0
+}
+
+// Whether some chain from 6 up has no mark.
+fn any_unnamed(heads: &[u16], marks: &[u16]) -> bool
+    ensures { λ r. ⌜ r ≡ anyBelow (unnamedAt (now (heads .entry)) (now (marks .entry))) 3444 ⌝ }
+{
+    for x in 0..3444 {
+        if is_unnamed(heads, marks, x) {
+            return true;
+        }
+    }
+    false
+}
+
+// Walks all directories; every entry is held to the rules, and every chain from 6 up must be named.
+pub fn walk_tree(
+    image: &[u8],
+    counts: &[u16],
+    firsts: &[u16],
+    nexts: &[u16],
+    heads: &[u16],
+) -> TreeRead
+    requires { ⌜ (length (now counts) ≡ 3444) × (length (now firsts) ≡ 3444) × (length (now nexts) ≡ 3444) × HeadTable (now heads) (anodesFrom (now counts) (now firsts) (now nexts)) ⌝ }
+    ensures answer { λ r. ⌜ treeNumber r ≡ treeFault (now (image .entry)) (anodesFrom (now (counts .entry)) (now (firsts .entry)) (now (nexts .entry))) ⌝ }
+    ensures counted { λ r. ⌜ Counts r (now (image .entry)) (anodesFrom (now (counts .entry)) (now (firsts .entry)) (now (nexts .entry))) ⌝ }
+{
+    let mut marks = [0u16; 3444];
+    let mut queue = [0u16; 3444];
+    let mut parents = [0u16; 3444];
+    // the root counts as marked, so that there is a mark for each directory in the queue
+    marks[5] = 1;
+    queue[0] = 5;
+    let found = walk_queue(
+        image,
+        counts,
+        firsts,
+        nexts,
+        heads,
+        &mut marks,
+        &mut queue,
+        &mut parents,
+    );
+    if let TreeRead::Fault(_) = found {
+        return found;
+    }
+    if any_unnamed(heads, &marks) {
+        return TreeRead::Fault(Refusal::UnnamedChain);
+    }
+    found
+}
