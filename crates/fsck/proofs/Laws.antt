@@ -1,0 +1,292 @@
+-- The check's answer and the tables that it leaves, from the answers of its parts.
+use Prim.Native.Nat.{ℕ, _%_, _≤_, _<_}
+use mathlib.Core.Path.{_≡_, refl, sym, ap, _∙_}
+use mathlib.Core.Logic.{inl, inr}
+use mathlib.Core.Bool.{Bool, true, false, not, _||_}
+use mathlib.Core.List.{List, [], _++_}
+use native.Mathlib.Omega.{arith}
+use lib.ListN.{length, getD, drop, replicate, length-replicate}
+use lib.Seq.{drop-at}
+use lib.Dec.{eqb, ltb}
+use borrow.Author.Tests.{le-leb, lt-leb, ltb-false}
+use Rattle.disk.specs.declared.Refusal.{Refusal}
+use Rattle.disk.specs.declared.Refusal.the-variants.{ImageSize, TableSize, DiskType, RootBlock, AnodeBlock, FixedAnode, AnodeRange, ChainLinks, FreeList, TwoOwners, NoOwner, DirectoryBlock, EntryAnode, NamedTwice, FileSize, UnnamedChain, BadArgument, NoDirectory, NotFound, AlreadyThere, IsDirectory, NotEmpty, PastEnd, NoFreeBlock, NoFreeAnode}
+use Rattle.disk.specs.Refusals.{numberOf}
+use Rattle.disk.proofs.Laws.{length-listed}
+use Rattle.rules.specs.Counting.{_if_else_, anyBelow}
+use Rattle.rules.specs.Anodes.{Anodes, limit, anodesOf}
+use Rattle.rules.specs.Chains.{blockCount}
+use Rattle.rules.specs.Accepted.{diskSize, wrongSize, shortTables, wrongType, wrongRoot, wrongSlots, wrongFixed, outOfRange, wrongLinks, wrongFreeList, lastReserved, twoOwners, noOwner, treeFault, damageIn, checkAnswer}
+use Rattle.rules.specs.Tables.{anodeEntry, blockEntry, blockTable, anodeTable, tableLeft, blocksLeft, anodesLeft}
+use Rattle.rules.specs.Calls.{Outcome, outcomeOf, settled, checkOutcome, fileCount, dirCount}
+use Rattle.counting.specs.Laws.{neither}
+use Rattle.laws.specs.Acceptance.{if-zero, passed-of}
+use Rattle.laws.specs.Damage.{NoneOr, if-number, damage-range}
+use Rattle.chains.proofs.Laws.{zeroed}
+use Rattle.anodes.specs.Loaded.{anodesFrom}
+use Rattle.tree.specs.Tree.{treeNumber, Counts, HeadTable}
+use Rattle.tree.specs.Steps.{sumFrom}
+use Rattle.tree.specs.declared.TreeRead.{TreeRead}
+use Rattle.tree.specs.declared.TreeRead.the-variants.{Counted, Fault}
+use Rattle.fsck.specs.declared.Tally.{Tally}
+use Rattle.fsck.specs.declared.Checked.{Checked}
+use Rattle.fsck.specs.declared.Checked.the-variants.{Accepted, Refused}
+use Rattle.fsck.specs.declared.Test.{Test}
+use Rattle.fsck.specs.declared.Test.the-variants.{Passed, Failed}
+use Rattle.fsck.specs.Answers.{checkedNumber, testNumber, headerAnswer, spaceAnswer, Filled, Kept, TablesAfter, TablesLeft}
+
+-- ---- numbers
+
+pub number-some : (r : Refusal) → 1 ≤ numberOf r
+number-some ImageSize = omega arith
+number-some TableSize = omega arith
+number-some DiskType = omega arith
+number-some RootBlock = omega arith
+number-some AnodeBlock = omega arith
+number-some FixedAnode = omega arith
+number-some AnodeRange = omega arith
+number-some ChainLinks = omega arith
+number-some FreeList = omega arith
+number-some TwoOwners = omega arith
+number-some NoOwner = omega arith
+number-some DirectoryBlock = omega arith
+number-some EntryAnode = omega arith
+number-some NamedTwice = omega arith
+number-some FileSize = omega arith
+number-some UnnamedChain = omega arith
+number-some BadArgument = omega arith
+number-some NoDirectory = omega arith
+number-some NotFound = omega arith
+number-some AlreadyThere = omega arith
+number-some IsDirectory = omega arith
+number-some NotEmpty = omega arith
+number-some PastEnd = omega arith
+number-some NoFreeBlock = omega arith
+number-some NoFreeAnode = omega arith
+
+-- a row before others that may change
+row : (n : ℕ) (t : Bool) (r q k : ℕ) → (r ≡ k → q ≡ k) → (n if t else r) ≡ k → (n if t else q) ≡ k
+row n true r q k f e = e
+row n false r q k f e = f e
+
+-- behind the last row
+past : (q k : ℕ) → 1 ≤ k → 0 ≡ k → q ≡ k
+past q k some e = absurd (omega arith)
+
+-- ---- 1 to 4
+
+module _ (img : List ℕ) (b a : ℕ) where
+  pub header-1 : wrongSize img ≡ true → 1 ≡ headerAnswer img b a
+  unfolding headerAnswer
+  header-1 t = rw t
+
+  module _ (size : wrongSize img ≡ false) where
+    pub header-2 : shortTables img b a ≡ true → 2 ≡ headerAnswer img b a
+    unfolding headerAnswer
+    header-2 t = rw (size, t)
+
+    module _ (tables : shortTables img b a ≡ false) where
+      pub header-3 : wrongType img ≡ true → 3 ≡ headerAnswer img b a
+      unfolding headerAnswer
+      header-3 t = rw (size, tables, t)
+
+      module _ (type : wrongType img ≡ false) where
+        pub header-4 : wrongRoot img ≡ true → 4 ≡ headerAnswer img b a
+        unfolding headerAnswer
+        header-4 t = rw (size, tables, type, t)
+
+        pub header-none : wrongRoot img ≡ false → 0 ≡ headerAnswer img b a
+        unfolding headerAnswer
+        header-none t = rw (size, tables, type, t)
+
+  -- what a passed header says
+  pub record Headed : Type 0 where
+    pub size-right : wrongSize img ≡ false
+    pub blocks-room : diskSize img ≤ b
+    pub anodes-room : 3444 ≤ a
+    pub answered : checkAnswer img b a ≡ (5 if wrongSlots img else damageIn img (anodesOf img))
+
+  passed-all : 0 ≡ headerAnswer img b a → Headed
+  unfolding headerAnswer shortTables checkAnswer
+  passed-all e =
+      let r1 = if-zero 1 (wrongSize img) _ (omega arith) (sym e) in
+      let r2 = if-zero 2 (shortTables img b a) _ (omega arith) (r1 .1) in
+      let r3 = if-zero 3 (wrongType img) _ (omega arith) (r2 .1) in
+      let r4 = if-zero 4 (wrongRoot img) 0 (omega arith) (r3 .1) in
+      let room = neither (ltb b (diskSize img)) (ltb a limit) (r2 .0) in
+      record {
+        size-right = r1 .0;
+        blocks-room = ltb-false b (diskSize img) (room .0);
+        anodes-room = ltb-false a limit (room .1);
+        answered = rw (r1 .0, r2 .0, r3 .0, r4 .0);
+      }
+
+  pub headed : (t : Test) → t ≡ Passed → testNumber t ≡ headerAnswer img b a → Headed
+  headed t is e = passed-all (rw is at e)
+
+  header-range : NoneOr 1 4 (headerAnswer img b a)
+  unfolding headerAnswer
+  header-range =
+      if-number 1 (wrongSize img) 1 4 _ (omega arith) (omega arith)
+      (if-number 2 (shortTables img b a) 1 4 _ (omega arith) (omega arith)
+      (if-number 3 (wrongType img) 1 4 _ (omega arith) (omega arith)
+      (if-number 4 (wrongRoot img) 1 4 0 (omega arith) (omega arith) (inl refl))))
+
+  header-refused : (k : ℕ) → 1 ≤ k → headerAnswer img b a ≡ k → checkAnswer img b a ≡ k
+  unfolding headerAnswer checkAnswer
+  header-refused k some e =
+      row 1 (wrongSize img) _ _ k
+      (row 2 (shortTables img b a) _ _ k
+      (row 3 (wrongType img) _ _ k
+      (row 4 (wrongRoot img) _ _ k (past (5 if wrongSlots img else damageIn img (anodesOf img)) k some)))) e
+
+-- ---- 6 to 16
+
+module _ (img : List ℕ) (s : Anodes) where
+  space-refused : (k : ℕ) → 1 ≤ k → spaceAnswer img s ≡ k → damageIn img s ≡ k
+  unfolding spaceAnswer damageIn
+  space-refused k some e =
+      row 6 (wrongFixed s) _ _ k
+      (row 7 (anyBelow (outOfRange s (diskSize img)) limit) _ _ k
+      (row 8 (wrongLinks s) _ _ k
+      (row 9 (wrongFreeList s (lastReserved img)) _ _ k
+      (row 10 (twoOwners img s) _ _ k
+      (row 11 (noOwner img s) _ _ k (past (treeFault img s) k some)))))) e
+
+  space-passed : spaceAnswer img s ≡ 0 → damageIn img s ≡ treeFault img s
+  unfolding spaceAnswer damageIn
+  space-passed e =
+      let r6 = if-zero 6 (wrongFixed s) _ (omega arith) e in
+      let r7 = if-zero 7 (anyBelow (outOfRange s (diskSize img)) limit) _ (omega arith) (r6 .1) in
+      let r8 = if-zero 8 (wrongLinks s) _ (omega arith) (r7 .1) in
+      let r9 = if-zero 9 (wrongFreeList s (lastReserved img)) _ (omega arith) (r8 .1) in
+      let r10 = if-zero 10 (twoOwners img s) _ (omega arith) (r9 .1) in
+      let r11 = if-zero 11 (noOwner img s) 0 (omega arith) (r10 .1) in
+      rw (r6 .0, r7 .0, r8 .0, r9 .0, r10 .0, r11 .0)
+
+  -- a table that shows the image keeps what stands behind it
+  filled-kept : (b₀ a₀ b a : List ℕ) → Filled img s b₀ a₀ b a → Kept img b₀ a₀ b a
+  unfolding blockTable anodeTable
+  filled-kept b₀ a₀ b a f = record {
+    blocks-kept = ap (λ (l : List ℕ). drop (diskSize img) l) (f .blocks-shown) ∙ drop-at (blockTable img s) (drop (diskSize img) b₀) (diskSize img) (length-listed (blockEntry img s) 0 (diskSize img));
+    anodes-kept = ap (λ (l : List ℕ). drop limit l) (f .anodes-shown) ∙ drop-at (anodeTable s) (drop limit a₀) limit (length-listed (anodeEntry s) 0 limit);
+  }
+
+  module _ (b₀ a₀ b a : List ℕ) (t : Test) (e : testNumber t ≡ spaceAnswer img s) (left : TablesAfter t img s b₀ a₀ b a) where
+    pub all-failed : (r : Refusal) → t ≡ Failed r → (numberOf r ≡ damageIn img s) × (Unit {0} × Kept img b₀ a₀ b a)
+    all-failed r is =
+        let n = rw is at e in
+        (sym (space-refused (numberOf r) (number-some r) (sym n)), (tt, rw is at left))
+
+    module _ (is : t ≡ Passed) (s₁ : Anodes) (same : s₁ ≡ s) where
+      pub all-heads : HeadTable a s₁
+      all-heads = rw same ((rw is at left) .1)
+
+      module _ (w : TreeRead) (n : treeNumber w ≡ treeFault img s₁) where
+        damaged : damageIn img s ≡ treeNumber w
+        damaged = space-passed (sym (rw is at e)) ∙ sym (rw same at n)
+
+        pub all-fault : (r : Refusal) → w ≡ Fault r → (numberOf r ≡ damageIn img s) × (Unit {0} × Kept img b₀ a₀ b a)
+        all-fault r fault = (sym (rw fault at damaged), (tt, filled-kept b₀ a₀ b a ((rw is at left) .0)))
+
+        pub all-counted : Counts w img s₁ → (files dirs : ℕ) → w ≡ Counted files dirs → (free : ℕ) → free ≡ blockCount s 1
+            → (0 ≡ damageIn img s) × (((free ≡ blockCount s 1) × (files ≡ fileCount img s) × (dirs ≡ dirCount img s)) × Filled img s b₀ a₀ b a)
+        all-counted k files dirs counted free f =
+            let q : (files ≡ fileCount img s) × (dirs ≡ dirCount img s) = rw (counted, same) at k in
+            (sym (rw counted at damaged), ((f, q .0, q .1), (rw is at left) .0))
+
+-- the free blocks, as they are summed over the loaded anodes
+pub free-of : (c b n : List ℕ) (s : Anodes) → anodesFrom c b n ≡ s → sumFrom c n 3444 1 ≡ blockCount s 1
+unfolding sumFrom anodesFrom blockCount
+free-of c b n s e = rw (sym e)
+
+-- ---- 5
+
+pub slots-wrong : (img : List ℕ) (k : ℕ) → wrongSlots img ≡ true → 5 ≡ (5 if wrongSlots img else k)
+slots-wrong img k t = rw t
+
+pub slots-right : (img : List ℕ) (x k : ℕ) → wrongSlots img ≡ false → x ≡ k → x ≡ (5 if wrongSlots img else k)
+slots-right img x k t e = rw t e
+
+-- ---- the tables
+
+module _ (range : ℕ) (shown old : List ℕ) where
+  left-early : (k : ℕ) → 1 ≤ k → k ≤ 4 → tableLeft k range shown old ≡ old
+  unfolding tableLeft
+  left-early k l m = rw (le-leb 1 k l, le-leb k 4 m)
+
+  left-zeroed : (k : ℕ) → 5 ≤ k → k ≤ 16 → tableLeft k range shown old ≡ replicate range 0 ++ drop range old
+  unfolding tableLeft
+  left-zeroed k l m = rw (le-leb 1 k (omega arith), lt-leb k 4 (omega arith), le-leb 5 k l, le-leb k 16 m)
+
+  left-shown : tableLeft 0 range shown old ≡ shown ++ drop range old
+  unfolding tableLeft
+  left-shown = refl
+
+-- zeroed, filled without a change behind the range, and zeroed again
+again : (n : ℕ) (t₀ t₁ t₂ t₃ : List ℕ) → t₁ ≡ replicate n 0 ++ drop n t₀ → drop n t₂ ≡ drop n t₁ → t₃ ≡ replicate n 0 ++ drop n t₂ → t₃ ≡ replicate n 0 ++ drop n t₀
+again n t₀ t₁ t₂ t₃ z k e =
+    e ∙ ap (λ (l : List ℕ). replicate n 0 ++ l) (k ∙ ap (λ (l : List ℕ). drop n l) z ∙ drop-at (replicate n 0) (drop n t₀) n (length-replicate {A = ℕ} n 0))
+
+-- zeroed and filled
+once : (n : ℕ) (t₀ t₁ shown t₂ : List ℕ) → t₁ ≡ replicate n 0 ++ drop n t₀ → t₂ ≡ shown ++ drop n t₁ → t₂ ≡ shown ++ drop n t₀
+once n t₀ t₁ shown t₂ z e =
+    e ∙ ap (λ (l : List ℕ). shown ++ l) (ap (λ (l : List ℕ). drop n l) z ∙ drop-at (replicate n 0) (drop n t₀) n (length-replicate {A = ℕ} n 0))
+
+pub zeros : (n k : ℕ) (t₀ t : List ℕ) → n ≡ k → t ≡ replicate n 0 ++ drop n t₀ → (x : ℕ) → x < k → getD t x 0 ≡ 0
+zeros n k t₀ t e z x l = rw z (zeroed n (drop n t₀) x (omega arith))
+
+-- ---- the outcome
+
+late-range : (img : List ℕ) → NoneOr 5 16 (5 if wrongSlots img else damageIn img (anodesOf img))
+late-range img =
+    if-number 5 (wrongSlots img) 5 16 (damageIn img (anodesOf img)) (omega arith) (omega arith)
+    (elim (damage-range img (anodesOf img)) [ inl z ↦ inl z | inr l ↦ inr (omega (arith, l .0), l .1) ])
+
+module _ (img b₀ a₀ : List ℕ) where
+  outcome : (k : ℕ) (b a : List ℕ) → checkAnswer img (length b₀) (length a₀) ≡ k → b ≡ blocksLeft k img b₀ → a ≡ anodesLeft k img a₀
+      → outcomeOf k img b a [] [] ≡ checkOutcome img b₀ a₀
+  unfolding checkOutcome settled
+  outcome k b a e p q = rw (e, p, q)
+
+  -- an accepted image has at most 65,535 blocks
+  pub outcome-size : (x : Checked) (t : Tally) → x ≡ Accepted t → (b a : List ℕ) → outcomeOf (checkedNumber x) img b a [] [] ≡ checkOutcome img b₀ a₀ → diskSize img ≤ 65535
+  unfolding checkOutcome settled wrongSize
+  outcome-size x t is b a e =
+      let z : 0 ≡ checkAnswer img (length b₀) (length a₀) = ap (λ (o : Outcome). o .answer) (rw is at e) in
+      let size = neither (not (eqb (length img % 512) 0)) (ltb (diskSize img) 5 || ltb 65535 (diskSize img)) (passed-of img (length b₀) (length a₀) (sym z) .size-right) in
+      ltb-false 65535 (diskSize img) (neither (ltb (diskSize img) 5) (ltb 65535 (diskSize img)) (size .1) .1)
+
+  pub outcome-header : (t : Test) (r : Refusal) → t ≡ Failed r → testNumber t ≡ headerAnswer img (length b₀) (length a₀)
+      → outcomeOf (numberOf r) img b₀ a₀ [] [] ≡ checkOutcome img b₀ a₀
+  unfolding blocksLeft anodesLeft
+  outcome-header t r is e =
+      let n : numberOf r ≡ headerAnswer img (length b₀) (length a₀) = rw is at e in
+      let some = number-some r in
+      let most : numberOf r ≤ 4 = elim (header-range img (length b₀) (length a₀)) [ inl z ↦ absurd (omega arith) | inr l ↦ omega (arith, l .1) ] in
+      outcome (numberOf r) b₀ a₀ (header-refused img (length b₀) (length a₀) (numberOf r) some (sym n))
+      (sym (left-early (diskSize img) _ b₀ (numberOf r) some most)) (sym (left-early limit _ a₀ (numberOf r) some most))
+
+  module _ (n : ℕ) (size : n ≡ diskSize img) (h : Headed img (length b₀) (length a₀)) (b₁ a₁ b₂ a₂ : List ℕ)
+      (zb : b₁ ≡ replicate n 0 ++ drop n b₀) (za : a₁ ≡ replicate 3444 0 ++ drop 3444 a₀)
+      (x : Checked) (e : checkedNumber x ≡ (5 if wrongSlots img else damageIn img (anodesOf img))) (left : TablesLeft x img (anodesOf img) b₁ a₁ b₂ a₂) where
+    pub outcome-accepted : (t : Tally) → x ≡ Accepted t → outcomeOf (checkedNumber x) img b₂ a₂ [] [] ≡ checkOutcome img b₀ a₀
+    unfolding blocksLeft anodesLeft
+    outcome-accepted t is =
+        let f : Filled img (anodesOf img) b₁ a₁ b₂ a₂ = rw is at left in
+        let z : 0 ≡ (5 if wrongSlots img else damageIn img (anodesOf img)) = rw is at e in
+        rw is (outcome 0 b₂ a₂ (h .answered ∙ sym z)
+        (once (diskSize img) b₀ b₁ (blockTable img (anodesOf img)) b₂ (rw size at zb) (f .blocks-shown) ∙ sym (left-shown (diskSize img) (blockTable img (anodesOf img)) b₀))
+        (once limit a₀ a₁ (anodeTable (anodesOf img)) a₂ za (f .anodes-shown) ∙ sym (left-shown limit (anodeTable (anodesOf img)) a₀)))
+
+    pub outcome-refused : (r : Refusal) → x ≡ Refused r → (b₃ a₃ : List ℕ) → b₃ ≡ replicate n 0 ++ drop n b₂ → a₃ ≡ replicate 3444 0 ++ drop 3444 a₂
+        → outcomeOf (checkedNumber x) img b₃ a₃ [] [] ≡ checkOutcome img b₀ a₀
+    unfolding blocksLeft anodesLeft
+    outcome-refused r is b₃ a₃ wb wa =
+        let k : Kept img b₁ a₁ b₂ a₂ = rw is at left in
+        let m : numberOf r ≡ (5 if wrongSlots img else damageIn img (anodesOf img)) = rw is at e in
+        let some = number-some r in
+        let within : (5 ≤ numberOf r) × (numberOf r ≤ 16) = elim (late-range img) [ inl z ↦ absurd (omega arith) | inr l ↦ (omega (arith, l .0), omega (arith, l .1)) ] in
+        rw is (outcome (numberOf r) b₃ a₃ (h .answered ∙ sym m)
+        (again (diskSize img) b₀ b₁ b₂ b₃ (rw size at zb) (k .blocks-kept) (rw size at wb) ∙ sym (left-zeroed (diskSize img) (blockTable img (anodesOf img)) b₀ (numberOf r) (within .0) (within .1)))
+        (again limit a₀ a₁ a₂ a₃ za (k .anodes-kept) wa ∙ sym (left-zeroed limit (anodeTable (anodesOf img)) a₀ (numberOf r) (within .0) (within .1))))

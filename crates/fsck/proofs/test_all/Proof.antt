@@ -1,0 +1,74 @@
+use mathlib.Core.Path.{_∙_}
+use Rattle.fsck.proofs.Laws.{all-failed, all-heads, all-fault, all-counted, free-of}
+use borrow.Author.Needs.{needs}
+use Rattle.fsck.proofs.test_all.Statement.{statement}
+use Rattle.fsck.proofs.test_all.Tie as tie
+
+test-space-requires : tie.Need-test-space-requires
+test-space-requires c κs = search needs
+
+enum-known-t : tie.Need-enum-known-t
+enum-known-t c = search needs
+
+same-length : tie.Need-same-length
+same-length c = search needs
+
+same-length-2 : tie.Need-same-length-2
+same-length-2 c = search needs
+
+returns : tie.Need-returns
+returns c = all-failed _ _ _ _ _ _ _ (c .before .before .before .before .before .before .before .test-space .ensures .0) (c .before .before .before .before .before .before .before .test-space .ensures .1) _ (c .before .t .given .1)
+
+enum-told : tie.Need-enum-told
+enum-told c = search needs
+
+walk-tree-requires : tie.Need-walk-tree-requires
+walk-tree-requires c κs = (c .before .before .before .before .before .before .before .before .before .before .before .before .before .before .before .before .pre .0 .0, c .before .before .before .before .before .before .before .before .before .before .before .before .before .before .before .before .pre .0 .1, c .before .before .before .before .before .before .before .before .before .before .before .before .before .before .before .before .pre .0 .2, all-heads _ _ _ _ _ _ _ (c .before .before .before .before .before .before .before .test-space .ensures .0) (c .before .before .before .before .before .before .before .test-space .ensures .1) (c .before .enum-told .given .1) _ (c .before .before .before .before .before .before .before .before .before .before .before .before .before .before .before .before .pre .1 .0))
+
+enum-known-w : tie.Need-enum-known-w
+enum-known-w c = search needs
+
+chain-sum-requires : tie.Need-chain-sum-requires
+chain-sum-requires c κs = search needs
+
+enum-known-w-2 : tie.Need-enum-known-w-2
+enum-known-w-2 c = search needs
+
+same-length-3 : tie.Need-same-length-3
+same-length-3 c = search needs
+
+same-length-4 : tie.Need-same-length-4
+same-length-4 c = search needs
+
+returns-2 : tie.Need-returns-2
+returns-2 c = all-counted _ _ _ _ _ _ _ (c .before .before .before .before .before .before .before .before .before .before .before .before .test-space .ensures .0) (c .before .before .before .before .before .before .before .before .before .before .before .before .test-space .ensures .1) (c .before .before .before .before .before .before .enum-told .given .1) _ (c .before .before .before .before .before .before .before .before .before .before .before .before .before .before .before .before .before .before .before .before .before .pre .1 .0) _ (c .before .before .before .before .walk-tree .ensures .0) (c .before .before .before .before .walk-tree .ensures .1) _ _ (c .before .before .w .given .1) _ (c .chain-sum .ensures ∙ free-of _ _ _ _ (c .before .before .before .before .before .before .before .before .before .before .before .before .before .before .before .before .before .before .before .before .before .pre .1 .0))
+
+same-length-5 : tie.Need-same-length-5
+same-length-5 c = search needs
+
+same-length-6 : tie.Need-same-length-6
+same-length-6 c = search needs
+
+returns-3 : tie.Need-returns-3
+returns-3 c = all-fault _ _ _ _ _ _ _ (c .before .before .before .before .before .before .before .before .before .before .before .test-space .ensures .0) (c .before .before .before .before .before .before .before .before .before .before .before .test-space .ensures .1) (c .before .before .before .before .before .enum-told .given .1) _ (c .before .before .before .before .before .before .before .before .before .before .before .before .before .before .before .before .before .before .before .before .pre .1 .0) _ (c .before .before .before .walk-tree .ensures .0) _ (c .before .w2 .given .1)
+
+pub test-all-spec : {M : Type 1} → statement M
+test-all-spec =
+    tie.close
+    (tie.spec
+    test-space-requires
+    enum-known-t
+    same-length
+    same-length-2
+    returns
+    enum-told
+    walk-tree-requires
+    enum-known-w
+    chain-sum-requires
+    enum-known-w-2
+    same-length-3
+    same-length-4
+    returns-2
+    same-length-5
+    same-length-6
+    returns-3)

@@ -1,0 +1,68 @@
+-- The check's answer: the number and values of each case, and what its parts leave in the tables.
+use Prim.Native.Nat.{ℕ}
+use mathlib.Core.Path.{_≡_}
+use mathlib.Core.List.{List, _++_}
+use lib.ListN.{drop}
+use Rattle.disk.specs.Refusals.{numberOf}
+use Rattle.rules.specs.Counting.{_if_else_, anyBelow}
+use Rattle.rules.specs.Anodes.{Anodes, limit}
+use Rattle.rules.specs.Chains.{blockCount}
+use Rattle.rules.specs.Accepted.{diskSize, wrongSize, shortTables, wrongType, wrongRoot, wrongFixed, outOfRange, wrongLinks, wrongFreeList, lastReserved, twoOwners, noOwner}
+use Rattle.rules.specs.Tables.{blockTable, anodeTable}
+use Rattle.rules.specs.Calls.{fileCount, dirCount}
+use Rattle.tree.specs.Tree.{HeadTable}
+use Rattle.fsck.specs.declared.Checked.{Checked}
+use Rattle.fsck.specs.declared.Checked.the-variants.{Accepted, Refused}
+use Rattle.fsck.specs.declared.Test.{Test}
+use Rattle.fsck.specs.declared.Test.the-variants.{Passed, Failed}
+
+-- 0 for an accepted image, else the refusal's number
+abbrev pub checkedNumber : Checked → ℕ
+checkedNumber (Accepted t) = 0
+checkedNumber (Refused r) = numberOf r
+
+abbrev pub testNumber : Test → ℕ
+testNumber Passed = 0
+testNumber (Failed r) = numberOf r
+
+-- an accepted image's free blocks, files, and directories with the root
+abbrev pub Tallied : Checked → List ℕ → Anodes → Type 0
+Tallied (Accepted t) img s = (t .free ≡ blockCount s 1) × (t .files ≡ fileCount img s) × (t .dirs ≡ dirCount img s)
+Tallied (Refused r) img s = Unit {0}
+
+-- 1 to 4, which touch no table
+unfoldable pub headerAnswer : List ℕ → ℕ → ℕ → ℕ
+headerAnswer img blocks anodes =
+    1 if wrongSize img
+    else 2 if shortTables img blocks anodes
+    else 3 if wrongType img
+    else 4 if wrongRoot img
+    else 0
+
+-- 6 to 11
+unfoldable pub spaceAnswer : List ℕ → Anodes → ℕ
+spaceAnswer img s =
+    6 if wrongFixed s
+    else 7 if anyBelow (outOfRange s (diskSize img)) limit
+    else 8 if wrongLinks s
+    else 9 if wrongFreeList s (lastReserved img)
+    else 10 if twoOwners img s
+    else 11 if noOwner img s
+    else 0
+
+-- the tables after the tests of anodes and blocks: filled where they passed; entries past the ranges kept
+pub record Filled (img : List ℕ) (s : Anodes) (blocks₀ anodes₀ blocks anodes : List ℕ) : Type 0 where
+  pub blocks-shown : blocks ≡ blockTable img s ++ drop (diskSize img) blocks₀
+  pub anodes-shown : anodes ≡ anodeTable s ++ drop limit anodes₀
+
+pub record Kept (img : List ℕ) (blocks₀ anodes₀ blocks anodes : List ℕ) : Type 0 where
+  pub blocks-kept : drop (diskSize img) blocks ≡ drop (diskSize img) blocks₀
+  pub anodes-kept : drop limit anodes ≡ drop limit anodes₀
+
+abbrev pub TablesAfter : Test → List ℕ → Anodes → List ℕ → List ℕ → List ℕ → List ℕ → Type 0
+TablesAfter Passed img s b₀ a₀ b a = Filled img s b₀ a₀ b a × HeadTable a s
+TablesAfter (Failed r) img s b₀ a₀ b a = Kept img b₀ a₀ b a
+
+abbrev pub TablesLeft : Checked → List ℕ → Anodes → List ℕ → List ℕ → List ℕ → List ℕ → Type 0
+TablesLeft (Accepted t) img s b₀ a₀ b a = Filled img s b₀ a₀ b a
+TablesLeft (Refused r) img s b₀ a₀ b a = Kept img b₀ a₀ b a

@@ -1,0 +1,27 @@
+//! With the feature `proved`, links the proved library `libpfs.a`. It is looked for in the folder that the
+//! environment variable `PFS_LIB_DIR` names, else in `../target/staticlib` beside this package.
+
+use std::env;
+use std::path::PathBuf;
+
+fn library_folder() -> PathBuf {
+    match env::var_os("PFS_LIB_DIR") {
+        Some(folder) => PathBuf::from(folder),
+        None => {
+            let package = env::var_os("CARGO_MANIFEST_DIR").unwrap_or_default();
+            PathBuf::from(package).join("../target/staticlib")
+        }
+    }
+}
+
+fn main() {
+    println!("cargo:rerun-if-changed=build.rs");
+    println!("cargo:rerun-if-env-changed=PFS_LIB_DIR");
+    if env::var_os("CARGO_FEATURE_PROVED").is_none() {
+        return;
+    }
+    let folder = library_folder();
+    println!("cargo:rerun-if-changed={}", folder.join("libpfs.a").display());
+    println!("cargo:rustc-link-search=native={}", folder.display());
+    println!("cargo:rustc-link-lib=static=pfs");
+}

@@ -1,0 +1,280 @@
+//! Random calls for histories: their arguments are mostly such that the call can be done on the disk, at times
+//! such that it must be refused, and often at the very edge.
+
+use crate::calls::Call;
+use crate::model;
+use crate::rng::Rng;
+use crate::shapes::format_call;
+use crate::tree::{Node, Tree, DIRECTORY, FILE, ROOT};
+
+/// What a history is after.
+#[derive(Clone, Copy, Debug, PartialEq, Eq)]
+pub enum Mood {
+    Mixed,
+    /// Fills the disk with bytes.
+    Growing,
+    /// Fills the anode table and the directories with entries.
+    Making,
+    /// Empties the disk.
+    Shrinking,
+}
+
+impl Mood {
+    pub fn random(rng: &mut Rng) -> Self {
+        [Mood::Mixed, Mood::Growing, Mood::Making, Mood::Shrinking][rng.below(4)]
+    }
+
+    /// How many calls in a hundred are make, resize and remove; the others do not change the tree's shape.
+    fn shares(self) -> [usize; 3] {
+        match self {
+            Mood::Mixed => [20, 25, 12],
+            Mood::Growing => [12, 60, 4],
+            Mood::Making => [70, 10, 4],
+            Mood::Shrinking => [4, 30, 45],
+        }
+    }
+}
+
+/// A call on a disk of `blocks` blocks that holds this tree and has this many blocks free.
+pub fn random_call(tree: &Tree, mood: Mood, blocks: usize, free: usize, rng: &mut Rng) -> Call {
+    let [make, resize, remove] = mood.shares();
+    let throw = rng.below(100);
+    let bare = tree.counts().0 == 0;
+    if throw < make || (bare && rng.percent(60)) {
+        make_call(tree, rng)
+    } else if throw < make + resize {
+        resize_call(tree, mood, free, rng)
+    } else if throw < make + resize + remove {
+        let (directory, name) = any_entry(tree, |_| true, rng);
+        Call::Remove { directory, name }
+    } else {
+        quiet_call(tree, blocks, rng)
+    }
+}
+
+fn quiet_call(tree: &Tree, blocks: usize, rng: &mut Rng) -> Call {
+    match rng.below(20) {
+        0 => Call::Check,
+        1 => Call::Summary,
+        2 if rng.percent(20) => random_format(blocks, rng),
+        2..=6 => list_call(tree, rng),
+        7..=12 => write_call(tree, rng),
+        _ => read_call(tree, rng),
+    }
+}
+
+/// A directory of the tree, or now and then a number that is none.
+fn any_directory(tree: &Tree, rng: &mut Rng) -> u16 {
+    let numbers: Vec<u16> = tree.directories.keys().copied().collect();
+    let known = rng.pick(&numbers).copied().unwrap_or(ROOT);
+    if rng.percent(95) {
+        return known;
+    }
+    let nodes: Vec<u16> = tree.directories[&known].nodes().map(|node| node.anode).collect();
+    match rng.below(4) {
+        0 => rng.within16(0..=4),
+        1 => rng.pick(&nodes).copied().unwrap_or(6),
+        2 => [65_535, 3_443, 3_444][rng.below(3)],
+        _ => rng.word(),
+    }
+}
+
+/// An entry that fits, by directory and name; now and then the directory or the name is another one.
+fn any_entry(tree: &Tree, fits: impl Fn(&Node) -> bool, rng: &mut Rng) -> (u16, Vec<u8>) {
+    let all =
+        tree.directories.iter().flat_map(|(&directory, d)| d.nodes().map(move |node| (directory, node)));
+    let fitting: Vec<(u16, &Node)> = all.filter(|(_, node)| fits(node)).collect();
+    let Some(&(directory, node)) = rng.pick(&fitting) else {
+        return (any_directory(tree, rng), fresh_name(rng));
+    };
+    match rng.below(100) {
+        0..=2 => (any_directory(tree, rng), node.name.clone()),
+        3 | 4 => (directory, fresh_name(rng)),
+        5 => (directory, impossible_name(rng)),
+        _ => (directory, node.name.clone()),
+    }
+}
+
+/// A file, or now and then a directory.
+fn any_file(tree: &Tree, rng: &mut Rng) -> (u16, Vec<u8>) {
+    let kind = if rng.percent(95) { FILE } else { DIRECTORY };
+    any_entry(tree, |node| node.kind == kind, rng)
+}
+
+fn fresh_name(rng: &mut Rng) -> Vec<u8> {
+    let length = match rng.below(4) {
+        0 => 1,
+        1 => rng.within(1..=4),
+        2 => rng.within(1..=20),
+        _ => rng.within(100..=107),
+    };
+    (0..length).map(|_| b'a' + rng.below(26) as u8).collect()
+}
+
+/// A name that no entry can have.
+fn impossible_name(rng: &mut Rng) -> Vec<u8> {
+    let mut name = fresh_name(rng);
+    match rng.below(4) {
+        0 => name.clear(),
+        1 => name.resize(rng.within(108..=300), b'x'),
+        _ => {
+            let place = rng.below(name.len());
+            name[place] = [0, b':', b'/'][rng.below(3)];
+        }
+    }
+    name
+}
+
+fn make_call(tree: &Tree, rng: &mut Rng) -> Call {
+    let kind = match rng.below(40) {
+        0 => rng.byte(),
+        1..=10 => DIRECTORY,
+        _ => FILE,
+    };
+    let (directory, name) = match rng.below(20) {
+        0 => (any_directory(tree, rng), impossible_name(rng)),
+        1 | 2 => any_entry(tree, |_| true, rng),
+        _ => (any_directory(tree, rng), fresh_name(rng)),
+    };
+    let comment_length = match rng.below(20) {
+        0 => rng.within(80..=300),
+        1..=3 => 79,
+        4..=7 => rng.within(0..=79),
+        _ => 0,
+    };
+    Call::Make {
+        directory,
+        kind,
+        name,
+        comment: rng.bytes(comment_length),
+        day: rng.word(),
+        minute: rng.word(),
+        tick: rng.word(),
+        protection: rng.byte(),
+    }
+}
+
+fn resize_call(tree: &Tree, mood: Mood, free: usize, rng: &mut Rng) -> Call {
+    let (directory, name) = any_file(tree, rng);
+    let old = tree.find(directory, &name).map_or(0, |node| node.content.len());
+    let held = old.next_multiple_of(512);
+    let most = held + free * 512;
+    let size = match rng.below(12) {
+        0 => old as u64,
+        1 => held as u64,
+        2 => held as u64 + 1,
+        3 => most as u64,
+        4 => most as u64 + 1,
+        5 => impossible_size(rng),
+        6 | 7 if mood != Mood::Growing => rng.within(0..=old) as u64,
+        8 if mood != Mood::Growing => 0,
+        _ if mood == Mood::Shrinking => rng.within(0..=old) as u64,
+        _ => rng.within(old..=(old + 2_000).min(most.max(old))) as u64,
+    };
+    Call::Resize { directory, name, size }
+}
+
+/// A size that no disk can hold.
+fn impossible_size(rng: &mut Rng) -> u64 {
+    let many = [0xFFFF_FFFF, 0x1_0000_0000, 0x1_0000_0200, u64::MAX, u64::MAX - 511, 65_535 * 512];
+    many[rng.below(many.len())]
+}
+
+/// An offset and a length for a file of this size, within it or just past its end.
+fn any_range(size: usize, rng: &mut Rng) -> (u64, usize) {
+    if rng.percent(3) {
+        return ([u64::MAX, 1 << 32, 1 << 63][rng.below(3)], rng.below(4));
+    }
+    let offset = match rng.below(4) {
+        0 => 0,
+        1 => size,
+        _ => rng.within(0..=size),
+    };
+    let length = match rng.below(5) {
+        0 => 0,
+        1 => size - offset,
+        2 => size - offset + 1,
+        3 => rng.below(600).min(size - offset),
+        _ => rng.within(0..=size - offset),
+    };
+    (offset as u64 + u64::from(rng.percent(3)), length)
+}
+
+fn read_call(tree: &Tree, rng: &mut Rng) -> Call {
+    let (directory, name) = any_file(tree, rng);
+    let size = tree.find(directory, &name).map_or(0, |node| node.content.len());
+    let (offset, length) = any_range(size, rng);
+    Call::Read { directory, name, offset, length }
+}
+
+fn write_call(tree: &Tree, rng: &mut Rng) -> Call {
+    let (directory, name) = any_file(tree, rng);
+    let size = tree.find(directory, &name).map_or(0, |node| node.content.len());
+    let (offset, length) = any_range(size, rng);
+    Call::Write { directory, name, offset, data: rng.bytes(length) }
+}
+
+fn list_call(tree: &Tree, rng: &mut Rng) -> Call {
+    let directory = any_directory(tree, rng);
+    let entries = tree.directories.get(&directory).map_or(0, |d| d.nodes().count());
+    let place = match rng.below(10) {
+        0 => entries as u64,
+        1 => [u64::MAX, 1 << 32, 65_536][rng.below(3)],
+        _ => rng.below(entries.max(1)) as u64,
+    };
+    Call::List { directory, place }
+}
+
+/// A format, mostly one that must be refused.
+fn random_format(blocks: usize, rng: &mut Rng) -> Call {
+    let mut call = format_call(blocks, rng);
+    if let (Call::Format { last_reserved, anode_blocks, name, .. }, true) = (&mut call, rng.percent(80)) {
+        match rng.below(5) {
+            0 => *anode_blocks = [0, 43, 65_535][rng.below(3)],
+            1 => *last_reserved = *anode_blocks + 2,
+            2 => *last_reserved = blocks as u16,
+            3 => name.clear(),
+            _ => name.resize(rng.within(32..=300), b'n'),
+        }
+    }
+    call
+}
+
+/// The number by which format must refuse these arguments on a disk of this many blocks, 0 if it is done.
+pub fn expect_format(call: &Call, blocks: usize) -> u32 {
+    let Call::Format { last_reserved, anode_blocks, name, .. } = call else {
+        return 0;
+    };
+    let (last, count) = (usize::from(*last_reserved), usize::from(*anode_blocks));
+    let good =
+        (1..=42).contains(&count) && 3 + count <= last && last < blocks && (1..=31).contains(&name.len());
+    match good {
+        true => 0,
+        false => 20,
+    }
+}
+
+/// The anode that the first entry of this name has in an accepted image, by the model.
+pub fn head_of(image: &[u8], directory: u16, name: &[u8]) -> Option<u16> {
+    let (mut blocks, mut anodes) = (vec![0; image.len() / 512], vec![0; model::layout::ANODES]);
+    let mut fields = [0; 11];
+    for place in 0.. {
+        if model::list(image, &mut blocks, &mut anodes, directory, place, &mut fields) != 0 {
+            break;
+        }
+        let start = fields[7] as usize;
+        if image[start..start + fields[8] as usize] == *name {
+            return Some(fields[1] as u16);
+        }
+    }
+    None
+}
+
+/// Does to the tree what a done change did to the disk that is now in `image`.
+pub fn follow(tree: &mut Tree, call: &Call, image: &[u8]) {
+    let made = match call {
+        Call::Make { directory, name, .. } => head_of(image, *directory, name).unwrap_or(0),
+        _ => 0,
+    };
+    tree.apply(call, made);
+}

@@ -1,0 +1,23 @@
+//! The rules of PFS floppy disks, from the paper alone.
+//!
+//! Every call has the shape of the C interface with slices in place of pointers, and answers the paper's number:
+//! 0 for done, else the refusal. Inside, `Err` carries that number.
+//!
+//! * `layout`: where the fields are.
+//! * `check`: the check, linear in blocks, anodes and entries.
+//! * [`naive`]: the same check by the words of the table, row by row and quadratic; it shares no code with the
+//!   other.
+//! * `space`: taking and giving back one block.
+//! * `calls`: the calls.
+//! * `totals`: the seven kinds of blocks.
+
+mod calls;
+mod check;
+pub mod layout;
+pub mod naive;
+mod space;
+mod totals;
+
+pub use calls::{format, list, make, read, remove, resize, summary, write};
+pub use check::{check, survey, Survey};
+pub use totals::{totals, Totals};

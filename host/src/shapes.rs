@@ -1,0 +1,63 @@
+//! Generators of disk images for tests.
+//!
+//! * [`formatted`]: what format makes, for any arguments it takes.
+//! * [`shaped`]: accepted disks that format never makes, built from a plan that gives every block an owner.
+//! * [`Bender`]: accepted disks with a fault aimed at one refusal number, and disks with random damage.
+
+mod bend;
+mod faults;
+mod plan;
+
+pub use bend::Bender;
+pub use plan::{shaped, Deal, Recipe, Shaped};
+
+use crate::calls::{run, Call, Model};
+use crate::rng::Rng;
+
+/// The arguments of a format that is done on a disk of this many blocks.
+pub fn format_call(blocks: usize, rng: &mut Rng) -> Call {
+    let most = (blocks - 4).min(42);
+    let anode_blocks = match rng.below(3) {
+        0 => 1,
+        1 => rng.within(1..=most),
+        _ => rng.within(1..=most.min(4)),
+    };
+    let lowest = 3 + anode_blocks;
+    let last_reserved = match rng.below(4) {
+        0 => lowest,
+        1 => blocks - 1,
+        2 => rng.within(lowest..=(lowest + 16).min(blocks - 1)),
+        _ => rng.within(lowest..=blocks - 1),
+    };
+    let name_length = rng.within(1..=31);
+    Call::Format {
+        last_reserved: last_reserved as u16,
+        anode_blocks: anode_blocks as u16,
+        name: rng.bytes(name_length),
+        day: rng.word(),
+        minute: rng.word(),
+        tick: rng.word(),
+        protection: rng.word(),
+    }
+}
+
+/// A disk of this many blocks (5 to 65,535), formatted by the model over junk.
+pub fn formatted(blocks: usize, rng: &mut Rng) -> Vec<u8> {
+    let mut image = rng.bytes(blocks * 512);
+    let call = format_call(blocks, rng);
+    let outcome = run::<Model>(&call, &mut image, &mut [], &mut []);
+    assert_eq!(outcome.answer, 0, "{call:?} is refused on {blocks} blocks");
+    image
+}
+
+/// A number of blocks: mostly few, at times many, never more than `most`.
+pub fn disk_blocks(most: usize, rng: &mut Rng) -> usize {
+    let bound = match rng.below(8) {
+        0 => 5,
+        1 | 2 => 12,
+        3..=5 => 64,
+        6 => 300,
+        _ => most,
+    };
+    rng.within(5..=bound.min(most))
+}

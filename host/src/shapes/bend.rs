@@ -1,0 +1,248 @@
+//! Bent disks: an accepted image with a fault aimed at one refusal number.
+//!
+//! Each fault is chosen so that the image breaks the rule of its number and none of the rules that are tried
+//! before, so the check must answer exactly that number. Number 2 is about the tables, not the image, and has no
+//! fault here. Besides these there is damage without an aim.
+
+use super::faults::{faults, wrong_length};
+use crate::model::layout::*;
+use crate::model::{survey, Survey};
+use crate::rng::Rng;
+
+/// An entry of the disk; `place` is its first byte in the image.
+#[derive(Clone, Copy, Debug)]
+pub(super) struct Named {
+    pub place: usize,
+    pub kind: u8,
+    pub anode: u16,
+    pub size: u32,
+    pub name: usize,
+    pub comment: usize,
+}
+
+/// An accepted image, and what a fault needs to know of it.
+pub struct Bender<'a> {
+    pub(super) image: &'a [u8],
+    pub(super) survey: Survey,
+    pub(super) heads: Vec<u16>,
+    /// By number, the predecessor of an anode, 0 where it has none.
+    before: Vec<u16>,
+    /// All entries in the order of the walk.
+    pub(super) entries: Vec<Named>,
+    /// All directories in the order of the walk.
+    pub(super) directories: Vec<u16>,
+}
+
+impl<'a> Bender<'a> {
+    /// Looks at an image; nothing if the check refuses it.
+    pub fn new(image: &'a [u8]) -> Option<Self> {
+        let mut owners = vec![0; image.len() / BLOCK];
+        let mut heads = vec![0; ANODES];
+        let survey = survey(image, &mut owners, &mut heads).ok()?;
+        let mut before = vec![0; ANODES];
+        for number in survey.table.existing().filter(|&number| survey.table[number].in_use()) {
+            before[usize::from(survey.table[number].next)] = number;
+        }
+        before[0] = 0;
+        let (entries, directories) = (Vec::new(), vec![ROOT_DIRECTORY]);
+        let mut bender = Bender { image, survey, heads, before, entries, directories };
+        let mut turn = 0;
+        while let Some(&directory) = bender.directories.get(turn) {
+            bender.meet(directory);
+            turn += 1;
+        }
+        Some(bender)
+    }
+
+    fn meet(&mut self, directory: u16) {
+        for number in self.survey.table.chain_blocks(directory) {
+            for entry in Entries::of(block(self.image, number)).flatten() {
+                if entry.kind == DIRECTORY {
+                    self.directories.push(entry.anode);
+                }
+                self.entries.push(Named {
+                    place: usize::from(number) * BLOCK + entry.at,
+                    kind: entry.kind,
+                    anode: entry.anode,
+                    size: entry.size,
+                    name: entry.name.len(),
+                    comment: entry.comment.len(),
+                });
+            }
+        }
+    }
+
+    /// An image for which the check must answer this number; nothing if this disk cannot be bent so.
+    pub fn bend(&self, number: u32, rng: &mut Rng) -> Option<Vec<u8>> {
+        if number == 1 {
+            return Some(wrong_length(self.image, rng));
+        }
+        let faults = faults(number);
+        let first = rng.below(faults.len());
+        let mut image = self.image.to_vec();
+        let found = (0..faults.len()).any(|turn| {
+            let fault = faults[(first + turn) % faults.len()];
+            fault(self, &mut image, rng).is_some()
+        });
+        found.then_some(image)
+    }
+
+    /// The image with some bytes of the root block, anode blocks and directory blocks changed at random.
+    pub fn scuffed(&self, rng: &mut Rng) -> Vec<u8> {
+        let mut image = self.image.to_vec();
+        for _ in 0..rng.within(1..=4) {
+            let start = usize::from(self.any_examined_block(rng)) * BLOCK;
+            let byte = &mut image[start + rng.below(BLOCK)];
+            *byte = match rng.below(3) {
+                0 => rng.byte(),
+                1 => *byte ^ (1 << rng.below(8)),
+                _ => byte.wrapping_add(1),
+            };
+        }
+        image
+    }
+
+    fn any_examined_block(&self, rng: &mut Rng) -> u16 {
+        let anode_blocks: Vec<u16> =
+            self.survey.table.slots().iter().copied().filter(|&number| number != 0).collect();
+        let directory = rng.pick(&self.directories).copied().unwrap_or(ROOT_DIRECTORY);
+        let directory_blocks: Vec<u16> = self.survey.table.chain_blocks(directory).collect();
+        let found = match rng.below(5) {
+            0 => None,
+            1 | 2 => rng.pick(&anode_blocks),
+            _ => rng.pick(&directory_blocks),
+        };
+        found.copied().unwrap_or(ROOT_BLOCK as u16)
+    }
+
+    /// The image with some fields of anodes and entries set to numbers that have a meaning elsewhere.
+    pub fn jolted(&self, rng: &mut Rng) -> Vec<u8> {
+        let mut image = self.image.to_vec();
+        for _ in 0..rng.within(1..=3) {
+            let value = self.telling_number(rng);
+            match rng.pick(&self.entries) {
+                Some(entry) if rng.percent(30) => {
+                    let field = [ENTRY_ANODE, ENTRY_SIZE + 2][rng.below(2)];
+                    put_word(&mut image, entry.place + field, value);
+                }
+                _ => {
+                    let live: Vec<u16> = self.survey.table.existing().collect();
+                    let number = match rng.percent(70) {
+                        true => self.any_in_use(rng, |_, _| true).unwrap_or(0),
+                        false => rng.pick(&live).copied().unwrap_or(0),
+                    };
+                    let at = self.anode_place(number) + 2 * rng.below(3);
+                    put_word(&mut image, at, value);
+                }
+            }
+        }
+        image
+    }
+
+    fn telling_number(&self, rng: &mut Rng) -> u16 {
+        let table = &self.survey.table;
+        let anode = self.any_in_use(rng, |_, _| true).unwrap_or(0);
+        match rng.below(10) {
+            0 => anode,
+            1 => table[anode].next,
+            2 => table[anode].block,
+            3 => table[anode].end() as u16,
+            4 => self.survey.blocks as u16,
+            5 => self.survey.last_reserved,
+            6 => self.survey.last_reserved + 1,
+            7 => rng.within16(0..=6),
+            8 => rng.within16(0..=90),
+            _ => rng.word(),
+        }
+    }
+
+    // What the faults ask for.
+
+    /// The place of an existing anode in the image.
+    pub(super) fn anode_place(&self, number: u16) -> usize {
+        let number = usize::from(number);
+        let block = usize::from(self.survey.table.slots()[number / ANODES_IN_BLOCK]);
+        block * BLOCK + FIRST_ANODE + (number % ANODES_IN_BLOCK) * ANODE_BYTES
+    }
+
+    pub(super) fn put_anode(&self, image: &mut [u8], number: u16, anode: Anode) {
+        let at = self.anode_place(number);
+        put_word(image, at, anode.count);
+        put_word(image, at + 2, anode.block);
+        put_word(image, at + 4, anode.next);
+    }
+
+    pub(super) fn anode(&self, number: u16) -> Anode {
+        self.survey.table[number]
+    }
+
+    pub(super) fn size16(&self) -> u16 {
+        self.survey.blocks as u16
+    }
+
+    /// One of the anodes in use (not 0) that fit.
+    pub(super) fn any_in_use(&self, rng: &mut Rng, fits: impl Fn(u16, Anode) -> bool) -> Option<u16> {
+        let table = &self.survey.table;
+        let fitting: Vec<u16> = table
+            .existing()
+            .filter(|&number| number != 0 && table[number].in_use() && fits(number, table[number]))
+            .collect();
+        rng.pick(&fitting).copied()
+    }
+
+    /// One of the free anodes from this number up.
+    pub(super) fn any_free(&self, rng: &mut Rng, from: u16) -> Option<u16> {
+        let table = &self.survey.table;
+        let free: Vec<u16> =
+            table.existing().filter(|&number| number >= from && !table[number].in_use()).collect();
+        rng.pick(&free).copied()
+    }
+
+    /// A number from which no anode can be read.
+    pub(super) fn any_missing(&self, rng: &mut Rng) -> u16 {
+        for _ in 0..8 {
+            let number = rng.within16(FIRST_USER..=ANODES as u16);
+            if !self.survey.table.exists(number) {
+                return number;
+            }
+        }
+        rng.within16(ANODES as u16..=65_535)
+    }
+
+    pub(super) fn predecessor(&self, number: u16) -> Option<u16> {
+        Some(self.before[usize::from(number)]).filter(|&before| before != 0)
+    }
+
+    pub(super) fn on_free_list(&self, number: u16) -> bool {
+        self.heads[usize::from(number)] == FREE_LIST
+    }
+
+    /// The sides of the free list: the anodes between 1 and 2, and those from 2 on.
+    pub(super) fn sides(&self) -> (Vec<u16>, Vec<u16>) {
+        let list: Vec<u16> = self.survey.table.chain(FREE_LIST).map(|(number, _)| number).skip(1).collect();
+        let place = list.iter().position(|&number| number == RESERVED).unwrap_or(list.len());
+        (list[..place].to_vec(), list[place..].to_vec())
+    }
+
+    pub(super) fn with_blocks(&self, numbers: Vec<u16>, rng: &mut Rng) -> Option<u16> {
+        let held: Vec<u16> = numbers.into_iter().filter(|&number| self.anode(number).count > 0).collect();
+        rng.pick(&held).copied()
+    }
+
+    /// The first byte in the image of some block of some directory that fits.
+    pub(super) fn any_directory_block(&self, rng: &mut Rng, fits: impl Fn(u16) -> bool) -> Option<usize> {
+        let fitting: Vec<u16> = self.directories.iter().copied().filter(|&head| fits(head)).collect();
+        let head = *rng.pick(&fitting)?;
+        let blocks: Vec<u16> = self.survey.table.chain_blocks(head).collect();
+        rng.pick(&blocks).map(|&number| usize::from(number) * BLOCK)
+    }
+
+    pub(super) fn any_entry(&self, rng: &mut Rng) -> Option<Named> {
+        rng.pick(&self.entries).copied()
+    }
+
+    pub(super) fn any_file(&self, rng: &mut Rng) -> Option<Named> {
+        let files: Vec<Named> = self.entries.iter().copied().filter(|entry| entry.kind == FILE).collect();
+        rng.pick(&files).copied()
+    }
+}
