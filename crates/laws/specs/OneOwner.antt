@@ -54,7 +54,7 @@ module _ (img : List ℕ) (blocks anodes : ℕ) (p : Passed img blocks anodes) w
   pub passes : Passes limit (exists img) (diskSize img) (lastReserved img) s (systemOwns img)
   passes = tested-passes s (diskSize img) (lastReserved img) (systemOwns img) (exists img) (reading-of img (diskSize img) (lastReserved img)) tested
 
-  good : Good limit (exists img) (diskSize img) (lastReserved img) s (systemOwns img) (headOf limit (s .next) (s .block)) (headOf limit (cut (s .next)) (s .block))
+  pub good : Good limit (exists img) (diskSize img) (lastReserved img) s (systemOwns img) (headOf limit (s .next) (s .block)) (headOf limit (cut (s .next)) (s .block))
   good = good-of (reading-of img (diskSize img) (lastReserved img)) passes
 
   head-is : (h : ℕ) → heads limit (s .next) (s .block) h ≡ 1 → Head (s .next) (s .block) h

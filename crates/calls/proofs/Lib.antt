@@ -1,0 +1,2 @@
+-- Laws of the calls' outcomes.
+pub mod Laws

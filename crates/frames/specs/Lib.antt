@@ -1,0 +1,7 @@
+-- What a store changes and what it leaves.
+pub mod Slots
+pub mod Kept
+pub mod StoredBlocks
+pub mod StoredAnodes
+pub mod DisjointBlocks
+pub mod StoredBytes
