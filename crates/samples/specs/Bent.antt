@@ -3,7 +3,7 @@ use mathlib.Core.Path.{_≡_, refl}
 use Prim.Native.Nat.{ℕ}
 use mathlib.Core.List.{List, [], _∷_, map}
 use lib.ListN.{length, set, take}
-use Rattle.endian.specs.Bytes.{put16, put32}
+use Rattle.endian.specs.Bytes.{put16, put32, stored}
 use Rattle.disk.specs.AnodeBlocks.{anodeMade, setAnode}
 use Rattle.rules.specs.Accepted.{checkAnswer}
 use Rattle.rules.specs.Calls.{checkOutcome}
@@ -82,6 +82,11 @@ unexamined = refl
 named-refused : map answer (put16 withFile 2066 5 ∷ put16 withFile 2066 7 ∷ put16 withFile 2066 82 ∷ []) ≡ 13 ∷ 13 ∷ 13 ∷ []
 unfolding everything disk5 withFile answer
 named-refused = refl
+
+-- a second entry that names the same anode
+named-twice-refused : answer (stored withFile 2084 (18 ∷ 253 ∷ 0 ∷ 6 ∷ 0 ∷ 0 ∷ 0 ∷ 0 ∷ 0 ∷ 0 ∷ 0 ∷ 0 ∷ 0 ∷ 0 ∷ 0 ∷ 1 ∷ 98 ∷ 0 ∷ [])) ≡ 14
+unfolding everything disk5 withFile answer
+named-twice-refused = refl
 
 size-of-file-refused : answer (put32 withFile 2068 1) ≡ 15
 unfolding everything disk5 withFile answer
