@@ -2,28 +2,22 @@
 use mathlib.Core.Path.{_≡_, refl, sym, _∙_}
 use mathlib.Core.Logic.{⊎-elim}
 use Prim.Native.Nat.{ℕ, _+_, _*_, _/_, _%_, _<_, _≤_}
-use mathlib.Core.List.{List, []}
+use mathlib.Core.List.{List}
 use native.Mathlib.Omega.{arith}
 use native.Mathlib.Nat.{not-suc-le-zero}
 use lib.ListN.{length, getD, set, List·getD-eq-default}
 use lib.Seq.{getD-set-same, getD-set-other}
 use borrow.Author.Tests.{eq-eqb, ne-eqb}
-use Rattle.endian.proofs.Laws.{le-or-lt, eq-or-ne, be16-out}
+use Rattle.endian.proofs.Laws.{le-or-lt, eq-or-ne}
 use Rattle.disk.specs.declared.Anode.{Anode}
 use Rattle.disk.specs.Root.{slotOf}
 use Rattle.disk.specs.Blocks.{blockOf}
 use Rattle.disk.specs.AnodeBlocks.{anodeMade, anodeIn, anodeOf}
 use Rattle.disk.proofs.Laws.{slotOf-high, anodeOf-missing, anodeOf-there}
 use Rattle.rules.specs.Anodes.{Anodes, fieldsOf, inUse, anodesOf}
-use Rattle.anodes.specs.Loaded.{anodesFrom, asSeen, LoadedBelow}
+use Rattle.anodes.specs.Loaded.{anodesFrom, asSeen, LoadedBelow, ZeroedFrom}
 
 -- ---- the anodes of a slot
-
-pub in-empty : (img : List ℕ) (s p : ℕ) → p < 82 → slotOf img s ≡ 0 → anodeIn [] p ≡ anodeOf img (s * 82 + p)
-unfolding anodeIn
-in-empty img s p h e =
-    let q : (s * 82 + p) / 82 ≡ s = omega arith in
-    rw (anodeOf-missing img (s * 82 + p) (rw q e), be16-out [] (16 + 6 * p) (omega arith), be16-out [] (16 + 6 * p + 2) (omega arith), be16-out [] (16 + 6 * p + 4) (omega arith))
 
 pub in-block : (img : List ℕ) (s p b : ℕ) → p < 82 → slotOf img s ≡ b → (b ≡ 0 → ⊥) → anodeIn (blockOf img b) p ≡ anodeOf img (s * 82 + p)
 in-block img s p b h e n =
@@ -55,6 +49,13 @@ seen-fields img a x y at is =
 seen-high : (img : List ℕ) (a : ℕ) → 3444 ≤ a → asSeen (anodeOf img a) ≡ anodeMade 0 0 0
 seen-high img a h = rw (anodeOf-missing img a (slotOf-high img (a / 82) (omega arith))) (asSeen-free (anodeMade 0 0 0) refl)
 
+-- the three fields that the rules see of an anode of a slot that holds 0
+missing-fields : (img : List ℕ) (s a : ℕ) → slotOf img s ≡ 0 → s * 82 ≤ a → a < s * 82 + 82
+    → (0 ≡ anodesOf img .count a) × (0 ≡ anodesOf img .block a) × (0 ≡ anodesOf img .next a)
+missing-fields img s a e l h =
+    let q : a / 82 ≡ s = omega arith in
+    seen-fields img a (anodeMade 0 0 0) (anodeOf img a) refl (sym (rw (anodeOf-missing img a (rw q e)) (asSeen-free (anodeMade 0 0 0) refl)))
+
 -- ---- the tables
 
 -- a list that holds f below k, with one number more
@@ -75,6 +76,32 @@ module _ (s : Anodes) (c b n : List ℕ) where
     blocks = held-more (s .block) b k (x .block .0) q (l .blocks) (e .1);
     nexts = held-more (s .next) n k (x .next .0) r (l .nexts) (e .2);
   }
+
+-- a list with n numbers zeroed, one after the other
+pub zeroed-none : (l : List ℕ) (from : ℕ) → ZeroedFrom l l from 0
+zeroed-none l from = record { kept = λ a h. refl; zeroed = λ a h k. absurd (omega arith) }
+
+pub zeroed-more : (l t : List ℕ) (from n : ℕ) → from + n < length t → ZeroedFrom l t from n → ZeroedFrom l (set t (from + n) 0) from (n + 1)
+zeroed-more l t from n room w = record {
+  kept = λ a h. getD-set-other t (from + n) a 0 0 (λ z. omega arith) ∙ w .kept a h;
+  zeroed = λ a h k. ⊎-elim (λ e. rw e (getD-set-same t (from + n) 0 0 room)) (λ d. getD-set-other t (from + n) a 0 0 d ∙ w .zeroed a h (omega arith)) (eq-or-ne a (from + n));
+}
+
+-- a list that holds f below k, where f is 0 from there to k + 82, with those numbers zeroed
+held-zeroed : (f : ℕ → ℕ) (l t : List ℕ) (k : ℕ) → ZeroedFrom l t k 82 → ((a : ℕ) → a < k → getD l a 0 ≡ f a) → ((a : ℕ) → k ≤ a → a < k + 82 → 0 ≡ f a)
+    → (a : ℕ) → a < k + 82 → getD t a 0 ≡ f a
+held-zeroed f l t k w held out a h =
+    ⊎-elim (λ p. w .zeroed a p h ∙ out a p h) (λ p. w .kept a p ∙ held a p) (le-or-lt k a)
+
+-- the tables with the anodes of a slot that holds 0
+pub loaded-missing : (img c b n c' b' n' : List ℕ) (s : ℕ) → slotOf img s ≡ 0 → LoadedBelow (anodesOf img) c b n (s * 82)
+    → ZeroedFrom c c' (s * 82) 82 → ZeroedFrom b b' (s * 82) 82 → ZeroedFrom n n' (s * 82) 82
+    → LoadedBelow (anodesOf img) c' b' n' (s * 82 + 82)
+loaded-missing img c b n c' b' n' s e l p q r = record {
+  counts = held-zeroed (anodesOf img .count) c c' (s * 82) p (l .counts) (λ a h k. missing-fields img s a e h k .0);
+  blocks = held-zeroed (anodesOf img .block) b b' (s * 82) q (l .blocks) (λ a h k. missing-fields img s a e h k .1);
+  nexts = held-zeroed (anodesOf img .next) n n' (s * 82) r (l .nexts) (λ a h k. missing-fields img s a e h k .2);
+}
 
 same-anodes : (s t : Anodes) → ((a : ℕ) → s .count a ≡ t .count a) → ((a : ℕ) → s .block a ≡ t .block a) → ((a : ℕ) → s .next a ≡ t .next a) → s ≡ t
 same-anodes s t p q r = λ i. record { count = λ a. p a i; block = λ a. q a i; next = λ a. r a i }

@@ -1,11 +1,13 @@
 // Loads the anodes of an image, as the rules see them, into three lent tables.
 ghost use mathlib.Core.Path.{_≡_};
-ghost use Prim.Native.Nat.{ℕ, _+_, _*_, _<_};
+ghost use mathlib.Core.Logic.{_≢_};
+ghost use Prim.Native.Nat.{_+_, _*_, _≤_, _<_};
 ghost use lib.ListN.{length};
-ghost use Rattle.disk.specs.AnodeBlocks.{anodeIn, anodeOf};
+ghost use Rattle.disk.specs.Root.{slotOf};
 ghost use Rattle.rules.specs.Anodes.{anodesOf};
-ghost use Rattle.anodes.specs.Loaded.{anodesFrom, asSeen, LoadedBelow};
+ghost use Rattle.anodes.specs.Loaded.{anodesFrom, asSeen, LoadedBelow, ZeroedFrom};
 use disk::Anode;
+use disk::BlockNo;
 use disk::anode_in;
 use disk::block_part;
 use disk::no_anode;
@@ -21,24 +23,31 @@ fn as_seen(x: Anode) -> Anode
     x
 }
 
-// The bytes in which the anodes of slot `s` stand; none for a slot that holds 0, and its anodes read (0, 0, 0).
-fn slot_part(image: &[u8], s: usize) -> &[u8]
-    ensures { λ r. ⌜ ((p : ℕ) → p < 82 → anodeIn (now r) p ≡ anodeOf (now (image .entry)) (s * 82 + p)) ⌝ }
+// Zeroes the 82 numbers from `from` on.
+fn zero_places(table: &mut [u16], from: usize)
+    requires { ⌜ from + 82 ≤ length (now table) ⌝ }
+    ensures { λ _. ⌜ ZeroedFrom (now (table .entry)) (now (table .exit)) from 82 ⌝ }
 {
-    let slot = slot_of(image, s);
-    if slot.0 == 0 {
-        return &image[0..0];
+    for p in 0..82 {
+        table[from + p] = 0;
     }
-    block_part(image, slot)
 }
 
-// Loads the 82 anodes of slot `s`, after those of the slots before it.
-fn load_slot(image: &[u8], s: usize, counts: &mut [u16], firsts: &mut [u16], nexts: &mut [u16])
+// Loads the 82 anodes of slot `s`, which stand in block `slot`, after those of the slots before it.
+fn load_block(
+    image: &[u8],
+    slot: BlockNo,
+    s: usize,
+    counts: &mut [u16],
+    firsts: &mut [u16],
+    nexts: &mut [u16],
+)
+    requires { ⌜ (slotOf (now image) s ≡ slot .0) × (slot .0 ≢ 0) ⌝ }
     requires { ⌜ (s < 42) × (length (now counts) ≡ 3444) × (length (now firsts) ≡ 3444) × (length (now nexts) ≡ 3444) ⌝ }
     requires { ⌜ LoadedBelow (anodesOf (now image)) (now counts) (now firsts) (now nexts) (s * 82) ⌝ }
     ensures { λ _. ⌜ LoadedBelow (anodesOf (now (image .entry))) (now (counts .exit)) (now (firsts .exit)) (now (nexts .exit)) (s * 82 + 82) ⌝ }
 {
-    let part = slot_part(image, s);
+    let part = block_part(image, slot);
     for p in 0..82 {
         let x = as_seen(anode_in(part, p));
         let a = s * 82 + p;
@@ -46,6 +55,23 @@ fn load_slot(image: &[u8], s: usize, counts: &mut [u16], firsts: &mut [u16], nex
         firsts[a] = x.block.0;
         nexts[a] = x.next.0;
     }
+}
+
+// Loads the 82 anodes of slot `s`, after those of the slots before it; those of a slot that holds 0 are (0, 0, 0).
+fn load_slot(image: &[u8], s: usize, counts: &mut [u16], firsts: &mut [u16], nexts: &mut [u16])
+    requires { ⌜ (s < 42) × (length (now counts) ≡ 3444) × (length (now firsts) ≡ 3444) × (length (now nexts) ≡ 3444) ⌝ }
+    requires { ⌜ LoadedBelow (anodesOf (now image)) (now counts) (now firsts) (now nexts) (s * 82) ⌝ }
+    ensures { λ _. ⌜ LoadedBelow (anodesOf (now (image .entry))) (now (counts .exit)) (now (firsts .exit)) (now (nexts .exit)) (s * 82 + 82) ⌝ }
+{
+    let slot = slot_of(image, s);
+    if slot.0 != 0 {
+        load_block(image, slot, s, counts, firsts, nexts);
+        return;
+    }
+    let from = s * 82;
+    zero_places(counts, from);
+    zero_places(firsts, from);
+    zero_places(nexts, from);
 }
 
 // Loads every anode; a free or missing one is (0, 0, 0).

@@ -1,48 +1,68 @@
 -- Laws of the marks. Assumes nothing.
 use mathlib.Core.Path.{_≡_, refl, sym, _∙_}
 use mathlib.Core.Logic.{_≢_, ⊎-elim, inl, inr}
+use mathlib.Core.Bool.{Bool, true, false, not, or-false}
 use mathlib.Core.List.{List}
 use Prim.Native.Nat.{ℕ, _+_, _<_, _≤_}
 use native.Mathlib.Omega.{arith}
 use native.Mathlib.Nat.{zero-add}
+use native.Mathlib.Numerals.{add-one}
 use lib.Dec.{eqb}
 use lib.ListN.{length, getD, set, drop, length-drop}
 use lib.Seq.{getD-set-same, getD-set-other, getD-drop, ext-getD}
 use borrow.Author.Tests.{eqb-true, eq-eqb, ne-eqb}
 use Rattle.endian.proofs.Laws.{eq-or-ne}
+use Rattle.rules.specs.Counting.{anyBelow}
 use Rattle.rules.specs.Chains.{covers}
+use Rattle.counting.specs.Laws.{anyBelow-none, anyBelow-hit}
 use Rattle.laws.specs.Ownership.{covers-cases, covers-in}
-use Rattle.owners.specs.Marks.{KeptOutside, RunFilled, RunHit, Marked, OwnedTwice}
+use Rattle.owners.specs.Marks.{KeptOutside, RunFilled, RunHit, RunFree, RunStored, RunTested, Marked, OwnedTwice}
 
 -- ---- a run
 
-pub run-none : (t : List ℕ) (first mark : ℕ) → RunFilled t t first first mark
-run-none t first mark = record { free = λ x l m. absurd (omega arith); filled = λ x l m. absurd (omega arith) }
+-- a sum of marks is 0 if no block of the run is marked, and only then
+pub record Summed (sum : ℕ) (t : List ℕ) (first end : ℕ) : Type 0 where
+  pub none : sum ≡ 0 → RunFree t first end
+  pub some : sum ≢ 0 → RunHit t first end
 
-pub kept-none : (t : List ℕ) (first : ℕ) → KeptOutside t t first first
-kept-none t first = record { outside = λ x out. refl }
+pub summed-none : (t : List ℕ) (first : ℕ) → Summed 0 t first first
+summed-none t first = record { none = λ e. record { each = λ x l m. absurd (omega arith) }; some = λ n. absurd (n refl) }
 
-pub kept-wider : (old t : List ℕ) (first i end : ℕ) → i ≤ end → KeptOutside old t first i → KeptOutside old t first end
-kept-wider old t first i end l kept = record { outside = λ x out. kept .outside x (λ p q. out p (omega arith)) }
+pub summed-more : (sum : ℕ) (t : List ℕ) (first i : ℕ) → first ≤ i → Summed sum t first i → Summed (sum + getD t i 0) t first (i + 1)
+summed-more sum t first i from s = record {
+  none = λ z. record {
+    each = λ x l m. ⊎-elim (λ e. rw e (omega arith)) (λ n. s .none (omega arith) .each x l (omega arith)) (eq-or-ne x i);
+  };
+  some = λ n. ⊎-elim
+      (λ e. record { block = i; from = from; below = omega arith; taken = λ z. n (omega arith) })
+      (λ m. let hit = s .some m in record { block = hit .block; from = hit .from; below = omega (arith, hit .below); taken = hit .taken })
+      (eq-or-ne sum 0);
+}
 
--- the run up to block i, and block i
-module _ (old t : List ℕ) (first i : ℕ) (kept : KeptOutside old t first i) (from : first ≤ i) where
-  same : getD t i 0 ≡ getD old i 0
-  same = kept .outside i (λ p q. omega arith)
+pub summed-tested : (sum : ℕ) (t : List ℕ) (first end : ℕ) → Summed sum t first end → RunTested (not (eqb sum 0)) t first end
+summed-tested sum t first end s = elim (eq-or-ne sum 0) [
+  | inl e ↦ rw (eq-eqb sum 0 e) (s .none e)
+  | inr n ↦ rw (ne-eqb sum 0 n) (s .some n)
+]
 
-  pub kept-more : (mark : ℕ) → KeptOutside old (set t i mark) first (i + 1)
-  kept-more mark = record {
-    outside = λ x out. getD-set-other t i x mark 0 (λ e. out (omega arith) (omega arith)) ∙ kept .outside x (λ p q. out p (omega arith));
-  }
+pub stored-none : (t : List ℕ) (first mark : ℕ) → RunStored t first first mark
+stored-none t first mark = record { each = λ x l m. absurd (omega arith) }
 
-  pub run-more : (mark : ℕ) → RunFilled old t first i mark → i < length t → getD t i 0 ≡ 0 → RunFilled old (set t i mark) first (i + 1) mark
-  run-more mark run room free = record {
-    free = λ x l m. ⊎-elim (λ e. rw e (sym same ∙ free)) (λ n. run .free x l (omega arith)) (eq-or-ne x i);
-    filled = λ x l m. ⊎-elim (λ e. rw e (getD-set-same t i mark 0 room)) (λ n. getD-set-other t i x mark 0 n ∙ run .filled x l (omega arith)) (eq-or-ne x i);
-  }
+pub stored-more : (t : List ℕ) (first i mark : ℕ) → RunStored t first i mark → i < length t → RunStored (set t i mark) first (i + 1) mark
+stored-more t first i mark run room = record {
+  each = λ x l m. ⊎-elim (λ e. rw e (getD-set-same t i mark 0 room)) (λ n. getD-set-other t i x mark 0 n ∙ run .each x l (omega arith)) (eq-or-ne x i);
+}
 
-  pub run-hit : (end : ℕ) → i < end → getD t i 0 ≢ 0 → RunHit old first end
-  run-hit end below some = record { block = i; from = from; below = below; taken = λ e. some (same ∙ e) }
+pub run-filled : (old t : List ℕ) (first end mark : ℕ) → RunFree old first end → RunStored t first end mark → RunFilled old t first end mark
+run-filled old t first end mark free stored = record { free = free .each; filled = stored .each }
+
+pub kept-none : (t : List ℕ) (first end : ℕ) → KeptOutside t t first end
+kept-none t first end = record { outside = λ x out. refl }
+
+pub kept-more : (old t : List ℕ) (first i : ℕ) → KeptOutside old t first i → first ≤ i → (mark : ℕ) → KeptOutside old (set t i mark) first (i + 1)
+kept-more old t first i kept from mark = record {
+  outside = λ x out. getD-set-other t i x mark 0 (λ e. out (omega arith) (omega arith)) ∙ kept .outside x (λ p q. out p (omega arith));
+}
 
 -- a run within the first n blocks leaves the table from there on
 pub kept-drop : (old t : List ℕ) (first count n : ℕ) → KeptOutside old t first (first + count) → (0 < count → first + count ≤ n)
@@ -50,6 +70,20 @@ pub kept-drop : (old t : List ℕ) (first count n : ℕ) → KeptOutside old t f
 kept-drop old t first count n kept within same =
     ext-getD 0 (drop n t) (drop n old) (rw (length-drop n t, length-drop n old, same))
     (λ i l. rw (getD-drop n t i 0, getD-drop n old i 0) (kept .outside (n + i) (λ p q. let w = within (omega arith) in omega arith)))
+
+-- ---- a count
+
+-- a count is not 0 if a number was counted below the bound, and only then
+module _ (test : ℕ → Bool) where
+  pub counted-none : not (eqb 0 0) ≡ anyBelow test 0
+  counted-none = sym (anyBelow-none test)
+
+  pub counted-one : (n i : ℕ) → test i ≡ true → not (eqb (n + 1) 0) ≡ anyBelow test (i + 1)
+  counted-one n i p = rw (ne-eqb (n + 1) 0 (λ e. omega arith), anyBelow-hit test i (i + 1) (omega arith) p)
+
+  pub counted-not : (n i : ℕ) → not (eqb n 0) ≡ anyBelow test i → test i ≡ false → not (eqb n 0) ≡ anyBelow test (i + 1)
+  unfolding anyBelow
+  counted-not n i e p = rw (add-one i, p, or-false (anyBelow test i)) e
 
 -- ---- a marked table
 

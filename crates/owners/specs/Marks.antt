@@ -27,6 +27,19 @@ pub record RunHit (old : List ℕ) (first end : ℕ) : Type 0 where
   pub below : block < end
   pub taken : getD old block 0 ≢ 0
 
+-- none of them was
+pub record RunFree (old : List ℕ) (first end : ℕ) : Type 0 where
+  pub each : (x : ℕ) → first ≤ x → x < end → getD old x 0 ≡ 0
+
+-- what the answer says of a run that is only looked at: true for a hit
+abbrev pub RunTested : Bool → List ℕ → ℕ → ℕ → Type 0
+RunTested true old first end = RunHit old first end
+RunTested false old first end = RunFree old first end
+
+-- the blocks from `first` up to `end` hold the mark
+pub record RunStored (t : List ℕ) (first end mark : ℕ) : Type 0 where
+  pub each : (x : ℕ) → first ≤ x → x < end → getD t x 0 ≡ mark
+
 -- what a run's answer says: true for a hit
 abbrev pub RunMarked : Bool → List ℕ → List ℕ → ℕ → ℕ → ℕ → Type 0
 RunMarked true old t first end mark = RunHit old first end

@@ -11,8 +11,37 @@ ghost use Rattle.rules.specs.Anodes.{limit};
 ghost use Rattle.rules.specs.Chains.{systemOwns};
 ghost use Rattle.rules.specs.Accepted.{diskSize, wrongSize, wrongSlots, wrongFixed, outOfRange, twoOwners};
 ghost use Rattle.anodes.specs.Loaded.{anodesFrom};
-ghost use Rattle.owners.specs.Marks.{KeptOutside, RunMarked, Answered, systemEntry, OwnersMarked};
+ghost use Rattle.owners.specs.Marks.{KeptOutside, RunTested, RunStored, RunMarked, Answered, systemEntry, OwnersMarked};
 use disk::slot_of;
+
+// One of the `count` blocks from `first` upward is marked: their marks add up to more than 0.
+fn any_marked(blocks: &[u16], first: u16, count: u16) -> bool
+    requires { ⌜ (0 < count → first + count ≤ length (now blocks)) ⌝ }
+    ensures { λ r. ⌜ RunTested r (now (blocks .entry)) first (first + count) ⌝ }
+{
+    let mut sum: u32 = 0;
+    let mut i = first as usize;
+    let end = i + count as usize;
+    while i < end {
+        sum += blocks[i] as u32;
+        i += 1;
+    }
+    sum != 0
+}
+
+// Stores `mark` in the `count` blocks from `first` upward.
+fn fill_run(blocks: &mut [u16], first: u16, count: u16, mark: u16)
+    requires { ⌜ (0 < count → first + count ≤ length (now blocks)) ⌝ }
+    ensures run { λ _. ⌜ RunStored (now (blocks .exit)) first (first + count) mark ⌝ }
+    ensures kept { λ _. ⌜ KeptOutside (now (blocks .entry)) (now (blocks .exit)) first (first + count) ⌝ }
+{
+    let mut i = first as usize;
+    let end = i + count as usize;
+    while i < end {
+        blocks[i] = mark;
+        i += 1;
+    }
+}
 
 // Marks the `count` blocks from `first` upward; true if one of them is marked already.
 fn mark_run(blocks: &mut [u16], first: u16, count: u16, mark: u16) -> bool
@@ -20,15 +49,10 @@ fn mark_run(blocks: &mut [u16], first: u16, count: u16, mark: u16) -> bool
     ensures run { λ r. ⌜ RunMarked r (now (blocks .entry)) (now (blocks .exit)) first (first + count) mark ⌝ }
     ensures kept { λ _. ⌜ KeptOutside (now (blocks .entry)) (now (blocks .exit)) first (first + count) ⌝ }
 {
-    let mut i = first as usize;
-    let end = i + count as usize;
-    while i < end {
-        if blocks[i] != 0 {
-            return true;
-        }
-        blocks[i] = mark;
-        i += 1;
+    if any_marked(blocks, first, count) {
+        return true;
     }
+    fill_run(blocks, first, count, mark);
     false
 }
 
@@ -87,10 +111,11 @@ pub fn no_owner(blocks: &[u16], n: usize) -> bool
     requires { ⌜ n ≤ length (now blocks) ⌝ }
     ensures { λ r. ⌜ r ≡ anyBelow (λ x. eqb (getD (now (blocks .entry)) x 0) 0) n ⌝ }
 {
+    let mut free: u16 = 0;
     for x in 0..n {
         if blocks[x] == 0 {
-            return true;
+            free = 1;
         }
     }
-    false
+    free != 0
 }

@@ -1,111 +1,66 @@
-use mathlib.Core.Path.{_≡_, _∙_}
-use Prim.Native.Nat.{_+_, _*_, _-_, _≤_}
-use native.Mathlib.Omega.{arith}
-use lib.ListN.{length, length-set}
-use Rattle.rules.specs.Anodes.{anodesOf}
-use Rattle.anodes.specs.Loaded.{LoadedBelow}
-use Rattle.anodes.proofs.Laws.{seen-fields, loaded-more}
+use mathlib.Core.Path.{sym, _∙_}
+use Rattle.anodes.proofs.Laws.{loaded-missing}
 use borrow.Author.Needs.{needs}
 use Rattle.anodes.proofs.load_slot.Statement.{statement}
 use Rattle.anodes.proofs.load_slot.Tie as tie
 
-abbrev Inv-loop : tie.InvT-loop
-Inv-loop image s counts₀ firsts₀ nexts₀ part p₀ counts firsts nexts p = (p ≤ 82) × (length counts ≡ 3444) × (length firsts ≡ 3444) × (length nexts ≡ 3444) × LoadedBelow (anodesOf image) counts firsts nexts (s * 82 + p)
+slot-of-requires : tie.Need-slot-of-requires
+slot-of-requires c κs = search needs
 
-abbrev μ-loop : tie.MeasureT-loop
-μ-loop image s counts₀ firsts₀ nexts₀ part p₀ counts firsts nexts p = 82 - p
+load-block-requires : tie.Need-load-block-requires
+load-block-requires c κs = let p = c .before .before .before .before .before .before .before .before .before .before .pre in ((sym (c .before .before .before .before .before .slot-of .ensures), c .before .before .before .if1 .taken), (p .0, p .1))
 
-slot-part-requires : tie.Need-slot-part-requires Inv-loop μ-loop
-slot-part-requires c κs = search needs
-
-loop-holds : tie.Need-loop-holds Inv-loop μ-loop
-loop-holds c =
-    let e : c .before .before .before .before .before .args .s * 82 + 0 ≡ c .before .before .before .before .before .args .s * 82 = omega arith in
-    (search needs, search needs, search needs, search needs, rw e (c .before .before .before .before .before .pre .1))
-
-anode-in-requires : tie.Need-anode-in-requires Inv-loop μ-loop
-anode-in-requires c κs = search needs
-
-as-seen-requires : tie.Need-as-seen-requires Inv-loop μ-loop
-as-seen-requires c κs = search needs
-
-mul-a : tie.Need-mul-a Inv-loop μ-loop
-mul-a c = search needs
-
-add-a : tie.Need-add-a Inv-loop μ-loop
-add-a c = search needs
-
-mul-counts : tie.Need-mul-counts Inv-loop μ-loop
-mul-counts c = search needs
-
-slice-write-counts : tie.Need-slice-write-counts Inv-loop μ-loop
-slice-write-counts c = search needs
-
-mul-firsts : tie.Need-mul-firsts Inv-loop μ-loop
-mul-firsts c = search needs
-
-slice-write-firsts : tie.Need-slice-write-firsts Inv-loop μ-loop
-slice-write-firsts c = search needs
-
-mul-nexts : tie.Need-mul-nexts Inv-loop μ-loop
-mul-nexts c = search needs
-
-slice-write-nexts : tie.Need-slice-write-nexts Inv-loop μ-loop
-slice-write-nexts c = search needs
-
-add-p : tie.Need-add-p Inv-loop μ-loop
-add-p c = search needs
-
-loop-less : tie.Need-loop-less Inv-loop μ-loop
-loop-less c = search needs
-
-loop-again : tie.Need-loop-again Inv-loop μ-loop
-loop-again c =
-    let l = c .before .before .before .loop in
-    let s = c .before .before .before .before .before .before .before .before .before .args .s in
-    let e : s * 82 + (l .p + 1) ≡ s * 82 + l .p + 1 = omega arith in
-    let x = c .before .anode-in .ensures ∙ c .before .before .before .before .slot-part .ensures (l .p) (c .before .before .loop-test .taken) in (
-      search needs,
-      simp length-set (search needs),
-      simp length-set (search needs),
-      simp length-set (search needs),
-      rw e (loaded-more _ _ _ _ (s * 82 + l .p) (c .as-seen .result) (omega arith) (omega arith) (omega arith) (l .inv .4) (seen-fields _ _ _ _ x (c .as-seen .ensures))),
-    )
-
-same-length : tie.Need-same-length Inv-loop μ-loop
+same-length : tie.Need-same-length
 same-length c = search needs
 
-same-length-2 : tie.Need-same-length-2 Inv-loop μ-loop
+same-length-2 : tie.Need-same-length-2
 same-length-2 c = search needs
 
-same-length-3 : tie.Need-same-length-3 Inv-loop μ-loop
+same-length-3 : tie.Need-same-length-3
 same-length-3 c = search needs
 
-returns : tie.Need-returns Inv-loop μ-loop
-returns c = let e : c .before .loop .p ≡ 82 = omega arith in rw e at (c .before .loop .inv .4)
+returns : tie.Need-returns
+returns c = c .before .before .before .before .before .before .load-block .ensures
+
+mul-from : tie.Need-mul-from
+mul-from c = search needs
+
+zero-places-requires : tie.Need-zero-places-requires
+zero-places-requires c κs = search needs
+
+zero-places-requires-2 : tie.Need-zero-places-requires-2
+zero-places-requires-2 c κs = search needs
+
+zero-places-requires-3 : tie.Need-zero-places-requires-3
+zero-places-requires-3 c κs = search needs
+
+same-length-4 : tie.Need-same-length-4
+same-length-4 c = search needs
+
+same-length-5 : tie.Need-same-length-5
+same-length-5 c = search needs
+
+same-length-6 : tie.Need-same-length-6
+same-length-6 c = search needs
+
+returns-2 : tie.Need-returns-2
+returns-2 c = loaded-missing _ _ _ _ _ _ _ _ (sym (c .before .before .before .before .before .before .before .before .before .before .before .before .before .before .slot-of .ensures) ∙ c .before .before .before .before .before .before .before .before .before .before .before .before .if1 .left) (c .before .before .before .before .before .before .before .before .before .before .before .before .before .before .before .before .before .before .before .pre .1) (c .before .before .before .before .before .before .before .before .before .before .zero-places .ensures) (c .before .before .before .before .before .before .zero-places2 .ensures) (c .before .before .zero-places3 .ensures)
 
 pub load-slot-spec : {M : Type 1} → statement M
 load-slot-spec =
     tie.close
     (tie.spec
-    Inv-loop
-    μ-loop
-    slot-part-requires
-    loop-holds
-    anode-in-requires
-    as-seen-requires
-    mul-a
-    add-a
-    mul-counts
-    slice-write-counts
-    mul-firsts
-    slice-write-firsts
-    mul-nexts
-    slice-write-nexts
-    add-p
-    loop-less
-    loop-again
+    slot-of-requires
+    load-block-requires
     same-length
     same-length-2
     same-length-3
-    returns)
+    returns
+    mul-from
+    zero-places-requires
+    zero-places-requires-2
+    zero-places-requires-3
+    same-length-4
+    same-length-5
+    same-length-6
+    returns-2)

@@ -1,0 +1,214 @@
+-- Laws of the rules' entries and lookups, from a place on. Assumes nothing.
+use Prim.Native.Nat.{ℕ, zero, suc, _+_, _*_, _/_, _%_, _<_, _≤_}
+use mathlib.Core.Path.{_≡_, refl, ap, _∙_}
+use mathlib.Core.Bool.{Bool, true, false, cond, _&&_, and-false, true≢false, false≢true, and-eq-true-iff}
+use mathlib.Core.List.{List, [], _∷_, _++_}
+use mathlib.Core.Option.{Option, none, some}
+use native.Mathlib.Numerals.{add-one}
+use native.Mathlib.Omega.{arith}
+use lib.Dec.{eqb, leb}
+use lib.ListN.{length, getD, drop, drop-of-length-le}
+use lib.Seq.{drop-cons}
+use borrow.Author.Tests.{eq-eqb, ne-eqb, leb-true}
+use Rattle.disk.specs.declared.Refusal.{Refusal}
+use Rattle.disk.specs.declared.Refusal.the-variants.{DirectoryBlock}
+use Rattle.disk.specs.Blocks.{blockOf}
+use Rattle.directory.specs.declared.Entry.{Entry}
+use Rattle.directory.specs.declared.Walked.{Walked}
+use Rattle.directory.specs.declared.Walked.the-variants.{Found, End, Fault}
+use Rattle.directory.specs.Entries.{nameIn, entryLength, nameLength, commentLength, goodName, entryShaped, kindRead, entryIn, walkedKind, walkedAt}
+use Rattle.counting.specs.Laws.{neither}
+use Rattle.rules.specs.Counting.{anyIn, gather, sameBytes}
+use Rattle.rules.specs.Anodes.{limit}
+use Rattle.rules.specs.Chains.{chainOf}
+use Rattle.rules.specs.Walk.{Entered, entriesFrom, entriesIn}
+use Rattle.rules.specs.Lookup.{nameAt, isNamed, firstNamed, entryNamed, entriesOf, nth}
+use Rattle.anodes.specs.Loaded.{anodesFrom}
+use Rattle.lookup.specs.Answers.{placed, entered, Unbroken}
+
+-- ---- bytes from `i` on
+
+pub same-length : (l m : List ℕ) → (length l ≡ length m → ⊥) → sameBytes l m ≡ false
+unfolding sameBytes
+same-length [] [] n = absurd (n refl)
+same-length [] (y ∷ m) n = refl
+same-length (x ∷ l) [] n = refl
+same-length (x ∷ l) (y ∷ m) n = rw (same-length l m (λ e. n (ap suc e))) (and-false (eqb x y))
+
+module _ (l m : List ℕ) (i : ℕ) (whole : length l ≡ length m) where
+  pub same-end : length l ≤ i → sameBytes (drop i l) (drop i m) ≡ true
+  unfolding sameBytes
+  same-end h = rw (drop-of-length-le l {i = i} h, drop-of-length-le m {i = i} (omega arith))
+
+  pub same-not : i < length l → (getD l i 0 ≡ getD m i 0 → ⊥) → sameBytes (drop i l) (drop i m) ≡ false
+  unfolding sameBytes
+  same-not h n = rw (drop-cons l i 0 h, drop-cons m i 0 (omega arith), ne-eqb (getD l i 0) (getD m i 0) n)
+
+  pub same-step : i < length l → getD l i 0 ≡ getD m i 0 → sameBytes (drop i l) (drop i m) ≡ sameBytes (drop (i + 1) l) (drop (i + 1) m)
+  unfolding sameBytes
+  same-step h e = rw (drop-cons l i 0 h, drop-cons m i 0 (omega arith), eq-eqb (getD l i 0) (getD m i 0) e, add-one i)
+
+-- ---- the entries of a block, from a place on
+
+pub block-whole : (img : List ℕ) (y : ℕ) (block : List ℕ) → block ≡ blockOf img y → entriesFrom 28 block y 16 ≡ entriesIn img y
+unfolding entriesIn
+block-whole img y block e = rw e
+
+abbrev isFound : Walked → Bool
+isFound (Found e) = true
+isFound End = false
+isFound (Fault r) = false
+
+-- an entry that keeps the rules lies within the block
+found-shaped : (b : List ℕ) (at : ℕ) (e : Entry) → walkedAt b at ≡ Found e → entryShaped b at ≡ true
+unfolding walkedAt
+found-shaped b at e h = go (eqb (getD b at 0) 0) (entryShaped b at) (walkedKind (kindRead (getD b (at + 1) 0)) (entryIn b at)) h where
+  go : (p q : Bool) (w : Walked) → cond p End (cond q w (Fault DirectoryBlock)) ≡ Found e → q ≡ true
+  go true q w f = absurd (false≢true (ap isFound f))
+  go false true w f = refl
+  go false false w f = absurd (false≢true (ap isFound f))
+
+found-within : (b : List ℕ) (at : ℕ) (e : Entry) → walkedAt b at ≡ Found e → at < 512
+unfolding entryShaped
+found-within b at e h =
+    let rest = and-eq-true-iff (eqb (getD b at 0) (entryLength (nameLength b at) (commentLength b at))) (leb (at + getD b at 0) 510 && (leb (commentLength b at) 79 && goodName (nameIn b at))) .0 (found-shaped b at e h) .1 in
+    let room = leb-true (at + getD b at 0) 510 (and-eq-true-iff (leb (at + getD b at 0) 510) (leb (commentLength b at) 79 && goodName (nameIn b at)) .0 rest .0) in
+    omega arith
+
+is-named : (img : List ℕ) (y : ℕ) (block : List ℕ) (at : ℕ) (name : List ℕ) (e : Entry) → block ≡ blockOf img y → at < 512
+    → isNamed img name (entered (placed e (y * 512 + at))) ≡ sameBytes (nameIn block at) name
+unfolding isNamed nameAt
+is-named img y block at name e is h =
+    let p : (y * 512 + at) / 512 ≡ y = omega arith in
+    let q : (y * 512 + at) % 512 ≡ at = omega arith in
+    rw (p, q, is)
+
+first-hit : (img name : List ℕ) (e : Entered) (es : List Entered) → isNamed img name e ≡ true → firstNamed img name (e ∷ es) ≡ some e
+unfolding firstNamed
+first-hit img name e es h = rw (h, firstNamed)
+
+first-pass : (img name : List ℕ) (e : Entered) (es : List Entered) → isNamed img name e ≡ false → firstNamed img name (e ∷ es) ≡ firstNamed img name es
+unfolding firstNamed
+first-pass img name e es h = rw (h, firstNamed)
+
+pub none-left : (block : List ℕ) (y k at : ℕ) → k ≡ 0 → entriesFrom k block y at ≡ []
+unfolding entriesFrom
+none-left block y k at e = rw e
+
+module _ (block : List ℕ) (y k m at : ℕ) (fuel : k ≡ m + 1) where
+  pub ended : walkedAt block at ≡ End → entriesFrom k block y at ≡ []
+  unfolding entriesFrom
+  ended e = rw (fuel, add-one m, e)
+
+  pub unbroken-no-fault : (r : Refusal) → walkedAt block at ≡ Fault r → Unbroken (entriesFrom k block y at) → ⊥
+  unfolding entriesFrom anyIn
+  unbroken-no-fault r e u = true≢false (rw (fuel, add-one m, e) at u)
+
+  module _ (e : Entry) (is : walkedAt block at ≡ Found e) where
+    one-more : entriesFrom k block y at ≡ entered (placed e (y * 512 + at)) ∷ entriesFrom m block y (at + getD block at 0)
+    unfolding entriesFrom
+    one-more = rw (fuel, add-one m, is)
+
+    pub unbroken-rest : Unbroken (entriesFrom k block y at) → Unbroken (entriesFrom m block y (at + getD block at 0))
+    unfolding anyIn
+    unbroken-rest u = rw one-more at u
+
+    module _ (img name : List ℕ) (part : block ≡ blockOf img y) where
+      pub named-here : sameBytes (nameIn block at) name ≡ true → firstNamed img name (entriesFrom k block y at) ≡ some (entered (placed e (y * 512 + at)))
+      named-here h = rw one-more (first-hit img name _ _ (is-named img y block at name e part (found-within block at e is) ∙ h))
+
+      pub named-behind : sameBytes (nameIn block at) name ≡ false
+          → firstNamed img name (entriesFrom k block y at) ≡ firstNamed img name (entriesFrom m block y (at + getD block at 0))
+      named-behind h = rw one-more (first-pass img name _ _ (is-named img y block at name e part (found-within block at e is) ∙ h))
+
+pub named-none : (img name : List ℕ) (es : List Entered) → es ≡ [] → firstNamed img name es ≡ none
+unfolding firstNamed
+named-none img name es e = rw e
+
+-- ---- counting down over the entries of a block, with others behind them
+
+pub nth-none : (es rest : List Entered) (n : ℕ) → es ≡ [] → nth (es ++ rest) n ≡ nth rest n
+nth-none es rest n e = rw e
+
+module _ (block : List ℕ) (y k m at : ℕ) (fuel : k ≡ m + 1) (e : Entry) (is : walkedAt block at ≡ Found e) (rest : List Entered) (n : ℕ) where
+  pub nth-here : n ≡ 0 → nth (entriesFrom k block y at ++ rest) n ≡ some (entered (placed e (y * 512 + at)))
+  unfolding nth
+  nth-here z = rw (one-more block y k m at fuel e is, z)
+
+  pub nth-behind : (l : ℕ) → n ≡ l + 1 → nth (entriesFrom k block y at ++ rest) n ≡ nth (entriesFrom m block y (at + getD block at 0) ++ rest) l
+  unfolding nth
+  nth-behind l p = rw (one-more block y k m at fuel e is, p, add-one l)
+
+-- ---- the entries along a chain of at most k anodes, from anode a on
+
+unfoldable pub entriesAlong : List ℕ → List ℕ → List ℕ → ℕ → ℕ → List Entered
+entriesAlong img firsts nexts k a = gather (λ x. entriesIn img (getD firsts x 0)) (chainOf (λ x. getD nexts x 0) k a)
+
+module _ (img firsts nexts : List ℕ) where
+  -- the counts are not looked at
+  pub along-whole : (c : List ℕ) (h : ℕ) → entriesOf img (anodesFrom c firsts nexts) h ≡ entriesAlong img firsts nexts limit h
+  unfolding entriesOf anodesFrom entriesAlong
+  along-whole c h = refl
+
+  pub along-none : (k a : ℕ) → k ≡ 0 → entriesAlong img firsts nexts k a ≡ []
+  unfolding entriesAlong chainOf gather
+  along-none k a e = rw e
+
+  module _ (k m a : ℕ) (fuel : k ≡ m + 1) where
+    pub along-end : a ≡ 0 → entriesAlong img firsts nexts k a ≡ []
+    unfolding entriesAlong chainOf gather
+    along-end z = rw (fuel, add-one m, z)
+
+along-step : (img firsts nexts : List ℕ) (k m a : ℕ) → k ≡ m + 1 → (a ≡ 0 → ⊥)
+    → entriesAlong img firsts nexts k a ≡ entriesIn img (getD firsts a 0) ++ entriesAlong img firsts nexts m (getD nexts a 0)
+unfolding entriesAlong chainOf gather
+along-step img firsts nexts k m zero fuel n = absurd (n refl)
+along-step img firsts nexts k m (suc a) fuel n = rw (fuel, add-one m)
+
+unbroken-append : (xs ys : List Entered) → Unbroken (xs ++ ys) → Unbroken xs × Unbroken ys
+unfolding anyIn
+unbroken-append [] ys u = (refl, u)
+unbroken-append (x ∷ xs) ys u =
+    let both = neither (x .broken) (anyIn (λ e. e .broken) (xs ++ ys)) u in
+    let each = unbroken-append xs ys (both .1) in
+    (rw (both .0, each .0), each .1)
+
+abbrev orElse : Option Entered → Option Entered → Option Entered
+orElse none o = o
+orElse (some e) o = some e
+
+first-append : (img name : List ℕ) (xs ys : List Entered) → firstNamed img name (xs ++ ys) ≡ orElse (firstNamed img name xs) (firstNamed img name ys)
+unfolding firstNamed
+first-append img name [] ys = refl
+first-append img name (e ∷ xs) ys = go (first-append img name xs ys) (isNamed img name e) refl where
+  go : firstNamed img name (xs ++ ys) ≡ orElse (firstNamed img name xs) (firstNamed img name ys) → (b : Bool) → isNamed img name e ≡ b
+      → firstNamed img name (e ∷ (xs ++ ys)) ≡ orElse (firstNamed img name (e ∷ xs)) (firstNamed img name ys)
+  go ih true p = rw (first-hit img name e (xs ++ ys) p, first-hit img name e xs p)
+  go ih false p = rw (first-pass img name e (xs ++ ys) p, first-pass img name e xs p) ih
+
+module _ (img firsts nexts : List ℕ) (k m a : ℕ) (fuel : k ≡ m + 1) (some-anode : a ≡ 0 → ⊥) where
+  pub unbroken-along : Unbroken (entriesAlong img firsts nexts k a)
+      → Unbroken (entriesIn img (getD firsts a 0)) × Unbroken (entriesAlong img firsts nexts m (getD nexts a 0))
+  unbroken-along u = unbroken-append (entriesIn img (getD firsts a 0)) (entriesAlong img firsts nexts m (getD nexts a 0)) (rw (along-step img firsts nexts k m a fuel some-anode) at u)
+
+  pub along-hit : (name : List ℕ) (e : Entered) → some e ≡ firstNamed img name (entriesIn img (getD firsts a 0))
+      → some e ≡ firstNamed img name (entriesAlong img firsts nexts k a)
+  along-hit name e h =
+      rw (along-step img firsts nexts k m a fuel some-anode, first-append img name (entriesIn img (getD firsts a 0)) (entriesAlong img firsts nexts m (getD nexts a 0)), ← h)
+
+  pub along-pass : (name : List ℕ) → none ≡ firstNamed img name (entriesIn img (getD firsts a 0))
+      → firstNamed img name (entriesAlong img firsts nexts m (getD nexts a 0)) ≡ firstNamed img name (entriesAlong img firsts nexts k a)
+  along-pass name h =
+      rw (along-step img firsts nexts k m a fuel some-anode, first-append img name (entriesIn img (getD firsts a 0)) (entriesAlong img firsts nexts m (getD nexts a 0)), ← h)
+
+  pub nth-along : (n : ℕ) (o : Option Entered) → o ≡ nth (entriesIn img (getD firsts a 0) ++ entriesAlong img firsts nexts m (getD nexts a 0)) n
+      → o ≡ nth (entriesAlong img firsts nexts k a) n
+  nth-along n o h = rw (along-step img firsts nexts k m a fuel some-anode) h
+
+pub named-whole : (img firsts nexts c : List ℕ) (h : ℕ) (name : List ℕ) → entryNamed img (anodesFrom c firsts nexts) h name ≡ firstNamed img name (entriesAlong img firsts nexts limit h)
+unfolding entryNamed
+named-whole img firsts nexts c h name = rw (along-whole img firsts nexts c h)
+
+pub nth-empty : (es : List Entered) (n : ℕ) → es ≡ [] → nth es n ≡ none
+unfolding nth
+nth-empty es n e = rw e

@@ -1,0 +1,3 @@
+-- Laws of the lookups and of the copy.
+pub mod Laws
+pub mod Copying

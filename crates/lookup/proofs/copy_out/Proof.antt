@@ -1,0 +1,103 @@
+use mathlib.Core.Path.{_≡_, refl, sym, _∙_}
+use Prim.Native.Nat.{_-_}
+use native.Mathlib.Omega.{arith}
+use lib.ListN.{length, getD, take, drop}
+use Rattle.rules.specs.Lookup.{bytesOf}
+use Rattle.anodes.specs.Loaded.{anodesFrom}
+use Rattle.lookup.specs.Copied.{filled}
+use Rattle.lookup.proofs.Copying.{part-length, filled-start, filled-full, filled-end, bytesAlong, bytes-whole, bytes-none, bytes-end, bytes-step}
+use borrow.Author.Needs.{needs}
+use Rattle.lookup.proofs.copy_out.Statement.{statement}
+use Rattle.lookup.proofs.copy_out.Tie as tie
+
+abbrev Inv-loop : tie.InvT-loop
+Inv-loop image counts firsts nexts offset out₀ cursor₀ at₀ fuel₀ out cursor at fuel =
+    (length out ≡ length out₀)
+    × (filled out (cursor .done) (drop (cursor .skip) (bytesAlong image counts firsts nexts fuel at)) ≡ take (length out₀) (drop offset (bytesOf image (anodesFrom counts firsts nexts) at₀)))
+
+abbrev μ-loop : tie.MeasureT-loop
+μ-loop image counts firsts nexts offset out₀ cursor₀ at₀ fuel₀ out cursor at fuel = fuel
+
+cast-at : tie.Need-cast-at Inv-loop μ-loop
+cast-at c = search needs
+
+loop-holds : tie.Need-loop-holds Inv-loop μ-loop
+loop-holds c = (refl, rw (bytes-whole _ _ _ _ _) (filled-start _ _))
+
+same-length : tie.Need-same-length Inv-loop μ-loop
+same-length c = search needs
+
+returns : tie.Need-returns Inv-loop μ-loop
+returns c =
+    let l = c .before .before .loop in
+    let a = c .before .before .before .before .before .before .before .before .before .args in
+    let none = bytes-end (a .image .now) (a .counts .now) (a .firsts .now) (a .nexts .now) (l .fuel) (l .fuel - 1) (l .at) (omega arith) (c .if1 .taken) in
+    filled-end _ _ _ (l .cursor .skip) _ none (l .inv .1) (part-length _ _ _ (c .before .before .before .before .before .before .before .before .before .pre) ∙ sym (l .inv .0))
+
+same-length-2 : tie.Need-same-length-2 Inv-loop μ-loop
+same-length-2 c = search needs
+
+returns-2 : tie.Need-returns-2 Inv-loop μ-loop
+returns-2 c = sym (filled-full _ _ _ (c .if2 .taken)) ∙ c .before .before .before .before .loop .inv .1
+
+entry-requires : tie.Need-entry-requires Inv-loop μ-loop
+entry-requires c κs = search needs
+
+entry-requires-2 : tie.Need-entry-requires-2 Inv-loop μ-loop
+entry-requires-2 c κs = search needs
+
+copy-run-requires : tie.Need-copy-run-requires Inv-loop μ-loop
+copy-run-requires c κs = search needs
+
+entry-requires-3 : tie.Need-entry-requires-3 Inv-loop μ-loop
+entry-requires-3 c κs = search needs
+
+cast-at-2 : tie.Need-cast-at-2 Inv-loop μ-loop
+cast-at-2 c = search needs
+
+sub-fuel : tie.Need-sub-fuel Inv-loop μ-loop
+sub-fuel c = search needs
+
+loop-less : tie.Need-loop-less Inv-loop μ-loop
+loop-less c = search needs
+
+loop-again : tie.Need-loop-again Inv-loop μ-loop
+loop-again c =
+    let l = c .before .before .before .before .before .before .before .before .before .before .before .loop in
+    let a = c .before .before .before .before .before .before .before .before .before .before .before .before .before .before .before .before .before .before .args in
+    let rest = bytesAlong (a .image .now) (a .counts .now) (a .firsts .now) (a .nexts .now) (l .fuel - 1) (getD (a .nexts .now) (l .at) 0) in
+    let step = bytes-step (a .image .now) (a .counts .now) (a .firsts .now) (a .nexts .now) (l .fuel) (l .fuel - 1) (l .at) (omega arith) (c .before .before .before .before .before .before .before .before .before .if1 .left) in
+    (search needs, rw (c .entry3 .ensures) ((rw (c .before .before .before .before .before .before .entry .ensures, c .before .before .before .before .before .entry2 .ensures, ← step) at (c .before .before .before .copy-run .ensures rest)) ∙ l .inv .1))
+
+same-length-3 : tie.Need-same-length-3 Inv-loop μ-loop
+same-length-3 c = search needs
+
+returns-3 : tie.Need-returns-3 Inv-loop μ-loop
+returns-3 c =
+    let l = c .before .loop in
+    let a = c .before .before .before .before .before .before .before .before .args in
+    let none = bytes-none (a .image .now) (a .counts .now) (a .firsts .now) (a .nexts .now) (l .fuel) (l .at) (omega arith) in
+    filled-end _ _ _ (l .cursor .skip) _ none (l .inv .1) (part-length _ _ _ (c .before .before .before .before .before .before .before .before .pre) ∙ sym (l .inv .0))
+
+pub copy-out-spec : {M : Type 1} → statement M
+copy-out-spec =
+    tie.close
+    (tie.spec
+    Inv-loop
+    μ-loop
+    cast-at
+    loop-holds
+    same-length
+    returns
+    same-length-2
+    returns-2
+    entry-requires
+    entry-requires-2
+    copy-run-requires
+    entry-requires-3
+    cast-at-2
+    sub-fuel
+    loop-less
+    loop-again
+    same-length-3
+    returns-3)

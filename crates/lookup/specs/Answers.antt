@@ -1,0 +1,36 @@
+-- The answer of a lookup: the entry that stands for each case.
+use Prim.Native.Nat.{ℕ}
+use mathlib.Core.Path.{_≡_}
+use mathlib.Core.Bool.{false}
+use mathlib.Core.List.{List}
+use mathlib.Core.Option.{Option, none, some}
+use Rattle.directory.specs.declared.Entry.{Entry}
+use Rattle.rules.specs.Counting.{anyIn}
+use Rattle.rules.specs.Walk.{Entered, isDir}
+use Rattle.rules.specs.Lookup.{nth}
+use Rattle.lookup.specs.declared.EntryAt.{EntryAt}
+use Rattle.lookup.specs.declared.Lookup.{Lookup}
+use Rattle.lookup.specs.declared.Lookup.the-variants.{Found, Missing}
+use Rattle.lookup.specs.declared.Passed.{Passed}
+use Rattle.lookup.specs.declared.Passed.the-variants.{Found as Hit, Left}
+
+-- an entry of a block, at a place of the image
+abbrev pub placed : Entry → ℕ → EntryAt
+placed e place = record { kind = e .kind; anode = e .anode; size = e .size; place = place }
+
+-- as the rules list it
+abbrev pub entered : EntryAt → Entered
+entered e = record { broken = false; dir = isDir (e .kind); anode = e .anode .0; size = e .size; place = e .place }
+
+abbrev pub entryOf : Lookup → Option Entered
+entryOf (Found e) = some (entered e)
+entryOf Missing = none
+
+-- the entry met while counting down, or the one in the entries behind
+abbrev pub orRest : Passed → List Entered → Option Entered
+orRest (Hit e) rest = some (entered e)
+orRest (Left n) rest = nth rest n
+
+-- no entry breaks the entry rules, as in every accepted image
+abbrev pub Unbroken : List Entered → Type 0
+Unbroken es = anyIn (λ e. e .broken) es ≡ false

@@ -1,0 +1,284 @@
+// Looks up the entries of a directory in an accepted image, and the bytes of a chain.
+ghost use mathlib.Core.List.{List, [], _++_};
+ghost use mathlib.Core.Path.{_≡_};
+ghost use Prim.Native.Nat.{ℕ, _+_, _*_, _<_, _≤_};
+ghost use lib.ListN.{length, take, drop};
+ghost use Rattle.directory.specs.Entries.{nameIn};
+ghost use Rattle.disk.specs.Blocks.{blockOf};
+ghost use Rattle.rules.specs.Counting.{gather, sameBytes};
+ghost use Rattle.rules.specs.Chains.{run};
+ghost use Rattle.rules.specs.Walk.{Entered, entriesIn};
+ghost use Rattle.rules.specs.Lookup.{firstNamed, entryNamed, entriesOf, nth, bytesOf};
+ghost use Rattle.anodes.specs.Loaded.{anodesFrom};
+ghost use Rattle.lookup.specs.Answers.{entryOf, placed, Unbroken, orRest};
+ghost use Rattle.lookup.specs.Copied.{filled, Copied};
+use directory::Entry;
+use directory::Kind;
+use directory::Walked;
+use directory::entry_at;
+use disk::AnodeNo;
+use disk::BlockNo;
+use disk::block_part;
+use endian::part;
+use endian::read8;
+use tables::entry;
+
+// An entry of a directory: what it names, and the place of its first byte in the image.
+pub struct EntryAt {
+    pub kind: Kind,
+    pub anode: AnodeNo,
+    pub size: u32,
+    pub place: usize,
+}
+
+// What a lookup answers.
+pub enum Lookup {
+    Found(EntryAt),
+    Missing,
+}
+
+// What a block gives when entries are counted down: the one asked for, or how many are still to be passed after the block.
+enum Passed {
+    Found(EntryAt),
+    Left(u64),
+}
+
+// How many bytes are still to be skipped, and how many were copied.
+struct Cursor {
+    skip: u64,
+    done: usize,
+}
+
+// An entry at a place of block `b`, as a lookup answers it.
+fn entry_in_image(b: BlockNo, at: usize, e: Entry) -> EntryAt
+    requires { ⌜ at ≤ 65535 ⌝ }
+    ensures { λ r. ⌜ r ≡ placed e (b .0 * 512 + at) ⌝ }
+{
+    let kind = e.kind;
+    let anode = e.anode;
+    EntryAt {
+        kind,
+        anode,
+        size: e.size,
+        place: (b.0 as usize) * 512 + at,
+    }
+}
+
+// Whether two runs of bytes are the same.
+fn same_bytes(one: &[u8], other: &[u8]) -> bool
+    ensures { λ r. ⌜ r ≡ sameBytes (now (one .entry)) (now (other .entry)) ⌝ }
+{
+    if one.len() != other.len() {
+        return false;
+    }
+    let mut i = 0;
+    while i < one.len() {
+        if one[i] != other[i] {
+            return false;
+        }
+        i += 1;
+    }
+    true
+}
+
+// Whether the entry at a place of a directory block has that name.
+fn has_name(block: &[u8], at: usize, name: &[u8]) -> bool
+    requires { ⌜ at ≤ 65535 ⌝ }
+    ensures { λ r. ⌜ r ≡ sameBytes (nameIn (now (block .entry)) at) (now (name .entry)) ⌝ }
+{
+    let len = read8(block, at + 15) as usize;
+    same_bytes(part(block, at + 16, len), name)
+}
+
+// The first entry with that name in block `b`.
+fn named_in(image: &[u8], b: BlockNo, name: &[u8]) -> Lookup
+    requires { ⌜ Unbroken (entriesIn (now image) (b .0)) ⌝ }
+    ensures { λ r. ⌜ entryOf r ≡ firstNamed (now (image .entry)) (now (name .entry)) (entriesIn (now (image .entry)) (b .0)) ⌝ }
+{
+    let block = block_part(image, b);
+    let mut at: usize = 16;
+    let mut fuel: usize = 28;
+    while fuel > 0 {
+        let found = entry_at(block, at);
+        let e = match found {
+            Walked::Found(e) => e,
+            Walked::End => return Lookup::Missing,
+            Walked::Fault(_) => return Lookup::Missing,
+        };
+        if has_name(block, at, name) {
+            return Lookup::Found(entry_in_image(b, at, e));
+        }
+        at += read8(block, at) as usize;
+        fuel -= 1;
+    }
+    Lookup::Missing
+}
+
+// The first entry with that name in the directory that `head` heads.
+pub fn entry_named(
+    image: &[u8],
+    firsts: &[u16],
+    nexts: &[u16],
+    head: AnodeNo,
+    name: &[u8],
+) -> Lookup
+    requires { ⌜ Unbroken (entriesOf (now image) (anodesFrom [] (now firsts) (now nexts)) (head .0)) ⌝ }
+    ensures { λ r. ⌜ ((c : List ℕ) → entryOf r ≡ entryNamed (now (image .entry)) (anodesFrom c (now (firsts .entry)) (now (nexts .entry))) (head .0) (now (name .entry))) ⌝ }
+{
+    let mut at = head.0 as usize;
+    let mut fuel: usize = 3444;
+    while fuel > 0 {
+        if at == 0 {
+            return Lookup::Missing;
+        }
+        let found = named_in(image, BlockNo(entry(firsts, at)), name);
+        if let Lookup::Found(_) = found {
+            return found;
+        }
+        at = entry(nexts, at) as usize;
+        fuel -= 1;
+    }
+    Lookup::Missing
+}
+
+// Passes n entries of block `b`, as far as it has them.
+fn nth_in(image: &[u8], b: BlockNo, n: u64) -> Passed
+    requires { ⌜ Unbroken (entriesIn (now image) (b .0)) ⌝ }
+    ensures { λ r. ⌜ ((rest : List Entered) → orRest r rest ≡ nth (entriesIn (now (image .entry)) (b .0) ++ rest) n) ⌝ }
+{
+    let block = block_part(image, b);
+    let mut left = n;
+    let mut at: usize = 16;
+    let mut fuel: usize = 28;
+    while fuel > 0 {
+        let found = entry_at(block, at);
+        let e = match found {
+            Walked::Found(e) => e,
+            Walked::End => return Passed::Left(left),
+            Walked::Fault(_) => return Passed::Left(left),
+        };
+        if left == 0 {
+            return Passed::Found(entry_in_image(b, at, e));
+        }
+        left -= 1;
+        at += read8(block, at) as usize;
+        fuel -= 1;
+    }
+    Passed::Left(left)
+}
+
+// The n-th entry, from 0, of the directory that `head` heads.
+pub fn nth_entry(image: &[u8], firsts: &[u16], nexts: &[u16], head: AnodeNo, n: u64) -> Lookup
+    requires { ⌜ Unbroken (entriesOf (now image) (anodesFrom [] (now firsts) (now nexts)) (head .0)) ⌝ }
+    ensures { λ r. ⌜ ((c : List ℕ) → entryOf r ≡ nth (entriesOf (now (image .entry)) (anodesFrom c (now (firsts .entry)) (now (nexts .entry))) (head .0)) n) ⌝ }
+{
+    let mut left = n;
+    let mut at = head.0 as usize;
+    let mut fuel: usize = 3444;
+    while fuel > 0 {
+        if at == 0 {
+            return Lookup::Missing;
+        }
+        let step = nth_in(image, BlockNo(entry(firsts, at)), left);
+        match step {
+            Passed::Found(e) => {
+                return Lookup::Found(e);
+            }
+            Passed::Left(after) => {
+                left = after;
+            }
+        }
+        at = entry(nexts, at) as usize;
+        fuel -= 1;
+    }
+    Lookup::Missing
+}
+
+// Copies bytes into the buffer from `done` on, as many as it has room for, and gives the place after them.
+fn copy_bytes(source: &[u8], out: &mut [u8], done: usize) -> usize
+    ensures { λ r. ⌜ ((rest : List ℕ) → filled (now (out .exit)) r rest ≡ filled (now (out .entry)) done (now (source .entry) ++ rest)) ⌝ }
+{
+    let mut at = done;
+    let mut j = 0;
+    while j < source.len() {
+        if out.len() <= at {
+            return at;
+        }
+        out[at] = source[j];
+        at += 1;
+        j += 1;
+    }
+    at
+}
+
+// Copies what block `b` has behind the bytes to be skipped.
+fn copy_block(image: &[u8], b: usize, out: &mut [u8], c: Cursor) -> Cursor
+    requires { ⌜ b ≤ 131070 ⌝ }
+    ensures { λ r. ⌜ Copied c (now (out .entry)) (blockOf (now (image .entry)) b) r (now (out .exit)) ⌝ }
+{
+    let block = part(image, b * 512, 512);
+    let len = block.len();
+    if len as u64 <= c.skip {
+        return Cursor {
+            skip: c.skip - (len as u64),
+            done: c.done,
+        };
+    }
+    let from = c.skip as usize;
+    Cursor {
+        skip: 0,
+        done: copy_bytes(&block[from..len], out, c.done),
+    }
+}
+
+// Copies the `count` blocks from `first` upward, until the buffer is full.
+fn copy_run(image: &[u8], first: u16, count: u16, out: &mut [u8], c: Cursor) -> Cursor
+    ensures { λ r. ⌜ Copied c (now (out .entry)) (gather (blockOf (now (image .entry))) (run first count)) r (now (out .exit)) ⌝ }
+{
+    let mut cursor = c;
+    let mut b = first as usize;
+    let mut left = count;
+    while left > 0 {
+        if out.len() <= cursor.done {
+            return cursor;
+        }
+        let after = copy_block(image, b, out, cursor);
+        cursor = after;
+        b += 1;
+        left -= 1;
+    }
+    cursor
+}
+
+// Copies the bytes of a chain's blocks, from `offset` on, into the lent buffer.
+pub fn copy_out(
+    image: &[u8],
+    counts: &[u16],
+    firsts: &[u16],
+    nexts: &[u16],
+    head: AnodeNo,
+    offset: u64,
+    out: &mut [u8],
+)
+    requires { ⌜ offset + length (now out) ≤ length (bytesOf (now image) (anodesFrom (now counts) (now firsts) (now nexts)) (head .0)) ⌝ }
+    ensures { λ _. ⌜ now (out .exit) ≡ take (length (now (out .entry))) (drop offset (bytesOf (now (image .entry)) (anodesFrom (now (counts .entry)) (now (firsts .entry)) (now (nexts .entry))) (head .0))) ⌝ }
+{
+    let mut cursor = Cursor {
+        skip: offset,
+        done: 0,
+    };
+    let mut at = head.0 as usize;
+    let mut fuel: usize = 3444;
+    while fuel > 0 {
+        if at == 0 {
+            return;
+        }
+        if out.len() <= cursor.done {
+            return;
+        }
+        let after = copy_run(image, entry(firsts, at), entry(counts, at), out, cursor);
+        cursor = after;
+        at = entry(nexts, at) as usize;
+        fuel -= 1;
+    }
+}
