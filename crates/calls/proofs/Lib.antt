@@ -1,2 +1,3 @@
 -- Laws of the calls' outcomes.
 pub mod Laws
+pub mod Opened

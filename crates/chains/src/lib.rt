@@ -18,6 +18,7 @@ ghost use Rattle.chains.specs.FreeList.{wrongBefore};
 ghost use Rattle.chains.specs.Filling.{FilledBelow};
 use tables::entry;
 use tables::set_entry;
+use tables::zero_first;
 
 // Anode 0 is not (0, 65535, 0).
 fn wrong_zero(counts: &[u16], firsts: &[u16], nexts: &[u16]) -> bool
@@ -256,6 +257,17 @@ pub fn fill_heads(firsts: &[u16], nexts: &[u16], preds: &[u16], heads: &mut [u16
     for a in 1..3444 {
         fill_head(firsts, nexts, preds, heads, a);
     }
+}
+
+// The head of every anode's chain, by anodes whose links are in order.
+pub fn show_heads(firsts: &[u16], nexts: &[u16], heads: &mut [u16])
+    requires { ⌜ (3444 ≤ length (now heads)) × (length (now nexts) ≡ 3444) × View 3444 (λ a. getD (now nexts) a 0) (λ a. getD (now firsts) a 0) × Linked 3444 (λ a. getD (now nexts) a 0) (λ a. getD (now firsts) a 0) ⌝ }
+    ensures { λ _. ⌜ ((c : List ℕ) → now (heads .exit) ≡ anodeTable (anodesFrom c (now (firsts .entry)) (now (nexts .entry))) ++ drop 3444 (now (heads .entry))) ⌝ }
+{
+    let mut preds = [0u16; 3444];
+    note_preds(nexts, &mut preds);
+    zero_first(heads, 3444);
+    fill_heads(firsts, nexts, &preds, heads);
 }
 
 // A free extent that does not start above last reserved.

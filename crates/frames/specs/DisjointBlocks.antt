@@ -33,7 +33,7 @@ module _ {ex : ℕ → Bool} {n last : ℕ} {s : Anodes} {system hd sd : ℕ →
   held-le y l = omega (arith, held-all limit hd (s .count) (s .block) (hd-below g) y, g .own .not-two y l)
 
   module _ (h : ℕ) (d : Head (s .next) (s .block) h) (y : ℕ) where
-    times-held : y < n → times y (blocksOf s h) ≡ heldBy h y
+    pub times-held : y < n → times y (blocksOf s h) ≡ heldBy h y
     unfolding times
     times-held l =
         blocks-sum g (λ z. oneAt z y) h d

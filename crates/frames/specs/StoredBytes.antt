@@ -43,10 +43,10 @@ gather-kept k [] o = refl
 gather-kept k (y ∷ ys) o = ap₂ _++_ (k .block-kept y (o y (first-in y ys))) (gather-kept k ys (λ z p. o z (rest-in y z ys p)))
 
 -- blocks that the image has whole
-abbrev Inside : List ℕ → List ℕ → Type 0
+abbrev pub Inside : List ℕ → List ℕ → Type 0
 Inside img ys = (y : ℕ) → 0 < times y ys → y * 512 + 512 ≤ length img
 
-length-gather : (img ys : List ℕ) → Inside img ys → length (gather (blockOf img) ys) ≡ length ys * 512
+pub length-gather : (img ys : List ℕ) → Inside img ys → length (gather (blockOf img) ys) ≡ length ys * 512
 unfolding gather
 length-gather img [] i = refl
 length-gather img (y ∷ ys) i =

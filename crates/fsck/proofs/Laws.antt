@@ -16,6 +16,7 @@ use Rattle.disk.proofs.Laws.{length-listed}
 use Rattle.rules.specs.Counting.{_if_else_, anyBelow}
 use Rattle.rules.specs.Anodes.{Anodes, limit, anodesOf}
 use Rattle.rules.specs.Chains.{blockCount}
+use Rattle.rules.specs.Walk.{reachedDirs}
 use Rattle.rules.specs.Accepted.{diskSize, wrongSize, shortTables, wrongType, wrongRoot, wrongSlots, wrongFixed, outOfRange, wrongLinks, wrongFreeList, lastReserved, twoOwners, noOwner, treeFault, damageIn, checkAnswer}
 use Rattle.rules.specs.Tables.{anodeEntry, blockEntry, blockTable, anodeTable, tableLeft, blocksLeft, anodesLeft}
 use Rattle.rules.specs.Calls.{Outcome, outcomeOf, settled, checkOutcome, fileCount, dirCount}
@@ -24,8 +25,8 @@ use Rattle.laws.specs.Acceptance.{if-zero, passed-of}
 use Rattle.laws.specs.Damage.{NoneOr, if-number, damage-range}
 use Rattle.chains.proofs.Laws.{zeroed}
 use Rattle.anodes.specs.Loaded.{anodesFrom}
-use Rattle.tree.specs.Tree.{treeNumber, Counts, HeadTable}
-use Rattle.tree.specs.Steps.{sumFrom}
+use Rattle.tree.specs.Tree.{treeNumber, Counts, Queued, HeadTable}
+use Rattle.tree.specs.Steps.{sumFrom, queueOf}
 use Rattle.tree.specs.declared.TreeRead.{TreeRead}
 use Rattle.tree.specs.declared.TreeRead.the-variants.{Counted, Fault}
 use Rattle.fsck.specs.declared.Tally.{Tally}
@@ -173,10 +174,10 @@ module _ (img : List ℕ) (s : Anodes) where
   }
 
   module _ (b₀ a₀ b a : List ℕ) (t : Test) (e : testNumber t ≡ spaceAnswer img s) (left : TablesAfter t img s b₀ a₀ b a) where
-    pub all-failed : (r : Refusal) → t ≡ Failed r → (numberOf r ≡ damageIn img s) × (Unit {0} × Kept img b₀ a₀ b a)
+    pub all-failed : (r : Refusal) → t ≡ Failed r → (numberOf r ≡ damageIn img s) × Kept img b₀ a₀ b a
     all-failed r is =
         let n = rw is at e in
-        (sym (space-refused (numberOf r) (number-some r) (sym n)), (tt, rw is at left))
+        (sym (space-refused (numberOf r) (number-some r) (sym n)), rw is at left)
 
     module _ (is : t ≡ Passed) (s₁ : Anodes) (same : s₁ ≡ s) where
       pub all-heads : HeadTable a s₁
@@ -186,14 +187,13 @@ module _ (img : List ℕ) (s : Anodes) where
         damaged : damageIn img s ≡ treeNumber w
         damaged = space-passed (sym (rw is at e)) ∙ sym (rw same at n)
 
-        pub all-fault : (r : Refusal) → w ≡ Fault r → (numberOf r ≡ damageIn img s) × (Unit {0} × Kept img b₀ a₀ b a)
-        all-fault r fault = (sym (rw fault at damaged), (tt, filled-kept b₀ a₀ b a ((rw is at left) .0)))
+        pub all-fault : (r : Refusal) → w ≡ Fault r → (numberOf r ≡ damageIn img s) × Kept img b₀ a₀ b a
+        all-fault r fault = (sym (rw fault at damaged), filled-kept b₀ a₀ b a ((rw is at left) .0))
 
-        pub all-counted : Counts w img s₁ → (files dirs : ℕ) → w ≡ Counted files dirs → (free : ℕ) → free ≡ blockCount s 1
-            → (0 ≡ damageIn img s) × (((free ≡ blockCount s 1) × (files ≡ fileCount img s) × (dirs ≡ dirCount img s)) × Filled img s b₀ a₀ b a)
-        all-counted k files dirs counted free f =
-            let q : (files ≡ fileCount img s) × (dirs ≡ dirCount img s) = rw (counted, same) at k in
-            (sym (rw counted at damaged), ((f, q .0, q .1), (rw is at left) .0))
+        pub all-counted : (queue parents : List ℕ) → Counts w img s₁ → Queued w img s₁ queue parents → (files dirs : ℕ) → w ≡ Counted files dirs
+            → (0 ≡ damageIn img s) × ((files ≡ fileCount img s) × (dirs ≡ dirCount img s)) × Filled img s b₀ a₀ b a × (queueOf queue parents dirs ≡ reachedDirs img s)
+        all-counted queue parents k q files dirs counted =
+            (sym (rw counted at damaged), rw (counted, same) at k, (rw is at left) .0, rw (counted, same) at q)
 
 -- the free blocks, as they are summed over the loaded anodes
 pub free-of : (c b n : List ℕ) (s : Anodes) → anodesFrom c b n ≡ s → sumFrom c n 3444 1 ≡ blockCount s 1

@@ -1,16 +1,19 @@
--- The check's answer: the number and values of each case, and what its parts leave in the tables.
+-- The check's answer: the number and values of each case, what its parts leave in the tables, and what it lends out.
 use Prim.Native.Nat.{ℕ}
 use mathlib.Core.Path.{_≡_}
 use mathlib.Core.List.{List, _++_}
-use lib.ListN.{drop}
+use lib.ListN.{length, drop}
 use Rattle.disk.specs.Refusals.{numberOf}
 use Rattle.rules.specs.Counting.{_if_else_, anyBelow}
-use Rattle.rules.specs.Anodes.{Anodes, limit}
+use Rattle.rules.specs.Anodes.{Anodes, limit, anodesOf}
 use Rattle.rules.specs.Chains.{blockCount}
+use Rattle.rules.specs.Walk.{reachedDirs}
 use Rattle.rules.specs.Accepted.{diskSize, wrongSize, shortTables, wrongType, wrongRoot, wrongFixed, outOfRange, wrongLinks, wrongFreeList, lastReserved, twoOwners, noOwner}
 use Rattle.rules.specs.Tables.{blockTable, anodeTable}
 use Rattle.rules.specs.Calls.{fileCount, dirCount}
+use Rattle.anodes.specs.Loaded.{anodesFrom}
 use Rattle.tree.specs.Tree.{HeadTable}
+use Rattle.tree.specs.Steps.{queueOf}
 use Rattle.fsck.specs.declared.Checked.{Checked}
 use Rattle.fsck.specs.declared.Checked.the-variants.{Accepted, Refused}
 use Rattle.fsck.specs.declared.Test.{Test}
@@ -66,3 +69,16 @@ TablesAfter (Failed r) img s b₀ a₀ b a = Kept img b₀ a₀ b a
 abbrev pub TablesLeft : Checked → List ℕ → Anodes → List ℕ → List ℕ → List ℕ → List ℕ → Type 0
 TablesLeft (Accepted t) img s b₀ a₀ b a = Filled img s b₀ a₀ b a
 TablesLeft (Refused r) img s b₀ a₀ b a = Kept img b₀ a₀ b a
+
+-- five tables with an entry for each anode
+abbrev pub Sized : List ℕ → List ℕ → List ℕ → List ℕ → List ℕ → Type 0
+Sized counts firsts nexts queue parents =
+    (length counts ≡ limit) × (length firsts ≡ limit) × (length nexts ≡ limit) × (length queue ≡ limit) × (length parents ≡ limit)
+
+-- an accepted image's anodes in three tables, its reached directories and their parents in two
+abbrev pub Opened : Checked → List ℕ → List ℕ → List ℕ → List ℕ → List ℕ → List ℕ → Type 0
+Opened (Accepted t) img counts firsts nexts queue parents =
+    (anodesFrom counts firsts nexts ≡ anodesOf img)
+    × (queueOf queue parents (t .dirs) ≡ reachedDirs img (anodesOf img))
+    × Sized counts firsts nexts queue parents
+Opened (Refused r) img counts firsts nexts queue parents = Unit {0}

@@ -1,4 +1,4 @@
-// The check: every refusal of the rules in order, and both tables.
+// The check: every refusal of the rules in order, both tables, and what it loaded.
 ghost use mathlib.Core.Bool.{false};
 ghost use mathlib.Core.List.{[]};
 ghost use mathlib.Core.Path.{_≡_};
@@ -9,7 +9,7 @@ ghost use Rattle.rules.specs.Anodes.{anodesOf};
 ghost use Rattle.rules.specs.Accepted.{diskSize, wrongSize, wrongSlots, damageIn};
 ghost use Rattle.rules.specs.Calls.{outcomeOf, checkOutcome};
 ghost use Rattle.anodes.specs.Loaded.{anodesFrom};
-ghost use Rattle.fsck.specs.Answers.{checkedNumber, testNumber, Tallied, headerAnswer, spaceAnswer, TablesAfter, TablesLeft};
+ghost use Rattle.fsck.specs.Answers.{checkedNumber, testNumber, Tallied, headerAnswer, spaceAnswer, TablesAfter, TablesLeft, Sized, Opened};
 use anodes::load;
 use chains::fill_heads;
 use chains::out_of_range;
@@ -114,7 +114,7 @@ fn test_space(
     Test::Passed
 }
 
-// 6 to 16, over the loaded anodes; fills both tables, which come zeroed.
+// 6 to 16, over the loaded anodes; fills both tables, which come zeroed, and the queue.
 fn test_all(
     image: &[u8],
     counts: &[u16],
@@ -122,8 +122,10 @@ fn test_all(
     nexts: &[u16],
     blocks: &mut [u16],
     anodes: &mut [u16],
+    queue: &mut [u16],
+    parents: &mut [u16],
 ) -> Checked
-    requires { ⌜ (length (now counts) ≡ 3444) × (length (now firsts) ≡ 3444) × (length (now nexts) ≡ 3444) ⌝ }
+    requires { ⌜ Sized (now counts) (now firsts) (now nexts) (now queue) (now parents) ⌝ }
     requires { ⌜ anodesFrom (now counts) (now firsts) (now nexts) ≡ anodesOf (now image) ⌝ }
     requires { ⌜ (wrongSize (now image) ≡ false) × (wrongSlots (now image) ≡ false) × (diskSize (now image) ≤ length (now blocks)) × (3444 ≤ length (now anodes)) ⌝ }
     requires { ⌜ ((x : ℕ) → x < diskSize (now image) → getD (now blocks) x 0 ≡ 0) ⌝ }
@@ -131,12 +133,13 @@ fn test_all(
     ensures answer { λ r. ⌜ checkedNumber r ≡ damageIn (now (image .entry)) (anodesOf (now (image .entry))) ⌝ }
     ensures tally { λ r. ⌜ Tallied r (now (image .entry)) (anodesOf (now (image .entry))) ⌝ }
     ensures tables { λ r. ⌜ TablesLeft r (now (image .entry)) (anodesOf (now (image .entry))) (now (blocks .entry)) (now (anodes .entry)) (now (blocks .exit)) (now (anodes .exit)) ⌝ }
+    ensures opened { λ r. ⌜ Opened r (now (image .entry)) (now (counts .entry)) (now (firsts .entry)) (now (nexts .entry)) (now (queue .exit)) (now (parents .exit)) ⌝ }
 {
     let t = test_space(image, counts, firsts, nexts, blocks, anodes);
     if let Test::Failed(r) = t {
         return Checked::Refused(r);
     }
-    let w = walk_tree(image, counts, firsts, nexts, anodes);
+    let w = walk_tree(image, counts, firsts, nexts, anodes, queue, parents);
     match w {
         TreeRead::Counted(files, dirs) => {
             let free = chain_sum(counts, nexts, AnodeNo(1));
@@ -146,29 +149,48 @@ fn test_all(
     }
 }
 
-// 5 to 16; fills both tables, which come zeroed.
-fn examine(image: &[u8], blocks: &mut [u16], anodes: &mut [u16]) -> Checked
+// 5 to 16; fills both tables, which come zeroed, and loads the other five.
+fn examine(
+    image: &[u8],
+    blocks: &mut [u16],
+    anodes: &mut [u16],
+    counts: &mut [u16],
+    firsts: &mut [u16],
+    nexts: &mut [u16],
+    queue: &mut [u16],
+    parents: &mut [u16],
+) -> Checked
+    requires { ⌜ Sized (now counts) (now firsts) (now nexts) (now queue) (now parents) ⌝ }
     requires { ⌜ (wrongSize (now image) ≡ false) × (diskSize (now image) ≤ length (now blocks)) × (3444 ≤ length (now anodes)) ⌝ }
     requires { ⌜ ((x : ℕ) → x < diskSize (now image) → getD (now blocks) x 0 ≡ 0) ⌝ }
     requires { ⌜ ((a : ℕ) → a < 3444 → getD (now anodes) a 0 ≡ 0) ⌝ }
     ensures answer { λ r. ⌜ checkedNumber r ≡ (5 if wrongSlots (now (image .entry)) else damageIn (now (image .entry)) (anodesOf (now (image .entry)))) ⌝ }
     ensures tally { λ r. ⌜ Tallied r (now (image .entry)) (anodesOf (now (image .entry))) ⌝ }
     ensures tables { λ r. ⌜ TablesLeft r (now (image .entry)) (anodesOf (now (image .entry))) (now (blocks .entry)) (now (anodes .entry)) (now (blocks .exit)) (now (anodes .exit)) ⌝ }
+    ensures opened { λ r. ⌜ Opened r (now (image .entry)) (now (counts .exit)) (now (firsts .exit)) (now (nexts .exit)) (now (queue .exit)) (now (parents .exit)) ⌝ }
 {
     if wrong_slots(image) {
         return Checked::Refused(Refusal::AnodeBlock);
     }
-    let mut counts = [0u16; 3444];
-    let mut firsts = [0u16; 3444];
-    let mut nexts = [0u16; 3444];
-    load(image, &mut counts, &mut firsts, &mut nexts);
-    test_all(image, &counts, &firsts, &nexts, blocks, anodes)
+    load(image, counts, firsts, nexts);
+    test_all(image, counts, firsts, nexts, blocks, anodes, queue, parents)
 }
 
-// The whole check: the first refusal, or the tally of an accepted image; both tables as the rules say.
-pub fn check_disk(image: &[u8], blocks: &mut [u16], anodes: &mut [u16]) -> Checked
+// The whole check, and what it loaded: the anodes in three tables, the reached directories and their parents in two.
+pub fn open_disk(
+    image: &[u8],
+    blocks: &mut [u16],
+    anodes: &mut [u16],
+    counts: &mut [u16],
+    firsts: &mut [u16],
+    nexts: &mut [u16],
+    queue: &mut [u16],
+    parents: &mut [u16],
+) -> Checked
+    requires { ⌜ Sized (now counts) (now firsts) (now nexts) (now queue) (now parents) ⌝ }
     ensures outcome { λ r. ⌜ outcomeOf (checkedNumber r) (now (image .entry)) (now (blocks .exit)) (now (anodes .exit)) [] [] ≡ checkOutcome (now (image .entry)) (now (blocks .entry)) (now (anodes .entry)) ⌝ }
     ensures tally { λ r. ⌜ Tallied r (now (image .entry)) (anodesOf (now (image .entry))) ⌝ }
+    ensures opened { λ r. ⌜ Opened r (now (image .entry)) (now (counts .exit)) (now (firsts .exit)) (now (nexts .exit)) (now (queue .exit)) (now (parents .exit)) ⌝ }
 {
     let t = test_header(image, blocks.len(), anodes.len());
     if let Test::Failed(r) = t {
@@ -177,10 +199,32 @@ pub fn check_disk(image: &[u8], blocks: &mut [u16], anodes: &mut [u16]) -> Check
     let n = disk_size(image);
     zero_first(blocks, n);
     zero_first(anodes, 3444);
-    let c = examine(image, blocks, anodes);
+    let c = examine(image, blocks, anodes, counts, firsts, nexts, queue, parents);
     if let Checked::Refused(_) = c {
         zero_first(blocks, n);
         zero_first(anodes, 3444);
     }
     c
+}
+
+// The whole check: the first refusal, or the tally of an accepted image; both tables as the rules say.
+pub fn check_disk(image: &[u8], blocks: &mut [u16], anodes: &mut [u16]) -> Checked
+    ensures outcome { λ r. ⌜ outcomeOf (checkedNumber r) (now (image .entry)) (now (blocks .exit)) (now (anodes .exit)) [] [] ≡ checkOutcome (now (image .entry)) (now (blocks .entry)) (now (anodes .entry)) ⌝ }
+    ensures tally { λ r. ⌜ Tallied r (now (image .entry)) (anodesOf (now (image .entry))) ⌝ }
+{
+    let mut counts = [0u16; 3444];
+    let mut firsts = [0u16; 3444];
+    let mut nexts = [0u16; 3444];
+    let mut queue = [0u16; 3444];
+    let mut parents = [0u16; 3444];
+    open_disk(
+        image,
+        blocks,
+        anodes,
+        &mut counts,
+        &mut firsts,
+        &mut nexts,
+        &mut queue,
+        &mut parents,
+    )
 }

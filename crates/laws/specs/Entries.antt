@@ -155,15 +155,15 @@ module _ (s t : Anodes) (φ : Entered → Entered) (guard : Item → ℕ) (guard
 
   module _ (entries entries′ : ℕ → List Entered) (marked marked′ : Dir → ℕ → Bool) (d : Dir) where
     -- one anode of the directory
-    at-alike : (a : ℕ) → Alike s t a → (s .count a ≡ 1 → (entries′ (s .block a) ≡ map φ (entries (s .block a))) × (marked′ d (s .block a) ≡ marked d (s .block a))) →
+    pub at-alike : (a : ℕ) → t .count a ≡ s .count a → t .block a ≡ s .block a → (s .count a ≡ 1 → (entries′ (s .block a) ≡ map φ (entries (s .block a))) × (marked′ d (s .block a) ≡ marked d (s .block a))) →
         sumList guard (itemsAt entries marked s d a) ≡ 0 →
         ((w : Bool → ℕ → ℕ) → sumList (λ j. w (j .dir) (j .anode)) (itemsAt entries′ marked′ t d a) ≡ sumList (λ j. w (j .dir) (j .anode)) (itemsAt entries marked s d a))
         × (sumList wrong (itemsAt entries′ marked′ t d a) ≡ 0)
-    at-alike a e cont z = elim (itemsAt-cases entries marked s d a) [
+    at-alike a e b cont z = elim (itemsAt-cases entries marked s d a) [
       | inr q ↦ absurd (guard-broken (omega (arith, rw q at z, list-one guard broken)))
       | inl q ↦ (let k = cont (q .0) in
           let there : itemsAt entries′ marked′ t d a ≡ map (itemOf t) (map φ (entries (s .block a)))
-          = itemsAt-whole entries′ marked′ t d a (e .same-count ∙ q .0) (rw (e .same-block, k .1) (q .1)) ∙ ap (map (itemOf t)) (ap entries′ (e .same-block) ∙ k .0) in
+          = itemsAt-whole entries′ marked′ t d a (e ∙ q .0) (rw (b, k .1) (q .1)) ∙ ap (map (itemOf t)) (ap entries′ b ∙ k .0) in
           let fine : sumList guard (map (itemOf s) (entries (s .block a))) ≡ 0 = rw (q .2) at z in
           rw (there, q .2) (entries-alike (entries (s .block a)) fine, entries-fine (entries (s .block a)) fine))
     ]
@@ -176,10 +176,10 @@ module _ (s t : Anodes) (φ : Entered → Entered) (guard : Item → ℕ) (guard
       λ w. items-sum entries′ marked′ t d (λ j. w (j .dir) (j .anode)) ∙ ap (sumList (λ a. sumList (λ j. w (j .dir) (j .anode)) (itemsAt entries′ marked′ t d a))) same
           ∙ kept-sum-where (λ a. sumList guard (itemsAt entries marked s d a)) (λ a. sumList (λ j. w (j .dir) (j .anode)) (itemsAt entries marked s d a))
           (λ a. sumList (λ j. w (j .dir) (j .anode)) (itemsAt entries′ marked′ t d a)) (chainOf (s .next) limit (d .head)) (sym (items-sum entries marked s d guard) ∙ z)
-          (λ a k q. at-alike a (on a k) (cont a k) q .0 w)
+          (λ a k q. at-alike a (on a k .same-count) (on a k .same-block) (cont a k) q .0 w)
           ∙ sym (items-sum entries marked s d (λ j. w (j .dir) (j .anode))),
       items-sum entries′ marked′ t d wrong ∙ ap (sumList (λ a. sumList wrong (itemsAt entries′ marked′ t d a))) same
           ∙ kept-sum-where (λ a. sumList guard (itemsAt entries marked s d a)) (λ a. 0) (λ a. sumList wrong (itemsAt entries′ marked′ t d a)) (chainOf (s .next) limit (d .head))
-          (sym (items-sum entries marked s d guard) ∙ z) (λ a k q. at-alike a (on a k) (cont a k) q .1)
+          (sym (items-sum entries marked s d guard) ∙ z) (λ a k q. at-alike a (on a k .same-count) (on a k .same-block) (cont a k) q .1)
           ∙ list-zero {X = ℕ} (λ a. 0) (chainOf (s .next) limit (d .head)) (λ a. refl),
     )

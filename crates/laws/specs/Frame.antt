@@ -47,7 +47,7 @@ pub record Shift (s : Anodes) (hd : ℕ → ℕ) (t : Anodes) (hd′ : ℕ → �
 
 module _ {A : ℕ} {ex : ℕ → Bool} {n last : ℕ} {s : Anodes} {system hd sd : ℕ → ℕ} (g : Good A ex n last s system hd sd) where
   -- a chain none of whose anodes is touched
-  chain-kept : {t : Anodes} {system′ hd′ sd′ : ℕ → ℕ} → Good A ex n last t system′ hd′ sd′ → (m : ℕ) → Head (s .next) (s .block) m → Head (t .next) (t .block) m →
+  pub chain-kept : {t : Anodes} {system′ hd′ sd′ : ℕ → ℕ} → Good A ex n last t system′ hd′ sd′ → (m : ℕ) → Head (s .next) (s .block) m → Head (t .next) (t .block) m →
       ((a : ℕ) → 0 < times a (chainOf (s .next) A m) → Alike s t a) → chainOf (t .next) A m ≡ chainOf (s .next) A m
   chain-kept {t} g′ m d d′ h =
       chain-the (g′ .view) (g′ .linked) m (chainOf (s .next) A m) (λ q. d′ .in-use)

@@ -125,6 +125,11 @@ module _ {A : ℕ} {ex : ℕ → Bool} {n last : ℕ} {s : Anodes} (system : ℕ
       appended : (t : Anodes) (ys : List ℕ) → append A ex last s end y ≡ planned t ys → Placed A ex n last s system hd (hd end) y t × (ys ≡ y ∷ [])
       appended = append-placed system y g y0 yn end e0 u high low
 
+  -- the last anode of the block's side is on the free list
+  pub side-last-head : hd (lastOf (sideOf A ex last y) (side A s (sideOf A ex last y))) ≡ 1
+  unfolding end
+  side-last-head = e-head
+
   pub release-placed : (t : Anodes) (ys : List ℕ) → release A ex last s y ≡ planned t ys → Placed A ex n last s system hd 1 y t × (ys ≡ y ∷ [])
   unfolding release end
   release-placed t ys e = rw e-head at (join-placed t ys e)

@@ -31,7 +31,7 @@ pub record OneOwner (img : List ℕ) : Type 0 where
   pub systems : (h : ℕ) → heads limit (anodesOf img .next) (anodesOf img .block) h ≡ 1 → h < 6 → (h ≡ 1) ⊎ ((h ≡ 3) ⊎ ((h ≡ 4) ⊎ (h ≡ 5)))
 
 -- the anodes that the items of some directories name
-naming-sum : (items : Dir → List Item) (x : ℕ) (dirs : List Dir) → times x (map (λ i. i .anode) (gather items dirs)) ≡ sumList (namedIn items x) dirs
+pub naming-sum : (items : Dir → List Item) (x : ℕ) (dirs : List Dir) → times x (map (λ i. i .anode) (gather items dirs)) ≡ sumList (namedIn items x) dirs
 naming-sum items x dirs =
     names-sum x (gather items dirs) ∙ gather-sum items (λ i. oneAt (i .anode) x) dirs
     ∙ list-congr (λ d. sumList (λ i. oneAt (i .anode) x) (items d)) (namedIn items x) dirs (λ d. sym (names-sum x (items d)))

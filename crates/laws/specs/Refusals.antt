@@ -20,10 +20,10 @@ use Rattle.laws.specs.Sides.{side-head}
 use Rattle.laws.specs.Searches.{firstFull-none}
 use Rattle.laws.specs.Arriving.{append-cases, refused≢planned}
 
-refused-same : (j k : ℕ) → refused j ≡ refused k → j ≡ k
+pub refused-same : (j k : ℕ) → refused j ≡ refused k → j ≡ k
 refused-same j k e = cc
 
-planned≢refused : (t : Anodes) (ys : List ℕ) (k : ℕ) → planned t ys ≡ refused k → ⊥
+pub planned≢refused : (t : Anodes) (ys : List ℕ) (k : ℕ) → planned t ys ≡ refused k → ⊥
 planned≢refused t ys k e = refused≢planned k t ys (sym e)
 
 module _ (A : ℕ) (ex : ℕ → Bool) (last : ℕ) where

@@ -1,44 +1,125 @@
--- A file removed: its chain has no block any more, its entry goes, and its anodes are zeroed.
+-- An entry removed: it goes, and so does the chain that it names, which has given back its blocks. A directory that goes has no entry.
 use Prim.Native.Nat.{ℕ, _+_, _*_, _≤_, _<_}
-use mathlib.Core.Path.{_≡_, refl, sym, ap, _∙_}
+use mathlib.Core.Path.{_≡_, refl, sym, ap, _∙_, subst}
 use mathlib.Core.Logic.{_≢_, inl, inr}
-use mathlib.Core.Bool.{Bool, false}
-use mathlib.Core.List.{List, [], _∷_, map}
+use mathlib.Core.Bool.{Bool, true, false}
+use mathlib.Core.List.{List, [], _∷_, _++_, map-id, append-eq-nil-iff}
 use native.Mathlib.Omega.{arith}
-use lib.Dec.{T}
-use Rattle.rules.specs.Counting.{oneAt, sumList}
+use Rattle.rules.specs.Counting.{oneAt, sumList, times, gather}
 use Rattle.rules.specs.Anodes.{limit, Anodes}
 use Rattle.rules.specs.Chains.{chainOf}
 use Rattle.rules.specs.Walk.{Dir, root, Entered, Item, itemOf, broken, itemsAt, itemsBy}
 use Rattle.rules.specs.Space.{onChain, dropped}
-use Rattle.laws.specs.Sums.{oneAt-same, oneAt-other}
-use Rattle.laws.specs.Bags.{list-one, list-add, list-mono}
-use Rattle.laws.specs.Links.{the-chain, chain-the}
+use Rattle.laws.specs.Tests.{same?, less?}
+use Rattle.laws.specs.Sums.{oneAt-same, oneAt-other, sum-none}
+use Rattle.laws.specs.Bags.{list-nil, list-cons, list-append, list-one, list-add, list-mono}
 use Rattle.laws.specs.Heads.{Head}
-use Rattle.laws.specs.LinkChanges.{without, without-cases, drop-apart}
+use Rattle.laws.specs.Blocks.{blocks}
+use Rattle.laws.specs.LinkChanges.{without, without-cases}
 use Rattle.laws.specs.HeadChanges.{drop-head-was}
-use Rattle.laws.specs.Space.{Alike, Good, on-chain, dead-head, head-dead, dead-along, drop-good}
-use Rattle.laws.specs.Frame.{kept-count}
-use Rattle.laws.specs.Each.{Each, each-map, each-both, list-congr-each, each-zero}
+use Rattle.laws.specs.Space.{Alike, alike-trans, Good, on-chain, dead-head, head-dead, dead-along, drop-good}
+use Rattle.laws.specs.Frame.{kept-count, chain-kept}
+use Rattle.laws.specs.Each.{Each, each-map, each-both, each-right, list-congr-each, each-zero}
 use Rattle.laws.specs.Items.{wrong, weighItem, names-sum, below, namedIn, faults, subs-named}
 use Rattle.laws.specs.Trees.{Tree}
-use Rattle.laws.specs.TreeChanges.{headed, none-headed, Gain, sum-named, remove-file, AlikeItems, alike-named, alike-tree}
+use Rattle.laws.specs.TreeChanges.{headed, none-headed, Gain, sum-named, dir-there, remove-file, remove-dir, AlikeItems, alike-named, alike-tree}
 use Rattle.laws.specs.Entries.{weighEntry, broken-wrong, item-fine, fine-item, item-anode, item-dir, asEntry, weigh-item, entries-sum, items-sum, itemsAt-cases, itemsAt-whole, items-alike}
 use Rattle.laws.specs.Whole.{Whole, head-counts, counts-head, on-dir, dir-heads, named-heads}
 use Rattle.laws.specs.Make.{one-more}
+use Rattle.laws.specs.Resize.{Ran}
 
-map-id : (l : List Entered) → l ≡ map (λ (e : Entered). e) l
-map-id [] = refl
-map-id (e ∷ l) = ap (λ (m : List Entered). e ∷ m) (map-id l)
+each-less : (P : Dir → Type 0) (l₁ : List Dir) (d : Dir) (l₂ : List Dir) → Each P (l₁ ++ (d ∷ l₂)) → Each P (l₁ ++ l₂)
+each-less P [] d l₂ e = e .1
+each-less P (c ∷ l₁) d l₂ e = (e .0, each-less P l₁ d l₂ (e .1))
 
--- e names h, and is gone from the block of the anode a₀ of the directory h₀
+-- a directory with nothing wrong and no entry has no item
+no-items : (entries : ℕ → List Entered) (marked : Dir → ℕ → Bool) (s : Anodes) (d : Dir) → sumList wrong (itemsBy entries marked s d) ≡ 0 →
+    gather (λ a. entries (s .block a)) (chainOf (s .next) limit (d .head)) ≡ [] → itemsBy entries marked s d ≡ []
+unfolding itemsBy gather
+no-items entries marked s d z none = each (chainOf (s .next) limit (d .head)) (sym (items-sum entries marked s d wrong) ∙ z) none
+  where
+    each : (l : List ℕ) → sumList (λ a. sumList wrong (itemsAt entries marked s d a)) l ≡ 0 → gather (λ a. entries (s .block a)) l ≡ [] → gather (itemsAt entries marked s d) l ≡ []
+    each [] z none = refl
+    each (a ∷ l) z none =
+        let both = append-eq-nil-iff {p = entries (s .block a)} {q = gather (λ a. entries (s .block a)) l} .0 none in
+        let right = list-cons (λ a. sumList wrong (itemsAt entries marked s d a)) a l in
+        elim (itemsAt-cases entries marked s d a) [
+          | inl k ↦ rw (k .2, both .0) (each l (omega arith) (both .1))
+          | inr k ↦ absurd (omega (arith, rw k at right, list-one wrong broken, broken-wrong))
+        ]
+
+-- ---- a chain goes
+
+-- from s to t: h's chain is gone, and of the others only 1's is touched
+pub record Gone (s : Anodes) (hd : ℕ → ℕ) (t : Anodes) (h : ℕ) : Type 0 where
+  pub stays : (m : ℕ) → m ≢ h → Head (s .next) (s .block) m → Head (t .next) (t .block) m
+  pub was : (m : ℕ) → Head (t .next) (t .block) m → (m ≢ h) × Head (s .next) (s .block) m
+  pub apart : (a : ℕ) → s .block a ≢ 0 → hd a ≢ 1 → hd a ≢ h → Alike s t a
+
+-- after steps on the chain of h that leave it no block, it is dropped
+module _ {ex : ℕ → Bool} {n last : ℕ} {s : Anodes} {system hd : ℕ → ℕ} (h : ℕ) (h6 : 6 ≤ h) (d : Head (s .next) (s .block) h) {ys : List ℕ} {t : Anodes}
+    (ran : Ran limit ex n last s system hd h 1 h 0 ys t) where
+  abbrev hd′ : ℕ → ℕ
+  hd′ = ran .hd′
+
+  abbrev left : Anodes
+  left = dropped limit ex last t h
+
+  abbrev dead : ℕ → Bool
+  dead = onChain limit ex last t h
+
+  still : Head (t .next) (t .block) h
+  still = ran .shift .stays h d
+
+  none : (a : ℕ) → hd′ a ≡ h → t .count a ≡ 0
+  unfolding blocks
+  none a q = elim (less? a limit) [
+    | inl l ↦ omega (arith, sum-none (λ b. oneAt (hd′ b) h * t .count b) limit (ran .has) a l, ap (λ (k : ℕ). k * t .count a) (oneAt-same (hd′ a) h q))
+    | inr l ↦ elim (same? (t .block a) 0) [ inl z ↦ ran .good .free-none a z | inr u ↦ absurd (omega (arith, l, ran .good .view .below a u)) ]
+  ]
+
+  pub dropped-good : Good limit ex n last left system (without dead hd′) (without dead (ran .sd′))
+  dropped-good = drop-good (ran .good) h h6 still none
+
+  alive : (F : ℕ → ℕ) (a : ℕ) → hd′ a ≢ h → without dead F a ≡ F a
+  alive F a q = elim (without-cases dead F a) [ inl i ↦ absurd (q (dead-head (ran .good) h h6 still none a (i .0))) | inr i ↦ i .1 ]
+
+  alike : (a : ℕ) → hd′ a ≢ h → Alike t left a
+  unfolding dropped without
+  alike a q = record { same-count = alive (t .count) a q; same-block = alive (t .block) a q; same-next = alive (t .next) a q }
+
+  pub dropped-gone : Gone s hd left h
+  unfolding dropped without
+  dropped-gone = record {
+    stays = λ m q i. let j = ran .shift .stays m i in
+        record {
+          pos = j .pos;
+          in-use = rw (alive (t .block) m (λ k. q (sym (ran .good .heads .at-head m j) ∙ k))) (j .in-use);
+          no-pred = λ p k. elim (without-cases dead (t .next) p) [ inl c ↦ j .pos (sym k ∙ c .1) | inr c ↦ j .no-pred p (sym (c .1) ∙ k) ];
+        };
+    was = λ m i. let k = drop-head-was (ran .good .view) (ran .good .linked) hd′ (ran .good .heads) dead (dead-along (ran .good) h h6 still none) m i in
+        (λ q. k .0 (head-dead (ran .good) h h6 still none m (ran .good .heads .at-head m (k .1) ∙ q)), ran .shift .no-new m (k .1));
+    apart = λ a u q i. alike-trans (ran .shift .apart a u q i) (alike a (λ k. i (sym (ran .shift .same-hd a u q i) ∙ k)));
+  }
+
+-- every other chain but 1's is the same
+module _ {ex : ℕ → Bool} {n last : ℕ} {s t : Anodes} {system hd sd hd′ sd′ : ℕ → ℕ} (g : Good limit ex n last s system hd sd) (g′ : Good limit ex n last t system hd′ sd′)
+    (h : ℕ) (gone : Gone s hd t h) (m : ℕ) (m1 : m ≢ 1) (mh : m ≢ h) (d : Head (s .next) (s .block) m) where
+  pub gone-alike : (a : ℕ) → 0 < times a (chainOf (s .next) limit m) → Alike s t a
+  gone-alike a k = let o = on-chain g m d a k in gone .apart a (o .1) (λ i. m1 (sym (o .0) ∙ i)) (λ i. mh (sym (o .0) ∙ i))
+
+  pub gone-chain : chainOf (t .next) limit m ≡ chainOf (s .next) limit m
+  gone-chain = chain-kept g g′ m d (gone .stays m mh d) gone-alike
+
+-- ---- the entry goes while the chain is still there
+
+-- e names h, and is gone from the block of the anode a₀ of the directory h₀; if it names a directory, that has no entry
 module _ {ex : ℕ → Bool} {n last : ℕ} {s : Anodes} {system hd sd : ℕ → ℕ} {entries : ℕ → List Entered} {marked : Dir → ℕ → Bool} {dirs : List Dir}
-    (w : Whole ex n last s system hd sd entries marked dirs) (e : Entered) (file : e .dir ≡ false) (h : ℕ) (names-h : e .anode ≡ h)
+    (w : Whole ex n last s system hd sd entries marked dirs) (e : Entered) (h : ℕ) (names-h : e .anode ≡ h)
     (a₀ h₀ : ℕ) (reached : headed h₀ dirs ≡ 1) (at₀ : hd a₀ ≡ h₀) (entries′ : ℕ → List Entered)
     (cont : (a : ℕ) → s .count a ≡ 1 → hd a ≢ 1 → (v : Bool → Bool → ℕ → ℕ → ℕ) →
-    sumList (weighEntry v) (entries (s .block a)) ≡ sumList (weighEntry v) (entries′ (s .block a)) + oneAt a a₀ * weighEntry v e) where
-  -- ---- the entry goes while the chain is still there
-
+    sumList (weighEntry v) (entries (s .block a)) ≡ sumList (weighEntry v) (entries′ (s .block a)) + oneAt a a₀ * weighEntry v e)
+    (empty : e .dir ≡ true → gather (λ a. entries (s .block a)) (chainOf (s .next) limit h) ≡ []) where
   abbrev items : Dir → List Item
   items = itemsBy entries marked s
 
@@ -65,121 +146,168 @@ module _ {ex : ℕ → Bool} {n last : ℕ} {s : Anodes} {system hd sd : ℕ →
   gains = each-both (λ d. Head (s .next) (s .block) (d .head) × (d .head ≢ 1)) (λ d. faults items d ≡ 0) (Gain between items h₀ (itemOf s e)) dirs
       gain (dir-heads w) (each-zero (faults items) dirs (w .tree .faultless))
 
-  tree-between : Tree between root dirs
-  tree-between = remove-file items between h₀ (itemOf s e) root dirs reached gains (w .tree) (item-dir s e ∙ file)
-
   named-less : (x : ℕ) → sumList (namedIn items x) dirs ≡ sumList (namedIn between x) dirs + oneAt h x
   named-less x = sum-named between items h₀ (itemOf s e) dirs reached gains x ∙ ap (λ (a : ℕ). sumList (namedIn between x) dirs + oneAt a x) (item-anode s e ∙ names-h)
-
-  unnamed : sumList (namedIn between h) dirs ≡ 0
-  unnamed = omega (arith, named-less h, w .tree .once h, oneAt-same h h refl)
 
   head-h : (6 ≤ h) × (h < limit) × Head (s .next) (s .block) h
   head-h = named-heads w h (omega (arith, named-less h, oneAt-same h h refl))
 
-  not-h : Each (λ d. d .head ≢ h) dirs
-  not-h = none-headed h dirs (omega (
+  -- the directories that are left
+  record Rest : Type 1 where
+    dirs′ : List Dir
+    tree : Tree between root dirs′
+    each : (P : Dir → Type 0) → Each P dirs → Each P dirs′
+    names : (x : ℕ) → sumList (namedIn between x) dirs′ ≡ sumList (namedIn between x) dirs
+    heads : (x : ℕ) → x ≢ h → headed x dirs′ ≡ headed x dirs
+
+  rest-file : e .dir ≡ false → Rest
+  rest-file file = record {
+    dirs′ = dirs;
+    tree = remove-file items between h₀ (itemOf s e) root dirs reached gains (w .tree) (item-dir s e ∙ file);
+    each = λ P p. p;
+    names = λ x. refl;
+    heads = λ x q. refl;
+  }
+
+  rest-dir : e .dir ≡ true → Rest
+  unfolding headed
+  rest-dir isdir = record {
+    dirs′ = l₁ ++ l₂;
+    tree = remove-dir items between h₀ (itemOf s e) root l₁ l₂ (rw parted at reached) (rw parted at gains) (rw parted at (w .tree)) (item-dir s e ∙ isdir) none-in;
+    each = λ P p. each-less P l₁ c l₂ (subst (Each P) parted p);
+    names = λ x. omega (arith, split (namedIn between x), gone-named x);
+    heads = λ x q. omega (arith, split (λ d. oneAt (d .head) x), oneAt-other (c .head) x (λ i. q (sym i ∙ is-h)));
+  }
+    where
+      is-h : (itemOf s e) .anode ≡ h
+      is-h = item-anode s e ∙ names-h
+
+      there : (l₁ : List Dir) × (l₂ : List Dir) × (dirs ≡ l₁ ++ (record { head = (itemOf s e) .anode; parent = h₀ } ∷ l₂))
+      there = dir-there items between h₀ (itemOf s e) root dirs reached gains (w .tree) (item-dir s e ∙ isdir)
+
+      l₁ : List Dir
+      l₁ = there .0
+
+      l₂ : List Dir
+      l₂ = there .1
+
+      c : Dir
+      c = record { head = (itemOf s e) .anode; parent = h₀ }
+
+      parted : dirs ≡ l₁ ++ (c ∷ l₂)
+      parted = there .2
+
+      none-in : items c ≡ []
+      none-in = no-items entries marked s c
+          (each-right (λ d. faults items d ≡ 0) l₁ (c ∷ l₂) (subst (Each (λ d. faults items d ≡ 0)) parted (each-zero (faults items) dirs (w .tree .faultless))) .0) (rw is-h (empty isdir))
+
+      split : (f : Dir → ℕ) → sumList f dirs ≡ sumList f (l₁ ++ l₂) + f c
+      split f = ap (sumList f) parted ∙ omega (arith, list-append f l₁ (c ∷ l₂), list-append f l₁ l₂, list-cons f c l₂)
+
+      gone-named : (x : ℕ) → namedIn between x c ≡ 0
+      gone-named x = omega (
+        arith,
+        names-sum x (between c),
+        each-right (Gain between items h₀ (itemOf s e)) l₁ (c ∷ l₂) (subst (Each (Gain between items h₀ (itemOf s e))) parted gains) .0 (λ f b a. oneAt a x),
+        ap (sumList (λ i. oneAt (i .anode) x)) none-in,
+        list-nil {X = Item} (λ i. oneAt (i .anode) x),
+      )
+
+  rest : Rest
+  rest = go (e .dir) refl
+    where
+      go : (b : Bool) → e .dir ≡ b → Rest
+      go true q = rest-dir q
+      go false q = rest-file q
+
+  unnamed : sumList (namedIn between h) (rest .dirs′) ≡ 0
+  unnamed = omega (arith, rest .names h, named-less h, w .tree .once h, oneAt-same h h refl)
+
+  not-h : Each (λ d. d .head ≢ h) (rest .dirs′)
+  not-h = none-headed h (rest .dirs′) (omega (
     arith,
-    tree-between .exact (λ d. oneAt (d .head) h),
+    rest .tree .exact (λ d. oneAt (d .head) h),
     oneAt-other 5 h (λ q. omega (arith, q, head-h .0)),
     unnamed,
-    list-mono (below between (λ c. oneAt (c .head) h)) (namedIn between h) dirs (λ d. subs-named between h d),
+    list-mono (below between (λ c. oneAt (c .head) h)) (namedIn between h) (rest .dirs′) (λ d. subs-named between h d),
   ))
 
   -- ---- the chain goes, which nothing names
 
-  module _ (none : (a : ℕ) → hd a ≡ h → s .count a ≡ 0) where
-    abbrev dead : ℕ → Bool
-    dead = onChain limit ex last s h
+  module _ {ys : List ℕ} {t : Anodes} (ran : Ran limit ex n last s system hd h 1 h 0 ys t) (marked′ : Dir → ℕ → Bool)
+      (same-marks : (a : ℕ) → s .count a ≡ 1 → hd a ≢ 1 → (d : Dir) → marked′ d (s .block a) ≡ marked d (s .block a)) where
+    abbrev end : Anodes
+    end = dropped limit ex last t h
 
-    abbrev left : Anodes
-    left = dropped limit ex last s h
+    abbrev items′ : Dir → List Item
+    items′ = itemsBy entries′ marked′ end
 
-    good : Good limit ex n last left system (without dead hd) (without dead sd)
-    good = drop-good (w .good) h (head-h .0) (head-h .2) none
+    good : Good limit ex n last end system (without (onChain limit ex last t h) (ran .hd′)) (without (onChain limit ex last t h) (ran .sd′))
+    good = dropped-good h (head-h .0) (head-h .2) ran
 
-    dead-is : (a : ℕ) → T (dead a) → hd a ≡ h
-    dead-is = dead-head (w .good) h (head-h .0) (head-h .2) none
+    gone : Gone s hd end h
+    gone = dropped-gone h (head-h .0) (head-h .2) ran
 
-    along : (a : ℕ) → s .next a ≢ 0 → dead (s .next a) ≡ dead a
-    along = dead-along (w .good) h (head-h .0) (head-h .2) none
+    same-chain : (m : ℕ) → m ≢ 1 → m ≢ h → Head (s .next) (s .block) m → chainOf (end .next) limit m ≡ chainOf (s .next) limit m
+    same-chain = gone-chain (w .good) good h gone
 
-    alive : (F : ℕ → ℕ) (a : ℕ) → hd a ≢ h → without dead F a ≡ F a
-    alive F a q = elim (without-cases dead F a) [ inl i ↦ absurd (q (dead-is a (i .0))) | inr i ↦ i .1 ]
-
-    like-a : (a : ℕ) → hd a ≢ h → Alike s left a
-    unfolding dropped without
-    like-a a q = record { same-count = alive (s .count) a q; same-block = alive (s .block) a q; same-next = alive (s .next) a q }
-
-    stays : (m : ℕ) → m ≢ h → Head (s .next) (s .block) m → Head (left .next) (left .block) m
-    unfolding dropped without
-    stays m q d = record {
-      pos = d .pos;
-      in-use = rw (alive (s .block) m (λ i. q (sym (w .good .heads .at-head m d) ∙ i))) (d .in-use);
-      no-pred = λ p i. elim (without-cases dead (s .next) p) [ inl k ↦ d .pos (sym i ∙ k .1) | inr k ↦ d .no-pred p (sym (k .1) ∙ i) ];
-    }
-
-    was : (m : ℕ) → Head (left .next) (left .block) m → (m ≢ h) × Head (s .next) (s .block) m
-    unfolding dropped without
-    was m d =
-        let k = drop-head-was (w .good .view) (w .good .linked) hd (w .good .heads) dead along m d in
-        (λ i. k .0 (head-dead (w .good) h (head-h .0) (head-h .2) none m (w .good .heads .at-head m (k .1) ∙ i)), k .1)
-
-    same-chain : (m : ℕ) → m ≢ h → Head (s .next) (s .block) m → chainOf (left .next) limit m ≡ chainOf (s .next) limit m
-    unfolding dropped without
-    same-chain m q d = chain-the (good .view) (good .linked) m (chainOf (s .next) limit m) (λ i. stays m q d .in-use)
-        (drop-apart (w .good .view) (w .good .linked) dead along m 0 (chainOf (s .next) limit m) (the-chain (w .good .view) (w .good .linked) m (λ i. d .in-use))
-        (λ x k i. q (sym (on-chain (w .good) m d x k .0) ∙ dead-is x i)))
+    like-a : (m : ℕ) → m ≢ 1 → m ≢ h → Head (s .next) (s .block) m → (a : ℕ) → 0 < times a (chainOf (s .next) limit m) → Alike s end a
+    like-a = gone-alike (w .good) good h gone
 
     -- what is wrong, or names h
     guard : Item → ℕ
     guard i = wrong i + oneAt (i .anode) h
 
-    like : (j : Entered) → guard (itemOf s j) ≡ 0 → (j .dir ≡ j .dir) × (j .anode ≡ j .anode) × (wrong (itemOf left j) ≡ 0)
+    like : (j : Entered) → guard (itemOf s j) ≡ 0 → (j .dir ≡ j .dir) × (j .anode ≡ j .anode) × (wrong (itemOf end j) ≡ 0)
     unfolding guard
     like j z =
         let f = item-fine s j (omega arith) in
         let jh : j .anode ≢ h = λ q. omega (arith, z, oneAt-same ((itemOf s j) .anode) h (item-anode s j ∙ q)) in
+        let j1 : j .anode ≢ 1 = λ q. omega (arith, q, f .1) in
         let d = counts-head (w .good) (j .anode) (f .2) in (
           refl,
           refl,
-          fine-item left j (f .0) (f .1) (head-counts good (j .anode) (stays (j .anode) jh d))
+          fine-item end j (f .0) (f .1) (head-counts good (j .anode) (gone .stays (j .anode) jh d))
               (elim (f .3) [
                 | inl q ↦ inl q
-                | inr q ↦ inr (kept-count s left (j .anode) (same-chain (j .anode) jh d) (λ a k. like-a a (λ i. jh (sym (on-chain (w .good) (j .anode) d a k .0) ∙ i)) .same-count) ∙ q)
+                | inr q ↦ inr (kept-count s end (j .anode) (same-chain (j .anode) j1 jh d) (λ a k. like-a (j .anode) j1 jh d a k .same-count) ∙ q)
               ]),
         )
 
-    module _ (marked′ : Dir → ℕ → Bool) (same-marks : (a : ℕ) → s .count a ≡ 1 → hd a ≢ 1 → (d : Dir) → marked′ d (s .block a) ≡ marked d (s .block a)) where
-      abbrev items′ : Dir → List Item
-      items′ = itemsBy entries′ marked′ left
+    one : (d : Dir) → Head (s .next) (s .block) (d .head) × (d .head ≢ 1) → (faults between d ≡ 0) × (d .head ≢ h) × (namedIn between h d ≡ 0) → AlikeItems between items′ d
+    unfolding guard
+    one d p q = items-alike s end (λ j. j) guard (λ z. omega (arith, z, broken-wrong)) like entries′ entries′ marked marked′ d
+        (same-chain (d .head) (p .1) (q .1) (p .0)) (like-a (d .head) (p .1) (q .1) (p .0))
+        (λ a k c. (sym (map-id (entries′ (s .block a))), same-marks a c (λ i. p .1 (sym (on-chain (w .good) (d .head) (p .0) a k .0) ∙ i)) d))
+        (list-add wrong (λ i. oneAt (i .anode) h) (between d) ∙ omega (arith, q .0, q .2, names-sum h (between d)))
 
-      one : (d : Dir) → Head (s .next) (s .block) (d .head) × (d .head ≢ 1) → (faults between d ≡ 0) × (d .head ≢ h) × (namedIn between h d ≡ 0) → AlikeItems between items′ d
-      unfolding guard
-      one d p q = items-alike s left (λ j. j) guard (λ z. omega (arith, z, broken-wrong)) like entries′ entries′ marked marked′ d
-          (same-chain (d .head) (q .1) (p .0))
-          (λ a k. like-a a (λ i. q .1 (sym (on-chain (w .good) (d .head) (p .0) a k .0) ∙ i)))
-          (λ a k c. (map-id (entries′ (s .block a)), same-marks a c (λ i. p .1 (sym (on-chain (w .good) (d .head) (p .0) a k .0) ∙ i)) d))
-          (list-add wrong (λ i. oneAt (i .anode) h) (between d) ∙ omega (arith, q .0, q .2, names-sum h (between d)))
+    alikes : Each (AlikeItems between items′) (rest .dirs′)
+    alikes = each-both (λ d. Head (s .next) (s .block) (d .head) × (d .head ≢ 1)) (λ d. (faults between d ≡ 0) × (d .head ≢ h) × (namedIn between h d ≡ 0)) (AlikeItems between items′) (rest .dirs′)
+        one (rest .each (λ d. Head (s .next) (s .block) (d .head) × (d .head ≢ 1)) (dir-heads w))
+        (each-both (λ d. faults between d ≡ 0) (λ d. (d .head ≢ h) × (namedIn between h d ≡ 0)) (λ d. (faults between d ≡ 0) × (d .head ≢ h) × (namedIn between h d ≡ 0)) (rest .dirs′)
+        (λ d a b. (a, b .0, b .1)) (each-zero (faults between) (rest .dirs′) (rest .tree .faultless))
+        (each-both (λ d. d .head ≢ h) (λ d. namedIn between h d ≡ 0) (λ d. (d .head ≢ h) × (namedIn between h d ≡ 0)) (rest .dirs′) (λ d a b. (a, b)) not-h
+        (each-zero (namedIn between h) (rest .dirs′) unnamed)))
 
-      alikes : Each (AlikeItems between items′) dirs
-      alikes = each-both (λ d. Head (s .next) (s .block) (d .head) × (d .head ≢ 1)) (λ d. (faults between d ≡ 0) × (d .head ≢ h) × (namedIn between h d ≡ 0)) (AlikeItems between items′) dirs one (dir-heads w)
-          (each-both (λ d. faults between d ≡ 0) (λ d. (d .head ≢ h) × (namedIn between h d ≡ 0)) (λ d. (faults between d ≡ 0) × (d .head ≢ h) × (namedIn between h d ≡ 0)) dirs
-          (λ d a b. (a, b .0, b .1)) (each-zero (faults between) dirs (tree-between .faultless))
-          (each-both (λ d. d .head ≢ h) (λ d. namedIn between h d ≡ 0) (λ d. (d .head ≢ h) × (namedIn between h d ≡ 0)) dirs (λ d a b. (a, b)) not-h
-          (each-zero (namedIn between h) dirs unnamed)))
-
-      pub removed : Whole ex n last (dropped limit ex last s h) system (without (onChain limit ex last s h) hd) (without (onChain limit ex last s h) sd) entries′ marked′ dirs
-      removed = record {
+    -- the directories that are left are those that were, but for one with the head h
+    pub removed : (dirs′ : List Dir)
+        × Whole ex n last (dropped limit ex last t h) system (without (onChain limit ex last t h) (ran .hd′)) (without (onChain limit ex last t h) (ran .sd′)) entries′ marked′ dirs′
+        × ((x : ℕ) → x ≢ h → headed x dirs′ ≡ headed x dirs)
+    removed = (
+      rest .dirs′,
+      record {
         good = good;
-        tree = alike-tree between items′ root dirs alikes tree-between;
-        all-named = λ x l d. let k = was x d in
+        tree = alike-tree between items′ root (rest .dirs′) alikes (rest .tree);
+        all-named = λ x l d. let k = gone .was x d in
             omega (
               arith,
               w .all-named x l (k .1),
               named-less x,
               oneAt-other h x (λ i. k .0 (sym i)),
-              list-congr-each (namedIn items′ x) (namedIn between x) dirs
-                  (each-map (AlikeItems between items′) (λ d. namedIn items′ x d ≡ namedIn between x d) dirs (λ d i. alike-named between items′ d i x) alikes),
+              rest .names x,
+              list-congr-each (namedIn items′ x) (namedIn between x) (rest .dirs′)
+                  (each-map (AlikeItems between items′) (λ d. namedIn items′ x d ≡ namedIn between x d) (rest .dirs′) (λ d i. alike-named between items′ d i x) alikes),
             );
-      }
+      },
+      rest .heads,
+    )

@@ -33,7 +33,7 @@ module _ (A : ℕ) (ex : ℕ → Bool) (n last : ℕ) where
     pub has : blocks A hd′ (t .count) h ≡ size
     pub passed : (m y : ℕ) → held A hd′ (t .count) (t .block) m y + oneAt from m * times y ys ≡ held A hd (s .count) (s .block) m y + oneAt to m * times y ys
 
-after-planned : (A : ℕ) (ex : ℕ → Bool) (last : ℕ) (ys : List ℕ) (p : Plan) (t : Anodes) (zs : List ℕ) → after A ex last ys p ≡ planned t zs → (xs : List ℕ) × (p ≡ planned t xs) × (zs ≡ ys ++ xs)
+pub after-planned : (A : ℕ) (ex : ℕ → Bool) (last : ℕ) (ys : List ℕ) (p : Plan) (t : Anodes) (zs : List ℕ) → after A ex last ys p ≡ planned t zs → (xs : List ℕ) × (p ≡ planned t xs) × (zs ≡ ys ++ xs)
 unfolding after
 after-planned A ex last ys (refused k) t zs e = absurd (refused≢planned k t zs e)
 after-planned A ex last ys (planned r xs) t zs e = let q = planned-same r t (ys ++ xs) zs e in (xs, rw (q .0), q .1)

@@ -16,7 +16,7 @@ pub record FoundIn (count next : ℕ → ℕ) (a : ℕ) (l : List ℕ) (p q x : 
   pub on : 0 < times x l
   pub before : ((x ≡ a) × (q ≡ p)) ⊎ (next q ≡ x)
 
-nowhere≢found : (q x : ℕ) → nowhere ≡ found q x → ⊥
+pub nowhere≢found : (q x : ℕ) → nowhere ≡ found q x → ⊥
 nowhere≢found q x e = let z : _≡_ {A = ℕ} 0 1 = cc in omega arith
 
 -- ---- the first

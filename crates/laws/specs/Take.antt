@@ -33,19 +33,19 @@ module _ {A : ℕ} {ex : ℕ → Bool} {n last : ℕ} {s : Anodes} {system hd sd
   -- ---- out of the free list
 
   module _ (m : ℕ) (o : (m ≡ 1) ⊎ (m ≡ 2)) (p x : ℕ) (f : FoundIn (s .count) (cut (s .next)) m (side A s m) 0 p x) where
-    side-1 : hd x ≡ 1
-    side-1 = side-head g x (full-0 g x (f .full)) (full-used g x (f .full)) ∙ ap hd (side-sd g m o x (f .on)) ∙ elim o [ inl e ↦ ap hd e ∙ head-of-1 g | inr e ↦ ap hd e ∙ g .two-on ]
+    pub free-head : hd x ≡ 1
+    free-head = side-head g x (full-0 g x (f .full)) (full-used g x (f .full)) ∙ ap hd (side-sd g m o x (f .on)) ∙ elim o [ inl e ↦ ap hd e ∙ head-of-1 g | inr e ↦ ap hd e ∙ g .two-on ]
 
     -- one that is not 2 stands after p
-    after-p : x ≢ 2 → s .next p ≡ x
-    after-p x2 = elim (f .before) [
+    pub free-after : x ≢ 2 → s .next p ≡ x
+    free-after x2 = elim (f .before) [
       | inl c ↦ absurd (elim o [ inl e ↦ full-1 g x (f .full) (c .0 ∙ e) | inr e ↦ x2 (c .0 ∙ e) ])
       | inr c ↦ elim (cut-cases (s .next) p) [ inl d ↦ absurd (full-0 g x (f .full) (sym c ∙ d .1)) | inr d ↦ sym (d .1) ∙ c ]
     ]
 
     pub withoutFirst-out : InHand A ex n last s system hd 1 (s .block x) (withoutFirst A ex last s p x)
     unfolding withoutFirst emptied
-    withoutFirst-out = rw side-1 at out
+    withoutFirst-out = rw free-head at out
       where
         out : InHand A ex n last s system hd (hd x) (s .block x) (withoutFirst A ex last s p x)
         out = elim (same? (s .count x) 1) [
@@ -53,7 +53,7 @@ module _ {A : ℕ} {ex : ℕ → Bool} {n last : ℕ} {s : Anodes} {system hd sd
               (λ w. first-gone (s .count x) (s .block x) w (f .full)) (λ l. (omega arith, omega arith)))
           | inl h ↦ rw (eqb-true (s .count x) 1 h) (elim (same? x 2) [
             | inl e ↦ rw (eqb-true x 2 e) (shrunk g x (f .full) 0 65535 (s .block x) h (omega arith) (λ w. only-gone (s .count x) (s .block x) w 65535 h) (λ l. absurd (omega arith)))
-            | inr e ↦ rw (eqb-false x 2 e) (unlinked-out g x (f .full) h p (after-p e) (full-6 g x (f .full) p (after-p e) e))
+            | inr e ↦ rw (eqb-false x 2 e) (unlinked-out g x (f .full) h p (free-after e) (full-6 g x (f .full) p (free-after e) e))
           ])
         ]
 

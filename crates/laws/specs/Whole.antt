@@ -167,7 +167,7 @@ module _ {ex : ℕ → Bool} {n last : ℕ} {s : Anodes} {system hd sd : ℕ →
     unfolding items
     file-head = named-heads h (omega (arith, by-kind, file))
 
-    not-dir : Each (λ d. d .head ≢ h) dirs
+    pub not-dir : Each (λ d. d .head ≢ h) dirs
     unfolding items
     not-dir = none-headed h dirs (omega (arith, w .tree .exact (λ d. oneAt (d .head) h), oneAt-other 5 h (λ e. omega (arith, e, file-head .0)), w .tree .once h, file, by-kind))
 

@@ -1,3 +1,4 @@
--- Laws of the lookups and of the copy.
+-- Laws of the lookups, of the copy and of the queue.
 pub mod Laws
 pub mod Copying
+pub mod Queue

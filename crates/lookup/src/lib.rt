@@ -1,17 +1,22 @@
 // Looks up the entries of a directory in an accepted image, and the bytes of a chain.
-ghost use mathlib.Core.List.{List, [], _++_};
+ghost use mathlib.Core.Bool.{not};
+ghost use mathlib.Core.List.{List, [], _++_, map};
 ghost use mathlib.Core.Path.{_≡_};
 ghost use Prim.Native.Nat.{ℕ, _+_, _*_, _<_, _≤_};
-ghost use lib.ListN.{length, take, drop};
+ghost use lib.Dec.{eqb};
+ghost use lib.ListN.{length, getD, take, drop};
 ghost use Rattle.directory.specs.Entries.{nameIn};
 ghost use Rattle.disk.specs.Blocks.{blockOf};
-ghost use Rattle.rules.specs.Counting.{gather, sameBytes};
+ghost use Rattle.rules.specs.Counting.{times, gather, sameBytes};
 ghost use Rattle.rules.specs.Chains.{run};
 ghost use Rattle.rules.specs.Walk.{Entered, entriesIn};
+ghost use Rattle.rules.specs.Changes.{parentOf};
 ghost use Rattle.rules.specs.Lookup.{firstNamed, entryNamed, entriesOf, nth, bytesOf};
 ghost use Rattle.anodes.specs.Loaded.{anodesFrom};
 ghost use Rattle.lookup.specs.Answers.{entryOf, placed, Unbroken, orRest};
 ghost use Rattle.lookup.specs.Copied.{filled, Copied};
+ghost use Rattle.lookup.specs.Queued.{isQueued};
+ghost use Rattle.tree.specs.Steps.{queueOf};
 use directory::Entry;
 use directory::Kind;
 use directory::Walked;
@@ -47,6 +52,45 @@ enum Passed {
 struct Cursor {
     skip: u64,
     done: usize,
+}
+
+// Whether `head` is among the first `dirs` numbers of the queue.
+fn is_queued(queue: &[u16], dirs: u16, head: AnodeNo) -> bool
+    ensures { λ r. ⌜ r ≡ isQueued (now (queue .entry)) (head .0) 0 dirs ⌝ }
+{
+    let mut i: u16 = 0;
+    while i < dirs {
+        if entry(queue, i as usize) == head.0 {
+            return true;
+        }
+        i += 1;
+    }
+    false
+}
+
+// Whether `head` heads a reached directory: its chain's head is itself in the table that the check filled, and the walk queued it.
+pub fn is_reached(heads: &[u16], queue: &[u16], dirs: u16, head: AnodeNo) -> bool
+    requires { ⌜ ((i : ℕ) → i < dirs → getD (now heads) (getD (now queue) i 0) 0 ≡ getD (now queue) i 0) ⌝ }
+    ensures { λ r. ⌜ ((parents : List ℕ) → not r ≡ eqb (times (head .0) (map (λ d. d .head) (queueOf (now (queue .entry)) parents dirs))) 0) ⌝ }
+{
+    if entry(heads, head.0 as usize) != head.0 {
+        return false;
+    }
+    is_queued(queue, dirs, head)
+}
+
+// The head of a reached directory's parent; 0 for the root, and where the walk queued no such directory.
+pub fn parent_of(queue: &[u16], parents: &[u16], dirs: u16, head: AnodeNo) -> AnodeNo
+    ensures { λ r. ⌜ r .0 ≡ parentOf (queueOf (now (queue .entry)) (now (parents .entry)) dirs) (head .0) ⌝ }
+{
+    let mut i: u16 = 0;
+    while i < dirs {
+        if entry(queue, i as usize) == head.0 {
+            return AnodeNo(entry(parents, i as usize));
+        }
+        i += 1;
+    }
+    AnodeNo(0)
 }
 
 // An entry at a place of block `b`, as a lookup answers it.

@@ -1,7 +1,9 @@
 // The calls for a host program in C or Rust: a slice is a pointer and a length.
 ghost use mathlib.Core.List.{[]};
 ghost use mathlib.Core.Path.{_≡_};
-ghost use Rattle.rules.specs.Calls.{outcomeOf, checkOutcome, summaryOutcome};
+ghost use Rattle.rules.specs.Changes.{left};
+ghost use Rattle.rules.specs.Calls.{outcomeOf, checkOutcome, summaryOutcome, formatOutcome, readOutcome, listOutcome};
+ghost use Rattle.pfs.specs.Listed.{nameGiven};
 
 // The check: 0, or the first refusal.
 #[no_mangle]
@@ -22,4 +24,63 @@ pub extern "C" fn pfs_summary(
     ensures { λ r. ⌜ outcomeOf r (now (image .entry)) (now (blocks .exit)) (now (anodes .exit)) (now (fields .exit)) [] ≡ summaryOutcome (now (image .entry)) (now (blocks .entry)) (now (anodes .entry)) ⌝ }
 {
     calls::summary(image, blocks, anodes, fields)
+}
+
+// Makes an empty disk with last reserved `last` and so many anode blocks; a refused call leaves the image.
+#[no_mangle]
+pub extern "C" fn pfs_format(
+    image: &mut [u8],
+    last: u16,
+    anode_blocks: u16,
+    name: &[u8],
+    day: u16,
+    minute: u16,
+    tick: u16,
+    protection: u16,
+) -> u32
+    ensures { λ r. ⌜ left r (now (image .exit)) ≡ formatOutcome (now (image .entry)) last «anode_blocks» (now (name .entry)) day minute tick protection ⌝ }
+{
+    format::format(
+        image,
+        last,
+        anode_blocks,
+        name,
+        day,
+        minute,
+        tick,
+        protection,
+    )
+}
+
+// Fills the buffer with a file's bytes from the offset on; a refused call leaves it.
+#[no_mangle]
+pub extern "C" fn pfs_read(
+    image: &[u8],
+    blocks: &mut [u16],
+    anodes: &mut [u16],
+    directory: u16,
+    name: &[u8],
+    offset: u64,
+    out: &mut [u8],
+) -> u32
+    ensures { λ r. ⌜ outcomeOf r (now (image .entry)) (now (blocks .exit)) (now (anodes .exit)) (now (out .exit)) [] ≡ readOutcome (now (image .entry)) (now (blocks .entry)) (now (anodes .entry)) directory (now (name .entry)) offset (now (out .entry)) ⌝ }
+{
+    calls::read(image, blocks, anodes, directory, name, offset, out)
+}
+
+// The fields of the n-th entry of a directory, from 0; the name and the comment by offset in the image and length.
+#[no_mangle]
+pub extern "C" fn pfs_list(
+    image: &[u8],
+    blocks: &mut [u16],
+    anodes: &mut [u16],
+    directory: u16,
+    place: u64,
+    fields: &mut [u32; 11],
+) -> u32
+    ensures { λ r. ⌜ outcomeOf r (now (image .entry)) (now (blocks .exit)) (now (anodes .exit)) (now (fields .exit)) (nameGiven (now (image .entry)) (now (fields .exit))) ≡ listOutcome (now (image .entry)) (now (blocks .entry)) (now (anodes .entry)) directory place ⌝ }
+{
+    let mut answer: u32 = 0;
+    calls::list(image, blocks, anodes, directory, place, fields, &mut answer);
+    answer
 }

@@ -35,3 +35,16 @@ pub fn zero_first(table: &mut [u16], n: usize)
         i += 1;
     }
 }
+
+// Copies a table of the same length.
+pub fn copy_entries(source: &[u16], table: &mut [u16])
+    requires { ⌜ length (now source) ≡ length (now table) ⌝ }
+    ensures { λ _. ⌜ now (table .exit) ≡ now (source .entry) ⌝ }
+{
+    let n = source.len();
+    let mut i = 0;
+    while i < n {
+        table[i] = source[i];
+        i += 1;
+    }
+}

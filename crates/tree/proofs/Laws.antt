@@ -1,6 +1,6 @@
 -- Laws of the definitions of `specs/`. Assumes nothing.
 use Prim.Native.Nat.{ℕ, zero, suc, _+_, _*_, _<_, _≤_}
-use mathlib.Core.Path.{_≡_, refl, ap, _∙_}
+use mathlib.Core.Path.{_≡_, refl, sym, ap, _∙_}
 use mathlib.Core.Bool.{Bool, true, false, cond, or-true, false≢true}
 use mathlib.Core.Logic.{⊎-elim}
 use mathlib.Core.List.{List, [], _∷_, _++_, map}
@@ -8,8 +8,8 @@ use native.Mathlib.Nat.{not-suc-le-zero, zero-add, add-zero, eq-or-lt-of-le, le-
 use native.Mathlib.Numerals.{add-one}
 use native.Mathlib.Omega.{arith}
 use lib.Dec.{eqb, leb, ltb}
-use lib.ListN.{length, getD, set, drop, length-set, length-append, drop-of-length-le}
-use lib.Seq.{drop-append-le, getD-set-same, getD-set-other}
+use lib.ListN.{length, getD, set, take, drop, length-set, length-append, drop-of-length-le}
+use lib.Seq.{take-all, take-add, take-append-le, drop-append-le, getD-set-same, getD-set-other}
 use borrow.Author.Tests.{eq-eqb, ne-eqb, leb-true, ltb-true}
 use Rattle.disk.specs.declared.Refusal.{Refusal}
 use Rattle.disk.specs.Blocks.{blockOf}
@@ -112,7 +112,7 @@ unfolding dirsFrom
 length-dirs queue parents i zero = refl
 length-dirs queue parents i (suc n) = ap suc (length-dirs queue parents (suc i) n)
 
-length-queue : (queue parents : List ℕ) (n : ℕ) → length (queueOf queue parents n) ≡ n
+pub length-queue : (queue parents : List ℕ) (n : ℕ) → length (queueOf queue parents n) ≡ n
 unfolding queueOf
 length-queue queue parents n = length-dirs queue parents 0 n
 
@@ -230,72 +230,77 @@ module _ (item : Entered → Item) (img : List ℕ) (s : Anodes) (d : Dir) (a he
       → enterAll head (itemsAlong item img s d k a) queue marks files ≡ enterAll head (itemsAlong item img s d m (s .next a)) q l f
   along-step q l f h = rw (along-items item img s d a k m fuel some, enter-append head (itemsFor item img s d a) (itemsAlong item img s d m (s .next a)) queue marks files, h)
 
--- ---- the queue without the directories taken from it
+-- ---- the queue without the directories taken from it, and those
 
 abbrev dropped : ℕ → Progress → Progress
 dropped v (stopped n) = stopped n
 dropped v (going queue marks files) = going (drop v queue) marks files
 
-abbrev Longer : ℕ → Progress → Type 0
-Longer v (stopped n) = Unit {0}
-Longer v (going queue marks files) = v ≤ length queue
+-- the queue still has the directories taken from it in front
+abbrev Extends : ℕ → List Dir → Progress → Type 0
+Extends v taken (stopped n) = Unit {0}
+Extends v taken (going queue marks files) = (v ≤ length queue) × (take v queue ≡ taken)
 
 module _ (v : ℕ) where
   item-cases : (early : ℕ) (new : Bool) (late : ℕ) (dir : Bool) (queue : List Dir) (x : Dir) (marks : List ℕ) (f g : ℕ) → v ≤ length queue
       → (refuse early (cond new (refuse late (cond dir (going (drop v queue ++ (x ∷ [])) marks f) (going (drop v queue) marks g))) (stopped 14))
       ≡ dropped v (refuse early (cond new (refuse late (cond dir (going (queue ++ (x ∷ [])) marks f) (going queue marks g))) (stopped 14))))
-      × Longer v (refuse early (cond new (refuse late (cond dir (going (queue ++ (x ∷ [])) marks f) (going queue marks g))) (stopped 14)))
+      × Extends v (take v queue) (refuse early (cond new (refuse late (cond dir (going (queue ++ (x ∷ [])) marks f) (going queue marks g))) (stopped 14)))
   item-cases (suc e) new late dir queue x marks f g h = (refl, tt)
   item-cases zero false late dir queue x marks f g h = (refl, tt)
   item-cases zero true (suc l) dir queue x marks f g h = (refl, tt)
-  item-cases zero true zero false queue x marks f g h = (refl, h)
+  item-cases zero true zero false queue x marks f g h = (refl, (h, refl))
   item-cases zero true zero true queue x marks f g h =
-      (rw (drop-append-le v queue (x ∷ []) h), omega (arith, length-append queue (x ∷ [])))
+      (rw (drop-append-le v queue (x ∷ []) h), (omega (arith, length-append queue (x ∷ [])), take-append-le v queue (x ∷ []) h))
 
-  onward-dropped : (p : Progress) (f : List Dir → List ℕ → ℕ → Progress) → Longer v p
-      → ((q : List Dir) (m : List ℕ) (n : ℕ) → v ≤ length q → f (drop v q) m n ≡ dropped v (f q m n))
-      → onward (dropped v p) f ≡ dropped v (onward p f)
-  onward-dropped (stopped n) f l e = refl
-  onward-dropped (going q m n) f l e = e q m n l
+  onward-dropped : (taken : List Dir) (p : Progress) (f : List Dir → List ℕ → ℕ → Progress) → Extends v taken p
+      → ((q : List Dir) (m : List ℕ) (n : ℕ) → v ≤ length q → (f (drop v q) m n ≡ dropped v (f q m n)) × Extends v (take v q) (f q m n))
+      → (onward (dropped v p) f ≡ dropped v (onward p f)) × Extends v taken (onward p f)
+  onward-dropped taken (stopped n) f l e = (refl, tt)
+  onward-dropped taken (going q m n) f l e = rw (← l .1) (e q m n (l .0))
 
   enter-dropped : (head : ℕ) (is : List Item) (queue : List Dir) (marks : List ℕ) (files : ℕ) → v ≤ length queue
-      → enterAll head is (drop v queue) marks files ≡ dropped v (enterAll head is queue marks files)
+      → (enterAll head is (drop v queue) marks files ≡ dropped v (enterAll head is queue marks files)) × Extends v (take v queue) (enterAll head is queue marks files)
   unfolding enterAll enterItem
-  enter-dropped head [] queue marks files h = refl
+  enter-dropped head [] queue marks files h = (refl, (h, refl))
   enter-dropped head (i ∷ is) queue marks files h =
       let w = item-cases (i .early) (eqb (getD marks (i .anode) 0) 0) (i .late) (i .dir) queue (dirMade (i .anode) head) (set marks (i .anode) 1) files (files + 1) h in
-      rw (w .0) (onward-dropped (enterItem head i queue marks files) (enterAll head is) (w .1) (enter-dropped head is))
+      rw (w .0) (onward-dropped (take v queue) (enterItem head i queue marks files) (enterAll head is) (w .1) (enter-dropped head is))
 
 -- ---- the queue, from its directory `first` on
 
-module _ (items : Dir → List Item) (k : ℕ) (queue parents : List ℕ) (first last : ℕ) (marks : List ℕ) (files n : ℕ) where
-  pub run-end : last ≤ first → runFrom items k (drop first (queueOf queue parents last)) marks files n ≡ ended marks files n
+module _ (items : Dir → List Item) (k : ℕ) (queue parents : List ℕ) (first last : ℕ) (marks : List ℕ) (files : ℕ) where
+  pub run-end : last ≤ first → runFrom items k (drop first (queueOf queue parents last)) marks files (take first (queueOf queue parents last)) ≡ ended marks files (queueOf queue parents last)
   unfolding runFrom
-  run-end h = rw (drop-of-length-le (queueOf queue parents last) {i = first} (rw length-queue h)) (none k) where
-    none : (k : ℕ) → runFrom items k [] marks files n ≡ ended marks files n
-    none zero = refl
-    none (suc k) = refl
+  run-end h =
+      let l = length-queue queue parents last in
+      rw (drop-of-length-le (queueOf queue parents last) {i = first} (omega arith), take-all first (queueOf queue parents last) (omega arith)) (none k) where
+        none : (k : ℕ) → runFrom items k [] marks files (queueOf queue parents last) ≡ ended marks files (queueOf queue parents last)
+        none zero = refl
+        none (suc k) = refl
 
   module _ (m : ℕ) (fuel : k ≡ m + 1) (some : first < last) where
-    run-pop : runFrom items k (drop first (queueOf queue parents last)) marks files n
+    taken-more : take first (queueOf queue parents last) ++ (dirMade (getD queue first 0) (getD parents first 0) ∷ []) ≡ take (first + 1) (queueOf queue parents last)
+    taken-more = sym (take-add first 1 (queueOf queue parents last) ∙ rw (queue-pop queue parents first last some))
+
+    entered : (enterAll (getD queue first 0) (items (dirMade (getD queue first 0) (getD parents first 0))) (drop (first + 1) (queueOf queue parents last)) marks files
+        ≡ dropped (first + 1) (enterAll (getD queue first 0) (items (dirMade (getD queue first 0) (getD parents first 0))) (queueOf queue parents last) marks files))
+        × Extends (first + 1) (take (first + 1) (queueOf queue parents last)) (enterAll (getD queue first 0) (items (dirMade (getD queue first 0) (getD parents first 0))) (queueOf queue parents last) marks files)
+    entered = enter-dropped (first + 1) (getD queue first 0) (items (dirMade (getD queue first 0) (getD parents first 0))) (queueOf queue parents last) marks files (rw length-queue (omega arith))
+
+    run-pop : runFrom items k (drop first (queueOf queue parents last)) marks files (take first (queueOf queue parents last))
         ≡ afterDir (dropped (first + 1) (enterAll (getD queue first 0) (items (dirMade (getD queue first 0) (getD parents first 0))) (queueOf queue parents last) marks files))
-        (λ q l f. runFrom items m q l f (n + 1))
+        (λ q l f. runFrom items m q l f (take (first + 1) (queueOf queue parents last)))
     unfolding runFrom
-    run-pop =
-        rw (
-          queue-pop queue parents first last some,
-          fuel,
-          add-one m,
-          enter-dropped (first + 1) (getD queue first 0) (items (dirMade (getD queue first 0) (getD parents first 0))) (queueOf queue parents last) marks files (rw length-queue (omega arith)),
-        )
+    run-pop = rw (queue-pop queue parents first last some, fuel, add-one m, entered .0, taken-more)
 
     pub run-stop : (r : ℕ) → enterAll (getD queue first 0) (items (dirMade (getD queue first 0) (getD parents first 0))) (queueOf queue parents last) marks files ≡ stopped r
-        → runFrom items k (drop first (queueOf queue parents last)) marks files n ≡ halted r
+        → runFrom items k (drop first (queueOf queue parents last)) marks files (take first (queueOf queue parents last)) ≡ halted r
     run-stop r e = run-pop ∙ rw e
 
     pub run-step : (q : List Dir) (l : List ℕ) (f : ℕ) → enterAll (getD queue first 0) (items (dirMade (getD queue first 0) (getD parents first 0))) (queueOf queue parents last) marks files ≡ going q l f
-        → runFrom items k (drop first (queueOf queue parents last)) marks files n ≡ runFrom items m (drop (first + 1) q) l f (n + 1)
-    run-step q l f e = run-pop ∙ rw e
+        → runFrom items k (drop first (queueOf queue parents last)) marks files (take first (queueOf queue parents last)) ≡ runFrom items m (drop (first + 1) q) l f (take (first + 1) q)
+    run-step q l f e = run-pop ∙ rw (e, (rw e at (entered .1)) .1)
 
 -- ---- a test of the numbers below a bound
 

@@ -3,7 +3,7 @@ use Prim.Native.Nat.{ℕ, zero, suc, _+_, _<_, _≤_}
 use mathlib.Core.Path.{_≡_, refl, sym, ap, _∙_, subst, fun-ext}
 use mathlib.Core.Bool.{Bool, true, false, cond, _&&_, and-false}
 use mathlib.Core.Logic.{⊎-elim}
-use mathlib.Core.List.{List, [], _∷_, _++_, map, append-nil}
+use mathlib.Core.List.{List, [], _∷_, _++_, map, append-nil, append-assoc}
 use native.Mathlib.Nat.{not-suc-le-zero}
 use native.Mathlib.Omega.{arith}
 use lib.Dec.{eqb}
@@ -23,7 +23,7 @@ use Rattle.tree.specs.declared.TreeRead.{TreeRead}
 use Rattle.tree.specs.declared.TreeRead.the-variants.{Counted, Fault}
 use Rattle.tree.specs.Tree.{HeadTable}
 use Rattle.tree.specs.Steps.{sumFrom, headAt, itemIn, Progress, stopped, going, enterItem, enterAll, itemsFor, itemsAlong, itemsWith, Run, halted, ended, afterDir, runFrom, conclusion, dirsFrom, queueOf, unnamedAt, marked}
-use Rattle.tree.proofs.Laws.{head-range, marked-more}
+use Rattle.tree.proofs.Laws.{head-range, marked-more, length-queue}
 
 -- ---- how often a list of items names an anode, and how many files it names
 
@@ -171,50 +171,50 @@ module _ (d : Dir) where
 -- ---- the whole walk
 
 module _ (items : Dir → List Item) where
-  -- one fault in both walks, or marks, files and directories for those that the rules' walk reached
-  abbrev WalkMatch : ℕ → ℕ → List ℕ → Run → Walk → Type 0
-  WalkMatch files n named (halted r) (fault m) = (r ≡ m) × (1 ≤ r)
-  WalkMatch files n named (halted r) (done ds) = ⊥
-  WalkMatch files n named (ended m f k) (fault r) = ⊥
-  WalkMatch files n named (ended m f k) (done ds) =
-      Agree m (λ x. namings x (gather items ds) + times x named) × (f ≡ files + filesIn (gather items ds)) × (k ≡ n + length ds)
+  -- one fault in both walks, or the directories that the rules' walk reached, with marks and files for them
+  abbrev WalkMatch : ℕ → List Dir → List ℕ → Run → Walk → Type 0
+  WalkMatch files taken named (halted r) (fault m) = (r ≡ m) × (1 ≤ r)
+  WalkMatch files taken named (halted r) (done ds) = ⊥
+  WalkMatch files taken named (ended m f all) (fault r) = ⊥
+  WalkMatch files taken named (ended m f all) (done ds) =
+      Agree m (λ x. namings x (gather items ds) + times x named) × (f ≡ files + filesIn (gather items ds)) × (all ≡ taken ++ ds)
 
   -- one directory more in front
-  walk-widen : (d : Dir) (files g n : ℕ) (named l : List ℕ) (r : Run) (w : Walk) → g ≡ files + filesIn (items d)
-      → ((x : ℕ) → times x l ≡ namings x (items d) + times x named) → WalkMatch g (n + 1) l r w → WalkMatch files n named r (visited d w)
+  walk-widen : (d : Dir) (files g : ℕ) (taken : List Dir) (named l : List ℕ) (r : Run) (w : Walk) → g ≡ files + filesIn (items d)
+      → ((x : ℕ) → times x l ≡ namings x (items d) + times x named) → WalkMatch g (taken ++ (d ∷ [])) l r w → WalkMatch files taken named r (visited d w)
   unfolding visited gather namings filesIn
-  walk-widen d files g n named l (halted r) (fault m) e t h = h
-  walk-widen d files g n named l (halted r) (done ds) e t h = h
-  walk-widen d files g n named l (ended m f k) (fault r) e t h = h
-  walk-widen d files g n named l (ended m f k) (done ds) e t h = (
+  walk-widen d files g taken named l (halted r) (fault m) e t h = h
+  walk-widen d files g taken named l (halted r) (done ds) e t h = h
+  walk-widen d files g taken named l (ended m f all) (fault r) e t h = h
+  walk-widen d files g taken named l (ended m f all) (done ds) e t h = (
     agree-same m (λ x. namings x (gather items ds) + times x l) (λ x. namings x (items d ++ gather items ds) + times x named)
         (λ x. omega (arith, t x, sum-append (λ i. oneAt (i .anode) x) (items d) (gather items ds))) (h .0),
     omega (arith, sum-append (λ i. cond (i .dir) 0 1) (items d) (gather items ds)),
-    omega arith,
+    h .2 ∙ append-assoc taken (d ∷ []) ds,
   )
 
-  after-match : (d : Dir) (k files n : ℕ) (named : List ℕ) (p : Progress) (s : Scanned) → ScanMatch (items d) files named p s
-      → ((q : List Dir) (m : List ℕ) (f n : ℕ) (l : List ℕ) → length m ≡ limit → Agree m (λ x. times x l) → WalkMatch f n l (runFrom items k q m f n) (walk items k q l))
-      → WalkMatch files n named (afterDir p (λ q m f. runFrom items k q m f (n + 1)))
+  after-match : (d : Dir) (k files : ℕ) (taken : List Dir) (named : List ℕ) (p : Progress) (s : Scanned) → ScanMatch (items d) files named p s
+      → ((q : List Dir) (m : List ℕ) (f : ℕ) (t : List Dir) (l : List ℕ) → length m ≡ limit → Agree m (λ x. times x l) → WalkMatch f t l (runFrom items k q m f t) (walk items k q l))
+      → WalkMatch files taken named (afterDir p (λ q m f. runFrom items k q m f (taken ++ (d ∷ []))))
       (elim s [ faulty r ↦ fault r | fine q l ↦ visited d (walk items k q l) ])
-  after-match d k files n named (stopped r) (faulty m) h ih = h
-  after-match d k files n named (stopped r) (fine q l) h ih = absurd h
-  after-match d k files n named (going q m f) (faulty r) h ih = absurd h
-  after-match d k files n named (going q m f) (fine r l) h ih =
-      rw (← h .0) (walk-widen d files f n named l (runFrom items k q m f (n + 1)) (walk items k q l) (h .4) (h .3) (ih q m f (n + 1) l (h .1) (h .2)))
+  after-match d k files taken named (stopped r) (faulty m) h ih = h
+  after-match d k files taken named (stopped r) (fine q l) h ih = absurd h
+  after-match d k files taken named (going q m f) (faulty r) h ih = absurd h
+  after-match d k files taken named (going q m f) (fine r l) h ih =
+      rw (← h .0) (walk-widen d files f taken named l (runFrom items k q m f (taken ++ (d ∷ []))) (walk items k q l) (h .4) (h .3) (ih q m f (taken ++ (d ∷ [])) l (h .1) (h .2)))
 
-  walk-match : ((d : Dir) → InRange (items d)) → (k : ℕ) (queue : List Dir) (marks : List ℕ) (files n : ℕ) (named : List ℕ)
-      → length marks ≡ limit → Agree marks (λ x. times x named) → WalkMatch files n named (runFrom items k queue marks files n) (walk items k queue named)
+  walk-match : ((d : Dir) → InRange (items d)) → (k : ℕ) (queue : List Dir) (marks : List ℕ) (files : ℕ) (taken : List Dir) (named : List ℕ)
+      → length marks ≡ limit → Agree marks (λ x. times x named) → WalkMatch files taken named (runFrom items k queue marks files taken) (walk items k queue named)
   unfolding runFrom walk gather namings filesIn sumList
-  walk-match range zero [] marks files n named whole agree =
-      (agree-same marks (λ x. times x named) (λ x. 0 + times x named) (λ x. omega arith) agree, omega arith, omega arith)
-  walk-match range zero (d ∷ queue) marks files n named whole agree = (refl, omega arith)
-  walk-match range (suc k) [] marks files n named whole agree =
-      (agree-same marks (λ x. times x named) (λ x. 0 + times x named) (λ x. omega arith) agree, omega arith, omega arith)
-  walk-match range (suc k) (d ∷ queue) marks files n named whole agree =
-      after-match d k files n named (enterAll (d .head) (items d) queue marks files) (scan d (items d) queue named)
+  walk-match range zero [] marks files taken named whole agree =
+      (agree-same marks (λ x. times x named) (λ x. 0 + times x named) (λ x. omega arith) agree, omega arith, sym (append-nil taken))
+  walk-match range zero (d ∷ queue) marks files taken named whole agree = (refl, omega arith)
+  walk-match range (suc k) [] marks files taken named whole agree =
+      (agree-same marks (λ x. times x named) (λ x. 0 + times x named) (λ x. omega arith) agree, omega arith, sym (append-nil taken))
+  walk-match range (suc k) (d ∷ queue) marks files taken named whole agree =
+      after-match d k files taken named (enterAll (d .head) (items d) queue marks files) (scan d (items d) queue named)
       (scan-match d (items d) queue marks files named (range d) whole agree)
-      (λ q m f c l. walk-match range k q m f c l)
+      (λ q m f t l. walk-match range k q m f t l)
 
 -- ---- the items by tables are those of the rules
 
@@ -287,11 +287,14 @@ unfolding firstOf
 first-some zero b h = absurd (not-suc-le-zero h)
 first-some (suc a) b h = refl
 
--- what the walk's answer and the marks behind it say of the rules
-abbrev Says : List ℕ → Anodes → List ℕ → TreeRead → List ℕ → Type 0
-Says img s t (Counted files n) marks =
-    ((b : Bool) → anyBelow (unnamedAt t marks) limit ≡ b → treeFault img s ≡ 16 if b else 0) × (files ≡ fileCount img s) × (n ≡ dirCount img s)
-Says img s t (Fault r) marks = numberOf r ≡ treeFault img s
+-- what the walk's answer, and the marks and the queue behind it, say of the rules
+abbrev Says : List ℕ → Anodes → List ℕ → TreeRead → List ℕ → List ℕ → List ℕ → Type 0
+Says img s t (Counted files n) marks queue parents =
+    ((b : Bool) → anyBelow (unnamedAt t marks) limit ≡ b → treeFault img s ≡ 16 if b else 0)
+    × (files ≡ fileCount img s)
+    × (n ≡ dirCount img s)
+    × (queueOf queue parents n ≡ reachedDirs img s)
+Says img s t (Fault r) marks queue parents = numberOf r ≡ treeFault img s
 
 module _ (counts nexts t : List ℕ) (s : Anodes) (table : HeadTable t s) (past : (a : ℕ) → limit ≤ a → s .block a ≡ 0)
     (sums : (a : ℕ) → sumFrom counts nexts limit a ≡ blockCount s a) where
@@ -307,29 +310,29 @@ module _ (counts nexts t : List ℕ) (s : Anodes) (table : HeadTable t s) (past 
 
   -- the walk from the root, with no mark from 6 up
   module _ (img marks : List ℕ) (whole : length marks ≡ limit) (clean : (x : ℕ) → 6 ≤ x → getD marks x 0 ≡ 0) where
-    run-match : WalkMatch (itemsOf img s) 0 0 [] (runFrom (itemsWith (itemIn counts nexts t) img s) limit (root ∷ []) marks 0 0) (walkOf img s)
+    run-match : WalkMatch (itemsOf img s) 0 [] [] (runFrom (itemsWith (itemIn counts nexts t) img s) limit (root ∷ []) marks 0 []) (walkOf img s)
     unfolding walkOf times sumList
     run-match =
         subst
-        (λ (f : Dir → List Item). WalkMatch f 0 0 [] (runFrom (itemsWith (itemIn counts nexts t) img s) limit (root ∷ []) marks 0 0) (walk f limit (root ∷ []) []))
+        (λ (f : Dir → List Item). WalkMatch f 0 [] [] (runFrom (itemsWith (itemIn counts nexts t) img s) limit (root ∷ []) marks 0 []) (walk f limit (root ∷ []) []))
         (items-same img)
-        (walk-match (itemsWith (itemIn counts nexts t) img s) (range-items counts nexts t img s) limit (root ∷ []) marks 0 0 [] whole
+        (walk-match (itemsWith (itemIn counts nexts t) img s) (range-items counts nexts t img s) limit (root ∷ []) marks 0 [] [] whole
         (λ x lo hi. (λ z. refl, λ n. absurd (n (clean x lo)))))
 
-    tree-halted : (r : ℕ) → runFrom (itemsWith (itemIn counts nexts t) img s) limit (root ∷ []) marks 0 0 ≡ halted r → treeFault img s ≡ r
+    tree-halted : (r : ℕ) → runFrom (itemsWith (itemIn counts nexts t) img s) limit (root ∷ []) marks 0 [] ≡ halted r → treeFault img s ≡ r
     unfolding treeFault
     tree-halted r e = go (walkOf img s) refl (rw e at run-match) where
-      go : (w : Walk) → walkOf img s ≡ w → WalkMatch (itemsOf img s) 0 0 [] (halted r) w
+      go : (w : Walk) → walkOf img s ≡ w → WalkMatch (itemsOf img s) 0 [] [] (halted r) w
           → firstOf (faultIn (walkOf img s)) (16 if anyBelow (unnamedChain img s) limit else 0) ≡ r
       go (fault m) w h = rw (w, ← h .0) (first-some r _ (h .1))
       go (done ds) w h = absurd h
 
-    module _ (m : List ℕ) (f k : ℕ) (e : runFrom (itemsWith (itemIn counts nexts t) img s) limit (root ∷ []) marks 0 0 ≡ ended m f k) where
+    module _ (m : List ℕ) (f : ℕ) (all : List Dir) (e : runFrom (itemsWith (itemIn counts nexts t) img s) limit (root ∷ []) marks 0 [] ≡ ended m f all) where
       -- the directories that the rules' walk reached, with the counts and marks for them
-      reached-all : (ds : List Dir) × (walkOf img s ≡ done ds) × WalkMatch (itemsOf img s) 0 0 [] (ended m f k) (done ds)
+      reached-all : (ds : List Dir) × (walkOf img s ≡ done ds) × WalkMatch (itemsOf img s) 0 [] [] (ended m f all) (done ds)
       reached-all = go (walkOf img s) refl (rw e at run-match) where
-        go : (w : Walk) → walkOf img s ≡ w → WalkMatch (itemsOf img s) 0 0 [] (ended m f k) w
-            → (ds : List Dir) × (walkOf img s ≡ done ds) × WalkMatch (itemsOf img s) 0 0 [] (ended m f k) (done ds)
+        go : (w : Walk) → walkOf img s ≡ w → WalkMatch (itemsOf img s) 0 [] [] (ended m f all) w
+            → (ds : List Dir) × (walkOf img s ≡ done ds) × WalkMatch (itemsOf img s) 0 [] [] (ended m f all) (done ds)
         go (fault r) w h = absurd h
         go (done ds) w h = (ds, w, h)
 
@@ -337,9 +340,9 @@ module _ (counts nexts t : List ℕ) (s : Anodes) (table : HeadTable t s) (past 
       unfolding fileCount reached reachedDirs filesIn
       tree-files = rw (reached-all .1) (omega (arith, reached-all .2 .1))
 
-      tree-dirs : k ≡ dirCount img s
-      unfolding dirCount reachedDirs
-      tree-dirs = rw (reached-all .1) (omega (arith, reached-all .2 .2))
+      tree-dirs : all ≡ reachedDirs img s
+      unfolding reachedDirs
+      tree-dirs = rw (reached-all .1) (reached-all .2 .2)
 
       naming-reached : (x : ℕ) → namings x (gather (itemsOf img s) (reached-all .0)) + times x [] ≡ naming img s x
       unfolding naming reached reachedDirs
@@ -366,9 +369,12 @@ module _ (counts nexts t : List ℕ) (s : Anodes) (table : HeadTable t s) (past 
       unfolding treeFault firstOf
       tree-ended b h = rw (reached-all .1, any-same (unnamedChain img s) (unnamedAt t m) limit unnamed-same, h)
 
-    says : (r : TreeRead) (m : List ℕ) → conclusion r m ≡ runFrom (itemsWith (itemIn counts nexts t) img s) limit (root ∷ []) marks 0 0 → Says img s t r m
-    says (Counted files n) m e = (tree-ended m files n (sym e), tree-files m files n (sym e), tree-dirs m files n (sym e))
-    says (Fault r) m e = sym (tree-halted (numberOf r) (sym e))
+    says : (r : TreeRead) (m queue parents : List ℕ) → conclusion r m queue parents ≡ runFrom (itemsWith (itemIn counts nexts t) img s) limit (root ∷ []) marks 0 [] → Says img s t r m queue parents
+    unfolding dirCount
+    says (Counted files n) m queue parents e =
+        let dirs = tree-dirs m files (queueOf queue parents n) (sym e) in
+        (tree-ended m files (queueOf queue parents n) (sym e), tree-files m files (queueOf queue parents n) (sym e), sym (length-queue queue parents n) ∙ ap length dirs, dirs)
+    says (Fault r) m queue parents e = sym (tree-halted (numberOf r) (sym e))
 
 -- ---- the tables at the start: a mark for the root, and the root in the queue
 
@@ -391,9 +397,9 @@ start-fits =
     let l = length-replicate {A = ℕ} limit 0 in
     omega (arith, marked-more (replicate limit 0) 5 (omega arith) (zeros limit 5))
 
-start-queue : queueOf (set (replicate limit 0) 0 5) (replicate limit 0) 1 ≡ root ∷ []
+start-queue : (queue parents : List ℕ) → length queue ≡ limit → length parents ≡ limit → queueOf (set queue 0 5) (set parents 0 0) 1 ≡ root ∷ []
 unfolding queueOf dirsFrom
-start-queue = refl
+start-queue queue parents p q = rw (getD-set-same queue 0 5 0 (omega arith), getD-set-same parents 0 0 0 (omega arith))
 
 module _ (img counts firsts nexts t : List ℕ) (whole : length firsts ≡ limit) (table : HeadTable t (anodesFrom counts firsts nexts)) where
   past : (a : ℕ) → limit ≤ a → anodesFrom counts firsts nexts .block a ≡ 0
@@ -404,7 +410,8 @@ module _ (img counts firsts nexts t : List ℕ) (whole : length firsts ≡ limit
   unfolding sumFrom blockCount anodesFrom
   sums a = refl
 
-  pub answered : (r : TreeRead) (m : List ℕ)
-      → conclusion r m ≡ runFrom (itemsWith (itemIn counts nexts t) img (anodesFrom counts firsts nexts)) limit (queueOf (set (replicate limit 0) 0 5) (replicate limit 0) 1) startMarks 0 0
-      → Says img (anodesFrom counts firsts nexts) t r m
-  answered r m e = says counts nexts t (anodesFrom counts firsts nexts) table past sums img startMarks start-whole start-clean r m (rw start-queue at e)
+  pub answered : (q p : List ℕ) → length q ≡ limit → length p ≡ limit → (r : TreeRead) (m queue parents : List ℕ)
+      → conclusion r m queue parents ≡ runFrom (itemsWith (itemIn counts nexts t) img (anodesFrom counts firsts nexts)) limit (queueOf (set q 0 5) (set p 0 0) 1) startMarks 0 []
+      → Says img (anodesFrom counts firsts nexts) t r m queue parents
+  answered q p e f r m queue parents c =
+      says counts nexts t (anodesFrom counts firsts nexts) table past sums img startMarks start-whole start-clean r m queue parents (rw (start-queue q p e f) at c)

@@ -81,22 +81,22 @@ itemsAlong item img s d k a = gather (itemsFor item img s d) (chainOf (s .next) 
 unfoldable pub itemsWith : (Entered → Item) → List ℕ → Anodes → Dir → List Item
 itemsWith item img s d = itemsAlong item img s d limit (d .head)
 
--- the end of the walk: the first fault, or the marks, the files and the directories taken from the queue
+-- the end of the walk: the first fault, or the marks, the files and the directories in the order they were taken from the queue
 pub data Run : Type 0 where
   halted : ℕ → Run
-  ended : List ℕ → ℕ → ℕ → Run
+  ended : List ℕ → ℕ → List Dir → Run
 
 abbrev pub afterDir : Progress → (List Dir → List ℕ → ℕ → Run) → Run
 afterDir (stopped n) f = halted n
 afterDir (going queue marks files) f = f queue marks files
 
 module _ (items : Dir → List Item) where
-  unfoldable pub runFrom : ℕ → List Dir → List ℕ → ℕ → ℕ → Run
-  runFrom zero [] marks files n = ended marks files n
-  runFrom zero (d ∷ queue) marks files n = halted 14
-  runFrom (suc k) [] marks files n = ended marks files n
-  runFrom (suc k) (d ∷ queue) marks files n =
-      afterDir (enterAll (d .head) (items d) queue marks files) (λ q m f. runFrom k q m f (n + 1))
+  unfoldable pub runFrom : ℕ → List Dir → List ℕ → ℕ → List Dir → Run
+  runFrom zero [] marks files taken = ended marks files taken
+  runFrom zero (d ∷ queue) marks files taken = halted 14
+  runFrom (suc k) [] marks files taken = ended marks files taken
+  runFrom (suc k) (d ∷ queue) marks files taken =
+      afterDir (enterAll (d .head) (items d) queue marks files) (λ q m f. runFrom k q m f (taken ++ (d ∷ [])))
 
 -- the n directories of the two tables from i on, and the first n
 unfoldable pub dirsFrom : List ℕ → List ℕ → ℕ → ℕ → List Dir
@@ -106,10 +106,10 @@ dirsFrom queue parents i (suc n) = dirMade (getD queue i 0) (getD parents i 0) �
 unfoldable pub queueOf : List ℕ → List ℕ → ℕ → List Dir
 queueOf queue parents n = dirsFrom queue parents 0 n
 
--- the walk's answer and the marks that it leaves
-abbrev pub conclusion : TreeRead → List ℕ → Run
-conclusion (Counted files n) marks = ended marks files n
-conclusion (Refused r) marks = halted (numberOf r)
+-- the walk's answer, and the marks and the queue that it leaves
+abbrev pub conclusion : TreeRead → List ℕ → List ℕ → List ℕ → Run
+conclusion (Counted files n) marks queue parents = ended marks files (queueOf queue parents n)
+conclusion (Refused r) marks queue parents = halted (numberOf r)
 
 -- a chain from 6 up whose head has no mark
 unfoldable pub unnamedAt : List ℕ → List ℕ → ℕ → Bool

@@ -1,4 +1,4 @@
--- The answer of the walk: the number and values of each case, and the table of heads that it is lent.
+-- The answer of the walk: the number and values of each case, the directories that it leaves in two tables, and the table of heads that it is lent.
 use Prim.Native.Nat.{ℕ, _≤_, _<_}
 use mathlib.Core.Path.{_≡_}
 use mathlib.Core.List.{List}
@@ -6,9 +6,11 @@ use lib.ListN.{getD}
 use Rattle.disk.specs.Refusals.{numberOf}
 use Rattle.rules.specs.Anodes.{Anodes, limit}
 use Rattle.rules.specs.Chains.{heads}
+use Rattle.rules.specs.Walk.{reachedDirs}
 use Rattle.rules.specs.Calls.{fileCount, dirCount}
 use Rattle.tree.specs.declared.TreeRead.{TreeRead}
 use Rattle.tree.specs.declared.TreeRead.the-variants.{Counted, Fault}
+use Rattle.tree.specs.Steps.{queueOf}
 
 -- 0, or the refusal's number
 abbrev pub treeNumber : TreeRead → ℕ
@@ -19,6 +21,11 @@ treeNumber (Fault r) = numberOf r
 abbrev pub Counts : TreeRead → List ℕ → Anodes → Type 0
 Counts (Counted files dirs) img s = (files ≡ fileCount img s) × (dirs ≡ dirCount img s)
 Counts (Fault r) img s = Unit {0}
+
+-- the reached directories, in the order of the walk
+abbrev pub Queued : TreeRead → List ℕ → Anodes → List ℕ → List ℕ → Type 0
+Queued (Counted files dirs) img s queue parents = queueOf queue parents dirs ≡ reachedDirs img s
+Queued (Fault r) img s queue parents = Unit {0}
 
 -- a table in which exactly the heads of chains stand for themselves
 abbrev pub HeadTable : List ℕ → Anodes → Type 0

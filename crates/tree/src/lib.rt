@@ -1,13 +1,13 @@
 // Refusals 12 to 16: the walk over the directories, breadth first from the root.
 ghost use mathlib.Core.Path.{_≡_};
 ghost use Prim.Native.Nat.{ℕ, _+_, _<_};
-ghost use mathlib.Core.List.{map};
+ghost use mathlib.Core.List.{[], map};
 ghost use lib.ListN.{length};
 ghost use Rattle.rules.specs.Accepted.{treeFault};
 ghost use Rattle.rules.specs.Counting.{anyBelow};
 ghost use Rattle.rules.specs.Walk.{blocksFor, isBlockOf, entriesIn};
 ghost use Rattle.anodes.specs.Loaded.{anodesFrom};
-ghost use Rattle.tree.specs.Tree.{treeNumber, Counts, HeadTable};
+ghost use Rattle.tree.specs.Tree.{treeNumber, Counts, Queued, HeadTable};
 ghost use Rattle.tree.specs.Steps.{dirMade, sumFrom, headAt, enteredAt, itemIn, enterItem, itemsFor, itemsWith, queueOf, entering, Leaves, runFrom, conclusion, tallyMade, Room, unnamedAt};
 use directory::Entry;
 use directory::Kind;
@@ -296,7 +296,7 @@ fn walk_queue(
     parents: &mut [u16],
 ) -> TreeRead
     requires { ⌜ Room (tallyMade 1 0) (now marks) (now queue) (now parents) ⌝ }
-    ensures { λ r. ⌜ conclusion r (now (marks .exit)) ≡ runFrom (itemsWith (itemIn (now (counts .entry)) (now (nexts .entry)) (now (heads .entry))) (now (image .entry)) (anodesFrom (now (counts .entry)) (now (firsts .entry)) (now (nexts .entry)))) 3444 (queueOf (now (queue .entry)) (now (parents .entry)) 1) (now (marks .entry)) 0 0 ⌝ }
+    ensures { λ r. ⌜ conclusion r (now (marks .exit)) (now (queue .exit)) (now (parents .exit)) ≡ runFrom (itemsWith (itemIn (now (counts .entry)) (now (nexts .entry)) (now (heads .entry))) (now (image .entry)) (anodesFrom (now (counts .entry)) (now (firsts .entry)) (now (nexts .entry)))) 3444 (queueOf (now (queue .entry)) (now (parents .entry)) 1) (now (marks .entry)) 0 [] ⌝ }
 {
     let mut tally = Tally { last: 1, files: 0 };
     let mut first: usize = 0;
@@ -326,7 +326,7 @@ fn walk_queue(
         }
         first += 1;
     }
-    TreeRead::Counted(tally.files, first as u16)
+    TreeRead::Counted(tally.files, tally.last as u16)
 }
 
 // Whether anode `x` from 6 up heads a chain and has no mark.
@@ -354,24 +354,27 @@ fn any_unnamed(heads: &[u16], marks: &[u16]) -> bool
     false
 }
 
-// Walks all directories; every entry is held to the rules, and every chain from 6 up must be named.
+// Walks all directories, and leaves them and their parents in two tables; every entry is held to the rules, and every chain from 6 up must be named.
 pub fn walk_tree(
     image: &[u8],
     counts: &[u16],
     firsts: &[u16],
     nexts: &[u16],
     heads: &[u16],
+    queue: &mut [u16],
+    parents: &mut [u16],
 ) -> TreeRead
     requires { ⌜ (length (now counts) ≡ 3444) × (length (now firsts) ≡ 3444) × (length (now nexts) ≡ 3444) × HeadTable (now heads) (anodesFrom (now counts) (now firsts) (now nexts)) ⌝ }
+    requires { ⌜ (length (now queue) ≡ 3444) × (length (now parents) ≡ 3444) ⌝ }
     ensures answer { λ r. ⌜ treeNumber r ≡ treeFault (now (image .entry)) (anodesFrom (now (counts .entry)) (now (firsts .entry)) (now (nexts .entry))) ⌝ }
     ensures counted { λ r. ⌜ Counts r (now (image .entry)) (anodesFrom (now (counts .entry)) (now (firsts .entry)) (now (nexts .entry))) ⌝ }
+    ensures queued { λ r. ⌜ Queued r (now (image .entry)) (anodesFrom (now (counts .entry)) (now (firsts .entry)) (now (nexts .entry))) (now (queue .exit)) (now (parents .exit)) ⌝ }
 {
     let mut marks = [0u16; 3444];
-    let mut queue = [0u16; 3444];
-    let mut parents = [0u16; 3444];
     // the root counts as marked, so that there is a mark for each directory in the queue
     marks[5] = 1;
     queue[0] = 5;
+    parents[0] = 0;
     let found = walk_queue(
         image,
         counts,
@@ -379,8 +382,8 @@ pub fn walk_tree(
         nexts,
         heads,
         &mut marks,
-        &mut queue,
-        &mut parents,
+        queue,
+        parents,
     );
     if let TreeRead::Fault(_) = found {
         return found;

@@ -8,31 +8,15 @@ wrong-slots-requires : tie.Need-wrong-slots-requires
 wrong-slots-requires c κs = search needs
 
 returns : tie.Need-returns
-returns c = (slots-wrong _ _ (sym (c .before .wrong-slots .ensures) ∙ c .if1 .taken), (tt, record { blocks-kept = refl; anodes-kept = refl }))
-
-slice-aggregate-load : tie.Need-slice-aggregate-load
-slice-aggregate-load c = search needs
-
-slice-aggregate-load-2 : tie.Need-slice-aggregate-load-2
-slice-aggregate-load-2 c = search needs
-
-slice-aggregate-load-3 : tie.Need-slice-aggregate-load-3
-slice-aggregate-load-3 c = search needs
+returns c = (slots-wrong _ _ (sym (c .before .wrong-slots .ensures) ∙ c .if1 .taken), (tt, (record { blocks-kept = refl; anodes-kept = refl }, tt)))
 
 load-requires : tie.Need-load-requires
 load-requires c κs = search needs
 
-slice-aggregate-test-all : tie.Need-slice-aggregate-test-all
-slice-aggregate-test-all c = search needs
-
-slice-aggregate-test-all-2 : tie.Need-slice-aggregate-test-all-2
-slice-aggregate-test-all-2 c = search needs
-
-slice-aggregate-test-all-3 : tie.Need-slice-aggregate-test-all-3
-slice-aggregate-test-all-3 c = search needs
-
 test-all-requires : tie.Need-test-all-requires
-test-all-requires c κs = ((search needs, search needs, search needs), (c .before .before .before .before .before .before .before .before .load .ensures, ((c .before .before .before .before .before .before .before .before .before .before .before .before .before .before .before .before .before .pre .0 .0, sym (c .before .before .before .before .before .before .before .before .before .before .before .before .before .wrong-slots .ensures) ∙ c .before .before .before .before .before .before .before .before .before .before .before .before .if1 .left, c .before .before .before .before .before .before .before .before .before .before .before .before .before .before .before .before .before .pre .0 .1, c .before .before .before .before .before .before .before .before .before .before .before .before .before .before .before .before .before .pre .0 .2), (c .before .before .before .before .before .before .before .before .before .before .before .before .before .before .before .before .before .pre .1 .0, c .before .before .before .before .before .before .before .before .before .before .before .before .before .before .before .before .before .pre .1 .1))))
+test-all-requires c κs =
+    let p = c .before .before .before .before .before .before .before .before .before .before .before .before .before .before .before .before .before .before .before .before .before .before .before .before .before .before .before .pre .1 in
+    ((search needs, search needs, search needs, search needs, search needs), (c .before .before .before .before .before .before .before .before .before .before .before .before .before .load .ensures, ((p .0 .0, sym (c .before .before .before .before .before .before .before .before .before .before .before .before .before .before .before .before .before .before .wrong-slots .ensures) ∙ c .before .before .before .before .before .before .before .before .before .before .before .before .before .before .before .before .before .if1 .left, p .0 .1, p .0 .2), (p .1 .0, p .1 .1))))
 
 same-length : tie.Need-same-length
 same-length c = search needs
@@ -40,8 +24,23 @@ same-length c = search needs
 same-length-2 : tie.Need-same-length-2
 same-length-2 c = search needs
 
+same-length-3 : tie.Need-same-length-3
+same-length-3 c = search needs
+
+same-length-4 : tie.Need-same-length-4
+same-length-4 c = search needs
+
+same-length-5 : tie.Need-same-length-5
+same-length-5 c = search needs
+
+same-length-6 : tie.Need-same-length-6
+same-length-6 c = search needs
+
+same-length-7 : tie.Need-same-length-7
+same-length-7 c = search needs
+
 returns-2 : tie.Need-returns-2
-returns-2 c = (slots-right _ _ _ (sym (c .before .before .before .before .before .before .before .before .before .before .before .before .before .before .before .before .before .before .wrong-slots .ensures) ∙ c .before .before .before .before .before .before .before .before .before .before .before .before .before .before .before .before .before .if1 .left) (c .before .before .before .before .test-all .ensures .0), (c .before .before .before .before .test-all .ensures .1 .0, c .before .before .before .before .test-all .ensures .1 .1))
+returns-2 c = (slots-right _ _ _ (sym (c .before .before .before .before .before .before .before .before .before .before .before .before .before .before .before .before .before .before .before .before .before .before .before .before .before .before .before .wrong-slots .ensures) ∙ c .before .before .before .before .before .before .before .before .before .before .before .before .before .before .before .before .before .before .before .before .before .before .before .before .before .before .if1 .left) (c .before .before .before .before .before .before .before .before .test-all .ensures .0), c .before .before .before .before .before .before .before .before .test-all .ensures .1)
 
 pub examine-spec : {M : Type 1} → statement M
 examine-spec =
@@ -49,14 +48,13 @@ examine-spec =
     (tie.spec
     wrong-slots-requires
     returns
-    slice-aggregate-load
-    slice-aggregate-load-2
-    slice-aggregate-load-3
     load-requires
-    slice-aggregate-test-all
-    slice-aggregate-test-all-2
-    slice-aggregate-test-all-3
     test-all-requires
     same-length
     same-length-2
+    same-length-3
+    same-length-4
+    same-length-5
+    same-length-6
+    same-length-7
     returns-2)

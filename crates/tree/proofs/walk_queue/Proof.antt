@@ -1,7 +1,8 @@
 use mathlib.Core.Path.{_≡_, sym, _∙_}
 use Prim.Native.Nat.{_+_, _-_, _≤_}
 use native.Mathlib.Omega.{arith}
-use lib.ListN.{drop}
+use mathlib.Core.List.{[]}
+use lib.ListN.{take, drop}
 use Rattle.anodes.specs.Loaded.{anodesFrom}
 use Rattle.tree.specs.Steps.{itemIn, itemsWith, runFrom, queueOf, Room}
 use Rattle.tree.proofs.Laws.{marked-most, run-end, run-stop, run-step}
@@ -13,7 +14,7 @@ abbrev Inv-loop : tie.InvT-loop
 Inv-loop image counts firsts nexts heads marks₀ queue₀ parents₀ tally₀ first₀ marks queue parents tally first =
     Room tally marks queue parents
     × (first ≤ 3444)
-    × (runFrom (itemsWith (itemIn counts nexts heads) image (anodesFrom counts firsts nexts)) (3444 - first) (drop first (queueOf queue parents (tally .last))) marks (tally .files) first ≡ runFrom (itemsWith (itemIn counts nexts heads) image (anodesFrom counts firsts nexts)) 3444 (queueOf queue₀ parents₀ 1) marks₀ 0 0)
+    × (runFrom (itemsWith (itemIn counts nexts heads) image (anodesFrom counts firsts nexts)) (3444 - first) (drop first (queueOf queue parents (tally .last))) marks (tally .files) (take first (queueOf queue parents (tally .last))) ≡ runFrom (itemsWith (itemIn counts nexts heads) image (anodesFrom counts firsts nexts)) 3444 (queueOf queue₀ parents₀ 1) marks₀ 0 [])
 
 abbrev μ-loop : tie.MeasureT-loop
 μ-loop image counts firsts nexts heads marks₀ queue₀ parents₀ tally₀ first₀ marks queue parents tally first = 3444 - first
@@ -51,7 +52,7 @@ returns c =
     let g = c .before .step2 .given in
     let room = marked-most (l .marks) in
     let e = rw (c .before .before .before .before .before .before .before .before .before .before .before .before .before .before .before .entry .ensures, c .before .before .before .before .before .before .before .before .before .before .before .before .before .entry2 .ensures, g .1) at (sym (c .before .before .before .before .before .before .before .before .before .enter-directory .ensures .0)) in
-    sym (run-stop _ _ _ _ _ _ _ _ _ (3444 - (l .first + 1)) (omega arith) (c .before .before .before .before .before .before .before .before .before .before .before .before .before .before .before .before .before .if1 .taken) _ e) ∙ l .inv .2
+    sym (run-stop _ _ _ _ _ _ _ _ (3444 - (l .first + 1)) (omega arith) (c .before .before .before .before .before .before .before .before .before .before .before .before .before .before .before .before .before .if1 .taken) _ e) ∙ l .inv .2
 
 add-first : tie.Need-add-first Inv-loop μ-loop
 add-first c = search needs
@@ -69,7 +70,7 @@ loop-again c =
     let e = rw (c .before .before .before .before .before .before .before .before .before .before .before .before .before .before .before .entry .ensures, c .before .before .before .before .before .before .before .before .before .before .before .before .before .entry2 .ensures, g .1) at (sym (c .before .before .before .before .before .before .before .before .before .enter-directory .ensures .0)) in (
       (search needs, search needs, search needs, rw (g .1) at (c .before .before .before .before .before .before .before .before .before .enter-directory .ensures .1)),
       omega arith,
-      sym (run-step _ _ _ _ _ _ _ _ _ (3444 - (l .first + 1)) (omega arith) (c .before .before .before .before .before .before .before .before .before .before .before .before .before .before .before .before .before .if1 .taken) _ _ _ e) ∙ l .inv .2,
+      sym (run-step _ _ _ _ _ _ _ _ (3444 - (l .first + 1)) (omega arith) (c .before .before .before .before .before .before .before .before .before .before .before .before .before .before .before .before .before .if1 .taken) _ _ _ e) ∙ l .inv .2,
     )
 
 cast-t28 : tie.Need-cast-t28 Inv-loop μ-loop
@@ -85,7 +86,7 @@ same-length-6 : tie.Need-same-length-6 Inv-loop μ-loop
 same-length-6 c = search needs
 
 returns-2 : tie.Need-returns-2 Inv-loop μ-loop
-returns-2 c = sym (run-end _ _ _ _ _ _ _ _ _ (c .if1 .left)) ∙ c .before .before .loop .inv .2
+returns-2 c = sym (run-end _ _ _ _ _ _ _ _ (c .before .if1 .left)) ∙ c .before .before .before .loop .inv .2
 
 pub walk-queue-spec : {M : Type 1} → statement M
 walk-queue-spec =

@@ -1,5 +1,6 @@
 use mathlib.Core.Path.{sym, _∙_}
 use mathlib.Core.Bool.{true, false}
+use lib.ListN.{length-set}
 use Rattle.tree.proofs.Rules.{start-fits, answered}
 use borrow.Author.Needs.{needs}
 use Rattle.tree.proofs.walk_tree.Statement.{statement}
@@ -8,28 +9,32 @@ use Rattle.tree.proofs.walk_tree.Tie as tie
 array-write-marks : tie.Need-array-write-marks
 array-write-marks c = search needs
 
-array-write-queue : tie.Need-array-write-queue
-array-write-queue c = search needs
+slice-write-queue : tie.Need-slice-write-queue
+slice-write-queue c = search needs
+
+slice-write-parents : tie.Need-slice-write-parents
+slice-write-parents c = search needs
 
 slice-aggregate-walk-queue : tie.Need-slice-aggregate-walk-queue
 slice-aggregate-walk-queue c = search needs
 
-slice-aggregate-walk-queue-2 : tie.Need-slice-aggregate-walk-queue-2
-slice-aggregate-walk-queue-2 c = search needs
-
-slice-aggregate-walk-queue-3 : tie.Need-slice-aggregate-walk-queue-3
-slice-aggregate-walk-queue-3 c = search needs
-
 walk-queue-requires : tie.Need-walk-queue-requires
-walk-queue-requires c κs = (search needs, search needs, search needs, start-fits)
+walk-queue-requires c κs = (search needs, simp length-set (search needs), simp length-set (search needs), start-fits)
 
 enum-told : tie.Need-enum-told
 enum-told c = search needs
 
+same-length : tie.Need-same-length
+same-length c = c .before .before .before .before .before .before .before .walk-queue .kept .1 .1 .1 .1 .1 .1 .0 ∙ simp length-set
+
+same-length-2 : tie.Need-same-length-2
+same-length-2 c = c .before .before .before .before .before .before .before .walk-queue .kept .1 .1 .1 .1 .1 .1 .1 .0 ∙ simp length-set
+
 returns : tie.Need-returns
 returns c =
     let e = c .enum-told .given .1 in
-    rw e (rw e at (answered _ _ _ _ _ (c .before .before .before .before .before .before .before .before .before .before .before .before .before .before .pre .1) (c .before .before .before .before .before .before .before .before .before .before .before .before .before .before .pre .3) (c .before .before .before .before .before .walk-queue .result) (c .before .before .before .before .before .walk-queue .last .1 .1 .1 .1 .1 .0) (c .before .before .before .before .before .walk-queue .ensures)), tt)
+    let w = c .before .before .before .before .before .before .before .walk-queue in
+    rw e (rw e at (answered _ _ _ _ _ (c .before .before .before .before .before .before .before .before .before .before .before .before .before .before .before .before .before .before .pre .0 .1) (c .before .before .before .before .before .before .before .before .before .before .before .before .before .before .before .before .before .before .pre .0 .3) (c .before .before .before .before .before .before .before .before .before .before .before .before .before .before .before .before .before .before .args .queue .now) (c .before .before .before .before .before .before .before .before .before .before .before .before .before .before .before .before .before .before .args .parents .now) (c .before .before .before .before .before .before .before .before .before .before .before .before .before .before .before .before .before .before .pre .1 .0) (c .before .before .before .before .before .before .before .before .before .before .before .before .before .before .before .before .before .before .pre .1 .1) (w .result) (w .last .1 .1 .1 .1 .1 .0) (w .last .1 .1 .1 .1 .1 .1 .0) (w .last .1 .1 .1 .1 .1 .1 .1 .0) (w .ensures)), (tt, tt))
 
 enum-told-2 : tie.Need-enum-told-2
 enum-told-2 c = search needs
@@ -40,31 +45,50 @@ slice-aggregate-any-unnamed c = search needs
 any-unnamed-requires : tie.Need-any-unnamed-requires
 any-unnamed-requires c κs = search needs
 
+same-length-3 : tie.Need-same-length-3
+same-length-3 c = c .before .before .before .before .before .before .before .before .before .before .walk-queue .kept .1 .1 .1 .1 .1 .1 .0 ∙ simp length-set
+
+same-length-4 : tie.Need-same-length-4
+same-length-4 c = c .before .before .before .before .before .before .before .before .before .before .walk-queue .kept .1 .1 .1 .1 .1 .1 .1 .0 ∙ simp length-set
+
 returns-2 : tie.Need-returns-2
 returns-2 c =
-    let w = rw (c .before .before .before .enum-told2 .given .1) at (answered _ _ _ _ _ (c .before .before .before .before .before .before .before .before .before .before .before .before .before .before .before .before .before .pre .1) (c .before .before .before .before .before .before .before .before .before .before .before .before .before .before .before .before .before .pre .3) (c .before .before .before .before .before .before .before .before .walk-queue .result) (c .before .before .before .before .before .before .before .before .walk-queue .last .1 .1 .1 .1 .1 .0) (c .before .before .before .before .before .before .before .before .walk-queue .ensures)) in
-    (sym (w .0 true (sym (c .before .any-unnamed .ensures) ∙ c .if1 .taken)), tt)
+    let w = c .before .before .before .before .before .before .before .before .before .before .walk-queue in
+    let s = rw (c .before .before .before .enum-told2 .given .1) at (answered _ _ _ _ _ (c .before .before .before .before .before .before .before .before .before .before .before .before .before .before .before .before .before .before .before .before .before .pre .0 .1) (c .before .before .before .before .before .before .before .before .before .before .before .before .before .before .before .before .before .before .before .before .before .pre .0 .3) (c .before .before .before .before .before .before .before .before .before .before .before .before .before .before .before .before .before .before .before .before .before .args .queue .now) (c .before .before .before .before .before .before .before .before .before .before .before .before .before .before .before .before .before .before .before .before .before .args .parents .now) (c .before .before .before .before .before .before .before .before .before .before .before .before .before .before .before .before .before .before .before .before .before .pre .1 .0) (c .before .before .before .before .before .before .before .before .before .before .before .before .before .before .before .before .before .before .before .before .before .pre .1 .1) (w .result) (w .last .1 .1 .1 .1 .1 .0) (w .last .1 .1 .1 .1 .1 .1 .0) (w .last .1 .1 .1 .1 .1 .1 .1 .0) (w .ensures)) in
+    (sym (s .0 true (sym (c .before .any-unnamed .ensures) ∙ c .if1 .taken)), (tt, tt))
+
+same-length-5 : tie.Need-same-length-5
+same-length-5 c = c .before .before .before .before .before .before .before .before .before .before .walk-queue .kept .1 .1 .1 .1 .1 .1 .0 ∙ simp length-set
+
+same-length-6 : tie.Need-same-length-6
+same-length-6 c = c .before .before .before .before .before .before .before .before .before .before .walk-queue .kept .1 .1 .1 .1 .1 .1 .1 .0 ∙ simp length-set
 
 returns-3 : tie.Need-returns-3
 returns-3 c =
     let e = c .before .before .before .enum-told2 .given .1 in
-    let w = rw e at (answered _ _ _ _ _ (c .before .before .before .before .before .before .before .before .before .before .before .before .before .before .before .before .before .pre .1) (c .before .before .before .before .before .before .before .before .before .before .before .before .before .before .before .before .before .pre .3) (c .before .before .before .before .before .before .before .before .walk-queue .result) (c .before .before .before .before .before .before .before .before .walk-queue .last .1 .1 .1 .1 .1 .0) (c .before .before .before .before .before .before .before .before .walk-queue .ensures)) in
-    rw e (sym (w .0 false (sym (c .before .any-unnamed .ensures) ∙ c .if1 .left)), (w .1, w .2))
+    let w = c .before .before .before .before .before .before .before .before .before .before .walk-queue in
+    let s = rw e at (answered _ _ _ _ _ (c .before .before .before .before .before .before .before .before .before .before .before .before .before .before .before .before .before .before .before .before .before .pre .0 .1) (c .before .before .before .before .before .before .before .before .before .before .before .before .before .before .before .before .before .before .before .before .before .pre .0 .3) (c .before .before .before .before .before .before .before .before .before .before .before .before .before .before .before .before .before .before .before .before .before .args .queue .now) (c .before .before .before .before .before .before .before .before .before .before .before .before .before .before .before .before .before .before .before .before .before .args .parents .now) (c .before .before .before .before .before .before .before .before .before .before .before .before .before .before .before .before .before .before .before .before .before .pre .1 .0) (c .before .before .before .before .before .before .before .before .before .before .before .before .before .before .before .before .before .before .before .before .before .pre .1 .1) (w .result) (w .last .1 .1 .1 .1 .1 .0) (w .last .1 .1 .1 .1 .1 .1 .0) (w .last .1 .1 .1 .1 .1 .1 .1 .0) (w .ensures)) in
+    rw e (sym (s .0 false (sym (c .before .any-unnamed .ensures) ∙ c .if1 .left)), ((s .1, s .2), s .3))
 
 pub walk-tree-spec : {M : Type 1} → statement M
 walk-tree-spec =
     tie.close
     (tie.spec
     array-write-marks
-    array-write-queue
+    slice-write-queue
+    slice-write-parents
     slice-aggregate-walk-queue
-    slice-aggregate-walk-queue-2
-    slice-aggregate-walk-queue-3
     walk-queue-requires
     enum-told
+    same-length
+    same-length-2
     returns
     enum-told-2
     slice-aggregate-any-unnamed
     any-unnamed-requires
+    same-length-3
+    same-length-4
     returns-2
+    same-length-5
+    same-length-6
     returns-3)

@@ -1,0 +1,156 @@
+-- An image that the check accepted, and the outcome of the calls that read it.
+use Prim.Native.Nat.{ℕ, zero, suc, _≤_, _<_}
+use mathlib.Core.Path.{_≡_, refl, sym, ap, _∙_}
+use mathlib.Core.Logic.{inl, inr}
+use mathlib.Core.List.{List, [], _∷_, _++_}
+use mathlib.Core.Option.{Option}
+use native.Mathlib.Nat.{zero-add}
+use native.Mathlib.Omega.{arith}
+use lib.ListN.{length, getD, drop, replicate, List·getD-append}
+use Rattle.disk.specs.declared.Refusal.{Refusal}
+use Rattle.disk.specs.Refusals.{numberOf}
+use Rattle.disk.proofs.Laws.{getD-listed, length-listed}
+use Rattle.rules.specs.Counting.{firstOf}
+use Rattle.rules.specs.Anodes.{limit, anodesOf}
+use Rattle.rules.specs.Walk.{Entered}
+use Rattle.rules.specs.Accepted.{diskSize, checkAnswer}
+use Rattle.rules.specs.Tables.{anodeEntry, anodeTable, blockTable, tableLeft, blocksLeft, anodesLeft}
+use Rattle.rules.specs.Lookup.{entryNamed, entriesOf, nth}
+use Rattle.rules.specs.Calls.{Outcome, outcomeOf, settled, checkOutcome, spanAnswer, bytesRead, readAnswer, readOutcome, listAnswer, listAnswered, fieldsListed, nameListed, listOutcome}
+use Rattle.fsck.specs.declared.Tally.{Tally}
+use Rattle.fsck.specs.declared.Checked.{Checked}
+use Rattle.fsck.specs.declared.Checked.the-variants.{Accepted, Refused}
+use Rattle.fsck.specs.Answers.{checkedNumber, Opened}
+use Rattle.fsck.proofs.Laws.{number-some}
+use Rattle.changes.specs.Answers.{Late, own-tables, span-late, list-late}
+use Rattle.changed.specs.Laws.{late-table}
+use Rattle.find.specs.Open.{Open}
+
+-- a number after the check's 0, and the check's own where it refuses
+first-zero : (a b : ℕ) → a ≡ 0 → firstOf a b ≡ b
+unfolding firstOf
+first-zero a b e = rw e
+
+first-some : (a b k : ℕ) → a ≡ k → 1 ≤ k → firstOf a b ≡ k
+unfolding firstOf
+first-some zero b k e l = absurd (omega arith)
+first-some (suc a) b k e l = e
+
+-- the tables that 0 shows are those of every late answer
+late-tables : (k : ℕ) → Late k → (range : ℕ) (shown old : List ℕ) → tableLeft k range shown old ≡ tableLeft 0 range shown old
+late-tables k (inl e) range shown old = ap (λ (n : ℕ). tableLeft n range shown old) e
+late-tables k (inr l) range shown old = late-table k l range shown old
+
+module _ (img b₀ a₀ b a : List ℕ) (x : Checked) (e : outcomeOf (checkedNumber x) img b a [] [] ≡ checkOutcome img b₀ a₀) where
+  answer-is : checkAnswer img (length b₀) (length a₀) ≡ checkedNumber x
+  unfolding checkOutcome settled
+  answer-is = ap (λ (o : Outcome). o .answer) (sym e)
+
+  blocks-are : b ≡ blocksLeft (checkedNumber x) img b₀
+  unfolding checkOutcome settled
+  blocks-are = ap (λ (o : Outcome). o .blocks) e ∙ ap (λ (n : ℕ). blocksLeft n img b₀) answer-is
+
+  anodes-are : a ≡ anodesLeft (checkedNumber x) img a₀
+  unfolding checkOutcome settled
+  anodes-are = ap (λ (o : Outcome). o .anodes) e ∙ ap (λ (n : ℕ). anodesLeft n img a₀) answer-is
+
+  -- ---- refused
+
+  module _ (r : Refusal) (is : x ≡ Refused r) (k : ℕ) (n : k ≡ numberOf r) where
+    answers-k : checkAnswer img (length b₀) (length a₀) ≡ k
+    answers-k = answer-is ∙ ap checkedNumber is ∙ sym n
+
+    some : 1 ≤ k
+    some = omega (arith, n, number-some r)
+
+    blocks-k : b ≡ blocksLeft k img b₀
+    blocks-k = blocks-are ∙ ap (λ (m : ℕ). blocksLeft m img b₀) (ap checkedNumber is ∙ sym n)
+
+    anodes-k : a ≡ anodesLeft k img a₀
+    anodes-k = anodes-are ∙ ap (λ (m : ℕ). anodesLeft m img a₀) (ap checkedNumber is ∙ sym n)
+
+    bytes-some : (m : ℕ) → 1 ≤ m → (o : Option Entered) (offset : ℕ) (out : List ℕ) → bytesRead m img (anodesOf img) o offset out ≡ out
+    bytes-some zero l o offset out = absurd (omega arith)
+    bytes-some (suc m) l o offset out = refl
+
+    fields-some : (m : ℕ) → 1 ≤ m → (o : Option Entered) → fieldsListed m img o ≡ replicate 11 0
+    fields-some zero l o = absurd (omega arith)
+    fields-some (suc m) l o = refl
+
+    name-some : (m : ℕ) → 1 ≤ m → (o : Option Entered) → nameListed m img o ≡ []
+    name-some zero l o = absurd (omega arith)
+    name-some (suc m) l o = refl
+
+    pub read-refused : (h : ℕ) (name : List ℕ) (offset : ℕ) (out : List ℕ) → outcomeOf k img b a out [] ≡ readOutcome img b₀ a₀ h name offset out
+    unfolding readOutcome readAnswer settled
+    read-refused h name offset out =
+        rw (
+          first-some (checkAnswer img (length b₀) (length a₀)) (spanAnswer img (anodesOf img) h name offset (length out)) k answers-k some,
+          bytes-some k some (entryNamed img (anodesOf img) h name) offset out,
+          ← blocks-k,
+          ← anodes-k,
+        )
+
+    pub list-refused : (h n : ℕ) → outcomeOf k img b a (replicate 11 0) [] ≡ listOutcome img b₀ a₀ h n
+    unfolding listOutcome listAnswered settled
+    list-refused h n =
+        rw (
+          first-some (checkAnswer img (length b₀) (length a₀)) (listAnswer img (anodesOf img) h n) k answers-k some,
+          fields-some k some (nth (entriesOf img (anodesOf img) h) n),
+          name-some k some (nth (entriesOf img (anodesOf img) h) n),
+          ← blocks-k,
+          ← anodes-k,
+        )
+
+  -- ---- accepted
+
+  module _ (t : Tally) (is : x ≡ Accepted t) where
+    answers-0 : checkAnswer img (length b₀) (length a₀) ≡ 0
+    answers-0 = answer-is ∙ ap checkedNumber is
+
+    pub accepted-blocks : b ≡ blocksLeft 0 img b₀
+    accepted-blocks = blocks-are ∙ ap (λ (m : ℕ). blocksLeft m img b₀) (ap checkedNumber is)
+
+    pub accepted-anodes : a ≡ anodesLeft 0 img a₀
+    accepted-anodes = anodes-are ∙ ap (λ (m : ℕ). anodesLeft m img a₀) (ap checkedNumber is)
+
+    blocks-late : (k : ℕ) → Late k → blocksLeft k img b₀ ≡ b
+    unfolding blocksLeft
+    blocks-late k l = late-tables k l (diskSize img) (blockTable img (anodesOf img)) b₀ ∙ sym accepted-blocks
+
+    anodes-late : (k : ℕ) → Late k → anodesLeft k img a₀ ≡ a
+    unfolding anodesLeft
+    anodes-late k l = late-tables k l limit (anodeTable (anodesOf img)) a₀ ∙ sym accepted-anodes
+
+    -- what the check loaded and filled
+    pub opened : (counts firsts nexts queue parents : List ℕ) → Opened x img counts firsts nexts queue parents → Open img counts firsts nexts queue parents a (t .dirs)
+    unfolding anodesLeft tableLeft anodeTable
+    opened counts firsts nexts queue parents q =
+        let o = rw is at q in
+        record {
+          accepted = own-tables img (length b₀) (length a₀) answers-0;
+          loaded = o .0;
+          queued = o .1;
+          shown = λ i l. ap (λ (z : List ℕ). getD z i 0) accepted-anodes
+              ∙ List·getD-append (anodeTable (anodesOf img)) (drop limit a₀) 0 i (rw (length-listed (anodeEntry (anodesOf img)) 0 limit) l)
+              ∙ getD-listed (anodeEntry (anodesOf img)) 0 limit i 0 l ∙ ap (anodeEntry (anodesOf img)) (zero-add i);
+          counts-long = o .2 .0;
+          firsts-long = o .2 .1;
+          nexts-long = o .2 .2;
+          queue-long = o .2 .3;
+          parents-long = o .2 .4;
+        }
+
+    pub read-answered : (h : ℕ) (name : List ℕ) (offset : ℕ) (out out′ : List ℕ) (k : ℕ) → k ≡ spanAnswer img (anodesOf img) h name offset (length out) →
+        out′ ≡ bytesRead k img (anodesOf img) (entryNamed img (anodesOf img) h name) offset out → outcomeOf k img b a out′ [] ≡ readOutcome img b₀ a₀ h name offset out
+    unfolding readOutcome readAnswer settled
+    read-answered h name offset out out′ k span bytes =
+        let l : Late k = rw span (span-late img (anodesOf img) h name offset (length out)) in
+        rw (first-zero (checkAnswer img (length b₀) (length a₀)) (spanAnswer img (anodesOf img) h name offset (length out)) answers-0, ← span, blocks-late k l, anodes-late k l, bytes)
+
+    pub list-answered : (h n : ℕ) (fields name : List ℕ) (k : ℕ) → k ≡ listAnswer img (anodesOf img) h n → fields ≡ fieldsListed k img (nth (entriesOf img (anodesOf img) h) n) →
+        name ≡ nameListed k img (nth (entriesOf img (anodesOf img) h) n) → outcomeOf k img b a fields name ≡ listOutcome img b₀ a₀ h n
+    unfolding listOutcome listAnswered settled
+    list-answered h n fields name k is-k f m =
+        let l : Late k = rw is-k (list-late img (anodesOf img) h n) in
+        rw (first-zero (checkAnswer img (length b₀) (length a₀)) (listAnswer img (anodesOf img) h n) answers-0, ← is-k, blocks-late k l, anodes-late k l, f, m)

@@ -1,0 +1,55 @@
+use Prim.Native.Nat.{ℕ}
+use mathlib.Core.Path.{ap, _∙_}
+use mathlib.Core.List.{List, _++_}
+use lib.ListN.{drop, replicate, length-replicate}
+use lib.Seq.{drop-at}
+use Rattle.rules.specs.Tables.{anodeTable}
+use Rattle.anodes.specs.Loaded.{anodesFrom}
+use Rattle.chains.proofs.Predecessors.{table-of}
+use Rattle.chains.proofs.Links.{next-in, noted-once}
+use Rattle.chains.proofs.Laws.{zeroed}
+use borrow.Author.Needs.{needs}
+use Rattle.chains.proofs.show_heads.Statement.{statement}
+use Rattle.chains.proofs.show_heads.Tie as tie
+
+slice-aggregate-note-preds : tie.Need-slice-aggregate-note-preds
+slice-aggregate-note-preds c = search needs
+
+note-preds-requires : tie.Need-note-preds-requires
+note-preds-requires c κs =
+    let g = c .before .before .before .before .args in
+    let p = c .before .before .before .before .pre in
+    (search needs, p .2 .zero-end, next-in (g .firsts .now) (g .nexts .now) (p .2) (record { next-used = p .3 .closed }))
+
+zero-first-requires : tie.Need-zero-first-requires
+zero-first-requires c κs = search needs
+
+slice-aggregate-fill-heads : tie.Need-slice-aggregate-fill-heads
+slice-aggregate-fill-heads c = search needs
+
+fill-heads-requires : tie.Need-fill-heads-requires
+fill-heads-requires c κs =
+    let g = c .before .before .before .before .before .before .before .before .before .before .before .before .args in
+    let p = c .before .before .before .before .before .before .before .before .before .before .before .before .pre in
+    let n = c .before .before .before .before .before .before .before .note-preds in
+    (search needs, λ a l. rw (c .before .before .before .before .zero-first .ensures) (zeroed 3444 (drop 3444 (g .heads .now)) a l), p .2, p .3, table-of _ _ (p .1) (noted-once (g .firsts .now) (g .nexts .now) (p .2) (p .3) (n .result) _ (n .ensures)))
+
+same-length : tie.Need-same-length
+same-length c = search needs
+
+returns : tie.Need-returns
+returns c =
+    let g = c .before .before .before .before .before .before .before .before .before .before .before .before .before .before .before .args in
+    λ k. c .before .before .fill-heads .ensures k ∙ ap (λ (l : List ℕ). anodeTable (anodesFrom k (g .firsts .now) (g .nexts .now)) ++ l) (ap (λ (l : List ℕ). drop 3444 l) (c .before .before .before .before .before .before .before .zero-first .ensures) ∙ drop-at (replicate 3444 0) (drop 3444 (g .heads .now)) 3444 (length-replicate {A = ℕ} 3444 0))
+
+pub show-heads-spec : {M : Type 1} → statement M
+show-heads-spec =
+    tie.close
+    (tie.spec
+    slice-aggregate-note-preds
+    note-preds-requires
+    zero-first-requires
+    slice-aggregate-fill-heads
+    fill-heads-requires
+    same-length
+    returns)

@@ -1,0 +1,66 @@
+-- The chains of a loaded image, and how many blocks a chain may have.
+use Prim.Native.Nat.{ℕ, _*_, _%_, _≤_, _<_}
+use mathlib.Core.Path.{_≡_}
+use mathlib.Core.Logic.{_≢_, inl, inr}
+use mathlib.Core.Bool.{Bool, false, not, _||_}
+use mathlib.Core.List.{List}
+use native.Mathlib.Omega.{arith}
+use lib.Dec.{eqb, ltb}
+use lib.ListN.{length, take, length-take}
+use borrow.Author.Tests.{ltb-false}
+use Rattle.rules.specs.Counting.{oneAt}
+use Rattle.rules.specs.Anodes.{Anodes, limit, exists}
+use Rattle.rules.specs.Chains.{systemOwns, blockCount}
+use Rattle.rules.specs.Walk.{Entered}
+use Rattle.rules.specs.Accepted.{diskSize, wrongSize, lastReserved}
+use Rattle.counting.specs.Laws.{neither}
+use Rattle.laws.specs.Acceptance.{passed-of}
+use Rattle.laws.specs.Sums.{oneAt-cases, sum-mono, sum-member}
+use Rattle.laws.specs.Ownership.{total}
+use Rattle.laws.specs.Heads.{Head}
+use Rattle.laws.specs.Blocks.{blocks}
+use Rattle.laws.specs.Space.{Good}
+use Rattle.laws.specs.Whole.{blocks-count}
+use Rattle.anodes.specs.Loaded.{anodesFrom}
+use Rattle.changes.specs.Image.{headIn, sideIn, accepted-whole}
+use Rattle.changes.specs.Reached.{EntryFacts, entry-facts}
+use Rattle.changed.specs.Leaves.{Loaded, ReachedEntry}
+
+module _ {img counts firsts nexts : List ℕ} (l : Loaded img counts firsts nexts) where
+  pub loaded-size : wrongSize img ≡ false
+  loaded-size = passed-of img (diskSize img) limit (l .accepted) .size-right
+
+  pub loaded-good : Good limit (exists img) (diskSize img) (lastReserved img) (anodesFrom counts firsts nexts) (systemOwns img) (headIn img) (sideIn img)
+  loaded-good = rw (l .is-loaded) (accepted-whole img (diskSize img) limit (l .accepted) .good)
+
+  -- the chain that a reached entry names
+  module _ (e : Entered) (r : ReachedEntry img e) where
+    pub entry-known : EntryFacts img (r .0) e
+    entry-known = entry-facts img (diskSize img) limit (l .accepted) (r .0) (r .1) e (r .2)
+
+    pub entry-not-1 : e .anode ≢ 1
+    entry-not-1 i = omega (arith, i, entry-known .from-6)
+
+    pub entry-head : Head (anodesFrom counts firsts nexts .next) (anodesFrom counts firsts nexts .block) (e .anode)
+    entry-head = rw (l .is-loaded) (entry-known .head)
+
+-- fewer than 65,535: block 0 is the system's
+pub count-less : (img : List ℕ) → wrongSize img ≡ false → (s : Anodes) {ex : ℕ → Bool} {last : ℕ} {hd sd : ℕ → ℕ} → Good limit ex (diskSize img) last s (systemOwns img) hd sd →
+    (h : ℕ) → Head (s .next) (s .block) h → blockCount s h < 65535
+unfolding wrongSize systemOwns blocks
+count-less img right s {hd = hd} g h d =
+    let small = neither (not (eqb (length img % 512) 0)) (ltb (diskSize img) 5 || ltb 65535 (diskSize img)) right .1 in
+    let ends = neither (ltb (diskSize img) 5) (ltb 65535 (diskSize img)) small in
+    let least : 5 ≤ diskSize img = ltb-false (diskSize img) 5 (ends .0) in
+    omega (
+      arith,
+      ltb-false 65535 (diskSize img) (ends .1),
+      sum-member (systemOwns img) 0 (diskSize img) (omega arith),
+      total limit (s .count) (s .block) (systemOwns img) (diskSize img) (g .own),
+      blocks-count g h d,
+      sum-mono (λ a. oneAt (hd a) h * s .count a) (s .count) limit (λ a q. elim (oneAt-cases (hd a) h) [ inl o ↦ rw (o .1) (omega arith) | inr o ↦ rw (o .1) (omega arith) ]),
+    )
+
+-- so a table of 65,535 numbers has all that were noted
+pub noted-all : (n : ℕ) (moved : List ℕ) → length moved ≡ 65535 → length (take n moved) < 65535 → n ≤ length moved
+noted-all n moved long few = omega (arith, long, few, length-take n moved)

@@ -1,0 +1,67 @@
+-- What a refused and a done change leave of the tables.
+use Prim.Native.Nat.{ℕ, zero, suc, _≤_, _<_}
+use mathlib.Core.Path.{_≡_, refl, sym, ap, _∙_}
+use mathlib.Core.Logic.{_≢_}
+use mathlib.Core.Bool.{Bool}
+use mathlib.Core.List.{List, [], _∷_, _++_}
+use native.Mathlib.Omega.{arith}
+use lib.ListN.{length, drop}
+use borrow.Author.Tests.{le-leb, lt-leb}
+use Rattle.disk.proofs.Laws.{length-listed}
+use Rattle.rules.specs.Anodes.{Anodes, limit, anodesOf}
+use Rattle.rules.specs.Chains.{systemOwns}
+use Rattle.rules.specs.Accepted.{diskSize}
+use Rattle.rules.specs.Tables.{anodeTable, anodeEntry, blockTable, blockEntry, ownerHead, tableLeft, blocksLeft, anodesLeft}
+use Rattle.rules.specs.Changes.{left}
+use Rattle.rules.specs.Calls.{settled}
+use Rattle.laws.specs.Space.{Good}
+use Rattle.laws.specs.Resize.{Ran}
+use Rattle.laws.specs.OwnerTable.{ran-data, setAll, setAll-front, kept-table, ran-table}
+use Rattle.frames.specs.Kept.{diskSize-kept, systemOwns-kept}
+use Rattle.changes.specs.Image.{SameDisk}
+use Rattle.changed.specs.Leaves.{Leaves}
+
+-- an answer past the damage numbers shows the tables as 0 does
+pub late-table : (k : ℕ) → 17 ≤ k → (range : ℕ) (shown old : List ℕ) → tableLeft k range shown old ≡ tableLeft 0 range shown old
+unfolding tableLeft
+late-table zero l range shown old = absurd (omega arith)
+late-table (suc k) l range shown old = rw (le-leb 1 (suc k) (omega arith), le-leb 5 (suc k) (omega arith), lt-leb (suc k) 4 (omega arith), lt-leb (suc k) 16 (omega arith))
+
+-- a refused change leaves image and tables
+pub leaves-refused : (k : ℕ) → 17 ≤ k → (img b a : List ℕ) → Leaves k img b a img b a (left k img)
+unfolding settled blocksLeft anodesLeft
+leaves-refused k l img b a b₀ a₀ p q =
+    rw (p, q, late-table k l (diskSize img) (blockTable img (anodesOf img)) b₀, late-table k l limit (anodeTable (anodesOf img)) a₀)
+
+-- a table that shows the owners of the blocks by the anodes s, and what stands behind it
+abbrev pub Shows : List ℕ → Anodes → List ℕ → List ℕ → Type 0
+Shows img s b r = b ≡ blockTable img s ++ r
+
+-- blocks went from one head's chain to another's
+pub shows-ran : (img : List ℕ) (s t : Anodes) {ex : ℕ → Bool} {last : ℕ} {hd sd : ℕ → ℕ} → Good limit ex (diskSize img) last s (systemOwns img) hd sd → {from to h size : ℕ} {ys : List ℕ} →
+    Ran limit ex (diskSize img) last s (systemOwns img) hd from to h size ys t → from ≢ to → (b r : List ℕ) → Shows img s b r → Shows img t (setAll b ys to) r
+unfolding blockTable
+shows-ran img s t g {to = to} {ys = ys} ran apart b r p =
+    ap (λ (l : List ℕ). setAll l ys to) p
+    ∙ setAll-front (blockTable img s) r ys to (λ y q. rw (length-listed (blockEntry img s) 0 (diskSize img)) (ran-data g ran apart y q .0))
+    ∙ ap (λ (l : List ℕ). l ++ r) (sym (ran-table img img refl refl s t g ran apart))
+
+-- every block has the owner that it had
+pub shows-kept : (img : List ℕ) (s t : Anodes) → ((x : ℕ) → ownerHead t x ≡ ownerHead s x) → (b r : List ℕ) → Shows img s b r → Shows img t b r
+shows-kept img s t same b r p = p ∙ ap (λ (l : List ℕ). l ++ r) (sym (kept-table img img refl refl s t same))
+
+drop-front : (l r : List ℕ) → drop (length l) (l ++ r) ≡ r
+drop-front [] r = refl
+drop-front (x ∷ l) r = drop-front l r
+
+-- a done change leaves the tables of the new image
+pub leaves-done : (img j : List ℕ) → SameDisk img j → (b a b′ a′ : List ℕ) → ((r : List ℕ) → Shows img (anodesOf img) b r → Shows img (anodesOf j) b′ r)
+    → a′ ≡ anodeTable (anodesOf j) ++ drop limit a → Leaves 0 img b a j b′ a′ (left 0 j)
+unfolding settled blocksLeft anodesLeft tableLeft anodeTable
+leaves-done img j d b a b′ a′ shown heads b₀ a₀ p q =
+    let size = diskSize-kept (d .kept) in
+    let past : drop limit a ≡ drop limit a₀ =
+    ap (drop limit) q
+    ∙ ap (λ (n : ℕ). drop n (anodeTable (anodesOf img) ++ drop limit a₀)) (sym (length-listed (anodeEntry (anodesOf img)) 0 limit))
+    ∙ drop-front (anodeTable (anodesOf img)) (drop limit a₀) in
+    rw (shown (drop (diskSize img) b₀) p, heads, past, size, kept-table img j size (systemOwns-kept (d .kept) refl) (anodesOf j) (anodesOf j) (λ x. refl))

@@ -1,0 +1,248 @@
+-- The entries of a directory block, one by one: what a found one says, and that its bytes at another place, or in another block, are the same entry.
+use Prim.Native.Nat.{ℕ, zero, suc, _+_, _*_, _≤_, _<_}
+use mathlib.Core.Path.{_≡_, refl, sym, ap, _∙_, subst, fun-ext}
+use mathlib.Core.Logic.{_⊎_, inl, inr}
+use mathlib.Core.Bool.{Bool, true, false, cond, _&&_, true≢false, false≢true}
+use mathlib.Core.List.{List, [], _∷_, _++_, cons≢nil, head-eq-of-cons-eq, tail-eq-of-cons-eq}
+use native.Mathlib.Omega.{arith}
+use native.Mathlib.Nat.{add-zero, add-assoc}
+use lib.Dec.{eqb, leb}
+use lib.ListN.{length, getD, take, drop, length-drop}
+use lib.Seq.{getD-take, getD-drop, length-take-le, ext-getD}
+use borrow.Author.Tests.{le-leb, leb-true, eqb-true, ne-eqb}
+use Rattle.endian.specs.Bytes.{be16}
+use Rattle.endian.proofs.Laws.{be16-bytes, be32-halves}
+use Rattle.disk.specs.declared.Refusal.the-variants.{DirectoryBlock}
+use Rattle.directory.specs.declared.Entry.{Entry}
+use Rattle.directory.specs.declared.Kind.{Kind}
+use Rattle.directory.specs.declared.KindRead.{KindRead}
+use Rattle.directory.specs.declared.KindRead.the-variants.{Is, Neither}
+use Rattle.directory.specs.declared.Walked.{Walked}
+use Rattle.directory.specs.declared.Walked.the-variants.{Found, End, Fault}
+use Rattle.directory.specs.Entries.{kindRead, goodName, entryLength, nameLength, commentLength, nameIn, entryShaped, entryIn, walkedKind, walkedAt}
+use Rattle.rules.specs.Counting.{anyIn}
+use Rattle.rules.specs.Walk.{Entered, isDir, withRest, entriesFrom}
+use Rattle.rules.specs.Changes.{endFrom}
+use Rattle.laws.specs.Acceptance.{and-both}
+
+-- parts of two lists of bytes that agree byte for byte
+pub part-same : (l m : List ℕ) (k j n : ℕ) → k + n ≤ length l → j + n ≤ length m → ((i : ℕ) → i < n → getD l (k + i) 0 ≡ getD m (j + i) 0) → take n (drop k l) ≡ take n (drop j m)
+part-same l m k j n p q same =
+    let c = length-take-le n (drop k l) (omega (arith, length-drop k l)) in
+    let d = length-take-le n (drop j m) (omega (arith, length-drop j m)) in
+    ext-getD 0 (take n (drop k l)) (take n (drop j m)) (c ∙ sym d)
+    (λ i h. getD-take n (drop k l) i 0 (omega arith) ∙ getD-drop k l i 0 ∙ same i (omega arith) ∙ sym (getD-drop j m i 0) ∙ sym (getD-take n (drop j m) i 0 (omega arith)))
+
+pub part-byte : (l m : List ℕ) (k j n : ℕ) → take n (drop k l) ≡ take n (drop j m) → (i : ℕ) → i < n → getD l (k + i) 0 ≡ getD m (j + i) 0
+part-byte l m k j n e i h =
+    sym (getD-take n (drop k l) i 0 h ∙ getD-drop k l i 0) ∙ ap (λ (p : List ℕ). getD p i 0) e ∙ getD-take n (drop j m) i 0 h ∙ getD-drop j m i 0
+
+abbrev isFound : Walked → Bool
+isFound (Found e) = true
+isFound End = false
+isFound (Fault r) = false
+
+abbrev isEnd : Walked → Bool
+isEnd (Found e) = false
+isEnd End = true
+isEnd (Fault r) = false
+
+-- what an entry that is found says of its length byte
+pub record FoundAt (b : List ℕ) (at : ℕ) : Type 0 where
+  pub long : 18 ≤ getD b at 0
+  pub exact : getD b at 0 ≡ entryLength (nameLength b at) (commentLength b at)
+  pub room : at + getD b at 0 ≤ 510
+
+shaped-at : (b : List ℕ) (at : ℕ) → entryShaped b at ≡ true → FoundAt b at
+unfolding entryShaped entryLength
+shaped-at b at h =
+    let fits = and-both (eqb (getD b at 0) (entryLength (nameLength b at) (commentLength b at))) (leb (at + getD b at 0) 510 && (leb (commentLength b at) 79 && goodName (nameIn b at))) h in
+    let exact = eqb-true (getD b at 0) (entryLength (nameLength b at) (commentLength b at)) (fits .0) in
+    let within = and-both (leb (at + getD b at 0) 510) (leb (commentLength b at) 79 && goodName (nameIn b at)) (fits .1) in
+    record { long = omega (arith, exact); exact = exact; room = leb-true (at + getD b at 0) 510 (within .0) }
+
+pub found-at : (b : List ℕ) (at : ℕ) (x : Entry) → walkedAt b at ≡ Found x → FoundAt b at
+unfolding walkedAt
+found-at b at x h = go (eqb (getD b at 0) 0) (entryShaped b at) (walkedKind (kindRead (getD b (at + 1) 0)) (entryIn b at)) refl h
+  where
+    go : (p q : Bool) (w : Walked) → entryShaped b at ≡ q → cond p End (cond q w (Fault DirectoryBlock)) ≡ Found x → FoundAt b at
+    go true q w j f = absurd (false≢true (ap isFound f))
+    go false false w j f = absurd (false≢true (ap isFound f))
+    go false true w j f = shaped-at b at j
+
+-- the end mark is a length byte 0
+pub end-at : (b : List ℕ) (at : ℕ) → walkedAt b at ≡ End → getD b at 0 ≡ 0
+unfolding walkedAt
+end-at b at h = go (eqb (getD b at 0) 0) (entryShaped b at) (kindRead (getD b (at + 1) 0)) refl h
+  where
+    go : (p q : Bool) (k : KindRead) → eqb (getD b at 0) 0 ≡ p → cond p End (cond q (walkedKind k (entryIn b at)) (Fault DirectoryBlock)) ≡ End → getD b at 0 ≡ 0
+    go true q k j f = eqb-true (getD b at 0) 0 j
+    go false true (Is x) j f = absurd (false≢true (ap isEnd f))
+    go false true Neither j f = absurd (false≢true (ap isEnd f))
+    go false false k j f = absurd (false≢true (ap isEnd f))
+
+-- the bytes of an entry, at another place or in another block
+module _ (b b′ : List ℕ) (at at′ : ℕ) (whole : length b ≡ 512) (whole′ : length b′ ≡ 512) (f : FoundAt b at) (room′ : at′ + getD b at 0 ≤ 510)
+    (same : (i : ℕ) → i < getD b at 0 → getD b′ (at′ + i) 0 ≡ getD b (at + i) 0) where
+  same-length : getD b′ at′ 0 ≡ getD b at 0
+  same-length = rw (add-zero at′, add-zero at) at (same 0 (omega (arith, f .long)))
+
+  same16 : (i : ℕ) → i < 17 → be16 b′ (at′ + i) ≡ be16 b (at + i)
+  same16 i l = be16-bytes b′ b (at′ + i) (at + i) (same i (omega (arith, f .long))) (rw (add-assoc at′ i 1, add-assoc at i 1) (same (i + 1) (omega (arith, f .long))))
+
+  same-name : nameLength b′ at′ ≡ nameLength b at
+  unfolding nameLength
+  same-name = same 15 (omega (arith, f .long))
+
+  same-comment : commentLength b′ at′ ≡ commentLength b at
+  unfolding commentLength entryLength
+  same-comment = rw (same-name, add-assoc at′ 16 (nameLength b at), add-assoc at 16 (nameLength b at)) (same (16 + nameLength b at) (omega (arith, f .exact)))
+
+  pub same-nameIn : nameIn b′ at′ ≡ nameIn b at
+  unfolding nameIn entryLength
+  same-nameIn = rw same-name
+      (part-same b′ b (at′ + 16) (at + 16) (nameLength b at) (omega (arith, f .exact)) (omega (arith, f .exact, f .room))
+      (λ i l. rw (add-assoc at′ 16 i, add-assoc at 16 i) (same (16 + i) (omega (arith, f .exact)))))
+
+  same-fields : (k : Kind) → entryIn b′ at′ k ≡ entryIn b at k
+  unfolding entryIn
+  same-fields k = rw (
+    same16 2 (omega arith),
+    be32-halves b′ b (at′ + 4) (at + 4) (same16 4 (omega arith)) (rw (add-assoc at′ 4 2, add-assoc at 4 2) (same16 6 (omega arith))),
+    same16 8 (omega arith),
+    same16 10 (omega arith),
+    same16 12 (omega arith),
+    same 14 (omega (arith, f .long)),
+    same-name,
+    same-comment,
+  )
+
+  pub walked-same : walkedAt b′ at′ ≡ walkedAt b at
+  unfolding walkedAt entryShaped
+  walked-same = rw (
+    same-length,
+    same-name,
+    same-comment,
+    same-nameIn,
+    same 1 (omega (arith, f .long)),
+    le-leb (at′ + getD b at 0) 510 room′,
+    le-leb (at + getD b at 0) 510 (f .room),
+  ) (ap (λ (h : Kind → Entry). cond (eqb (getD b at 0) 0) End (cond (eqb (getD b at 0) (entryLength (nameLength b at) (commentLength b at)) && (leb (commentLength b at) 79 && goodName (nameIn b at)))
+      (walkedKind (kindRead (getD b (at + 1) 0)) h) (Fault DirectoryBlock))) (fun-ext same-fields))
+
+-- ---- the entries from a place on
+
+-- an entry that is found there, as the walk has it
+abbrev pub enteredAt : Entry → ℕ → Entered
+enteredAt x place = record { broken = false; dir = isDir (x .kind); anode = x .anode .0; size = x .size; place = place }
+
+module _ (b : List ℕ) (y m at : ℕ) where
+  pub found-more : (x : Entry) → walkedAt b at ≡ Found x → entriesFrom (suc m) b y at ≡ enteredAt x (y * 512 + at) ∷ entriesFrom m b y (at + getD b at 0)
+  unfolding entriesFrom
+  found-more x e = rw e
+
+  pub found-none : walkedAt b at ≡ End → entriesFrom (suc m) b y at ≡ []
+  unfolding entriesFrom
+  found-none e = rw e
+
+  -- where none is broken, the end mark or an entry stands there
+  pub unbroken-cases : anyIn (λ e. e .broken) (entriesFrom (suc m) b y at) ≡ false →
+      (walkedAt b at ≡ End) ⊎ ((x : Entry) × (walkedAt b at ≡ Found x) × (anyIn (λ e. e .broken) (entriesFrom m b y (at + getD b at 0)) ≡ false))
+  unfolding entriesFrom anyIn
+  unbroken-cases u = go (walkedAt b at) refl u
+    where
+      go : (w : Walked) → walkedAt b at ≡ w → anyIn (λ e. e .broken) (withRest w (y * 512 + at) (entriesFrom m b y (at + getD b at 0))) ≡ false →
+          (walkedAt b at ≡ End) ⊎ ((x : Entry) × (walkedAt b at ≡ Found x) × (anyIn (λ e. e .broken) (entriesFrom m b y (at + getD b at 0)) ≡ false))
+      go (Found x) e v = inr (x, e, v)
+      go End e v = inl e
+      go (Fault r) e v = absurd (true≢false v)
+
+  pub end-more : (x : Entry) → walkedAt b at ≡ Found x → endFrom (suc m) b at ≡ endFrom m b (at + getD b at 0)
+  unfolding endFrom
+  end-more x e = rw (ne-eqb (getD b at 0) 0 (λ z. omega (arith, z, found-at b at x e .long)))
+
+  pub end-here : walkedAt b at ≡ End → endFrom (suc m) b at ≡ at
+  unfolding endFrom
+  end-here e = rw (end-at b at e)
+
+-- the end mark stands behind the entries; 28 entries never fit
+pub end-bounds : (b : List ℕ) (y k at : ℕ) → anyIn (λ e. e .broken) (entriesFrom k b y at) ≡ false → at ≤ 510 → 520 ≤ at + 18 * k →
+    (at ≤ endFrom k b at) × (endFrom k b at ≤ 510) × (walkedAt b (endFrom k b at) ≡ End)
+end-bounds b y zero at u l f = absurd (omega (arith, l, f))
+end-bounds b y (suc m) at u l f = elim (unbroken-cases b y m at u) [
+  | inl e ↦ rw (end-here b y m at e) (omega arith, l, e)
+  | inr e ↦ (let g = found-at b at (e .0) (e .1) in
+      let r = end-bounds b y m (at + getD b at 0) (e .2) (g .room) (omega (arith, f, g .long)) in
+      rw (end-more b y m at (e .0) (e .1)) (omega (arith, r .0), r .1, r .2))
+]
+
+no-fuel : (b : List ℕ) (y at : ℕ) → entriesFrom 0 b y at ≡ []
+unfolding entriesFrom
+no-fuel b y at = refl
+
+-- the places grow
+pub place-after : (b : List ℕ) (y : ℕ) (xs : List Entered) (e : Entered) (ys : List Entered) (k at : ℕ) → entriesFrom k b y at ≡ xs ++ (e ∷ ys) →
+    anyIn (λ f. f .broken) (entriesFrom k b y at) ≡ false → y * 512 + at ≤ e .place
+place-after b y [] e ys zero at i u = absurd (cons≢nil (sym i ∙ no-fuel b y at))
+place-after b y (x ∷ xs) e ys zero at i u = absurd (cons≢nil (sym i ∙ no-fuel b y at))
+place-after b y [] e ys (suc m) at i u = elim (unbroken-cases b y m at u) [
+  | inl o ↦ absurd (cons≢nil (sym i ∙ found-none b y m at o))
+  | inr o ↦ omega (arith, ap (λ (d : Entered). d .place) (head-eq-of-cons-eq (sym (found-more b y m at (o .0) (o .1)) ∙ i)))
+]
+place-after b y (x ∷ xs) e ys (suc m) at i u = elim (unbroken-cases b y m at u) [
+  | inl o ↦ absurd (cons≢nil (sym i ∙ found-none b y m at o))
+  | inr o ↦ omega (arith, place-after b y xs e ys m (at + getD b at 0) (tail-eq-of-cons-eq (sym (found-more b y m at (o .0) (o .1)) ∙ i)) (o .2))
+]
+
+-- an entry ends before the next begins
+pub place-order : (b : List ℕ) (y at : ℕ) (f e : Entered) → f .place ≡ y * 512 + at → (vs ys us : List Entered) (k p : ℕ) → entriesFrom k b y p ≡ us ++ (f ∷ (vs ++ (e ∷ ys))) →
+    anyIn (λ g. g .broken) (entriesFrom k b y p) ≡ false → y * 512 + (at + getD b at 0) ≤ e .place
+place-order b y at f e place vs ys [] zero p i u = absurd (cons≢nil (sym i ∙ no-fuel b y p))
+place-order b y at f e place vs ys (x ∷ us) zero p i u = absurd (cons≢nil (sym i ∙ no-fuel b y p))
+place-order b y at f e place vs ys [] (suc m) p i u = elim (unbroken-cases b y m p u) [
+  | inl o ↦ absurd (cons≢nil (sym i ∙ found-none b y m p o))
+  | inr o ↦ (let c = sym (found-more b y m p (o .0) (o .1)) ∙ i in
+      let here : p ≡ at = omega (arith, ap (λ (d : Entered). d .place) (head-eq-of-cons-eq c), place) in
+      rw here at (place-after b y vs e ys m (p + getD b p 0) (tail-eq-of-cons-eq c) (o .2)))
+]
+place-order b y at f e place vs ys (x ∷ us) (suc m) p i u = elim (unbroken-cases b y m p u) [
+  | inl o ↦ absurd (cons≢nil (sym i ∙ found-none b y m p o))
+  | inr o ↦ place-order b y at f e place vs ys us m (p + getD b p 0) (tail-eq-of-cons-eq (sym (found-more b y m p (o .0) (o .1)) ∙ i)) (o .2)
+]
+
+-- an entry of the list is found at its place, before the end mark
+pub record Standing (b : List ℕ) (y at end : ℕ) (e : Entered) : Type 0 where
+  pub entry : Entry
+  pub walked : walkedAt b at ≡ Found entry
+  pub is : e ≡ enteredAt entry (y * 512 + at)
+  pub before : at + getD b at 0 ≤ end
+
+module _ (b : List ℕ) (y m p : ℕ) (x : Entry) (w : walkedAt b p ≡ Found x) (u : anyIn (λ f. f .broken) (entriesFrom m b y (p + getD b p 0)) ≡ false) (fuel : 520 ≤ p + 18 * suc m) where
+  standing-first : (e : Entered) → enteredAt x (y * 512 + p) ≡ e → Standing b y p (endFrom (suc m) b p) e
+  standing-first e i =
+      let g = found-at b p x w in
+      record {
+        entry = x;
+        walked = w;
+        is = sym i;
+        before = omega (arith, end-bounds b y m (p + getD b p 0) u (g .room) (omega (arith, fuel, g .long)) .0, end-more b y m p x w);
+      }
+
+  standing-later : (at : ℕ) (e : Entered) → Standing b y at (endFrom m b (p + getD b p 0)) e → Standing b y at (endFrom (suc m) b p) e
+  standing-later at e r = record { entry = r .entry; walked = r .walked; is = r .is; before = omega (arith, r .before, end-more b y m p x w) }
+
+pub entry-standing : (b : List ℕ) (y at : ℕ) (e : Entered) → e .place ≡ y * 512 + at → (ys xs : List Entered) (k p : ℕ) → entriesFrom k b y p ≡ xs ++ (e ∷ ys) →
+    anyIn (λ f. f .broken) (entriesFrom k b y p) ≡ false → p ≤ 510 → 520 ≤ p + 18 * k → Standing b y at (endFrom k b p) e
+entry-standing b y at e place ys xs zero p i u l f = absurd (omega (arith, l, f))
+entry-standing b y at e place ys [] (suc m) p i u l f = elim (unbroken-cases b y m p u) [
+  | inl o ↦ absurd (cons≢nil (sym i ∙ found-none b y m p o))
+  | inr o ↦ (let c = head-eq-of-cons-eq (sym (found-more b y m p (o .0) (o .1)) ∙ i) in
+      let here : p ≡ at = omega (arith, ap (λ (d : Entered). d .place) c, place) in
+      subst (λ (q : ℕ). Standing b y q (endFrom (suc m) b p) e) here (standing-first b y m p (o .0) (o .1) (o .2) f e c))
+]
+entry-standing b y at e place ys (z ∷ zs) (suc m) p i u l f = elim (unbroken-cases b y m p u) [
+  | inl o ↦ absurd (cons≢nil (sym i ∙ found-none b y m p o))
+  | inr o ↦ (let g = found-at b p (o .0) (o .1) in
+      standing-later b y m p (o .0) (o .1) (o .2) f at e
+      (entry-standing b y at e place ys zs m (p + getD b p 0) (tail-eq-of-cons-eq (sym (found-more b y m p (o .0) (o .1)) ∙ i)) (o .2) (g .room) (omega (arith, f, g .long))))
+]

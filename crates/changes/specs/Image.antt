@@ -1,0 +1,249 @@
+-- From the check's answer to the whole accepted state, and back for an image that has the same root block and anode block heads.
+use Prim.Native.Nat.{ℕ, zero, suc, _+_, _≤_, _<_}
+use mathlib.Core.Path.{_≡_, refl, sym, ap, _∙_}
+use mathlib.Core.Logic.{_≢_, inl, inr}
+use mathlib.Core.Bool.{Bool, false, _&&_}
+use mathlib.Core.List.{List, [], _∷_, _++_, map}
+use native.Mathlib.Omega.{arith}
+use lib.Dec.{eqb, leb}
+use borrow.Author.Tests.{leb-true, ne-eqb, eqb-true, eqb-false}
+use Rattle.disk.specs.Blocks.{blockOf}
+use Rattle.disk.specs.Root.{slotOf}
+use Rattle.disk.specs.AnodeBlocks.{anodeHeadIn}
+use Rattle.rules.specs.Counting.{oneAt, sumList, times}
+use Rattle.rules.specs.Anodes.{Anodes, limit, exists, anodesOf}
+use Rattle.rules.specs.Chains.{heads, headOf, cut, systemOwns}
+use Rattle.rules.specs.Walk.{Dir, Entered, Item, root, entriesIn, isBlockOf, itemsBy, itemsOf, Scanned, faulty, fine, faultOf, scan, subDirs, Walk, fault, done, visited, walk, walkOf, faultIn, dirsIn, reached, reachedDirs, naming}
+use Rattle.rules.specs.Accepted.{diskSize, lastReserved, wrongSlots, ownersOf, twoOwners, noOwner, unnamed, unnamedChain, checkAnswer}
+use Rattle.rules.specs.Lookup.{noDirectory}
+use Rattle.counting.specs.Laws.{anyBelow-all}
+use Rattle.laws.specs.Tests.{less?}
+use Rattle.laws.specs.Sums.{oneAt-cases}
+use Rattle.laws.specs.Bags.{list-mono, map-sum}
+use Rattle.laws.specs.Items.{below, namedIn, subs-named}
+use Rattle.laws.specs.Trees.{tree-one}
+use Rattle.laws.specs.TreeChanges.{headed}
+use Rattle.laws.specs.Whole.{Whole, head-counts, counts-head, named-heads}
+use Rattle.laws.specs.Accepted.{Accepted, whole-of, accepted-of}
+use Rattle.laws.specs.Acceptance.{none-and, passed-of, passed-accepted, Tested, passes-tested}
+use Rattle.laws.specs.ImageAnodes.{reading-of}
+use Rattle.laws.specs.OneOwner.{naming-sum, passes, accepted-one-owner, good}
+use Rattle.frames.specs.Kept.{Kept, kept-all, diskSize-kept, wrongSize-kept, shortTables-kept, slotOf-kept, lastReserved-kept, wrongType-kept, wrongRoot-kept, systemOwns-kept, wrongSlots-heads, anodesOf-kept, kept-both}
+use Rattle.frames.specs.StoredAnodes.{AnodesStored, root-unheld}
+use Rattle.frames.specs.DisjointBlocks.{DataBlock}
+
+abbrev pub WholeImage : List ℕ → Anodes → (ℕ → ℕ) → (ℕ → ℕ) → List Dir → Type 0
+WholeImage img s hd sd dirs = Whole (exists img) (diskSize img) (lastReserved img) s (systemOwns img) hd sd (entriesIn img) (isBlockOf img) dirs
+
+-- the head of an anode's chain, and of its side of the free list
+abbrev pub headIn : List ℕ → ℕ → ℕ
+headIn img = headOf limit (anodesOf img .next) (anodesOf img .block)
+
+abbrev pub sideIn : List ℕ → ℕ → ℕ
+sideIn img = headOf limit (cut (anodesOf img .next)) (anodesOf img .block)
+
+-- ---- a walk answers 0 where it is done, and only there
+
+abbrev Numbered : Walk → Type 0
+Numbered (fault n) = n ≢ 0
+Numbered (done ds) = Unit {0}
+
+abbrev NumberedScan : Scanned → Type 0
+NumberedScan (faulty n) = n ≢ 0
+NumberedScan (fine q l) = Unit {0}
+
+scan-numbered : (d : Dir) (is : List Item) (q : List Dir) (named : List ℕ) → NumberedScan (scan d is q named)
+unfolding scan
+scan-numbered d [] q named = tt
+scan-numbered d (i ∷ is) q named = go (faultOf i named) (scan-numbered d is)
+  where
+    go : (n : ℕ) → ((q : List Dir) (l : List ℕ) → NumberedScan (scan d is q l)) →
+        NumberedScan (elim n [ zero ↦ scan d is (q ++ subDirs d i) (i .anode ∷ named) | suc m ↦ faulty (suc m) ])
+    go zero rest = rest (q ++ subDirs d i) (i .anode ∷ named)
+    go (suc m) rest = λ z. omega (arith, z)
+
+visited-numbered : (d : Dir) (w : Walk) → Numbered w → Numbered (visited d w)
+unfolding visited
+visited-numbered d (fault n) p = p
+visited-numbered d (done ds) p = tt
+
+walk-numbered : (items : Dir → List Item) (k : ℕ) (q : List Dir) (named : List ℕ) → Numbered (walk items k q named)
+unfolding walk
+walk-numbered items zero [] named = tt
+walk-numbered items zero (d ∷ q) named = λ z. omega (arith, z)
+walk-numbered items (suc k) [] named = tt
+walk-numbered items (suc k) (d ∷ q) named = go (scan d (items d) q named) (scan-numbered d (items d) q named) (walk-numbered items k)
+  where
+    go : (c : Scanned) → NumberedScan c → ((q : List Dir) (l : List ℕ) → Numbered (walk items k q l)) →
+        Numbered (elim c [ faulty n ↦ fault n | fine q l ↦ visited d (walk items k q l) ])
+    go (faulty n) p rest = p
+    go (fine q l) p rest = visited-numbered d (walk items k q l) (rest q l)
+
+walk-done : (w : Walk) → Numbered w → faultIn w ≡ 0 → w ≡ done (dirsIn w)
+walk-done (fault n) p z = absurd (p z)
+walk-done (done ds) p z = refl
+
+-- how often reached entries name an anode, directory by directory
+naming-is : (img : List ℕ) (s : Anodes) (x : ℕ) → naming img s x ≡ sumList (namedIn (itemsBy (entriesIn img) (isBlockOf img) s) x) (reachedDirs img s)
+unfolding naming reached itemsOf
+naming-is img s x = naming-sum (itemsBy (entriesIn img) (isBlockOf img) s) x (reachedDirs img s)
+
+-- ---- an accepted image
+
+module _ (img : List ℕ) (blocks anodes : ℕ) (e : checkAnswer img blocks anodes ≡ 0) where
+  pub accepted-slots : wrongSlots img ≡ false
+  accepted-slots = passed-of img blocks anodes e .slots-right
+
+  pub accepted-walk : walkOf img (anodesOf img) ≡ done (reachedDirs img (anodesOf img))
+  unfolding walkOf reachedDirs
+  accepted-walk = walk-done (walkOf img (anodesOf img)) (walk-numbered (itemsOf img (anodesOf img)) limit (root ∷ []) []) (passed-of img blocks anodes e .walked)
+
+  accepted : Accepted (exists img) (diskSize img) (lastReserved img) (anodesOf img) (systemOwns img) (entriesIn img) (isBlockOf img) (reachedDirs img (anodesOf img))
+  unfolding walkOf itemsOf
+  accepted =
+      let p = passed-of img blocks anodes e in
+      record {
+        reading = reading-of img (diskSize img) (lastReserved img);
+        passes = passes img blocks anodes p;
+        walked = accepted-walk;
+        all-named = λ x l d. omega (
+          arith,
+          naming-is img (anodesOf img) x,
+          accepted-one-owner img blocks anodes e .named-once x (head-counts (good img blocks anodes p) x d) l,
+        );
+      }
+
+  pub accepted-whole : WholeImage img (anodesOf img) (headIn img) (sideIn img) (reachedDirs img (anodesOf img))
+  accepted-whole = whole-of accepted
+
+-- ---- the same disk
+
+-- j has the length of img, its root block and the heads of its anode blocks
+pub record SameDisk (img j : List ℕ) : Type 0 where
+  pub kept : Kept (λ d. d ≡ 2) img j
+  pub heads-kept : (s : ℕ) → slotOf img s ≢ 0 → anodeHeadIn (blockOf j (slotOf img s)) ≡ anodeHeadIn (blockOf img (slotOf img s))
+
+pub same-own : (img : List ℕ) → SameDisk img img
+same-own img = record { kept = kept-all img; heads-kept = λ s u. refl }
+
+pub same-stored : {img j : List ℕ} → wrongSlots img ≡ false → AnodesStored img j → SameDisk img j
+same-stored {img} right w = record {
+  kept = record { length-kept = w .kept .length-kept; block-kept = λ d o. w .kept .block-kept d (rw o (root-unheld img right)) };
+  heads-kept = w .heads-kept;
+}
+
+-- what is no data block is not one of some data blocks
+pub not-one : {img : List ℕ} {b : ℕ} → DataBlock img b → (y : ℕ) → (DataBlock img y → ⊥) → y ≢ b
+not-one d y n e = n (rw e d)
+
+pub not-among : {img : List ℕ} (ys : List ℕ) → ((y : ℕ) → 0 < times y ys → DataBlock img y) → (y : ℕ) → (DataBlock img y → ⊥) → times y ys ≡ 0
+not-among ys d y n = elim (less? 0 (times y ys)) [ inl p ↦ absurd (n (d y p)) | inr p ↦ omega arith ]
+
+-- stores that keep all but data blocks
+module _ {img i j : List ℕ} {on : ℕ → Type 0} (d : SameDisk img i) (k : Kept on i j) (others : (y : ℕ) → (DataBlock img y → ⊥) → on y) where
+  root-on : on 2
+  root-on = others 2 (λ b. omega (arith, b .above))
+
+  slot-on : (s : ℕ) → slotOf img s ≢ 0 → on (slotOf img s)
+  slot-on s u = others (slotOf img s) (λ b. b .unheld s u refl)
+
+  pub same-then : SameDisk img j
+  same-then = record {
+    kept = kept-both (λ b o. o) (λ b o. rw o root-on) (d .kept) k;
+    heads-kept = λ s u. ap anodeHeadIn (k .block-kept (slotOf img s) (slot-on s u)) ∙ d .heads-kept s u;
+  }
+
+  pub anodes-then : anodesOf j ≡ anodesOf i
+  anodes-then = anodesOf-kept k root-on (λ s u. let e = slotOf-kept (d .kept) refl s in rw e (slot-on s (λ z. u (e ∙ z))))
+
+-- ---- back to the check's answer
+
+module _ (img j : List ℕ) (blocks anodes : ℕ) (e : checkAnswer img blocks anodes ≡ 0) (d : SameDisk img j) {hd sd : ℕ → ℕ} {dirs : List Dir}
+    (w : Whole (exists img) (diskSize img) (lastReserved img) (anodesOf j) (systemOwns img) hd sd (entriesIn j) (isBlockOf j) dirs) where
+  found : (Q : List Dir) × Accepted (exists img) (diskSize img) (lastReserved img) (anodesOf j) (systemOwns img) (entriesIn j) (isBlockOf j) Q
+  found = accepted-of w
+
+  walk-found : walkOf j (anodesOf j) ≡ done (found .0)
+  unfolding walkOf itemsOf
+  walk-found = found .1 .walked
+
+  reached-are : reachedDirs j (anodesOf j) ≡ found .0
+  unfolding reachedDirs
+  reached-are = ap dirsIn walk-found
+
+  pub reached-sum : (f : Dir → ℕ) → sumList f (reachedDirs j (anodesOf j)) ≡ sumList f dirs
+  reached-sum f = rw reached-are (tree-one (itemsBy (entriesIn j) (isBlockOf j) (anodesOf j)) root (found .0) dirs (whole-of (found .1) .tree) (w .tree) f)
+
+  none-unnamed : (x : ℕ) → x < limit → unnamedChain j (anodesOf j) x ≡ false
+  unfolding unnamedChain unnamed
+  none-unnamed x l =
+      none-and (leb 6 x) (eqb (heads limit (anodesOf j .next) (anodesOf j .block) x) 1 && eqb (naming j (anodesOf j) x) 0) (λ p.
+      none-and (eqb (heads limit (anodesOf j .next) (anodesOf j .block) x) 1) (eqb (naming j (anodesOf j) x) 0) (λ q.
+      ne-eqb (naming j (anodesOf j) x) 0 (λ z. omega (
+        arith,
+        z,
+        naming-is j (anodesOf j) x,
+        ap (sumList (namedIn (itemsBy (entriesIn j) (isBlockOf j) (anodesOf j)) x)) reached-are,
+        found .1 .all-named x (leb-true 6 x p) (counts-head (w .good) x (eqb-true _ _ q)),
+      ))))
+
+  tested : Tested (anodesOf j) (diskSize img) (lastReserved img) (systemOwns img) (exists img)
+  tested = passes-tested (anodesOf j) (diskSize img) (lastReserved img) (systemOwns img) (exists img) (found .1 .passes)
+
+  pub whole-accepted : checkAnswer j blocks anodes ≡ 0
+  unfolding twoOwners noOwner ownersOf
+  whole-accepted =
+      let p = passed-of img blocks anodes e in
+      passed-accepted j blocks anodes (record {
+        size-right = wrongSize-kept (d .kept) ∙ p .size-right;
+        tables-long = shortTables-kept (d .kept) blocks anodes ∙ p .tables-long;
+        type-right = wrongType-kept (d .kept) refl ∙ p .type-right;
+        root-right = wrongRoot-kept (d .kept) refl ∙ p .root-right;
+        slots-right = wrongSlots-heads (d .kept) refl (d .heads-kept) ∙ p .slots-right;
+        fixed-right = tested .fixed-right;
+        in-range = rw (diskSize-kept (d .kept)) (tested .in-range);
+        links-right = tested .links-right;
+        free-right = rw (lastReserved-kept (d .kept) refl) (tested .free-right);
+        none-twice = rw (diskSize-kept (d .kept), systemOwns-kept (d .kept) refl) (tested .none-twice);
+        all-owned = rw (diskSize-kept (d .kept), systemOwns-kept (d .kept) refl) (tested .all-owned);
+        walked = ap faultIn walk-found;
+        all-named = anyBelow-all (unnamedChain j (anodesOf j)) limit none-unnamed;
+      })
+
+-- ---- reached directories
+
+-- no two directories of an accepted state have one head
+headed-once : {ex : ℕ → Bool} {n last : ℕ} {s : Anodes} {system hd sd : ℕ → ℕ} {entries : ℕ → List Entered} {marked : Dir → ℕ → Bool} {dirs : List Dir}
+    → Whole ex n last s system hd sd entries marked dirs → (h : ℕ) → headed h dirs ≤ 1
+unfolding headed
+headed-once {s = s} {entries = entries} {marked = marked} {dirs = dirs} w h =
+    let items = itemsBy entries marked s in
+    let named = list-mono (below items (λ d. oneAt (d .head) h)) (namedIn items h) dirs (subs-named items h) in
+    elim (oneAt-cases 5 h) [
+      | inr c ↦ omega (arith, w .tree .exact (λ d. oneAt (d .head) h), named, w .tree .once h, c .1)
+      | inl c ↦ elim (less? 0 (sumList (namedIn items h) dirs)) [
+        | inl p ↦ absurd (omega (arith, named-heads w h p .0, c .0))
+        | inr p ↦ omega (arith, w .tree .exact (λ d. oneAt (d .head) h), named, c .1)
+      ]
+    ]
+
+module _ (img : List ℕ) (s : Anodes) (h : ℕ) where
+  headed-times : times h (map (λ d. d .head) (reachedDirs img s)) ≡ headed h (reachedDirs img s)
+  unfolding times headed
+  headed-times = map-sum (λ d. d .head) (λ y. oneAt y h) (reachedDirs img s)
+
+  pub headed-reached : 0 < headed h (reachedDirs img s) → noDirectory img s h ≡ false
+  unfolding noDirectory
+  headed-reached p = ne-eqb (times h (map (λ d. d .head) (reachedDirs img s))) 0 (λ z. omega (arith, p, z, headed-times))
+
+  pub reached-some : noDirectory img s h ≡ false → 0 < headed h (reachedDirs img s)
+  unfolding noDirectory
+  reached-some n = omega (arith, headed-times, eqb-false (times h (map (λ d. d .head) (reachedDirs img s))) 0 n)
+
+-- as many with one head in both images
+pub headed-same : (img j : List ℕ) (s t : Anodes) (h : ℕ) → headed h (reachedDirs j t) ≡ headed h (reachedDirs img s) → noDirectory j t h ≡ noDirectory img s h
+unfolding noDirectory
+headed-same img j s t h e = ap (λ (n : ℕ). eqb n 0) (headed-times j t h ∙ e ∙ sym (headed-times img s h))
+
+pub reached-headed : (img : List ℕ) (blocks anodes : ℕ) → checkAnswer img blocks anodes ≡ 0 → (h : ℕ) → noDirectory img (anodesOf img) h ≡ false → headed h (reachedDirs img (anodesOf img)) ≡ 1
+reached-headed img blocks anodes e h n = omega (arith, headed-once (accepted-whole img blocks anodes e) h, reached-some img (anodesOf img) h n)

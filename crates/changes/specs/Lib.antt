@@ -1,0 +1,27 @@
+-- What the calls leave of an accepted image.
+pub mod Answers
+pub mod Members
+pub mod Image
+pub mod FoundEntries
+pub mod Reached
+pub mod SingleBlocks
+pub mod NamedOnce
+pub mod SameItems
+pub mod EntryBytes
+pub mod Totals
+pub mod Write
+pub mod NewSize
+pub mod ResizePlan
+pub mod ResizeStores
+pub mod Resize
+pub mod ResizeEntries
+pub mod ResizeContents
+pub mod NewEntry
+pub mod MakePlan
+pub mod MadeImage
+pub mod Make
+pub mod MakeEffects
+pub mod Gap
+pub mod Remove
+pub mod RemoveEffects
+pub mod RemovedEntry

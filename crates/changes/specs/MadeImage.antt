@@ -1,0 +1,354 @@
+-- The image that a make leaves: its anodes, its new directory blocks and the entry, each where the plan has it; all else is the image's.
+use Prim.Native.Nat.{ℕ, _+_, _*_, _/_, _%_, _≤_, _<_}
+use mathlib.Core.Path.{_≡_, refl, sym, ap, ap₂, _∙_, subst}
+use mathlib.Core.Logic.{_≢_, inl, inr}
+use mathlib.Core.Bool.{Bool, true, false, cond, _&&_, _||_}
+use mathlib.Core.List.{List, [], _∷_, _++_, map}
+use mathlib.Core.Option.{Option, none, some}
+use native.Mathlib.Omega.{arith}
+use lib.Dec.{T, eqb}
+use lib.ListN.{length}
+use borrow.Author.Tests.{leb-true}
+use Rattle.disk.specs.Blocks.{blockOf}
+use Rattle.disk.proofs.Laws.{length-blockOf}
+use Rattle.directory.specs.Entries.{directoryMark, goodName, goodComment, entryLength, putEntry}
+use Rattle.directory.proofs.Laws.{goodName-length, length-putEntry}
+use Rattle.rules.specs.Counting.{oneAt, times, anyIn}
+use Rattle.rules.specs.Anodes.{Anodes, limit, exists, anodesOf, withAnodes}
+use Rattle.rules.specs.Chains.{chainOf, run, blocksOf, systemOwns}
+use Rattle.rules.specs.Walk.{Dir, Entered, entriesFrom, entriesIn, isBlockOf, reachedDirs}
+use Rattle.rules.specs.Accepted.{diskSize, lastReserved, wrongSlots, checkAnswer}
+use Rattle.rules.specs.Lookup.{noDirectory}
+use Rattle.rules.specs.Space.{planned, rewritten}
+use Rattle.rules.specs.Changes.{withBlocks, entriesEnd, firstRoom, ownBlock, parentBlock, newDirectoryBlock, parentOf, entryPlace, NewEntry, entryOf, madeImage}
+use Rattle.laws.specs.Tests.{less?, eq→eqb, eqb-true, eqb-false, and, or-right}
+use Rattle.laws.specs.Sums.{oneAt-cases, oneAt-same}
+use Rattle.laws.specs.Bags.{list-cons, times-nil, times-cons, times-append}
+use Rattle.laws.specs.Space.{Good, on-chain}
+use Rattle.laws.specs.Passes.{passes-of}
+use Rattle.laws.specs.Each.{Each, each-map}
+use Rattle.laws.specs.TreeChanges.{headed, none-headed}
+use Rattle.laws.specs.Orphan.{Orphaned}
+use Rattle.laws.specs.DirectoryTakes.{dir-head}
+use Rattle.frames.specs.Kept.{Kept}
+use Rattle.frames.specs.StoredAnodes.{withAnodes-stored, anodesOf-withAnodes}
+use Rattle.frames.specs.StoredBlocks.{inBlock-kept, blockOf-inBlock, withBlocks-kept}
+use Rattle.frames.specs.StoredBytes.{blockOf-withBlocks}
+use Rattle.frames.specs.DisjointBlocks.{DataBlock}
+use Rattle.changes.specs.Image.{WholeImage, headIn, sideIn, accepted-whole, accepted-slots, SameDisk, same-stored, same-then, anodes-then, not-one, not-among, reached-headed}
+use Rattle.changes.specs.FoundEntries.{enteredAt, end-bounds}
+use Rattle.changes.specs.Members.{Member, no-member, member-cons, member-gather, member-times, times-member}
+use Rattle.changes.specs.Reached.{DirBlock, reached-from-5, dir-block}
+use Rattle.changes.specs.SingleBlocks.{single-apart, single-data, block-unbroken}
+use Rattle.changes.specs.NewEntry.{entries-put, head-put, length-new, entries-new, end-new, head-new, room-found}
+use Rattle.changes.specs.MakePlan.{MadePlan, made-plan, made-good, made-orphan, parent-took}
+
+-- what stands among the numbers that g gives for a list
+times-map : (g : ℕ → ℕ) (l : List ℕ) (y : ℕ) → 0 < times y (map g l) → (a : ℕ) × (0 < times a l) × (y ≡ g a)
+times-map g [] y p = absurd (omega (arith, p, times-nil y))
+times-map g (x ∷ l) y p = elim (oneAt-cases (g x) y) [
+  | inl c ↦ (x, omega (arith, times-cons x x l, oneAt-same x x refl), sym (c .0))
+  | inr c ↦ (let r = times-map g l y (omega (arith, p, times-cons y (g x) (map g l), c .1)) in (r .0, omega (arith, r .1, times-cons (r .0) x l), r .2))
+]
+
+pub first-in : (y : ℕ) (l : List ℕ) → l ≡ y ∷ [] → 0 < times y l
+first-in y l e = omega (arith, ap (times y) e, times-cons y y [], oneAt-same y y refl)
+
+pub none-in : (y : ℕ) (l : List ℕ) → (0 < times y l → ⊥) → times y l ≡ 0
+none-in y l n = elim (less? 0 (times y l)) [ inl p ↦ absurd (n p) | inr p ↦ omega arith ]
+
+-- a new directory block is marked as its directory's
+pub new-marked : (i : List ℕ) (y owner parent : ℕ) → blockOf i y ≡ newDirectoryBlock owner parent → (d : Dir) → d .head ≡ owner → d .parent ≡ parent → T (isBlockOf i d y)
+unfolding isBlockOf
+new-marked i y owner parent e d p q =
+    rw (e, head-new owner parent)
+    (and (eqb directoryMark directoryMark) (eqb owner (d .head) && (eqb (d .head) 5 || eqb parent (d .parent))) (eq→eqb directoryMark directoryMark refl)
+    (and (eqb owner (d .head)) (eqb (d .head) 5 || eqb parent (d .parent)) (eq→eqb owner (d .head) (sym p)) (or-right (eqb (d .head) 5) (eqb parent (d .parent)) (eq→eqb parent (d .parent) (sym q)))))
+
+-- where one directory alone has the head h, its parent is found
+parents-right : (h : ℕ) (l : List Dir) → headed h l ≡ 1 → Each (λ d. d .head ≡ h → d .parent ≡ parentOf l h) l
+unfolding headed parentOf
+parents-right h [] e = tt
+parents-right h (d ∷ l) e = elim (oneAt-cases (d .head) h) [
+  | inl c ↦ (
+    λ q. rw (eqb-true (d .head) h q),
+    each-map (λ x. x .head ≢ h) (λ x. x .head ≡ h → x .parent ≡ parentOf (d ∷ l) h) l (λ x n q. absurd (n q))
+        (none-headed h l (omega (arith, e, c .1, list-cons {X = Dir} (λ x. oneAt (x .head) h) d l))),
+  )
+  | inr c ↦ (
+    λ q. absurd (c .0 q),
+    rw (eqb-false (d .head) h (c .0)) (parents-right h l (omega (arith, e, c .1, list-cons {X = Dir} (λ x. oneAt (x .head) h) d l))),
+  )
+]
+
+-- a make that is planned: f is the fresh head, ys its own block, zs the block that the parent h takes where it has no room
+pub record Making (img : List ℕ) (blocks anodes h : ℕ) (new : NewEntry) (f : ℕ) (room : Option ℕ) (ys : List ℕ) (t : Anodes) (zs : List ℕ) : Type 0 where
+  pub accepted : checkAnswer img blocks anodes ≡ 0
+  pub reached : noDirectory img (anodesOf img) h ≡ false
+  pub named : goodName (new .name) ≡ true
+  pub commented : goodComment (new .comment) ≡ true
+  pub from-6 : 6 ≤ f
+  pub there : T (exists img f)
+  pub below : f < limit
+  pub fresh : anodesOf img .block f ≡ 0
+  pub between : Anodes
+  pub own : ownBlock img (new .dir) (rewritten (anodesOf img) f 0 65535) f ≡ planned between ys
+  pub roomy : firstRoom img (entryLength (length (new .name)) (length (new .comment))) (blocksOf (anodesOf img) h) ≡ room
+  pub parent : parentBlock img room between h ≡ planned t zs
+
+module _ {img : List ℕ} {blocks anodes h : ℕ} {new : NewEntry} {f : ℕ} {room : Option ℕ} {ys : List ℕ} {t : Anodes} {zs : List ℕ} (m : Making img blocks anodes h new f room ys t zs) where
+  abbrev s : Anodes
+  s = anodesOf img
+
+  abbrev dirs : List Dir
+  dirs = reachedDirs img s
+
+  pub w : WholeImage img s (headIn img) (sideIn img) dirs
+  w = accepted-whole img blocks anodes (m .accepted)
+
+  right : wrongSlots img ≡ false
+  right = accepted-slots img blocks anodes (m .accepted)
+
+  pub once : headed h dirs ≡ 1
+  once = reached-headed img blocks anodes (m .accepted) h (m .reached)
+
+  pub plan : MadePlan s (headIn img) f h (new .dir) ys zs t
+  plan = made-plan img w f (m .from-6) (m .there) (m .below) (m .fresh) h once (new .dir) (m .between) ys (m .own) room t zs (m .parent)
+
+  hd : ℕ → ℕ
+  hd = made-good img w f (m .from-6) (m .there) (m .below) (m .fresh) h once (new .dir) (m .between) ys (m .own) room t zs (m .parent) .0
+
+  sd : ℕ → ℕ
+  sd = made-good img w f (m .from-6) (m .there) (m .below) (m .fresh) h once (new .dir) (m .between) ys (m .own) room t zs (m .parent) .1
+
+  good : Good limit (exists img) (diskSize img) (lastReserved img) t (systemOwns img) hd sd
+  unfolding hd sd
+  good = made-good img w f (m .from-6) (m .there) (m .below) (m .fresh) h once (new .dir) (m .between) ys (m .own) room t zs (m .parent) .2
+
+  -- ---- the new blocks
+
+  pub own-block : (y : ℕ) → 0 < times y ys → (t .count f ≡ 1) × (y ≡ t .block f)
+  own-block y p = go (new .dir) (plan .own-count) (plan .own-blocks)
+    where
+      go : (d : Bool) → t .count f ≡ cond d 1 0 → ys ≡ cond d (t .block f ∷ []) [] → (t .count f ≡ 1) × (y ≡ t .block f)
+      go true c b = elim (oneAt-cases (t .block f) y) [
+        | inl i ↦ (c, sym (i .0))
+        | inr i ↦ absurd (omega (arith, p, ap (times y) b, times-cons y (t .block f) [], times-nil y, i .1))
+      ]
+      go false c b = absurd (omega (arith, p, ap (times y) b, times-nil y))
+
+  pub parent-block : (y : ℕ) → 0 < times y zs → (a : ℕ) × (0 < times a (plan .new)) × (y ≡ t .block a)
+  parent-block y p = times-map (t .block) (plan .new) y (omega (arith, p, ap (times y) (plan .blocks)))
+
+  own-data : (y : ℕ) → 0 < times y ys → DataBlock img y
+  own-data y p = let q = own-block y p in rw (q .1) (single-data img good f (q .0))
+
+  parent-data : (y : ℕ) → 0 < times y zs → DataBlock img y
+  parent-data y p = let q = parent-block y p in rw (q .2) (single-data img good (q .0) (plan .ones (q .0) (q .1)))
+
+  -- they are no block of a directory that was (m .there), and not each other's
+  old-apart : (a : ℕ) → s .count a ≡ 1 → headIn img a ≢ 1 → (times (s .block a) ys ≡ 0) × (times (s .block a) zs ≡ 0)
+  old-apart a one q =
+      let u : s .block a ≢ 0 = λ z. omega (arith, one, w .good .free-none a z) in
+      let k = plan .kept a u q in
+      let now : t .count a ≡ 1 = k .0 ∙ one in (
+        none-in (s .block a) ys (λ p. let o = own-block (s .block a) p in
+            single-apart good a now f (o .0) (λ i. u (ap (s .block) i ∙ m .fresh)) (k .1 ∙ o .1)),
+        none-in (s .block a) zs (λ p. let o = parent-block (s .block a) p in
+            single-apart good a now (o .0) (plan .ones (o .0) (o .1)) (λ i. plan .apart (o .0) (o .1) .1 (rw (← i) u) (rw (← i) q)) (k .1 ∙ o .2)),
+      )
+
+  new-apart : (y : ℕ) → 0 < times y ys → times y zs ≡ 0
+  new-apart y p =
+      let o = own-block y p in
+      none-in y zs (λ q. let b = parent-block y q in
+      single-apart good f (o .0) (b .0) (plan .ones (b .0) (b .1)) (λ i. plan .apart (b .0) (b .1) .0 (sym i)) (sym (o .1) ∙ b .2))
+
+  -- ---- the image before the entry
+
+  abbrev base : List ℕ
+  base = withAnodes img t
+
+  abbrev headed-own : List ℕ
+  headed-own = withBlocks base ys (newDirectoryBlock f h)
+
+  abbrev pub before : List ℕ
+  before = withBlocks headed-own zs (newDirectoryBlock h (parentOf dirs h))
+
+  own-kept : Kept (λ d. times d ys ≡ 0) base headed-own
+  own-kept = withBlocks-kept base ys (newDirectoryBlock f h) (omega (arith, length-new f h))
+
+  parent-kept : Kept (λ d. times d zs ≡ 0) headed-own before
+  parent-kept = withBlocks-kept headed-own zs (newDirectoryBlock h (parentOf dirs h)) (omega (arith, length-new h (parentOf dirs h)))
+
+  before-same : SameDisk img before
+  before-same = same-then (same-then (same-stored right (withAnodes-stored img right t)) own-kept (not-among ys own-data)) parent-kept (not-among zs parent-data)
+
+  before-anodes : anodesOf before ≡ t
+  before-anodes =
+      anodes-then (same-then (same-stored right (withAnodes-stored img right t)) own-kept (not-among ys own-data)) parent-kept (not-among zs parent-data)
+      ∙ anodes-then (same-stored right (withAnodes-stored img right t)) own-kept (not-among ys own-data)
+      ∙ anodesOf-withAnodes img right t (passes-of good .0)
+
+  -- a data block that is not new is the one that was
+  pub kept-block : (y : ℕ) → DataBlock img y → times y ys ≡ 0 → times y zs ≡ 0 → blockOf before y ≡ blockOf img y
+  kept-block y d o p = parent-kept .block-kept y p ∙ own-kept .block-kept y o ∙ withAnodes-stored img right t .kept .block-kept y (d .unheld)
+
+  pub old-block : (a : ℕ) → s .count a ≡ 1 → headIn img a ≢ 1 → blockOf before (s .block a) ≡ blockOf img (s .block a)
+  old-block a one q = let o = old-apart a one q in kept-block (s .block a) (single-data img (w .good) a one) (o .0) (o .1)
+
+  pub inside-before : (y : ℕ) → DataBlock img y → y * 512 + 512 ≤ length before
+  inside-before y d = rw (before-same .kept .length-kept) (d .inside)
+
+  pub own-new : (y : ℕ) → 0 < times y ys → blockOf before y ≡ newDirectoryBlock f h
+  own-new y p = parent-kept .block-kept y (new-apart y p)
+      ∙ blockOf-withBlocks base ys (newDirectoryBlock f h) y (length-new f h) p (rw (withAnodes-stored img right t .kept .length-kept) (own-data y p .inside))
+
+  pub parent-new : (y : ℕ) → 0 < times y zs → blockOf before y ≡ newDirectoryBlock h (parentOf dirs h)
+  parent-new y p = blockOf-withBlocks headed-own zs (newDirectoryBlock h (parentOf dirs h)) y (length-new h (parentOf dirs h)) p
+      (rw (own-kept .length-kept ∙ withAnodes-stored img right t .kept .length-kept) (parent-data y p .inside))
+
+  -- ---- the directories of that image
+
+  pub cont : (a : ℕ) → s .count a ≡ 1 → headIn img a ≢ 1 → (entriesIn before (s .block a) ≡ entriesIn img (s .block a)) × ((d : Dir) → isBlockOf before d (s .block a) ≡ isBlockOf img d (s .block a))
+  unfolding entriesIn isBlockOf
+  cont a one q = (rw (old-block a one q), λ d. rw (old-block a one q))
+
+  pub orphan : (hd′ : ℕ → ℕ) × (sd′ : ℕ → ℕ) × Orphaned (exists img) (diskSize img) (lastReserved img) f t (systemOwns img) hd′ sd′ (entriesIn before) (isBlockOf before) dirs
+  unfolding entriesIn
+  orphan = made-orphan img w f (m .from-6) (m .there) (m .below) (m .fresh) h once (new .dir) (m .between) ys (m .own) room t zs (m .parent) (entriesIn before) (isBlockOf before) cont
+      (λ y e. rw (parent-new y (first-in y zs e)) (entries-new h (parentOf dirs h) y))
+      (λ y e. each-map (λ d. d .head ≡ h → d .parent ≡ parentOf dirs h) (λ d. d .head ≡ h → T (isBlockOf before d y)) dirs
+      (λ d p q. new-marked before y h (parentOf dirs h) (parent-new y (first-in y zs e)) d q (p q)) (parents-right h dirs once))
+
+  -- ---- the place of the entry
+
+  abbrev len : ℕ
+  len = entryLength (length (new .name)) (length (new .comment))
+
+  -- at the end mark of a block of the directory, with room for the entry
+  pub record Spot : Type 0 where
+    pub anode : ℕ
+    pub one : t .count anode ≡ 1
+    pub on : 0 < times anode (chainOf (t .next) limit h)
+    pub at : entryPlace room zs ≡ t .block anode * 512 + entriesEnd (blockOf before (t .block anode))
+    pub fits : entriesEnd (blockOf before (t .block anode)) + len ≤ 510
+    pub unbroken : anyIn (λ e. e .broken) (entriesIn before (t .block anode)) ≡ false
+
+  not-1 : h ≢ 1
+  not-1 e = omega (arith, e, reached-from-5 img blocks anodes (m .accepted) h (m .reached))
+
+  -- a block of the directory is that of one of its anodes
+  block-anode : (y : ℕ) → 0 < times y (blocksOf s h) → (a : ℕ) × Member a (chainOf (s .next) limit h) × DirBlock img h a × (y ≡ s .block a)
+  unfolding blocksOf run
+  block-anode y p =
+      let q = member-gather (λ a. run (s .block a) (s .count a)) (chainOf (s .next) limit h) y (times-member y (blocksOf s h) p) in
+      let b = dir-block img blocks anodes (m .accepted) h (m .reached) (q .0) (q .1) in
+      let only : Member y (s .block (q .0) ∷ []) = rw (b .one) at (q .2) in
+      (q .0, q .1, b, elim (member-cons y (s .block (q .0)) [] only) [ inl e ↦ e | inr e ↦ absurd (no-member y e) ])
+
+  in-old : (place : ℕ) → room ≡ some place → Spot
+  unfolding entriesIn
+  in-old place e =
+      let found = room-found img len (blocksOf s h) place (m .roomy ∙ e) in
+      let b = block-anode (found .0) (found .1) in
+      let a = b .0 in
+      let one = b .2 .one in
+      let q : headIn img a ≢ 1 = λ i. not-1 (sym (b .2 .on-chain) ∙ i) in
+      let k = plan .kept a (b .2 .in-use) q in
+      let same : blockOf before (t .block a) ≡ blockOf img (found .0) = ap (blockOf before) (k .1) ∙ old-block a one q ∙ ap (blockOf img) (sym (b .3)) in
+      record {
+        anode = a;
+        one = k .0 ∙ one;
+        on = omega (arith, ap (times a) (plan .chain), times-append a (chainOf (s .next) limit h) (plan .new), member-times a (chainOf (s .next) limit h) (b .1));
+        at = omega (arith, ap (λ (o : Option ℕ). entryPlace o zs) e, found .2, ap entriesEnd same, k .1, b .3);
+        fits = rw same (found .3);
+        unbroken = rw (k .1, cont a one q .0) (block-unbroken img blocks anodes (m .accepted) h (m .reached) a (b .1));
+      }
+
+  in-new : room ≡ none → Spot
+  unfolding entriesIn entryLength anyIn goodComment
+  in-new e =
+      let took = parent-took img w f (m .from-6) (m .there) (m .below) (m .fresh) h once (new .dir) (m .between) ys (m .own) t zs (rw e at (m .parent)) in
+      let p = first-in (took .0) zs (took .1) in
+      let b = parent-block (took .0) p in
+      let block : blockOf before (t .block (b .0)) ≡ newDirectoryBlock h (parentOf dirs h) = ap (blockOf before) (sym (b .2)) ∙ parent-new (took .0) p in
+      let end = ap entriesEnd block ∙ end-new h (parentOf dirs h) in
+      record {
+        anode = b .0;
+        one = plan .ones (b .0) (b .1);
+        on = omega (arith, ap (times (b .0)) (plan .chain), times-append (b .0) (chainOf (s .next) limit h) (plan .new), b .1);
+        at = omega (arith, ap (λ (o : Option ℕ). entryPlace o zs) e, ap (entryPlace none) (took .1), end, b .2);
+        fits = omega (arith, end, goodName-length (new .name) (m .named), leb-true (length (new .comment)) 79 (m .commented));
+        unbroken = rw (block, entries-new h (parentOf dirs h) (t .block (b .0)));
+      }
+
+  pub spot : Spot
+  spot = go room refl
+    where
+      go : (o : Option ℕ) → room ≡ o → Spot
+      go (some place) e = in-old place e
+      go none e = in-new e
+
+  -- ---- the image with the entry
+
+  abbrev place : ℕ
+  place = entryPlace room zs
+
+  abbrev entered : Entered
+  entered = enteredAt (entryOf new f) (entryPlace room zs)
+
+  abbrev j : List ℕ
+  j = madeImage img (anodesOf img) h new f room ys t zs
+
+  pub in-block : place / 512 ≡ t .block (spot .anode)
+  in-block = omega (arith, spot .at, spot .fits)
+
+  pub at-end : place % 512 ≡ entriesEnd (blockOf before (t .block (spot .anode)))
+  at-end = omega (arith, spot .at, spot .fits)
+
+  pub spot-data : DataBlock img (t .block (spot .anode))
+  spot-data = single-data img good (spot .anode) (spot .one)
+
+  pub entry-kept : Kept (λ d. d ≢ t .block (spot .anode)) before j
+  unfolding madeImage
+  entry-kept = subst (λ (y : ℕ). Kept (λ d. d ≢ y) before j) in-block
+      (inBlock-kept before (place / 512) (λ b. putEntry b (place % 512) (entryOf new f) (new .name) (new .comment)) (length-putEntry (blockOf before (place / 512)) (place % 512) (entryOf new f) (new .name) (new .comment)))
+
+  pub entry-block : blockOf j (t .block (spot .anode)) ≡ putEntry (blockOf before (t .block (spot .anode))) (entriesEnd (blockOf before (t .block (spot .anode)))) (entryOf new f) (new .name) (new .comment)
+  unfolding madeImage
+  entry-block =
+      ap (blockOf j) (sym in-block)
+      ∙ blockOf-inBlock before (place / 512) (λ b. putEntry b (place % 512) (entryOf new f) (new .name) (new .comment)) (length-putEntry (blockOf before (place / 512)) (place % 512) (entryOf new f) (new .name) (new .comment))
+      ∙ ap₂ (λ (y e : ℕ). putEntry (blockOf before y) e (entryOf new f) (new .name) (new .comment)) in-block at-end
+
+  pub made-same : SameDisk img (madeImage img (anodesOf img) h new f room ys t zs)
+  made-same = same-then before-same entry-kept (not-one spot-data)
+
+  pub made-anodes : anodesOf (madeImage img (anodesOf img) h new f room ys t zs) ≡ t
+  made-anodes = anodes-then before-same entry-kept (not-one spot-data) ∙ before-anodes
+
+  pub entries-made : entriesIn j (t .block (spot .anode)) ≡ entriesIn before (t .block (spot .anode)) ++ (entered ∷ [])
+  unfolding entriesIn entryOf goodComment
+  entries-made =
+      let y = t .block (spot .anode) in
+      ap (λ (b : List ℕ). entriesFrom 28 b y 16) entry-block
+      ∙ entries-put (blockOf before y) y (entryOf new f) (new .name) (new .comment) (length-blockOf before y (inside-before y spot-data)) (spot .fits) refl refl (m .named) (leb-true (length (new .comment)) 79 (m .commented)) (spot .unbroken)
+      ∙ ap (λ (p : ℕ). entriesFrom 28 (blockOf before y) y 16 ++ (enteredAt (entryOf new f) p ∷ [])) (sym (spot .at))
+
+  pub marks-made : (d : Dir) → isBlockOf j d (t .block (spot .anode)) ≡ isBlockOf before d (t .block (spot .anode))
+  unfolding isBlockOf entriesIn entriesEnd
+  marks-made d =
+      let b = blockOf before (t .block (spot .anode)) in
+      rw (entry-block, head-put b (entriesEnd b) (entryOf new f) (new .name) (new .comment) (end-bounds b (t .block (spot .anode)) 28 16 (spot .unbroken) (omega arith) (omega arith) .0))
+
+  -- a block of another anode is the same in both
+  pub entry-other : (a : ℕ) → t .count a ≡ 1 → a ≢ spot .anode → blockOf j (t .block a) ≡ blockOf before (t .block a)
+  entry-other a one q = entry-kept .block-kept (t .block a) (single-apart good a one (spot .anode) (spot .one) q)
+
+  pub its-head : orphan .0 (spot .anode) ≡ h
+  its-head = on-chain (orphan .2 .good) h (dir-head (orphan .2) h once) (spot .anode) (spot .on) .0
+
+  pub other-entries : (a : ℕ) → t .count a ≡ 1 → a ≢ spot .anode → entriesIn j (t .block a) ≡ entriesIn before (t .block a)
+  unfolding entriesIn
+  other-entries a one q = rw (entry-other a one q)

@@ -1,0 +1,299 @@
+-- What a make leaves of all else: every directory is reached and has its entries, its own the new one too, and every file has its bytes.
+use Prim.Native.Nat.{ℕ, _+_, _*_, _/_, _%_, _≤_, _<_}
+use mathlib.Core.Path.{_≡_, refl, sym, ap, ap₂, _∙_}
+use mathlib.Core.Logic.{_≢_, inl, inr}
+use mathlib.Core.Bool.{Bool, true, false, cond, true≢false}
+use mathlib.Core.List.{List, [], _∷_, _++_, map, append-assoc, append-nil}
+use mathlib.Core.Option.{Option}
+use native.Mathlib.Omega.{arith}
+use lib.ListN.{length, getD, take, drop}
+use borrow.Author.Tests.{leb-true}
+use Rattle.disk.specs.Blocks.{blockOf}
+use Rattle.disk.proofs.Laws.{length-blockOf}
+use Rattle.directory.specs.declared.Walked.the-variants.{Found}
+use Rattle.directory.specs.declared.Entry.{Entry}
+use Rattle.directory.specs.Entries.{goodComment, walkedAt, putEntry}
+use Rattle.directory.proofs.Laws.{length-putEntry, getD-putEntry-before, nameIn-putEntry, walkedAt-putEntry}
+use Rattle.rules.specs.Counting.{oneAt, times, anyIn, gather}
+use Rattle.rules.specs.Anodes.{Anodes, limit, anodesOf}
+use Rattle.rules.specs.Chains.{chainOf, blocksOf}
+use Rattle.rules.specs.Walk.{Entered, entriesFrom, entriesIn, reachedDirs}
+use Rattle.rules.specs.Lookup.{noDirectory, entriesOf, nameAt, bytesOf, contents}
+use Rattle.rules.specs.Changes.{entriesEnd, parentOf, entryPlace, NewEntry, entryOf, madeImage}
+use Rattle.laws.specs.Tests.{same?, less?}
+use Rattle.laws.specs.Sums.{oneAt-cases, oneAt-same, oneAt-other}
+use Rattle.laws.specs.Bags.{times-nil, times-cons, times-append}
+use Rattle.laws.specs.Heads.{Head}
+use Rattle.laws.specs.Space.{on-chain}
+use Rattle.laws.specs.TreeChanges.{headed}
+use Rattle.laws.specs.ChainBlocks.{gather-append, extent, kept-blocks, stands-once}
+use Rattle.laws.specs.DirectoryTakes.{dir-head}
+use Rattle.frames.specs.DisjointBlocks.{chains-apart, chain-block}
+use Rattle.changes.specs.Image.{headIn, headed-reached, reached-some, reached-headed}
+use Rattle.changes.specs.FoundEntries.{part-same, found-at, enteredAt, entry-standing}
+use Rattle.changes.specs.Members.{Member, member-first, member-times, times-member, gather-congr}
+use Rattle.changes.specs.Reached.{block-on, reached-from-5, reached-head, dir-block, entry-facts, not-file}
+use Rattle.changes.specs.SingleBlocks.{block-unbroken}
+use Rattle.changes.specs.EntryBytes.{entryBytes, bytes-at, with-length}
+use Rattle.changes.specs.NewEntry.{entries-new}
+use Rattle.changes.specs.MadeImage.{none-in, Making, w, plan, own-block, parent-block, before, kept-block, parent-new, cont, old-block, orphan, spot, inside-before, spot-data, in-block, at-end, entry-kept, entry-block, entry-other, made-anodes, entries-made, other-entries, its-head}
+use Rattle.changes.specs.Make.{made-dirs}
+
+-- a list with one more element somewhere in it
+pub record EntryAdded (e : Entered) (old now : List Entered) : Type 0 where
+  pub before : List Entered
+  pub behind : List Entered
+  pub were : old ≡ before ++ behind
+  pub are : now ≡ before ++ (e ∷ behind)
+
+times-mapped : (g : ℕ → ℕ) (l : List ℕ) (a : ℕ) → 0 < times a l → 0 < times (g a) (map g l)
+times-mapped g [] a p = absurd (omega (arith, p, times-nil a))
+times-mapped g (x ∷ l) a p = elim (oneAt-cases x a) [
+  | inl c ↦ omega (arith, times-cons (g a) (g x) (map g l), oneAt-same (g x) (g a) (ap g (c .0)))
+  | inr c ↦ omega (arith, times-cons (g a) (g x) (map g l), times-mapped g l a (omega (arith, p, c .1, times-cons a x l)))
+]
+
+gather-none : (g : ℕ → List Entered) (l : List ℕ) → ((a : ℕ) → 0 < times a l → g a ≡ []) → gather g l ≡ []
+unfolding gather
+gather-none g [] e = refl
+gather-none g (x ∷ l) e = rw (e x (omega (arith, times-cons x x l, oneAt-same x x refl)), gather-none g l (λ a p. e a (omega (arith, p, times-cons a x l))))
+
+-- the first element's list joined to what stands before
+gather-first : (g : ℕ → List Entered) (k : List Entered) (a : ℕ) (l : List ℕ) → k ++ gather g (a ∷ l) ≡ k ++ g a ++ gather g l
+unfolding gather
+gather-first g k a l = sym (append-assoc k (g a) (gather g l))
+
+-- an entry of a block keeps its bytes when another is put behind the last
+bytes-put : (b : List ℕ) (y at : ℕ) (x : Entry) (name comment : List ℕ) → length b ≡ 512 → anyIn (λ e. e .broken) (entriesFrom 28 b y 16) ≡ false → (e : Entered) → e .place ≡ y * 512 + at →
+    Member e (entriesFrom 28 b y 16) →
+    take (getD (putEntry b (entriesEnd b) x name comment) at 0) (drop at (putEntry b (entriesEnd b) x name comment)) ≡ take (getD b at 0) (drop at b)
+unfolding entriesEnd
+bytes-put b y at x name comment whole u e place (xs, ys, parted) =
+    let st = entry-standing b y at e place ys xs 28 16 parted u (omega arith) (omega arith) in
+    let found = found-at b at (st .entry) (st .walked) in
+    let b′ = putEntry b (entriesEnd b) x name comment in
+    with-length b′ b at at (omega (arith, found .long))
+    (part-same b′ b at at (getD b at 0) (omega (arith, length-putEntry b (entriesEnd b) x name comment, whole, found .room)) (omega (arith, whole, found .room))
+    (λ i l. getD-putEntry-before b (entriesEnd b) x name comment (at + i) (omega (arith, l, st .before))))
+
+module _ {img : List ℕ} {blocks anodes h : ℕ} {new : NewEntry} {f : ℕ} {room : Option ℕ} {ys : List ℕ} {t : Anodes} {zs : List ℕ} (m : Making img blocks anodes h new f room ys t zs) where
+  abbrev s : Anodes
+  s = anodesOf img
+
+  abbrev j : List ℕ
+  j = madeImage img s h new f room ys t zs
+
+  abbrev entered : Entered
+  entered = enteredAt (entryOf new f) (entryPlace room zs)
+
+  -- an anode of a directory that was reached
+  module _ (k : ℕ) (r : noDirectory img s k ≡ false) (a : ℕ) (on : Member a (chainOf (s .next) limit k)) where
+    one : s .count a ≡ 1
+    one = dir-block img blocks anodes (m .accepted) k r a on .one
+
+    head-not-1 : headIn img a ≢ 1
+    head-not-1 q = omega (arith, reached-from-5 img blocks anodes (m .accepted) k r, dir-block img blocks anodes (m .accepted) k r a on .on-chain, q)
+
+    same-place : (t .count a ≡ s .count a) × (t .block a ≡ s .block a)
+    same-place = plan m .kept a (dir-block img blocks anodes (m .accepted) k r a on .in-use) head-not-1
+
+    before-same : entriesIn (before m) (t .block a) ≡ entriesIn img (s .block a)
+    before-same = ap (entriesIn (before m)) (same-place .1) ∙ cont m a one head-not-1 .0
+
+  -- ---- the entries of other directories
+
+  head-now : (k : ℕ) → noDirectory img s k ≡ false → Head (t .next) (t .block) k
+  head-now k r = dir-head (orphan m .2) k (reached-headed img blocks anodes (m .accepted) k r)
+
+  pub entries-kept : (k : ℕ) → noDirectory img (anodesOf img) k ≡ false → k ≢ h →
+      entriesOf (madeImage img (anodesOf img) h new f room ys t zs) (anodesOf (madeImage img (anodesOf img) h new f room ys t zs)) k ≡ entriesOf img (anodesOf img) k
+  unfolding entriesOf
+  entries-kept k r kh = rw (made-anodes m)
+      (ap (gather (λ a. entriesIn j (t .block a))) same
+      ∙ gather-congr (λ a. entriesIn j (t .block a)) (λ a. entriesIn img (s .block a)) (chainOf (s .next) limit k) (λ a on.
+      other-entries m a (same-place k r a on .0 ∙ one k r a on) (not-spot a on) ∙ before-same k r a on))
+    where
+      same : chainOf (t .next) limit k ≡ chainOf (s .next) limit k
+      same = plan m .others k (reached-head img blocks anodes (m .accepted) k r) (λ q. omega (arith, q, reached-from-5 img blocks anodes (m .accepted) k r)) kh
+
+      not-spot : (a : ℕ) → Member a (chainOf (s .next) limit k) → a ≢ spot m .anode
+      not-spot a on e = kh (sym (on-chain (orphan m .2 .good) k (head-now k r) a (rw same (member-times a (chainOf (s .next) limit k) on)) .0) ∙ ap (orphan m .0) e ∙ its-head m)
+
+  -- ---- the entries of the directory itself
+
+  abbrev was : ℕ → List Entered
+  was a = entriesIn (before m) (t .block a)
+
+  abbrev now : ℕ → List Entered
+  now a = entriesIn j (t .block a)
+
+  -- each anode of it has one block
+  ones : (a : ℕ) → 0 < times a (chainOf (t .next) limit h) → t .count a ≡ 1
+  ones a p = elim (less? 0 (times a (chainOf (s .next) limit h))) [
+    | inl q ↦ (let on = times-member a (chainOf (s .next) limit h) q in same-place h (m .reached) a on .0 ∙ one h (m .reached) a on)
+    | inr q ↦ plan m .ones a (omega (arith, p, q, ap (times a) (plan m .chain), times-append a (chainOf (s .next) limit h) (plan m .new)))
+  ]
+
+  -- a new block of it has no entry
+  new-none : (a : ℕ) → 0 < times a (plan m .new) → was a ≡ []
+  unfolding entriesIn
+  new-none a p =
+      let on : 0 < times (t .block a) zs = rw (plan m .blocks) (times-mapped (t .block) (plan m .new) a p) in
+      rw (parent-new m (t .block a) on) (entries-new h (parentOf (reachedDirs img s) h) (t .block a))
+
+  before-all : gather was (chainOf (t .next) limit h) ≡ entriesOf img s h
+  unfolding entriesOf
+  before-all =
+      ap (gather was) (plan m .chain) ∙ gather-append was (chainOf (s .next) limit h) (plan m .new)
+      ∙ ap₂ (λ (k l : List Entered). k ++ l)
+      (gather-congr was (λ a. entriesIn img (s .block a)) (chainOf (s .next) limit h) (λ a on. before-same h (m .reached) a on))
+      (gather-none was (plan m .new) new-none)
+      ∙ append-nil (gather (λ a. entriesIn img (s .block a)) (chainOf (s .next) limit h))
+
+  now-all : entriesOf j (anodesOf j) h ≡ gather now (chainOf (t .next) limit h)
+  unfolding entriesOf
+  now-all = ap (λ (x : Anodes). entriesOf j x h) (made-anodes m)
+
+  -- along other anodes of it nothing has changed
+  now-was : (l : List ℕ) → ((a : ℕ) → times a l ≤ times a (chainOf (t .next) limit h)) → times (spot m .anode) l ≡ 0 → gather now l ≡ gather was l
+  now-was l part none = gather-congr now was l (λ a on. let p = member-times a l on in
+      other-entries m a (ones a (omega (arith, p, part a))) (λ e. omega (arith, p, none, ap (λ (x : ℕ). times x l) e)))
+
+  pub entry-added : EntryAdded (enteredAt (entryOf new f) (entryPlace room zs)) (entriesOf img (anodesOf img) h)
+      (entriesOf (madeImage img (anodesOf img) h new f room ys t zs) (anodesOf (madeImage img (anodesOf img) h new f room ys t zs)) h)
+  entry-added = go (times-member (spot m .anode) (chainOf (t .next) limit h) (spot m .on))
+    where
+      go : Member (spot m .anode) (chainOf (t .next) limit h) → EntryAdded (enteredAt (entryOf new f) (entryPlace room zs)) (entriesOf img s h) (entriesOf j (anodesOf j) h)
+      go (front, back, parted) =
+          let a = spot m .anode in
+          let once = stands-once (orphan m .2 .good) h (head-now h (m .reached)) a front back parted in
+          let all : (x : ℕ) → times x (chainOf (t .next) limit h) ≡ times x front + (oneAt a x + times x back) = λ x.
+          ap (times x) parted ∙ times-append x front (a ∷ back) ∙ ap (λ (n : ℕ). times x front + n) (times-cons x a back) in
+          record {
+            before = gather was front ++ was a;
+            behind = gather was back;
+            were = sym before-all ∙ ap (gather was) parted ∙ gather-append was front (a ∷ back) ∙ gather-first was (gather was front) a back;
+            are = now-all ∙ ap (gather now) parted ∙ gather-append now front (a ∷ back) ∙ gather-first now (gather now front) a back
+                ∙ ap₂ (λ (k l : List Entered). k ++ now a ++ l) (now-was front (λ x. omega (arith, all x)) (once .0)) (now-was back (λ x. omega (arith, all x)) (once .1))
+                ∙ ap (λ (k : List Entered). gather was front ++ k ++ gather was back) (entries-made m)
+                ∙ ap (λ (k : List Entered). k ++ gather was back) (sym (append-assoc (gather was front) (was a) (entered ∷ [])))
+                ∙ append-assoc (gather was front ++ was a) (entered ∷ []) (gather was back);
+          }
+
+  -- ---- the directories
+
+  headed-made : (x : ℕ) → headed x (reachedDirs j (anodesOf j)) ≡ headed x (reachedDirs img s) + cond (new .dir) (oneAt f x) 0
+  unfolding headed
+  headed-made x = made-dirs m (λ d. oneAt (d .head) x)
+
+  -- those that were reached are reached, and but for the new one no other
+  pub reached-kept : (x : ℕ) → x ≢ f → noDirectory (madeImage img (anodesOf img) h new f room ys t zs) (anodesOf (madeImage img (anodesOf img) h new f room ys t zs)) x ≡ noDirectory img (anodesOf img) x
+  reached-kept x o = go (noDirectory j (anodesOf j) x) (noDirectory img s x) refl refl
+    where
+      none : (b : Bool) → cond b (oneAt f x) 0 ≡ 0
+      none true = oneAt-other f x (λ e. o (sym e))
+      none false = refl
+
+      go : (b c : Bool) → noDirectory j (anodesOf j) x ≡ b → noDirectory img s x ≡ c → b ≡ c
+      go true true p q = refl
+      go false false p q = refl
+      go true false p q = absurd (true≢false (sym p ∙ headed-reached j (anodesOf j) x (omega (arith, headed-made x, reached-some img s x q))))
+      go false true p q = absurd (true≢false (sym q ∙ headed-reached img s x (omega (arith, headed-made x, none (new .dir), reached-some j (anodesOf j) x p))))
+
+  pub new-reached : new .dir ≡ true → noDirectory (madeImage img (anodesOf img) h new f room ys t zs) (anodesOf (madeImage img (anodesOf img) h new f room ys t zs)) f ≡ false
+  new-reached d = headed-reached j (anodesOf j) f (omega (arith, headed-made f, ap (λ (b : Bool). cond b (oneAt f f) 0) d, oneAt-same f f refl))
+
+  -- ---- the bytes of files
+
+  module _ (k : ℕ) (d : Head (s .next) (s .block) k) (k1 : k ≢ 1) (kh : k ≢ h) where
+    blocks-same : blocksOf t k ≡ blocksOf s k
+    unfolding extent
+    blocks-same = kept-blocks s t k (plan m .others k d k1 kh) (λ a p.
+        let c = on-chain (w m .good) k d a p in
+        let e = plan m .kept a (c .1) (λ q. k1 (sym (c .0) ∙ q)) in
+        rw (e .0, e .1))
+
+    now-head : Head (t .next) (t .block) k
+    now-head = plan m .stays k d
+
+    not-f : k ≢ f
+    not-f e = d .in-use (ap (s .block) e ∙ m .fresh)
+
+    -- its blocks are none of the new ones, and not the one that has the entry
+    apart-f : (y : ℕ) → 0 < times y (blocksOf t k) → 0 < times y ys → ⊥
+    apart-f y p q =
+        let o = own-block m y q in
+        omega (
+          arith,
+          chains-apart (orphan m .2 .good) k f now-head (orphan m .2 .head) not-f y p,
+          rw (← (o .1)) at (block-on t f f (rw (plan m .own-chain) (member-first f [])) (o .0)),
+        )
+
+    apart-h : (a : ℕ) → 0 < times a (chainOf (t .next) limit h) → 0 < times (t .block a) (blocksOf t k) → ⊥
+    apart-h a on p = omega (
+      arith,
+      chains-apart (orphan m .2 .good) k h now-head (head-now h (m .reached)) kh (t .block a) p,
+      block-on t h a (times-member a (chainOf (t .next) limit h) on) (ones a on),
+    )
+
+    block-same : (y : ℕ) → 0 < times y (blocksOf t k) → blockOf j y ≡ blockOf img y
+    block-same y p =
+        entry-kept m .block-kept y (λ e. apart-h (spot m .anode) (spot m .on) (rw (← e) p))
+        ∙ kept-block m y (chain-block img (orphan m .2 .good) k now-head y p) (none-in y ys (apart-f y p))
+        (none-in y zs (λ q. let b = parent-block m y q in
+        apart-h (b .0) (omega (arith, b .1, ap (times (b .0)) (plan m .chain), times-append (b .0) (chainOf (s .next) limit h) (plan m .new))) (rw (← (b .2)) p)))
+
+    bytes-same : bytesOf j t k ≡ bytesOf img s k
+    unfolding bytesOf
+    bytes-same = gather-congr (blockOf j) (blockOf img) (blocksOf t k) (λ y on. block-same y (member-times y (blocksOf t k) on)) ∙ ap (gather (blockOf img)) blocks-same
+
+  -- every file that was there has the bytes that it had
+  pub contents-kept : (k : ℕ) → noDirectory img (anodesOf img) k ≡ false → (e : Entered) → Member e (entriesOf img (anodesOf img) k) → e .dir ≡ false →
+      contents (madeImage img (anodesOf img) h new f room ys t zs) (anodesOf (madeImage img (anodesOf img) h new f room ys t zs)) e ≡ contents img (anodesOf img) e
+  unfolding contents
+  contents-kept k r e on file =
+      let g = entry-facts img blocks anodes (m .accepted) k r e on in
+      rw (made-anodes m) (ap (take (e .size)) (bytes-same (e .anode) (g .head) (λ q. omega (arith, q, g .from-6)) (λ q. not-file img blocks anodes (m .accepted) h (m .reached) k e g file (sym q))))
+
+  -- ---- the bytes of entries
+
+  -- the block that has the new entry, if it was the directory's before
+  made-block : (a : ℕ) → a ≡ spot m .anode → t .block a ≡ s .block a → blockOf (before m) (s .block a) ≡ blockOf img (s .block a) →
+      blockOf j (s .block a) ≡ putEntry (blockOf img (s .block a)) (entriesEnd (blockOf img (s .block a))) (entryOf new f) (new .name) (new .comment)
+  made-block a q kept old =
+      let same : t .block (spot m .anode) ≡ s .block a = ap (t .block) (sym q) ∙ kept in
+      ap (blockOf j) (sym same) ∙ entry-block m
+      ∙ ap (λ (b : List ℕ). putEntry b (entriesEnd b) (entryOf new f) (new .name) (new .comment)) (ap (blockOf (before m)) same ∙ old)
+
+  -- those of an entry that was there are the same
+  pub bytes-kept : (k : ℕ) → noDirectory img (anodesOf img) k ≡ false → (e : Entered) → Member e (entriesOf img (anodesOf img) k) →
+      entryBytes (madeImage img (anodesOf img) h new f room ys t zs) (e .place) ≡ entryBytes img (e .place)
+  unfolding entriesIn
+  bytes-kept k r e on =
+      let g = entry-facts img blocks anodes (m .accepted) k r e on in
+      let a = g .a₀ in
+      let kept = same-place k r a (g .member-chain) in
+      let old = old-block m a (one k r a (g .member-chain)) (head-not-1 k r a (g .member-chain)) in
+      let at = e .place % 512 in
+      let place : e .place ≡ s .block a * 512 + at = omega (arith, g .in-block) in
+      bytes-at j (e .place) (s .block a) at place (omega arith) ∙ elim (same? a (spot m .anode)) [
+        | inl q ↦ rw (made-block a q (kept .1) old)
+            (bytes-put (blockOf img (s .block a)) (s .block a) at (entryOf new f) (new .name) (new .comment) (length-blockOf img (s .block a) (g .block-facts .is-data .inside))
+            (block-unbroken img blocks anodes (m .accepted) k r a (g .member-chain)) e place (g .member))
+        | inr q ↦ rw (ap (blockOf j) (sym (kept .1)) ∙ entry-other m a (kept .0 ∙ one k r a (g .member-chain)) q ∙ ap (blockOf (before m)) (kept .1) ∙ old)
+      ] ∙ sym (bytes-at img (e .place) (s .block a) at place (omega arith))
+
+  new-whole : length (blockOf (before m) (t .block (spot m .anode))) ≡ 512
+  new-whole = length-blockOf (before m) (t .block (spot m .anode)) (inside-before m (t .block (spot m .anode)) (spot-data m))
+
+  -- the new one is found there with its fields and its name
+  pub new-found : walkedAt (blockOf (madeImage img (anodesOf img) h new f room ys t zs) (entryPlace room zs / 512)) (entryPlace room zs % 512) ≡ Found (entryOf new f)
+  unfolding entryOf goodComment
+  new-found = rw (in-block m, at-end m, entry-block m)
+      (walkedAt-putEntry (blockOf (before m) (t .block (spot m .anode))) (entriesEnd (blockOf (before m) (t .block (spot m .anode)))) (entryOf new f) (new .name) (new .comment) refl refl new-whole (spot m .fits) (m .named)
+      (leb-true (length (new .comment)) 79 (m .commented)))
+
+  pub new-name : nameAt (madeImage img (anodesOf img) h new f room ys t zs) (entryPlace room zs) ≡ new .name
+  unfolding nameAt entryOf
+  new-name = rw (in-block m, at-end m, entry-block m)
+      (nameIn-putEntry (blockOf (before m) (t .block (spot m .anode))) (entriesEnd (blockOf (before m) (t .block (spot m .anode)))) (entryOf new f) (new .name) (new .comment) refl refl new-whole (spot m .fits))

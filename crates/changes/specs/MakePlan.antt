@@ -1,0 +1,267 @@
+-- The anodes that a make plans: a fresh head, a block of its own for a directory, and a block for the parent where it has no room.
+use Prim.Native.Nat.{ℕ, _≤_, _<_}
+use mathlib.Core.Path.{_≡_, refl, sym, ap, _∙_, subst}
+use mathlib.Core.Logic.{_≢_, inl, inr}
+use mathlib.Core.Bool.{Bool, true, false, cond}
+use mathlib.Core.List.{List, [], _∷_, _++_, map, append-nil}
+use mathlib.Core.Option.{Option, none, some}
+use native.Mathlib.Omega.{arith}
+use lib.Dec.{T}
+use Rattle.rules.specs.Counting.{times, changed}
+use Rattle.rules.specs.Anodes.{Anodes, limit, exists}
+use Rattle.rules.specs.Chains.{chainOf, systemOwns}
+use Rattle.rules.specs.Walk.{Dir, Entered}
+use Rattle.rules.specs.Accepted.{diskSize, lastReserved}
+use Rattle.rules.specs.Space.{planned, rewritten}
+use Rattle.rules.specs.Changes.{ownBlock, parentBlock}
+use Rattle.laws.specs.Tests.{same?}
+use Rattle.laws.specs.Sums.{oneAt-cases, oneAt-same, oneAt-other, oneAt-le, changed-same, changed-other}
+use Rattle.laws.specs.Bags.{times-nil, times-cons, times-append}
+use Rattle.laws.specs.Heads.{Head, head-of-is, times-on-chain}
+use Rattle.laws.specs.Space.{Good}
+use Rattle.laws.specs.Arriving.{planned-same}
+use Rattle.laws.specs.Take.{take-good}
+use Rattle.laws.specs.Frame.{Shift, kept-chain, take-shift}
+use Rattle.laws.specs.Each.{Each}
+use Rattle.laws.specs.TreeChanges.{headed}
+use Rattle.laws.specs.Whole.{Whole}
+use Rattle.laws.specs.OwnBlock.{own-filled}
+use Rattle.laws.specs.Orphan.{Orphaned, not-dir, orphan-changed}
+use Rattle.laws.specs.DirectoryTakes.{find-headed, dir-head, dir-not-1, dir-taken, directory-takes}
+use Rattle.laws.specs.Make.{fresh-chain, fresh-orphan}
+
+-- what the steps of a make leave from s to t, where f is the fresh head and h the parent's, ys the own block and zs the parent's new one
+pub record MadePlan (s : Anodes) (hd : ℕ → ℕ) (f h : ℕ) (dir : Bool) (ys zs : List ℕ) (t : Anodes) : Type 0 where
+  pub own-chain : chainOf (t .next) limit f ≡ f ∷ []
+  pub own-count : t .count f ≡ cond dir 1 0
+  pub own-blocks : ys ≡ cond dir (t .block f ∷ []) []
+  -- the parent's new anode, if any
+  pub new : List ℕ
+  pub chain : chainOf (t .next) limit h ≡ chainOf (s .next) limit h ++ new
+  pub ones : (a : ℕ) → 0 < times a new → t .count a ≡ 1
+  pub blocks : zs ≡ map (t .block) new
+  -- which was free, or the free list's
+  pub apart : (a : ℕ) → 0 < times a new → (a ≢ f) × (s .block a ≢ 0 → hd a ≢ 1 → ⊥)
+  -- no anode but the free list's gets other blocks, and every other chain stays
+  pub kept : (a : ℕ) → s .block a ≢ 0 → hd a ≢ 1 → (t .count a ≡ s .count a) × (t .block a ≡ s .block a)
+  pub stays : (m : ℕ) → Head (s .next) (s .block) m → Head (t .next) (t .block) m
+  pub others : (m : ℕ) → Head (s .next) (s .block) m → m ≢ 1 → m ≢ h → chainOf (t .next) limit m ≡ chainOf (s .next) limit m
+
+-- no step
+shift-none : (s : Anodes) (hd : ℕ → ℕ) (h : ℕ) → Shift s hd s hd h
+shift-none s hd h = record {
+  stays = λ m d. d;
+  no-new = λ m d. d;
+  apart = λ a u q i. record { same-count = refl; same-block = refl; same-next = refl };
+  same-hd = λ a u q i. refl;
+}
+
+module _ (img : List ℕ) {s : Anodes} {hd sd : ℕ → ℕ} {entries : ℕ → List Entered} {marked : Dir → ℕ → Bool} {dirs : List Dir}
+    (w : Whole (exists img) (diskSize img) (lastReserved img) s (systemOwns img) hd sd entries marked dirs)
+    (f : ℕ) (f6 : 6 ≤ f) (there : T (exists img f)) (fA : f < limit) (fresh : s .block f ≡ 0) where
+  abbrev begun : Anodes
+  begun = rewritten s f 0 65535
+
+  -- the fresh head, while the directories stay as they are
+  orphan : Orphaned (exists img) (diskSize img) (lastReserved img) f begun (systemOwns img) (changed hd f f) (changed sd f f) entries marked dirs
+  orphan = fresh-orphan w f f6 there fA fresh entries marked (λ a i q. (refl, λ d. refl))
+
+  -- ---- the own block
+
+  record OwnStep (dir : Bool) (t : Anodes) (ys : List ℕ) : Type 0 where
+    hd′ : ℕ → ℕ
+    sd′ : ℕ → ℕ
+    good : Good limit (exists img) (diskSize img) (lastReserved img) t (systemOwns img) hd′ sd′
+    shift : Shift begun (changed hd f f) t hd′ f
+    chain : chainOf (t .next) limit f ≡ f ∷ []
+    count : t .count f ≡ cond dir 1 0
+    blocks : ys ≡ cond dir (t .block f ∷ []) []
+
+  own-none : OwnStep false begun []
+  unfolding rewritten
+  own-none = record {
+    hd′ = changed hd f f;
+    sd′ = changed sd f f;
+    good = orphan .good;
+    shift = shift-none begun (changed hd f f) f;
+    chain = fresh-chain w f f6 there fA fresh;
+    count = changed-same (s .count) f 0;
+    blocks = refl;
+  }
+
+  own-step : (dir : Bool) (t : Anodes) (ys : List ℕ) → ownBlock img dir begun f ≡ planned t ys → OwnStep dir t ys
+  unfolding ownBlock
+  own-step true t ys e =
+      let m = take-good (orphan .good) f (orphan .head) (λ q. omega (arith, f6, q)) true t ys e in
+      let q = own-filled (orphan .good) f (orphan .head) (λ q. omega (arith, f6, q)) (own-none .chain) (own-none .count) t ys e in
+      record { hd′ = m .hd′; sd′ = m .sd′; good = m .good; shift = take-shift (orphan .good) m; chain = q .2 .chain; count = q .2 .one; blocks = q .1 ∙ ap (λ (y : ℕ). y ∷ []) (sym (q .2 .at)) }
+  own-step false t ys e = let q = planned-same begun t [] ys e in rw (q .0, sym (q .1)) at own-none
+
+  -- ---- the parent's block
+
+  module _ (h : ℕ) (reached : headed h dirs ≡ 1) (dir : Bool) (r : Anodes) (ys : List ℕ) (own : ownBlock img dir (rewritten s f 0 65535) f ≡ planned r ys) where
+    abbrev step : OwnStep dir r ys
+    step = own-step dir r ys own
+
+    -- with other entries and marks that agree with the old in the blocks of directories
+    owned : (entries′ : ℕ → List Entered) (marked′ : Dir → ℕ → Bool)
+        (cont : (a : ℕ) → s .count a ≡ 1 → hd a ≢ 1 → (entries′ (s .block a) ≡ entries (s .block a)) × ((d : Dir) → marked′ d (s .block a) ≡ marked d (s .block a))) →
+        Orphaned (exists img) (diskSize img) (lastReserved img) f r (systemOwns img) (step .hd′) (step .sd′) entries′ marked′ dirs
+    owned entries′ marked′ cont = orphan-changed (fresh-orphan w f f6 there fA fresh entries′ marked′ cont) f6 (step .good) (step .shift)
+
+    o : Orphaned (exists img) (diskSize img) (lastReserved img) f r (systemOwns img) (step .hd′) (step .sd′) entries marked dirs
+    o = owned entries marked (λ a i q. (refl, λ d. refl))
+
+    record ParentStep (t : Anodes) (zs : List ℕ) : Type 0 where
+      heads-now : ℕ → ℕ
+      sides-now : ℕ → ℕ
+      good : Good limit (exists img) (diskSize img) (lastReserved img) t (systemOwns img) heads-now sides-now
+      new : List ℕ
+      chain : chainOf (t .next) limit h ≡ chainOf (r .next) limit h ++ new
+      ones : (a : ℕ) → 0 < times a new → t .count a ≡ 1
+      blocks : zs ≡ map (t .block) new
+      apart : (a : ℕ) → 0 < times a new → r .block a ≢ 0 → step .hd′ a ≢ 1 → ⊥
+      kept : (a : ℕ) → r .block a ≢ 0 → step .hd′ a ≢ 1 → (t .count a ≡ r .count a) × (t .block a ≡ r .block a)
+      stays : (m : ℕ) → Head (r .next) (r .block) m → Head (t .next) (t .block) m
+      others : (m : ℕ) → Head (r .next) (r .block) m → m ≢ 1 → m ≢ h → chainOf (t .next) limit m ≡ chainOf (r .next) limit m
+
+    parent-none : ParentStep r []
+    parent-none = record {
+      heads-now = step .hd′;
+      sides-now = step .sd′;
+      good = step .good;
+      new = [];
+      chain = sym (append-nil (chainOf (r .next) limit h));
+      ones = λ a p. absurd (omega (arith, p, times-nil a));
+      blocks = refl;
+      apart = λ a p u q. absurd (omega (arith, p, times-nil a));
+      kept = λ a u q. (refl, refl);
+      stays = λ m d. d;
+      others = λ m d m1 mh. refl;
+    }
+
+    parent-step : (room : Option ℕ) (t : Anodes) (zs : List ℕ) → parentBlock img room r h ≡ planned t zs → ParentStep t zs
+    unfolding parentBlock
+    parent-step (some place) t zs e = let q = planned-same r t [] zs e in subst (ParentStep t) (sym (q .1)) (subst (λ (x : Anodes). ParentStep x []) (q .0) parent-none)
+    parent-step none t zs e =
+        let x = dir-taken o h reached t zs e in
+        let m = take-good (o .good) h (dir-head o h reached) (dir-not-1 o h reached) true t zs e in
+        let sh = take-shift (o .good) m in
+        record {
+          heads-now = m .hd′;
+          sides-now = m .sd′;
+          good = m .good;
+          new = x .2 .anode ∷ [];
+          chain = x .2 .chain;
+          ones = λ a p. elim (oneAt-cases (x .2 .anode) a) [
+            | inl c ↦ ap (t .count) (sym (c .0)) ∙ x .2 .one
+            | inr c ↦ absurd (omega (arith, p, times-cons a (x .2 .anode) [], times-nil a, c .1))
+          ];
+          blocks = x .1 ∙ ap (λ (y : ℕ). y ∷ []) (sym (x .2 .at));
+          apart = λ a p u q.
+              let now = times-on-chain (m .good .view) (m .good .linked) (m .hd′) (m .good .heads) h (sh .stays h (dir-head o h reached)) a in
+              let twice = ap (times a) (x .2 .chain) ∙ times-append a (chainOf (r .next) limit h) (x .2 .anode ∷ []) in
+              elim (same? (step .hd′ a) h) [
+                | inl i ↦ omega (
+                  arith,
+                  p,
+                  now,
+                  twice,
+                  oneAt-le (m .hd′ a) h,
+                  times-on-chain (o .good .view) (o .good .linked) (step .hd′) (o .good .heads) h (dir-head o h reached) a,
+                  oneAt-same (step .hd′ a) h i,
+                )
+                | inr i ↦ omega (arith, p, now, twice, oneAt-other (m .hd′ a) h (λ k. i (sym (sh .same-hd a u q i) ∙ k)))
+              ];
+          kept = λ a u q. elim (same? (step .hd′ a) h) [
+            | inl i ↦ x .2 .kept a (omega (arith, times-on-chain (o .good .view) (o .good .linked) (step .hd′) (o .good .heads) h (dir-head o h reached) a, oneAt-same (step .hd′ a) h i))
+            | inr i ↦ (let l = sh .apart a u q i in (l .same-count, l .same-block))
+          ];
+          stays = sh .stays;
+          others = λ k d k1 kh. kept-chain (o .good) (m .good) h (sh .stays) (sh .no-new) (sh .apart) k d k1 kh;
+        }
+
+    -- nothing names the new chain yet
+    parent-orphan : (entries′ : ℕ → List Entered) (marked′ : Dir → ℕ → Bool) → Orphaned (exists img) (diskSize img) (lastReserved img) f r (systemOwns img) (step .hd′) (step .sd′) entries′ marked′ dirs →
+        (room : Option ℕ) (t : Anodes) (zs : List ℕ) → parentBlock img room r h ≡ planned t zs → ((y : ℕ) → zs ≡ y ∷ [] → entries′ y ≡ []) →
+        ((y : ℕ) → zs ≡ y ∷ [] → Each (λ d. d .head ≡ h → T (marked′ d y)) dirs) →
+        (hd′ : ℕ → ℕ) × (sd′ : ℕ → ℕ) × Orphaned (exists img) (diskSize img) (lastReserved img) f t (systemOwns img) hd′ sd′ entries′ marked′ dirs
+    unfolding parentBlock
+    parent-orphan entries′ marked′ p (some place) t zs e empty its = let q = planned-same r t [] zs e in
+        (step .hd′, step .sd′, subst (λ (x : Anodes). Orphaned (exists img) (diskSize img) (lastReserved img) f x (systemOwns img) (step .hd′) (step .sd′) entries′ marked′ dirs) (q .0) p)
+    parent-orphan entries′ marked′ p none t zs e empty its = (_, _, directory-takes p h reached t zs e empty its)
+
+    -- ---- both
+
+    not-own : h ≢ f
+    not-own = let d = find-headed (λ d. d .head ≢ f) h dirs (not-dir orphan f6) (omega (arith, reached)) in λ e. d .2 (d .1 ∙ e)
+
+    begun-head : (m : ℕ) → Head (s .next) (s .block) m → Head (begun .next) (begun .block) m
+    unfolding rewritten
+    begun-head m d = record { pos = d .pos; in-use = rw (changed-other (s .block) f 65535 m (λ e. d .in-use (ap (s .block) e ∙ fresh))) (d .in-use); no-pred = d .no-pred }
+
+    own-head : Head (r .next) (r .block) f
+    own-head = step .shift .stays f (orphan .head)
+
+    own-kept : (m : ℕ) → Head (begun .next) (begun .block) m → m ≢ 1 → m ≢ f → chainOf (r .next) limit m ≡ chainOf (s .next) limit m
+    unfolding rewritten
+    own-kept m d m1 mf = kept-chain (orphan .good) (step .good) f (step .shift .stays) (step .shift .no-new) (step .shift .apart) m d m1 mf
+
+    -- the head of an anode in use is not the fresh one
+    head-used : (a : ℕ) → s .block a ≢ 0 → hd a ≢ f
+    head-used a u e = elim (same? a 0) [
+      | inl z ↦ omega (arith, f6, e, ap hd z, w .good .heads .off-zero)
+      | inr z ↦ head-of-is (w .good .view) (w .good .linked) hd (w .good .heads) a z u .in-use (ap (s .block) e ∙ fresh)
+    ]
+
+    -- an anode in use, not the free list's, through the first steps
+    through : (a : ℕ) → s .block a ≢ 0 → hd a ≢ 1 → (r .count a ≡ s .count a) × (r .block a ≡ s .block a) × (step .hd′ a ≡ hd a)
+    unfolding rewritten
+    through a u q =
+        let af : a ≢ f = λ i. u (ap (s .block) i ∙ fresh) in
+        let b = changed-other (s .block) f 65535 a af in
+        let k = changed-other hd f f a af in
+        let used : begun .block a ≢ 0 = λ z. u (sym b ∙ z) in
+        let not-1 : changed hd f f a ≢ 1 = λ i. q (sym k ∙ i) in
+        let not-f : changed hd f f a ≢ f = λ i. head-used a u (sym k ∙ i) in
+        let x = step .shift .apart a used not-1 not-f in
+        (x .same-count ∙ changed-other (s .count) f 0 a af, x .same-block ∙ b, step .shift .same-hd a used not-1 not-f ∙ k)
+
+    pub made-plan : (room : Option ℕ) (t : Anodes) (zs : List ℕ) → parentBlock img room r h ≡ planned t zs → MadePlan s hd f h dir ys zs t
+    unfolding rewritten
+    made-plan room t zs e =
+        let p = parent-step room t zs e in
+        let mine = p .kept f (own-head .in-use) (λ q. omega (arith, f6, step .good .heads .at-head f own-head, q)) in
+        record {
+          own-chain = p .others f own-head (λ q. omega (arith, f6, q)) (λ q. not-own (sym q)) ∙ step .chain;
+          own-count = mine .0 ∙ step .count;
+          own-blocks = step .blocks ∙ ap (λ (y : ℕ). cond dir (y ∷ []) []) (sym (mine .1));
+          new = p .new;
+          chain = p .chain ∙ ap (λ (l : List ℕ). l ++ p .new) (own-kept h (dir-head orphan h reached) (dir-not-1 orphan h reached) not-own);
+          ones = p .ones;
+          blocks = p .blocks;
+          apart = λ a n. (
+            λ i. p .apart a n (rw i (own-head .in-use)) (λ q. omega (arith, f6, step .good .heads .at-head f own-head, ap (step .hd′) (sym i) ∙ q)),
+            λ u q. let c = through a u q in p .apart a n (λ z. u (sym (c .1) ∙ z)) (λ i. q (sym (c .2) ∙ i)),
+          );
+          kept = λ a u q. let c = through a u q in let y = p .kept a (λ z. u (sym (c .1) ∙ z)) (λ i. q (sym (c .2) ∙ i)) in (y .0 ∙ c .0, y .1 ∙ c .1);
+          stays = λ m d. p .stays m (step .shift .stays m (begun-head m d));
+          others = λ m d m1 mh. let d′ = begun-head m d in
+              p .others m (step .shift .stays m d′) m1 mh ∙ own-kept m d′ m1 (λ i. d .in-use (ap (s .block) i ∙ fresh));
+        }
+
+    pub made-good : (room : Option ℕ) (t : Anodes) (zs : List ℕ) → parentBlock img room r h ≡ planned t zs →
+        (hd′ : ℕ → ℕ) × (sd′ : ℕ → ℕ) × Good limit (exists img) (diskSize img) (lastReserved img) t (systemOwns img) hd′ sd′
+    made-good room t zs e = let p = parent-step room t zs e in (p .heads-now, p .sides-now, p .good)
+
+    -- the chain of f is not named yet, with any entries and marks that agree with the old in the blocks of directories
+    pub made-orphan : (room : Option ℕ) (t : Anodes) (zs : List ℕ) → parentBlock img room r h ≡ planned t zs → (entries′ : ℕ → List Entered) (marked′ : Dir → ℕ → Bool)
+        (cont : (a : ℕ) → s .count a ≡ 1 → hd a ≢ 1 → (entries′ (s .block a) ≡ entries (s .block a)) × ((d : Dir) → marked′ d (s .block a) ≡ marked d (s .block a))) →
+        ((y : ℕ) → zs ≡ y ∷ [] → entries′ y ≡ []) → ((y : ℕ) → zs ≡ y ∷ [] → Each (λ d. d .head ≡ h → T (marked′ d y)) dirs) →
+        (hd′ : ℕ → ℕ) × (sd′ : ℕ → ℕ) × Orphaned (exists img) (diskSize img) (lastReserved img) f t (systemOwns img) hd′ sd′ entries′ marked′ dirs
+    made-orphan room t zs e entries′ marked′ cont empty its = parent-orphan entries′ marked′ (owned entries′ marked′ cont) room t zs e empty its
+
+    -- a parent with no room has taken a block
+    pub parent-took : (t : Anodes) (zs : List ℕ) → parentBlock img none r h ≡ planned t zs → (y : ℕ) × (zs ≡ y ∷ [])
+    unfolding parentBlock
+    parent-took t zs e = let x = dir-taken o h reached t zs e in (x .0, x .1)

@@ -1,0 +1,96 @@
+-- Members of a list: the list parted at one of them.
+use Prim.Native.Nat.{ℕ, zero, suc, _+_, _*_, _≤_, _<_}
+use mathlib.Core.Path.{_≡_, refl, sym, ap, ap₂, _∙_}
+use mathlib.Core.Logic.{_≢_, _⊎_, inl, inr}
+use mathlib.Core.List.{List, [], _∷_, _++_}
+use native.Mathlib.Omega.{arith}
+use Rattle.rules.specs.Counting.{sumList, times, gather, oneAt}
+use Rattle.laws.specs.Sums.{oneAt-same, oneAt-other, oneAt-cases}
+use Rattle.laws.specs.Bags.{list-cons, list-append, list-add, list-mono, list-scale, times-nil, times-cons}
+use Rattle.laws.specs.Each.{Each, each-right}
+
+abbrev pub Member {ℓ} : {X : Type ℓ} → X → List X → Type ℓ
+Member {X = X} x l = (before : List X) × (after : List X) × (l ≡ before ++ (x ∷ after))
+
+module _ {ℓ} {X : Type ℓ} where
+  pub no-member : (x : X) → Member x [] → ⊥
+  no-member x ([], after, e) = let z : _≡_ {A = ℕ} 0 1 = cc in omega arith
+  no-member x (y ∷ before, after, e) = let z : _≡_ {A = ℕ} 0 1 = cc in omega arith
+
+  pub member-first : (x : X) (l : List X) → Member x (x ∷ l)
+  member-first x l = ([], l, refl)
+
+  pub member-later : (x y : X) (l : List X) → Member x l → Member x (y ∷ l)
+  member-later x y l (before, after, e) = (y ∷ before, after, ap (λ (m : List X). y ∷ m) e)
+
+  pub member-cons : (x y : X) (l : List X) → Member x (y ∷ l) → (x ≡ y) ⊎ Member x l
+  member-cons x y l ([], after, e) = inl (cc)
+  member-cons x y l (z ∷ before, after, e) = inr (before, after, cc)
+
+  pub member-append : (x : X) (l m : List X) → Member x (l ++ m) → Member x l ⊎ Member x m
+  member-append x [] m p = inr p
+  member-append x (y ∷ l) m p = elim (member-cons x y (l ++ m) p) [
+    | inl e ↦ inl ([], l, ap (λ (z : X). z ∷ l) (sym e))
+    | inr q ↦ elim (member-append x l m q) [ inl r ↦ inl (member-later x y l r) | inr r ↦ inr r ]
+  ]
+
+  -- what holds of each holds of a member, and its weight is no more than the sum
+  pub member-each : (P : X → Type 0) (x : X) (l : List X) → Member x l → Each P l → P x
+  member-each P x l (before, after, e) p = each-right P before (x ∷ after) (rw e at p) .0
+
+  pub member-sum : (w : X → ℕ) (x : X) (l : List X) → Member x l → w x ≤ sumList w l
+  member-sum w x l (before, after, e) = rw e (omega (arith, list-append w before (x ∷ after), list-cons w x after))
+
+  -- two weights that agree at each member
+  pub member-congr : (w u : X → ℕ) (l : List X) → ((x : X) → Member x l → w x ≡ u x) → sumList w l ≡ sumList u l
+  unfolding sumList
+  member-congr w u [] f = refl
+  member-congr w u (x ∷ l) f = omega (arith, f x (member-first x l), member-congr w u l (λ y m. f y (member-later y x l m)))
+
+-- a member of what f gives for the members of a list
+pub member-gather {ℓ κ} : {X : Type ℓ} {Y : Type κ} (f : X → List Y) (l : List X) (y : Y) → Member y (gather f l) → (x : X) × Member x l × Member y (f x)
+unfolding gather
+member-gather f [] y p = absurd (no-member y p)
+member-gather f (x ∷ l) y p = elim (member-append y (f x) (gather f l) p) [
+  | inl q ↦ (x, member-first x l, q)
+  | inr q ↦ (let r = member-gather f l y q in (r .0, member-later (r .0) x l (r .1), r .2))
+]
+
+pub gather-congr {ℓ κ} : {X : Type ℓ} {Y : Type κ} (f g : X → List Y) (l : List X) → ((x : X) → Member x l → f x ≡ g x) → gather f l ≡ gather g l
+unfolding gather
+gather-congr f g [] e = refl
+gather-congr f g (x ∷ l) e = ap₂ _++_ (e x (member-first x l)) (gather-congr f g l (λ y m. e y (member-later y x l m)))
+
+pub member-times : (x : ℕ) (l : List ℕ) → Member x l → 0 < times x l
+unfolding times
+member-times x l p = omega (arith, member-sum (λ y. oneAt y x) x l p, oneAt-same x x refl)
+
+pub times-member : (x : ℕ) (l : List ℕ) → 0 < times x l → Member x l
+times-member x [] p = absurd (omega (arith, p, times-nil x))
+times-member x (y ∷ l) p = elim (oneAt-cases y x) [
+  | inl e ↦ ([], l, ap (λ (z : ℕ). z ∷ l) (e .0))
+  | inr e ↦ member-later x y l (times-member x l (omega (arith, p, times-cons x y l, e .1)))
+]
+
+-- two numbers of a list weigh no more than the list
+pub two-members : (w : ℕ → ℕ) (l : List ℕ) (a b : ℕ) → a ≢ b → 0 < times a l → 0 < times b l → w a + w b ≤ sumList w l
+unfolding times
+two-members w l a b apart p q = omega (
+  arith,
+  list-mono (λ x. oneAt x a * w a + oneAt x b * w b) w l each,
+  list-add (λ x. oneAt x a * w a) (λ x. oneAt x b * w b) l,
+  list-scale (λ x. oneAt x a) (w a) l,
+  list-scale (λ x. oneAt x b) (w b) l,
+  once (sumList (λ x. oneAt x a) l) (w a) p,
+  once (sumList (λ x. oneAt x b) l) (w b) q,
+)
+  where
+    once : (k c : ℕ) → 0 < k → c ≤ k * c
+    once zero c l = absurd (omega arith)
+    once (suc k) c l = omega arith
+
+    each : (x : ℕ) → oneAt x a * w a + oneAt x b * w b ≤ w x
+    each x = elim (oneAt-cases x a) [
+      | inl e ↦ rw (e .1, oneAt-other x b (λ i. apart (sym (e .0) ∙ i)), ← (e .0)) (omega arith)
+      | inr e ↦ rw (e .1) (elim (oneAt-cases x b) [ inl i ↦ rw (i .1, ← (i .0)) (omega arith) | inr i ↦ rw (i .1) (omega arith) ])
+    ]

@@ -1,0 +1,131 @@
+-- An entry put behind the last of a directory block, and a new directory block.
+use Prim.Native.Nat.{ℕ, zero, suc, _+_, _*_, _≤_, _<_}
+use mathlib.Core.Path.{_≡_, refl, sym, ap, ap₂, _∙_}
+use mathlib.Core.Logic.{_⊎_, inl, inr}
+use mathlib.Core.Bool.{Bool, true, false}
+use mathlib.Core.List.{List, [], _∷_, _++_}
+use mathlib.Core.Option.{some, Option·none-ne-some}
+use native.Mathlib.Omega.{arith}
+use borrow.Author.Tests.{leb-true}
+use lib.Dec.{leb}
+use lib.ListN.{length, getD, length-replicate, getD-replicate}
+use Rattle.endian.specs.Bytes.{be16}
+use Rattle.endian.proofs.Laws.{be16-bytes}
+use Rattle.disk.specs.Blocks.{blockOf}
+use Rattle.directory.specs.declared.Entry.{Entry}
+use Rattle.directory.specs.declared.Walked.the-variants.{Found, End}
+use Rattle.directory.specs.Entries.{directoryMark, directoryHeadIn, goodName, entryLength, entryIn, walkedAt, putEntry}
+use Rattle.directory.proofs.Laws.{length-putDirectoryHead, getD-putDirectoryHead-after, directoryHeadIn-putDirectoryHead, length-putEntry, getD-putEntry-before, walkedAt-putEntry-end, entryIn-putEntry, walkedAt-putEntry}
+use Rattle.rules.specs.Counting.{times, anyIn}
+use Rattle.rules.specs.Walk.{Entered, entriesFrom}
+use Rattle.rules.specs.Format.{zeroBlock}
+use Rattle.rules.specs.Changes.{endFrom, entriesEnd, firstRoom, newDirectoryBlock}
+use Rattle.laws.specs.Sums.{oneAt-same}
+use Rattle.laws.specs.Bags.{times-cons}
+use Rattle.changes.specs.FoundEntries.{found-at, walked-same, enteredAt, found-more, found-none, unbroken-cases, end-more, end-here, end-bounds}
+
+none-from : (k : ℕ) (b : List ℕ) (y at : ℕ) → walkedAt b at ≡ End → entriesFrom k b y at ≡ []
+unfolding entriesFrom
+none-from zero b y at z = refl
+none-from (suc k) b y at z = found-none b y k at z
+
+-- ---- an entry at the end mark's place
+
+module _ (b : List ℕ) (y end : ℕ) (e : Entry) (name comment : List ℕ) (whole : length b ≡ 512) (room : end + entryLength (e .name) (e .comment) ≤ 510)
+    (named : length name ≡ e .name) (commented : length comment ≡ e .comment) (good : goodName name ≡ true) (short : e .comment ≤ 79) where
+  abbrev b′ : List ℕ
+  b′ = putEntry b end e name comment
+
+  found : walkedAt b′ end ≡ Found e
+  found = walkedAt-putEntry b end e name comment named commented whole room good short
+
+  first : getD b′ end 0 ≡ entryLength (e .name) (e .comment)
+  unfolding entryIn
+  first =
+      let is = entryIn-putEntry b end e name comment named commented whole room in
+      found-at b′ end e found .exact ∙ ap₂ entryLength (ap (λ (x : Entry). x .name) is) (ap (λ (x : Entry). x .comment) is)
+
+  put-here : (k : ℕ) → entriesFrom (suc k) b′ y end ≡ enteredAt e (y * 512 + end) ∷ []
+  put-here k =
+      found-more b′ y k end e found
+      ∙ ap (λ (l : List Entered). enteredAt e (y * 512 + end) ∷ l) (none-from k b′ y (end + getD b′ end 0) (rw first (walkedAt-putEntry-end b end e name comment)))
+
+  put-behind : (k at : ℕ) → at ≤ 510 → 520 ≤ at + 18 * k → anyIn (λ j. j .broken) (entriesFrom k b y at) ≡ false → endFrom k b at ≡ end →
+      entriesFrom k b′ y at ≡ entriesFrom k b y at ++ (enteredAt e (y * 512 + end) ∷ [])
+  put-behind zero at l m u q = absurd (omega arith)
+  put-behind (suc k) at l m u q = go (unbroken-cases b y k at u) (put-behind k)
+    where
+      go : (walkedAt b at ≡ End) ⊎ ((x : Entry) × (walkedAt b at ≡ Found x) × (anyIn (λ j. j .broken) (entriesFrom k b y (at + getD b at 0)) ≡ false)) →
+          ((at : ℕ) → at ≤ 510 → 520 ≤ at + 18 * k → anyIn (λ j. j .broken) (entriesFrom k b y at) ≡ false → endFrom k b at ≡ end →
+          entriesFrom k b′ y at ≡ entriesFrom k b y at ++ (enteredAt e (y * 512 + end) ∷ [])) →
+          entriesFrom (suc k) b′ y at ≡ entriesFrom (suc k) b y at ++ (enteredAt e (y * 512 + end) ∷ [])
+      go (inl z) rec =
+          let here : at ≡ end = sym (end-here b y k at z) ∙ q in
+          rw (found-none b y k at z, here) (put-here k)
+      go (inr (x, w, r)) rec =
+          let f = found-at b at x w in
+          let further : endFrom k b (at + getD b at 0) ≡ end = sym (end-more b y k at x w) ∙ q in
+          let fuel : 520 ≤ at + getD b at 0 + 18 * k = omega (arith, m, f .long) in
+          let below : at + getD b at 0 ≤ end = omega (arith, end-bounds b y k (at + getD b at 0) r (f .room) fuel .0, further) in
+          let same : (i : ℕ) → i < getD b at 0 → getD b′ (at + i) 0 ≡ getD b (at + i) 0 = λ i h. getD-putEntry-before b end e name comment (at + i) (omega arith) in
+          let w′ = walked-same b b′ at at whole (length-putEntry b end e name comment ∙ whole) f (f .room) same ∙ w in
+          let next : at + getD b′ at 0 ≡ at + getD b at 0 = ap (λ (i : ℕ). at + i) (getD-putEntry-before b end e name comment at (omega (arith, f .long))) in
+          found-more b′ y k at x w′
+          ∙ ap (λ (l : List Entered). enteredAt x (y * 512 + at) ∷ l) (ap (entriesFrom k b′ y) next ∙ rec (at + getD b at 0) (f .room) fuel r further)
+          ∙ sym (ap (λ (l : List Entered). l ++ (enteredAt e (y * 512 + end) ∷ [])) (found-more b y k at x w))
+
+-- a block's entries, with one more behind the last
+pub entries-put : (b : List ℕ) (y : ℕ) (e : Entry) (name comment : List ℕ) → length b ≡ 512 → entriesEnd b + entryLength (e .name) (e .comment) ≤ 510 →
+    length name ≡ e .name → length comment ≡ e .comment → goodName name ≡ true → e .comment ≤ 79 → anyIn (λ j. j .broken) (entriesFrom 28 b y 16) ≡ false →
+    entriesFrom 28 (putEntry b (entriesEnd b) e name comment) y 16 ≡ entriesFrom 28 b y 16 ++ (enteredAt e (y * 512 + entriesEnd b) ∷ [])
+unfolding entriesEnd
+entries-put b y e name comment whole room named commented good short u =
+    put-behind b y (entriesEnd b) e name comment whole room named commented good short 28 16 (omega arith) (omega arith) u refl
+
+-- the head of a directory block stays
+pub head-put : (b : List ℕ) (at : ℕ) (e : Entry) (name comment : List ℕ) → 16 ≤ at → directoryHeadIn (putEntry b at e name comment) ≡ directoryHeadIn b
+unfolding directoryHeadIn
+head-put b at e name comment l = rw (two 0 (omega arith), two 12 (omega arith), two 14 (omega arith))
+  where
+    two : (i : ℕ) → i < 15 → be16 (putEntry b at e name comment) i ≡ be16 b i
+    two i h = be16-bytes (putEntry b at e name comment) b i i (getD-putEntry-before b at e name comment i (omega arith)) (getD-putEntry-before b at e name comment (i + 1) (omega arith))
+
+-- ---- a new directory block
+
+pub length-new : (owner parent : ℕ) → length (newDirectoryBlock owner parent) ≡ 512
+unfolding newDirectoryBlock
+length-new owner parent = length-putDirectoryHead zeroBlock _ ∙ length-replicate {A = ℕ} 512 0
+
+new-zero : (owner parent : ℕ) → getD (newDirectoryBlock owner parent) 16 0 ≡ 0
+unfolding newDirectoryBlock
+new-zero owner parent = getD-putDirectoryHead-after zeroBlock _ 16 (omega arith) ∙ getD-replicate {A = ℕ} 512 16 0 0 (omega arith)
+
+new-end : (owner parent : ℕ) → walkedAt (newDirectoryBlock owner parent) 16 ≡ End
+unfolding walkedAt
+new-end owner parent = rw (new-zero owner parent)
+
+pub entries-new : (owner parent y : ℕ) → entriesFrom 28 (newDirectoryBlock owner parent) y 16 ≡ []
+entries-new owner parent y = found-none (newDirectoryBlock owner parent) y 27 16 (new-end owner parent)
+
+pub end-new : (owner parent : ℕ) → entriesEnd (newDirectoryBlock owner parent) ≡ 16
+unfolding entriesEnd
+end-new owner parent = end-here (newDirectoryBlock owner parent) 0 27 16 (new-end owner parent)
+
+pub head-new : (owner parent : ℕ) → directoryHeadIn (newDirectoryBlock owner parent) ≡ record { mark = directoryMark; owner = record { 0 = owner }; parent = record { 0 = parent } }
+unfolding newDirectoryBlock
+head-new owner parent = directoryHeadIn-putDirectoryHead zeroBlock _ (omega (arith, length-replicate {A = ℕ} 512 0))
+
+-- ---- the first block with room
+
+-- where room is found: in block y of the list, at its end mark
+pub room-found : (img : List ℕ) (len : ℕ) (ys : List ℕ) (place : ℕ) → firstRoom img len ys ≡ some place →
+    (y : ℕ) × (0 < times y ys) × (place ≡ y * 512 + entriesEnd (blockOf img y)) × (entriesEnd (blockOf img y) + len ≤ 510)
+unfolding firstRoom
+room-found img len [] place e = absurd (Option·none-ne-some place e)
+room-found img len (y ∷ ys) place e = go (leb (entriesEnd (blockOf img y) + len) 510) refl e (room-found img len ys place)
+  where
+    go : (c : Bool) → leb (entriesEnd (blockOf img y) + len) 510 ≡ c → elim c [ true ↦ some (y * 512 + entriesEnd (blockOf img y)) | false ↦ firstRoom img len ys ] ≡ some place →
+        (firstRoom img len ys ≡ some place → (x : ℕ) × (0 < times x ys) × (place ≡ x * 512 + entriesEnd (blockOf img x)) × (entriesEnd (blockOf img x) + len ≤ 510)) →
+        (x : ℕ) × (0 < times x (y ∷ ys)) × (place ≡ x * 512 + entriesEnd (blockOf img x)) × (entriesEnd (blockOf img x) + len ≤ 510)
+    go true c f rec = (y, omega (arith, times-cons y y ys, oneAt-same y y refl), cc, leb-true (entriesEnd (blockOf img y) + len) 510 c)
+    go false c f rec = let r = rec f in (r .0, omega (arith, times-cons (r .0) y ys, r .1), r .2, r .3)

@@ -1,0 +1,162 @@
+-- A directory block with another size in one of its entries: that entry has the size, and nothing else changes.
+use Prim.Native.Nat.{ℕ, zero, suc, _+_, _*_, _/_, _%_, _≤_, _<_}
+use mathlib.Core.Path.{_≡_, refl, sym, ap, _∙_}
+use mathlib.Core.Logic.{_⊎_, inl, inr}
+use mathlib.Core.Bool.{Bool, true, false, cond}
+use mathlib.Core.List.{List, [], _∷_, _++_, cons≢nil, head-eq-of-cons-eq, tail-eq-of-cons-eq}
+use native.Mathlib.Omega.{arith}
+use lib.Dec.{eqb}
+use lib.ListN.{length, getD, drop}
+use lib.Seq.{drop-set-lt}
+use Rattle.endian.specs.Bytes.{be16, put16, put32}
+use Rattle.endian.proofs.Laws.{be16-bytes, length-put32, getD-put16-other, be32-put32-same}
+use Rattle.disk.specs.declared.Refusal.the-variants.{DirectoryBlock}
+use Rattle.directory.specs.declared.Entry.{Entry}
+use Rattle.directory.specs.declared.Kind.{Kind}
+use Rattle.directory.specs.declared.KindRead.{KindRead}
+use Rattle.directory.specs.declared.KindRead.the-variants.{Is, Neither}
+use Rattle.directory.specs.declared.Walked.{Walked}
+use Rattle.directory.specs.declared.Walked.the-variants.{Found, End, Fault}
+use Rattle.directory.specs.Entries.{directoryHeadIn, kindRead, nameLength, commentLength, nameIn, entryShaped, entryIn, walkedKind, walkedAt}
+use Rattle.rules.specs.Counting.{anyIn}
+use Rattle.rules.specs.Walk.{Entered, entriesFrom}
+use Rattle.changes.specs.Members.{no-member}
+use Rattle.changes.specs.FoundEntries.{found-at, end-at, walked-same, found-more, found-none, unbroken-cases, place-after}
+
+-- the same entry with another size
+abbrev pub sized : ℕ → Entered → Entered
+sized new e = record { broken = e .broken; dir = e .dir; anode = e .anode; size = new; place = e .place }
+
+abbrev withNew : ℕ → Entry → Entry
+withNew new x = record {
+  kind = x .kind;
+  anode = x .anode;
+  size = new;
+  day = x .day;
+  minute = x .minute;
+  tick = x .tick;
+  protection = x .protection;
+  name = x .name;
+  comment = x .comment;
+}
+
+abbrev onFound : ℕ → Walked → Walked
+onFound new (Found x) = Found (withNew new x)
+onFound new End = End
+onFound new (Fault r) = Fault r
+
+-- ---- the bytes
+
+module _ (b : List ℕ) (at v : ℕ) where
+  pub put32-others : (i : ℕ) → (i < at) ⊎ (at + 4 ≤ i) → getD (put32 b at v) i 0 ≡ getD b i 0
+  unfolding put32
+  put32-others i (inl l) = getD-put16-other (put16 b at (v / 65536)) (at + 2) (v % 65536) i (omega arith) (omega arith) ∙ getD-put16-other b at (v / 65536) i (omega arith) (omega arith)
+  put32-others i (inr l) = getD-put16-other (put16 b at (v / 65536)) (at + 2) (v % 65536) i (omega arith) (omega arith) ∙ getD-put16-other b at (v / 65536) i (omega arith) (omega arith)
+
+  drop-put32 : (n : ℕ) → at + 4 ≤ n → drop n (put32 b at v) ≡ drop n b
+  unfolding put32 put16
+  drop-put32 n l = drop-set-lt n _ (at + 2 + 1) _ (omega arith) ∙ drop-set-lt n _ (at + 2) _ (omega arith) ∙ drop-set-lt n _ (at + 1) _ (omega arith) ∙ drop-set-lt n b at _ (omega arith)
+
+module _ (b : List ℕ) (at new : ℕ) (whole : length b ≡ 512) where
+  abbrev b′ : List ℕ
+  b′ = put32 b (at + 4) new
+
+  others : (i : ℕ) → (i < at + 4) ⊎ (at + 8 ≤ i) → getD b′ i 0 ≡ getD b i 0
+  others i (inl l) = put32-others b (at + 4) new i (inl l)
+  others i (inr l) = put32-others b (at + 4) new i (inr (omega arith))
+
+  others16 : (i : ℕ) → (i + 1 < at + 4) ⊎ (at + 8 ≤ i) → be16 b′ i ≡ be16 b i
+  others16 i (inl l) = be16-bytes b′ b i i (others i (inl (omega arith))) (others (i + 1) (inl (omega arith)))
+  others16 i (inr l) = be16-bytes b′ b i i (others i (inr l)) (others (i + 1) (inr (omega arith)))
+
+  pub head-sized : 16 ≤ at → directoryHeadIn b′ ≡ directoryHeadIn b
+  unfolding directoryHeadIn
+  head-sized l = rw (others16 0 (inl (omega arith)), others16 12 (inl (omega arith)), others16 14 (inl (omega arith)))
+
+  name-length : nameLength b′ at ≡ nameLength b at
+  unfolding nameLength
+  name-length = others (at + 15) (inr (omega arith))
+
+  comment-length : commentLength b′ at ≡ commentLength b at
+  unfolding commentLength
+  comment-length = rw name-length (others (at + 16 + nameLength b at) (inr (omega arith)))
+
+  pub name-sized : nameIn b′ at ≡ nameIn b at
+  unfolding nameIn
+  name-sized = rw (name-length, drop-put32 b (at + 4) new (at + 16) (omega arith))
+
+  same-shape : entryShaped b′ at ≡ entryShaped b at
+  unfolding entryShaped
+  same-shape = rw (others at (inl (omega arith)), name-length, comment-length, name-sized)
+
+  -- the entry that has the size
+  new-fields : at + 7 < 512 → (k : Kind) → entryIn b′ at k ≡ withNew new (entryIn b at k)
+  unfolding entryIn
+  new-fields l k = rw (
+    others16 (at + 2) (inl (omega arith)),
+    be32-put32-same b (at + 4) new (omega arith),
+    others16 (at + 8) (inr (omega arith)),
+    others16 (at + 10) (inr (omega arith)),
+    others16 (at + 12) (inr (omega arith)),
+    others (at + 14) (inr (omega arith)),
+    name-length,
+    comment-length,
+  )
+
+  walked-new : at + 7 < 512 → walkedAt b′ at ≡ onFound new (walkedAt b at)
+  unfolding walkedAt
+  walked-new l = rw (others at (inl (omega arith)), same-shape, others (at + 1) (inl (omega arith))) (go (eqb (getD b at 0) 0) (entryShaped b at) (kindRead (getD b (at + 1) 0)))
+    where
+      go : (p q : Bool) (k : KindRead) → cond p End (cond q (walkedKind k (entryIn b′ at)) (Fault DirectoryBlock)) ≡ onFound new (cond p End (cond q (walkedKind k (entryIn b at)) (Fault DirectoryBlock)))
+      go true q k = refl
+      go false false k = refl
+      go false true Neither = refl
+      go false true (Is k) = ap Found (new-fields l k)
+
+-- ---- the entries
+
+-- entries of the same bytes
+entries-later : (b b′ : List ℕ) (y : ℕ) → length b ≡ 512 → length b′ ≡ 512 → (k at : ℕ) → ((i : ℕ) → at ≤ i → getD b′ i 0 ≡ getD b i 0) →
+    anyIn (λ e. e .broken) (entriesFrom k b y at) ≡ false → entriesFrom k b′ y at ≡ entriesFrom k b y at
+unfolding walkedAt
+entries-later b b′ y whole whole′ zero at same u = unfold entriesFrom in refl
+entries-later b b′ y whole whole′ (suc m) at same u = elim (unbroken-cases b y m at u) [
+  | inl o ↦ found-none b′ y m at (rw (same at (omega arith) ∙ end-at b at o)) ∙ sym (found-none b y m at o)
+  | inr o ↦ (let g = found-at b at (o .0) (o .1) in
+      found-more b′ y m at (o .0) (walked-same b b′ at at whole whole′ g (g .room) (λ i l. same (at + i) (omega arith)) ∙ o .1)
+      ∙ rw (same at (omega arith), entries-later b b′ y whole whole′ m (at + getD b at 0) (λ i l. same i (omega arith)) (o .2)) (sym (found-more b y m at (o .0) (o .1))))
+]
+
+module _ (b : List ℕ) (y at new : ℕ) (whole : length b ≡ 512) (e : Entered) (ys : List Entered) (place : e .place ≡ y * 512 + at) where
+  whole′ : length (b′ b at new whole) ≡ 512
+  whole′ = length-put32 b (at + 4) new ∙ whole
+
+  pub entries-sized : (xs : List Entered) (k p : ℕ) → entriesFrom k b y p ≡ xs ++ (e ∷ ys) → anyIn (λ f. f .broken) (entriesFrom k b y p) ≡ false →
+      entriesFrom k (put32 b (at + 4) new) y p ≡ xs ++ (sized new e ∷ ys)
+  unfolding entriesFrom
+  entries-sized xs zero p i u = absurd (no-member e (xs, ys, i))
+  entries-sized [] (suc m) p i u = elim (unbroken-cases b y m p u) [
+    | inl o ↦ absurd (cons≢nil (sym i ∙ found-none b y m p o))
+    | inr o ↦ (let c = sym (found-more b y m p (o .0) (o .1)) ∙ i in
+        let here : p ≡ at = omega (arith, ap (λ (d : Entered). d .place) (head-eq-of-cons-eq c), place) in
+        let x : walkedAt b at ≡ Found (o .0) = rw here at (o .1) in
+        let g = found-at b at (o .0) x in
+        ap (entriesFrom (suc m) (b′ b at new whole) y) here
+        ∙ found-more (b′ b at new whole) y m at (withNew new (o .0)) (walked-new b at new whole (omega (arith, g .long, g .room)) ∙ ap (onFound new) x)
+        ∙ rw (
+          others b at new whole at (inl (omega arith)),
+          entries-later b (b′ b at new whole) y whole whole′ m (at + getD b at 0) (λ i l. others b at new whole i (inr (omega (arith, l, g .long)))) (rw here at (o .2)),
+          ← (tail-eq-of-cons-eq c),
+          ← (head-eq-of-cons-eq c),
+          here,
+        ))
+  ]
+  entries-sized (z ∷ zs) (suc m) p i u = elim (unbroken-cases b y m p u) [
+    | inl o ↦ absurd (cons≢nil (sym i ∙ found-none b y m p o))
+    | inr o ↦ (let g = found-at b p (o .0) (o .1) in
+        let c = sym (found-more b y m p (o .0) (o .1)) ∙ i in
+        let before : p + getD b p 0 ≤ at = omega (arith, place, place-after b y zs e ys m (p + getD b p 0) (tail-eq-of-cons-eq c) (o .2)) in
+        found-more (b′ b at new whole) y m p (o .0)
+        (walked-same b (b′ b at new whole) p p whole whole′ g (g .room) (λ i l. others b at new whole (p + i) (inl (omega arith))) ∙ o .1)
+        ∙ rw (others b at new whole p (inl (omega (arith, before, g .long))), head-eq-of-cons-eq c, entries-sized zs m (p + getD b p 0) (tail-eq-of-cons-eq c) (o .2)))
+  ]

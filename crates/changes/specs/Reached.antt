@@ -1,0 +1,291 @@
+-- Reached directories of an accepted image: what is known of their blocks and of their entries.
+use Prim.Native.Nat.{ℕ, zero, suc, _+_, _*_, _/_, _%_, _≤_, _<_}
+use mathlib.Core.Path.{_≡_, refl, sym, ap, _∙_}
+use mathlib.Core.Logic.{_≢_, _⊎_, inl, inr}
+use mathlib.Core.Bool.{Bool, true, false, true≢false}
+use mathlib.Core.List.{List, [], _∷_, map}
+use mathlib.Core.Option.{some}
+use native.Mathlib.Omega.{arith}
+use lib.ListN.{getD}
+use Rattle.disk.specs.Blocks.{blockOf}
+use Rattle.directory.specs.declared.Entry.{Entry}
+use Rattle.directory.specs.declared.Walked.{Walked}
+use Rattle.directory.specs.declared.Walked.the-variants.{Found, End, Fault}
+use Rattle.directory.specs.Entries.{walkedAt}
+use Rattle.rules.specs.Counting.{oneAt, sumList, times, anyIn}
+use Rattle.rules.specs.Anodes.{Anodes, limit, anodesOf}
+use Rattle.rules.specs.Chains.{chainOf, heads, run, blocksOf, blockCount}
+use Rattle.rules.specs.Walk.{Dir, Entered, Item, withRest, entriesFrom, entriesIn, isBlockOf, blocksFor, itemOf, broken, itemsAt, itemsBy, reachedDirs}
+use Rattle.rules.specs.Accepted.{checkAnswer}
+use Rattle.rules.specs.Lookup.{noDirectory, entriesOf, isNamed, firstNamed, entryNamed, nth}
+use Rattle.laws.specs.Tests.{T-true}
+use Rattle.laws.specs.Sums.{oneAt-cases, oneAt-same}
+use Rattle.laws.specs.Bags.{list-nil, list-cons, list-one, list-mono, gather-sum, map-sum}
+use Rattle.laws.specs.Acceptance.{none-or}
+use Rattle.laws.specs.Heads.{Head}
+use Rattle.laws.specs.Space.{on-chain}
+use Rattle.laws.specs.Each.{each-zero}
+use Rattle.laws.specs.Items.{wrong, below, namedIn, faults, subs-named}
+use Rattle.laws.specs.TreeChanges.{headed}
+use Rattle.laws.specs.Totals.{file-size}
+use Rattle.laws.specs.Entries.{broken-wrong, item-fine, item-anode, item-dir, items-sum, itemsAt-cases}
+use Rattle.laws.specs.Whole.{Whole, counts-head, not-dir, dir-heads, named-heads}
+use Rattle.frames.specs.DisjointBlocks.{DataBlock, chain-block}
+use Rattle.changes.specs.Image.{WholeImage, headIn, sideIn, accepted-whole, headed-reached, reached-some}
+use Rattle.changes.specs.FoundEntries.{found-at, enteredAt}
+use Rattle.changes.specs.Members.{Member, no-member, member-first, member-later, member-cons, member-each, member-sum, member-gather, member-times}
+
+-- ---- lookups
+
+first-member : (img name : List ℕ) (l : List Entered) (e : Entered) → firstNamed img name l ≡ some e → Member e l
+unfolding firstNamed
+first-member img name [] e is = absurd (let z : _≡_ {A = ℕ} 0 1 = cc in omega arith)
+first-member img name (x ∷ l) e is = go (isNamed img name x) is (first-member img name l e)
+  where
+    go : (t : Bool) → elim t [ true ↦ some x | false ↦ firstNamed img name l ] ≡ some e → (firstNamed img name l ≡ some e → Member e l) → Member e (x ∷ l)
+    go true is rest = ([], l, cc)
+    go false is rest = member-later e x l (rest is)
+
+pub named-member : (img : List ℕ) (s : Anodes) (h : ℕ) (name : List ℕ) (e : Entered) → entryNamed img s h name ≡ some e → Member e (entriesOf img s h)
+unfolding entryNamed
+named-member img s h name e is = first-member img name (entriesOf img s h) e is
+
+pub nth-member : (l : List Entered) (n : ℕ) (e : Entered) → nth l n ≡ some e → Member e l
+unfolding nth
+nth-member [] n e is = absurd (let z : _≡_ {A = ℕ} 0 1 = cc in omega arith)
+nth-member (x ∷ l) zero e is = ([], l, cc)
+nth-member (x ∷ l) (suc n) e is = member-later e x l (nth-member l n e is)
+
+-- ---- where an entry stands
+
+-- an entry of a block that keeps the rules is found at its place
+pub entry-place : (k : ℕ) (b : List ℕ) (y at : ℕ) (e : Entered) → Member e (entriesFrom k b y at) → e .broken ≡ false →
+    (place : ℕ) × (x : Entry) × (at ≤ place) × (walkedAt b place ≡ Found x) × (e ≡ enteredAt x (y * 512 + place))
+unfolding entriesFrom
+entry-place zero b y at e p u = absurd (no-member e p)
+entry-place (suc k) b y at e p u = go (walkedAt b at) refl p (entry-place k b y (at + getD b at 0) e)
+  where
+    go : (w : Walked) → walkedAt b at ≡ w → Member e (withRest w (y * 512 + at) (entriesFrom k b y (at + getD b at 0))) →
+        (Member e (entriesFrom k b y (at + getD b at 0)) → e .broken ≡ false →
+        (place : ℕ) × (x : Entry) × (at + getD b at 0 ≤ place) × (walkedAt b place ≡ Found x) × (e ≡ enteredAt x (y * 512 + place))) →
+        (place : ℕ) × (x : Entry) × (at ≤ place) × (walkedAt b place ≡ Found x) × (e ≡ enteredAt x (y * 512 + place))
+    go (Found x) f q rest = elim (member-cons e (enteredAt x (y * 512 + at)) (entriesFrom k b y (at + getD b at 0)) q) [
+      | inl i ↦ (at, x, omega arith, f, i)
+      | inr i ↦ (let r = rest i u in (r .0, r .1, omega (arith, r .2), r .3, r .4))
+    ]
+    go End f q rest = absurd (no-member e q)
+    go (Fault r) f q rest = elim (member-cons e (record { broken = true; dir = false; anode = 0; size = 0; place = y * 512 + at }) [] q) [
+      | inl i ↦ absurd (true≢false (sym (ap (λ (z : Entered). z .broken) i) ∙ u))
+      | inr i ↦ absurd (no-member e i)
+    ]
+
+-- ---- a reached directory
+
+headed-member : (h : ℕ) (l : List Dir) → 0 < sumList (λ d. oneAt (d .head) h) l → (d : Dir) × Member d l × (d .head ≡ h)
+headed-member h [] p = absurd (omega (arith, p, list-nil {X = Dir} (λ d. oneAt (d .head) h)))
+headed-member h (x ∷ l) p = elim (oneAt-cases (x .head) h) [
+  | inl c ↦ (x, member-first x l, c .0)
+  | inr c ↦ (let r = headed-member h l (omega (arith, p, c .1, list-cons {X = Dir} (λ d. oneAt (d .head) h) x l)) in (r .0, member-later (r .0) x l (r .1), r .2))
+]
+
+module _ {ex : ℕ → Bool} {n last : ℕ} {s : Anodes} {system hd sd : ℕ → ℕ} {entries : ℕ → List Entered} {marked : Dir → ℕ → Bool} {dirs : List Dir}
+    (w : Whole ex n last s system hd sd entries marked dirs) where
+  abbrev items : Dir → List Item
+  items = itemsBy entries marked s
+
+  -- its head is the root's or is named
+  head-from-5 : (h : ℕ) → 0 < headed h dirs → 5 ≤ h
+  unfolding headed
+  head-from-5 h reached = elim (oneAt-cases 5 h) [
+    | inl c ↦ omega (arith, c .0)
+    | inr c ↦ omega (
+      arith,
+      named-heads w h (omega (
+        arith,
+        reached,
+        w .tree .exact (λ d. oneAt (d .head) h),
+        list-mono (below items (λ d. oneAt (d .head) h)) (namedIn items h) dirs (subs-named items h),
+        c .1,
+      )) .0,
+    )
+  ]
+
+  module _ (d : Dir) (in-tree : Member d dirs) where
+    dir-is-head : Head (s .next) (s .block) (d .head)
+    dir-is-head = member-each (λ d. Head (s .next) (s .block) (d .head) × (d .head ≢ 1)) d dirs in-tree (dir-heads w) .0
+
+    -- an anode of its chain
+    module _ (a : ℕ) (on : Member a (chainOf (s .next) limit (d .head))) where
+      fine-at : sumList wrong (itemsAt entries marked s d a) ≡ 0
+      fine-at = omega (
+        arith,
+        member-sum (λ b. sumList wrong (itemsAt entries marked s d b)) a (chainOf (s .next) limit (d .head)) on,
+        items-sum entries marked s d wrong,
+        member-each (λ d. faults items d ≡ 0) d dirs in-tree (each-zero (faults items) dirs (w .tree .faultless)),
+      )
+
+      pub its-items : (s .count a ≡ 1) × (marked d (s .block a) ≡ true) × (itemsAt entries marked s d a ≡ map (itemOf s) (entries (s .block a)))
+      its-items = elim (itemsAt-cases entries marked s d a) [
+        | inl q ↦ (q .0, T-true (marked d (s .block a)) (q .1), q .2)
+        | inr q ↦ absurd (omega (arith, rw q at fine-at, list-one wrong broken, broken-wrong))
+      ]
+
+      -- an entry of its block has nothing wrong
+      module _ (e : Entered) (in-block : Member e (entries (s .block a))) where
+        fine : (e .broken ≡ false) × (6 ≤ e .anode) × (heads limit (s .next) (s .block) (e .anode) ≡ 1) × ((e .dir ≡ true) ⊎ (blockCount s (e .anode) ≡ blocksFor (e .size)))
+        fine = item-fine s e (omega (
+          arith,
+          member-sum (λ x. wrong (itemOf s x)) e (entries (s .block a)) in-block,
+          map-sum (itemOf s) wrong (entries (s .block a)),
+          rw (its-items .2) at fine-at,
+        ))
+
+        -- what is summed over the items of all directories has it
+        item-sum : (f : Item → ℕ) → f (itemOf s e) ≤ sumList (λ d. sumList f (items d)) dirs
+        item-sum f = omega (
+          arith,
+          member-sum (λ x. f (itemOf s x)) e (entries (s .block a)) in-block,
+          map-sum (itemOf s) f (entries (s .block a)),
+          ap (sumList f) (its-items .2),
+          member-sum (λ b. sumList f (itemsAt entries marked s d b)) a (chainOf (s .next) limit (d .head)) on,
+          items-sum entries marked s d f,
+          member-sum (λ d. sumList f (items d)) d dirs in-tree,
+        )
+
+-- ---- in an accepted image
+
+pub member-reached : (img : List ℕ) (s : Anodes) (d : Dir) → Member d (reachedDirs img s) → noDirectory img s (d .head) ≡ false
+unfolding headed
+member-reached img s d m = headed-reached img s (d .head) (omega (arith, member-sum (λ c. oneAt (c .head) (d .head)) d (reachedDirs img s) m, oneAt-same (d .head) (d .head) refl))
+
+-- the block of an anode of a reached directory
+pub record DirBlock (img : List ℕ) (h a : ℕ) : Type 0 where
+  pub in-use : anodesOf img .block a ≢ 0
+  pub on-chain : headIn img a ≡ h
+  pub one : anodesOf img .count a ≡ 1
+  pub is-data : DataBlock img (anodesOf img .block a)
+  -- the directory, as it was reached
+  pub dir : Dir
+  pub dir-head : dir .head ≡ h
+  pub reached : Member dir (reachedDirs img (anodesOf img))
+  pub marked : isBlockOf img dir (anodesOf img .block a) ≡ true
+
+-- an entry of the reached directory h
+pub record EntryFacts (img : List ℕ) (h : ℕ) (e : Entered) : Type 0 where
+  pub unbroken : e .broken ≡ false
+  pub from-6 : 6 ≤ e .anode
+  pub below : e .anode < limit
+  pub head : Head (anodesOf img .next) (anodesOf img .block) (e .anode)
+  pub sized : e .dir ≡ false → blockCount (anodesOf img) (e .anode) ≡ blocksFor (e .size)
+  -- the directory's anode whose block has it
+  pub a₀ : ℕ
+  pub member-chain : Member a₀ (chainOf (anodesOf img .next) limit h)
+  pub block-facts : DirBlock img h a₀
+  pub member : Member e (entriesIn img (anodesOf img .block a₀))
+  pub in-block : e .place / 512 ≡ anodesOf img .block a₀
+  pub from-16 : 16 ≤ e .place % 512
+  pub ends : e .place % 512 + getD (blockOf img (e .place / 512)) (e .place % 512) 0 ≤ 510
+  pub entry : Entry
+  pub stands : walkedAt (blockOf img (e .place / 512)) (e .place % 512) ≡ Found entry
+  pub is-entered : e ≡ enteredAt entry (e .place)
+  -- it alone names its chain
+  pub named : sumList (namedIn (itemsBy (entriesIn img) (isBlockOf img) (anodesOf img)) (e .anode)) (reachedDirs img (anodesOf img)) ≡ 1
+  pub file : e .dir ≡ false →
+      1 ≤ sumList (λ d. sumList (file-size (λ x. oneAt x (e .anode))) (itemsBy (entriesIn img) (isBlockOf img) (anodesOf img) d)) (reachedDirs img (anodesOf img))
+
+none-broken : (l : List Entered) → ((e : Entered) → Member e l → e .broken ≡ false) → anyIn (λ e. e .broken) l ≡ false
+unfolding anyIn
+none-broken [] f = refl
+none-broken (e ∷ l) f = none-or (e .broken) (anyIn (λ e. e .broken) l) (f e (member-first e l)) (none-broken l (λ x m. f x (member-later x e l m)))
+
+-- the one block of an anode with count 1 is a block of its chain
+pub block-on : (s : Anodes) (h a : ℕ) → Member a (chainOf (s .next) limit h) → s .count a ≡ 1 → 0 < times (s .block a) (blocksOf s h)
+unfolding blocksOf times run
+block-on s h a on one = omega (
+  arith,
+  gather-sum (λ b. run (s .block b) (s .count b)) (λ y. oneAt y (s .block a)) (chainOf (s .next) limit h),
+  member-sum (λ b. sumList (λ y. oneAt y (s .block a)) (run (s .block b) (s .count b))) a (chainOf (s .next) limit h) on,
+  here,
+)
+  where
+    here : sumList (λ y. oneAt y (s .block a)) (run (s .block a) (s .count a)) ≡ 1
+    here = rw one (list-one (λ y. oneAt y (s .block a)) (s .block a) ∙ oneAt-same (s .block a) (s .block a) refl)
+
+module _ (img : List ℕ) (blocks anodes : ℕ) (accepted : checkAnswer img blocks anodes ≡ 0) (h : ℕ) (reached : noDirectory img (anodesOf img) h ≡ false) where
+  w : WholeImage img (anodesOf img) (headIn img) (sideIn img) (reachedDirs img (anodesOf img))
+  w = accepted-whole img blocks anodes accepted
+
+  some-dir : 0 < headed h (reachedDirs img (anodesOf img))
+  some-dir = reached-some img (anodesOf img) h reached
+
+  pub reached-dir : (d : Dir) × Member d (reachedDirs img (anodesOf img)) × (d .head ≡ h)
+  unfolding headed
+  reached-dir = headed-member h (reachedDirs img (anodesOf img)) some-dir
+
+  pub reached-from-5 : 5 ≤ h
+  reached-from-5 = head-from-5 w h some-dir
+
+  pub reached-head : Head (anodesOf img .next) (anodesOf img .block) h
+  reached-head = rw (reached-dir .2) at (dir-is-head w (reached-dir .0) (reached-dir .1))
+
+  pub dir-block : (a : ℕ) → Member a (chainOf (anodesOf img .next) limit h) → DirBlock img h a
+  dir-block a on =
+      let t = its-items w (reached-dir .0) (reached-dir .1) a (rw (reached-dir .2) on) in
+      let o = on-chain (w .good) h reached-head a (member-times a (chainOf (anodesOf img .next) limit h) on) in
+      record {
+        in-use = o .1;
+        on-chain = o .0;
+        one = t .0;
+        is-data = chain-block img (w .good) h reached-head (anodesOf img .block a) (block-on (anodesOf img) h a on (t .0));
+        dir = reached-dir .0;
+        dir-head = reached-dir .2;
+        reached = reached-dir .1;
+        marked = t .1;
+      }
+
+  module _ (e : Entered) (member : Member e (entriesOf img (anodesOf img) h)) where
+    pub entry-facts : EntryFacts img h e
+    unfolding entriesOf entriesIn
+    entry-facts =
+        let s = anodesOf img in
+        let q = member-gather (λ a. entriesIn img (s .block a)) (chainOf (s .next) limit h) e member in
+        let a = q .0 in
+        let c : Member a (chainOf (s .next) limit (reached-dir .0 .head)) = rw (reached-dir .2) (q .1) in
+        let f = fine w (reached-dir .0) (reached-dir .1) a c e (q .2) in
+        let d = counts-head (w .good) (e .anode) (f .2) in
+        let p = entry-place 28 (blockOf img (s .block a)) (s .block a) 16 e (q .2) (f .0) in
+        let room = found-at (blockOf img (s .block a)) (p .0) (p .1) (p .3) .room in
+        let place : e .place ≡ s .block a * 512 + p .0 = ap (λ (z : Entered). z .place) (p .4) in
+        let y : e .place / 512 ≡ s .block a = omega arith in
+        let at : e .place % 512 ≡ p .0 = omega arith in
+        record {
+          unbroken = f .0;
+          from-6 = f .1;
+          below = w .good .view .below (e .anode) (d .in-use);
+          head = d;
+          sized = λ i. elim (f .3) [ inl j ↦ absurd (true≢false (sym j ∙ i)) | inr j ↦ j ];
+          a₀ = a;
+          member-chain = q .1;
+          block-facts = dir-block a (q .1);
+          member = q .2;
+          in-block = y;
+          from-16 = omega (arith, at, p .2);
+          ends = rw (y, at) room;
+          entry = p .1;
+          stands = rw (y, at) (p .3);
+          is-entered = p .4 ∙ ap (enteredAt (p .1)) (sym place);
+          named = omega (arith, w .tree .once (e .anode), w .all-named (e .anode) (f .1) d);
+          file = λ i. omega (arith, item-sum w (reached-dir .0) (reached-dir .1) a c e (q .2) (file-size (λ x. oneAt x (e .anode))), file-one i);
+        }
+      where
+        file-one : e .dir ≡ false → file-size (λ x. oneAt x (e .anode)) (itemOf (anodesOf img) e) ≡ 1
+        file-one i = rw (item-dir (anodesOf img) e ∙ i, item-anode (anodesOf img) e) (oneAt-same (e .anode) (e .anode) refl)
+
+  -- it is no file's
+  pub not-file : (k : ℕ) (e : Entered) → EntryFacts img k e → e .dir ≡ false → h ≢ e .anode
+  not-file k e f i q =
+      member-each (λ d. d .head ≢ e .anode) (reached-dir .0) (reachedDirs img (anodesOf img)) (reached-dir .1) (not-dir w (e .anode) (f .file i)) (reached-dir .2 ∙ q)
+
+  -- no entry of it breaks the entry rules
+  pub reached-unbroken : anyIn (λ e. e .broken) (entriesOf img (anodesOf img) h) ≡ false
+  reached-unbroken = none-broken (entriesOf img (anodesOf img) h) (λ e m. entry-facts e m .unbroken)

@@ -1,0 +1,172 @@
+-- A file of an accepted image resized: the image is accepted again, and of its directories the entry's size alone has changed.
+use Prim.Native.Nat.{ℕ, _+_, _-_, _/_, _%_}
+use mathlib.Core.Path.{_≡_, refl, sym, ap, _∙_}
+use mathlib.Core.Logic.{_≢_, _⊎_, inl, inr}
+use mathlib.Core.Bool.{Bool, true, false, cond}
+use mathlib.Core.List.{List, [], _∷_, _++_, map}
+use native.Mathlib.Omega.{arith}
+use lib.Dec.{eqb}
+use lib.ListN.{length}
+use borrow.Author.Tests.{eq-eqb, ne-eqb}
+use Rattle.disk.specs.Blocks.{blockOf}
+use Rattle.disk.proofs.Laws.{length-blockOf}
+use Rattle.rules.specs.Anodes.{Anodes, limit, exists, anodesOf}
+use Rattle.rules.specs.Chains.{chainOf, systemOwns}
+use Rattle.rules.specs.Walk.{Dir, Entered, entriesIn, isBlockOf, blocksFor, broken, itemsAt, itemsBy, reachedDirs}
+use Rattle.rules.specs.Accepted.{diskSize, lastReserved, checkAnswer}
+use Rattle.rules.specs.Lookup.{noDirectory, entriesOf}
+use Rattle.rules.specs.Space.{Plan, refused, planned}
+use Rattle.rules.specs.Changes.{leftBy, resizePlan, resizedImage, resized}
+use Rattle.laws.specs.Tests.{same?}
+use Rattle.laws.specs.Space.{Alike, on-chain}
+use Rattle.laws.specs.ChainBlocks.{shift-chain}
+use Rattle.laws.specs.Whole.{Whole}
+use Rattle.laws.specs.Resize as Laws
+use Rattle.changes.specs.Image.{accepted-whole, whole-accepted}
+use Rattle.changes.specs.Members.{Member, member-first, member-later, gather-congr}
+use Rattle.changes.specs.Reached.{entry-facts, DirBlock, member-reached}
+use Rattle.changes.specs.SingleBlocks.{block-unbroken}
+use Rattle.changes.specs.NamedOnce.{only-here, only-this}
+use Rattle.changes.specs.SameItems.{whole-same}
+use Rattle.changes.specs.NewSize.{sized, head-sized, entries-sized}
+use Rattle.changes.specs.ResizePlan.{plan-refused}
+use Rattle.changes.specs.ResizeStores.{PlannedResize, w, facts, steps, its-head, head-not-1, head-not-file, its-block, other-block, this-block, resized-same, resized-anodes}
+
+-- ---- the entries
+
+-- the new size in the entries that name h
+unfoldable pub resizedEntry : ℕ → ℕ → Entered → Entered
+resizedEntry h new x = cond (eqb (x .anode) h) (sized new x) x
+
+resized-it : (h new : ℕ) (x : Entered) → x .anode ≡ h → resizedEntry h new x ≡ sized new x
+unfolding resizedEntry
+resized-it h new x e = rw (eq-eqb (x .anode) h e)
+
+resized-other : (h new : ℕ) (x : Entered) → x .anode ≢ h → resizedEntry h new x ≡ x
+unfolding resizedEntry
+resized-other h new x n = rw (ne-eqb (x .anode) h n)
+
+resized-fields : (h new : ℕ) (x : Entered) → (resizedEntry h new x .broken ≡ x .broken) × (resizedEntry h new x .dir ≡ x .dir) × (resizedEntry h new x .anode ≡ x .anode)
+unfolding resizedEntry
+resized-fields h new x = go (eqb (x .anode) h)
+  where
+    go : (t : Bool) → (cond t (sized new x) x .broken ≡ x .broken) × (cond t (sized new x) x .dir ≡ x .dir) × (cond t (sized new x) x .anode ≡ x .anode)
+    go true = (refl, refl, refl)
+    go false = (refl, refl, refl)
+
+-- entries that do not name h stay
+others-stay : (h new : ℕ) (l : List Entered) → ((x : Entered) → Member x l → x .anode ≢ h) → map (resizedEntry h new) l ≡ l
+others-stay h new [] n = refl
+others-stay h new (x ∷ l) n = rw (resized-other h new x (n x (member-first x l)), others-stay h new l (λ y m. n y (member-later y x l m)))
+
+pub one-resized : (h new : ℕ) (before : List Entered) (e : Entered) (after : List Entered) → e .anode ≡ h → ((x : Entered) → Member x before ⊎ Member x after → x .anode ≢ h) →
+    map (resizedEntry h new) (before ++ (e ∷ after)) ≡ before ++ (sized new e ∷ after)
+one-resized h new [] e after i n = rw (resized-it h new e i, others-stay h new after (λ x m. n x (inr m)))
+one-resized h new (x ∷ before) e after i n =
+    rw (resized-other h new x (n x (inl (member-first x before))), one-resized h new before e after i (λ y m. n y (elim m [ inl q ↦ inl (member-later y x before q) | inr q ↦ inr q ])))
+
+-- ---- the directories
+
+module _ {img : List ℕ} {e : Entered} {new : ℕ} {t : Anodes} {ys : List ℕ} (p : PlannedResize img e new t ys) where
+  abbrev s : Anodes
+  s = anodesOf img
+
+  abbrev dirs : List Dir
+  dirs = reachedDirs img s
+
+  abbrev j : List ℕ
+  j = resizedImage img s e new t ys
+
+  module _ (d : Dir) (in-tree : Member d dirs) where
+    pub same-chain : chainOf (t .next) limit (d .head) ≡ chainOf (s .next) limit (d .head)
+    same-chain = shift-chain (w p .good) (steps p .ran .good) (steps p .ran .shift) (d .head) (its-head p d in-tree) (head-not-1 p d in-tree) (head-not-file p d in-tree)
+
+    module _ (a : ℕ) (on : Member a (chainOf (s .next) limit (d .head))) where
+      here : DirBlock img (d .head) a
+      here = its-block p d in-tree a on
+
+      whole-block : length (blockOf img (s .block a)) ≡ 512
+      whole-block = length-blockOf img (s .block a) (here .is-data .inside)
+
+      -- it reads the same after the steps
+      pub alike : Alike s t a
+      alike = steps p .ran .shift .apart a (here .in-use) (λ q. head-not-1 p d in-tree (sym (here .on-chain) ∙ q)) (λ q. head-not-file p d in-tree (sym (here .on-chain) ∙ q))
+
+      pub other-entries : a ≢ facts p .a₀ → entriesIn j (s .block a) ≡ entriesIn img (s .block a)
+      unfolding entriesIn
+      other-entries n = rw (other-block p d in-tree a on n)
+
+      this-entries : a ≡ facts p .a₀ → (before after : List Entered) → entriesIn img (s .block a) ≡ before ++ (e ∷ after) → entriesIn j (s .block a) ≡ before ++ (sized new e ∷ after)
+      unfolding entriesIn
+      this-entries i before after parted =
+          let y = s .block a in
+          let its-own : e .place / 512 ≡ y = facts p .in-block ∙ ap (s .block) (sym i) in
+          rw (this-block p d in-tree a on i) (entries-sized (blockOf img y) y (e .place % 512) new whole-block e after (omega arith) before 28 16 parted
+          (block-unbroken img (p .blocks) (p .anodes) (p .accepted) (d .head) (member-reached img s d in-tree) a on))
+
+      -- its entries: the size is new where the file is named
+      pub entries-left : entriesIn j (s .block a) ≡ map (resizedEntry (e .anode) new) (entriesIn img (s .block a))
+      entries-left = elim (same? a (facts p .a₀)) [
+        | inr n ↦ other-entries n ∙ sym (others-stay (e .anode) new (entriesIn img (s .block a)) (only-here img (p .blocks) (p .anodes) (p .accepted) (facts p) d in-tree a on n))
+        | inl i ↦ (let m : Member e (entriesIn img (s .block a)) = rw i (facts p .member) in
+            this-entries i (m .0) (m .1) (m .2)
+            ∙ sym (rw (m .2) (one-resized (e .anode) new (m .0) e (m .1) refl (only-this img (p .blocks) (p .anodes) (p .accepted) (facts p) (m .0) (m .1) (ap (λ (c : ℕ). entriesIn img (s .block c)) (sym i) ∙ m .2)))))
+      ]
+
+      marks-left : isBlockOf j d (s .block a) ≡ isBlockOf img d (s .block a)
+      unfolding isBlockOf
+      marks-left = elim (same? a (facts p .a₀)) [
+        | inr n ↦ rw (other-block p d in-tree a on n)
+        | inl i ↦ rw (this-block p d in-tree a on i, head-sized (blockOf img (s .block a)) (e .place % 512) new whole-block (facts p .from-16))
+      ]
+
+      items-left : itemsAt (entriesIn j) (isBlockOf j) t d a ≡ itemsAt (λ y. map (resizedEntry (e .anode) new) (entriesIn img y)) (isBlockOf img) t d a
+      unfolding itemsAt
+      items-left = rw (alike .same-block, marks-left, entries-left)
+
+  -- the state after the steps is whole where the entries have the new size
+  sizes-whole : Whole (exists img) (diskSize img) (lastReserved img) t (systemOwns img) (steps p .ran .hd′) (steps p .ran .sd′)
+      (λ y. map (resizedEntry (e .anode) new) (entriesIn img y)) (isBlockOf img) dirs
+  sizes-whole = Laws.resized (w p) (e .anode) (facts p .file (p .file)) (steps p .ran) (resizedEntry (e .anode) new) (λ y. map (resizedEntry (e .anode) new) (entriesIn img y)) (isBlockOf img)
+      (resized-fields (e .anode) new) (λ x n. ap (λ (c : Entered). c .size) (resized-other (e .anode) new x n))
+      (λ x i. ap (λ (c : Entered). blocksFor (c .size)) (resized-it (e .anode) new x i)) (λ a c q r. (refl, λ d. refl))
+
+  pub still-whole : Whole (exists img) (diskSize img) (lastReserved img) t (systemOwns img) (steps p .ran .hd′) (steps p .ran .sd′) (entriesIn j) (isBlockOf j) dirs
+  unfolding itemsBy
+  still-whole = whole-same sizes-whole (entriesIn j) (isBlockOf j) (λ d m.
+      gather-congr (itemsAt (entriesIn j) (isBlockOf j) t d) (itemsAt (λ y. map (resizedEntry (e .anode) new) (entriesIn img y)) (isBlockOf img) t d) (chainOf (t .next) limit (d .head))
+      (λ a on. items-left d m a (rw (same-chain d m) at on)))
+
+  resized-accepted : checkAnswer (resizedImage img s e new t ys) (p .blocks) (p .anodes) ≡ 0
+  resized-accepted = whole-accepted img j (p .blocks) (p .anodes) (p .accepted) (resized-same p) {hd = steps p .ran .hd′} {sd = steps p .ran .sd′} {dirs = dirs} (rw (resized-anodes p) still-whole)
+
+-- a refused resize leaves the image that came
+pub resize-accepted : (img : List ℕ) (blocks anodes : ℕ) → checkAnswer img blocks anodes ≡ 0 → (h : ℕ) → noDirectory img (anodesOf img) h ≡ false →
+    (e : Entered) → Member e (entriesOf img (anodesOf img) h) → e .dir ≡ false → (new : ℕ) → checkAnswer (resized img (anodesOf img) e new .image) blocks anodes ≡ 0
+unfolding resized
+resize-accepted img blocks anodes accepted h reached e member file new = go (resizePlan img (anodesOf img) (e .anode) (blocksFor new)) refl
+  where
+    go : (p : Plan) → resizePlan img (anodesOf img) (e .anode) (blocksFor new) ≡ p → checkAnswer (leftBy p img (resizedImage img (anodesOf img) e new) .image) blocks anodes ≡ 0
+    go (refused n) q = accepted
+    go (planned t ys) q = resized-accepted (record {
+      blocks = blocks;
+      anodes = anodes;
+      accepted = accepted;
+      home = h;
+      reached = reached;
+      member = member;
+      file = file;
+      plan = q;
+    })
+
+-- it answers 0, 27 or 28
+pub resize-answers : (img : List ℕ) (blocks anodes : ℕ) → checkAnswer img blocks anodes ≡ 0 → (h : ℕ) → noDirectory img (anodesOf img) h ≡ false →
+    (e : Entered) → Member e (entriesOf img (anodesOf img) h) → (new : ℕ) → let r = resized img (anodesOf img) e new .answer in (r ≡ 0) ⊎ ((r ≡ 27) ⊎ (r ≡ 28))
+unfolding resized
+resize-answers img blocks anodes accepted h reached e member new = go (resizePlan img (anodesOf img) (e .anode) (blocksFor new)) refl
+  where
+    go : (p : Plan) → resizePlan img (anodesOf img) (e .anode) (blocksFor new) ≡ p → let r = leftBy p img (resizedImage img (anodesOf img) e new) .answer in (r ≡ 0) ⊎ ((r ≡ 27) ⊎ (r ≡ 28))
+    go (refused k) q =
+        let f = entry-facts img blocks anodes accepted h reached e member in
+        inr (plan-refused img (accepted-whole img blocks anodes accepted .good) (e .anode) (f .head) (λ i. omega (arith, i, f .from-6)) (blocksFor new) k q)
+    go (planned t ys) q = inl refl

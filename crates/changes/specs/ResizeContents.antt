@@ -1,0 +1,277 @@
+-- What the files hold after a resize: other files what they held, the file its bytes up to the lesser size, and zeros above.
+use Prim.Native.Nat.{ℕ, suc, _+_, _-_, _*_, _/_, _%_, _≤_, _<_}
+use mathlib.Core.Path.{_≡_, refl, sym, ap, ap₂, _∙_}
+use mathlib.Core.Logic.{_≢_, inl, inr}
+use mathlib.Core.Bool.{true, false}
+use mathlib.Core.List.{List, [], _∷_, _++_, append-nil, append-assoc}
+use native.Mathlib.Omega.{arith}
+use lib.Dec.{ltb}
+use lib.ListN.{length, getD, take, replicate, length-replicate, replicate-append-replicate, drop-of-length-le}
+use lib.Seq.{take-at, take-all, take-take, take-append-le, take-append-add, split-at, sets-eq, length-take-le}
+use borrow.Author.Tests.{lt-ltb, le-ltb, ne-eqb}
+use Rattle.endian.specs.Bytes.{cleared}
+use Rattle.endian.proofs.Laws.{length-cleared}
+use Rattle.disk.specs.Blocks.{blockOf}
+use Rattle.disk.proofs.Laws.{length-blockOf}
+use Rattle.rules.specs.Counting.{times, gather}
+use Rattle.rules.specs.Anodes.{Anodes, anodesOf, withAnodes}
+use Rattle.rules.specs.Chains.{blocksOf, blockCount}
+use Rattle.rules.specs.Walk.{Entered, blocksFor}
+use Rattle.rules.specs.Lookup.{noDirectory, entriesOf, bytesOf, contents}
+use Rattle.rules.specs.Format.{zeroBlock}
+use Rattle.rules.specs.Changes.{inBlock, zeroTail, zeroTaken, resizedImage}
+use Rattle.laws.specs.Tests.{same?}
+use Rattle.laws.specs.Sums.{oneAt-same}
+use Rattle.laws.specs.Bags.{times-cons, times-append}
+use Rattle.laws.specs.Whole.{blocks-count}
+use Rattle.laws.specs.ChainBlocks.{gather-append, shift-blocks}
+use Rattle.frames.specs.StoredBlocks.{inBlock-kept, blockOf-inBlock}
+use Rattle.frames.specs.StoredBytes.{Inside, length-gather, blockOf-withBlocks, bytesOf-kept}
+use Rattle.frames.specs.DisjointBlocks.{chain-once, chains-apart, chain-block}
+use Rattle.changes.specs.Members.{Member, member-first, member-later, member-times, gather-congr}
+use Rattle.changes.specs.Reached.{entry-facts, reached-head, not-file, block-on}
+use Rattle.changes.specs.NewSize.{sized}
+use Rattle.changes.specs.ResizePlan.{handed-data, handed-apart, plan-longer, plan-shorter}
+use Rattle.changes.specs.ResizeStores.{PlannedResize, w, facts, steps, not-1, stored, taken-kept, tail-in, tail-kept, size-kept, left-kept, home-alone, length-blocksOf}
+
+-- the rest of a block cleared
+cleared-rest : (b : List ℕ) (r : ℕ) → length b ≡ 512 → r ≤ 512 → cleared b r (512 - r) ≡ take r b ++ replicate (512 - r) 0
+unfolding cleared
+cleared-rest b r whole l =
+    let long : length (replicate {A = ℕ} (512 - r) 0) ≡ 512 - r = length-replicate {A = ℕ} (512 - r) 0 in
+    sets-eq (replicate (512 - r) 0) b r (omega arith)
+    ∙ ap (λ (q : List ℕ). take r b ++ replicate (512 - r) 0 ++ q) (drop-of-length-le b {i = r + length (replicate {A = ℕ} (512 - r) 0)} (omega arith))
+    ∙ append-nil (take r b ++ replicate (512 - r) 0)
+
+take-zeros : (n m : ℕ) → n ≤ m → take {A = ℕ} n (replicate m 0) ≡ replicate n 0
+take-zeros n m l =
+    let e : m ≡ n + (m - n) = omega arith in
+    ap (λ (k : ℕ). take {A = ℕ} n (replicate k 0)) e ∙ ap (take n) (sym (replicate-append-replicate {A = ℕ} n (m - n) 0)) ∙ take-at (replicate n 0) (replicate (m - n) 0) n (length-replicate {A = ℕ} n 0)
+
+gather-zeros : (f : ℕ → List ℕ) (l : List ℕ) → ((y : ℕ) → Member y l → f y ≡ zeroBlock) → gather f l ≡ replicate (length l * 512) 0
+unfolding gather
+gather-zeros f [] z = refl
+gather-zeros f (x ∷ l) z =
+    let e : 512 + length l * 512 ≡ suc (length l) * 512 = omega arith in
+    ap₂ _++_ (z x (member-first x l)) (gather-zeros f l (λ y m. z y (member-later y x l m))) ∙ replicate-append-replicate {A = ℕ} 512 (length l * 512) 0 ∙ ap (λ (n : ℕ). replicate n 0) e
+
+module _ {img : List ℕ} {e : Entered} {new : ℕ} {t : Anodes} {ys : List ℕ} (p : PlannedResize img e new t ys) where
+  abbrev s : Anodes
+  s = anodesOf img
+
+  abbrev chain : List ℕ
+  chain = blocksOf s (e .anode)
+
+  abbrev j : List ℕ
+  j = resizedImage img s e new t ys
+
+  -- ---- other files
+
+  pub contents-resized-other : (k : ℕ) → noDirectory img s k ≡ false → (f : Entered) → Member f (entriesOf img s k) → f .dir ≡ false → f .anode ≢ e .anode → contents j t f ≡ contents img s f
+  unfolding contents bytesOf
+  contents-resized-other k r f m file apart =
+      let g = entry-facts img (p .blocks) (p .anodes) (p .accepted) k r f m in
+      let not-1f : f .anode ≢ 1 = λ i. omega (arith, i, g .from-6) in
+      let home = reached-head img (p .blocks) (p .anodes) (p .accepted) (p .home) (p .reached) in
+      let not-home = not-file img (p .blocks) (p .anodes) (p .accepted) (p .home) (p .reached) k f g file in
+      ap (λ (l : List ℕ). take (f .size) (gather (blockOf j) l)) (shift-blocks (w p .good) (steps p .ran .good) (steps p .ran .shift) (f .anode) (g .head) not-1f apart)
+      ∙ ap (take (f .size)) (bytesOf-kept (left-kept p) s (f .anode) (λ y q. (
+        chain-block img (w p .good) (f .anode) (g .head) y q .unheld,
+        (
+          (
+            handed-apart img (w p .good) (e .anode) (facts p .head) (not-1 p) (steps p) (f .anode) (g .head) not-1f apart y q,
+            chains-apart (w p .good) (f .anode) (e .anode) (g .head) (facts p .head) apart y q,
+          ),
+          λ i. omega (
+            arith,
+            chains-apart (w p .good) (f .anode) (p .home) (g .head) home (λ i. not-home (sym i)) y q,
+            rw (← (i ∙ facts p .in-block)) at (block-on s (p .home) (facts p .a₀) (facts p .member-chain) (facts p .block-facts .one)),
+          ),
+        ),
+      )))
+
+  -- ---- the file
+
+  -- no block of it has its entry
+  off-home : (y : ℕ) → 0 < times y chain → y ≢ e .place / 512
+  off-home y q i = omega (arith, rw i at q, home-alone p .1)
+
+  inside : Inside img chain
+  inside y q = chain-block img (w p .good) (e .anode) (facts p .head) y q .inside
+
+  -- its bytes before, as many as its blocks have
+  long : length (bytesOf img s (e .anode)) ≡ blocksFor (e .size) * 512
+  unfolding bytesOf
+  long = omega (arith, length-gather img chain inside, length-blocksOf s (e .anode), facts p .sized (p .file))
+
+  length-contents : length (contents img s e) ≡ e .size
+  unfolding contents blocksFor
+  length-contents = length-take-le (e .size) (bytesOf img s (e .anode)) (omega (arith, long))
+
+  module _ (less : new ≤ e .size) where
+    shorter : (rest : List ℕ) × (chain ≡ blocksOf t (e .anode) ++ rest)
+    unfolding blocksFor
+    shorter = plan-shorter img (w p .good) (e .anode) (facts p .head) (not-1 p) (blocksFor new) t ys (p .plan) (omega (arith, facts p .sized (p .file)))
+
+    abbrev left-blocks : List ℕ
+    left-blocks = blocksOf t (e .anode)
+
+    still-in : (y : ℕ) → 0 < times y left-blocks → 0 < times y chain
+    still-in y q = rw (shorter .1) (omega (arith, q, times-append y left-blocks (shorter .0)))
+
+    -- nothing of it is stored but its entry's size
+    block-left : (y : ℕ) → 0 < times y left-blocks → blockOf j y ≡ blockOf img y
+    unfolding resizedImage zeroTail zeroTaken
+    block-left y q =
+        let small = le-ltb (e .size) new less in
+        let c = still-in y q in
+        size-kept p .block-kept y (off-home y c) ∙ rw (small) (stored p .kept .block-kept y (chain-block img (w p .good) (e .anode) (facts p .head) y c .unheld))
+
+    pub contents-shrunk : contents j t (sized new e) ≡ take new (contents img s e)
+    unfolding contents bytesOf blocksFor
+    contents-shrunk =
+        let kept : gather (blockOf j) left-blocks ≡ gather (blockOf img) left-blocks = gather-congr (blockOf j) (blockOf img) left-blocks (λ y m. block-left y (member-times y left-blocks m)) in
+        let enough : new ≤ length (gather (blockOf img) left-blocks) = omega (
+          arith,
+          length-gather img left-blocks (λ y q. inside y (still-in y q)),
+          length-blocksOf t (e .anode),
+          blocks-count (steps p .ran .good) (e .anode) (steps p .ran .shift .stays (e .anode) (facts p .head)),
+          steps p .ran .has,
+        ) in
+        ap (take new) kept ∙ sym (take-append-le new (gather (blockOf img) left-blocks) (gather (blockOf img) (shorter .0)) enough)
+        ∙ ap (take new) (sym (gather-append (blockOf img) left-blocks (shorter .0))) ∙ ap (λ (l : List ℕ). take new (gather (blockOf img) l)) (sym (shorter .1))
+        ∙ sym (take-take new (e .size) (gather (blockOf img) chain) less)
+
+  module _ (more : e .size < new) where
+    longer : (blocksOf t (e .anode) ≡ chain ++ ys) × (length ys ≡ blocksFor new - blockCount s (e .anode))
+    unfolding blocksFor
+    longer = plan-longer img (w p .good) (e .anode) (facts p .head) (not-1 p) (blocksFor new) t ys (p .plan) (omega (arith, facts p .sized (p .file)))
+
+    big : ltb (e .size) new ≡ true
+    big = lt-ltb (e .size) new more
+
+    -- a block stands in the new chain once
+    once : (y : ℕ) → times y chain + times y ys ≤ 1
+    once y = omega (
+      arith,
+      times-append y chain ys,
+      rw (longer .0) at (chain-once (steps p .ran .good) (e .anode) (steps p .ran .shift .stays (e .anode) (facts p .head)) y),
+    )
+
+    -- a block that was taken is zeroed
+    taken-zero : (y : ℕ) → 0 < times y ys → blockOf j y ≡ zeroBlock
+    unfolding resizedImage zeroTaken
+    taken-zero y q =
+        size-kept p .block-kept y (λ i. omega (arith, rw i at q, home-alone p .0))
+        ∙ tail-kept p .block-kept y (omega (arith, once y, q))
+        ∙ rw big (blockOf-withBlocks (withAnodes img t) ys zeroBlock y (length-replicate {A = ℕ} 512 0) q
+        (rw (stored p .kept .length-kept) (handed-data img (w p .good) (e .anode) (facts p .head) (not-1 p) (steps p) y q .inside)))
+
+    -- the others keep their bytes, up to the clearing of the last one's end
+    before-tail : (y : ℕ) → 0 < times y chain → blockOf (zeroTaken (withAnodes img t) e new ys) y ≡ blockOf img y
+    before-tail y q =
+        taken-kept p .block-kept y (omega (arith, once y, q)) ∙ stored p .kept .block-kept y (chain-block img (w p .good) (e .anode) (facts p .head) y q .unheld)
+
+    zeros : gather (blockOf j) ys ≡ replicate (length ys * 512) 0
+    zeros = gather-zeros (blockOf j) ys (λ y m. taken-zero y (member-times y ys m))
+
+    -- the size ends within the last block: it is cleared from there on
+    module _ (odd : e .size % 512 ≢ 0) where
+      abbrev full : ℕ
+      full = e .size / 512
+
+      abbrev last : ℕ
+      last = getD chain full 0
+
+      abbrev front : List ℕ
+      front = take full chain
+
+      chain-long : length chain ≡ full + 1
+      unfolding blocksFor
+      chain-long = omega (arith, length-blocksOf s (e .anode), facts p .sized (p .file))
+
+      parted : chain ≡ front ++ (last ∷ [])
+      parted = split-at chain full 0 (omega (arith, chain-long)) ∙ ap (λ (l : List ℕ). front ++ (last ∷ l)) (drop-of-length-le chain {i = suc full} (omega (arith, chain-long)))
+
+      last-in : 0 < times last chain
+      last-in = member-times last chain (tail-in p odd)
+
+      in-front : (y : ℕ) → 0 < times y front → (0 < times y chain) × (y ≢ last)
+      in-front y q =
+          let all : times y chain ≡ times y front + times y (last ∷ []) = ap (times y) parted ∙ times-append y front (last ∷ []) in (
+            omega (arith, q, all),
+            λ i. omega (arith, q, all, times-cons y last [], oneAt-same last y (sym i), once y),
+          )
+
+      abbrev clear : List ℕ → List ℕ
+      clear b = cleared b (e .size % 512) (512 - e .size % 512)
+
+      abbrev zeroed : List ℕ
+      zeroed = zeroTaken (withAnodes img t) e new ys
+
+      stored-tail : zeroTail zeroed s e new ≡ inBlock zeroed last clear
+      unfolding zeroTail
+      stored-tail = rw (big, ne-eqb (e .size % 512) 0 odd)
+
+      clear-long : length (clear (blockOf zeroed last)) ≡ length (blockOf zeroed last)
+      clear-long = length-cleared (blockOf zeroed last) (e .size % 512) (512 - e .size % 512)
+
+      front-left : (y : ℕ) → 0 < times y front → blockOf j y ≡ blockOf img y
+      unfolding resizedImage
+      front-left y q =
+          let i = in-front y q in
+          size-kept p .block-kept y (off-home y (i .0)) ∙ rw stored-tail (inBlock-kept zeroed last clear clear-long .block-kept y (i .1)) ∙ before-tail y (i .0)
+
+      last-left : blockOf j last ≡ take (e .size % 512) (blockOf img last) ++ replicate (512 - e .size % 512) 0
+      unfolding resizedImage
+      last-left =
+          size-kept p .block-kept last (off-home last last-in) ∙ rw stored-tail (blockOf-inBlock zeroed last clear clear-long) ∙ ap clear (before-tail last last-in)
+          ∙ cleared-rest (blockOf img last) (e .size % 512) (length-blockOf img last (inside last last-in)) (omega arith)
+
+      odd-contents : contents img s e ≡ gather (blockOf img) front ++ take (e .size % 512) (blockOf img last)
+      unfolding contents bytesOf gather
+      odd-contents =
+          let front-long : length (gather (blockOf img) front) ≡ full * 512 =
+          length-gather img front (λ y q. inside y (in-front y q .0)) ∙ ap (λ (n : ℕ). n * 512) (length-take-le full chain (omega (arith, chain-long))) in
+          let size-is : e .size ≡ length (gather (blockOf img) front) + e .size % 512 = omega (arith, front-long) in
+          ap (λ (l : List ℕ). take (e .size) (gather (blockOf img) l)) parted ∙ ap (take (e .size)) (gather-append (blockOf img) front (last ∷ []))
+          ∙ ap (λ (n : ℕ). take n (gather (blockOf img) front ++ (blockOf img last ++ []))) size-is
+          ∙ take-append-add (gather (blockOf img) front) (blockOf img last ++ []) (e .size % 512)
+          ∙ ap (λ (l : List ℕ). gather (blockOf img) front ++ take (e .size % 512) l) (append-nil (blockOf img last))
+
+      odd-bytes : gather (blockOf j) chain ≡ contents img s e ++ replicate (blocksFor (e .size) * 512 - e .size) 0
+      unfolding gather blocksFor
+      odd-bytes =
+          let part = take (e .size % 512) (blockOf img last) in
+          let pad : 512 - e .size % 512 ≡ (e .size + 511) / 512 * 512 - e .size = omega arith in
+          ap (gather (blockOf j)) parted ∙ gather-append (blockOf j) front (last ∷ [])
+          ∙ ap₂ _++_ (gather-congr (blockOf j) (blockOf img) front (λ y m. front-left y (member-times y front m))) (append-nil (blockOf j last) ∙ last-left)
+          ∙ sym (append-assoc (gather (blockOf img) front) part (replicate (512 - e .size % 512) 0))
+          ∙ ap₂ _++_ (sym odd-contents) (ap (λ (n : ℕ). replicate n 0) pad)
+
+    even-left : e .size % 512 ≡ 0 → (y : ℕ) → 0 < times y chain → blockOf j y ≡ blockOf img y
+    unfolding resizedImage zeroTail
+    even-left even y q = size-kept p .block-kept y (off-home y q) ∙ rw (big, even) (before-tail y q)
+
+    old-bytes : gather (blockOf j) chain ≡ contents img s e ++ replicate (blocksFor (e .size) * 512 - e .size) 0
+    unfolding contents bytesOf blocksFor
+    old-bytes = elim (same? (e .size % 512) 0) [
+      | inr odd ↦ odd-bytes odd
+      | inl even ↦ (let none : (e .size + 511) / 512 * 512 - e .size ≡ 0 = omega arith in
+          gather-congr (blockOf j) (blockOf img) chain (λ y m. even-left even y (member-times y chain m))
+          ∙ sym (take-all (e .size) (gather (blockOf img) chain) (omega (arith, long)))
+          ∙ sym (append-nil (take (e .size) (gather (blockOf img) chain))) ∙ ap (λ (n : ℕ). take (e .size) (gather (blockOf img) chain) ++ replicate n 0) (sym none))
+    ]
+
+    pub contents-grown : contents j t (sized new e) ≡ contents img s e ++ replicate (new - e .size) 0
+    unfolding contents bytesOf blocksFor
+    contents-grown =
+        let a = blocksFor (e .size) * 512 - e .size in
+        let b = length ys * 512 in
+        let c = contents img s e in
+        let all : gather (blockOf j) (blocksOf t (e .anode)) ≡ c ++ replicate (a + b) 0 =
+        ap (gather (blockOf j)) (longer .0) ∙ gather-append (blockOf j) chain ys ∙ ap₂ _++_ old-bytes zeros ∙ append-assoc c (replicate a 0) (replicate b 0)
+        ∙ ap (λ (l : List ℕ). c ++ l) (replicate-append-replicate {A = ℕ} a b 0) in
+        let up-to : new ≡ length c + (new - e .size) = omega (arith, length-contents) in
+        ap (take new) all ∙ ap (λ (n : ℕ). take n (c ++ replicate (a + b) 0)) up-to ∙ take-append-add c (replicate (a + b) 0) (new - e .size)
+        ∙ ap (λ (l : List ℕ). c ++ l) (take-zeros (new - e .size) (a + b) (omega (arith, longer .1, facts p .sized (p .file))))

@@ -1,0 +1,184 @@
+-- What the directories hold after a resize: the entry has its new size, and all else is as it was.
+use Prim.Native.Nat.{ℕ, _+_, _/_, _%_, _≤_, _<_}
+use mathlib.Core.Path.{_≡_, refl, sym, ap, _∙_}
+use mathlib.Core.Logic.{_≢_, _⊎_, inl, inr}
+use mathlib.Core.Bool.{false}
+use mathlib.Core.List.{List, [], _∷_, _++_, map, map-append, append-assoc}
+use native.Mathlib.Omega.{arith}
+use lib.ListN.{length, getD, set, take, drop}
+use lib.Seq.{take-set-lt, drop-set-add}
+use Rattle.endian.specs.Bytes.{put16, put32}
+use Rattle.endian.proofs.Laws.{length-put32}
+use Rattle.disk.specs.Blocks.{blockOf}
+use Rattle.disk.proofs.Laws.{length-blockOf}
+use Rattle.rules.specs.Counting.{oneAt, gather, anyIn}
+use Rattle.rules.specs.Anodes.{Anodes, limit, anodesOf}
+use Rattle.rules.specs.Chains.{chainOf}
+use Rattle.rules.specs.Walk.{Dir, Entered, entriesIn, reachedDirs}
+use Rattle.rules.specs.Lookup.{noDirectory, entriesOf, nameAt}
+use Rattle.rules.specs.Changes.{resizedImage}
+use Rattle.laws.specs.Tests.{same?}
+use Rattle.laws.specs.TreeChanges.{headed}
+use Rattle.changes.specs.Image.{headIn, headed-same, reached-sum}
+use Rattle.changes.specs.Members.{Member, member-cons, member-append, gather-congr}
+use Rattle.changes.specs.FoundEntries.{part-same, found-at, place-order}
+use Rattle.changes.specs.Reached.{reached-dir, EntryFacts, dir-block, entry-facts}
+use Rattle.changes.specs.SingleBlocks.{block-unbroken}
+use Rattle.changes.specs.NamedOnce.{only-home}
+use Rattle.changes.specs.EntryBytes.{entryBytes}
+use Rattle.changes.specs.NewSize.{sized, put32-others, name-sized}
+use Rattle.changes.specs.ResizeStores.{PlannedResize, facts, steps, other-block, this-block, resized-same, resized-anodes}
+use Rattle.changes.specs.Resize.{resizedEntry, one-resized, same-chain, alike, other-entries, entries-left, still-whole}
+
+map-gather : (φ : Entered → Entered) (f : ℕ → List Entered) (l : List ℕ) → map φ (gather f l) ≡ gather (λ a. map φ (f a)) l
+unfolding gather
+map-gather φ f [] = refl
+map-gather φ f (a ∷ l) = map-append φ (f a) (gather f l) ∙ ap (λ (m : List Entered). map φ (f a) ++ m) (map-gather φ f l)
+
+-- a store in a part of some bytes
+part-set : (l : List ℕ) (pos len i v : ℕ) → i < len → take len (drop pos (set l (pos + i) v)) ≡ set (take len (drop pos l)) i v
+part-set l pos len i v h = ap (take len) (drop-set-add pos l i v) ∙ take-set-lt len (drop pos l) i v h
+
+part-put32 : (l : List ℕ) (pos len v : ℕ) → 8 ≤ len → take len (drop pos (put32 l (pos + 4) v)) ≡ put32 (take len (drop pos l)) 4 v
+unfolding put32 put16
+part-put32 l pos len v h =
+    let e5 : pos + 4 + 1 ≡ pos + 5 = omega arith in
+    let e6 : pos + 4 + 2 ≡ pos + 6 = omega arith in
+    let e7 : pos + 6 + 1 ≡ pos + 7 = omega arith in
+    let x = v / 65536 in
+    let z = v % 65536 in
+    let l₁ = set l (pos + 4) (x / 256) in
+    let l₂ = set l₁ (pos + 5) (x % 256) in
+    let l₃ = set l₂ (pos + 6) (z / 256) in
+    rw (e5, e6, e7)
+    (part-set l₃ pos len 7 (z % 256) (omega arith)
+    ∙ ap (λ (m : List ℕ). set m 7 (z % 256)) (part-set l₂ pos len 6 (z / 256) (omega arith)
+    ∙ ap (λ (m : List ℕ). set m 6 (z / 256)) (part-set l₁ pos len 5 (x % 256) (omega arith)
+    ∙ ap (λ (m : List ℕ). set m 5 (x % 256)) (part-set l pos len 4 (x / 256) (omega arith)))))
+
+module _ {img : List ℕ} {e : Entered} {new : ℕ} {t : Anodes} {ys : List ℕ} (p : PlannedResize img e new t ys) where
+  abbrev s : Anodes
+  s = anodesOf img
+
+  abbrev j : List ℕ
+  j = resizedImage img s e new t ys
+
+  -- the same directories are reached
+  pub resized-reached : (k : ℕ) → noDirectory j t k ≡ noDirectory img s k
+  unfolding headed
+  resized-reached k = headed-same img j s t k (rw (resized-anodes p) at
+      (reached-sum img j (p .blocks) (p .anodes) (p .accepted) (resized-same p) {hd = steps p .ran .hd′} {sd = steps p .ran .sd′} {dirs = reachedDirs img s} (rw (resized-anodes p) (still-whole p)) (λ d. oneAt (d .head) k)))
+
+  module _ (k : ℕ) (reached : noDirectory img s k ≡ false) where
+    in-tree : (d : Dir) × Member d (reachedDirs img s) × (d .head ≡ k)
+    in-tree = reached-dir img (p .blocks) (p .anodes) (p .accepted) k reached
+
+    on-tree : (a : ℕ) → Member a (chainOf (s .next) limit k) → Member a (chainOf (s .next) limit (in-tree .0 .head))
+    on-tree a on = rw (in-tree .2) on
+
+    -- its entries, block by block
+    entries-along : (f : ℕ → List Entered) → ((a : ℕ) → Member a (chainOf (s .next) limit k) → entriesIn j (s .block a) ≡ f a) → entriesOf j t k ≡ gather f (chainOf (s .next) limit k)
+    unfolding entriesOf
+    entries-along f each =
+        ap (gather (λ a. entriesIn j (t .block a))) (rw (in-tree .2) at (same-chain p (in-tree .0) (in-tree .1)))
+        ∙ gather-congr (λ a. entriesIn j (t .block a)) f (chainOf (s .next) limit k) (λ a on. ap (entriesIn j) (alike p (in-tree .0) (in-tree .1) a (on-tree a on) .same-block) ∙ each a on)
+
+    -- every other directory has the entries that it had
+    pub entries-resized-other : k ≢ p .home → entriesOf j t k ≡ entriesOf img s k
+    unfolding entriesOf
+    entries-resized-other apart = entries-along (λ a. entriesIn img (s .block a)) (λ a on. other-entries p (in-tree .0) (in-tree .1) a (on-tree a on)
+        (λ i. apart (sym (dir-block img (p .blocks) (p .anodes) (p .accepted) k reached a on .on-chain) ∙ ap (headIn img) i ∙ facts p .block-facts .on-chain)))
+
+    all-entries : entriesOf j t k ≡ map (resizedEntry (e .anode) new) (entriesOf img s k)
+    unfolding entriesOf
+    all-entries =
+        entries-along (λ a. map (resizedEntry (e .anode) new) (entriesIn img (s .block a))) (λ a on. entries-left p (in-tree .0) (in-tree .1) a (on-tree a on))
+        ∙ sym (map-gather (resizedEntry (e .anode) new) (λ a. entriesIn img (s .block a)) (chainOf (s .next) limit k))
+
+  -- its own has the entry with its new size
+  pub entries-resized : (before behind : List Entered) → entriesOf img s (p .home) ≡ before ++ (e ∷ behind) → entriesOf j t (p .home) ≡ before ++ (sized new e ∷ behind)
+  entries-resized before behind parted =
+      all-entries (p .home) (p .reached) ∙ ap (map (resizedEntry (e .anode) new)) parted
+      ∙ one-resized (e .anode) new before e behind refl (only-home img (p .blocks) (p .anodes) (p .accepted) (facts p) before behind parted)
+
+  -- ---- the bytes of the entries
+
+  abbrev y : ℕ
+  y = e .place / 512
+
+  abbrev pos : ℕ
+  pos = e .place % 512
+
+  whole : length (blockOf img y) ≡ 512
+  whole = length-blockOf img y (rw (facts p .in-block) (facts p .block-facts .is-data .inside))
+
+  home-block : blockOf j y ≡ put32 (blockOf img y) (pos + 4) new
+  home-block = rw (facts p .in-block)
+      (this-block p (facts p .block-facts .dir) (facts p .block-facts .reached) (facts p .a₀) (rw (facts p .block-facts .dir-head) (facts p .member-chain)) refl)
+
+  long : 18 ≤ getD (blockOf img y) pos 0
+  long = found-at (blockOf img y) pos (facts p .entry) (facts p .stands) .long
+
+  home-unbroken : anyIn (λ c. c .broken) (entriesIn img y) ≡ false
+  home-unbroken = rw (facts p .in-block) (block-unbroken img (p .blocks) (p .anodes) (p .accepted) (p .home) (p .reached) (facts p .a₀) (facts p .member-chain))
+
+  -- of an entry that ends before the size, or starts behind it
+  apart-bytes : (b : List ℕ) (at len pos : ℕ) → length b ≡ 512 → at + len ≤ 510 → (at + len ≤ pos) ⊎ (pos + 8 ≤ at) →
+      take len (drop at (put32 b (pos + 4) new)) ≡ take len (drop at b)
+  apart-bytes b at len pos whole room apart =
+      part-same (put32 b (pos + 4) new) b at at len (omega (arith, length-put32 b (pos + 4) new)) (omega arith) (λ i l. put32-others b (pos + 4) new (at + i) (elim apart [
+        | inl q ↦ inl (omega arith)
+        | inr q ↦ inr (omega arith)
+      ]))
+
+  module _ (k : ℕ) (reached : noDirectory img s k ≡ false) (f : Entered) (member : Member f (entriesOf img s k)) (apart : f .anode ≢ e .anode) where
+    g : EntryFacts img k f
+    g = entry-facts img (p .blocks) (p .anodes) (p .accepted) k reached f member
+
+    -- in the same block it ends before the entry or starts behind it
+    order : g .a₀ ≡ facts p .a₀ → (f .place % 512 + getD (blockOf img y) (f .place % 512) 0 ≤ pos) ⊎ (pos + 8 ≤ f .place % 512)
+    unfolding entriesIn
+    order i =
+        let at = f .place % 512 in
+        let same : f .place / 512 ≡ y = g .in-block ∙ ap (s .block) i ∙ sym (facts p .in-block) in
+        let m : Member e (entriesIn img y) = rw (facts p .in-block) (facts p .member) in
+        let here : s .block (g .a₀) ≡ y = ap (s .block) i ∙ sym (facts p .in-block) in
+        let n : Member f (m .0 ++ (e ∷ m .1)) = rw (here, m .2) at (g .member) in
+        elim (member-append f (m .0) (e ∷ m .1) n) [
+          | inl q ↦ inl (omega (
+            arith,
+            same,
+            place-order (blockOf img y) y at f e (omega arith) (q .1) (m .1) (q .0) 28 16
+                (m .2 ∙ ap (λ (l : List Entered). l ++ (e ∷ m .1)) (q .2) ∙ append-assoc (q .0) (f ∷ q .1) (e ∷ m .1)) home-unbroken,
+          ))
+          | inr q ↦ elim (member-cons f e (m .1) q) [
+            | inl c ↦ absurd (apart (ap (λ (x : Entered). x .anode) c))
+            | inr c ↦ inr (omega (
+              arith,
+              same,
+              long,
+              place-order (blockOf img y) y pos e f (omega arith) (c .0) (c .1) (m .0) 28 16 (m .2 ∙ ap (λ (l : List Entered). m .0 ++ (e ∷ l)) (c .2)) home-unbroken,
+            ))
+          ]
+        ]
+
+    -- other entries keep all their bytes
+    pub bytes-resized-other : entryBytes j (f .place) ≡ entryBytes img (f .place)
+    unfolding entryBytes
+    bytes-resized-other = elim (same? (g .a₀) (facts p .a₀)) [
+      | inr n ↦ rw (g .in-block, other-block p (g .block-facts .dir) (g .block-facts .reached) (g .a₀) (rw (g .block-facts .dir-head) (g .member-chain)) n)
+      | inl i ↦ (let same : f .place / 512 ≡ y = g .in-block ∙ ap (s .block) i ∙ sym (facts p .in-block) in
+          let at = f .place % 512 in
+          let o = order i in
+          let first : getD (put32 (blockOf img y) (pos + 4) new) at 0 ≡ getD (blockOf img y) at 0 = put32-others (blockOf img y) (pos + 4) new at (elim o [ inl q ↦ inl (omega arith) | inr q ↦ inr (omega arith) ]) in
+          rw (same, home-block, first) (apart-bytes (blockOf img y) at (getD (blockOf img y) at 0) pos whole (rw same at (g .ends)) o))
+    ]
+
+  -- of the entry only the size changes
+  pub bytes-resized : entryBytes j (e .place) ≡ put32 (entryBytes img (e .place)) 4 new
+  unfolding entryBytes
+  bytes-resized = rw (home-block, put32-others (blockOf img y) (pos + 4) new pos (inl (omega arith))) (part-put32 (blockOf img y) pos (getD (blockOf img y) pos 0) new (omega (arith, long)))
+
+  pub name-resized : nameAt j (e .place) ≡ nameAt img (e .place)
+  unfolding nameAt
+  name-resized = rw home-block (name-sized (blockOf img y) pos new whole)

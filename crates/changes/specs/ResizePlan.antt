@@ -1,0 +1,106 @@
+-- The steps that a resize plans: from the chain of 1 to the file's, or back, and which blocks change hands.
+use Prim.Native.Nat.{ℕ, _+_, _-_, _≤_, _<_}
+use mathlib.Core.Path.{_≡_, refl, sym, ap, _∙_}
+use mathlib.Core.Logic.{_≢_, _⊎_, inl, inr}
+use mathlib.Core.Bool.{false}
+use mathlib.Core.List.{List, [], _∷_, _++_, append-nil, reverse}
+use native.Mathlib.Omega.{arith}
+use lib.ListN.{length}
+use borrow.Author.Tests.{le-leb, lt-leb}
+use Rattle.rules.specs.Counting.{times}
+use Rattle.rules.specs.Anodes.{Anodes, limit, exists}
+use Rattle.rules.specs.Chains.{systemOwns, blocksOf, blockCount}
+use Rattle.rules.specs.Accepted.{diskSize, lastReserved}
+use Rattle.rules.specs.Space.{refused, planned}
+use Rattle.rules.specs.Changes.{resizePlan}
+use Rattle.laws.specs.Tests.{less?}
+use Rattle.laws.specs.Sums.{oneAt-same, oneAt-other}
+use Rattle.laws.specs.Heads.{Head}
+use Rattle.laws.specs.Blocks.{blocks}
+use Rattle.laws.specs.Held.{held}
+use Rattle.laws.specs.Space.{Good, head-1}
+use Rattle.laws.specs.Whole.{blocks-count}
+use Rattle.laws.specs.Resize.{Ran, grow-ran, shrink-ran}
+use Rattle.laws.specs.RefusedSteps.{takes-refused, gives-refused}
+use Rattle.laws.specs.TakenBlocks.{takes-blocks}
+use Rattle.laws.specs.GivenBlocks.{gives-blocks}
+use Rattle.laws.specs.OwnerTable.{held-data}
+use Rattle.frames.specs.DisjointBlocks.{DataBlock, times-held, chains-apart, chain-block}
+
+-- the chain of h has so many blocks now; those of ys came from 1's chain, or went to it
+pub record Resizing (img : List ℕ) (s : Anodes) (hd : ℕ → ℕ) (h size : ℕ) (t : Anodes) (ys : List ℕ) : Type 0 where
+  pub from : ℕ
+  pub to : ℕ
+  pub apart : from ≢ to
+  pub from-is : (from ≡ 1) ⊎ (from ≡ h)
+  pub ran : Ran limit (exists img) (diskSize img) (lastReserved img) s (systemOwns img) hd from to h size ys t
+
+module _ (img : List ℕ) {s : Anodes} {hd sd : ℕ → ℕ} (g : Good limit (exists img) (diskSize img) (lastReserved img) s (systemOwns img) hd sd)
+    (h : ℕ) (d : Head (s .next) (s .block) h) (h1 : h ≢ 1) where
+  pub plan-runs : (size : ℕ) (t : Anodes) (ys : List ℕ) → resizePlan img s h size ≡ planned t ys → Resizing img s hd h size t ys
+  unfolding resizePlan
+  plan-runs size t ys plan = elim (less? size (blockCount s h)) [
+    | inl l ↦ record {
+      from = h;
+      to = 1;
+      apart = h1;
+      from-is = inr refl;
+      ran = shrink-ran (blockCount s h - size) h h1 t ys s (systemOwns img) hd sd size (omega (arith, blocks-count g h d)) g d (rw (lt-leb (blockCount s h) size l) at plan);
+    }
+    | inr l ↦ (let fits : blocks limit hd (s .count) h + (size - blockCount s h) ≡ size = omega (arith, blocks-count g h d) in
+        record {
+          from = 1;
+          to = h;
+          apart = λ e. h1 (sym e);
+          from-is = inl refl;
+          ran = rw fits at (grow-ran (size - blockCount s h) h h1 false t ys s (systemOwns img) hd sd g d (rw (le-leb (blockCount s h) size l) at plan));
+        })
+  ]
+
+  pub plan-refused : (size k : ℕ) → resizePlan img s h size ≡ refused k → (k ≡ 27) ⊎ (k ≡ 28)
+  unfolding resizePlan
+  plan-refused size k plan = elim (less? size (blockCount s h)) [
+    | inl l ↦ inr (gives-refused (blockCount s h - size) h h1 k s (systemOwns img) hd sd g d (omega (arith, blocks-count g h d)) (rw (lt-leb (blockCount s h) size l) at plan))
+    | inr l ↦ takes-refused limit (exists img) (lastReserved img) false (size - blockCount s h) s h k (rw (le-leb (blockCount s h) size l) at plan)
+  ]
+
+  -- the list of blocks of the chain: more of them behind, or fewer
+  module _ (size : ℕ) (t : Anodes) (ys : List ℕ) (plan : resizePlan img s h size ≡ planned t ys) where
+    pub plan-longer : blockCount s h ≤ size → (blocksOf t h ≡ blocksOf s h ++ ys) × (length ys ≡ size - blockCount s h)
+    unfolding resizePlan
+    plan-longer l = takes-blocks (size - blockCount s h) h h1 false t ys s (systemOwns img) hd sd g d (rw (le-leb (blockCount s h) size l) at plan)
+
+    pub plan-shorter : size ≤ blockCount s h → (rest : List ℕ) × (blocksOf s h ≡ blocksOf t h ++ rest)
+    unfolding resizePlan
+    plan-shorter l = elim (less? size (blockCount s h)) [
+      | inl m ↦ (reverse ys, gives-blocks (blockCount s h - size) h h1 t ys s (systemOwns img) hd sd g d (rw (lt-leb (blockCount s h) size m) at plan) .0)
+      | inr m ↦ (let q = plan-longer m in ([], sym (append-nil (blocksOf s h)) ∙ ap (λ (l : List ℕ). blocksOf s h ++ l) (sym (none ys (omega (arith, q .1)))) ∙ sym (q .0) ∙ sym (append-nil (blocksOf t h))))
+    ]
+      where
+        none : (l : List ℕ) → length l ≡ 0 → l ≡ []
+        none [] z = refl
+        none (x ∷ l) z = absurd (omega arith)
+
+  module _ {size : ℕ} {t : Anodes} {ys : List ℕ} (r : Resizing img s hd h size t ys) where
+    from-head : Head (s .next) (s .block) (r .from)
+    from-head = elim (r .from-is) [ inl e ↦ rw e (head-1 g) | inr e ↦ rw e d ]
+
+    -- what changed hands was a block of the chain that it left
+    was-there : (y : ℕ) → 0 < times y ys → 0 < times y (blocksOf s (r .from))
+    was-there y p =
+        let held-there : 0 < held limit hd (s .count) (s .block) (r .from) y = omega (arith, p, rw (oneAt-same (r .from) (r .from) refl, oneAt-other (r .to) (r .from) (λ e. r .apart (sym e))) at (r .ran .passed (r .from) y)) in
+        rw (times-held g (r .from) from-head y (held-data g (r .from) y held-there .0)) held-there
+
+    pub handed-data : (y : ℕ) → 0 < times y ys → DataBlock img y
+    handed-data y p = chain-block img g (r .from) from-head y (was-there y p)
+
+    -- so no block of a chain but 1's and h's did
+    pub handed-apart : (k : ℕ) → Head (s .next) (s .block) k → k ≢ 1 → k ≢ h → (y : ℕ) → 0 < times y (blocksOf s k) → times y ys ≡ 0
+    handed-apart k c k1 kh y p = elim (less? 0 (times y ys)) [
+      | inl q ↦ absurd (omega (arith, was-there y q, chains-apart g k (r .from) c from-head (other (r .from-is)) y p))
+      | inr q ↦ omega arith
+    ]
+      where
+        other : (r .from ≡ 1) ⊎ (r .from ≡ h) → k ≢ r .from
+        other (inl e) q = k1 (q ∙ e)
+        other (inr e) q = kh (q ∙ e)

@@ -1,0 +1,221 @@
+-- The stores of a resize, one after the other, and what they leave of an accepted image.
+use Prim.Native.Nat.{ℕ, zero, suc, _+_, _-_, _/_, _%_, _<_}
+use mathlib.Core.Path.{_≡_, refl, sym, ap, _∙_}
+use mathlib.Core.Logic.{_≢_}
+use mathlib.Core.Bool.{Bool, true, false, cond, not, _&&_}
+use mathlib.Core.List.{List, [], _∷_}
+use native.Mathlib.Omega.{arith}
+use native.Mathlib.Nat.{le-of-eq}
+use lib.Dec.{eqb, ltb}
+use lib.ListN.{length, getD, length-replicate}
+use borrow.Author.Tests.{eqb-false, not-true}
+use Rattle.endian.specs.Bytes.{put32, cleared}
+use Rattle.endian.proofs.Laws.{length-put32, length-cleared}
+use Rattle.disk.specs.Blocks.{blockOf}
+use Rattle.rules.specs.Counting.{sumList, times, gather}
+use Rattle.rules.specs.Anodes.{Anodes, limit, anodesOf, withAnodes}
+use Rattle.rules.specs.Chains.{chainOf, run, blocksOf, blockCount}
+use Rattle.rules.specs.Walk.{Dir, Entered, blocksFor, reachedDirs}
+use Rattle.rules.specs.Accepted.{checkAnswer}
+use Rattle.rules.specs.Lookup.{noDirectory, entriesOf}
+use Rattle.rules.specs.Space.{planned}
+use Rattle.rules.specs.Format.{zeroBlock}
+use Rattle.rules.specs.Changes.{inBlock, withBlocks, resizePlan, zeroTail, withSize, zeroTaken, resizedImage}
+use Rattle.laws.specs.Bags.{list-congr, list-length, gather-sum}
+use Rattle.laws.specs.Heads.{Head}
+use Rattle.laws.specs.Passes.{passes-of}
+use Rattle.laws.specs.Acceptance.{and-both}
+use Rattle.laws.specs.Whole.{dir-heads}
+use Rattle.frames.specs.Kept.{Unheld, Kept, kept-all, kept-both}
+use Rattle.frames.specs.StoredBlocks.{inBlock-kept, blockOf-inBlock, withBlocks-kept}
+use Rattle.frames.specs.StoredAnodes.{AnodesStored, withAnodes-stored, anodesOf-withAnodes}
+use Rattle.frames.specs.DisjointBlocks.{DataBlock, chains-apart, chain-block}
+use Rattle.changes.specs.Image.{WholeImage, headIn, sideIn, accepted-slots, accepted-whole, SameDisk, same-stored, not-one, not-among, same-then, anodes-then}
+use Rattle.changes.specs.Members.{Member, member-each, member-first, member-later, member-times}
+use Rattle.changes.specs.Reached.{DirBlock, EntryFacts, member-reached, block-on, reached-head, dir-block, entry-facts, not-file}
+use Rattle.changes.specs.SingleBlocks.{single-apart}
+use Rattle.changes.specs.ResizePlan.{Resizing, plan-runs, handed-data, handed-apart}
+
+-- a resize of a file of an accepted image, and the steps that were planned
+pub record PlannedResize (img : List ℕ) (e : Entered) (new : ℕ) (t : Anodes) (ys : List ℕ) : Type 0 where
+  pub blocks : ℕ
+  pub anodes : ℕ
+  pub accepted : checkAnswer img blocks anodes ≡ 0
+  -- the directory that has the file
+  pub home : ℕ
+  pub reached : noDirectory img (anodesOf img) home ≡ false
+  pub member : Member e (entriesOf img (anodesOf img) home)
+  pub file : e .dir ≡ false
+  pub plan : resizePlan img (anodesOf img) (e .anode) (blocksFor new) ≡ planned t ys
+
+-- ---- the last block of a file
+
+length-run : (b c : ℕ) → length (run b c) ≡ c
+unfolding run
+length-run b zero = refl
+length-run b (suc c) = ap suc (length-run (suc b) c)
+
+pub length-blocksOf : (s : Anodes) (h : ℕ) → length (blocksOf s h) ≡ blockCount s h
+unfolding blocksOf blockCount
+length-blocksOf s h =
+    let chain = chainOf (s .next) limit h in
+    sym (list-length (gather (λ a. run (s .block a) (s .count a)) chain)) ∙ gather-sum (λ a. run (s .block a) (s .count a)) (λ y. 1) chain
+    ∙ list-congr (λ a. sumList (λ y. 1) (run (s .block a) (s .count a))) (s .count) chain (λ a. list-length (run (s .block a) (s .count a)) ∙ length-run (s .block a) (s .count a))
+
+nth-in : (l : List ℕ) (i : ℕ) → i < length l → Member (getD l i 0) l
+nth-in [] i p = absurd (omega arith)
+nth-in (x ∷ l) zero p = member-first x l
+nth-in (x ∷ l) (suc i) p = member-later (getD l i 0) x l (nth-in l i (omega arith))
+
+-- ---- the image that is left
+
+module _ {img : List ℕ} {e : Entered} {new : ℕ} {t : Anodes} {ys : List ℕ} (p : PlannedResize img e new t ys) where
+  abbrev s : Anodes
+  s = anodesOf img
+
+  abbrev chain : List ℕ
+  chain = blocksOf s (e .anode)
+
+  abbrev dirs : List Dir
+  dirs = reachedDirs img s
+
+  pub w : WholeImage img s (headIn img) (sideIn img) dirs
+  w = accepted-whole img (p .blocks) (p .anodes) (p .accepted)
+
+  pub facts : EntryFacts img (p .home) e
+  facts = entry-facts img (p .blocks) (p .anodes) (p .accepted) (p .home) (p .reached) e (p .member)
+
+  pub not-1 : e .anode ≢ 1
+  not-1 i = omega (arith, i, facts .from-6)
+
+  pub steps : Resizing img s (headIn img) (e .anode) (blocksFor new) t ys
+  steps = plan-runs img (w .good) (e .anode) (facts .head) not-1 (blocksFor new) t ys (p .plan)
+
+  -- ---- its stores, one after the other
+
+  abbrev anodesIn : List ℕ
+  anodesIn = withAnodes img t
+
+  abbrev zeroed : List ℕ
+  zeroed = zeroTaken anodesIn e new ys
+
+  abbrev tailed : List ℕ
+  tailed = zeroTail zeroed s e new
+
+  abbrev j : List ℕ
+  j = withSize tailed (e .place) new
+
+  pub stored : AnodesStored img anodesIn
+  stored = withAnodes-stored img (accepted-slots img (p .blocks) (p .anodes) (p .accepted)) t
+
+  pub taken-kept : Kept (λ y. times y ys ≡ 0) anodesIn zeroed
+  unfolding zeroTaken
+  taken-kept = go (ltb (e .size) new)
+    where
+      go : (c : Bool) → Kept (λ y. times y ys ≡ 0) anodesIn (cond c (withBlocks anodesIn ys zeroBlock) anodesIn)
+      go true = withBlocks-kept anodesIn ys zeroBlock (le-of-eq (sym (length-replicate {A = ℕ} 512 0)))
+      go false = kept-all anodesIn
+
+  -- the old last block is one of the file's
+  pub tail-in : e .size % 512 ≢ 0 → Member (getD chain (e .size / 512) 0) chain
+  unfolding blocksFor
+  tail-in n = nth-in chain (e .size / 512) (omega (arith, length-blocksOf s (e .anode), facts .sized (p .file)))
+
+  pub tail-kept : Kept (λ y. times y chain ≡ 0) zeroed tailed
+  unfolding zeroTail
+  tail-kept = go (ltb (e .size) new && not (eqb (e .size % 512) 0)) refl
+    where
+      last : ℕ
+      last = getD chain (e .size / 512) 0
+
+      clear : List ℕ → List ℕ
+      clear b = cleared b (e .size % 512) (512 - e .size % 512)
+
+      go : (c : Bool) → (ltb (e .size) new && not (eqb (e .size % 512) 0)) ≡ c → Kept (λ y. times y chain ≡ 0) zeroed (cond c (inBlock zeroed last clear) zeroed)
+      go true q =
+          let n = eqb-false (e .size % 512) 0 (not-true (eqb (e .size % 512) 0) (and-both (ltb (e .size) new) (not (eqb (e .size % 512) 0)) q .1)) in
+          let k = inBlock-kept zeroed last clear (length-cleared (blockOf zeroed last) (e .size % 512) (512 - e .size % 512)) in
+          record { length-kept = k .length-kept; block-kept = λ y z. k .block-kept y (λ i. omega (arith, rw i at z, member-times last chain (tail-in n))) }
+      go false q = kept-all zeroed
+
+  abbrev setSize : List ℕ → List ℕ
+  setSize b = put32 b (e .place % 512 + 4) new
+
+  pub size-kept : Kept (λ y. y ≢ e .place / 512) tailed j
+  unfolding withSize
+  size-kept = inBlock-kept tailed (e .place / 512) setSize (length-put32 (blockOf tailed (e .place / 512)) (e .place % 512 + 4) new)
+
+  -- all of them
+  abbrev Left-alone : ℕ → Type 0
+  Left-alone y = (times y ys ≡ 0) × (times y chain ≡ 0)
+
+  zeros-kept : Kept Left-alone anodesIn tailed
+  zeros-kept = kept-both (λ y o. o .0) (λ y o. o .1) taken-kept tail-kept
+
+  stores-kept : Kept (λ y. Left-alone y × (y ≢ e .place / 512)) anodesIn j
+  stores-kept = kept-both (λ y o. o .0) (λ y o. o .1) zeros-kept size-kept
+
+  -- from the image on: what no slot holds and none of the stores names is kept
+  pub left-kept : Kept (λ y. Unheld img y × (Left-alone y × (y ≢ e .place / 512))) img (resizedImage img s e new t ys)
+  unfolding resizedImage
+  left-kept = kept-both (λ y o. o .0) (λ y o. o .1) (stored .kept) stores-kept
+
+  only-data : (y : ℕ) → (DataBlock img y → ⊥) → Left-alone y × (y ≢ e .place / 512)
+  only-data y n = (
+    (not-among ys (handed-data img (w .good) (e .anode) (facts .head) not-1 steps) y n, not-among chain (chain-block img (w .good) (e .anode) (facts .head)) y n),
+    not-one (rw (facts .in-block) (facts .block-facts .is-data)) y n,
+  )
+
+  pub resized-same : SameDisk img (resizedImage img s e new t ys)
+  unfolding resizedImage
+  resized-same = same-then (same-stored (accepted-slots img (p .blocks) (p .anodes) (p .accepted)) stored) stores-kept only-data
+
+  pub resized-anodes : anodesOf (resizedImage img s e new t ys) ≡ t
+  unfolding resizedImage
+  resized-anodes =
+      anodes-then (same-stored (accepted-slots img (p .blocks) (p .anodes) (p .accepted)) stored) stores-kept only-data
+      ∙ anodesOf-withAnodes img (accepted-slots img (p .blocks) (p .anodes) (p .accepted)) t (passes-of (steps .ran .good) .0)
+
+  -- ---- the blocks of the directories
+
+  module _ (d : Dir) (in-tree : Member d dirs) where
+    pub its-head : Head (s .next) (s .block) (d .head)
+    its-head = reached-head img (p .blocks) (p .anodes) (p .accepted) (d .head) (member-reached img s d in-tree)
+
+    pub head-not-1 : d .head ≢ 1
+    head-not-1 = member-each (λ c. Head (s .next) (s .block) (c .head) × (c .head ≢ 1)) d dirs in-tree (dir-heads w) .1
+
+    pub head-not-file : d .head ≢ e .anode
+    head-not-file = not-file img (p .blocks) (p .anodes) (p .accepted) (d .head) (member-reached img s d in-tree) (p .home) e facts (p .file)
+
+    module _ (a : ℕ) (on : Member a (chainOf (s .next) limit (d .head))) where
+      pub its-block : DirBlock img (d .head) a
+      its-block = dir-block img (p .blocks) (p .anodes) (p .accepted) (d .head) (member-reached img s d in-tree) a on
+
+      in-chain : 0 < times (s .block a) (blocksOf s (d .head))
+      in-chain = block-on s (d .head) a on (its-block .one)
+
+      left-alone : Left-alone (s .block a)
+      left-alone = (
+        handed-apart img (w .good) (e .anode) (facts .head) not-1 steps (d .head) its-head head-not-1 head-not-file (s .block a) in-chain,
+        chains-apart (w .good) (d .head) (e .anode) its-head (facts .head) head-not-file (s .block a) in-chain,
+      )
+
+      -- up to the entry's new size it has the bytes that it had
+      before-size : blockOf tailed (s .block a) ≡ blockOf img (s .block a)
+      before-size = zeros-kept .block-kept (s .block a) left-alone ∙ stored .kept .block-kept (s .block a) (its-block .is-data .unheld)
+
+      pub other-block : a ≢ facts .a₀ → blockOf (resizedImage img s e new t ys) (s .block a) ≡ blockOf img (s .block a)
+      unfolding resizedImage
+      other-block n =
+          size-kept .block-kept (s .block a) (λ i. single-apart (w .good) a (its-block .one) (facts .a₀) (facts .block-facts .one) n (i ∙ facts .in-block)) ∙ before-size
+
+      pub this-block : a ≡ facts .a₀ → blockOf (resizedImage img s e new t ys) (s .block a) ≡ put32 (blockOf img (s .block a)) (e .place % 512 + 4) new
+      unfolding resizedImage withSize
+      this-block i =
+          let here : e .place / 512 ≡ s .block a = facts .in-block ∙ ap (s .block) (sym i) in
+          rw (← before-size, ← here) (blockOf-inBlock tailed (e .place / 512) setSize (length-put32 (blockOf tailed (e .place / 512)) (e .place % 512 + 4) new))
+
+  -- the block that has the entry
+  pub home-alone : Left-alone (e .place / 512)
+  home-alone = rw (facts .in-block) (left-alone (facts .block-facts .dir) (facts .block-facts .reached) (facts .a₀) (rw (facts .block-facts .dir-head) (facts .member-chain)))

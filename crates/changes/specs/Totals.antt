@@ -1,0 +1,150 @@
+-- In every accepted image the blocks of all kinds make the disk's size.
+use Prim.Native.Nat.{ℕ, zero, suc, _+_, _%_, _≤_, _<_}
+use mathlib.Core.Path.{_≡_, refl, sym, ap, _∙_}
+use mathlib.Core.Logic.{_≢_, inl, inr}
+use mathlib.Core.Bool.{false, cond, not, _||_}
+use mathlib.Core.List.{List}
+use native.Mathlib.Omega.{arith}
+use lib.Dec.{eqb, ltb}
+use lib.ListN.{length}
+use borrow.Author.Tests.{lt-ltb, le-ltb, eq-eqb, ne-eqb, ltb-false}
+use Rattle.disk.specs.Root.{slotOf}
+use Rattle.rules.specs.Counting.{oneAt, sumBelow, sumList}
+use Rattle.rules.specs.Anodes.{Anodes, limit, anodesOf}
+use Rattle.rules.specs.Chains.{holds, systemOwns, blockCount}
+use Rattle.rules.specs.Walk.{Dir, Item, entriesIn, isBlockOf, itemsBy, itemsOf, reached, reachedDirs}
+use Rattle.rules.specs.Accepted.{diskSize, wrongSize, wrongSlots, checkAnswer}
+use Rattle.rules.specs.Totals.{freeBlocks, fileBlocks, directoryBlocks, chainBlocks, anodeBlocks, totalIn, total}
+use Rattle.counting.specs.Laws.{neither}
+use Rattle.laws.specs.Tests.{same?, less?}
+use Rattle.laws.specs.Sums.{oneAt-same, oneAt-other, sum-congr, sum-zero, sum-add, sum-swap, sum-oneAt}
+use Rattle.laws.specs.Bags.{gather-sum}
+use Rattle.laws.specs.Acceptance.{passed-of}
+use Rattle.laws.specs.Blocks.{blocks, blocks-none}
+use Rattle.laws.specs.Space.{head-1, head-5}
+use Rattle.laws.specs.Items.{giving, below, namedIn, names-sum, below-items}
+use Rattle.laws.specs.Totals.{file-size, filesOf, dirsOf}
+use Rattle.laws.specs.Whole.{blocks-count, named-heads, whole-total}
+use Rattle.frames.specs.Slots.{right-slot}
+use Rattle.changes.specs.Image.{WholeImage, headIn, sideIn, accepted-slots, accepted-whole}
+use Rattle.changes.specs.Members.{Member, member-sum, member-congr}
+
+-- ---- the system's blocks
+
+module _ (img : List ℕ) (right : wrongSlots img ≡ false) where
+  start : (x : ℕ) → systemOwns img x ≡ oneAt 0 x + oneAt 1 x + oneAt 2 x + sumBelow (holds img x) 42
+  unfolding systemOwns oneAt
+  start x = elim (less? x 3) [
+    | inl l ↦ rw (lt-ltb x 3 l) (omega (arith, low x l, sum-zero (holds img x) 42 (λ s q. unheld s l)))
+    | inr l ↦ rw (le-ltb x 3 l, oneAt-other 0 x (λ e. omega (arith, e, l)), oneAt-other 1 x (λ e. omega (arith, e, l)), oneAt-other 2 x (λ e. omega (arith, e, l))) (omega arith)
+  ]
+    where
+      low : (x : ℕ) → x < 3 → oneAt 0 x + oneAt 1 x + oneAt 2 x ≡ 1
+      low zero l = refl
+      low (suc zero) l = refl
+      low (suc (suc zero)) l = refl
+      low (suc (suc (suc x))) l = absurd (omega arith)
+
+      unheld : (s : ℕ) → x < 3 → holds img x s ≡ 0
+      unheld s l = unfold holds in elim (same? (slotOf img s) 0) [
+        | inl z ↦ rw z
+        | inr u ↦ rw (ne-eqb (slotOf img s) 0 u) (oneAt-other (slotOf img s) x (λ e. omega (arith, e, l, right-slot img right s u .above)))
+      ]
+
+  slot-once : (s : ℕ) → sumBelow (λ x. holds img x s) (diskSize img) ≡ cond (eqb (slotOf img s) 0) 0 1
+  unfolding holds
+  slot-once s = elim (same? (slotOf img s) 0) [
+    | inl z ↦ rw z (sum-zero (λ x. 0) (diskSize img) (λ x l. refl))
+    | inr u ↦ rw (ne-eqb (slotOf img s) 0 u) (sum-oneAt (slotOf img s) (diskSize img) (right-slot img right s u .below))
+  ]
+
+  system-blocks : 3 ≤ diskSize img → sumBelow (systemOwns img) (diskSize img) ≡ anodeBlocks img + 3
+  unfolding anodeBlocks
+  system-blocks l =
+      sum-congr (systemOwns img) (λ x. oneAt 0 x + oneAt 1 x + oneAt 2 x + sumBelow (holds img x) 42) (diskSize img) (λ x q. start x)
+      ∙ omega (
+        arith,
+        sum-add (λ x. oneAt 0 x + oneAt 1 x + oneAt 2 x) (λ x. sumBelow (holds img x) 42) (diskSize img),
+        sum-add (λ x. oneAt 0 x + oneAt 1 x) (λ x. oneAt 2 x) (diskSize img),
+        sum-add (λ x. oneAt 0 x) (λ x. oneAt 1 x) (diskSize img),
+        sum-oneAt 0 (diskSize img) (omega arith),
+        sum-oneAt 1 (diskSize img) (omega arith),
+        sum-oneAt 2 (diskSize img) (omega arith),
+        sum-swap (λ x s. holds img x s) (diskSize img) 42,
+        sum-congr (λ s. sumBelow (λ x. holds img x s) (diskSize img)) (λ s. cond (eqb (slotOf img s) 0) 0 1) 42 (λ s q. slot-once s),
+      )
+
+accepted-large : (img : List ℕ) (number anodes : ℕ) → checkAnswer img number anodes ≡ 0 → 3 ≤ diskSize img
+unfolding wrongSize
+accepted-large img number anodes accepted =
+    let size = neither (not (eqb (length img % 512) 0)) (ltb (diskSize img) 5 || ltb 65535 (diskSize img)) (passed-of img number anodes accepted .size-right) in
+    omega (arith, ltb-false (diskSize img) 5 (neither (ltb (diskSize img) 5) (ltb 65535 (diskSize img)) (size .1) .0))
+
+-- ---- the chains
+
+module _ (img : List ℕ) (number anodes : ℕ) (accepted : checkAnswer img number anodes ≡ 0) where
+  abbrev s : Anodes
+  s = anodesOf img
+
+  abbrev dirs : List Dir
+  dirs = reachedDirs img s
+
+  abbrev items : Dir → List Item
+  items = itemsBy (entriesIn img) (isBlockOf img) s
+
+  -- as the table of heads has them
+  abbrev has : ℕ → ℕ
+  has = blocks limit (headIn img) (s .count)
+
+  w : WholeImage img s (headIn img) (sideIn img) dirs
+  w = accepted-whole img number anodes accepted
+
+  -- what an item of a reached directory names is a head
+  item-blocks : (d : Dir) → Member d dirs → (i : Item) → Member i (items d) → has (i .anode) ≡ blockCount s (i .anode)
+  item-blocks d m i n = blocks-count (w .good) (i .anode) (named-heads w (i .anode) (omega (
+    arith,
+    member-sum (namedIn items (i .anode)) d dirs m,
+    names-sum (i .anode) (items d),
+    member-sum (λ j. oneAt (j .anode) (i .anode)) i (items d) n,
+    oneAt-same (i .anode) (i .anode) refl,
+  )) .2)
+
+  files : filesOf items has dirs ≡ fileBlocks img s
+  unfolding filesOf fileBlocks reached itemsOf
+  files =
+      member-congr (λ d. sumList (file-size has) (items d)) (λ d. sumList (file-size (blockCount s)) (items d)) dirs
+      (λ d m. member-congr (file-size has) (file-size (blockCount s)) (items d) (λ i n. ap (λ (k : ℕ). cond (i .dir) 0 k) (item-blocks d m i n)))
+      ∙ sym (gather-sum items (file-size (blockCount s)) dirs)
+
+  directories : dirsOf has dirs ≡ directoryBlocks img s
+  unfolding dirsOf directoryBlocks reached itemsOf
+  directories = omega (
+    arith,
+    w .tree .exact (λ d. has (d .head)),
+    blocks-count (w .good) 5 (head-5 (w .good)),
+    member-congr (below items (λ d. has (d .head))) (λ d. sumList (λ i. cond (i .dir) (blockCount s (i .anode)) 0) (items d)) dirs
+        (λ d m. below-items items (λ e. has (e .head)) d
+        ∙ member-congr (giving (λ e. has (e .head)) (d .head)) (λ i. cond (i .dir) (blockCount s (i .anode)) 0) (items d) (λ i n. ap (λ (k : ℕ). cond (i .dir) k 0) (item-blocks d m i n))),
+    gather-sum items (λ i. cond (i .dir) (blockCount s (i .anode)) 0) dirs,
+  )
+
+  -- a chain of the system's that may be free
+  maybe : (h : ℕ) → h ≢ 0 → ((p : ℕ) → s .next p ≢ h) → has h ≡ chainBlocks s h
+  unfolding chainBlocks
+  maybe h h0 first = elim (same? (s .block h) 0) [
+    | inl z ↦ rw (eq-eqb (s .block h) 0 z) (blocks-none (w .good .view) (w .good .linked) (headIn img) (w .good .heads) (s .count) (w .good .free-none) (w .good .count-0) h (λ d. d .in-use z))
+    | inr u ↦ rw (ne-eqb (s .block h) 0 u) (blocks-count (w .good) h (record { pos = h0; in-use = u; no-pred = first }))
+  ]
+
+  pub accepted-total : total img ≡ diskSize img
+  unfolding total totalIn freeBlocks
+  accepted-total = omega (
+    arith,
+    whole-total w,
+    system-blocks img (accepted-slots img number anodes accepted) (accepted-large img number anodes accepted),
+    blocks-count (w .good) 1 (head-1 (w .good)),
+    files,
+    directories,
+    maybe 3 (omega arith) (w .good .first-3),
+    maybe 4 (omega arith) (w .good .first-4),
+  )

@@ -1,0 +1,127 @@
+-- A write into a file of an accepted image: the image is accepted again, its directories and other files are the same, and the file has the bytes.
+use Prim.Native.Nat.{ℕ, _+_, _-_, _≤_, _<_}
+use mathlib.Core.Path.{_≡_, sym, ap, _∙_}
+use mathlib.Core.Logic.{_≢_, inl, inr}
+use mathlib.Core.Bool.{false}
+use mathlib.Core.List.{List, [], _∷_}
+use native.Mathlib.Omega.{arith}
+use lib.ListN.{length, getD, take, length-take}
+use lib.Seq.{getD-take, ext-getD}
+use Rattle.endian.specs.Bytes.{stored}
+use Rattle.endian.proofs.Laws.{length-stored, getD-stored-before, getD-stored-in, getD-stored-after}
+use Rattle.rules.specs.Counting.{times}
+use Rattle.rules.specs.Anodes.{Anodes, limit, exists, anodesOf}
+use Rattle.rules.specs.Chains.{chainOf, systemOwns, blocksOf}
+use Rattle.rules.specs.Walk.{Dir, root, Entered, entriesIn, isBlockOf, itemsAt, itemsBy, itemsOf, done, walk, walkOf, dirsIn, reachedDirs}
+use Rattle.rules.specs.Accepted.{diskSize, lastReserved, checkAnswer}
+use Rattle.rules.specs.Lookup.{noDirectory, entriesOf, bytesOf, contents}
+use Rattle.rules.specs.Changes.{written}
+use Rattle.laws.specs.Tests.{less?}
+use Rattle.laws.specs.Whole.{Whole}
+use Rattle.frames.specs.Kept.{Kept, entriesIn-kept, isBlockOf-kept}
+use Rattle.frames.specs.DisjointBlocks.{DataBlock, chains-apart, chain-block}
+use Rattle.frames.specs.StoredBytes.{written-kept, bytesOf-written, bytesOf-written-other}
+use Rattle.changes.specs.Image.{WholeImage, headIn, sideIn, accepted-whole, accepted-walk, SameDisk, same-own, not-among, same-then, anodes-then, whole-accepted}
+use Rattle.changes.specs.SameItems.{whole-same, walk-same}
+use Rattle.changes.specs.Members.{Member, gather-congr}
+use Rattle.changes.specs.EntryBytes.{entryBytes}
+use Rattle.changes.specs.Reached.{EntryFacts, member-reached, block-on, reached-head, dir-block, entry-facts, not-file}
+
+-- ---- the file's bytes
+
+take-stored : (n : ℕ) (l : List ℕ) (at : ℕ) (bytes : List ℕ) → at + length bytes ≤ n → take n (stored l at bytes) ≡ stored (take n l) at bytes
+take-stored n l at bytes within =
+    ext-getD 0 (take n (stored l at bytes)) (stored (take n l) at bytes) long (λ i m. each i (omega (arith, m, length-take n (stored l at bytes))) (omega (arith, m, length-take n (stored l at bytes), length-stored l at bytes)))
+  where
+    long : length (take n (stored l at bytes)) ≡ length (stored (take n l) at bytes)
+    long = omega (arith, length-take n (stored l at bytes), length-stored l at bytes, length-stored (take n l) at bytes, length-take n l)
+
+    each : (i : ℕ) → i < n → i < length l → getD (take n (stored l at bytes)) i 0 ≡ getD (stored (take n l) at bytes) i 0
+    each i m q =
+        getD-take n (stored l at bytes) i 0 m ∙ elim (less? i at) [
+          | inl b ↦ getD-stored-before l at bytes i b ∙ sym (getD-stored-before (take n l) at bytes i b ∙ getD-take n l i 0 m)
+          | inr b ↦ elim (less? i (at + length bytes)) [
+            | inl c ↦ getD-stored-in l at bytes i (i - at) (omega arith) (omega arith) q
+                ∙ sym (getD-stored-in (take n l) at bytes i (i - at) (omega arith) (omega arith) (omega (arith, length-take n l)))
+            | inr c ↦ getD-stored-after l at bytes i c ∙ sym (getD-stored-after (take n l) at bytes i c ∙ getD-take n l i 0 m)
+          ]
+        ]
+
+-- ---- the image after the write
+
+module _ (img : List ℕ) (blocks anodes : ℕ) (accepted : checkAnswer img blocks anodes ≡ 0) (h : ℕ) (reached : noDirectory img (anodesOf img) h ≡ false)
+    (e : Entered) (member : Member e (entriesOf img (anodesOf img) h)) (file : e .dir ≡ false) (offset : ℕ) (bytes : List ℕ) where
+  abbrev s : Anodes
+  s = anodesOf img
+
+  abbrev j : List ℕ
+  j = written img s e offset bytes
+
+  w : WholeImage img s (headIn img) (sideIn img) (reachedDirs img s)
+  w = accepted-whole img blocks anodes accepted
+
+  facts : EntryFacts img h e
+  facts = entry-facts img blocks anodes accepted h reached e member
+
+  kept : Kept (λ y. times y (blocksOf s (e .anode)) ≡ 0) img j
+  kept = written-kept img (w .good) e (facts .head) offset bytes
+
+  only-data : (y : ℕ) → 0 < times y (blocksOf s (e .anode)) → DataBlock img y
+  only-data = chain-block img (w .good) (e .anode) (facts .head)
+
+  pub written-same : SameDisk img j
+  written-same = same-then (same-own img) kept (not-among (blocksOf s (e .anode)) only-data)
+
+  pub written-anodes : anodesOf j ≡ s
+  written-anodes = anodes-then (same-own img) kept (not-among (blocksOf s (e .anode)) only-data)
+
+  -- no block of a reached directory is written
+  dir-kept : (k : ℕ) → noDirectory img s k ≡ false → (a : ℕ) → Member a (chainOf (s .next) limit k) → times (s .block a) (blocksOf s (e .anode)) ≡ 0
+  dir-kept k r a on =
+      chains-apart (w .good) k (e .anode) (reached-head img blocks anodes accepted k r) (facts .head) (not-file img blocks anodes accepted k r h e facts file) (s .block a)
+      (block-on s k a on (dir-block img blocks anodes accepted k r a on .one))
+
+  pub written-entries : (k : ℕ) → noDirectory img s k ≡ false → entriesOf j s k ≡ entriesOf img s k
+  unfolding entriesOf
+  written-entries k r =
+      gather-congr (λ a. entriesIn j (s .block a)) (λ a. entriesIn img (s .block a)) (chainOf (s .next) limit k) (λ a on. entriesIn-kept kept (s .block a) (dir-kept k r a on))
+
+  -- the bytes of their entries too
+  pub written-bytes : (k : ℕ) → noDirectory img s k ≡ false → (f : Entered) → Member f (entriesOf img s k) → entryBytes j (f .place) ≡ entryBytes img (f .place)
+  unfolding entryBytes
+  written-bytes k r f m =
+      let g = entry-facts img blocks anodes accepted k r f m in
+      rw (g .in-block, kept .block-kept (s .block (g .a₀)) (dir-kept k r (g .a₀) (g .member-chain)))
+
+  same-items : (d : Dir) → Member d (reachedDirs img s) → itemsBy (entriesIn j) (isBlockOf j) s d ≡ itemsBy (entriesIn img) (isBlockOf img) s d
+  unfolding itemsBy itemsAt
+  same-items d m =
+      gather-congr (itemsAt (entriesIn j) (isBlockOf j) s d) (itemsAt (entriesIn img) (isBlockOf img) s d) (chainOf (s .next) limit (d .head)) (λ a on.
+      let o = dir-kept (d .head) (member-reached img s d m) a on in
+      rw (entriesIn-kept kept (s .block a) o, isBlockOf-kept kept d (s .block a) o))
+
+  same-walk : walk (itemsBy (entriesIn j) (isBlockOf j) s) limit (root ∷ []) [] ≡ done (reachedDirs img s)
+  unfolding walkOf itemsOf
+  same-walk = walk-same (itemsBy (entriesIn img) (isBlockOf img) s) (itemsBy (entriesIn j) (isBlockOf j) s) limit (root ∷ []) [] (reachedDirs img s)
+      (accepted-walk img blocks anodes accepted) same-items
+
+  pub written-dirs : reachedDirs j s ≡ reachedDirs img s
+  unfolding reachedDirs walkOf itemsOf
+  written-dirs = ap dirsIn same-walk
+
+  still-whole : Whole (exists img) (diskSize img) (lastReserved img) s (systemOwns img) (headIn img) (sideIn img) (entriesIn j) (isBlockOf j) (reachedDirs img s)
+  still-whole = whole-same w (entriesIn j) (isBlockOf j) same-items
+
+  pub write-accepted : checkAnswer j blocks anodes ≡ 0
+  write-accepted = whole-accepted img j blocks anodes accepted written-same {hd = headIn img} {sd = sideIn img} {dirs = reachedDirs img s} (rw written-anodes still-whole)
+
+  -- ---- what the files hold
+
+  pub contents-written : offset + length bytes ≤ e .size → contents j s e ≡ stored (contents img s e) offset bytes
+  unfolding contents
+  contents-written l = rw (bytesOf-written img (w .good) e (facts .head) offset bytes) (take-stored (e .size) (bytesOf img s (e .anode)) offset bytes l)
+
+  pub contents-written-other : (k : ℕ) → noDirectory img s k ≡ false → (f : Entered) → Member f (entriesOf img s k) → f .anode ≢ e .anode → contents j s f ≡ contents img s f
+  unfolding contents
+  contents-written-other k r f m o =
+      ap (take (f .size)) (bytesOf-written-other img (w .good) e (facts .head) offset bytes (f .anode) (entry-facts img blocks anodes accepted k r f m .head) o)

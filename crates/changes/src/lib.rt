@@ -1,0 +1,1 @@
+// Theorems about the changes on an accepted image; they stand in specs/.

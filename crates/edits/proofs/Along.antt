@@ -1,0 +1,122 @@
+-- The blocks along a chain, from an anode on: the i-th of them, and the first with room for an entry. Assumes nothing.
+use Prim.Native.Nat.{ℕ, zero, suc, _+_, _-_, _*_, _<_, _≤_}
+use mathlib.Core.Path.{_≡_, refl, sym, ap, _∙_}
+use mathlib.Core.List.{List, [], _∷_, _++_, map}
+use mathlib.Core.Option.{none, some}
+use native.Mathlib.Numerals.{add-one}
+use native.Mathlib.Omega.{arith}
+use lib.ListN.{getD}
+use borrow.Author.Tests.{le-leb, lt-leb, eq-eqb, ne-eqb}
+use Rattle.disk.specs.Blocks.{blockOf}
+use Rattle.rules.specs.Counting.{times, gather}
+use Rattle.rules.specs.Chains.{chainOf, run, blocksOf}
+use Rattle.rules.specs.Changes.{endFrom, entriesEnd, firstRoom}
+use Rattle.laws.specs.Sums.{oneAt-same}
+use Rattle.laws.specs.Bags.{times-cons}
+use Rattle.anodes.specs.Loaded.{anodesFrom}
+
+-- ---- the blocks of at most k anodes from a on
+
+unfoldable pub blocksAlong : List ℕ → List ℕ → List ℕ → ℕ → ℕ → List ℕ
+blocksAlong counts firsts nexts k a = gather (λ x. run (getD firsts x 0) (getD counts x 0)) (chainOf (λ x. getD nexts x 0) k a)
+
+blocks-step : (counts firsts nexts : List ℕ) (k m a : ℕ) → k ≡ m + 1 → (a ≡ 0 → ⊥)
+    → blocksAlong counts firsts nexts k a ≡ run (getD firsts a 0) (getD counts a 0) ++ blocksAlong counts firsts nexts m (getD nexts a 0)
+unfolding blocksAlong chainOf gather
+blocks-step counts firsts nexts k m zero fuel n = absurd (n refl)
+blocks-step counts firsts nexts k m (suc a) fuel n = rw (fuel, add-one m)
+
+-- ---- the i-th block
+
+run-at : (b c i : ℕ) (rest : List ℕ) → i < c → getD (run b c ++ rest) i 0 ≡ b + i
+unfolding run
+run-at b zero i rest h = absurd (omega arith)
+run-at b (suc c) zero rest h = omega arith
+run-at b (suc c) (suc i) rest h = run-at (suc b) c i rest (omega arith) ∙ omega arith
+
+run-past : (b c i : ℕ) (rest : List ℕ) → c ≤ i → getD (run b c ++ rest) i 0 ≡ getD rest (i - c) 0
+unfolding run
+run-past b zero i rest h = ap (λ (j : ℕ). getD rest j 0) (omega arith)
+run-past b (suc c) zero rest h = absurd (omega arith)
+run-past b (suc c) (suc i) rest h = run-past (suc b) c i rest (omega arith) ∙ ap (λ (j : ℕ). getD rest j 0) (omega arith)
+
+module _ (counts firsts nexts : List ℕ) (i : ℕ) where
+  pub nth-whole : (h : ℕ) → getD (blocksAlong counts firsts nexts 3444 h) i 0 ≡ getD (blocksOf (anodesFrom counts firsts nexts) h) i 0
+  unfolding blocksOf anodesFrom blocksAlong
+  nth-whole h = refl
+
+  pub nth-none : (k a : ℕ) → k ≡ 0 → 0 ≡ getD (blocksAlong counts firsts nexts k a) i 0
+  unfolding blocksAlong chainOf gather
+  nth-none k a e = rw e
+
+  pub nth-end : (k m a : ℕ) → k ≡ m + 1 → a ≡ 0 → 0 ≡ getD (blocksAlong counts firsts nexts k a) i 0
+  unfolding blocksAlong chainOf gather
+  nth-end k m a fuel z = rw (fuel, add-one m, z)
+
+module _ (counts firsts nexts : List ℕ) (k m a : ℕ) (fuel : k ≡ m + 1) (some-anode : a ≡ 0 → ⊥) (i : ℕ) where
+  pub nth-here : i < getD counts a 0 → getD (blocksAlong counts firsts nexts k a) i 0 ≡ getD firsts a 0 + i
+  nth-here h = rw (blocks-step counts firsts nexts k m a fuel some-anode) (run-at (getD firsts a 0) (getD counts a 0) i (blocksAlong counts firsts nexts m (getD nexts a 0)) h)
+
+  pub nth-later : getD counts a 0 ≤ i → getD (blocksAlong counts firsts nexts k a) i 0 ≡ getD (blocksAlong counts firsts nexts m (getD nexts a 0)) (i - getD counts a 0) 0
+  nth-later h = rw (blocks-step counts firsts nexts k m a fuel some-anode) (run-past (getD firsts a 0) (getD counts a 0) i (blocksAlong counts firsts nexts m (getD nexts a 0)) h)
+
+-- ---- the end mark, from a place on
+
+module _ (b : List ℕ) where
+  pub end-none : (k at : ℕ) → k ≡ 0 → endFrom k b at ≡ at
+  unfolding endFrom
+  end-none k at e = rw e
+
+  pub end-here : (k m at : ℕ) → k ≡ m + 1 → getD b at 0 ≡ 0 → endFrom k b at ≡ at
+  unfolding endFrom
+  end-here k m at fuel z = rw (fuel, add-one m, eq-eqb (getD b at 0) 0 z)
+
+  pub end-later : (k m at : ℕ) → k ≡ m + 1 → (getD b at 0 ≡ 0 → ⊥) → endFrom k b at ≡ endFrom m b (at + getD b at 0)
+  unfolding endFrom
+  end-later k m at fuel n = rw (fuel, add-one m, ne-eqb (getD b at 0) 0 n)
+
+  pub end-whole : entriesEnd b ≡ endFrom 28 b 16
+  unfolding entriesEnd
+  end-whole = refl
+
+-- ---- the first block with room
+
+module _ (img : List ℕ) (len y : ℕ) (ys : List ℕ) where
+  pub room-here : entriesEnd (blockOf img y) + len ≤ 510 → firstRoom img len (y ∷ ys) ≡ some (y * 512 + entriesEnd (blockOf img y))
+  unfolding firstRoom
+  room-here h = rw (le-leb (entriesEnd (blockOf img y) + len) 510 h, firstRoom)
+
+  pub room-later : 510 < entriesEnd (blockOf img y) + len → firstRoom img len (y ∷ ys) ≡ firstRoom img len ys
+  unfolding firstRoom
+  room-later h = rw (lt-leb (entriesEnd (blockOf img y) + len) 510 h, firstRoom)
+
+-- the first blocks of at most k anodes from a on
+unfoldable pub firstsAlong : List ℕ → List ℕ → ℕ → ℕ → List ℕ
+firstsAlong firsts nexts k a = map (λ x. getD firsts x 0) (chainOf (λ x. getD nexts x 0) k a)
+
+-- of anodes with count 1 they are all blocks
+single-blocks : (block count : ℕ → ℕ) (l : List ℕ) → ((a : ℕ) → 0 < times a l → count a ≡ 1) → gather (λ a. run (block a) (count a)) l ≡ map block l
+unfolding gather run
+single-blocks block count [] one = refl
+single-blocks block count (x ∷ l) one =
+    rw (one x (omega (arith, times-cons x x l, oneAt-same x x refl)), single-blocks block count l (λ a p. one a (omega (arith, p, times-cons a x l))))
+
+module _ (img : List ℕ) (len : ℕ) (firsts nexts : List ℕ) where
+  pub room-none : (k a : ℕ) → k ≡ 0 → none ≡ firstRoom img len (firstsAlong firsts nexts k a)
+  unfolding firstsAlong chainOf firstRoom
+  room-none k a e = rw e
+
+  pub room-end : (k m a : ℕ) → k ≡ m + 1 → a ≡ 0 → none ≡ firstRoom img len (firstsAlong firsts nexts k a)
+  unfolding firstsAlong chainOf firstRoom
+  room-end k m a fuel z = rw (fuel, add-one m, z)
+
+  pub room-step : (k m a y : ℕ) → k ≡ m + 1 → (a ≡ 0 → ⊥) → y ≡ getD firsts a 0
+      → firstRoom img len (y ∷ firstsAlong firsts nexts m (getD nexts a 0)) ≡ firstRoom img len (firstsAlong firsts nexts k a)
+  unfolding firstsAlong chainOf
+  room-step k m zero y fuel n is = absurd (n refl)
+  room-step k m (suc a) y fuel n is = rw (fuel, add-one m, is)
+
+  pub room-whole : (counts : List ℕ) (h : ℕ) → ((a : ℕ) → 0 < times a (chainOf (λ x. getD nexts x 0) 3444 h) → getD counts a 0 ≡ 1)
+      → firstRoom img len (firstsAlong firsts nexts 3444 h) ≡ firstRoom img len (blocksOf (anodesFrom counts firsts nexts) h)
+  unfolding blocksOf anodesFrom firstsAlong
+  room-whole counts h one = ap (firstRoom img len) (sym (single-blocks (λ x. getD firsts x 0) (λ x. getD counts x 0) (chainOf (λ x. getD nexts x 0) 3444 h) one))

@@ -1,0 +1,50 @@
+use mathlib.Core.Path.{sym, _∙_}
+use Rattle.edits.proofs.Blocks.{withBlock-none, withBlock-back, withBlocks-one}
+use borrow.Author.Needs.{needs}
+use Rattle.edits.proofs.head_block.Statement.{statement}
+use Rattle.edits.proofs.head_block.Tie as tie
+
+cast-from : tie.Need-cast-from
+cast-from c = search needs
+
+mul-from : tie.Need-mul-from
+mul-from c = search needs
+
+block-end-requires : tie.Need-block-end-requires
+block-end-requires c κs = search needs
+
+returns : tie.Need-returns
+returns c = withBlock-none _ _ _ (c .before .block-end .ensures) _ (c .if1 .taken) ∙ sym (withBlocks-one _ _ _)
+
+sub-put-new-head : tie.Need-sub-put-new-head
+sub-put-new-head c = search needs
+
+part-put-new-head-start : tie.Need-part-put-new-head-start
+part-put-new-head-start c = search needs
+
+part-put-new-head-end : tie.Need-part-put-new-head-end
+part-put-new-head-end c = search needs
+
+put-new-head-requires : tie.Need-put-new-head-requires
+put-new-head-requires c κs = search needs
+
+same-length : tie.Need-same-length
+same-length c = search needs
+
+returns-2 : tie.Need-returns-2
+returns-2 c = withBlock-back _ _ _ (c .before .before .before .before .before .block-end .ensures) (c .before .before .before .before .if1 .left) _ (c .before .before .put-new-head .kept .0) _ (c .before .before .put-new-head .ensures) ∙ sym (withBlocks-one _ _ _)
+
+pub head-block-spec : {M : Type 1} → statement M
+head-block-spec =
+    tie.close
+    (tie.spec
+    cast-from
+    mul-from
+    block-end-requires
+    returns
+    sub-put-new-head
+    part-put-new-head-start
+    part-put-new-head-end
+    put-new-head-requires
+    same-length
+    returns-2)

@@ -1,0 +1,27 @@
+-- The entry that a caller asks for, where a directory has room for it, and a block on the way to one entry less.
+use Prim.Native.Nat.{ℕ, _+_}
+use mathlib.Core.List.{List, _++_}
+use mathlib.Core.Option.{Option, none, some}
+use lib.ListN.{take, drop}
+use Rattle.directory.specs.declared.Kind.{Kind}
+use Rattle.rules.specs.Walk.{isDir}
+use Rattle.rules.specs.Changes.{NewEntry}
+use Rattle.edits.specs.declared.Room.{Room}
+use Rattle.edits.specs.declared.Room.the-variants.{At, Nowhere}
+
+abbrev pub newEntry : Kind → List ℕ → List ℕ → ℕ → ℕ → ℕ → ℕ → NewEntry
+newEntry kind name comment day minute tick protection =
+    record { dir = isDir kind; name = name; comment = comment; day = day; minute = minute; tick = tick; protection = protection }
+
+abbrev pub roomOf : Room → Option ℕ
+roomOf (At place) = some place
+roomOf Nowhere = none
+
+-- the room that was found, or what the blocks behind have
+abbrev pub orRest : Room → Option ℕ → Option ℕ
+orRest (At place) rest = some place
+orRest Nowhere rest = rest
+
+-- the first k bytes from at + len on, moved to at
+unfoldable pub movedDown : List ℕ → ℕ → ℕ → ℕ → List ℕ
+movedDown b at len k = take at b ++ take k (drop (at + len) b) ++ drop (at + k) b

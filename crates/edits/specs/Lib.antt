@@ -1,0 +1,2 @@
+-- What the contracts of the writers cite.
+pub mod Entries

@@ -1,0 +1,336 @@
+// What a change writes into the image, and the block table after it.
+ghost use mathlib.Core.Bool.{_&&_, true};
+ghost use mathlib.Core.List.{List, [], _∷_};
+ghost use mathlib.Core.Path.{_≡_};
+ghost use Prim.Native.Nat.{ℕ, _+_, _*_, _/_, _%_, _<_, _≤_, min};
+ghost use lib.Dec.{eqb};
+ghost use lib.ListN.{length, getD, take};
+ghost use Rattle.disk.specs.AnodeBlocks.{anodeMade};
+ghost use Rattle.disk.specs.Blocks.{blockOf};
+ghost use Rattle.directory.specs.Entries.{goodName, goodComment, putEntry};
+ghost use Rattle.rules.specs.Counting.{times};
+ghost use Rattle.rules.specs.Anodes.{anodesOf, withAnodes};
+ghost use Rattle.rules.specs.Chains.{chainOf, blocksOf};
+ghost use Rattle.rules.specs.Walk.{Entered};
+ghost use Rattle.rules.specs.Format.{zeroBlock};
+ghost use Rattle.rules.specs.Changes.{inBlock, withBlocks, zeroTail, withSize, entriesEnd, firstRoom, newDirectoryBlock, entryOf, gapClosed, withoutEntry};
+ghost use Rattle.laws.specs.OwnerTable.{setAll};
+ghost use Rattle.anodes.specs.Loaded.{anodesFrom};
+ghost use Rattle.edits.specs.Entries.{newEntry, roomOf, orRest, movedDown};
+use directory::DirectoryHead;
+use directory::Entry;
+use directory::Kind;
+use directory::put_directory_head;
+use directory::put_entry;
+use disk::Anode;
+use disk::AnodeNo;
+use disk::BlockNo;
+use disk::block_part;
+use disk::set_anode;
+use endian::clear;
+use endian::read8;
+use endian::write32;
+use tables::entry;
+use tables::set_entry;
+
+// A place for a new entry, or none.
+pub enum Room {
+    At(usize),
+    Nowhere,
+}
+
+// Anode `a` of three tables.
+fn anode_from(counts: &[u16], firsts: &[u16], nexts: &[u16], a: usize) -> Anode
+    ensures { λ r. ⌜ r ≡ anodeMade (getD (now (counts .entry)) a 0) (getD (now (firsts .entry)) a 0) (getD (now (nexts .entry)) a 0) ⌝ }
+{
+    Anode {
+        count: entry(counts, a),
+        block: BlockNo(entry(firsts, a)),
+        next: AnodeNo(entry(nexts, a)),
+    }
+}
+
+// Whether two anodes have the same fields.
+fn same_anode(x: Anode, y: Anode) -> bool
+    ensures { λ r. ⌜ r ≡ (eqb (x .count) (y .count) && (eqb (x .block .0) (y .block .0) && eqb (x .next .0) (y .next .0))) ⌝ }
+{
+    if x.count != y.count {
+        return false;
+    }
+    if x.block.0 != y.block.0 {
+        return false;
+    }
+    x.next.0 == y.next.0
+}
+
+// Stores every anode that has other fields than before.
+pub fn store_anodes(
+    image: &mut [u8],
+    counts: &[u16],
+    firsts: &[u16],
+    nexts: &[u16],
+    new_counts: &[u16],
+    new_firsts: &[u16],
+    new_nexts: &[u16],
+)
+    requires { ⌜ anodesFrom (now counts) (now firsts) (now nexts) ≡ anodesOf (now image) ⌝ }
+    ensures { λ _. ⌜ now (image .exit) ≡ withAnodes (now (image .entry)) (anodesFrom (now («new_counts» .entry)) (now («new_firsts» .entry)) (now («new_nexts» .entry))) ⌝ }
+{
+    for a in 0..3444 {
+        let old = anode_from(counts, firsts, nexts, a as usize);
+        let new = anode_from(new_counts, new_firsts, new_nexts, a as usize);
+        if !same_anode(old, new) {
+            set_anode(image, AnodeNo(a), new);
+        }
+    }
+}
+
+// Zeroes the first `n` blocks of the list.
+pub fn zero_blocks(image: &mut [u8], moved: &[u16], n: usize)
+    requires { ⌜ n ≤ length (now moved) ⌝ }
+    ensures { λ _. ⌜ now (image .exit) ≡ withBlocks (now (image .entry)) (take n (now (moved .entry))) zeroBlock ⌝ }
+{
+    let mut i = 0;
+    while i < n {
+        clear(image, (moved[i] as usize) * 512, 512);
+        i += 1;
+    }
+}
+
+// The end of the block that starts at `from`: 512 bytes on, or the end of an image of `len` bytes before that.
+fn block_end(len: usize, from: usize) -> usize
+    ensures { λ r. ⌜ r ≡ min (from + 512) len ⌝ }
+{
+    if len <= from {
+        return len;
+    }
+    if len - from < 512 {
+        return len;
+    }
+    from + 512
+}
+
+// Zeroes a block and stores the head of a directory block in it.
+fn put_new_head(block: &mut [u8], owner: AnodeNo, parent: AnodeNo)
+    requires { ⌜ length (now block) ≤ 512 ⌝ }
+    ensures { λ _. ⌜ now (block .exit) ≡ take (length (now (block .entry))) (newDirectoryBlock (owner .0) (parent .0)) ⌝ }
+{
+    clear(block, 0, 512);
+    put_directory_head(
+        block,
+        DirectoryHead {
+            mark: 0x4442,
+            owner,
+            parent,
+        },
+    );
+}
+
+// Makes block `b` a directory's new block.
+pub fn head_block(image: &mut [u8], b: BlockNo, owner: AnodeNo, parent: AnodeNo)
+    ensures { λ _. ⌜ now (image .exit) ≡ withBlocks (now (image .entry)) (b .0 ∷ []) (newDirectoryBlock (owner .0) (parent .0)) ⌝ }
+{
+    let from = (b.0 as usize) * 512;
+    let end = block_end(image.len(), from);
+    if end <= from {
+        return;
+    }
+    put_new_head(&mut image[from..end], owner, parent);
+}
+
+// Block `i`, from 0, of the chain that `head` heads; 0 where the chain ends before it.
+fn nth_block(counts: &[u16], firsts: &[u16], nexts: &[u16], head: AnodeNo, i: u64) -> u16
+    requires { ⌜ ((a : ℕ) → 0 < getD (now counts) a 0 → getD (now firsts) a 0 + getD (now counts) a 0 ≤ 65535) ⌝ }
+    ensures { λ r. ⌜ r ≡ getD (blocksOf (anodesFrom (now (counts .entry)) (now (firsts .entry)) (now (nexts .entry))) (head .0)) i 0 ⌝ }
+{
+    let mut left = i;
+    let mut at = head.0 as usize;
+    let mut fuel: usize = 3444;
+    while fuel > 0 {
+        if at == 0 {
+            return 0;
+        }
+        let count = entry(counts, at);
+        if left < count as u64 {
+            return entry(firsts, at) + (left as u16);
+        }
+        left -= count as u64;
+        at = entry(nexts, at) as usize;
+        fuel -= 1;
+    }
+    0
+}
+
+// Zeroes the old last block of a growing file from its size on.
+pub fn zero_tail(
+    image: &mut [u8],
+    counts: &[u16],
+    firsts: &[u16],
+    nexts: &[u16],
+    head: AnodeNo,
+    size: u32,
+    new: u64,
+)
+    requires { ⌜ ((a : ℕ) → 0 < getD (now counts) a 0 → getD (now firsts) a 0 + getD (now counts) a 0 ≤ 65535) ⌝ }
+    ensures { λ _. ⌜ ((e : Entered) → e .anode ≡ head .0 → e .size ≡ size → now (image .exit) ≡ zeroTail (now (image .entry)) (anodesFrom (now (counts .entry)) (now (firsts .entry)) (now (nexts .entry))) e new) ⌝ }
+{
+    let at = (size % 512) as usize;
+    if new <= size as u64 {
+        return;
+    }
+    if at == 0 {
+        return;
+    }
+    let b = nth_block(counts, firsts, nexts, head, (size / 512) as u64);
+    let from = (b as usize) * 512;
+    let end = block_end(image.len(), from);
+    if end <= from {
+        return;
+    }
+    clear(&mut image[from..end], at, 512 - at);
+}
+
+// Stores the size of the entry at a place of the image.
+pub fn put_size(image: &mut [u8], place: usize, size: u32)
+    ensures { λ _. ⌜ now (image .exit) ≡ withSize (now (image .entry)) place size ⌝ }
+{
+    let from = place / 512 * 512;
+    let end = block_end(image.len(), from);
+    if end <= from {
+        return;
+    }
+    write32(&mut image[from..end], place % 512 + 4, size);
+}
+
+// Stores a new entry at a place of the image.
+pub fn put_new_entry(
+    image: &mut [u8],
+    place: usize,
+    kind: Kind,
+    anode: AnodeNo,
+    name: &[u8],
+    comment: &[u8],
+    day: u16,
+    minute: u16,
+    tick: u16,
+    protection: u8,
+)
+    requires { ⌜ (goodName (now name) ≡ true) × (goodComment (now comment) ≡ true) ⌝ }
+    ensures { λ _. ⌜ now (image .exit) ≡ inBlock (now (image .entry)) (place / 512) (λ (b : List ℕ). putEntry b (place % 512) (entryOf (newEntry kind (now (name .entry)) (now (comment .entry)) day minute tick protection) (anode .0)) (now (name .entry)) (now (comment .entry))) ⌝ }
+{
+    let from = place / 512 * 512;
+    let end = block_end(image.len(), from);
+    if end <= from {
+        return;
+    }
+    let e = Entry {
+        kind,
+        anode,
+        size: 0,
+        day,
+        minute,
+        tick,
+        protection,
+        name: name.len() as u8,
+        comment: comment.len() as u8,
+    };
+    put_entry(&mut image[from..end], place % 512, e, name, comment);
+}
+
+// The end mark's place in a directory block.
+pub fn entries_end(block: &[u8]) -> usize
+    ensures { λ r. ⌜ r ≡ entriesEnd (now (block .entry)) ⌝ }
+{
+    let mut at: usize = 16;
+    let mut fuel: usize = 28;
+    while fuel > 0 {
+        let len = read8(block, at);
+        if len == 0 {
+            return at;
+        }
+        at += len as usize;
+        fuel -= 1;
+    }
+    at
+}
+
+// The place for an entry of `len` bytes in block `b`, where it has room for it and the end mark.
+fn room_in(image: &[u8], b: BlockNo, len: usize) -> Room
+    ensures { λ r. ⌜ ((ys : List ℕ) → orRest r (firstRoom (now (image .entry)) len ys) ≡ firstRoom (now (image .entry)) len (b .0 ∷ ys)) ⌝ }
+{
+    let end = entries_end(block_part(image, b));
+    if 510 < end {
+        return Room::Nowhere;
+    }
+    if 510 - end < len {
+        return Room::Nowhere;
+    }
+    Room::At((b.0 as usize) * 512 + end)
+}
+
+// The place for an entry of `len` bytes in the first block of the directory with room for it and the end mark.
+pub fn first_room(image: &[u8], firsts: &[u16], nexts: &[u16], head: AnodeNo, len: usize) -> Room
+    ensures { λ r. ⌜ ((c : List ℕ) → ((a : ℕ) → 0 < times a (chainOf (λ x. getD (now (nexts .entry)) x 0) 3444 (head .0)) → getD c a 0 ≡ 1) → roomOf r ≡ firstRoom (now (image .entry)) len (blocksOf (anodesFrom c (now (firsts .entry)) (now (nexts .entry))) (head .0))) ⌝ }
+{
+    let mut at = head.0 as usize;
+    let mut fuel: usize = 3444;
+    while fuel > 0 {
+        if at == 0 {
+            return Room::Nowhere;
+        }
+        let found = room_in(image, BlockNo(entry(firsts, at)), len);
+        if let Room::At(_) = found {
+            return found;
+        }
+        at = entry(nexts, at) as usize;
+        fuel -= 1;
+    }
+    Room::Nowhere
+}
+
+// Moves the `k` bytes from `at + len` on to `at`.
+fn move_down(block: &mut [u8], at: usize, len: usize, k: usize)
+    requires { ⌜ at + len + k ≤ length (now block) ⌝ }
+    ensures { λ _. ⌜ now (block .exit) ≡ movedDown (now (block .entry)) at len k ⌝ }
+{
+    let mut j = 0;
+    while j < k {
+        block[at + j] = block[at + len + j];
+        j += 1;
+    }
+}
+
+// Closes the gap of `len` bytes at `at` in the entries of a block that end at `end`, and zeroes as many bytes behind them.
+fn close_gap(block: &mut [u8], at: usize, len: usize, end: usize)
+    requires { ⌜ (at + len ≤ end) × (end ≤ length (now block)) ⌝ }
+    ensures { λ _. ⌜ now (block .exit) ≡ gapClosed (now (block .entry)) at len end ⌝ }
+{
+    move_down(block, at, len, end - (at + len));
+    clear(block, end - len, len);
+}
+
+// Takes the entry at a place out of its directory block.
+pub fn take_out(image: &mut [u8], place: usize)
+    requires { ⌜ (place / 512 * 512 + 512 ≤ length (now image)) × (place % 512 + getD (blockOf (now image) (place / 512)) (place % 512) 0 ≤ entriesEnd (blockOf (now image) (place / 512))) × (entriesEnd (blockOf (now image) (place / 512)) ≤ 512) ⌝ }
+    ensures { λ _. ⌜ now (image .exit) ≡ withoutEntry (now (image .entry)) place ⌝ }
+{
+    let at = place % 512;
+    let from = place / 512 * 512;
+    let to = from + 512;
+    let block = &image[from..to];
+    let len = read8(block, at) as usize;
+    let end = entries_end(block);
+    close_gap(&mut image[from..to], at, len, end);
+}
+
+// Notes the owner of the first `n` blocks of the list in the block table.
+pub fn set_owners(blocks: &mut [u16], moved: &[u16], n: usize, owner: AnodeNo)
+    requires { ⌜ n ≤ length (now moved) ⌝ }
+    ensures { λ _. ⌜ now (blocks .exit) ≡ setAll (now (blocks .entry)) (take n (now (moved .entry))) (owner .0) ⌝ }
+{
+    let mut i = 0;
+    while i < n {
+        set_entry(blocks, moved[i] as usize, owner.0);
+        i += 1;
+    }
+}

@@ -1,0 +1,62 @@
+-- What an open image says of its reached directories, and what a search answers.
+use Prim.Native.Nat.{ℕ, zero, suc, _+_, _<_}
+use mathlib.Core.Path.{_≡_, refl, sym, ap, _∙_}
+use mathlib.Core.Bool.{Bool, true, false, not, _||_, true≢false}
+use mathlib.Core.List.{List, [], _∷_, map}
+use mathlib.Core.Option.{Option, none, some}
+use native.Mathlib.Omega.{arith}
+use lib.Dec.{eqb}
+use lib.ListN.{getD}
+use Rattle.disk.specs.declared.Refusal.the-variants.{NoDirectory, NotFound}
+use Rattle.rules.specs.Counting.{times, anyIn}
+use Rattle.rules.specs.Anodes.{Anodes, limit, anodesOf}
+use Rattle.rules.specs.Walk.{Entered, Dir}
+use Rattle.rules.specs.Accepted.{diskSize}
+use Rattle.rules.specs.Lookup.{noDirectory, entriesOf}
+use Rattle.anodes.specs.Loaded.{anodesFrom}
+use Rattle.tree.specs.Steps.{dirsFrom, queueOf}
+use Rattle.laws.specs.OwnerTable.{anodeEntry-is}
+use Rattle.changes.specs.Image.{accepted-whole}
+use Rattle.changes.specs.Reached.{reached-head, reached-unbroken}
+use Rattle.lookup.specs.declared.EntryAt.{EntryAt}
+use Rattle.lookup.specs.declared.Lookup.{Lookup}
+use Rattle.lookup.specs.declared.Lookup.the-variants.{Found, Missing}
+use Rattle.lookup.specs.Answers.{entered, entryOf}
+use Rattle.lookup.specs.Queued.{isQueued}
+use Rattle.lookup.proofs.Queue.{place-queued, queued-times}
+use Rattle.find.specs.Open.{Open}
+use Rattle.find.specs.Found.{searchNumber}
+
+module _ {img counts firsts nexts queue parents heads : List ℕ} {dirs : ℕ} (o : Open img counts firsts nexts queue parents heads dirs) where
+  -- the test of 21 is the search in the queue
+  pub reached-queued : (h : ℕ) (r : Bool) → ((p : List ℕ) → not r ≡ eqb (times h (map (λ d. d .head) (queueOf queue p dirs))) 0) → noDirectory img (anodesOf img) h ≡ not r
+  unfolding noDirectory
+  reached-queued h r e = sym (e parents ∙ ap (λ (l : List Dir). eqb (times h (map (λ d. d .head) l)) 0) (o .queued))
+
+  queued-reached : (i : ℕ) → i < dirs → noDirectory img (anodesOf img) (getD queue i 0) ≡ false
+  unfolding queueOf
+  queued-reached i l = reached-queued (getD queue i 0) (isQueued queue (getD queue i 0) 0 dirs) (λ p. queued-times queue (getD queue i 0) p 0 dirs) ∙ ap not (place-queued queue (getD queue i 0) 0 dirs i (omega arith) (omega arith) refl)
+
+  -- a reached directory's head is its own head in the table that the check filled
+  pub own-heads : (i : ℕ) → i < dirs → getD heads (getD queue i 0) 0 ≡ getD queue i 0
+  own-heads i l =
+      let w = accepted-whole img (diskSize img) limit (o .accepted) in
+      let d = reached-head img (diskSize img) limit (o .accepted) (getD queue i 0) (queued-reached i l) in
+      o .shown (getD queue i 0) (w .good .view .below (getD queue i 0) (d .in-use)) ∙ anodeEntry-is (w .good) (getD queue i 0) ∙ w .good .heads .at-head (getD queue i 0) d
+
+  -- its entries are unbroken, by the blocks and nexts alone
+  pub open-unbroken : (h : ℕ) → noDirectory img (anodesOf img) h ≡ false → anyIn (λ e. e .broken) (entriesOf img (anodesFrom [] firsts nexts) h) ≡ false
+  unfolding entriesOf anodesFrom
+  open-unbroken h e = rw (← (o .loaded)) at (reached-unbroken img (diskSize img) limit (o .accepted) h e)
+
+  -- an entry that the tables give is the image's
+  pub by-image : {X : Type 0} (f : Anodes → X) (x : X) → ((c : List ℕ) → x ≡ f (anodesFrom c firsts nexts)) → x ≡ f (anodesOf img)
+  by-image f x e = e counts ∙ ap f (o .loaded)
+
+-- ---- the answer of a search
+
+pub search-22 : (missing : Bool) (e : Option Entered) (r : Lookup) → missing ≡ false → entryOf r ≡ e → r ≡ Missing → searchNumber missing e ≡ 22
+search-22 missing e r is found m = rw (is, ← found, m)
+
+pub search-found : (e : Option Entered) (r : Lookup) (x : EntryAt) → entryOf r ≡ e → r ≡ Found x → e ≡ some (entered x)
+search-found e r x found is = sym found ∙ ap entryOf is

@@ -1,0 +1,2 @@
+-- Laws of an open image and of a search in it.
+pub mod Laws

@@ -1,0 +1,138 @@
+use denote.Ref.{now}
+use mathlib.Core.Path.{refl}
+use native.Mathlib.Omega.{arith}
+use Rattle.fsck.proofs.Laws.{headed, zeros, outcome-header, outcome-accepted, outcome-refused}
+use borrow.Author.Needs.{needs}
+use Rattle.fsck.proofs.open_disk.Statement.{statement}
+use Rattle.fsck.proofs.open_disk.Tie as tie
+
+test-header-requires : tie.Need-test-header-requires
+test-header-requires c κs = search needs
+
+enum-known-t : tie.Need-enum-known-t
+enum-known-t c = search needs
+
+returns : tie.Need-returns
+returns c = (outcome-header _ _ _ _ _ (c .before .t .given .1) (c .before .before .before .test-header .ensures), (tt, tt))
+
+enum-told : tie.Need-enum-told
+enum-told c = search needs
+
+disk-size-requires : tie.Need-disk-size-requires
+disk-size-requires c κs = search needs
+
+zero-first-requires : tie.Need-zero-first-requires
+zero-first-requires c κs = let h = headed _ _ _ _ (c .before .before .enum-told .given .1) (c .before .before .before .before .test-header .ensures) in omega (arith, h .blocks-room, c .before .disk-size .ensures)
+
+zero-first-requires-2 : tie.Need-zero-first-requires-2
+zero-first-requires-2 c κs = (headed _ _ _ _ (c .before .before .before .before .before .before .enum-told .given .1) (c .before .before .before .before .before .before .before .before .test-header .ensures)) .anodes-room
+
+examine-requires : tie.Need-examine-requires
+examine-requires c κs =
+    let h = headed _ _ _ _ (c .before .before .before .before .before .before .before .before .before .before .before .before .before .before .before .before .enum-told .given .1) (c .before .before .before .before .before .before .before .before .before .before .before .before .before .before .before .before .before .before .test-header .ensures) in
+    let b = c .before .before .before .before .before .before .before .before .before .before .before .before .before .zero-first in
+    let a = c .before .before .before .before .before .before .before .before .before .zero-first2 in
+    (c .before .before .before .before .before .before .before .before .before .before .before .before .before .before .before .before .before .before .before .before .before .before .before .before .before .before .before .pre, ((h .size-right, omega (arith, h .blocks-room, b .kept .0), omega (arith, h .anodes-room, a .kept .0)), (zeros _ _ _ _ (c .before .before .before .before .before .before .before .before .before .before .before .before .before .before .before .disk-size .ensures) (b .ensures), zeros _ _ (now (c .before .before .before .before .before .before .before .before .before .before .before .before .before .before .before .before .before .before .before .before .before .before .before .before .before .before .before .args .anodes)) _ refl (a .ensures))))
+
+enum-told-2 : tie.Need-enum-told-2
+enum-told-2 c = search needs
+
+zero-first-requires-3 : tie.Need-zero-first-requires-3
+zero-first-requires-3 c κs =
+    let h = headed _ _ _ _ (c .before .before .before .before .before .before .before .before .before .before .before .before .before .before .before .before .before .before .before .before .before .before .before .before .before .before .before .before .before .before .before .before .before .before .enum-told .given .1) (c .before .before .before .before .before .before .before .before .before .before .before .before .before .before .before .before .before .before .before .before .before .before .before .before .before .before .before .before .before .before .before .before .before .before .before .before .test-header .ensures) in
+    omega (arith, h .blocks-room, c .before .before .before .before .before .before .before .before .before .before .before .before .before .before .before .before .before .before .before .before .before .before .before .before .before .before .before .before .before .before .before .before .before .disk-size .ensures, c .before .before .before .before .before .before .before .before .before .before .before .before .before .before .before .before .before .before .before .before .before .before .before .before .before .before .before .before .before .before .before .zero-first .kept .0, c .before .before .before .before .before .before .before .before .before .before .before .before .before .before .before .before .before .examine .kept .1 .0)
+
+zero-first-requires-4 : tie.Need-zero-first-requires-4
+zero-first-requires-4 c κs =
+    let h = headed _ _ _ _ (c .before .before .before .before .before .before .before .before .before .before .before .before .before .before .before .before .before .before .before .before .before .before .before .before .before .before .before .before .before .before .before .before .before .before .before .before .before .before .enum-told .given .1) (c .before .before .before .before .before .before .before .before .before .before .before .before .before .before .before .before .before .before .before .before .before .before .before .before .before .before .before .before .before .before .before .before .before .before .before .before .before .before .before .before .test-header .ensures) in
+    omega (arith, h .anodes-room, c .before .before .before .before .before .before .before .before .before .before .before .before .before .before .before .before .before .before .before .before .before .before .before .before .before .before .before .before .before .before .before .zero-first2 .kept .0, c .before .before .before .before .before .before .before .before .before .before .before .before .before .before .before .before .before .before .before .before .before .examine .kept .1 .1 .0)
+
+enum-told-3 : tie.Need-enum-told-3
+enum-told-3 c = search needs
+
+same-length : tie.Need-same-length
+same-length c = search needs
+
+same-length-2 : tie.Need-same-length-2
+same-length-2 c = search needs
+
+same-length-3 : tie.Need-same-length-3
+same-length-3 c = search needs
+
+same-length-4 : tie.Need-same-length-4
+same-length-4 c = search needs
+
+same-length-5 : tie.Need-same-length-5
+same-length-5 c = search needs
+
+same-length-6 : tie.Need-same-length-6
+same-length-6 c = search needs
+
+same-length-7 : tie.Need-same-length-7
+same-length-7 c = search needs
+
+returns-2 : tie.Need-returns-2
+returns-2 c =
+    let h = headed _ _ _ _ (c .before .before .before .before .before .before .before .before .before .before .before .before .before .before .before .before .before .before .before .before .before .before .before .before .before .before .before .before .before .before .before .before .before .before .before .before .before .before .before .before .before .enum-told .given .1) (c .before .before .before .before .before .before .before .before .before .before .before .before .before .before .before .before .before .before .before .before .before .before .before .before .before .before .before .before .before .before .before .before .before .before .before .before .before .before .before .before .before .before .before .test-header .ensures) in
+    let x = c .before .before .before .before .before .before .before .before .before .before .before .before .before .before .before .before .before .before .before .before .before .before .before .before .examine in
+    (outcome-refused _ _ _ _ (c .before .before .before .before .before .before .before .before .before .before .before .before .before .before .before .before .before .before .before .before .before .before .before .before .before .before .before .before .before .before .before .before .before .before .before .before .before .before .before .before .disk-size .ensures) h _ _ _ _ (c .before .before .before .before .before .before .before .before .before .before .before .before .before .before .before .before .before .before .before .before .before .before .before .before .before .before .before .before .before .before .before .before .before .before .before .before .before .before .zero-first .ensures) (c .before .before .before .before .before .before .before .before .before .before .before .before .before .before .before .before .before .before .before .before .before .before .before .before .before .before .before .before .before .before .before .before .before .before .zero-first2 .ensures) _ (x .ensures .0) (x .ensures .1 .1 .0) _ (c .before .before .before .before .before .before .before .before .enum-told2 .given .1) _ _ (c .before .before .before .before .before .before .zero-first3 .ensures) (c .before .before .zero-first4 .ensures), (x .ensures .1 .0, x .ensures .1 .1 .1))
+
+same-length-8 : tie.Need-same-length-8
+same-length-8 c = search needs
+
+same-length-9 : tie.Need-same-length-9
+same-length-9 c = search needs
+
+same-length-10 : tie.Need-same-length-10
+same-length-10 c = search needs
+
+same-length-11 : tie.Need-same-length-11
+same-length-11 c = search needs
+
+same-length-12 : tie.Need-same-length-12
+same-length-12 c = search needs
+
+same-length-13 : tie.Need-same-length-13
+same-length-13 c = search needs
+
+same-length-14 : tie.Need-same-length-14
+same-length-14 c = search needs
+
+returns-3 : tie.Need-returns-3
+returns-3 c =
+    let h = headed _ _ _ _ (c .before .before .before .before .before .before .before .before .before .before .before .before .before .before .before .before .before .before .before .before .before .before .before .before .before .before .before .before .before .before .before .before .before .enum-told .given .1) (c .before .before .before .before .before .before .before .before .before .before .before .before .before .before .before .before .before .before .before .before .before .before .before .before .before .before .before .before .before .before .before .before .before .before .before .test-header .ensures) in
+    let x = c .before .before .before .before .before .before .before .before .before .before .before .before .before .before .before .before .examine in
+    (outcome-accepted _ _ _ _ (c .before .before .before .before .before .before .before .before .before .before .before .before .before .before .before .before .before .before .before .before .before .before .before .before .before .before .before .before .before .before .before .before .disk-size .ensures) h _ _ _ _ (c .before .before .before .before .before .before .before .before .before .before .before .before .before .before .before .before .before .before .before .before .before .before .before .before .before .before .before .before .before .before .zero-first .ensures) (c .before .before .before .before .before .before .before .before .before .before .before .before .before .before .before .before .before .before .before .before .before .before .before .before .before .before .zero-first2 .ensures) _ (x .ensures .0) (x .ensures .1 .1 .0) _ (c .enum-told3 .given .1), (x .ensures .1 .0, x .ensures .1 .1 .1))
+
+pub open-disk-spec : {M : Type 1} → statement M
+open-disk-spec =
+    tie.close
+    (tie.spec
+    test-header-requires
+    enum-known-t
+    returns
+    enum-told
+    disk-size-requires
+    zero-first-requires
+    zero-first-requires-2
+    examine-requires
+    enum-told-2
+    zero-first-requires-3
+    zero-first-requires-4
+    enum-told-3
+    same-length
+    same-length-2
+    same-length-3
+    same-length-4
+    same-length-5
+    same-length-6
+    same-length-7
+    returns-2
+    same-length-8
+    same-length-9
+    same-length-10
+    same-length-11
+    same-length-12
+    same-length-13
+    same-length-14
+    returns-3)

@@ -1,0 +1,2 @@
+-- Demand 3: one theorem over any list of calls.
+pub mod Throughout

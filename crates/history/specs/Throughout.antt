@@ -1,0 +1,182 @@
+-- DEMAND 3: from any accepted image, through any list of calls with any arguments, the check accepts after every call, no call reports damage, and the kinds of blocks add up to the disk's size.
+use Prim.Native.Nat.{ℕ, zero, suc, _+_, _≤_, _<_}
+use mathlib.Core.Path.{_≡_, refl, sym, ap, _∙_}
+use mathlib.Core.Logic.{_⊎_, inl, inr}
+use mathlib.Core.Bool.{Bool, true, false, cond, not, _||_}
+use mathlib.Core.List.{List, [], _∷_}
+use mathlib.Core.Option.{Option, none, some}
+use native.Mathlib.Omega.{arith}
+use lib.ListN.{length}
+use lib.Dec.{eqb}
+use borrow.Author.Tests.{not-false}
+use Rattle.directory.specs.Entries.{goodName, goodComment}
+use Rattle.rules.specs.Counting.{_if_else_, firstOf}
+use Rattle.rules.specs.Anodes.{Anodes, limit, anodesOf}
+use Rattle.rules.specs.Walk.{Entered}
+use Rattle.rules.specs.Accepted.{diskSize, wrongSize, checkAnswer}
+use Rattle.rules.specs.Totals.{total}
+use Rattle.rules.specs.Lookup.{noDirectory, entryNamed, entriesOf, isThere, namesDir, notEmpty, fullDir, pastEnd}
+use Rattle.rules.specs.Format.{wrongFormat, formatAnswer, formatted}
+use Rattle.rules.specs.Changes.{Left, left, NewEntry, resized, made, written, removed}
+use Rattle.rules.specs.Calls.{settled, checkOutcome, summaryOutcome, formatOutcome, formatLeft, readAnswer, readOutcome, spanAnswer, listAnswered, listOutcome, makeOutcome, makeAnswer, madeAfter, wrongEntry, resizeOutcome, resizeAnswer, writeOutcome, removeOutcome, removeAnswer, changeNamed}
+use Rattle.rules.specs.History.{Call, check, summary, format, read, list, make, resize, write, remove, outcome, Sound, Damage, SoundThroughout}
+use Rattle.counting.specs.Laws.{neither}
+use Rattle.laws.specs.Acceptance.{if-zero, firstOf-zero}
+use Rattle.format_laws.specs.Accepted.{formatted-accepted}
+use Rattle.changes.specs.Answers.{Late, own-tables, any-tables, span-late, list-late, resize-late, remove-late, make-late}
+use Rattle.changes.specs.Reached.{named-member}
+use Rattle.changes.specs.Write.{write-accepted}
+use Rattle.changes.specs.Resize.{resize-accepted, resize-answers}
+use Rattle.changes.specs.Make.{make-accepted, made-answer}
+use Rattle.changes.specs.Remove.{remove-accepted, remove-answers}
+use Rattle.changes.specs.Totals.{accepted-total}
+
+-- an answer that reports no damage
+abbrev Harmless : ℕ → Type 0
+Harmless n = Damage n → ⊥
+
+late-harmless : (n : ℕ) → Late n → Harmless n
+late-harmless n (inl e) d = omega (arith, e, d .0)
+late-harmless n (inr l) d = omega (arith, l, d .1)
+
+-- what a call leaves: an accepted image, and an answer that reports no damage
+pub record Kept (answer : ℕ) (img : List ℕ) : Type 0 where
+  pub accepted : checkAnswer img (diskSize img) limit ≡ 0
+  pub harmless : Harmless answer
+
+module _ (img : List ℕ) (ok : checkAnswer img (diskSize img) limit ≡ 0) where
+  abbrev s : Anodes
+  s = anodesOf img
+
+  -- the image stays
+  stays : (n : ℕ) → Harmless n → Kept n img
+  stays n h = record { accepted = ok; harmless = h }
+
+  answers : (blocks anodes b : ℕ) → Late b → Harmless (firstOf (checkAnswer img blocks anodes) b)
+  unfolding firstOf
+  answers blocks anodes b l = elim (any-tables img ok blocks anodes) [ inl e ↦ rw e (late-harmless b l) | inr e ↦ rw e (λ d. omega (arith, d .0)) ]
+
+  check-kept : (blocks anodes : ℕ) → Kept (checkAnswer img blocks anodes) img
+  check-kept blocks anodes = stays _ (elim (any-tables img ok blocks anodes) [ inl e ↦ (λ d. omega (arith, e, d .0)) | inr e ↦ (λ d. omega (arith, e, d .0)) ])
+
+  read-kept : (blocks anodes : List ℕ) (h : ℕ) (name : List ℕ) (offset len : ℕ) → Kept (readAnswer img blocks anodes h name offset len) img
+  unfolding readAnswer
+  read-kept blocks anodes h name offset len = stays _ (answers (length blocks) (length anodes) _ (span-late img s h name offset len))
+
+  list-kept : (blocks anodes : List ℕ) (h n : ℕ) → Kept (listAnswered img blocks anodes h n) img
+  unfolding listAnswered
+  list-kept blocks anodes h n = stays _ (answers (length blocks) (length anodes) _ (list-late img s h n))
+
+  -- format leaves the image, or a formatted one
+  format-kept : (last k : ℕ) (name : List ℕ) (day minute tick protection : ℕ) →
+      let l = formatOutcome img last k name day minute tick protection in Kept (l .answer) (l .image)
+  unfolding formatOutcome formatAnswer
+  format-kept last k name day minute tick protection = go (wrongSize img) (wrongFormat img last k name) refl refl
+    where
+      new : List ℕ
+      new = formatted img last k name day minute tick protection
+
+      go : (a b : Bool) → wrongSize img ≡ a → wrongFormat img last k name ≡ b →
+          let l = formatLeft (1 if a else 20 if b else 0) img new in Kept (l .answer) (l .image)
+      go true b p q = stays 1 (λ d. omega (arith, d .0))
+      go false true p q = stays 20 (λ d. omega (arith, d .1))
+      go false false p q = record {
+        accepted = own-tables new (diskSize img) limit (formatted-accepted img last k name day minute tick protection p q (diskSize img) limit (omega arith) (omega arith));
+        harmless = λ d. omega (arith, d .0);
+      }
+
+  -- a change of a named entry: refused by a number that is no damage, or made
+  named-kept : (n : ℕ) → Harmless n → (o : Option Entered) (f : Entered → Left) → (n ≡ 0 → (e : Entered) → o ≡ some e → Kept (f e .answer) (f e .image)) →
+      let l = changeNamed n img o f in Kept (l .answer) (l .image)
+  named-kept (suc n) h o f k = stays (suc n) h
+  named-kept zero h none f k = stays 22 (λ d. omega (arith, d .1))
+  named-kept zero h (some e) f k = k refl e refl
+
+  write-kept : (blocks anodes : List ℕ) (h : ℕ) (name : List ℕ) (offset : ℕ) (bytes : List ℕ) →
+      let l = changeNamed (readAnswer img blocks anodes h name offset (length bytes)) img (entryNamed img s h name) (λ e. left 0 (written img s e offset bytes)) in Kept (l .answer) (l .image)
+  unfolding readAnswer spanAnswer
+  write-kept blocks anodes h name offset bytes =
+      named-kept (readAnswer img blocks anodes h name offset (length bytes)) (read-kept blocks anodes h name offset (length bytes) .harmless) (entryNamed img s h name) (λ e. left 0 (written img s e offset bytes))
+      (λ z e q.
+      let c = firstOf-zero (checkAnswer img (length blocks) (length anodes)) (spanAnswer img s h name offset (length bytes)) z in
+      let r = if-zero 21 (noDirectory img s h) _ (omega arith) (c .1) in
+      let t = if-zero 22 (not (isThere (entryNamed img s h name))) _ (omega arith) (r .1) in
+      let f = if-zero 24 (namesDir (entryNamed img s h name)) _ (omega arith) (t .1) in
+      record {
+        accepted = own-tables _ (diskSize img) limit (write-accepted img (diskSize img) limit ok h (r .0) e (named-member img s h name e q) (rw q at (f .0)) offset bytes);
+        harmless = λ d. omega (arith, d .0);
+      })
+
+  resize-kept : (blocks anodes : List ℕ) (h : ℕ) (name : List ℕ) (new : ℕ) →
+      let l = changeNamed (firstOf (checkAnswer img (length blocks) (length anodes)) (resizeAnswer img s h name)) img (entryNamed img s h name) (λ e. resized img s e new) in Kept (l .answer) (l .image)
+  unfolding resizeAnswer
+  resize-kept blocks anodes h name new =
+      named-kept (firstOf (checkAnswer img (length blocks) (length anodes)) (resizeAnswer img s h name)) (answers (length blocks) (length anodes) _ (resize-late img s h name)) (entryNamed img s h name) (λ e. resized img s e new)
+      (λ z e q.
+      let c = firstOf-zero (checkAnswer img (length blocks) (length anodes)) (resizeAnswer img s h name) z in
+      let r = if-zero 21 (noDirectory img s h) _ (omega arith) (c .1) in
+      let t = if-zero 22 (not (isThere (entryNamed img s h name))) _ (omega arith) (r .1) in
+      let f = if-zero 24 (namesDir (entryNamed img s h name)) _ (omega arith) (t .1) in
+      let m = named-member img s h name e q in
+      record {
+        accepted = own-tables _ (diskSize img) limit (resize-accepted img (diskSize img) limit ok h (r .0) e m (rw q at (f .0)) new);
+        harmless = elim (resize-answers img (diskSize img) limit ok h (r .0) e m new) [ inl z ↦ late-harmless _ (inl z) | inr z ↦ elim z [ inl k ↦ late-harmless _ (inr (omega (arith, k))) | inr k ↦ late-harmless _ (inr (omega (arith, k))) ] ];
+      })
+
+  remove-kept : (blocks anodes : List ℕ) (h : ℕ) (name : List ℕ) →
+      let l = changeNamed (firstOf (checkAnswer img (length blocks) (length anodes)) (removeAnswer img s h name)) img (entryNamed img s h name) (λ e. removed img s e) in Kept (l .answer) (l .image)
+  unfolding removeAnswer notEmpty
+  remove-kept blocks anodes h name =
+      named-kept (firstOf (checkAnswer img (length blocks) (length anodes)) (removeAnswer img s h name)) (answers (length blocks) (length anodes) _ (remove-late img s h name)) (entryNamed img s h name) (λ e. removed img s e)
+      (λ z e q.
+      let c = firstOf-zero (checkAnswer img (length blocks) (length anodes)) (removeAnswer img s h name) z in
+      let r = if-zero 21 (noDirectory img s h) _ (omega arith) (c .1) in
+      let t = if-zero 22 (not (isThere (entryNamed img s h name))) _ (omega arith) (r .1) in
+      let f = if-zero 25 (fullDir img s (entryNamed img s h name)) _ (omega arith) (t .1) in
+      let m = named-member img s h name e q in
+      let full : fullDir img s (some e) ≡ false = rw q at (f .0) in
+      record {
+        accepted = own-tables _ (diskSize img) limit (remove-accepted img (diskSize img) limit ok h (r .0) e m (λ d. rw d at full));
+        harmless = elim (remove-answers img (diskSize img) limit ok h (r .0) e m) [ inl z ↦ late-harmless _ (inl z) | inr k ↦ late-harmless _ (inr (omega (arith, k))) ];
+      })
+
+  made-kept : (n h : ℕ) → Harmless n → (new : NewEntry) → (n ≡ 0 → Kept (made img s h new .answer) (made img s h new .image)) →
+      let l = madeAfter n img h new in Kept (l .answer) (l .image)
+  made-kept zero h k new f = f refl
+  made-kept (suc n) h k new f = stays (suc n) k
+
+  make-kept : (blocks anodes : List ℕ) (h type : ℕ) (name comment : List ℕ) (new : NewEntry) → new .name ≡ name → new .comment ≡ comment →
+      let l = madeAfter (firstOf (checkAnswer img (length blocks) (length anodes)) (makeAnswer img s h type name comment)) img h new in Kept (l .answer) (l .image)
+  unfolding makeAnswer wrongEntry
+  make-kept blocks anodes h type name comment new en ec =
+      made-kept (firstOf (checkAnswer img (length blocks) (length anodes)) (makeAnswer img s h type name comment)) h (answers (length blocks) (length anodes) _ (make-late img s h type name comment)) new
+      (λ z.
+      let c = firstOf-zero (checkAnswer img (length blocks) (length anodes)) (makeAnswer img s h type name comment) z in
+      let w = if-zero 20 (wrongEntry type name comment) _ (omega arith) (c .1) in
+      let r = if-zero 21 (noDirectory img s h) _ (omega arith) (w .1) in
+      let n = neither (not (goodName name)) (not (goodComment comment)) (neither (not (eqb type 253 || eqb type 2)) (not (goodName name) || not (goodComment comment)) (w .0) .1) in
+      record {
+        accepted = own-tables _ (diskSize img) limit (make-accepted img (diskSize img) limit ok h (r .0) new (rw en (not-false _ (n .0))) (rw ec (not-false _ (n .1))));
+        harmless = elim (made-answer img s h new) [ inl z ↦ late-harmless _ (inl z) | inr z ↦ elim z [ inl k ↦ late-harmless _ (inr (omega (arith, k))) | inr k ↦ late-harmless _ (inr (omega (arith, k))) ] ];
+      })
+
+  -- every call leaves an accepted image and reports no damage
+  call-kept : (c : Call) → Kept (outcome img c .answer) (outcome img c .image)
+  unfolding outcome settled checkOutcome summaryOutcome readOutcome listOutcome makeOutcome resizeOutcome writeOutcome removeOutcome
+  call-kept (check blocks anodes) = check-kept (length blocks) (length anodes)
+  call-kept (summary blocks anodes) = check-kept (length blocks) (length anodes)
+  call-kept (format last k name day minute tick protection) = format-kept last k name day minute tick protection
+  call-kept (read blocks anodes h name offset out) = read-kept blocks anodes h name offset (length out)
+  call-kept (list blocks anodes h n) = list-kept blocks anodes h n
+  call-kept (make blocks anodes h type name comment day minute tick protection) = make-kept blocks anodes h type name comment _ refl refl
+  call-kept (resize blocks anodes h name new) = resize-kept blocks anodes h name new
+  call-kept (write blocks anodes h name offset bytes) = write-kept blocks anodes h name offset bytes
+  call-kept (remove blocks anodes h name) = remove-kept blocks anodes h name
+
+sound-of : (img : List ℕ) → checkAnswer img (diskSize img) limit ≡ 0 → Sound img
+sound-of img ok = record { accepted = ok; adds-up = accepted-total img (diskSize img) limit ok }
+
+-- THE THEOREM
+pub sound-throughout : (img : List ℕ) → checkAnswer img (diskSize img) limit ≡ 0 → (cs : List Call) → SoundThroughout img cs
+sound-throughout img ok [] = sound-of img ok
+sound-throughout img ok (c ∷ cs) = let k = call-kept img ok c in (sound-of img ok, k .harmless, sound-throughout (outcome img c .image) (k .accepted) cs)

@@ -1,0 +1,122 @@
+-- The blocks of a chain in its order: which changes leave the lists of other chains as they are, and what an anode of a chain is to it.
+use Prim.Native.Nat.{ℕ, _≤_, _<_}
+use mathlib.Core.Path.{_≡_, refl, sym, ap, _∙_}
+use mathlib.Core.Logic.{_≢_}
+use mathlib.Core.Bool.{Bool}
+use mathlib.Core.List.{List, [], _∷_, _++_, append-assoc}
+use native.Mathlib.Omega.{arith}
+use lib.Dec.{T}
+use Rattle.rules.specs.Counting.{times, gather}
+use Rattle.rules.specs.Anodes.{Anodes, limit}
+use Rattle.rules.specs.Chains.{chainOf, run, blocksOf}
+use Rattle.rules.specs.Space.{rewritten, onChain, dropped, insertedAfter}
+use Rattle.laws.specs.Tests.{T-false}
+use Rattle.laws.specs.Sums.{oneAt-same, changed-same, changed-other, changed-pos}
+use Rattle.laws.specs.Bags.{times-cons, times-append}
+use Rattle.laws.specs.LinkChanges.{without, drop-apart, insertAfter, insert-view, insert-linked, insert-after}
+use Rattle.laws.specs.Segments.{chain-is, Chain}
+use Rattle.laws.specs.Links.{the-chain, chain-the, seg-once}
+use Rattle.laws.specs.Heads.{Head, head-of-is}
+use Rattle.laws.specs.Space.{Alike, Good, on-chain, dead-head, dead-along, drop-good}
+use Rattle.laws.specs.Moves.{headed-used}
+use Rattle.laws.specs.Frame.{Shift, kept-chain}
+
+pub gather-append {ℓ κ} : {X : Type ℓ} {Y : Type κ} (f : X → List Y) (l m : List X) → gather f (l ++ m) ≡ gather f l ++ gather f m
+unfolding gather
+gather-append f [] m = refl
+gather-append {Y = Y} f (x ∷ l) m = ap (λ (k : List Y). f x ++ k) (gather-append f l m) ∙ sym (append-assoc (f x) (gather f l) (gather f m))
+
+-- two functions that agree on the members of a list
+gather-kept : (f f′ : ℕ → List ℕ) (l : List ℕ) → ((a : ℕ) → 0 < times a l → f′ a ≡ f a) → gather f′ l ≡ gather f l
+unfolding gather
+gather-kept f f′ [] h = refl
+gather-kept f f′ (x ∷ l) h =
+    rw (h x (omega (arith, times-cons x x l, oneAt-same x x refl)), gather-kept f f′ l (λ a p. h a (omega (arith, p, times-cons a x l))))
+
+-- two functions that agree but at x, over a list without x
+pub gather-off : (f f′ : ℕ → List ℕ) (x : ℕ) → ((a : ℕ) → a ≢ x → f′ a ≡ f a) → (l : List ℕ) → times x l ≡ 0 → gather f′ l ≡ gather f l
+gather-off f f′ x same l z = gather-kept f f′ l (λ a p. same a (λ i. omega (arith, z, p, ap (λ (b : ℕ). times b l) i)))
+
+-- an element that gives nothing
+pub gather-skip : (f : ℕ → List ℕ) (pre post : List ℕ) (x : ℕ) → f x ≡ [] → gather f (pre ++ (x ∷ post)) ≡ gather f (pre ++ post)
+unfolding gather
+gather-skip f pre post x e = gather-append f pre (x ∷ post) ∙ ap (λ (l : List ℕ). gather f pre ++ (l ++ gather f post)) e ∙ sym (gather-append f pre post)
+
+-- the blocks of one anode
+unfoldable pub extent : Anodes → ℕ → List ℕ
+extent s a = run (s .block a) (s .count a)
+
+pub extent-alike : {s t : Anodes} {a : ℕ} → Alike s t a → extent t a ≡ extent s a
+unfolding extent
+extent-alike e = rw (e .same-block, e .same-count)
+
+pub blocksOf-extents : (s : Anodes) (h : ℕ) → blocksOf s h ≡ gather (extent s) (chainOf (s .next) limit h)
+unfolding blocksOf extent
+blocksOf-extents s h = refl
+
+-- a chain of the same anodes with the same extents has the same blocks
+pub kept-blocks : (s t : Anodes) (m : ℕ) → chainOf (t .next) limit m ≡ chainOf (s .next) limit m → ((a : ℕ) → 0 < times a (chainOf (s .next) limit m) → extent t a ≡ extent s a) → blocksOf t m ≡ blocksOf s m
+kept-blocks s t m e h = blocksOf-extents t m ∙ ap (gather (extent t)) e ∙ gather-kept (extent s) (extent t) (chainOf (s .next) limit m) h ∙ sym (blocksOf-extents s m)
+
+-- an anode that the table gives itself for head is one
+pub self-headed : {A : ℕ} {ex : ℕ → Bool} {n last : ℕ} {s : Anodes} {system hd sd : ℕ → ℕ} → Good A ex n last s system hd sd → (m : ℕ) → m ≢ 0 → hd m ≡ m → Head (s .next) (s .block) m
+self-headed {hd = hd} g m m0 e = rw e at (head-of-is (g .view) (g .linked) hd (g .heads) m m0 (headed-used g m (λ z. m0 (sym e ∙ z))))
+
+module _ {ex : ℕ → Bool} {n last : ℕ} {s : Anodes} {system hd sd : ℕ → ℕ} (g : Good limit ex n last s system hd sd) where
+  -- steps on the chain of h leave every other chain but 1's
+  module _ {t : Anodes} {system′ hd′ sd′ : ℕ → ℕ} (g′ : Good limit ex n last t system′ hd′ sd′) {h : ℕ} (shift : Shift s hd t hd′ h) (m : ℕ) (d : Head (s .next) (s .block) m) (m1 : m ≢ 1) (mh : m ≢ h) where
+    pub shift-chain : chainOf (t .next) limit m ≡ chainOf (s .next) limit m
+    shift-chain = kept-chain g g′ h (shift .stays) (shift .no-new) (shift .apart) m d m1 mh
+
+    pub shift-blocks : blocksOf t m ≡ blocksOf s m
+    shift-blocks = kept-blocks s t m shift-chain
+        (λ a p. (let o = on-chain g m d a p in extent-alike (shift .apart a (o .1) (λ q. m1 (sym (o .0) ∙ q)) (λ q. mh (sym (o .0) ∙ q)))))
+
+  -- a fresh head leaves all others, and has no blocks
+  module _ (f : ℕ) (fresh : s .block f ≡ 0) where
+    pub fresh-others : (m : ℕ) → Head (s .next) (s .block) m → blocksOf (rewritten s f 0 65535) m ≡ blocksOf s m
+    unfolding rewritten extent
+    fresh-others m d = kept-blocks s (rewritten s f 0 65535) m refl
+        (λ a p. (let other : a ≢ f = λ e. on-chain g m d a p .1 (ap (s .block) e ∙ fresh) in rw (changed-other (s .count) f 0 a other, changed-other (s .block) f 65535 a other)))
+
+    pub fresh-blocks : f ≢ 0 → blocksOf (rewritten s f 0 65535) f ≡ []
+    unfolding rewritten extent gather run
+    fresh-blocks f0 = blocksOf-extents (rewritten s f 0 65535) f
+        ∙ rw (chain-is (s .next) limit f (f ∷ []) (refl, f0, g .view .free-end f fresh) (omega arith), changed-same (s .count) f 0)
+
+  -- a chain dropped leaves all others
+  module _ (h : ℕ) (h6 : 6 ≤ h) (d : Head (s .next) (s .block) h) (none : (a : ℕ) → hd a ≡ h → s .count a ≡ 0) (m : ℕ) (c : Head (s .next) (s .block) m) (mh : m ≢ h) where
+    alive : (a : ℕ) → hd a ≡ m → T (onChain limit ex last s h a) → ⊥
+    alive a e t = mh (sym e ∙ dead-head g h h6 d none a t)
+
+    pub dropped-chain : chainOf (dropped limit ex last s h .next) limit m ≡ chainOf (s .next) limit m
+    unfolding dropped without
+    dropped-chain = chain-the (drop-good g h h6 d none .view) (drop-good g h h6 d none .linked) m (chainOf (s .next) limit m)
+        (λ q. rw (T-false (onChain limit ex last s h m) (alive m (g .heads .at-head m c))) (c .in-use))
+        (drop-apart (g .view) (g .linked) (onChain limit ex last s h) (dead-along g h h6 d none) m 0 (chainOf (s .next) limit m) (the-chain (g .view) (g .linked) m (λ q. c .in-use))
+        (λ a p. alive a (on-chain g m c a p .0)))
+
+    pub dropped-others : blocksOf (dropped limit ex last s h) m ≡ blocksOf s m
+    unfolding dropped extent
+    dropped-others = kept-blocks s (dropped limit ex last s h) m dropped-chain (λ a p. rw (T-false (onChain limit ex last s h a) (alive a (on-chain g m c a p .0))))
+
+-- ---- an anode x of the chain of m
+
+module _ {A : ℕ} {ex : ℕ → Bool} {n last : ℕ} {s : Anodes} {system hd sd : ℕ → ℕ} (g : Good A ex n last s system hd sd) (m : ℕ) (d : Head (s .next) (s .block) m) (x : ℕ) (pre post : List ℕ)
+    (split : chainOf (s .next) A m ≡ pre ++ (x ∷ post)) where
+  chain : Chain (s .next) m (pre ++ (x ∷ post))
+  chain = rw split at (the-chain (g .view) (g .linked) m (λ q. d .in-use))
+
+  -- x stands in the chain once
+  pub stands-once : (times x pre ≡ 0) × (times x post ≡ 0)
+  stands-once =
+      let once = seg-once (g .view) (g .linked) m 0 (pre ++ (x ∷ post)) x (λ q. d .in-use) chain in
+      (omega (arith, once, times-append x pre (x ∷ post), times-cons x x post, oneAt-same x x refl), omega (arith, once, times-append x pre (x ∷ post), times-cons x x post, oneAt-same x x refl))
+
+  -- a fresh anode f after x
+  pub inserted-chain : x ≢ 0 → s .block x ≢ 0 → (f c b : ℕ) → f ≢ 0 → s .block f ≡ 0 → f < A → b ≢ 0 → chainOf (insertedAfter s x f c b .next) A m ≡ pre ++ (x ∷ (f ∷ post))
+  unfolding insertedAfter insertAfter
+  inserted-chain x0 u f c b f0 fresh fA b0 =
+      chain-the (insert-view (g .view) (g .linked) x f b x0 u f0 fresh fA b0) (insert-linked (g .view) (g .linked) x f b x0 u f0 fresh fA b0)
+      m (pre ++ (x ∷ (f ∷ post))) (λ q. changed-pos (s .block) f b m b0 (d .in-use))
+      (insert-after (g .view) (g .linked) x f b x0 u f0 fresh fA b0 m pre post (λ q. d .in-use) chain)

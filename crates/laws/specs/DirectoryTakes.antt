@@ -1,0 +1,132 @@
+-- A reached directory takes a block with no entries into an anode of its own.
+use Prim.Native.Nat.{ℕ, _<_}
+use mathlib.Core.Path.{_≡_, refl, sym, ap, _∙_}
+use mathlib.Core.Logic.{_≢_, inl, inr}
+use mathlib.Core.Bool.{Bool, true}
+use mathlib.Core.List.{List, [], _∷_, map, map-id}
+use native.Mathlib.Omega.{arith}
+use lib.Dec.{T}
+use Rattle.rules.specs.Counting.{oneAt, sumList, times}
+use Rattle.rules.specs.Anodes.{limit, Anodes}
+use Rattle.rules.specs.Chains.{chainOf}
+use Rattle.rules.specs.Walk.{Dir, Entered, Item, itemOf, broken, itemsAt, itemsBy}
+use Rattle.rules.specs.Space.{planned, takeBlock}
+use Rattle.laws.specs.Sums.{oneAt-cases}
+use Rattle.laws.specs.Bags.{list-nil, list-cons, list-append, list-one, list-zero, times-nil, times-cons}
+use Rattle.laws.specs.Heads.{Head}
+use Rattle.laws.specs.Moves.{Moved}
+use Rattle.laws.specs.Take.{take-good}
+use Rattle.laws.specs.Frame.{kept-sum-where, take-shift}
+use Rattle.laws.specs.OwnBlock.{Appended, own-appended}
+use Rattle.laws.specs.Each.{Each, each-both, each-zero}
+use Rattle.laws.specs.Items.{wrong, faults}
+use Rattle.laws.specs.TreeChanges.{headed, AlikeItems}
+use Rattle.laws.specs.Totals.{file-size}
+use Rattle.laws.specs.Entries.{broken-wrong, items-sum, itemsAt-cases, itemsAt-whole, at-alike}
+use Rattle.laws.specs.Orphan.{Orphaned, amiss, still-fine, none-amiss, orphan-shift, dir-no-file}
+
+-- one of the directories has the head h
+pub find-headed : (P : Dir → Type 0) (h : ℕ) (l : List Dir) → Each P l → 0 < headed h l → (d : Dir) × (d .head ≡ h) × P d
+unfolding headed
+find-headed P h [] e p = absurd (omega (arith, p, list-nil {X = Dir} (λ d. oneAt (d .head) h)))
+find-headed P h (d ∷ l) e p = elim (oneAt-cases (d .head) h) [
+  | inl c ↦ (d, c .0, e .0)
+  | inr c ↦ find-headed P h l (e .1) (omega (arith, p, c .1, list-cons {X = Dir} (λ d. oneAt (d .head) h) d l))
+]
+
+-- a weight that is none on a list is none at a member
+none-at : (g : ℕ → ℕ) (l : List ℕ) → sumList g l ≡ 0 → (a : ℕ) → 0 < times a l → g a ≡ 0
+none-at g [] z a p = absurd (omega (arith, p, times-nil a))
+none-at g (x ∷ l) z a p = elim (oneAt-cases x a) [
+  | inl c ↦ rw (← (c .0)) (omega (arith, z, list-cons g x l))
+  | inr c ↦ none-at g l (omega (arith, z, list-cons g x l)) a (omega (arith, p, c .1, times-cons a x l))
+]
+
+-- a directory with nothing wrong has one block in each anode
+dir-anodes : (entries : ℕ → List Entered) (marked : Dir → ℕ → Bool) (s : Anodes) (d : Dir) → faults (itemsBy entries marked s) d ≡ 0 → (a : ℕ) → 0 < times a (chainOf (s .next) limit (d .head)) → s .count a ≡ 1
+dir-anodes entries marked s d z a p = elim (itemsAt-cases entries marked s d a) [
+  | inl q ↦ q .0
+  | inr q ↦ absurd (omega (
+    arith,
+    none-at (λ a. sumList wrong (itemsAt entries marked s d a)) (chainOf (s .next) limit (d .head)) (sym (items-sum entries marked s d wrong) ∙ z) a p,
+    ap (sumList wrong) q,
+    list-one wrong broken,
+    broken-wrong,
+  ))
+]
+
+module _ {ex : ℕ → Bool} {n last f : ℕ} {s : Anodes} {system hd sd : ℕ → ℕ} {entries : ℕ → List Entered} {marked : Dir → ℕ → Bool} {dirs : List Dir}
+    (o : Orphaned ex n last f s system hd sd entries marked dirs) (h : ℕ) (reached : headed h dirs ≡ 1) where
+  abbrev items : Dir → List Item
+  items = itemsBy entries marked s
+
+  no-file : sumList (λ d. sumList (file-size (λ x. oneAt x h)) (items d)) dirs ≡ 0
+  no-file = dir-no-file o h reached
+
+  the-dir : (d : Dir) × (d .head ≡ h) × ((Head (s .next) (s .block) (d .head) × (d .head ≢ 1)) × (faults items d ≡ 0))
+  the-dir = find-headed (λ d. (Head (s .next) (s .block) (d .head) × (d .head ≢ 1)) × (faults items d ≡ 0)) h dirs
+      (each-both (λ d. Head (s .next) (s .block) (d .head) × (d .head ≢ 1)) (λ d. faults items d ≡ 0) (λ d. (Head (s .next) (s .block) (d .head) × (d .head ≢ 1)) × (faults items d ≡ 0)) dirs
+      (λ d a b. (a, b)) (o .dir-heads) (each-zero (faults items) dirs (o .tree .faultless))) (omega (arith, reached))
+
+  pub dir-head : Head (s .next) (s .block) h
+  dir-head = rw (the-dir .1) at (the-dir .2 .0 .0)
+
+  pub dir-not-1 : h ≢ 1
+  dir-not-1 = rw (the-dir .1) at (the-dir .2 .0 .1)
+
+  -- every anode of it has one block
+  dir-ones : (a : ℕ) → 0 < times a (chainOf (s .next) limit h) → s .count a ≡ 1
+  dir-ones a p = dir-anodes entries marked s (the-dir .0) (the-dir .2 .1) a (rw (the-dir .1) p)
+
+  module _ (t : Anodes) (ys : List ℕ) (e : takeBlock limit ex last true s h ≡ planned t ys) where
+    pub dir-taken : (y : ℕ) × (ys ≡ y ∷ []) × Appended limit s t h y
+    dir-taken = own-appended (o .good) h dir-head dir-not-1 dir-ones t ys e
+
+    abbrev w : Moved limit ex n last s system hd 1 h ys t
+    w = take-good (o .good) h dir-head dir-not-1 true t ys e
+
+    module _ (none : (y : ℕ) → ys ≡ y ∷ [] → entries y ≡ []) (its : (y : ℕ) → ys ≡ y ∷ [] → Each (λ d. d .head ≡ h → T (marked d y)) dirs) where
+      abbrev items′ : Dir → List Item
+      items′ = itemsBy entries marked t
+
+      -- the new anode gives no item
+      new-none : (d : Dir) → T (marked d (dir-taken .0)) → (u : Item → ℕ) → sumList u (itemsAt entries marked t d (dir-taken .2 .anode)) ≡ 0
+      new-none d m u =
+          let a = dir-taken .2 in
+          ap (sumList u) (itemsAt-whole entries marked t d (a .anode) (a .one) (rw (a .at) m) ∙ ap (map (itemOf t)) (ap entries (a .at) ∙ none (dir-taken .0) (dir-taken .1))) ∙ list-nil u
+
+      -- the others give what they gave
+      longer : (d : Dir) → d .head ≡ h → T (marked d (dir-taken .0)) → (u v : Item → ℕ) →
+          ((a : ℕ) → 0 < times a (chainOf (s .next) limit h) → sumList (amiss h) (itemsAt entries marked s d a) ≡ 0 → sumList u (itemsAt entries marked t d a) ≡ sumList v (itemsAt entries marked s d a)) →
+          sumList (amiss h) (items d) ≡ 0 → sumList u (items′ d) ≡ sumList v (items d)
+      longer d q m u v each z =
+          let l = chainOf (s .next) limit h in
+          let U : ℕ → ℕ = λ a. sumList u (itemsAt entries marked t d a) in
+          let along : (x : Anodes) (k : Item → ℕ) → sumList k (itemsBy entries marked x d) ≡ sumList (λ a. sumList k (itemsAt entries marked x d a)) (chainOf (x .next) limit h) =
+          λ x k. items-sum entries marked x d k ∙ ap (λ (i : ℕ). sumList (λ a. sumList k (itemsAt entries marked x d a)) (chainOf (x .next) limit i)) q in
+          along t u ∙ ap (sumList U) (dir-taken .2 .chain) ∙ list-append U l (dir-taken .2 .anode ∷ [])
+          ∙ omega (
+            arith,
+            list-one U (dir-taken .2 .anode),
+            new-none d m u,
+            kept-sum-where (λ a. sumList (amiss h) (itemsAt entries marked s d a)) (λ a. sumList v (itemsAt entries marked s d a)) U l (sym (along s (amiss h)) ∙ z) each,
+            along s v,
+          )
+
+      alike : (d : Dir) → T (marked d (dir-taken .0)) × (sumList (amiss h) (items d) ≡ 0) → d .head ≡ h → AlikeItems items items′ d
+      alike d p q = (
+        λ k. longer d q (p .0) (λ j. k (j .dir) (j .anode)) (λ j. k (j .dir) (j .anode)) (λ a on z. at-a a on z .0 k) (p .1),
+        longer d q (p .0) wrong (λ j. 0) (λ a on z. at-a a on z .1 ∙ sym (list-zero {X = Item} (λ j. 0) (itemsAt entries marked s d a) (λ j. refl))) (p .1) ∙ list-zero {X = Item} (λ j. 0) (items d) (λ j. refl),
+      )
+        where
+          at-a : (a : ℕ) → 0 < times a (chainOf (s .next) limit h) → sumList (amiss h) (itemsAt entries marked s d a) ≡ 0 →
+              ((k : Bool → ℕ → ℕ) → sumList (λ j. k (j .dir) (j .anode)) (itemsAt entries marked t d a) ≡ sumList (λ j. k (j .dir) (j .anode)) (itemsAt entries marked s d a))
+              × (sumList wrong (itemsAt entries marked t d a) ≡ 0)
+          at-a a on z = let c = dir-taken .2 .kept a on in
+              at-alike s t (λ j. j) (amiss h) (λ y. omega (arith, y, broken-wrong)) (λ j y. (refl, refl, still-fine o h no-file (w .good) (take-shift (o .good) w) j y)) entries entries marked marked d a
+              (c .0) (c .1) (λ i. (sym (map-id (entries (s .block a))), refl)) z
+
+      pub directory-takes : Orphaned ex n last f t system (take-good (o .good) h dir-head dir-not-1 true t ys e .hd′) (take-good (o .good) h dir-head dir-not-1 true t ys e .sd′) entries marked dirs
+      directory-takes = orphan-shift o h no-file (w .good) (take-shift (o .good) w)
+          (each-both (λ d. d .head ≡ h → T (marked d (dir-taken .0))) (λ d. sumList (amiss h) (items d) ≡ 0) (λ d. d .head ≡ h → AlikeItems items items′ d) dirs
+          (λ d a b q. alike d (a q, b) q) (its (dir-taken .0) (dir-taken .1)) (none-amiss o h no-file (w .good) (take-shift (o .good) w)))

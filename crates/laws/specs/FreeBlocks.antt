@@ -1,0 +1,222 @@
+-- What a step does to the blocks of the free list: one goes or comes, and the others keep their order.
+use Prim.Native.Nat.{ℕ, suc, _+_, _-_, _<_}
+use mathlib.Core.Path.{_≡_, refl, sym, ap, _∙_}
+use mathlib.Core.Logic.{_≢_, _⊎_, inl, inr}
+use mathlib.Core.Bool.{Bool}
+use mathlib.Core.List.{List, [], _∷_, _++_, append-nil, append-assoc}
+use native.Mathlib.Omega.{arith}
+use native.Mathlib.Numerals.{add-one}
+use lib.Dec.{eqb, eqb→eq}
+use Rattle.rules.specs.Counting.{oneAt, times, gather, lastOf}
+use Rattle.rules.specs.Anodes.{Anodes, limit}
+use Rattle.rules.specs.Chains.{chainOf, run, blocksOf, cut, side}
+use Rattle.rules.specs.Space.{refused, planned, rewritten, insertedAfter, unlinked, emptied, Found, nowhere, found, lastFull, lowestFree, append, withoutFirst, takeFrom, takeBlock, withoutLast, sideOf, joinBefore, joinAfter, joinFilling, join, release, giveFrom, giveBack}
+use Rattle.laws.specs.Tests.{same?, cond-cases, eqb-true, eqb-false}
+use Rattle.laws.specs.Sums.{oneAt-cases, oneAt-same, changed-same, changed-other}
+use Rattle.laws.specs.Bags.{times-nil, times-cons, times-append}
+use Rattle.laws.specs.Links.{the-chain, seg-used}
+use Rattle.laws.specs.Heads.{Head, times-on-chain}
+use Rattle.laws.specs.Space.{Alike, Good, head-1, on-chain}
+use Rattle.laws.specs.Searches.{FoundIn, lastFull-found}
+use Rattle.laws.specs.Moves.{headed-used}
+use Rattle.laws.specs.Leaving.{full-used, full-0, full-1}
+use Rattle.laws.specs.Arriving.{free-is, append-cases, refused≢planned, planned-same}
+use Rattle.laws.specs.Take.{free-head, free-after, withoutFirst-out, put-placed}
+use Rattle.laws.specs.Give.{withoutLast-out, side-last-head, release-placed}
+use Rattle.laws.specs.Frame.{chain-kept}
+use Rattle.laws.specs.ChainBlocks.{gather-append, extent, extent-alike, blocksOf-extents, kept-blocks, gather-off, gather-skip, stands-once, inserted-chain}
+use Rattle.laws.specs.FirstFree.{firstFree, firstFree-found, take-nowhere, take-found}
+use Rattle.laws.specs.TakenBlocks.{extent-longer, extent-filled}
+use Rattle.laws.specs.GivenBlocks.{unlinked-chain}
+
+-- l′ is l with y at one place more
+abbrev pub OneMore : ℕ → List ℕ → List ℕ → Type 0
+OneMore y l l′ = (front : List ℕ) × (back : List ℕ) × (l ≡ front ++ back) × (l′ ≡ front ++ (y ∷ back))
+
+one-around : (y : ℕ) (p l l′ q : List ℕ) → OneMore y l l′ → OneMore y (p ++ (l ++ q)) (p ++ (l′ ++ q))
+one-around y p l l′ q o = (
+  p ++ o .0,
+  o .1 ++ q,
+  ap (λ (k : List ℕ). p ++ (k ++ q)) (o .2) ∙ ap (λ (k : List ℕ). p ++ k) (append-assoc (o .0) (o .1) q) ∙ sym (append-assoc p (o .0) (o .1 ++ q)),
+  ap (λ (k : List ℕ). p ++ (k ++ q)) (o .3) ∙ ap (λ (k : List ℕ). p ++ k) (append-assoc (o .0) (y ∷ o .1) q) ∙ sym (append-assoc p (o .0) (y ∷ (o .1 ++ q))),
+)
+
+-- one anode of a list has a block more
+one-anode : (f f′ : ℕ → List ℕ) (pre post : List ℕ) (x y : ℕ) → ((a : ℕ) → a ≢ x → f′ a ≡ f a) → times x pre ≡ 0 → times x post ≡ 0 → OneMore y (f x) (f′ x) →
+    OneMore y (gather f (pre ++ (x ∷ post))) (gather f′ (pre ++ (x ∷ post)))
+unfolding gather
+one-anode f f′ pre post x y same i j o =
+    let now : gather f′ (pre ++ (x ∷ post)) ≡ gather f pre ++ (f′ x ++ gather f post) = gather-append f′ pre (x ∷ post) ∙ rw (gather-off f f′ x same pre i, gather-off f f′ x same post j) in
+    rw (gather-append f pre (x ∷ post), now) (one-around y (gather f pre) (f x) (f′ x) (gather f post) o)
+
+-- a member of a list, and what stands around it
+member-split : (x : ℕ) (l : List ℕ) → 0 < times x l → (pre : List ℕ) × (post : List ℕ) × (l ≡ pre ++ (x ∷ post))
+member-split x [] p = absurd (omega (arith, p, times-nil x))
+member-split x (b ∷ l) p = go (oneAt-cases b x) (member-split x l)
+  where
+    go : ((b ≡ x) × (oneAt b x ≡ 1)) ⊎ ((b ≢ x) × (oneAt b x ≡ 0)) → (0 < times x l → (pre : List ℕ) × (post : List ℕ) × (l ≡ pre ++ (x ∷ post))) → (pre : List ℕ) × (post : List ℕ) × (b ∷ l ≡ pre ++ (x ∷ post))
+    go (inl e) r = ([], l, ap (λ (i : ℕ). i ∷ l) (e .0))
+    go (inr e) r = let w = r (omega (arith, p, times-cons x b l, e .1)) in (b ∷ w .0, w .1, ap (λ (k : List ℕ). b ∷ k) (w .2))
+
+-- an extent with the block before its start
+extent-before : (s : Anodes) (a y : ℕ) → y + 1 ≡ s .block a → run y (s .count a + 1) ≡ y ∷ extent s a
+unfolding extent run
+extent-before s a y e = rw (← e, add-one (s .count a), add-one y)
+
+-- ---- an anode x of the free list
+
+module _ {ex : ℕ → Bool} {n last : ℕ} {s : Anodes} {system hd sd : ℕ → ℕ} (g : Good limit ex n last s system hd sd) (x : ℕ) (free : hd x ≡ 1) (y : ℕ) where
+  split : (pre : List ℕ) × (post : List ℕ) × (chainOf (s .next) limit 1 ≡ pre ++ (x ∷ post))
+  split = member-split x (chainOf (s .next) limit 1) (omega (arith, times-on-chain (g .view) (g .linked) hd (g .heads) 1 (head-1 g) x, oneAt-same (hd x) 1 free))
+
+  once : (times x (split .0) ≡ 0) × (times x (split .1) ≡ 0)
+  once = stands-once g 1 (head-1 g) x (split .0) (split .1) (split .2)
+
+  was : blocksOf s 1 ≡ gather (extent s) (split .0 ++ (x ∷ split .1))
+  was = blocksOf-extents s 1 ∙ ap (gather (extent s)) (split .2)
+
+  -- it is rewritten, and has lost or gained y
+  module _ (c b : ℕ) where
+    now : blocksOf (rewritten s x c b) 1 ≡ gather (extent (rewritten s x c b)) (split .0 ++ (x ∷ split .1))
+    unfolding rewritten
+    now = blocksOf-extents (rewritten s x c b) 1 ∙ ap (gather (extent (rewritten s x c b))) (split .2)
+
+    at-x : extent (rewritten s x c b) x ≡ run b c
+    unfolding rewritten extent
+    at-x = rw (changed-same (s .count) x c, changed-same (s .block) x b)
+
+    same : (a : ℕ) → a ≢ x → extent (rewritten s x c b) a ≡ extent s a
+    unfolding rewritten extent
+    same a i = rw (changed-other (s .count) x c a i, changed-other (s .block) x b a i)
+
+    rewritten-less : OneMore y (run b c) (extent s x) → OneMore y (blocksOf (rewritten s x c b) 1) (blocksOf s 1)
+    rewritten-less o = rw (was, now)
+        (one-anode (extent (rewritten s x c b)) (extent s) (split .0) (split .1) x y (λ a i. sym (same a i)) (once .0) (once .1) (rw at-x o))
+
+    rewritten-more : OneMore y (extent s x) (run b c) → OneMore y (blocksOf s 1) (blocksOf (rewritten s x c b) 1)
+    rewritten-more o = rw (was, now) (one-anode (extent s) (extent (rewritten s x c b)) (split .0) (split .1) x y same (once .0) (once .1) (rw at-x o))
+
+  -- it is unlinked with its only block
+  unlinked-less : (p : ℕ) → s .next p ≡ x → x ≢ 0 → x ≢ 1 → OneMore y [] (extent s x) → OneMore y (blocksOf (unlinked s p x) 1) (blocksOf s 1)
+  unfolding unlinked extent run
+  unlinked-less p px x0 x1 o =
+      let r = unlinked s p x in
+      let none : extent r x ≡ [] = rw (changed-same (s .count) x 0) in
+      let left : blocksOf r 1 ≡ gather (extent r) (split .0 ++ (x ∷ split .1)) =
+      blocksOf-extents r 1 ∙ ap (gather (extent r)) (unlinked-chain g 1 (head-1 g) x (split .0) (split .1) (split .2) p px x0 x1) ∙ sym (gather-skip (extent r) (split .0) (split .1) x none) in
+      rw (was, left) (one-anode (extent r) (extent s) (split .0) (split .1) x y (λ a i. sym (rw (changed-other (s .count) x 0 a i, changed-other (s .block) x 0 a i))) (once .0) (once .1) (rw none o))
+
+  -- a fresh anode after it has y
+  inserted-more : x ≢ 0 → s .block x ≢ 0 → y ≢ 0 → (f : ℕ) → f ≢ 0 → s .block f ≡ 0 → f < limit → OneMore y (blocksOf s 1) (blocksOf (insertedAfter s x f 1 y) 1)
+  unfolding insertedAfter extent run
+  inserted-more x0 u y0 f f0 fresh fA =
+      let t = insertedAfter s x f 1 y in
+      let pre = split .0 ++ (x ∷ []) in
+      let parts : (l : List ℕ) → split .0 ++ (x ∷ l) ≡ pre ++ l = λ l. sym (append-assoc (split .0) (x ∷ []) l) in
+      let none : extent s f ≡ [] = rw (g .free-none f fresh) in
+      let new : extent t f ≡ y ∷ [] = rw (changed-same (s .count) f 1, changed-same (s .block) f y) in
+      let away : times f (pre ++ split .1) ≡ 0 = rw (split .2 ∙ parts (split .1)) at
+      (seg-used (g .view) (g .linked) 1 0 (chainOf (s .next) limit 1) f (λ q. head-1 g .in-use) (the-chain (g .view) (g .linked) 1 (λ q. head-1 g .in-use)) fresh) in
+      let before : blocksOf s 1 ≡ gather (extent s) (pre ++ (f ∷ split .1)) = was ∙ ap (gather (extent s)) (parts (split .1)) ∙ sym (gather-skip (extent s) pre (split .1) f none) in
+      let after : blocksOf t 1 ≡ gather (extent t) (pre ++ (f ∷ split .1)) =
+      blocksOf-extents t 1 ∙ ap (gather (extent t)) (inserted-chain g 1 (head-1 g) x (split .0) (split .1) (split .2) x0 u f 1 y f0 fresh fA y0 ∙ parts (f ∷ split .1)) in
+      rw (before, after) (one-anode (extent s) (extent t) pre (split .1) f y (λ a i. rw (changed-other (s .count) f 1 a i, changed-other (s .block) f y a i))
+      (omega (arith, away, times-append f pre (split .1))) (omega (arith, away, times-append f pre (split .1))) (rw (none, new) ([], [], refl, refl)))
+
+-- ---- the steps
+
+module _ {ex : ℕ → Bool} {n last : ℕ} {s : Anodes} {system hd sd : ℕ → ℕ} (g : Good limit ex n last s system hd sd) where
+  -- a change that touches no anode of the free list
+  free-kept : {t : Anodes} {system′ hd′ sd′ : ℕ → ℕ} → Good limit ex n last t system′ hd′ sd′ → ((a : ℕ) → s .block a ≢ 0 → hd a ≡ 1 → Alike s t a) → blocksOf t 1 ≡ blocksOf s 1
+  free-kept {t} g′ alike =
+      let each : (a : ℕ) → 0 < times a (chainOf (s .next) limit 1) → Alike s t a = λ a p. (let o = on-chain g 1 (head-1 g) a p in alike a (o .1) (o .0)) in
+      kept-blocks s t 1 (chain-kept g g′ 1 (head-1 g) (head-1 g′) each) (λ a p. extent-alike (each a p))
+
+  -- the first block of x, found first on a side
+  withoutFirst-less : (m : ℕ) (o : (m ≡ 1) ⊎ (m ≡ 2)) (p x : ℕ) → FoundIn (s .count) (cut (s .next)) m (side limit s m) 0 p x →
+      OneMore (s .block x) (blocksOf (withoutFirst limit ex last s p x) 1) (blocksOf s 1)
+  unfolding withoutFirst emptied extent run
+  withoutFirst-less m o p x f = elim (same? (s .count x) 1) [
+    | inr i ↦ rw (eqb-false (s .count x) 1 i) (rewritten-less g x free (s .block x) (s .count x - 1) (s .block x + 1) ([], run (s .block x + 1) (s .count x - 1), refl, shorter))
+    | inl i ↦ rw (eqb-true (s .count x) 1 i) (elim (same? x 2) [
+      | inl j ↦ rw (eqb-true x 2 j) (rewritten-less g x free (s .block x) 0 65535 (only i))
+      | inr j ↦ rw (eqb-false x 2 j) (unlinked-less g x free (s .block x) p (free-after g m o p x f j) (full-0 g x (f .full)) (full-1 g x (f .full)) (only i))
+    ])
+  ]
+    where
+      free : hd x ≡ 1
+      free = free-head g m o p x f
+
+      only : s .count x ≡ 1 → OneMore (s .block x) [] (extent s x)
+      only i = ([], [], refl, rw i)
+
+      shorter : extent s x ≡ s .block x ∷ run (s .block x + 1) (s .count x - 1)
+      shorter = let e : s .count x ≡ suc (s .count x - 1) = omega (arith, f .full) in ap (run (s .block x)) e ∙ rw (add-one (s .block x))
+
+-- block y, in hand, joins the last anode of its side or gets an anode behind it
+module _ {ex : ℕ → Bool} {n last : ℕ} {s : Anodes} {system hd sd : ℕ → ℕ} (g : Good limit ex n last s system hd sd) (y : ℕ) (y0 : y ≢ 0) (z : ℕ) (free : hd z ≡ 1) where
+  appended : (t : Anodes) (ys : List ℕ) → append limit ex last s z y ≡ planned t ys → OneMore y (blocksOf s 1) (blocksOf t 1)
+  appended t ys e = elim (append-cases limit ex last s z y) [
+    | inr c ↦ absurd (refused≢planned 28 t ys (sym (c .0) ∙ e))
+    | inl c ↦ (let f = lowestFree limit ex last s in
+        let i = free-is limit ex last s f (c .1) in
+        let w = inserted-more g z free y (λ q. omega (arith, free, ap hd q, g .heads .off-zero)) (headed-used g z (λ q. omega (arith, free, q))) y0 f (λ q. omega (arith, q, i .0)) (i .1) (c .0) in
+        rw (planned-same (insertedAfter s z f 1 y) t (y ∷ []) ys (sym (c .2) ∙ e) .0) at w)
+  ]
+
+  join-more : (t : Anodes) (ys : List ℕ) → join limit ex last s z y ≡ planned t ys → OneMore y (blocksOf s 1) (blocksOf t 1)
+  unfolding join joinFilling joinAfter joinBefore
+  join-more t ys e = elim (cond-cases (eqb z 1) (append limit ex last s z y) (joinFilling limit ex last s z y)) [
+    | inl c ↦ appended t ys (sym (c .1) ∙ e)
+    | inr c ↦ elim (cond-cases (eqb (s .count z) 0) (planned (rewritten s z 1 y) (y ∷ [])) (joinAfter limit ex last s z y)) [
+      | inl k ↦ by 1 y (sym (k .1) ∙ sym (c .1) ∙ e) (behind 1 y (extent-filled s z y (eqb→eq (s .count z) 0 (k .0))))
+      | inr k ↦ elim (cond-cases (eqb (s .block z + s .count z) y) (planned (rewritten s z (s .count z + 1) (s .block z)) (y ∷ [])) (joinBefore limit ex last s z y)) [
+        | inl i ↦ by (s .count z + 1) (s .block z) (sym (i .1) ∙ sym (k .1) ∙ sym (c .1) ∙ e) (behind (s .count z + 1) (s .block z) (extent-longer s z y (eqb→eq (s .block z + s .count z) y (i .0))))
+        | inr i ↦ elim (cond-cases (eqb (y + 1) (s .block z)) (planned (rewritten s z (s .count z + 1) y) (y ∷ [])) (append limit ex last s z y)) [
+          | inl j ↦ by (s .count z + 1) y (sym (j .1) ∙ sym (i .1) ∙ sym (k .1) ∙ sym (c .1) ∙ e) ([], extent s z, refl, extent-before s z y (eqb→eq (y + 1) (s .block z) (j .0)))
+          | inr j ↦ appended t ys (sym (j .1) ∙ sym (i .1) ∙ sym (k .1) ∙ sym (c .1) ∙ e)
+        ]
+      ]
+    ]
+  ]
+    where
+      by : (c b : ℕ) → planned (rewritten s z c b) (y ∷ []) ≡ planned t ys → OneMore y (extent s z) (run b c) → OneMore y (blocksOf s 1) (blocksOf t 1)
+      by c b q o = let w = rewritten-more g z free y c b o in rw (planned-same (rewritten s z c b) t (y ∷ []) ys q .0) at w
+
+      behind : (c b : ℕ) → run b c ≡ extent s z ++ (y ∷ []) → OneMore y (extent s z) (run b c)
+      behind c b q = (extent s z, [], sym (append-nil (extent s z)), q)
+
+module _ {ex : ℕ → Bool} {n last : ℕ} {s : Anodes} {system hd sd : ℕ → ℕ} (g : Good limit ex n last s system hd sd) (h : ℕ) (d : Head (s .next) (s .block) h) (h1 : h ≢ 1) where
+  -- a take takes one block out of the free list's
+  pub take-free : (own : Bool) (t : Anodes) (ys : List ℕ) → takeBlock limit ex last own s h ≡ planned t ys → (y : ℕ) × (ys ≡ y ∷ []) × OneMore y (blocksOf t 1) (blocksOf s 1)
+  unfolding takeFrom
+  take-free own t ys e = go (firstFree limit own s) refl
+    where
+      go : (c : Found) → firstFree limit own s ≡ c → (y : ℕ) × (ys ≡ y ∷ []) × OneMore y (blocksOf t 1) (blocksOf s 1)
+      go nowhere q = absurd (refused≢planned 27 t ys (sym (take-nowhere limit own s ex last h q) ∙ e))
+      go (found p x) q =
+          let f = firstFree-found limit own s g p x q in
+          let i = withoutFirst-out g (f .0) (f .1) p x (f .2) in
+          let u = full-used g x (f .2 .full) in
+          let w = put-placed system (s .block x) (i .good) u (omega (arith, g .own .fits x (g .view .below x u) (f .2 .full), f .2 .full)) h (d .pos) h1 (i .heads-kept h d) own t ys (sym (take-found limit own s ex last h p x q) ∙ e) in
+          (s .block x, w .1, rw (free-kept (i .good) (w .0 .good) (λ a v j. w .0 .apart a v (λ k. h1 (sym k ∙ j)))) (withoutFirst-less g (f .0) (f .1) p x (f .2)))
+
+  -- and a give puts one among them
+  pub give-free : (t : Anodes) (ys : List ℕ) → giveBack limit ex last s h ≡ planned t ys → (y : ℕ) × (ys ≡ y ∷ []) × OneMore y (blocksOf s 1) (blocksOf t 1)
+  unfolding giveBack giveFrom release
+  give-free t ys e = go (lastFull (s .count) 0 (chainOf (s .next) limit h)) refl e
+    where
+      go : (c : Found) → lastFull (s .count) 0 (chainOf (s .next) limit h) ≡ c → elim c [ nowhere ↦ refused 0 | found p x ↦ giveFrom limit ex last s h p x ] ≡ planned t ys →
+          (y : ℕ) × (ys ≡ y ∷ []) × OneMore y (blocksOf s 1) (blocksOf t 1)
+      go nowhere q e = absurd (refused≢planned 0 t ys e)
+      go (found p x) q e =
+          let f = lastFull-found (s .count) (s .next) h 0 0 (chainOf (s .next) limit h) (the-chain (g .view) (g .linked) h (λ z. d .in-use)) p x q in
+          let i = withoutLast-out g h d h1 p x f in
+          let u = full-used g x (f .full) in
+          let y = s .block x + (s .count x - 1) in
+          let y0 : y ≢ 0 = λ z. u (omega arith) in
+          let yn : y < n = omega (arith, g .own .fits x (g .view .below x u) (f .full), f .full) in
+          let r = withoutLast limit ex last s h p x in
+          let w = release-placed system y (i .good) y0 yn t ys e in
+          let m = join-more (i .good) y y0 (lastOf (sideOf limit ex last y) (side limit r (sideOf limit ex last y))) (side-last-head system y (i .good) y0 yn) t ys e in
+          (y, w .1, rw (free-kept g (i .good) (λ a v j. i .apart a (λ k. h1 (sym k ∙ j)))) at m)

@@ -1,0 +1,196 @@
+-- A give takes the last block off the giver's chain.
+use Prim.Native.Nat.{ℕ, zero, suc, _+_, _-_, _<_}
+use mathlib.Core.Path.{_≡_, refl, sym, ap, _∙_}
+use mathlib.Core.Logic.{_≢_, inl, inr}
+use mathlib.Core.Bool.{Bool}
+use mathlib.Core.List.{List, [], _∷_, _++_, reverse, append-nil, append-assoc, reverse-cons}
+use native.Mathlib.Omega.{arith}
+use lib.ListN.{length}
+use Rattle.rules.specs.Counting.{sumList, times, gather, lastOf}
+use Rattle.rules.specs.Anodes.{Anodes, limit}
+use Rattle.rules.specs.Chains.{chainOf, run, blocksOf}
+use Rattle.rules.specs.Space.{Plan, refused, planned, rewritten, unlinked, emptied, Found, nowhere, found, lastFull, withoutLast, giveFrom, giveBack, after, giveMany}
+use Rattle.laws.specs.Tests.{same?, eqb-true, eqb-false}
+use Rattle.laws.specs.Sums.{changed-same, changed-other}
+use Rattle.laws.specs.Bags.{list-cons}
+use Rattle.laws.specs.Segments.{Seg, Chain, seg-split}
+use Rattle.laws.specs.Links.{the-chain, chain-the}
+use Rattle.laws.specs.LinkChanges.{unlink, unlink-view, unlink-linked, unlink-after}
+use Rattle.laws.specs.Heads.{Head}
+use Rattle.laws.specs.Space.{Good}
+use Rattle.laws.specs.Searches.{FoundIn, nowhere≢found, lastFull-found}
+use Rattle.laws.specs.Moves.{Placed}
+use Rattle.laws.specs.Leaving.{full-used, full-0}
+use Rattle.laws.specs.Arriving.{refused≢planned, planned-same}
+use Rattle.laws.specs.Give.{withoutLast-out, release-placed, give-good}
+use Rattle.laws.specs.Frame.{shift-of, moved-stays}
+use Rattle.laws.specs.Resize.{after-planned}
+use Rattle.laws.specs.RefusedSteps.{lastFull-none}
+use Rattle.laws.specs.ChainBlocks.{gather-append, extent, blocksOf-extents, self-headed, shift-blocks, gather-off, gather-skip, stands-once}
+use Rattle.laws.specs.TakenBlocks.{run-end, last-split}
+
+-- a walk around its last anode with a block: no anode behind it has one
+lastFull-split : (count : ℕ → ℕ) (p : ℕ) (l : List ℕ) (q x : ℕ) → lastFull count p l ≡ found q x →
+    (pre : List ℕ) × (post : List ℕ) × (l ≡ pre ++ (x ∷ post)) × (sumList count post ≡ 0)
+unfolding lastFull
+lastFull-split count p [] q x e = absurd (nowhere≢found q x e)
+lastFull-split count p (b ∷ l) q x e = go (lastFull count b l) refl e (lastFull-split count b l q x)
+  where
+    go : (c : Found) → lastFull count b l ≡ c → elim c [ nowhere ↦ elim (count b) [ zero ↦ nowhere | suc k ↦ found p b ] | found q y ↦ found q y ] ≡ found q x →
+        (lastFull count b l ≡ found q x → (pre : List ℕ) × (post : List ℕ) × (l ≡ pre ++ (x ∷ post)) × (sumList count post ≡ 0)) →
+        (pre : List ℕ) × (post : List ℕ) × (b ∷ l ≡ pre ++ (x ∷ post)) × (sumList count post ≡ 0)
+    go (found q′ y) f e r = let t = r (f ∙ e) in (b ∷ t .0, t .1, ap (λ (k : List ℕ). b ∷ k) (t .2), t .3)
+    go nowhere f e r = here (count b) e
+      where
+        here : (k : ℕ) → elim k [ zero ↦ nowhere | suc j ↦ found p b ] ≡ found q x → (pre : List ℕ) × (post : List ℕ) × (b ∷ l ≡ pre ++ (x ∷ post)) × (sumList count post ≡ 0)
+        here zero e = absurd (nowhere≢found q x e)
+        here (suc k) e =
+            let bx : b ≡ x = cc in
+            ([], l, rw bx, lastFull-none count b l f)
+
+-- anodes with no block have no blocks
+gather-none : (s : Anodes) (l : List ℕ) → sumList (s .count) l ≡ 0 → gather (extent s) l ≡ []
+unfolding gather extent run
+gather-none s [] z = refl
+gather-none s (a ∷ l) z =
+    let c : s .count a ≡ 0 = omega (arith, z, list-cons (s .count) a l) in
+    rw (c, gather-none s l (omega (arith, z, list-cons (s .count) a l)))
+
+-- the blocks of a list of anodes of which the last that has any loses its last
+gather-lost : (f f′ : ℕ → List ℕ) (pre post : List ℕ) (x y : ℕ) → ((a : ℕ) → a ≢ x → f′ a ≡ f a) → times x pre ≡ 0 → times x post ≡ 0 → gather f post ≡ [] → f x ≡ f′ x ++ (y ∷ []) →
+    gather f (pre ++ (x ∷ post)) ≡ gather f′ (pre ++ (x ∷ post)) ++ (y ∷ [])
+unfolding gather
+gather-lost f f′ pre post x y same i j none lost =
+    let was : gather f (pre ++ (x ∷ post)) ≡ gather f pre ++ (f′ x ++ (y ∷ [])) = gather-append f pre (x ∷ post) ∙ rw (none, append-nil (f x), lost) in
+    let now : gather f′ (pre ++ (x ∷ post)) ≡ gather f pre ++ f′ x = gather-append f′ pre (x ∷ post) ∙ rw (gather-off f f′ x same pre i, gather-off f f′ x same post j, none, append-nil (f′ x)) in
+    was ∙ sym (append-assoc (gather f pre) (f′ x) (y ∷ [])) ∙ ap (λ (l : List ℕ). l ++ (y ∷ [])) (sym now)
+
+-- a walk's last anode has for next what comes after the walk
+seg-last : (next : ℕ → ℕ) (a z b : ℕ) (l : List ℕ) → Seg next a (b ∷ l) z → next (lastOf a (b ∷ l)) ≡ z
+unfolding lastOf
+seg-last next a z b [] c = c .2
+seg-last next a z b (x ∷ l) c = seg-last next (next b) z x l (c .2)
+
+-- an anode x of the chain of m, not its head, unlinked after p
+pub unlinked-chain : {ex : ℕ → Bool} {n last : ℕ} {s : Anodes} {system hd sd : ℕ → ℕ} → Good limit ex n last s system hd sd → (m : ℕ) → Head (s .next) (s .block) m → (x : ℕ) (pre post : List ℕ) →
+    chainOf (s .next) limit m ≡ pre ++ (x ∷ post) → (p : ℕ) → s .next p ≡ x → x ≢ 0 → x ≢ m → chainOf (unlinked s p x .next) limit m ≡ pre ++ post
+unfolding unlinked unlink
+unlinked-chain {s = s} g m d x pre post split p px x0 xm = go pre refl (rw (w .2 .0) at (w .1))
+  where
+    chain : Chain (s .next) m (pre ++ (x ∷ post))
+    chain = rw split at (the-chain (g .view) (g .linked) m (λ q. d .in-use))
+
+    w : (y : ℕ) × Seg (s .next) m pre y × Seg (s .next) y (x ∷ post) 0
+    w = seg-split (s .next) m 0 pre (x ∷ post) chain
+
+    go : (l : List ℕ) → pre ≡ l → Seg (s .next) m l x → chainOf (unlink (s .next) p x) limit m ≡ l ++ post
+    go [] e c = absurd (xm (sym c))
+    go (b ∷ l) e c =
+        let t = last-split m b l in
+        let end : p ≡ lastOf m (b ∷ l) = g .linked .uniq p (lastOf m (b ∷ l)) (λ z. x0 (sym px ∙ z)) (px ∙ sym (seg-last (s .next) m x b l c)) in
+        let front : b ∷ l ≡ t .0 ++ (p ∷ []) = t .1 ∙ ap (λ (i : ℕ). t .0 ++ (i ∷ [])) (sym end) in
+        let parts : (m : List ℕ) → b ∷ l ++ m ≡ t .0 ++ (p ∷ m) = λ m. ap (λ (i : List ℕ). i ++ m) front ∙ append-assoc (t .0) (p ∷ []) m in
+        chain-the (unlink-view (g .view) (g .linked) p x x0 px) (unlink-linked (g .view) (g .linked) p x x0 px) m (t .0 ++ (p ∷ post))
+        (λ z. rw (changed-other (s .block) x 0 m (λ i. xm (sym i))) (d .in-use))
+        (unlink-after (g .view) (g .linked) p x x0 px m (t .0) post (λ z. d .in-use) (rw (ap (λ (i : List ℕ). i ++ (x ∷ post)) e ∙ parts (x ∷ post)) at chain))
+        ∙ sym (parts post)
+
+-- an extent without its last block
+extent-shorter : (s : Anodes) (x : ℕ) → 0 < s .count x → extent s x ≡ run (s .block x) (s .count x - 1) ++ ((s .block x + (s .count x - 1)) ∷ [])
+unfolding extent
+extent-shorter s x full = let e : s .count x ≡ suc (s .count x - 1) = omega arith in ap (run (s .block x)) e ∙ run-end (s .block x) (s .count x - 1)
+
+-- ---- out of the giver's chain
+
+module _ {ex : ℕ → Bool} {n last : ℕ} {s : Anodes} {system hd sd : ℕ → ℕ} (g : Good limit ex n last s system hd sd) (h : ℕ) (d : Head (s .next) (s .block) h) (q x : ℕ)
+    (e : lastFull (s .count) 0 (chainOf (s .next) limit h) ≡ found q x) where
+  given-found : FoundIn (s .count) (s .next) h (chainOf (s .next) limit h) 0 q x
+  given-found = lastFull-found (s .count) (s .next) h 0 0 (chainOf (s .next) limit h) (the-chain (g .view) (g .linked) h (λ z. d .in-use)) q x e
+
+  split : (pre : List ℕ) × (post : List ℕ) × (chainOf (s .next) limit h ≡ pre ++ (x ∷ post)) × (sumList (s .count) post ≡ 0)
+  split = lastFull-split (s .count) 0 (chainOf (s .next) limit h) q x e
+
+  y : ℕ
+  y = s .block x + (s .count x - 1)
+
+  -- x alone has lost its last block
+  lost : (r : Anodes) → ((a : ℕ) → a ≢ x → extent r a ≡ extent s a) → extent s x ≡ extent r x ++ (y ∷ []) → blocksOf s h ≡ gather (extent r) (split .0 ++ (x ∷ split .1)) ++ (y ∷ [])
+  lost r same less =
+      let once = stands-once g h d x (split .0) (split .1) (split .2) in
+      blocksOf-extents s h ∙ ap (gather (extent s)) (split .2)
+      ∙ gather-lost (extent s) (extent r) (split .0) (split .1) x y same (once .0) (once .1) (gather-none s (split .1) (split .3)) less
+
+  rewritten-blocks : (c b : ℕ) → s .count x - 1 ≡ c → run b c ≡ run (s .block x) c → blocksOf s h ≡ blocksOf (rewritten s x c b) h ++ (y ∷ [])
+  unfolding rewritten extent y
+  rewritten-blocks c b left keeps =
+      let r = rewritten s x c b in
+      lost r (λ a i. rw (changed-other (s .count) x c a i, changed-other (s .block) x b a i))
+      (extent-shorter s x (given-found .full) ∙ rw (changed-same (s .count) x c, changed-same (s .block) x b, keeps, left))
+      ∙ ap (λ (l : List ℕ). l ++ (y ∷ [])) (sym (blocksOf-extents r h ∙ ap (gather (extent r)) (split .2)))
+
+  -- x, not the head, has left the chain
+  unlinked-blocks : x ≢ h → s .count x ≡ 1 → blocksOf s h ≡ blocksOf (unlinked s q x) h ++ (y ∷ [])
+  unfolding unlinked extent y run
+  unlinked-blocks xh one =
+      let r = unlinked s q x in
+      let z : s .count x - 1 ≡ 0 = omega arith in
+      let before : s .next q ≡ x = elim (given-found .before) [ inl c ↦ absurd (xh (c .0)) | inr c ↦ c ] in
+      let none : extent r x ≡ [] = rw (changed-same (s .count) x 0) in
+      lost r (λ a i. rw (changed-other (s .count) x 0 a i, changed-other (s .block) x 0 a i)) (extent-shorter s x (given-found .full) ∙ rw (none, z))
+      ∙ ap (λ (l : List ℕ). l ++ (y ∷ []))
+      (gather-skip (extent r) (split .0) (split .1) x none
+      ∙ sym (blocksOf-extents r h ∙ ap (gather (extent r)) (unlinked-chain g h d x (split .0) (split .1) (split .2) q before (full-0 g x (given-found .full)) xh)))
+
+  withoutLast-blocks : blocksOf s h ≡ blocksOf (withoutLast limit ex last s h q x) h ++ ((s .block x + (s .count x - 1)) ∷ [])
+  unfolding withoutLast emptied y run
+  withoutLast-blocks = elim (same? (s .count x) 1) [
+    | inr c ↦ rw (eqb-false (s .count x) 1 c) (rewritten-blocks (s .count x - 1) (s .block x) refl refl)
+    | inl c ↦ rw (eqb-true (s .count x) 1 c) (elim (same? x h) [
+      | inl i ↦ rw (eqb-true x h i) (rewritten-blocks 0 65535 (omega arith) refl)
+      | inr i ↦ rw (eqb-false x h i) (unlinked-blocks i c)
+    ])
+  ]
+
+-- ---- the whole
+
+module _ {ex : ℕ → Bool} {n last : ℕ} {s : Anodes} {system hd sd : ℕ → ℕ} (g : Good limit ex n last s system hd sd) (h : ℕ) (d : Head (s .next) (s .block) h) (h1 : h ≢ 1) where
+  -- the block into the free list: the giver's chain has its blocks as before
+  free-placed : {y : ℕ} {t : Anodes} {system′ : ℕ → ℕ} → Placed limit ex n last s system′ hd 1 y t → blocksOf t h ≡ blocksOf s h
+  free-placed w = shift-blocks g (w .good) (shift-of g (w .good) 1 (λ m c. self-headed (w .good) m (c .pos) (w .kept m (c .in-use) ∙ g .heads .at-head m c)) (w .no-new) (λ a u q i. w .apart a u q)) h d h1 h1
+
+module _ {ex : ℕ → Bool} {n last : ℕ} {s : Anodes} {system hd sd : ℕ → ℕ} (g : Good limit ex n last s system hd sd) (h : ℕ) (d : Head (s .next) (s .block) h) (h1 : h ≢ 1) where
+  pub give-blocks : (t : Anodes) (ys : List ℕ) → giveBack limit ex last s h ≡ planned t ys → blocksOf s h ≡ blocksOf t h ++ ys
+  unfolding giveBack giveFrom
+  give-blocks t ys e = go (lastFull (s .count) 0 (chainOf (s .next) limit h)) refl e
+    where
+      go : (c : Found) → lastFull (s .count) 0 (chainOf (s .next) limit h) ≡ c → elim c [ nowhere ↦ refused 0 | found p x ↦ giveFrom limit ex last s h p x ] ≡ planned t ys → blocksOf s h ≡ blocksOf t h ++ ys
+      go nowhere q e = absurd (refused≢planned 0 t ys e)
+      go (found p x) q e =
+          let f = given-found g h d p x q in
+          let i = withoutLast-out g h d h1 p x f in
+          let u = full-used g x (f .full) in
+          let y = s .block x + (s .count x - 1) in
+          let w = release-placed system y (i .good) (λ z. u (omega arith)) (omega (arith, g .own .fits x (g .view .below x u) (f .full), f .full)) t ys e in
+          withoutLast-blocks g h d p x q ∙ ap (λ (l : List ℕ). l ++ (y ∷ [])) (sym (free-placed (i .good) h (self-headed (i .good) h (d .pos) (i .heads-kept h d)) h1 (w .0))) ∙ ap (λ (l : List ℕ). blocksOf t h ++ l) (sym (w .1))
+
+-- k gives, one after the other: the last of the chain's blocks, last first
+pub gives-blocks : {ex : ℕ → Bool} {n last : ℕ} (k h : ℕ) → h ≢ 1 → (t : Anodes) (zs : List ℕ) (s : Anodes) (system hd sd : ℕ → ℕ) → Good limit ex n last s system hd sd →
+    Head (s .next) (s .block) h → giveMany limit ex last k s h ≡ planned t zs → (blocksOf s h ≡ blocksOf t h ++ reverse zs) × (length zs ≡ k)
+unfolding giveMany
+gives-blocks zero h h1 t zs s system hd sd g d e = let q = planned-same s t [] zs e in rw (← (q .0), q .1) (sym (append-nil (blocksOf s h)), refl)
+gives-blocks {ex} {n} {last} (suc k) h h1 t zs s system hd sd g d e = go (giveBack limit ex last s h) refl e (gives-blocks k h h1 t)
+  where
+    go : (p : Plan) → giveBack limit ex last s h ≡ p → elim p [ refused i ↦ refused i | planned r ys ↦ after limit ex last ys (giveMany limit ex last k r h) ] ≡ planned t zs →
+        ((zs : List ℕ) (s : Anodes) (system hd sd : ℕ → ℕ) → Good limit ex n last s system hd sd → Head (s .next) (s .block) h → giveMany limit ex last k s h ≡ planned t zs →
+        (blocksOf s h ≡ blocksOf t h ++ reverse zs) × (length zs ≡ k)) →
+        (blocksOf s h ≡ blocksOf t h ++ reverse zs) × (length zs ≡ suc k)
+    go (refused i) q e rec = absurd (refused≢planned i t zs e)
+    go (planned r ys) q e rec =
+        let w = give-good g h d h1 r ys q in
+        let f = after-planned limit ex last ys (giveMany limit ex last k r h) t zs e in
+        let b = rec (f .0) r system (w .hd′) (w .sd′) (w .good) (moved-stays g w h d) (f .1) in
+        let all : zs ≡ w .block ∷ f .0 = f .2 ∙ ap (λ (l : List ℕ). l ++ f .0) (w .handed) in (
+          give-blocks g h d h1 r ys q ∙ ap (λ (l : List ℕ). blocksOf r h ++ l) (w .handed) ∙ ap (λ (l : List ℕ). l ++ (w .block ∷ [])) (b .0)
+              ∙ append-assoc (blocksOf t h) (reverse (f .0)) (w .block ∷ []) ∙ ap (λ (l : List ℕ). blocksOf t h ++ l) (sym (reverse-cons (w .block) (f .0)) ∙ ap reverse (sym all)),
+          ap length all ∙ ap suc (b .1),
+        )

@@ -1,0 +1,144 @@
+-- An accepted state but for one chain that no entry names: what stands between the steps of a make, or of a remove.
+use Prim.Native.Nat.{ℕ, _+_, _≤_, _<_}
+use mathlib.Core.Path.{_≡_, refl, sym, ap, _∙_}
+use mathlib.Core.Logic.{_≢_, _⊎_, inl, inr}
+use mathlib.Core.Bool.{Bool, true, false, cond}
+use mathlib.Core.List.{List, map-id}
+use native.Mathlib.Omega.{arith}
+use Rattle.rules.specs.Counting.{oneAt, sumList, times}
+use Rattle.rules.specs.Anodes.{limit, Anodes}
+use Rattle.rules.specs.Chains.{chainOf, blockCount}
+use Rattle.rules.specs.Walk.{Dir, root, Entered, Item, blocksFor, itemOf, broken, itemsBy}
+use Rattle.laws.specs.Tests.{same?}
+use Rattle.laws.specs.Sums.{oneAt-cases, oneAt-same, oneAt-other}
+use Rattle.laws.specs.Bags.{list-add, list-mono, list-congr}
+use Rattle.laws.specs.Heads.{Head}
+use Rattle.laws.specs.Space.{Good, on-chain}
+use Rattle.laws.specs.Frame.{kept-count, Shift, kept-chain}
+use Rattle.laws.specs.Each.{Each, each-map, each-both, list-congr-each, each-zero}
+use Rattle.laws.specs.Items.{wrong, below, namedIn, faults}
+use Rattle.laws.specs.Trees.{Tree}
+use Rattle.laws.specs.TreeChanges.{headed, none-headed, AlikeItems, alike-named, alike-tree}
+use Rattle.laws.specs.Totals.{file-size, names-parts}
+use Rattle.laws.specs.Entries.{broken-wrong, item-fine, fine-item, item-anode, item-dir, items-alike}
+use Rattle.laws.specs.Whole.{named-le, head-counts, counts-head}
+
+-- what is wrong with an item, and 1 for a file's that names h
+abbrev pub amiss : ℕ → Item → ℕ
+amiss h i = wrong i + file-size (λ x. oneAt x h) i
+
+module _ (ex : ℕ → Bool) (n last : ℕ) where
+  -- f heads a chain that nothing names
+  pub record Orphaned (f : ℕ) (s : Anodes) (system hd sd : ℕ → ℕ) (entries : ℕ → List Entered) (marked : Dir → ℕ → Bool) (dirs : List Dir) : Type 0 where
+    pub good : Good limit ex n last s system hd sd
+    pub tree : Tree (itemsBy entries marked s) root dirs
+    pub dir-heads : Each (λ d. Head (s .next) (s .block) (d .head) × (d .head ≢ 1)) dirs
+    pub head : Head (s .next) (s .block) f
+    pub not-named : sumList (namedIn (itemsBy entries marked s) f) dirs ≡ 0
+    pub all-named : (x : ℕ) → 6 ≤ x → x ≢ f → Head (s .next) (s .block) x → 1 ≤ sumList (namedIn (itemsBy entries marked s) x) dirs
+
+-- the steps on the chain of a head h that no file's entry names
+module _ {ex : ℕ → Bool} {n last f : ℕ} {s : Anodes} {system hd sd : ℕ → ℕ} {entries : ℕ → List Entered} {marked : Dir → ℕ → Bool} {dirs : List Dir}
+    (o : Orphaned ex n last f s system hd sd entries marked dirs)
+    (h : ℕ) (no-file : sumList (λ d. sumList (file-size (λ x. oneAt x h)) (itemsBy entries marked s d)) dirs ≡ 0)
+    {t : Anodes} {hd′ sd′ : ℕ → ℕ} (g′ : Good limit ex n last t system hd′ sd′) (sh : Shift s hd t hd′ h) where
+  abbrev items : Dir → List Item
+  items = itemsBy entries marked s
+
+  same-chain : (m : ℕ) → Head (s .next) (s .block) m → m ≢ 1 → m ≢ h → chainOf (t .next) limit m ≡ chainOf (s .next) limit m
+  same-chain m d m1 mh = kept-chain (o .good) g′ h (sh .stays) (sh .no-new) (sh .apart) m d m1 mh
+
+  on : (m : ℕ) → Head (s .next) (s .block) m → m ≢ 1 → m ≢ h → (a : ℕ) → 0 < times a (chainOf (s .next) limit m) → (s .block a ≢ 0) × (hd a ≢ 1) × (hd a ≢ h)
+  on m d m1 mh a k = let c = on-chain (o .good) m d a k in (c .1, λ q. m1 (sym (c .0) ∙ q), λ q. mh (sym (c .0) ∙ q))
+
+  same-count : (m : ℕ) → Head (s .next) (s .block) m → m ≢ 1 → m ≢ h → blockCount t m ≡ blockCount s m
+  same-count m d m1 mh = kept-count s t m (same-chain m d m1 mh) (λ a k. let c = on m d m1 mh a k in sh .apart a (c .0) (c .1) (c .2) .same-count)
+
+  -- an entry with nothing wrong stays so
+  pub still-fine : (e : Entered) → amiss h (itemOf s e) ≡ 0 → wrong (itemOf t e) ≡ 0
+  still-fine e z =
+      let q = item-fine s e (omega arith) in
+      let d = counts-head (o .good) (e .anode) (q .2) in
+      fine-item t e (q .0) (q .1) (head-counts g′ (e .anode) (sh .stays (e .anode) d)) (size d (q .1) (q .3) (e .dir) refl)
+    where
+      size : Head (s .next) (s .block) (e .anode) → 6 ≤ e .anode → (e .dir ≡ true) ⊎ (blockCount s (e .anode) ≡ blocksFor (e .size)) → (b : Bool) → e .dir ≡ b →
+          (e .dir ≡ true) ⊎ (blockCount t (e .anode) ≡ blocksFor (e .size))
+      size d l (inl q) b i = inl q
+      size d l (inr q) true i = inl i
+      size d l (inr q) false i = inr (same-count (e .anode) d (omega arith) not-h ∙ q)
+        where
+          not-h : e .anode ≢ h
+          not-h j = omega (arith, z, ap (λ (c : Bool). cond c 0 (oneAt ((itemOf s e) .anode) h)) (item-dir s e ∙ i), oneAt-same ((itemOf s e) .anode) h (item-anode s e ∙ j))
+
+  pub none-amiss : Each (λ d. sumList (amiss h) (itemsBy entries marked s d) ≡ 0) dirs
+  none-amiss = each-zero (λ d. sumList (amiss h) (items d)) dirs
+      (list-congr (λ d. sumList (amiss h) (items d)) (λ d. faults items d + sumList (file-size (λ x. oneAt x h)) (items d)) dirs (λ d. list-add wrong (file-size (λ x. oneAt x h)) (items d))
+      ∙ list-add (faults items) (λ d. sumList (file-size (λ x. oneAt x h)) (items d)) dirs ∙ omega (arith, o .tree .faultless, no-file))
+
+  abbrev items′ : Dir → List Item
+  items′ = itemsBy entries marked t
+
+  module _ (own : Each (λ d. d .head ≡ h → AlikeItems (itemsBy entries marked s) (itemsBy entries marked t) d) dirs) where
+    one : (d : Dir) → Head (s .next) (s .block) (d .head) × (d .head ≢ 1) → (d .head ≡ h → AlikeItems items items′ d) × (sumList (amiss h) (items d) ≡ 0) → AlikeItems items items′ d
+    one d p q = elim (same? (d .head) h) [
+      | inl e ↦ q .0 e
+      | inr e ↦ items-alike s t (λ j. j) (amiss h) amiss-broken (λ j z. (refl, refl, still-fine j z)) entries entries marked marked d (same-chain (d .head) (p .0) (p .1) e)
+          (λ a k. let c = on (d .head) (p .0) (p .1) e a k in sh .apart a (c .0) (c .1) (c .2))
+          (λ a k i. (sym (map-id (entries (s .block a))), refl)) (q .1)
+    ]
+      where
+        amiss-broken : amiss h broken ≢ 0
+        amiss-broken z = omega (arith, z, broken-wrong)
+
+    alikes : Each (AlikeItems items items′) dirs
+    alikes = each-both (λ d. Head (s .next) (s .block) (d .head) × (d .head ≢ 1)) (λ d. (d .head ≡ h → AlikeItems items items′ d) × (sumList (amiss h) (items d) ≡ 0)) (AlikeItems items items′) dirs one (o .dir-heads)
+        (each-both (λ d. d .head ≡ h → AlikeItems items items′ d) (λ d. sumList (amiss h) (items d) ≡ 0) (λ d. (d .head ≡ h → AlikeItems items items′ d) × (sumList (amiss h) (items d) ≡ 0)) dirs (λ d a b. (a, b)) own
+        none-amiss)
+
+    same-named : (x : ℕ) → sumList (namedIn items′ x) dirs ≡ sumList (namedIn items x) dirs
+    same-named x = list-congr-each (namedIn items′ x) (namedIn items x) dirs
+        (each-map (AlikeItems items items′) (λ d. namedIn items′ x d ≡ namedIn items x d) dirs (λ d e. alike-named items items′ d e x) alikes)
+
+    pub orphan-shift : Orphaned ex n last f t system hd′ sd′ entries marked dirs
+    orphan-shift = record {
+      good = g′;
+      tree = alike-tree items items′ root dirs alikes (o .tree);
+      dir-heads = each-map (λ d. Head (s .next) (s .block) (d .head) × (d .head ≢ 1)) (λ d. Head (t .next) (t .block) (d .head) × (d .head ≢ 1)) dirs (λ d p. (sh .stays (d .head) (p .0), p .1)) (o .dir-heads);
+      head = sh .stays f (o .head);
+      not-named = same-named f ∙ o .not-named;
+      all-named = λ x l q d. omega (arith, same-named x, o .all-named x l q (sh .no-new x d));
+    }
+
+module _ {ex : ℕ → Bool} {n last f : ℕ} {s : Anodes} {system hd sd : ℕ → ℕ} {entries : ℕ → List Entered} {marked : Dir → ℕ → Bool} {dirs : List Dir}
+    (o : Orphaned ex n last f s system hd sd entries marked dirs) where
+  abbrev given : Dir → List Item
+  given = itemsBy entries marked s
+
+  -- an anode is named by files and by directories
+  by-kind : (h : ℕ) → sumList (namedIn given h) dirs ≡ sumList (λ d. sumList (file-size (λ x. oneAt x h)) (given d)) dirs + sumList (below given (λ e. oneAt (e .head) h)) dirs
+  unfolding times
+  by-kind h =
+      list-congr (namedIn given h) (λ d. sumList (file-size (λ x. oneAt x h)) (given d) + below given (λ e. oneAt (e .head) h) d) dirs (λ d. names-parts given (λ x. oneAt x h) d)
+      ∙ list-add (λ d. sumList (file-size (λ x. oneAt x h)) (given d)) (below given (λ e. oneAt (e .head) h)) dirs
+
+  -- the chain that nothing names is no directory's of the tree
+  pub not-dir : 6 ≤ f → Each (λ d. d .head ≢ f) dirs
+  not-dir f6 = none-headed f dirs (omega (arith, o .tree .exact (λ d. oneAt (d .head) f), oneAt-other 5 f (λ e. omega (arith, e, f6)), by-kind f, o .not-named))
+
+  -- the chain that nothing names takes or gives
+  pub orphan-changed : 6 ≤ f → {t : Anodes} {hd′ sd′ : ℕ → ℕ} → Good limit ex n last t system hd′ sd′ → Shift s hd t hd′ f → Orphaned ex n last f t system hd′ sd′ entries marked dirs
+  orphan-changed f6 {t} g′ sh = orphan-shift o f (omega (arith, by-kind f, o .not-named)) g′ sh
+      (each-map (λ d. d .head ≢ f) (λ d. d .head ≡ f → AlikeItems given (itemsBy entries marked t) d) dirs (λ d q e. absurd (q e)) (not-dir f6))
+
+  -- no file's entry names a directory of the tree
+  pub dir-no-file : (h : ℕ) → headed h dirs ≡ 1 → sumList (λ d. sumList (file-size (λ x. oneAt x h)) (given d)) dirs ≡ 0
+  unfolding headed
+  dir-no-file h once = elim (oneAt-cases 5 h) [
+    | inr c ↦ omega (arith, once, o .tree .exact (λ d. oneAt (d .head) h), c .1, by-kind h, o .tree .once h)
+    | inl c ↦ omega (
+      arith,
+      by-kind h,
+      o .tree .faultless,
+      list-mono (namedIn given h) (faults given) dirs (named-le entries marked s h (λ l e. omega (arith, l, c .0))),
+    )
+  ]

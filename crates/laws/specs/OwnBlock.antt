@@ -1,0 +1,155 @@
+-- A block taken into an anode of its own: a chain with no block fills its head, one with a block in every anode gets one more anode behind its last.
+use Prim.Native.Nat.{ℕ, _≤_, _<_}
+use mathlib.Core.Path.{_≡_, refl, sym, ap, _∙_}
+use mathlib.Core.Logic.{_≢_, inl, inr}
+use mathlib.Core.Bool.{Bool, true}
+use mathlib.Core.List.{List, [], _∷_, _++_, append-assoc}
+use native.Mathlib.Omega.{arith}
+use lib.Dec.{T}
+use Rattle.rules.specs.Counting.{times, lastOf}
+use Rattle.rules.specs.Anodes.{Anodes}
+use Rattle.rules.specs.Chains.{chainOf}
+use Rattle.rules.specs.Space.{planned, rewritten, insertedAfter, Found, nowhere, found, free, lowestFree, append, growOrAppend, put, withoutFirst, takeFrom, takeBlock}
+use Rattle.laws.specs.Sums.{oneAt-same, changed-same, changed-other}
+use Rattle.laws.specs.Bags.{times-cons}
+use Rattle.laws.specs.Segments.{Chain, seg-zero}
+use Rattle.laws.specs.Links.{the-chain}
+use Rattle.laws.specs.Heads.{Head, times-on-chain}
+use Rattle.laws.specs.Space.{Alike, Good, on-chain}
+use Rattle.laws.specs.Searches.{last-on}
+use Rattle.laws.specs.Moves.{InHand}
+use Rattle.laws.specs.Leaving.{full-used}
+use Rattle.laws.specs.Arriving.{free-is, append-cases, refused≢planned, planned-same}
+use Rattle.laws.specs.Take.{withoutFirst-out}
+use Rattle.laws.specs.Frame.{kept-chain}
+use Rattle.laws.specs.ChainBlocks.{self-headed, inserted-chain}
+use Rattle.laws.specs.FirstFree.{firstFree, firstFree-found, take-nowhere, take-found}
+use Rattle.laws.specs.TakenBlocks.{last-split}
+
+-- the chain of h is its head alone, with the block y
+pub record Filled (A : ℕ) (t : Anodes) (h y : ℕ) : Type 0 where
+  pub chain : chainOf (t .next) A h ≡ h ∷ []
+  pub one : t .count h ≡ 1
+  pub at : t .block h ≡ y
+
+-- the chain of h gets the anode `anode` behind its last, with the block y alone, and keeps its other blocks
+pub record Appended (A : ℕ) (s t : Anodes) (h y : ℕ) : Type 0 where
+  pub anode : ℕ
+  pub chain : chainOf (t .next) A h ≡ chainOf (s .next) A h ++ (anode ∷ [])
+  pub one : t .count anode ≡ 1
+  pub at : t .block anode ≡ y
+  pub kept : (a : ℕ) → 0 < times a (chainOf (s .next) A h) → (t .count a ≡ s .count a) × (t .block a ≡ s .block a)
+
+module _ {A : ℕ} {ex : ℕ → Bool} {n last : ℕ} {s : Anodes} {system hd sd : ℕ → ℕ} (g : Good A ex n last s system hd sd) (h : ℕ) (d : Head (s .next) (s .block) h) (h1 : h ≢ 1) where
+  -- a take first has a block y in hand, in the state r, and then puts it behind the last anode of the chain
+  record Steps (t : Anodes) (ys : List ℕ) : Type 0 where
+    between : Anodes
+    block : ℕ
+    some : block ≢ 0
+    out : InHand A ex n last s system hd 1 block between
+    puts : put A ex last true between (lastOf h (chainOf (between .next) A h)) block ≡ planned t ys
+
+  own-steps : (t : Anodes) (ys : List ℕ) → takeBlock A ex last true s h ≡ planned t ys → Steps t ys
+  unfolding takeFrom
+  own-steps t ys e = go (firstFree A true s) refl
+    where
+      go : (c : Found) → firstFree A true s ≡ c → Steps t ys
+      go nowhere q = absurd (refused≢planned 27 t ys (sym (take-nowhere A true s ex last h q) ∙ e))
+      go (found p x) q =
+          let (m, o, f) = firstFree-found A true s g p x q in
+          record {
+            between = withoutFirst A ex last s p x;
+            block = s .block x;
+            some = full-used g x (f .full);
+            out = withoutFirst-out g m o p x f;
+            puts = sym (take-found A true s ex last h p x q) ∙ e;
+          }
+
+  module _ {y : ℕ} {r : Anodes} (i : InHand A ex n last s system hd 1 y r) where
+    stays : (m : ℕ) → Head (s .next) (s .block) m → Head (r .next) (r .block) m
+    stays m c = self-headed (i .good) m (c .pos) (i .heads-kept m c)
+
+    -- the block in hand was of no anode of the chain
+    hand-chain : chainOf (r .next) A h ≡ chainOf (s .next) A h
+    hand-chain = kept-chain g (i .good) 1 stays (i .no-new) (λ a u p q. i .apart a p) h d h1 h1
+
+    on-h : (a : ℕ) → 0 < times a (chainOf (s .next) A h) → Alike s r a
+    on-h a p = i .apart a (λ q. h1 (sym (on-chain g h d a p .0) ∙ q))
+
+    -- its last anode stands on it, behind the others
+    end-on : 0 < times (lastOf h (chainOf (s .next) A h)) (chainOf (s .next) A h)
+    end-on = elim (last-on h (chainOf (s .next) A h)) [
+      | inr p ↦ p
+      | inl e ↦ rw e (omega (arith, times-on-chain (g .view) (g .linked) hd (g .heads) h d h, oneAt-same (hd h) h (g .heads .at-head h d)))
+    ]
+
+    split : (m : List ℕ) × (chainOf (s .next) A h ≡ m ++ (lastOf h (chainOf (s .next) A h) ∷ []))
+    unfolding lastOf
+    split = go (chainOf (s .next) A h) (the-chain (g .view) (g .linked) h (λ q. d .in-use))
+      where
+        go : (l : List ℕ) → Chain (s .next) h l → (m : List ℕ) × (l ≡ m ++ (lastOf h l ∷ []))
+        go [] c = absurd (d .pos c)
+        go (b ∷ l) c = last-split h b l
+
+    put-filled : chainOf (s .next) A h ≡ h ∷ [] → s .count h ≡ 0 → (t : Anodes) (ys : List ℕ) → put A ex last true r (lastOf h (chainOf (r .next) A h)) y ≡ planned t ys →
+        (ys ≡ y ∷ []) × Filled A t h y
+    unfolding put rewritten lastOf
+    put-filled alone none t ys e =
+        let c : chainOf (r .next) A h ≡ h ∷ [] = hand-chain ∙ alone in
+        let empty : r .count h ≡ 0 = on-h h (rw alone (omega (arith, times-cons h h [], oneAt-same h h refl))) .same-count ∙ none in
+        let p : planned (rewritten r h 1 y) (y ∷ []) ≡ planned t ys = rw (c, empty) at e in
+        let q = planned-same (rewritten r h 1 y) t (y ∷ []) ys p in
+        let filled : Filled A (rewritten r h 1 y) h y = record { chain = c; one = changed-same (r .count) h 1; at = changed-same (r .block) h y } in
+        (q .1, rw (q .0) at filled)
+
+    -- an anode f that was free, behind the last
+    module _ (f : ℕ) (fA : f < A) (is-free : T (free A ex last r f)) (y0 : y ≢ 0) where
+      abbrev end : ℕ
+      end = lastOf h (chainOf (s .next) A h)
+
+      fresh : (6 ≤ f) × (r .block f ≡ 0) × T (ex f)
+      fresh = free-is A ex last r f is-free
+
+      used : (a : ℕ) → 0 < times a (chainOf (s .next) A h) → r .block a ≢ 0
+      used a p z = on-chain g h d a p .1 (sym (on-h a p .same-block) ∙ z)
+
+      not-f : (a : ℕ) → 0 < times a (chainOf (s .next) A h) → a ≢ f
+      not-f a p e = used a p (ap (r .block) e ∙ fresh .1)
+
+      end-0 : end ≢ 0
+      end-0 e = omega (arith, end-on, ap (λ (a : ℕ). times a (chainOf (s .next) A h)) e, seg-zero (s .next) h 0 (chainOf (s .next) A h) (the-chain (g .view) (g .linked) h (λ q. d .in-use)))
+
+      put-appended : Appended A s (insertedAfter r end f 1 y) h y
+      unfolding insertedAfter
+      put-appended = record {
+        anode = f;
+        chain = inserted-chain (i .good) h (stays h d) end (split .0) [] (hand-chain ∙ split .1)
+            end-0 (used end end-on) f 1 y (λ e. omega (arith, e, fresh .0)) (fresh .1) fA y0
+            ∙ sym (ap (λ (l : List ℕ). l ++ (f ∷ [])) (split .1) ∙ append-assoc (split .0) (end ∷ []) (f ∷ []));
+        one = changed-same (r .count) f 1;
+        at = changed-same (r .block) f y;
+        kept = λ a p. (changed-other (r .count) f 1 a (not-f a p) ∙ on-h a p .same-count, changed-other (r .block) f y a (not-f a p) ∙ on-h a p .same-block);
+      }
+
+    put-behind : y ≢ 0 → ((a : ℕ) → 0 < times a (chainOf (s .next) A h) → s .count a ≡ 1) → (t : Anodes) (ys : List ℕ) → put A ex last true r (lastOf h (chainOf (r .next) A h)) y ≡ planned t ys →
+        (ys ≡ y ∷ []) × Appended A s t h y
+    unfolding put growOrAppend
+    put-behind y0 ones t ys e =
+        let z = lastOf h (chainOf (s .next) A h) in
+        let full : r .count z ≡ 1 = on-h z end-on .same-count ∙ ones z end-on in
+        let p : append A ex last r z y ≡ planned t ys = rw (hand-chain, full) at e in
+        elim (append-cases A ex last r z y) [
+          | inr c ↦ absurd (refused≢planned 28 t ys (sym (c .0) ∙ p))
+          | inl c ↦ (let q = planned-same (insertedAfter r z (lowestFree A ex last r) 1 y) t (y ∷ []) ys (sym (c .2) ∙ p) in
+              (q .1, rw (q .0) at (put-appended (lowestFree A ex last r) (c .0) (c .1) y0)))
+        ]
+
+  -- a chain with no block, and so of its head alone
+  pub own-filled : chainOf (s .next) A h ≡ h ∷ [] → s .count h ≡ 0 → (t : Anodes) (ys : List ℕ) → takeBlock A ex last true s h ≡ planned t ys →
+      (y : ℕ) × (ys ≡ y ∷ []) × Filled A t h y
+  own-filled alone none t ys e = let w = own-steps t ys e in let f = put-filled (w .out) alone none t ys (w .puts) in (w .block, f .0, f .1)
+
+  -- a chain with a block in each anode
+  pub own-appended : ((a : ℕ) → 0 < times a (chainOf (s .next) A h) → s .count a ≡ 1) → (t : Anodes) (ys : List ℕ) → takeBlock A ex last true s h ≡ planned t ys →
+      (y : ℕ) × (ys ≡ y ∷ []) × Appended A s t h y
+  own-appended ones t ys e = let w = own-steps t ys e in let f = put-behind (w .out) (w .some) ones t ys (w .puts) in (w .block, f .0, f .1)

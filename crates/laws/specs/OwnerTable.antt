@@ -1,0 +1,235 @@
+-- The block table and the anode table of a good state, and what steps do to them.
+use Prim.Native.Nat.{ℕ, _+_, _*_, _≤_, _<_}
+use mathlib.Core.Path.{_≡_, refl, sym, ap, _∙_}
+use mathlib.Core.Logic.{_≢_, inl, inr}
+use mathlib.Core.Bool.{Bool, cond}
+use mathlib.Core.List.{List, [], _∷_, _++_}
+use native.Mathlib.Omega.{arith}
+use native.Mathlib.Nat.{zero-add}
+use borrow.Author.Tests.{le-leb, lt-leb, eq-eqb, ne-eqb, lt-ltb, le-ltb}
+use lib.Dec.{T, leb}
+use lib.ListN.{length, getD, set, length-set}
+use lib.Seq.{set-append-left, getD-set-same, getD-set-other, ext-getD}
+use Rattle.disk.specs.AnodeBlocks.{listed}
+use Rattle.disk.proofs.Laws.{getD-listed, length-listed}
+use Rattle.rules.specs.Counting.{oneAt, sumBelow, times}
+use Rattle.rules.specs.Anodes.{Anodes, limit}
+use Rattle.rules.specs.Chains.{headOf, covers, owners, systemOwns}
+use Rattle.rules.specs.Accepted.{diskSize}
+use Rattle.rules.specs.Space.{rewritten, onChain, dropped}
+use Rattle.rules.specs.Tables.{chainHead, anodeEntry, anodeTable, headWhere, ownerHead, blockEntry, blockTable}
+use Rattle.laws.specs.Tests.{same?, less?}
+use Rattle.laws.specs.Sums.{oneAt-cases, oneAt-same, oneAt-other, sum-congr, sum-scale, sum-swap, sum-member, sum-some, sum-single, sum-pick}
+use Rattle.laws.specs.Bags.{times-nil, times-cons}
+use Rattle.laws.specs.Ownership.{covers-cases, covers-none}
+use Rattle.laws.specs.Links.{View, Linked}
+use Rattle.laws.specs.LinkChanges.{without, without-cases}
+use Rattle.laws.specs.Heads.{Head, Heads, heads-one, headOf-heads}
+use Rattle.laws.specs.Held.{held, held-fresh}
+use Rattle.laws.specs.Space.{Good, head-good, dead-head, drop-good}
+use Rattle.laws.specs.Owners.{hd-below, holder, owner}
+use Rattle.laws.specs.Resize.{Ran}
+
+-- the list of a function's values below k, by its entries
+pub listed-at : (f : ℕ → ℕ) (k i : ℕ) → i < k → getD (listed f 0 k) i 0 ≡ f i
+listed-at f k i l = getD-listed f 0 k i 0 l ∙ ap f (zero-add i)
+
+pub listed-is : (f : ℕ → ℕ) (k : ℕ) (l : List ℕ) → length l ≡ k → ((i : ℕ) → i < k → f i ≡ getD l i 0) → listed f 0 k ≡ l
+listed-is f k l e h =
+    ext-getD 0 (listed f 0 k) l (length-listed f 0 k ∙ sym e) (λ i b. (let c : i < k = rw (length-listed f 0 k) at b in listed-at f k i c ∙ h i c))
+
+listed-same : (f f′ : ℕ → ℕ) (k : ℕ) → ((i : ℕ) → i < k → f i ≡ f′ i) → listed f 0 k ≡ listed f′ 0 k
+listed-same f f′ k h = listed-is f k (listed f′ 0 k) (length-listed f′ 0 k) (λ i l. h i l ∙ sym (listed-at f′ k i l))
+
+-- ---- the tables of one state
+
+-- the rules that settle the table of heads settle the anode table
+module _ (s : Anodes) {hd : ℕ → ℕ} (v : View limit (s .next) (s .block)) (k : Linked limit (s .next) (s .block)) (t : Heads (s .next) (s .block) hd) where
+  headOf-is : (a : ℕ) → chainHead s a ≡ hd a
+  unfolding chainHead
+  headOf-is a = heads-one v k (headOf limit (s .next) (s .block)) hd (headOf-heads v k) t a
+
+  entry-is : (a : ℕ) → anodeEntry s a ≡ hd a
+  unfolding anodeEntry
+  entry-is a = elim (same? a 0) [
+    | inl e ↦ rw (eq-eqb a 0 e) (sym (ap hd e ∙ t .off-zero))
+    | inr e ↦ rw (ne-eqb a 0 e) (elim (same? (s .block a) 0) [
+      | inl u ↦ rw (eq-eqb (s .block a) 0 u) (sym (t .off a u))
+      | inr u ↦ rw (ne-eqb (s .block a) 0 u) (headOf-is a)
+    ])
+  ]
+
+  pub table-of-heads : anodeTable s ≡ listed hd 0 limit
+  unfolding anodeTable
+  table-of-heads = listed-same (anodeEntry s) hd limit (λ a l. entry-is a)
+
+module _ {ex : ℕ → Bool} {n last : ℕ} {s : Anodes} {system hd sd : ℕ → ℕ} (g : Good limit ex n last s system hd sd) where
+  pub chainHead-is : (a : ℕ) → chainHead s a ≡ hd a
+  chainHead-is = headOf-is s (g .view) (g .linked) (g .heads)
+
+  pub anodeEntry-is : (a : ℕ) → anodeEntry s a ≡ hd a
+  anodeEntry-is = entry-is s (g .view) (g .linked) (g .heads)
+
+  pub anodeTable-is : anodeTable s ≡ listed hd 0 limit
+  anodeTable-is = table-of-heads s (g .view) (g .linked) (g .heads)
+
+  headWhere-is : (x a : ℕ) → headWhere s x a ≡ covers (s .count a) (s .block a) x * hd a
+  unfolding headWhere
+  headWhere-is x a = elim (covers-cases (s .count a) (s .block a) x) [
+    | inl c ↦ rw (c .2) (chainHead-is a ∙ omega arith)
+    | inr c ↦ rw (c .1) (omega arith)
+  ]
+
+  -- a block's entry, summed over the heads that hold it
+  owner-sum : (x : ℕ) → ownerHead s x ≡ sumBelow (λ m. held limit hd (s .count) (s .block) m x * m) limit
+  unfolding ownerHead held
+  owner-sum x =
+      sum-congr (headWhere s x) (λ a. sumBelow (λ m. oneAt (hd a) m * (covers (s .count a) (s .block a) x * m)) limit) limit
+      (λ a l. headWhere-is x a ∙ sym (sum-pick (λ m. covers (s .count a) (s .block a) x * m) (hd a) limit (hd-below g a)))
+      ∙ sum-swap (λ a m. oneAt (hd a) m * (covers (s .count a) (s .block a) x * m)) limit limit
+      ∙ sum-congr (λ m. sumBelow (λ a. oneAt (hd a) m * (covers (s .count a) (s .block a) x * m)) limit) (λ m. held limit hd (s .count) (s .block) m x * m) limit (λ m l. together m)
+    where
+      together : (m : ℕ) → sumBelow (λ a. oneAt (hd a) m * (covers (s .count a) (s .block a) x * m)) limit ≡ sumBelow (λ a. oneAt (hd a) m * covers (s .count a) (s .block a) x) limit * m
+      together m =
+          sum-congr (λ a. oneAt (hd a) m * (covers (s .count a) (s .block a) x * m)) (λ a. m * (oneAt (hd a) m * covers (s .count a) (s .block a) x)) limit (λ a l. omega arith)
+          ∙ sum-scale (λ a. oneAt (hd a) m * covers (s .count a) (s .block a) x) m limit
+          ∙ omega arith
+
+  -- a block that a head holds is on the disk, not the system's, and that head's
+  pub held-data : (m x : ℕ) → 0 < held limit hd (s .count) (s .block) m x → (x < n) × (system x ≡ 0)
+  unfolding held owners
+  held-data m x p =
+      let q = sum-some (λ a. oneAt (hd a) m * covers (s .count a) (s .block a) x) limit p in
+      at (q .0) (q .1) (q .2)
+    where
+      at : (a : ℕ) → a < limit → 0 < oneAt (hd a) m * covers (s .count a) (s .block a) x → (x < n) × (system x ≡ 0)
+      at a l i = elim (covers-cases (s .count a) (s .block a) x) [
+        | inr c ↦ absurd (omega (arith, rw (c .1) at i))
+        | inl c ↦ (let y : x < n = omega (arith, c .0, c .1, g .own .fits a l (omega arith)) in
+            (y, omega (arith, g .own .not-two x y, c .2, sum-member (λ a. covers (s .count a) (s .block a) x) a limit l)))
+      ]
+
+  ownerHead-is : (m x : ℕ) → 0 < held limit hd (s .count) (s .block) m x → ownerHead s x ≡ m
+  ownerHead-is m x p =
+      let i = held-data m x p in
+      let o = owner g x (i .0) (i .1) in
+      let same : m ≡ o .0 = elim (same? m (o .0)) [ inl e ↦ e | inr e ↦ absurd (omega (arith, p, o .3 m (g .view .below m (holder g m x p .in-use)) e)) ] in
+      owner-sum x
+      ∙ sum-single (λ j. held limit hd (s .count) (s .block) j x * j) (o .0) limit (o .1) (λ j l e. rw (o .3 j l e) (omega arith))
+      ∙ rw (o .2) (omega (arith, same))
+
+-- ---- after steps
+
+-- anodes with no block dropped
+held-dropped : (A : ℕ) (hd count block : ℕ → ℕ) (dead : ℕ → Bool) → ((a : ℕ) → T (dead a) → count a ≡ 0) → (x m : ℕ) →
+    held A (without dead hd) (without dead count) (without dead block) m x ≡ held A hd count block m x
+unfolding held
+held-dropped A hd count block dead none x m =
+    sum-congr (λ a. oneAt (without dead hd a) m * covers (without dead count a) (without dead block a) x) (λ a. oneAt (hd a) m * covers (count a) (block a) x) A (λ a l. same a)
+  where
+    same : (a : ℕ) → oneAt (without dead hd a) m * covers (without dead count a) (without dead block a) x ≡ oneAt (hd a) m * covers (count a) (block a) x
+    same a = elim (without-cases dead count a) [
+      | inl c ↦ rw (c .1, none a (c .0), covers-none (without dead block a) x, covers-none (block a) x) (omega arith)
+      | inr c ↦ elim (without-cases dead hd a) [
+        | inl e ↦ absurd (c .0 (e .0))
+        | inr e ↦ elim (without-cases dead block a) [ inl f ↦ absurd (c .0 (f .0)) | inr f ↦ rw (c .1, e .1, f .1) ]
+      ]
+    ]
+
+-- a state in which every head holds what it held
+same-owner : {ex : ℕ → Bool} {n last : ℕ} {s t : Anodes} {system hd sd hd′ sd′ : ℕ → ℕ} → Good limit ex n last s system hd sd → Good limit ex n last t system hd′ sd′ → (x : ℕ) →
+    ((m : ℕ) → held limit hd′ (t .count) (t .block) m x ≡ held limit hd (s .count) (s .block) m x) → ownerHead t x ≡ ownerHead s x
+same-owner {s = s} {t = t} {hd = hd} {hd′ = hd′} g g′ x same =
+    owner-sum g′ x
+    ∙ sum-congr (λ m. held limit hd′ (t .count) (t .block) m x * m) (λ m. held limit hd (s .count) (s .block) m x * m) limit (λ m l. ap (λ (k : ℕ). k * m) (same m))
+    ∙ sym (owner-sum g x)
+
+module _ {ex : ℕ → Bool} {n last : ℕ} {s : Anodes} {system hd sd : ℕ → ℕ} (g : Good limit ex n last s system hd sd) where
+  -- the blocks of ys have gone from one head's chain to another's
+  module _ {from to h size : ℕ} {ys : List ℕ} {t : Anodes} (ran : Ran limit ex n last s system hd from to h size ys t) (apart : from ≢ to) where
+    arrived : (x : ℕ) → 0 < times x ys → 0 < held limit (ran .hd′) (t .count) (t .block) to x
+    arrived x p = omega (arith, rw (oneAt-other from to apart, oneAt-same to to refl) at (ran .passed to x), p)
+
+    -- they are on the disk, and none is the system's
+    pub ran-data : (x : ℕ) → 0 < times x ys → (x < n) × (system x ≡ 0)
+    ran-data x p = held-data (ran .good) to x (arrived x p)
+
+    pub ran-owner : (x : ℕ) → ownerHead t x ≡ cond (leb 1 (times x ys)) to (ownerHead s x)
+    ran-owner x = elim (less? 0 (times x ys)) [
+      | inl p ↦ rw (le-leb 1 (times x ys) p) (ownerHead-is (ran .good) to x (arrived x p))
+      | inr p ↦ rw (lt-leb 1 (times x ys) (omega arith)) (same-owner g (ran .good) x
+          (λ m. (let z : times x ys ≡ 0 = omega arith in omega (arith, rw z at (ran .passed m x)))))
+    ]
+
+  -- a fresh head with no block
+  pub fresh-owner : (f : ℕ) → 6 ≤ f → T (ex f) → f < limit → s .block f ≡ 0 → (x : ℕ) → ownerHead (rewritten s f 0 65535) x ≡ ownerHead s x
+  unfolding rewritten
+  fresh-owner f f6 there fA fresh x = same-owner g (head-good g f 65535 f6 there fA fresh (omega arith)) x
+      (λ m. omega (arith, held-fresh limit hd (s .count) (s .block) f f 0 65535 fA (g .free-none f fresh) m x, ap (λ (k : ℕ). oneAt f m * k) (covers-none 65535 x)))
+
+  -- a chain with no block dropped
+  pub dropped-owner : (h : ℕ) → 6 ≤ h → (d : Head (s .next) (s .block) h) → (none : (a : ℕ) → hd a ≡ h → s .count a ≡ 0) → (x : ℕ) → ownerHead (dropped limit ex last s h) x ≡ ownerHead s x
+  unfolding dropped without
+  dropped-owner h h6 d none x = same-owner g (drop-good g h h6 d none) x
+      (held-dropped limit hd (s .count) (s .block) (onChain limit ex last s h) (λ a t. none a (dead-head g h h6 d none a t)) x)
+
+-- ---- the block table
+
+-- v stored at each place of ys in turn
+unfoldable pub setAll : List ℕ → List ℕ → ℕ → List ℕ
+setAll l [] v = l
+setAll l (y ∷ ys) v = setAll (set l y v) ys v
+
+pub length-setAll : (l ys : List ℕ) (v : ℕ) → length (setAll l ys v) ≡ length l
+unfolding setAll
+length-setAll l [] v = refl
+length-setAll l (y ∷ ys) v = length-setAll (set l y v) ys v ∙ length-set l y v
+
+pub getD-setAll : (l ys : List ℕ) (v x : ℕ) → x < length l → getD (setAll l ys v) x 0 ≡ cond (leb 1 (times x ys)) v (getD l x 0)
+unfolding setAll
+getD-setAll l [] v x p = rw (times-nil x)
+getD-setAll l (y ∷ ys) v x p = getD-setAll (set l y v) ys v x (rw (length-set l y v) p) ∙ elim (less? 0 (times x ys)) [
+  | inl q ↦ rw (le-leb 1 (times x ys) q, le-leb 1 (times x (y ∷ ys)) (omega (arith, q, times-cons x y ys)))
+  | inr q ↦ rw (lt-leb 1 (times x ys) (omega arith)) (elim (oneAt-cases y x) [
+    | inl e ↦ rw (e .0, le-leb 1 (times x (x ∷ ys)) (omega (arith, times-cons x x ys, oneAt-same x x refl))) (getD-set-same l x v 0 p)
+    | inr e ↦ rw (lt-leb 1 (times x (y ∷ ys)) (omega (arith, times-cons x y ys, e .1))) (getD-set-other l y x v 0 (λ i. e .0 (sym i)))
+  ])
+]
+
+-- what stands behind the table is left
+pub setAll-front : (l r ys : List ℕ) (v : ℕ) → ((y : ℕ) → 0 < times y ys → y < length l) → setAll (l ++ r) ys v ≡ setAll l ys v ++ r
+unfolding setAll
+setAll-front l r [] v below = refl
+setAll-front l r (y ∷ ys) v below =
+    rw (set-append-left l r y v (below y (omega (arith, times-cons y y ys, oneAt-same y y refl))))
+    (setAll-front (set l y v) r ys v (λ x p. rw (length-set l y v) (below x (omega (arith, p, times-cons x y ys)))))
+
+-- blocks 0 to 2 are the system's
+not-system : (img : List ℕ) (x : ℕ) → systemOwns img x ≡ 0 → 3 ≤ x
+unfolding systemOwns
+not-system img x z = elim (less? x 3) [ inl l ↦ absurd (omega (arith, rw (lt-ltb x 3 l) at z)) | inr l ↦ l ]
+
+module _ (img j : List ℕ) (same-size : diskSize j ≡ diskSize img) (same-system : systemOwns j ≡ systemOwns img) (s t : Anodes) where
+  -- every block has the owner that it had
+  pub kept-table : ((x : ℕ) → ownerHead t x ≡ ownerHead s x) → blockTable j t ≡ blockTable img s
+  unfolding blockTable blockEntry
+  kept-table same = rw same-size (listed-same (blockEntry j t) (blockEntry img s) (diskSize img) (λ x l. rw (same-system, same x)))
+
+  ran-entry : {ex : ℕ → Bool} {last : ℕ} {hd sd : ℕ → ℕ} → Good limit ex (diskSize img) last s (systemOwns img) hd sd → {from to h size : ℕ} {ys : List ℕ} →
+      Ran limit ex (diskSize img) last s (systemOwns img) hd from to h size ys t → from ≢ to → (x : ℕ) → blockEntry j t x ≡ cond (leb 1 (times x ys)) to (blockEntry img s x)
+  unfolding blockEntry
+  ran-entry g {from} {to} {ys = ys} ran apart x = rw (same-system, ran-owner g ran apart x) (elim (less? 0 (times x ys)) [
+    | inl p ↦ rw (le-leb 1 (times x ys) p) (let z = ran-data g ran apart x p .1 in rw (le-ltb x 3 (not-system img x z), z))
+    | inr p ↦ rw (lt-leb 1 (times x ys) (omega arith))
+  ])
+
+  -- the blocks of ys have gone from one head's chain to another's
+  pub ran-table : {ex : ℕ → Bool} {last : ℕ} {hd sd : ℕ → ℕ} → Good limit ex (diskSize img) last s (systemOwns img) hd sd → {from to h size : ℕ} {ys : List ℕ} →
+      Ran limit ex (diskSize img) last s (systemOwns img) hd from to h size ys t → from ≢ to → blockTable j t ≡ setAll (blockTable img s) ys to
+  unfolding blockTable
+  ran-table g {from} {to} {ys = ys} ran apart =
+      let n = diskSize img in
+      let old = listed (blockEntry img s) 0 n in
+      let long : length old ≡ n = length-listed (blockEntry img s) 0 n in
+      rw same-size (listed-is (blockEntry j t) n (setAll old ys to) (length-setAll old ys to ∙ long)
+      (λ x l. ran-entry g ran apart x ∙ sym (getD-setAll old ys to x (rw long l) ∙ ap (cond (leb 1 (times x ys)) to) (listed-at (blockEntry img s) n x l))))

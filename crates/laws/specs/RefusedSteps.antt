@@ -1,0 +1,214 @@
+-- When steps are refused, and with which number: a take with 27 or 28, a give of a block that is there only with 28.
+use Prim.Native.Nat.{ℕ, zero, suc, _+_, _-_, _≤_, _<_}
+use mathlib.Core.Path.{_≡_, refl, sym, _∙_}
+use mathlib.Core.Logic.{_≢_, _⊎_, inl, inr, _↔_}
+use mathlib.Core.Bool.{Bool, true, false, not, _&&_, true≢false}
+use mathlib.Core.List.{List, [], _∷_, _++_}
+use native.Mathlib.Omega.{arith}
+use lib.Dec.{T, eqb, eqb→eq}
+use Rattle.rules.specs.Counting.{sumList, lastOf}
+use Rattle.rules.specs.Anodes.{Anodes}
+use Rattle.rules.specs.Chains.{chainOf, side}
+use Rattle.rules.specs.Space.{Plan, refused, planned, rewritten, Found, nowhere, found, firstFull, lastFull, free, lowestFree, append, growOrAppend, put, withoutFirst, takeFrom, takeSide, takeBlock, withoutLast, sideOf, joinBefore, joinAfter, joinFilling, join, release, giveFrom, giveBack, after, takeMany, giveMany}
+use Rattle.laws.specs.Tests.{same?, cond-cases, eq→eqb, eqb-true, eqb-false}
+use Rattle.laws.specs.Sums.{oneAt-same, oneAt-other}
+use Rattle.laws.specs.Bags.{list-nil, list-cons}
+use Rattle.laws.specs.Heads.{Head}
+use Rattle.laws.specs.Blocks.{blocks, blocks-chain}
+use Rattle.laws.specs.Space.{Good}
+use Rattle.laws.specs.Searches.{nowhere≢found}
+use Rattle.laws.specs.Arriving.{append-cases}
+use Rattle.laws.specs.Take.{withoutFirst-out}
+use Rattle.laws.specs.Refusals.{refused-same, planned≢refused, append-refused, put-refused, take-27}
+use Rattle.laws.specs.Give.{give-good}
+use Rattle.laws.specs.Frame.{moved-stays}
+use Rattle.laws.specs.FirstFree.{firstFree, firstFree-found, take-nowhere, take-found}
+
+-- a walk on which no last anode with a block is found has no block
+pub lastFull-none : (count : ℕ → ℕ) (p : ℕ) (l : List ℕ) → lastFull count p l ≡ nowhere → sumList count l ≡ 0
+unfolding lastFull
+lastFull-none count p [] e = list-nil count
+lastFull-none count p (b ∷ l) e = go (lastFull count b l) refl e (lastFull-none count b l)
+  where
+    go : (c : Found) → lastFull count b l ≡ c → elim c [ nowhere ↦ elim (count b) [ zero ↦ nowhere | suc k ↦ found p b ] | found q y ↦ found q y ] ≡ nowhere →
+        (lastFull count b l ≡ nowhere → sumList count l ≡ 0) → sumList count (b ∷ l) ≡ 0
+    go (found q y) f e r = absurd (nowhere≢found q y (sym e))
+    go nowhere f e r = here (count b) refl e
+      where
+        here : (k : ℕ) → count b ≡ k → elim k [ zero ↦ nowhere | suc j ↦ found p b ] ≡ nowhere → sumList count (b ∷ l) ≡ 0
+        here zero c e = omega (arith, list-cons count b l, r f)
+        here (suc k) c e = absurd (nowhere≢found p b (sym e))
+
+-- the taker's last anode z cannot have block y: it has blocks, and directory blocks (own) get an anode of their own or y is not its end
+abbrev pub NeedsAnode : Bool → Anodes → ℕ → ℕ → Type 0
+NeedsAnode own s z y = (s .count z ≢ 0) × ((own ≡ true) ⊎ (s .block z + s .count z ≢ y))
+
+-- the last anode z of the side of block y cannot have it: z is anode 1, or it has blocks and y neither follows its end nor precedes its start
+abbrev pub JoinsNone : Anodes → ℕ → ℕ → Type 0
+JoinsNone s z y = (z ≡ 1) ⊎ ((s .count z ≢ 0) × (s .block z + s .count z ≢ y) × (y + 1 ≢ s .block z))
+
+-- no anode from 6 up is free
+abbrev pub NoneFree : ℕ → (ℕ → Bool) → ℕ → Anodes → Type 0
+NoneFree A ex last s = (a : ℕ) → a < A → T (free A ex last s a) → ⊥
+
+module _ (A : ℕ) (ex : ℕ → Bool) (last : ℕ) where
+  after-refused : (ys : List ℕ) (p : Plan) (k : ℕ) → after A ex last ys p ≡ refused k → p ≡ refused k
+  unfolding after
+  after-refused ys (refused j) k e = e
+  after-refused ys (planned t zs) k e = absurd (planned≢refused t (ys ++ zs) k e)
+
+  -- ---- take
+
+  takeSide-refused : (own : Bool) (s : Anodes) (h m k : ℕ) (other : Plan) → (other ≡ refused k → (k ≡ 27) ⊎ (k ≡ 28)) →
+      takeSide A ex last own s h m other ≡ refused k → (k ≡ 27) ⊎ (k ≡ 28)
+  unfolding takeSide takeFrom
+  takeSide-refused own s h m k other r e = go (firstFull (s .count) 0 (side A s m)) e
+    where
+      go : (c : Found) → elim c [ nowhere ↦ other | found p x ↦ takeFrom A ex last own s h p x ] ≡ refused k → (k ≡ 27) ⊎ (k ≡ 28)
+      go nowhere e = r e
+      go (found p x) e = inr (put-refused A ex last own (withoutFirst A ex last s p x) (lastOf h (chainOf (withoutFirst A ex last s p x .next) A h)) (s .block x) k e .0)
+
+  pub take-refused : (own : Bool) (s : Anodes) (h k : ℕ) → takeBlock A ex last own s h ≡ refused k → (k ≡ 27) ⊎ (k ≡ 28)
+  unfolding takeBlock
+  take-refused true s h k e = takeSide-refused true s h 2 k (takeSide A ex last true s h 1 (refused 27))
+      (takeSide-refused true s h 1 k (refused 27) (λ q. inl (refused-same k 27 (sym q)))) e
+  take-refused false s h k e = takeSide-refused false s h 1 k (takeSide A ex last false s h 2 (refused 27))
+      (takeSide-refused false s h 2 k (refused 27) (λ q. inl (refused-same k 27 (sym q)))) e
+
+  pub takes-refused : (own : Bool) (i : ℕ) (s : Anodes) (h k : ℕ) → takeMany A ex last own i s h ≡ refused k → (k ≡ 27) ⊎ (k ≡ 28)
+  unfolding takeMany
+  takes-refused own zero s h k e = absurd (planned≢refused s [] k e)
+  takes-refused own (suc i) s h k e = go (takeBlock A ex last own s h) refl e (takes-refused own i)
+    where
+      go : (p : Plan) → takeBlock A ex last own s h ≡ p → elim p [ refused j ↦ refused j | planned t ys ↦ after A ex last ys (takeMany A ex last own i t h) ] ≡ refused k →
+          ((s : Anodes) (h k : ℕ) → takeMany A ex last own i s h ≡ refused k → (k ≡ 27) ⊎ (k ≡ 28)) → (k ≡ 27) ⊎ (k ≡ 28)
+      go (refused j) q e rec = take-refused own s h k (q ∙ e)
+      go (planned t ys) q e rec = rec t h k (after-refused ys (takeMany A ex last own i t h) k e)
+
+  -- ---- give
+
+  join-refused : (s : Anodes) (z y k : ℕ) → join A ex last s z y ≡ refused k → (k ≡ 28) × JoinsNone s z y × NoneFree A ex last s
+  unfolding join joinFilling joinAfter joinBefore
+  join-refused s z y k e = elim (cond-cases (eqb z 1) (append A ex last s z y) (joinFilling A ex last s z y)) [
+    | inl c ↦ appended (inl (eqb→eq z 1 (c .0))) (sym (c .1) ∙ e)
+    | inr c ↦ elim (cond-cases (eqb (s .count z) 0) (planned (rewritten s z 1 y) (y ∷ [])) (joinAfter A ex last s z y)) [
+      | inl d ↦ absurd (planned≢refused (rewritten s z 1 y) (y ∷ []) k (sym (d .1) ∙ sym (c .1) ∙ e))
+      | inr d ↦ elim (cond-cases (eqb (s .block z + s .count z) y) (planned (rewritten s z (s .count z + 1) (s .block z)) (y ∷ [])) (joinBefore A ex last s z y)) [
+        | inl f ↦ absurd (planned≢refused (rewritten s z (s .count z + 1) (s .block z)) (y ∷ []) k (sym (f .1) ∙ sym (d .1) ∙ sym (c .1) ∙ e))
+        | inr f ↦ elim (cond-cases (eqb (y + 1) (s .block z)) (planned (rewritten s z (s .count z + 1) y) (y ∷ [])) (append A ex last s z y)) [
+          | inl i ↦ absurd (planned≢refused (rewritten s z (s .count z + 1) y) (y ∷ []) k (sym (i .1) ∙ sym (f .1) ∙ sym (d .1) ∙ sym (c .1) ∙ e))
+          | inr i ↦ appended (inr (λ q. d .0 (eq→eqb (s .count z) 0 q), λ q. f .0 (eq→eqb (s .block z + s .count z) y q), λ q. i .0 (eq→eqb (y + 1) (s .block z) q)))
+              (sym (i .1) ∙ sym (f .1) ∙ sym (d .1) ∙ sym (c .1) ∙ e)
+        ]
+      ]
+    ]
+  ]
+    where
+      appended : JoinsNone s z y → append A ex last s z y ≡ refused k → (k ≡ 28) × JoinsNone s z y × NoneFree A ex last s
+      appended n q = let r = append-refused A ex last s z y k q in (r .0, n, r .1)
+
+module _ {A : ℕ} {ex : ℕ → Bool} {n last : ℕ} where
+  -- a head with a block has a last anode with one
+  pub last-block : {s : Anodes} {system hd sd : ℕ → ℕ} → Good A ex n last s system hd sd → (h : ℕ) → Head (s .next) (s .block) h → 0 < blocks A hd (s .count) h →
+      (p : ℕ) × (x : ℕ) × (lastFull (s .count) 0 (chainOf (s .next) A h) ≡ found p x)
+  last-block {s} {hd = hd} g h d some = go (lastFull (s .count) 0 (chainOf (s .next) A h)) refl
+    where
+      go : (c : Found) → lastFull (s .count) 0 (chainOf (s .next) A h) ≡ c → (p : ℕ) × (x : ℕ) × (lastFull (s .count) 0 (chainOf (s .next) A h) ≡ found p x)
+      go nowhere e = absurd (omega (arith, some, blocks-chain (g .view) (g .linked) hd (g .heads) (s .count) (g .free-none) (g .count-0) h d, lastFull-none (s .count) 0 (chainOf (s .next) A h) e))
+      go (found p x) e = (p, x, e)
+
+  -- so a give is refused with 28 alone
+  pub give-refused : {s : Anodes} {system hd sd : ℕ → ℕ} → Good A ex n last s system hd sd → (h : ℕ) → Head (s .next) (s .block) h → 0 < blocks A hd (s .count) h →
+      (k : ℕ) → giveBack A ex last s h ≡ refused k → k ≡ 28
+  unfolding giveBack giveFrom release
+  give-refused {s} g h d some k e =
+      let f = last-block g h d some in
+      let r = withoutLast A ex last s h (f .0) (f .1) in
+      let y = s .block (f .1) + (s .count (f .1) - 1) in
+      join-refused A ex last r (lastOf (sideOf A ex last y) (side A r (sideOf A ex last y))) y k (rw (f .2, giveBack) at e) .0
+
+  -- as many as it has
+  pub gives-refused : (i h : ℕ) → h ≢ 1 → (k : ℕ) (s : Anodes) (system hd sd : ℕ → ℕ) → Good A ex n last s system hd sd → Head (s .next) (s .block) h → i ≤ blocks A hd (s .count) h →
+      giveMany A ex last i s h ≡ refused k → k ≡ 28
+  unfolding giveMany
+  gives-refused zero h h1 k s system hd sd g d some e = absurd (planned≢refused s [] k e)
+  gives-refused (suc i) h h1 k s system hd sd g d some e = go (giveBack A ex last s h) refl e (gives-refused i h h1 k)
+    where
+      go : (p : Plan) → giveBack A ex last s h ≡ p → elim p [ refused j ↦ refused j | planned t ys ↦ after A ex last ys (giveMany A ex last i t h) ] ≡ refused k →
+          ((s : Anodes) (system hd sd : ℕ → ℕ) → Good A ex n last s system hd sd → Head (s .next) (s .block) h → i ≤ blocks A hd (s .count) h → giveMany A ex last i s h ≡ refused k → k ≡ 28) → k ≡ 28
+      go (refused j) q e rec = give-refused g h d (omega arith) k (q ∙ e)
+      go (planned t ys) q e rec =
+          let w = give-good g h d h1 t ys q in
+          rec t system (w .hd′) (w .sd′) (w .good) (moved-stays g w h d) (omega (arith, some, w .moved h, oneAt-same h h refl, oneAt-other 1 h (λ j. h1 (sym j))))
+          (after-refused A ex last ys (giveMany A ex last i t h) k e)
+
+-- ---- exactly when
+
+module _ (A : ℕ) (ex : ℕ → Bool) (last : ℕ) (s : Anodes) (z y : ℕ) where
+  none-append : NoneFree A ex last s → append A ex last s z y ≡ refused 28
+  none-append none = elim (append-cases A ex last s z y) [ inl c ↦ absurd (none (lowestFree A ex last s) (c .0) (c .1)) | inr c ↦ c .0 ]
+
+  put-28 : (own : Bool) → (put A ex last own s z y ≡ refused 28) ↔ (NeedsAnode own s z y × NoneFree A ex last s)
+  unfolding put growOrAppend
+  put-28 own = (
+    λ e. elim (cond-cases (eqb (s .count z) 0) (planned (rewritten s z 1 y) (y ∷ [])) (growOrAppend A ex last own s z y)) [
+      | inl c ↦ absurd (planned≢refused (rewritten s z 1 y) (y ∷ []) 28 (sym (c .1) ∙ e))
+      | inr c ↦ elim (cond-cases (not own && eqb (s .block z + s .count z) y) (planned (rewritten s z (s .count z + 1) (s .block z)) (y ∷ [])) (append A ex last s z y)) [
+        | inl d ↦ absurd (planned≢refused (rewritten s z (s .count z + 1) (s .block z)) (y ∷ []) 28 (sym (d .1) ∙ sym (c .1) ∙ e))
+        | inr d ↦ ((λ q. c .0 (eq→eqb (s .count z) 0 q), apart own (d .0)), append-refused A ex last s z y 28 (sym (d .1) ∙ sym (c .1) ∙ e) .1)
+      ]
+    ],
+    λ n. rw (eqb-false (s .count z) 0 (n .0 .0), shut own (n .0 .1)) (none-append (n .1)),
+  )
+    where
+      apart : (b : Bool) → (T (not b && eqb (s .block z + s .count z) y) → ⊥) → (b ≡ true) ⊎ (s .block z + s .count z ≢ y)
+      apart true h = inl refl
+      apart false h = inr (λ q. h (eq→eqb (s .block z + s .count z) y q))
+
+      shut : (b : Bool) → (b ≡ true) ⊎ (s .block z + s .count z ≢ y) → (not b && eqb (s .block z + s .count z) y) ≡ false
+      shut true h = refl
+      shut false (inl e) = absurd (true≢false (sym e))
+      shut false (inr e) = eqb-false (s .block z + s .count z) y e
+
+  join-28 : (join A ex last s z y ≡ refused 28) ↔ (JoinsNone s z y × NoneFree A ex last s)
+  unfolding join joinFilling joinAfter joinBefore
+  join-28 = (λ e. (let r = join-refused A ex last s z y 28 e in (r .1, r .2)), λ n. back (n .0) (same? z 1) (none-append (n .1)))
+    where
+      back : JoinsNone s z y → (z ≡ 1) ⊎ (z ≢ 1) → append A ex last s z y ≡ refused 28 → join A ex last s z y ≡ refused 28
+      back n (inl i) e = rw (eqb-true z 1 i) e
+      back (inl n) (inr i) e = absurd (i n)
+      back (inr n) (inr i) e = rw (eqb-false z 1 i, eqb-false (s .count z) 0 (n .0), eqb-false (s .block z + s .count z) y (n .1), eqb-false (y + 1) (s .block z) (n .2)) e
+
+module _ (A : ℕ) (ex : ℕ → Bool) (last : ℕ) (s : Anodes) (h p x : ℕ) where
+  -- with a free block there, x after p the first extent that has one, a take is refused with 28 exactly if an anode is needed and none is free, the one just emptied counted
+  pub take-28-exactly : (own : Bool) → firstFree A own s ≡ found p x →
+      (takeBlock A ex last own s h ≡ refused 28)
+      ↔ (NeedsAnode own (withoutFirst A ex last s p x) (lastOf h (chainOf (withoutFirst A ex last s p x .next) A h)) (s .block x) × NoneFree A ex last (withoutFirst A ex last s p x))
+  unfolding takeFrom
+  take-28-exactly own e =
+      let b = put-28 A ex last (withoutFirst A ex last s p x) (lastOf h (chainOf (withoutFirst A ex last s p x .next) A h)) (s .block x) own in
+      (λ q. b .0 (sym (take-found A own s ex last h p x e) ∙ q), λ n. take-found A own s ex last h p x e ∙ b .1 n)
+
+  -- a give of the last block y of x, after p the last extent that has one, exactly if y can join the last anode of its side in no way and none is free, the one just emptied counted
+  pub give-28-exactly : (y z : ℕ) → lastFull (s .count) 0 (chainOf (s .next) A h) ≡ found p x → y ≡ s .block x + (s .count x - 1) →
+      z ≡ lastOf (sideOf A ex last y) (side A (withoutLast A ex last s h p x) (sideOf A ex last y)) →
+      (giveBack A ex last s h ≡ refused 28) ↔ (JoinsNone (withoutLast A ex last s h p x) z y × NoneFree A ex last (withoutLast A ex last s h p x))
+  unfolding giveBack giveFrom release
+  give-28-exactly y z e f i = rw (e, giveBack, ← f, ← i) (join-28 A ex last (withoutLast A ex last s h p x) z y)
+
+module _ {A : ℕ} {ex : ℕ → Bool} {n last : ℕ} {s : Anodes} {system hd sd : ℕ → ℕ} (g : Good A ex n last s system hd sd) where
+  -- a take is refused with 27 exactly if no free block is left
+  pub take-27-exactly : (own : Bool) (h : ℕ) → (takeBlock A ex last own s h ≡ refused 27) ↔ (blocks A hd (s .count) 1 ≡ 0)
+  take-27-exactly own h = (take-27 g own h, λ z. go (firstFree A own s) refl z)
+    where
+      go : (c : Found) → firstFree A own s ≡ c → blocks A hd (s .count) 1 ≡ 0 → takeBlock A ex last own s h ≡ refused 27
+      go nowhere e z = take-nowhere A own s ex last h e
+      go (found p x) e z = let f = firstFree-found A own s g p x e in absurd (omega (arith, z, withoutFirst-out g (f .0) (f .1) p x (f .2) .fewer 1, oneAt-same 1 1 refl))
+
+  -- and else it finds one
+  pub free-block : (own : Bool) → blocks A hd (s .count) 1 ≢ 0 → (p : ℕ) × (x : ℕ) × (firstFree A own s ≡ found p x)
+  free-block own some = go (firstFree A own s) refl
+    where
+      go : (c : Found) → firstFree A own s ≡ c → (p : ℕ) × (x : ℕ) × (firstFree A own s ≡ found p x)
+      go nowhere e = absurd (some (take-27 g own 0 (take-nowhere A own s ex last 0 e)))
+      go (found p x) e = (p, x, e)

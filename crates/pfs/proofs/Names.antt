@@ -1,0 +1,57 @@
+-- The name that the fields of a list give is the name that the list hands back.
+use Prim.Native.Nat.{ℕ, zero, suc, _+_, _*_, _/_, _%_, _≤_}
+use mathlib.Core.Path.{_≡_, refl, sym, ap, _∙_}
+use mathlib.Core.Bool.{Bool, not}
+use mathlib.Core.List.{List, [], _∷_}
+use mathlib.Core.Option.{Option, none, some}
+use native.Mathlib.Omega.{arith}
+use lib.ListN.{length, getD, take, drop, replicate}
+use lib.Seq.{drop-drop}
+use Rattle.disk.specs.Blocks.{blockOf}
+use Rattle.directory.specs.Entries.{nameIn, nameLength, entryIn, entryLength, commentLength}
+use Rattle.rules.specs.Anodes.{limit, anodesOf}
+use Rattle.rules.specs.Walk.{Entered}
+use Rattle.rules.specs.Accepted.{checkAnswer}
+use Rattle.rules.specs.Lookup.{noDirectory, entriesOf, nameAt, nth, isThere}
+use Rattle.rules.specs.Calls.{Outcome, outcomeOf, settled, fieldList, fieldsAt, fieldsListed, nameListed, listAnswer, listAnswered, listOutcome}
+use Rattle.laws.specs.Acceptance.{if-zero, firstOf-zero}
+use Rattle.changes.specs.FoundEntries.{found-at}
+use Rattle.changes.specs.Reached.{entry-facts, nth-member}
+use Rattle.reading.proofs.Laws.{take-within}
+use Rattle.pfs.specs.Listed.{nameGiven}
+
+-- the name stands whole in its block
+named-part : (img : List ℕ) (place : ℕ) → place % 512 + 16 + nameLength (blockOf img (place / 512)) (place % 512) ≤ 512 →
+    nameAt img place ≡ take (nameLength (blockOf img (place / 512)) (place % 512)) (drop (place + 16) img)
+unfolding nameAt nameIn blockOf
+named-part img place l =
+    let e : place / 512 * 512 + (place % 512 + 16) ≡ place + 16 = omega arith in
+    take-within 512 (place % 512 + 16) (nameLength (blockOf img (place / 512)) (place % 512)) (drop (place / 512 * 512) img) (omega arith)
+    ∙ ap (take (nameLength (blockOf img (place / 512)) (place % 512))) (drop-drop (place % 512 + 16) (place / 512 * 512) img ∙ ap (λ (n : ℕ). drop n img) e)
+
+module _ (img b₀ a₀ : List ℕ) (h n : ℕ) where
+  -- of the entry that is listed
+  found-name : checkAnswer img (length b₀) (length a₀) ≡ 0 → listAnswer img (anodesOf img) h n ≡ 0 → (x : Entered) → nth (entriesOf img (anodesOf img) h) n ≡ some x → nameAt img (x .place) ≡ nameGiven img (fieldsAt img (x .place))
+  unfolding listAnswer nameGiven fieldsAt fieldList entryIn entryLength
+  found-name accepted listed x is =
+      let r = if-zero 21 (noDirectory img (anodesOf img) h) _ (omega arith) listed .0 in
+      let f = entry-facts img (length b₀) (length a₀) accepted h r x (nth-member _ n x is) in
+      let w = found-at (blockOf img (x .place / 512)) (x .place % 512) (f .entry) (f .stands) in
+      named-part img (x .place) (omega (arith, w .exact, w .room))
+
+  of-answer : (k : ℕ) → k ≡ listAnswered img b₀ a₀ h n → (o : Option Entered) → nth (entriesOf img (anodesOf img) h) n ≡ o → nameListed k img o ≡ nameGiven img (fieldsListed k img o)
+  unfolding nameGiven listAnswered
+  of-answer (suc k) e o is = refl
+  of-answer zero e none is = refl
+  of-answer zero e (some x) is =
+      let z = firstOf-zero (checkAnswer img (length b₀) (length a₀)) (listAnswer img (anodesOf img) h n) (sym e) in
+      found-name (z .0) (z .1) x is
+
+  -- the outcome of the list, with the name that its fields give
+  pub given-name : (k : ℕ) (b a fields name : List ℕ) → outcomeOf k img b a fields name ≡ listOutcome img b₀ a₀ h n → outcomeOf k img b a fields (nameGiven img fields) ≡ listOutcome img b₀ a₀ h n
+  unfolding listOutcome settled
+  given-name k b a fields name e =
+      let m = of-answer (listAnswered img b₀ a₀ h n) refl (nth (entriesOf img (anodesOf img) h) n) refl in
+      let f = ap (λ (o : Outcome). o .output) e in
+      let g = ap (λ (o : Outcome). o .name) e in
+      rw (← (g ∙ m ∙ ap (nameGiven img) (sym f))) e

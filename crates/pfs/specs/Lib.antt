@@ -1,0 +1,2 @@
+-- What the exported list hands out.
+pub mod Listed

@@ -1,0 +1,2 @@
+-- Laws of reading and listing.
+pub mod Laws

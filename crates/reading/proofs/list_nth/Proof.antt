@@ -1,0 +1,66 @@
+use mathlib.Core.Path.{sym, _∙_}
+use native.Mathlib.Omega.{arith}
+use Rattle.fsck.proofs.Laws.{number-some}
+use Rattle.changes.specs.Reached.{nth-member}
+use Rattle.reading.proofs.Laws.{place-low, list-found, list-refused}
+use borrow.Author.Needs.{needs}
+use Rattle.reading.proofs.list_nth.Statement.{statement}
+use Rattle.reading.proofs.list_nth.Tie as tie
+
+find-nth-requires : tie.Need-find-nth-requires
+find-nth-requires c κs = search needs
+
+enum-known-found : tie.Need-enum-known-found
+enum-known-found c = search needs
+
+put-fields-requires : tie.Need-put-fields-requires
+put-fields-requires c κs =
+    let f = rw (c .before .before .found .given .1) at (c .before .before .before .before .find-nth .ensures) in
+    place-low (c .before .before .before .before .before .before .before .before .before .before .pre .2) _ (f .0) _ (nth-member _ _ _ (f .1))
+
+name-part-requires : tie.Need-name-part-requires
+name-part-requires c κs =
+    let f = rw (c .before .before .before .found .given .1) at (c .before .before .before .before .before .find-nth .ensures) in
+    place-low (c .before .before .before .before .before .before .before .before .before .before .before .pre .2) _ (f .0) _ (nth-member _ _ _ (f .1))
+
+enum-known-found-2 : tie.Need-enum-known-found-2
+enum-known-found-2 c = search needs
+
+number-requires : tie.Need-number-requires
+number-requires c κs = search needs
+
+sub-result : tie.Need-sub-result
+sub-result c = search needs
+
+part-result-start : tie.Need-part-result-start
+part-result-start c = search needs
+
+part-result-end : tie.Need-part-result-end
+part-result-end c = search needs
+
+returns : tie.Need-returns
+returns c =
+    let f = rw (c .before .before .before .before .found .given .1) at (c .before .before .before .before .before .before .find-nth .ensures) in
+    list-found _ _ _ _ _ _ _ (f .0) (f .1) (c .before .put-fields .ensures) (c .name-part .ensures)
+
+returns-2 : tie.Need-returns-2
+returns-2 c =
+    let r = c .before .before .before .before .found2 .given in
+    let n = c .before .before .number .ensures in
+    list-refused _ _ _ _ _ (omega (arith, n, number-some (r .0 .0))) (rw (r .1) at (c .before .before .before .before .before .before .find-nth .ensures) ∙ sym n)
+
+pub list-nth-spec : {M : Type 1} → statement M
+list-nth-spec =
+    tie.close
+    (tie.spec
+    find-nth-requires
+    enum-known-found
+    put-fields-requires
+    name-part-requires
+    enum-known-found-2
+    number-requires
+    sub-result
+    part-result-start
+    part-result-end
+    returns
+    returns-2)

@@ -1,0 +1,146 @@
+// Reads a file and lists an entry in an accepted image.
+ghost use mathlib.Core.List.{List};
+ghost use mathlib.Core.Path.{_≡_};
+ghost use Prim.Native.Nat.{ℕ, _+_, _*_, _<_};
+ghost use lib.ListN.{length};
+ghost use lib.Dec.{ltb};
+ghost use Rattle.rules.specs.Anodes.{anodesOf};
+ghost use Rattle.rules.specs.Walk.{isDir};
+ghost use Rattle.rules.specs.Lookup.{entryNamed, entriesOf, nameAt, nth};
+ghost use Rattle.rules.specs.Calls.{spanAnswer, bytesRead, listAnswer, fieldsAt, fieldsListed, nameListed};
+ghost use Rattle.find.specs.Open.{Open, OpenFor};
+use directory::Kind;
+use disk::AnodeNo;
+use disk::BlockNo;
+use disk::Refusal;
+use disk::block_part;
+use disk::number;
+use endian::part;
+use endian::read8;
+use endian::read16;
+use endian::read32;
+use find::Search;
+use find::find_named;
+use find::find_nth;
+use lookup::copy_out;
+
+// Whether an entry is a directory's.
+pub fn is_directory(kind: Kind) -> bool
+    ensures { λ r. ⌜ r ≡ isDir kind ⌝ }
+{
+    match kind {
+        Kind::File => false,
+        Kind::Directory => true,
+    }
+}
+
+// Whether offset + length is above the size; the sum is not wrapped.
+pub fn past_end(size: u32, offset: u64, len: usize) -> bool
+    ensures { λ r. ⌜ r ≡ ltb size (offset + len) ⌝ }
+{
+    let end = size as u64;
+    if end < len as u64 {
+        return true;
+    }
+    end - (len as u64) < offset
+}
+
+// Fills the buffer with the file's bytes from the offset on; 21, 22, 24, 26.
+pub fn read_named(
+    image: &[u8],
+    counts: &[u16],
+    firsts: &[u16],
+    nexts: &[u16],
+    queue: &[u16],
+    heads: &[u16],
+    dirs: u16,
+    head: AnodeNo,
+    name: &[u8],
+    offset: u64,
+    out: &mut [u8],
+) -> u32
+    requires { ⌜ ((parents : List ℕ) × Open (now image) (now counts) (now firsts) (now nexts) (now queue) parents (now heads) dirs) ⌝ }
+    ensures answer { λ r. ⌜ r ≡ spanAnswer (now (image .entry)) (anodesOf (now (image .entry))) (head .0) (now (name .entry)) offset (length (now (out .entry))) ⌝ }
+    ensures output { λ r. ⌜ now (out .exit) ≡ bytesRead r (now (image .entry)) (anodesOf (now (image .entry))) (entryNamed (now (image .entry)) (anodesOf (now (image .entry))) (head .0) (now (name .entry))) offset (now (out .entry)) ⌝ }
+{
+    let found = find_named(image, firsts, nexts, queue, heads, dirs, head, name);
+    let e = match found {
+        Search::Found(e) => e,
+        Search::Refused(r) => return number(r),
+    };
+    let kind = e.kind;
+    if is_directory(kind) {
+        return number(Refusal::IsDirectory);
+    }
+    if past_end(e.size, offset, out.len()) {
+        return number(Refusal::PastEnd);
+    }
+    copy_out(image, counts, firsts, nexts, e.anode, offset, out);
+    0
+}
+
+// The name of the entry at a place of the image, as a part of it that starts 16 bytes into the entry.
+fn name_part(image: &[u8], place: usize) -> &[u8]
+    requires { ⌜ place < 65536 * 512 ⌝ }
+    ensures { λ r. ⌜ now r ≡ nameAt (now (image .entry)) place ⌝ }
+{
+    let at = place % 512;
+    let block = block_part(image, BlockNo((place / 512) as u16));
+    part(block, at + 16, read8(block, at + 15) as usize)
+}
+
+// The fields of the entry at a place of the image.
+fn put_fields(image: &[u8], place: usize, fields: &mut [u32; 11])
+    requires { ⌜ place < 65536 * 512 ⌝ }
+    ensures { λ _. ⌜ now (fields .exit) ≡ fieldsAt (now (image .entry)) place ⌝ }
+{
+    let at = place % 512;
+    let block = block_part(image, BlockNo((place / 512) as u16));
+    let name = read8(block, at + 15) as u32;
+    *fields = [
+        read8(block, at + 1) as u32,
+        read16(block, at + 2) as u32,
+        read32(block, at + 4),
+        read16(block, at + 8) as u32,
+        read16(block, at + 10) as u32,
+        read16(block, at + 12) as u32,
+        read8(block, at + 14) as u32,
+        place as u32 + 16,
+        name,
+        place as u32 + 17 + name,
+        read8(block, at + 16 + (name as usize)) as u32,
+    ];
+}
+
+// The fields of the n-th entry of a directory and its name, a part of the lent image; 21, 22.
+pub fn list_nth<'a>(
+    image: &'a [u8],
+    firsts: &[u16],
+    nexts: &[u16],
+    queue: &[u16],
+    heads: &[u16],
+    dirs: u16,
+    head: AnodeNo,
+    n: u64,
+    fields: &mut [u32; 11],
+    answer: &mut u32,
+) -> &'a [u8]
+    requires { ⌜ OpenFor (now image) (now firsts) (now nexts) (now queue) (now heads) dirs ⌝ }
+    ensures answer { λ _. ⌜ now (answer .exit) ≡ listAnswer (now (image .entry)) (anodesOf (now (image .entry))) (head .0) n ⌝ }
+    ensures fields { λ _. ⌜ now (fields .exit) ≡ fieldsListed (now (answer .exit)) (now (image .entry)) (nth (entriesOf (now (image .entry)) (anodesOf (now (image .entry))) (head .0)) n) ⌝ }
+    ensures name { λ r. ⌜ now r ≡ nameListed (now (answer .exit)) (now (image .entry)) (nth (entriesOf (now (image .entry)) (anodesOf (now (image .entry))) (head .0)) n) ⌝ }
+{
+    let found = find_nth(image, firsts, nexts, queue, heads, dirs, head, n);
+    match found {
+        Search::Found(e) => {
+            *answer = 0;
+            put_fields(image, e.place, fields);
+            name_part(image, e.place)
+        }
+        Search::Refused(r) => {
+            *answer = number(r);
+            *fields = [0u32; 11];
+            &image[0..0]
+        }
+    }
+}

@@ -1,0 +1,131 @@
+-- The one-block steps, by the tests of the code, on the anodes in three tables. Assumes nothing.
+use Prim.Native.Nat.{ℕ, _+_, _-_, _≤_, _<_}
+use mathlib.Core.Path.{_≡_, refl}
+use mathlib.Core.Logic.{_≢_}
+use mathlib.Core.Bool.{Bool, true, false, cond, not}
+use mathlib.Core.List.{List, [], _∷_}
+use lib.ListN.{getD}
+use borrow.Author.Tests.{lt-ltb, le-ltb, eq-eqb, ne-eqb}
+use Rattle.rules.specs.Anodes.{Anodes}
+use Rattle.rules.specs.Chains.{chainOf, cut, side}
+use Rattle.rules.specs.Space.{refused, planned, rewritten, insertedAfter, unlinked, emptied, nowhere, found, firstFull, lowestFree, append, growOrAppend, put, withoutFirst, withoutLast, sideOf, joinBefore, joinAfter, joinFilling, join}
+use Rattle.anodes.specs.Loaded.{anodesFrom}
+use Rattle.space.specs.Steps.{firstFound, freeExtent}
+
+-- ---- the extent that a block is taken from
+
+module _ (own : Bool) (c f n : List ℕ) (m : ℕ) (near : m ≡ cond own 2 1) where
+  pub near-found : (p x : ℕ) → firstFull (λ a. getD c a 0) 0 (chainOf (cut (λ a. getD n a 0)) 3444 m) ≡ found p x → freeExtent own (anodesFrom c f n) ≡ found p x
+  unfolding freeExtent firstFound side anodesFrom
+  near-found p x e = rw (← near, e)
+
+  pub near-empty : (k : ℕ) → k ≡ cond (not own) 2 1 → firstFull (λ a. getD c a 0) 0 (chainOf (cut (λ a. getD n a 0)) 3444 m) ≡ nowhere →
+      freeExtent own (anodesFrom c f n) ≡ firstFull (λ a. getD c a 0) 0 (chainOf (cut (λ a. getD n a 0)) 3444 k)
+  unfolding freeExtent firstFound side anodesFrom
+  near-empty k far e = rw (← near, e, far, other own)
+    where
+      other : (own : Bool) → cond {A = ℕ} (not own) 2 1 ≡ cond own 1 2
+      other true = refl
+      other false = refl
+
+-- ---- the side of a block
+
+module _ (ex : ℕ → Bool) (last : ℕ) where
+  pub side-above : (y : ℕ) → last < y → sideOf 3444 ex last y ≡ 1
+  unfolding sideOf
+  side-above y h = rw (lt-ltb last y h)
+
+  pub side-up-to : (y : ℕ) → y ≤ last → sideOf 3444 ex last y ≡ 2
+  unfolding sideOf
+  side-up-to y h = rw (le-ltb last y h)
+
+module _ (ex : ℕ → Bool) (last : ℕ) (c f n : List ℕ) where
+  abbrev s : Anodes
+  s = anodesFrom c f n
+
+  -- ---- a block behind anode z
+
+  module _ (z y : ℕ) where
+    pub append-none : (a : ℕ) → a ≡ lowestFree 3444 ex last s → 3444 ≤ a → append 3444 ex last s z y ≡ refused 28
+    unfolding append
+    append-none a e h = rw (← e, le-ltb a 3444 h)
+
+    pub append-some : (a : ℕ) → a ≡ lowestFree 3444 ex last s → a < 3444 → append 3444 ex last s z y ≡ planned (insertedAfter s z a 1 y) (y ∷ [])
+    unfolding append
+    append-some a e h = rw (← e, lt-ltb a 3444 h)
+
+    pub put-empty : (own : Bool) → getD c z 0 ≡ 0 → put 3444 ex last own s z y ≡ planned (rewritten s z 1 y) (y ∷ [])
+    unfolding put anodesFrom
+    put-empty own e = rw (eq-eqb (getD c z 0) 0 e)
+
+    module _ (some : getD c z 0 ≢ 0) where
+      pub put-grown : (own : Bool) → own ≡ false → getD f z 0 + getD c z 0 ≡ y → put 3444 ex last own s z y ≡ planned (rewritten s z (getD c z 0 + 1) (getD f z 0)) (y ∷ [])
+      unfolding put growOrAppend anodesFrom
+      put-grown own o e = rw (o, ne-eqb (getD c z 0) 0 some, eq-eqb (getD f z 0 + getD c z 0) y e)
+
+      pub put-own : (own : Bool) → own ≡ true → put 3444 ex last own s z y ≡ append 3444 ex last s z y
+      unfolding put growOrAppend anodesFrom
+      put-own own o = rw (o, ne-eqb (getD c z 0) 0 some)
+
+      pub put-apart : (own : Bool) → getD f z 0 + getD c z 0 ≢ y → put 3444 ex last own s z y ≡ append 3444 ex last s z y
+      unfolding put growOrAppend anodesFrom
+      put-apart true e = rw (ne-eqb (getD c z 0) 0 some)
+      put-apart false e = rw (ne-eqb (getD c z 0) 0 some, ne-eqb (getD f z 0 + getD c z 0) y e)
+
+  -- ---- the first block out of anode x
+
+  module _ (p x : ℕ) where
+    pub first-shrunk : getD c x 0 ≢ 1 → withoutFirst 3444 ex last s p x ≡ rewritten s x (getD c x 0 - 1) (getD f x 0 + 1)
+    unfolding withoutFirst anodesFrom
+    first-shrunk e = rw (ne-eqb (getD c x 0) 1 e)
+
+    module _ (one : getD c x 0 ≡ 1) where
+      pub first-emptied : x ≡ 2 → withoutFirst 3444 ex last s p x ≡ rewritten s x 0 65535
+      unfolding withoutFirst emptied anodesFrom
+      first-emptied e = rw (eq-eqb (getD c x 0) 1 one, eq-eqb x 2 e)
+
+      pub first-unlinked : x ≢ 2 → withoutFirst 3444 ex last s p x ≡ unlinked s p x
+      unfolding withoutFirst anodesFrom
+      first-unlinked e = rw (eq-eqb (getD c x 0) 1 one, ne-eqb x 2 e)
+
+  -- ---- the last block out of anode x
+
+  module _ (h p x : ℕ) where
+    pub last-shrunk : getD c x 0 ≢ 1 → withoutLast 3444 ex last s h p x ≡ rewritten s x (getD c x 0 - 1) (getD f x 0)
+    unfolding withoutLast anodesFrom
+    last-shrunk e = rw (ne-eqb (getD c x 0) 1 e)
+
+    module _ (one : getD c x 0 ≡ 1) where
+      pub last-emptied : x ≡ h → withoutLast 3444 ex last s h p x ≡ rewritten s x 0 65535
+      unfolding withoutLast emptied anodesFrom
+      last-emptied e = rw (eq-eqb (getD c x 0) 1 one, eq-eqb x h e)
+
+      pub last-unlinked : x ≢ h → withoutLast 3444 ex last s h p x ≡ unlinked s p x
+      unfolding withoutLast anodesFrom
+      last-unlinked e = rw (eq-eqb (getD c x 0) 1 one, ne-eqb x h e)
+
+  -- ---- a block to the end of its side
+
+  module _ (z y : ℕ) where
+    pub join-one : z ≡ 1 → join 3444 ex last s z y ≡ append 3444 ex last s z y
+    unfolding join
+    join-one e = rw (eq-eqb z 1 e)
+
+    module _ (other : z ≢ 1) where
+      pub join-empty : getD c z 0 ≡ 0 → join 3444 ex last s z y ≡ planned (rewritten s z 1 y) (y ∷ [])
+      unfolding join joinFilling anodesFrom
+      join-empty e = rw (ne-eqb z 1 other, eq-eqb (getD c z 0) 0 e)
+
+      module _ (some : getD c z 0 ≢ 0) where
+        pub join-end : getD f z 0 + getD c z 0 ≡ y → join 3444 ex last s z y ≡ planned (rewritten s z (getD c z 0 + 1) (getD f z 0)) (y ∷ [])
+        unfolding join joinFilling joinAfter anodesFrom
+        join-end e = rw (ne-eqb z 1 other, ne-eqb (getD c z 0) 0 some, eq-eqb (getD f z 0 + getD c z 0) y e)
+
+        module _ (apart : getD f z 0 + getD c z 0 ≢ y) where
+          pub join-start : y + 1 ≡ getD f z 0 → join 3444 ex last s z y ≡ planned (rewritten s z (getD c z 0 + 1) y) (y ∷ [])
+          unfolding join joinFilling joinAfter joinBefore anodesFrom
+          join-start e = rw (ne-eqb z 1 other, ne-eqb (getD c z 0) 0 some, ne-eqb (getD f z 0 + getD c z 0) y apart, eq-eqb (y + 1) (getD f z 0) e)
+
+          pub join-apart : y + 1 ≢ getD f z 0 → join 3444 ex last s z y ≡ append 3444 ex last s z y
+          unfolding join joinFilling joinAfter joinBefore anodesFrom
+          join-apart e = rw (ne-eqb z 1 other, ne-eqb (getD c z 0) 0 some, ne-eqb (getD f z 0 + getD c z 0) y apart, ne-eqb (y + 1) (getD f z 0) e)

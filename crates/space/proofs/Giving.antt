@@ -1,0 +1,104 @@
+-- What a give meets in a good state: where its anodes are, and that its sums fit.
+use Prim.Native.Nat.{ℕ, zero, suc, _+_, _-_, _≤_, _<_}
+use mathlib.Core.Path.{_≡_, refl, sym, ap, _∙_}
+use mathlib.Core.Logic.{_≢_, _⊎_, inl, inr}
+use mathlib.Core.Bool.{Bool, false}
+use mathlib.Core.List.{List, [], _∷_}
+use native.Mathlib.Omega.{arith}
+use lib.ListN.{getD}
+use Rattle.rules.specs.Counting.{sumList, lastOf}
+use Rattle.rules.specs.Anodes.{Anodes, exists}
+use Rattle.rules.specs.Chains.{chainOf, cut, systemOwns, side, blockCount}
+use Rattle.rules.specs.Accepted.{diskSize, wrongSize, lastReserved}
+use Rattle.rules.specs.Space.{Found, nowhere, found, lastFull, withoutLast, sideOf, join, release, giveFrom, giveBack}
+use Rattle.laws.specs.Tests.{less?}
+use Rattle.laws.specs.Bags.{list-nil, list-cons}
+use Rattle.laws.specs.Links.{the-chain, next-below}
+use Rattle.laws.specs.Heads.{Head}
+use Rattle.laws.specs.Space.{Good}
+use Rattle.laws.specs.Sides.{side-start, side-sd}
+use Rattle.laws.specs.Searches.{FoundIn, lastFull-found, last-on}
+use Rattle.laws.specs.Moves.{InHand}
+use Rattle.laws.specs.Leaving.{full-used, full-0}
+use Rattle.laws.specs.Give.{withoutLast-out}
+use Rattle.anodes.specs.Loaded.{anodesFrom}
+use Rattle.space.specs.Steps.{GoodAnodes}
+use Rattle.space.proofs.Cases.{side-above, side-up-to}
+use Rattle.space.proofs.Taking.{size-small}
+
+-- ---- which extent
+
+found≢nowhere : (p x : ℕ) → found p x ≡ nowhere → ⊥
+found≢nowhere p x e = let z : _≡_ {A = ℕ} 0 1 = cc in omega arith
+
+-- a chain with no anode that has a block has no block
+none-full : (count : ℕ → ℕ) (p : ℕ) (l : List ℕ) → lastFull count p l ≡ nowhere → sumList count l ≡ 0
+unfolding lastFull
+none-full count p [] e = list-nil count
+none-full count p (a ∷ l) e = go (lastFull count a l) refl (count a) refl e (none-full count a l)
+  where
+    go : (g : Found) → lastFull count a l ≡ g → (k : ℕ) → count a ≡ k → elim g [ nowhere ↦ elim k [ zero ↦ nowhere | suc j ↦ found p a ] | found q x ↦ found q x ] ≡ nowhere →
+        (lastFull count a l ≡ nowhere → sumList count l ≡ 0) → sumList count (a ∷ l) ≡ 0
+    go nowhere q zero z e r = omega (arith, list-cons count a l, z, r q)
+    go nowhere q (suc k) z e r = absurd (found≢nowhere p a e)
+    go (found y x) q k z e r = absurd (found≢nowhere y x e)
+
+pub full-there : (s : Anodes) (h : ℕ) → 0 < blockCount s h → lastFull (s .count) 0 (chainOf (s .next) 3444 h) ≡ nowhere → ⊥
+unfolding blockCount
+full-there s h some e = omega (arith, some, none-full (s .count) 0 (chainOf (s .next) 3444 h) e)
+
+-- ---- the end of a side
+
+module _ {A : ℕ} {ex : ℕ → Bool} {n last : ℕ} {s : Anodes} {system hd sd : ℕ → ℕ} (g : Good A ex n last s system hd sd) where
+  end-of-side : (m : ℕ) → (m ≡ 1) ⊎ (m ≡ 2) → s .block (lastOf m (side A s m)) ≢ 0
+  end-of-side m o q = elim (last-on m (side A s m)) [
+    | inl c ↦ side-start g m o .in-use (ap (s .block) (sym c) ∙ q)
+    | inr c ↦ side-start g m o .pos (sym (side-sd g m o (lastOf m (side A s m)) c) ∙ g .sides .off (lastOf m (side A s m)) q)
+  ]
+
+one-side : (ex : ℕ → Bool) (last y : ℕ) → (sideOf 3444 ex last y ≡ 1) ⊎ (sideOf 3444 ex last y ≡ 2)
+one-side ex last y = elim (less? last y) [ inl l ↦ inl (side-above ex last y l) | inr l ↦ inr (side-up-to ex last y l) ]
+
+-- ---- the sums fit
+
+module _ (img : List ℕ) (s : Anodes) (good : GoodAnodes img s) (h : ℕ) (d : Head (s .next) (s .block) h) (p x : ℕ) (e : lastFull (s .count) 0 (chainOf (s .next) 3444 h) ≡ found p x) where
+  last-found : FoundIn (s .count) (s .next) h (chainOf (s .next) 3444 h) 0 p x
+  last-found = let g = good .2 in lastFull-found (s .count) (s .next) h 0 0 (chainOf (s .next) 3444 h) (the-chain (g .view) (g .linked) h (λ q. d .in-use)) p x e
+
+  pub last-full-some : 0 < s .count x
+  last-full-some = last-found .full
+
+  pub last-below : x < 3444
+  last-below = good .2 .view .below x (full-used (good .2) x last-full-some)
+
+  pub before-last-below : p < 3444
+  before-last-below = elim (last-found .before) [ inl c ↦ omega (arith, c .1) | inr c ↦ next-below (good .2 .view) p (λ z. full-0 (good .2) x last-full-some (sym c ∙ z)) ]
+
+  -- once its last block y is out, in other tables, the end z of that block's side
+  module _ (size : wrongSize img ≡ false) (h1 : h ≢ 1) (c f n : List ℕ) (left : anodesFrom c f n ≡ withoutLast 3444 (exists img) (lastReserved img) s h p x)
+      (y m z : ℕ) (block : y ≡ s .block x + (s .count x - 1)) (start : m ≡ sideOf 3444 (exists img) (lastReserved img) y) (end : z ≡ lastOf m (chainOf (cut (λ a. getD n a 0)) 3444 m)) where
+    out : InHand 3444 (exists img) (diskSize img) (lastReserved img) s (systemOwns img) (good .0) h (s .block x + (s .count x - 1)) (withoutLast 3444 (exists img) (lastReserved img) s h p x)
+    out = withoutLast-out (good .2) h d h1 p x last-found
+
+    is-end : z ≡ lastOf m (side 3444 (withoutLast 3444 (exists img) (lastReserved img) s h p x) m)
+    unfolding side anodesFrom
+    is-end = end ∙ ap (λ (t : Anodes). lastOf m (chainOf (cut (t .next)) 3444 m)) left
+
+    pub side-end-used : getD f z 0 ≢ 0
+    unfolding anodesFrom
+    side-end-used q = end-of-side (out .good) m (rw start (one-side (exists img) (lastReserved img) y)) (rw (← is-end) (sym (ap (λ (t : Anodes). t .block z) left) ∙ q))
+
+    pub side-end-below : z < 3444
+    unfolding anodesFrom
+    side-end-below = out .good .view .below z (λ q. side-end-used (ap (λ (t : Anodes). t .block z) left ∙ q))
+
+    pub side-end-fits : 0 < getD c z 0 → getD f z 0 + getD c z 0 ≤ 65535
+    unfolding anodesFrom
+    side-end-fits l =
+        let b = ap (λ (t : Anodes). t .block z) left in
+        let k = ap (λ (t : Anodes). t .count z) left in
+        rw (b, k) (omega (arith, size-small img size, out .good .own .fits z side-end-below (rw k at l)))
+
+    pub given-back : join 3444 (exists img) (lastReserved img) (anodesFrom c f n) z y ≡ giveBack 3444 (exists img) (lastReserved img) s h
+    unfolding giveBack giveFrom release
+    given-back = rw (is-end, left, start, block, e, giveBack)

@@ -1,0 +1,182 @@
+-- The searches along a chain and among the free anodes, one anode after the other. Assumes nothing.
+use Prim.Native.Nat.{ℕ, zero, suc, _+_, _/_, _%_, _≤_, _<_}
+use mathlib.Core.Path.{_≡_, refl, sym, _∙_}
+use mathlib.Core.Logic.{_≢_, inl, inr}
+use mathlib.Core.Bool.{true, false, not, _&&_}
+use mathlib.Core.List.{List, [], _∷_}
+use native.Mathlib.Omega.{arith}
+use native.Mathlib.Numerals.{add-one}
+use lib.Dec.{T, eqb}
+use lib.ListN.{getD}
+use borrow.Author.Tests.{le-leb, lt-leb, le-ltb, ne-eqb}
+use Rattle.disk.specs.Root.{slotOf}
+use Rattle.disk.specs.AnodeBlocks.{anodesIn}
+use Rattle.disk.proofs.Laws.{anodeSlots-at}
+use Rattle.rules.specs.Counting.{least, lastOf}
+use Rattle.rules.specs.Anodes.{existsIn, exists}
+use Rattle.rules.specs.Chains.{chainOf}
+use Rattle.rules.specs.Space.{Found, nowhere, found, firstFull, lastFull, free, lowestFree}
+use Rattle.laws.specs.Tests.{less?, same?}
+use Rattle.laws.specs.Sums.{least-cases}
+use Rattle.laws.specs.ImageAnodes.{slot-exists}
+use Rattle.anodes.specs.Loaded.{anodesFrom}
+use Rattle.space.specs.Steps.{firstFound}
+
+-- ---- free anodes
+
+-- a slot that holds 0 has no anode
+slot-missing : (img : List ℕ) (a : ℕ) → slotOf img (a / 82) ≡ 0 → exists img a ≡ false
+unfolding exists existsIn anodesIn
+slot-missing img a z = rw (anodeSlots-at img (a / 82), z) (le-ltb (a % 82) 0 (omega arith))
+
+-- an anode exists where its slot does not hold 0
+pub exists-by-slot : (img : List ℕ) (a s : ℕ) → s ≡ slotOf img (a / 82) → not (eqb s 0) ≡ exists img a
+exists-by-slot img a zero e = sym (slot-missing img a (sym e))
+exists-by-slot img a (suc s) e = rw (ne-eqb (suc s) 0 (λ z. omega arith)) (sym (slot-exists img a (suc s) (sym e) (λ z. omega arith)))
+
+module _ (img firsts c n : List ℕ) (last : ℕ) where
+  free-from-6 : (a : ℕ) → 6 ≤ a → (eqb (getD firsts a 0) 0 && exists img a) ≡ free 3444 (exists img) last (anodesFrom c firsts n) a
+  unfolding free anodesFrom
+  free-from-6 a l = rw (le-leb 6 a l)
+
+  none-below-6 : (a : ℕ) → a < 6 → free 3444 (exists img) last (anodesFrom c firsts n) a ≡ false
+  unfolding free anodesFrom
+  none-below-6 a l = rw (lt-leb 6 a l)
+
+  -- none of the anodes from 6 to a is free
+  module _ (a : ℕ) (up : a ≤ 3444) (none : (j : ℕ) → 6 ≤ j → j < a → (eqb (getD firsts j 0) 0 && exists img j) ≡ false) where
+    none-below : (j : ℕ) → j < a → T (free 3444 (exists img) last (anodesFrom c firsts n) j) → ⊥
+    none-below j l t = elim (less? j 6) [
+      | inl q ↦ rw (none-below-6 j q) at t
+      | inr q ↦ rw (sym (free-from-6 j q) ∙ none j q l) at t
+    ]
+
+    pub lowest-hit : 6 ≤ a → a < 3444 → (eqb (getD firsts a 0) 0 && exists img a) ≡ true → a ≡ lowestFree 3444 (exists img) last (anodesFrom c firsts n)
+    unfolding lowestFree
+    lowest-hit l k h = elim (least-cases (free 3444 (exists img) last (anodesFrom c firsts n)) 3444) [
+      | inl d ↦ elim (less? (least (free 3444 (exists img) last (anodesFrom c firsts n)) 3444) a) [
+        | inl q ↦ absurd (none-below (least (free 3444 (exists img) last (anodesFrom c firsts n)) 3444) q (d .1))
+        | inr q ↦ elim (same? a (least (free 3444 (exists img) last (anodesFrom c firsts n)) 3444)) [
+          | inl e ↦ e
+          | inr e ↦ absurd (d .2 a (omega arith) here)
+        ]
+      ]
+      | inr d ↦ absurd (d .1 a k here)
+    ]
+      where
+        here : T (free 3444 (exists img) last (anodesFrom c firsts n) a)
+        here = rw (sym (free-from-6 a l) ∙ h) tt
+
+    pub lowest-none : a ≡ 3444 → 3444 ≡ lowestFree 3444 (exists img) last (anodesFrom c firsts n)
+    unfolding lowestFree
+    lowest-none e = elim (least-cases (free 3444 (exists img) last (anodesFrom c firsts n)) 3444) [
+      | inl d ↦ absurd (none-below (least (free 3444 (exists img) last (anodesFrom c firsts n)) 3444) (omega (arith, d .0, e)) (d .1))
+      | inr d ↦ sym (d .0)
+    ]
+
+-- ---- chains
+
+module _ (next : ℕ → ℕ) where
+  chain-none : (a : ℕ) → chainOf next 0 a ≡ []
+  unfolding chainOf
+  chain-none a = refl
+
+  chain-zero : (k : ℕ) → chainOf next k 0 ≡ []
+  unfolding chainOf
+  chain-zero zero = refl
+  chain-zero (suc k) = refl
+
+  chain-step : (k m a : ℕ) → k ≡ m + 1 → a ≢ 0 → chainOf next k a ≡ a ∷ chainOf next m (next a)
+  unfolding chainOf
+  chain-step k m zero e h = absurd (h refl)
+  chain-step k m (suc a) e h = rw (e, add-one m)
+
+-- ---- the first anode with a block
+
+module _ (count : ℕ → ℕ) where
+  full-skip : (p a : ℕ) (l : List ℕ) → count a ≡ 0 → firstFull count p (a ∷ l) ≡ firstFull count a l
+  unfolding firstFull
+  full-skip p a l e = rw (e, firstFull)
+
+  full-stop : (p a c : ℕ) (l : List ℕ) → count a ≡ c → c ≢ 0 → firstFull count p (a ∷ l) ≡ found p a
+  unfolding firstFull
+  full-stop p a zero l e h = absurd (h refl)
+  full-stop p a (suc c) l e h = rw (e, firstFull)
+
+  full-nil : (p : ℕ) → firstFull count p [] ≡ nowhere
+  unfolding firstFull
+  full-nil p = refl
+
+  module _ (next : ℕ → ℕ) where
+    pub first-none : (p a : ℕ) → firstFull count p (chainOf next 0 a) ≡ nowhere
+    first-none p a = rw (chain-none next a) (full-nil p)
+
+    pub first-zero : (k p : ℕ) → firstFull count p (chainOf next k 0) ≡ nowhere
+    first-zero k p = rw (chain-zero next k) (full-nil p)
+
+    module _ (k m p a : ℕ) (fuel : k ≡ m + 1) (some : a ≢ 0) where
+      pub first-hit : count a ≢ 0 → firstFull count p (chainOf next k a) ≡ found p a
+      first-hit h = rw (chain-step next k m a fuel some) (full-stop p a (count a) (chainOf next m (next a)) refl h)
+
+      pub first-step : count a ≡ 0 → firstFull count p (chainOf next k a) ≡ firstFull count a (chainOf next m (next a))
+      first-step h = rw (chain-step next k m a fuel some) (full-skip p a (chainOf next m (next a)) h)
+
+-- ---- the last anode with a block
+
+pub or-nowhere : (f : Found) → firstFound f nowhere ≡ f
+unfolding firstFound
+or-nowhere nowhere = refl
+or-nowhere (found p x) = refl
+
+nowhere-or : (f : Found) → firstFound nowhere f ≡ f
+unfolding firstFound
+nowhere-or f = refl
+
+module _ (count : ℕ → ℕ) where
+  last-nil : (p : ℕ) → lastFull count p [] ≡ nowhere
+  unfolding lastFull
+  last-nil p = refl
+
+  last-skip : (p a : ℕ) (l : List ℕ) → count a ≡ 0 → lastFull count p (a ∷ l) ≡ lastFull count a l
+  unfolding lastFull
+  last-skip p a l e = go (lastFull count a l) refl where
+    go : (f : Found) → lastFull count a l ≡ f → lastFull count p (a ∷ l) ≡ f
+    go nowhere q = rw (q, e)
+    go (found y x) q = rw q
+
+  last-here : (p a c : ℕ) (l : List ℕ) (b : Found) → count a ≡ c → c ≢ 0 → firstFound (lastFull count p (a ∷ l)) b ≡ firstFound (lastFull count a l) (found p a)
+  unfolding lastFull firstFound
+  last-here p a zero l b e h = absurd (h refl)
+  last-here p a (suc c) l b e h = go (lastFull count a l) refl where
+    go : (f : Found) → lastFull count a l ≡ f → firstFound (lastFull count p (a ∷ l)) b ≡ firstFound (lastFull count a l) (found p a)
+    go nowhere q = rw (q, e)
+    go (found y x) q = rw q
+
+  module _ (next : ℕ → ℕ) where
+    pub last-none : (p a : ℕ) (b : Found) → firstFound (lastFull count p (chainOf next 0 a)) b ≡ b
+    last-none p a b = rw (chain-none next a, last-nil p) (nowhere-or b)
+
+    pub last-zero : (k p : ℕ) (b : Found) → firstFound (lastFull count p (chainOf next k 0)) b ≡ b
+    last-zero k p b = rw (chain-zero next k, last-nil p) (nowhere-or b)
+
+    module _ (k m p a : ℕ) (b : Found) (fuel : k ≡ m + 1) (some : a ≢ 0) where
+      pub last-hit : count a ≢ 0 → firstFound (lastFull count p (chainOf next k a)) b ≡ firstFound (lastFull count a (chainOf next m (next a))) (found p a)
+      last-hit h = rw (chain-step next k m a fuel some) (last-here p a (count a) (chainOf next m (next a)) b refl h)
+
+      pub last-step : count a ≡ 0 → firstFound (lastFull count p (chainOf next k a)) b ≡ firstFound (lastFull count a (chainOf next m (next a))) b
+      last-step h = rw (chain-step next k m a fuel some, last-skip p a (chainOf next m (next a)) h)
+
+-- ---- the last anode
+
+module _ (next : ℕ → ℕ) where
+  pub end-none : (z a : ℕ) → lastOf z (chainOf next 0 a) ≡ z
+  unfolding lastOf
+  end-none z a = rw (chain-none next a)
+
+  pub end-zero : (k z : ℕ) → lastOf z (chainOf next k 0) ≡ z
+  unfolding lastOf
+  end-zero k z = rw (chain-zero next k)
+
+  pub end-step : (k m z a : ℕ) → k ≡ m + 1 → a ≢ 0 → lastOf z (chainOf next k a) ≡ lastOf a (chainOf next m (next a))
+  unfolding lastOf
+  end-step k m z a e h = rw (chain-step next k m a e h)

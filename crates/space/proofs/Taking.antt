@@ -1,0 +1,143 @@
+-- What a take meets in a good state: where its anodes are, and that its sums fit.
+use Prim.Native.Nat.{ℕ, _+_, _%_, _≤_, _<_}
+use mathlib.Core.Path.{_≡_, refl, sym, ap, _∙_}
+use mathlib.Core.Logic.{_≢_, _⊎_, inl, inr}
+use mathlib.Core.Bool.{Bool, true, false, not, _||_}
+use mathlib.Core.List.{List}
+use native.Mathlib.Omega.{arith}
+use lib.Dec.{eqb, ltb, lt→ltb}
+use lib.ListN.{length, getD}
+use Rattle.rules.specs.Counting.{times, lastOf}
+use Rattle.rules.specs.Anodes.{Anodes, exists}
+use Rattle.rules.specs.Chains.{chainOf, cut, systemOwns, side}
+use Rattle.rules.specs.Accepted.{diskSize, wrongSize, lastReserved}
+use Rattle.rules.specs.Space.{Plan, refused, Found, nowhere, found, firstFull, put, withoutFirst, takeFrom, takeSide, takeBlock}
+use Rattle.counting.specs.Laws.{neither}
+use Rattle.laws.specs.Tests.{less?}
+use Rattle.laws.specs.Segments.{Chain, seg-keep}
+use Rattle.laws.specs.Links.{the-chain, chain-the, next-below}
+use Rattle.laws.specs.Heads.{Head, seg-head}
+use Rattle.laws.specs.Cut.{cut-cases, cut-other, cut-view, cut-linked}
+use Rattle.laws.specs.Space.{Good}
+use Rattle.laws.specs.Sides.{side-chain}
+use Rattle.laws.specs.Searches.{FoundIn, firstFull-found}
+use Rattle.laws.specs.Moves.{InHand, headed-used}
+use Rattle.laws.specs.Leaving.{full-used, full-0}
+use Rattle.laws.specs.Take.{last-head, withoutFirst-out}
+use Rattle.anodes.specs.Loaded.{anodesFrom}
+use Rattle.space.specs.Steps.{GoodAnodes, firstFound, freeExtent}
+
+-- ---- which extent
+
+-- a take by what the search finds
+abbrev takeAt : (ℕ → Bool) → ℕ → Bool → Anodes → ℕ → Found → Plan
+takeAt ex last own s h nowhere = refused 27
+takeAt ex last own s h (found p x) = takeFrom 3444 ex last own s h p x
+
+module _ (ex : ℕ → Bool) (last : ℕ) (s : Anodes) (h : ℕ) where
+  either-side : (own : Bool) (a b : Found) →
+      elim a [ nowhere ↦ elim b [ nowhere ↦ refused 27 | found p x ↦ takeFrom 3444 ex last own s h p x ] | found p x ↦ takeFrom 3444 ex last own s h p x ] ≡ takeAt ex last own s h (firstFound a b)
+  unfolding firstFound
+  either-side own nowhere nowhere = refl
+  either-side own nowhere (found p x) = refl
+  either-side own (found p x) b = refl
+
+  take-at : (own : Bool) → takeBlock 3444 ex last own s h ≡ takeAt ex last own s h (freeExtent own s)
+  unfolding takeBlock takeSide freeExtent
+  take-at true = either-side true (firstFull (s .count) 0 (side 3444 s 2)) (firstFull (s .count) 0 (side 3444 s 1))
+  take-at false = either-side false (firstFull (s .count) 0 (side 3444 s 1)) (firstFull (s .count) 0 (side 3444 s 2))
+
+  pub take-nowhere : (own : Bool) → freeExtent own s ≡ nowhere → takeBlock 3444 ex last own s h ≡ refused 27
+  take-nowhere own e = take-at own ∙ ap (takeAt ex last own s h) e
+
+  take-found : (own : Bool) (p x : ℕ) → freeExtent own s ≡ found p x → takeBlock 3444 ex last own s h ≡ takeFrom 3444 ex last own s h p x
+  take-found own p x e = take-at own ∙ ap (takeAt ex last own s h) e
+
+one-found : (a b : Found) (p x : ℕ) → firstFound a b ≡ found p x → (a ≡ found p x) ⊎ (b ≡ found p x)
+unfolding firstFound
+one-found nowhere b p x e = inr e
+one-found (found q y) b p x e = inl e
+
+found-side : (own : Bool) (s : Anodes) (p x : ℕ) → freeExtent own s ≡ found p x → (m : ℕ) × ((m ≡ 1) ⊎ (m ≡ 2)) × (firstFull (s .count) 0 (side 3444 s m) ≡ found p x)
+unfolding freeExtent
+found-side true s p x e = elim (one-found (firstFull (s .count) 0 (side 3444 s 2)) (firstFull (s .count) 0 (side 3444 s 1)) p x e) [ inl q ↦ (2, inr refl, q) | inr q ↦ (1, inl refl, q) ]
+found-side false s p x e = elim (one-found (firstFull (s .count) 0 (side 3444 s 1)) (firstFull (s .count) 0 (side 3444 s 2)) p x e) [ inl q ↦ (1, inl refl, q) | inr q ↦ (2, inr refl, q) ]
+
+-- ---- the chain of a head other than 1
+
+module _ {A : ℕ} {ex : ℕ → Bool} {n last : ℕ} {s : Anodes} {system hd sd : ℕ → ℕ} (g : Good A ex n last s system hd sd) (h : ℕ) (h0 : h ≢ 0) (h1 : h ≢ 1) (own-head : hd h ≡ h) where
+  in-use : s .block h ≢ 0
+  in-use = headed-used g h (λ q. h0 (sym own-head ∙ q))
+
+  -- it does not come to 2
+  cut-chain : chainOf (cut (s .next)) A h ≡ chainOf (s .next) A h
+  cut-chain = chain-the (cut-view (g .view)) (cut-linked (g .linked)) h (chainOf (s .next) A h) (λ z. in-use)
+      (seg-keep (s .next) (cut (s .next)) h 0 (chainOf (s .next) A h) (λ x p. cut-other (s .next) x (λ e. h1 (sym own-head ∙ sym (on x p) ∙ sym (g .heads .along x (λ z. omega (arith, e, z))) ∙ ap hd e ∙ g .two-on))) chain)
+    where
+      chain : Chain (s .next) h (chainOf (s .next) A h)
+      chain = the-chain (g .view) (g .linked) h (λ z. in-use)
+
+      on : (x : ℕ) → 0 < times x (chainOf (s .next) A h) → hd x ≡ hd h
+      on x p = seg-head (g .view) (g .linked) hd (g .heads) h 0 (chainOf (s .next) A h) chain x p
+
+  -- its last anode, as the search before 2 finds it
+  last-before-two : lastOf h (chainOf (cut (s .next)) A h) ≡ lastOf h (chainOf (s .next) A h)
+  last-before-two = ap (lastOf h) cut-chain
+
+  last-used : s .block (lastOf h (chainOf (cut (s .next)) A h)) ≢ 0
+  last-used = rw last-before-two (headed-used g (lastOf h (chainOf (s .next) A h)) (λ q. h0 (sym (last-head g h h0 own-head) ∙ q)))
+
+-- ---- the sums fit
+
+pub size-small : (img : List ℕ) → wrongSize img ≡ false → diskSize img ≤ 65535
+unfolding wrongSize
+size-small img e = elim (less? 65535 (diskSize img)) [
+  | inl l ↦ absurd (rw (neither (ltb (diskSize img) 5) (ltb 65535 (diskSize img)) (neither (not (eqb (length img % 512) 0)) (ltb (diskSize img) 5 || ltb 65535 (diskSize img)) e .1) .1) at (lt→ltb 65535 (diskSize img) l))
+  | inr l ↦ l
+]
+
+module _ (img : List ℕ) (s : Anodes) (good : GoodAnodes img s) where
+  pub full-fits : wrongSize img ≡ false → (x : ℕ) → 0 < s .count x → s .block x + s .count x ≤ 65535
+  full-fits size x f = let g = good .2 in omega (arith, size-small img size, g .own .fits x (g .view .below x (full-used g x f)) f)
+
+  -- the extent that a take finds
+  module _ (own : Bool) (p x : ℕ) (e : freeExtent own s ≡ found p x) where
+    side-found : (m : ℕ) × ((m ≡ 1) ⊎ (m ≡ 2)) × FoundIn (s .count) (cut (s .next)) m (side 3444 s m) 0 p x
+    side-found = let w = found-side own s p x e in (w .0, w .1, firstFull-found (s .count) (cut (s .next)) (w .0) 0 0 (side 3444 s (w .0)) (side-chain (good .2) (w .0) (w .1)) p x (w .2))
+
+    pub found-full : 0 < s .count x
+    found-full = side-found .2 .full
+
+    pub found-below : x < 3444
+    found-below = good .2 .view .below x (full-used (good .2) x found-full)
+
+    pub before-below : p < 3444
+    before-below = elim (side-found .2 .before) [
+      | inl c ↦ omega (arith, c .1)
+      | inr c ↦ elim (cut-cases (s .next) p) [
+        | inl d ↦ absurd (full-0 (good .2) x found-full (sym c ∙ d .1))
+        | inr d ↦ next-below (good .2 .view) p (λ z. full-0 (good .2) x found-full (sym c ∙ d .1 ∙ z))
+      ]
+    ]
+
+    -- once its first block is out, in other tables, the end z of the taker's chain
+    module _ (h : ℕ) (d : Head (s .next) (s .block) h) (h1 : h ≢ 1) (c f n : List ℕ) (left : anodesFrom c f n ≡ withoutFirst 3444 (exists img) (lastReserved img) s p x)
+        (z : ℕ) (end : z ≡ lastOf h (chainOf (cut (λ a. getD n a 0)) 3444 h)) where
+      out : InHand 3444 (exists img) (diskSize img) (lastReserved img) s (systemOwns img) (good .0) 1 (s .block x) (withoutFirst 3444 (exists img) (lastReserved img) s p x)
+      out = withoutFirst-out (good .2) (side-found .0) (side-found .1) p x (side-found .2)
+
+      is-end : z ≡ lastOf h (chainOf (cut (withoutFirst 3444 (exists img) (lastReserved img) s p x .next)) 3444 h)
+      unfolding anodesFrom
+      is-end = end ∙ ap (λ (t : Anodes). lastOf h (chainOf (cut (t .next)) 3444 h)) left
+
+      pub end-used : getD f z 0 ≢ 0
+      unfolding anodesFrom
+      end-used q = last-used (out .good) h (d .pos) h1 (out .heads-kept h d) (rw (← is-end) (sym (ap (λ (t : Anodes). t .block z) left) ∙ q))
+
+      pub end-below : z < 3444
+      unfolding anodesFrom
+      end-below = out .good .view .below z (λ q. end-used (ap (λ (t : Anodes). t .block z) left ∙ q))
+
+      pub taken-from : (y : ℕ) → y ≡ s .block x → put 3444 (exists img) (lastReserved img) own (anodesFrom c f n) z y ≡ takeBlock 3444 (exists img) (lastReserved img) own s h
+      unfolding takeFrom
+      taken-from y b = rw (b, is-end, left, last-before-two (out .good) h (d .pos) h1 (out .heads-kept h d)) (sym (take-found (exists img) (lastReserved img) s h own p x e))

@@ -1,0 +1,43 @@
+use mathlib.Core.Path.{_∙_}
+use native.Mathlib.Omega.{arith}
+use Rattle.space.proofs.Tables.{inserted-tables}
+use borrow.Author.Needs.{needs}
+use Rattle.space.proofs.insert_after.Statement.{statement}
+use Rattle.space.proofs.insert_after.Tie as tie
+
+entry-requires : tie.Need-entry-requires
+entry-requires c κs = search needs
+
+set-entry-requires : tie.Need-set-entry-requires
+set-entry-requires c κs = search needs
+
+set-entry-requires-2 : tie.Need-set-entry-requires-2
+set-entry-requires-2 c κs = search needs
+
+rewrite-requires : tie.Need-rewrite-requires
+rewrite-requires c κs = search needs
+
+same-length : tie.Need-same-length
+same-length c = search needs
+
+same-length-2 : tie.Need-same-length-2
+same-length-2 c = search needs
+
+same-length-3 : tie.Need-same-length-3
+same-length-3 c = search needs
+
+returns : tie.Need-returns
+returns c = let pre = c .before .before .before .before .before .before .before .before .before .before .before .before .before .before .before .before .before .before .before .before .pre in c .before .before .before .before .rewrite .ensures _ ∙ rw (c .before .before .before .before .before .before .before .before .before .set-entry2 .ensures, c .before .before .before .before .before .before .before .before .before .before .before .before .before .set-entry .ensures, c .before .before .before .before .before .before .before .before .before .before .before .before .before .before .before .entry .ensures) (inserted-tables _ _ _ _ _ _ (omega (arith, pre .0, pre .4)) (omega (arith, pre .1, pre .4)))
+
+pub insert-after-spec : {M : Type 1} → statement M
+insert-after-spec =
+    tie.close
+    (tie.spec
+    entry-requires
+    set-entry-requires
+    set-entry-requires-2
+    rewrite-requires
+    same-length
+    same-length-2
+    same-length-3
+    returns)

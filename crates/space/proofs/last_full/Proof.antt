@@ -1,0 +1,66 @@
+use Prim.Native.Nat.{_-_}
+use mathlib.Core.Path.{_≡_, sym, _∙_}
+use mathlib.Core.Logic.{⊎-elim}
+use native.Mathlib.Omega.{arith}
+use lib.ListN.{getD}
+use borrow.Author.Needs.{needs}
+use Rattle.rules.specs.Chains.{chainOf}
+use Rattle.rules.specs.Space.{lastFull}
+use Rattle.space.specs.Steps.{foundOf, firstFound}
+use Rattle.space.proofs.Searches.{or-nowhere, last-none, last-zero, last-hit, last-step}
+use Rattle.space.proofs.last_full.Statement.{statement}
+use Rattle.space.proofs.last_full.Tie as tie
+
+abbrev Inv-loop : tie.InvT-loop
+Inv-loop counts nexts from found₀ before₀ at₀ fuel₀ found before at fuel = firstFound (lastFull (λ a. getD counts a 0) before (chainOf (λ a. getD nexts a 0) fuel at)) (foundOf found) ≡ lastFull (λ a. getD counts a 0) 0 (chainOf (λ a. getD nexts a 0) 3444 from)
+
+abbrev μ-loop : tie.MeasureT-loop
+μ-loop counts nexts from found₀ before₀ at₀ fuel₀ found before at fuel = fuel
+
+loop-holds : tie.Need-loop-holds Inv-loop μ-loop
+loop-holds c = or-nowhere _
+
+returns : tie.Need-returns Inv-loop μ-loop
+returns c = let l = c .before .before .loop in sym (last-zero _ _ (l .fuel) (l .before) _) ∙ rw (c .if1 .taken) at (l .inv)
+
+entry-requires : tie.Need-entry-requires Inv-loop μ-loop
+entry-requires c κs = search needs
+
+entry-requires-2 : tie.Need-entry-requires-2 Inv-loop μ-loop
+entry-requires-2 c κs = search needs
+
+cast-at : tie.Need-cast-at Inv-loop μ-loop
+cast-at c = search needs
+
+sub-fuel : tie.Need-sub-fuel Inv-loop μ-loop
+sub-fuel c = search needs
+
+loop-less : tie.Need-loop-less Inv-loop μ-loop
+loop-less c = search needs
+
+loop-again : tie.Need-loop-again Inv-loop μ-loop
+loop-again c = let l = c .before .before .before .before .before .loop in
+    rw (c .entry2 .ensures)
+    (⊎-elim
+    (λ w. rw (w .1) (sym (last-hit _ _ (l .fuel) (l .fuel - 1) (l .before) (l .at) _ (omega arith) (c .before .before .before .if1 .left) (rw (c .before .before .entry .ensures) at (w .0 .taken))) ∙ l .inv))
+    (λ w. rw (w .1) (sym (last-step _ _ (l .fuel) (l .fuel - 1) (l .before) (l .at) _ (omega arith) (c .before .before .before .if1 .left) (sym (c .before .before .entry .ensures) ∙ w .0 .left)) ∙ l .inv))
+    (c .before .if2 .came))
+
+returns-2 : tie.Need-returns-2 Inv-loop μ-loop
+returns-2 c = let e : c .before .loop .fuel ≡ 0 = omega arith in sym (last-none _ _ (c .before .loop .before) (c .before .loop .at) _) ∙ rw e at (c .before .loop .inv)
+
+pub last-full-spec : {M : Type 1} → statement M
+last-full-spec =
+    tie.close
+    (tie.spec
+    Inv-loop
+    μ-loop
+    loop-holds
+    returns
+    entry-requires
+    entry-requires-2
+    cast-at
+    sub-fuel
+    loop-less
+    loop-again
+    returns-2)

@@ -1,0 +1,2 @@
+-- What the one-block steps answer.
+pub mod Steps

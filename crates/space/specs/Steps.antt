@@ -1,0 +1,50 @@
+-- What the steps on tables of anodes answer, in the terms of the rules, and the state that they start from.
+use Prim.Native.Nat.{ℕ}
+use mathlib.Core.Bool.{Bool, cond}
+use mathlib.Core.List.{List, [], _∷_}
+use lib.ListN.{take}
+use Rattle.disk.specs.Refusals.{numberOf}
+use Rattle.rules.specs.Anodes.{Anodes, limit, exists}
+use Rattle.rules.specs.Chains.{systemOwns, side}
+use Rattle.rules.specs.Accepted.{diskSize, lastReserved}
+use Rattle.rules.specs.Space.{Plan, refused, planned, Found, nowhere, found, firstFull}
+use Rattle.laws.specs.Space.{Good}
+use Rattle.space.specs.declared.Step.{Step}
+use Rattle.space.specs.declared.Step.the-variants.{Moved, Refused}
+use Rattle.space.specs.declared.Moves.{Moves}
+use Rattle.space.specs.declared.Moves.the-variants.{Done, Stopped}
+use Rattle.space.specs.declared.Extent.{Extent}
+use Rattle.space.specs.declared.Extent.the-variants.{Nowhere, At}
+
+-- the plan that a step answers: the block that changed hands, or the refusal
+abbrev pub stepPlan : Step → Anodes → Plan
+stepPlan (Moved y) t = planned t (y .0 ∷ [])
+stepPlan (Refused r) t = refused (numberOf r)
+
+-- the plan that a run of steps answers, where the blocks were noted in a table
+abbrev pub manyPlan : Moves → Anodes → List ℕ → Plan
+manyPlan (Done n) t moved = planned t (take n moved)
+manyPlan (Stopped r) t moved = refused (numberOf r)
+
+-- the answer of a run that a refused step stops
+abbrev pub stoppedBy : Step → Moves
+stoppedBy (Moved y) = Done 0
+stoppedBy (Refused r) = Stopped r
+
+-- the anodes of a disk in good order: refusals 6 to 11 hold, with some table of heads and of sides
+abbrev pub GoodAnodes : List ℕ → Anodes → Type 0
+GoodAnodes img s = (hd : ℕ → ℕ) × (sd : ℕ → ℕ) × Good limit (exists img) (diskSize img) (lastReserved img) s (systemOwns img) hd sd
+
+-- an extent found in the tables
+abbrev pub foundOf : Extent → Found
+foundOf Nowhere = nowhere
+foundOf (At p x) = found p x
+
+-- the first of two searches that finds one
+unfoldable pub firstFound : Found → Found → Found
+firstFound nowhere b = b
+firstFound (found p x) b = found p x
+
+-- the extent that a take takes from: data looks from 1 first, directories (own) from 2
+unfoldable pub freeExtent : Bool → Anodes → Found
+freeExtent own s = firstFound (firstFull (s .count) 0 (side limit s (cond own 2 1))) (firstFull (s .count) 0 (side limit s (cond own 1 2)))

@@ -1,0 +1,470 @@
+// Takes and gives back blocks one at a time, on the anodes in three lent tables. What a refused step leaves in the tables is free.
+ghost use mathlib.Core.Bool.{Bool, false, cond, _&&_};
+ghost use mathlib.Core.List.{List};
+ghost use mathlib.Core.Logic.{_≢_};
+ghost use mathlib.Core.Path.{_≡_};
+ghost use Prim.Native.Nat.{ℕ, _+_, _<_, _≤_};
+ghost use lib.Dec.{eqb};
+ghost use lib.ListN.{length, getD};
+ghost use Rattle.rules.specs.Counting.{lastOf};
+ghost use Rattle.rules.specs.Anodes.{exists};
+ghost use Rattle.rules.specs.Chains.{chainOf, cut, blockCount};
+ghost use Rattle.rules.specs.Accepted.{wrongSize, lastReserved};
+ghost use Rattle.rules.specs.Space.{rewritten, insertedAfter, unlinked, firstFull, lastFull, lowestFree, append, put, withoutFirst, takeBlock, withoutLast, sideOf, join, giveBack, takeMany, giveMany, dropped};
+ghost use Rattle.laws.specs.Links.{View, Linked};
+ghost use Rattle.laws.specs.Heads.{Head};
+ghost use Rattle.anodes.specs.Loaded.{anodesFrom};
+ghost use Rattle.space.specs.Steps.{stepPlan, manyPlan, stoppedBy, GoodAnodes, foundOf, freeExtent};
+use disk::AnodeNo;
+use disk::BlockNo;
+use disk::Refusal;
+use disk::block_part;
+use disk::root_in;
+use disk::slot_of;
+use tables::entry;
+use tables::set_entry;
+
+// What a one-block step answers: the block that changed hands, or the refusal.
+pub enum Step {
+    Moved(BlockNo),
+    Refused(Refusal),
+}
+
+// What a run of steps answers: how many blocks changed hands, or the refusal.
+pub enum Moves {
+    Done(usize),
+    Stopped(Refusal),
+}
+
+// Where a search along a chain ends: the anode before the one that was found, and that one.
+enum Extent {
+    Nowhere,
+    At(usize, usize),
+}
+
+// Whether anode `a` exists and is free.
+fn is_free(image: &[u8], firsts: &[u16], a: usize) -> bool
+    ensures { λ r. ⌜ r ≡ (eqb (getD (now (firsts .entry)) a 0) 0 && exists (now (image .entry)) a) ⌝ }
+{
+    if entry(firsts, a) != 0 {
+        return false;
+    }
+    slot_of(image, a / 82).0 != 0
+}
+
+// The lowest free anode from 6 up, or 3,444 where there is none.
+pub fn lowest_free(image: &[u8], firsts: &[u16]) -> usize
+    ensures { λ r. ⌜ ((c n : List ℕ) (last : ℕ) → r ≡ lowestFree 3444 (exists (now (image .entry))) last (anodesFrom c (now (firsts .entry)) n)) ⌝ }
+{
+    for a in 6..3444 {
+        if is_free(image, firsts, a) {
+            return a;
+        }
+    }
+    3444
+}
+
+// The anode after `a`, or 0 where that is 2: the free list's side above last reserved ends before 2.
+fn next_before_two(nexts: &[u16], a: usize) -> usize
+    ensures { λ r. ⌜ r ≡ cut (λ x. getD (now (nexts .entry)) x 0) a ⌝ }
+{
+    let next = entry(nexts, a) as usize;
+    if next == 2 {
+        return 0;
+    }
+    next
+}
+
+// The first anode with a block on the side of the free list that starts at `from`.
+fn first_full(counts: &[u16], nexts: &[u16], from: usize) -> Extent
+    ensures { λ r. ⌜ foundOf r ≡ firstFull (λ a. getD (now (counts .entry)) a 0) 0 (chainOf (cut (λ a. getD (now (nexts .entry)) a 0)) 3444 from) ⌝ }
+{
+    let mut before: usize = 0;
+    let mut at = from;
+    let mut fuel: usize = 3444;
+    while 0 < fuel {
+        if at == 0 {
+            return Extent::Nowhere;
+        }
+        if entry(counts, at) != 0 {
+            return Extent::At(before, at);
+        }
+        before = at;
+        at = next_before_two(nexts, at);
+        fuel -= 1;
+    }
+    Extent::Nowhere
+}
+
+// The anode where the side of the free list starts at which directories (`own`) or data look first.
+fn near_side(own: bool) -> usize
+    ensures { λ r. ⌜ r ≡ cond own 2 1 ⌝ }
+{
+    if own {
+        return 2;
+    }
+    1
+}
+
+// The extent that a block is taken from: the first on the near side of the free list, else on the other.
+fn free_extent(own: bool, counts: &[u16], nexts: &[u16]) -> Extent
+    ensures { λ r. ⌜ ((f : List ℕ) → foundOf r ≡ freeExtent own (anodesFrom (now (counts .entry)) f (now (nexts .entry)))) ⌝ }
+{
+    let found = first_full(counts, nexts, near_side(own));
+    if let Extent::At(_, _) = found {
+        return found;
+    }
+    first_full(counts, nexts, near_side(!own))
+}
+
+// The last anode with a block on the chain from `from`.
+fn last_full(counts: &[u16], nexts: &[u16], from: usize) -> Extent
+    ensures { λ r. ⌜ foundOf r ≡ lastFull (λ a. getD (now (counts .entry)) a 0) 0 (chainOf (λ a. getD (now (nexts .entry)) a 0) 3444 from) ⌝ }
+{
+    let mut found = Extent::Nowhere;
+    let mut before: usize = 0;
+    let mut at = from;
+    let mut fuel: usize = 3444;
+    while 0 < fuel {
+        if at == 0 {
+            return found;
+        }
+        if entry(counts, at) != 0 {
+            found = Extent::At(before, at);
+        }
+        before = at;
+        at = entry(nexts, at) as usize;
+        fuel -= 1;
+    }
+    found
+}
+
+// The last anode from `from` on, before 2.
+fn last_anode(nexts: &[u16], from: usize) -> usize
+    ensures { λ r. ⌜ r ≡ lastOf from (chainOf (cut (λ a. getD (now (nexts .entry)) a 0)) 3444 from) ⌝ }
+{
+    let mut last = from;
+    let mut at = from;
+    let mut fuel: usize = 3444;
+    while 0 < fuel {
+        if at == 0 {
+            return last;
+        }
+        last = at;
+        at = next_before_two(nexts, at);
+        fuel -= 1;
+    }
+    last
+}
+
+// Makes anode `a` hold `count` blocks from `first` on; its next stays.
+fn rewrite(counts: &mut [u16], firsts: &mut [u16], a: usize, count: u16, first: BlockNo)
+    requires { ⌜ (a < 3444) × (length (now counts) ≡ 3444) × (length (now firsts) ≡ 3444) ⌝ }
+    ensures { λ _. ⌜ ((n : List ℕ) → anodesFrom (now (counts .exit)) (now (firsts .exit)) n ≡ rewritten (anodesFrom (now (counts .entry)) (now (firsts .entry)) n) a count (first .0)) ⌝ }
+{
+    set_entry(counts, a, count);
+    set_entry(firsts, a, first.0);
+}
+
+// Unlinks anode `a`, next of `p`, and zeroes it.
+fn unlink(counts: &mut [u16], firsts: &mut [u16], nexts: &mut [u16], p: usize, a: usize)
+    requires { ⌜ (p < 3444) × (a < 3444) × (length (now counts) ≡ 3444) × (length (now firsts) ≡ 3444) × (length (now nexts) ≡ 3444) ⌝ }
+    ensures { λ _. ⌜ anodesFrom (now (counts .exit)) (now (firsts .exit)) (now (nexts .exit)) ≡ unlinked (anodesFrom (now (counts .entry)) (now (firsts .entry)) (now (nexts .entry))) p a ⌝ }
+{
+    let next = entry(nexts, a);
+    set_entry(nexts, p, next);
+    set_entry(nexts, a, 0);
+    rewrite(counts, firsts, a, 0, BlockNo(0));
+}
+
+// Puts anode `a` into the chain behind `p`, with the one block `y`.
+fn insert_after(
+    counts: &mut [u16],
+    firsts: &mut [u16],
+    nexts: &mut [u16],
+    p: usize,
+    a: u16,
+    y: BlockNo,
+)
+    requires { ⌜ (p < 3444) × (a < 3444) × (length (now counts) ≡ 3444) × (length (now firsts) ≡ 3444) × (length (now nexts) ≡ 3444) ⌝ }
+    ensures { λ _. ⌜ anodesFrom (now (counts .exit)) (now (firsts .exit)) (now (nexts .exit)) ≡ insertedAfter (anodesFrom (now (counts .entry)) (now (firsts .entry)) (now (nexts .entry))) p a 1 (y .0) ⌝ }
+{
+    let next = entry(nexts, p);
+    set_entry(nexts, a as usize, next);
+    set_entry(nexts, p, a);
+    rewrite(counts, firsts, a as usize, 1, y);
+}
+
+// Puts block `y` into the lowest free anode, behind anode `z`.
+fn append(
+    image: &[u8],
+    z: usize,
+    y: BlockNo,
+    counts: &mut [u16],
+    firsts: &mut [u16],
+    nexts: &mut [u16],
+) -> Step
+    requires { ⌜ (z < 3444) × (length (now counts) ≡ 3444) × (length (now firsts) ≡ 3444) × (length (now nexts) ≡ 3444) ⌝ }
+    ensures { λ r. ⌜ ((last : ℕ) → stepPlan r (anodesFrom (now (counts .exit)) (now (firsts .exit)) (now (nexts .exit))) ≡ append 3444 (exists (now (image .entry))) last (anodesFrom (now (counts .entry)) (now (firsts .entry)) (now (nexts .entry))) z (y .0)) ⌝ }
+{
+    let f = lowest_free(image, firsts);
+    if 3444 <= f {
+        return Step::Refused(Refusal::NoFreeAnode);
+    }
+    insert_after(counts, firsts, nexts, z, f as u16, y);
+    Step::Moved(y)
+}
+
+// Puts block `y` behind the blocks of a chain whose last anode is `z`; `own`: into an anode of its own.
+fn put(
+    image: &[u8],
+    own: bool,
+    z: usize,
+    y: BlockNo,
+    counts: &mut [u16],
+    firsts: &mut [u16],
+    nexts: &mut [u16],
+) -> Step
+    requires { ⌜ (z < 3444) × (length (now counts) ≡ 3444) × (length (now firsts) ≡ 3444) × (length (now nexts) ≡ 3444) × (getD (now firsts) z 0 ≢ 0) ⌝ }
+    ensures { λ r. ⌜ ((last : ℕ) → stepPlan r (anodesFrom (now (counts .exit)) (now (firsts .exit)) (now (nexts .exit))) ≡ put 3444 (exists (now (image .entry))) last own (anodesFrom (now (counts .entry)) (now (firsts .entry)) (now (nexts .entry))) z (y .0)) ⌝ }
+{
+    let count = entry(counts, z);
+    if count == 0 {
+        rewrite(counts, firsts, z, 1, y);
+        return Step::Moved(y);
+    }
+    let first = entry(firsts, z);
+    let end = first as u32 + count as u32;
+    if !own && end == y.0 as u32 {
+        rewrite(counts, firsts, z, count + 1, BlockNo(first));
+        return Step::Moved(y);
+    }
+    append(image, z, y, counts, firsts, nexts)
+}
+
+// Takes the first block from anode `x` of the free list, which stands after `p`.
+fn without_first(counts: &mut [u16], firsts: &mut [u16], nexts: &mut [u16], p: usize, x: usize)
+    requires { ⌜ (p < 3444) × (x < 3444) × (length (now counts) ≡ 3444) × (length (now firsts) ≡ 3444) × (length (now nexts) ≡ 3444) ⌝ }
+    requires { ⌜ (0 < getD (now counts) x 0) × (getD (now firsts) x 0 + getD (now counts) x 0 ≤ 65535) ⌝ }
+    ensures { λ _. ⌜ ((ex : ℕ → Bool) (last : ℕ) → anodesFrom (now (counts .exit)) (now (firsts .exit)) (now (nexts .exit)) ≡ withoutFirst 3444 ex last (anodesFrom (now (counts .entry)) (now (firsts .entry)) (now (nexts .entry))) p x) ⌝ }
+{
+    let count = entry(counts, x);
+    if count != 1 {
+        let first = entry(firsts, x);
+        rewrite(counts, firsts, x, count - 1, BlockNo(first + 1));
+        return;
+    }
+    if x == 2 {
+        rewrite(counts, firsts, x, 0, BlockNo(65535));
+        return;
+    }
+    unlink(counts, firsts, nexts, p, x);
+}
+
+// Takes a block for the chain of `head`: data looks above last reserved first, directories (`own`) up to it first and into an anode of its own.
+pub fn take_block(
+    image: &[u8],
+    own: bool,
+    head: AnodeNo,
+    counts: &mut [u16],
+    firsts: &mut [u16],
+    nexts: &mut [u16],
+) -> Step
+    requires { ⌜ (length (now counts) ≡ 3444) × (length (now firsts) ≡ 3444) × (length (now nexts) ≡ 3444) ⌝ }
+    requires { ⌜ (wrongSize (now image) ≡ false) × GoodAnodes (now image) (anodesFrom (now counts) (now firsts) (now nexts)) ⌝ }
+    requires { ⌜ Head (anodesFrom (now counts) (now firsts) (now nexts) .next) (anodesFrom (now counts) (now firsts) (now nexts) .block) (head .0) × (head .0 ≢ 1) ⌝ }
+    ensures { λ r. ⌜ stepPlan r (anodesFrom (now (counts .exit)) (now (firsts .exit)) (now (nexts .exit))) ≡ takeBlock 3444 (exists (now (image .entry))) (lastReserved (now (image .entry))) own (anodesFrom (now (counts .entry)) (now (firsts .entry)) (now (nexts .entry))) (head .0) ⌝ }
+{
+    let found = free_extent(own, counts, nexts);
+    let Extent::At(p, x) = found else {
+        return Step::Refused(Refusal::NoFreeBlock);
+    };
+    let y = BlockNo(entry(firsts, x));
+    without_first(counts, firsts, nexts, p, x);
+    let z = last_anode(nexts, head.0 as usize);
+    put(image, own, z, y, counts, firsts, nexts)
+}
+
+// Takes the last block from anode `x` of the chain of `head`, which stands after `p`.
+fn without_last(
+    counts: &mut [u16],
+    firsts: &mut [u16],
+    nexts: &mut [u16],
+    head: usize,
+    p: usize,
+    x: usize,
+)
+    requires { ⌜ (p < 3444) × (x < 3444) × (length (now counts) ≡ 3444) × (length (now firsts) ≡ 3444) × (length (now nexts) ≡ 3444) × (0 < getD (now counts) x 0) ⌝ }
+    ensures { λ _. ⌜ ((ex : ℕ → Bool) (last : ℕ) → anodesFrom (now (counts .exit)) (now (firsts .exit)) (now (nexts .exit)) ≡ withoutLast 3444 ex last (anodesFrom (now (counts .entry)) (now (firsts .entry)) (now (nexts .entry))) head p x) ⌝ }
+{
+    let count = entry(counts, x);
+    if count != 1 {
+        let first = entry(firsts, x);
+        rewrite(counts, firsts, x, count - 1, BlockNo(first));
+        return;
+    }
+    if x == head {
+        rewrite(counts, firsts, x, 0, BlockNo(65535));
+        return;
+    }
+    unlink(counts, firsts, nexts, p, x);
+}
+
+// The anode where the side of block `y` starts: 1 above last reserved, else 2.
+fn side_of(image: &[u8], y: BlockNo) -> usize
+    ensures { λ r. ⌜ r ≡ sideOf 3444 (exists (now (image .entry))) (lastReserved (now (image .entry))) (y .0) ⌝ }
+{
+    let root = root_in(block_part(image, BlockNo(2)));
+    if root.last.0 < y.0 {
+        return 1;
+    }
+    2
+}
+
+// Joins block `y` to its side of the free list, whose last anode is `z`.
+fn join(
+    image: &[u8],
+    z: usize,
+    y: BlockNo,
+    counts: &mut [u16],
+    firsts: &mut [u16],
+    nexts: &mut [u16],
+) -> Step
+    requires { ⌜ (z < 3444) × (length (now counts) ≡ 3444) × (length (now firsts) ≡ 3444) × (length (now nexts) ≡ 3444) ⌝ }
+    requires { ⌜ (getD (now firsts) z 0 ≢ 0) × (0 < getD (now counts) z 0 → getD (now firsts) z 0 + getD (now counts) z 0 ≤ 65535) ⌝ }
+    ensures { λ r. ⌜ ((last : ℕ) → stepPlan r (anodesFrom (now (counts .exit)) (now (firsts .exit)) (now (nexts .exit))) ≡ join 3444 (exists (now (image .entry))) last (anodesFrom (now (counts .entry)) (now (firsts .entry)) (now (nexts .entry))) z (y .0)) ⌝ }
+{
+    if z == 1 {
+        return append(image, z, y, counts, firsts, nexts);
+    }
+    let count = entry(counts, z);
+    if count == 0 {
+        rewrite(counts, firsts, z, 1, y);
+        return Step::Moved(y);
+    }
+    let first = entry(firsts, z);
+    if first as u32 + count as u32 == y.0 as u32 {
+        rewrite(counts, firsts, z, count + 1, BlockNo(first));
+        return Step::Moved(y);
+    }
+    if y.0 as u32 + 1 == first as u32 {
+        rewrite(counts, firsts, z, count + 1, y);
+        return Step::Moved(y);
+    }
+    append(image, z, y, counts, firsts, nexts)
+}
+
+// Gives back the last block of the chain of `head`.
+pub fn give_back(
+    image: &[u8],
+    head: AnodeNo,
+    counts: &mut [u16],
+    firsts: &mut [u16],
+    nexts: &mut [u16],
+) -> Step
+    requires { ⌜ (length (now counts) ≡ 3444) × (length (now firsts) ≡ 3444) × (length (now nexts) ≡ 3444) ⌝ }
+    requires { ⌜ (wrongSize (now image) ≡ false) × GoodAnodes (now image) (anodesFrom (now counts) (now firsts) (now nexts)) ⌝ }
+    requires { ⌜ Head (anodesFrom (now counts) (now firsts) (now nexts) .next) (anodesFrom (now counts) (now firsts) (now nexts) .block) (head .0) × (head .0 ≢ 1) × (0 < blockCount (anodesFrom (now counts) (now firsts) (now nexts)) (head .0)) ⌝ }
+    ensures { λ r. ⌜ stepPlan r (anodesFrom (now (counts .exit)) (now (firsts .exit)) (now (nexts .exit))) ≡ giveBack 3444 (exists (now (image .entry))) (lastReserved (now (image .entry))) (anodesFrom (now (counts .entry)) (now (firsts .entry)) (now (nexts .entry))) (head .0) ⌝ }
+{
+    let from = head.0 as usize;
+    let found = last_full(counts, nexts, from);
+    // a chain with a block has such an anode
+    let Extent::At(p, x) = found else {
+        return Step::Refused(Refusal::NoFreeBlock);
+    };
+    let y = BlockNo(entry(firsts, x) + (entry(counts, x) - 1));
+    without_last(counts, firsts, nexts, from, p, x);
+    let z = last_anode(nexts, side_of(image, y));
+    join(image, z, y, counts, firsts, nexts)
+}
+
+// The answer of a run that a refused step stops.
+fn stopped(step: Step) -> Moves
+    ensures { λ r. ⌜ r ≡ stoppedBy step ⌝ }
+{
+    match step {
+        Step::Moved(_) => Moves::Done(0),
+        Step::Refused(r) => Moves::Stopped(r),
+    }
+}
+
+// Takes `k` blocks for the chain of `head`, one at a time, and notes them in `moved`.
+pub fn take_many(
+    image: &[u8],
+    own: bool,
+    k: u64,
+    head: AnodeNo,
+    counts: &mut [u16],
+    firsts: &mut [u16],
+    nexts: &mut [u16],
+    moved: &mut [u16],
+) -> Moves
+    requires { ⌜ (length (now counts) ≡ 3444) × (length (now firsts) ≡ 3444) × (length (now nexts) ≡ 3444) × (length (now moved) ≡ 65535) ⌝ }
+    requires { ⌜ (wrongSize (now image) ≡ false) × GoodAnodes (now image) (anodesFrom (now counts) (now firsts) (now nexts)) ⌝ }
+    requires { ⌜ Head (anodesFrom (now counts) (now firsts) (now nexts) .next) (anodesFrom (now counts) (now firsts) (now nexts) .block) (head .0) × (head .0 ≢ 1) ⌝ }
+    ensures { λ r. ⌜ manyPlan r (anodesFrom (now (counts .exit)) (now (firsts .exit)) (now (nexts .exit))) (now (moved .exit)) ≡ takeMany 3444 (exists (now (image .entry))) (lastReserved (now (image .entry))) own k (anodesFrom (now (counts .entry)) (now (firsts .entry)) (now (nexts .entry))) (head .0) ⌝ }
+{
+    let mut left = k;
+    let mut done: usize = 0;
+    while 0 < left {
+        let step = take_block(image, own, head, counts, firsts, nexts);
+        let Step::Moved(y) = step else {
+            return stopped(step);
+        };
+        set_entry(moved, done, y.0);
+        done += 1;
+        left -= 1;
+    }
+    Moves::Done(done)
+}
+
+// Gives back the last `k` blocks of the chain of `head`, one at a time, and notes them in `moved`.
+pub fn give_many(
+    image: &[u8],
+    k: u64,
+    head: AnodeNo,
+    counts: &mut [u16],
+    firsts: &mut [u16],
+    nexts: &mut [u16],
+    moved: &mut [u16],
+) -> Moves
+    requires { ⌜ (length (now counts) ≡ 3444) × (length (now firsts) ≡ 3444) × (length (now nexts) ≡ 3444) × (length (now moved) ≡ 65535) ⌝ }
+    requires { ⌜ (wrongSize (now image) ≡ false) × GoodAnodes (now image) (anodesFrom (now counts) (now firsts) (now nexts)) ⌝ }
+    requires { ⌜ Head (anodesFrom (now counts) (now firsts) (now nexts) .next) (anodesFrom (now counts) (now firsts) (now nexts) .block) (head .0) × (head .0 ≢ 1) × (k ≤ blockCount (anodesFrom (now counts) (now firsts) (now nexts)) (head .0)) ⌝ }
+    ensures { λ r. ⌜ manyPlan r (anodesFrom (now (counts .exit)) (now (firsts .exit)) (now (nexts .exit))) (now (moved .exit)) ≡ giveMany 3444 (exists (now (image .entry))) (lastReserved (now (image .entry))) k (anodesFrom (now (counts .entry)) (now (firsts .entry)) (now (nexts .entry))) (head .0) ⌝ }
+{
+    let mut left = k;
+    let mut done: usize = 0;
+    while 0 < left {
+        let step = give_back(image, head, counts, firsts, nexts);
+        let Step::Moved(y) = step else {
+            return stopped(step);
+        };
+        set_entry(moved, done, y.0);
+        done += 1;
+        left -= 1;
+    }
+    Moves::Done(done)
+}
+
+// Zeroes the anodes of the chain of `head`.
+pub fn drop_chain(head: AnodeNo, counts: &mut [u16], firsts: &mut [u16], nexts: &mut [u16])
+    requires { ⌜ View 3444 (anodesFrom (now counts) (now firsts) (now nexts) .next) (anodesFrom (now counts) (now firsts) (now nexts) .block) ⌝ }
+    requires { ⌜ Linked 3444 (anodesFrom (now counts) (now firsts) (now nexts) .next) (anodesFrom (now counts) (now firsts) (now nexts) .block) × (anodesFrom (now counts) (now firsts) (now nexts) .block (head .0) ≢ 0) ⌝ }
+    ensures { λ _. ⌜ ((ex : ℕ → Bool) (last : ℕ) → anodesFrom (now (counts .exit)) (now (firsts .exit)) (now (nexts .exit)) ≡ dropped 3444 ex last (anodesFrom (now (counts .entry)) (now (firsts .entry)) (now (nexts .entry))) (head .0)) ⌝ }
+{
+    let mut at = head.0 as usize;
+    let mut fuel: usize = 3444;
+    while 0 < fuel {
+        if at == 0 {
+            return;
+        }
+        let next = entry(nexts, at) as usize;
+        set_entry(counts, at, 0);
+        set_entry(firsts, at, 0);
+        set_entry(nexts, at, 0);
+        at = next;
+        fuel -= 1;
+    }
+}

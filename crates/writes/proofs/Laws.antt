@@ -1,0 +1,182 @@
+-- Laws of bytes written over some blocks. Assumes nothing.
+use Prim.Native.Nat.{ℕ, zero, suc, _+_, _-_, _*_, _<_, _≤_}
+use mathlib.Core.Path.{_≡_, refl, sym, ap, _∙_}
+use mathlib.Core.List.{List, [], _∷_, _++_}
+use native.Mathlib.Numerals.{add-one}
+use native.Mathlib.Omega.{arith}
+use native.Mathlib.Nat.{le-of-eq}
+use lib.ListN.{length, getD, set, take, drop, take-append-drop, drop-of-length-le}
+use lib.Seq.{take-all, take-at, drop-at, drop-drop, drop-nil}
+use borrow.Rule.Slice.PartMut.{putMid}
+use Rattle.endian.specs.Bytes.{stored}
+use Rattle.endian.proofs.Laws.{length-stored, stored-none, stored-cons, stored-out, stored-take}
+use Rattle.disk.specs.Blocks.{blockOf, withBlock}
+use Rattle.disk.proofs.Laws.{length-blockOf, part-block, block-back}
+use Rattle.disk.proofs.Store.{length-withBlock, blockOf-withBlock-other}
+use Rattle.rules.specs.Counting.{times, gather}
+use Rattle.rules.specs.Anodes.{Anodes, limit}
+use Rattle.rules.specs.Chains.{chainOf, run, blocksOf}
+use Rattle.rules.specs.Walk.{Entered}
+use Rattle.rules.specs.Lookup.{bytesOf}
+use Rattle.rules.specs.Changes.{spread, written}
+use Rattle.laws.specs.Sums.{oneAt-same}
+use Rattle.laws.specs.Bags.{times-cons, times-append}
+use Rattle.anodes.specs.Loaded.{anodesFrom}
+use Rattle.writes.specs.Written.{writtenOver, Inside, InsideOnce}
+
+-- ---- a store over two lists
+
+-- a store behind the first byte
+stored-later : (x : ℕ) (l : List ℕ) (at : ℕ) (s : List ℕ) → stored (x ∷ l) (suc at) s ≡ x ∷ stored l at s
+unfolding stored
+stored-later x l at [] = refl
+stored-later x l at (v ∷ s) = stored-later x (set l at v) (suc at) s
+
+-- the second list gets what goes past the first one's end
+stored-append : (l m : List ℕ) (at : ℕ) (s : List ℕ) → stored (l ++ m) at s ≡ stored l at s ++ stored m (at - length l) (drop (length l - at) s)
+stored-append [] m at s =
+    let none : 0 - at ≡ 0 = omega arith in
+    let same : at - 0 ≡ at = omega arith in
+    rw (stored-out [] at s (omega arith), none, same)
+stored-append (x ∷ l) m at [] = rw (stored-none (x ∷ (l ++ m)) at, stored-none (x ∷ l) at, drop-nil {A = ℕ} (suc (length l) - at), stored-none m (at - suc (length l)))
+stored-append (x ∷ l) m zero (v ∷ s) =
+    let full : suc (length l) - 0 ≡ suc (length l - 0) = omega arith in
+    let none : 0 - suc (length l) ≡ 0 - length l = omega arith in
+    rw (stored-cons (x ∷ (l ++ m)) 0 v s, stored-cons (x ∷ l) 0 v s, full, none, stored-later v (l ++ m) 0 s, stored-later v l 0 s)
+    (ap (λ (r : List ℕ). v ∷ r) (stored-append l m 0 s))
+stored-append (x ∷ l) m (suc at) (v ∷ s) =
+    let one : suc (length l) - suc at ≡ length l - at = omega arith in
+    let other : suc at - suc (length l) ≡ at - length l = omega arith in
+    rw (one, other, stored-later x (l ++ m) at (v ∷ s), stored-later x l at (v ∷ s))
+    (ap (λ (r : List ℕ). x ∷ r) (stored-append l m at (v ∷ s)))
+
+-- ---- one block
+
+-- a block's own bytes stored in it change nothing
+own-block : (img : List ℕ) (y : ℕ) → withBlock img y (blockOf img y) ≡ img
+unfolding withBlock blockOf
+own-block img y =
+    rw (take-all (length (take 512 (drop (y * 512) img))) (take 512 (drop (y * 512) img)) (omega arith), ← drop-drop 512 (y * 512) img, take-append-drop 512 (drop (y * 512) img))
+    (take-append-drop (y * 512) img)
+
+-- no block is left
+pub over-empty : (img ys bytes : List ℕ) (offset : ℕ) → ys ≡ [] → writtenOver img ys offset bytes ≡ img
+unfolding writtenOver
+over-empty img ys bytes offset e = rw e
+
+-- no byte is left
+over-none : (img ys : List ℕ) (offset : ℕ) → writtenOver img ys offset [] ≡ img
+unfolding writtenOver
+over-none img [] offset = refl
+over-none img (y ∷ ys) offset =
+    rw (stored-none (blockOf img y) offset, own-block img y, drop-nil {A = ℕ} (512 - offset)) (over-none img ys (offset - 512))
+
+pub over-done : (img ys bytes : List ℕ) (offset done : ℕ) → length bytes ≤ done → writtenOver img ys offset (drop done bytes) ≡ img
+over-done img ys bytes offset done h = rw (drop-of-length-le bytes {i = done} h) (over-none img ys offset)
+
+module _ (img : List ℕ) (y : ℕ) (inside : y * 512 + 512 ≤ length img) (ys bytes : List ℕ) (offset : ℕ) where
+  -- the offset lies behind the block
+  pub over-skipped : 512 ≤ offset → writtenOver img ys (offset - 512) bytes ≡ writtenOver img (y ∷ ys) offset bytes
+  unfolding writtenOver
+  over-skipped h =
+      let none : 512 - offset ≡ 0 = omega arith in
+      rw (stored-out (blockOf img y) offset bytes (rw (length-blockOf img y inside) h), own-block img y, none)
+
+  -- the block was lent, and the bytes that fall into it were stored
+  pub over-stored : (done : ℕ) (new : List ℕ) → offset < 512 → new ≡ stored (take (y * 512 + 512 - y * 512) (drop (y * 512) img)) offset (take (512 - offset) (drop done bytes))
+      → writtenOver (putMid (y * 512) (y * 512 + 512 - y * 512) img new) ys 0 (drop (done + (512 - offset)) bytes) ≡ writtenOver img (y ∷ ys) offset (drop done bytes)
+  unfolding writtenOver
+  over-stored done new h is =
+      let long = length-blockOf img y inside in
+      let is-stored : new ≡ stored (blockOf img y) offset (drop done bytes) =
+      is ∙ rw (part-block img y (y * 512 + 512) (omega arith) (omega arith)) (stored-take (blockOf img y) offset (drop done bytes) (512 - offset) (omega arith)) in
+      let same : length new ≡ length (blockOf img y) = rw is-stored (length-stored (blockOf img y) offset (drop done bytes)) in
+      let none : offset - 512 ≡ 0 = omega arith in
+      rw (block-back img y (y * 512 + 512) (omega arith) (omega arith) new same, is-stored, none, drop-drop (512 - offset) done bytes)
+
+-- ---- the whole
+
+-- what the rules spread over the blocks is what each block's own store leaves, where j still has the blocks of img
+over-spread : (img j ys bytes : List ℕ) (offset : ℕ) → length j ≡ length img → InsideOnce img ys → ((y : ℕ) → 0 < times y ys → blockOf j y ≡ blockOf img y)
+    → writtenOver j ys offset bytes ≡ spread j ys (stored (gather (blockOf img) ys) offset bytes)
+unfolding writtenOver spread gather
+over-spread img j [] bytes offset long i same = refl
+over-spread img j (y ∷ ys) bytes offset long i same =
+    let first = oneAt-same y y refl in
+    let here = i y (omega (arith, times-cons y y ys)) in
+    let kept = same y (omega (arith, times-cons y y ys)) in
+    let new = stored (blockOf img y) offset bytes in
+    let whole : length new ≡ 512 = length-stored (blockOf img y) offset bytes ∙ length-blockOf img y (here .0) in
+    let enough : length (blockOf j y) ≤ length new = rw kept (le-of-eq (sym (length-stored (blockOf img y) offset bytes))) in
+    let rest = stored (gather (blockOf img) ys) (offset - 512) (drop (512 - offset) bytes) in
+    let split : stored (blockOf img y ++ gather (blockOf img) ys) offset bytes ≡ new ++ rest =
+    rw (← length-blockOf img y (here .0)) (stored-append (blockOf img y) (gather (blockOf img) ys) offset bytes) in
+    rw (kept, split, take-at new rest 512 whole, drop-at new rest 512 whole)
+    (over-spread img (withBlock j y new) ys (drop (512 - offset) bytes) (offset - 512) (length-withBlock j y new enough ∙ long)
+    (λ z p. let q = i z (omega (arith, p, times-cons z y ys)) in (q .0, omega (arith, q .1, times-cons z y ys)))
+    (λ z p. blockOf-withBlock-other j y new enough z (λ e. omega (arith, rw e at p, here .1, times-cons y y ys)) ∙ same z (omega (arith, p, times-cons z y ys))))
+
+-- the rules' image of a write
+pub over-written : (img : List ℕ) (s : Anodes) (h : ℕ) (e : Entered) (offset : ℕ) (bytes : List ℕ) → e .anode ≡ h → InsideOnce img (blocksOf s h)
+    → writtenOver img (blocksOf s h) offset bytes ≡ written img s e offset bytes
+unfolding written bytesOf
+over-written img s h e offset bytes is i = rw is (over-spread img img (blocksOf s h) bytes offset refl i (λ y p. refl))
+
+-- ---- a run of blocks
+
+pub run-none : (b n : ℕ) → n ≡ 0 → run b n ≡ []
+unfolding run
+run-none b n e = rw e
+
+pub run-step : (b n m : ℕ) → n ≡ m + 1 → run b n ≡ b ∷ run (b + 1) m
+unfolding run
+run-step b n m e = rw (e, add-one m, add-one b)
+
+module _ (img : List ℕ) (b n m : ℕ) (more : n ≡ m + 1) (i : Inside img (run b n)) where
+  pub first-inside : b * 512 + 512 ≤ length img
+  first-inside = (rw (run-step b n m more) at i) b (omega (arith, times-cons b b (run (b + 1) m), oneAt-same b b refl))
+
+  pub rest-inside : Inside img (run (b + 1) m)
+  rest-inside y p = (rw (run-step b n m more) at i) y (omega (arith, p, times-cons y b (run (b + 1) m)))
+
+-- ---- the blocks along a chain of at most k anodes, from anode a on
+
+unfoldable pub blocksAlong : List ℕ → List ℕ → List ℕ → ℕ → ℕ → List ℕ
+blocksAlong counts firsts nexts k a = gather (λ x. run (getD firsts x 0) (getD counts x 0)) (chainOf (λ x. getD nexts x 0) k a)
+
+module _ (counts firsts nexts : List ℕ) where
+  pub along-whole : (h : ℕ) → blocksOf (anodesFrom counts firsts nexts) h ≡ blocksAlong counts firsts nexts limit h
+  unfolding blocksOf anodesFrom blocksAlong
+  along-whole h = refl
+
+  pub along-none : (k a : ℕ) → k ≡ 0 → blocksAlong counts firsts nexts k a ≡ []
+  unfolding blocksAlong chainOf gather
+  along-none k a e = rw e
+
+  pub along-end : (k m a : ℕ) → k ≡ m + 1 → a ≡ 0 → blocksAlong counts firsts nexts k a ≡ []
+  unfolding blocksAlong chainOf gather
+  along-end k m a fuel z = rw (fuel, add-one m, z)
+
+pub along-step : (counts firsts nexts : List ℕ) (k m a : ℕ) → k ≡ m + 1 → (a ≡ 0 → ⊥)
+    → blocksAlong counts firsts nexts k a ≡ run (getD firsts a 0) (getD counts a 0) ++ blocksAlong counts firsts nexts m (getD nexts a 0)
+unfolding blocksAlong chainOf gather
+along-step counts firsts nexts k m zero fuel n = absurd (n refl)
+along-step counts firsts nexts k m (suc a) fuel n = rw (fuel, add-one m)
+
+module _ (img counts firsts nexts : List ℕ) (k m a : ℕ) (fuel : k ≡ m + 1) (some-anode : a ≡ 0 → ⊥) (i : Inside img (blocksAlong counts firsts nexts k a)) where
+  -- the anode's own blocks
+  abbrev here : List ℕ
+  here = run (getD firsts a 0) (getD counts a 0)
+
+  -- those of the anodes after it
+  abbrev behind : List ℕ
+  behind = blocksAlong counts firsts nexts m (getD nexts a 0)
+
+  both-inside : Inside img (here ++ behind)
+  both-inside = rw (along-step counts firsts nexts k m a fuel some-anode) at i
+
+  pub run-inside : Inside img here
+  run-inside y p = both-inside y (omega (arith, p, times-append y here behind))
+
+  pub chain-inside : Inside img behind
+  chain-inside y p = both-inside y (omega (arith, p, times-append y here behind))

@@ -1,0 +1,2 @@
+-- Laws of the write along a chain.
+pub mod Laws

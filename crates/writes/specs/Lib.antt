@@ -1,0 +1,2 @@
+-- What a write along a chain leaves.
+pub mod Written
