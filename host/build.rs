@@ -21,7 +21,10 @@ fn main() {
         return;
     }
     let folder = library_folder();
+    let folder = folder.canonicalize().unwrap_or(folder);
     println!("cargo:rerun-if-changed={}", folder.join("libpfs.a").display());
     println!("cargo:rustc-link-search=native={}", folder.display());
     println!("cargo:rustc-link-lib=static=pfs");
+    // For the test that links it from C.
+    println!("cargo:rustc-env=PFS_LIB_FOLDER={}", folder.display());
 }

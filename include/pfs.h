@@ -1,22 +1,62 @@
 /* Ovenknit: proved calls over a PFS floppy disk image (PFS\0, 512-byte blocks) in lent memory.
  *
- * Every call answers a number, 0 for done. A slice is a pointer and a length in elements; an empty one may have any pointer.
- * What a call may write must share no byte with anything else that it is lent; nothing else is asked of the caller.
+ * Every call answers a number: 0 for done, else why it was refused. Nothing is kept between calls; only the image counts.
  *
- * image   the disk image, a run of bytes
- * blocks  block table: at least as many entries as the image has blocks
- * anodes  anode table: at least 3,444 entries
+ * What a call is lent
  *
- * After 0 the block table holds each block's owner (the head anode of its chain, 65535 for blocks 0 to 2, 65534 for anode blocks)
- * and the anode table each anode's chain head, or 0. Answers 1 to 4 touch no table; 5 to 16 leave both zeroed in those ranges.
- * Entries past the image's blocks and past 3,444 keep their content.
+ *   A slice is a pointer and a length in elements; an empty one may have any pointer. What a call may write must share no
+ *   byte with anything else that it is lent; nothing else is asked of the caller. Arguments may have any value.
  *
- *  1 image size            7 anode range         13 entry's anode
- *  2 table too short       8 chain links         14 anode named twice
- *  3 disk type             9 free list           15 file size
- *  4 root block           10 two owners          16 chain that no entry names
- *  5 anode blocks         11 no owner
- *  6 fixed anodes         12 directory block or entry
+ *   image      the disk image, a run of bytes
+ *   blocks     block table: at least as many entries as the image has blocks
+ *   anodes     anode table: at least 3,444 entries
+ *   directory  a directory's number: 5 for the root, else the anode that pfs_list gives for its entry
+ *   name       the bytes of an entry's name, without a 0 at the end; names match byte for byte, and the first match counts
+ *
+ * What it leaves
+ *
+ *   image   A refused call leaves every byte as it was. So do the calls that take a const image.
+ *   tables  Every call but pfs_format checks the whole image first and fills both tables. After 0 they are those of the
+ *           image as the call left it, after 20 to 28 those of the unchanged image: the block table holds each block's owner
+ *           (the head anode of its chain, 65535 for blocks 0 to 2, 65534 for anode blocks), the anode table each anode's
+ *           chain head (0 for anode 0, free anodes and those that do not exist). Heads with a meaning of their own:
+ *           1 free blocks, 3 blocks to be freed, 4 bad blocks, 5 the root directory.
+ *           1 to 4 touch no table. 5 to 16 leave both zeroed. Entries past the image's blocks and past 3,444 always keep
+ *           their content.
+ *
+ * The numbers, in the order in which they are tried
+ *
+ *    1  image size: not a multiple of 512, or under 5 or over 65,535 blocks
+ *    2  a table is too short
+ *
+ *   Damage:
+ *    3  the disk type is not PFS\0
+ *    4  root block: first or last reserved, or the length of the disk's name
+ *    5  an anode block: missing, out of place, wrong mark or sequence number
+ *    6  one of the fixed anodes 0, 1, 2 and 5
+ *    7  an anode reaches past the end of the disk, or its next is not in use
+ *    8  chains: two predecessors, no end, or a predecessor of 1, 3, 4 or 5
+ *    9  free list: anode 2 not on it, or an extent on the wrong side of last reserved
+ *   10  a block has two owners
+ *   11  a block has no owner
+ *   12  a directory's block or an entry in it
+ *   13  an entry's anode is under 6, missing, free, or not a chain's head
+ *   14  an entry's anode is already named
+ *   15  a file's chain does not hold as many blocks as its size needs
+ *   16  a chain that no entry names
+ *
+ *   Refused, on a sound disk:
+ *   20  an argument is against the rules (format: any; make: type, name or comment)
+ *   21  the directory's number is not that of a directory
+ *   22  the name or place is not there
+ *   23  the name is already there
+ *   24  a directory where a file is needed
+ *   25  the directory is not empty
+ *   26  offset + length is above the file's size
+ *   27  no free block
+ *   28  no free anode
+ *
+ * Every call but pfs_format may answer 1 to 16; what else it may answer stands with it.
  */
 #ifndef PFS_H
 #define PFS_H
@@ -28,11 +68,78 @@
 extern "C" {
 #endif
 
-/* The check: 0 for an accepted image, else the first of 1 to 16 that applies. The image is only read. */
-uint32_t pfs_check(const uint8_t *image, size_t image_len, uint16_t *blocks, size_t blocks_len, uint16_t *anodes, size_t anodes_len);
+/* Types of entries. */
+#define PFS_FILE 253
+#define PFS_DIRECTORY 2
 
-/* The check, and in fields: the disk's size in blocks, its free blocks, its files, its directories with the root. Four zeros after a refusal. */
-uint32_t pfs_summary(const uint8_t *image, size_t image_len, uint16_t *blocks, size_t blocks_len, uint16_t *anodes, size_t anodes_len, uint32_t fields[4]);
+/* The number of the root directory. */
+#define PFS_ROOT 5
+
+/* The entries that an anode table needs. */
+#define PFS_ANODES 3444
+
+/* The check: 0 for an accepted image, else the first of 1 to 16 that applies. */
+uint32_t pfs_check(const uint8_t *image, size_t image_len, uint16_t *blocks, size_t blocks_len, uint16_t *anodes,
+                   size_t anodes_len);
+
+/* The check, and in fields: the disk's size in blocks, its free blocks, its files, its directories with the root. Four zeros
+ * after a refusal. */
+uint32_t pfs_summary(const uint8_t *image, size_t image_len, uint16_t *blocks, size_t blocks_len, uint16_t *anodes,
+                     size_t anodes_len, uint32_t fields[4]);
+
+/* Makes an empty disk of the whole image; all that it held is lost. It is lent no tables.
+ *
+ * last_reserved  the last block of the part where directories are put first, and data last
+ * anode_blocks   how many blocks hold anodes, 82 in each: 1 to 42, and 3 + anode_blocks <= last_reserved < blocks of the image
+ * name           the disk's name, 1 to 31 bytes of any value
+ * day, minute, tick, protection  the disk's stamp (days since 1 January 1978, minutes, ticks of 1/50 s) and protection bits
+ *
+ * Answers 0, 1 or 20. */
+uint32_t pfs_format(uint8_t *image, size_t image_len, uint16_t last_reserved, uint16_t anode_blocks, const uint8_t *name,
+                    size_t name_len, uint16_t day, uint16_t minute, uint16_t tick, uint16_t protection);
+
+/* Reads out_len bytes of a file from offset on into out. A refused read leaves out as it was.
+ * Answers also 21, 22, 24, 26. */
+uint32_t pfs_read(const uint8_t *image, size_t image_len, uint16_t *blocks, size_t blocks_len, uint16_t *anodes,
+                  size_t anodes_len, uint16_t directory, const uint8_t *name, size_t name_len, uint64_t offset, uint8_t *out,
+                  size_t out_len);
+
+/* The entry at a place of a directory, from 0 in the order of its blocks. In fields:
+ *
+ *    0 type (253 file, 2 directory)    4 minute                                8 name length
+ *    1 anode                           5 tick                                  9 comment's offset in the image
+ *    2 size (of a directory: any)      6 protection                           10 comment length
+ *    3 day                             7 name's offset in the image
+ *
+ * Eleven zeros after a refusal. Answers also 21, 22. */
+uint32_t pfs_list(const uint8_t *image, size_t image_len, uint16_t *blocks, size_t blocks_len, uint16_t *anodes,
+                  size_t anodes_len, uint16_t directory, uint64_t place, uint32_t fields[11]);
+
+/* Makes an empty file or directory.
+ *
+ * type     253 for a file, 2 for a directory
+ * name     1 to 107 bytes, none of them 0, ':' or '/'
+ * comment  0 to 79 bytes of any value
+ * day, minute, tick, protection  the entry's stamp and protection bits, taken as they are
+ *
+ * Answers also 20, 21, 23, 27, 28. */
+uint32_t pfs_make(uint8_t *image, size_t image_len, uint16_t *blocks, size_t blocks_len, uint16_t *anodes, size_t anodes_len,
+                  uint16_t directory, uint8_t type, const uint8_t *name, size_t name_len, const uint8_t *comment,
+                  size_t comment_len, uint16_t day, uint16_t minute, uint16_t tick, uint8_t protection);
+
+/* Gives a file a size in bytes. Bytes that come new are 0; the stamp stays. Answers also 21, 22, 24, 27, 28. A size that no
+ * disk can hold is refused by 27 or 28, whichever step fails first. */
+uint32_t pfs_resize(uint8_t *image, size_t image_len, uint16_t *blocks, size_t blocks_len, uint16_t *anodes,
+                    size_t anodes_len, uint16_t directory, const uint8_t *name, size_t name_len, uint64_t size);
+
+/* Replaces data_len bytes of a file from offset on; it never grows. The stamp stays. Answers also 21, 22, 24, 26. */
+uint32_t pfs_write(uint8_t *image, size_t image_len, uint16_t *blocks, size_t blocks_len, uint16_t *anodes, size_t anodes_len,
+                   uint16_t directory, const uint8_t *name, size_t name_len, uint64_t offset, const uint8_t *data,
+                   size_t data_len);
+
+/* Removes a file or an empty directory. Answers also 21, 22, 25, 28. */
+uint32_t pfs_remove(uint8_t *image, size_t image_len, uint16_t *blocks, size_t blocks_len, uint16_t *anodes,
+                    size_t anodes_len, uint16_t directory, const uint8_t *name, size_t name_len);
 
 #ifdef __cplusplus
 }

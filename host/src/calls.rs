@@ -1,260 +1,45 @@
 //! The calls of the library as values. A history of them can be run on the model, on the proved library, or on
-//! both side by side.
-
-// The calls take what the C interface takes.
-#![allow(clippy::too_many_arguments)]
+//! both side by side. [`Call`] carries the arguments, [`Library`] is whoever runs them.
 
 use crate::model;
 
-/// A library for PFS floppy disks: the C interface with slices in place of pointers.
-pub trait Library {
-    fn check(image: &[u8], blocks: &mut [u16], anodes: &mut [u16]) -> u32;
+/// The bytes of a block.
+pub const BLOCK: usize = 512;
+/// The entries that an anode table needs.
+pub const ANODES: usize = 3_444;
+/// The type of an entry that is a file.
+pub const FILE: u8 = 253;
+/// The type of an entry that is a directory.
+pub const DIRECTORY: u8 = 2;
+/// The number of the root directory.
+pub const ROOT: u16 = 5;
 
-    fn summary(image: &[u8], blocks: &mut [u16], anodes: &mut [u16], fields: &mut [u32; 4]) -> u32;
-
-    fn format(
-        image: &mut [u8],
-        last_reserved: u16,
-        anode_blocks: u16,
-        name: &[u8],
-        day: u16,
-        minute: u16,
-        tick: u16,
-        protection: u16,
-    ) -> u32;
-
-    fn read(
-        image: &[u8],
-        blocks: &mut [u16],
-        anodes: &mut [u16],
-        directory: u16,
-        name: &[u8],
-        offset: u64,
-        out: &mut [u8],
-    ) -> u32;
-
-    fn list(
-        image: &[u8],
-        blocks: &mut [u16],
-        anodes: &mut [u16],
-        directory: u16,
-        place: u64,
-        fields: &mut [u32; 11],
-    ) -> u32;
-
-    fn make(
-        image: &mut [u8],
-        blocks: &mut [u16],
-        anodes: &mut [u16],
-        directory: u16,
-        kind: u8,
-        name: &[u8],
-        comment: &[u8],
-        day: u16,
-        minute: u16,
-        tick: u16,
-        protection: u8,
-    ) -> u32;
-
-    fn resize(
-        image: &mut [u8],
-        blocks: &mut [u16],
-        anodes: &mut [u16],
-        directory: u16,
-        name: &[u8],
-        size: u64,
-    ) -> u32;
-
-    fn write(
-        image: &mut [u8],
-        blocks: &mut [u16],
-        anodes: &mut [u16],
-        directory: u16,
-        name: &[u8],
-        offset: u64,
-        data: &[u8],
-    ) -> u32;
-
-    fn remove(image: &mut [u8], blocks: &mut [u16], anodes: &mut [u16], directory: u16, name: &[u8]) -> u32;
+/// When something was made: days since 1 January 1978, minutes of the day, ticks of 1/50 second.
+#[derive(Clone, Copy, Debug, Default, PartialEq, Eq)]
+pub struct Stamp {
+    pub day: u16,
+    pub minute: u16,
+    pub tick: u16,
 }
 
-/// Implements [`Library`] by the functions of a module that have its signatures.
-macro_rules! library_of_module {
-    ($library:ty, $module:path) => {
-        impl $crate::calls::Library for $library {
-            #[inline]
-            fn check(image: &[u8], blocks: &mut [u16], anodes: &mut [u16]) -> u32 {
-                use $module as module;
-                module::check(image, blocks, anodes)
-            }
-
-            #[inline]
-            fn summary(image: &[u8], blocks: &mut [u16], anodes: &mut [u16], fields: &mut [u32; 4]) -> u32 {
-                use $module as module;
-                module::summary(image, blocks, anodes, fields)
-            }
-
-            #[inline]
-            fn format(
-                image: &mut [u8],
-                last_reserved: u16,
-                anode_blocks: u16,
-                name: &[u8],
-                day: u16,
-                minute: u16,
-                tick: u16,
-                protection: u16,
-            ) -> u32 {
-                use $module as module;
-                module::format(image, last_reserved, anode_blocks, name, day, minute, tick, protection)
-            }
-
-            #[inline]
-            fn read(
-                image: &[u8],
-                blocks: &mut [u16],
-                anodes: &mut [u16],
-                directory: u16,
-                name: &[u8],
-                offset: u64,
-                out: &mut [u8],
-            ) -> u32 {
-                use $module as module;
-                module::read(image, blocks, anodes, directory, name, offset, out)
-            }
-
-            #[inline]
-            fn list(
-                image: &[u8],
-                blocks: &mut [u16],
-                anodes: &mut [u16],
-                directory: u16,
-                place: u64,
-                fields: &mut [u32; 11],
-            ) -> u32 {
-                use $module as module;
-                module::list(image, blocks, anodes, directory, place, fields)
-            }
-
-            #[inline]
-            fn make(
-                image: &mut [u8],
-                blocks: &mut [u16],
-                anodes: &mut [u16],
-                directory: u16,
-                kind: u8,
-                name: &[u8],
-                comment: &[u8],
-                day: u16,
-                minute: u16,
-                tick: u16,
-                protection: u8,
-            ) -> u32 {
-                use $module as module;
-                module::make(
-                    image, blocks, anodes, directory, kind, name, comment, day, minute, tick, protection,
-                )
-            }
-
-            #[inline]
-            fn resize(
-                image: &mut [u8],
-                blocks: &mut [u16],
-                anodes: &mut [u16],
-                directory: u16,
-                name: &[u8],
-                size: u64,
-            ) -> u32 {
-                use $module as module;
-                module::resize(image, blocks, anodes, directory, name, size)
-            }
-
-            #[inline]
-            fn write(
-                image: &mut [u8],
-                blocks: &mut [u16],
-                anodes: &mut [u16],
-                directory: u16,
-                name: &[u8],
-                offset: u64,
-                data: &[u8],
-            ) -> u32 {
-                use $module as module;
-                module::write(image, blocks, anodes, directory, name, offset, data)
-            }
-
-            #[inline]
-            fn remove(
-                image: &mut [u8],
-                blocks: &mut [u16],
-                anodes: &mut [u16],
-                directory: u16,
-                name: &[u8],
-            ) -> u32 {
-                use $module as module;
-                module::remove(image, blocks, anodes, directory, name)
-            }
-        }
-    };
+impl Stamp {
+    pub fn new(day: u16, minute: u16, tick: u16) -> Self {
+        Stamp { day, minute, tick }
+    }
 }
-
-#[cfg(feature = "proved")]
-pub(crate) use library_of_module;
-
-/// The model as a library.
-pub struct Model;
-
-library_of_module!(Model, model);
 
 /// A call with its arguments; the image and the tables are lent when it runs.
 #[derive(Clone, Debug, PartialEq, Eq)]
 pub enum Call {
     Check,
     Summary,
-    Format {
-        last_reserved: u16,
-        anode_blocks: u16,
-        name: Vec<u8>,
-        day: u16,
-        minute: u16,
-        tick: u16,
-        protection: u16,
-    },
-    Read {
-        directory: u16,
-        name: Vec<u8>,
-        offset: u64,
-        length: usize,
-    },
-    List {
-        directory: u16,
-        place: u64,
-    },
-    Make {
-        directory: u16,
-        kind: u8,
-        name: Vec<u8>,
-        comment: Vec<u8>,
-        day: u16,
-        minute: u16,
-        tick: u16,
-        protection: u8,
-    },
-    Resize {
-        directory: u16,
-        name: Vec<u8>,
-        size: u64,
-    },
-    Write {
-        directory: u16,
-        name: Vec<u8>,
-        offset: u64,
-        data: Vec<u8>,
-    },
-    Remove {
-        directory: u16,
-        name: Vec<u8>,
-    },
+    Format { last_reserved: u16, anode_blocks: u16, name: Vec<u8>, stamp: Stamp, protection: u16 },
+    Read { directory: u16, name: Vec<u8>, offset: u64, length: usize },
+    List { directory: u16, place: u64 },
+    Make { directory: u16, kind: u8, name: Vec<u8>, comment: Vec<u8>, stamp: Stamp, protection: u8 },
+    Resize { directory: u16, name: Vec<u8>, size: u64 },
+    Write { directory: u16, name: Vec<u8>, offset: u64, data: Vec<u8> },
+    Remove { directory: u16, name: Vec<u8> },
 }
 
 impl Call {
@@ -278,63 +63,90 @@ impl Call {
     }
 }
 
+/// What buffers hold before a call.
+pub const UNREAD: u8 = 0xA5;
+const UNWRITTEN: u32 = 0xA5A5_A5A5;
+
+/// The buffers that some calls fill; any other call leaves them.
+#[derive(Clone, Debug, PartialEq, Eq)]
+pub struct Output {
+    /// What a done read gives; a refused one leaves it.
+    pub bytes: Vec<u8>,
+    /// What summary counts: blocks, free blocks, files, directories with the root. Zeros after a refusal.
+    pub counts: [u32; 4],
+    /// The entry that list gives: type, anode, size, day, minute, tick, protection, name offset in the image,
+    /// name length, comment offset in the image, comment length. Zeros after a refusal.
+    pub entry: [u32; 11],
+}
+
+impl Output {
+    /// Buffers for a call, with [`UNREAD`] in every byte.
+    pub fn for_call(call: &Call) -> Self {
+        let length = match call {
+            Call::Read { length, .. } => *length,
+            _ => 0,
+        };
+        Output { bytes: vec![UNREAD; length], counts: [UNWRITTEN; 4], entry: [UNWRITTEN; 11] }
+    }
+}
+
+/// What a call is lent to work on. Calls that only look do not write to the image; format is lent no tables.
+pub struct Lent<'a> {
+    pub image: &'a mut [u8],
+    pub blocks: &'a mut [u16],
+    pub anodes: &'a mut [u16],
+}
+
+/// A library for PFS floppy disks.
+pub trait Library {
+    /// Runs a call and answers its number. A read fills all of `output.bytes`, which must have the call's length.
+    fn answer(call: &Call, lent: Lent, output: &mut Output) -> u32;
+}
+
 /// What a call handed back besides the image and the tables.
 #[derive(Clone, Debug, PartialEq, Eq)]
 pub struct Outcome {
     pub answer: u32,
-    /// The output buffer of a read; it holds [`UNREAD`] before the call.
-    pub out: Vec<u8>,
-    /// The fields of a summary or a list.
-    pub fields: Vec<u32>,
+    pub output: Output,
 }
 
-/// What output buffers hold before a call, and the fields.
-pub const UNREAD: u8 = 0xA5;
-const UNWRITTEN: u32 = 0xA5A5_A5A5;
-
-/// Runs a call on a library.
+/// Runs a call on a library, with fresh buffers for its output.
 pub fn run<L: Library>(call: &Call, image: &mut [u8], blocks: &mut [u16], anodes: &mut [u16]) -> Outcome {
-    let mut out = Vec::new();
-    let mut fields = Vec::new();
-    let answer = match call {
-        Call::Check => L::check(image, blocks, anodes),
-        Call::Summary => {
-            let mut four = [UNWRITTEN; 4];
-            let answer = L::summary(image, blocks, anodes, &mut four);
-            fields.extend(four);
-            answer
+    let mut output = Output::for_call(call);
+    let answer = L::answer(call, Lent { image, blocks, anodes }, &mut output);
+    Outcome { answer, output }
+}
+
+/// The model as a library.
+pub struct Model;
+
+impl Library for Model {
+    fn answer(call: &Call, lent: Lent, output: &mut Output) -> u32 {
+        let Lent { image, blocks, anodes } = lent;
+        match call {
+            Call::Check => model::check(image, blocks, anodes),
+            Call::Summary => model::summary(image, blocks, anodes, &mut output.counts),
+            Call::Format { last_reserved, anode_blocks, name, stamp, protection } => {
+                model::format(image, *last_reserved, *anode_blocks, name, *stamp, *protection)
+            }
+            Call::Read { directory, name, offset, .. } => {
+                model::read(image, blocks, anodes, *directory, name, *offset, &mut output.bytes)
+            }
+            Call::List { directory, place } => {
+                model::list(image, blocks, anodes, *directory, *place, &mut output.entry)
+            }
+            Call::Make { directory, kind, name, comment, stamp, protection } => {
+                let entry =
+                    model::NewEntry { kind: *kind, name, comment, stamp: *stamp, protection: *protection };
+                model::make(image, blocks, anodes, *directory, &entry)
+            }
+            Call::Resize { directory, name, size } => {
+                model::resize(image, blocks, anodes, *directory, name, *size)
+            }
+            Call::Write { directory, name, offset, data } => {
+                model::write(image, blocks, anodes, *directory, name, *offset, data)
+            }
+            Call::Remove { directory, name } => model::remove(image, blocks, anodes, *directory, name),
         }
-        Call::Format { last_reserved, anode_blocks, name, day, minute, tick, protection } => {
-            L::format(image, *last_reserved, *anode_blocks, name, *day, *minute, *tick, *protection)
-        }
-        Call::Read { directory, name, offset, length } => {
-            out.resize(*length, UNREAD);
-            L::read(image, blocks, anodes, *directory, name, *offset, &mut out)
-        }
-        Call::List { directory, place } => {
-            let mut eleven = [UNWRITTEN; 11];
-            let answer = L::list(image, blocks, anodes, *directory, *place, &mut eleven);
-            fields.extend(eleven);
-            answer
-        }
-        Call::Make { directory, kind, name, comment, day, minute, tick, protection } => L::make(
-            image,
-            blocks,
-            anodes,
-            *directory,
-            *kind,
-            name,
-            comment,
-            *day,
-            *minute,
-            *tick,
-            *protection,
-        ),
-        Call::Resize { directory, name, size } => L::resize(image, blocks, anodes, *directory, name, *size),
-        Call::Write { directory, name, offset, data } => {
-            L::write(image, blocks, anodes, *directory, name, *offset, data)
-        }
-        Call::Remove { directory, name } => L::remove(image, blocks, anodes, *directory, name),
-    };
-    Outcome { answer, out, fields }
+    }
 }

@@ -1,11 +1,11 @@
 //! Random calls for histories: their arguments are mostly such that the call can be done on the disk, at times
 //! such that it must be refused, and often at the very edge.
 
-use crate::calls::Call;
+use crate::calls::{Call, DIRECTORY, FILE, ROOT};
 use crate::model;
 use crate::rng::Rng;
 use crate::shapes::format_call;
-use crate::tree::{Node, Tree, DIRECTORY, FILE, ROOT};
+use crate::tree::{Node, Tree};
 
 /// What a history is after.
 #[derive(Clone, Copy, Debug, PartialEq, Eq)]
@@ -147,9 +147,7 @@ fn make_call(tree: &Tree, rng: &mut Rng) -> Call {
         kind,
         name,
         comment: rng.bytes(comment_length),
-        day: rng.word(),
-        minute: rng.word(),
-        tick: rng.word(),
+        stamp: rng.stamp(),
         protection: rng.byte(),
     }
 }

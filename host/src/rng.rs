@@ -3,6 +3,8 @@
 
 use std::ops::RangeInclusive;
 
+use crate::calls::Stamp;
+
 /// The generator.
 #[derive(Clone, Debug)]
 pub struct Rng {
@@ -75,6 +77,10 @@ impl Rng {
         let mut bytes = vec![0; length];
         self.fill(&mut bytes);
         bytes
+    }
+
+    pub fn stamp(&mut self) -> Stamp {
+        Stamp::new(self.word(), self.word(), self.word())
     }
 
     /// A table of junk words.

@@ -34,9 +34,7 @@ pub fn format_call(blocks: usize, rng: &mut Rng) -> Call {
         last_reserved: last_reserved as u16,
         anode_blocks: anode_blocks as u16,
         name: rng.bytes(name_length),
-        day: rng.word(),
-        minute: rng.word(),
-        tick: rng.word(),
+        stamp: rng.stamp(),
         protection: rng.word(),
     }
 }

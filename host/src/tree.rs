@@ -4,14 +4,8 @@
 
 use std::collections::BTreeMap;
 
-use crate::calls::Call;
+use crate::calls::{Call, Stamp, DIRECTORY, FILE, ROOT};
 
-/// The type of an entry that is a file.
-pub const FILE: u8 = 253;
-/// The type of an entry that is a directory.
-pub const DIRECTORY: u8 = 2;
-/// The number of the root directory.
-pub const ROOT: u16 = 5;
 /// The bytes of a directory block that entries may fill.
 pub const ENTRY_SPACE: usize = 494;
 
@@ -22,9 +16,7 @@ pub struct Node {
     pub anode: u16,
     /// The size as it stands on the disk; junk in a directory's entry.
     pub size: u32,
-    pub day: u16,
-    pub minute: u16,
-    pub tick: u16,
+    pub stamp: Stamp,
     pub protection: u8,
     pub name: Vec<u8>,
     pub comment: Vec<u8>,
@@ -224,14 +216,12 @@ impl Tree {
         match call {
             Call::Check | Call::Summary | Call::Read { .. } | Call::List { .. } => {}
             Call::Format { .. } => *self = Tree::default(),
-            Call::Make { directory, kind, name, comment, day, minute, tick, protection } => {
+            Call::Make { directory, kind, name, comment, stamp, protection } => {
                 let node = Node {
                     kind: *kind,
                     anode: made,
                     size: 0,
-                    day: *day,
-                    minute: *minute,
-                    tick: *tick,
+                    stamp: *stamp,
                     protection: *protection,
                     name: name.clone(),
                     comment: comment.clone(),

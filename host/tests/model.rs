@@ -1,46 +1,17 @@
-//! The model against itself: the linear check against the naive one, the worked cases of the paper, and random
-//! histories of calls against a plain tree in memory.
+//! The model against itself: the linear check against the naive one, and random histories of calls against a plain
+//! tree in memory.
 
 use std::collections::BTreeMap;
 
-use ovenknit_host::calls::{run, Call, Model, Outcome, UNREAD};
+use ovenknit_host::calls::{run, Call, Model, Outcome, DIRECTORY, FILE, ROOT, UNREAD};
+use ovenknit_host::compare::{junk_tables, Histogram};
 use ovenknit_host::histories::{expect_format, head_of, random_call, Mood};
 use ovenknit_host::model::layout::{Anode, AnodeTable, ANODES, BLOCK};
 use ovenknit_host::model::{self, layout, naive};
 use ovenknit_host::rng::{Rng, SeedNote};
 use ovenknit_host::shapes::{disk_blocks, formatted, shaped, Bender, Recipe, Shaped};
-use ovenknit_host::tree::{Expected, Tree, DIRECTORY, FILE, ROOT};
-
-/// How often each answer was met.
-#[derive(Default)]
-struct Histogram {
-    counts: BTreeMap<u32, usize>,
-}
-
-impl Histogram {
-    fn add(&mut self, answer: u32) {
-        *self.counts.entry(answer).or_default() += 1;
-    }
-
-    fn print(&self, what: &str) {
-        let total: usize = self.counts.values().sum();
-        let counts: Vec<String> =
-            self.counts.iter().map(|(answer, count)| format!("{answer}: {count}")).collect();
-        println!("{what}, {total} cases: {}", counts.join(", "));
-    }
-
-    fn assert_met(&self, numbers: impl IntoIterator<Item = u32>) {
-        for number in numbers {
-            assert!(self.counts.contains_key(&number), "{number} was never answered");
-        }
-    }
-}
-
-/// Junk tables, with some entries past the ends.
-fn junk_tables(blocks: usize, rng: &mut Rng) -> (Vec<u16>, Vec<u16>) {
-    let (more_blocks, more_anodes) = (rng.below(9), rng.below(9));
-    (rng.words(blocks + more_blocks), rng.words(ANODES + more_anodes))
-}
+use ovenknit_host::starts::Start;
+use ovenknit_host::tree::{Expected, Tree};
 
 /// Runs both checks with the same junk in the tables, compares all that they leave, and answers their number.
 fn compare_checks(image: &[u8], blocks: Vec<u16>, anodes: Vec<u16>) -> u32 {
@@ -55,7 +26,7 @@ fn compare_checks(image: &[u8], blocks: Vec<u16>, anodes: Vec<u16>) -> u32 {
 }
 
 fn compare_with_junk(image: &[u8], rng: &mut Rng) -> u32 {
-    let (blocks, anodes) = junk_tables(image.len() / BLOCK, rng);
+    let (blocks, anodes) = junk_tables(image.len() / BLOCK, false, rng);
     compare_checks(image, blocks, anodes)
 }
 
@@ -66,21 +37,21 @@ fn compare_bent(image: &[u8], histogram: &mut Histogram, rng: &mut Rng) {
         if let Some(bent) = bender.bend(number, rng) {
             let answer = compare_with_junk(&bent, rng);
             assert_eq!(answer, number, "a fault missed its aim");
-            histogram.add(answer);
+            histogram.add(answer, "check");
         }
     }
     for _ in 0..3 {
-        histogram.add(compare_with_junk(&bender.scuffed(rng), rng));
-        histogram.add(compare_with_junk(&bender.jolted(rng), rng));
+        histogram.add(compare_with_junk(&bender.scuffed(rng), rng), "check");
+        histogram.add(compare_with_junk(&bender.jolted(rng), rng), "check");
     }
-    let (mut blocks, mut anodes) = junk_tables(image.len() / BLOCK, rng);
+    let (mut blocks, mut anodes) = junk_tables(image.len() / BLOCK, false, rng);
     match rng.percent(50) {
         true => blocks.truncate(rng.below(image.len() / BLOCK)),
         false => anodes.truncate(rng.below(ANODES)),
     }
     let answer = compare_checks(image, blocks, anodes);
     assert_eq!(answer, 2);
-    histogram.add(answer);
+    histogram.add(answer, "check");
 }
 
 #[test]
@@ -96,11 +67,11 @@ fn linear_check_equals_naive_check() {
         };
         let answer = compare_with_junk(&image, rng);
         assert_eq!(answer, 0, "a formatted or shaped disk is refused");
-        histogram.add(answer);
+        histogram.add(answer, "check");
         compare_bent(&image, &mut histogram, rng);
     }
     histogram.print("linear and naive check");
-    histogram.assert_met(0..=16);
+    histogram.assert_answered(0..=16);
 }
 
 #[test]
@@ -136,10 +107,10 @@ fn checks_agree_on_random_bytes() {
             root[96..180].fill(0);
             layout::put_word(root, 96, rng.below(blocks + 1) as u16);
         }
-        histogram.add(compare_with_junk(&image, rng));
+        histogram.add(compare_with_junk(&image, rng), "check");
     }
     histogram.print("random bytes");
-    histogram.assert_met([1, 3, 4, 5]);
+    histogram.assert_answered([1, 3, 4, 5]);
 }
 
 #[test]
@@ -270,13 +241,11 @@ struct History<'a> {
     tree: Tree,
     rng: Rng,
     answers: Histogram,
-    by_call: BTreeMap<(u32, &'static str), usize>,
 }
 
 impl<'a> History<'a> {
     fn new(image: &'a mut Vec<u8>, tree: Tree, seed: u64) -> Self {
-        let (answers, by_call) = (Histogram::default(), BTreeMap::new());
-        History { image, tree, rng: Rng::new(!seed), answers, by_call }
+        History { image, tree, rng: Rng::new(!seed), answers: Histogram::default() }
     }
 
     fn blocks(&self) -> usize {
@@ -303,15 +272,14 @@ impl<'a> History<'a> {
     /// Runs a call and compares all that it leaves with what it must leave.
     fn call(&mut self, call: &Call) -> u32 {
         let before = self.image.clone();
-        let (mut blocks, mut anodes) = junk_tables(self.blocks(), &mut self.rng);
+        let (mut blocks, mut anodes) = junk_tables(self.blocks(), false, &mut self.rng);
         if self.rng.percent(1) {
             self.call_with_short_tables(call);
         }
         let lent = (blocks.clone(), anodes.clone());
         let outcome = run::<Model>(call, self.image, &mut blocks, &mut anodes);
         let answer = outcome.answer;
-        self.answers.add(answer);
-        *self.by_call.entry((answer, call.label())).or_default() += 1;
+        self.answers.add(answer, call.label());
         assert!(answer == 0 || answer >= 20, "{answer} for {call:?}");
         self.compare_answer(call, answer, &before);
         if answer != 0 || !call.changes() {
@@ -338,7 +306,7 @@ impl<'a> History<'a> {
         if let Call::Format { .. } = call {
             return;
         }
-        let (mut blocks, mut anodes) = junk_tables(self.blocks(), &mut self.rng);
+        let (mut blocks, mut anodes) = junk_tables(self.blocks(), false, &mut self.rng);
         match self.rng.percent(50) {
             true => blocks.truncate(self.blocks() - 1),
             false => anodes.truncate(ANODES - 1),
@@ -346,8 +314,7 @@ impl<'a> History<'a> {
         let lent = (self.image.clone(), blocks.clone(), anodes.clone());
         let outcome = run::<Model>(call, self.image, &mut blocks, &mut anodes);
         assert_eq!(outcome.answer, 2);
-        assert!(outcome.fields.iter().all(|&field| field == 0));
-        assert!(outcome.out.iter().all(|&byte| byte == UNREAD));
+        self.compare_refused_output(call, &outcome);
         assert_eq!((&*self.image, blocks, anodes), (&lent.0, lent.1, lent.2));
     }
 
@@ -415,38 +382,49 @@ impl<'a> History<'a> {
     }
 
     fn compare_output(&self, call: &Call, outcome: &Outcome) {
-        let done = outcome.answer == 0;
+        if outcome.answer != 0 {
+            return self.compare_refused_output(call, outcome);
+        }
+        let output = &outcome.output;
         match call {
-            Call::Read { directory, name, offset, .. } if done => {
-                assert_eq!(outcome.out, self.tree.content(*directory, name, *offset, outcome.out.len()));
+            Call::Read { directory, name, offset, .. } => {
+                assert_eq!(output.bytes, self.tree.content(*directory, name, *offset, output.bytes.len()));
             }
-            Call::Read { .. } => assert!(outcome.out.iter().all(|&byte| byte == UNREAD)),
-            Call::List { directory, place } if done => {
-                let node = self.tree.listed(*directory, *place).expect("the place is there");
-                let fields = &outcome.fields;
-                let numbers = [
-                    u32::from(node.kind),
-                    u32::from(node.anode),
-                    node.size,
-                    u32::from(node.day),
-                    u32::from(node.minute),
-                    u32::from(node.tick),
-                    u32::from(node.protection),
-                ];
-                assert_eq!(fields[..7], numbers);
-                let part = |at: u32, length: u32| &self.image[at as usize..(at + length) as usize];
-                assert_eq!(part(fields[7], fields[8]), node.name);
-                assert_eq!(part(fields[9], fields[10]), node.comment);
-                assert_eq!(fields[9], fields[7] + fields[8] + 1);
-            }
-            Call::List { .. } => assert_eq!(outcome.fields, [0; 11]),
+            Call::List { directory, place } => self.compare_entry(*directory, *place, &output.entry),
             Call::Summary => {
                 let (files, directories) = self.tree.counts();
                 let counts = [self.blocks(), self.totals().free, files, directories];
-                assert_eq!(outcome.fields, counts.map(|count| count as u32));
+                assert_eq!(output.counts, counts.map(|count| count as u32));
             }
             _ => {}
         }
+    }
+
+    fn compare_refused_output(&self, call: &Call, outcome: &Outcome) {
+        assert!(outcome.output.bytes.iter().all(|&byte| byte == UNREAD));
+        match call {
+            Call::List { .. } => assert_eq!(outcome.output.entry, [0; 11]),
+            Call::Summary => assert_eq!(outcome.output.counts, [0; 4]),
+            _ => {}
+        }
+    }
+
+    fn compare_entry(&self, directory: u16, place: u64, fields: &[u32; 11]) {
+        let node = self.tree.listed(directory, place).expect("the place is there");
+        let numbers = [
+            u32::from(node.kind),
+            u32::from(node.anode),
+            node.size,
+            u32::from(node.stamp.day),
+            u32::from(node.stamp.minute),
+            u32::from(node.stamp.tick),
+            u32::from(node.protection),
+        ];
+        assert_eq!(fields[..7], numbers);
+        let part = |at: u32, length: u32| &self.image[at as usize..(at + length) as usize];
+        assert_eq!(part(fields[7], fields[8]), node.name);
+        assert_eq!(part(fields[9], fields[10]), node.comment);
+        assert_eq!(fields[9], fields[7] + fields[8] + 1);
     }
 
     /// After a done change: only what the change is about has changed, and the tree follows.
@@ -521,42 +499,19 @@ impl<'a> History<'a> {
     }
 }
 
-/// Runs histories and gathers their answers.
-struct Histories {
-    answers: Histogram,
-    by_call: BTreeMap<(u32, &'static str), usize>,
-}
-
-impl Histories {
-    fn new() -> Self {
-        Histories { answers: Histogram::default(), by_call: BTreeMap::new() }
-    }
-
-    fn run(&mut self, shaped: Shaped, seed: u64, calls: usize) {
-        let Shaped { mut image, tree } = shaped;
+/// Runs histories from one kind of disk and gathers their answers.
+fn histories(start: Start, seeds: u64, calls: usize) -> Histogram {
+    let mut answers = Histogram::default();
+    for seed in 0..seeds {
+        let _note = SeedNote::new("histories", seed);
+        let Shaped { mut image, tree } = start.disk(&mut Rng::new(seed));
         let mut history = History::new(&mut image, tree, seed);
         history.go_on(calls);
         history.read_everything();
-        for (&answer, &count) in &history.answers.counts {
-            *self.answers.counts.entry(answer).or_default() += count;
-        }
-        for (&key, &count) in &history.by_call {
-            *self.by_call.entry(key).or_default() += count;
-        }
+        answers.merge(&history.answers);
     }
-
-    fn print(&self, what: &str) {
-        self.answers.print(what);
-        for ((answer, call), count) in &self.by_call {
-            println!("  {answer:2} by {call}: {count}");
-        }
-    }
-
-    fn assert_met(&self, cases: &[(u32, &'static str)]) {
-        for case in cases {
-            assert!(self.by_call.contains_key(case), "{case:?} was never met");
-        }
-    }
+    answers.print(&format!("histories, {start:?}"));
+    answers
 }
 
 /// Every refusal from 20 up, by every call that can give it.
@@ -585,88 +540,32 @@ const ALL_REFUSALS: [(u32, &str); 20] = [
 
 #[test]
 fn histories_from_formatted_disks() {
-    let mut histories = Histories::new();
-    for seed in 0..120 {
-        let _note = SeedNote::new("histories_from_formatted_disks", seed);
-        let rng = &mut Rng::new(seed);
-        let blocks = disk_blocks(400, rng);
-        let image = formatted(blocks, rng);
-        histories.run(Shaped { image, tree: Tree::default() }, seed, 250);
-    }
-    histories.print("histories from formatted disks");
-    histories.answers.assert_met(20..=28);
-    histories.assert_met(&ALL_REFUSALS);
+    let answers = histories(Start::Formatted, 120, 250);
+    answers.assert_answered(20..=28);
+    answers.assert_met(&ALL_REFUSALS);
 }
 
 #[test]
 fn histories_from_shaped_disks() {
-    let mut histories = Histories::new();
-    for seed in 0..250 {
-        let _note = SeedNote::new("histories_from_shaped_disks", seed);
-        let rng = &mut Rng::new(seed);
-        let blocks = disk_blocks(300, rng);
-        let disk = shaped(&Recipe::random(blocks, rng), rng);
-        histories.run(disk, seed, 150);
-    }
-    histories.print("histories from shaped disks");
-    histories.answers.assert_met(20..=28);
-    histories.assert_met(&ALL_REFUSALS);
-    histories.assert_met(&[(28, "make"), (28, "resize"), (28, "remove"), (24, "read"), (24, "write")]);
+    let answers = histories(Start::Shaped, 250, 150);
+    answers.assert_answered(20..=28);
+    answers.assert_met(&ALL_REFUSALS);
+    answers.assert_met(&[(28, "make"), (28, "resize"), (28, "remove"), (24, "read"), (24, "write")]);
 }
 
-/// No anode is free, or next to none.
 #[test]
 fn histories_with_full_anode_tables() {
-    let mut histories = Histories::new();
-    for seed in 0..250 {
-        let _note = SeedNote::new("histories_with_full_anode_tables", seed);
-        let rng = &mut Rng::new(seed);
-        let blocks = rng.within(30..=200);
-        let mut recipe = Recipe::random(blocks, rng);
-        recipe.slots = 1;
-        recipe.empties = usize::MAX;
-        recipe.directories = rng.below(8);
-        recipe.files = rng.below(12);
-        recipe.free_percent = *rng.pick(&[20, 50]).unwrap();
-        recipe.cuts = rng.below(60);
-        let disk = shaped(&recipe, rng);
-        histories.run(disk, seed, 100);
-    }
-    histories.print("histories with full anode tables");
-    histories.assert_met(&[(28, "make"), (28, "resize"), (28, "remove")]);
+    let answers = histories(Start::FullAnodes, 250, 100);
+    answers.assert_met(&[(28, "make"), (28, "resize"), (28, "remove")]);
 }
 
-/// No block is free, or next to none.
 #[test]
 fn histories_on_full_disks() {
-    let mut histories = Histories::new();
-    for seed in 0..150 {
-        let _note = SeedNote::new("histories_on_full_disks", seed);
-        let rng = &mut Rng::new(seed);
-        let blocks = rng.within(8..=80);
-        let mut recipe = Recipe::random(blocks, rng);
-        recipe.files = 1 + rng.below(8);
-        recipe.free_percent = rng.below(6);
-        let disk = shaped(&recipe, rng);
-        histories.run(disk, seed, 100);
-    }
-    histories.print("histories on full disks");
-    histories.assert_met(&[(27, "make"), (27, "resize")]);
+    let answers = histories(Start::FullBlocks, 150, 100);
+    answers.assert_met(&[(27, "make"), (27, "resize")]);
 }
 
 #[test]
 fn histories_on_larger_disks() {
-    let mut histories = Histories::new();
-    for seed in 0..4 {
-        let _note = SeedNote::new("histories_on_larger_disks", seed);
-        let rng = &mut Rng::new(seed);
-        let blocks = rng.within(1_000..=3_000);
-        let mut recipe = Recipe::random(blocks, rng);
-        (recipe.files, recipe.directories, recipe.cuts) = (80, 20, 400);
-        recipe.slots = 8;
-        let disk = shaped(&recipe, rng);
-        histories.run(disk, seed, 120);
-    }
-    histories.print("histories on larger disks");
-    histories.answers.assert_met([0, 22]);
+    histories(Start::Larger, 4, 120).assert_answered([0, 22]);
 }

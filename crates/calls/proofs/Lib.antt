@@ -1,3 +1,5 @@
 -- Laws of the calls' outcomes.
 pub mod Laws
 pub mod Opened
+pub mod Written
+pub mod Changed

@@ -6,6 +6,8 @@ use mathlib.Core.List.{List, [], _∷_, _++_}
 use mathlib.Core.Option.{Option}
 use native.Mathlib.Nat.{zero-add}
 use native.Mathlib.Omega.{arith}
+use lib.Dec.{ltb}
+use borrow.Author.Tests.{ltb-false}
 use lib.ListN.{length, getD, drop, replicate, List·getD-append}
 use Rattle.disk.specs.declared.Refusal.{Refusal}
 use Rattle.disk.specs.Refusals.{numberOf}
@@ -13,7 +15,8 @@ use Rattle.disk.proofs.Laws.{getD-listed, length-listed}
 use Rattle.rules.specs.Counting.{firstOf}
 use Rattle.rules.specs.Anodes.{limit, anodesOf}
 use Rattle.rules.specs.Walk.{Entered}
-use Rattle.rules.specs.Accepted.{diskSize, checkAnswer}
+use Rattle.rules.specs.Accepted.{diskSize, shortTables, checkAnswer}
+use Rattle.rules.specs.Changes.{Left, left}
 use Rattle.rules.specs.Tables.{anodeEntry, anodeTable, blockTable, tableLeft, blocksLeft, anodesLeft}
 use Rattle.rules.specs.Lookup.{entryNamed, entriesOf, nth}
 use Rattle.rules.specs.Calls.{Outcome, outcomeOf, settled, checkOutcome, spanAnswer, bytesRead, readAnswer, readOutcome, listAnswer, listAnswered, fieldsListed, nameListed, listOutcome}
@@ -22,7 +25,10 @@ use Rattle.fsck.specs.declared.Checked.{Checked}
 use Rattle.fsck.specs.declared.Checked.the-variants.{Accepted, Refused}
 use Rattle.fsck.specs.Answers.{checkedNumber, Opened}
 use Rattle.fsck.proofs.Laws.{number-some}
+use Rattle.counting.specs.Laws.{neither}
+use Rattle.laws.specs.Acceptance.{passed-of}
 use Rattle.changes.specs.Answers.{Late, own-tables, span-late, list-late}
+use Rattle.changed.specs.Leaves.{Leaves}
 use Rattle.changed.specs.Laws.{late-table}
 use Rattle.find.specs.Open.{Open}
 
@@ -102,6 +108,11 @@ module _ (img b₀ a₀ b a : List ℕ) (x : Checked) (e : outcomeOf (checkedNum
           ← anodes-k,
         )
 
+    -- a change is not made
+    pub change-refused : (n : ℕ) (f : ℕ → Left) → f k ≡ left k img → outcomeOf k img b a [] [] ≡ settled (f (firstOf (checkAnswer img (length b₀) (length a₀)) n)) b₀ a₀ [] []
+    unfolding settled
+    change-refused n f e = rw (first-some (checkAnswer img (length b₀) (length a₀)) n k answers-k some, e, ← blocks-k, ← anodes-k)
+
   -- ---- accepted
 
   module _ (t : Tally) (is : x ≡ Accepted t) where
@@ -113,6 +124,9 @@ module _ (img b₀ a₀ b a : List ℕ) (x : Checked) (e : outcomeOf (checkedNum
 
     pub accepted-anodes : a ≡ anodesLeft 0 img a₀
     accepted-anodes = anodes-are ∙ ap (λ (m : ℕ). anodesLeft m img a₀) (ap checkedNumber is)
+
+    pub accepted-answer : checkAnswer img (diskSize img) limit ≡ 0
+    accepted-answer = own-tables img (length b₀) (length a₀) answers-0
 
     blocks-late : (k : ℕ) → Late k → blocksLeft k img b₀ ≡ b
     unfolding blocksLeft
@@ -128,7 +142,7 @@ module _ (img b₀ a₀ b a : List ℕ) (x : Checked) (e : outcomeOf (checkedNum
     opened counts firsts nexts queue parents q =
         let o = rw is at q in
         record {
-          accepted = own-tables img (length b₀) (length a₀) answers-0;
+          accepted = accepted-answer;
           loaded = o .0;
           queued = o .1;
           shown = λ i l. ap (λ (z : List ℕ). getD z i 0) accepted-anodes
@@ -154,3 +168,15 @@ module _ (img b₀ a₀ b a : List ℕ) (x : Checked) (e : outcomeOf (checkedNum
     list-answered h n fields name k is-k f m =
         let l : Late k = rw is-k (list-late img (anodesOf img) h n) in
         rw (first-zero (checkAnswer img (length b₀) (length a₀)) (listAnswer img (anodesOf img) h n) answers-0, ← is-k, blocks-late k l, anodes-late k l, f, m)
+
+    -- a change by name, as it leaves the image and the tables
+    pub change-answered : (n : ℕ) (f : ℕ → Left) (r : ℕ) (img′ b′ a′ : List ℕ) → Leaves r img b a img′ b′ a′ (f n) → outcomeOf r img′ b′ a′ [] [] ≡ settled (f (firstOf (checkAnswer img (length b₀) (length a₀)) n)) b₀ a₀ [] []
+    change-answered n f r img′ b′ a′ l =
+        l b₀ a₀ accepted-blocks accepted-anodes ∙ ap (λ (m : ℕ). settled (f m) b₀ a₀ [] []) (sym (first-zero (checkAnswer img (length b₀) (length a₀)) n answers-0))
+
+    -- the anode table is as long as 2 asks
+    pub heads-long : length a ≡ length a₀ → limit ≤ length a
+    unfolding shortTables
+    heads-long e =
+        let s = neither (ltb (length b₀) (diskSize img)) (ltb (length a₀) limit) (passed-of img (length b₀) (length a₀) answers-0 .tables-long) in
+        rw e (ltb-false (length a₀) limit (s .1))

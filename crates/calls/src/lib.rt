@@ -1,7 +1,11 @@
 // The public calls. None asks anything of its caller; each contract settles the answer, the image, both tables and the output for every input.
 ghost use mathlib.Core.List.{[]};
 ghost use mathlib.Core.Path.{_≡_};
-ghost use Rattle.rules.specs.Calls.{outcomeOf, checkOutcome, summaryOutcome, readOutcome, listOutcome};
+ghost use Rattle.rules.specs.Calls.{outcomeOf, checkOutcome, summaryOutcome, readOutcome, listOutcome, makeOutcome, resizeOutcome, writeOutcome, removeOutcome};
+use changing::make_named;
+use changing::remove_named;
+use changing::resize_named;
+use changing::write_named;
 use disk::AnodeNo;
 use disk::number;
 use fsck::Checked;
@@ -130,5 +134,191 @@ pub fn list<'a>(
             *fields = [0u32; 11];
             &image[0..0]
         }
+    }
+}
+
+// Replaces bytes of a file from the offset on, within its size; a refused call leaves the image.
+pub fn write(
+    image: &mut [u8],
+    blocks: &mut [u16],
+    anodes: &mut [u16],
+    directory: u16,
+    name: &[u8],
+    offset: u64,
+    bytes: &[u8],
+) -> u32
+    ensures { λ r. ⌜ outcomeOf r (now (image .exit)) (now (blocks .exit)) (now (anodes .exit)) [] [] ≡ writeOutcome (now (image .entry)) (now (blocks .entry)) (now (anodes .entry)) directory (now (name .entry)) offset (now (bytes .entry)) ⌝ }
+{
+    let mut counts = [0u16; 3444];
+    let mut firsts = [0u16; 3444];
+    let mut nexts = [0u16; 3444];
+    let mut queue = [0u16; 3444];
+    let mut parents = [0u16; 3444];
+    let c = open_disk(
+        image,
+        blocks,
+        anodes,
+        &mut counts,
+        &mut firsts,
+        &mut nexts,
+        &mut queue,
+        &mut parents,
+    );
+    match c {
+        Checked::Accepted(t) => write_named(
+            image,
+            &counts,
+            &firsts,
+            &nexts,
+            &queue,
+            anodes,
+            t.dirs,
+            AnodeNo(directory),
+            name,
+            offset,
+            bytes,
+        ),
+        Checked::Refused(r) => number(r),
+    }
+}
+
+// Makes a file of type 253 or a directory of type 2; a refused call leaves the image.
+pub fn make(
+    image: &mut [u8],
+    blocks: &mut [u16],
+    anodes: &mut [u16],
+    directory: u16,
+    kind: u8,
+    name: &[u8],
+    comment: &[u8],
+    day: u16,
+    minute: u16,
+    tick: u16,
+    protection: u8,
+) -> u32
+    ensures { λ r. ⌜ outcomeOf r (now (image .exit)) (now (blocks .exit)) (now (anodes .exit)) [] [] ≡ makeOutcome (now (image .entry)) (now (blocks .entry)) (now (anodes .entry)) directory kind (now (name .entry)) (now (comment .entry)) day minute tick protection ⌝ }
+{
+    let mut counts = [0u16; 3444];
+    let mut firsts = [0u16; 3444];
+    let mut nexts = [0u16; 3444];
+    let mut queue = [0u16; 3444];
+    let mut parents = [0u16; 3444];
+    let c = open_disk(
+        image,
+        blocks,
+        anodes,
+        &mut counts,
+        &mut firsts,
+        &mut nexts,
+        &mut queue,
+        &mut parents,
+    );
+    match c {
+        Checked::Accepted(t) => make_named(
+            image,
+            blocks,
+            anodes,
+            &counts,
+            &firsts,
+            &nexts,
+            &queue,
+            &parents,
+            t.dirs,
+            AnodeNo(directory),
+            kind,
+            name,
+            comment,
+            day,
+            minute,
+            tick,
+            protection,
+        ),
+        Checked::Refused(r) => number(r),
+    }
+}
+
+// Gives a file another size; a refused call leaves the image.
+pub fn resize(
+    image: &mut [u8],
+    blocks: &mut [u16],
+    anodes: &mut [u16],
+    directory: u16,
+    name: &[u8],
+    size: u64,
+) -> u32
+    ensures { λ r. ⌜ outcomeOf r (now (image .exit)) (now (blocks .exit)) (now (anodes .exit)) [] [] ≡ resizeOutcome (now (image .entry)) (now (blocks .entry)) (now (anodes .entry)) directory (now (name .entry)) size ⌝ }
+{
+    let mut counts = [0u16; 3444];
+    let mut firsts = [0u16; 3444];
+    let mut nexts = [0u16; 3444];
+    let mut queue = [0u16; 3444];
+    let mut parents = [0u16; 3444];
+    let c = open_disk(
+        image,
+        blocks,
+        anodes,
+        &mut counts,
+        &mut firsts,
+        &mut nexts,
+        &mut queue,
+        &mut parents,
+    );
+    match c {
+        Checked::Accepted(t) => resize_named(
+            image,
+            blocks,
+            anodes,
+            &counts,
+            &firsts,
+            &nexts,
+            &queue,
+            t.dirs,
+            AnodeNo(directory),
+            name,
+            size,
+        ),
+        Checked::Refused(r) => number(r),
+    }
+}
+
+// Removes a file or an empty directory; a refused call leaves the image.
+pub fn remove(
+    image: &mut [u8],
+    blocks: &mut [u16],
+    anodes: &mut [u16],
+    directory: u16,
+    name: &[u8],
+) -> u32
+    ensures { λ r. ⌜ outcomeOf r (now (image .exit)) (now (blocks .exit)) (now (anodes .exit)) [] [] ≡ removeOutcome (now (image .entry)) (now (blocks .entry)) (now (anodes .entry)) directory (now (name .entry)) ⌝ }
+{
+    let mut counts = [0u16; 3444];
+    let mut firsts = [0u16; 3444];
+    let mut nexts = [0u16; 3444];
+    let mut queue = [0u16; 3444];
+    let mut parents = [0u16; 3444];
+    let c = open_disk(
+        image,
+        blocks,
+        anodes,
+        &mut counts,
+        &mut firsts,
+        &mut nexts,
+        &mut queue,
+        &mut parents,
+    );
+    match c {
+        Checked::Accepted(t) => remove_named(
+            image,
+            blocks,
+            anodes,
+            &counts,
+            &firsts,
+            &nexts,
+            &queue,
+            t.dirs,
+            AnodeNo(directory),
+            name,
+        ),
+        Checked::Refused(r) => number(r),
     }
 }

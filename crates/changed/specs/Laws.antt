@@ -50,7 +50,7 @@ shows-ran img s t g {to = to} {ys = ys} ran apart b r p =
 pub shows-kept : (img : List ℕ) (s t : Anodes) → ((x : ℕ) → ownerHead t x ≡ ownerHead s x) → (b r : List ℕ) → Shows img s b r → Shows img t b r
 shows-kept img s t same b r p = p ∙ ap (λ (l : List ℕ). l ++ r) (sym (kept-table img img refl refl s t same))
 
-drop-front : (l r : List ℕ) → drop (length l) (l ++ r) ≡ r
+pub drop-front : (l r : List ℕ) → drop (length l) (l ++ r) ≡ r
 drop-front [] r = refl
 drop-front (x ∷ l) r = drop-front l r
 

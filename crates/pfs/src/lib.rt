@@ -2,7 +2,7 @@
 ghost use mathlib.Core.List.{[]};
 ghost use mathlib.Core.Path.{_≡_};
 ghost use Rattle.rules.specs.Changes.{left};
-ghost use Rattle.rules.specs.Calls.{outcomeOf, checkOutcome, summaryOutcome, formatOutcome, readOutcome, listOutcome};
+ghost use Rattle.rules.specs.Calls.{outcomeOf, checkOutcome, summaryOutcome, formatOutcome, readOutcome, listOutcome, makeOutcome, resizeOutcome, writeOutcome, removeOutcome};
 ghost use Rattle.pfs.specs.Listed.{nameGiven};
 
 // The check: 0, or the first refusal.
@@ -83,4 +83,81 @@ pub extern "C" fn pfs_list(
     let mut answer: u32 = 0;
     calls::list(image, blocks, anodes, directory, place, fields, &mut answer);
     answer
+}
+
+// Makes a file of type 253 or a directory of type 2; a refused call leaves the image.
+#[no_mangle]
+pub extern "C" fn pfs_make(
+    image: &mut [u8],
+    blocks: &mut [u16],
+    anodes: &mut [u16],
+    directory: u16,
+    kind: u8,
+    name: &[u8],
+    comment: &[u8],
+    day: u16,
+    minute: u16,
+    tick: u16,
+    protection: u8,
+) -> u32
+    ensures { λ r. ⌜ outcomeOf r (now (image .exit)) (now (blocks .exit)) (now (anodes .exit)) [] [] ≡ makeOutcome (now (image .entry)) (now (blocks .entry)) (now (anodes .entry)) directory kind (now (name .entry)) (now (comment .entry)) day minute tick protection ⌝ }
+{
+    calls::make(
+        image,
+        blocks,
+        anodes,
+        directory,
+        kind,
+        name,
+        comment,
+        day,
+        minute,
+        tick,
+        protection,
+    )
+}
+
+// Gives a file another size; a refused call leaves the image.
+#[no_mangle]
+pub extern "C" fn pfs_resize(
+    image: &mut [u8],
+    blocks: &mut [u16],
+    anodes: &mut [u16],
+    directory: u16,
+    name: &[u8],
+    size: u64,
+) -> u32
+    ensures { λ r. ⌜ outcomeOf r (now (image .exit)) (now (blocks .exit)) (now (anodes .exit)) [] [] ≡ resizeOutcome (now (image .entry)) (now (blocks .entry)) (now (anodes .entry)) directory (now (name .entry)) size ⌝ }
+{
+    calls::resize(image, blocks, anodes, directory, name, size)
+}
+
+// Replaces bytes of a file from the offset on, within its size; a refused call leaves the image.
+#[no_mangle]
+pub extern "C" fn pfs_write(
+    image: &mut [u8],
+    blocks: &mut [u16],
+    anodes: &mut [u16],
+    directory: u16,
+    name: &[u8],
+    offset: u64,
+    bytes: &[u8],
+) -> u32
+    ensures { λ r. ⌜ outcomeOf r (now (image .exit)) (now (blocks .exit)) (now (anodes .exit)) [] [] ≡ writeOutcome (now (image .entry)) (now (blocks .entry)) (now (anodes .entry)) directory (now (name .entry)) offset (now (bytes .entry)) ⌝ }
+{
+    calls::write(image, blocks, anodes, directory, name, offset, bytes)
+}
+
+// Removes a file or an empty directory; a refused call leaves the image.
+#[no_mangle]
+pub extern "C" fn pfs_remove(
+    image: &mut [u8],
+    blocks: &mut [u16],
+    anodes: &mut [u16],
+    directory: u16,
+    name: &[u8],
+) -> u32
+    ensures { λ r. ⌜ outcomeOf r (now (image .exit)) (now (blocks .exit)) (now (anodes .exit)) [] [] ≡ removeOutcome (now (image .entry)) (now (blocks .entry)) (now (anodes .entry)) directory (now (name .entry)) ⌝ }
+{
+    calls::remove(image, blocks, anodes, directory, name)
 }

@@ -27,7 +27,7 @@ use Rattle.find.specs.Found.{searchNumber}
 use Rattle.find.specs.Open.{Open}
 
 -- a search that was refused answers what the call's whole table answers
-search-first : (missing : Bool) (o : Option Entered) (rest k : ℕ) → 1 ≤ k → searchNumber missing o ≡ k → (21 if missing else 22 if not (isThere o) else rest) ≡ k
+pub search-first : (missing : Bool) (o : Option Entered) (rest k : ℕ) → 1 ≤ k → searchNumber missing o ≡ k → (21 if missing else 22 if not (isThere o) else rest) ≡ k
 search-first true o rest k l e = e
 search-first false none rest k l e = e
 search-first false (some x) rest k l e = absurd (omega arith)

@@ -1,31 +1,92 @@
-//! Times the proved check against the model's linear check: the same process, the same buffers, the two in turn.
-//! Prints the median of many runs of each, and their ratio. Run it with `--release --features proved`.
+//! Times the proved library against the model: the same process, the same buffers, the two in turn. Prints medians in
+//! microseconds and ratios: first the check, then each call with its ratio to the model's same call and to one proved
+//! check of the same image. Run it with `--release --features proved`.
 
 use std::hint::black_box;
 use std::time::{Duration, Instant};
 
-use ovenknit_host::model::layout::ANODES;
+use ovenknit_host::calls::{run, Call, Lent, Library, Model, Output, Stamp, ANODES, BLOCK, FILE, ROOT};
+use ovenknit_host::ffi::Proved;
 use ovenknit_host::rng::Rng;
 use ovenknit_host::shapes::{shaped, Recipe};
-use ovenknit_host::{ffi, model};
 
 const RUNS: usize = 1_001;
+/// A file in the root of every disk that the calls are timed on.
+const NAME: &[u8] = b"bench";
+const SIZE: u64 = 1_000;
 
-type Check = fn(&[u8], &mut [u16], &mut [u16]) -> u32;
-
-fn empty(blocks: usize, last_reserved: u16, anode_blocks: u16) -> Vec<u8> {
-    let mut image = vec![0; blocks * 512];
-    let answer = model::format(&mut image, last_reserved, anode_blocks, b"bench", 1, 2, 3, 4);
-    assert_eq!(answer, 0);
-    image
+/// A disk with the tables and buffers that its calls are lent.
+struct Disk {
+    image: Vec<u8>,
+    blocks: Vec<u16>,
+    anodes: Vec<u16>,
 }
 
-fn time(check: Check, image: &[u8], blocks: &mut [u16], anodes: &mut [u16]) -> Duration {
-    let start = Instant::now();
-    let answer = check(black_box(image), black_box(blocks), black_box(anodes));
-    let elapsed = start.elapsed();
-    assert_eq!(black_box(answer), 0, "a disk of the bench is refused");
-    elapsed
+impl Disk {
+    fn new(image: Vec<u8>) -> Self {
+        let blocks = vec![0; image.len() / BLOCK];
+        Disk { image, blocks, anodes: vec![0; ANODES] }
+    }
+
+    fn empty(blocks: usize, last_reserved: u16, anode_blocks: u16) -> Self {
+        let mut disk = Disk::new(vec![0; blocks * BLOCK]);
+        let (name, stamp) = (NAME.to_vec(), Stamp::default());
+        disk.must(&Call::Format { last_reserved, anode_blocks, name, stamp, protection: 0 });
+        disk
+    }
+
+    /// The same disk with a file of two blocks in its root.
+    fn with_file(mut self) -> Self {
+        self.must(&make(NAME));
+        self.must(&Call::Resize { directory: ROOT, name: NAME.to_vec(), size: SIZE });
+        self
+    }
+
+    fn must(&mut self, call: &Call) {
+        let outcome = run::<Model>(call, &mut self.image, &mut self.blocks, &mut self.anodes);
+        assert_eq!(outcome.answer, 0, "a call of the bench is refused: {}", call.label());
+    }
+
+    /// The blocks that a call changes, with their bytes before.
+    fn changed_by(&mut self, call: &Call) -> Vec<(usize, Vec<u8>)> {
+        let before = self.image.clone();
+        self.must(call);
+        let pairs = before.chunks(BLOCK).zip(self.image.chunks(BLOCK)).enumerate();
+        let changed = pairs.filter(|(_, (old, new))| old != new);
+        let changed = changed.map(|(number, (old, _))| (number * BLOCK, old.to_vec())).collect();
+        self.image = before;
+        changed
+    }
+
+    fn time<L: Library>(&mut self, call: &Call, output: &mut Output) -> Duration {
+        let lent = Lent { image: &mut self.image, blocks: &mut self.blocks, anodes: &mut self.anodes };
+        let start = Instant::now();
+        let answer = L::answer(black_box(call), black_box(lent), output);
+        let elapsed = start.elapsed();
+        assert_eq!(black_box(answer), 0, "a call of the bench is refused: {}", call.label());
+        elapsed
+    }
+
+    /// The medians of a call on the model and on the proved library, in microseconds. What the call changed is
+    /// mended between the runs.
+    fn medians(&mut self, call: &Call) -> (f64, f64) {
+        let changed = self.changed_by(call);
+        let mut output = Output::for_call(call);
+        let (mut by_model, mut by_proved) = (Vec::new(), Vec::new());
+        for run in 0..RUNS {
+            // Each goes first half of the time.
+            for turn in [run % 2, (run + 1) % 2] {
+                match turn {
+                    0 => by_model.push(self.time::<Model>(call, &mut output)),
+                    _ => by_proved.push(self.time::<Proved>(call, &mut output)),
+                }
+                for (at, bytes) in &changed {
+                    self.image[*at..*at + BLOCK].copy_from_slice(bytes);
+                }
+            }
+        }
+        (median(by_model), median(by_proved))
+    }
 }
 
 fn median(mut times: Vec<Duration>) -> f64 {
@@ -33,27 +94,75 @@ fn median(mut times: Vec<Duration>) -> f64 {
     times[times.len() / 2].as_secs_f64() * 1e6
 }
 
-fn measure(what: &str, image: &[u8]) {
-    let (mut blocks, mut anodes) = (vec![0; image.len() / 512], vec![0; ANODES]);
-    let (mut by_model, mut by_proved) = (Vec::new(), Vec::new());
-    for run in 0..RUNS {
-        // Each goes first half of the time.
-        for turn in [run % 2, (run + 1) % 2] {
-            match turn {
-                0 => by_model.push(time(model::check, image, &mut blocks, &mut anodes)),
-                _ => by_proved.push(time(ffi::check, image, &mut blocks, &mut anodes)),
-            }
-        }
+fn make(name: &[u8]) -> Call {
+    let (name, comment, stamp) = (name.to_vec(), Vec::new(), Stamp::default());
+    Call::Make { directory: ROOT, kind: FILE, name, comment, stamp, protection: 0 }
+}
+
+fn measure_check(what: &str, mut disk: Disk) {
+    let (model, proved) = disk.medians(&Call::Check);
+    println!("{what:<44} {model:>10.1} {proved:>10.1} {:>9.2}", proved / model);
+}
+
+/// Each call on a disk that has the file, blocks and anodes to spare.
+fn measure_calls(what: &str, disk: Disk) {
+    let mut disk = disk.with_file();
+    let entries = (0..).find(|&place| {
+        let call = Call::List { directory: ROOT, place };
+        run::<Model>(&call, &mut disk.image, &mut disk.blocks, &mut disk.anodes).answer != 0
+    });
+    let last = entries.unwrap_or(1) - 1;
+    let (directory, name) = (ROOT, NAME.to_vec());
+    let calls = [
+        ("read 64 bytes", Call::Read { directory, name: name.clone(), offset: 480, length: 64 }),
+        ("list the root's last", Call::List { directory, place: last }),
+        ("make a file", make(b"new")),
+        ("resize by one block", Call::Resize { directory, name: name.clone(), size: SIZE + 512 }),
+        ("write 64 bytes", Call::Write { directory, name: name.clone(), offset: 480, data: vec![7; 64] }),
+        ("remove two blocks", Call::Remove { directory, name }),
+    ];
+    println!("{what}");
+    let (model, check) = disk.medians(&Call::Check);
+    println!("  {:<42} {model:>10.1} {check:>10.1} {:>9.2} {:>9.2}", "check", check / model, 1.0);
+    for (what, call) in calls {
+        let (model, proved) = disk.medians(&call);
+        println!("  {what:<42} {model:>10.1} {proved:>10.1} {:>9.2} {:>9.2}", proved / model, proved / check);
     }
-    let (by_model, by_proved) = (median(by_model), median(by_proved));
-    println!("{what:<44} {by_model:>10.1} {by_proved:>10.1} {:>7.2}", by_proved / by_model);
+}
+
+/// Files of some blocks each, with some blocks and anodes free.
+fn small_files(blocks: usize) -> Recipe {
+    let (files, directories) = ((blocks / 22).min(2_800), (blocks / 550).min(100));
+    let slots = (blocks / 500).min(42);
+    Recipe { files, directories, cuts: files, slots, free_percent: 10, ..Recipe::small_files(blocks) }
+}
+
+/// Many pieces in any order, with some blocks and anodes free.
+fn fragmented(blocks: usize) -> Recipe {
+    let (files, directories) = ((blocks / 44).min(400), (blocks / 440).min(40));
+    let slots = (blocks / 200).min(42);
+    let (cuts, empties) = ((blocks / 4).min(2_000), (blocks / 20).min(300));
+    Recipe { files, directories, cuts, empties, slots, ..Recipe::fragmented(blocks) }
 }
 
 fn main() {
     let rng = &mut Rng::new(1);
-    println!("{:<44} {:>10} {:>10} {:>7}", "disk", "model us", "proved us", "ratio");
-    measure("1,760 blocks, empty", &empty(1_760, 63, 2));
-    measure("65,535 blocks, empty", &empty(65_535, 2_000, 42));
-    measure("65,535 blocks, full of small files", &shaped(&Recipe::small_files(65_535), rng).image);
-    measure("65,535 blocks, fragmented, no anode free", &shaped(&Recipe::fragmented(65_535), rng).image);
+    println!("{:<44} {:>10} {:>10} {:>9} {:>9}", "disk", "model us", "proved us", "to model", "to check");
+    measure_check("1,760 blocks, empty", Disk::empty(1_760, 63, 2));
+    measure_check("65,535 blocks, empty", Disk::empty(65_535, 2_000, 42));
+    let full = Disk::new(shaped(&Recipe::small_files(65_535), rng).image);
+    measure_check("65,535 blocks, full of small files", full);
+    let pieces = Disk::new(shaped(&Recipe::fragmented(65_535), rng).image);
+    measure_check("65,535 blocks, fragmented, no anode free", pieces);
+
+    for (blocks, size, last_reserved, anode_blocks) in
+        [(1_760, "1,760", 63, 2), (65_535, "65,535", 2_000, 42)]
+    {
+        println!();
+        measure_calls(&format!("{size} blocks, empty"), Disk::empty(blocks, last_reserved, anode_blocks));
+        let disk = Disk::new(shaped(&small_files(blocks), rng).image);
+        measure_calls(&format!("{size} blocks, small files"), disk);
+        let disk = Disk::new(shaped(&fragmented(blocks), rng).image);
+        measure_calls(&format!("{size} blocks, fragmented"), disk);
+    }
 }

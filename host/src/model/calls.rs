@@ -1,14 +1,12 @@
 //! The calls. Each but format runs the whole check first and then tries its own numbers in table order. A change
 //! is worked out in full before the image is touched, so that a refused one leaves every byte.
 
-// The calls take what the C interface takes.
-#![allow(clippy::too_many_arguments)]
-
 use std::ops::Range;
 
 use super::check::{check, survey, Survey};
 use super::layout::*;
 use super::space::{Purpose, Space};
+use crate::calls::Stamp;
 
 /// Turns a result into the number that a call answers.
 fn number(result: Result<(), u32>) -> u32 {
@@ -44,9 +42,7 @@ pub fn format(
     last_reserved: u16,
     anode_blocks: u16,
     name: &[u8],
-    day: u16,
-    minute: u16,
-    tick: u16,
+    stamp: Stamp,
     protection: u16,
 ) -> u32 {
     let Some(size) = disk_size(image) else {
@@ -63,9 +59,9 @@ pub fn format(
     image[..4].copy_from_slice(&DISK_TYPE);
     let root = block_mut(image, ROOT_BLOCK as u16);
     root[..4].copy_from_slice(&DISK_TYPE);
-    put_word(root, ROOT_DAY, day);
-    put_word(root, ROOT_MINUTE, minute);
-    put_word(root, ROOT_TICK, tick);
+    put_word(root, ROOT_DAY, stamp.day);
+    put_word(root, ROOT_MINUTE, stamp.minute);
+    put_word(root, ROOT_TICK, stamp.tick);
     put_word(root, ROOT_PROTECTION, protection);
     root[ROOT_NAME] = name.len() as u8;
     root[ROOT_NAME + 1..ROOT_NAME + 1 + name.len()].copy_from_slice(name);
@@ -235,27 +231,29 @@ pub fn list(
     number(result)
 }
 
-/// The bytes of a new entry of size 0, with its pad byte if it has one.
-struct NewEntry<'a> {
-    kind: u8,
-    anode: u16,
-    name: &'a [u8],
-    comment: &'a [u8],
-    day: u16,
-    minute: u16,
-    tick: u16,
-    protection: u8,
+/// What the caller of make settles of the new entry.
+pub struct NewEntry<'a> {
+    pub kind: u8,
+    pub name: &'a [u8],
+    pub comment: &'a [u8],
+    pub stamp: Stamp,
+    pub protection: u8,
 }
 
 impl NewEntry<'_> {
-    fn bytes(&self) -> Vec<u8> {
+    fn good(&self) -> bool {
+        good_type(self.kind) && good_name(self.name) && self.comment.len() <= LONGEST_COMMENT
+    }
+
+    /// The bytes of the entry with size 0, and with its pad byte if it has one.
+    fn bytes(&self, anode: u16) -> Vec<u8> {
         let length = entry_length(self.name.len(), self.comment.len());
         let mut bytes = vec![length as u8, self.kind];
-        bytes.extend(self.anode.to_be_bytes());
+        bytes.extend(anode.to_be_bytes());
         bytes.extend(0u32.to_be_bytes());
-        bytes.extend(self.day.to_be_bytes());
-        bytes.extend(self.minute.to_be_bytes());
-        bytes.extend(self.tick.to_be_bytes());
+        bytes.extend(self.stamp.day.to_be_bytes());
+        bytes.extend(self.stamp.minute.to_be_bytes());
+        bytes.extend(self.stamp.tick.to_be_bytes());
         bytes.push(self.protection);
         bytes.push(self.name.len() as u8);
         bytes.extend(self.name);
@@ -275,36 +273,24 @@ fn room(image: &[u8], table: &AnodeTable, directory: u16, length: usize) -> Opti
 }
 
 /// Makes an empty file or directory.
-pub fn make(
-    image: &mut [u8],
-    blocks: &mut [u16],
-    anodes: &mut [u16],
-    directory: u16,
-    kind: u8,
-    name: &[u8],
-    comment: &[u8],
-    day: u16,
-    minute: u16,
-    tick: u16,
-    protection: u8,
-) -> u32 {
+pub fn make(image: &mut [u8], blocks: &mut [u16], anodes: &mut [u16], directory: u16, new: &NewEntry) -> u32 {
     change(image, blocks, anodes, |image, survey| {
-        if !good_type(kind) || !good_name(name) || comment.len() > LONGEST_COMMENT {
+        if !new.good() {
             return Err(20);
         }
-        match find(image, &survey, directory, name) {
+        match find(image, &survey, directory, new.name) {
             Ok(_) => return Err(23),
             Err(22) => {}
             Err(number) => return Err(number),
         }
         let parent = survey.parents[usize::from(directory)].unwrap_or(0);
-        let length = entry_length(name.len(), comment.len());
+        let length = entry_length(new.name.len(), new.comment.len());
         let place = room(image, &survey.table, directory, length);
 
         let mut space = Space::new(survey.table, survey.last_reserved);
         let head = space.free_anode()?;
         space.table[head] = Anode::empty(0);
-        let own = match kind {
+        let own = match new.kind {
             DIRECTORY => Some(space.take(head, Purpose::Directory)?),
             _ => None,
         };
@@ -320,10 +306,9 @@ pub fn make(
         if let Some(block) = fresh {
             head_directory_block(image, block, directory, parent);
         }
-        let entry = NewEntry { kind, anode: head, name, comment, day, minute, tick, protection }.bytes();
         if let Some((number, at)) = place.or(fresh.map(|number| (number, FIRST_ENTRY))) {
             let bytes = block_mut(image, number);
-            bytes[at..at + length].copy_from_slice(&entry);
+            bytes[at..at + length].copy_from_slice(&new.bytes(head));
             bytes[at + length] = 0;
         }
         Ok(())

@@ -18,6 +18,6 @@ pub mod naive;
 mod space;
 mod totals;
 
-pub use calls::{format, list, make, read, remove, resize, summary, write};
+pub use calls::{format, list, make, read, remove, resize, summary, write, NewEntry};
 pub use check::{check, survey, Survey};
 pub use totals::{totals, Totals};

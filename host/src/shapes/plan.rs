@@ -7,8 +7,9 @@
 
 use std::collections::BTreeMap;
 
+use crate::calls::{DIRECTORY, FILE, ROOT};
 use crate::rng::Rng;
-use crate::tree::{Directory, Node, Tree, DIRECTORY, ENTRY_SPACE, FILE, ROOT};
+use crate::tree::{Directory, Node, Tree, ENTRY_SPACE};
 
 const SLOTS: usize = 42;
 const IN_BLOCK: usize = 82;
@@ -392,9 +393,7 @@ impl Plan {
             kind,
             anode,
             size,
-            day: rng.word(),
-            minute: rng.word(),
-            tick: rng.word(),
+            stamp: rng.stamp(),
             protection: rng.byte(),
             name: draft.name.clone(),
             comment: draft.comment.clone(),
@@ -684,9 +683,9 @@ impl Writer {
             self.put(number, at, &[node.length() as u8, node.kind]);
             self.put_number(number, at + 2, node.anode);
             self.put(number, at + 4, &node.size.to_be_bytes());
-            self.put_number(number, at + 8, node.day);
-            self.put_number(number, at + 10, node.minute);
-            self.put_number(number, at + 12, node.tick);
+            self.put_number(number, at + 8, node.stamp.day);
+            self.put_number(number, at + 10, node.stamp.minute);
+            self.put_number(number, at + 12, node.stamp.tick);
             self.put(number, at + 14, &[node.protection, node.name.len() as u8]);
             self.put(number, at + 16, &node.name);
             self.put(number, at + 16 + node.name.len(), &[node.comment.len() as u8]);

@@ -1,0 +1,2 @@
+-- Laws of the changes by name.
+pub mod Laws

@@ -1,0 +1,96 @@
+use Rattle.making.proofs.Steps.{first-ready, next-ready, first-stopped, next-stopped, both-taken}
+use borrow.Author.Needs.{needs}
+use Rattle.making.proofs.take_blocks.Statement.{statement}
+use Rattle.making.proofs.take_blocks.Tie as tie
+
+is-directory-requires : tie.Need-is-directory-requires
+is-directory-requires c κs = search needs
+
+take-needed-requires : tie.Need-take-needed-requires
+take-needed-requires c κs = ((search needs, search needs, search needs), first-ready (c .before .before .before .before .before .before .before .before .pre .1 .0) _ (c .before .before .before .before .before .before .before .before .pre .1 .1))
+
+enum-known-first : tie.Need-enum-known-first
+enum-known-first c = search needs
+
+enum-known-first-2 : tie.Need-enum-known-first-2
+enum-known-first-2 c = search needs
+
+same-length : tie.Need-same-length
+same-length c = search needs
+
+same-length-2 : tie.Need-same-length-2
+same-length-2 c = search needs
+
+same-length-3 : tie.Need-same-length-3
+same-length-3 c = search needs
+
+returns : tie.Need-returns
+returns c = first-stopped _ _ _ _ _ _ (c .before .first2 .given .0 .0) (rw (c .before .first2 .given .1, c .before .before .before .before .before .before .before .before .before .before .before .before .before .is-directory .ensures) at (c .before .before .before .before .before .before .before .before .before .take-needed .ensures))
+
+is-full-requires : tie.Need-is-full-requires
+is-full-requires c κs = search needs
+
+take-needed-requires-2 : tie.Need-take-needed-requires-2
+take-needed-requires-2 c κs = (
+  (search needs, search needs, search needs),
+  next-ready (c .before .before .before .before .before .before .before .before .before .before .before .before .before .before .before .before .before .before .before .before .before .before .pre .1 .0) _ (c .before .before .before .before .before .before .before .before .before .before .before .before .before .before .before .before .before .before .before .before .before .before .pre .1 .1) _ (c .before .before .before .before .before .first .given .0 .0) _ (rw (c .before .before .before .before .before .first .given .1) at (c .before .before .before .before .before .before .before .before .before .before .before .before .before .take-needed .ensures)),
+)
+
+enum-known-second : tie.Need-enum-known-second
+enum-known-second c = search needs
+
+enum-known-second-2 : tie.Need-enum-known-second-2
+enum-known-second-2 c = search needs
+
+same-length-4 : tie.Need-same-length-4
+same-length-4 c = search needs
+
+same-length-5 : tie.Need-same-length-5
+same-length-5 c = search needs
+
+same-length-6 : tie.Need-same-length-6
+same-length-6 c = search needs
+
+returns-2 : tie.Need-returns-2
+returns-2 c =
+    both-taken _ _ _ _ _ _ (c .before .before .before .before .before .before .before .before .before .before .before .before .before .before .before .first .given .0 .0) _ (rw (c .before .before .before .before .before .before .before .before .before .before .before .before .before .before .before .first .given .1, c .before .before .before .before .before .before .before .before .before .before .before .before .before .before .before .before .before .before .before .before .before .before .before .before .before .before .before .is-directory .ensures) at (c .before .before .before .before .before .before .before .before .before .before .before .before .before .before .before .before .before .before .before .before .before .before .before .take-needed .ensures))
+    (c .before .second .given .0 .0) _ (rw (c .before .second .given .1, c .before .before .before .before .before .before .before .before .before .before .before .before .before .is-full .ensures) at (c .before .before .before .before .before .before .before .before .before .take-needed2 .ensures))
+
+same-length-7 : tie.Need-same-length-7
+same-length-7 c = search needs
+
+same-length-8 : tie.Need-same-length-8
+same-length-8 c = search needs
+
+same-length-9 : tie.Need-same-length-9
+same-length-9 c = search needs
+
+returns-3 : tie.Need-returns-3
+returns-3 c =
+    next-stopped _ _ _ _ _ _ (c .before .before .before .before .before .before .before .before .before .before .before .before .before .before .before .first .given .0 .0) _ (rw (c .before .before .before .before .before .before .before .before .before .before .before .before .before .before .before .first .given .1, c .before .before .before .before .before .before .before .before .before .before .before .before .before .before .before .before .before .before .before .before .before .before .before .before .before .before .before .is-directory .ensures) at (c .before .before .before .before .before .before .before .before .before .before .before .before .before .before .before .before .before .before .before .before .before .before .before .take-needed .ensures))
+    (c .before .second2 .given .0 .0) (rw (c .before .second2 .given .1, c .before .before .before .before .before .before .before .before .before .before .before .before .before .is-full .ensures) at (c .before .before .before .before .before .before .before .before .before .take-needed2 .ensures))
+
+pub take-blocks-spec : {M : Type 1} → statement M
+take-blocks-spec =
+    tie.close
+    (tie.spec
+    is-directory-requires
+    take-needed-requires
+    enum-known-first
+    enum-known-first-2
+    same-length
+    same-length-2
+    same-length-3
+    returns
+    is-full-requires
+    take-needed-requires-2
+    enum-known-second
+    enum-known-second-2
+    same-length-4
+    same-length-5
+    same-length-6
+    returns-2
+    same-length-7
+    same-length-8
+    same-length-9
+    returns-3)

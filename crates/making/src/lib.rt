@@ -1,0 +1,258 @@
+// Makes an entry in a directory: a fresh head, a block of its own for a directory, a block for the parent where it has no room, then the entry.
+ghost use mathlib.Core.Bool.{true, false};
+ghost use mathlib.Core.List.{[], _∷_};
+ghost use mathlib.Core.Logic.{_≢_};
+ghost use mathlib.Core.Path.{_≡_};
+ghost use Prim.Native.Nat.{_<_, _≤_};
+ghost use lib.ListN.{length};
+ghost use Rattle.directory.specs.Entries.{goodName, goodComment};
+ghost use Rattle.rules.specs.Anodes.{anodesOf};
+ghost use Rattle.rules.specs.Walk.{isDir, reachedDirs};
+ghost use Rattle.rules.specs.Accepted.{wrongSize};
+ghost use Rattle.rules.specs.Lookup.{noDirectory};
+ghost use Rattle.rules.specs.Space.{rewritten};
+ghost use Rattle.rules.specs.Changes.{withBlocks, ownBlock, newDirectoryBlock, parentOf, entryPlace, made};
+ghost use Rattle.laws.specs.Heads.{Head};
+ghost use Rattle.laws.specs.OwnerTable.{setAll};
+ghost use Rattle.anodes.specs.Loaded.{anodesFrom};
+ghost use Rattle.changed.specs.Leaves.{Leaves, Loaded};
+ghost use Rattle.edits.specs.Entries.{newEntry, roomOf};
+ghost use Rattle.space.specs.Steps.{GoodAnodes};
+ghost use Rattle.making.specs.Steps.{Fresh, someBlock, neededPlan, noRoom, Took};
+use chains::show_heads;
+use directory::Kind;
+use directory::entry_len;
+use disk::AnodeNo;
+use disk::BlockNo;
+use disk::Refusal;
+use disk::number;
+use edits::Room;
+use edits::first_room;
+use edits::head_block;
+use edits::put_new_entry;
+use edits::store_anodes;
+use space::Step;
+use space::lowest_free;
+use space::take_block;
+use tables::copy_entries;
+use tables::set_entry;
+
+// The blocks that a make takes, 0 for none: the new directory's own and its parent's.
+struct NewBlocks {
+    own: BlockNo,
+    parents: BlockNo,
+}
+
+// What the steps of a make answer.
+enum Taken {
+    Both(NewBlocks),
+    Stopped(Refusal),
+}
+
+// Whether an entry is a directory's.
+fn is_directory(kind: Kind) -> bool
+    ensures { λ r. ⌜ r ≡ isDir kind ⌝ }
+{
+    match kind {
+        Kind::File => false,
+        Kind::Directory => true,
+    }
+}
+
+// Whether no block of the directory has room.
+fn is_full(room: Room) -> bool
+    ensures { λ r. ⌜ r ≡ noRoom (roomOf room) ⌝ }
+{
+    match room {
+        Room::At(_) => false,
+        Room::Nowhere => true,
+    }
+}
+
+// Copies the tables, with the free anode `f` as the head of a chain with no block.
+fn begin(
+    counts: &[u16],
+    firsts: &[u16],
+    nexts: &[u16],
+    f: usize,
+    new_counts: &mut [u16],
+    new_firsts: &mut [u16],
+    new_nexts: &mut [u16],
+)
+    requires { ⌜ (f < 3444) × (length (now counts) ≡ 3444) × (length (now firsts) ≡ 3444) × (length (now nexts) ≡ 3444) ⌝ }
+    requires { ⌜ (length (now «new_counts») ≡ 3444) × (length (now «new_firsts») ≡ 3444) × (length (now «new_nexts») ≡ 3444) ⌝ }
+    ensures { λ _. ⌜ anodesFrom (now («new_counts» .exit)) (now («new_firsts» .exit)) (now («new_nexts» .exit)) ≡ rewritten (anodesFrom (now (counts .entry)) (now (firsts .entry)) (now (nexts .entry))) f 0 65535 ⌝ }
+{
+    copy_entries(counts, new_counts);
+    copy_entries(firsts, new_firsts);
+    copy_entries(nexts, new_nexts);
+    set_entry(new_counts, f, 0);
+    set_entry(new_firsts, f, 65535);
+}
+
+// Takes a block for the directory that `head` heads, where it needs one; block 0 where it does not.
+fn take_needed(
+    image: &[u8],
+    needed: bool,
+    head: AnodeNo,
+    counts: &mut [u16],
+    firsts: &mut [u16],
+    nexts: &mut [u16],
+) -> Step
+    requires { ⌜ (length (now counts) ≡ 3444) × (length (now firsts) ≡ 3444) × (length (now nexts) ≡ 3444) ⌝ }
+    requires { ⌜ (wrongSize (now image) ≡ false) × GoodAnodes (now image) (anodesFrom (now counts) (now firsts) (now nexts)) ⌝ }
+    requires { ⌜ Head (anodesFrom (now counts) (now firsts) (now nexts) .next) (anodesFrom (now counts) (now firsts) (now nexts) .block) (head .0) × (head .0 ≢ 1) ⌝ }
+    ensures { λ r. ⌜ neededPlan r (anodesFrom (now (counts .exit)) (now (firsts .exit)) (now (nexts .exit))) ≡ ownBlock (now (image .entry)) needed (anodesFrom (now (counts .entry)) (now (firsts .entry)) (now (nexts .entry))) (head .0) ⌝ }
+{
+    if needed {
+        return take_block(image, true, head, counts, firsts, nexts);
+    }
+    Step::Moved(BlockNo(0))
+}
+
+// Takes the blocks of a make: one of its own for a directory that `fresh` heads, then one for its parent, where that has no room.
+fn take_blocks(
+    image: &[u8],
+    kind: Kind,
+    room: Room,
+    fresh: AnodeNo,
+    head: AnodeNo,
+    counts: &mut [u16],
+    firsts: &mut [u16],
+    nexts: &mut [u16],
+) -> Taken
+    requires { ⌜ (length (now counts) ≡ 3444) × (length (now firsts) ≡ 3444) × (length (now nexts) ≡ 3444) ⌝ }
+    requires { ⌜ Fresh (now image) (head .0) (fresh .0) × (anodesFrom (now counts) (now firsts) (now nexts) ≡ rewritten (anodesOf (now image)) (fresh .0) 0 65535) ⌝ }
+    ensures { λ r. ⌜ Took r (now (image .entry)) (isDir kind) (roomOf room) (fresh .0) (head .0) (anodesFrom (now (counts .entry)) (now (firsts .entry)) (now (nexts .entry))) (anodesFrom (now (counts .exit)) (now (firsts .exit)) (now (nexts .exit))) ⌝ }
+{
+    let first = take_needed(image, is_directory(kind), fresh, counts, firsts, nexts);
+    let own = match first {
+        Step::Moved(b) => b,
+        Step::Refused(r) => return Taken::Stopped(r),
+    };
+    let second = take_needed(image, is_full(room), head, counts, firsts, nexts);
+    match second {
+        Step::Moved(parents) => Taken::Both(NewBlocks { own, parents }),
+        Step::Refused(r) => Taken::Stopped(r),
+    }
+}
+
+// Makes block `b` a directory's new block, unless it is 0.
+fn head_new(image: &mut [u8], b: BlockNo, owner: AnodeNo, parent: AnodeNo)
+    ensures { λ _. ⌜ now (image .exit) ≡ withBlocks (now (image .entry)) (someBlock (b .0)) (newDirectoryBlock (owner .0) (parent .0)) ⌝ }
+{
+    if b.0 == 0 {
+        return;
+    }
+    head_block(image, b, owner, parent);
+}
+
+// Notes the owner of block `b` in the block table, unless it is 0.
+fn note_owner(blocks: &mut [u16], b: BlockNo, owner: AnodeNo)
+    ensures { λ _. ⌜ now (blocks .exit) ≡ setAll (now (blocks .entry)) (someBlock (b .0)) (owner .0) ⌝ }
+{
+    if b.0 == 0 {
+        return;
+    }
+    set_entry(blocks, b.0 as usize, owner.0);
+}
+
+// Where the entry goes: the room that was found, else the first place of the parent's new block.
+fn place_for(room: Room, parents: BlockNo) -> usize
+    ensures { λ r. ⌜ r ≡ entryPlace (roomOf room) (parents .0 ∷ []) ⌝ }
+{
+    match room {
+        Room::At(place) => place,
+        Room::Nowhere => (parents.0 as usize) * 512 + 16,
+    }
+}
+
+// Makes an entry in the directory that `head` heads, whose parent's head is `parent`; 27 and 28 leave everything as it was.
+pub fn make_entry(
+    image: &mut [u8],
+    blocks: &mut [u16],
+    anodes: &mut [u16],
+    counts: &[u16],
+    firsts: &[u16],
+    nexts: &[u16],
+    head: AnodeNo,
+    parent: AnodeNo,
+    kind: Kind,
+    name: &[u8],
+    comment: &[u8],
+    day: u16,
+    minute: u16,
+    tick: u16,
+    protection: u8,
+) -> u32
+    requires { ⌜ Loaded (now image) (now counts) (now firsts) (now nexts) × (3444 ≤ length (now anodes)) ⌝ }
+    requires { ⌜ (noDirectory (now image) (anodesOf (now image)) (head .0) ≡ false) × (parent .0 ≡ parentOf (reachedDirs (now image) (anodesOf (now image))) (head .0)) ⌝ }
+    requires { ⌜ (goodName (now name) ≡ true) × (goodComment (now comment) ≡ true) ⌝ }
+    ensures { λ r. ⌜ Leaves r (now (image .entry)) (now (blocks .entry)) (now (anodes .entry)) (now (image .exit)) (now (blocks .exit)) (now (anodes .exit)) (made (now (image .entry)) (anodesOf (now (image .entry))) (head .0) (newEntry kind (now (name .entry)) (now (comment .entry)) day minute tick protection)) ⌝ }
+{
+    let f = lowest_free(image, firsts);
+    if 3444 <= f {
+        return number(Refusal::NoFreeAnode);
+    }
+    let fresh = AnodeNo(f as u16);
+    let mut new_counts = [0u16; 3444];
+    let mut new_firsts = [0u16; 3444];
+    let mut new_nexts = [0u16; 3444];
+    begin(
+        counts,
+        firsts,
+        nexts,
+        f,
+        &mut new_counts,
+        &mut new_firsts,
+        &mut new_nexts,
+    );
+    let room = first_room(
+        image,
+        firsts,
+        nexts,
+        head,
+        entry_len(name.len() as u8, comment.len() as u8),
+    );
+    let taken = take_blocks(
+        image,
+        kind,
+        room,
+        fresh,
+        head,
+        &mut new_counts,
+        &mut new_firsts,
+        &mut new_nexts,
+    );
+    let new = match taken {
+        Taken::Both(b) => b,
+        Taken::Stopped(r) => return number(r),
+    };
+    store_anodes(
+        image,
+        counts,
+        firsts,
+        nexts,
+        &new_counts,
+        &new_firsts,
+        &new_nexts,
+    );
+    head_new(image, new.own, fresh, head);
+    head_new(image, new.parents, head, parent);
+    put_new_entry(
+        image,
+        place_for(room, new.parents),
+        kind,
+        fresh,
+        name,
+        comment,
+        day,
+        minute,
+        tick,
+        protection,
+    );
+    note_owner(blocks, new.own, fresh);
+    note_owner(blocks, new.parents, head);
+    show_heads(&new_firsts, &new_nexts, anodes);
+    0
+}

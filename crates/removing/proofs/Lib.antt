@@ -1,0 +1,2 @@
+-- Laws of a removal.
+pub mod Laws

@@ -1,0 +1,140 @@
+-- A resize by its plan: how much it asks for, and what it leaves of an accepted image and of its two tables.
+use Prim.Native.Nat.{ℕ, _+_, _-_, _<_, _≤_}
+use mathlib.Core.Path.{_≡_, sym, ap, _∙_}
+use mathlib.Core.Logic.{_≢_, _⊎_, inl, inr}
+use mathlib.Core.Bool.{false, cond}
+use mathlib.Core.List.{List, _++_}
+use native.Mathlib.Omega.{arith}
+use lib.Dec.{leb}
+use lib.ListN.{length, drop}
+use borrow.Author.Tests.{le-leb, lt-leb, lt-ltb, le-ltb}
+use Rattle.rules.specs.Anodes.{Anodes, limit, exists, anodesOf}
+use Rattle.rules.specs.Chains.{systemOwns, blockCount}
+use Rattle.rules.specs.Walk.{Entered, blocksFor}
+use Rattle.rules.specs.Accepted.{diskSize, wrongSize, lastReserved}
+use Rattle.rules.specs.Tables.{anodeTable}
+use Rattle.rules.specs.Space.{refused, planned, takeMany, giveMany}
+use Rattle.rules.specs.Format.{zeroBlock}
+use Rattle.rules.specs.Changes.{withBlocks, resizePlan, zeroTaken, resizedImage, resized}
+use Rattle.laws.specs.Tests.{less?}
+use Rattle.laws.specs.Links.{View, Linked}
+use Rattle.laws.specs.Heads.{Head}
+use Rattle.laws.specs.Whole.{blocks-count}
+use Rattle.laws.specs.Resize.{grow-ran, shrink-ran}
+use Rattle.laws.specs.OwnerTable.{setAll}
+use Rattle.laws.specs.GivenBlocks.{gives-blocks}
+use Rattle.changes.specs.Image.{headIn, sideIn, accepted-whole}
+use Rattle.changes.specs.ResizePlan.{plan-refused, plan-longer}
+use Rattle.changes.specs.ResizeStores.{PlannedResize, w, steps, resized-same, resized-anodes}
+use Rattle.anodes.specs.Loaded.{anodesFrom}
+use Rattle.tree.specs.Steps.{sumFrom}
+use Rattle.space.specs.declared.Moves.{Moves}
+use Rattle.space.specs.Steps.{manyPlan, GoodAnodes}
+use Rattle.changed.specs.Leaves.{Leaves, Loaded, ReachedEntry}
+use Rattle.changed.specs.Laws.{Shows, leaves-refused, shows-ran, leaves-done}
+use Rattle.changed.specs.Chains.{loaded-size, loaded-good, entry-known, entry-not-1, entry-head, count-less}
+
+module _ {img counts firsts nexts : List ℕ} (l : Loaded img counts firsts nexts) (e : Entered) (r : ReachedEntry img e) (size : ℕ) where
+  abbrev s : Anodes
+  s = anodesOf img
+
+  pub have-is : (have : ℕ) → have ≡ sumFrom counts nexts 3444 (e .anode) → have ≡ blockCount (anodesFrom counts firsts nexts) (e .anode)
+  unfolding sumFrom blockCount anodesFrom
+  have-is have q = q
+
+  -- the steps may be planned on copies of the tables
+  module _ (nc nf nn : List ℕ) (c : nc ≡ counts) (f : nf ≡ firsts) (n : nn ≡ nexts) where
+    pub plan-ready : (have : ℕ) → have ≡ sumFrom counts nexts 3444 (e .anode) → ((wrongSize img ≡ false) × GoodAnodes img (anodesFrom nc nf nn))
+        × (Head (anodesFrom nc nf nn .next) (anodesFrom nc nf nn .block) (e .anode) × (e .anode ≢ 1) × (have ≡ blockCount (anodesFrom nc nf nn) (e .anode)))
+    plan-ready have q = rw (c, f, n) ((loaded-size l, (headIn img, sideIn img, loaded-good l)), (entry-head l e r, entry-not-1 l e r, have-is have q))
+
+    -- and the plan is that of the image
+    pub plan-made : (want : ℕ) → want ≡ blocksFor size → (m : Moves) (t : Anodes) (moved : List ℕ) → manyPlan m t moved ≡ resizePlan img (anodesFrom nc nf nn) (e .anode) want →
+        (answer : Moves) → m ≡ answer → resizePlan img s (e .anode) (blocksFor size) ≡ manyPlan answer t moved
+    plan-made want q m t moved made answer i = sym (ap (λ (k : Moves). manyPlan k t moved) (sym i) ∙ made ∙ rw (c, f, n, q, l .is-loaded))
+
+  pub refused-leaves : (k : ℕ) → resizePlan img s (e .anode) (blocksFor size) ≡ refused k → (b a : List ℕ) → Leaves k img b a img b a (resized img s e size)
+  unfolding resized
+  refused-leaves k plan b a = rw plan (leaves-refused k (late (plan-refused img (accepted-whole img (diskSize img) limit (l .accepted) .good) (e .anode) (entry-known l e r .head) (entry-not-1 l e r) (blocksFor size) k plan)) img b a)
+    where
+      late : (k ≡ 27) ⊎ (k ≡ 28) → 17 ≤ k
+      late (inl i) = omega (arith, i)
+      late (inr i) = omega (arith, i)
+
+  module _ (file : e .dir ≡ false) (t : Anodes) (ys : List ℕ) (plan : resizePlan img s (e .anode) (blocksFor size) ≡ planned t ys) where
+    p : PlannedResize img e size t ys
+    p = record { blocks = diskSize img; anodes = limit; accepted = l .accepted; home = r .0; reached = r .1; member = r .2; file = file; plan = plan }
+
+    pub resized-view : View limit (t .next) (t .block)
+    resized-view = steps p .ran .good .view
+
+    pub resized-linked : Linked limit (t .next) (t .block)
+    resized-linked = steps p .ran .good .linked
+
+    asked-less : blocksFor size < 65535
+    asked-less =
+        let ran = steps p .ran in
+        let head = ran .shift .stays (e .anode) (entry-known l e r .head) in
+        omega (arith, ran .has, blocks-count (ran .good) (e .anode) head, count-less img (loaded-size l) t (ran .good) (e .anode) head)
+
+    -- the size fits the entry's field
+    pub size-fits : size < 4294967296
+    unfolding blocksFor
+    size-fits = omega (arith, asked-less)
+
+    -- fewer blocks changed hands than the table of moved blocks holds
+    pub moved-few : length ys < 65535
+    unfolding resizePlan
+    moved-few = elim (less? (blocksFor size) (blockCount s (e .anode))) [
+      | inl m ↦ omega (
+        arith,
+        gives-blocks (blockCount s (e .anode) - blocksFor size) (e .anode) (entry-not-1 l e r) t ys s (systemOwns img) (headIn img) (sideIn img) (w p .good) (entry-known l e r .head)
+            (rw (lt-leb (blockCount s (e .anode)) (blocksFor size) m) at plan) .1,
+        count-less img (loaded-size l) s (w p .good) (e .anode) (entry-known l e r .head),
+      )
+      | inr m ↦ omega (arith, asked-less, plan-longer img (w p .good) (e .anode) (entry-known l e r .head) (entry-not-1 l e r) (blocksFor size) t ys plan m .1)
+    ]
+
+    -- the moved blocks are the file's where it has not shrunk, else the free list's
+    owners-shown : (b rest : List ℕ) → Shows img s b rest → Shows img t (setAll b ys (cond (leb (blockCount s (e .anode)) (blocksFor size)) (e .anode) 1)) rest
+    unfolding resizePlan
+    owners-shown b rest q =
+        let h = e .anode in
+        let g = w p .good in
+        let d = entry-known l e r .head in
+        let h1 = entry-not-1 l e r in
+        let have = blockCount s h in
+        let want = blocksFor size in
+        elim (less? want have) [
+          | inl m ↦ rw (lt-leb have want m) (shows-ran img s t g (shrink-ran (have - want) h h1 t ys s (systemOwns img) (headIn img) (sideIn img) want (omega (arith, blocks-count g h d)) g d (rw (lt-leb have want m) at plan)) h1 b rest q)
+          | inr m ↦ rw (le-leb have want m) (shows-ran img s t g (grow-ran (want - have) h h1 false t ys s (systemOwns img) (headIn img) (sideIn img) g d (rw (le-leb have want m) at plan)) (λ i. h1 (sym i)) b rest q)
+        ]
+
+    pub done-leaves : (have want : ℕ) → have ≡ sumFrom counts nexts 3444 (e .anode) → want ≡ blocksFor size → (b a : List ℕ) →
+        Leaves 0 img b a (resizedImage img s e size t ys) (setAll b ys (cond (leb have want) (e .anode) 1)) (anodeTable t ++ drop limit a) (resized img s e size)
+    unfolding resized
+    done-leaves have want i q b a = rw (plan, have-is have i, l .is-loaded, q)
+        (leaves-done img (resizedImage img s e size t ys) (resized-same p) b a (setAll b ys (cond (leb (blockCount s (e .anode)) (blocksFor size)) (e .anode) 1)) (anodeTable t ++ drop limit a)
+        (λ rest o. rw (resized-anodes p) (owners-shown b rest o)) (rw (resized-anodes p)))
+
+-- ---- the plan by its two ways
+
+module _ (img : List ℕ) (s : Anodes) (h have want : ℕ) (is : have ≡ blockCount s h) where
+  pub plan-grows : have ≤ want → takeMany limit (exists img) (lastReserved img) false (want - have) s h ≡ resizePlan img s h want
+  unfolding resizePlan
+  plan-grows l = rw (← is, le-leb have want l)
+
+  pub plan-shrinks : want < have → giveMany limit (exists img) (lastReserved img) (have - want) s h ≡ resizePlan img s h want
+  unfolding resizePlan
+  plan-shrinks l = rw (← is, lt-leb have want l)
+
+-- ---- the blocks that a growing file takes
+
+module _ (img : List ℕ) (e : Entered) (new : ℕ) (ys : List ℕ) where
+  pub zeroed-some : e .size < new → withBlocks img ys zeroBlock ≡ zeroTaken img e new ys
+  unfolding zeroTaken
+  zeroed-some l = rw (lt-ltb (e .size) new l)
+
+  pub zeroed-none : new ≤ e .size → img ≡ zeroTaken img e new ys
+  unfolding zeroTaken
+  zeroed-none l = rw (le-ltb (e .size) new l)

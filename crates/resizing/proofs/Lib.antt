@@ -1,0 +1,2 @@
+-- Laws of a resize.
+pub mod Laws

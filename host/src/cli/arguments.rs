@@ -1,0 +1,125 @@
+//! The words of a command line, sorted into operands and options.
+
+use std::ffi::{OsStr, OsString};
+use std::str::FromStr;
+
+use super::help::Syntax;
+use super::{stamps, text, Failure};
+use crate::calls::Stamp;
+
+/// The operands and options of one command.
+pub struct Arguments {
+    command: &'static str,
+    operands: Vec<OsString>,
+    options: Vec<(&'static str, OsString)>,
+}
+
+impl Arguments {
+    /// Sorts the words after a command's name; nothing if they ask for help.
+    pub fn parse(syntax: &'static Syntax, words: &[OsString]) -> Result<Option<Self>, Failure> {
+        let mut found = Arguments { command: syntax.name, operands: Vec::new(), options: Vec::new() };
+        let mut words = words.iter();
+        while let Some(word) = words.next() {
+            let bytes = word.as_encoded_bytes();
+            if bytes == b"--" {
+                found.operands.extend(words.by_ref().cloned());
+            } else if bytes == b"--help" || bytes == b"-h" {
+                return Ok(None);
+            } else if bytes.starts_with(b"--") {
+                found.take_option(syntax, word, &mut words)?;
+            } else {
+                found.operands.push(word.clone());
+            }
+        }
+        if found.operands.len() < syntax.fewest() || found.operands.len() > syntax.operands.len() {
+            return Err(Failure::Trouble(format!("usage: {}", syntax.usage())));
+        }
+        Ok(Some(found))
+    }
+
+    /// An option, with its value after `=` or in the next word.
+    fn take_option<'a>(
+        &mut self,
+        syntax: &'static Syntax,
+        word: &OsString,
+        rest: &mut impl Iterator<Item = &'a OsString>,
+    ) -> Result<(), Failure> {
+        let unknown = || self.trouble(format!("{}: no such option", text::show_os(word)));
+        let Some(known) = word.to_str() else {
+            return Err(unknown());
+        };
+        if let Some(flag) = syntax.flags.iter().find(|&&flag| flag == known) {
+            self.options.push((flag, OsString::new()));
+            return Ok(());
+        }
+        let (name, value) = match known.split_once('=') {
+            Some((name, value)) => (name, Some(OsString::from(value))),
+            None => (known, None),
+        };
+        let Some(option) = syntax.options.iter().find(|&&option| option == name) else {
+            return Err(unknown());
+        };
+        match value.or_else(|| rest.next().cloned()) {
+            Some(value) => self.options.push((option, value)),
+            None => return Err(self.trouble(format!("{option}: no value"))),
+        }
+        Ok(())
+    }
+
+    /// Bad usage of this command.
+    pub fn trouble(&self, message: impl AsRef<str>) -> Failure {
+        let command = self.command;
+        Failure::Trouble(format!("{command}: {}; see pfs {command} --help", message.as_ref()))
+    }
+
+    /// An operand that must be there.
+    pub fn operand(&self, place: usize) -> &OsStr {
+        self.operands.get(place).map_or(OsStr::new(""), |operand| operand.as_os_str())
+    }
+
+    /// An operand that may be left out.
+    pub fn optional(&self, place: usize) -> Option<&OsStr> {
+        self.operands.get(place).map(OsString::as_os_str)
+    }
+
+    pub fn has(&self, option: &str) -> bool {
+        self.value(option).is_some()
+    }
+
+    /// The value of an option; the last one counts.
+    pub fn value(&self, option: &str) -> Option<&OsStr> {
+        self.options.iter().rev().find(|(name, _)| *name == option).map(|(_, value)| value.as_os_str())
+    }
+
+    /// The bytes of an option's value, none if it is not given.
+    pub fn bytes(&self, option: &str) -> Vec<u8> {
+        self.value(option).map_or(Vec::new(), |value| value.as_encoded_bytes().to_vec())
+    }
+
+    /// An option that is a number.
+    pub fn number<N: FromStr>(&self, option: &str, default: N) -> Result<N, Failure> {
+        let Some(value) = self.value(option) else {
+            return Ok(default);
+        };
+        self.parsed(value).ok_or_else(|| self.trouble(format!("{option}: not a number that fits")))
+    }
+
+    fn parsed<N: FromStr>(&self, word: &OsStr) -> Option<N> {
+        word.to_str()?.parse().ok()
+    }
+
+    /// An operand that is a number.
+    pub fn number_operand(&self, place: usize) -> Result<u64, Failure> {
+        let word = self.operand(place);
+        self.parsed(word).ok_or_else(|| self.trouble(format!("{}: not a number", text::show_os(word))))
+    }
+
+    /// The option `--date`, or the clock.
+    pub fn stamp(&self) -> Result<Stamp, Failure> {
+        let Some(value) = self.value("--date") else {
+            return Ok(stamps::now());
+        };
+        let stamp = value.to_str().and_then(stamps::parse);
+        stamp.ok_or_else(|| self.trouble("--date: not a date from 1978-01-01 to 2157-06-06"))
+    }
+}

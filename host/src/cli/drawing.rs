@@ -1,0 +1,143 @@
+//! Who owns each block of a disk, and the drawing of it as text.
+
+use std::collections::{HashMap, HashSet};
+
+use super::paths::Path;
+use super::{walk, Failure};
+use crate::calls::{Library, BLOCK, ROOT};
+use crate::disk::{Disk, Kind, Owner};
+
+/// What a block is used for.
+#[derive(Clone, Copy, Debug, PartialEq, Eq)]
+pub enum Use {
+    Free,
+    File,
+    Directory,
+    AnodeBlock,
+    Start,
+    ToBeFreed,
+    Bad,
+}
+
+/// Each use with its letter in the map, its name and its colour.
+pub const USES: [(Use, char, &str, &str); 7] = [
+    (Use::Free, '.', "free", "#eeeeee"),
+    (Use::File, 'F', "files", "#4c78a8"),
+    (Use::Directory, 'D', "directories", "#f2a900"),
+    (Use::AnodeBlock, 'A', "anode blocks", "#54a24b"),
+    (Use::Start, 'S', "start blocks", "#555555"),
+    (Use::ToBeFreed, '-', "to be freed", "#b9a6d6"),
+    (Use::Bad, 'X', "bad", "#d62728"),
+];
+
+impl Use {
+    fn row(self) -> &'static (Use, char, &'static str, &'static str) {
+        USES.iter().find(|row| row.0 == self).unwrap_or(&USES[0])
+    }
+
+    pub fn letter(self) -> char {
+        self.row().1
+    }
+
+    pub fn name(self) -> &'static str {
+        self.row().2
+    }
+
+    pub fn colour(self) -> &'static str {
+        self.row().3
+    }
+}
+
+/// The blocks of a disk.
+pub struct Plan {
+    /// The use of each block, and its owner.
+    pub blocks: Vec<(Use, Owner)>,
+    /// The paths of files and directories by the heads of their chains.
+    pub paths: HashMap<u16, String>,
+    /// The last block of the part where directories go first.
+    pub last_reserved: u16,
+}
+
+/// A run of blocks with one owner.
+pub struct Run {
+    pub start: usize,
+    pub count: usize,
+    pub used: Use,
+    pub owner: Owner,
+}
+
+/// Where the image holds last reserved, in two bytes, the higher one first.
+const LAST_RESERVED: usize = 2 * BLOCK + 54;
+
+impl Plan {
+    pub fn of<L: Library>(disk: &mut Disk<L>) -> Result<Plan, Failure> {
+        let all = walk::below(disk, &Path::default())?;
+        let directories = all.iter().filter(|found| found.entry.kind == Kind::Directory);
+        let directories: HashSet<u16> = directories.map(|found| found.entry.anode).chain([ROOT]).collect();
+        let mut paths: HashMap<u16, String> =
+            all.iter().map(|found| (found.entry.anode, found.path.to_string())).collect();
+        paths.insert(ROOT, Path::default().to_string());
+        let used = |owner: Owner| match owner {
+            Owner::Start => Use::Start,
+            Owner::AnodeBlock => Use::AnodeBlock,
+            Owner::Free => Use::Free,
+            Owner::ToBeFreed => Use::ToBeFreed,
+            Owner::Bad => Use::Bad,
+            Owner::Entry(head) if directories.contains(&head) => Use::Directory,
+            Owner::Entry(_) => Use::File,
+        };
+        let blocks = disk.owners().map(|owner| (used(owner), owner)).collect();
+        let image = disk.image();
+        let last_reserved = u16::from_be_bytes([image[LAST_RESERVED], image[LAST_RESERVED + 1]]);
+        Ok(Plan { blocks, paths, last_reserved })
+    }
+
+    pub fn count(&self, used: Use) -> usize {
+        self.blocks.iter().filter(|block| block.0 == used).count()
+    }
+
+    /// The runs of blocks with one owner, cut at every multiple of `width`.
+    pub fn runs(&self, width: usize) -> Vec<Run> {
+        let mut runs: Vec<Run> = Vec::new();
+        for (start, &(used, owner)) in self.blocks.iter().enumerate() {
+            match runs.last_mut() {
+                Some(run) if run.owner == owner && !start.is_multiple_of(width) => run.count += 1,
+                _ => runs.push(Run { start, count: 1, used, owner }),
+            }
+        }
+        runs
+    }
+
+    /// Who owns a run: a path, or what it is used for.
+    pub fn owner(&self, run: &Run) -> &str {
+        match run.owner {
+            Owner::Entry(head) => self.paths.get(&head).map_or(run.used.name(), String::as_str),
+            _ => run.used.name(),
+        }
+    }
+
+    /// A letter for each block, in rows; a bar behind the last reserved block.
+    pub fn text(&self, width: usize) -> String {
+        let mut text = String::new();
+        for (row, blocks) in self.blocks.chunks(width).enumerate() {
+            text += &format!("{:5} ", row * width);
+            for (column, block) in blocks.iter().enumerate() {
+                text.push(block.0.letter());
+                if row * width + column == usize::from(self.last_reserved) {
+                    text.push('|');
+                }
+            }
+            text.push('\n');
+        }
+        text
+    }
+
+    /// The runs with their owners, a line each.
+    pub fn owners(&self) -> String {
+        let line = |run: &Run| {
+            let last = run.start + run.count - 1;
+            format!("{:5} - {last:5}  {}  {}\n", run.start, run.used.letter(), self.owner(run))
+        };
+        self.runs(usize::MAX).iter().map(line).collect()
+    }
+}

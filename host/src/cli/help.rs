@@ -1,0 +1,184 @@
+//! The commands, what they take, and what is said about them.
+
+/// What a command takes.
+pub struct Syntax {
+    pub name: &'static str,
+    /// The operands as in the usage line; those in brackets may be left out.
+    pub operands: &'static [&'static str],
+    /// Options without a value.
+    pub flags: &'static [&'static str],
+    /// Options with a value.
+    pub options: &'static [&'static str],
+    pub short: &'static str,
+    pub long: &'static str,
+}
+
+impl Syntax {
+    pub fn fewest(&self) -> usize {
+        self.operands.iter().filter(|operand| !operand.starts_with('[')).count()
+    }
+
+    pub fn usage(&self) -> String {
+        let options = match self.flags.len() + self.options.len() {
+            0 => "",
+            _ => " [OPTIONS]",
+        };
+        format!("pfs {} {}{options}", self.name, self.operands.join(" "))
+    }
+}
+
+/// The options of commands that make an entry.
+pub const NEW_ENTRY: &[&str] = &["--comment", "--protection", "--date"];
+
+/// What is said about them.
+macro_rules! new_entry {
+    () => {
+        "
+
+  --comment TEXT  up to 79 bytes
+  --protection N  the byte of protection bits, 0 if not given
+  --date D        as YYYY-MM-DD or YYYY-MM-DDTHH:MM:SS; the clock's date and time (UTC) if not given"
+    };
+}
+
+pub const COMMANDS: [Syntax; 13] = [
+    Syntax {
+        name: "info",
+        operands: &["DISK"],
+        flags: &[],
+        options: &[],
+        short: "size, free blocks, files and directories",
+        long: "Prints the disk's blocks and bytes, its free blocks, files and directories (with the root), and its anodes in use.",
+    },
+    Syntax {
+        name: "check",
+        operands: &["DISK"],
+        flags: &[],
+        options: &[],
+        short: "whether the disk is sound",
+        long: "Prints 0 for a sound disk, else the number of the first rule that it breaks, and in words what it means.",
+    },
+    Syntax {
+        name: "ls",
+        operands: &["DISK", "[PATH]"],
+        flags: &[],
+        options: &[],
+        short: "the entries of a directory",
+        long: "Prints each entry's type, size, protection, date and time, name and comment; of the root without PATH. If PATH is a file, prints that entry.",
+    },
+    Syntax {
+        name: "tree",
+        operands: &["DISK", "[PATH]"],
+        flags: &[],
+        options: &[],
+        short: "all directories and files below one",
+        long: "Prints the directories and files below PATH, or of the whole disk, with the sizes of files.",
+    },
+    Syntax {
+        name: "cat",
+        operands: &["DISK", "PATH"],
+        flags: &[],
+        options: &[],
+        short: "print a file",
+        long: "Writes the bytes of a file to standard output.",
+    },
+    Syntax {
+        name: "get",
+        operands: &["DISK", "PATH", "[FILE]"],
+        flags: &["--force"],
+        options: &[],
+        short: "copy a file from the disk",
+        long: "Copies a file of the disk to FILE, or to a file of the same name in this folder.
+
+  --force         replace FILE if it is there",
+    },
+    Syntax {
+        name: "put",
+        operands: &["DISK", "FILE", "[PATH]"],
+        flags: &[],
+        options: NEW_ENTRY,
+        short: "copy a file onto the disk",
+        long: concat!("Copies FILE (- is standard input) to PATH, or into PATH if that is a directory, or into the root. A file that is
+there already gets the new size and bytes and keeps its date, protection and comment. The disk file changes only
+if all of it is done.", new_entry!()),
+    },
+    Syntax {
+        name: "mkdir",
+        operands: &["DISK", "PATH"],
+        flags: &[],
+        options: NEW_ENTRY,
+        short: "make a directory",
+        long: concat!("Makes an empty directory.", new_entry!()),
+    },
+    Syntax {
+        name: "rm",
+        operands: &["DISK", "PATH"],
+        flags: &[],
+        options: &[],
+        short: "remove a file or an empty directory",
+        long: "Removes a file or an empty directory.",
+    },
+    Syntax {
+        name: "resize",
+        operands: &["DISK", "PATH", "SIZE"],
+        flags: &[],
+        options: &[],
+        short: "give a file another size",
+        long: "Gives a file a size in bytes. Bytes that come new are 0.",
+    },
+    Syntax {
+        name: "format",
+        operands: &["DISK"],
+        flags: &["--force"],
+        options: &["--blocks", "--reserved", "--anode-blocks", "--name", "--protection", "--date"],
+        short: "make an empty disk",
+        long: "Makes a file with an empty disk.
+
+  --blocks N        512-byte blocks, 5 to 65535; 1760 if not given, or as many as DISK has
+  --reserved L      last block of the part where directories go first; 63 of 1760 blocks, and that share of others
+  --anode-blocks K  1 to 42; one for each 880 blocks if not given
+  --name NAME       1 to 31 bytes; the file's name without its ending if not given
+  --protection N    the disk's protection bits, 0 if not given
+  --date D          as YYYY-MM-DD or YYYY-MM-DDTHH:MM:SS; the clock's date and time (UTC) if not given
+  --force           replace DISK if it is there; all that it holds is lost",
+    },
+    Syntax {
+        name: "df",
+        operands: &["DISK"],
+        flags: &[],
+        options: &[],
+        short: "how many blocks are used for what",
+        long: "Prints how many blocks, bytes and percent of the disk are free, in files, in directories, anode blocks, start
+blocks, to be freed, and bad.",
+    },
+    Syntax {
+        name: "map",
+        operands: &["DISK"],
+        flags: &["--svg", "--owners"],
+        options: &[],
+        short: "who owns each block",
+        long: "Draws the disk block by block: . free, F file, D directory, A anode block, S start block, - to be freed, X bad.
+A bar stands behind the last reserved block.
+
+  --owners        list the runs of blocks with their owners
+  --svg           write a picture (SVG) to standard output",
+    },
+];
+
+/// The help of the whole program.
+pub fn whole() -> String {
+    let mut help = String::from("pfs COMMAND DISK ...: PFS floppy disks in image files\n\n");
+    for syntax in &COMMANDS {
+        help += &format!("  {:<8}{}\n", syntax.name, syntax.short);
+    }
+    help + "
+`pfs COMMAND --help` tells more. PATH is like recipes/pack7; in it, \\xNN is any byte and \\\\ a backslash.
+Exit status: 0 done, 1 refused by the disk's rules, 2 bad usage or a file that cannot be read or written.
+A command that changes a disk replaces the disk file as a whole, or leaves it as it was.
+"
+}
+
+/// The help of one command.
+pub fn one(syntax: &Syntax) -> String {
+    format!("usage: {}\n\n{}\n", syntax.usage(), syntax.long)
+}

@@ -1,0 +1,46 @@
+//! `put`: makes, resizes and writes a file, or does nothing.
+
+use std::ffi::OsStr;
+use std::path;
+
+use super::arguments::Arguments;
+use super::paths::Path;
+use super::store;
+use super::{help, refused, Done, Failure};
+use crate::calls::Library;
+use crate::disk::{Disk, New};
+
+/// Where the file goes: to the path, or under its own name into the directory that the path names. With a slash at
+/// its end a path can only be a directory's.
+fn target<L: Library>(disk: &mut Disk<L>, file: &OsStr, word: &OsStr) -> Result<Path, Failure> {
+    let path = Path::parse(word)?;
+    if !word.as_encoded_bytes().ends_with(b"/") && !path.is_directory(disk) {
+        return Ok(path);
+    }
+    match path::Path::new(file).file_name() {
+        Some(name) if file != "-" => Ok(path.join(name.as_encoded_bytes())),
+        _ => Err(Failure::trouble("put: what has no name of its own needs a PATH that is no directory")),
+    }
+}
+
+pub fn put<L: Library>(arguments: &Arguments) -> Done {
+    let file = arguments.operand(1);
+    let word = arguments.optional(2).unwrap_or(OsStr::new("/"));
+    let comment = arguments.bytes("--comment");
+    let (stamp, protection) = (arguments.stamp()?, arguments.number("--protection", 0)?);
+    let bytes = store::read(file)?;
+    store::change(arguments.operand(0), |disk: &mut Disk<L>| {
+        let path = target(disk, file, word)?;
+        let (directory, name) = path.place(disk)?;
+        let new = New { comment: &comment, stamp, protection, ..New::file(name) };
+        if disk.find(directory, name).is_err() {
+            disk.make(directory, &new).map_err(refused(&path))?;
+        } else if help::NEW_ENTRY.iter().any(|option| arguments.has(option)) {
+            return Err(
+                arguments.trouble(format!("{path}: there already, and keeps its comment, bits and date"))
+            );
+        }
+        disk.resize(directory, name, bytes.len() as u64).map_err(refused(&path))?;
+        disk.write(directory, name, 0, &bytes).map_err(refused(&path))
+    })
+}

@@ -1,0 +1,142 @@
+//! Stamps as dates: days since 1 January 1978, minutes of the day, ticks of 1/50 second.
+
+use std::time::{SystemTime, UNIX_EPOCH};
+
+use crate::calls::Stamp;
+
+const FIRST_YEAR: u32 = 1978;
+/// Days from 1 January 1970 to 1 January 1978.
+const UNIX_DAYS: u64 = 2_922;
+const TICKS_IN_SECOND: u64 = 50;
+
+fn days_of_year(year: u32) -> u32 {
+    let leap = year.is_multiple_of(4) && (!year.is_multiple_of(100) || year.is_multiple_of(400));
+    365 + u32::from(leap)
+}
+
+fn days_of_month(year: u32, month: u32) -> u32 {
+    match month {
+        2 => days_of_year(year) - 337,
+        4 | 6 | 9 | 11 => 30,
+        _ => 31,
+    }
+}
+
+/// Year, month and day of a day number.
+fn date(day: u16) -> (u32, u32, u32) {
+    let (mut year, mut month, mut left) = (FIRST_YEAR, 1, u32::from(day));
+    while left >= days_of_year(year) {
+        left -= days_of_year(year);
+        year += 1;
+    }
+    while left >= days_of_month(year, month) {
+        left -= days_of_month(year, month);
+        month += 1;
+    }
+    (year, month, left + 1)
+}
+
+/// The day number of a date; nothing if there is no such date, or no number for it.
+fn day_number(year: u32, month: u32, day: u32) -> Option<u16> {
+    if !(FIRST_YEAR..=2_200).contains(&year) || !(1..=12).contains(&month) {
+        return None;
+    }
+    if !(1..=days_of_month(year, month)).contains(&day) {
+        return None;
+    }
+    let years: u32 = (FIRST_YEAR..year).map(days_of_year).sum();
+    let months: u32 = (1..month).map(|month| days_of_month(year, month)).sum();
+    u16::try_from(years + months + day - 1).ok()
+}
+
+/// A stamp as `YYYY-MM-DD HH:MM:SS.CC`; minutes and ticks that no clock shows are printed as they are.
+pub fn show(stamp: Stamp) -> String {
+    let Stamp { day, minute, tick } = stamp;
+    let (year, month, day) = date(day);
+    let time = match (minute, tick) {
+        (0..=1_439, 0..=2_999) => {
+            format!("{:02}:{:02}:{:02}.{:02}", minute / 60, minute % 60, tick / 50, tick % 50 * 2)
+        }
+        _ => format!("{minute}m {tick}t"),
+    };
+    format!("{year}-{month:02}-{day:02} {time:<11}")
+}
+
+/// `YYYY-MM-DD`, with `THH:MM` or `THH:MM:SS` behind it.
+pub fn parse(text: &str) -> Option<Stamp> {
+    let (date, time) = text.split_once(['T', ' ']).unwrap_or((text, "0:0"));
+    let [year, month, day] = numbers(date, '-')?[..] else {
+        return None;
+    };
+    let (hour, minute, second) = match numbers(time, ':')?[..] {
+        [hour, minute] => (hour, minute, 0),
+        [hour, minute, second] => (hour, minute, second),
+        _ => return None,
+    };
+    if hour > 23 || minute > 59 || second > 59 {
+        return None;
+    }
+    Some(Stamp::new(day_number(year, month, day)?, (hour * 60 + minute) as u16, (second * 50) as u16))
+}
+
+fn numbers(text: &str, between: char) -> Option<Vec<u32>> {
+    let number = |word: &str| match word.bytes().all(|byte| byte.is_ascii_digit()) {
+        true => word.parse().ok(),
+        false => None,
+    };
+    text.split(between).map(number).collect()
+}
+
+/// The clock's date and time, UTC. Before 1978 it is the first stamp, after the last day the last one.
+pub fn now() -> Stamp {
+    let since = SystemTime::now().duration_since(UNIX_EPOCH).unwrap_or_default();
+    let (days, seconds) = (since.as_secs() / 86_400, since.as_secs() % 86_400);
+    let part = u64::from(since.subsec_millis()) * TICKS_IN_SECOND / 1_000;
+    let tick = seconds % 60 * TICKS_IN_SECOND + part;
+    let day = u16::try_from(days.saturating_sub(UNIX_DAYS)).unwrap_or(u16::MAX);
+    Stamp::new(day, (seconds / 60) as u16, tick as u16)
+}
+
+#[cfg(test)]
+mod tests {
+    use super::*;
+
+    #[test]
+    fn days_and_dates() {
+        for (day, shown) in [(0, "1978-01-01"), (58, "1978-02-28"), (59, "1978-03-01"), (789, "1980-02-29")] {
+            assert_eq!(&show(Stamp::new(day, 0, 0))[..10], shown);
+        }
+        assert_eq!(show(Stamp::new(65_535, 1_439, 2_999)), "2157-06-06 23:59:59.98");
+        assert_eq!(show(Stamp::new(0, 1_440, 3_000)), "1978-01-01 1440m 3000t");
+        for day in 0..=u16::MAX {
+            let stamp = Stamp::new(day, 0, 0);
+            assert_eq!(parse(&show(stamp)[..10]), Some(stamp));
+        }
+    }
+
+    #[test]
+    fn dates_that_are_none() {
+        assert_eq!(parse("1978-01-02T01:02:03"), Some(Stamp::new(1, 62, 150)));
+        assert_eq!(parse("2000-02-29T23:59"), Some(Stamp::new(8_094, 1_439, 0)));
+        for bad in [
+            "",
+            "1978",
+            "1977-12-31",
+            "2157-06-07",
+            "1999-02-29",
+            "1978-13-01",
+            "1978-01-00",
+            "1978-01-01T24:00",
+        ] {
+            assert_eq!(parse(bad), None, "{bad}");
+        }
+        for bad in ["1978-01-01T1", "1978-01-01T1:2:3:4", "1978-01-+1", "1978-01-01T00:60", "x-y-z"] {
+            assert_eq!(parse(bad), None, "{bad}");
+        }
+    }
+
+    #[test]
+    fn the_clock_gives_a_stamp() {
+        assert!(now().day > 0 && now().minute < 1_440 && now().tick < 3_000);
+    }
+}

@@ -1,0 +1,59 @@
+//! The map of a disk as a picture.
+
+use super::drawing::{Plan, Run, USES};
+
+/// A block is a square of this many units.
+const CELL: usize = 8;
+/// Room above the blocks for the legend.
+const TOP: usize = 28;
+
+/// The picture. Each run of blocks names its owner when it is pointed at.
+pub fn picture(plan: &Plan) -> String {
+    let width = if plan.blocks.len() <= 4_096 { 64 } else { 256 };
+    let rows = plan.blocks.len().div_ceil(width);
+    let (across, down) = (width * CELL, TOP + rows * CELL);
+    let mut svg = format!("<svg xmlns=\"http://www.w3.org/2000/svg\" viewBox=\"0 0 {across} {down}\" width=\"{across}\" height=\"{down}\">\n");
+    svg += &legend(plan);
+    for run in plan.runs(width) {
+        svg += &rectangle(plan, &run, width);
+    }
+    svg += &boundary(usize::from(plan.last_reserved) + 1, width);
+    svg + "</svg>\n"
+}
+
+/// A square of each colour with its name and count, in two rows of four.
+fn legend(plan: &Plan) -> String {
+    let mut legend = String::from("<g font-family=\"sans-serif\" font-size=\"10\">\n");
+    for (place, (used, _, name, colour)) in USES.iter().enumerate() {
+        let (x, y) = (place % 4 * 124, place / 4 * 14);
+        legend += &format!("<rect x=\"{x}\" y=\"{y}\" width=\"10\" height=\"10\" fill=\"{colour}\"/>");
+        legend += &format!("<text x=\"{}\" y=\"{}\">{name} {}</text>\n", x + 14, y + 9, plan.count(*used));
+    }
+    legend + "</g>\n"
+}
+
+fn rectangle(plan: &Plan, run: &Run, width: usize) -> String {
+    let (x, y) = (run.start % width * CELL, TOP + run.start / width * CELL);
+    let last = run.start + run.count - 1;
+    format!(
+        "<rect x=\"{x}\" y=\"{y}\" width=\"{}\" height=\"{CELL}\" fill=\"{}\" stroke=\"#ffffff\" stroke-width=\"0.5\"><title>{} to {last}: {}</title></rect>\n",
+        run.count * CELL,
+        run.used.colour(),
+        run.start,
+        escaped(plan.owner(run)),
+    )
+}
+
+/// A line before a block: along the top of the rest of its row, down, and below the row's beginning.
+fn boundary(block: usize, width: usize) -> String {
+    let (x, y) = (block % width * CELL, TOP + block / width * CELL);
+    format!(
+        "<path d=\"M{} {y} H{x} V{} H0\" fill=\"none\" stroke=\"#000000\" stroke-width=\"2\"><title>behind last reserved</title></path>\n",
+        width * CELL,
+        y + CELL,
+    )
+}
+
+fn escaped(text: &str) -> String {
+    text.replace('&', "&amp;").replace('<', "&lt;").replace('>', "&gt;")
+}

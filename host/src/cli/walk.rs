@@ -1,0 +1,34 @@
+//! All that a disk holds, by list calls.
+
+use super::paths::Path;
+use super::{refused, Failure};
+use crate::calls::Library;
+use crate::disk::{Disk, Entry, Kind};
+
+/// An entry and where it is.
+pub struct Found {
+    pub path: Path,
+    pub entry: Entry,
+}
+
+/// The entries of one directory.
+pub fn entries<L: Library>(disk: &mut Disk<L>, path: &Path, directory: u16) -> Result<Vec<Found>, Failure> {
+    let found = |entry: Entry| Found { path: path.join(&entry.name), entry };
+    disk.list(directory).map(|entry| entry.map(found)).collect::<Result<_, _>>().map_err(refused(path))
+}
+
+/// All entries below a directory; each directory is followed by what is in it.
+pub fn below<L: Library>(disk: &mut Disk<L>, path: &Path) -> Result<Vec<Found>, Failure> {
+    let directory = path.directory(disk)?;
+    let mut waiting = entries(disk, path, directory)?;
+    waiting.reverse();
+    let mut all = Vec::new();
+    while let Some(found) = waiting.pop() {
+        if found.entry.kind == Kind::Directory {
+            let inside = entries(disk, &found.path, found.entry.anode)?;
+            waiting.extend(inside.into_iter().rev());
+        }
+        all.push(found);
+    }
+    Ok(all)
+}

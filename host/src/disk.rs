@@ -1,0 +1,365 @@
+//! A disk with its tables, behind safe methods.
+
+use std::marker::PhantomData;
+
+use crate::calls::{run, Call, Library, Output, Stamp, ANODES, BLOCK, DIRECTORY, FILE};
+pub use crate::refusals::Error;
+
+/// A disk image and the two tables that the calls fill, over any [`Library`].
+///
+/// Every method but [`Disk::new`] is one call of the library, and every call but format checks the whole image
+/// first. A refused call leaves the image as it was.
+///
+/// The example runs on the model; with the feature `proved`, `Disk<ffi::Proved>` is the same over the proved
+/// library.
+///
+/// ```
+/// use ovenknit_host::calls::{Model, Stamp, ROOT};
+/// use ovenknit_host::disk::{Disk, Entry, Format, Kind, New};
+///
+/// # fn main() -> Result<(), ovenknit_host::disk::Error> {
+/// let mut disk = Disk::<Model>::format(1_760, &Format::new(63, 2, b"bench 4"))?;
+/// disk.make(ROOT, &New { stamp: Stamp::new(17_000, 600, 0), ..New::directory(b"recipes") })?;
+///
+/// let recipes = disk.find(ROOT, b"recipes")?.anode;
+/// disk.make(recipes, &New::file(b"pack7"))?;
+/// disk.resize(recipes, b"pack7", 6)?;
+/// disk.write(recipes, b"pack7", 0, b"180 C\n")?;
+///
+/// assert_eq!(disk.read(recipes, b"pack7", 0, 6)?, b"180 C\n");
+/// let entries: Vec<Entry> = disk.list(recipes).collect::<Result<_, _>>()?;
+/// assert_eq!((entries[0].name.as_slice(), entries[0].kind, entries[0].size), (&b"pack7"[..], Kind::File, 6));
+///
+/// let full = disk.resize(recipes, b"pack7", 1 << 20).unwrap_err();
+/// assert_eq!((full.number(), full.words()), (27, "no block is free"));
+/// let summary = disk.summary()?;
+/// assert_eq!((summary.blocks, summary.free, summary.files, summary.directories), (1_760, 1_752, 1, 2));
+/// # Ok(())
+/// # }
+/// ```
+pub struct Disk<L: Library> {
+    image: Vec<u8>,
+    blocks: Vec<u16>,
+    anodes: Vec<u16>,
+    library: PhantomData<L>,
+}
+
+/// What a new disk is made with.
+#[derive(Clone, Debug)]
+pub struct Format<'a> {
+    /// The last block of the part where directories are put first.
+    pub last_reserved: u16,
+    /// How many blocks hold anodes, 1 to 42; each holds 82.
+    pub anode_blocks: u16,
+    /// The disk's name, 1 to 31 bytes.
+    pub name: &'a [u8],
+    pub stamp: Stamp,
+    pub protection: u16,
+}
+
+impl<'a> Format<'a> {
+    /// With no date and no protection.
+    pub fn new(last_reserved: u16, anode_blocks: u16, name: &'a [u8]) -> Self {
+        Format { last_reserved, anode_blocks, name, stamp: Stamp::default(), protection: 0 }
+    }
+}
+
+/// What an entry is.
+#[derive(Clone, Copy, Debug, PartialEq, Eq)]
+pub enum Kind {
+    File,
+    Directory,
+}
+
+/// A new entry.
+#[derive(Clone, Debug)]
+pub struct New<'a> {
+    pub kind: Kind,
+    /// 1 to 107 bytes without 0, `:` and `/`.
+    pub name: &'a [u8],
+    /// Up to 79 bytes.
+    pub comment: &'a [u8],
+    pub stamp: Stamp,
+    pub protection: u8,
+}
+
+impl<'a> New<'a> {
+    fn of(kind: Kind, name: &'a [u8]) -> Self {
+        New { kind, name, comment: b"", stamp: Stamp::default(), protection: 0 }
+    }
+
+    /// A file with no comment, date and protection.
+    pub fn file(name: &'a [u8]) -> Self {
+        New::of(Kind::File, name)
+    }
+
+    /// A directory with no comment, date and protection.
+    pub fn directory(name: &'a [u8]) -> Self {
+        New::of(Kind::Directory, name)
+    }
+}
+
+/// What summary counts.
+#[derive(Clone, Copy, Debug, PartialEq, Eq)]
+pub struct Summary {
+    pub blocks: u32,
+    pub free: u32,
+    pub files: u32,
+    /// With the root.
+    pub directories: u32,
+}
+
+/// Who owns a block.
+#[derive(Clone, Copy, Debug, PartialEq, Eq)]
+pub enum Owner {
+    /// Blocks 0 to 2.
+    Start,
+    AnodeBlock,
+    Free,
+    ToBeFreed,
+    Bad,
+    /// The file or directory whose entry has this anode; 5 is the root.
+    Entry(u16),
+}
+
+impl Owner {
+    /// What a number in the block table means.
+    fn of(number: u16) -> Self {
+        match number {
+            65_535 => Owner::Start,
+            65_534 => Owner::AnodeBlock,
+            1 => Owner::Free,
+            3 => Owner::ToBeFreed,
+            4 => Owner::Bad,
+            head => Owner::Entry(head),
+        }
+    }
+}
+
+/// An entry of a directory.
+#[derive(Clone, Debug, PartialEq, Eq)]
+pub struct Entry {
+    pub kind: Kind,
+    /// The head of its chain; for a directory, the number by which calls know it.
+    pub anode: u16,
+    /// The size of a file; in a directory's entry any number may stand here.
+    pub size: u32,
+    pub stamp: Stamp,
+    pub protection: u8,
+    pub name: Vec<u8>,
+    pub comment: Vec<u8>,
+}
+
+impl Entry {
+    fn of(image: &[u8], fields: &[u32; 11]) -> Self {
+        let part = |at: u32, length: u32| image[at as usize..][..length as usize].to_vec();
+        let [kind, anode, size, day, minute, tick, protection, name, name_length, comment, comment_length] =
+            *fields;
+        Entry {
+            kind: if kind == u32::from(DIRECTORY) { Kind::Directory } else { Kind::File },
+            anode: anode as u16,
+            size,
+            stamp: Stamp::new(day as u16, minute as u16, tick as u16),
+            protection: protection as u8,
+            name: part(name, name_length),
+            comment: part(comment, comment_length),
+        }
+    }
+}
+
+impl<L: Library> Disk<L> {
+    /// Takes an image as it is; the first call checks it.
+    pub fn new(image: Vec<u8>) -> Self {
+        let blocks = vec![0; image.len() / BLOCK];
+        Disk { image, blocks, anodes: vec![0; ANODES], library: PhantomData }
+    }
+
+    /// Makes an empty disk of so many blocks.
+    pub fn format(blocks: usize, format: &Format) -> Result<Self, Error> {
+        let mut disk = Disk::new(vec![0; blocks * BLOCK]);
+        let Format { last_reserved, anode_blocks, stamp, protection, .. } = *format;
+        let name = format.name.to_vec();
+        disk.call(&Call::Format { last_reserved, anode_blocks, name, stamp, protection })?;
+        Ok(disk)
+    }
+
+    fn call(&mut self, call: &Call) -> Result<Output, Error> {
+        let outcome = run::<L>(call, &mut self.image, &mut self.blocks, &mut self.anodes);
+        Error::of(outcome.answer).map(|()| outcome.output)
+    }
+
+    /// Is the image a disk without damage?
+    pub fn check(&mut self) -> Result<(), Error> {
+        self.call(&Call::Check).map(drop)
+    }
+
+    /// How large and how full the disk is.
+    pub fn summary(&mut self) -> Result<Summary, Error> {
+        let [blocks, free, files, directories] = self.call(&Call::Summary)?.counts;
+        Ok(Summary { blocks, free, files, directories })
+    }
+
+    /// The entries of a directory, in their order. The iterator ends after the last entry, or after an error.
+    pub fn list(&mut self, directory: u16) -> List<'_, L> {
+        List { disk: self, directory, place: 0, ended: false }
+    }
+
+    /// The entry at a place of a directory, from 0.
+    pub fn entry(&mut self, directory: u16, place: u64) -> Result<Entry, Error> {
+        let output = self.call(&Call::List { directory, place })?;
+        Ok(Entry::of(&self.image, &output.entry))
+    }
+
+    /// The first entry of that name. Names match byte for byte.
+    pub fn find(&mut self, directory: u16, name: &[u8]) -> Result<Entry, Error> {
+        let mut place = 0;
+        loop {
+            let entry = self.entry(directory, place)?;
+            if entry.name == name {
+                return Ok(entry);
+            }
+            place += 1;
+        }
+    }
+
+    /// Bytes of a file.
+    pub fn read(
+        &mut self,
+        directory: u16,
+        name: &[u8],
+        offset: u64,
+        length: usize,
+    ) -> Result<Vec<u8>, Error> {
+        // No file is as long as the image, so a longer length is refused alike, and no buffer is needed for it.
+        let length = length.min(self.image.len());
+        let call = Call::Read { directory, name: name.to_vec(), offset, length };
+        self.call(&call).map(|output| output.bytes)
+    }
+
+    /// Makes an empty file or directory.
+    pub fn make(&mut self, directory: u16, new: &New) -> Result<(), Error> {
+        let kind = match new.kind {
+            Kind::File => FILE,
+            Kind::Directory => DIRECTORY,
+        };
+        let (name, comment) = (new.name.to_vec(), new.comment.to_vec());
+        let New { stamp, protection, .. } = *new;
+        self.call(&Call::Make { directory, kind, name, comment, stamp, protection }).map(drop)
+    }
+
+    /// Gives a file another size. Bytes that come new are 0.
+    pub fn resize(&mut self, directory: u16, name: &[u8], size: u64) -> Result<(), Error> {
+        self.call(&Call::Resize { directory, name: name.to_vec(), size }).map(drop)
+    }
+
+    /// Replaces bytes of a file within its size.
+    pub fn write(&mut self, directory: u16, name: &[u8], offset: u64, data: &[u8]) -> Result<(), Error> {
+        let call = Call::Write { directory, name: name.to_vec(), offset, data: data.to_vec() };
+        self.call(&call).map(drop)
+    }
+
+    /// Removes a file or an empty directory.
+    pub fn remove(&mut self, directory: u16, name: &[u8]) -> Result<(), Error> {
+        self.call(&Call::Remove { directory, name: name.to_vec() }).map(drop)
+    }
+
+    /// The image as it is now.
+    pub fn image(&self) -> &[u8] {
+        &self.image
+    }
+
+    /// The image, without the tables.
+    pub fn into_image(self) -> Vec<u8> {
+        self.image
+    }
+
+    /// The owner of each block, by the block table as the last call left it. After a damage number the table says
+    /// nothing.
+    pub fn owners(&self) -> impl Iterator<Item = Owner> + '_ {
+        self.blocks.iter().map(|&number| Owner::of(number))
+    }
+
+    /// The head of each anode's chain, as the last call left it; 0 for anode 0 and those not in use.
+    pub fn heads(&self) -> &[u16] {
+        &self.anodes
+    }
+}
+
+/// The entries of a directory; see [`Disk::list`].
+pub struct List<'a, L: Library> {
+    disk: &'a mut Disk<L>,
+    directory: u16,
+    place: u64,
+    ended: bool,
+}
+
+/// What list answers for a place after the last entry.
+const NOT_THERE: u32 = 22;
+
+impl<L: Library> Iterator for List<'_, L> {
+    type Item = Result<Entry, Error>;
+
+    fn next(&mut self) -> Option<Self::Item> {
+        if self.ended {
+            return None;
+        }
+        let entry = self.disk.entry(self.directory, self.place);
+        self.place += 1;
+        self.ended = entry.is_err();
+        match entry {
+            Err(error) if error.number() == NOT_THERE => None,
+            other => Some(other),
+        }
+    }
+}
+
+#[cfg(test)]
+mod tests {
+    use super::*;
+    use crate::calls::{Model, ROOT};
+
+    fn disk() -> Disk<Model> {
+        let mut disk = Disk::format(20, &Format::new(9, 1, b"disk")).expect("it is formatted");
+        for name in [&b"one"[..], b"two", b"three"] {
+            disk.make(ROOT, &New::file(name)).expect("it is made");
+        }
+        disk
+    }
+
+    #[test]
+    fn a_list_ends_after_the_last_entry_or_an_error() {
+        let mut disk = disk();
+        let names: Vec<Vec<u8>> = disk.list(ROOT).map(|entry| entry.expect("it is there").name).collect();
+        assert_eq!(names, [&b"one"[..], b"two", b"three"]);
+        let numbers = |list: List<Model>| list.map(|entry| entry.map_err(Error::number)).collect::<Vec<_>>();
+        assert_eq!(numbers(disk.list(6)), [Err(21)]);
+        let mut damaged = Disk::<Model>::new(vec![0; 20 * BLOCK]);
+        assert_eq!(numbers(damaged.list(ROOT)), [Err(3)]);
+    }
+
+    #[test]
+    fn every_length_can_be_asked_for() {
+        let mut disk = disk();
+        disk.resize(ROOT, b"two", 700).expect("there is room");
+        disk.write(ROOT, b"two", 510, b"abcd").expect("it is within the size");
+        assert_eq!(disk.read(ROOT, b"two", 509, 6).as_deref(), Ok(&b"\0abcd\0"[..]));
+        for (offset, length) in [(0, 701), (1, 700), (0, usize::MAX), (u64::MAX, usize::MAX)] {
+            assert_eq!(disk.read(ROOT, b"two", offset, length).map_err(Error::number), Err(26));
+        }
+        assert_eq!(disk.read(ROOT, b"four", 0, usize::MAX).map_err(Error::number), Err(22));
+    }
+
+    #[test]
+    fn a_refused_change_leaves_the_image() {
+        let mut disk = disk();
+        let before = disk.image().to_vec();
+        assert_eq!(disk.resize(ROOT, b"one", 1 << 40).map_err(Error::number), Err(27));
+        assert_eq!(disk.make(ROOT, &New::directory(b"one")).map_err(Error::number), Err(23));
+        assert_eq!(disk.remove(ROOT, b"four").map_err(Error::number), Err(22));
+        let start = [Owner::Start; 3].into_iter();
+        let known = start.chain([Owner::AnodeBlock, Owner::Entry(ROOT), Owner::Free]);
+        assert!(disk.owners().take(6).eq(known));
+        assert_eq!(disk.heads()[..8], [0, 1, 1, 0, 0, 5, 1, 7]);
+        assert_eq!(disk.into_image(), before);
+    }
+}

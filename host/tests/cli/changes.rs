@@ -1,0 +1,134 @@
+//! The commands that change a disk.
+
+use std::fs;
+
+use crate::folder::Folder;
+
+#[test]
+fn format_has_sane_defaults() {
+    let folder = Folder::new("format");
+    for (name, options, blocks, free) in [
+        ("a.adf", &[][..], 1_760, 1_754),
+        ("b.adf", &["--blocks", "5"], 5, 0),
+        ("c.adf", &["--blocks=65535"], 65_535, 65_489),
+        ("d.adf", &["--blocks", "100", "--reserved", "20", "--anode-blocks", "3", "--name", "x"], 100, 93),
+    ] {
+        assert_eq!(folder.done(&[&["format", name][..], options].concat()), "");
+        assert_eq!(folder.read(name).len(), blocks * 512);
+        let info = folder.done(&["info", name]);
+        assert!(info.contains(&format!("free blocks     {free}\n")), "{info}");
+    }
+    // The name comes from the file, the last reserved block is 63, and two blocks hold anodes.
+    let image = folder.read("a.adf");
+    assert_eq!(image[1024 + 20..1024 + 22], [1, b'a']);
+    assert_eq!(image[1024 + 54..1024 + 56], [0, 63]);
+    assert_eq!(image[1024 + 96..1024 + 102], [0, 3, 0, 4, 0, 0]);
+    assert!(image[1024 + 12..1024 + 14] > [0, 0][..], "the stamp is the clock's");
+}
+
+#[test]
+fn format_replaces_a_disk_only_by_force() {
+    let folder = Folder::with_disk("format_force");
+    folder.fails(2, &["format", "disk.adf"]);
+    folder.fails(1, &["format", "disk.adf", "--force", "--name", ""]);
+    folder.fails(1, &["format", "new.adf", "--blocks", "4"]);
+    folder.fails(1, &["format", "new.adf", "--anode-blocks", "43"]);
+    folder.write("small.adf", &[0xEE; 20 * 512]);
+    folder.done(&["format", "small.adf", "--force", "--date=1978-01-02T00:03"]);
+    let image = folder.read("small.adf");
+    assert_eq!((image.len(), &image[1024 + 12..1024 + 18]), (20 * 512, &[0, 1, 0, 3, 0, 0][..]));
+    assert_eq!(folder.done(&["check", "small.adf"]), "0: accepted\n");
+}
+
+#[test]
+fn put_makes_replaces_and_finds_its_place() {
+    let folder = Folder::with_disk("put");
+    folder.write("long", &[b'x'; 1_500]);
+    folder.done(&["put", "disk.adf", "long"]);
+    folder.done(&["put", "disk.adf", "long", "recipes/"]);
+    folder.done(&["put", "disk.adf", "long", "recipes/other"]);
+    assert_eq!(folder.done(&["tree", "disk.adf"]).lines().filter(|line| line.ends_with("1500")).count(), 3);
+    // A file that is there gets the bytes and keeps its fields.
+    folder.done(&["put", "disk.adf", "long", "recipes/pack7"]);
+    let line = "file       1500  ----rwe-  2024-07-18 10:01:02.00  pack7  \"white bread\"\n";
+    assert_eq!(folder.done(&["ls", "disk.adf", "recipes/pack7"]), line);
+    assert_eq!(folder.done(&["cat", "disk.adf", "recipes/pack7"]), "x".repeat(1_500));
+    folder.fails(2, &["put", "disk.adf", "long", "recipes/pack7", "--comment", "another"]);
+    folder.done(&["put", "disk.adf", "pack7", "recipes/pack7"]);
+    assert_eq!(folder.done(&["cat", "disk.adf", "recipes/pack7"]), "180 C, 25 min\n");
+    assert_eq!(folder.names(), ["disk.adf", "long", "pack7"], "no temporary file stays");
+}
+
+#[test]
+fn put_reads_standard_input() {
+    let folder = Folder::with_disk("put_input");
+    let run = folder.run_with_input(&["put", "disk.adf", "-", "recipes/piped"], b"from a pipe");
+    assert_eq!((run.status, run.errors.as_str()), (0, ""));
+    assert_eq!(folder.done(&["cat", "disk.adf", "recipes/piped"]), "from a pipe");
+    folder.write("empty", b"");
+    folder.done(&["put", "disk.adf", "empty", "recipes/piped"]);
+    assert_eq!(folder.done(&["cat", "disk.adf", "recipes/piped"]), "");
+    folder.fails(2, &["put", "disk.adf", "-", "recipes"]);
+    folder.fails(2, &["put", "disk.adf", "-"]);
+}
+
+#[test]
+fn names_of_any_bytes() {
+    let folder = Folder::with_disk("names");
+    folder.done(&["put", "disk.adf", "pack7", "K\u{e4}se \\x1b[31m\\xff\\\\"]);
+    let tree = folder.done(&["tree", "disk.adf"]);
+    assert!(tree.ends_with("\n  K\u{e4}se \\x1b[31m\\xff\\\\  14\n"), "{tree}");
+    assert_eq!(folder.done(&["cat", "disk.adf", "K\u{e4}se \\x1b[31m\\xff\\\\"]), "180 C, 25 min\n");
+    folder.fails(2, &["get", "disk.adf", "K\u{e4}se \\x1b[31m\\xff\\\\"]);
+    folder.fails(2, &["cat", "disk.adf", "a\\b"]);
+    folder.done(&["put", "disk.adf", "pack7", "--", "--odd"]);
+    assert_eq!(folder.done(&["cat", "disk.adf", "--", "--odd"]), "180 C, 25 min\n");
+    // A name of the disk never leads out of this folder.
+    folder.done(&["put", "disk.adf", "pack7", ".."]);
+    folder.fails(2, &["get", "disk.adf", ".."]);
+}
+
+#[test]
+fn mkdir_resize_and_rm() {
+    let folder = Folder::with_disk("mkdir_resize_rm");
+    folder.done(&[
+        "mkdir",
+        "disk.adf",
+        "a",
+        "--comment",
+        "one",
+        "--date",
+        "1978-01-01",
+        "--protection",
+        "240",
+    ]);
+    assert_eq!(
+        folder.done(&["ls", "disk.adf"]).lines().last(),
+        Some("dir           -  hsparwed  1978-01-01 00:00:00.00  a  \"one\"")
+    );
+    folder.done(&["mkdir", "disk.adf", "a/b"]);
+    folder.done(&["resize", "disk.adf", "recipes/pack7", "600"]);
+    let content = folder.done(&["cat", "disk.adf", "recipes/pack7"]);
+    assert_eq!(content, format!("180 C, 25 min\n{}", "\0".repeat(586)));
+    folder.done(&["resize", "disk.adf", "recipes/pack7", "5"]);
+    assert_eq!(folder.done(&["cat", "disk.adf", "recipes/pack7"]), "180 C");
+    for path in ["recipes/pack7", "recipes", "a/b", "a"] {
+        folder.done(&["rm", "disk.adf", path]);
+    }
+    assert_eq!(folder.done(&["tree", "disk.adf"]), "/\n");
+    assert!(folder.done(&["info", "disk.adf"]).contains("free blocks     1754\n"));
+}
+
+#[cfg(unix)]
+#[test]
+fn permissions_and_links_stay() {
+    use std::os::unix::fs::{symlink, PermissionsExt};
+    let folder = Folder::with_disk("permissions");
+    fs::set_permissions(folder.path("disk.adf"), fs::Permissions::from_mode(0o640)).expect("the mode is set");
+    symlink("disk.adf", folder.path("link.adf")).expect("the link is made");
+    folder.done(&["mkdir", "link.adf", "new"]);
+    assert!(fs::symlink_metadata(folder.path("link.adf")).expect("it is there").is_symlink());
+    let metadata = fs::metadata(folder.path("disk.adf")).expect("it is there");
+    assert_eq!(metadata.permissions().mode() & 0o777, 0o640);
+    assert!(folder.done(&["tree", "disk.adf"]).contains("  new/\n"));
+}

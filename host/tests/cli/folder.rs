@@ -1,0 +1,123 @@
+//! A folder of its own for each test, with the program run in it.
+
+use std::fs;
+use std::io::Write;
+use std::path::{Path, PathBuf};
+use std::process::{Command, Output, Stdio};
+
+pub struct Folder {
+    path: PathBuf,
+}
+
+/// What a run of the program gave.
+#[derive(Debug, PartialEq, Eq)]
+pub struct Run {
+    pub status: i32,
+    pub out: String,
+    pub errors: String,
+}
+
+impl Run {
+    fn of(output: Output) -> Self {
+        let text = |bytes: Vec<u8>| String::from_utf8(bytes).expect("the program prints UTF-8");
+        Run {
+            status: output.status.code().expect("the program ends by itself"),
+            out: text(output.stdout),
+            errors: text(output.stderr),
+        }
+    }
+}
+
+impl Folder {
+    /// An empty folder; the name must be the test's own.
+    pub fn new(name: &str) -> Self {
+        let path = Path::new(env!("CARGO_TARGET_TMPDIR")).join("cli").join(name);
+        let _ = fs::remove_dir_all(&path);
+        fs::create_dir_all(&path).expect("the folder is made");
+        Folder { path }
+    }
+
+    /// A folder with a disk of 1,760 blocks that has a directory and a file in it.
+    pub fn with_disk(name: &str) -> Self {
+        let folder = Folder::new(name);
+        folder.write("pack7", b"180 C, 25 min\n");
+        folder.done(&["format", "disk.adf", "--name", "bench 4"]);
+        folder.done(&["mkdir", "disk.adf", "recipes", "--date", "2024-07-18T10:00"]);
+        folder.done(&[
+            "put",
+            "disk.adf",
+            "pack7",
+            "recipes",
+            "--date=2024-07-18T10:01:02",
+            "--comment",
+            "white bread",
+            "--protection=1",
+        ]);
+        folder
+    }
+
+    fn command(&self, words: &[&str]) -> Command {
+        let mut command = Command::new(env!("CARGO_BIN_EXE_pfs"));
+        command.args(words).current_dir(&self.path);
+        command
+    }
+
+    pub fn run(&self, words: &[&str]) -> Run {
+        Run::of(self.command(words).stdin(Stdio::null()).output().expect("the program runs"))
+    }
+
+    /// Runs it with these bytes on standard input.
+    pub fn run_with_input(&self, words: &[&str], input: &[u8]) -> Run {
+        let mut command = self.command(words);
+        command.stdin(Stdio::piped()).stdout(Stdio::piped()).stderr(Stdio::piped());
+        let mut child = command.spawn().expect("the program runs");
+        child.stdin.take().expect("it has an input").write_all(input).expect("it reads its input");
+        Run::of(child.wait_with_output().expect("the program ends"))
+    }
+
+    /// Runs a command that must be done, and gives what it printed.
+    pub fn done(&self, words: &[&str]) -> String {
+        let run = self.run(words);
+        assert_eq!((run.status, run.errors.as_str()), (0, ""), "{words:?}");
+        run.out
+    }
+
+    /// Runs a command that must fail with this status and one line of error, and leave every file as it was.
+    pub fn fails(&self, status: i32, words: &[&str]) -> String {
+        let before = self.files();
+        let run = self.run(words);
+        assert_eq!((run.status, run.out.as_str()), (status, ""), "{words:?}: {}", run.errors);
+        assert!(run.errors.starts_with("pfs: ") && run.errors.ends_with('\n'), "{:?}", run.errors);
+        assert_eq!(run.errors.lines().count(), 1, "{:?}", run.errors);
+        assert!(self.files() == before, "{words:?} changed a file");
+        run.errors
+    }
+
+    pub fn write(&self, name: &str, bytes: &[u8]) {
+        fs::write(self.path.join(name), bytes).expect("the file is written");
+    }
+
+    pub fn read(&self, name: &str) -> Vec<u8> {
+        fs::read(self.path.join(name)).expect("the file is read")
+    }
+
+    pub fn path(&self, name: &str) -> PathBuf {
+        self.path.join(name)
+    }
+
+    /// All files with their bytes, so that a temporary file that stays is seen.
+    pub fn files(&self) -> Vec<(String, Vec<u8>)> {
+        let entries = fs::read_dir(&self.path).expect("the folder is read");
+        let names = entries.map(|entry| entry.expect("the entry is read").file_name());
+        let mut names: Vec<String> = names.map(|name| name.to_string_lossy().into_owned()).collect();
+        names.sort();
+        names
+            .into_iter()
+            .map(|name| (name.clone(), fs::read(self.path.join(&name)).unwrap_or_default()))
+            .collect()
+    }
+
+    pub fn names(&self) -> Vec<String> {
+        self.files().into_iter().map(|file| file.0).collect()
+    }
+}

@@ -1,0 +1,154 @@
+//! The commands that only look at a disk.
+
+use crate::folder::Folder;
+
+#[test]
+fn info_and_check() {
+    let folder = Folder::with_disk("info_and_check");
+    let info = "blocks          1760
+bytes           901120
+free blocks     1752
+files           1
+directories     2
+anodes in use   6
+";
+    assert_eq!(folder.done(&["info", "disk.adf"]), info);
+    assert_eq!(folder.done(&["check", "disk.adf"]), "0: accepted\n");
+}
+
+#[test]
+fn check_says_the_number_of_damage_and_what_it_means() {
+    let folder = Folder::with_disk("check_damage");
+    let mut image = folder.read("disk.adf");
+    image[1024] = b'X';
+    folder.write("bent.adf", &image);
+    folder.write("cut.adf", &image[..1000]);
+    let type_run = folder.run(&["check", "bent.adf"]);
+    assert_eq!((type_run.status, type_run.out.as_str()), (1, "3: the disk type is not PFS\\0\n"));
+    assert_eq!(type_run.errors, "");
+    let cut = folder.run(&["check", "cut.adf"]);
+    assert_eq!((cut.status, &cut.out[..3]), (1, "1: "));
+    for command in ["info", "ls", "tree", "df", "map"] {
+        let error = folder.fails(1, &[command, "bent.adf"]);
+        assert_eq!(error, "pfs: bent.adf: 3: the disk type is not PFS\\0\n");
+    }
+    folder.fails(1, &["rm", "bent.adf", "recipes"]);
+}
+
+#[test]
+fn ls_shows_every_field() {
+    let folder = Folder::with_disk("ls");
+    let root = "dir           -  ----rwed  2024-07-18 10:00:00.00  recipes\n";
+    let recipes = "file         14  ----rwe-  2024-07-18 10:01:02.00  pack7  \"white bread\"\n";
+    assert_eq!(folder.done(&["ls", "disk.adf"]), root);
+    assert_eq!(folder.done(&["ls", "disk.adf", "/"]), root);
+    for path in ["recipes", "/recipes/", "recipes/pack7"] {
+        assert_eq!(folder.done(&["ls", "disk.adf", path]), recipes);
+    }
+}
+
+#[test]
+fn tree_indents_what_is_inside() {
+    let folder = Folder::with_disk("tree");
+    folder.done(&["mkdir", "disk.adf", "recipes/old"]);
+    folder.done(&["put", "disk.adf", "pack7", "recipes/old/pack6"]);
+    folder.done(&["put", "disk.adf", "pack7"]);
+    let all = "/
+  recipes/
+    pack7  14
+    old/
+      pack6  14
+  pack7  14
+";
+    assert_eq!(folder.done(&["tree", "disk.adf"]), all);
+    assert_eq!(folder.done(&["tree", "disk.adf", "recipes/old"]), "recipes/old\n  pack6  14\n");
+    folder.fails(1, &["tree", "disk.adf", "pack7"]);
+}
+
+#[test]
+fn cat_and_get_give_the_bytes() {
+    let folder = Folder::with_disk("cat_and_get");
+    assert_eq!(folder.done(&["cat", "disk.adf", "recipes/pack7"]), "180 C, 25 min\n");
+    assert_eq!(folder.done(&["get", "disk.adf", "recipes/pack7", "copy"]), "");
+    assert_eq!(folder.read("copy"), b"180 C, 25 min\n");
+    folder.write("pack7", b"another");
+    folder.fails(2, &["get", "disk.adf", "recipes/pack7"]);
+    folder.done(&["get", "disk.adf", "recipes/pack7", "--force"]);
+    assert_eq!(folder.read("pack7"), b"180 C, 25 min\n");
+    folder.fails(1, &["cat", "disk.adf", "recipes"]);
+    folder.fails(1, &["get", "disk.adf", "recipes/pack8"]);
+    assert_eq!(folder.names(), ["copy", "disk.adf", "pack7"]);
+}
+
+#[test]
+fn df_adds_up() {
+    let folder = Folder::with_disk("df");
+    let table = "               blocks      bytes   share
+free             1752     897024   99.5%
+files               1        512    0.1%
+directories         2       1024    0.1%
+anode blocks        2       1024    0.1%
+start blocks        3       1536    0.2%
+to be freed         0          0    0.0%
+bad                 0          0    0.0%
+all              1760     901120  100.0%
+";
+    assert_eq!(folder.done(&["df", "disk.adf"]), table);
+}
+
+#[test]
+fn map_draws_every_block() {
+    let folder = Folder::with_disk("map");
+    let map = folder.done(&["map", "disk.adf"]);
+    let mut lines = map.lines();
+    let first = format!("    0 SSSAADD{}|", ".".repeat(57));
+    assert_eq!(lines.next(), Some(first.as_str()));
+    assert_eq!(lines.next(), Some(format!("   64 F{}", ".".repeat(63)).as_str()));
+    assert_eq!(map.lines().take(28).map(|line| line[6..].replace('|', "").len()).sum::<usize>(), 1_760);
+    assert!(map.ends_with("X bad 0\n| behind last reserved 63\n"));
+    let owners = "    0 -     2  S  start blocks
+    3 -     4  A  anode blocks
+    5 -     5  D  /
+    6 -     6  D  recipes
+    7 -    63  .  free
+   64 -    64  F  recipes/pack7
+   65 -  1759  .  free
+";
+    assert_eq!(folder.done(&["map", "disk.adf", "--owners"]), owners);
+}
+
+#[test]
+fn map_draws_a_picture() {
+    let folder = Folder::with_disk("map_svg");
+    folder.done(&["put", "disk.adf", "pack7", "a<b&c"]);
+    let svg = folder.done(&["map", "disk.adf", "--svg"]);
+    assert!(svg.starts_with("<svg xmlns=\"http://www.w3.org/2000/svg\"") && svg.ends_with("</svg>\n"));
+    assert!(svg.contains("<title>64 to 64: recipes/pack7</title>"));
+    assert!(svg.contains("<title>65 to 65: a&lt;b&amp;c</title>"));
+    assert!(svg.contains("<title>behind last reserved</title>"));
+    for name in [
+        "free 1751",
+        "files 2",
+        "directories 2",
+        "anode blocks 2",
+        "start blocks 3",
+        "to be freed 0",
+        "bad 0",
+    ] {
+        assert!(svg.contains(&format!(">{name}</text>")), "{name}");
+    }
+    assert_eq!(svg.matches("<rect").count(), svg.matches("/>").count() + svg.matches("</rect>").count());
+}
+
+#[test]
+fn help_is_there_for_the_whole_and_for_each() {
+    let folder = Folder::new("help");
+    let whole = folder.done(&["--help"]);
+    assert_eq!(folder.done(&["help"]), whole);
+    let commands = "info check ls tree cat get put mkdir rm resize format df map";
+    for command in commands.split(' ') {
+        assert!(whole.contains(&format!("\n  {command} ")), "{command}");
+        let help = folder.done(&[command, "--help"]);
+        assert!(help.starts_with(&format!("usage: pfs {command} DISK")), "{help}");
+    }
+}

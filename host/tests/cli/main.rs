@@ -1,0 +1,6 @@
+//! The command line `pfs`, run as a program.
+
+mod changes;
+mod folder;
+mod looks;
+mod refusals;

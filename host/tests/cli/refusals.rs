@@ -1,0 +1,117 @@
+//! What is refused, and that nothing changes then.
+
+use crate::folder::Folder;
+
+#[test]
+fn refusals_end_with_1_and_say_which() {
+    let folder = Folder::with_disk("refusals");
+    for (words, number) in [
+        (&["cat", "disk.adf", "recipes/pack8"][..], 22),
+        (&["cat", "disk.adf", "nowhere/pack7"], 22),
+        (&["ls", "disk.adf", "recipes/pack7/x"], 21),
+        (&["cat", "disk.adf", "recipes"], 24),
+        (&["rm", "disk.adf", "recipes"], 25),
+        (&["rm", "disk.adf", "nothing"], 22),
+        (&["mkdir", "disk.adf", "recipes"], 23),
+        (&["mkdir", "disk.adf", "a:b"], 20),
+        (&["mkdir", "disk.adf", "nowhere/x"], 22),
+        (&["mkdir", "disk.adf", "recipes/pack7/x"], 21),
+        (&["resize", "disk.adf", "recipes", "5"], 24),
+        (&["resize", "disk.adf", "recipes/pack7", "4294967296"], 27),
+        (&["resize", "disk.adf", "recipes/pack7", "18446744073709551615"], 27),
+        (&["put", "disk.adf", "pack7", "nowhere/"], 22),
+    ] {
+        let error = folder.fails(1, words);
+        assert!(error.contains(&format!(": {number}: ")), "{words:?}: {error}");
+    }
+}
+
+#[test]
+fn a_full_disk_is_left_byte_for_byte() {
+    let folder = Folder::new("full");
+    folder.write("ten", &[1; 10 * 512]);
+    folder.write("eleven", &[2; 11 * 512]);
+    // 20 blocks, of which 15 are free.
+    folder.done(&["format", "disk.adf", "--blocks", "20", "--reserved", "9", "--anode-blocks", "1"]);
+    folder.done(&["put", "disk.adf", "ten", "a"]);
+    // Made, but not resized: nothing of it stays.
+    let error = folder.fails(1, &["put", "disk.adf", "ten", "b"]);
+    assert_eq!(error, "pfs: b: 27: no block is free\n");
+    folder.done(&["resize", "disk.adf", "a", "7680"]);
+    folder.fails(1, &["resize", "disk.adf", "a", "7681"]);
+    folder.fails(1, &["mkdir", "disk.adf", "d"]);
+    // A file that is there can be replaced by a shorter one, but by no longer one than there is room for.
+    folder.done(&["put", "disk.adf", "eleven", "a"]);
+    folder.write("long", &[3; 16 * 512]);
+    folder.fails(1, &["put", "disk.adf", "long", "a"]);
+    assert_eq!(folder.done(&["cat", "disk.adf", "a"]).as_bytes(), [2; 11 * 512]);
+    assert_eq!(folder.names(), ["disk.adf", "eleven", "long", "ten"]);
+}
+
+#[test]
+fn bad_usage_ends_with_2() {
+    let folder = Folder::with_disk("usage");
+    for words in [
+        &[][..],
+        &["frobnicate", "disk.adf"],
+        &["ls"],
+        &["ls", "disk.adf", "a", "b"],
+        &["cat", "disk.adf"],
+        &["resize", "disk.adf", "recipes/pack7"],
+        &["resize", "disk.adf", "recipes/pack7", "-1"],
+        &["resize", "disk.adf", "recipes/pack7", "18446744073709551616"],
+        &["resize", "disk.adf", "recipes/pack7", "many"],
+        &["ls", "disk.adf", "--long"],
+        &["format", "new.adf", "--blocks"],
+        &["format", "new.adf", "--blocks", "65536"],
+        &["format", "new.adf", "--reserved", "x"],
+        &["format", "new.adf", "--date", "1977-12-31"],
+        &["put", "disk.adf", "pack7", "x", "--protection", "256"],
+        &["put", "disk.adf", "pack7", "x", "--date", "2024-02-30"],
+        &["rm", "disk.adf", "/"],
+        &["mkdir", "disk.adf", ""],
+    ] {
+        folder.fails(2, words);
+    }
+}
+
+#[test]
+fn files_that_cannot_be_read_or_written_end_with_2() {
+    let folder = Folder::with_disk("files");
+    for words in [
+        &["ls", "missing.adf"][..],
+        &["check", "missing.adf"],
+        &["check", "."],
+        &["put", "disk.adf", "missing"],
+        &["put", "missing.adf", "pack7"],
+        &["get", "disk.adf", "recipes/pack7", "missing/file"],
+        &["format", "missing/new.adf"],
+    ] {
+        folder.fails(2, words);
+    }
+}
+
+/// A file larger than any disk is refused without being read to its end.
+#[cfg(unix)]
+#[test]
+fn a_file_without_end_is_refused() {
+    let folder = Folder::with_disk("endless");
+    let run = folder.run(&["check", "/dev/zero"]);
+    assert_eq!((run.status, &run.out[..2]), (1, "1:"));
+    assert!(folder.fails(1, &["put", "disk.adf", "/dev/zero"]).contains(": 27: "));
+}
+
+#[cfg(target_os = "linux")]
+#[test]
+fn output_that_cannot_be_written_ends_with_2() {
+    let folder = Folder::with_disk("output");
+    let full = std::fs::OpenOptions::new().write(true).open("/dev/full").expect("it is opened");
+    let command = std::process::Command::new(env!("CARGO_BIN_EXE_pfs"))
+        .args(["ls", "disk.adf"])
+        .current_dir(folder.path("."))
+        .stdout(full)
+        .output()
+        .expect("the program runs");
+    assert_eq!(command.status.code(), Some(2));
+    assert!(command.stderr.starts_with(b"pfs: standard output: "));
+}
