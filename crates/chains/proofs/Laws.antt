@@ -1,8 +1,8 @@
 -- What a caller has once the tests find nothing, and what the table of heads says.
 use Prim.Native.Nat.{ℕ, _+_, _≤_, _<_}
-use mathlib.Core.Path.{_≡_, refl, sym, ap, _∙_}
+use mathlib.Core.Path.{_≡_, sym, ap, _∙_}
 use mathlib.Core.Logic.{_≢_, _⊎_, inl, inr}
-use mathlib.Core.Bool.{Bool, true, false, not, _&&_, _||_, false≢true}
+use mathlib.Core.Bool.{false, not, _&&_, _||_}
 use mathlib.Core.List.{List, _++_}
 use native.Mathlib.Omega.{arith}
 use native.Mathlib.Nat.{zero-add}
@@ -16,7 +16,7 @@ use Rattle.rules.specs.Chains.{preds, followed, heads, headOf}
 use Rattle.rules.specs.Accepted.{wrongFixed, outOfRange, wrongLink, wrongAt, wrongLinks}
 use Rattle.rules.specs.Tables.{chainHead, anodeEntry, anodeTable}
 use Rattle.anodes.specs.Loaded.{anodesFrom}
-use Rattle.laws.specs.Tests.{same?, less?, T-false, some-any}
+use Rattle.laws.specs.Tests.{same?, less?}
 use Rattle.counting.specs.Laws.{neither, anyBelow-each}
 use Rattle.laws.specs.Acceptance.{and-both}
 use Rattle.laws.specs.Segments.{followed-zero}

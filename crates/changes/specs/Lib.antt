@@ -8,6 +8,7 @@ pub mod SingleBlocks
 pub mod NamedOnce
 pub mod SameItems
 pub mod EntryBytes
+pub mod Read
 pub mod Totals
 pub mod Write
 pub mod NewSize

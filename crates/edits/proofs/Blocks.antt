@@ -1,13 +1,14 @@
 -- A block of the image that is lent and comes back, the same bytes in some blocks, and the anodes stored one after the other. Assumes nothing.
-use Prim.Native.Nat.{ℕ, _+_, _-_, _*_, _/_, _%_, _<_, _≤_, min}
+use Prim.Native.Nat.{ℕ, zero, suc, _+_, _-_, _*_, _/_, _%_, _<_, _≤_, min}
 use mathlib.Core.Path.{_≡_, refl, sym, ap, _∙_}
 use mathlib.Core.Logic.{⊎-elim}
 use mathlib.Core.Bool.{Bool, true, false, cond, not, _&&_, and-false}
 use mathlib.Core.List.{List, [], _∷_, append-nil}
+use native.Mathlib.Nat.{add-zero, add-suc, eq-or-lt-of-le}
 use native.Mathlib.Numerals.{add-one}
 use native.Mathlib.Omega.{arith}
 use lib.ListN.{length, getD, set, take, drop, replicate, length-replicate, drop-of-length-le, length-take}
-use lib.Seq.{drop-cons, getD-take, length-take-le, take-take, set-out, take-set-lt, take-set-le, sets-eq}
+use lib.Seq.{drop-cons, getD-take, getD-drop, length-take-le, take-take, set-out, take-set-lt, take-set-le, sets-eq}
 use lib.Dec.{eqb, ltb}
 use borrow.Author.Tests.{lt-ltb, le-ltb, eq-eqb, ne-eqb, not-true, not-false}
 use borrow.Rule.Slice.PartMut.{putMid}
@@ -139,6 +140,30 @@ module _ (c f n c′ f′ n′ img : List ℕ) (a : ℕ) (x y : Anode) (old : x 
   pub anode-stored : not r ≡ true → (j : List ℕ) → j ≡ setAnode i a y → j ≡ storeChanged (anodesFrom c f n) (anodesFrom c′ f′ n′) img (a + 1)
   unfolding storeChanged anodesFrom
   anode-stored l j e = rw (e, is, new, add-one a, sym is-same ∙ not-true r l)
+
+-- storing a run of anodes that have the same fields changes nothing
+pub run-kept : (s t : Anodes) (img : List ℕ) (a n : ℕ) → ((x : ℕ) → a ≤ x → x < a + n → sameAnode s t x ≡ true) → storeChanged s t img a ≡ storeChanged s t img (a + n)
+unfolding storeChanged
+run-kept s t img a zero same = rw (add-zero a)
+run-kept s t img a (suc n) same = run-kept s t img a n (λ x l h. same x l (omega arith)) ∙ rw (add-suc a n, same (a + n) (omega arith) (omega arith))
+
+-- the fields are the same where the numbers of the three tables are
+pub fields-same : (c f n c′ f′ n′ : List ℕ) (a : ℕ) → getD c a 0 ≡ getD c′ a 0 → getD f a 0 ≡ getD f′ a 0 → getD n a 0 ≡ getD n′ a 0
+    → sameAnode (anodesFrom c f n) (anodesFrom c′ f′ n′) a ≡ true
+unfolding sameAnode anodesFrom
+fields-same c f n c′ f′ n′ a x y z = rw (eq-eqb (getD c a 0) (getD c′ a 0) x, eq-eqb (getD f a 0) (getD f′ a 0) y, eq-eqb (getD n a 0) (getD n′ a 0) z)
+
+-- the numbers of a part of two tables are the same, one after the other
+pub same-next : (t u : List ℕ) (i : ℕ) → ((j : ℕ) → j < i → getD t j 0 ≡ getD u j 0) → getD t i 0 ≡ getD u i 0 → (j : ℕ) → j < i + 1 → getD t j 0 ≡ getD u j 0
+same-next t u i below e j h = let l : j ≤ i = omega arith in ⊎-elim (λ q. rw q e) (below j) (eq-or-lt-of-le l)
+
+pub part-same : (l m : List ℕ) (from n : ℕ) → ((j : ℕ) → j < n → getD (take n (drop from l)) j 0 ≡ getD (take n (drop from m)) j 0)
+    → (a : ℕ) → from ≤ a → a < from + n → getD l a 0 ≡ getD m a 0
+part-same l m from n same a low high =
+    let j : ℕ = a - from in
+    let e : from + j ≡ a = omega arith in
+    let h : j < n = omega arith in
+    rw (getD-take n (drop from l) j 0 h, getD-take n (drop from m) j 0 h, getD-drop from l j 0, getD-drop from m j 0, e) at (same j h)
 
 -- ---- the tail of a growing file
 

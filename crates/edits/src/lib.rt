@@ -9,7 +9,7 @@ ghost use Rattle.disk.specs.AnodeBlocks.{anodeMade};
 ghost use Rattle.disk.specs.Blocks.{blockOf};
 ghost use Rattle.directory.specs.Entries.{goodName, goodComment, putEntry};
 ghost use Rattle.rules.specs.Counting.{times};
-ghost use Rattle.rules.specs.Anodes.{anodesOf, withAnodes};
+ghost use Rattle.rules.specs.Anodes.{anodesOf, sameAnode, storeChanged, withAnodes};
 ghost use Rattle.rules.specs.Chains.{chainOf, blocksOf};
 ghost use Rattle.rules.specs.Walk.{Entered};
 ghost use Rattle.rules.specs.Format.{zeroBlock};
@@ -63,7 +63,75 @@ fn same_anode(x: Anode, y: Anode) -> bool
     x.next.0 == y.next.0
 }
 
-// Stores every anode that has other fields than before.
+// True if the 82 numbers from `from` on are the same in two tables that have them.
+fn same_numbers(old: &[u16], new: &[u16], from: usize) -> bool
+    requires { ⌜ from + 82 ≤ 3444 ⌝ }
+    ensures { λ r. ⌜ (r ≡ true → (a : ℕ) → from ≤ a → a < from + 82 → getD (now (old .entry)) a 0 ≡ getD (now (new .entry)) a 0) ⌝ }
+{
+    let end = from + 82;
+    if old.len() < end {
+        return false;
+    }
+    if new.len() < end {
+        return false;
+    }
+    let x = &old[from..end];
+    let y = &new[from..end];
+    let mut other: u16 = 0;
+    for i in 0..82 {
+        if x[i] != y[i] {
+            other = 1;
+        }
+    }
+    other == 0
+}
+
+// True if the 82 anodes from `from` on have the same fields as before.
+fn same_run(
+    counts: &[u16],
+    firsts: &[u16],
+    nexts: &[u16],
+    new_counts: &[u16],
+    new_firsts: &[u16],
+    new_nexts: &[u16],
+    from: usize,
+) -> bool
+    requires { ⌜ from + 82 ≤ 3444 ⌝ }
+    ensures { λ r. ⌜ (r ≡ true → (a : ℕ) → from ≤ a → a < from + 82 → sameAnode (anodesFrom (now (counts .entry)) (now (firsts .entry)) (now (nexts .entry))) (anodesFrom (now («new_counts» .entry)) (now («new_firsts» .entry)) (now («new_nexts» .entry))) a ≡ true) ⌝ }
+{
+    if !same_numbers(counts, new_counts, from) {
+        return false;
+    }
+    if !same_numbers(firsts, new_firsts, from) {
+        return false;
+    }
+    same_numbers(nexts, new_nexts, from)
+}
+
+// Stores each of the 82 anodes from `from` on that has other fields than before.
+fn store_run(
+    image: &mut [u8],
+    counts: &[u16],
+    firsts: &[u16],
+    nexts: &[u16],
+    new_counts: &[u16],
+    new_firsts: &[u16],
+    new_nexts: &[u16],
+    from: u16,
+)
+    requires { ⌜ from + 82 ≤ 3444 ⌝ }
+    ensures { λ _. ⌜ ((img : List ℕ) → now (image .entry) ≡ storeChanged (anodesFrom (now (counts .entry)) (now (firsts .entry)) (now (nexts .entry))) (anodesFrom (now («new_counts» .entry)) (now («new_firsts» .entry)) (now («new_nexts» .entry))) img from → now (image .exit) ≡ storeChanged (anodesFrom (now (counts .entry)) (now (firsts .entry)) (now (nexts .entry))) (anodesFrom (now («new_counts» .entry)) (now («new_firsts» .entry)) (now («new_nexts» .entry))) img (from + 82)) ⌝ }
+{
+    for a in from..from + 82 {
+        let old = anode_from(counts, firsts, nexts, a as usize);
+        let new = anode_from(new_counts, new_firsts, new_nexts, a as usize);
+        if !same_anode(old, new) {
+            set_anode(image, AnodeNo(a), new);
+        }
+    }
+}
+
+// Stores every anode that has other fields than before: a slot's 82 anodes at a time, where one of them has.
 pub fn store_anodes(
     image: &mut [u8],
     counts: &[u16],
@@ -76,11 +144,27 @@ pub fn store_anodes(
     requires { ⌜ anodesFrom (now counts) (now firsts) (now nexts) ≡ anodesOf (now image) ⌝ }
     ensures { λ _. ⌜ now (image .exit) ≡ withAnodes (now (image .entry)) (anodesFrom (now («new_counts» .entry)) (now («new_firsts» .entry)) (now («new_nexts» .entry))) ⌝ }
 {
-    for a in 0..3444 {
-        let old = anode_from(counts, firsts, nexts, a as usize);
-        let new = anode_from(new_counts, new_firsts, new_nexts, a as usize);
-        if !same_anode(old, new) {
-            set_anode(image, AnodeNo(a), new);
+    for slot in 0..42 {
+        let from: u16 = slot * 82;
+        if !same_run(
+            counts,
+            firsts,
+            nexts,
+            new_counts,
+            new_firsts,
+            new_nexts,
+            from as usize,
+        ) {
+            store_run(
+                image,
+                counts,
+                firsts,
+                nexts,
+                new_counts,
+                new_firsts,
+                new_nexts,
+                from,
+            );
         }
     }
 }

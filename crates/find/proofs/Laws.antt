@@ -1,20 +1,19 @@
 -- What an open image says of its reached directories, and what a search answers.
-use Prim.Native.Nat.{ℕ, zero, suc, _+_, _<_}
+use Prim.Native.Nat.{ℕ, _<_}
 use mathlib.Core.Path.{_≡_, refl, sym, ap, _∙_}
-use mathlib.Core.Bool.{Bool, true, false, not, _||_, true≢false}
-use mathlib.Core.List.{List, [], _∷_, map}
-use mathlib.Core.Option.{Option, none, some}
+use mathlib.Core.Bool.{Bool, false, not}
+use mathlib.Core.List.{List, [], map}
+use mathlib.Core.Option.{Option, some}
 use native.Mathlib.Omega.{arith}
 use lib.Dec.{eqb}
 use lib.ListN.{getD}
-use Rattle.disk.specs.declared.Refusal.the-variants.{NoDirectory, NotFound}
 use Rattle.rules.specs.Counting.{times, anyIn}
 use Rattle.rules.specs.Anodes.{Anodes, limit, anodesOf}
 use Rattle.rules.specs.Walk.{Entered, Dir}
 use Rattle.rules.specs.Accepted.{diskSize}
 use Rattle.rules.specs.Lookup.{noDirectory, entriesOf}
 use Rattle.anodes.specs.Loaded.{anodesFrom}
-use Rattle.tree.specs.Steps.{dirsFrom, queueOf}
+use Rattle.tree.specs.Steps.{queueOf}
 use Rattle.laws.specs.OwnerTable.{anodeEntry-is}
 use Rattle.changes.specs.Image.{accepted-whole}
 use Rattle.changes.specs.Reached.{reached-head, reached-unbroken}

@@ -1,5 +1,4 @@
 // Finds an entry, by its name or by its place, in a directory of an accepted image.
-ghost use mathlib.Core.Path.{_≡_};
 ghost use Rattle.rules.specs.Anodes.{anodesOf};
 ghost use Rattle.rules.specs.Lookup.{noDirectory, entryNamed, entriesOf, nth};
 ghost use Rattle.find.specs.Open.{OpenFor};

@@ -1,5 +1,5 @@
 -- What an image keeps that has another's length and some of its blocks.
-use Prim.Native.Nat.{ℕ, zero, suc, _/_, _<_}
+use Prim.Native.Nat.{ℕ, zero, suc, _<_}
 use mathlib.Core.Path.{_≡_, refl, sym, ap, _∙_, fun-ext}
 use mathlib.Core.Logic.{_≢_, inl, inr}
 use mathlib.Core.List.{List}
@@ -9,8 +9,8 @@ use Rattle.disk.specs.Blocks.{blockOf}
 use Rattle.disk.specs.Root.{rootIn, slotOf}
 use Rattle.disk.specs.AnodeBlocks.{anodeHeadIn, anodeIn, anodesIn, anodeSlots, listed}
 use Rattle.disk.specs.declared.Anode.{Anode}
-use Rattle.disk.proofs.Laws.{anodeSlots-at, length-listed}
-use Rattle.rules.specs.Anodes.{existsIn, exists, anodesOf}
+use Rattle.disk.proofs.Laws.{length-listed}
+use Rattle.rules.specs.Anodes.{anodesOf}
 use Rattle.rules.specs.Chains.{holds, systemOwns}
 use Rattle.rules.specs.Walk.{Dir, entriesIn, isBlockOf}
 use Rattle.rules.specs.Accepted.{diskSize, wrongSize, shortTables, wrongType, lastReserved, wrongRoot, wrongSlot, wrongSlots}
@@ -96,10 +96,6 @@ module _ {on : ℕ → Type 0} {img j : List ℕ} (k : Kept on img j) where
     unfolding systemOwns holds
     systemOwns-kept = fun-ext (λ x. rw (sum-congr (holds j x) (holds img x) 42 (λ s l. rw (slotOf-kept s))))
 
-    pub exists-kept : exists j ≡ exists img
-    unfolding exists existsIn
-    exists-kept = fun-ext (λ a. rw (anodeSlots-at j (a / 82), anodeSlots-at img (a / 82), slotOf-kept (a / 82), anodes-long img j (slotOf img (a / 82))))
-
     -- the heads of the anode blocks
     pub wrongSlots-heads : ((s : ℕ) → slotOf img s ≢ 0 → anodeHeadIn (blockOf j (slotOf img s)) ≡ anodeHeadIn (blockOf img (slotOf img s))) → wrongSlots j ≡ wrongSlots img
     unfolding wrongSlots wrongSlot
@@ -120,6 +116,3 @@ module _ {on : ℕ → Type 0} {img j : List ℕ} (k : Kept on img j) where
       pub anodesOf-kept : anodesOf j ≡ anodesOf img
       unfolding anodesOf
       anodesOf-kept = rw anodeSlots-kept
-
-      pub wrongSlots-kept : wrongSlots j ≡ wrongSlots img
-      wrongSlots-kept = wrongSlots-heads (λ s u. ap anodeHeadIn (k .block-kept (slotOf img s) (slots s u)))

@@ -1,21 +1,19 @@
 -- Stores in blocks: each keeps the length of the image and the blocks that it does not name.
-use Prim.Native.Nat.{ℕ, _*_, _≤_, _<_}
-use mathlib.Core.Path.{_≡_, refl, sym}
-use mathlib.Core.Logic.{_≢_, inl, inr}
+use Prim.Native.Nat.{ℕ, _*_, _≤_}
+use mathlib.Core.Path.{_≡_, sym}
+use mathlib.Core.Logic.{_≢_}
 use mathlib.Core.List.{List, [], _∷_}
 use native.Mathlib.Omega.{arith}
 use native.Mathlib.Nat.{le-of-eq}
 use lib.ListN.{length, take, drop, length-take, length-drop}
 use Rattle.disk.specs.Blocks.{blockOf, withBlock}
-use Rattle.disk.specs.Root.{slotOf}
 use Rattle.disk.proofs.Laws.{length-blockOf-min}
 use Rattle.disk.proofs.Store.{length-withBlock, blockOf-withBlock-same, blockOf-withBlock-other}
 use Rattle.rules.specs.Counting.{times}
 use Rattle.rules.specs.Changes.{inBlock, withBlocks, spread}
-use Rattle.laws.specs.Tests.{less?}
 use Rattle.laws.specs.Sums.{oneAt-same}
 use Rattle.laws.specs.Bags.{times-cons}
-use Rattle.frames.specs.Kept.{Unheld, Kept, kept-all, kept-both}
+use Rattle.frames.specs.Kept.{Kept, kept-all, kept-both}
 
 -- ---- one block
 
@@ -35,14 +33,6 @@ module _ (img : List ℕ) (b : ℕ) (f : List ℕ → List ℕ) (long : length (
   blockOf-inBlock = blockOf-withBlock-same img b (f (blockOf img b)) long
 
 -- ---- some blocks
-
--- where none of them is the root or an anode block, the stores keep those
-pub system-apart : (img : List ℕ) (ys : List ℕ) → ((y : ℕ) → 0 < times y ys → (y ≢ 2) × Unheld img y)
-    → (times 2 ys ≡ 0) × ((s : ℕ) → slotOf img s ≢ 0 → times (slotOf img s) ys ≡ 0)
-system-apart img ys apart = (none 2 (λ p. apart 2 p .0 refl), λ s u. none (slotOf img s) (λ p. apart (slotOf img s) p .1 s u refl))
-  where
-    none : (b : ℕ) → (0 < times b ys → ⊥) → times b ys ≡ 0
-    none b h = elim (less? 0 (times b ys)) [ inl p ↦ absurd (h p) | inr p ↦ omega arith ]
 
 -- what is not among them is not the first and not among the rest
 others : (y d : ℕ) (ys : List ℕ) → times d (y ∷ ys) ≡ 0 → (d ≢ y) × (times d ys ≡ 0)

@@ -1,8 +1,8 @@
 -- DEMAND 3: from any accepted image, through any list of calls with any arguments, the check accepts after every call, no call reports damage, and the kinds of blocks add up to the disk's size.
-use Prim.Native.Nat.{ℕ, zero, suc, _+_, _≤_, _<_}
-use mathlib.Core.Path.{_≡_, refl, sym, ap, _∙_}
-use mathlib.Core.Logic.{_⊎_, inl, inr}
-use mathlib.Core.Bool.{Bool, true, false, cond, not, _||_}
+use Prim.Native.Nat.{ℕ, zero, suc}
+use mathlib.Core.Path.{_≡_, refl}
+use mathlib.Core.Logic.{inl, inr}
+use mathlib.Core.Bool.{Bool, true, false, not, _||_}
 use mathlib.Core.List.{List, [], _∷_}
 use mathlib.Core.Option.{Option, none, some}
 use native.Mathlib.Omega.{arith}
@@ -14,8 +14,7 @@ use Rattle.rules.specs.Counting.{_if_else_, firstOf}
 use Rattle.rules.specs.Anodes.{Anodes, limit, anodesOf}
 use Rattle.rules.specs.Walk.{Entered}
 use Rattle.rules.specs.Accepted.{diskSize, wrongSize, checkAnswer}
-use Rattle.rules.specs.Totals.{total}
-use Rattle.rules.specs.Lookup.{noDirectory, entryNamed, entriesOf, isThere, namesDir, notEmpty, fullDir, pastEnd}
+use Rattle.rules.specs.Lookup.{noDirectory, entryNamed, isThere, namesDir, notEmpty, fullDir}
 use Rattle.rules.specs.Format.{wrongFormat, formatAnswer, formatted}
 use Rattle.rules.specs.Changes.{Left, left, NewEntry, resized, made, written, removed}
 use Rattle.rules.specs.Calls.{settled, checkOutcome, summaryOutcome, formatOutcome, formatLeft, readAnswer, readOutcome, spanAnswer, listAnswered, listOutcome, makeOutcome, makeAnswer, madeAfter, wrongEntry, resizeOutcome, resizeAnswer, writeOutcome, removeOutcome, removeAnswer, changeNamed}

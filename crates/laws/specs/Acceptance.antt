@@ -1,18 +1,17 @@
 -- The check's table: its answer is 0 exactly if every test fails, and what the tests 6 to 11 say in numbers.
-use Prim.Native.Nat.{ℕ, zero, suc, _+_, _/_, _%_, _≤_, _<_}
+use Prim.Native.Nat.{ℕ, zero, suc, _+_, _≤_, _<_}
 use mathlib.Core.Path.{_≡_, refl, sym, ap, _∙_}
-use mathlib.Core.Logic.{_≢_, _⊎_, inl, inr}
-use mathlib.Core.Bool.{Bool, true, false, cond, not, _&&_, _||_}
+use mathlib.Core.Logic.{_≢_, inl, inr}
+use mathlib.Core.Bool.{Bool, true, false, not, _&&_, _||_}
 use mathlib.Core.List.{List, [], _∷_}
 use native.Mathlib.Omega.{arith}
-use lib.Dec.{T, eqb, leb, ltb}
-use lib.ListN.{length, getD}
+use lib.Dec.{eqb, leb, ltb}
 use borrow.Author.Tests.{ltb-true, ltb-false, leb-false, eqb-true, eqb-false, not-true, not-false, lt-ltb, le-ltb, lt-leb, eq-eqb, ne-eqb}
-use Rattle.rules.specs.Counting.{_if_else_, firstOf, anyBelow, anyIn, times, oneAt}
-use Rattle.rules.specs.Anodes.{Anodes, limit, exists, anodesOf}
-use Rattle.rules.specs.Chains.{chainOf, followed, preds, heads, owners, systemOwns, side}
-use Rattle.rules.specs.Walk.{Walk, fault, done, walkOf, faultIn}
-use Rattle.rules.specs.Accepted.{diskSize, wrongSize, shortTables, wrongType, lastReserved, wrongRoot, wrongSlots, wrongFixed, outOfRange, wrongLink, wrongAt, hasPred, wrongLinks, notAbove, notUpTo, wrongFreeList, ownersOf, twoOwners, noOwner, unnamedChain, treeFault, damageIn, checkAnswer}
+use Rattle.rules.specs.Counting.{_if_else_, firstOf, anyBelow, anyIn, times}
+use Rattle.rules.specs.Anodes.{Anodes, limit, anodesOf}
+use Rattle.rules.specs.Chains.{chainOf, followed, preds, owners, side}
+use Rattle.rules.specs.Walk.{walkOf, faultIn}
+use Rattle.rules.specs.Accepted.{diskSize, wrongSize, shortTables, wrongType, lastReserved, wrongRoot, wrongSlots, wrongFixed, outOfRange, wrongLink, wrongAt, hasPred, wrongLinks, notAbove, notUpTo, wrongFreeList, twoOwners, noOwner, unnamedChain, treeFault, damageIn, checkAnswer}
 use Rattle.counting.specs.Laws.{neither, anyBelow-each, anyBelow-all}
 use Rattle.laws.specs.Sums.{oneAt-cases, oneAt-same}
 use Rattle.laws.specs.Bags.{times-nil, times-cons}
@@ -68,9 +67,6 @@ none-in test (y ∷ l) f =
 pub if-zero : (n : ℕ) (t : Bool) (rest : ℕ) → n ≢ 0 → (n if t else rest) ≡ 0 → (t ≡ false) × (rest ≡ 0)
 if-zero n true rest p e = absurd (p e)
 if-zero n false rest p e = (refl, e)
-
-pub zero-if : (n : ℕ) (t : Bool) (rest : ℕ) → t ≡ false → rest ≡ 0 → (n if t else rest) ≡ 0
-zero-if n t rest p e = rw p e
 
 pub firstOf-zero : (a b : ℕ) → firstOf a b ≡ 0 → (a ≡ 0) × (b ≡ 0)
 unfolding firstOf

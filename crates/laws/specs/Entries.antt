@@ -95,10 +95,6 @@ module _ (s : Anodes) where
   entries-sum w l = map-sum (itemOf s) (weighItem w) l ∙ list-congr (λ e. weighItem w (itemOf s e)) (weighEntry (asEntry w)) l (weigh-item w)
 
 -- where an entry is as wrong in two states, it weighs the same
-pub weigh-same : (s t : Anodes) (w : ℕ → Bool → ℕ → ℕ) (e : Entered) → wrong (itemOf t e) ≡ wrong (itemOf s e) → weighItem w (itemOf t e) ≡ weighItem w (itemOf s e)
-unfolding itemOf
-weigh-same s t w e q = ap (λ (f : ℕ). w f (e .dir) (e .anode)) q
-
 -- ---- the items of a directory
 
 module _ (entries : ℕ → List Entered) (marked : Dir → ℕ → Bool) (s : Anodes) (d : Dir) where

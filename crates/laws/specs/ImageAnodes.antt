@@ -1,18 +1,16 @@
 -- What the anodes of an image are, whatever the image: free and missing ones read (0, 0, 0), and one in use exists.
-use Prim.Native.Nat.{ℕ, zero, suc, _+_, _/_, _%_, _≤_, _<_}
-use mathlib.Core.Path.{_≡_, refl, sym, ap, _∙_}
+use Prim.Native.Nat.{ℕ, zero, suc, _/_, _%_}
+use mathlib.Core.Path.{_≡_, refl, _∙_}
 use mathlib.Core.Logic.{_≢_, inl, inr}
-use mathlib.Core.Bool.{Bool, true, false, cond}
-use mathlib.Core.List.{List, []}
+use mathlib.Core.Bool.{true}
+use mathlib.Core.List.{List}
 use native.Mathlib.Omega.{arith}
-use lib.Dec.{T, eqb, ltb}
-use lib.ListN.{length, getD}
 use borrow.Author.Tests.{lt-ltb, eq-eqb, ne-eqb}
 use Rattle.disk.specs.Root.{slotOf}
-use Rattle.disk.specs.AnodeBlocks.{anodesIn, anodeSlots, anodeAt, anodeOf, anodeMade, listed}
+use Rattle.disk.specs.AnodeBlocks.{anodesIn, anodeSlots, anodeAt, anodeOf}
 use Rattle.disk.proofs.Laws.{slotOf-high, anodeOf-missing, anodeSlots-at, length-listed}
-use Rattle.rules.specs.Anodes.{Anodes, limit, fieldsOf, existsIn, exists, inUse, anodesOf}
-use Rattle.laws.specs.Tests.{same?, less?}
+use Rattle.rules.specs.Anodes.{limit, fieldsOf, existsIn, exists, inUse, anodesOf}
+use Rattle.laws.specs.Tests.{less?}
 use Rattle.laws.specs.Passes.{Reading}
 
 module _ (img : List ℕ) where

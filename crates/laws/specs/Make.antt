@@ -24,7 +24,6 @@ use Rattle.laws.specs.TreeChanges.{headed, Gain, sum-named, add-file, ad
 use Rattle.laws.specs.Entries.{weighEntry, broken-wrong, item-fine, fine-item, item-anode, asEntry, weigh-item, entries-sum, items-sum, itemsAt-cases, itemsAt-whole, items-alike}
 use Rattle.laws.specs.Whole.{Whole, head-counts, counts-head, on-dir, dir-heads, named-heads}
 use Rattle.laws.specs.Orphan.{Orphaned}
-use Rattle.laws.specs.DirectoryTakes.{dir-head}
 
 -- two sums over a list that differ at one member
 pub one-more : (g f f′ : ℕ → ℕ) (a₀ k : ℕ) (l : List ℕ) → sumList g l ≡ 0 → ((a : ℕ) → 0 < times a l → g a ≡ 0 → f′ a ≡ f a + oneAt a a₀ * k) → sumList f′ l ≡ sumList f l + times a₀ l * k
@@ -177,32 +176,3 @@ module _ {ex : ℕ → Bool} {n last : ℕ} {s : Anodes} {system hd sd : ℕ →
     tree = add-dir before after h₀ (itemOf s e) dirs reached gains root (o .tree) directory new-fine (o .not-named) (λ i. omega (arith, from-6, i)) empty;
     all-named = λ x l d. omega (arith, named x l d, list-cons (namedIn after x) (record { head = e .anode; parent = h₀ }) dirs);
   }
-
--- ---- a file made in one step: the fresh head, with no block, and its entry
-
-module _ {ex : ℕ → Bool} {n last : ℕ} {s : Anodes} {system hd sd : ℕ → ℕ} {entries : ℕ → List Entered} {marked : Dir → ℕ → Bool} {dirs : List Dir}
-    (w : Whole ex n last s system hd sd entries marked dirs) (f : ℕ) (f6 : 6 ≤ f) (there : T (ex f)) (fA : f < limit) (fresh : s .block f ≡ 0)
-    (e : Entered) (in-rules : e .broken ≡ false) (file : e .dir ≡ false) (names-f : e .anode ≡ f) (empty : blocksFor (e .size) ≡ 0)
-    (a₀ h₀ : ℕ) (reached : headed h₀ dirs ≡ 1) (at₀ : hd a₀ ≡ h₀) (entries′ : ℕ → List Entered) (marked′ : Dir → ℕ → Bool)
-    (cont : (a : ℕ) → s .count a ≡ 1 → hd a ≢ 1 → (v : Bool → Bool → ℕ → ℕ → ℕ) →
-    sumList (weighEntry v) (entries′ (s .block a)) ≡ sumList (weighEntry v) (entries (s .block a)) + oneAt a a₀ * weighEntry v e)
-    (same-marks : (a : ℕ) → s .count a ≡ 1 → hd a ≢ 1 → (d : Dir) → marked′ d (s .block a) ≡ marked d (s .block a)) where
-  orphan : Orphaned ex n last f (rewritten s f 0 65535) system (changed hd f f) (changed sd f f) entries marked dirs
-  orphan = fresh-orphan w f f6 there fA fresh entries marked (λ a i q. (refl, λ d. refl))
-
-  no-block : blockCount (rewritten s f 0 65535) (e .anode) ≡ blocksFor (e .size)
-  unfolding rewritten blockCount
-  no-block = rw names-f (ap (sumList (changed (s .count) f 0)) (fresh-chain w f f6 there fA fresh) ∙ list-one (changed (s .count) f 0) f ∙ changed-same (s .count) f 0 ∙ sym empty)
-
-  -- an anode with a block is an old one
-  old : (a : ℕ) → changed (s .count) f 0 a ≡ 1 → a ≢ f
-  old a i q = omega (arith, i, ap (changed (s .count) f 0) q, changed-same (s .count) f 0)
-
-  used : a₀ ≢ f
-  used q = dir-head orphan h₀ reached .pos (sym at₀ ∙ w .good .heads .off a₀ (ap (s .block) q ∙ fresh))
-
-  pub make-file : Whole ex n last (rewritten s f 0 65535) system (changed hd f f) (changed sd f f) entries′ marked′ dirs
-  unfolding rewritten
-  make-file = enter-file {entries = entries} {marked = marked} e (rw names-f orphan) (rw names-f f6) in-rules (inr no-block) a₀ h₀ reached (changed-other hd f f a₀ used ∙ at₀) entries′ marked′
-      (λ a i q v. rw (changed-other (s .block) f 65535 a (old a i)) (cont a (sym (changed-other (s .count) f 0 a (old a i)) ∙ i) (λ k. q (changed-other hd f f a (old a i) ∙ k)) v))
-      (λ a i q d. rw (changed-other (s .block) f 65535 a (old a i)) (same-marks a (sym (changed-other (s .count) f 0 a (old a i)) ∙ i) (λ k. q (changed-other hd f f a (old a i) ∙ k)) d)) file

@@ -1,23 +1,23 @@
 -- In every accepted image every block has one owner, every chain ends, and every chain in use is named once, by the system or by an entry reached from the root directory.
-use Prim.Native.Nat.{ℕ, zero, suc, _+_, _*_, _≤_, _<_}
+use Prim.Native.Nat.{ℕ, _≤_, _<_}
 use mathlib.Core.Path.{_≡_, refl, sym, ap, _∙_}
 use mathlib.Core.Logic.{_≢_, _⊎_, inl, inr}
-use mathlib.Core.Bool.{Bool, _&&_}
-use mathlib.Core.List.{List, [], _∷_, _++_, map}
+use mathlib.Core.Bool.{_&&_}
+use mathlib.Core.List.{List, [], _∷_, map}
 use native.Mathlib.Omega.{arith}
-use lib.Dec.{T, eqb, leb, ltb}
+use lib.Dec.{eqb, leb}
 use borrow.Author.Tests.{le-leb, eq-eqb, eqb-false}
 use Rattle.rules.specs.Counting.{oneAt, times, sumList, gather}
 use Rattle.rules.specs.Anodes.{Anodes, limit, exists, anodesOf}
 use Rattle.rules.specs.Chains.{followed, heads, headOf, systemOwns, cut}
-use Rattle.rules.specs.Walk.{Dir, Item, Walk, fault, done, walk, walkOf, faultIn, dirsIn, itemsOf, reached, reachedDirs, naming, root}
+use Rattle.rules.specs.Walk.{Dir, Item, Walk, fault, done, walkOf, faultIn, dirsIn, itemsOf, reached, reachedDirs, naming, root}
 use Rattle.rules.specs.Accepted.{diskSize, lastReserved, ownersOf, twoOwners, noOwner, unnamed, unnamedChain, checkAnswer}
 use Rattle.counting.specs.Laws.{anyBelow-each}
 use Rattle.laws.specs.Tests.{same?}
 use Rattle.laws.specs.Bags.{times-nil, list-congr, gather-sum}
 use Rattle.laws.specs.Heads.{Head, heads-cases}
 use Rattle.laws.specs.Space.{Good}
-use Rattle.laws.specs.Passes.{Reading, Passes, good-of}
+use Rattle.laws.specs.Passes.{Passes, good-of}
 use Rattle.laws.specs.Items.{names-sum, namedIn}
 use Rattle.laws.specs.Walks.{walk-found}
 use Rattle.laws.specs.Acceptance.{and-none, Passed, passed-of, Tested, tested-passes}

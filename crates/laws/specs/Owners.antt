@@ -8,7 +8,7 @@ use Rattle.rules.specs.Counting.{oneAt, sumBelow}
 use Rattle.rules.specs.Anodes.{Anodes}
 use Rattle.rules.specs.Chains.{covers, owners}
 use Rattle.laws.specs.Tests.{same?}
-use Rattle.laws.specs.Sums.{oneAt-cases, sum-congr, sum-swap, sum-none, sum-some, sum-one, sum-at}
+use Rattle.laws.specs.Sums.{oneAt-cases, sum-congr, sum-swap, sum-some, sum-one, sum-at}
 use Rattle.laws.specs.Ownership.{covers-none}
 use Rattle.laws.specs.Heads.{Head, head-of-is}
 use Rattle.laws.specs.Held.{held}
@@ -60,7 +60,3 @@ module _ {A : ℕ} {ex : ℕ → Bool} {n last : ℕ} {s : Anodes} {system hd sd
   owner y l z =
       let q = sum-one (λ m. held A hd (s .count) (s .block) m y) A (omega (arith, total-held y l, z)) in
       (q .0, q .1, q .2, q .3, holder (q .0) y (omega (arith, q .2)))
-
-  -- and the system's has none
-  pub system-block : (y : ℕ) → y < n → system y ≡ 1 → (m : ℕ) → m < A → held A hd (s .count) (s .block) m y ≡ 0
-  system-block y l z m k = sum-none (λ m. held A hd (s .count) (s .block) m y) A (omega (arith, total-held y l, z)) m k

@@ -3,8 +3,7 @@ use Prim.Native.Nat.{ℕ, zero, suc, _+_, _≤_, _<_}
 use mathlib.Core.Path.{_≡_, refl, sym, ap, _∙_}
 use mathlib.Core.Logic.{inl, inr}
 use mathlib.Core.Bool.{Bool, true, false, cond, not, _||_, false≢true}
-use mathlib.Core.List.{List, [], _∷_, map}
-use native.Mathlib.Nat.{zero-add}
+use mathlib.Core.List.{List, map}
 use native.Mathlib.Numerals.{add-one}
 use native.Mathlib.Omega.{arith}
 use lib.Dec.{eqb}
@@ -12,7 +11,6 @@ use lib.ListN.{getD}
 use borrow.Author.Tests.{eq-eqb, ne-eqb, eqb-true}
 use Rattle.endian.proofs.Laws.{eq-or-ne}
 use Rattle.rules.specs.Counting.{oneAt, sumList, times}
-use Rattle.rules.specs.Walk.{Dir}
 use Rattle.rules.specs.Changes.{parentOf}
 use Rattle.tree.specs.Steps.{dirsFrom}
 use Rattle.lookup.specs.Queued.{isQueued}

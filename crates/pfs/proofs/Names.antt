@@ -1,18 +1,17 @@
 -- The name that the fields of a list give is the name that the list hands back.
 use Prim.Native.Nat.{ℕ, zero, suc, _+_, _*_, _/_, _%_, _≤_}
 use mathlib.Core.Path.{_≡_, refl, sym, ap, _∙_}
-use mathlib.Core.Bool.{Bool, not}
-use mathlib.Core.List.{List, [], _∷_}
+use mathlib.Core.List.{List}
 use mathlib.Core.Option.{Option, none, some}
 use native.Mathlib.Omega.{arith}
-use lib.ListN.{length, getD, take, drop, replicate}
+use lib.ListN.{length, take, drop}
 use lib.Seq.{drop-drop}
 use Rattle.disk.specs.Blocks.{blockOf}
-use Rattle.directory.specs.Entries.{nameIn, nameLength, entryIn, entryLength, commentLength}
-use Rattle.rules.specs.Anodes.{limit, anodesOf}
+use Rattle.directory.specs.Entries.{nameIn, nameLength, entryIn, entryLength}
+use Rattle.rules.specs.Anodes.{anodesOf}
 use Rattle.rules.specs.Walk.{Entered}
 use Rattle.rules.specs.Accepted.{checkAnswer}
-use Rattle.rules.specs.Lookup.{noDirectory, entriesOf, nameAt, nth, isThere}
+use Rattle.rules.specs.Lookup.{noDirectory, entriesOf, nameAt, nth}
 use Rattle.rules.specs.Calls.{Outcome, outcomeOf, settled, fieldList, fieldsAt, fieldsListed, nameListed, listAnswer, listAnswered, listOutcome}
 use Rattle.laws.specs.Acceptance.{if-zero, firstOf-zero}
 use Rattle.changes.specs.FoundEntries.{found-at}

@@ -67,26 +67,35 @@ impl Disk {
         elapsed
     }
 
-    /// The medians of a call on the model and on the proved library, in microseconds. What the call changed is
-    /// mended between the runs.
-    fn medians(&mut self, call: &Call) -> (f64, f64) {
+    /// The medians of a call on the model and on the proved library and of a proved check, in microseconds, the three
+    /// in turn, so that the machine's moods are shared. What the call changed is mended between the runs.
+    fn medians(&mut self, call: &Call) -> Medians {
         let changed = self.changed_by(call);
         let mut output = Output::for_call(call);
-        let (mut by_model, mut by_proved) = (Vec::new(), Vec::new());
+        let mut unused = Output::for_call(&Call::Check);
+        let (mut by_model, mut by_proved, mut by_check) = (Vec::new(), Vec::new(), Vec::new());
         for run in 0..RUNS {
-            // Each goes first half of the time.
-            for turn in [run % 2, (run + 1) % 2] {
+            // Each goes first a third of the time.
+            for turn in [run % 3, (run + 1) % 3, (run + 2) % 3] {
                 match turn {
                     0 => by_model.push(self.time::<Model>(call, &mut output)),
-                    _ => by_proved.push(self.time::<Proved>(call, &mut output)),
+                    1 => by_proved.push(self.time::<Proved>(call, &mut output)),
+                    _ => by_check.push(self.time::<Proved>(&Call::Check, &mut unused)),
                 }
                 for (at, bytes) in &changed {
                     self.image[*at..*at + BLOCK].copy_from_slice(bytes);
                 }
             }
         }
-        (median(by_model), median(by_proved))
+        Medians { model: median(by_model), proved: median(by_proved), check: median(by_check) }
     }
+}
+
+/// Microseconds.
+struct Medians {
+    model: f64,
+    proved: f64,
+    check: f64,
 }
 
 fn median(mut times: Vec<Duration>) -> f64 {
@@ -100,7 +109,7 @@ fn make(name: &[u8]) -> Call {
 }
 
 fn measure_check(what: &str, mut disk: Disk) {
-    let (model, proved) = disk.medians(&Call::Check);
+    let Medians { model, proved, .. } = disk.medians(&Call::Check);
     println!("{what:<44} {model:>10.1} {proved:>10.1} {:>9.2}", proved / model);
 }
 
@@ -122,10 +131,8 @@ fn measure_calls(what: &str, disk: Disk) {
         ("remove two blocks", Call::Remove { directory, name }),
     ];
     println!("{what}");
-    let (model, check) = disk.medians(&Call::Check);
-    println!("  {:<42} {model:>10.1} {check:>10.1} {:>9.2} {:>9.2}", "check", check / model, 1.0);
     for (what, call) in calls {
-        let (model, proved) = disk.medians(&call);
+        let Medians { model, proved, check } = disk.medians(&call);
         println!("  {what:<42} {model:>10.1} {proved:>10.1} {:>9.2} {:>9.2}", proved / model, proved / check);
     }
 }
