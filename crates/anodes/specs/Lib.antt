@@ -1,2 +1,3 @@
 -- The anodes of an image in three lists.
 pub mod Loaded
+pub mod Along

@@ -17,7 +17,7 @@ use Rattle.fsck.specs.declared.Tally.{Tally}
 use Rattle.fsck.specs.declared.Checked.{Checked}
 use Rattle.fsck.specs.declared.Checked.the-variants.{Accepted, Refused}
 use Rattle.fsck.specs.Answers.{checkedNumber}
-use Rattle.fsck.proofs.Laws.{number-some}
+use Rattle.disk.proofs.Laws.{number-some}
 use Rattle.changed.specs.Leaves.{Leaves}
 use Rattle.calls.proofs.Opened.{accepted-answer, change-refused, change-answered}
 use Rattle.calls.proofs.Written.{leaves-written}

@@ -13,7 +13,7 @@ use Rattle.fsck.specs.declared.Tally.{Tally}
 use Rattle.fsck.specs.declared.Checked.{Checked}
 use Rattle.fsck.specs.declared.Checked.the-variants.{Accepted, Refused}
 use Rattle.fsck.specs.Answers.{checkedNumber, Tallied}
-use Rattle.fsck.proofs.Laws.{number-some}
+use Rattle.disk.proofs.Laws.{number-some}
 
 after-refused : (k : ℕ) (img : List ℕ) → 1 ≤ k → summaryAfter k img ≡ replicate 4 0
 unfolding summaryAfter

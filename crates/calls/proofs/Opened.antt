@@ -24,7 +24,7 @@ use Rattle.fsck.specs.declared.Tally.{Tally}
 use Rattle.fsck.specs.declared.Checked.{Checked}
 use Rattle.fsck.specs.declared.Checked.the-variants.{Accepted, Refused}
 use Rattle.fsck.specs.Answers.{checkedNumber, Opened}
-use Rattle.fsck.proofs.Laws.{number-some}
+use Rattle.disk.proofs.Laws.{number-some}
 use Rattle.counting.specs.Laws.{neither}
 use Rattle.laws.specs.Acceptance.{passed-of}
 use Rattle.changes.specs.Answers.{Late, own-tables, span-late, list-late}

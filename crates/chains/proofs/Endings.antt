@@ -9,6 +9,7 @@ use native.Mathlib.Numerals.{add-one}
 use lib.ListN.{length, getD, set, replicate, length-set, length-replicate, List·getD-eq-default}
 use lib.Seq.{getD-set-same, getD-set-other}
 use lib.Dec.{T, eqb, eqb→eq, T-not, not-T}
+use Rattle.endian.proofs.Laws.{getD-zeros}
 use Rattle.rules.specs.Counting.{anyBelow}
 use Rattle.rules.specs.Chains.{followed}
 use Rattle.laws.specs.Tests.{same?, less?, eq→eqb, both, and, any-some, some-any}
@@ -16,7 +17,6 @@ use Rattle.laws.specs.Segments.{followed-zero}
 use Rattle.chains.specs.Predecessors.{Closed, PredTable}
 use Rattle.chains.specs.Storing.{storedAlong}
 use Rattle.chains.specs.Endings.{EndsBelow, unmarked, Endless, AllEnd, Ends}
-use Rattle.chains.proofs.Predecessors.{zeros}
 use Rattle.chains.proofs.Storing.{stored-length, stored-kept}
 
 -- ---- following next
@@ -111,7 +111,7 @@ module _ (n b : List ℕ) where
   pub ends-none : EndsBelow (replicate 3444 0) n b 0
   ends-none = record {
     whole = length-replicate {A = ℕ} 3444 0;
-    ending = λ x h. absurd (h (zeros 3444 x));
+    ending = λ x h. absurd (h (getD-zeros 3444 x));
     marked = λ e l. absurd (omega arith);
   }
 

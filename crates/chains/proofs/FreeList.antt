@@ -1,35 +1,20 @@
 -- 9, one anode after the other.
-use Prim.Native.Nat.{ℕ, zero, suc, _+_}
+use Prim.Native.Nat.{ℕ, _+_}
 use mathlib.Core.Path.{_≡_, refl, sym, _∙_}
 use mathlib.Core.Logic.{_≢_}
 use mathlib.Core.Bool.{Bool, true, false, _||_, or-true, or-assoc}
 use mathlib.Core.List.{List, [], _∷_}
 use native.Mathlib.Omega.{arith}
-use native.Mathlib.Numerals.{add-one}
 use lib.Dec.{eqb}
 use borrow.Author.Tests.{ne-eqb}
 use Rattle.rules.specs.Counting.{oneAt, times, anyIn}
 use Rattle.rules.specs.Anodes.{Anodes}
 use Rattle.rules.specs.Chains.{chainOf, cut, side}
 use Rattle.rules.specs.Accepted.{notAbove, notUpTo, wrongFreeList}
+use Rattle.laws.specs.Chains.{chain-none, chain-zero, chain-step}
 use Rattle.laws.specs.Sums.{oneAt-same, oneAt-other}
 use Rattle.laws.specs.Bags.{times-nil, times-cons}
 use Rattle.chains.specs.FreeList.{wrongBefore}
-
-module _ (next : ℕ → ℕ) where
-  chain-none : (a : ℕ) → chainOf next 0 a ≡ []
-  unfolding chainOf
-  chain-none a = refl
-
-  chain-zero : (k : ℕ) → chainOf next k 0 ≡ []
-  unfolding chainOf
-  chain-zero zero = refl
-  chain-zero (suc k) = refl
-
-  chain-step : (k m a : ℕ) → k ≡ m + 1 → a ≢ 0 → chainOf next k a ≡ a ∷ chainOf next m (next a)
-  unfolding chainOf
-  chain-step k m zero e h = absurd (h refl)
-  chain-step k m (suc a) e h = rw (e, add-one m)
 
 any-nil : (t : ℕ → Bool) → anyIn t [] ≡ false
 unfolding anyIn

@@ -4,24 +4,19 @@ use mathlib.Core.Path.{_≡_, sym, ap, _∙_}
 use mathlib.Core.Logic.{_≢_, inl, inr}
 use mathlib.Core.List.{List}
 use native.Mathlib.Omega.{arith}
-use lib.ListN.{length, getD, set, replicate, getD-replicate, List·getD-eq-default, length-replicate}
+use lib.ListN.{length, getD, set, replicate, List·getD-eq-default}
 use lib.Seq.{getD-set-same, getD-set-other}
+use Rattle.endian.proofs.Laws.{getD-zeros}
 use Rattle.rules.specs.Counting.{oneAt}
 use Rattle.rules.specs.Chains.{preds}
 use Rattle.laws.specs.Tests.{same?, less?}
 use Rattle.laws.specs.Sums.{oneAt-same, oneAt-other, oneAt-cases, oneAt-le, sum-member, sum-members, sum-zero, sum-le-one}
 use Rattle.chains.specs.Predecessors.{PredTable, NotedBelow, Twice}
 
-pub zeros : (k i : ℕ) → getD {A = ℕ} (replicate k 0) i 0 ≡ 0
-zeros k i = elim (less? i k) [
-  | inl l ↦ getD-replicate {A = ℕ} k i 0 0 l
-  | inr l ↦ List·getD-eq-default (replicate k 0) 0 (rw (length-replicate {A = ℕ} k 0) l)
-]
-
 pub noted-none : (n : List ℕ) → NotedBelow (replicate 3444 0) n 0
 noted-none n = record {
-  is-pred = λ x h. absurd (h (zeros 3444 x));
-  earlier = λ x h. absurd (h (zeros 3444 x));
+  is-pred = λ x h. absurd (h (getD-zeros 3444 x));
+  earlier = λ x h. absurd (h (getD-zeros 3444 x));
   only = λ p l. absurd (omega arith);
 }
 

@@ -10,11 +10,12 @@ use lib.Seq.{length-take-le}
 use Rattle.disk.specs.Blocks.{blockOf}
 use Rattle.disk.proofs.Laws.{length-blockOf}
 use Rattle.directory.specs.Entries.{nameIn}
+use Rattle.directory.proofs.Laws.{FoundAt, found-at}
 use Rattle.rules.specs.Anodes.{anodesOf}
 use Rattle.rules.specs.Walk.{Entered}
 use Rattle.rules.specs.Accepted.{checkAnswer}
 use Rattle.rules.specs.Lookup.{noDirectory, entriesOf, nameAt}
-use Rattle.changes.specs.FoundEntries.{part-byte, FoundAt, found-at, same-nameIn}
+use Rattle.changes.specs.FoundEntries.{part-byte, same-nameIn}
 use Rattle.changes.specs.Members.{Member}
 use Rattle.changes.specs.Reached.{entry-facts}
 

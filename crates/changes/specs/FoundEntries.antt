@@ -2,28 +2,26 @@
 use Prim.Native.Nat.{ℕ, zero, suc, _+_, _*_, _≤_, _<_}
 use mathlib.Core.Path.{_≡_, refl, sym, ap, _∙_, subst, fun-ext}
 use mathlib.Core.Logic.{_⊎_, inl, inr}
-use mathlib.Core.Bool.{Bool, true, false, cond, _&&_, true≢false, false≢true}
+use mathlib.Core.Bool.{false, cond, _&&_, true≢false}
 use mathlib.Core.List.{List, [], _∷_, _++_, cons≢nil, head-eq-of-cons-eq, tail-eq-of-cons-eq}
 use native.Mathlib.Omega.{arith}
 use native.Mathlib.Nat.{add-zero, add-assoc}
 use lib.Dec.{eqb, leb}
 use lib.ListN.{length, getD, take, drop, length-drop}
 use lib.Seq.{getD-take, getD-drop, length-take-le, ext-getD}
-use borrow.Author.Tests.{le-leb, leb-true, eqb-true, ne-eqb}
+use borrow.Author.Tests.{le-leb, ne-eqb}
 use Rattle.endian.specs.Bytes.{be16}
 use Rattle.endian.proofs.Laws.{be16-bytes, be32-halves}
 use Rattle.disk.specs.declared.Refusal.the-variants.{DirectoryBlock}
 use Rattle.directory.specs.declared.Entry.{Entry}
 use Rattle.directory.specs.declared.Kind.{Kind}
-use Rattle.directory.specs.declared.KindRead.{KindRead}
-use Rattle.directory.specs.declared.KindRead.the-variants.{Is, Neither}
 use Rattle.directory.specs.declared.Walked.{Walked}
 use Rattle.directory.specs.declared.Walked.the-variants.{Found, End, Fault}
-use Rattle.directory.specs.Entries.{kindRead, goodName, entryLength, nameLength, commentLength, nameIn, entryShaped, entryIn, walkedKind, walkedAt}
+use Rattle.directory.specs.Entries.{kindRead, goodName, entryLength, nameLength, commentLength, nameIn, entryShaped, entryIn, walkedKind, walkedAt, isDir}
+use Rattle.directory.proofs.Laws.{FoundAt, found-at, end-at}
 use Rattle.rules.specs.Counting.{anyIn}
-use Rattle.rules.specs.Walk.{Entered, isDir, withRest, entriesFrom}
+use Rattle.rules.specs.Walk.{Entered, withRest, entriesFrom}
 use Rattle.rules.specs.Changes.{endFrom}
-use Rattle.laws.specs.Acceptance.{and-both}
 
 -- parts of two lists of bytes that agree byte for byte
 pub part-same : (l m : List ℕ) (k j n : ℕ) → k + n ≤ length l → j + n ≤ length m → ((i : ℕ) → i < n → getD l (k + i) 0 ≡ getD m (j + i) 0) → take n (drop k l) ≡ take n (drop j m)
@@ -36,50 +34,6 @@ part-same l m k j n p q same =
 pub part-byte : (l m : List ℕ) (k j n : ℕ) → take n (drop k l) ≡ take n (drop j m) → (i : ℕ) → i < n → getD l (k + i) 0 ≡ getD m (j + i) 0
 part-byte l m k j n e i h =
     sym (getD-take n (drop k l) i 0 h ∙ getD-drop k l i 0) ∙ ap (λ (p : List ℕ). getD p i 0) e ∙ getD-take n (drop j m) i 0 h ∙ getD-drop j m i 0
-
-abbrev isFound : Walked → Bool
-isFound (Found e) = true
-isFound End = false
-isFound (Fault r) = false
-
-abbrev isEnd : Walked → Bool
-isEnd (Found e) = false
-isEnd End = true
-isEnd (Fault r) = false
-
--- what an entry that is found says of its length byte
-pub record FoundAt (b : List ℕ) (at : ℕ) : Type 0 where
-  pub long : 18 ≤ getD b at 0
-  pub exact : getD b at 0 ≡ entryLength (nameLength b at) (commentLength b at)
-  pub room : at + getD b at 0 ≤ 510
-
-shaped-at : (b : List ℕ) (at : ℕ) → entryShaped b at ≡ true → FoundAt b at
-unfolding entryShaped entryLength
-shaped-at b at h =
-    let fits = and-both (eqb (getD b at 0) (entryLength (nameLength b at) (commentLength b at))) (leb (at + getD b at 0) 510 && (leb (commentLength b at) 79 && goodName (nameIn b at))) h in
-    let exact = eqb-true (getD b at 0) (entryLength (nameLength b at) (commentLength b at)) (fits .0) in
-    let within = and-both (leb (at + getD b at 0) 510) (leb (commentLength b at) 79 && goodName (nameIn b at)) (fits .1) in
-    record { long = omega (arith, exact); exact = exact; room = leb-true (at + getD b at 0) 510 (within .0) }
-
-pub found-at : (b : List ℕ) (at : ℕ) (x : Entry) → walkedAt b at ≡ Found x → FoundAt b at
-unfolding walkedAt
-found-at b at x h = go (eqb (getD b at 0) 0) (entryShaped b at) (walkedKind (kindRead (getD b (at + 1) 0)) (entryIn b at)) refl h
-  where
-    go : (p q : Bool) (w : Walked) → entryShaped b at ≡ q → cond p End (cond q w (Fault DirectoryBlock)) ≡ Found x → FoundAt b at
-    go true q w j f = absurd (false≢true (ap isFound f))
-    go false false w j f = absurd (false≢true (ap isFound f))
-    go false true w j f = shaped-at b at j
-
--- the end mark is a length byte 0
-pub end-at : (b : List ℕ) (at : ℕ) → walkedAt b at ≡ End → getD b at 0 ≡ 0
-unfolding walkedAt
-end-at b at h = go (eqb (getD b at 0) 0) (entryShaped b at) (kindRead (getD b (at + 1) 0)) refl h
-  where
-    go : (p q : Bool) (k : KindRead) → eqb (getD b at 0) 0 ≡ p → cond p End (cond q (walkedKind k (entryIn b at)) (Fault DirectoryBlock)) ≡ End → getD b at 0 ≡ 0
-    go true q k j f = eqb-true (getD b at 0) 0 j
-    go false true (Is x) j f = absurd (false≢true (ap isEnd f))
-    go false true Neither j f = absurd (false≢true (ap isEnd f))
-    go false false k j f = absurd (false≢true (ap isEnd f))
 
 -- the bytes of an entry, at another place or in another block
 module _ (b b′ : List ℕ) (at at′ : ℕ) (whole : length b ≡ 512) (whole′ : length b′ ≡ 512) (f : FoundAt b at) (room′ : at′ + getD b at 0 ≤ 510)

@@ -12,10 +12,11 @@ use Rattle.endian.proofs.Laws.{be16-bytes}
 use Rattle.directory.specs.declared.Entry.{Entry}
 use Rattle.directory.specs.declared.Walked.the-variants.{Found, End}
 use Rattle.directory.specs.Entries.{directoryHeadIn, walkedAt}
+use Rattle.directory.proofs.Laws.{found-at}
 use Rattle.rules.specs.Counting.{anyIn}
 use Rattle.rules.specs.Walk.{Entered, entriesFrom}
 use Rattle.rules.specs.Changes.{endFrom, entriesEnd, gapClosed}
-use Rattle.changes.specs.FoundEntries.{part-same, found-at, walked-same, Standing, entry-standing, found-more, found-none, unbroken-cases, end-more, end-here, end-bounds, place-after, place-order}
+use Rattle.changes.specs.FoundEntries.{part-same, walked-same, Standing, entry-standing, found-more, found-none, unbroken-cases, end-more, end-here, end-bounds, place-after, place-order}
 use Rattle.changes.specs.Members.{Member}
 
 -- the same entry, so many bytes earlier

@@ -11,11 +11,11 @@ use lib.ListN.{length}
 use borrow.Author.Tests.{lt-ltb, le-ltb}
 use Rattle.disk.specs.Blocks.{blockOf}
 use Rattle.directory.specs.declared.Kind.the-variants.{File, Directory}
-use Rattle.directory.specs.Entries.{goodName, goodComment, entryLength}
+use Rattle.directory.specs.Entries.{goodName, goodComment, entryLength, isDir}
 use Rattle.rules.specs.Counting.{oneAt, sumList, times, gather}
 use Rattle.rules.specs.Anodes.{Anodes, limit, exists, anodesOf}
 use Rattle.rules.specs.Chains.{blocksOf, blockCount, systemOwns}
-use Rattle.rules.specs.Walk.{Dir, Entered, entriesIn, isBlockOf, isDir, blocksFor, itemsBy, reachedDirs}
+use Rattle.rules.specs.Walk.{Dir, Entered, entriesIn, isBlockOf, blocksFor, itemsBy, reachedDirs}
 use Rattle.rules.specs.Accepted.{diskSize, lastReserved, checkAnswer}
 use Rattle.rules.specs.Lookup.{noDirectory}
 use Rattle.rules.specs.Space.{Plan, refused, planned, rewritten, free, lowestFree}

@@ -13,7 +13,7 @@ use Rattle.disk.proofs.Laws.{length-blockOf}
 use Rattle.directory.specs.declared.Walked.the-variants.{Found}
 use Rattle.directory.specs.declared.Entry.{Entry}
 use Rattle.directory.specs.Entries.{goodComment, walkedAt, putEntry}
-use Rattle.directory.proofs.Laws.{length-putEntry, getD-putEntry-before, nameIn-putEntry, walkedAt-putEntry}
+use Rattle.directory.proofs.Laws.{length-putEntry, getD-putEntry-before, nameIn-putEntry, walkedAt-putEntry, found-at}
 use Rattle.rules.specs.Counting.{oneAt, times, anyIn, gather}
 use Rattle.rules.specs.Anodes.{Anodes, limit, anodesOf}
 use Rattle.rules.specs.Chains.{chainOf, blocksOf}
@@ -30,7 +30,7 @@ use Rattle.laws.specs.ChainBlocks.{gather-append, extent, kept-blocks, stands-o
 use Rattle.laws.specs.DirectoryTakes.{dir-head}
 use Rattle.frames.specs.DisjointBlocks.{chains-apart, chain-block}
 use Rattle.changes.specs.Image.{headIn, headed-reached, reached-some, reached-headed}
-use Rattle.changes.specs.FoundEntries.{part-same, found-at, enteredAt, entry-standing}
+use Rattle.changes.specs.FoundEntries.{part-same, enteredAt, entry-standing}
 use Rattle.changes.specs.Members.{Member, member-first, member-times, times-member, gather-congr}
 use Rattle.changes.specs.Reached.{block-on, reached-from-5, reached-head, dir-block, entry-facts, not-file}
 use Rattle.changes.specs.SingleBlocks.{block-unbroken}

@@ -15,14 +15,14 @@ use Rattle.disk.specs.Blocks.{blockOf}
 use Rattle.directory.specs.declared.Entry.{Entry}
 use Rattle.directory.specs.declared.Walked.the-variants.{Found, End}
 use Rattle.directory.specs.Entries.{directoryMark, directoryHeadIn, goodName, entryLength, entryIn, walkedAt, putEntry}
-use Rattle.directory.proofs.Laws.{length-putDirectoryHead, getD-putDirectoryHead-after, directoryHeadIn-putDirectoryHead, length-putEntry, getD-putEntry-before, walkedAt-putEntry-end, entryIn-putEntry, walkedAt-putEntry}
+use Rattle.directory.proofs.Laws.{length-putDirectoryHead, getD-putDirectoryHead-after, directoryHeadIn-putDirectoryHead, length-putEntry, getD-putEntry-before, walkedAt-putEntry-end, entryIn-putEntry, walkedAt-putEntry, found-at}
 use Rattle.rules.specs.Counting.{times, anyIn}
 use Rattle.rules.specs.Walk.{Entered, entriesFrom}
 use Rattle.rules.specs.Format.{zeroBlock}
 use Rattle.rules.specs.Changes.{endFrom, entriesEnd, firstRoom, newDirectoryBlock}
 use Rattle.laws.specs.Sums.{oneAt-same}
 use Rattle.laws.specs.Bags.{times-cons}
-use Rattle.changes.specs.FoundEntries.{found-at, walked-same, enteredAt, found-more, found-none, unbroken-cases, end-more, end-here, end-bounds}
+use Rattle.changes.specs.FoundEntries.{walked-same, enteredAt, found-more, found-none, unbroken-cases, end-more, end-here, end-bounds}
 
 none-from : (k : ℕ) (b : List ℕ) (y at : ℕ) → walkedAt b at ≡ End → entriesFrom k b y at ≡ []
 unfolding entriesFrom

@@ -18,10 +18,11 @@ use Rattle.directory.specs.declared.KindRead.the-variants.{Is, Neither}
 use Rattle.directory.specs.declared.Walked.{Walked}
 use Rattle.directory.specs.declared.Walked.the-variants.{Found, End, Fault}
 use Rattle.directory.specs.Entries.{directoryHeadIn, kindRead, nameLength, commentLength, nameIn, entryShaped, entryIn, walkedKind, walkedAt}
+use Rattle.directory.proofs.Laws.{found-at, end-at}
 use Rattle.rules.specs.Counting.{anyIn}
 use Rattle.rules.specs.Walk.{Entered, entriesFrom}
 use Rattle.changes.specs.Members.{no-member}
-use Rattle.changes.specs.FoundEntries.{found-at, end-at, walked-same, found-more, found-none, unbroken-cases, place-after}
+use Rattle.changes.specs.FoundEntries.{walked-same, found-more, found-none, unbroken-cases, place-after}
 
 -- the same entry with another size
 abbrev pub sized : ℕ → Entered → Entered

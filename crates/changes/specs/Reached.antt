@@ -12,6 +12,7 @@ use Rattle.directory.specs.declared.Entry.{Entry}
 use Rattle.directory.specs.declared.Walked.{Walked}
 use Rattle.directory.specs.declared.Walked.the-variants.{Found, End, Fault}
 use Rattle.directory.specs.Entries.{walkedAt}
+use Rattle.directory.proofs.Laws.{found-at}
 use Rattle.rules.specs.Counting.{oneAt, sumList, times, anyIn}
 use Rattle.rules.specs.Anodes.{Anodes, limit, anodesOf}
 use Rattle.rules.specs.Chains.{chainOf, heads, run, blocksOf, blockCount}
@@ -32,7 +33,7 @@ use Rattle.laws.specs.Entries.{broken-wrong, item-fine, item-anode, item-dir, i
 use Rattle.laws.specs.Whole.{Whole, counts-head, not-dir, dir-heads, named-heads}
 use Rattle.frames.specs.DisjointBlocks.{DataBlock, chain-block}
 use Rattle.changes.specs.Image.{WholeImage, headIn, sideIn, accepted-whole, headed-reached, reached-some}
-use Rattle.changes.specs.FoundEntries.{found-at, enteredAt}
+use Rattle.changes.specs.FoundEntries.{enteredAt}
 use Rattle.changes.specs.Members.{Member, no-member, member-first, member-later, member-cons, member-each, member-sum, member-gather, member-times}
 
 -- ---- lookups

@@ -7,6 +7,7 @@ use mathlib.Core.List.{List, [], _∷_}
 use native.Mathlib.Omega.{arith}
 use lib.ListN.{take}
 use Rattle.disk.specs.Blocks.{blockOf}
+use Rattle.directory.proofs.Laws.{FoundAt, found-at}
 use Rattle.rules.specs.Counting.{oneAt, times, anyIn, gather}
 use Rattle.rules.specs.Anodes.{Anodes, limit, exists, anodesOf}
 use Rattle.rules.specs.Chains.{chainOf, run, blocksOf, blockCount, systemOwns}
@@ -31,7 +32,6 @@ use Rattle.changes.specs.SingleBlocks.{block-unbroken}
 use Rattle.changes.specs.EntryBytes.{entryBytes}
 use Rattle.changes.specs.Remove as Remove
 use Rattle.changes.specs.Remove.{removed-same, removed-anodes, planned-accepted}
-use Rattle.changes.specs.FoundEntries.{FoundAt, found-at}
 use Rattle.counting.specs.Laws.{neither}
 
 none-member : (test : Entered → Bool) (l : List Entered) → anyIn test l ≡ false → (f : Entered) → Member f l → test f ≡ false

@@ -9,6 +9,7 @@ use lib.Dec.{eqb}
 use borrow.Author.Tests.{eq-eqb, ne-eqb}
 use lib.ListN.{length, getD}
 use Rattle.disk.specs.Blocks.{blockOf}
+use Rattle.directory.proofs.Laws.{FoundAt}
 use Rattle.rules.specs.Counting.{times, anyIn, gather}
 use Rattle.rules.specs.Anodes.{Anodes, limit, exists, anodesOf}
 use Rattle.rules.specs.Chains.{chainOf, blockCount}
@@ -29,7 +30,6 @@ use Rattle.changes.specs.Gap.{lowered, bytes-earlier, bytes-later}
 use Rattle.changes.specs.EntryBytes.{entryBytes, bytes-at, with-length}
 use Rattle.changes.specs.Remove as Remove
 use Rattle.changes.specs.Remove.{removed-anodes}
-use Rattle.changes.specs.FoundEntries.{FoundAt}
 use Rattle.changes.specs.RemoveEffects.{place-in, entries-from, bytes-other}
 
 -- an entry behind the removed one: in the same block it stands earlier by as many bytes as that had

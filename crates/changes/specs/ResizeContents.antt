@@ -20,13 +20,14 @@ use Rattle.rules.specs.Walk.{Entered, blocksFor}
 use Rattle.rules.specs.Lookup.{noDirectory, entriesOf, bytesOf, contents}
 use Rattle.rules.specs.Format.{zeroBlock}
 use Rattle.rules.specs.Changes.{inBlock, zeroTail, zeroTaken, resizedImage}
+use Rattle.laws.specs.Chains.{Inside}
 use Rattle.laws.specs.Tests.{same?}
 use Rattle.laws.specs.Sums.{oneAt-same}
 use Rattle.laws.specs.Bags.{times-cons, times-append}
 use Rattle.laws.specs.Whole.{blocks-count}
 use Rattle.laws.specs.ChainBlocks.{gather-append, shift-blocks}
 use Rattle.frames.specs.StoredBlocks.{inBlock-kept, blockOf-inBlock}
-use Rattle.frames.specs.StoredBytes.{Inside, length-gather, blockOf-withBlocks, bytesOf-kept}
+use Rattle.frames.specs.StoredBytes.{length-gather, blockOf-withBlocks, bytesOf-kept}
 use Rattle.frames.specs.DisjointBlocks.{chain-once, chains-apart, chain-block}
 use Rattle.changes.specs.Members.{Member, member-first, member-later, member-times, gather-congr}
 use Rattle.changes.specs.Reached.{entry-facts, reached-head, not-file, block-on}

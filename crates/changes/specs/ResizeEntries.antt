@@ -11,6 +11,7 @@ use Rattle.endian.specs.Bytes.{put16, put32}
 use Rattle.endian.proofs.Laws.{length-put32}
 use Rattle.disk.specs.Blocks.{blockOf}
 use Rattle.disk.proofs.Laws.{length-blockOf}
+use Rattle.directory.proofs.Laws.{found-at}
 use Rattle.rules.specs.Counting.{oneAt, gather, anyIn}
 use Rattle.rules.specs.Anodes.{Anodes, limit, anodesOf}
 use Rattle.rules.specs.Chains.{chainOf}
@@ -21,7 +22,7 @@ use Rattle.laws.specs.Tests.{same?}
 use Rattle.laws.specs.TreeChanges.{headed}
 use Rattle.changes.specs.Image.{headIn, headed-same, reached-sum}
 use Rattle.changes.specs.Members.{Member, member-cons, member-append, gather-congr}
-use Rattle.changes.specs.FoundEntries.{part-same, found-at, place-order}
+use Rattle.changes.specs.FoundEntries.{part-same, place-order}
 use Rattle.changes.specs.Reached.{reached-dir, EntryFacts, dir-block, entry-facts}
 use Rattle.changes.specs.SingleBlocks.{block-unbroken}
 use Rattle.changes.specs.NamedOnce.{only-home}

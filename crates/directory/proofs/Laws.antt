@@ -1,12 +1,12 @@
 -- The cases of the definitions, and what a reader of a directory block gets after a store. Assumes nothing.
-use mathlib.Core.Path.{_≡_, refl, sym, _∙_}
+use mathlib.Core.Path.{_≡_, refl, sym, ap, _∙_}
 use Prim.Native.Nat.{ℕ, _+_, _-_, _*_, _/_, _%_, _<_, _≤_}
 use mathlib.Core.List.{List, [], _∷_, _++_}
-use mathlib.Core.Bool.{Bool, true, _&&_, and-eq-true-iff}
+use mathlib.Core.Bool.{Bool, true, false, cond, _&&_, and-eq-true-iff, false≢true}
 use native.Mathlib.Omega.{arith}
 use native.Mathlib.Numerals.{add-one}
-use borrow.Author.Tests.{le-leb, eq-eqb, ne-eqb, leb-true}
-use lib.Dec.{leb}
+use borrow.Author.Tests.{le-leb, eq-eqb, ne-eqb, leb-true, eqb-true}
+use lib.Dec.{leb, eqb}
 use lib.ListN.{length, getD, set, take, drop, drop-of-length-le, length-set, length-drop}
 use lib.Seq.{drop-cons, getD-set-same, getD-set-other, getD-take, getD-drop, length-take-le, ext-getD}
 use Rattle.endian.specs.Bytes.{be16, be32, put16, put32, stored, cleared}
@@ -14,10 +14,13 @@ use Rattle.endian.proofs.Laws.{length-put16, length-put32, be16-put16-same, be1
 use Rattle.directory.specs.declared.DirectoryHead.{DirectoryHead}
 use Rattle.directory.specs.declared.Kind.{Kind}
 use Rattle.directory.specs.declared.Kind.the-variants.{File, Directory}
-use Rattle.directory.specs.declared.KindRead.the-variants.{Is}
+use Rattle.directory.specs.declared.KindRead.{KindRead}
+use Rattle.directory.specs.declared.KindRead.the-variants.{Is, Neither}
 use Rattle.directory.specs.declared.Entry.{Entry}
-use Rattle.directory.specs.declared.Walked.the-variants.{Found, End}
-use Rattle.directory.specs.Entries.{directoryHeadIn, putDirectoryHead, kindRead, typeOf, goodNameByte, allBytes, goodName, entryLength, nameLength, commentLength, nameIn, entryShaped, entryIn, walkedAt, putEntry}
+use Rattle.directory.specs.declared.Walked.{Walked}
+use Rattle.directory.specs.declared.Walked.the-variants.{Found, End, Fault}
+use Rattle.disk.specs.declared.Refusal.the-variants.{DirectoryBlock}
+use Rattle.directory.specs.Entries.{directoryHeadIn, putDirectoryHead, kindRead, typeOf, goodNameByte, allBytes, goodName, entryLength, nameLength, commentLength, nameIn, entryShaped, entryIn, walkedKind, walkedAt, putEntry}
 
 -- ---- names
 
@@ -289,3 +292,49 @@ module _ (b : List ℕ) (at : ℕ) (e : Entry) (name comment : List ℕ) where
             good,
             entryIn-putEntry,
           )
+
+-- ---- what a found entry and the end mark say of the bytes
+
+abbrev isFound : Walked → Bool
+isFound (Found e) = true
+isFound End = false
+isFound (Fault r) = false
+
+abbrev isEnd : Walked → Bool
+isEnd (Found e) = false
+isEnd End = true
+isEnd (Fault r) = false
+
+-- what an entry that is found says of its length byte
+pub record FoundAt (b : List ℕ) (at : ℕ) : Type 0 where
+  pub long : 18 ≤ getD b at 0
+  pub exact : getD b at 0 ≡ entryLength (nameLength b at) (commentLength b at)
+  pub room : at + getD b at 0 ≤ 510
+
+shaped-at : (b : List ℕ) (at : ℕ) → entryShaped b at ≡ true → FoundAt b at
+unfolding entryShaped entryLength
+shaped-at b at h =
+    let fits = and-eq-true-iff (eqb (getD b at 0) (entryLength (nameLength b at) (commentLength b at))) (leb (at + getD b at 0) 510 && (leb (commentLength b at) 79 && goodName (nameIn b at))) .0 h in
+    let exact = eqb-true (getD b at 0) (entryLength (nameLength b at) (commentLength b at)) (fits .0) in
+    let within = and-eq-true-iff (leb (at + getD b at 0) 510) (leb (commentLength b at) 79 && goodName (nameIn b at)) .0 (fits .1) in
+    record { long = omega (arith, exact); exact = exact; room = leb-true (at + getD b at 0) 510 (within .0) }
+
+pub found-at : (b : List ℕ) (at : ℕ) (x : Entry) → walkedAt b at ≡ Found x → FoundAt b at
+unfolding walkedAt
+found-at b at x h = go (eqb (getD b at 0) 0) (entryShaped b at) (walkedKind (kindRead (getD b (at + 1) 0)) (entryIn b at)) refl h
+  where
+    go : (p q : Bool) (w : Walked) → entryShaped b at ≡ q → cond p End (cond q w (Fault DirectoryBlock)) ≡ Found x → FoundAt b at
+    go true q w j f = absurd (false≢true (ap isFound f))
+    go false false w j f = absurd (false≢true (ap isFound f))
+    go false true w j f = shaped-at b at j
+
+-- the end mark is a length byte 0
+pub end-at : (b : List ℕ) (at : ℕ) → walkedAt b at ≡ End → getD b at 0 ≡ 0
+unfolding walkedAt
+end-at b at h = go (eqb (getD b at 0) 0) (entryShaped b at) (kindRead (getD b (at + 1) 0)) refl h
+  where
+    go : (p q : Bool) (k : KindRead) → eqb (getD b at 0) 0 ≡ p → cond p End (cond q (walkedKind k (entryIn b at)) (Fault DirectoryBlock)) ≡ End → getD b at 0 ≡ 0
+    go true q k j f = eqb-true (getD b at 0) 0 j
+    go false true (Is x) j f = absurd (false≢true (ap isEnd f))
+    go false true Neither j f = absurd (false≢true (ap isEnd f))
+    go false false k j f = absurd (false≢true (ap isEnd f))

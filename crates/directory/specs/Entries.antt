@@ -1,5 +1,5 @@
 -- 01, "Layouts", Directory block and Entry.
-use Prim.Native.Nat.{ℕ, zero, suc, _+_, _-_, _*_, _/_, _%_}
+use Prim.Native.Nat.{ℕ, _+_, _-_, _*_, _/_, _%_}
 use mathlib.Core.List.{List, [], _∷_}
 use mathlib.Core.Bool.{Bool, true, false, cond, not, _&&_}
 use lib.ListN.{length, getD, set, take, drop}
@@ -33,6 +33,10 @@ kindRead byte = cond (eqb byte 253) (Is File) (cond (eqb byte 2) (Is Directory) 
 abbrev pub typeOf : Kind → ℕ
 typeOf File = 253
 typeOf Directory = 2
+
+abbrev pub isDir : Kind → Bool
+isDir File = false
+isDir Directory = true
 
 -- no 0, `:` or `/` in a name
 unfoldable pub goodNameByte : ℕ → Bool

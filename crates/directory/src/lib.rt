@@ -1,9 +1,8 @@
 // Directory blocks and their entries: readers and writers of one lent block.
 ghost use mathlib.Core.Path.{_≡_};
 ghost use Prim.Native.Nat.{_+_, _*_, _<_, _≤_};
-ghost use lib.ListN.{length, getD, set, take, drop};
-ghost use Rattle.endian.specs.Bytes.{be16, be32, put16, put32};
-ghost use Rattle.directory.specs.Entries.{kindRead, typeOf, goodName, goodNameByte, directoryHeadIn, putDirectoryHead, entryLength, entryShaped, entryIn, walkedAt, putEntry};
+ghost use lib.ListN.{length};
+ghost use Rattle.directory.specs.Entries.{kindRead, typeOf, isDir, goodName, goodNameByte, directoryHeadIn, putDirectoryHead, entryLength, entryShaped, entryIn, walkedAt, putEntry};
 use disk::AnodeNo;
 use disk::Refusal;
 use endian::clear;
@@ -86,6 +85,16 @@ pub fn kind_of(byte: u8) -> KindRead
         return KindRead::Is(Kind::Directory);
     }
     KindRead::Neither
+}
+
+// Whether an entry is a directory's.
+pub fn is_directory(kind: Kind) -> bool
+    ensures { λ r. ⌜ r ≡ isDir kind ⌝ }
+{
+    match kind {
+        Kind::File => false,
+        Kind::Directory => true,
+    }
 }
 
 // A byte that may stand in a name.

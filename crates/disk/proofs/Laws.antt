@@ -10,6 +10,9 @@ use lib.Seq.{take-all}
 use borrow.Author.Tests.{le-ltb, lt-ltb, eq-eqb, ne-eqb}
 use borrow.Rule.Slice.PartMut.{putMid, post-is}
 use Rattle.endian.proofs.Laws.{le-or-lt, length-put16}
+use Rattle.disk.specs.declared.Refusal.{Refusal}
+use Rattle.disk.specs.declared.Refusal.the-variants.{ImageSize, TableSize, DiskType, RootBlock, AnodeBlock, FixedAnode, AnodeRange, ChainLinks, FreeList, TwoOwners, NoOwner, DirectoryBlock, EntryAnode, NamedTwice, FileSize, UnnamedChain, BadArgument, NoDirectory, NotFound, AlreadyThere, IsDirectory, NotEmpty, PastEnd, NoFreeBlock, NoFreeAnode}
+use Rattle.disk.specs.Refusals.{numberOf}
 use Rattle.disk.specs.Blocks.{blockOf, withBlock}
 use Rattle.disk.specs.Root.{slotIn, slotOf}
 use Rattle.disk.specs.AnodeBlocks.{anodeMade, anodeIn, putAnode, listed, anodesIn, anodeSlots, anodeAt, anodeOf, setAnode}
@@ -139,3 +142,33 @@ setAnode-back img a s e x new slot some end starts is =
     let n = is ∙ ap (λ (l : List ℕ). putAnode l (a % 82) x) (part-block img s e end starts) in
     block-back img s e end starts new (rw n (length-putAnode (blockOf img s) (a % 82) x))
     ∙ rw n (sym (setAnode-there img a s x slot some))
+
+-- ---- refusals
+
+-- no refusal is 0, the answer of a call that is done
+pub number-some : (r : Refusal) → 1 ≤ numberOf r
+number-some ImageSize = omega arith
+number-some TableSize = omega arith
+number-some DiskType = omega arith
+number-some RootBlock = omega arith
+number-some AnodeBlock = omega arith
+number-some FixedAnode = omega arith
+number-some AnodeRange = omega arith
+number-some ChainLinks = omega arith
+number-some FreeList = omega arith
+number-some TwoOwners = omega arith
+number-some NoOwner = omega arith
+number-some DirectoryBlock = omega arith
+number-some EntryAnode = omega arith
+number-some NamedTwice = omega arith
+number-some FileSize = omega arith
+number-some UnnamedChain = omega arith
+number-some BadArgument = omega arith
+number-some NoDirectory = omega arith
+number-some NotFound = omega arith
+number-some AlreadyThere = omega arith
+number-some IsDirectory = omega arith
+number-some NotEmpty = omega arith
+number-some PastEnd = omega arith
+number-some NoFreeBlock = omega arith
+number-some NoFreeAnode = omega arith

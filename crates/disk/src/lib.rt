@@ -1,8 +1,7 @@
 // The vocabulary of a PFS disk: the two kinds of number, anodes and refusals, and readers and writers of the root block and of an anode block.
 ghost use mathlib.Core.Path.{_≡_};
-ghost use Prim.Native.Nat.{_+_, _*_, _<_, _≤_};
-ghost use lib.ListN.{length, getD, set, take, drop};
-ghost use Rattle.endian.specs.Bytes.{be16, be32, put16, put32};
+ghost use Prim.Native.Nat.{_+_, _*_, _<_};
+ghost use Rattle.endian.specs.Bytes.{put16};
 ghost use Rattle.disk.specs.Refusals.{numberOf};
 ghost use Rattle.disk.specs.Blocks.{blockOf};
 ghost use Rattle.disk.specs.Root.{rootIn, putRoot, slotIn, slotOf};

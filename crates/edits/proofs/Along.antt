@@ -13,18 +13,8 @@ use Rattle.rules.specs.Chains.{chainOf, run, blocksOf}
 use Rattle.rules.specs.Changes.{endFrom, entriesEnd, firstRoom}
 use Rattle.laws.specs.Sums.{oneAt-same}
 use Rattle.laws.specs.Bags.{times-cons}
+use Rattle.anodes.specs.Along.{blocksAlong, along-step}
 use Rattle.anodes.specs.Loaded.{anodesFrom}
-
--- ---- the blocks of at most k anodes from a on
-
-unfoldable pub blocksAlong : List ℕ → List ℕ → List ℕ → ℕ → ℕ → List ℕ
-blocksAlong counts firsts nexts k a = gather (λ x. run (getD firsts x 0) (getD counts x 0)) (chainOf (λ x. getD nexts x 0) k a)
-
-blocks-step : (counts firsts nexts : List ℕ) (k m a : ℕ) → k ≡ m + 1 → (a ≡ 0 → ⊥)
-    → blocksAlong counts firsts nexts k a ≡ run (getD firsts a 0) (getD counts a 0) ++ blocksAlong counts firsts nexts m (getD nexts a 0)
-unfolding blocksAlong chainOf gather
-blocks-step counts firsts nexts k m zero fuel n = absurd (n refl)
-blocks-step counts firsts nexts k m (suc a) fuel n = rw (fuel, add-one m)
 
 -- ---- the i-th block
 
@@ -55,10 +45,10 @@ module _ (counts firsts nexts : List ℕ) (i : ℕ) where
 
 module _ (counts firsts nexts : List ℕ) (k m a : ℕ) (fuel : k ≡ m + 1) (some-anode : a ≡ 0 → ⊥) (i : ℕ) where
   pub nth-here : i < getD counts a 0 → getD (blocksAlong counts firsts nexts k a) i 0 ≡ getD firsts a 0 + i
-  nth-here h = rw (blocks-step counts firsts nexts k m a fuel some-anode) (run-at (getD firsts a 0) (getD counts a 0) i (blocksAlong counts firsts nexts m (getD nexts a 0)) h)
+  nth-here h = rw (along-step counts firsts nexts k m a fuel some-anode) (run-at (getD firsts a 0) (getD counts a 0) i (blocksAlong counts firsts nexts m (getD nexts a 0)) h)
 
   pub nth-later : getD counts a 0 ≤ i → getD (blocksAlong counts firsts nexts k a) i 0 ≡ getD (blocksAlong counts firsts nexts m (getD nexts a 0)) (i - getD counts a 0) 0
-  nth-later h = rw (blocks-step counts firsts nexts k m a fuel some-anode) (run-past (getD firsts a 0) (getD counts a 0) i (blocksAlong counts firsts nexts m (getD nexts a 0)) h)
+  nth-later h = rw (along-step counts firsts nexts k m a fuel some-anode) (run-past (getD firsts a 0) (getD counts a 0) i (blocksAlong counts firsts nexts m (getD nexts a 0)) h)
 
 -- ---- the end mark, from a place on
 

@@ -21,10 +21,10 @@ use Rattle.disk.proofs.Laws.{length-blockOf-min, withBlock-out, part-block, blo
 use Rattle.disk.proofs.Store.{withBlock-stored}
 use Rattle.directory.specs.declared.Kind.{Kind}
 use Rattle.directory.specs.declared.Kind.the-variants.{File, Directory}
-use Rattle.directory.specs.Entries.{directoryMark, putDirectoryHead}
+use Rattle.directory.specs.Entries.{directoryMark, putDirectoryHead, isDir}
 use Rattle.rules.specs.Anodes.{Anodes, sameAnode, storeChanged}
 use Rattle.rules.specs.Chains.{blocksOf}
-use Rattle.rules.specs.Walk.{Entered, isDir}
+use Rattle.rules.specs.Walk.{Entered}
 use Rattle.rules.specs.Format.{zeroBlock}
 use Rattle.rules.specs.Changes.{inBlock, withBlocks, zeroTail, newDirectoryBlock}
 use Rattle.laws.specs.OwnerTable.{setAll}

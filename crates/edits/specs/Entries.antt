@@ -4,7 +4,7 @@ use mathlib.Core.List.{List, _++_}
 use mathlib.Core.Option.{Option, none, some}
 use lib.ListN.{take, drop}
 use Rattle.directory.specs.declared.Kind.{Kind}
-use Rattle.rules.specs.Walk.{isDir}
+use Rattle.directory.specs.Entries.{isDir}
 use Rattle.rules.specs.Changes.{NewEntry}
 use Rattle.edits.specs.declared.Room.{Room}
 use Rattle.edits.specs.declared.Room.the-variants.{At, Nowhere}

@@ -10,7 +10,7 @@ use native.Mathlib.Omega.{arith}
 use native.Mathlib.Numerals.{add-one}
 use native.Mathlib.Nat.{not-suc-le-zero}
 use lib.ListN.{length, getD, set, take, drop, replicate, length-set, length-replicate, getD-replicate, List·getD-eq-default}
-use lib.Seq.{set-out, getD-set-same, getD-set-other, getD-take, getD-drop, drop-cons, length-sets}
+use lib.Seq.{set-out, getD-set-same, getD-set-other, drop-cons, length-sets}
 use Rattle.endian.specs.Bytes.{be16, be32, put16, put32, stored, cleared}
 
 -- ---- cases
@@ -47,14 +47,6 @@ be16-out l at h = rw (List·getD-eq-default l 0 h, List·getD-eq-default l 0 {n 
 pub be32-out : (l : List ℕ) (at : ℕ) → length l ≤ at → be32 l at ≡ 0
 unfolding be32
 be32-out l at h = rw (be16-out l at h, be16-out l (at + 2) (omega arith))
-
--- a number read in a part is that read in the whole
-pub be16-part : (l : List ℕ) (from n k : ℕ) → k + 1 < n → be16 (take n (drop from l)) k ≡ be16 l (from + k)
-be16-part l from n k h =
-    let e : from + (k + 1) ≡ from + k + 1 = omega arith in
-    be16-bytes (take n (drop from l)) l k (from + k)
-    (getD-take n (drop from l) k 0 (omega arith) ∙ getD-drop from l k 0)
-    (getD-take n (drop from l) (k + 1) 0 h ∙ getD-drop from l (k + 1) 0 ∙ rw e)
 
 pub be16-set-other : (l : List ℕ) (at v k : ℕ) → (k ≡ at → ⊥) → (k + 1 ≡ at → ⊥) → be16 (set l at v) k ≡ be16 l k
 be16-set-other l at v k n0 n1 = be16-bytes (set l at v) l k k (getD-set-other l at k v 0 n0) (getD-set-other l at (k + 1) v 0 n1)
@@ -180,6 +172,14 @@ pub cleared-step : (l : List ℕ) (at n m : ℕ) → n ≡ m + 1 → cleared l a
 cleared-step l at n m e =
     rw (e, add-one m, cleared-stored l at (suc m), cleared-stored (set l at 0) (at + 1) m) (stored-cons l at 0 (replicate m 0))
 
+-- zeros read as zeros, and so does what lies past them
+pub getD-zeros : (n i : ℕ) → getD {A = ℕ} (replicate n 0) i 0 ≡ 0
+getD-zeros n i =
+    ⊎-elim
+    (λ h. List·getD-eq-default (replicate n 0) 0 (rw (length-replicate {A = ℕ} n 0) h))
+    (λ h. getD-replicate {A = ℕ} n i 0 0 h)
+    (le-or-lt n i)
+
 pub cleared-out : (l : List ℕ) (at n : ℕ) → length l ≤ at → cleared l at n ≡ l
 cleared-out l at n h = cleared-stored l at n ∙ stored-out l at (replicate n 0) h
 
@@ -199,15 +199,3 @@ getD-cleared-in l at n i h g =
     (λ o. List·getD-eq-default (cleared l at n) 0 (rw (length-cleared l at n) o))
     (λ t. rw (cleared-stored l at n) (getD-stored-in l at (replicate n 0) i (i - at) (omega arith) (omega arith) t ∙ getD-replicate {A = ℕ} n (i - at) 0 0 (omega arith)))
     (le-or-lt (length l) i)
-
-pub be16-cleared-before : (l : List ℕ) (at n k : ℕ) → k + 1 < at → be16 (cleared l at n) k ≡ be16 l k
-be16-cleared-before l at n k h = rw (cleared-stored l at n) (be16-stored-before l at (replicate n 0) k h)
-
-pub be16-cleared-after : (l : List ℕ) (at n k : ℕ) → at + n ≤ k → be16 (cleared l at n) k ≡ be16 l k
-be16-cleared-after l at n k h =
-    let e = length-replicate {A = ℕ} n 0 in
-    rw (cleared-stored l at n) (be16-stored-after l at (replicate n 0) k (omega arith))
-
-pub be16-cleared-in : (l : List ℕ) (at n k : ℕ) → at ≤ k → k + 1 < at + n → be16 (cleared l at n) k ≡ 0
-unfolding be16
-be16-cleared-in l at n k h g = rw (getD-cleared-in l at n k h (omega arith), getD-cleared-in l at n (k + 1) (omega arith) g)

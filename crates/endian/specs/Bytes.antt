@@ -1,5 +1,5 @@
 -- Numbers and runs of bytes in a list of bytes. `getD l i 0` reads 0 past the end, and `set l i v` changes nothing there.
-use Prim.Native.Nat.{ℕ, zero, suc, _+_, _*_, _/_, _%_}
+use Prim.Native.Nat.{ℕ, _+_, _*_, _/_, _%_}
 use mathlib.Core.List.{List}
 use lib.ListN.{getD, set, replicate}
 use lib.Seq.{sets}

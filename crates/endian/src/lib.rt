@@ -1,7 +1,7 @@
 // Big-endian numbers in lent bytes. Reading past the end gives 0 and writing past it changes nothing.
 ghost use mathlib.Core.Path.{_≡_};
-ghost use Prim.Native.Nat.{_+_, _*_, _<_, _≤_};
-ghost use lib.ListN.{length, getD, set, take, drop};
+ghost use Prim.Native.Nat.{_+_, _*_, _<_};
+ghost use lib.ListN.{getD, set, take, drop};
 ghost use Rattle.endian.specs.Bytes.{be16, be32, put16, put32, stored, cleared};
 
 // The 16-bit number of two bytes.

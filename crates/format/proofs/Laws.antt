@@ -7,13 +7,13 @@ use mathlib.Core.List.{List, append-nil, _++_}
 use native.Mathlib.Omega.{arith}
 use native.Mathlib.Numerals.{add-one}
 use native.Mathlib.Nat.{not-suc-le-zero, eq-or-lt-of-le, le-of-suc-le-suc, le-of-eq}
-use lib.ListN.{length, getD, take, drop, replicate, length-replicate, getD-replicate, List·getD-eq-default}
+use lib.ListN.{length, take, drop, replicate, length-replicate}
 use lib.Seq.{drop-length, ext-getD}
 use lib.Dec.{eqb, leb, ltb}
 use borrow.Rule.Slice.PartMut.{putMid}
 use borrow.Author.Tests.{ltb-false, leb-false, eqb-true, eqb-false, not-false, ne-eqb, eq-eqb}
 use Rattle.endian.specs.Bytes.{be16, put16, put32}
-use Rattle.endian.proofs.Laws.{le-or-lt, eq-or-ne, length-put16, length-put32}
+use Rattle.endian.proofs.Laws.{le-or-lt, eq-or-ne, length-put16, length-put32, getD-zeros}
 use Rattle.disk.specs.Blocks.{blockOf, withBlock}
 use Rattle.disk.specs.Root.{pfs0, rootIn, putRoot, slotIn, slotOf}
 use Rattle.disk.specs.AnodeBlocks.{anodeMade, anodeIn, putAnode, anodeOf}
@@ -71,15 +71,6 @@ taken img last k name size good =
 -- zeros stored from the front, up to the end
 pub fill-all : (d : List ℕ) (n : ℕ) → n ≡ length d → replicate n 0 ++ drop n d ≡ replicate (length d) 0
 fill-all d n e = rw (e, drop-length d) (append-nil _)
-
-getD-zeros : (n i : ℕ) → getD {A = ℕ} (replicate n 0) i 0 ≡ 0
-getD-zeros n i =
-    let z = replicate {A = ℕ} n 0 in
-    let e = length-replicate {A = ℕ} n 0 in
-    ⊎-elim
-    (λ h. List·getD-eq-default z 0 (rw e h))
-    (λ h. getD-replicate {A = ℕ} n i 0 0 h)
-    (le-or-lt n i)
 
 be16-zeros : (n k : ℕ) → be16 (replicate n 0) k ≡ 0
 unfolding be16

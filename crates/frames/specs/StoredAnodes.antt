@@ -1,25 +1,25 @@
 -- Stores of anodes, where test 5 passes: the image then has those anodes, and keeps its length, the blocks that no slot holds and the heads of its anode blocks.
-use Prim.Native.Nat.{ℕ, zero, suc, _/_, _%_, _≤_, _<_}
+use Prim.Native.Nat.{ℕ, zero, suc, _/_, _≤_, _<_}
 use mathlib.Core.Path.{_≡_, refl, sym, ap, _∙_, fun-ext}
 use mathlib.Core.Logic.{_≢_, inl, inr}
 use mathlib.Core.Bool.{Bool, true, false, cond}
 use mathlib.Core.List.{List}
 use native.Mathlib.Omega.{arith}
 use lib.Dec.{eqb}
-use borrow.Author.Tests.{le-ltb, eq-eqb, eqb-true}
+use borrow.Author.Tests.{eq-eqb, eqb-true}
 use Rattle.disk.specs.Blocks.{blockOf}
 use Rattle.disk.specs.Root.{slotOf}
-use Rattle.disk.specs.AnodeBlocks.{anodeMade, anodeHeadIn, anodesIn, anodeOf, setAnode}
+use Rattle.disk.specs.AnodeBlocks.{anodeMade, anodeHeadIn, anodeOf, setAnode}
 use Rattle.disk.specs.declared.Anode.{Anode}
-use Rattle.disk.proofs.Laws.{slotOf-high, anodeSlots-at, anodeOf-missing, setAnode-missing}
+use Rattle.disk.proofs.Laws.{slotOf-high, anodeOf-missing, setAnode-missing}
 use Rattle.disk.proofs.Store.{anodeHeadIn-putAnode, length-setAnode, blockOf-setAnode-same, blockOf-setAnode-other, anodeOf-setAnode-same, anodeOf-setAnode-other}
-use Rattle.rules.specs.Anodes.{Anodes, limit, exists, existsIn, inUse, fieldsOf, anodesOf, sameAnode, storeChanged, withAnodes}
+use Rattle.rules.specs.Anodes.{Anodes, limit, exists, inUse, fieldsOf, anodesOf, sameAnode, storeChanged, withAnodes}
 use Rattle.rules.specs.Accepted.{wrongSlots}
 use Rattle.laws.specs.Tests.{same?, less?}
 use Rattle.laws.specs.Acceptance.{and-both}
 use Rattle.laws.specs.Space.{Alike, alike-trans}
 use Rattle.laws.specs.Passes.{Reading}
-use Rattle.laws.specs.ImageAnodes.{block-at, count-at, next-at, reading-of}
+use Rattle.laws.specs.ImageAnodes.{block-at, count-at, next-at, reading-of, slot-missing}
 use Rattle.frames.specs.Slots.{right-slot, one-slot}
 use Rattle.frames.specs.Kept.{Unheld, Kept, kept-all, kept-both, slotOf-kept, unheld-kept, wrongSlots-heads}
 
@@ -89,11 +89,6 @@ alike-same s t a e =
 -- anode a of t, as it is stored
 abbrev anodeFrom : Anodes → ℕ → Anode
 anodeFrom t a = anodeMade (t .count a) (t .block a) (t .next a)
-
--- a slot that holds 0 has no anode
-slot-missing : (img : List ℕ) (a : ℕ) → slotOf img (a / 82) ≡ 0 → exists img a ≡ false
-unfolding exists existsIn anodesIn
-slot-missing img a z = rw (anodeSlots-at img (a / 82), z) (le-ltb (a % 82) 0 (omega arith))
 
 module _ {ex : ℕ → Bool} {n last : ℕ} (t : Anodes) (r : Reading limit ex n last t) (j : List ℕ) (a : ℕ) where
   -- free in both

@@ -19,6 +19,7 @@ use Rattle.rules.specs.Walk.{Entered}
 use Rattle.rules.specs.Accepted.{diskSize}
 use Rattle.rules.specs.Lookup.{bytesOf}
 use Rattle.rules.specs.Changes.{withBlocks, spread, written}
+use Rattle.laws.specs.Chains.{Inside}
 use Rattle.laws.specs.Tests.{less?}
 use Rattle.laws.specs.Sums.{oneAt-cases, oneAt-same}
 use Rattle.laws.specs.Bags.{times-nil, times-cons}
@@ -41,10 +42,6 @@ gather-kept : {on : ℕ → Type 0} {img j : List ℕ} → Kept on img j → (ys
 unfolding gather
 gather-kept k [] o = refl
 gather-kept k (y ∷ ys) o = ap₂ _++_ (k .block-kept y (o y (first-in y ys))) (gather-kept k ys (λ z p. o z (rest-in y z ys p)))
-
--- blocks that the image has whole
-abbrev pub Inside : List ℕ → List ℕ → Type 0
-Inside img ys = (y : ℕ) → 0 < times y ys → y * 512 + 512 ≤ length img
 
 pub length-gather : (img ys : List ℕ) → Inside img ys → length (gather (blockOf img) ys) ≡ length ys * 512
 unfolding gather

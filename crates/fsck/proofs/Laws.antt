@@ -10,8 +10,8 @@ use lib.Seq.{drop-at}
 use lib.Dec.{eqb, ltb}
 use borrow.Author.Tests.{le-leb, lt-leb, ltb-false}
 use Rattle.disk.specs.declared.Refusal.{Refusal}
-use Rattle.disk.specs.declared.Refusal.the-variants.{ImageSize, TableSize, DiskType, RootBlock, AnodeBlock, FixedAnode, AnodeRange, ChainLinks, FreeList, TwoOwners, NoOwner, DirectoryBlock, EntryAnode, NamedTwice, FileSize, UnnamedChain, BadArgument, NoDirectory, NotFound, AlreadyThere, IsDirectory, NotEmpty, PastEnd, NoFreeBlock, NoFreeAnode}
 use Rattle.disk.specs.Refusals.{numberOf}
+use Rattle.disk.proofs.Laws.{number-some}
 use Rattle.disk.proofs.Laws.{length-listed}
 use Rattle.rules.specs.Counting.{_if_else_, anyBelow}
 use Rattle.rules.specs.Anodes.{Anodes, limit, anodesOf}
@@ -37,33 +37,6 @@ use Rattle.fsck.specs.declared.Test.the-variants.{Passed, Failed}
 use Rattle.fsck.specs.Answers.{checkedNumber, testNumber, headerAnswer, spaceAnswer, Filled, Kept, TablesAfter, TablesLeft}
 
 -- ---- numbers
-
-pub number-some : (r : Refusal) → 1 ≤ numberOf r
-number-some ImageSize = omega arith
-number-some TableSize = omega arith
-number-some DiskType = omega arith
-number-some RootBlock = omega arith
-number-some AnodeBlock = omega arith
-number-some FixedAnode = omega arith
-number-some AnodeRange = omega arith
-number-some ChainLinks = omega arith
-number-some FreeList = omega arith
-number-some TwoOwners = omega arith
-number-some NoOwner = omega arith
-number-some DirectoryBlock = omega arith
-number-some EntryAnode = omega arith
-number-some NamedTwice = omega arith
-number-some FileSize = omega arith
-number-some UnnamedChain = omega arith
-number-some BadArgument = omega arith
-number-some NoDirectory = omega arith
-number-some NotFound = omega arith
-number-some AlreadyThere = omega arith
-number-some IsDirectory = omega arith
-number-some NotEmpty = omega arith
-number-some PastEnd = omega arith
-number-some NoFreeBlock = omega arith
-number-some NoFreeAnode = omega arith
 
 -- a row before others that may change
 row : (n : ℕ) (t : Bool) (r q k : ℕ) → (r ≡ k → q ≡ k) → (n if t else r) ≡ k → (n if t else q) ≡ k

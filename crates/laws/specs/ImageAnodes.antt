@@ -2,10 +2,10 @@
 use Prim.Native.Nat.{ℕ, zero, suc, _/_, _%_}
 use mathlib.Core.Path.{_≡_, refl, _∙_}
 use mathlib.Core.Logic.{_≢_, inl, inr}
-use mathlib.Core.Bool.{true}
+use mathlib.Core.Bool.{true, false}
 use mathlib.Core.List.{List}
 use native.Mathlib.Omega.{arith}
-use borrow.Author.Tests.{lt-ltb, eq-eqb, ne-eqb}
+use borrow.Author.Tests.{le-ltb, lt-ltb, eq-eqb, ne-eqb}
 use Rattle.disk.specs.Root.{slotOf}
 use Rattle.disk.specs.AnodeBlocks.{anodesIn, anodeSlots, anodeAt, anodeOf}
 use Rattle.disk.proofs.Laws.{slotOf-high, anodeOf-missing, anodeSlots-at, length-listed}
@@ -35,6 +35,11 @@ module _ (img : List ℕ) where
   unfolding exists existsIn anodesIn
   slot-exists a zero e n = absurd (n refl)
   slot-exists a (suc s) e n = lt-ltb (a % 82) _ (rw (anodeSlots-at img (a / 82), e) (rw (length-listed (Rattle.disk.specs.AnodeBlocks.anodeIn (Rattle.disk.specs.Blocks.blockOf img (suc s))) 0 82) (omega arith)))
+
+  -- a slot that holds 0 has no anode
+  pub slot-missing : (a : ℕ) → slotOf img (a / 82) ≡ 0 → exists img a ≡ false
+  unfolding exists existsIn anodesIn
+  slot-missing a z = rw (anodeSlots-at img (a / 82), z) (le-ltb (a % 82) 0 (omega arith))
 
   pub reading-of : (n last : ℕ) → Reading limit (exists img) n last (anodesOf img)
   reading-of n last = record {

@@ -4,6 +4,7 @@ pub mod Sums
 pub mod Bags
 pub mod Ownership
 pub mod Segments
+pub mod Chains
 pub mod Links
 pub mod Heads
 pub mod LinkChanges

@@ -1,22 +1,21 @@
 -- Laws of the rules' entries and lookups, from a place on. Assumes nothing.
 use Prim.Native.Nat.{ℕ, zero, suc, _+_, _*_, _/_, _%_, _<_, _≤_}
 use mathlib.Core.Path.{_≡_, refl, ap, _∙_}
-use mathlib.Core.Bool.{Bool, true, false, cond, _&&_, and-false, true≢false, false≢true, and-eq-true-iff}
+use mathlib.Core.Bool.{Bool, true, false, and-false, true≢false}
 use mathlib.Core.List.{List, [], _∷_, _++_}
 use mathlib.Core.Option.{Option, none, some}
 use native.Mathlib.Numerals.{add-one}
 use native.Mathlib.Omega.{arith}
-use lib.Dec.{eqb, leb}
+use lib.Dec.{eqb}
 use lib.ListN.{length, getD, drop, drop-of-length-le}
 use lib.Seq.{drop-cons}
-use borrow.Author.Tests.{eq-eqb, ne-eqb, leb-true}
+use borrow.Author.Tests.{eq-eqb, ne-eqb}
 use Rattle.disk.specs.declared.Refusal.{Refusal}
-use Rattle.disk.specs.declared.Refusal.the-variants.{DirectoryBlock}
 use Rattle.disk.specs.Blocks.{blockOf}
 use Rattle.directory.specs.declared.Entry.{Entry}
-use Rattle.directory.specs.declared.Walked.{Walked}
 use Rattle.directory.specs.declared.Walked.the-variants.{Found, End, Fault}
-use Rattle.directory.specs.Entries.{nameIn, entryLength, nameLength, commentLength, goodName, entryShaped, kindRead, entryIn, walkedKind, walkedAt}
+use Rattle.directory.specs.Entries.{nameIn, walkedAt}
+use Rattle.directory.proofs.Laws.{found-at}
 use Rattle.counting.specs.Laws.{neither}
 use Rattle.rules.specs.Counting.{anyIn, gather, sameBytes}
 use Rattle.rules.specs.Anodes.{limit}
@@ -49,31 +48,6 @@ module _ (l m : List ℕ) (i : ℕ) (whole : length l ≡ length m) where
   same-step h e = rw (drop-cons l i 0 h, drop-cons m i 0 (omega arith), eq-eqb (getD l i 0) (getD m i 0) e, add-one i)
 
 -- ---- the entries of a block, from a place on
-
-pub block-whole : (img : List ℕ) (y : ℕ) (block : List ℕ) → block ≡ blockOf img y → entriesFrom 28 block y 16 ≡ entriesIn img y
-unfolding entriesIn
-block-whole img y block e = rw e
-
-abbrev isFound : Walked → Bool
-isFound (Found e) = true
-isFound End = false
-isFound (Fault r) = false
-
--- an entry that keeps the rules lies within the block
-found-shaped : (b : List ℕ) (at : ℕ) (e : Entry) → walkedAt b at ≡ Found e → entryShaped b at ≡ true
-unfolding walkedAt
-found-shaped b at e h = go (eqb (getD b at 0) 0) (entryShaped b at) (walkedKind (kindRead (getD b (at + 1) 0)) (entryIn b at)) h where
-  go : (p q : Bool) (w : Walked) → cond p End (cond q w (Fault DirectoryBlock)) ≡ Found e → q ≡ true
-  go true q w f = absurd (false≢true (ap isFound f))
-  go false true w f = refl
-  go false false w f = absurd (false≢true (ap isFound f))
-
-found-within : (b : List ℕ) (at : ℕ) (e : Entry) → walkedAt b at ≡ Found e → at < 512
-unfolding entryShaped
-found-within b at e h =
-    let rest = and-eq-true-iff (eqb (getD b at 0) (entryLength (nameLength b at) (commentLength b at))) (leb (at + getD b at 0) 510 && (leb (commentLength b at) 79 && goodName (nameIn b at))) .0 (found-shaped b at e h) .1 in
-    let room = leb-true (at + getD b at 0) 510 (and-eq-true-iff (leb (at + getD b at 0) 510) (leb (commentLength b at) 79 && goodName (nameIn b at)) .0 rest .0) in
-    omega arith
 
 is-named : (img : List ℕ) (y : ℕ) (block : List ℕ) (at : ℕ) (name : List ℕ) (e : Entry) → block ≡ blockOf img y → at < 512
     → isNamed img name (entered (placed e (y * 512 + at))) ≡ sameBytes (nameIn block at) name
@@ -115,11 +89,11 @@ module _ (block : List ℕ) (y k m at : ℕ) (fuel : k ≡ m + 1) where
 
     module _ (img name : List ℕ) (part : block ≡ blockOf img y) where
       pub named-here : sameBytes (nameIn block at) name ≡ true → firstNamed img name (entriesFrom k block y at) ≡ some (entered (placed e (y * 512 + at)))
-      named-here h = rw one-more (first-hit img name _ _ (is-named img y block at name e part (found-within block at e is) ∙ h))
+      named-here h = rw one-more (first-hit img name _ _ (is-named img y block at name e part (omega (arith, found-at block at e is .room)) ∙ h))
 
       pub named-behind : sameBytes (nameIn block at) name ≡ false
           → firstNamed img name (entriesFrom k block y at) ≡ firstNamed img name (entriesFrom m block y (at + getD block at 0))
-      named-behind h = rw one-more (first-pass img name _ _ (is-named img y block at name e part (found-within block at e is) ∙ h))
+      named-behind h = rw one-more (first-pass img name _ _ (is-named img y block at name e part (omega (arith, found-at block at e is .room)) ∙ h))
 
 pub named-none : (img name : List ℕ) (es : List Entered) → es ≡ [] → firstNamed img name es ≡ none
 unfolding firstNamed

@@ -5,8 +5,9 @@ use mathlib.Core.Bool.{false}
 use mathlib.Core.List.{List}
 use mathlib.Core.Option.{Option, none, some}
 use Rattle.directory.specs.declared.Entry.{Entry}
+use Rattle.directory.specs.Entries.{isDir}
 use Rattle.rules.specs.Counting.{anyIn}
-use Rattle.rules.specs.Walk.{Entered, isDir}
+use Rattle.rules.specs.Walk.{Entered}
 use Rattle.rules.specs.Lookup.{nth}
 use Rattle.lookup.specs.declared.EntryAt.{EntryAt}
 use Rattle.lookup.specs.declared.Lookup.{Lookup}

@@ -5,9 +5,9 @@ ghost use mathlib.Core.Logic.{_≢_};
 ghost use mathlib.Core.Path.{_≡_};
 ghost use Prim.Native.Nat.{_<_, _≤_};
 ghost use lib.ListN.{length};
-ghost use Rattle.directory.specs.Entries.{goodName, goodComment};
+ghost use Rattle.directory.specs.Entries.{goodName, goodComment, isDir};
 ghost use Rattle.rules.specs.Anodes.{anodesOf};
-ghost use Rattle.rules.specs.Walk.{isDir, reachedDirs};
+ghost use Rattle.rules.specs.Walk.{reachedDirs};
 ghost use Rattle.rules.specs.Accepted.{wrongSize};
 ghost use Rattle.rules.specs.Lookup.{noDirectory};
 ghost use Rattle.rules.specs.Space.{rewritten};
@@ -22,6 +22,7 @@ ghost use Rattle.making.specs.Steps.{Fresh, someBlock, neededPlan, noRoo
 use chains::show_heads;
 use directory::Kind;
 use directory::entry_len;
+use directory::is_directory;
 use disk::AnodeNo;
 use disk::BlockNo;
 use disk::Refusal;
@@ -47,16 +48,6 @@ struct NewBlocks {
 enum Taken {
     Both(NewBlocks),
     Stopped(Refusal),
-}
-
-// Whether an entry is a directory's.
-fn is_directory(kind: Kind) -> bool
-    ensures { λ r. ⌜ r ≡ isDir kind ⌝ }
-{
-    match kind {
-        Kind::File => false,
-        Kind::Directory => true,
-    }
 }
 
 // Whether no block of the directory has room.

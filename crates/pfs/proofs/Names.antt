@@ -8,13 +8,13 @@ use lib.ListN.{length, take, drop}
 use lib.Seq.{drop-drop}
 use Rattle.disk.specs.Blocks.{blockOf}
 use Rattle.directory.specs.Entries.{nameIn, nameLength, entryIn, entryLength}
+use Rattle.directory.proofs.Laws.{found-at}
 use Rattle.rules.specs.Anodes.{anodesOf}
 use Rattle.rules.specs.Walk.{Entered}
 use Rattle.rules.specs.Accepted.{checkAnswer}
 use Rattle.rules.specs.Lookup.{noDirectory, entriesOf, nameAt, nth}
 use Rattle.rules.specs.Calls.{Outcome, outcomeOf, settled, fieldList, fieldsAt, fieldsListed, nameListed, listAnswer, listAnswered, listOutcome}
 use Rattle.laws.specs.Acceptance.{if-zero, firstOf-zero}
-use Rattle.changes.specs.FoundEntries.{found-at}
 use Rattle.changes.specs.Reached.{entry-facts, nth-member}
 use Rattle.reading.proofs.Laws.{take-within}
 use Rattle.pfs.specs.Listed.{nameGiven}

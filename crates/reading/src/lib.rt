@@ -5,11 +5,10 @@ ghost use Prim.Native.Nat.{ℕ, _+_, _*_, _<_};
 ghost use lib.ListN.{length};
 ghost use lib.Dec.{ltb};
 ghost use Rattle.rules.specs.Anodes.{anodesOf};
-ghost use Rattle.rules.specs.Walk.{isDir};
 ghost use Rattle.rules.specs.Lookup.{entryNamed, entriesOf, nameAt, nth};
 ghost use Rattle.rules.specs.Calls.{spanAnswer, bytesRead, listAnswer, fieldsAt, fieldsListed, nameListed};
 ghost use Rattle.find.specs.Open.{Open, OpenFor};
-use directory::Kind;
+use directory::is_directory;
 use disk::AnodeNo;
 use disk::BlockNo;
 use disk::Refusal;
@@ -23,16 +22,6 @@ use find::Search;
 use find::find_named;
 use find::find_nth;
 use lookup::copy_out;
-
-// Whether an entry is a directory's.
-pub fn is_directory(kind: Kind) -> bool
-    ensures { λ r. ⌜ r ≡ isDir kind ⌝ }
-{
-    match kind {
-        Kind::File => false,
-        Kind::Directory => true,
-    }
-}
 
 // Whether offset + length is above the size; the sum is not wrapped.
 pub fn past_end(size: u32, offset: u64, len: usize) -> bool

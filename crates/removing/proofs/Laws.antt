@@ -35,6 +35,7 @@ use Rattle.changes.specs.Remove as Remove
 use Rattle.changes.specs.Remove.{parted, unbroken, removed-same, removed-anodes}
 use Rattle.anodes.specs.Loaded.{anodesFrom}
 use Rattle.tree.specs.Steps.{sumFrom}
+use Rattle.tree.proofs.Rules.{sumFrom-count}
 use Rattle.space.specs.declared.Moves.{Moves}
 use Rattle.space.specs.Steps.{manyPlan, GoodAnodes}
 use Rattle.changed.specs.Leaves.{Leaves, Loaded, ReachedEntry}
@@ -48,20 +49,16 @@ module _ {img counts firsts nexts : List ℕ} (l : Loaded img counts firsts next
   g : Good limit (exists img) (diskSize img) (lastReserved img) s (systemOwns img) (headIn img) (sideIn img)
   g = accepted-whole img (diskSize img) limit (l .accepted) .good
 
-  have-is : (have : ℕ) → have ≡ sumFrom counts nexts 3444 (e .anode) → have ≡ blockCount (anodesFrom counts firsts nexts) (e .anode)
-  unfolding sumFrom blockCount anodesFrom
-  have-is have q = q
-
   -- the steps may be planned on copies of the tables
   module _ (nc nf nn : List ℕ) (c : nc ≡ counts) (f : nf ≡ firsts) (n : nn ≡ nexts) (have : ℕ) (all : have ≡ sumFrom counts nexts 3444 (e .anode)) where
     pub gives-ready : ((wrongSize img ≡ false) × GoodAnodes img (anodesFrom nc nf nn))
         × (Head (anodesFrom nc nf nn .next) (anodesFrom nc nf nn .block) (e .anode) × (e .anode ≢ 1) × (have ≤ blockCount (anodesFrom nc nf nn) (e .anode)))
-    gives-ready = rw (c, f, n) ((loaded-size l, (headIn img, sideIn img, loaded-good l)), (entry-head l e r, entry-not-1 l e r, omega (arith, have-is have all)))
+    gives-ready = rw (c, f, n) ((loaded-size l, (headIn img, sideIn img, loaded-good l)), (entry-head l e r, entry-not-1 l e r, omega (arith, all ∙ sumFrom-count counts firsts nexts (e .anode))))
 
     -- and the plan is that of the image
     pub gives-made : (m : Moves) (t : Anodes) (moved : List ℕ) → manyPlan m t moved ≡ giveMany limit (exists img) (lastReserved img) have (anodesFrom nc nf nn) (e .anode) →
         (answer : Moves) → m ≡ answer → giveMany limit (exists img) (lastReserved img) (blockCount s (e .anode)) s (e .anode) ≡ manyPlan answer t moved
-    gives-made m t moved made answer i = sym (ap (λ (k : Moves). manyPlan k t moved) (sym i) ∙ made ∙ rw (c, f, n, have-is have all, l .is-loaded))
+    gives-made m t moved made answer i = sym (ap (λ (k : Moves). manyPlan k t moved) (sym i) ∙ made ∙ rw (c, f, n, all ∙ sumFrom-count counts firsts nexts (e .anode), l .is-loaded))
 
   pub refused-leaves : (k : ℕ) → giveMany limit (exists img) (lastReserved img) (blockCount s (e .anode)) s (e .anode) ≡ refused k → (b a : List ℕ) → Leaves k img b a img b a (removed img s e)
   unfolding removed

@@ -28,6 +28,7 @@ use Rattle.changes.specs.ResizePlan.{plan-refused, plan-longer}
 use Rattle.changes.specs.ResizeStores.{PlannedResize, w, steps, resized-same, resized-anodes}
 use Rattle.anodes.specs.Loaded.{anodesFrom}
 use Rattle.tree.specs.Steps.{sumFrom}
+use Rattle.tree.proofs.Rules.{sumFrom-count}
 use Rattle.space.specs.declared.Moves.{Moves}
 use Rattle.space.specs.Steps.{manyPlan, GoodAnodes}
 use Rattle.changed.specs.Leaves.{Leaves, Loaded, ReachedEntry}
@@ -38,15 +39,11 @@ module _ {img counts firsts nexts : List ℕ} (l : Loaded img counts firsts next
   abbrev s : Anodes
   s = anodesOf img
 
-  pub have-is : (have : ℕ) → have ≡ sumFrom counts nexts 3444 (e .anode) → have ≡ blockCount (anodesFrom counts firsts nexts) (e .anode)
-  unfolding sumFrom blockCount anodesFrom
-  have-is have q = q
-
   -- the steps may be planned on copies of the tables
   module _ (nc nf nn : List ℕ) (c : nc ≡ counts) (f : nf ≡ firsts) (n : nn ≡ nexts) where
     pub plan-ready : (have : ℕ) → have ≡ sumFrom counts nexts 3444 (e .anode) → ((wrongSize img ≡ false) × GoodAnodes img (anodesFrom nc nf nn))
         × (Head (anodesFrom nc nf nn .next) (anodesFrom nc nf nn .block) (e .anode) × (e .anode ≢ 1) × (have ≡ blockCount (anodesFrom nc nf nn) (e .anode)))
-    plan-ready have q = rw (c, f, n) ((loaded-size l, (headIn img, sideIn img, loaded-good l)), (entry-head l e r, entry-not-1 l e r, have-is have q))
+    plan-ready have q = rw (c, f, n) ((loaded-size l, (headIn img, sideIn img, loaded-good l)), (entry-head l e r, entry-not-1 l e r, q ∙ sumFrom-count counts firsts nexts (e .anode)))
 
     -- and the plan is that of the image
     pub plan-made : (want : ℕ) → want ≡ blocksFor size → (m : Moves) (t : Anodes) (moved : List ℕ) → manyPlan m t moved ≡ resizePlan img (anodesFrom nc nf nn) (e .anode) want →
@@ -113,7 +110,7 @@ module _ {img counts firsts nexts : List ℕ} (l : Loaded img counts firsts next
     pub done-leaves : (have want : ℕ) → have ≡ sumFrom counts nexts 3444 (e .anode) → want ≡ blocksFor size → (b a : List ℕ) →
         Leaves 0 img b a (resizedImage img s e size t ys) (setAll b ys (cond (leb have want) (e .anode) 1)) (anodeTable t ++ drop limit a) (resized img s e size)
     unfolding resized
-    done-leaves have want i q b a = rw (plan, have-is have i, l .is-loaded, q)
+    done-leaves have want i q b a = rw (plan, i ∙ sumFrom-count counts firsts nexts (e .anode), l .is-loaded, q)
         (leaves-done img (resizedImage img s e size t ys) (resized-same p) b a (setAll b ys (cond (leb (blockCount s (e .anode)) (blocksFor size)) (e .anode) 1)) (anodeTable t ++ drop limit a)
         (λ rest o. rw (resized-anodes p) (owners-shown b rest o)) (rw (resized-anodes p)))
 

@@ -1,19 +1,19 @@
 -- What each call answers, leaves and hands out, for every image and every argument; the refusals of each in 01's order.
 -- Every call but format runs the whole check first; refusals 20 and above leave the image and show it in the tables; a done change leaves tables for the new image.
 use Prim.Native.Nat.{ℕ, zero, suc, _+_, _/_, _%_}
-use mathlib.Core.Bool.{Bool, true, false, cond, not, _||_}
+use mathlib.Core.Bool.{Bool, cond, not, _||_}
 use mathlib.Core.List.{List, [], _∷_}
 use mathlib.Core.Option.{Option, none, some}
 use lib.ListN.{length, getD, take, drop, replicate}
-use lib.Dec.{eqb, leb}
+use lib.Dec.{eqb}
 use Rattle.disk.specs.Blocks.{blockOf}
 use Rattle.directory.specs.declared.Entry.{Entry}
 use Rattle.directory.specs.declared.Kind.the-variants.{File}
-use Rattle.directory.specs.Entries.{goodName, goodComment, nameLength, entryIn}
+use Rattle.directory.specs.Entries.{goodName, goodComment, entryIn}
 use Rattle.rules.specs.Counting.{_if_else_, firstOf, sumList}
 use Rattle.rules.specs.Anodes.{Anodes, anodesOf}
 use Rattle.rules.specs.Chains.{blockCount}
-use Rattle.rules.specs.Walk.{Entered, Item, reached, reachedDirs}
+use Rattle.rules.specs.Walk.{Entered, reached, reachedDirs}
 use Rattle.rules.specs.Accepted.{diskSize, checkAnswer}
 use Rattle.rules.specs.Tables.{blocksLeft, anodesLeft}
 use Rattle.rules.specs.Lookup.{noDirectory, entriesOf, nameAt, entryNamed, nth, isThere, namesDir, fullDir, pastEnd, contents}

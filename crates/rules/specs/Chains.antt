@@ -1,6 +1,6 @@
 -- 01, "Anodes, chains, free list": predecessors, chains, heads and owners, over count, block and next as functions of the anode's number.
 use Prim.Native.Nat.{ℕ, zero, suc, _+_, _*_}
-use mathlib.Core.Bool.{Bool, cond, not, _&&_}
+use mathlib.Core.Bool.{cond, not, _&&_}
 use mathlib.Core.List.{List, [], _∷_}
 use lib.Dec.{eqb, leb, ltb}
 use Rattle.disk.specs.Root.{slotOf}

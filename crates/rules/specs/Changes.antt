@@ -10,7 +10,7 @@ use Rattle.disk.specs.Blocks.{blockOf, withBlock}
 use Rattle.directory.specs.declared.Entry.{Entry}
 use Rattle.directory.specs.declared.Kind.the-variants.{File, Directory}
 use Rattle.directory.specs.Entries.{directoryMark, putDirectoryHead, entryLength, putEntry}
-use Rattle.rules.specs.Anodes.{Anodes, limit, exists, anodesOf, withAnodes}
+use Rattle.rules.specs.Anodes.{Anodes, limit, exists, withAnodes}
 use Rattle.rules.specs.Chains.{blocksOf, blockCount}
 use Rattle.rules.specs.Walk.{Dir, Entered, blocksFor, reachedDirs}
 use Rattle.rules.specs.Accepted.{lastReserved}

@@ -1,5 +1,5 @@
 -- Demand 3's list of calls: each call with its arguments, its outcome for an image, and what is said after every call of a list.
-use Prim.Native.Nat.{ℕ, _≤_, _<_}
+use Prim.Native.Nat.{ℕ, _≤_}
 use mathlib.Core.Path.{_≡_}
 use mathlib.Core.List.{List, [], _∷_}
 use Rattle.rules.specs.Anodes.{limit}

@@ -1,6 +1,6 @@
 -- 01, refusals 21 to 26, and the bytes of a file: what a directory number and a name stand for in an accepted image.
 use Prim.Native.Nat.{ℕ, zero, suc, _+_, _/_, _%_}
-use mathlib.Core.Bool.{Bool, true, false, cond, not}
+use mathlib.Core.Bool.{Bool, true, false, cond}
 use mathlib.Core.List.{List, [], _∷_, map}
 use mathlib.Core.Option.{Option, none, some}
 use lib.ListN.{take}
@@ -10,7 +10,7 @@ use Rattle.directory.specs.Entries.{nameIn}
 use Rattle.rules.specs.Counting.{times, gather, sameBytes}
 use Rattle.rules.specs.Anodes.{Anodes, limit}
 use Rattle.rules.specs.Chains.{chainOf, blocksOf}
-use Rattle.rules.specs.Walk.{Dir, Entered, entriesIn, reachedDirs}
+use Rattle.rules.specs.Walk.{Entered, entriesIn, reachedDirs}
 
 -- 21: directory number is not a reached directory's head
 unfoldable pub noDirectory : List ℕ → Anodes → ℕ → Bool

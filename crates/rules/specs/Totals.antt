@@ -1,13 +1,13 @@
 -- 01, "Holding the contracts to account": the blocks of each kind, counted from the image's bytes alone; a chain's blocks are those its anodes own.
 use Prim.Native.Nat.{ℕ, _+_}
-use mathlib.Core.Bool.{cond, not}
+use mathlib.Core.Bool.{cond}
 use mathlib.Core.List.{List}
 use lib.Dec.{eqb}
 use Rattle.disk.specs.Root.{slotOf}
 use Rattle.rules.specs.Counting.{sumBelow, sumList}
 use Rattle.rules.specs.Anodes.{Anodes, anodesOf}
 use Rattle.rules.specs.Chains.{blockCount}
-use Rattle.rules.specs.Walk.{Dir, Item, reached, reachedDirs}
+use Rattle.rules.specs.Walk.{reached}
 
 -- free: 1's chain
 unfoldable pub freeBlocks : Anodes → ℕ

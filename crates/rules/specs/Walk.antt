@@ -7,9 +7,7 @@ use lib.Dec.{eqb, leb}
 use Rattle.disk.specs.Blocks.{blockOf}
 use Rattle.directory.specs.declared.Walked.{Walked}
 use Rattle.directory.specs.declared.Walked.the-variants.{Found, End, Fault}
-use Rattle.directory.specs.declared.Kind.{Kind}
-use Rattle.directory.specs.declared.Kind.the-variants.{File, Directory}
-use Rattle.directory.specs.Entries.{directoryMark, directoryHeadIn, walkedAt}
+use Rattle.directory.specs.Entries.{isDir, directoryMark, directoryHeadIn, walkedAt}
 use Rattle.rules.specs.Counting.{_if_else_, firstOf, times, gather}
 use Rattle.rules.specs.Anodes.{Anodes, limit}
 use Rattle.rules.specs.Chains.{chainOf, heads, blockCount}
@@ -30,10 +28,6 @@ pub record Entered : Type 0 where
   pub anode : ℕ
   pub size : ℕ
   pub place : ℕ
-
-abbrev pub isDir : Kind → Bool
-isDir File = false
-isDir Directory = true
 
 -- what stands at a place, with the entries behind it
 abbrev pub withRest : Walked → ℕ → List Entered → List Entered

@@ -2,7 +2,7 @@
 use mathlib.Core.Path.{_≡_, refl}
 use Prim.Native.Nat.{ℕ}
 use mathlib.Core.List.{List, [], _∷_, map}
-use lib.ListN.{length, set, take}
+use lib.ListN.{set, take}
 use Rattle.endian.specs.Bytes.{put16, put32, stored}
 use Rattle.disk.specs.AnodeBlocks.{anodeMade, setAnode}
 use Rattle.rules.specs.Accepted.{checkAnswer}

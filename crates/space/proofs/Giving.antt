@@ -1,18 +1,17 @@
 -- What a give meets in a good state: where its anodes are, and that its sums fit.
-use Prim.Native.Nat.{ℕ, zero, suc, _+_, _-_, _≤_, _<_}
-use mathlib.Core.Path.{_≡_, refl, sym, ap, _∙_}
+use Prim.Native.Nat.{ℕ, _+_, _-_, _≤_, _<_}
+use mathlib.Core.Path.{_≡_, sym, ap, _∙_}
 use mathlib.Core.Logic.{_≢_, _⊎_, inl, inr}
 use mathlib.Core.Bool.{Bool, false}
-use mathlib.Core.List.{List, [], _∷_}
+use mathlib.Core.List.{List, []}
 use native.Mathlib.Omega.{arith}
 use lib.ListN.{getD}
-use Rattle.rules.specs.Counting.{sumList, lastOf}
+use Rattle.rules.specs.Counting.{lastOf}
 use Rattle.rules.specs.Anodes.{Anodes, exists}
 use Rattle.rules.specs.Chains.{chainOf, cut, systemOwns, side, blockCount}
 use Rattle.rules.specs.Accepted.{diskSize, wrongSize, lastReserved}
-use Rattle.rules.specs.Space.{Found, nowhere, found, lastFull, withoutLast, sideOf, join, release, giveFrom, giveBack}
+use Rattle.rules.specs.Space.{nowhere, found, lastFull, withoutLast, sideOf, join, release, giveFrom, giveBack}
 use Rattle.laws.specs.Tests.{less?}
-use Rattle.laws.specs.Bags.{list-nil, list-cons}
 use Rattle.laws.specs.Links.{the-chain, next-below}
 use Rattle.laws.specs.Heads.{Head}
 use Rattle.laws.specs.Space.{Good}
@@ -22,30 +21,16 @@ use Rattle.laws.specs.Moves.{InHand}
 use Rattle.laws.specs.Leaving.{full-used, full-0}
 use Rattle.laws.specs.Give.{withoutLast-out}
 use Rattle.anodes.specs.Loaded.{anodesFrom}
+use Rattle.laws.specs.RefusedSteps.{lastFull-none}
 use Rattle.space.specs.Steps.{GoodAnodes}
 use Rattle.space.proofs.Cases.{side-above, side-up-to}
 use Rattle.space.proofs.Taking.{size-small}
 
 -- ---- which extent
 
-found≢nowhere : (p x : ℕ) → found p x ≡ nowhere → ⊥
-found≢nowhere p x e = let z : _≡_ {A = ℕ} 0 1 = cc in omega arith
-
--- a chain with no anode that has a block has no block
-none-full : (count : ℕ → ℕ) (p : ℕ) (l : List ℕ) → lastFull count p l ≡ nowhere → sumList count l ≡ 0
-unfolding lastFull
-none-full count p [] e = list-nil count
-none-full count p (a ∷ l) e = go (lastFull count a l) refl (count a) refl e (none-full count a l)
-  where
-    go : (g : Found) → lastFull count a l ≡ g → (k : ℕ) → count a ≡ k → elim g [ nowhere ↦ elim k [ zero ↦ nowhere | suc j ↦ found p a ] | found q x ↦ found q x ] ≡ nowhere →
-        (lastFull count a l ≡ nowhere → sumList count l ≡ 0) → sumList count (a ∷ l) ≡ 0
-    go nowhere q zero z e r = omega (arith, list-cons count a l, z, r q)
-    go nowhere q (suc k) z e r = absurd (found≢nowhere p a e)
-    go (found y x) q k z e r = absurd (found≢nowhere y x e)
-
 pub full-there : (s : Anodes) (h : ℕ) → 0 < blockCount s h → lastFull (s .count) 0 (chainOf (s .next) 3444 h) ≡ nowhere → ⊥
 unfolding blockCount
-full-there s h some e = omega (arith, some, none-full (s .count) 0 (chainOf (s .next) 3444 h) e)
+full-there s h some e = omega (arith, some, lastFull-none (s .count) 0 (chainOf (s .next) 3444 h) e)
 
 -- ---- the end of a side
 

@@ -1,33 +1,26 @@
 -- The searches along a chain and among the free anodes, one anode after the other. Assumes nothing.
-use Prim.Native.Nat.{ℕ, zero, suc, _+_, _/_, _%_, _≤_, _<_}
+use Prim.Native.Nat.{ℕ, zero, suc, _+_, _/_, _≤_, _<_}
 use mathlib.Core.Path.{_≡_, refl, sym, _∙_}
 use mathlib.Core.Logic.{_≢_, inl, inr}
 use mathlib.Core.Bool.{true, false, not, _&&_}
 use mathlib.Core.List.{List, [], _∷_}
 use native.Mathlib.Omega.{arith}
-use native.Mathlib.Numerals.{add-one}
 use lib.Dec.{T, eqb}
 use lib.ListN.{getD}
-use borrow.Author.Tests.{le-leb, lt-leb, le-ltb, ne-eqb}
+use borrow.Author.Tests.{le-leb, lt-leb, ne-eqb}
 use Rattle.disk.specs.Root.{slotOf}
-use Rattle.disk.specs.AnodeBlocks.{anodesIn}
-use Rattle.disk.proofs.Laws.{anodeSlots-at}
 use Rattle.rules.specs.Counting.{least, lastOf}
-use Rattle.rules.specs.Anodes.{existsIn, exists}
+use Rattle.rules.specs.Anodes.{exists}
 use Rattle.rules.specs.Chains.{chainOf}
 use Rattle.rules.specs.Space.{Found, nowhere, found, firstFull, lastFull, free, lowestFree}
+use Rattle.laws.specs.Chains.{chain-none, chain-zero, chain-step}
 use Rattle.laws.specs.Tests.{less?, same?}
 use Rattle.laws.specs.Sums.{least-cases}
-use Rattle.laws.specs.ImageAnodes.{slot-exists}
+use Rattle.laws.specs.ImageAnodes.{slot-exists, slot-missing}
 use Rattle.anodes.specs.Loaded.{anodesFrom}
 use Rattle.space.specs.Steps.{firstFound}
 
 -- ---- free anodes
-
--- a slot that holds 0 has no anode
-slot-missing : (img : List ℕ) (a : ℕ) → slotOf img (a / 82) ≡ 0 → exists img a ≡ false
-unfolding exists existsIn anodesIn
-slot-missing img a z = rw (anodeSlots-at img (a / 82), z) (le-ltb (a % 82) 0 (omega arith))
 
 -- an anode exists where its slot does not hold 0
 pub exists-by-slot : (img : List ℕ) (a s : ℕ) → s ≡ slotOf img (a / 82) → not (eqb s 0) ≡ exists img a
@@ -73,23 +66,6 @@ module _ (img firsts c n : List ℕ) (last : ℕ) where
       | inl d ↦ absurd (none-below (least (free 3444 (exists img) last (anodesFrom c firsts n)) 3444) (omega (arith, d .0, e)) (d .1))
       | inr d ↦ sym (d .0)
     ]
-
--- ---- chains
-
-module _ (next : ℕ → ℕ) where
-  chain-none : (a : ℕ) → chainOf next 0 a ≡ []
-  unfolding chainOf
-  chain-none a = refl
-
-  chain-zero : (k : ℕ) → chainOf next k 0 ≡ []
-  unfolding chainOf
-  chain-zero zero = refl
-  chain-zero (suc k) = refl
-
-  chain-step : (k m a : ℕ) → k ≡ m + 1 → a ≢ 0 → chainOf next k a ≡ a ∷ chainOf next m (next a)
-  unfolding chainOf
-  chain-step k m zero e h = absurd (h refl)
-  chain-step k m (suc a) e h = rw (e, add-one m)
 
 -- ---- the first anode with a block
 

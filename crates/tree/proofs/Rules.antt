@@ -10,7 +10,7 @@ use lib.Dec.{eqb}
 use lib.ListN.{length, getD, set, replicate, length-set, length-replicate, List·getD-eq-default}
 use lib.Seq.{getD-set-same, getD-set-other}
 use borrow.Author.Tests.{eq-eqb, ne-eqb, le-leb, lt-leb, le-ltb, lt-ltb, eqb-true, eqb-false}
-use Rattle.endian.proofs.Laws.{le-or-lt, eq-or-ne}
+use Rattle.endian.proofs.Laws.{le-or-lt, eq-or-ne, getD-zeros}
 use Rattle.disk.specs.Refusals.{numberOf}
 use Rattle.rules.specs.Counting.{_if_else_, firstOf, anyBelow, oneAt, sumList, times, gather}
 use Rattle.rules.specs.Anodes.{Anodes, limit}
@@ -18,6 +18,9 @@ use Rattle.rules.specs.Chains.{chainOf, heads, blockCount}
 use Rattle.rules.specs.Walk.{Dir, root, Entered, entriesIn, isBlockOf, Item, wrongAnode, wrongFileSize, itemOf, broken, itemsAt, itemsBy, itemsOf, subDirs, faultOf, Scanned, faulty, fine, scan, Walk, fault, done, visited, walk, walkOf, faultIn, reachedDirs, reached, naming}
 use Rattle.rules.specs.Accepted.{unnamed, unnamedChain, treeFault}
 use Rattle.rules.specs.Calls.{fileCount, dirCount}
+use Rattle.counting.specs.Laws.{anyBelow-same}
+use Rattle.laws.specs.Sums.{oneAt-same, oneAt-other}
+use Rattle.laws.specs.Bags.{times-nil, times-cons}
 use Rattle.anodes.specs.Loaded.{anodesFrom}
 use Rattle.tree.specs.declared.TreeRead.{TreeRead}
 use Rattle.tree.specs.declared.TreeRead.the-variants.{Counted, Fault}
@@ -43,22 +46,6 @@ unfolding times namings sumList
 times-namings x [] = refl
 times-namings x (i ∷ is) = omega (arith, times-namings x is)
 
-times-none : (x : ℕ) → times x [] ≡ 0
-unfolding times sumList
-times-none x = refl
-
-times-cons : (x a : ℕ) (named : List ℕ) → times x (a ∷ named) ≡ oneAt a x + times x named
-unfolding times sumList
-times-cons x a named = refl
-
-one-same : (a x : ℕ) → a ≡ x → oneAt a x ≡ 1
-unfolding oneAt
-one-same a x e = rw (eq-eqb a x e)
-
-one-other : (a x : ℕ) → (a ≡ x → ⊥) → oneAt a x ≡ 0
-unfolding oneAt
-one-other a x n = rw (ne-eqb a x n)
-
 -- ---- marks
 
 -- an anode from 6 up is marked where t is not 0
@@ -73,10 +60,10 @@ agree-more : (marks : List ℕ) (a : ℕ) (named : List ℕ) → length marks �
 agree-more marks a named whole room h x lo hi =
     ⊎-elim
     (λ e. let one : getD (set marks a 1) x 0 ≡ 1 = rw e (getD-set-same marks a 1 0 (omega arith)) in
-    let more : times x (a ∷ named) ≡ 1 + times x named = times-cons x a named ∙ rw (one-same a x (sym e)) in
+    let more : times x (a ∷ named) ≡ 1 + times x named = times-cons x a named ∙ rw (oneAt-same a x (sym e)) in
     (λ z. absurd (omega arith), λ n. omega arith))
     (λ n. let same = getD-set-other marks a x 1 0 n in
-    let less : times x (a ∷ named) ≡ times x named = times-cons x a named ∙ rw (one-other a x (λ q. n (sym q))) (omega arith) in
+    let less : times x (a ∷ named) ≡ times x named = times-cons x a named ∙ rw (oneAt-other a x (λ q. n (sym q))) (omega arith) in
     (λ z. less ∙ h x lo hi .0 (sym same ∙ z), λ m. rw less (h x lo hi .1 (λ z. m (same ∙ z)))))
     (eq-or-ne x a)
 
@@ -277,11 +264,6 @@ module _ (t : List ℕ) (s : Anodes) (table : HeadTable t s) where
         (λ lo. rw (lt-leb 6 a lo))
         (le-or-lt 6 a)
 
-any-same : (f g : ℕ → Bool) (n : ℕ) → ((x : ℕ) → x < n → f x ≡ g x) → anyBelow f n ≡ anyBelow g n
-unfolding anyBelow
-any-same f g zero h = refl
-any-same f g (suc n) h = rw (any-same f g n (λ x l. h x (omega arith)), h n (omega arith))
-
 first-some : (a b : ℕ) → 1 ≤ a → firstOf a b ≡ a
 unfolding firstOf
 first-some zero b h = absurd (not-suc-le-zero h)
@@ -295,6 +277,11 @@ Says img s t (Counted files n) marks queue parents =
     × (n ≡ dirCount img s)
     × (queueOf queue parents n ≡ reachedDirs img s)
 Says img s t (Fault r) marks queue parents = numberOf r ≡ treeFault img s
+
+-- the sum along a chain in the tables is the number of its blocks
+pub sumFrom-count : (counts firsts nexts : List ℕ) (a : ℕ) → sumFrom counts nexts limit a ≡ blockCount (anodesFrom counts firsts nexts) a
+unfolding sumFrom blockCount anodesFrom
+sumFrom-count counts firsts nexts a = refl
 
 module _ (counts nexts t : List ℕ) (s : Anodes) (table : HeadTable t s) (past : (a : ℕ) → limit ≤ a → s .block a ≡ 0)
     (sums : (a : ℕ) → sumFrom counts nexts limit a ≡ blockCount s a) where
@@ -346,7 +333,7 @@ module _ (counts nexts t : List ℕ) (s : Anodes) (table : HeadTable t s) (past 
 
       naming-reached : (x : ℕ) → namings x (gather (itemsOf img s) (reached-all .0)) + times x [] ≡ naming img s x
       unfolding naming reached reachedDirs
-      naming-reached x = rw (reached-all .1) (omega (arith, times-none x, times-namings x (gather (itemsOf img s) (reached-all .0))))
+      naming-reached x = rw (reached-all .1) (omega (arith, times-nil x, times-namings x (gather (itemsOf img s) (reached-all .0))))
 
       naming-agrees : Agree m (naming img s)
       naming-agrees = agree-same m (λ x. namings x (gather (itemsOf img s) (reached-all .0)) + times x []) (naming img s) naming-reached (reached-all .2 .0)
@@ -367,7 +354,7 @@ module _ (counts nexts t : List ℕ) (s : Anodes) (table : HeadTable t s) (past 
 
       tree-ended : (b : Bool) → anyBelow (unnamedAt t m) limit ≡ b → treeFault img s ≡ 16 if b else 0
       unfolding treeFault firstOf
-      tree-ended b h = rw (reached-all .1, any-same (unnamedChain img s) (unnamedAt t m) limit unnamed-same, h)
+      tree-ended b h = rw (reached-all .1, anyBelow-same (unnamedChain img s) (unnamedAt t m) limit unnamed-same, h)
 
     says : (r : TreeRead) (m queue parents : List ℕ) → conclusion r m queue parents ≡ runFrom (itemsWith (itemIn counts nexts t) img s) limit (root ∷ []) marks 0 [] → Says img s t r m queue parents
     unfolding dirCount
@@ -378,11 +365,6 @@ module _ (counts nexts t : List ℕ) (s : Anodes) (table : HeadTable t s) (past 
 
 -- ---- the tables at the start: a mark for the root, and the root in the queue
 
-zeros : (n i : ℕ) → _≡_ {A = ℕ} (getD (replicate n 0) i 0) 0
-zeros zero i = refl
-zeros (suc n) zero = refl
-zeros (suc n) (suc i) = zeros n i
-
 abbrev startMarks : List ℕ
 startMarks = set (replicate limit 0) 5 1
 
@@ -390,12 +372,12 @@ start-whole : length startMarks ≡ limit
 start-whole = length-set (replicate {A = ℕ} limit 0) 5 1 ∙ length-replicate {A = ℕ} limit 0
 
 start-clean : (x : ℕ) → 6 ≤ x → getD startMarks x 0 ≡ 0
-start-clean x h = getD-set-other (replicate limit 0) 5 x 1 0 (omega arith) ∙ zeros limit x
+start-clean x h = getD-set-other (replicate limit 0) 5 x 1 0 (omega arith) ∙ getD-zeros limit x
 
 pub start-fits : 1 ≤ marked startMarks
 start-fits =
     let l = length-replicate {A = ℕ} limit 0 in
-    omega (arith, marked-more (replicate limit 0) 5 (omega arith) (zeros limit 5))
+    omega (arith, marked-more (replicate limit 0) 5 (omega arith) (getD-zeros limit 5))
 
 start-queue : (queue parents : List ℕ) → length queue ≡ limit → length parents ≡ limit → queueOf (set queue 0 5) (set parents 0 0) 1 ≡ root ∷ []
 unfolding queueOf dirsFrom
@@ -406,12 +388,8 @@ module _ (img counts firsts nexts t : List ℕ) (whole : length firsts ≡ limit
   unfolding anodesFrom
   past a h = List·getD-eq-default firsts 0 (rw whole h)
 
-  sums : (a : ℕ) → sumFrom counts nexts limit a ≡ blockCount (anodesFrom counts firsts nexts) a
-  unfolding sumFrom blockCount anodesFrom
-  sums a = refl
-
   pub answered : (q p : List ℕ) → length q ≡ limit → length p ≡ limit → (r : TreeRead) (m queue parents : List ℕ)
       → conclusion r m queue parents ≡ runFrom (itemsWith (itemIn counts nexts t) img (anodesFrom counts firsts nexts)) limit (queueOf (set q 0 5) (set p 0 0) 1) startMarks 0 []
       → Says img (anodesFrom counts firsts nexts) t r m queue parents
   answered q p e f r m queue parents c =
-      says counts nexts t (anodesFrom counts firsts nexts) table past sums img startMarks start-whole start-clean r m queue parents (rw (start-queue q p e f) at c)
+      says counts nexts t (anodesFrom counts firsts nexts) table past (sumFrom-count counts firsts nexts) img startMarks start-whole start-clean r m queue parents (rw (start-queue q p e f) at c)

@@ -5,12 +5,13 @@ use mathlib.Core.Bool.{Bool, false, cond, _&&_}
 use mathlib.Core.List.{List, [], _∷_, _++_, map}
 use lib.ListN.{length, getD, set}
 use lib.Dec.{eqb, leb, ltb}
+use Rattle.directory.specs.Entries.{isDir}
 use Rattle.disk.specs.Refusals.{numberOf}
 use Rattle.directory.specs.declared.Kind.{Kind}
 use Rattle.rules.specs.Counting.{sumList, gather}
 use Rattle.rules.specs.Anodes.{Anodes, limit}
 use Rattle.rules.specs.Chains.{chainOf}
-use Rattle.rules.specs.Walk.{Dir, Entered, Item, isDir, entriesIn, isBlockOf, blocksFor, broken}
+use Rattle.rules.specs.Walk.{Dir, Entered, Item, entriesIn, isBlockOf, blocksFor, broken}
 use Rattle.tree.specs.declared.Tally.{Tally}
 use Rattle.tree.specs.declared.Step.{Step}
 use Rattle.tree.specs.declared.Step.the-variants.{Go, Fault}

@@ -14,15 +14,16 @@ use Rattle.disk.specs.Blocks.{blockOf, withBlock}
 use Rattle.disk.proofs.Laws.{length-blockOf, part-block, block-back}
 use Rattle.disk.proofs.Store.{length-withBlock, blockOf-withBlock-other}
 use Rattle.rules.specs.Counting.{times, gather}
-use Rattle.rules.specs.Anodes.{Anodes, limit}
-use Rattle.rules.specs.Chains.{chainOf, run, blocksOf}
+use Rattle.rules.specs.Anodes.{Anodes}
+use Rattle.rules.specs.Chains.{run, blocksOf}
 use Rattle.rules.specs.Walk.{Entered}
 use Rattle.rules.specs.Lookup.{bytesOf}
 use Rattle.rules.specs.Changes.{spread, written}
+use Rattle.laws.specs.Chains.{Inside}
 use Rattle.laws.specs.Sums.{oneAt-same}
 use Rattle.laws.specs.Bags.{times-cons, times-append}
-use Rattle.anodes.specs.Loaded.{anodesFrom}
-use Rattle.writes.specs.Written.{writtenOver, Inside, InsideOnce}
+use Rattle.anodes.specs.Along.{blocksAlong, along-step}
+use Rattle.writes.specs.Written.{writtenOver, InsideOnce}
 
 -- ---- a store over two lists
 
@@ -139,29 +140,7 @@ module _ (img : List ℕ) (b n m : ℕ) (more : n ≡ m + 1) (i : Inside img (ru
   pub rest-inside : Inside img (run (b + 1) m)
   rest-inside y p = (rw (run-step b n m more) at i) y (omega (arith, p, times-cons y b (run (b + 1) m)))
 
--- ---- the blocks along a chain of at most k anodes, from anode a on
-
-unfoldable pub blocksAlong : List ℕ → List ℕ → List ℕ → ℕ → ℕ → List ℕ
-blocksAlong counts firsts nexts k a = gather (λ x. run (getD firsts x 0) (getD counts x 0)) (chainOf (λ x. getD nexts x 0) k a)
-
-module _ (counts firsts nexts : List ℕ) where
-  pub along-whole : (h : ℕ) → blocksOf (anodesFrom counts firsts nexts) h ≡ blocksAlong counts firsts nexts limit h
-  unfolding blocksOf anodesFrom blocksAlong
-  along-whole h = refl
-
-  pub along-none : (k a : ℕ) → k ≡ 0 → blocksAlong counts firsts nexts k a ≡ []
-  unfolding blocksAlong chainOf gather
-  along-none k a e = rw e
-
-  pub along-end : (k m a : ℕ) → k ≡ m + 1 → a ≡ 0 → blocksAlong counts firsts nexts k a ≡ []
-  unfolding blocksAlong chainOf gather
-  along-end k m a fuel z = rw (fuel, add-one m, z)
-
-pub along-step : (counts firsts nexts : List ℕ) (k m a : ℕ) → k ≡ m + 1 → (a ≡ 0 → ⊥)
-    → blocksAlong counts firsts nexts k a ≡ run (getD firsts a 0) (getD counts a 0) ++ blocksAlong counts firsts nexts m (getD nexts a 0)
-unfolding blocksAlong chainOf gather
-along-step counts firsts nexts k m zero fuel n = absurd (n refl)
-along-step counts firsts nexts k m (suc a) fuel n = rw (fuel, add-one m)
+-- ---- the blocks along a chain
 
 module _ (img counts firsts nexts : List ℕ) (k m a : ℕ) (fuel : k ≡ m + 1) (some-anode : a ≡ 0 → ⊥) (i : Inside img (blocksAlong counts firsts nexts k a)) where
   -- the anode's own blocks

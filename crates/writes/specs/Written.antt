@@ -17,10 +17,6 @@ writtenOver img (y ∷ ys) offset bytes = writtenOver (withBlock img y (stored (
 abbrev pub WrittenPast : Cursor → List ℕ → List ℕ → List ℕ → Cursor → List ℕ → Type 0
 WrittenPast c bytes img ys c′ img′ = (rest : List ℕ) → writtenOver img′ rest (c′ .skip) (drop (c′ .done) bytes) ≡ writtenOver img (ys ++ rest) (c .skip) (drop (c .done) bytes)
 
--- the image has each of these blocks whole
-abbrev pub Inside : List ℕ → List ℕ → Type 0
-Inside img ys = (y : ℕ) → 0 < times y ys → y * 512 + 512 ≤ length img
-
--- and none of them stands twice
+-- the image has each of these blocks whole, and none of them stands twice
 abbrev pub InsideOnce : List ℕ → List ℕ → Type 0
 InsideOnce img ys = (y : ℕ) → 0 < times y ys → (y * 512 + 512 ≤ length img) × (times y ys ≤ 1)

@@ -1,7 +1,7 @@
 use mathlib.Core.Path.{sym, _∙_}
 use native.Mathlib.Omega.{arith}
 use Rattle.lookup.specs.Answers.{entered}
-use Rattle.fsck.proofs.Laws.{number-some}
+use Rattle.disk.proofs.Laws.{number-some}
 use Rattle.changes.specs.Reached.{named-member}
 use Rattle.changing.proofs.Laws.{leaves-unchanged, leaves-named, loaded-of, full-by, unfound-remove, remove-full, remove-whole}
 use borrow.Author.Needs.{needs}

@@ -1,6 +1,6 @@
 use mathlib.Core.Path.{sym, _∙_}
 use native.Mathlib.Omega.{arith}
-use Rattle.fsck.proofs.Laws.{number-some}
+use Rattle.disk.proofs.Laws.{number-some}
 use Rattle.changes.specs.Reached.{named-member}
 use Rattle.changing.proofs.Laws.{leaves-unchanged, leaves-named, loaded-of, unfound-resize, resize-directory, resize-file}
 use borrow.Author.Needs.{needs}

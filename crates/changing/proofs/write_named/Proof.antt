@@ -3,7 +3,7 @@ use native.Mathlib.Omega.{arith}
 use Rattle.rules.specs.Anodes.{Anodes}
 use Rattle.rules.specs.Changes.{written}
 use Rattle.lookup.specs.Answers.{entered}
-use Rattle.fsck.proofs.Laws.{number-some}
+use Rattle.disk.proofs.Laws.{number-some}
 use Rattle.changes.specs.Reached.{named-member}
 use Rattle.reading.proofs.Laws.{read-directory, read-past, read-done}
 use Rattle.changing.proofs.Laws.{chain-inside, write-unfound, write-refused, write-done}

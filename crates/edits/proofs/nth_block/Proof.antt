@@ -1,6 +1,7 @@
 use mathlib.Core.Path.{_≡_, refl, sym, _∙_}
 use Prim.Native.Nat.{_-_}
-use Rattle.edits.proofs.Along.{blocksAlong, nth-whole, nth-none, nth-end, nth-here, nth-later}
+use Rattle.anodes.specs.Along.{blocksAlong}
+use Rattle.edits.proofs.Along.{nth-whole, nth-none, nth-end, nth-here, nth-later}
 use borrow.Author.Needs.{needs}
 use native.Mathlib.Omega.{arith}
 use lib.ListN.{getD}

@@ -4,7 +4,8 @@ use native.Mathlib.Omega.{arith}
 use Rattle.rules.specs.Walk.{entriesFrom, entriesIn}
 use Rattle.rules.specs.Lookup.{firstNamed}
 use Rattle.lookup.specs.Answers.{Unbroken}
-use Rattle.lookup.proofs.Laws.{block-whole, none-left, ended, unbroken-no-fault, unbroken-rest, named-here, named-behind, named-none}
+use Rattle.tree.proofs.Laws.{block-whole}
+use Rattle.lookup.proofs.Laws.{none-left, ended, unbroken-no-fault, unbroken-rest, named-here, named-behind, named-none}
 use borrow.Author.Needs.{needs}
 use Rattle.lookup.proofs.named_in.Statement.{statement}
 use Rattle.lookup.proofs.named_in.Tie as tie

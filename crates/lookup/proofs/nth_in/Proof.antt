@@ -5,7 +5,8 @@ use native.Mathlib.Omega.{arith}
 use Rattle.rules.specs.Walk.{Entered, entriesFrom, entriesIn}
 use Rattle.rules.specs.Lookup.{nth}
 use Rattle.lookup.specs.Answers.{Unbroken}
-use Rattle.lookup.proofs.Laws.{block-whole, none-left, ended, unbroken-no-fault, unbroken-rest, nth-none, nth-here, nth-behind}
+use Rattle.tree.proofs.Laws.{block-whole}
+use Rattle.lookup.proofs.Laws.{none-left, ended, unbroken-no-fault, unbroken-rest, nth-none, nth-here, nth-behind}
 use borrow.Author.Needs.{needs}
 use Rattle.lookup.proofs.nth_in.Statement.{statement}
 use Rattle.lookup.proofs.nth_in.Tie as tie

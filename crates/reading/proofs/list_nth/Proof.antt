@@ -1,6 +1,6 @@
 use mathlib.Core.Path.{sym, _∙_}
 use native.Mathlib.Omega.{arith}
-use Rattle.fsck.proofs.Laws.{number-some}
+use Rattle.disk.proofs.Laws.{number-some}
 use Rattle.changes.specs.Reached.{nth-member}
 use Rattle.reading.proofs.Laws.{place-low, list-found, list-refused}
 use borrow.Author.Needs.{needs}

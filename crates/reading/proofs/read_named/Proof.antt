@@ -3,7 +3,7 @@ use Prim.Native.Nat.{_+_}
 use native.Mathlib.Omega.{arith}
 use lib.ListN.{length}
 use borrow.Author.Tests.{ltb-false}
-use Rattle.fsck.proofs.Laws.{number-some}
+use Rattle.disk.proofs.Laws.{number-some}
 use Rattle.changes.specs.Reached.{named-member}
 use Rattle.reading.proofs.Laws.{file-long, read-searched, read-directory, read-past, read-done}
 use borrow.Author.Needs.{needs}

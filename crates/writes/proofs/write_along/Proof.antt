@@ -5,8 +5,10 @@ use lib.ListN.{length, getD, drop}
 use Rattle.rules.specs.Walk.{Entered}
 use Rattle.rules.specs.Changes.{written}
 use Rattle.anodes.specs.Loaded.{anodesFrom}
-use Rattle.writes.specs.Written.{writtenOver, Inside}
-use Rattle.writes.proofs.Laws.{over-empty, over-done, over-written, blocksAlong, along-whole, along-none, along-end, along-step, run-inside, chain-inside}
+use Rattle.anodes.specs.Along.{blocksAlong, along-whole, along-none, along-end, along-step}
+use Rattle.laws.specs.Chains.{Inside}
+use Rattle.writes.specs.Written.{writtenOver}
+use Rattle.writes.proofs.Laws.{over-empty, over-done, over-written, run-inside, chain-inside}
 use borrow.Author.Needs.{needs}
 use Rattle.writes.proofs.write_along.Statement.{statement}
 use Rattle.writes.proofs.write_along.Tie as tie
