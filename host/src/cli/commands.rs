@@ -169,7 +169,7 @@ pub fn format<L: Library>(arguments: &Arguments) -> Done {
     }
     // A file larger than any disk counts as one block too many, and an empty one as no disk.
     let old_blocks =
-        old.map(|old| (old.len() / BLOCK as u64).min(65_536) as usize).filter(|&blocks| blocks > 0);
+        old.as_ref().map(|old| (old.len() / BLOCK as u64).min(65_536) as usize).filter(|&blocks| blocks > 0);
     let blocks = match arguments.has("--blocks") {
         true => usize::from(arguments.number("--blocks", 0u16)?),
         false => old_blocks.unwrap_or(1_760),
@@ -187,6 +187,7 @@ pub fn format<L: Library>(arguments: &Arguments) -> Done {
         protection: arguments.number("--protection", 0)?,
     };
     let disk = Disk::<L>::format(blocks, &format).map_err(refused_disk(file))?;
+    let _held = old.map(|_| store::hold(file)).transpose()?;
     replace(file, disk.image())
 }
 

@@ -1,5 +1,6 @@
 //! Disk files. A file is never changed in place: the new bytes go into a temporary file beside it, which takes its
-//! name when they are all there.
+//! name when they are all there. A change holds the disk file until then, so that changes of one disk by several
+//! processes come one after the other and none is lost.
 
 use std::ffi::OsStr;
 use std::fs::{self, File, OpenOptions, Permissions};
@@ -46,11 +47,39 @@ pub fn load_sound<L: Library>(name: &OsStr) -> Result<Disk<L>, Failure> {
     Ok(disk)
 }
 
+/// Whether the open file still stands under this name. Where files have no numbers to tell, it is taken to.
+fn is_current(file: &File, name: &OsStr) -> io::Result<bool> {
+    #[cfg(unix)]
+    {
+        use std::os::unix::fs::MetadataExt;
+        let (open, named) = (file.metadata()?, fs::metadata(name)?);
+        Ok((open.dev(), open.ino()) == (named.dev(), named.ino()))
+    }
+    #[cfg(not(unix))]
+    Ok(true)
+}
+
+/// Waits until no other process changes the disk in a file, and keeps them waiting as long as the answer lives.
+pub fn hold(name: &OsStr) -> Result<File, Failure> {
+    let held = || loop {
+        let file = File::open(name)?;
+        match file.lock() {
+            // A file system without locks leaves it to the user to run one command at a time.
+            Err(error) if error.kind() != io::ErrorKind::Unsupported => return Err(error),
+            // The change that was waited for has put another file in its place.
+            Ok(()) if !is_current(&file, name)? => continue,
+            _ => return Ok(file),
+        }
+    };
+    held().map_err(trouble(name))
+}
+
 /// Changes the disk in a file. If the change fails, the file is as it was.
 pub fn change<L: Library>(
     name: &OsStr,
     work: impl FnOnce(&mut Disk<L>) -> Result<(), Failure>,
 ) -> Result<(), Failure> {
+    let _held = hold(name)?;
     let mut disk = load_sound(name)?;
     work(&mut disk)?;
     replace(name, disk.image())

@@ -132,3 +132,19 @@ fn permissions_and_links_stay() {
     assert_eq!(metadata.permissions().mode() & 0o777, 0o640);
     assert!(folder.done(&["tree", "disk.adf"]).contains("  new/\n"));
 }
+
+#[test]
+fn changes_of_one_disk_at_the_same_time_are_all_kept() {
+    let folder = Folder::with_disk("together");
+    let names: Vec<String> = (0..24).map(|i| format!("record{i:02}")).collect();
+    let commands: Vec<_> = names.iter().map(|name| vec!["put", "disk.adf", "pack7", name]).collect();
+    for run in folder.run_together(&commands) {
+        assert_eq!((run.status, run.errors.as_str()), (0, ""));
+    }
+    let tree = folder.done(&["tree", "disk.adf"]);
+    for name in &names {
+        assert!(tree.contains(&format!("{name}  14\n")), "{name} is lost: {tree}");
+    }
+    assert_eq!(folder.done(&["check", "disk.adf"]), "0: accepted\n");
+    assert_eq!(folder.names(), ["disk.adf", "pack7"], "no temporary file stays");
+}

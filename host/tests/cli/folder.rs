@@ -75,6 +75,20 @@ impl Folder {
         Run::of(child.wait_with_output().expect("the program ends"))
     }
 
+    /// Runs all of these at the same time, and gives what each gave.
+    pub fn run_together(&self, commands: &[Vec<&str>]) -> Vec<Run> {
+        let start = |words: &Vec<&str>| {
+            let mut command = self.command(words);
+            command.stdin(Stdio::null()).stdout(Stdio::piped()).stderr(Stdio::piped());
+            command.spawn().expect("the program runs")
+        };
+        let children: Vec<_> = commands.iter().map(start).collect();
+        children
+            .into_iter()
+            .map(|child| Run::of(child.wait_with_output().expect("the program ends")))
+            .collect()
+    }
+
     /// Runs a command that must be done, and gives what it printed.
     pub fn done(&self, words: &[&str]) -> String {
         let run = self.run(words);

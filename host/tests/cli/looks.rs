@@ -123,8 +123,9 @@ fn map_draws_a_picture() {
     folder.done(&["put", "disk.adf", "pack7", "a<b&c"]);
     let svg = folder.done(&["map", "disk.adf", "--svg"]);
     assert!(svg.starts_with("<svg xmlns=\"http://www.w3.org/2000/svg\"") && svg.ends_with("</svg>\n"));
-    assert!(svg.contains("<title>64 to 64: recipes/pack7</title>"));
-    assert!(svg.contains("<title>65 to 65: a&lt;b&amp;c</title>"));
+    assert!(svg.contains("<title>3 to 4: anode blocks</title>"));
+    assert!(svg.contains("<title>64: recipes/pack7</title>"));
+    assert!(svg.contains("<title>65: a&lt;b&amp;c</title>"));
     assert!(svg.contains("<title>behind last reserved</title>"));
     for name in [
         "free 1751",
@@ -134,10 +135,22 @@ fn map_draws_a_picture() {
         "start blocks 3",
         "to be freed 0",
         "bad 0",
+        "last reserved 63",
     ] {
         assert!(svg.contains(&format!(">{name}</text>")), "{name}");
     }
-    assert_eq!(svg.matches("<rect").count(), svg.matches("/>").count() + svg.matches("</rect>").count());
+    // Every rectangle and line is closed.
+    for element in ["rect", "path"] {
+        let opened = svg.split('<').filter(|piece| piece.starts_with(element));
+        let open = opened.filter(|piece| !piece.trim_end().ends_with("/>")).count();
+        assert_eq!(open, svg.matches(&format!("</{element}>")).count(), "{element}");
+    }
+    // The boundary before block 64 is one line across the picture.
+    assert!(svg.contains("<path d=\"M512 36 H0\""));
+    // Before block 21 it goes along the rest of the row, down, and below the row's beginning.
+    folder.done(&["format", "small.adf", "--blocks", "100", "--reserved", "20"]);
+    let small = folder.done(&["map", "small.adf", "--svg"]);
+    assert!(small.contains("<path d=\"M512 28 H168 V36 H0\"") && small.contains(">last reserved 20</text>"));
 }
 
 #[test]
