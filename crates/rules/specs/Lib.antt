@@ -13,3 +13,4 @@ pub mod Calls
 pub mod Totals
 pub mod History
 pub mod Worked
+pub mod Everything

@@ -7,7 +7,7 @@ use Rattle.endian.specs.Bytes.{put16, put32, stored}
 use Rattle.disk.specs.AnodeBlocks.{anodeMade, setAnode}
 use Rattle.rules.specs.Accepted.{checkAnswer}
 use Rattle.rules.specs.Calls.{checkOutcome}
-use Rattle.samples.specs.Everything.{everything}
+use Rattle.rules.specs.Everything.{everything}
 use Rattle.samples.specs.Formatted.{disk5, withFile, blocks7, anodes3446}
 
 -- the check's answer with tables that are long enough

@@ -10,7 +10,7 @@ use Rattle.rules.specs.Format.{formatted, formatAnswer}
 use Rattle.rules.specs.Accepted.{checkAnswer}
 use Rattle.rules.specs.Totals.{total}
 use Rattle.rules.specs.Calls.{checkOutcome, summaryOutcome, makeOutcome, removeOutcome, listOutcome}
-use Rattle.samples.specs.Everything.{everything}
+use Rattle.rules.specs.Everything.{everything}
 
 -- the name `bench`
 abbrev pub label : List ℕ

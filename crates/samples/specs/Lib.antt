@@ -1,5 +1,3 @@
 -- Facts that the checker computes.
-pub mod Everything
 pub mod Formatted
 pub mod Bent
-pub mod Histories

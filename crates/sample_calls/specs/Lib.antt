@@ -1,0 +1,2 @@
+-- Lists of calls that the checker computes.
+pub mod Histories
