@@ -1,19 +1,16 @@
 -- The chains of a loaded image, and how many blocks a chain may have.
-use Prim.Native.Nat.{ℕ, _*_, _%_, _≤_, _<_}
+use Prim.Native.Nat.{ℕ, _*_, _≤_, _<_}
 use mathlib.Core.Path.{_≡_}
 use mathlib.Core.Logic.{_≢_, inl, inr}
-use mathlib.Core.Bool.{Bool, false, not, _||_}
+use mathlib.Core.Bool.{Bool, false}
 use mathlib.Core.List.{List}
 use native.Mathlib.Omega.{arith}
-use lib.Dec.{eqb, ltb}
 use lib.ListN.{length, take, length-take}
-use borrow.Author.Tests.{ltb-false}
 use Rattle.rules.specs.Counting.{oneAt}
 use Rattle.rules.specs.Anodes.{Anodes, limit, exists}
 use Rattle.rules.specs.Chains.{systemOwns, blockCount}
 use Rattle.rules.specs.Walk.{Entered}
 use Rattle.rules.specs.Accepted.{diskSize, wrongSize, lastReserved}
-use Rattle.counting.specs.Laws.{neither}
 use Rattle.laws.specs.Acceptance.{passed-of}
 use Rattle.laws.specs.Sums.{oneAt-cases, sum-mono, sum-member}
 use Rattle.laws.specs.Ownership.{total}
@@ -24,6 +21,7 @@ use Rattle.laws.specs.Whole.{blocks-count}
 use Rattle.anodes.specs.Loaded.{anodesFrom}
 use Rattle.changes.specs.Image.{headIn, sideIn, accepted-whole}
 use Rattle.changes.specs.Reached.{EntryFacts, entry-facts}
+use Rattle.changes.specs.Totals.{size-bounds}
 use Rattle.changed.specs.Leaves.{Loaded, ReachedEntry}
 
 module _ {img counts firsts nexts : List ℕ} (l : Loaded img counts firsts nexts) where
@@ -47,15 +45,13 @@ module _ {img counts firsts nexts : List ℕ} (l : Loaded img counts firsts next
 -- fewer than 65,535: block 0 is the system's
 pub count-less : (img : List ℕ) → wrongSize img ≡ false → (s : Anodes) {ex : ℕ → Bool} {last : ℕ} {hd sd : ℕ → ℕ} → Good limit ex (diskSize img) last s (systemOwns img) hd sd →
     (h : ℕ) → Head (s .next) (s .block) h → blockCount s h < 65535
-unfolding wrongSize systemOwns blocks
+unfolding systemOwns blocks
 count-less img right s {hd = hd} g h d =
-    let small = neither (not (eqb (length img % 512) 0)) (ltb (diskSize img) 5 || ltb 65535 (diskSize img)) right .1 in
-    let ends = neither (ltb (diskSize img) 5) (ltb 65535 (diskSize img)) small in
-    let least : 5 ≤ diskSize img = ltb-false (diskSize img) 5 (ends .0) in
+    let size = size-bounds img right in
     omega (
       arith,
-      ltb-false 65535 (diskSize img) (ends .1),
-      sum-member (systemOwns img) 0 (diskSize img) (omega arith),
+      size .1,
+      sum-member (systemOwns img) 0 (diskSize img) (omega (arith, size .0)),
       total limit (s .count) (s .block) (systemOwns img) (diskSize img) (g .own),
       blocks-count g h d,
       sum-mono (λ a. oneAt (hd a) h * s .count a) (s .count) limit (λ a q. elim (oneAt-cases (hd a) h) [ inl o ↦ rw (o .1) (omega arith) | inr o ↦ rw (o .1) (omega arith) ]),

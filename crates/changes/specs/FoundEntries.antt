@@ -17,7 +17,7 @@ use Rattle.directory.specs.declared.Entry.{Entry}
 use Rattle.directory.specs.declared.Kind.{Kind}
 use Rattle.directory.specs.declared.Walked.{Walked}
 use Rattle.directory.specs.declared.Walked.the-variants.{Found, End, Fault}
-use Rattle.directory.specs.Entries.{kindRead, goodName, entryLength, nameLength, commentLength, nameIn, entryShaped, entryIn, walkedKind, walkedAt, isDir}
+use Rattle.directory.specs.Entries.{directoryHeadIn, kindRead, goodName, entryLength, nameLength, commentLength, nameIn, entryShaped, entryIn, walkedKind, walkedAt, isDir}
 use Rattle.directory.proofs.Laws.{FoundAt, found-at, end-at}
 use Rattle.rules.specs.Counting.{anyIn}
 use Rattle.rules.specs.Walk.{Entered, withRest, entriesFrom}
@@ -34,6 +34,14 @@ part-same l m k j n p q same =
 pub part-byte : (l m : List ℕ) (k j n : ℕ) → take n (drop k l) ≡ take n (drop j m) → (i : ℕ) → i < n → getD l (k + i) 0 ≡ getD m (j + i) 0
 part-byte l m k j n e i h =
     sym (getD-take n (drop k l) i 0 h ∙ getD-drop k l i 0) ∙ ap (λ (p : List ℕ). getD p i 0) e ∙ getD-take n (drop j m) i 0 h ∙ getD-drop j m i 0
+
+-- the same first 16 bytes are the same head
+pub head-same : (b b′ : List ℕ) → ((i : ℕ) → i < 16 → getD b′ i 0 ≡ getD b i 0) → directoryHeadIn b′ ≡ directoryHeadIn b
+unfolding directoryHeadIn
+head-same b b′ same = rw (two 0 (omega arith), two 12 (omega arith), two 14 (omega arith))
+  where
+    two : (i : ℕ) → i < 15 → be16 b′ i ≡ be16 b i
+    two i h = be16-bytes b′ b i i (same i (omega arith)) (same (i + 1) (omega arith))
 
 -- the bytes of an entry, at another place or in another block
 module _ (b b′ : List ℕ) (at at′ : ℕ) (whole : length b ≡ 512) (whole′ : length b′ ≡ 512) (f : FoundAt b at) (room′ : at′ + getD b at 0 ≤ 510)
@@ -52,7 +60,7 @@ module _ (b b′ : List ℕ) (at at′ : ℕ) (whole : length b ≡ 512) (whole�
   unfolding commentLength entryLength
   same-comment = rw (same-name, add-assoc at′ 16 (nameLength b at), add-assoc at 16 (nameLength b at)) (same (16 + nameLength b at) (omega (arith, f .exact)))
 
-  pub same-nameIn : nameIn b′ at′ ≡ nameIn b at
+  same-nameIn : nameIn b′ at′ ≡ nameIn b at
   unfolding nameIn entryLength
   same-nameIn = rw same-name
       (part-same b′ b (at′ + 16) (at + 16) (nameLength b at) (omega (arith, f .exact)) (omega (arith, f .exact, f .room))

@@ -7,8 +7,6 @@ use mathlib.Core.List.{List, [], _∷_, _++_, map, cons≢nil, append-assoc, hea
 use native.Mathlib.Omega.{arith}
 use lib.ListN.{length, getD, take, drop, replicate, length-append, length-drop, length-replicate, getD-replicate, List·getD-append}
 use lib.Seq.{getD-take, getD-drop, length-take-le, getD-append-add}
-use Rattle.endian.specs.Bytes.{be16}
-use Rattle.endian.proofs.Laws.{be16-bytes}
 use Rattle.directory.specs.declared.Entry.{Entry}
 use Rattle.directory.specs.declared.Walked.the-variants.{Found, End}
 use Rattle.directory.specs.Entries.{directoryHeadIn, walkedAt}
@@ -16,7 +14,7 @@ use Rattle.directory.proofs.Laws.{found-at}
 use Rattle.rules.specs.Counting.{anyIn}
 use Rattle.rules.specs.Walk.{Entered, entriesFrom}
 use Rattle.rules.specs.Changes.{endFrom, entriesEnd, gapClosed}
-use Rattle.changes.specs.FoundEntries.{part-same, walked-same, Standing, entry-standing, found-more, found-none, unbroken-cases, end-more, end-here, end-bounds, place-after, place-order}
+use Rattle.changes.specs.FoundEntries.{part-same, head-same, walked-same, Standing, entry-standing, found-more, found-none, unbroken-cases, end-more, end-here, end-bounds, place-after, place-order}
 use Rattle.changes.specs.Members.{Member}
 
 -- the same entry, so many bytes earlier
@@ -142,11 +140,7 @@ module _ (b : List ℕ) (at len end : ℕ) (whole : length b ≡ 512) (fits : at
 
   -- the head of the block
   gap-head : 16 ≤ at → directoryHeadIn (gapClosed b at len end) ≡ directoryHeadIn b
-  unfolding directoryHeadIn
-  gap-head l = rw (at16 0 (omega arith), at16 12 (omega arith), at16 14 (omega arith))
-    where
-      at16 : (i : ℕ) → i < 15 → be16 (gapClosed b at len end) i ≡ be16 b i
-      at16 i h = be16-bytes (gapClosed b at len end) b i i (gap-front i (omega arith)) (gap-front (i + 1) (omega arith))
+  gap-head l = head-same b (gapClosed b at len end) (λ i h. gap-front i (omega arith))
 
   -- the same bytes, before the gap and behind it
   bytes-before : (k n : ℕ) → k + n ≤ at → take n (drop k (gapClosed b at len end)) ≡ take n (drop k b)

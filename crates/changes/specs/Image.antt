@@ -1,5 +1,5 @@
 -- From the check's answer to the whole accepted state, and back for an image that has the same root block and anode block heads.
-use Prim.Native.Nat.{ℕ, zero, suc, _+_, _≤_, _<_}
+use Prim.Native.Nat.{ℕ, zero, suc, _≤_, _<_}
 use mathlib.Core.Path.{_≡_, refl, sym, ap, _∙_}
 use mathlib.Core.Logic.{_≢_, inl, inr}
 use mathlib.Core.Bool.{Bool, false, _&&_}
@@ -11,7 +11,7 @@ use Rattle.disk.specs.Blocks.{blockOf}
 use Rattle.disk.specs.Root.{slotOf}
 use Rattle.disk.specs.AnodeBlocks.{anodeHeadIn}
 use Rattle.rules.specs.Counting.{oneAt, sumList, times}
-use Rattle.rules.specs.Anodes.{Anodes, limit, exists, anodesOf}
+use Rattle.rules.specs.Anodes.{Anodes, limit, exists, anodesOf, withAnodes}
 use Rattle.rules.specs.Chains.{heads, headOf, cut, systemOwns}
 use Rattle.rules.specs.Walk.{Dir, Entered, Item, root, entriesIn, isBlockOf, itemsBy, itemsOf, Scanned, faulty, fine, faultOf, scan, subDirs, Walk, fault, done, visited, walk, walkOf, faultIn, dirsIn, reached, reachedDirs, naming}
 use Rattle.rules.specs.Accepted.{diskSize, lastReserved, wrongSlots, ownersOf, twoOwners, noOwner, unnamed, unnamedChain, checkAnswer}
@@ -23,31 +23,38 @@ use Rattle.laws.specs.Bags.{list-mono, map-sum}
 use Rattle.laws.specs.Items.{below, namedIn, subs-named}
 use Rattle.laws.specs.Trees.{tree-one}
 use Rattle.laws.specs.TreeChanges.{headed}
+use Rattle.laws.specs.Space.{Good}
+use Rattle.laws.specs.Passes.{passes-of}
 use Rattle.laws.specs.Whole.{Whole, head-counts, counts-head, named-heads}
 use Rattle.laws.specs.Accepted.{Accepted, whole-of, accepted-of}
 use Rattle.laws.specs.Acceptance.{none-and, passed-of, passed-accepted, Tested, passes-tested}
 use Rattle.laws.specs.ImageAnodes.{reading-of}
 use Rattle.laws.specs.OneOwner.{naming-sum, passes, accepted-one-owner, good}
-use Rattle.frames.specs.Kept.{Kept, kept-all, diskSize-kept, wrongSize-kept, shortTables-kept, slotOf-kept, lastReserved-kept, wrongType-kept, wrongRoot-kept, systemOwns-kept, wrongSlots-heads, anodesOf-kept, kept-both}
-use Rattle.frames.specs.StoredAnodes.{AnodesStored, root-unheld}
+use Rattle.frames.specs.Kept.{Unheld, Kept, kept-all, diskSize-kept, wrongSize-kept, shortTables-kept, slotOf-kept, lastReserved-kept, wrongType-kept, wrongRoot-kept, systemOwns-kept, wrongSlots-heads, anodesOf-kept, kept-both}
+use Rattle.frames.specs.StoredAnodes.{AnodesStored, root-unheld, withAnodes-stored, anodesOf-withAnodes}
 use Rattle.frames.specs.DisjointBlocks.{DataBlock}
+use Rattle.changes.specs.Members.{none-in}
 
+-- the whole state of an image with the anodes s: what the laws ask of anodes, blocks and directories
 abbrev pub WholeImage : List ℕ → Anodes → (ℕ → ℕ) → (ℕ → ℕ) → List Dir → Type 0
 WholeImage img s hd sd dirs = Whole (exists img) (diskSize img) (lastReserved img) s (systemOwns img) hd sd (entriesIn img) (isBlockOf img) dirs
 
--- the head of an anode's chain, and of its side of the free list
+-- the head of an anode's chain
 abbrev pub headIn : List ℕ → ℕ → ℕ
 headIn img = headOf limit (anodesOf img .next) (anodesOf img .block)
 
+-- the head of an anode's side of the free list
 abbrev pub sideIn : List ℕ → ℕ → ℕ
 sideIn img = headOf limit (cut (anodesOf img .next)) (anodesOf img .block)
 
 -- ---- a walk answers 0 where it is done, and only there
 
+-- a walk that stopped has a number
 abbrev Numbered : Walk → Type 0
 Numbered (fault n) = n ≢ 0
 Numbered (done ds) = Unit {0}
 
+-- so has a scan
 abbrev NumberedScan : Scanned → Type 0
 NumberedScan (faulty n) = n ≢ 0
 NumberedScan (fine q l) = Unit {0}
@@ -113,6 +120,7 @@ module _ (img : List ℕ) (blocks anodes : ℕ) (e : checkAnswer img blocks anod
         );
       }
 
+  -- an accepted image has the whole state
   pub accepted-whole : WholeImage img (anodesOf img) (headIn img) (sideIn img) (reachedDirs img (anodesOf img))
   accepted-whole = whole-of accepted
 
@@ -126,18 +134,29 @@ pub record SameDisk (img j : List ℕ) : Type 0 where
 pub same-own : (img : List ℕ) → SameDisk img img
 same-own img = record { kept = kept-all img; heads-kept = λ s u. refl }
 
-pub same-stored : {img j : List ℕ} → wrongSlots img ≡ false → AnodesStored img j → SameDisk img j
+same-stored : {img j : List ℕ} → wrongSlots img ≡ false → AnodesStored img j → SameDisk img j
 same-stored {img} right w = record {
   kept = record { length-kept = w .kept .length-kept; block-kept = λ d o. w .kept .block-kept d (rw o (root-unheld img right)) };
   heads-kept = w .heads-kept;
 }
+
+-- an accepted image in which other anodes are stored
+module _ (img : List ℕ) (blocks anodes : ℕ) (e : checkAnswer img blocks anodes ≡ 0) (t : Anodes) where
+  pub stored-kept : Kept (Unheld img) img (withAnodes img t)
+  stored-kept = withAnodes-stored img (accepted-slots img blocks anodes e) t .kept
+
+  pub stored-same : SameDisk img (withAnodes img t)
+  stored-same = same-stored (accepted-slots img blocks anodes e) (withAnodes-stored img (accepted-slots img blocks anodes e) t)
+
+  pub stored-anodes : {n last : ℕ} {system hd sd : ℕ → ℕ} → Good limit (exists img) n last t system hd sd → anodesOf (withAnodes img t) ≡ t
+  stored-anodes g = anodesOf-withAnodes img (accepted-slots img blocks anodes e) t (passes-of g .0)
 
 -- what is no data block is not one of some data blocks
 pub not-one : {img : List ℕ} {b : ℕ} → DataBlock img b → (y : ℕ) → (DataBlock img y → ⊥) → y ≢ b
 not-one d y n e = n (rw e d)
 
 pub not-among : {img : List ℕ} (ys : List ℕ) → ((y : ℕ) → 0 < times y ys → DataBlock img y) → (y : ℕ) → (DataBlock img y → ⊥) → times y ys ≡ 0
-not-among ys d y n = elim (less? 0 (times y ys)) [ inl p ↦ absurd (n (d y p)) | inr p ↦ omega arith ]
+not-among ys d y n = none-in y ys (λ p. n (d y p))
 
 -- stores that keep all but data blocks
 module _ {img i j : List ℕ} {on : ℕ → Type 0} (d : SameDisk img i) (k : Kept on i j) (others : (y : ℕ) → (DataBlock img y → ⊥) → on y) where
@@ -190,6 +209,7 @@ module _ (img j : List ℕ) (blocks anodes : ℕ) (e : checkAnswer img blocks an
   tested : Tested (anodesOf j) (diskSize img) (lastReserved img) (systemOwns img) (exists img)
   tested = passes-tested (anodesOf j) (diskSize img) (lastReserved img) (systemOwns img) (exists img) (found .1 .passes)
 
+  -- an image of the same disk with a whole state is accepted
   pub whole-accepted : checkAnswer j blocks anodes ≡ 0
   unfolding twoOwners noOwner ownersOf
   whole-accepted =

@@ -23,6 +23,7 @@ pub mod MadeImage
 pub mod Make
 pub mod MakeEffects
 pub mod Gap
+pub mod RemoveStores
 pub mod Remove
 pub mod RemoveEffects
 pub mod RemovedEntry

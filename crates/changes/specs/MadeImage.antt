@@ -17,29 +17,27 @@ use Rattle.rules.specs.Counting.{oneAt, times, anyIn}
 use Rattle.rules.specs.Anodes.{Anodes, limit, exists, anodesOf, withAnodes}
 use Rattle.rules.specs.Chains.{chainOf, run, blocksOf, systemOwns}
 use Rattle.rules.specs.Walk.{Dir, Entered, entriesFrom, entriesIn, isBlockOf, reachedDirs}
-use Rattle.rules.specs.Accepted.{diskSize, lastReserved, wrongSlots, checkAnswer}
+use Rattle.rules.specs.Accepted.{diskSize, lastReserved, checkAnswer}
 use Rattle.rules.specs.Lookup.{noDirectory}
 use Rattle.rules.specs.Space.{planned, rewritten}
 use Rattle.rules.specs.Changes.{withBlocks, entriesEnd, firstRoom, ownBlock, parentBlock, newDirectoryBlock, parentOf, entryPlace, NewEntry, entryOf, madeImage}
-use Rattle.laws.specs.Tests.{less?, eq→eqb, eqb-true, eqb-false, and, or-right}
+use Rattle.laws.specs.Tests.{eq→eqb, eqb-true, eqb-false, and, or-right}
 use Rattle.laws.specs.Sums.{oneAt-cases, oneAt-same}
 use Rattle.laws.specs.Bags.{list-cons, times-nil, times-cons, times-append}
 use Rattle.laws.specs.Space.{Good, on-chain}
-use Rattle.laws.specs.Passes.{passes-of}
 use Rattle.laws.specs.Each.{Each, each-map}
 use Rattle.laws.specs.TreeChanges.{headed, none-headed}
 use Rattle.laws.specs.Orphan.{Orphaned}
 use Rattle.laws.specs.DirectoryTakes.{dir-head}
 use Rattle.frames.specs.Kept.{Kept}
-use Rattle.frames.specs.StoredAnodes.{withAnodes-stored, anodesOf-withAnodes}
 use Rattle.frames.specs.StoredBlocks.{inBlock-kept, blockOf-inBlock, withBlocks-kept}
 use Rattle.frames.specs.StoredBytes.{blockOf-withBlocks}
 use Rattle.frames.specs.DisjointBlocks.{DataBlock}
-use Rattle.changes.specs.Image.{WholeImage, headIn, sideIn, accepted-whole, accepted-slots, SameDisk, same-stored, same-then, anodes-then, not-one, not-among, reached-headed}
+use Rattle.changes.specs.Image.{WholeImage, headIn, sideIn, accepted-whole, SameDisk, stored-kept, stored-same, stored-anodes, same-then, anodes-then, not-one, not-among, reached-headed}
 use Rattle.changes.specs.FoundEntries.{enteredAt, end-bounds}
-use Rattle.changes.specs.Members.{Member, no-member, member-cons, member-gather, member-times, times-member}
+use Rattle.changes.specs.Members.{Member, none-in, no-member, member-cons, member-gather, member-times, times-member}
 use Rattle.changes.specs.Reached.{DirBlock, reached-from-5, dir-block}
-use Rattle.changes.specs.SingleBlocks.{single-apart, single-data, block-unbroken}
+use Rattle.changes.specs.SingleBlocks.{single-apart, single-data}
 use Rattle.changes.specs.NewEntry.{entries-put, head-put, length-new, entries-new, end-new, head-new, room-found}
 use Rattle.changes.specs.MakePlan.{MadePlan, made-plan, made-good, made-orphan, parent-took}
 
@@ -53,9 +51,6 @@ times-map g (x ∷ l) y p = elim (oneAt-cases (g x) y) [
 
 pub first-in : (y : ℕ) (l : List ℕ) → l ≡ y ∷ [] → 0 < times y l
 first-in y l e = omega (arith, ap (times y) e, times-cons y y [], oneAt-same y y refl)
-
-pub none-in : (y : ℕ) (l : List ℕ) → (0 < times y l → ⊥) → times y l ≡ 0
-none-in y l n = elim (less? 0 (times y l)) [ inl p ↦ absurd (n p) | inr p ↦ omega arith ]
 
 -- a new directory block is marked as its directory's
 pub new-marked : (i : List ℕ) (y owner parent : ℕ) → blockOf i y ≡ newDirectoryBlock owner parent → (d : Dir) → d .head ≡ owner → d .parent ≡ parent → T (isBlockOf i d y)
@@ -105,9 +100,6 @@ module _ {img : List ℕ} {blocks anodes h : ℕ} {new : NewEntry} {f : ℕ} {ro
 
   pub w : WholeImage img s (headIn img) (sideIn img) dirs
   w = accepted-whole img blocks anodes (m .accepted)
-
-  right : wrongSlots img ≡ false
-  right = accepted-slots img blocks anodes (m .accepted)
 
   pub once : headed h dirs ≡ 1
   once = reached-headed img blocks anodes (m .accepted) h (m .reached)
@@ -172,6 +164,7 @@ module _ {img : List ℕ} {blocks anodes h : ℕ} {new : NewEntry} {f : ℕ} {ro
   abbrev headed-own : List ℕ
   headed-own = withBlocks base ys (newDirectoryBlock f h)
 
+  -- with the new directory blocks
   abbrev pub before : List ℕ
   before = withBlocks headed-own zs (newDirectoryBlock h (parentOf dirs h))
 
@@ -181,18 +174,20 @@ module _ {img : List ℕ} {blocks anodes h : ℕ} {new : NewEntry} {f : ℕ} {ro
   parent-kept : Kept (λ d. times d zs ≡ 0) headed-own before
   parent-kept = withBlocks-kept headed-own zs (newDirectoryBlock h (parentOf dirs h)) (omega (arith, length-new h (parentOf dirs h)))
 
+  own-same : SameDisk img headed-own
+  own-same = same-then (stored-same img blocks anodes (m .accepted) t) own-kept (not-among ys own-data)
+
   before-same : SameDisk img before
-  before-same = same-then (same-then (same-stored right (withAnodes-stored img right t)) own-kept (not-among ys own-data)) parent-kept (not-among zs parent-data)
+  before-same = same-then own-same parent-kept (not-among zs parent-data)
 
   before-anodes : anodesOf before ≡ t
   before-anodes =
-      anodes-then (same-then (same-stored right (withAnodes-stored img right t)) own-kept (not-among ys own-data)) parent-kept (not-among zs parent-data)
-      ∙ anodes-then (same-stored right (withAnodes-stored img right t)) own-kept (not-among ys own-data)
-      ∙ anodesOf-withAnodes img right t (passes-of good .0)
+      anodes-then own-same parent-kept (not-among zs parent-data) ∙ anodes-then (stored-same img blocks anodes (m .accepted) t) own-kept (not-among ys own-data)
+      ∙ stored-anodes img blocks anodes (m .accepted) t good
 
   -- a data block that is not new is the one that was
   pub kept-block : (y : ℕ) → DataBlock img y → times y ys ≡ 0 → times y zs ≡ 0 → blockOf before y ≡ blockOf img y
-  kept-block y d o p = parent-kept .block-kept y p ∙ own-kept .block-kept y o ∙ withAnodes-stored img right t .kept .block-kept y (d .unheld)
+  kept-block y d o p = parent-kept .block-kept y p ∙ own-kept .block-kept y o ∙ stored-kept img blocks anodes (m .accepted) t .block-kept y (d .unheld)
 
   pub old-block : (a : ℕ) → s .count a ≡ 1 → headIn img a ≢ 1 → blockOf before (s .block a) ≡ blockOf img (s .block a)
   old-block a one q = let o = old-apart a one q in kept-block (s .block a) (single-data img (w .good) a one) (o .0) (o .1)
@@ -202,11 +197,11 @@ module _ {img : List ℕ} {blocks anodes h : ℕ} {new : NewEntry} {f : ℕ} {ro
 
   pub own-new : (y : ℕ) → 0 < times y ys → blockOf before y ≡ newDirectoryBlock f h
   own-new y p = parent-kept .block-kept y (new-apart y p)
-      ∙ blockOf-withBlocks base ys (newDirectoryBlock f h) y (length-new f h) p (rw (withAnodes-stored img right t .kept .length-kept) (own-data y p .inside))
+      ∙ blockOf-withBlocks base ys (newDirectoryBlock f h) y (length-new f h) p (rw (stored-same img blocks anodes (m .accepted) t .kept .length-kept) (own-data y p .inside))
 
   pub parent-new : (y : ℕ) → 0 < times y zs → blockOf before y ≡ newDirectoryBlock h (parentOf dirs h)
   parent-new y p = blockOf-withBlocks headed-own zs (newDirectoryBlock h (parentOf dirs h)) y (length-new h (parentOf dirs h)) p
-      (rw (own-kept .length-kept ∙ withAnodes-stored img right t .kept .length-kept) (parent-data y p .inside))
+      (rw (own-same .kept .length-kept) (parent-data y p .inside))
 
   -- ---- the directories of that image
 
@@ -263,7 +258,7 @@ module _ {img : List ℕ} {blocks anodes h : ℕ} {new : NewEntry} {f : ℕ} {ro
         on = omega (arith, ap (times a) (plan .chain), times-append a (chainOf (s .next) limit h) (plan .new), member-times a (chainOf (s .next) limit h) (b .1));
         at = omega (arith, ap (λ (o : Option ℕ). entryPlace o zs) e, found .2, ap entriesEnd same, k .1, b .3);
         fits = rw same (found .3);
-        unbroken = rw (k .1, cont a one q .0) (block-unbroken img blocks anodes (m .accepted) h (m .reached) a (b .1));
+        unbroken = rw (k .1, cont a one q .0) (b .2 .unbroken);
       }
 
   in-new : room ≡ none → Spot

@@ -167,6 +167,7 @@ module _ (img : List ℕ) (s : Anodes) (h : ℕ) (new : NewEntry) where
             taking (refused n) q = refused-with n (parent-refused space r n q)
             taking (planned t zs) q = done l x r ys e t zs q
 
+  -- it answers 0, 27 or 28
   pub made-answer : (made img s h new .answer ≡ 0) ⊎ ((made img s h new .answer ≡ 27) ⊎ (made img s h new .answer ≡ 28))
   made-answer = made-cases (λ o. (o .answer ≡ 0) ⊎ ((o .answer ≡ 27) ⊎ (o .answer ≡ 28))) (inr (inl refl)) (inr (inr refl)) (λ l x r ys e t zs q. inl refl)
 

@@ -2,7 +2,7 @@
 use Prim.Native.Nat.{ℕ, _+_, _*_, _/_, _%_, _≤_, _<_}
 use mathlib.Core.Path.{_≡_, refl, sym, ap, ap₂, _∙_}
 use mathlib.Core.Logic.{_≢_, inl, inr}
-use mathlib.Core.Bool.{Bool, true, false, cond, true≢false}
+use mathlib.Core.Bool.{Bool, true, false, cond}
 use mathlib.Core.List.{List, [], _∷_, _++_, map, append-assoc, append-nil}
 use mathlib.Core.Option.{Option}
 use native.Mathlib.Omega.{arith}
@@ -10,9 +10,10 @@ use lib.ListN.{length, getD, take, drop}
 use borrow.Author.Tests.{leb-true}
 use Rattle.disk.specs.Blocks.{blockOf}
 use Rattle.disk.proofs.Laws.{length-blockOf}
+use Rattle.disk.proofs.Store.{getD-blockOf}
 use Rattle.directory.specs.declared.Walked.the-variants.{Found}
 use Rattle.directory.specs.declared.Entry.{Entry}
-use Rattle.directory.specs.Entries.{goodComment, walkedAt, putEntry}
+use Rattle.directory.specs.Entries.{goodComment, entryLength, walkedAt, putEntry}
 use Rattle.directory.proofs.Laws.{length-putEntry, getD-putEntry-before, nameIn-putEntry, walkedAt-putEntry, found-at}
 use Rattle.rules.specs.Counting.{oneAt, times, anyIn, gather}
 use Rattle.rules.specs.Anodes.{Anodes, limit, anodesOf}
@@ -29,14 +30,13 @@ use Rattle.laws.specs.TreeChanges.{headed}
 use Rattle.laws.specs.ChainBlocks.{gather-append, extent, kept-blocks, stands-once}
 use Rattle.laws.specs.DirectoryTakes.{dir-head}
 use Rattle.frames.specs.DisjointBlocks.{chains-apart, chain-block}
-use Rattle.changes.specs.Image.{headIn, headed-reached, reached-some, reached-headed}
+use Rattle.changes.specs.Image.{headIn, headed-reached, headed-same, reached-headed}
 use Rattle.changes.specs.FoundEntries.{part-same, enteredAt, entry-standing}
-use Rattle.changes.specs.Members.{Member, member-first, member-times, times-member, gather-congr}
+use Rattle.changes.specs.Members.{Member, none-in, member-first, member-times, times-member, gather-congr}
 use Rattle.changes.specs.Reached.{block-on, reached-from-5, reached-head, dir-block, entry-facts, not-file}
-use Rattle.changes.specs.SingleBlocks.{block-unbroken}
 use Rattle.changes.specs.EntryBytes.{entryBytes, bytes-at, with-length}
-use Rattle.changes.specs.NewEntry.{entries-new}
-use Rattle.changes.specs.MadeImage.{none-in, Making, w, plan, own-block, parent-block, before, kept-block, parent-new, cont, old-block, orphan, spot, inside-before, spot-data, in-block, at-end, entry-kept, entry-block, entry-other, made-anodes, entries-made, other-entries, its-head}
+use Rattle.changes.specs.NewEntry.{entries-new, comment-put}
+use Rattle.changes.specs.MadeImage.{Making, w, plan, own-block, parent-block, before, kept-block, parent-new, cont, old-block, orphan, spot, inside-before, spot-data, in-block, at-end, entry-kept, entry-block, entry-other, made-anodes, entries-made, other-entries, its-head}
 use Rattle.changes.specs.Make.{made-dirs}
 
 -- a list with one more element somewhere in it
@@ -62,6 +62,11 @@ gather-none g (x ∷ l) e = rw (e x (omega (arith, times-cons x x l, oneAt-same 
 gather-first : (g : ℕ → List Entered) (k : List Entered) (a : ℕ) (l : List ℕ) → k ++ gather g (a ∷ l) ≡ k ++ g a ++ gather g l
 unfolding gather
 gather-first g k a l = sym (append-assoc k (g a) (gather g l))
+
+-- bytes of a block are bytes of the image
+block-part : (img : List ℕ) (y k n : ℕ) → y * 512 + 512 ≤ length img → k + n ≤ 512 → take n (drop (y * 512 + k) img) ≡ take n (drop k (blockOf img y))
+block-part img y k n there fits = part-same img (blockOf img y) (y * 512 + k) k n (omega arith) (omega (arith, length-blockOf img y there))
+    (λ i l. let e : y * 512 + k + i ≡ y * 512 + (k + i) = omega arith in rw e (sym (getD-blockOf img y (k + i) (omega arith))))
 
 -- an entry of a block keeps its bytes when another is put behind the last
 bytes-put : (b : List ℕ) (y at : ℕ) (x : Entry) (name comment : List ℕ) → length b ≡ 512 → anyIn (λ e. e .broken) (entriesFrom 28 b y 16) ≡ false → (e : Entered) → e .place ≡ y * 512 + at →
@@ -105,6 +110,7 @@ module _ {img : List ℕ} {blocks anodes h : ℕ} {new : NewEntry} {f : ℕ} {ro
   head-now : (k : ℕ) → noDirectory img s k ≡ false → Head (t .next) (t .block) k
   head-now k r = dir-head (orphan m .2) k (reached-headed img blocks anodes (m .accepted) k r)
 
+  -- every other directory has the entries that it had
   pub entries-kept : (k : ℕ) → noDirectory img (anodesOf img) k ≡ false → k ≢ h →
       entriesOf (madeImage img (anodesOf img) h new f room ys t zs) (anodesOf (madeImage img (anodesOf img) h new f room ys t zs)) k ≡ entriesOf img (anodesOf img) k
   unfolding entriesOf
@@ -159,6 +165,7 @@ module _ {img : List ℕ} {blocks anodes h : ℕ} {new : NewEntry} {f : ℕ} {ro
   now-was l part none = gather-congr now was l (λ a on. let p = member-times a l on in
       other-entries m a (ones a (omega (arith, p, part a))) (λ e. omega (arith, p, none, ap (λ (x : ℕ). times x l) e)))
 
+  -- the directory has its entries and the new one
   pub entry-added : EntryAdded (enteredAt (entryOf new f) (entryPlace room zs)) (entriesOf img (anodesOf img) h)
       (entriesOf (madeImage img (anodesOf img) h new f room ys t zs) (anodesOf (madeImage img (anodesOf img) h new f room ys t zs)) h)
   entry-added = go (times-member (spot m .anode) (chainOf (t .next) limit h) (spot m .on))
@@ -188,18 +195,13 @@ module _ {img : List ℕ} {blocks anodes h : ℕ} {new : NewEntry} {f : ℕ} {ro
 
   -- those that were reached are reached, and but for the new one no other
   pub reached-kept : (x : ℕ) → x ≢ f → noDirectory (madeImage img (anodesOf img) h new f room ys t zs) (anodesOf (madeImage img (anodesOf img) h new f room ys t zs)) x ≡ noDirectory img (anodesOf img) x
-  reached-kept x o = go (noDirectory j (anodesOf j) x) (noDirectory img s x) refl refl
+  reached-kept x o = headed-same img j s (anodesOf j) x (omega (arith, headed-made x, none (new .dir)))
     where
       none : (b : Bool) → cond b (oneAt f x) 0 ≡ 0
       none true = oneAt-other f x (λ e. o (sym e))
       none false = refl
 
-      go : (b c : Bool) → noDirectory j (anodesOf j) x ≡ b → noDirectory img s x ≡ c → b ≡ c
-      go true true p q = refl
-      go false false p q = refl
-      go true false p q = absurd (true≢false (sym p ∙ headed-reached j (anodesOf j) x (omega (arith, headed-made x, reached-some img s x q))))
-      go false true p q = absurd (true≢false (sym q ∙ headed-reached img s x (omega (arith, headed-made x, none (new .dir), reached-some j (anodesOf j) x p))))
-
+  -- a new directory is reached
   pub new-reached : new .dir ≡ true → noDirectory (madeImage img (anodesOf img) h new f room ys t zs) (anodesOf (madeImage img (anodesOf img) h new f room ys t zs)) f ≡ false
   new-reached d = headed-reached j (anodesOf j) f (omega (arith, headed-made f, ap (λ (b : Bool). cond b (oneAt f f) 0) d, oneAt-same f f refl))
 
@@ -278,22 +280,33 @@ module _ {img : List ℕ} {blocks anodes h : ℕ} {new : NewEntry} {f : ℕ} {ro
       let place : e .place ≡ s .block a * 512 + at = omega (arith, g .in-block) in
       bytes-at j (e .place) (s .block a) at place (omega arith) ∙ elim (same? a (spot m .anode)) [
         | inl q ↦ rw (made-block a q (kept .1) old)
-            (bytes-put (blockOf img (s .block a)) (s .block a) at (entryOf new f) (new .name) (new .comment) (length-blockOf img (s .block a) (g .block-facts .is-data .inside))
-            (block-unbroken img blocks anodes (m .accepted) k r a (g .member-chain)) e place (g .member))
+            (bytes-put (blockOf img (s .block a)) (s .block a) at (entryOf new f) (new .name) (new .comment) (g .block-facts .whole) (g .block-facts .unbroken) e place (g .member))
         | inr q ↦ rw (ap (blockOf j) (sym (kept .1)) ∙ entry-other m a (kept .0 ∙ one k r a (g .member-chain)) q ∙ ap (blockOf (before m)) (kept .1) ∙ old)
       ] ∙ sym (bytes-at img (e .place) (s .block a) at place (omega arith))
 
   new-whole : length (blockOf (before m) (t .block (spot m .anode))) ≡ 512
   new-whole = length-blockOf (before m) (t .block (spot m .anode)) (inside-before m (t .block (spot m .anode)) (spot-data m))
 
-  -- the new one is found there with its fields and its name
+  -- the new one is found there with its fields
   pub new-found : walkedAt (blockOf (madeImage img (anodesOf img) h new f room ys t zs) (entryPlace room zs / 512)) (entryPlace room zs % 512) ≡ Found (entryOf new f)
   unfolding entryOf goodComment
   new-found = rw (in-block m, at-end m, entry-block m)
       (walkedAt-putEntry (blockOf (before m) (t .block (spot m .anode))) (entriesEnd (blockOf (before m) (t .block (spot m .anode)))) (entryOf new f) (new .name) (new .comment) refl refl new-whole (spot m .fits) (m .named)
       (leb-true (length (new .comment)) 79 (m .commented)))
 
+  -- with its name
   pub new-name : nameAt (madeImage img (anodesOf img) h new f room ys t zs) (entryPlace room zs) ≡ new .name
   unfolding nameAt entryOf
   new-name = rw (in-block m, at-end m, entry-block m)
       (nameIn-putEntry (blockOf (before m) (t .block (spot m .anode))) (entriesEnd (blockOf (before m) (t .block (spot m .anode)))) (entryOf new f) (new .name) (new .comment) refl refl new-whole (spot m .fits))
+
+  -- and with its comment, behind the name and the comment's length byte
+  pub new-comment : take (length (new .comment)) (drop (entryPlace room zs + 17 + length (new .name)) (madeImage img (anodesOf img) h new f room ys t zs)) ≡ new .comment
+  unfolding entryOf entryLength
+  new-comment =
+      let y = t .block (spot m .anode) in
+      let at = entriesEnd (blockOf (before m) y) in
+      let place : entryPlace room zs + 17 + length (new .name) ≡ y * 512 + (at + 17 + length (new .name)) = omega (arith, spot m .at) in
+      ap (λ (k : ℕ). take (length (new .comment)) (drop k j)) place
+      ∙ block-part j y (at + 17 + length (new .name)) (length (new .comment)) (rw (entry-kept m .length-kept) (inside-before m y (spot-data m))) (omega (arith, spot m .fits))
+      ∙ rw (entry-block m) (comment-put (blockOf (before m) y) at (entryOf new f) (new .name) (new .comment) refl new-whole (spot m .fits))

@@ -5,10 +5,12 @@ use mathlib.Core.Logic.{_≢_, _⊎_, inl, inr}
 use mathlib.Core.List.{List, [], _∷_, _++_}
 use native.Mathlib.Omega.{arith}
 use Rattle.rules.specs.Counting.{sumList, times, gather, oneAt}
+use Rattle.laws.specs.Tests.{less?}
 use Rattle.laws.specs.Sums.{oneAt-same, oneAt-other, oneAt-cases}
 use Rattle.laws.specs.Bags.{list-cons, list-append, list-add, list-mono, list-scale, times-nil, times-cons}
 use Rattle.laws.specs.Each.{Each, each-right}
 
+-- x stands in l: what stands before it, and what behind
 abbrev pub Member {ℓ} : {X : Type ℓ} → X → List X → Type ℓ
 Member {X = X} x l = (before : List X) × (after : List X) × (l ≡ before ++ (x ∷ after))
 
@@ -71,6 +73,10 @@ times-member x (y ∷ l) p = elim (oneAt-cases y x) [
   | inl e ↦ ([], l, ap (λ (z : ℕ). z ∷ l) (e .0))
   | inr e ↦ member-later x y l (times-member x l (omega (arith, p, times-cons x y l, e .1)))
 ]
+
+-- what does not stand in a list
+pub none-in : (x : ℕ) (l : List ℕ) → (0 < times x l → ⊥) → times x l ≡ 0
+none-in x l n = elim (less? 0 (times x l)) [ inl p ↦ absurd (n p) | inr p ↦ omega arith ]
 
 -- two numbers of a list weigh no more than the list
 pub two-members : (w : ℕ → ℕ) (l : List ℕ) (a b : ℕ) → a ≢ b → 0 < times a l → 0 < times b l → w a + w b ≤ sumList w l

@@ -8,9 +8,10 @@ use mathlib.Core.Option.{some, Option·none-ne-some}
 use native.Mathlib.Omega.{arith}
 use borrow.Author.Tests.{leb-true}
 use lib.Dec.{leb}
-use lib.ListN.{length, getD, length-replicate, getD-replicate}
-use Rattle.endian.specs.Bytes.{be16}
-use Rattle.endian.proofs.Laws.{be16-bytes}
+use lib.ListN.{length, getD, take, drop, length-set, length-drop, length-replicate, getD-replicate}
+use lib.Seq.{getD-take, getD-drop, length-take-le, ext-getD}
+use Rattle.endian.specs.Bytes.{stored, cleared}
+use Rattle.endian.proofs.Laws.{length-put16, length-put32, length-stored, length-cleared, getD-stored-in, getD-cleared-before}
 use Rattle.disk.specs.Blocks.{blockOf}
 use Rattle.directory.specs.declared.Entry.{Entry}
 use Rattle.directory.specs.declared.Walked.the-variants.{Found, End}
@@ -22,7 +23,7 @@ use Rattle.rules.specs.Format.{zeroBlock}
 use Rattle.rules.specs.Changes.{endFrom, entriesEnd, firstRoom, newDirectoryBlock}
 use Rattle.laws.specs.Sums.{oneAt-same}
 use Rattle.laws.specs.Bags.{times-cons}
-use Rattle.changes.specs.FoundEntries.{walked-same, enteredAt, found-more, found-none, unbroken-cases, end-more, end-here, end-bounds}
+use Rattle.changes.specs.FoundEntries.{head-same, walked-same, enteredAt, found-more, found-none, unbroken-cases, end-more, end-here, end-bounds}
 
 none-from : (k : ℕ) (b : List ℕ) (y at : ℕ) → walkedAt b at ≡ End → entriesFrom k b y at ≡ []
 unfolding entriesFrom
@@ -84,11 +85,27 @@ entries-put b y e name comment whole room named commented good short u =
 
 -- the head of a directory block stays
 pub head-put : (b : List ℕ) (at : ℕ) (e : Entry) (name comment : List ℕ) → 16 ≤ at → directoryHeadIn (putEntry b at e name comment) ≡ directoryHeadIn b
-unfolding directoryHeadIn
-head-put b at e name comment l = rw (two 0 (omega arith), two 12 (omega arith), two 14 (omega arith))
-  where
-    two : (i : ℕ) → i < 15 → be16 (putEntry b at e name comment) i ≡ be16 b i
-    two i h = be16-bytes (putEntry b at e name comment) b i i (getD-putEntry-before b at e name comment i (omega arith)) (getD-putEntry-before b at e name comment (i + 1) (omega arith))
+head-put b at e name comment l = head-same b (putEntry b at e name comment) (λ i h. getD-putEntry-before b at e name comment i (omega arith))
+
+-- bytes that are stored, where only bytes behind them are cleared
+stored-cleared : (l b : List ℕ) (at from n : ℕ) (s : List ℕ) → length l ≡ length b → at + length s ≤ length b → at + length s ≤ from →
+    take (length s) (drop at (cleared (stored l at s) from n)) ≡ s
+stored-cleared l b at from n s same fits behind =
+    let b′ = cleared (stored l at s) from n in
+    let long : length b′ ≡ length b = length-cleared (stored l at s) from n ∙ length-stored l at s ∙ same in
+    let part : length (take (length s) (drop at b′)) ≡ length s = length-take-le (length s) (drop at b′) (omega (arith, length-drop at b′)) in
+    ext-getD 0 (take (length s) (drop at b′)) s part
+    (λ i h. getD-take (length s) (drop at b′) i 0 (omega arith) ∙ getD-drop at b′ i 0 ∙ getD-cleared-before (stored l at s) from n (at + i) (omega arith)
+    ∙ getD-stored-in l at s (at + i) i refl (omega arith) (omega arith))
+
+-- the comment stands behind the name and its own length byte
+pub comment-put : (b : List ℕ) (at : ℕ) (e : Entry) (name comment : List ℕ) → length comment ≡ e .comment → length b ≡ 512 → at + entryLength (e .name) (e .comment) ≤ 510 →
+    take (length comment) (drop (at + 17 + e .name) (putEntry b at e name comment)) ≡ comment
+unfolding putEntry entryLength
+comment-put b at e name comment commented whole room =
+    let place : at + 17 + e .name ≡ at + 16 + e .name + 1 = omega arith in
+    ap (λ (k : ℕ). take (length comment) (drop k (putEntry b at e name comment))) place
+    ∙ stored-cleared _ b (at + 16 + e .name + 1) _ _ comment (simp (length-set, length-stored, length-put16, length-put32)) (omega arith) (omega arith)
 
 -- ---- a new directory block
 

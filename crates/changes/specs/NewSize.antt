@@ -22,12 +22,13 @@ use Rattle.directory.proofs.Laws.{found-at, end-at}
 use Rattle.rules.specs.Counting.{anyIn}
 use Rattle.rules.specs.Walk.{Entered, entriesFrom}
 use Rattle.changes.specs.Members.{no-member}
-use Rattle.changes.specs.FoundEntries.{walked-same, found-more, found-none, unbroken-cases, place-after}
+use Rattle.changes.specs.FoundEntries.{head-same, walked-same, found-more, found-none, unbroken-cases, place-after}
 
 -- the same entry with another size
 abbrev pub sized : ℕ → Entered → Entered
 sized new e = record { broken = e .broken; dir = e .dir; anode = e .anode; size = new; place = e .place }
 
+-- an entry with another size
 abbrev withNew : ℕ → Entry → Entry
 withNew new x = record {
   kind = x .kind;
@@ -41,6 +42,7 @@ withNew new x = record {
   comment = x .comment;
 }
 
+-- what stands at a place, with another size where it is an entry
 abbrev onFound : ℕ → Walked → Walked
 onFound new (Found x) = Found (withNew new x)
 onFound new End = End
@@ -71,8 +73,7 @@ module _ (b : List ℕ) (at new : ℕ) (whole : length b ≡ 512) where
   others16 i (inr l) = be16-bytes b′ b i i (others i (inr l)) (others (i + 1) (inr (omega arith)))
 
   pub head-sized : 16 ≤ at → directoryHeadIn b′ ≡ directoryHeadIn b
-  unfolding directoryHeadIn
-  head-sized l = rw (others16 0 (inl (omega arith)), others16 12 (inl (omega arith)), others16 14 (inl (omega arith)))
+  head-sized l = head-same b b′ (λ i h. others i (inl (omega arith)))
 
   name-length : nameLength b′ at ≡ nameLength b at
   unfolding nameLength
@@ -82,7 +83,7 @@ module _ (b : List ℕ) (at new : ℕ) (whole : length b ≡ 512) where
   unfolding commentLength
   comment-length = rw name-length (others (at + 16 + nameLength b at) (inr (omega arith)))
 
-  pub name-sized : nameIn b′ at ≡ nameIn b at
+  name-sized : nameIn b′ at ≡ nameIn b at
   unfolding nameIn
   name-sized = rw (name-length, drop-put32 b (at + 4) new (at + 16) (omega arith))
 

@@ -6,13 +6,14 @@ use mathlib.Core.Bool.{Bool, true, false, true≢false}
 use mathlib.Core.List.{List, [], _∷_, map}
 use mathlib.Core.Option.{some}
 use native.Mathlib.Omega.{arith}
-use lib.ListN.{getD}
+use lib.ListN.{length, getD}
 use Rattle.disk.specs.Blocks.{blockOf}
+use Rattle.disk.proofs.Laws.{length-blockOf}
 use Rattle.directory.specs.declared.Entry.{Entry}
 use Rattle.directory.specs.declared.Walked.{Walked}
 use Rattle.directory.specs.declared.Walked.the-variants.{Found, End, Fault}
 use Rattle.directory.specs.Entries.{walkedAt}
-use Rattle.directory.proofs.Laws.{found-at}
+use Rattle.directory.proofs.Laws.{FoundAt, found-at}
 use Rattle.rules.specs.Counting.{oneAt, sumList, times, anyIn}
 use Rattle.rules.specs.Anodes.{Anodes, limit, anodesOf}
 use Rattle.rules.specs.Chains.{chainOf, heads, run, blocksOf, blockCount}
@@ -60,7 +61,7 @@ nth-member (x ∷ l) (suc n) e is = member-later e x l (nth-member l n e is)
 -- ---- where an entry stands
 
 -- an entry of a block that keeps the rules is found at its place
-pub entry-place : (k : ℕ) (b : List ℕ) (y at : ℕ) (e : Entered) → Member e (entriesFrom k b y at) → e .broken ≡ false →
+entry-place : (k : ℕ) (b : List ℕ) (y at : ℕ) (e : Entered) → Member e (entriesFrom k b y at) → e .broken ≡ false →
     (place : ℕ) × (x : Entry) × (at ≤ place) × (walkedAt b place ≡ Found x) × (e ≡ enteredAt x (y * 512 + place))
 unfolding entriesFrom
 entry-place zero b y at e p u = absurd (no-member e p)
@@ -165,6 +166,9 @@ pub record DirBlock (img : List ℕ) (h a : ℕ) : Type 0 where
   pub on-chain : headIn img a ≡ h
   pub one : anodesOf img .count a ≡ 1
   pub is-data : DataBlock img (anodesOf img .block a)
+  pub whole : length (blockOf img (anodesOf img .block a)) ≡ 512
+  -- its entries keep the entry rules
+  pub unbroken : anyIn (λ e. e .broken) (entriesIn img (anodesOf img .block a)) ≡ false
   -- the directory, as it was reached
   pub dir : Dir
   pub dir-head : dir .head ≡ h
@@ -194,6 +198,19 @@ pub record EntryFacts (img : List ℕ) (h : ℕ) (e : Entered) : Type 0 where
   pub file : e .dir ≡ false →
       1 ≤ sumList (λ d. sumList (file-size (λ x. oneAt x (e .anode))) (itemsBy (entriesIn img) (isBlockOf img) (anodesOf img) d)) (reachedDirs img (anodesOf img))
 
+-- the block that has it
+module _ {img : List ℕ} {h : ℕ} {e : Entered} (f : EntryFacts img h e) where
+  pub block-whole : length (blockOf img (e .place / 512)) ≡ 512
+  block-whole = rw (f .in-block) (f .block-facts .whole)
+
+  pub block-unbroken : anyIn (λ c. c .broken) (entriesIn img (e .place / 512)) ≡ false
+  block-unbroken = rw (f .in-block) (f .block-facts .unbroken)
+
+  -- the entries before it, and those behind it
+  pub parted : Member e (entriesIn img (e .place / 512))
+  parted = rw (f .in-block) (f .member)
+
+-- a list whose members keep the entry rules
 none-broken : (l : List Entered) → ((e : Entered) → Member e l → e .broken ≡ false) → anyIn (λ e. e .broken) l ≡ false
 unfolding anyIn
 none-broken [] f = refl
@@ -229,22 +246,38 @@ module _ (img : List ℕ) (blocks anodes : ℕ) (accepted : checkAnswer img bloc
   pub reached-head : Head (anodesOf img .next) (anodesOf img .block) h
   reached-head = rw (reached-dir .2) at (dir-is-head w (reached-dir .0) (reached-dir .1))
 
+  -- the block of an anode of its chain
   pub dir-block : (a : ℕ) → Member a (chainOf (anodesOf img .next) limit h) → DirBlock img h a
   dir-block a on =
-      let t = its-items w (reached-dir .0) (reached-dir .1) a (rw (reached-dir .2) on) in
+      let c : Member a (chainOf (anodesOf img .next) limit (reached-dir .0 .head)) = rw (reached-dir .2) on in
+      let t = its-items w (reached-dir .0) (reached-dir .1) a c in
       let o = on-chain (w .good) h reached-head a (member-times a (chainOf (anodesOf img .next) limit h) on) in
+      let y = anodesOf img .block a in
+      let b = chain-block img (w .good) h reached-head y (block-on (anodesOf img) h a on (t .0)) in
       record {
         in-use = o .1;
         on-chain = o .0;
         one = t .0;
-        is-data = chain-block img (w .good) h reached-head (anodesOf img .block a) (block-on (anodesOf img) h a on (t .0));
+        is-data = b;
+        whole = length-blockOf img y (b .inside);
+        unbroken = none-broken (entriesIn img y) (λ e m. fine w (reached-dir .0) (reached-dir .1) a c e m .0);
         dir = reached-dir .0;
         dir-head = reached-dir .2;
         reached = reached-dir .1;
         marked = t .1;
       }
 
+  -- an entry of one of its blocks stands in that block
+  pub place-in : (a : ℕ) → Member a (chainOf (anodesOf img .next) limit h) → (e : Entered) → Member e (entriesIn img (anodesOf img .block a)) →
+      (at : ℕ) × (e .place ≡ anodesOf img .block a * 512 + at) × FoundAt (blockOf img (anodesOf img .block a)) at
+  unfolding entriesIn
+  place-in a on e m =
+      let y = anodesOf img .block a in
+      let p = entry-place 28 (blockOf img y) y 16 e m (fine w (reached-dir .0) (reached-dir .1) a (rw (reached-dir .2) on) e m .0) in
+      (p .0, ap (λ (c : Entered). c .place) (p .4), found-at (blockOf img y) (p .0) (p .1) (p .3))
+
   module _ (e : Entered) (member : Member e (entriesOf img (anodesOf img) h)) where
+    -- an entry of it
     pub entry-facts : EntryFacts img h e
     unfolding entriesOf entriesIn
     entry-facts =

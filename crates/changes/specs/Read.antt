@@ -1,36 +1,48 @@
 -- What a read of a whole file gives: the bytes of the file's blocks in chain order, cut at its size.
-use Prim.Native.Nat.{ℕ, _+_}
-use mathlib.Core.Path.{_≡_, ap, _∙_}
+use Prim.Native.Nat.{ℕ, _+_, _*_}
+use mathlib.Core.Path.{_≡_, ap}
 use mathlib.Core.Bool.{Bool, false}
 use mathlib.Core.List.{List}
 use mathlib.Core.Option.{some}
 use native.Mathlib.Omega.{arith}
-use lib.ListN.{length, length-take}
-use lib.Seq.{take-take}
+use lib.ListN.{length}
+use lib.Seq.{take-take, length-take-le}
 use borrow.Author.Tests.{le-ltb}
 use Rattle.rules.specs.Counting.{_if_else_, firstOf}
 use Rattle.rules.specs.Anodes.{anodesOf}
 use Rattle.rules.specs.Chains.{blocksOf}
 use Rattle.rules.specs.Walk.{Entered, blocksFor}
 use Rattle.rules.specs.Accepted.{checkAnswer}
-use Rattle.rules.specs.Lookup.{noDirectory, entryNamed, bytesOf, contents}
+use Rattle.rules.specs.Lookup.{noDirectory, entriesOf, entryNamed, bytesOf, contents}
 use Rattle.rules.specs.Calls.{spanAnswer, readAnswer, readOutcome, settled}
 use Rattle.frames.specs.StoredBytes.{length-gather}
 use Rattle.frames.specs.DisjointBlocks.{chain-block}
 use Rattle.changes.specs.Image.{accepted-whole}
+use Rattle.changes.specs.Members.{Member}
 use Rattle.changes.specs.Reached.{named-member, entry-facts}
 use Rattle.changes.specs.ResizeStores.{length-blocksOf}
 
+-- the bytes of a file
+module _ (img : List ℕ) (blocks anodes : ℕ) (accepted : checkAnswer img blocks anodes ≡ 0) (h : ℕ) (reached : noDirectory img (anodesOf img) h ≡ false)
+    (e : Entered) (member : Member e (entriesOf img (anodesOf img) h)) (file : e .dir ≡ false) where
+  -- its blocks have as many as its size asks for
+  pub bytes-long : length (bytesOf img (anodesOf img) (e .anode)) ≡ blocksFor (e .size) * 512
+  unfolding bytesOf
+  bytes-long =
+      let w = accepted-whole img blocks anodes accepted in
+      let f = entry-facts img blocks anodes accepted h reached e member in
+      omega (arith, length-gather img (blocksOf (anodesOf img) (e .anode)) (λ y p. chain-block img (w .good) (e .anode) (f .head) y p .inside), length-blocksOf (anodesOf img) (e .anode), f .sized file)
+
+  -- a file has as many bytes as its size says
+  pub file-long : length (contents img (anodesOf img) e) ≡ e .size
+  unfolding contents blocksFor
+  file-long = length-take-le (e .size) (bytesOf img (anodesOf img) (e .anode)) (omega (arith, bytes-long))
+
 module _ (img b a : List ℕ) (accepted : checkAnswer img (length b) (length a) ≡ 0) (h : ℕ) (reached : noDirectory img (anodesOf img) h ≡ false)
     (name : List ℕ) (e : Entered) (found : entryNamed img (anodesOf img) h name ≡ some e) (file : e .dir ≡ false) where
-  -- a file has as many bytes as its size says
+  -- a named file has as many bytes as its size says
   pub contents-long : length (contents img (anodesOf img) e) ≡ e .size
-  unfolding contents bytesOf blocksFor
-  contents-long =
-      let w = accepted-whole img (length b) (length a) accepted in
-      let f = entry-facts img (length b) (length a) accepted h reached e (named-member img (anodesOf img) h name e found) in
-      length-take (e .size) (bytesOf img (anodesOf img) (e .anode))
-      ∙ omega (arith, length-gather img (blocksOf (anodesOf img) (e .anode)) (λ y p. chain-block img (w .good) (e .anode) (f .head) y p .inside), length-blocksOf (anodesOf img) (e .anode), f .sized file)
+  contents-long = file-long img (length b) (length a) accepted h reached e (named-member img (anodesOf img) h name e found) file
 
   done : (out : List ℕ) → length out ≡ e .size → readAnswer img b a h name 0 (length out) ≡ 0
   unfolding readAnswer spanAnswer firstOf

@@ -1,15 +1,13 @@
 -- A file of an accepted image resized: the image is accepted again, and of its directories the entry's size alone has changed.
-use Prim.Native.Nat.{ℕ, _+_, _-_, _/_, _%_}
+use Prim.Native.Nat.{ℕ, _/_, _%_}
 use mathlib.Core.Path.{_≡_, refl, sym, ap, _∙_}
 use mathlib.Core.Logic.{_≢_, _⊎_, inl, inr}
 use mathlib.Core.Bool.{Bool, true, false, cond}
 use mathlib.Core.List.{List, [], _∷_, _++_, map}
 use native.Mathlib.Omega.{arith}
 use lib.Dec.{eqb}
-use lib.ListN.{length}
 use borrow.Author.Tests.{eq-eqb, ne-eqb}
 use Rattle.disk.specs.Blocks.{blockOf}
-use Rattle.disk.proofs.Laws.{length-blockOf}
 use Rattle.rules.specs.Anodes.{Anodes, limit, exists, anodesOf}
 use Rattle.rules.specs.Chains.{chainOf, systemOwns}
 use Rattle.rules.specs.Walk.{Dir, Entered, entriesIn, isBlockOf, blocksFor, broken, itemsAt, itemsBy, reachedDirs}
@@ -24,8 +22,7 @@ use Rattle.laws.specs.Whole.{Whole}
 use Rattle.laws.specs.Resize as Laws
 use Rattle.changes.specs.Image.{accepted-whole, whole-accepted}
 use Rattle.changes.specs.Members.{Member, member-first, member-later, gather-congr}
-use Rattle.changes.specs.Reached.{entry-facts, DirBlock, member-reached}
-use Rattle.changes.specs.SingleBlocks.{block-unbroken}
+use Rattle.changes.specs.Reached.{entry-facts}
 use Rattle.changes.specs.NamedOnce.{only-here, only-this}
 use Rattle.changes.specs.SameItems.{whole-same}
 use Rattle.changes.specs.NewSize.{sized, head-sized, entries-sized}
@@ -82,15 +79,11 @@ module _ {img : List ℕ} {e : Entered} {new : ℕ} {t : Anodes} {ys : List ℕ}
     same-chain = shift-chain (w p .good) (steps p .ran .good) (steps p .ran .shift) (d .head) (its-head p d in-tree) (head-not-1 p d in-tree) (head-not-file p d in-tree)
 
     module _ (a : ℕ) (on : Member a (chainOf (s .next) limit (d .head))) where
-      here : DirBlock img (d .head) a
-      here = its-block p d in-tree a on
-
-      whole-block : length (blockOf img (s .block a)) ≡ 512
-      whole-block = length-blockOf img (s .block a) (here .is-data .inside)
-
       -- it reads the same after the steps
       pub alike : Alike s t a
-      alike = steps p .ran .shift .apart a (here .in-use) (λ q. head-not-1 p d in-tree (sym (here .on-chain) ∙ q)) (λ q. head-not-file p d in-tree (sym (here .on-chain) ∙ q))
+      alike =
+          let here = its-block p d in-tree a on in
+          steps p .ran .shift .apart a (here .in-use) (λ q. head-not-1 p d in-tree (sym (here .on-chain) ∙ q)) (λ q. head-not-file p d in-tree (sym (here .on-chain) ∙ q))
 
       pub other-entries : a ≢ facts p .a₀ → entriesIn j (s .block a) ≡ entriesIn img (s .block a)
       unfolding entriesIn
@@ -101,8 +94,9 @@ module _ {img : List ℕ} {e : Entered} {new : ℕ} {t : Anodes} {ys : List ℕ}
       this-entries i before after parted =
           let y = s .block a in
           let its-own : e .place / 512 ≡ y = facts p .in-block ∙ ap (s .block) (sym i) in
-          rw (this-block p d in-tree a on i) (entries-sized (blockOf img y) y (e .place % 512) new whole-block e after (omega arith) before 28 16 parted
-          (block-unbroken img (p .blocks) (p .anodes) (p .accepted) (d .head) (member-reached img s d in-tree) a on))
+          let here = its-block p d in-tree a on in
+          rw (this-block p d in-tree a on i) (entries-sized (blockOf img y) y (e .place % 512) new (here .whole) e after (omega arith) before 28 16 parted
+          (here .unbroken))
 
       -- its entries: the size is new where the file is named
       pub entries-left : entriesIn j (s .block a) ≡ map (resizedEntry (e .anode) new) (entriesIn img (s .block a))
@@ -117,7 +111,7 @@ module _ {img : List ℕ} {e : Entered} {new : ℕ} {t : Anodes} {ys : List ℕ}
       unfolding isBlockOf
       marks-left = elim (same? a (facts p .a₀)) [
         | inr n ↦ rw (other-block p d in-tree a on n)
-        | inl i ↦ rw (this-block p d in-tree a on i, head-sized (blockOf img (s .block a)) (e .place % 512) new whole-block (facts p .from-16))
+        | inl i ↦ rw (this-block p d in-tree a on i, head-sized (blockOf img (s .block a)) (e .place % 512) new (its-block p d in-tree a on .whole) (facts p .from-16))
       ]
 
       items-left : itemsAt (entriesIn j) (isBlockOf j) t d a ≡ itemsAt (λ y. map (resizedEntry (e .anode) new) (entriesIn img y)) (isBlockOf img) t d a

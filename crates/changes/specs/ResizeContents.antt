@@ -31,6 +31,7 @@ use Rattle.frames.specs.StoredBytes.{length-gather, blockOf-withBlocks, bytesOf
 use Rattle.frames.specs.DisjointBlocks.{chain-once, chains-apart, chain-block}
 use Rattle.changes.specs.Members.{Member, member-first, member-later, member-times, gather-congr}
 use Rattle.changes.specs.Reached.{entry-facts, reached-head, not-file, block-on}
+use Rattle.changes.specs.Read.{bytes-long, file-long}
 use Rattle.changes.specs.NewSize.{sized}
 use Rattle.changes.specs.ResizePlan.{handed-data, handed-apart, plan-longer, plan-shorter}
 use Rattle.changes.specs.ResizeStores.{PlannedResize, w, facts, steps, not-1, stored, taken-kept, tail-in, tail-kept, size-kept, left-kept, home-alone, length-blocksOf}
@@ -68,6 +69,7 @@ module _ {img : List ℕ} {e : Entered} {new : ℕ} {t : Anodes} {ys : List ℕ}
 
   -- ---- other files
 
+  -- every other file has the bytes that it had
   pub contents-resized-other : (k : ℕ) → noDirectory img s k ≡ false → (f : Entered) → Member f (entriesOf img s k) → f .dir ≡ false → f .anode ≢ e .anode → contents j t f ≡ contents img s f
   unfolding contents bytesOf
   contents-resized-other k r f m file apart =
@@ -100,15 +102,6 @@ module _ {img : List ℕ} {e : Entered} {new : ℕ} {t : Anodes} {ys : List ℕ}
   inside : Inside img chain
   inside y q = chain-block img (w p .good) (e .anode) (facts p .head) y q .inside
 
-  -- its bytes before, as many as its blocks have
-  long : length (bytesOf img s (e .anode)) ≡ blocksFor (e .size) * 512
-  unfolding bytesOf
-  long = omega (arith, length-gather img chain inside, length-blocksOf s (e .anode), facts p .sized (p .file))
-
-  length-contents : length (contents img s e) ≡ e .size
-  unfolding contents blocksFor
-  length-contents = length-take-le (e .size) (bytesOf img s (e .anode)) (omega (arith, long))
-
   module _ (less : new ≤ e .size) where
     shorter : (rest : List ℕ) × (chain ≡ blocksOf t (e .anode) ++ rest)
     unfolding blocksFor
@@ -126,8 +119,9 @@ module _ {img : List ℕ} {e : Entered} {new : ℕ} {t : Anodes} {ys : List ℕ}
     block-left y q =
         let small = le-ltb (e .size) new less in
         let c = still-in y q in
-        size-kept p .block-kept y (off-home y c) ∙ rw (small) (stored p .kept .block-kept y (chain-block img (w p .good) (e .anode) (facts p .head) y c .unheld))
+        size-kept p .block-kept y (off-home y c) ∙ rw (small) (stored p .block-kept y (chain-block img (w p .good) (e .anode) (facts p .head) y c .unheld))
 
+    -- a file that shrinks has its bytes up to the new size
     pub contents-shrunk : contents j t (sized new e) ≡ take new (contents img s e)
     unfolding contents bytesOf blocksFor
     contents-shrunk =
@@ -166,12 +160,12 @@ module _ {img : List ℕ} {e : Entered} {new : ℕ} {t : Anodes} {ys : List ℕ}
         size-kept p .block-kept y (λ i. omega (arith, rw i at q, home-alone p .0))
         ∙ tail-kept p .block-kept y (omega (arith, once y, q))
         ∙ rw big (blockOf-withBlocks (withAnodes img t) ys zeroBlock y (length-replicate {A = ℕ} 512 0) q
-        (rw (stored p .kept .length-kept) (handed-data img (w p .good) (e .anode) (facts p .head) (not-1 p) (steps p) y q .inside)))
+        (rw (stored p .length-kept) (handed-data img (w p .good) (e .anode) (facts p .head) (not-1 p) (steps p) y q .inside)))
 
     -- the others keep their bytes, up to the clearing of the last one's end
     before-tail : (y : ℕ) → 0 < times y chain → blockOf (zeroTaken (withAnodes img t) e new ys) y ≡ blockOf img y
     before-tail y q =
-        taken-kept p .block-kept y (omega (arith, once y, q)) ∙ stored p .kept .block-kept y (chain-block img (w p .good) (e .anode) (facts p .head) y q .unheld)
+        taken-kept p .block-kept y (omega (arith, once y, q)) ∙ stored p .block-kept y (chain-block img (w p .good) (e .anode) (facts p .head) y q .unheld)
 
     zeros : gather (blockOf j) ys ≡ replicate (length ys * 512) 0
     zeros = gather-zeros (blockOf j) ys (λ y m. taken-zero y (member-times y ys m))
@@ -240,15 +234,14 @@ module _ {img : List ℕ} {e : Entered} {new : ℕ} {t : Anodes} {ys : List ℕ}
           ∙ take-append-add (gather (blockOf img) front) (blockOf img last ++ []) (e .size % 512)
           ∙ ap (λ (l : List ℕ). gather (blockOf img) front ++ take (e .size % 512) l) (append-nil (blockOf img last))
 
-      odd-bytes : gather (blockOf j) chain ≡ contents img s e ++ replicate (blocksFor (e .size) * 512 - e .size) 0
-      unfolding gather blocksFor
+      odd-bytes : gather (blockOf j) chain ≡ contents img s e ++ replicate (512 - e .size % 512) 0
+      unfolding gather
       odd-bytes =
           let part = take (e .size % 512) (blockOf img last) in
-          let pad : 512 - e .size % 512 ≡ (e .size + 511) / 512 * 512 - e .size = omega arith in
           ap (gather (blockOf j)) parted ∙ gather-append (blockOf j) front (last ∷ [])
           ∙ ap₂ _++_ (gather-congr (blockOf j) (blockOf img) front (λ y m. front-left y (member-times y front m))) (append-nil (blockOf j last) ∙ last-left)
           ∙ sym (append-assoc (gather (blockOf img) front) part (replicate (512 - e .size % 512) 0))
-          ∙ ap₂ _++_ (sym odd-contents) (ap (λ (n : ℕ). replicate n 0) pad)
+          ∙ ap (λ (l : List ℕ). l ++ replicate (512 - e .size % 512) 0) (sym odd-contents)
 
     even-left : e .size % 512 ≡ 0 → (y : ℕ) → 0 < times y chain → blockOf j y ≡ blockOf img y
     unfolding resizedImage zeroTail
@@ -257,13 +250,14 @@ module _ {img : List ℕ} {e : Entered} {new : ℕ} {t : Anodes} {ys : List ℕ}
     old-bytes : gather (blockOf j) chain ≡ contents img s e ++ replicate (blocksFor (e .size) * 512 - e .size) 0
     unfolding contents bytesOf blocksFor
     old-bytes = elim (same? (e .size % 512) 0) [
-      | inr odd ↦ odd-bytes odd
+      | inr odd ↦ (let pad : 512 - e .size % 512 ≡ (e .size + 511) / 512 * 512 - e .size = omega arith in rw (← pad) (odd-bytes odd))
       | inl even ↦ (let none : (e .size + 511) / 512 * 512 - e .size ≡ 0 = omega arith in
           gather-congr (blockOf j) (blockOf img) chain (λ y m. even-left even y (member-times y chain m))
-          ∙ sym (take-all (e .size) (gather (blockOf img) chain) (omega (arith, long)))
+          ∙ sym (take-all (e .size) (gather (blockOf img) chain) (omega (arith, bytes-long img (p .blocks) (p .anodes) (p .accepted) (p .home) (p .reached) e (p .member) (p .file))))
           ∙ sym (append-nil (take (e .size) (gather (blockOf img) chain))) ∙ ap (λ (n : ℕ). take (e .size) (gather (blockOf img) chain) ++ replicate n 0) (sym none))
     ]
 
+    -- a file that grows has its bytes, and zeros behind them
     pub contents-grown : contents j t (sized new e) ≡ contents img s e ++ replicate (new - e .size) 0
     unfolding contents bytesOf blocksFor
     contents-grown =
@@ -273,6 +267,6 @@ module _ {img : List ℕ} {e : Entered} {new : ℕ} {t : Anodes} {ys : List ℕ}
         let all : gather (blockOf j) (blocksOf t (e .anode)) ≡ c ++ replicate (a + b) 0 =
         ap (gather (blockOf j)) (longer .0) ∙ gather-append (blockOf j) chain ys ∙ ap₂ _++_ old-bytes zeros ∙ append-assoc c (replicate a 0) (replicate b 0)
         ∙ ap (λ (l : List ℕ). c ++ l) (replicate-append-replicate {A = ℕ} a b 0) in
-        let up-to : new ≡ length c + (new - e .size) = omega (arith, length-contents) in
+        let up-to : new ≡ length c + (new - e .size) = omega (arith, file-long img (p .blocks) (p .anodes) (p .accepted) (p .home) (p .reached) e (p .member) (p .file)) in
         ap (take new) all ∙ ap (λ (n : ℕ). take n (c ++ replicate (a + b) 0)) up-to ∙ take-append-add c (replicate (a + b) 0) (new - e .size)
         ∙ ap (λ (l : List ℕ). c ++ l) (take-zeros (new - e .size) (a + b) (omega (arith, longer .1, facts p .sized (p .file))))

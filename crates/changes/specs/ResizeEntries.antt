@@ -10,24 +10,22 @@ use lib.Seq.{take-set-lt, drop-set-add}
 use Rattle.endian.specs.Bytes.{put16, put32}
 use Rattle.endian.proofs.Laws.{length-put32}
 use Rattle.disk.specs.Blocks.{blockOf}
-use Rattle.disk.proofs.Laws.{length-blockOf}
 use Rattle.directory.proofs.Laws.{found-at}
-use Rattle.rules.specs.Counting.{oneAt, gather, anyIn}
+use Rattle.rules.specs.Counting.{oneAt, gather}
 use Rattle.rules.specs.Anodes.{Anodes, limit, anodesOf}
 use Rattle.rules.specs.Chains.{chainOf}
 use Rattle.rules.specs.Walk.{Dir, Entered, entriesIn, reachedDirs}
-use Rattle.rules.specs.Lookup.{noDirectory, entriesOf, nameAt}
+use Rattle.rules.specs.Lookup.{noDirectory, entriesOf}
 use Rattle.rules.specs.Changes.{resizedImage}
 use Rattle.laws.specs.Tests.{same?}
 use Rattle.laws.specs.TreeChanges.{headed}
 use Rattle.changes.specs.Image.{headIn, headed-same, reached-sum}
 use Rattle.changes.specs.Members.{Member, member-cons, member-append, gather-congr}
 use Rattle.changes.specs.FoundEntries.{part-same, place-order}
-use Rattle.changes.specs.Reached.{reached-dir, EntryFacts, dir-block, entry-facts}
-use Rattle.changes.specs.SingleBlocks.{block-unbroken}
+use Rattle.changes.specs.Reached.{EntryFacts, block-whole, block-unbroken, parted, reached-dir, dir-block, entry-facts}
 use Rattle.changes.specs.NamedOnce.{only-home}
 use Rattle.changes.specs.EntryBytes.{entryBytes}
-use Rattle.changes.specs.NewSize.{sized, put32-others, name-sized}
+use Rattle.changes.specs.NewSize.{sized, put32-others}
 use Rattle.changes.specs.ResizeStores.{PlannedResize, facts, steps, other-block, this-block, resized-same, resized-anodes}
 use Rattle.changes.specs.Resize.{resizedEntry, one-resized, same-chain, alike, other-entries, entries-left, still-whole}
 
@@ -110,18 +108,12 @@ module _ {img : List ℕ} {e : Entered} {new : ℕ} {t : Anodes} {ys : List ℕ}
   abbrev pos : ℕ
   pos = e .place % 512
 
-  whole : length (blockOf img y) ≡ 512
-  whole = length-blockOf img y (rw (facts p .in-block) (facts p .block-facts .is-data .inside))
-
   home-block : blockOf j y ≡ put32 (blockOf img y) (pos + 4) new
   home-block = rw (facts p .in-block)
       (this-block p (facts p .block-facts .dir) (facts p .block-facts .reached) (facts p .a₀) (rw (facts p .block-facts .dir-head) (facts p .member-chain)) refl)
 
   long : 18 ≤ getD (blockOf img y) pos 0
   long = found-at (blockOf img y) pos (facts p .entry) (facts p .stands) .long
-
-  home-unbroken : anyIn (λ c. c .broken) (entriesIn img y) ≡ false
-  home-unbroken = rw (facts p .in-block) (block-unbroken img (p .blocks) (p .anodes) (p .accepted) (p .home) (p .reached) (facts p .a₀) (facts p .member-chain))
 
   -- of an entry that ends before the size, or starts behind it
   apart-bytes : (b : List ℕ) (at len pos : ℕ) → length b ≡ 512 → at + len ≤ 510 → (at + len ≤ pos) ⊎ (pos + 8 ≤ at) →
@@ -142,7 +134,7 @@ module _ {img : List ℕ} {e : Entered} {new : ℕ} {t : Anodes} {ys : List ℕ}
     order i =
         let at = f .place % 512 in
         let same : f .place / 512 ≡ y = g .in-block ∙ ap (s .block) i ∙ sym (facts p .in-block) in
-        let m : Member e (entriesIn img y) = rw (facts p .in-block) (facts p .member) in
+        let m = parted (facts p) in
         let here : s .block (g .a₀) ≡ y = ap (s .block) i ∙ sym (facts p .in-block) in
         let n : Member f (m .0 ++ (e ∷ m .1)) = rw (here, m .2) at (g .member) in
         elim (member-append f (m .0) (e ∷ m .1) n) [
@@ -150,7 +142,7 @@ module _ {img : List ℕ} {e : Entered} {new : ℕ} {t : Anodes} {ys : List ℕ}
             arith,
             same,
             place-order (blockOf img y) y at f e (omega arith) (q .1) (m .1) (q .0) 28 16
-                (m .2 ∙ ap (λ (l : List Entered). l ++ (e ∷ m .1)) (q .2) ∙ append-assoc (q .0) (f ∷ q .1) (e ∷ m .1)) home-unbroken,
+                (m .2 ∙ ap (λ (l : List Entered). l ++ (e ∷ m .1)) (q .2) ∙ append-assoc (q .0) (f ∷ q .1) (e ∷ m .1)) (block-unbroken (facts p)),
           ))
           | inr q ↦ elim (member-cons f e (m .1) q) [
             | inl c ↦ absurd (apart (ap (λ (x : Entered). x .anode) c))
@@ -158,7 +150,7 @@ module _ {img : List ℕ} {e : Entered} {new : ℕ} {t : Anodes} {ys : List ℕ}
               arith,
               same,
               long,
-              place-order (blockOf img y) y pos e f (omega arith) (c .0) (c .1) (m .0) 28 16 (m .2 ∙ ap (λ (l : List Entered). m .0 ++ (e ∷ l)) (c .2)) home-unbroken,
+              place-order (blockOf img y) y pos e f (omega arith) (c .0) (c .1) (m .0) 28 16 (m .2 ∙ ap (λ (l : List Entered). m .0 ++ (e ∷ l)) (c .2)) (block-unbroken (facts p)),
             ))
           ]
         ]
@@ -172,14 +164,10 @@ module _ {img : List ℕ} {e : Entered} {new : ℕ} {t : Anodes} {ys : List ℕ}
           let at = f .place % 512 in
           let o = order i in
           let first : getD (put32 (blockOf img y) (pos + 4) new) at 0 ≡ getD (blockOf img y) at 0 = put32-others (blockOf img y) (pos + 4) new at (elim o [ inl q ↦ inl (omega arith) | inr q ↦ inr (omega arith) ]) in
-          rw (same, home-block, first) (apart-bytes (blockOf img y) at (getD (blockOf img y) at 0) pos whole (rw same at (g .ends)) o))
+          rw (same, home-block, first) (apart-bytes (blockOf img y) at (getD (blockOf img y) at 0) pos (block-whole (facts p)) (rw same at (g .ends)) o))
     ]
 
   -- of the entry only the size changes
   pub bytes-resized : entryBytes j (e .place) ≡ put32 (entryBytes img (e .place)) 4 new
   unfolding entryBytes
   bytes-resized = rw (home-block, put32-others (blockOf img y) (pos + 4) new pos (inl (omega arith))) (part-put32 (blockOf img y) pos (getD (blockOf img y) pos 0) new (omega (arith, long)))
-
-  pub name-resized : nameAt j (e .place) ≡ nameAt img (e .place)
-  unfolding nameAt
-  name-resized = rw home-block (name-sized (blockOf img y) pos new whole)

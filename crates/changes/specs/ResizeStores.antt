@@ -23,14 +23,12 @@ use Rattle.rules.specs.Format.{zeroBlock}
 use Rattle.rules.specs.Changes.{inBlock, withBlocks, resizePlan, zeroTail, withSize, zeroTaken, resizedImage}
 use Rattle.laws.specs.Bags.{list-congr, list-length, gather-sum}
 use Rattle.laws.specs.Heads.{Head}
-use Rattle.laws.specs.Passes.{passes-of}
 use Rattle.laws.specs.Acceptance.{and-both}
 use Rattle.laws.specs.Whole.{dir-heads}
 use Rattle.frames.specs.Kept.{Unheld, Kept, kept-all, kept-both}
 use Rattle.frames.specs.StoredBlocks.{inBlock-kept, blockOf-inBlock, withBlocks-kept}
-use Rattle.frames.specs.StoredAnodes.{AnodesStored, withAnodes-stored, anodesOf-withAnodes}
 use Rattle.frames.specs.DisjointBlocks.{DataBlock, chains-apart, chain-block}
-use Rattle.changes.specs.Image.{WholeImage, headIn, sideIn, accepted-slots, accepted-whole, SameDisk, same-stored, not-one, not-among, same-then, anodes-then}
+use Rattle.changes.specs.Image.{WholeImage, headIn, sideIn, accepted-whole, SameDisk, stored-kept, stored-same, stored-anodes, not-one, not-among, same-then, anodes-then}
 use Rattle.changes.specs.Members.{Member, member-each, member-first, member-later, member-times}
 use Rattle.changes.specs.Reached.{DirBlock, EntryFacts, member-reached, block-on, reached-head, dir-block, entry-facts, not-file}
 use Rattle.changes.specs.SingleBlocks.{single-apart}
@@ -105,8 +103,8 @@ module _ {img : List ℕ} {e : Entered} {new : ℕ} {t : Anodes} {ys : List ℕ}
   abbrev j : List ℕ
   j = withSize tailed (e .place) new
 
-  pub stored : AnodesStored img anodesIn
-  stored = withAnodes-stored img (accepted-slots img (p .blocks) (p .anodes) (p .accepted)) t
+  pub stored : Kept (Unheld img) img anodesIn
+  stored = stored-kept img (p .blocks) (p .anodes) (p .accepted) t
 
   pub taken-kept : Kept (λ y. times y ys ≡ 0) anodesIn zeroed
   unfolding zeroTaken
@@ -158,7 +156,7 @@ module _ {img : List ℕ} {e : Entered} {new : ℕ} {t : Anodes} {ys : List ℕ}
   -- from the image on: what no slot holds and none of the stores names is kept
   pub left-kept : Kept (λ y. Unheld img y × (Left-alone y × (y ≢ e .place / 512))) img (resizedImage img s e new t ys)
   unfolding resizedImage
-  left-kept = kept-both (λ y o. o .0) (λ y o. o .1) (stored .kept) stores-kept
+  left-kept = kept-both (λ y o. o .0) (λ y o. o .1) stored stores-kept
 
   only-data : (y : ℕ) → (DataBlock img y → ⊥) → Left-alone y × (y ≢ e .place / 512)
   only-data y n = (
@@ -168,13 +166,12 @@ module _ {img : List ℕ} {e : Entered} {new : ℕ} {t : Anodes} {ys : List ℕ}
 
   pub resized-same : SameDisk img (resizedImage img s e new t ys)
   unfolding resizedImage
-  resized-same = same-then (same-stored (accepted-slots img (p .blocks) (p .anodes) (p .accepted)) stored) stores-kept only-data
+  resized-same = same-then (stored-same img (p .blocks) (p .anodes) (p .accepted) t) stores-kept only-data
 
   pub resized-anodes : anodesOf (resizedImage img s e new t ys) ≡ t
   unfolding resizedImage
   resized-anodes =
-      anodes-then (same-stored (accepted-slots img (p .blocks) (p .anodes) (p .accepted)) stored) stores-kept only-data
-      ∙ anodesOf-withAnodes img (accepted-slots img (p .blocks) (p .anodes) (p .accepted)) t (passes-of (steps .ran .good) .0)
+      anodes-then (stored-same img (p .blocks) (p .anodes) (p .accepted) t) stores-kept only-data ∙ stored-anodes img (p .blocks) (p .anodes) (p .accepted) t (steps .ran .good)
 
   -- ---- the blocks of the directories
 
@@ -203,7 +200,7 @@ module _ {img : List ℕ} {e : Entered} {new : ℕ} {t : Anodes} {ys : List ℕ}
 
       -- up to the entry's new size it has the bytes that it had
       before-size : blockOf tailed (s .block a) ≡ blockOf img (s .block a)
-      before-size = zeros-kept .block-kept (s .block a) left-alone ∙ stored .kept .block-kept (s .block a) (its-block .is-data .unheld)
+      before-size = zeros-kept .block-kept (s .block a) left-alone ∙ stored .block-kept (s .block a) (its-block .is-data .unheld)
 
       pub other-block : a ≢ facts .a₀ → blockOf (resizedImage img s e new t ys) (s .block a) ≡ blockOf img (s .block a)
       unfolding resizedImage

@@ -74,11 +74,13 @@ module _ (img : List ℕ) (right : wrongSlots img ≡ false) where
         sum-congr (λ s. sumBelow (λ x. holds img x s) (diskSize img)) (λ s. cond (eqb (slotOf img s) 0) 0 1) 42 (λ s q. slot-once s),
       )
 
-accepted-large : (img : List ℕ) (number anodes : ℕ) → checkAnswer img number anodes ≡ 0 → 3 ≤ diskSize img
+-- a disk has 5 to 65,535 blocks
+pub size-bounds : (img : List ℕ) → wrongSize img ≡ false → (5 ≤ diskSize img) × (diskSize img ≤ 65535)
 unfolding wrongSize
-accepted-large img number anodes accepted =
-    let size = neither (not (eqb (length img % 512) 0)) (ltb (diskSize img) 5 || ltb 65535 (diskSize img)) (passed-of img number anodes accepted .size-right) in
-    omega (arith, ltb-false (diskSize img) 5 (neither (ltb (diskSize img) 5) (ltb 65535 (diskSize img)) (size .1) .0))
+size-bounds img right =
+    let size = neither (not (eqb (length img % 512) 0)) (ltb (diskSize img) 5 || ltb 65535 (diskSize img)) right in
+    let ends = neither (ltb (diskSize img) 5) (ltb 65535 (diskSize img)) (size .1) in
+    (ltb-false (diskSize img) 5 (ends .0), ltb-false 65535 (diskSize img) (ends .1))
 
 -- ---- the chains
 
@@ -136,12 +138,13 @@ module _ (img : List ℕ) (number anodes : ℕ) (accepted : checkAnswer img numb
     | inr u ↦ rw (ne-eqb (s .block h) 0 u) (blocks-count (w .good) h (record { pos = h0; in-use = u; no-pred = first }))
   ]
 
+  -- the kinds of blocks add up to the disk's size
   pub accepted-total : total img ≡ diskSize img
   unfolding total totalIn freeBlocks
   accepted-total = omega (
     arith,
     whole-total w,
-    system-blocks img (accepted-slots img number anodes accepted) (accepted-large img number anodes accepted),
+    system-blocks img (accepted-slots img number anodes accepted) (omega (arith, size-bounds img (passed-of img number anodes accepted .size-right) .0)),
     blocks-count (w .good) 1 (head-1 (w .good)),
     files,
     directories,

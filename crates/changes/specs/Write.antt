@@ -81,6 +81,7 @@ module _ (img : List ℕ) (blocks anodes : ℕ) (accepted : checkAnswer img bloc
       chains-apart (w .good) k (e .anode) (reached-head img blocks anodes accepted k r) (facts .head) (not-file img blocks anodes accepted k r h e facts file) (s .block a)
       (block-on s k a on (dir-block img blocks anodes accepted k r a on .one))
 
+  -- every directory has the entries that it had
   pub written-entries : (k : ℕ) → noDirectory img s k ≡ false → entriesOf j s k ≡ entriesOf img s k
   unfolding entriesOf
   written-entries k r =
@@ -105,6 +106,7 @@ module _ (img : List ℕ) (blocks anodes : ℕ) (accepted : checkAnswer img bloc
   same-walk = walk-same (itemsBy (entriesIn img) (isBlockOf img) s) (itemsBy (entriesIn j) (isBlockOf j) s) limit (root ∷ []) [] (reachedDirs img s)
       (accepted-walk img blocks anodes accepted) same-items
 
+  -- the same directories are reached
   pub written-dirs : reachedDirs j s ≡ reachedDirs img s
   unfolding reachedDirs walkOf itemsOf
   written-dirs = ap dirsIn same-walk
@@ -112,15 +114,18 @@ module _ (img : List ℕ) (blocks anodes : ℕ) (accepted : checkAnswer img bloc
   still-whole : Whole (exists img) (diskSize img) (lastReserved img) s (systemOwns img) (headIn img) (sideIn img) (entriesIn j) (isBlockOf j) (reachedDirs img s)
   still-whole = whole-same w (entriesIn j) (isBlockOf j) same-items
 
+  -- what a write leaves of an accepted image is accepted
   pub write-accepted : checkAnswer j blocks anodes ≡ 0
   write-accepted = whole-accepted img j blocks anodes accepted written-same {hd = headIn img} {sd = sideIn img} {dirs = reachedDirs img s} (rw written-anodes still-whole)
 
   -- ---- what the files hold
 
+  -- the file has the bytes that were written, and else those that it had
   pub contents-written : offset + length bytes ≤ e .size → contents j s e ≡ stored (contents img s e) offset bytes
   unfolding contents
   contents-written l = rw (bytesOf-written img (w .good) e (facts .head) offset bytes) (take-stored (e .size) (bytesOf img s (e .anode)) offset bytes l)
 
+  -- every other file has the bytes that it had
   pub contents-written-other : (k : ℕ) → noDirectory img s k ≡ false → (f : Entered) → Member f (entriesOf img s k) → f .anode ≢ e .anode → contents j s f ≡ contents img s f
   unfolding contents
   contents-written-other k r f m o =

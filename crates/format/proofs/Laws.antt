@@ -1,6 +1,6 @@
 -- What stands in a formatted image: its blocks, the root's fields, the slots and the anodes. Assumes nothing.
 use mathlib.Core.Path.{_≡_, refl, sym, ap, _∙_}
-use mathlib.Core.Bool.{Bool, true, false, not, _||_, true≢false}
+use mathlib.Core.Bool.{false, not}
 use mathlib.Core.Logic.{⊎-elim}
 use Prim.Native.Nat.{ℕ, zero, suc, _+_, _*_, _/_, _%_, _-_, _<_, _≤_}
 use mathlib.Core.List.{List, append-nil, _++_}
@@ -23,14 +23,11 @@ use Rattle.disk.proofs.Store.{anodeIn-putAnode-same, anodeIn-putAnode-other, le
 use Rattle.directory.specs.declared.DirectoryHead.{DirectoryHead}
 use Rattle.directory.specs.Entries.{directoryMark, putDirectoryHead}
 use Rattle.directory.proofs.Laws.{length-putDirectoryHead}
+use Rattle.counting.specs.Laws.{neither}
 use Rattle.rules.specs.Accepted.{diskSize, wrongSize}
 use Rattle.rules.specs.Format.{wrongFormat, zeroBlock, withSlots, rootBlock, lowerAnode, upperAnode, listHead, firstAnodes, emptyAnodeBlock, anodeBlock, withAnodeBlocks, rootDirectory, formatted}
 
 -- ---- arguments that are taken
-
-neither : (a b : Bool) → a || b ≡ false → (a ≡ false) × (b ≡ false)
-neither true b e = absurd (true≢false e)
-neither false b e = (refl, e)
 
 -- what the tests of 1 and 20 leave
 pub record Taken (img : List ℕ) (last k : ℕ) (name : List ℕ) : Type 0 where
@@ -356,7 +353,7 @@ root-lent img z h e =
     rw e (block-lent (started z) 2 (omega arith) ∙ blockOf-started z 2 (omega arith) h)
 
 -- the root directory's head
-abbrev rootHead : DirectoryHead
+abbrev pub rootHead : DirectoryHead
 rootHead = record { mark = directoryMark; owner = record { 0 = 5 }; parent = record { 0 = 0 } }
 
 length-rootDirectory : length rootDirectory ≡ 512
@@ -453,9 +450,6 @@ module _ (img : List ℕ) (last k : ℕ) (name : List ℕ) (day minute tick prot
     blockOf-formatted-directory =
         let m = length-based in
         rw disk-based (blockOf-same based (3 + k) (omega (arith, args)) rootDirectory length-rootDirectory)
-
-    pub blockOf-formatted-free : (b : ℕ) → 4 + k ≤ b → b < diskSize img → blockOf disk b ≡ zeroBlock
-    blockOf-formatted-free b h g = blockOf-formatted-other b (omega arith) ∙ blockOf-based b (omega arith) g
 
     -- ---- the root's fields and the slots
 

@@ -5,6 +5,7 @@ use mathlib.Core.Bool.{false}
 use mathlib.Core.List.{List, [], _∷_}
 use lib.Dec.{leb}
 use borrow.Author.Tests.{leb-true}
+use Rattle.rules.specs.Counting.{gather}
 use Rattle.rules.specs.Anodes.{Anodes, limit, exists, anodesOf}
 use Rattle.rules.specs.Chains.{systemOwns, blockCount}
 use Rattle.rules.specs.Walk.{root, reached, reachedDirs, faultIn}
@@ -18,7 +19,7 @@ use Rattle.format_laws.specs.Links.{no-head, free-blocks}
 use Rattle.format_laws.specs.Owners.{system-owns}
 use Rattle.format_laws.specs.Passes.{laid-passes}
 use Rattle.format_laws.specs.Blocks.{disk-size, size-right, tables-long, type-right, last-is, root-right, slots-right}
-use Rattle.format_laws.specs.Walk.{walked, root-reached, none-reached}
+use Rattle.format_laws.specs.Walk.{walked, no-items}
 
 module _ (img : List ℕ) (last k : ℕ) (name : List ℕ) (day minute tick protection : ℕ) (size : wrongSize img ≡ false) (good : wrongFormat img last k name ≡ false) where
   abbrev disk : List ℕ
@@ -59,16 +60,22 @@ module _ (img : List ℕ) (last k : ℕ) (name : List ℕ) (day minute tick prot
     all-named = anyBelow-all (unnamedChain disk s) limit named;
   }
 
+  -- lent tables that are long enough, the check answers 0
   pub formatted-accepted : (blocks anodes : ℕ) → diskSize img ≤ blocks → 3444 ≤ anodes → checkAnswer disk blocks anodes ≡ 0
   formatted-accepted blocks anodes b a = passed-accepted disk blocks anodes (passed blocks anodes b a)
 
   -- ---- what its summary says
 
+  -- the blocks from 4 + k on are free
   pub formatted-free : blockCount s 1 ≡ diskSize img - (4 + k)
   formatted-free = free-blocks anodes-laid (args .room) (args .there)
 
-  pub formatted-items : reached disk s ≡ []
-  formatted-items = none-reached img last k name day minute tick protection size good s anodes-laid
-
+  -- the root directory alone
   pub formatted-dirs : reachedDirs disk s ≡ root ∷ []
-  formatted-dirs = root-reached img last k name day minute tick protection size good s anodes-laid
+  unfolding reachedDirs
+  formatted-dirs = rw (walked img last k name day minute tick protection size good s anodes-laid)
+
+  -- no file and no other directory
+  pub formatted-items : reached disk s ≡ []
+  unfolding reached gather
+  formatted-items = rw (formatted-dirs, no-items img last k name day minute tick protection size good s anodes-laid)

@@ -22,6 +22,7 @@ use Rattle.laws.specs.Tests.{less?}
 use Rattle.laws.specs.Acceptance.{none-or, none-and, same}
 use Rattle.format.proofs.Laws.{Taken, taken, length-formatted, rootIn-formatted, slotOf-formatted-some, slotOf-formatted-none, blockOf-formatted-anodes}
 
+-- the head of anode block s
 abbrev headMade : ℕ → AnodeHead
 headMade s = record { mark = anodeMark; sequence = s }
 

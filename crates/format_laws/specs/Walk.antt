@@ -7,24 +7,20 @@ use native.Mathlib.Omega.{arith}
 use lib.ListN.{getD, length-replicate, getD-replicate}
 use borrow.Author.Tests.{eq-eqb}
 use Rattle.disk.specs.Blocks.{blockOf}
-use Rattle.directory.specs.declared.DirectoryHead.{DirectoryHead}
 use Rattle.directory.specs.declared.Walked.the-variants.{End}
-use Rattle.directory.specs.Entries.{directoryMark, directoryHeadIn, walkedAt}
+use Rattle.directory.specs.Entries.{directoryHeadIn, walkedAt}
 use Rattle.directory.proofs.Laws.{getD-putDirectoryHead-after, directoryHeadIn-putDirectoryHead}
 use Rattle.rules.specs.Counting.{gather}
 use Rattle.rules.specs.Anodes.{Anodes}
 use Rattle.rules.specs.Accepted.{diskSize, wrongSize}
-use Rattle.rules.specs.Walk.{Dir, root, Item, entriesFrom, entriesIn, isBlockOf, itemsBy, itemsOf, scan, done, visited, walk, walkOf, reachedDirs, reached}
+use Rattle.rules.specs.Walk.{Dir, root, Item, entriesFrom, entriesIn, isBlockOf, itemsBy, itemsOf, scan, done, visited, walk, walkOf}
 use Rattle.rules.specs.Format.{wrongFormat, zeroBlock, rootDirectory, formatted}
 use Rattle.laws.specs.Entries.{itemsAt-whole}
-use Rattle.format.proofs.Laws.{blockOf-formatted-directory}
+use Rattle.format.proofs.Laws.{rootHead, blockOf-formatted-directory}
 use Rattle.format_laws.specs.Anodes.{Laid}
 use Rattle.format_laws.specs.Links.{root-is}
 
 -- ---- the root directory's block
-
-abbrev rootHead : DirectoryHead
-rootHead = record { mark = directoryMark; owner = record { 0 = 5 }; parent = record { 0 = 0 } }
 
 head-root : directoryHeadIn rootDirectory ≡ rootHead
 unfolding rootDirectory
@@ -57,19 +53,16 @@ module _ (img : List ℕ) (last k : ℕ) (name : List ℕ) (day minute tick prot
   abbrev disk : List ℕ
   disk = formatted img last k name day minute tick protection
 
-  directory-is : blockOf disk (3 + k) ≡ rootDirectory
-  directory-is = blockOf-formatted-directory img last k name day minute tick protection size good
-
   no-entries : entriesIn disk (3 + k) ≡ []
   unfolding entriesIn
-  no-entries = entries-end 27 (blockOf disk (3 + k)) (3 + k) 16 (rw directory-is ends-root)
+  no-entries = entries-end 27 (blockOf disk (3 + k)) (3 + k) 16 (rw (blockOf-formatted-directory img last k name day minute tick protection size good) ends-root)
 
   marked : isBlockOf disk root (3 + k) ≡ true
   unfolding isBlockOf
-  marked = rw (directory-is, head-root)
+  marked = rw (blockOf-formatted-directory img last k name day minute tick protection size good, head-root)
 
   module _ (s : Anodes) (m : Laid s (diskSize img) last k) where
-    no-items : itemsOf disk s root ≡ []
+    pub no-items : itemsOf disk s root ≡ []
     unfolding itemsOf itemsBy gather
     no-items = rw (
       root-is m,
@@ -81,11 +74,3 @@ module _ (img : List ℕ) (last k : ℕ) (name : List ℕ) (day minute tick prot
     pub walked : walkOf disk s ≡ done (root ∷ [])
     unfolding walkOf
     walked = walk-alone (itemsOf disk s) 3443 root no-items
-
-    pub root-reached : reachedDirs disk s ≡ root ∷ []
-    unfolding reachedDirs
-    root-reached = rw walked
-
-    pub none-reached : reached disk s ≡ []
-    unfolding reached gather
-    none-reached = rw (root-reached, no-items)

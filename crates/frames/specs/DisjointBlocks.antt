@@ -50,6 +50,7 @@ module _ {ex : ℕ → Bool} {n last : ℕ} {s : Anodes} {system hd sd : ℕ →
     one-holder : y < n → system y + times y (blocksOf s h) ≤ 1
     one-holder l = omega (arith, times-held l, held-le y l, sum-member (λ m. heldBy m y) h limit (g .view .below h (d .in-use)))
 
+    -- a block stands in a chain at most once
     pub chain-once : times y (blocksOf s h) ≤ 1
     chain-once = elim (less? 0 (times y (blocksOf s h))) [ inl p ↦ omega (arith, one-holder (chain-below p)) | inr p ↦ omega arith ]
 
@@ -89,6 +90,7 @@ pub record DataBlock (img : List ℕ) (y : ℕ) : Type 0 where
   pub inside : y * 512 + 512 ≤ length img
   pub unheld : Unheld img y
 
+-- a block of a chain is a block of the disk that is not the system's
 pub chain-block : {ex : ℕ → Bool} {last : ℕ} {s : Anodes} {hd sd : ℕ → ℕ} (img : List ℕ) → Good limit ex (diskSize img) last s (systemOwns img) hd sd
     → (h : ℕ) → Head (s .next) (s .block) h → (y : ℕ) → 0 < times y (blocksOf s h) → DataBlock img y
 unfolding diskSize

@@ -7,9 +7,8 @@ use native.Mathlib.Omega.{arith}
 use lib.ListN.{length}
 use Rattle.disk.specs.Blocks.{blockOf}
 use Rattle.disk.specs.Root.{rootIn, slotOf}
-use Rattle.disk.specs.AnodeBlocks.{anodeHeadIn, anodeIn, anodesIn, anodeSlots, listed}
+use Rattle.disk.specs.AnodeBlocks.{anodeHeadIn, anodesIn, anodeSlots, listed}
 use Rattle.disk.specs.declared.Anode.{Anode}
-use Rattle.disk.proofs.Laws.{length-listed}
 use Rattle.rules.specs.Anodes.{anodesOf}
 use Rattle.rules.specs.Chains.{holds, systemOwns}
 use Rattle.rules.specs.Walk.{Dir, entriesIn, isBlockOf}
@@ -38,12 +37,7 @@ kept-both f g p q = record {
   block-kept = λ d o. q .block-kept d (g d o) ∙ p .block-kept d (f d o);
 }
 
--- how many anodes a slot has does not hang on their bytes
-anodes-long : (img j : List ℕ) (s : ℕ) → length (anodesIn j s) ≡ length (anodesIn img s)
-unfolding anodesIn
-anodes-long img j zero = refl
-anodes-long img j (suc b) = length-listed (anodeIn (blockOf j (suc b))) 0 82 ∙ sym (length-listed (anodeIn (blockOf img (suc b))) 0 82)
-
+-- a slot whose block is the same has the same anodes
 anodes-same : (img j : List ℕ) (s : ℕ) → (s ≢ 0 → blockOf j s ≡ blockOf img s) → anodesIn j s ≡ anodesIn img s
 unfolding anodesIn
 anodes-same img j zero e = refl

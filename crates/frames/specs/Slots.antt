@@ -31,6 +31,7 @@ pub record RightSlot (img : List ℕ) (s : ℕ) : Type 0 where
   pub numbered : anodeHeadIn (blockOf img (slotOf img s)) .sequence ≡ s
 
 module _ (img : List ℕ) (right : wrongSlots img ≡ false) where
+  -- a slot in use holds an anode block of the disk
   pub right-slot : (s : ℕ) → slotOf img s ≢ 0 → RightSlot img s
   unfolding wrongSlots wrongSlot diskSize
   right-slot s u =

@@ -55,9 +55,6 @@ module _ (img : List ℕ) (a : ℕ) (x : Anode) where
 
 module _ (img : List ℕ) (right : wrongSlots img ≡ false) where
   module _ {j : List ℕ} (w : AnodesStored img j) where
-    stored-slot : (s : ℕ) → slotOf j s ≡ slotOf img s
-    stored-slot = slotOf-kept (w .kept) (root-unheld img right)
-
     stored-right : wrongSlots j ≡ false
     stored-right = wrongSlots-heads (w .kept) (root-unheld img right) (w .heads-kept) ∙ right
 
@@ -65,7 +62,7 @@ module _ (img : List ℕ) (right : wrongSlots img ≡ false) where
     stored-more : (a : ℕ) (x : Anode) → AnodesStored img (setAnode j a x)
     stored-more a x = record {
       kept = kept-both (λ d o. o) (unheld-kept (w .kept) (root-unheld img right)) (w .kept) (set-stored j a x .kept);
-      heads-kept = λ s u. rw (stored-slot s) at (set-stored j a x .heads-kept s (λ z. u (sym (stored-slot s) ∙ z))) ∙ w .heads-kept s u;
+      heads-kept = λ s u. let same = slotOf-kept (w .kept) (root-unheld img right) s in rw same at (set-stored j a x .heads-kept s (λ z. u (sym same ∙ z))) ∙ w .heads-kept s u;
     }
 
 -- ---- what the anodes read then
@@ -165,7 +162,7 @@ module _ (img : List ℕ) (right : wrongSlots img ≡ false) (t : Anodes) where
         now true e = alike-trans (alike-same (anodesOf img) t a e) (alike-read img (upTo a) a (upTo-rest a a (omega arith)))
         now false e = elim (same? (slotOf (upTo a) (a / 82)) 0) [
           | inl z ↦ rw (setAnode-missing (upTo a) a (anodeFrom t a) z)
-              (alike-free t r (upTo a) a (block-at (upTo a) a ∙ rw (anodeOf-missing (upTo a) a z)) (missing-free a (sym (stored-slot img right (upTo-stored a) (a / 82)) ∙ z)))
+              (alike-free t r (upTo a) a (block-at (upTo a) a ∙ rw (anodeOf-missing (upTo a) a z)) (missing-free a (sym (slotOf-kept (upTo-stored a .kept) (root-unheld img right) (a / 82)) ∙ z)))
           | inr u ↦ alike-stored t r (oneMore false a) a (set-same (upTo a) still-right a (anodeFrom t a) u)
         ]
 

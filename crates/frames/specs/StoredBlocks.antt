@@ -17,6 +17,7 @@ use Rattle.frames.specs.Kept.{Kept, kept-all, kept-both}
 
 -- ---- one block
 
+-- a block stored whole keeps every other
 pub withBlock-kept : (img : List ℕ) (b : ℕ) (new : List ℕ) → length (blockOf img b) ≤ length new → Kept (λ d. d ≢ b) img (withBlock img b new)
 withBlock-kept img b new enough = record {
   length-kept = length-withBlock img b new enough;
@@ -24,6 +25,7 @@ withBlock-kept img b new enough = record {
 }
 
 module _ (img : List ℕ) (b : ℕ) (f : List ℕ → List ℕ) (long : length (f (blockOf img b)) ≡ length (blockOf img b)) where
+  -- a block changed in its place keeps every other
   pub inBlock-kept : Kept (λ d. d ≢ b) img (inBlock img b f)
   unfolding inBlock
   inBlock-kept = withBlock-kept img b (f (blockOf img b)) (le-of-eq (sym long))
@@ -43,11 +45,13 @@ module _ (img : List ℕ) (y : ℕ) (ys : List ℕ) (new : List ℕ) (long : 512
   before-rest : Kept (λ d. times d ys ≡ 0) (withBlock img y new) j → Kept (λ d. times d (y ∷ ys) ≡ 0) img j
   before-rest = kept-both (λ d z. others y d ys z .0) (λ d z. others y d ys z .1) (withBlock-kept img y new (omega (arith, length-blockOf-min img y)))
 
+-- the same bytes stored in some blocks keep every other
 pub withBlocks-kept : (img ys new : List ℕ) → 512 ≤ length new → Kept (λ d. times d ys ≡ 0) img (withBlocks img ys new)
 unfolding withBlocks
 withBlocks-kept img [] new long = kept-all img
 withBlocks-kept img (y ∷ ys) new long = before-rest img y ys new long (withBlocks-kept (withBlock img y new) ys new long)
 
+-- bytes spread over some blocks keep every other
 pub spread-kept : (img ys bytes : List ℕ) → length ys * 512 ≤ length bytes → Kept (λ d. times d ys ≡ 0) img (spread img ys bytes)
 unfolding spread
 spread-kept img [] bytes long = kept-all img

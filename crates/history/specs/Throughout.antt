@@ -1,7 +1,7 @@
 -- DEMAND 3: from any accepted image, through any list of calls with any arguments, the check accepts after every call, no call reports damage, and the kinds of blocks add up to the disk's size.
 use Prim.Native.Nat.{ℕ, zero, suc}
 use mathlib.Core.Path.{_≡_, refl}
-use mathlib.Core.Logic.{inl, inr}
+use mathlib.Core.Logic.{_⊎_, inl, inr}
 use mathlib.Core.Bool.{Bool, true, false, not, _||_}
 use mathlib.Core.List.{List, [], _∷_}
 use mathlib.Core.Option.{Option, none, some}
@@ -37,6 +37,12 @@ Harmless n = Damage n → ⊥
 late-harmless : (n : ℕ) → Late n → Harmless n
 late-harmless n (inl e) d = omega (arith, e, d .0)
 late-harmless n (inr l) d = omega (arith, l, d .1)
+
+-- the answers of the steps of a change
+steps-harmless : (n : ℕ) → (n ≡ 0) ⊎ ((n ≡ 27) ⊎ (n ≡ 28)) → Harmless n
+steps-harmless n (inl e) d = omega (arith, e, d .0)
+steps-harmless n (inr (inl e)) d = omega (arith, e, d .1)
+steps-harmless n (inr (inr e)) d = omega (arith, e, d .1)
 
 -- what a call leaves: an accepted image, and an answer that reports no damage
 pub record Kept (answer : ℕ) (img : List ℕ) : Type 0 where
@@ -91,16 +97,21 @@ module _ (img : List ℕ) (ok : checkAnswer img (diskSize img) limit ≡ 0) wher
   named-kept zero h none f k = stays 22 (λ d. omega (arith, d .1))
   named-kept zero h (some e) f k = k refl e refl
 
+  -- a change of a named entry that is not refused: past 21 and 22 comes its own row
+  named-zero : (first h : ℕ) (name : List ℕ) (rest : ℕ) → firstOf first (21 if noDirectory img s h else 22 if not (isThere (entryNamed img s h name)) else rest) ≡ 0 → (noDirectory img s h ≡ false) × (rest ≡ 0)
+  named-zero first h name rest z =
+      let c = firstOf-zero first (21 if noDirectory img s h else 22 if not (isThere (entryNamed img s h name)) else rest) z in
+      let r = if-zero 21 (noDirectory img s h) _ (omega arith) (c .1) in
+      (r .0, if-zero 22 (not (isThere (entryNamed img s h name))) _ (omega arith) (r .1) .1)
+
   write-kept : (blocks anodes : List ℕ) (h : ℕ) (name : List ℕ) (offset : ℕ) (bytes : List ℕ) →
       let l = changeNamed (readAnswer img blocks anodes h name offset (length bytes)) img (entryNamed img s h name) (λ e. left 0 (written img s e offset bytes)) in Kept (l .answer) (l .image)
   unfolding readAnswer spanAnswer
   write-kept blocks anodes h name offset bytes =
       named-kept (readAnswer img blocks anodes h name offset (length bytes)) (read-kept blocks anodes h name offset (length bytes) .harmless) (entryNamed img s h name) (λ e. left 0 (written img s e offset bytes))
       (λ z e q.
-      let c = firstOf-zero (checkAnswer img (length blocks) (length anodes)) (spanAnswer img s h name offset (length bytes)) z in
-      let r = if-zero 21 (noDirectory img s h) _ (omega arith) (c .1) in
-      let t = if-zero 22 (not (isThere (entryNamed img s h name))) _ (omega arith) (r .1) in
-      let f = if-zero 24 (namesDir (entryNamed img s h name)) _ (omega arith) (t .1) in
+      let r = named-zero (checkAnswer img (length blocks) (length anodes)) h name _ z in
+      let f = if-zero 24 (namesDir (entryNamed img s h name)) _ (omega arith) (r .1) in
       record {
         accepted = own-tables _ (diskSize img) limit (write-accepted img (diskSize img) limit ok h (r .0) e (named-member img s h name e q) (rw q at (f .0)) offset bytes);
         harmless = λ d. omega (arith, d .0);
@@ -112,14 +123,12 @@ module _ (img : List ℕ) (ok : checkAnswer img (diskSize img) limit ≡ 0) wher
   resize-kept blocks anodes h name new =
       named-kept (firstOf (checkAnswer img (length blocks) (length anodes)) (resizeAnswer img s h name)) (answers (length blocks) (length anodes) _ (resize-late img s h name)) (entryNamed img s h name) (λ e. resized img s e new)
       (λ z e q.
-      let c = firstOf-zero (checkAnswer img (length blocks) (length anodes)) (resizeAnswer img s h name) z in
-      let r = if-zero 21 (noDirectory img s h) _ (omega arith) (c .1) in
-      let t = if-zero 22 (not (isThere (entryNamed img s h name))) _ (omega arith) (r .1) in
-      let f = if-zero 24 (namesDir (entryNamed img s h name)) _ (omega arith) (t .1) in
+      let r = named-zero (checkAnswer img (length blocks) (length anodes)) h name _ z in
+      let f = if-zero 24 (namesDir (entryNamed img s h name)) _ (omega arith) (r .1) in
       let m = named-member img s h name e q in
       record {
         accepted = own-tables _ (diskSize img) limit (resize-accepted img (diskSize img) limit ok h (r .0) e m (rw q at (f .0)) new);
-        harmless = elim (resize-answers img (diskSize img) limit ok h (r .0) e m new) [ inl z ↦ late-harmless _ (inl z) | inr z ↦ elim z [ inl k ↦ late-harmless _ (inr (omega (arith, k))) | inr k ↦ late-harmless _ (inr (omega (arith, k))) ] ];
+        harmless = steps-harmless _ (resize-answers img (diskSize img) limit ok h (r .0) e m new);
       })
 
   remove-kept : (blocks anodes : List ℕ) (h : ℕ) (name : List ℕ) →
@@ -128,15 +137,13 @@ module _ (img : List ℕ) (ok : checkAnswer img (diskSize img) limit ≡ 0) wher
   remove-kept blocks anodes h name =
       named-kept (firstOf (checkAnswer img (length blocks) (length anodes)) (removeAnswer img s h name)) (answers (length blocks) (length anodes) _ (remove-late img s h name)) (entryNamed img s h name) (λ e. removed img s e)
       (λ z e q.
-      let c = firstOf-zero (checkAnswer img (length blocks) (length anodes)) (removeAnswer img s h name) z in
-      let r = if-zero 21 (noDirectory img s h) _ (omega arith) (c .1) in
-      let t = if-zero 22 (not (isThere (entryNamed img s h name))) _ (omega arith) (r .1) in
-      let f = if-zero 25 (fullDir img s (entryNamed img s h name)) _ (omega arith) (t .1) in
+      let r = named-zero (checkAnswer img (length blocks) (length anodes)) h name _ z in
+      let f = if-zero 25 (fullDir img s (entryNamed img s h name)) _ (omega arith) (r .1) in
       let m = named-member img s h name e q in
       let full : fullDir img s (some e) ≡ false = rw q at (f .0) in
       record {
         accepted = own-tables _ (diskSize img) limit (remove-accepted img (diskSize img) limit ok h (r .0) e m (λ d. rw d at full));
-        harmless = elim (remove-answers img (diskSize img) limit ok h (r .0) e m) [ inl z ↦ late-harmless _ (inl z) | inr k ↦ late-harmless _ (inr (omega (arith, k))) ];
+        harmless = steps-harmless _ (elim (remove-answers img (diskSize img) limit ok h (r .0) e m) [ inl z ↦ inl z | inr k ↦ inr (inr k) ]);
       })
 
   made-kept : (n h : ℕ) → Harmless n → (new : NewEntry) → (n ≡ 0 → Kept (made img s h new .answer) (made img s h new .image)) →
@@ -156,7 +163,7 @@ module _ (img : List ℕ) (ok : checkAnswer img (diskSize img) limit ≡ 0) wher
       let n = neither (not (goodName name)) (not (goodComment comment)) (neither (not (eqb type 253 || eqb type 2)) (not (goodName name) || not (goodComment comment)) (w .0) .1) in
       record {
         accepted = own-tables _ (diskSize img) limit (make-accepted img (diskSize img) limit ok h (r .0) new (rw en (not-false _ (n .0))) (rw ec (not-false _ (n .1))));
-        harmless = elim (made-answer img s h new) [ inl z ↦ late-harmless _ (inl z) | inr z ↦ elim z [ inl k ↦ late-harmless _ (inr (omega (arith, k))) | inr k ↦ late-harmless _ (inr (omega (arith, k))) ] ];
+        harmless = steps-harmless _ (made-answer img s h new);
       })
 
   -- every call leaves an accepted image and reports no damage

@@ -93,6 +93,7 @@ pub record Passed (img : List ℕ) (blocks anodes : ℕ) : Type 0 where
   pub walked : faultIn (walkOf img (anodesOf img)) ≡ 0
   pub all-named : anyBelow (unnamedChain img (anodesOf img)) limit ≡ false
 
+-- where the check answers 0, no test holds
 pub passed-of : (img : List ℕ) (blocks anodes : ℕ) → checkAnswer img blocks anodes ≡ 0 → Passed img blocks anodes
 unfolding checkAnswer damageIn treeFault
 passed-of img blocks anodes e =
@@ -125,6 +126,7 @@ passed-of img blocks anodes e =
       all-named = r16 .0;
     }
 
+-- where no test holds, the check answers 0
 pub passed-accepted : (img : List ℕ) (blocks anodes : ℕ) → Passed img blocks anodes → checkAnswer img blocks anodes ≡ 0
 unfolding checkAnswer damageIn treeFault
 passed-accepted img blocks anodes p =
@@ -143,7 +145,7 @@ module _ (s : Anodes) (n last : ℕ) (system : ℕ → ℕ) (ex : ℕ → Bool) 
     pub none-twice : anyBelow (λ x. ltb 1 (owners limit (s .count) (s .block) system x)) n ≡ false
     pub all-owned : anyBelow (λ x. eqb (owners limit (s .count) (s .block) system x) 0) n ≡ false
 
-  -- the tests in numbers: what is proved of accepted images stands on this form
+  -- where no test holds, the same is true in numbers, and what is proved of accepted images stands on that form
   pub tested-passes : Reading limit ex n last s → Tested → Passes limit ex n last s system
   unfolding wrongFixed outOfRange wrongLinks wrongAt wrongLink hasPred wrongFreeList notAbove notUpTo
   tested-passes r t = record {
@@ -235,7 +237,7 @@ module _ (s : Anodes) (n last : ℕ) (system : ℕ → ℕ) (ex : ℕ → Bool) 
       w1 : (anyIn (notAbove s last) (side limit s 1) ≡ false) × (anyIn (notUpTo s last) (chainOf (s .next) limit 2) ≡ false)
       w1 = neither _ _ (w .1)
 
-  -- and the tests from the numbers
+  -- and where it is true in numbers, no test holds
   pub passes-tested : Passes limit ex n last s system → Tested
   unfolding wrongFixed outOfRange wrongLinks wrongAt wrongLink hasPred wrongFreeList notAbove notUpTo
   passes-tested p = record {

@@ -1,5 +1,5 @@
 -- Sums over a list, and how often a number stands in one.
-use Prim.Native.Nat.{ℕ, _+_, _*_, _≤_}
+use Prim.Native.Nat.{ℕ, _+_, _*_, _≤_, _<_}
 use mathlib.Core.Path.{_≡_, refl, sym}
 use mathlib.Core.Logic.{inl, inr}
 use mathlib.Core.List.{List, [], _∷_, _++_, map}
@@ -7,7 +7,7 @@ use native.Mathlib.Omega.{arith}
 use lib.ListN.{length}
 use Rattle.rules.specs.Counting.{oneAt, sumBelow, sumList, times, gather}
 use Rattle.laws.specs.Tests.{less?}
-use Rattle.laws.specs.Sums.{oneAt-same, sum-congr, sum-mono, sum-const, sum-zero, sum-add, sum-pick}
+use Rattle.laws.specs.Sums.{oneAt-cases, oneAt-same, sum-congr, sum-mono, sum-const, sum-zero, sum-add, sum-pick}
 
 module _ {ℓ} {X : Type ℓ} where
   pub list-nil : (w : X → ℕ) → sumList w [] ≡ 0
@@ -97,6 +97,14 @@ times-cons x y l = list-cons (λ z. oneAt z x) y l
 pub times-append : (x : ℕ) (l m : List ℕ) → times x (l ++ m) ≡ times x l + times x m
 unfolding times
 times-append x l m = list-append (λ z. oneAt z x) l m
+
+-- a weight that is none on a list is none at a member
+pub none-at : (g : ℕ → ℕ) (l : List ℕ) → sumList g l ≡ 0 → (a : ℕ) → 0 < times a l → g a ≡ 0
+none-at g [] z a p = absurd (omega (arith, p, times-nil a))
+none-at g (x ∷ l) z a p = elim (oneAt-cases x a) [
+  | inl c ↦ rw (← (c .0)) (omega (arith, z, list-cons g x l))
+  | inr c ↦ none-at g l (omega (arith, z, list-cons g x l)) a (omega (arith, p, c .1, times-cons a x l))
+]
 
 -- a weight's sum over a list of numbers below k, by how often each number stands there
 pub sum-by-times : (w : ℕ → ℕ) (l : List ℕ) (k : ℕ) → ((x : ℕ) → k ≤ x → times x l ≡ 0) → sumList w l ≡ sumBelow (λ x. times x l * w x) k

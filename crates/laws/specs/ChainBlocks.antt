@@ -8,18 +8,17 @@ use native.Mathlib.Omega.{arith}
 use lib.Dec.{T}
 use Rattle.rules.specs.Counting.{times, gather}
 use Rattle.rules.specs.Anodes.{Anodes, limit}
-use Rattle.rules.specs.Chains.{chainOf, run, blocksOf}
+use Rattle.rules.specs.Chains.{chainOf, run, blocksOf, blockCount}
 use Rattle.rules.specs.Space.{rewritten, onChain, dropped, insertedAfter}
 use Rattle.laws.specs.Tests.{T-false}
-use Rattle.laws.specs.Sums.{oneAt-same, changed-same, changed-other, changed-pos}
+use Rattle.laws.specs.Sums.{oneAt-same, changed-other, changed-pos}
 use Rattle.laws.specs.Bags.{times-cons, times-append}
 use Rattle.laws.specs.LinkChanges.{without, drop-apart, insertAfter, insert-view, insert-linked, insert-after}
-use Rattle.laws.specs.Segments.{chain-is, Chain}
+use Rattle.laws.specs.Segments.{Chain}
 use Rattle.laws.specs.Links.{the-chain, chain-the, seg-once}
-use Rattle.laws.specs.Heads.{Head, head-of-is}
+use Rattle.laws.specs.Heads.{Head}
 use Rattle.laws.specs.Space.{Alike, Good, on-chain, dead-head, dead-along, drop-good}
-use Rattle.laws.specs.Moves.{headed-used}
-use Rattle.laws.specs.Frame.{Shift, kept-chain}
+use Rattle.laws.specs.Frame.{kept-count, Shift, apart-alike, apart-chain}
 
 pub gather-append {ℓ κ} : {X : Type ℓ} {Y : Type κ} (f : X → List Y) (l m : List X) → gather f (l ++ m) ≡ gather f l ++ gather f m
 unfolding gather
@@ -58,44 +57,47 @@ blocksOf-extents s h = refl
 pub kept-blocks : (s t : Anodes) (m : ℕ) → chainOf (t .next) limit m ≡ chainOf (s .next) limit m → ((a : ℕ) → 0 < times a (chainOf (s .next) limit m) → extent t a ≡ extent s a) → blocksOf t m ≡ blocksOf s m
 kept-blocks s t m e h = blocksOf-extents t m ∙ ap (gather (extent t)) e ∙ gather-kept (extent s) (extent t) (chainOf (s .next) limit m) h ∙ sym (blocksOf-extents s m)
 
--- an anode that the table gives itself for head is one
-pub self-headed : {A : ℕ} {ex : ℕ → Bool} {n last : ℕ} {s : Anodes} {system hd sd : ℕ → ℕ} → Good A ex n last s system hd sd → (m : ℕ) → m ≢ 0 → hd m ≡ m → Head (s .next) (s .block) m
-self-headed {hd = hd} g m m0 e = rw e at (head-of-is (g .view) (g .linked) hd (g .heads) m m0 (headed-used g m (λ z. m0 (sym e ∙ z))))
-
 module _ {ex : ℕ → Bool} {n last : ℕ} {s : Anodes} {system hd sd : ℕ → ℕ} (g : Good limit ex n last s system hd sd) where
   -- steps on the chain of h leave every other chain but 1's
   module _ {t : Anodes} {system′ hd′ sd′ : ℕ → ℕ} (g′ : Good limit ex n last t system′ hd′ sd′) {h : ℕ} (shift : Shift s hd t hd′ h) (m : ℕ) (d : Head (s .next) (s .block) m) (m1 : m ≢ 1) (mh : m ≢ h) where
+    -- its anodes read the same
+    pub shift-alike : (a : ℕ) → 0 < times a (chainOf (s .next) limit m) → Alike s t a
+    shift-alike = apart-alike g (shift .apart) m d m1 mh
+
+    -- they are the same anodes
     pub shift-chain : chainOf (t .next) limit m ≡ chainOf (s .next) limit m
-    shift-chain = kept-chain g g′ h (shift .stays) (shift .no-new) (shift .apart) m d m1 mh
+    shift-chain = apart-chain g (shift .apart) m d m1 mh g′ (shift .stays m d)
 
+    -- and it has as many blocks
+    pub shift-count : blockCount t m ≡ blockCount s m
+    shift-count = kept-count s t m shift-chain (λ a p. shift-alike a p .same-count)
+
+    -- and so its blocks are
     pub shift-blocks : blocksOf t m ≡ blocksOf s m
-    shift-blocks = kept-blocks s t m shift-chain
-        (λ a p. (let o = on-chain g m d a p in extent-alike (shift .apart a (o .1) (λ q. m1 (sym (o .0) ∙ q)) (λ q. mh (sym (o .0) ∙ q)))))
+    shift-blocks = kept-blocks s t m shift-chain (λ a p. extent-alike (shift-alike a p))
 
-  -- a fresh head leaves all others, and has no blocks
+  -- a fresh head f
   module _ (f : ℕ) (fresh : s .block f ≡ 0) where
+    -- leaves the blocks of every other chain
     pub fresh-others : (m : ℕ) → Head (s .next) (s .block) m → blocksOf (rewritten s f 0 65535) m ≡ blocksOf s m
     unfolding rewritten extent
     fresh-others m d = kept-blocks s (rewritten s f 0 65535) m refl
         (λ a p. (let other : a ≢ f = λ e. on-chain g m d a p .1 (ap (s .block) e ∙ fresh) in rw (changed-other (s .count) f 0 a other, changed-other (s .block) f 65535 a other)))
 
-    pub fresh-blocks : f ≢ 0 → blocksOf (rewritten s f 0 65535) f ≡ []
-    unfolding rewritten extent gather run
-    fresh-blocks f0 = blocksOf-extents (rewritten s f 0 65535) f
-        ∙ rw (chain-is (s .next) limit f (f ∷ []) (refl, f0, g .view .free-end f fresh) (omega arith), changed-same (s .count) f 0)
-
-  -- a chain dropped leaves all others
+  -- the chain of h, with no block, dropped
   module _ (h : ℕ) (h6 : 6 ≤ h) (d : Head (s .next) (s .block) h) (none : (a : ℕ) → hd a ≡ h → s .count a ≡ 0) (m : ℕ) (c : Head (s .next) (s .block) m) (mh : m ≢ h) where
     alive : (a : ℕ) → hd a ≡ m → T (onChain limit ex last s h a) → ⊥
     alive a e t = mh (sym e ∙ dead-head g h h6 d none a t)
 
-    pub dropped-chain : chainOf (dropped limit ex last s h .next) limit m ≡ chainOf (s .next) limit m
+    -- leaves every other chain
+    dropped-chain : chainOf (dropped limit ex last s h .next) limit m ≡ chainOf (s .next) limit m
     unfolding dropped without
     dropped-chain = chain-the (drop-good g h h6 d none .view) (drop-good g h h6 d none .linked) m (chainOf (s .next) limit m)
         (λ q. rw (T-false (onChain limit ex last s h m) (alive m (g .heads .at-head m c))) (c .in-use))
         (drop-apart (g .view) (g .linked) (onChain limit ex last s h) (dead-along g h h6 d none) m 0 (chainOf (s .next) limit m) (the-chain (g .view) (g .linked) m (λ q. c .in-use))
         (λ a p. alive a (on-chain g m c a p .0)))
 
+    -- and the blocks of it
     pub dropped-others : blocksOf (dropped limit ex last s h) m ≡ blocksOf s m
     unfolding dropped extent
     dropped-others = kept-blocks s (dropped limit ex last s h) m dropped-chain (λ a p. rw (T-false (onChain limit ex last s h a) (alive a (on-chain g m c a p .0))))

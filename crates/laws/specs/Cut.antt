@@ -1,8 +1,8 @@
 -- The links cut before anode 2: the sides of the free list are chains of them, and cutting goes with each change of links.
 use Prim.Native.Nat.{ℕ, suc, _<_}
-use mathlib.Core.Path.{_≡_, sym, _∙_, fun-ext}
+use mathlib.Core.Path.{_≡_, refl, sym, ap, _∙_, fun-ext}
 use mathlib.Core.Logic.{_≢_, _⊎_, inl, inr}
-use mathlib.Core.Bool.{Bool}
+use mathlib.Core.Bool.{Bool, true, false, cond}
 use native.Mathlib.Omega.{arith}
 use lib.Dec.{eqb, eqb→eq}
 use Rattle.rules.specs.Counting.{changed}
@@ -11,7 +11,7 @@ use Rattle.laws.specs.Tests.{same?, cond-cases}
 use Rattle.laws.specs.Sums.{changed-same, changed-other}
 use Rattle.laws.specs.Links.{View, Linked}
 use Rattle.laws.specs.Heads.{Head}
-use Rattle.laws.specs.LinkChanges.{first, second, third, insertAfter, insertAfter-cases, unlink, unlink-cases, without, without-cases}
+use Rattle.laws.specs.LinkChanges.{insertAfter, unlink, without}
 
 pub cut-cases : (next : ℕ → ℕ) (a : ℕ) → ((next a ≡ 2) × (cut next a ≡ 0)) ⊎ ((next a ≢ 2) × (cut next a ≡ next a))
 unfolding cut
@@ -25,6 +25,11 @@ cut-two next a e = elim (cut-cases next a) [ inl c ↦ c .1 | inr c ↦ absurd (
 
 pub cut-other : (next : ℕ → ℕ) (a : ℕ) → next a ≢ 2 → cut next a ≡ next a
 cut-other next a e = elim (cut-cases next a) [ inl c ↦ absurd (e (c .0)) | inr c ↦ c .1 ]
+
+-- links that agree at a are cut to the same there
+same-cut : (next next′ : ℕ → ℕ) (a : ℕ) → next′ a ≡ next a → cut next a ≡ cut next′ a
+unfolding cut
+same-cut next next′ a e = rw e
 
 pub cut-view : {A : ℕ} {next block : ℕ → ℕ} → View A next block → View A (cut next) block
 cut-view {A} {next} {block} v = record {
@@ -64,65 +69,31 @@ cut-head-2 next u = record {
   no-pred = λ p q. elim (cut-cases next p) [ inl e ↦ omega (arith, q, e .1) | inr e ↦ e .0 (sym (e .1) ∙ q) ];
 }
 
+-- one value changed: w is what the cut makes of v
+cut-changed : (next : ℕ → ℕ) (x v w : ℕ) → ((v ≡ 2) × (w ≡ 0)) ⊎ ((v ≢ 2) × (w ≡ v)) → changed (cut next) x w ≡ cut (changed next x v)
+cut-changed next x v w c = fun-ext (λ a. elim (same? a x) [
+  | inl e ↦ rw (e, changed-same (cut next) x w) (elim c [
+    | inl d ↦ d .1 ∙ sym (cut-two (changed next x v) x (changed-same next x v ∙ d .0))
+    | inr d ↦ d .1 ∙ sym (changed-same next x v) ∙ sym (cut-other (changed next x v) x (λ q. d .0 (sym (changed-same next x v) ∙ q)))
+  ])
+  | inr e ↦ rw (changed-other (cut next) x w a e) (same-cut next (changed next x v) a (changed-other next x v a e))
+])
+
 -- cutting goes with each change
 pub cut-insertAfter : (next : ℕ → ℕ) (p f : ℕ) → f ≢ 2 → insertAfter (cut next) p f ≡ cut (insertAfter next p f)
-cut-insertAfter next p f f2 = fun-ext (λ a. elim (insertAfter-cases (cut next) p f a) [
-  | first c ↦ elim (insertAfter-cases next p f a) [
-    | first d ↦ c .1 ∙ sym (cut-other (insertAfter next p f) a (λ q. f2 (sym (d .1) ∙ q)) ∙ d .1)
-    | second d ↦ absurd (d .0 (c .0))
-    | third d ↦ absurd (d .0 (c .0))
-  ]
-  | second c ↦ elim (insertAfter-cases next p f a) [
-    | first d ↦ absurd (c .0 (d .0))
-    | second d ↦ c .2 ∙ at p a (sym (d .2))
-    | third d ↦ absurd (d .1 (c .1))
-  ]
-  | third c ↦ elim (insertAfter-cases next p f a) [
-    | first d ↦ absurd (c .0 (d .0))
-    | second d ↦ absurd (c .1 (d .1))
-    | third d ↦ c .2 ∙ at a a (sym (d .2))
-  ]
-])
-  where
-    at : (b a : ℕ) → next b ≡ insertAfter next p f a → cut next b ≡ cut (insertAfter next p f) a
-    at b a e = elim (cut-cases next b) [
-      | inl c ↦ c .1 ∙ sym (cut-two (insertAfter next p f) a (sym e ∙ c .0))
-      | inr c ↦ c .1 ∙ e ∙ sym (cut-other (insertAfter next p f) a (λ q. c .0 (e ∙ q)))
-    ]
+unfolding insertAfter
+cut-insertAfter next p f f2 =
+    ap (λ (F : ℕ → ℕ). changed F p f) (cut-changed next f (next p) (cut next p) (cut-cases next p)) ∙ cut-changed (changed next f (next p)) p f f (inr (f2, refl))
 
 pub cut-unlink : (next : ℕ → ℕ) (p x : ℕ) → unlink (cut next) p x ≡ cut (unlink next p x)
-cut-unlink next p x = fun-ext (λ a. elim (unlink-cases (cut next) p x a) [
-  | first c ↦ elim (unlink-cases next p x a) [
-    | first d ↦ c .1 ∙ sym (cut-other (unlink next p x) a (λ q. omega (arith, d .1, q)) ∙ d .1)
-    | second d ↦ absurd (d .0 (c .0))
-    | third d ↦ absurd (d .0 (c .0))
-  ]
-  | second c ↦ elim (unlink-cases next p x a) [
-    | first d ↦ absurd (c .0 (d .0))
-    | second d ↦ c .2 ∙ at x a (sym (d .2))
-    | third d ↦ absurd (d .1 (c .1))
-  ]
-  | third c ↦ elim (unlink-cases next p x a) [
-    | first d ↦ absurd (c .0 (d .0))
-    | second d ↦ absurd (c .1 (d .1))
-    | third d ↦ c .2 ∙ at a a (sym (d .2))
-  ]
-])
-  where
-    at : (b a : ℕ) → next b ≡ unlink next p x a → cut next b ≡ cut (unlink next p x) a
-    at b a e = elim (cut-cases next b) [
-      | inl c ↦ c .1 ∙ sym (cut-two (unlink next p x) a (sym e ∙ c .0))
-      | inr c ↦ c .1 ∙ e ∙ sym (cut-other (unlink next p x) a (λ q. c .0 (e ∙ q)))
-    ]
+unfolding unlink
+cut-unlink next p x =
+    ap (λ (F : ℕ → ℕ). changed F x 0) (cut-changed next p (next x) (cut next x) (cut-cases next x)) ∙ cut-changed (changed next p (next x)) x 0 0 (inr (omega arith, refl))
 
 pub cut-drop : (next : ℕ → ℕ) (dead : ℕ → Bool) → without dead (cut next) ≡ cut (without dead next)
-cut-drop next dead = fun-ext (λ a. elim (without-cases dead (cut next) a) [
-  | inl c ↦ elim (without-cases dead next a) [ inl d ↦ c .1 ∙ sym (cut-other (without dead next) a (λ q. omega (arith, d .1, q)) ∙ d .1) | inr d ↦ absurd (d .0 (c .0)) ]
-  | inr c ↦ elim (without-cases dead next a) [
-    | inl d ↦ absurd (c .0 (d .0))
-    | inr d ↦ c .1 ∙ elim (cut-cases next a) [
-      | inl g ↦ g .1 ∙ sym (cut-two (without dead next) a (d .1 ∙ g .0))
-      | inr g ↦ g .1 ∙ sym (d .1) ∙ sym (cut-other (without dead next) a (λ q. g .0 (sym (d .1) ∙ q)))
-    ]
-  ]
-])
+unfolding without cut
+cut-drop next dead = fun-ext (λ a. at a (dead a))
+  where
+    at : (a : ℕ) (b : Bool) → cond b 0 (cond (eqb (next a) 2) 0 (next a)) ≡ cond (eqb (cond b 0 (next a)) 2) 0 (cond b 0 (next a))
+    at a true = refl
+    at a false = refl

@@ -101,14 +101,17 @@ walk-told items p (suc k) (d ∷ q) named = go (scan d (items d) q named) (scan-
     go (faulty n) r rest = inr r
     go (fine q l) r rest = visited-told d (walk items k q l) (rest q l)
 
+-- the walk answers 0, or a fault from 12 to 15
 pub walk-range : (img : List ℕ) (s : Anodes) → NoneOr 12 15 (faultIn (walkOf img s))
 unfolding walkOf
 walk-range img s = walk-told (itemsOf img s) (told-items img s) limit (root ∷ []) []
 
+-- a range within a wider one
 wider : (a b c d n : ℕ) → c ≤ a → b ≤ d → NoneOr a b n → NoneOr c d n
 wider a b c d n l m (inl z) = inl z
 wider a b c d n l m (inr r) = inr (omega arith, omega arith)
 
+-- what the check finds in anodes and directories is 0, or a number from 6 to 16
 pub damage-range : (img : List ℕ) (s : Anodes) → NoneOr 6 16 (damageIn img s)
 unfolding damageIn treeFault
 damage-range img s =

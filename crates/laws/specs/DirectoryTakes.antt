@@ -9,10 +9,10 @@ use lib.Dec.{T}
 use Rattle.rules.specs.Counting.{oneAt, sumList, times}
 use Rattle.rules.specs.Anodes.{limit, Anodes}
 use Rattle.rules.specs.Chains.{chainOf}
-use Rattle.rules.specs.Walk.{Dir, Entered, Item, itemOf, broken, itemsAt, itemsBy}
+use Rattle.rules.specs.Walk.{Dir, Entered, Item, itemOf, itemsAt, itemsBy}
 use Rattle.rules.specs.Space.{planned, takeBlock}
 use Rattle.laws.specs.Sums.{oneAt-cases}
-use Rattle.laws.specs.Bags.{list-nil, list-cons, list-append, list-one, list-zero, times-nil, times-cons}
+use Rattle.laws.specs.Bags.{list-nil, list-cons, list-append, list-one, list-zero}
 use Rattle.laws.specs.Heads.{Head}
 use Rattle.laws.specs.Moves.{Moved}
 use Rattle.laws.specs.Take.{take-good}
@@ -22,7 +22,7 @@ use Rattle.laws.specs.Each.{Each, each-both, each-zero}
 use Rattle.laws.specs.Items.{wrong, faults}
 use Rattle.laws.specs.TreeChanges.{headed, AlikeItems}
 use Rattle.laws.specs.Totals.{file-size}
-use Rattle.laws.specs.Entries.{broken-wrong, items-sum, itemsAt-cases, itemsAt-whole, at-alike}
+use Rattle.laws.specs.Entries.{broken-wrong, items-sum, itemsAt-whole, anodes-fine, at-alike}
 use Rattle.laws.specs.Orphan.{Orphaned, amiss, still-fine, none-amiss, orphan-shift, dir-no-file}
 
 -- one of the directories has the head h
@@ -32,27 +32,6 @@ find-headed P h [] e p = absurd (omega (arith, p, list-nil {X = Dir} (λ d. oneA
 find-headed P h (d ∷ l) e p = elim (oneAt-cases (d .head) h) [
   | inl c ↦ (d, c .0, e .0)
   | inr c ↦ find-headed P h l (e .1) (omega (arith, p, c .1, list-cons {X = Dir} (λ d. oneAt (d .head) h) d l))
-]
-
--- a weight that is none on a list is none at a member
-none-at : (g : ℕ → ℕ) (l : List ℕ) → sumList g l ≡ 0 → (a : ℕ) → 0 < times a l → g a ≡ 0
-none-at g [] z a p = absurd (omega (arith, p, times-nil a))
-none-at g (x ∷ l) z a p = elim (oneAt-cases x a) [
-  | inl c ↦ rw (← (c .0)) (omega (arith, z, list-cons g x l))
-  | inr c ↦ none-at g l (omega (arith, z, list-cons g x l)) a (omega (arith, p, c .1, times-cons a x l))
-]
-
--- a directory with nothing wrong has one block in each anode
-dir-anodes : (entries : ℕ → List Entered) (marked : Dir → ℕ → Bool) (s : Anodes) (d : Dir) → faults (itemsBy entries marked s) d ≡ 0 → (a : ℕ) → 0 < times a (chainOf (s .next) limit (d .head)) → s .count a ≡ 1
-dir-anodes entries marked s d z a p = elim (itemsAt-cases entries marked s d a) [
-  | inl q ↦ q .0
-  | inr q ↦ absurd (omega (
-    arith,
-    none-at (λ a. sumList wrong (itemsAt entries marked s d a)) (chainOf (s .next) limit (d .head)) (sym (items-sum entries marked s d wrong) ∙ z) a p,
-    ap (sumList wrong) q,
-    list-one wrong broken,
-    broken-wrong,
-  ))
 ]
 
 module _ {ex : ℕ → Bool} {n last f : ℕ} {s : Anodes} {system hd sd : ℕ → ℕ} {entries : ℕ → List Entered} {marked : Dir → ℕ → Bool} {dirs : List Dir}
@@ -76,7 +55,7 @@ module _ {ex : ℕ → Bool} {n last f : ℕ} {s : Anodes} {system hd sd : ℕ �
 
   -- every anode of it has one block
   dir-ones : (a : ℕ) → 0 < times a (chainOf (s .next) limit h) → s .count a ≡ 1
-  dir-ones a p = dir-anodes entries marked s (the-dir .0) (the-dir .2 .1) a (rw (the-dir .1) p)
+  dir-ones a p = anodes-fine entries marked s (the-dir .0) (the-dir .2 .1) a (rw (the-dir .1) p) .0
 
   module _ (t : Anodes) (ys : List ℕ) (e : takeBlock limit ex last true s h ≡ planned t ys) where
     pub dir-taken : (y : ℕ) × (ys ≡ y ∷ []) × Appended limit s t h y
@@ -126,6 +105,7 @@ module _ {ex : ℕ → Bool} {n last f : ℕ} {s : Anodes} {system hd sd : ℕ �
               at-alike s t (λ j. j) (amiss h) (λ y. omega (arith, y, broken-wrong)) (λ j y. (refl, refl, still-fine o h no-file (w .good) (take-shift (o .good) w) j y)) entries entries marked marked d a
               (c .0) (c .1) (λ i. (sym (map-id (entries (s .block a))), refl)) z
 
+      -- the state stays accepted but for the chain that nothing names
       pub directory-takes : Orphaned ex n last f t system (take-good (o .good) h dir-head dir-not-1 true t ys e .hd′) (take-good (o .good) h dir-head dir-not-1 true t ys e .sd′) entries marked dirs
       directory-takes = orphan-shift o h no-file (w .good) (take-shift (o .good) w)
           (each-both (λ d. d .head ≡ h → T (marked d (dir-taken .0))) (λ d. sumList (amiss h) (items d) ≡ 0) (λ d. d .head ≡ h → AlikeItems items items′ d) dirs

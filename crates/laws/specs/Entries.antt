@@ -6,12 +6,13 @@ use mathlib.Core.Bool.{Bool, true, false, cond, _&&_}
 use mathlib.Core.List.{List, [], _∷_, map}
 use native.Mathlib.Omega.{arith}
 use lib.Dec.{T, eqb, leb, eqb→eq, leb→le}
+use borrow.Author.Tests.{le-leb}
 use Rattle.rules.specs.Counting.{sumList, times}
 use Rattle.rules.specs.Anodes.{limit, Anodes}
 use Rattle.rules.specs.Chains.{chainOf, heads, blockCount}
 use Rattle.rules.specs.Walk.{Dir, Entered, Item, blocksFor, wrongAnode, wrongFileSize, itemOf, broken, itemsAt, itemsBy}
-use Rattle.laws.specs.Tests.{cond-cases, T-true, eqb-true, leb-true, both}
-use Rattle.laws.specs.Bags.{list-one, list-mono, list-congr, list-congr-where, list-zero, gather-sum, map-sum}
+use Rattle.laws.specs.Tests.{cond-cases, T-true, eqb-true, both}
+use Rattle.laws.specs.Bags.{list-one, list-mono, list-congr, list-congr-where, list-zero, gather-sum, map-sum, none-at}
 use Rattle.laws.specs.Space.{Alike}
 use Rattle.laws.specs.Frame.{kept-sum-where}
 use Rattle.laws.specs.Items.{wrong, weighItem}
@@ -37,7 +38,7 @@ module _ (s : Anodes) where
 
   anode-right : (a : ℕ) → 6 ≤ a → heads limit (s .next) (s .block) a ≡ 1 → wrongAnode s a ≡ 0
   unfolding wrongAnode
-  anode-right a l e = rw (leb-true 6 a l, eqb-true (heads limit (s .next) (s .block) a) 1 e)
+  anode-right a l e = rw (le-leb 6 a l, eqb-true (heads limit (s .next) (s .block) a) 1 e)
 
   right-size : (e : Entered) → wrongFileSize s e ≡ 0 → (e .dir ≡ true) ⊎ (blockCount s (e .anode) ≡ blocksFor (e .size))
   unfolding wrongFileSize
@@ -94,7 +95,6 @@ module _ (s : Anodes) where
   pub entries-sum : (w : ℕ → Bool → ℕ → ℕ) (l : List Entered) → sumList (weighItem w) (map (itemOf s) l) ≡ sumList (weighEntry (asEntry w)) l
   entries-sum w l = map-sum (itemOf s) (weighItem w) l ∙ list-congr (λ e. weighItem w (itemOf s e)) (weighEntry (asEntry w)) l (weigh-item w)
 
--- where an entry is as wrong in two states, it weighs the same
 -- ---- the items of a directory
 
 module _ (entries : ℕ → List Entered) (marked : Dir → ℕ → Bool) (s : Anodes) (d : Dir) where
@@ -110,6 +110,17 @@ module _ (entries : ℕ → List Entered) (marked : Dir → ℕ → Bool) (s : A
     | inl q ↦ (let b = both (eqb (s .count a) 1) (marked d (s .block a)) (q .0) in inl (eqb→eq (s .count a) 1 (b .0), b .1, q .1))
     | inr q ↦ inr (q .1)
   ]
+
+  -- where nothing is wrong, or a broken item at least has a weight and there is none, it gives the items of its block
+  pub itemsAt-fine : (guard : Item → ℕ) → guard broken ≢ 0 → (a : ℕ) → sumList guard (itemsAt entries marked s d a) ≡ 0 →
+      (s .count a ≡ 1) × T (marked d (s .block a)) × (itemsAt entries marked s d a ≡ map (itemOf s) (entries (s .block a)))
+  itemsAt-fine guard some a z = elim (itemsAt-cases a) [ inl q ↦ q | inr q ↦ absurd (some (sym (list-one guard broken) ∙ ap (sumList guard) (sym q) ∙ z)) ]
+
+  -- and so does each anode of a directory with nothing wrong
+  pub anodes-fine : sumList wrong (itemsBy entries marked s d) ≡ 0 → (a : ℕ) → 0 < times a (chainOf (s .next) limit (d .head)) →
+      (s .count a ≡ 1) × T (marked d (s .block a)) × (itemsAt entries marked s d a ≡ map (itemOf s) (entries (s .block a)))
+  anodes-fine z a p = itemsAt-fine wrong (λ q. omega (arith, q, broken-wrong)) a
+      (none-at (λ a. sumList wrong (itemsAt entries marked s d a)) (chainOf (s .next) limit (d .head)) (sym (items-sum wrong) ∙ z) a p)
 
   pub itemsAt-whole : (a : ℕ) → s .count a ≡ 1 → T (marked d (s .block a)) → itemsAt entries marked s d a ≡ map (itemOf s) (entries (s .block a))
   unfolding itemsAt
@@ -155,14 +166,13 @@ module _ (s t : Anodes) (φ : Entered → Entered) (guard : Item → ℕ) (guard
         sumList guard (itemsAt entries marked s d a) ≡ 0 →
         ((w : Bool → ℕ → ℕ) → sumList (λ j. w (j .dir) (j .anode)) (itemsAt entries′ marked′ t d a) ≡ sumList (λ j. w (j .dir) (j .anode)) (itemsAt entries marked s d a))
         × (sumList wrong (itemsAt entries′ marked′ t d a) ≡ 0)
-    at-alike a e b cont z = elim (itemsAt-cases entries marked s d a) [
-      | inr q ↦ absurd (guard-broken (omega (arith, rw q at z, list-one guard broken)))
-      | inl q ↦ (let k = cont (q .0) in
-          let there : itemsAt entries′ marked′ t d a ≡ map (itemOf t) (map φ (entries (s .block a)))
-          = itemsAt-whole entries′ marked′ t d a (e ∙ q .0) (rw (b, k .1) (q .1)) ∙ ap (map (itemOf t)) (ap entries′ b ∙ k .0) in
-          let fine : sumList guard (map (itemOf s) (entries (s .block a))) ≡ 0 = rw (q .2) at z in
-          rw (there, q .2) (entries-alike (entries (s .block a)) fine, entries-fine (entries (s .block a)) fine))
-    ]
+    at-alike a e b cont z =
+        let q = itemsAt-fine entries marked s d guard guard-broken a z in
+        let k = cont (q .0) in
+        let there : itemsAt entries′ marked′ t d a ≡ map (itemOf t) (map φ (entries (s .block a)))
+        = itemsAt-whole entries′ marked′ t d a (e ∙ q .0) (rw (b, k .1) (q .1)) ∙ ap (map (itemOf t)) (ap entries′ b ∙ k .0) in
+        let fine : sumList guard (map (itemOf s) (entries (s .block a))) ≡ 0 = rw (q .2) at z in
+        rw (there, q .2) (entries-alike (entries (s .block a)) fine, entries-fine (entries (s .block a)) fine)
 
     -- the whole directory, its chain kept
     pub items-alike : chainOf (t .next) limit (d .head) ≡ chainOf (s .next) limit (d .head) → ((a : ℕ) → 0 < times a (chainOf (s .next) limit (d .head)) → Alike s t a) →

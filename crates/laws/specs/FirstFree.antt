@@ -54,6 +54,15 @@ module _ (A : ℕ) (own : Bool) (s : Anodes) where
       on : (m : ℕ) → (m ≡ 1) ⊎ (m ≡ 2) → firstFull (s .count) 0 (side A s m) ≡ found p x → FoundIn (s .count) (cut (s .next)) m (side A s m) 0 p x
       on m o f = firstFull-found (s .count) (cut (s .next)) m 0 0 (side A s m) (side-chain g m o) p x f
 
+  -- where it is found on none, neither side has a block
+  pub firstFree-nowhere : firstFree A own s ≡ nowhere → (firstFull (s .count) 0 (side A s 1) ≡ nowhere) × (firstFull (s .count) 0 (side A s 2) ≡ nowhere)
+  firstFree-nowhere e = elim (firstFree-cases nowhere e) [ inl c ↦ absurd (nowhere≢found (c .0) (c .1) (c .2)) | inr c ↦ both own (c .0) (c .1) ]
+    where
+      both : (b : Bool) → firstFull (s .count) 0 (side A s (cond b 2 1)) ≡ nowhere → firstFull (s .count) 0 (side A s (cond b 1 2)) ≡ nowhere →
+          (firstFull (s .count) 0 (side A s 1) ≡ nowhere) × (firstFull (s .count) 0 (side A s 2) ≡ nowhere)
+      both true p q = (q, p)
+      both false p q = (p, q)
+
   module _ (ex : ℕ → Bool) (last h : ℕ) where
     takeSide-found : (m : ℕ) (other : Plan) (p x : ℕ) → firstFull (s .count) 0 (side A s m) ≡ found p x → takeSide A ex last own s h m other ≡ takeFrom A ex last own s h p x
     unfolding takeSide

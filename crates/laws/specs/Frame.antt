@@ -15,7 +15,7 @@ use Rattle.laws.specs.Segments.{seg-keep}
 use Rattle.laws.specs.Links.{the-chain, chain-the}
 use Rattle.laws.specs.Heads.{Head, head-of-is, on-own, seg-head}
 use Rattle.laws.specs.Space.{Alike, alike-trans, Good, on-chain}
-use Rattle.laws.specs.Moves.{Moved, headed-used}
+use Rattle.laws.specs.Moves.{Moved, self-headed}
 
 -- a sum over a list at whose members two weights agree, at least where a guard that has no weight on the list is 0
 pub kept-sum-where : (g f f′ : ℕ → ℕ) (l : List ℕ) → sumList g l ≡ 0 → ((a : ℕ) → 0 < times a l → g a ≡ 0 → f′ a ≡ f a) → sumList f′ l ≡ sumList f l
@@ -53,10 +53,24 @@ module _ {A : ℕ} {ex : ℕ → Bool} {n last : ℕ} {s : Anodes} {system hd sd
       chain-the (g′ .view) (g′ .linked) m (chainOf (s .next) A m) (λ q. d′ .in-use)
       (seg-keep (s .next) (t .next) m 0 (chainOf (s .next) A m) (λ x p. h x p .same-next) (the-chain (g .view) (g .linked) m (λ q. d .in-use)))
 
+  -- what stands on the chain of a head other than 1 and h is in use, and 1 and h are not its head
+  pub on-other : (m : ℕ) → Head (s .next) (s .block) m → {h : ℕ} → m ≢ 1 → m ≢ h → (a : ℕ) → 0 < times a (chainOf (s .next) A m) → (s .block a ≢ 0) × (hd a ≢ 1) × (hd a ≢ h)
+  on-other m d m1 mh a p = let o = on-chain g m d a p in (o .1, λ q. m1 (sym (o .0) ∙ q), λ q. mh (sym (o .0) ∙ q))
+
+  -- no anode but those of 1's chain and h's is touched: the chain of another head m
+  module _ {t : Anodes} {h : ℕ} (apart : (a : ℕ) → s .block a ≢ 0 → hd a ≢ 1 → hd a ≢ h → Alike s t a) (m : ℕ) (d : Head (s .next) (s .block) m) (m1 : m ≢ 1) (mh : m ≢ h) where
+    -- its anodes read the same
+    pub apart-alike : (a : ℕ) → 0 < times a (chainOf (s .next) A m) → Alike s t a
+    apart-alike a p = let o = on-other m d m1 mh a p in apart a (o .0) (o .1) (o .2)
+
+    -- and it is the same list of anodes
+    pub apart-chain : {system′ hd′ sd′ : ℕ → ℕ} → Good A ex n last t system′ hd′ sd′ → Head (t .next) (t .block) m → chainOf (t .next) A m ≡ chainOf (s .next) A m
+    apart-chain g′ d′ = chain-kept g′ m d d′ apart-alike
+
   module _ {t : Anodes} {system′ hd′ sd′ : ℕ → ℕ} (g′ : Good A ex n last t system′ hd′ sd′) (h : ℕ)
       (stays : (m : ℕ) → Head (s .next) (s .block) m → Head (t .next) (t .block) m) (no-new : (m : ℕ) → Head (t .next) (t .block) m → Head (s .next) (s .block) m) (apart : (a : ℕ) → s .block a ≢ 0 → hd a ≢ 1 → hd a ≢ h → Alike s t a) where
     pub kept-chain : (m : ℕ) → Head (s .next) (s .block) m → m ≢ 1 → m ≢ h → chainOf (t .next) A m ≡ chainOf (s .next) A m
-    kept-chain m d m1 mh = chain-kept g′ m d (stays m d) (λ a c. let o = on-chain g m d a c in apart a (o .1) (λ q. m1 (sym (o .0) ∙ q)) (λ q. mh (sym (o .0) ∙ q)))
+    kept-chain m d m1 mh = apart-chain apart m d m1 mh g′ (stays m d)
 
     pub shift-of : Shift s hd t hd′ h
     shift-of = record { stays = stays; no-new = no-new; apart = apart; same-hd = same }
@@ -73,9 +87,7 @@ module _ {A : ℕ} {ex : ℕ → Bool} {n last : ℕ} {s : Anodes} {system hd sd
         same a u q i = elim (same? a 0) [ inl e ↦ rw e (g′ .heads .off-zero ∙ sym (g .heads .off-zero)) | inr e ↦ pos a u e q i ]
 
   pub moved-stays : {t : Anodes} {from to : ℕ} {ys : List ℕ} → (w : Moved A ex n last s system hd from to ys t) → (m : ℕ) → Head (s .next) (s .block) m → Head (t .next) (t .block) m
-  moved-stays {t} w m d =
-      let e = w .heads-kept m d in
-      rw e at (head-of-is (w .good .view) (w .good .linked) (w .hd′) (w .good .heads) m (d .pos) (headed-used (w .good) m (λ z. d .pos (sym e ∙ z))))
+  moved-stays w m d = self-headed (w .good) m (d .pos) (w .heads-kept m d)
 
   -- a take and a give
   pub take-shift : {t : Anodes} {h : ℕ} {ys : List ℕ} → (w : Moved A ex n last s system hd 1 h ys t) → Shift s hd t (w .hd′) h

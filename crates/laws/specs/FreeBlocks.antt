@@ -6,26 +6,24 @@ use mathlib.Core.Bool.{Bool}
 use mathlib.Core.List.{List, [], _∷_, _++_, append-nil, append-assoc}
 use native.Mathlib.Omega.{arith}
 use native.Mathlib.Numerals.{add-one}
-use lib.Dec.{eqb, eqb→eq}
 use Rattle.rules.specs.Counting.{oneAt, times, gather, lastOf}
 use Rattle.rules.specs.Anodes.{Anodes, limit}
 use Rattle.rules.specs.Chains.{chainOf, run, blocksOf, cut, side}
-use Rattle.rules.specs.Space.{refused, planned, rewritten, insertedAfter, unlinked, emptied, Found, nowhere, found, lastFull, lowestFree, append, withoutFirst, takeFrom, takeBlock, withoutLast, sideOf, joinBefore, joinAfter, joinFilling, join, release, giveFrom, giveBack}
-use Rattle.laws.specs.Tests.{same?, cond-cases, eqb-true, eqb-false}
+use Rattle.rules.specs.Space.{planned, rewritten, insertedAfter, unlinked, emptied, lowestFree, append, withoutFirst, takeBlock, withoutLast, sideOf, join, release, giveBack}
+use Rattle.laws.specs.Tests.{same?, eqb-true, eqb-false}
 use Rattle.laws.specs.Sums.{oneAt-cases, oneAt-same, changed-same, changed-other}
 use Rattle.laws.specs.Bags.{times-nil, times-cons, times-append}
 use Rattle.laws.specs.Links.{the-chain, seg-used}
 use Rattle.laws.specs.Heads.{Head, times-on-chain}
 use Rattle.laws.specs.Space.{Alike, Good, head-1, on-chain}
-use Rattle.laws.specs.Searches.{FoundIn, lastFull-found}
+use Rattle.laws.specs.Searches.{FoundIn}
 use Rattle.laws.specs.Moves.{headed-used}
-use Rattle.laws.specs.Leaving.{full-used, full-0, full-1}
-use Rattle.laws.specs.Arriving.{free-is, append-cases, refused≢planned, planned-same}
-use Rattle.laws.specs.Take.{free-head, free-after, withoutFirst-out, put-placed}
-use Rattle.laws.specs.Give.{withoutLast-out, side-last-head, release-placed}
+use Rattle.laws.specs.Leaving.{full-0, full-1}
+use Rattle.laws.specs.Arriving.{fills, ends, starts, behind, free-is, append-cases, join-cases, refused≢planned, planned-same}
+use Rattle.laws.specs.Take.{free-head, free-after, take-steps, take-placed}
+use Rattle.laws.specs.Give.{side-last-head, give-steps, give-placed}
 use Rattle.laws.specs.Frame.{chain-kept}
 use Rattle.laws.specs.ChainBlocks.{gather-append, extent, extent-alike, blocksOf-extents, kept-blocks, gather-off, gather-skip, stands-once, inserted-chain}
-use Rattle.laws.specs.FirstFree.{firstFree, firstFree-found, take-nowhere, take-found}
 use Rattle.laws.specs.TakenBlocks.{extent-longer, extent-filled}
 use Rattle.laws.specs.GivenBlocks.{unlinked-chain}
 
@@ -165,58 +163,34 @@ module _ {ex : ℕ → Bool} {n last : ℕ} {s : Anodes} {system hd sd : ℕ →
   ]
 
   join-more : (t : Anodes) (ys : List ℕ) → join limit ex last s z y ≡ planned t ys → OneMore y (blocksOf s 1) (blocksOf t 1)
-  unfolding join joinFilling joinAfter joinBefore
-  join-more t ys e = elim (cond-cases (eqb z 1) (append limit ex last s z y) (joinFilling limit ex last s z y)) [
-    | inl c ↦ appended t ys (sym (c .1) ∙ e)
-    | inr c ↦ elim (cond-cases (eqb (s .count z) 0) (planned (rewritten s z 1 y) (y ∷ [])) (joinAfter limit ex last s z y)) [
-      | inl k ↦ by 1 y (sym (k .1) ∙ sym (c .1) ∙ e) (behind 1 y (extent-filled s z y (eqb→eq (s .count z) 0 (k .0))))
-      | inr k ↦ elim (cond-cases (eqb (s .block z + s .count z) y) (planned (rewritten s z (s .count z + 1) (s .block z)) (y ∷ [])) (joinBefore limit ex last s z y)) [
-        | inl i ↦ by (s .count z + 1) (s .block z) (sym (i .1) ∙ sym (k .1) ∙ sym (c .1) ∙ e) (behind (s .count z + 1) (s .block z) (extent-longer s z y (eqb→eq (s .block z + s .count z) y (i .0))))
-        | inr i ↦ elim (cond-cases (eqb (y + 1) (s .block z)) (planned (rewritten s z (s .count z + 1) y) (y ∷ [])) (append limit ex last s z y)) [
-          | inl j ↦ by (s .count z + 1) y (sym (j .1) ∙ sym (i .1) ∙ sym (k .1) ∙ sym (c .1) ∙ e) ([], extent s z, refl, extent-before s z y (eqb→eq (y + 1) (s .block z) (j .0)))
-          | inr j ↦ appended t ys (sym (j .1) ∙ sym (i .1) ∙ sym (k .1) ∙ sym (c .1) ∙ e)
-        ]
-      ]
-    ]
+  join-more t ys e = elim (join-cases limit ex last s z y) [
+    | fills c ↦ by 1 y (sym (c .2) ∙ e) (at-end 1 y (extent-filled s z y (c .1)))
+    | ends c ↦ by (s .count z + 1) (s .block z) (sym (c .3) ∙ e) (at-end (s .count z + 1) (s .block z) (extent-longer s z y (c .2)))
+    | starts c ↦ by (s .count z + 1) y (sym (c .3) ∙ e) ([], extent s z, refl, extent-before s z y (c .2))
+    | behind c ↦ appended t ys (sym (c .1) ∙ e)
   ]
     where
       by : (c b : ℕ) → planned (rewritten s z c b) (y ∷ []) ≡ planned t ys → OneMore y (extent s z) (run b c) → OneMore y (blocksOf s 1) (blocksOf t 1)
       by c b q o = let w = rewritten-more g z free y c b o in rw (planned-same (rewritten s z c b) t (y ∷ []) ys q .0) at w
 
-      behind : (c b : ℕ) → run b c ≡ extent s z ++ (y ∷ []) → OneMore y (extent s z) (run b c)
-      behind c b q = (extent s z, [], sym (append-nil (extent s z)), q)
+      at-end : (c b : ℕ) → run b c ≡ extent s z ++ (y ∷ []) → OneMore y (extent s z) (run b c)
+      at-end c b q = (extent s z, [], sym (append-nil (extent s z)), q)
 
 module _ {ex : ℕ → Bool} {n last : ℕ} {s : Anodes} {system hd sd : ℕ → ℕ} (g : Good limit ex n last s system hd sd) (h : ℕ) (d : Head (s .next) (s .block) h) (h1 : h ≢ 1) where
   -- a take takes one block out of the free list's
   pub take-free : (own : Bool) (t : Anodes) (ys : List ℕ) → takeBlock limit ex last own s h ≡ planned t ys → (y : ℕ) × (ys ≡ y ∷ []) × OneMore y (blocksOf t 1) (blocksOf s 1)
-  unfolding takeFrom
-  take-free own t ys e = go (firstFree limit own s) refl
-    where
-      go : (c : Found) → firstFree limit own s ≡ c → (y : ℕ) × (ys ≡ y ∷ []) × OneMore y (blocksOf t 1) (blocksOf s 1)
-      go nowhere q = absurd (refused≢planned 27 t ys (sym (take-nowhere limit own s ex last h q) ∙ e))
-      go (found p x) q =
-          let f = firstFree-found limit own s g p x q in
-          let i = withoutFirst-out g (f .0) (f .1) p x (f .2) in
-          let u = full-used g x (f .2 .full) in
-          let w = put-placed system (s .block x) (i .good) u (omega (arith, g .own .fits x (g .view .below x u) (f .2 .full), f .2 .full)) h (d .pos) h1 (i .heads-kept h d) own t ys (sym (take-found limit own s ex last h p x q) ∙ e) in
-          (s .block x, w .1, rw (free-kept (i .good) (w .0 .good) (λ a v j. w .0 .apart a v (λ k. h1 (sym k ∙ j)))) (withoutFirst-less g (f .0) (f .1) p x (f .2)))
+  take-free own t ys e =
+      let k = take-steps g h own t ys e in
+      let w = take-placed g h d h1 k in
+      (s .block (k .x), w .1, rw (free-kept (k .out .good) (w .0 .good) (λ a v j. w .0 .apart a v (λ q. h1 (sym q ∙ j)))) (withoutFirst-less g (k .m) (k .one-side) (k .p) (k .x) (k .on)))
 
   -- and a give puts one among them
   pub give-free : (t : Anodes) (ys : List ℕ) → giveBack limit ex last s h ≡ planned t ys → (y : ℕ) × (ys ≡ y ∷ []) × OneMore y (blocksOf s 1) (blocksOf t 1)
-  unfolding giveBack giveFrom release
-  give-free t ys e = go (lastFull (s .count) 0 (chainOf (s .next) limit h)) refl e
-    where
-      go : (c : Found) → lastFull (s .count) 0 (chainOf (s .next) limit h) ≡ c → elim c [ nowhere ↦ refused 0 | found p x ↦ giveFrom limit ex last s h p x ] ≡ planned t ys →
-          (y : ℕ) × (ys ≡ y ∷ []) × OneMore y (blocksOf s 1) (blocksOf t 1)
-      go nowhere q e = absurd (refused≢planned 0 t ys e)
-      go (found p x) q e =
-          let f = lastFull-found (s .count) (s .next) h 0 0 (chainOf (s .next) limit h) (the-chain (g .view) (g .linked) h (λ z. d .in-use)) p x q in
-          let i = withoutLast-out g h d h1 p x f in
-          let u = full-used g x (f .full) in
-          let y = s .block x + (s .count x - 1) in
-          let y0 : y ≢ 0 = λ z. u (omega arith) in
-          let yn : y < n = omega (arith, g .own .fits x (g .view .below x u) (f .full), f .full) in
-          let r = withoutLast limit ex last s h p x in
-          let w = release-placed system y (i .good) y0 yn t ys e in
-          let m = join-more (i .good) y y0 (lastOf (sideOf limit ex last y) (side limit r (sideOf limit ex last y))) (side-last-head system y (i .good) y0 yn) t ys e in
-          (y, w .1, rw (free-kept g (i .good) (λ a v j. i .apart a (λ k. h1 (sym k ∙ j)))) at m)
+  unfolding release
+  give-free t ys e =
+      let k = give-steps g h d h1 t ys e in
+      let w = give-placed g h d h1 t ys e in
+      let r = withoutLast limit ex last s h (k .p) (k .x) in
+      let y = s .block (k .x) + (s .count (k .x) - 1) in
+      let m = join-more (k .out .good) y (k .some) (lastOf (sideOf limit ex last y) (side limit r (sideOf limit ex last y))) (side-last-head system y (k .out .good) (k .some) (k .inside)) t ys (k .joins) in
+      (y, w .1, rw (free-kept g (k .out .good) (λ a v j. k .out .apart a (λ q. h1 (sym q ∙ j)))) at m)

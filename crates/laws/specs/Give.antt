@@ -5,12 +5,12 @@ use mathlib.Core.Logic.{_≢_, _⊎_, inl, inr}
 use mathlib.Core.Bool.{Bool}
 use mathlib.Core.List.{List, [], _∷_}
 use native.Mathlib.Omega.{arith}
-use lib.Dec.{eqb, ltb, eqb→eq, ltb→lt, lt→ltb}
+use lib.Dec.{ltb, ltb→lt, lt→ltb}
 use Rattle.rules.specs.Counting.{lastOf}
 use Rattle.rules.specs.Anodes.{Anodes}
 use Rattle.rules.specs.Chains.{chainOf, side}
-use Rattle.rules.specs.Space.{refused, planned, rewritten, emptied, Found, nowhere, found, lastFull, append, withoutLast, sideOf, joinBefore, joinAfter, joinFilling, join, release, giveFrom, giveBack}
-use Rattle.laws.specs.Tests.{same?, less?, cond-cases, eq→eqb, eqb-true, eqb-false}
+use Rattle.rules.specs.Space.{refused, planned, rewritten, emptied, Found, nowhere, found, lastFull, withoutLast, sideOf, join, release, giveFrom, giveBack}
+use Rattle.laws.specs.Tests.{same?, less?, cond-cases, eqb-true, eqb-false}
 use Rattle.laws.specs.Ownership.{hand}
 use Rattle.laws.specs.Links.{the-chain}
 use Rattle.laws.specs.Heads.{Head}
@@ -18,8 +18,8 @@ use Rattle.laws.specs.Space.{Good, on-chain}
 use Rattle.laws.specs.Sides.{head-of-1, side-head, side-start, side-sd}
 use Rattle.laws.specs.Searches.{FoundIn, lastFull-found, last-on}
 use Rattle.laws.specs.Moves.{InHand, Placed, Moved, moved-by}
-use Rattle.laws.specs.Leaving.{only-gone, last-gone, full-used, full-6, shrunk, unlinked-out}
-use Rattle.laws.specs.Arriving.{refused≢planned, filled, grown, grown-before, placed-by, append-placed}
+use Rattle.laws.specs.Leaving.{only-gone, last-gone, full-used, full-inside, full-6, shrunk, unlinked-out}
+use Rattle.laws.specs.Arriving.{fills, ends, starts, behind, join-cases, refused≢planned, filled, grown, grown-before, placed-by, append-placed}
 
 -- ---- out of the giver's chain
 
@@ -100,30 +100,15 @@ module _ {A : ℕ} {ex : ℕ → Bool} {n last : ℕ} {s : Anodes} (system : ℕ
   low q = elim (sideOf-cases A ex last y) [ inl c ↦ absurd (omega (arith, q, end-side, c .1)) | inr c ↦ c .0 ]
 
   join-placed : (t : Anodes) (ys : List ℕ) → join A ex last s end y ≡ planned t ys → Placed A ex n last s system hd (hd end) y t × (ys ≡ y ∷ [])
-  unfolding join joinFilling joinAfter joinBefore
-  join-placed t ys e = elim (cond-cases (eqb end 1) (append A ex last s end y) (joinFilling A ex last s end y)) [
-    | inl c ↦ appended t ys (sym (c .1) ∙ e)
-    | inr c ↦ (let e1 : end ≢ 1 = λ q. c .0 (eq→eqb end 1 q) in
-        elim (cond-cases (eqb (s .count end) 0) (planned (rewritten s end 1 y) (y ∷ [])) (joinAfter A ex last s end y)) [
-          | inl k ↦ by (rewritten s end 1 y) (sym (k .1) ∙ sym (c .1) ∙ e) (filled system y g y0 yn end e0 u high low e1 (eqb→eq (s .count end) 0 (k .0)))
-          | inr k ↦ (let c0 : s .count end ≢ 0 = λ q. k .0 (eq→eqb (s .count end) 0 q) in
-              elim (cond-cases (eqb (s .block end + s .count end) y) (planned (rewritten s end (s .count end + 1) (s .block end)) (y ∷ [])) (joinBefore A ex last s end y)) [
-                | inl i ↦ by (rewritten s end (s .count end + 1) (s .block end)) (sym (i .1) ∙ sym (k .1) ∙ sym (c .1) ∙ e)
-                    (grown system y g y0 yn end e0 u high low e1 c0 (eqb→eq (s .block end + s .count end) y (i .0)))
-                | inr i ↦ elim (cond-cases (eqb (y + 1) (s .block end)) (planned (rewritten s end (s .count end + 1) y) (y ∷ [])) (append A ex last s end y)) [
-                  | inl j ↦ by (rewritten s end (s .count end + 1) y) (sym (j .1) ∙ sym (i .1) ∙ sym (k .1) ∙ sym (c .1) ∙ e)
-                      (grown-before system y g y0 yn end e0 u high low e1 c0 (eqb→eq (y + 1) (s .block end) (j .0)))
-                  | inr j ↦ appended t ys (sym (j .1) ∙ sym (i .1) ∙ sym (k .1) ∙ sym (c .1) ∙ e)
-                ]
-              ])
-        ])
+  join-placed t ys e = elim (join-cases A ex last s end y) [
+    | fills c ↦ by (rewritten s end 1 y) (sym (c .2) ∙ e) (filled system y g y0 yn end e0 u high low (c .0) (c .1))
+    | ends c ↦ by (rewritten s end (s .count end + 1) (s .block end)) (sym (c .3) ∙ e) (grown system y g y0 yn end e0 u high low (c .0) (c .1) (c .2))
+    | starts c ↦ by (rewritten s end (s .count end + 1) y) (sym (c .3) ∙ e) (grown-before system y g y0 yn end e0 u high low (c .0) (c .1) (c .2))
+    | behind c ↦ append-placed system y g y0 yn end e0 u high low t ys (sym (c .1) ∙ e)
   ]
     where
       by : (r : Anodes) → planned r (y ∷ []) ≡ planned t ys → Placed A ex n last s system hd (hd end) y r → Placed A ex n last s system hd (hd end) y t × (ys ≡ y ∷ [])
       by r e w = placed-by system y g y0 yn end e0 u high low r t ys e w
-
-      appended : (t : Anodes) (ys : List ℕ) → append A ex last s end y ≡ planned t ys → Placed A ex n last s system hd (hd end) y t × (ys ≡ y ∷ [])
-      appended = append-placed system y g y0 yn end e0 u high low
 
   -- the last anode of the block's side is on the free list
   pub side-last-head : hd (lastOf (sideOf A ex last y) (side A s (sideOf A ex last y))) ≡ 1
@@ -136,20 +121,47 @@ module _ {A : ℕ} {ex : ℕ → Bool} {n last : ℕ} {s : Anodes} (system : ℕ
 
 -- ---- the whole
 
-module _ {A : ℕ} {ex : ℕ → Bool} {n last : ℕ} {s : Anodes} {system hd sd : ℕ → ℕ} (g : Good A ex n last s system hd sd) (h : ℕ) (d : Head (s .next) (s .block) h) (h1 : h ≢ 1) where
-  giveFrom-moves : (p x : ℕ) → FoundIn (s .count) (s .next) h (chainOf (s .next) A h) 0 p x → (t : Anodes) (ys : List ℕ) →
-      giveFrom A ex last s h p x ≡ planned t ys → Moved A ex n last s system hd h 1 ys t
-  unfolding giveFrom
-  giveFrom-moves p x f t ys e =
-      let i = withoutLast-out g h d h1 p x f in
-      let u = full-used g x (f .full) in
-      let w = release-placed system (s .block x + (s .count x - 1)) (i .good) (λ q. u (omega arith)) (omega (arith, g .own .fits x (g .view .below x u) (f .full), f .full)) t ys e in
-      moved-by i (w .0) (w .1)
+-- a give that is done: x after p is the last anode of the giver's chain with a block, its last block is out, and joins the free list
+pub record Gives (A : ℕ) (ex : ℕ → Bool) (n last : ℕ) (s : Anodes) (system hd : ℕ → ℕ) (h : ℕ) (t : Anodes) (ys : List ℕ) : Type 0 where
+  pub p : ℕ
+  pub x : ℕ
+  pub is-last : lastFull (s .count) 0 (chainOf (s .next) A h) ≡ found p x
+  pub some : s .block x + (s .count x - 1) ≢ 0
+  pub inside : s .block x + (s .count x - 1) < n
+  pub out : InHand A ex n last s system hd h (s .block x + (s .count x - 1)) (withoutLast A ex last s h p x)
+  pub joins : release A ex last (withoutLast A ex last s h p x) (s .block x + (s .count x - 1)) ≡ planned t ys
 
-  pub give-good : (t : Anodes) (ys : List ℕ) → giveBack A ex last s h ≡ planned t ys → Moved A ex n last s system hd h 1 ys t
-  unfolding giveBack
-  give-good t ys e = go (lastFull (s .count) 0 (chainOf (s .next) A h)) refl e
-    where
-      go : (c : Found) → lastFull (s .count) 0 (chainOf (s .next) A h) ≡ c → elim c [ nowhere ↦ refused 0 | found p x ↦ giveFrom A ex last s h p x ] ≡ planned t ys → Moved A ex n last s system hd h 1 ys t
-      go nowhere q e = absurd (refused≢planned 0 t ys e)
-      go (found p x) q e = giveFrom-moves p x (lastFull-found (s .count) (s .next) h 0 0 (chainOf (s .next) A h) (the-chain (g .view) (g .linked) h (λ q. d .in-use)) p x q) t ys e
+module _ {A : ℕ} {ex : ℕ → Bool} {n last : ℕ} {s : Anodes} {system hd sd : ℕ → ℕ} (g : Good A ex n last s system hd sd) (h : ℕ) (d : Head (s .next) (s .block) h) where
+  -- what the search for the last block finds stands on the chain
+  pub given-found : (p x : ℕ) → lastFull (s .count) 0 (chainOf (s .next) A h) ≡ found p x → FoundIn (s .count) (s .next) h (chainOf (s .next) A h) 0 p x
+  given-found = lastFull-found (s .count) (s .next) h 0 0 (chainOf (s .next) A h) (the-chain (g .view) (g .linked) h (λ q. d .in-use))
+
+  module _ (h1 : h ≢ 1) (t : Anodes) (ys : List ℕ) (e : giveBack A ex last s h ≡ planned t ys) where
+    -- a give that is done has made these steps
+    pub give-steps : Gives A ex n last s system hd h t ys
+    unfolding giveBack giveFrom
+    give-steps = go (lastFull (s .count) 0 (chainOf (s .next) A h)) refl e
+      where
+        go : (c : Found) → lastFull (s .count) 0 (chainOf (s .next) A h) ≡ c → elim c [ nowhere ↦ refused 0 | found p x ↦ giveFrom A ex last s h p x ] ≡ planned t ys → Gives A ex n last s system hd h t ys
+        go nowhere q e = absurd (refused≢planned 0 t ys e)
+        go (found p x) q e =
+            let f = given-found p x q in
+            let u = full-used g x (f .full) in
+            record {
+              p = p;
+              x = x;
+              is-last = q;
+              some = λ z. u (omega arith);
+              inside = omega (arith, full-inside g x (f .full), f .full);
+              out = withoutLast-out g h d h1 p x f;
+              joins = e;
+            }
+
+    -- the block in hand has come to the free list
+    pub give-placed : Placed A ex n last (withoutLast A ex last s h (give-steps .p) (give-steps .x)) system (give-steps .out .hd′) 1 (s .block (give-steps .x) + (s .count (give-steps .x) - 1)) t
+        × (ys ≡ (s .block (give-steps .x) + (s .count (give-steps .x) - 1)) ∷ [])
+    give-placed = let k = give-steps in release-placed system (s .block (k .x) + (s .count (k .x) - 1)) (k .out .good) (k .some) (k .inside) t ys (k .joins)
+
+    -- a give moves one block from the chain of h to the free list
+    pub give-good : Moved A ex n last s system hd h 1 ys t
+    give-good = moved-by (give-steps .out) (give-placed .0) (give-placed .1)

@@ -9,7 +9,7 @@ use lib.ListN.{length}
 use Rattle.rules.specs.Counting.{sumList, times, gather, lastOf}
 use Rattle.rules.specs.Anodes.{Anodes, limit}
 use Rattle.rules.specs.Chains.{chainOf, run, blocksOf}
-use Rattle.rules.specs.Space.{Plan, refused, planned, rewritten, unlinked, emptied, Found, nowhere, found, lastFull, withoutLast, giveFrom, giveBack, after, giveMany}
+use Rattle.rules.specs.Space.{planned, rewritten, unlinked, emptied, Found, nowhere, found, lastFull, withoutLast, giveBack, giveMany}
 use Rattle.laws.specs.Tests.{same?, eqb-true, eqb-false}
 use Rattle.laws.specs.Sums.{changed-same, changed-other}
 use Rattle.laws.specs.Bags.{list-cons}
@@ -18,15 +18,15 @@ use Rattle.laws.specs.Links.{the-chain, chain-the}
 use Rattle.laws.specs.LinkChanges.{unlink, unlink-view, unlink-linked, unlink-after}
 use Rattle.laws.specs.Heads.{Head}
 use Rattle.laws.specs.Space.{Good}
-use Rattle.laws.specs.Searches.{FoundIn, nowhere≢found, lastFull-found}
-use Rattle.laws.specs.Moves.{Placed}
-use Rattle.laws.specs.Leaving.{full-used, full-0}
-use Rattle.laws.specs.Arriving.{refused≢planned, planned-same}
-use Rattle.laws.specs.Give.{withoutLast-out, release-placed, give-good}
+use Rattle.laws.specs.Searches.{FoundIn, nowhere≢found}
+use Rattle.laws.specs.Moves.{Placed, self-headed, hand-stays}
+use Rattle.laws.specs.Leaving.{full-0}
+use Rattle.laws.specs.Arriving.{planned-same}
+use Rattle.laws.specs.Give.{given-found, give-steps, give-placed, give-good}
 use Rattle.laws.specs.Frame.{shift-of, moved-stays}
-use Rattle.laws.specs.Resize.{after-planned}
+use Rattle.laws.specs.Resize.{step-done}
 use Rattle.laws.specs.RefusedSteps.{lastFull-none}
-use Rattle.laws.specs.ChainBlocks.{gather-append, extent, blocksOf-extents, self-headed, shift-blocks, gather-off, gather-skip, stands-once}
+use Rattle.laws.specs.ChainBlocks.{gather-append, extent, blocksOf-extents, shift-blocks, gather-off, gather-skip, stands-once}
 use Rattle.laws.specs.TakenBlocks.{run-end, last-split}
 
 -- a walk around its last anode with a block: no anode behind it has one
@@ -104,8 +104,8 @@ extent-shorter s x full = let e : s .count x ≡ suc (s .count x - 1) = omega ar
 
 module _ {ex : ℕ → Bool} {n last : ℕ} {s : Anodes} {system hd sd : ℕ → ℕ} (g : Good limit ex n last s system hd sd) (h : ℕ) (d : Head (s .next) (s .block) h) (q x : ℕ)
     (e : lastFull (s .count) 0 (chainOf (s .next) limit h) ≡ found q x) where
-  given-found : FoundIn (s .count) (s .next) h (chainOf (s .next) limit h) 0 q x
-  given-found = lastFull-found (s .count) (s .next) h 0 0 (chainOf (s .next) limit h) (the-chain (g .view) (g .linked) h (λ z. d .in-use)) q x e
+  is-found : FoundIn (s .count) (s .next) h (chainOf (s .next) limit h) 0 q x
+  is-found = given-found g h d q x e
 
   split : (pre : List ℕ) × (post : List ℕ) × (chainOf (s .next) limit h ≡ pre ++ (x ∷ post)) × (sumList (s .count) post ≡ 0)
   split = lastFull-split (s .count) 0 (chainOf (s .next) limit h) q x e
@@ -125,7 +125,7 @@ module _ {ex : ℕ → Bool} {n last : ℕ} {s : Anodes} {system hd sd : ℕ →
   rewritten-blocks c b left keeps =
       let r = rewritten s x c b in
       lost r (λ a i. rw (changed-other (s .count) x c a i, changed-other (s .block) x b a i))
-      (extent-shorter s x (given-found .full) ∙ rw (changed-same (s .count) x c, changed-same (s .block) x b, keeps, left))
+      (extent-shorter s x (is-found .full) ∙ rw (changed-same (s .count) x c, changed-same (s .block) x b, keeps, left))
       ∙ ap (λ (l : List ℕ). l ++ (y ∷ [])) (sym (blocksOf-extents r h ∙ ap (gather (extent r)) (split .2)))
 
   -- x, not the head, has left the chain
@@ -134,12 +134,12 @@ module _ {ex : ℕ → Bool} {n last : ℕ} {s : Anodes} {system hd sd : ℕ →
   unlinked-blocks xh one =
       let r = unlinked s q x in
       let z : s .count x - 1 ≡ 0 = omega arith in
-      let before : s .next q ≡ x = elim (given-found .before) [ inl c ↦ absurd (xh (c .0)) | inr c ↦ c ] in
+      let before : s .next q ≡ x = elim (is-found .before) [ inl c ↦ absurd (xh (c .0)) | inr c ↦ c ] in
       let none : extent r x ≡ [] = rw (changed-same (s .count) x 0) in
-      lost r (λ a i. rw (changed-other (s .count) x 0 a i, changed-other (s .block) x 0 a i)) (extent-shorter s x (given-found .full) ∙ rw (none, z))
+      lost r (λ a i. rw (changed-other (s .count) x 0 a i, changed-other (s .block) x 0 a i)) (extent-shorter s x (is-found .full) ∙ rw (none, z))
       ∙ ap (λ (l : List ℕ). l ++ (y ∷ []))
       (gather-skip (extent r) (split .0) (split .1) x none
-      ∙ sym (blocksOf-extents r h ∙ ap (gather (extent r)) (unlinked-chain g h d x (split .0) (split .1) (split .2) q before (full-0 g x (given-found .full)) xh)))
+      ∙ sym (blocksOf-extents r h ∙ ap (gather (extent r)) (unlinked-chain g h d x (split .0) (split .1) (split .2) q before (full-0 g x (is-found .full)) xh)))
 
   withoutLast-blocks : blocksOf s h ≡ blocksOf (withoutLast limit ex last s h q x) h ++ ((s .block x + (s .count x - 1)) ∷ [])
   unfolding withoutLast emptied y run
@@ -159,38 +159,26 @@ module _ {ex : ℕ → Bool} {n last : ℕ} {s : Anodes} {system hd sd : ℕ →
   free-placed w = shift-blocks g (w .good) (shift-of g (w .good) 1 (λ m c. self-headed (w .good) m (c .pos) (w .kept m (c .in-use) ∙ g .heads .at-head m c)) (w .no-new) (λ a u q i. w .apart a u q)) h d h1 h1
 
 module _ {ex : ℕ → Bool} {n last : ℕ} {s : Anodes} {system hd sd : ℕ → ℕ} (g : Good limit ex n last s system hd sd) (h : ℕ) (d : Head (s .next) (s .block) h) (h1 : h ≢ 1) where
+  -- a give takes the last block off the blocks of the giver's chain
   pub give-blocks : (t : Anodes) (ys : List ℕ) → giveBack limit ex last s h ≡ planned t ys → blocksOf s h ≡ blocksOf t h ++ ys
-  unfolding giveBack giveFrom
-  give-blocks t ys e = go (lastFull (s .count) 0 (chainOf (s .next) limit h)) refl e
-    where
-      go : (c : Found) → lastFull (s .count) 0 (chainOf (s .next) limit h) ≡ c → elim c [ nowhere ↦ refused 0 | found p x ↦ giveFrom limit ex last s h p x ] ≡ planned t ys → blocksOf s h ≡ blocksOf t h ++ ys
-      go nowhere q e = absurd (refused≢planned 0 t ys e)
-      go (found p x) q e =
-          let f = given-found g h d p x q in
-          let i = withoutLast-out g h d h1 p x f in
-          let u = full-used g x (f .full) in
-          let y = s .block x + (s .count x - 1) in
-          let w = release-placed system y (i .good) (λ z. u (omega arith)) (omega (arith, g .own .fits x (g .view .below x u) (f .full), f .full)) t ys e in
-          withoutLast-blocks g h d p x q ∙ ap (λ (l : List ℕ). l ++ (y ∷ [])) (sym (free-placed (i .good) h (self-headed (i .good) h (d .pos) (i .heads-kept h d)) h1 (w .0))) ∙ ap (λ (l : List ℕ). blocksOf t h ++ l) (sym (w .1))
+  give-blocks t ys e =
+      let k = give-steps g h d h1 t ys e in
+      let w = give-placed g h d h1 t ys e in
+      withoutLast-blocks g h d (k .p) (k .x) (k .is-last)
+      ∙ ap (λ (l : List ℕ). l ++ ((s .block (k .x) + (s .count (k .x) - 1)) ∷ [])) (sym (free-placed (k .out .good) h (hand-stays (k .out) h d) h1 (w .0)))
+      ∙ ap (λ (l : List ℕ). blocksOf t h ++ l) (sym (w .1))
 
 -- k gives, one after the other: the last of the chain's blocks, last first
 pub gives-blocks : {ex : ℕ → Bool} {n last : ℕ} (k h : ℕ) → h ≢ 1 → (t : Anodes) (zs : List ℕ) (s : Anodes) (system hd sd : ℕ → ℕ) → Good limit ex n last s system hd sd →
     Head (s .next) (s .block) h → giveMany limit ex last k s h ≡ planned t zs → (blocksOf s h ≡ blocksOf t h ++ reverse zs) × (length zs ≡ k)
 unfolding giveMany
 gives-blocks zero h h1 t zs s system hd sd g d e = let q = planned-same s t [] zs e in rw (← (q .0), q .1) (sym (append-nil (blocksOf s h)), refl)
-gives-blocks {ex} {n} {last} (suc k) h h1 t zs s system hd sd g d e = go (giveBack limit ex last s h) refl e (gives-blocks k h h1 t)
-  where
-    go : (p : Plan) → giveBack limit ex last s h ≡ p → elim p [ refused i ↦ refused i | planned r ys ↦ after limit ex last ys (giveMany limit ex last k r h) ] ≡ planned t zs →
-        ((zs : List ℕ) (s : Anodes) (system hd sd : ℕ → ℕ) → Good limit ex n last s system hd sd → Head (s .next) (s .block) h → giveMany limit ex last k s h ≡ planned t zs →
-        (blocksOf s h ≡ blocksOf t h ++ reverse zs) × (length zs ≡ k)) →
-        (blocksOf s h ≡ blocksOf t h ++ reverse zs) × (length zs ≡ suc k)
-    go (refused i) q e rec = absurd (refused≢planned i t zs e)
-    go (planned r ys) q e rec =
-        let w = give-good g h d h1 r ys q in
-        let f = after-planned limit ex last ys (giveMany limit ex last k r h) t zs e in
-        let b = rec (f .0) r system (w .hd′) (w .sd′) (w .good) (moved-stays g w h d) (f .1) in
-        let all : zs ≡ w .block ∷ f .0 = f .2 ∙ ap (λ (l : List ℕ). l ++ f .0) (w .handed) in (
-          give-blocks g h d h1 r ys q ∙ ap (λ (l : List ℕ). blocksOf r h ++ l) (w .handed) ∙ ap (λ (l : List ℕ). l ++ (w .block ∷ [])) (b .0)
-              ∙ append-assoc (blocksOf t h) (reverse (f .0)) (w .block ∷ []) ∙ ap (λ (l : List ℕ). blocksOf t h ++ l) (sym (reverse-cons (w .block) (f .0)) ∙ ap reverse (sym all)),
-          ap length all ∙ ap suc (b .1),
-        )
+gives-blocks {ex} {n} {last} (suc k) h h1 t zs s system hd sd g d e =
+    let (r, ys, xs, q, f, z) = step-done limit ex last (giveBack limit ex last s h) (λ r. giveMany limit ex last k r h) t zs e in
+    let w = give-good g h d h1 r ys q in
+    let b = gives-blocks k h h1 t xs r system (w .hd′) (w .sd′) (w .good) (moved-stays g w h d) f in
+    let all : zs ≡ w .block ∷ xs = z ∙ ap (λ (l : List ℕ). l ++ xs) (w .handed) in (
+      give-blocks g h d h1 r ys q ∙ ap (λ (l : List ℕ). blocksOf r h ++ l) (w .handed) ∙ ap (λ (l : List ℕ). l ++ (w .block ∷ [])) (b .0)
+          ∙ append-assoc (blocksOf t h) (reverse xs) (w .block ∷ []) ∙ ap (λ (l : List ℕ). blocksOf t h ++ l) (sym (reverse-cons (w .block) xs) ∙ ap reverse (sym all)),
+      ap length all ∙ ap suc (b .1),
+    )

@@ -9,16 +9,10 @@ use Rattle.rules.specs.Counting.{changed}
 use Rattle.laws.specs.Sums.{changed-cases, changed-same, changed-other}
 use Rattle.laws.specs.Links.{View, Linked}
 use Rattle.laws.specs.Heads.{Head, Heads}
-use Rattle.laws.specs.LinkChanges.{first, second, third, insertAfter, insertAfter-cases, unlink, unlink-cases, without, without-cases, after-other, fresh-no-next, next-there, unlink-used, pred-other, same-use, use-same}
+use Rattle.laws.specs.LinkChanges.{first, second, third, insertAfter, insertAfter-cases, unlink, unlink-cases, without, without-cases, without-other, used-not-free, fresh-no-next, next-there, unlink-used, pred-other, same-use, use-same}
 
 module _ {A : ℕ} {next block : ℕ → ℕ} (v : View A next block) (k : Linked A next block) (hd : ℕ → ℕ) (t : Heads next block hd) where
   module _ (p f b : ℕ) (p0 : p ≢ 0) (up : block p ≢ 0) (f0 : f ≢ 0) (fresh : block f ≡ 0) (fA : f < A) (b0 : b ≢ 0) where
-    no-next : (x : ℕ) → next x ≢ f
-    no-next = fresh-no-next v k p f b p0 up f0 fresh fA b0
-
-    not-fresh : p ≢ f
-    not-fresh = after-other v k p f b p0 up f0 fresh fA b0
-
     other : (x : ℕ) → x ≢ f → changed hd f (hd p) x ≡ hd x
     other x h = changed-other hd f (hd p) x h
 
@@ -31,7 +25,7 @@ module _ {A : ℕ} {next block : ℕ → ℕ} (v : View A next block) (k : Linke
 
         none : (q : ℕ) → next q ≢ a
         none q e = elim (insertAfter-cases next p f q) [
-          | first c ↦ elim (insertAfter-cases next p f f) [ first g ↦ not-fresh (sym (g .0)) | second g ↦ d .no-pred f (g .2 ∙ ap next (sym (c .0)) ∙ e) | third g ↦ g .1 refl ]
+          | first c ↦ elim (insertAfter-cases next p f f) [ first g ↦ used-not-free block p f up fresh (sym (g .0)) | second g ↦ d .no-pred f (g .2 ∙ ap next (sym (c .0)) ∙ e) | third g ↦ g .1 refl ]
           | second c ↦ d .pos (sym e ∙ ap next (c .1) ∙ v .free-end f fresh)
           | third c ↦ d .no-pred q (c .2 ∙ e)
         ]
@@ -41,9 +35,9 @@ module _ {A : ℕ} {next block : ℕ → ℕ} (v : View A next block) (k : Linke
       off = λ a h. elim (changed-cases block f b a) [ inl e ↦ absurd (b0 (sym (e .1) ∙ h)) | inr e ↦ other a (e .0) ∙ t .off a (sym (e .1) ∙ h) ];
       off-zero = other 0 (λ e. f0 (sym e)) ∙ t .off-zero;
       along = λ a h. elim (insertAfter-cases next p f a) [
-        | first e ↦ rw (e .1, e .0) (changed-same hd f (hd p) ∙ sym (other p not-fresh))
-        | second e ↦ rw (e .2, e .1) (other (next p) (no-next p) ∙ t .along p (rw (e .2) at h) ∙ sym (changed-same hd f (hd p)))
-        | third e ↦ rw (e .2) (other (next a) (no-next a) ∙ t .along a (rw (e .2) at h) ∙ sym (other a (e .1)))
+        | first e ↦ rw (e .1, e .0) (changed-same hd f (hd p) ∙ sym (other p (used-not-free block p f up fresh)))
+        | second e ↦ rw (e .2, e .1) (other (next p) (fresh-no-next k f f0 fresh p) ∙ t .along p (rw (e .2) at h) ∙ sym (changed-same hd f (hd p)))
+        | third e ↦ rw (e .2) (other (next a) (fresh-no-next k f f0 fresh a) ∙ t .along a (rw (e .2) at h) ∙ sym (other a (e .1)))
       ];
       at-head = λ a d. let w = insert-head-was a d in other a (w .0) ∙ t .at-head a (w .1);
     }
@@ -96,13 +90,10 @@ module _ {A : ℕ} {next block : ℕ → ℕ} (v : View A next block) (k : Linke
 
   module _ (dead : ℕ → Bool) (agree : (a : ℕ) → next a ≢ 0 → dead (next a) ≡ dead a) where
     pub drop-head-was : (a : ℕ) → Head (without dead next) (without dead block) a → (T (dead a) → ⊥) × Head next block a
-    drop-head-was a d = (alive, record { pos = d .pos; in-use = in-use′; no-pred = none })
+    drop-head-was a d = (alive, record { pos = d .pos; in-use = rw (without-other dead block a alive) at (d .in-use); no-pred = none })
       where
         alive : T (dead a) → ⊥
         alive h = elim (without-cases dead block a) [ inl e ↦ d .in-use (e .1) | inr e ↦ e .0 h ]
-
-        in-use′ : block a ≢ 0
-        in-use′ = elim (without-cases dead block a) [ inl e ↦ absurd (d .in-use (e .1)) | inr e ↦ rw (e .1) at (d .in-use) ]
 
         none : (q : ℕ) → next q ≢ a
         none q e = elim (without-cases dead next q) [
@@ -114,20 +105,14 @@ module _ {A : ℕ} {next block : ℕ → ℕ} (v : View A next block) (k : Linke
     drop-heads = record {
       off = λ a h. elim (without-cases dead hd a) [
         | inl e ↦ e .1
-        | inr e ↦ elim (without-cases dead block a) [ inl d ↦ absurd (e .0 (d .0)) | inr d ↦ e .1 ∙ t .off a (sym (d .1) ∙ h) ]
+        | inr e ↦ e .1 ∙ t .off a (sym (without-other dead block a (e .0)) ∙ h)
       ];
       off-zero = elim (without-cases dead hd 0) [ inl e ↦ e .1 | inr e ↦ e .1 ∙ t .off-zero ];
       along = λ a h. elim (without-cases dead next a) [
         | inl e ↦ absurd (h (e .1))
-        | inr e ↦ rw (e .1) (elim (without-cases dead hd a) [
-          | inl c ↦ absurd (e .0 (c .0))
-          | inr c ↦ elim (without-cases dead hd (next a)) [
-            | inl g ↦ absurd (e .0 (rw (agree a (rw (e .1) at h)) at (g .0)))
-            | inr g ↦ g .1 ∙ t .along a (rw (e .1) at h) ∙ sym (c .1)
-          ]
-        ])
+        | inr e ↦ rw (e .1) (without-other dead hd (next a) (λ g. e .0 (rw (agree a (rw (e .1) at h)) at g)) ∙ t .along a (rw (e .1) at h) ∙ sym (without-other dead hd a (e .0)))
       ];
-      at-head = λ a d. let w = drop-head-was a d in elim (without-cases dead hd a) [ inl e ↦ absurd (w .0 (e .0)) | inr e ↦ e .1 ∙ t .at-head a (w .1) ];
+      at-head = λ a d. let w = drop-head-was a d in without-other dead hd a (w .0) ∙ t .at-head a (w .1);
     }
 
 module _ (block : ℕ → ℕ) (x b : ℕ) (u : block x ≢ 0) (b0 : b ≢ 0) where

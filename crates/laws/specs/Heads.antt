@@ -9,7 +9,7 @@ use lib.Dec.{eqb, eqb→eq, T-not, not-T}
 use Rattle.rules.specs.Counting.{oneAt, sumBelow, sumList, times}
 use Rattle.rules.specs.Chains.{chainOf, preds, heads, headOf}
 use Rattle.laws.specs.Tests.{same?, less?, cond-cases, eq→eqb, both, and}
-use Rattle.laws.specs.Sums.{oneAt-cases, oneAt-same, oneAt-other, sum-congr, sum-zero, sum-member, sum-some, sum-single}
+use Rattle.laws.specs.Sums.{oneAt-cases, oneAt-same, oneAt-some, oneAt-other, sum-congr, sum-zero, sum-member, sum-some, sum-single}
 use Rattle.laws.specs.Bags.{times-nil, times-cons, sum-by-times}
 use Rattle.laws.specs.Segments.{Seg, Chain, seg-zero}
 use Rattle.laws.specs.Links.{View, Linked, preds-none, used, next-pos, above-free, no-preds, seg-used, the-chain}
@@ -32,12 +32,9 @@ module _ {A : ℕ} {next block : ℕ → ℕ} (v : View A next block) (k : Linke
   pub pred? : (a : ℕ) → a ≢ 0 → ((p : ℕ) × (next p ≡ a)) ⊎ ((p : ℕ) → next p ≢ a)
   unfolding preds
   pred? a h = elim (less? 0 (preds A next a)) [
-    | inl l ↦ (let s = sum-some (λ p. oneAt (next p) a) A l in inl (s .0, is (s .0) (s .2)))
+    | inl l ↦ (let s = sum-some (λ p. oneAt (next p) a) A l in inl (s .0, oneAt-some (next (s .0)) a (s .2)))
     | inr l ↦ inr (no-preds v a h (omega arith))
   ]
-    where
-      is : (p : ℕ) → 0 < oneAt (next p) a → next p ≡ a
-      is p l = elim (oneAt-cases (next p) a) [ inl e ↦ e .0 | inr e ↦ absurd (omega arith) ]
 
   -- induction along chains, from their heads on
   pub chain-ind : (P : ℕ → Type 0) → ((a : ℕ) → Head next block a → P a) → ((a : ℕ) → next a ≢ 0 → P a → P (next a)) → (a : ℕ) → a ≢ 0 → block a ≢ 0 → P a

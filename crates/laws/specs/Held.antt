@@ -70,11 +70,8 @@ module _ {A : ℕ} {next block : ℕ → ℕ} (v : View A next block) (k : Linke
   unfolding run sumList
   each-run f a l = elim (less? 0 (count a)) [
     | inl p ↦ run-sum f (block a) (count a) n (fits a l p)
-    | inr p ↦ rw (nothing p) (sym (sum-zero (λ y. covers 0 (block a) y * f y) n (λ y q. rw (covers-none (block a) y) (omega arith))))
+    | inr p ↦ (let none : count a ≡ 0 = omega arith in rw none (sym (sum-zero (λ y. covers 0 (block a) y * f y) n (λ y q. rw (covers-none (block a) y) (omega arith)))))
   ]
-    where
-      nothing : count a ≤ 0 → count a ≡ 0
-      nothing p = omega arith
 
   -- a sum over the blocks of a chain, in its order, is one over all blocks
   pub chain-blocks : (f : ℕ → ℕ) (h : ℕ) → Head next block h → sumList f (gather (λ a. run (block a) (count a)) (chainOf next A h)) ≡ sumBelow (λ y. held A hd count block h y * f y) n

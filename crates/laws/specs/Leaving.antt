@@ -25,25 +25,27 @@ from-6 x a b c d e f = omega arith
 pub only-gone : (c b x b′ : ℕ) → c ≡ 1 → covers c b x ≡ oneAt b x + covers 0 b′ x
 only-gone c b x b′ e = rw e (omega (arith, covers-front 0 b x, covers-none (suc b) x, covers-none b′ x))
 
+-- one more, less one
+one-less : (c : ℕ) → suc c - 1 ≡ c
+one-less c = omega arith
+
 -- the first block of an extent goes
 pub first-gone : (c b x : ℕ) → 0 < c → covers c b x ≡ oneAt b x + covers (c - 1) (b + 1) x
 first-gone zero b x l = absurd (omega arith)
-first-gone (suc c) b x l = rw (add-one b, same) (covers-front c b x)
-  where
-    same : suc c - 1 ≡ c
-    same = omega arith
+first-gone (suc c) b x l = rw (add-one b, one-less c) (covers-front c b x)
 
 -- the last block of an extent goes
 pub last-gone : (c b x : ℕ) → 0 < c → covers c b x ≡ oneAt (b + (c - 1)) x + covers (c - 1) b x
 last-gone zero b x l = absurd (omega arith)
-last-gone (suc c) b x l = rw same (omega (arith, covers-end c b x))
-  where
-    same : suc c - 1 ≡ c
-    same = omega arith
+last-gone (suc c) b x l = rw (one-less c) (omega (arith, covers-end c b x))
 
 module _ {A : ℕ} {ex : ℕ → Bool} {n last : ℕ} {s : Anodes} {system hd sd : ℕ → ℕ} (g : Good A ex n last s system hd sd) (x : ℕ) (full : 0 < s .count x) where
   pub full-used : s .block x ≢ 0
   full-used z = omega (arith, full, g .free-none x z)
+
+  -- its blocks are on the disk
+  pub full-inside : s .block x + s .count x ≤ n
+  full-inside = g .own .fits x (g .view .below x full-used) full
 
   pub full-0 : x ≢ 0
   full-0 e = omega (arith, full, ap (s .count) e, g .count-0)
@@ -60,7 +62,7 @@ module _ {A : ℕ} {ex : ℕ → Bool} {n last : ℕ} {s : Anodes} {system hd sd
       (within : 0 < c → (s .block x ≤ b) × (b + c ≤ s .block x + s .count x)) where
     shrunk-good : Good A ex n last (rewritten s x c b) (hand system y) hd sd
     shrunk-good = rewrite-good g x c b (hand system y) full-used b0 full-0 full-1 (λ w. omega (arith, left w))
-        (λ l. omega (arith, within l .1, g .own .fits x (g .view .below x full-used) full))
+        (λ l. omega (arith, within l .1, full-inside))
         (λ q l. omega (arith, within l .0, g .high x q full))
         (λ q l. omega (arith, within l .1, g .low x q full))
 

@@ -45,7 +45,6 @@ pub mod DirectoryTakes
 pub mod Make
 pub mod Remove
 pub mod OwnerTable
-pub mod AnodeTable
 pub mod Accepted
 pub mod Acceptance
 pub mod ImageAnodes

@@ -7,7 +7,7 @@ use mathlib.Core.List.{List, _∷_, _++_}
 use native.Mathlib.Omega.{arith}
 use lib.Dec.{T}
 use Rattle.rules.specs.Counting.{oneAt, times, changed}
-use Rattle.laws.specs.Tests.{same?, cond-cases}
+use Rattle.laws.specs.Tests.{cond-cases}
 use Rattle.laws.specs.Sums.{oneAt-same, changed-cases, changed-same, changed-other, changed-pos}
 use Rattle.laws.specs.Bags.{times-cons, times-append}
 use Rattle.laws.specs.Segments.{Seg, Chain, seg-append, seg-split, seg-keep}
@@ -51,20 +51,33 @@ pub without-cases : (dead : ℕ → Bool) (F : ℕ → ℕ) (a : ℕ) → (T (de
 unfolding without
 without-cases dead F a = cond-cases (dead a) 0 (F a)
 
+-- what is not dead reads as before
+pub without-other : (dead : ℕ → Bool) (F : ℕ → ℕ) (a : ℕ) → (T (dead a) → ⊥) → without dead F a ≡ F a
+without-other dead F a q = elim (without-cases dead F a) [ inl e ↦ absurd (q (e .0)) | inr e ↦ e .1 ]
+
+-- ---- a free anode f
+
+-- it is none in use
+pub used-not-free : (block : ℕ → ℕ) (p f : ℕ) → block p ≢ 0 → block f ≡ 0 → p ≢ f
+used-not-free block p f up fresh e = up (ap block e ∙ fresh)
+
+-- and nobody has it for next
+pub fresh-no-next : {A : ℕ} {next block : ℕ → ℕ} → Linked A next block → (f : ℕ) → f ≢ 0 → block f ≡ 0 → (x : ℕ) → next x ≢ f
+fresh-no-next {block = block} k f f0 fresh x e = k .closed x (λ z. f0 (sym e ∙ z)) (ap block e ∙ fresh)
+
 module _ {A : ℕ} {next block : ℕ → ℕ} (v : View A next block) (k : Linked A next block) where
   module _ (p f b : ℕ) (p0 : p ≢ 0) (up : block p ≢ 0) (f0 : f ≢ 0) (fresh : block f ≡ 0) (fA : f < A) (b0 : b ≢ 0) where
-    pub after-other : p ≢ f
-    after-other e = up (ap block e ∙ fresh)
+    not-f : p ≢ f
+    not-f = used-not-free block p f up fresh
 
-    -- nobody has f for next
-    pub fresh-no-next : (x : ℕ) → next x ≢ f
-    fresh-no-next x e = k .closed x (λ z. f0 (sym e ∙ z)) (ap block e ∙ fresh)
+    not-next : (x : ℕ) → next x ≢ f
+    not-next = fresh-no-next k f f0 fresh
 
     pub insert-view : View A (insertAfter next p f) (changed block f b)
     insert-view = record {
       below = λ a h. elim (changed-cases block f b a) [ inl e ↦ rw (e .0) fA | inr e ↦ v .below a (rw (e .1) at h) ];
       free-end = λ a h. elim (insertAfter-cases next p f a) [
-        | first e ↦ absurd (up (ap block (sym (e .0)) ∙ sym (changed-other block f b a (λ q. after-other (sym (e .0) ∙ q))) ∙ h))
+        | first e ↦ absurd (up (ap block (sym (e .0)) ∙ sym (changed-other block f b a (λ q. not-f (sym (e .0) ∙ q))) ∙ h))
         | second e ↦ absurd (b0 (sym (changed-same block f b) ∙ ap (changed block f b) (sym (e .1)) ∙ h))
         | third e ↦ e .2 ∙ v .free-end a (sym (changed-other block f b a (e .1)) ∙ h)
       ];
@@ -99,25 +112,25 @@ module _ {A : ℕ} {next block : ℕ → ℕ} (v : View A next block) (k : Linke
       uniq = λ x y h q. elim (insertAfter-cases next p f x) [
         | first e ↦ elim (insertAfter-cases next p f y) [
           | first d ↦ e .0 ∙ sym (d .0)
-          | second d ↦ absurd (fresh-no-next p (sym (d .2) ∙ sym q ∙ e .1))
-          | third d ↦ absurd (fresh-no-next y (sym (d .2) ∙ sym q ∙ e .1))
+          | second d ↦ absurd (not-next p (sym (d .2) ∙ sym q ∙ e .1))
+          | third d ↦ absurd (not-next y (sym (d .2) ∙ sym q ∙ e .1))
         ]
         | second e ↦ elim (insertAfter-cases next p f y) [
-          | first d ↦ absurd (fresh-no-next p (sym (e .2) ∙ q ∙ d .1))
+          | first d ↦ absurd (not-next p (sym (e .2) ∙ q ∙ d .1))
           | second d ↦ e .1 ∙ sym (d .1)
           | third d ↦ absurd (d .0 (sym (k .uniq p y (rw (e .2) at h) (sym (e .2) ∙ q ∙ d .2))))
         ]
         | third e ↦ elim (insertAfter-cases next p f y) [
-          | first d ↦ absurd (fresh-no-next x (sym (e .2) ∙ q ∙ d .1))
+          | first d ↦ absurd (not-next x (sym (e .2) ∙ q ∙ d .1))
           | second d ↦ absurd (e .0 (k .uniq x p (rw (e .2) at h) (sym (e .2) ∙ q ∙ d .2)))
           | third d ↦ k .uniq x y (rw (e .2) at h) (sym (e .2) ∙ q ∙ d .2)
         ]
       ];
       rank = ranks;
       falls = λ a a0 u. elim (insertAfter-cases next p f a) [
-        | first e ↦ rw (e .1, e .0) (omega (arith, rank-f, rank-other p after-other, k .falls p p0 up))
-        | second e ↦ rw (e .2, e .1) (omega (arith, rank-f, rank-other (next p) (fresh-no-next p)))
-        | third e ↦ rw (e .2) (omega (arith, rank-other (next a) (fresh-no-next a), rank-other a (e .1), k .falls a a0 (rw (changed-other block f b a (e .1)) at u)))
+        | first e ↦ rw (e .1, e .0) (omega (arith, rank-f, rank-other p not-f, k .falls p p0 up))
+        | second e ↦ rw (e .2, e .1) (omega (arith, rank-f, rank-other (next p) (not-next p)))
+        | third e ↦ rw (e .2) (omega (arith, rank-other (next a) (not-next a), rank-other a (e .1), k .falls a a0 (rw (changed-other block f b a (e .1)) at u)))
       ];
     }
 
@@ -127,7 +140,7 @@ module _ {A : ℕ} {next block : ℕ → ℕ} (v : View A next block) (k : Linke
 
     at-f : insertAfter next p f f ≡ next p
     unfolding insertAfter
-    at-f = changed-other (changed next f (next p)) p f f (λ e. after-other (sym e)) ∙ changed-same next f (next p)
+    at-f = changed-other (changed next f (next p)) p f f (λ e. not-f (sym e)) ∙ changed-same next f (next p)
 
     -- what a chain becomes: one without p stays, and f comes after p in the other
     pub insert-apart : (a z : ℕ) (l : List ℕ) → (a ≢ 0 → block a ≢ 0) → Seg next a l z → times p l ≡ 0 → Seg (insertAfter next p f) a l z
@@ -263,13 +276,9 @@ module _ {A : ℕ} {next block : ℕ → ℕ} (v : View A next block) (k : Linke
       rank = changed (k .rank) f (suc (k .rank 0));
       falls = λ a a0 u. elim (changed-cases block f b a) [
         | inl e ↦ rw (e .0, v .free-end f fresh, changed-same (k .rank) f (suc (k .rank 0)), changed-other (k .rank) f (suc (k .rank 0)) 0 (λ q. f0 (sym q))) (omega arith)
-        | inr e ↦ omega (arith, changed-other (k .rank) f (suc (k .rank 0)) a (e .0), changed-other (k .rank) f (suc (k .rank 0)) (next a) (not-f a (same? (next a) 0)), k .falls a a0 (rw (e .1) at u))
+        | inr e ↦ omega (arith, changed-other (k .rank) f (suc (k .rank 0)) a (e .0), changed-other (k .rank) f (suc (k .rank 0)) (next a) (fresh-no-next k f f0 fresh a), k .falls a a0 (rw (e .1) at u))
       ];
     }
-      where
-        not-f : (a : ℕ) → (next a ≡ 0) ⊎ (next a ≢ 0) → next a ≢ f
-        not-f a (inl z) q = f0 (sym q ∙ z)
-        not-f a (inr z) q = k .closed a z (ap block q ∙ fresh)
 
   -- ---- whole chains dropped: what `dead` says goes, and it says the same of an anode and its next
 
@@ -279,7 +288,7 @@ module _ {A : ℕ} {next block : ℕ → ℕ} (v : View A next block) (k : Linke
       below = λ a h. elim (without-cases dead block a) [ inl e ↦ absurd (h (e .1)) | inr e ↦ v .below a (rw (e .1) at h) ];
       free-end = λ a h. elim (without-cases dead next a) [
         | inl e ↦ e .1
-        | inr e ↦ elim (without-cases dead block a) [ inl d ↦ absurd (e .0 (d .0)) | inr d ↦ e .1 ∙ v .free-end a (sym (d .1) ∙ h) ]
+        | inr e ↦ e .1 ∙ v .free-end a (sym (without-other dead block a (e .0)) ∙ h)
       ];
       zero-end = elim (without-cases dead next 0) [ inl e ↦ e .1 | inr e ↦ e .1 ∙ v .zero-end ];
     }
@@ -288,10 +297,7 @@ module _ {A : ℕ} {next block : ℕ → ℕ} (v : View A next block) (k : Linke
     drop-linked = record {
       closed = λ a h. elim (without-cases dead next a) [
         | inl e ↦ absurd (h (e .1))
-        | inr e ↦ rw (e .1) (elim (without-cases dead block (next a)) [
-          | inl d ↦ absurd (e .0 (rw (along a (rw (e .1) at h)) at (d .0)))
-          | inr d ↦ rw (d .1) (k .closed a (rw (e .1) at h))
-        ])
+        | inr e ↦ rw (e .1, without-other dead block (next a) (λ d. e .0 (rw (along a (rw (e .1) at h)) at d))) (k .closed a (rw (e .1) at h))
       ];
       uniq = λ a c h q. elim (without-cases dead next a) [
         | inl e ↦ absurd (h (e .1))
@@ -303,16 +309,12 @@ module _ {A : ℕ} {next block : ℕ → ℕ} (v : View A next block) (k : Linke
       rank = k .rank;
       falls = λ a a0 u. elim (without-cases dead block a) [
         | inl e ↦ absurd (u (e .1))
-        | inr e ↦ elim (without-cases dead next a) [
-          | inl d ↦ absurd (e .0 (d .0))
-          | inr d ↦ rw (d .1) (k .falls a a0 (rw (e .1) at u))
-        ]
+        | inr e ↦ rw (without-other dead next a (e .0)) (k .falls a a0 (rw (e .1) at u))
       ];
     }
 
     pub drop-apart : (a z : ℕ) (l : List ℕ) → Seg next a l z → ((x : ℕ) → 0 < times x l → T (dead x) → ⊥) → Seg (without dead next) a l z
-    drop-apart a z l c h = seg-keep next (without dead next) a z l
-        (λ x m. elim (without-cases dead next x) [ inl e ↦ absurd (h x m (e .0)) | inr e ↦ e .1 ]) c
+    drop-apart a z l c h = seg-keep next (without dead next) a z l (λ x m. without-other dead next x (h x m)) c
 
 -- ---- an anode in use rewritten to another in use leaves the links alone
 

@@ -8,7 +8,7 @@ use lib.ListN.{length}
 use Rattle.rules.specs.Counting.{oneAt, times}
 use Rattle.rules.specs.Chains.{chainOf, followed, preds}
 use Rattle.laws.specs.Tests.{same?, less?}
-use Rattle.laws.specs.Sums.{oneAt-cases, oneAt-same, oneAt-other, oneAt-le, sum-zero, sum-member, sum-members, sum-le-one}
+use Rattle.laws.specs.Sums.{oneAt-cases, oneAt-same, oneAt-some, oneAt-other, oneAt-le, sum-zero, sum-member, sum-members, sum-le-one}
 use Rattle.laws.specs.Bags.{times-nil, times-cons, pigeonhole}
 use Rattle.laws.specs.Segments.{Seg, Chain, followed-zero, chainOf-is, chain-is, chain-ends, chain-one}
 
@@ -154,9 +154,6 @@ module _ {A : ℕ} {next block : ℕ → ℕ} (v : View A next block) where
         ends : (a : ℕ) → block a ≢ 0 → followed next A a ≡ 0
         ends a u = let c = the-chain a (λ q. u) in chain-ends next A a (chainOf next A a) (v .zero-end) c (seg-short a 0 (chainOf next A a) (λ q. u) c)
 
-        next-is : (x i : ℕ) → 0 < oneAt (next i) x → next i ≡ x
-        next-is x i p = elim (oneAt-cases (next i) x) [ inl e ↦ e .0 | inr e ↦ absurd (omega arith) ]
-
         one-pred : (x : ℕ) → x ≢ 0 → block x ≢ 0 → preds A next x ≤ 1
         one-pred x h u = sum-le-one (λ p. oneAt (next p) x) A (λ i. oneAt-le (next i) x)
-            (λ i j li lj p q. k .uniq i j (λ z. h (sym (next-is x i p) ∙ z)) (next-is x i p ∙ sym (next-is x j q)))
+            (λ i j li lj p q. k .uniq i j (λ z. h (sym (oneAt-some (next i) x p) ∙ z)) (oneAt-some (next i) x p ∙ sym (oneAt-some (next j) x q)))

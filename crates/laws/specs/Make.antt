@@ -13,24 +13,47 @@ use Rattle.rules.specs.Walk.{Dir, root, Entered, Item, blocksFor, itemOf, broke
 use Rattle.rules.specs.Space.{rewritten}
 use Rattle.laws.specs.Tests.{same?, less?}
 use Rattle.laws.specs.Sums.{oneAt-same, changed-same, changed-other}
-use Rattle.laws.specs.Bags.{list-cons, list-one, list-add, list-scale}
+use Rattle.laws.specs.Bags.{list-cons, list-add, list-scale}
 use Rattle.laws.specs.Links.{chain-the}
 use Rattle.laws.specs.Heads.{Head}
+use Rattle.laws.specs.LinkChanges.{used-not-free, fresh-no-next}
 use Rattle.laws.specs.Space.{Alike, Good, head-good, on-chain}
-use Rattle.laws.specs.Frame.{kept-sum-where, kept-count}
-use Rattle.laws.specs.Each.{Each, each-map, each-both, list-congr-each, each-zero}
+use Rattle.laws.specs.Frame.{kept-sum, kept-count}
+use Rattle.laws.specs.Each.{Each, each-map, each-both, each-zero}
 use Rattle.laws.specs.Items.{wrong, weighItem, namedIn, faults}
 use Rattle.laws.specs.TreeChanges.{headed, Gain, sum-named, add-file, add-dir, AlikeItems, alike-named, alike-tree}
-use Rattle.laws.specs.Entries.{weighEntry, broken-wrong, item-fine, fine-item, item-anode, asEntry, weigh-item, entries-sum, items-sum, itemsAt-cases, itemsAt-whole, items-alike}
+use Rattle.laws.specs.Entries.{weighEntry, broken-wrong, item-fine, fine-item, item-anode, asEntry, weigh-item, entries-sum, items-sum, anodes-fine, itemsAt-whole, items-alike}
 use Rattle.laws.specs.Whole.{Whole, head-counts, counts-head, on-dir, dir-heads, named-heads}
 use Rattle.laws.specs.Orphan.{Orphaned}
 
 -- two sums over a list that differ at one member
-pub one-more : (g f f′ : ℕ → ℕ) (a₀ k : ℕ) (l : List ℕ) → sumList g l ≡ 0 → ((a : ℕ) → 0 < times a l → g a ≡ 0 → f′ a ≡ f a + oneAt a a₀ * k) → sumList f′ l ≡ sumList f l + times a₀ l * k
+one-more : (f f′ : ℕ → ℕ) (a₀ k : ℕ) (l : List ℕ) → ((a : ℕ) → 0 < times a l → f′ a ≡ f a + oneAt a a₀ * k) → sumList f′ l ≡ sumList f l + times a₀ l * k
 unfolding times
-one-more g f f′ a₀ k l z e =
-    kept-sum-where g (λ a. f a + oneAt a a₀ * k) f′ l z e
+one-more f f′ a₀ k l e =
+    kept-sum (λ a. f a + oneAt a a₀ * k) f′ l e
     ∙ omega (arith, list-add f (λ a. oneAt a a₀ * k) l, list-scale (λ a. oneAt a a₀) k l)
+
+-- of two tables of entries, `more` has e more in the block of the anode a₀ of the directory h₀: that directory gains the item of e
+module _ {ex : ℕ → Bool} {n last : ℕ} {s : Anodes} {system hd sd : ℕ → ℕ} (g : Good limit ex n last s system hd sd) (e : Entered) (a₀ h₀ : ℕ) (at₀ : hd a₀ ≡ h₀)
+    (less more : ℕ → List Entered) (marked marked′ : Dir → ℕ → Bool)
+    (cont : (a : ℕ) → s .count a ≡ 1 → hd a ≢ 1 → (v : Bool → Bool → ℕ → ℕ → ℕ) →
+    sumList (weighEntry v) (more (s .block a)) ≡ sumList (weighEntry v) (less (s .block a)) + oneAt a a₀ * weighEntry v e) where
+  pub entry-gain : (d : Dir) → Head (s .next) (s .block) (d .head) × (d .head ≢ 1) →
+      ((a : ℕ) → 0 < times a (chainOf (s .next) limit (d .head)) → hd a ≢ 1 → (s .count a ≡ 1) × T (marked d (s .block a)) × T (marked′ d (s .block a))) →
+      Gain (itemsBy less marked s) (itemsBy more marked′ s) h₀ (itemOf s e) d
+  entry-gain d p whole u =
+      items-sum more marked′ s d (weighItem u)
+      ∙ one-more (λ a. sumList (weighItem u) (itemsAt less marked s d a)) (λ a. sumList (weighItem u) (itemsAt more marked′ s d a)) a₀ (weighItem u (itemOf s e)) (chainOf (s .next) limit (d .head)) at-a
+      ∙ omega (arith, items-sum less marked s d (weighItem u), ap (λ (k : ℕ). k * weighItem u (itemOf s e)) (on-dir g a₀ h₀ at₀ (d .head) (p .0)))
+    where
+      -- one anode of the directory
+      at-a : (a : ℕ) → 0 < times a (chainOf (s .next) limit (d .head)) →
+          sumList (weighItem u) (itemsAt more marked′ s d a) ≡ sumList (weighItem u) (itemsAt less marked s d a) + oneAt a a₀ * weighItem u (itemOf s e)
+      at-a a k =
+          let q : hd a ≢ 1 = λ i. p .1 (sym (on-chain g (d .head) (p .0) a k .0) ∙ i) in
+          let w = whole a k q in
+          rw (itemsAt-whole less marked s d a (w .0) (w .1), itemsAt-whole more marked′ s d a (w .0) (w .2)) (entries-sum s u (more (s .block a)) ∙ cont a (w .0) q (asEntry s u)
+          ∙ omega (arith, entries-sum s u (less (s .block a)), ap (λ (i : ℕ). oneAt a a₀ * i) (weigh-item s u e)))
 
 -- ---- a fresh head, which nothing names
 
@@ -48,10 +71,9 @@ module _ {ex : ℕ → Bool} {n last : ℕ} {s : Anodes} {system hd sd : ℕ →
   -- an anode in use is untouched
   like-a : (a : ℕ) → s .block a ≢ 0 → Alike s made a
   unfolding rewritten
-  like-a a u = record { same-count = changed-other (s .count) f 0 a not-f; same-block = changed-other (s .block) f 65535 a not-f; same-next = refl }
-    where
-      not-f : a ≢ f
-      not-f e = u (ap (s .block) e ∙ fresh)
+  like-a a u =
+      let not-f = used-not-free (s .block) a f u fresh in
+      record { same-count = changed-other (s .count) f 0 a not-f; same-block = changed-other (s .block) f 65535 a not-f; same-next = refl }
 
   stays : (m : ℕ) → Head (s .next) (s .block) m → Head (made .next) (made .block) m
   unfolding rewritten
@@ -63,7 +85,7 @@ module _ {ex : ℕ → Bool} {n last : ℕ} {s : Anodes} {system hd sd : ℕ →
 
   head-f : Head (made .next) (made .block) f
   unfolding rewritten
-  head-f = record { pos = f0; in-use = rw (changed-same (s .block) f 65535) (λ z. omega arith); no-pred = λ p e. w .good .linked .closed p (λ z. f0 (sym e ∙ z)) (ap (s .block) e ∙ fresh) }
+  head-f = record { pos = f0; in-use = rw (changed-same (s .block) f 65535) (λ z. omega arith); no-pred = fresh-no-next (w .good .linked) f f0 fresh }
 
   -- an entry with nothing wrong stays so
   still-fine : (e : Entered) → wrong (itemOf s e) ≡ 0 → wrong (itemOf made e) ≡ 0
@@ -96,10 +118,6 @@ module _ {ex : ℕ → Bool} {n last : ℕ} {s : Anodes} {system hd sd : ℕ →
     alikes : Each (AlikeItems items items′) dirs
     alikes = each-both (λ d. Head (s .next) (s .block) (d .head) × (d .head ≢ 1)) (λ d. faults items d ≡ 0) (AlikeItems items items′) dirs one (dir-heads w) (each-zero (faults items) dirs (w .tree .faultless))
 
-    same-named : (x : ℕ) → sumList (namedIn items′ x) dirs ≡ sumList (namedIn items x) dirs
-    same-named x = list-congr-each (namedIn items′ x) (namedIn items x) dirs
-        (each-map (AlikeItems items items′) (λ d. namedIn items′ x d ≡ namedIn items x d) dirs (λ d e. alike-named items items′ d e x) alikes)
-
     unnamed : sumList (namedIn items f) dirs ≡ 0
     unnamed = elim (less? 0 (sumList (namedIn items f) dirs)) [ inl p ↦ absurd (named-heads w f p .2 .in-use fresh) | inr p ↦ omega arith ]
 
@@ -109,8 +127,8 @@ module _ {ex : ℕ → Bool} {n last : ℕ} {s : Anodes} {system hd sd : ℕ →
       tree = alike-tree items items′ root dirs alikes (w .tree);
       dir-heads = each-map (λ d. Head (s .next) (s .block) (d .head) × (d .head ≢ 1)) (λ d. Head (made .next) (made .block) (d .head) × (d .head ≢ 1)) dirs (λ d p. (stays (d .head) (p .0), p .1)) (dir-heads w);
       head = head-f;
-      not-named = same-named f ∙ unnamed;
-      all-named = λ x l q d. omega (arith, same-named x, w .all-named x l (was x q d));
+      not-named = alike-named items items′ dirs alikes f ∙ unnamed;
+      all-named = λ x l q d. omega (arith, alike-named items items′ dirs alikes x, w .all-named x l (was x q d));
     }
 
 -- ---- its entry e, in the block of the anode a₀ of the directory h₀
@@ -131,22 +149,9 @@ module _ {ex : ℕ → Bool} {n last : ℕ} {s : Anodes} {system hd sd : ℕ →
   new-fine : wrong (itemOf s e) ≡ 0
   new-fine = fine-item s e in-rules from-6 (head-counts (o .good) (e .anode) (o .head)) sized
 
-  -- one anode of a directory
-  at-a : (d : Dir) (u : ℕ → Bool → ℕ → ℕ) (a : ℕ) → hd a ≢ 1 → sumList wrong (itemsAt entries marked s d a) ≡ 0 →
-      sumList (weighItem u) (itemsAt entries′ marked′ s d a) ≡ sumList (weighItem u) (itemsAt entries marked s d a) + oneAt a a₀ * weighItem u (itemOf s e)
-  at-a d u a q z = elim (itemsAt-cases entries marked s d a) [
-    | inr k ↦ absurd (omega (arith, rw k at z, list-one wrong broken, broken-wrong))
-    | inl k ↦ rw (k .2, itemsAt-whole entries′ marked′ s d a (k .0) (rw (same-marks a (k .0) q d) (k .1))) (entries-sum s u (entries′ (s .block a)) ∙ cont a (k .0) q (asEntry s u)
-        ∙ omega (arith, entries-sum s u (entries (s .block a)), ap (λ (i : ℕ). oneAt a a₀ * i) (weigh-item s u e)))
-  ]
-
   gain : (d : Dir) → Head (s .next) (s .block) (d .head) × (d .head ≢ 1) → faults before d ≡ 0 → Gain before after h₀ (itemOf s e) d
-  gain d p z u =
-      items-sum entries′ marked′ s d (weighItem u)
-      ∙ one-more (λ a. sumList wrong (itemsAt entries marked s d a)) (λ a. sumList (weighItem u) (itemsAt entries marked s d a)) (λ a. sumList (weighItem u) (itemsAt entries′ marked′ s d a))
-      a₀ (weighItem u (itemOf s e)) (chainOf (s .next) limit (d .head)) (sym (items-sum entries marked s d wrong) ∙ z)
-      (λ a k q. at-a d u a (λ i. p .1 (sym (on-chain (o .good) (d .head) (p .0) a k .0) ∙ i)) q)
-      ∙ omega (arith, items-sum entries marked s d (weighItem u), ap (λ (k : ℕ). k * weighItem u (itemOf s e)) (on-dir (o .good) a₀ h₀ at₀ (d .head) (p .0)))
+  gain d p z = entry-gain (o .good) e a₀ h₀ at₀ entries entries′ marked marked′ cont d p
+      (λ a k q. let c = anodes-fine entries marked s d z a k in (c .0, c .1, rw (same-marks a (c .0) q d) (c .1)))
 
   gains : Each (Gain before after h₀ (itemOf s e)) dirs
   gains = each-both (λ d. Head (s .next) (s .block) (d .head) × (d .head ≢ 1)) (λ d. faults before d ≡ 0) (Gain before after h₀ (itemOf s e)) dirs
@@ -159,6 +164,7 @@ module _ {ex : ℕ → Bool} {n last : ℕ} {s : Anodes} {system hd sd : ℕ →
     | inr i ↦ omega (arith, sum-named before after h₀ (itemOf s e) dirs reached gains x, o .all-named x l i d)
   ]
 
+  -- with the entry of a file in its block, the state is accepted
   pub enter-file : e .dir ≡ false → Whole ex n last s system hd sd entries′ marked′ dirs
   unfolding itemOf
   enter-file file = record {
@@ -167,7 +173,7 @@ module _ {ex : ℕ → Bool} {n last : ℕ} {s : Anodes} {system hd sd : ℕ →
     all-named = named;
   }
 
-  -- a directory with no item
+  -- and so with the entry of a directory that has no item
   pub enter-directory : e .dir ≡ true → itemsBy entries′ marked′ s (record { head = e .anode; parent = h₀ }) ≡ [] →
       Whole ex n last s system hd sd entries′ marked′ (record { head = e .anode; parent = h₀ } ∷ dirs)
   unfolding itemOf

@@ -8,7 +8,7 @@ use native.Mathlib.Omega.{arith}
 use Rattle.rules.specs.Counting.{oneAt}
 use Rattle.rules.specs.Anodes.{Anodes}
 use Rattle.laws.specs.Ownership.{hand}
-use Rattle.laws.specs.Heads.{Head}
+use Rattle.laws.specs.Heads.{Head, head-of-is}
 use Rattle.laws.specs.Blocks.{blocks}
 use Rattle.laws.specs.Held.{held}
 use Rattle.laws.specs.Space.{Alike, alike-trans, Good}
@@ -55,6 +55,14 @@ module _ (A : ℕ) (ex : ℕ → Bool) (n last : ℕ) where
 -- what has a head is in use
 pub headed-used : {A : ℕ} {ex : ℕ → Bool} {n last : ℕ} {s : Anodes} {system hd sd : ℕ → ℕ} → Good A ex n last s system hd sd → (a : ℕ) → hd a ≢ 0 → s .block a ≢ 0
 headed-used g a q z = q (g .heads .off a z)
+
+-- an anode that the table gives itself for head is one
+pub self-headed : {A : ℕ} {ex : ℕ → Bool} {n last : ℕ} {s : Anodes} {system hd sd : ℕ → ℕ} → Good A ex n last s system hd sd → (m : ℕ) → m ≢ 0 → hd m ≡ m → Head (s .next) (s .block) m
+self-headed {hd = hd} g m m0 e = rw e at (head-of-is (g .view) (g .linked) hd (g .heads) m m0 (headed-used g m (λ z. m0 (sym e ∙ z))))
+
+-- a head stays one while a block is in hand
+pub hand-stays : {A : ℕ} {ex : ℕ → Bool} {n last : ℕ} {s r : Anodes} {system hd : ℕ → ℕ} {m y : ℕ} → InHand A ex n last s system hd m y r → (a : ℕ) → Head (s .next) (s .block) a → Head (r .next) (r .block) a
+hand-stays i a d = self-headed (i .good) a (d .pos) (i .heads-kept a d)
 
 -- out of one chain and into another
 pub moved-by : {A : ℕ} {ex : ℕ → Bool} {n last : ℕ} {s r t : Anodes} {system hd : ℕ → ℕ} {from to y : ℕ} {ys : List ℕ} →

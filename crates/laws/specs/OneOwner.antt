@@ -15,14 +15,16 @@ use Rattle.rules.specs.Accepted.{diskSize, lastReserved, ownersOf, twoOwners, n
 use Rattle.counting.specs.Laws.{anyBelow-each}
 use Rattle.laws.specs.Tests.{same?}
 use Rattle.laws.specs.Bags.{times-nil, list-congr, gather-sum}
-use Rattle.laws.specs.Heads.{Head, heads-cases}
+use Rattle.laws.specs.Heads.{Head}
 use Rattle.laws.specs.Space.{Good}
 use Rattle.laws.specs.Passes.{Passes, good-of}
 use Rattle.laws.specs.Items.{names-sum, namedIn}
 use Rattle.laws.specs.Walks.{walk-found}
+use Rattle.laws.specs.Whole.{counts-head}
 use Rattle.laws.specs.Acceptance.{and-none, Passed, passed-of, Tested, tested-passes}
 use Rattle.laws.specs.ImageAnodes.{reading-of}
 
+-- every block of the image has one owner, every chain ends, and every chain in use is named once
 pub record OneOwner (img : List ℕ) : Type 0 where
   pub one-owner : (x : ℕ) → x < diskSize img → ownersOf img (anodesOf img) x ≡ 1
   pub ends : (a : ℕ) → anodesOf img .block a ≢ 0 → followed (anodesOf img .next) limit a ≡ 0
@@ -57,9 +59,6 @@ module _ (img : List ℕ) (blocks anodes : ℕ) (p : Passed img blocks anodes) w
   pub good : Good limit (exists img) (diskSize img) (lastReserved img) s (systemOwns img) (headOf limit (s .next) (s .block)) (headOf limit (cut (s .next)) (s .block))
   good = good-of (reading-of img (diskSize img) (lastReserved img)) passes
 
-  head-is : (h : ℕ) → heads limit (s .next) (s .block) h ≡ 1 → Head (s .next) (s .block) h
-  head-is h e = elim (heads-cases (good .view) (good .linked) h) [ inl q ↦ q .0 | inr q ↦ absurd (omega (arith, e, q .1)) ]
-
   -- the walk was done, and named no anode twice
   walk-done : (w : Walk) → walkOf img s ≡ w → faultIn w ≡ 0 → (x : ℕ) → times x (map (λ i. i .anode) (gather (itemsOf img s) (dirsIn w))) ≤ 1
   unfolding walkOf gather
@@ -73,7 +72,7 @@ module _ (img : List ℕ) (blocks anodes : ℕ) (p : Passed img blocks anodes) w
   named : (h : ℕ) → heads limit (s .next) (s .block) h ≡ 1 → 6 ≤ h → naming img s h ≢ 0
   unfolding unnamedChain unnamed
   named h e l =
-      let u = head-is h e .in-use in
+      let u = counts-head good h e .in-use in
       eqb-false (naming img s h) 0 (and-none (eqb (heads limit (s .next) (s .block) h) 1) (unnamed img s h)
       (and-none (leb 6 h) (eqb (heads limit (s .next) (s .block) h) 1 && unnamed img s h) (anyBelow-each (unnamedChain img s) h limit (reading-of img (diskSize img) (lastReserved img) .low h u) (p .all-named)) (le-leb 6 h l))
       (eq-eqb (heads limit (s .next) (s .block) h) 1 e))
@@ -97,9 +96,9 @@ module _ (img : List ℕ) (blocks anodes : ℕ) (p : Passed img blocks anodes) w
     one-owner = λ x l. omega (arith, passes .not-two x l, passes .not-none x l);
     ends = passes .ends;
     named-once = λ h e l. omega (arith, once h, named h e l);
-    systems = λ h e l. below-6 h (head-is h e .pos) (not-two h (head-is h e)) l;
+    systems = λ h e l. below-6 h (counts-head good h e .pos) (not-two h (counts-head good h e)) l;
   }
 
--- THE THEOREM, from the check's answer
+-- an image that the check accepts is such an image
 pub accepted-one-owner : (img : List ℕ) (blocks anodes : ℕ) → checkAnswer img blocks anodes ≡ 0 → OneOwner img
 accepted-one-owner img blocks anodes e = one-owner-of img blocks anodes (passed-of img blocks anodes e)

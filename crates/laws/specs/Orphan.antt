@@ -1,25 +1,26 @@
 -- An accepted state but for one chain that no entry names: what stands between the steps of a make, or of a remove.
-use Prim.Native.Nat.{ℕ, _+_, _≤_, _<_}
+use Prim.Native.Nat.{ℕ, _+_, _≤_}
 use mathlib.Core.Path.{_≡_, refl, sym, ap, _∙_}
 use mathlib.Core.Logic.{_≢_, _⊎_, inl, inr}
 use mathlib.Core.Bool.{Bool, true, false, cond}
 use mathlib.Core.List.{List, map-id}
 use native.Mathlib.Omega.{arith}
-use Rattle.rules.specs.Counting.{oneAt, sumList, times}
+use Rattle.rules.specs.Counting.{oneAt, sumList}
 use Rattle.rules.specs.Anodes.{limit, Anodes}
-use Rattle.rules.specs.Chains.{chainOf, blockCount}
+use Rattle.rules.specs.Chains.{blockCount}
 use Rattle.rules.specs.Walk.{Dir, root, Entered, Item, blocksFor, itemOf, broken, itemsBy}
 use Rattle.laws.specs.Tests.{same?}
 use Rattle.laws.specs.Sums.{oneAt-cases, oneAt-same, oneAt-other}
 use Rattle.laws.specs.Bags.{list-add, list-mono, list-congr}
 use Rattle.laws.specs.Heads.{Head}
-use Rattle.laws.specs.Space.{Good, on-chain}
-use Rattle.laws.specs.Frame.{kept-count, Shift, kept-chain}
-use Rattle.laws.specs.Each.{Each, each-map, each-both, list-congr-each, each-zero}
-use Rattle.laws.specs.Items.{wrong, below, namedIn, faults}
+use Rattle.laws.specs.Space.{Good}
+use Rattle.laws.specs.Frame.{Shift}
+use Rattle.laws.specs.ChainBlocks.{shift-alike, shift-chain, shift-count}
+use Rattle.laws.specs.Each.{Each, each-map, each-both, each-zero}
+use Rattle.laws.specs.Items.{wrong, namedIn, faults}
 use Rattle.laws.specs.Trees.{Tree}
 use Rattle.laws.specs.TreeChanges.{headed, none-headed, AlikeItems, alike-named, alike-tree}
-use Rattle.laws.specs.Totals.{file-size, names-parts}
+use Rattle.laws.specs.Totals.{file-size, named-by-kind}
 use Rattle.laws.specs.Entries.{broken-wrong, item-fine, fine-item, item-anode, item-dir, items-alike}
 use Rattle.laws.specs.Whole.{named-le, head-counts, counts-head}
 
@@ -45,15 +46,6 @@ module _ {ex : ℕ → Bool} {n last f : ℕ} {s : Anodes} {system hd sd : ℕ �
   abbrev items : Dir → List Item
   items = itemsBy entries marked s
 
-  same-chain : (m : ℕ) → Head (s .next) (s .block) m → m ≢ 1 → m ≢ h → chainOf (t .next) limit m ≡ chainOf (s .next) limit m
-  same-chain m d m1 mh = kept-chain (o .good) g′ h (sh .stays) (sh .no-new) (sh .apart) m d m1 mh
-
-  on : (m : ℕ) → Head (s .next) (s .block) m → m ≢ 1 → m ≢ h → (a : ℕ) → 0 < times a (chainOf (s .next) limit m) → (s .block a ≢ 0) × (hd a ≢ 1) × (hd a ≢ h)
-  on m d m1 mh a k = let c = on-chain (o .good) m d a k in (c .1, λ q. m1 (sym (c .0) ∙ q), λ q. mh (sym (c .0) ∙ q))
-
-  same-count : (m : ℕ) → Head (s .next) (s .block) m → m ≢ 1 → m ≢ h → blockCount t m ≡ blockCount s m
-  same-count m d m1 mh = kept-count s t m (same-chain m d m1 mh) (λ a k. let c = on m d m1 mh a k in sh .apart a (c .0) (c .1) (c .2) .same-count)
-
   -- an entry with nothing wrong stays so
   pub still-fine : (e : Entered) → amiss h (itemOf s e) ≡ 0 → wrong (itemOf t e) ≡ 0
   still-fine e z =
@@ -65,7 +57,7 @@ module _ {ex : ℕ → Bool} {n last f : ℕ} {s : Anodes} {system hd sd : ℕ �
           (e .dir ≡ true) ⊎ (blockCount t (e .anode) ≡ blocksFor (e .size))
       size d l (inl q) b i = inl q
       size d l (inr q) true i = inl i
-      size d l (inr q) false i = inr (same-count (e .anode) d (omega arith) not-h ∙ q)
+      size d l (inr q) false i = inr (shift-count (o .good) g′ sh (e .anode) d (omega arith) not-h ∙ q)
         where
           not-h : e .anode ≢ h
           not-h j = omega (arith, z, ap (λ (c : Bool). cond c 0 (oneAt ((itemOf s e) .anode) h)) (item-dir s e ∙ i), oneAt-same ((itemOf s e) .anode) h (item-anode s e ∙ j))
@@ -82,8 +74,8 @@ module _ {ex : ℕ → Bool} {n last f : ℕ} {s : Anodes} {system hd sd : ℕ �
     one : (d : Dir) → Head (s .next) (s .block) (d .head) × (d .head ≢ 1) → (d .head ≡ h → AlikeItems items items′ d) × (sumList (amiss h) (items d) ≡ 0) → AlikeItems items items′ d
     one d p q = elim (same? (d .head) h) [
       | inl e ↦ q .0 e
-      | inr e ↦ items-alike s t (λ j. j) (amiss h) amiss-broken (λ j z. (refl, refl, still-fine j z)) entries entries marked marked d (same-chain (d .head) (p .0) (p .1) e)
-          (λ a k. let c = on (d .head) (p .0) (p .1) e a k in sh .apart a (c .0) (c .1) (c .2))
+      | inr e ↦ items-alike s t (λ j. j) (amiss h) amiss-broken (λ j z. (refl, refl, still-fine j z)) entries entries marked marked d
+          (shift-chain (o .good) g′ sh (d .head) (p .0) (p .1) e) (shift-alike (o .good) g′ sh (d .head) (p .0) (p .1) e)
           (λ a k i. (sym (map-id (entries (s .block a))), refl)) (q .1)
     ]
       where
@@ -95,18 +87,14 @@ module _ {ex : ℕ → Bool} {n last f : ℕ} {s : Anodes} {system hd sd : ℕ �
         (each-both (λ d. d .head ≡ h → AlikeItems items items′ d) (λ d. sumList (amiss h) (items d) ≡ 0) (λ d. (d .head ≡ h → AlikeItems items items′ d) × (sumList (amiss h) (items d) ≡ 0)) dirs (λ d a b. (a, b)) own
         none-amiss)
 
-    same-named : (x : ℕ) → sumList (namedIn items′ x) dirs ≡ sumList (namedIn items x) dirs
-    same-named x = list-congr-each (namedIn items′ x) (namedIn items x) dirs
-        (each-map (AlikeItems items items′) (λ d. namedIn items′ x d ≡ namedIn items x d) dirs (λ d e. alike-named items items′ d e x) alikes)
-
     pub orphan-shift : Orphaned ex n last f t system hd′ sd′ entries marked dirs
     orphan-shift = record {
       good = g′;
       tree = alike-tree items items′ root dirs alikes (o .tree);
       dir-heads = each-map (λ d. Head (s .next) (s .block) (d .head) × (d .head ≢ 1)) (λ d. Head (t .next) (t .block) (d .head) × (d .head ≢ 1)) dirs (λ d p. (sh .stays (d .head) (p .0), p .1)) (o .dir-heads);
       head = sh .stays f (o .head);
-      not-named = same-named f ∙ o .not-named;
-      all-named = λ x l q d. omega (arith, same-named x, o .all-named x l q (sh .no-new x d));
+      not-named = alike-named items items′ dirs alikes f ∙ o .not-named;
+      all-named = λ x l q d. omega (arith, alike-named items items′ dirs alikes x, o .all-named x l q (sh .no-new x d));
     }
 
 module _ {ex : ℕ → Bool} {n last f : ℕ} {s : Anodes} {system hd sd : ℕ → ℕ} {entries : ℕ → List Entered} {marked : Dir → ℕ → Bool} {dirs : List Dir}
@@ -114,30 +102,23 @@ module _ {ex : ℕ → Bool} {n last f : ℕ} {s : Anodes} {system hd sd : ℕ �
   abbrev given : Dir → List Item
   given = itemsBy entries marked s
 
-  -- an anode is named by files and by directories
-  by-kind : (h : ℕ) → sumList (namedIn given h) dirs ≡ sumList (λ d. sumList (file-size (λ x. oneAt x h)) (given d)) dirs + sumList (below given (λ e. oneAt (e .head) h)) dirs
-  unfolding times
-  by-kind h =
-      list-congr (namedIn given h) (λ d. sumList (file-size (λ x. oneAt x h)) (given d) + below given (λ e. oneAt (e .head) h) d) dirs (λ d. names-parts given (λ x. oneAt x h) d)
-      ∙ list-add (λ d. sumList (file-size (λ x. oneAt x h)) (given d)) (below given (λ e. oneAt (e .head) h)) dirs
-
   -- the chain that nothing names is no directory's of the tree
   pub not-dir : 6 ≤ f → Each (λ d. d .head ≢ f) dirs
-  not-dir f6 = none-headed f dirs (omega (arith, o .tree .exact (λ d. oneAt (d .head) f), oneAt-other 5 f (λ e. omega (arith, e, f6)), by-kind f, o .not-named))
+  not-dir f6 = none-headed f dirs (omega (arith, o .tree .exact (λ d. oneAt (d .head) f), oneAt-other 5 f (λ e. omega (arith, e, f6)), named-by-kind given f dirs, o .not-named))
 
   -- the chain that nothing names takes or gives
   pub orphan-changed : 6 ≤ f → {t : Anodes} {hd′ sd′ : ℕ → ℕ} → Good limit ex n last t system hd′ sd′ → Shift s hd t hd′ f → Orphaned ex n last f t system hd′ sd′ entries marked dirs
-  orphan-changed f6 {t} g′ sh = orphan-shift o f (omega (arith, by-kind f, o .not-named)) g′ sh
+  orphan-changed f6 {t} g′ sh = orphan-shift o f (omega (arith, named-by-kind given f dirs, o .not-named)) g′ sh
       (each-map (λ d. d .head ≢ f) (λ d. d .head ≡ f → AlikeItems given (itemsBy entries marked t) d) dirs (λ d q e. absurd (q e)) (not-dir f6))
 
   -- no file's entry names a directory of the tree
   pub dir-no-file : (h : ℕ) → headed h dirs ≡ 1 → sumList (λ d. sumList (file-size (λ x. oneAt x h)) (given d)) dirs ≡ 0
   unfolding headed
   dir-no-file h once = elim (oneAt-cases 5 h) [
-    | inr c ↦ omega (arith, once, o .tree .exact (λ d. oneAt (d .head) h), c .1, by-kind h, o .tree .once h)
+    | inr c ↦ omega (arith, once, o .tree .exact (λ d. oneAt (d .head) h), c .1, named-by-kind given h dirs, o .tree .once h)
     | inl c ↦ omega (
       arith,
-      by-kind h,
+      named-by-kind given h dirs,
       o .tree .faultless,
       list-mono (namedIn given h) (faults given) dirs (named-le entries marked s h (λ l e. omega (arith, l, c .0))),
     )

@@ -9,22 +9,20 @@ use lib.Dec.{T}
 use Rattle.rules.specs.Counting.{times, lastOf}
 use Rattle.rules.specs.Anodes.{Anodes}
 use Rattle.rules.specs.Chains.{chainOf}
-use Rattle.rules.specs.Space.{planned, rewritten, insertedAfter, Found, nowhere, found, free, lowestFree, append, growOrAppend, put, withoutFirst, takeFrom, takeBlock}
+use Rattle.rules.specs.Space.{planned, rewritten, insertedAfter, free, lowestFree, append, growOrAppend, put, takeBlock}
 use Rattle.laws.specs.Sums.{oneAt-same, changed-same, changed-other}
 use Rattle.laws.specs.Bags.{times-cons}
-use Rattle.laws.specs.Segments.{Chain, seg-zero}
+use Rattle.laws.specs.Segments.{seg-zero}
 use Rattle.laws.specs.Links.{the-chain}
 use Rattle.laws.specs.Heads.{Head, times-on-chain}
 use Rattle.laws.specs.Space.{Alike, Good, on-chain}
 use Rattle.laws.specs.Searches.{last-on}
-use Rattle.laws.specs.Moves.{InHand}
-use Rattle.laws.specs.Leaving.{full-used}
+use Rattle.laws.specs.Moves.{InHand, hand-stays}
 use Rattle.laws.specs.Arriving.{free-is, append-cases, refused≢planned, planned-same}
-use Rattle.laws.specs.Take.{withoutFirst-out}
-use Rattle.laws.specs.Frame.{kept-chain}
-use Rattle.laws.specs.ChainBlocks.{self-headed, inserted-chain}
-use Rattle.laws.specs.FirstFree.{firstFree, firstFree-found, take-nowhere, take-found}
-use Rattle.laws.specs.TakenBlocks.{last-split}
+use Rattle.laws.specs.Take.{take-steps}
+use Rattle.laws.specs.Frame.{apart-chain}
+use Rattle.laws.specs.ChainBlocks.{inserted-chain}
+use Rattle.laws.specs.TakenBlocks.{chain-end}
 
 -- the chain of h is its head alone, with the block y
 pub record Filled (A : ℕ) (t : Anodes) (h y : ℕ) : Type 0 where
@@ -41,37 +39,11 @@ pub record Appended (A : ℕ) (s t : Anodes) (h y : ℕ) : Type 0 where
   pub kept : (a : ℕ) → 0 < times a (chainOf (s .next) A h) → (t .count a ≡ s .count a) × (t .block a ≡ s .block a)
 
 module _ {A : ℕ} {ex : ℕ → Bool} {n last : ℕ} {s : Anodes} {system hd sd : ℕ → ℕ} (g : Good A ex n last s system hd sd) (h : ℕ) (d : Head (s .next) (s .block) h) (h1 : h ≢ 1) where
-  -- a take first has a block y in hand, in the state r, and then puts it behind the last anode of the chain
-  record Steps (t : Anodes) (ys : List ℕ) : Type 0 where
-    between : Anodes
-    block : ℕ
-    some : block ≢ 0
-    out : InHand A ex n last s system hd 1 block between
-    puts : put A ex last true between (lastOf h (chainOf (between .next) A h)) block ≡ planned t ys
-
-  own-steps : (t : Anodes) (ys : List ℕ) → takeBlock A ex last true s h ≡ planned t ys → Steps t ys
-  unfolding takeFrom
-  own-steps t ys e = go (firstFree A true s) refl
-    where
-      go : (c : Found) → firstFree A true s ≡ c → Steps t ys
-      go nowhere q = absurd (refused≢planned 27 t ys (sym (take-nowhere A true s ex last h q) ∙ e))
-      go (found p x) q =
-          let (m, o, f) = firstFree-found A true s g p x q in
-          record {
-            between = withoutFirst A ex last s p x;
-            block = s .block x;
-            some = full-used g x (f .full);
-            out = withoutFirst-out g m o p x f;
-            puts = sym (take-found A true s ex last h p x q) ∙ e;
-          }
-
+  -- the block y in hand, in the state r, is put behind the last anode of the chain
   module _ {y : ℕ} {r : Anodes} (i : InHand A ex n last s system hd 1 y r) where
-    stays : (m : ℕ) → Head (s .next) (s .block) m → Head (r .next) (r .block) m
-    stays m c = self-headed (i .good) m (c .pos) (i .heads-kept m c)
-
     -- the block in hand was of no anode of the chain
     hand-chain : chainOf (r .next) A h ≡ chainOf (s .next) A h
-    hand-chain = kept-chain g (i .good) 1 stays (i .no-new) (λ a u p q. i .apart a p) h d h1 h1
+    hand-chain = apart-chain g (λ a u p q. i .apart a p) h d h1 h1 (i .good) (hand-stays i h d)
 
     on-h : (a : ℕ) → 0 < times a (chainOf (s .next) A h) → Alike s r a
     on-h a p = i .apart a (λ q. h1 (sym (on-chain g h d a p .0) ∙ q))
@@ -84,12 +56,7 @@ module _ {A : ℕ} {ex : ℕ → Bool} {n last : ℕ} {s : Anodes} {system hd sd
     ]
 
     split : (m : List ℕ) × (chainOf (s .next) A h ≡ m ++ (lastOf h (chainOf (s .next) A h) ∷ []))
-    unfolding lastOf
-    split = go (chainOf (s .next) A h) (the-chain (g .view) (g .linked) h (λ q. d .in-use))
-      where
-        go : (l : List ℕ) → Chain (s .next) h l → (m : List ℕ) × (l ≡ m ++ (lastOf h l ∷ []))
-        go [] c = absurd (d .pos c)
-        go (b ∷ l) c = last-split h b l
+    split = chain-end (s .next) h (chainOf (s .next) A h) (d .pos) (the-chain (g .view) (g .linked) h (λ q. d .in-use))
 
     put-filled : chainOf (s .next) A h ≡ h ∷ [] → s .count h ≡ 0 → (t : Anodes) (ys : List ℕ) → put A ex last true r (lastOf h (chainOf (r .next) A h)) y ≡ planned t ys →
         (ys ≡ y ∷ []) × Filled A t h y
@@ -123,7 +90,7 @@ module _ {A : ℕ} {ex : ℕ → Bool} {n last : ℕ} {s : Anodes} {system hd sd
       unfolding insertedAfter
       put-appended = record {
         anode = f;
-        chain = inserted-chain (i .good) h (stays h d) end (split .0) [] (hand-chain ∙ split .1)
+        chain = inserted-chain (i .good) h (hand-stays i h d) end (split .0) [] (hand-chain ∙ split .1)
             end-0 (used end end-on) f 1 y (λ e. omega (arith, e, fresh .0)) (fresh .1) fA y0
             ∙ sym (ap (λ (l : List ℕ). l ++ (f ∷ [])) (split .1) ∙ append-assoc (split .0) (end ∷ []) (f ∷ []));
         one = changed-same (r .count) f 1;
@@ -147,9 +114,9 @@ module _ {A : ℕ} {ex : ℕ → Bool} {n last : ℕ} {s : Anodes} {system hd sd
   -- a chain with no block, and so of its head alone
   pub own-filled : chainOf (s .next) A h ≡ h ∷ [] → s .count h ≡ 0 → (t : Anodes) (ys : List ℕ) → takeBlock A ex last true s h ≡ planned t ys →
       (y : ℕ) × (ys ≡ y ∷ []) × Filled A t h y
-  own-filled alone none t ys e = let w = own-steps t ys e in let f = put-filled (w .out) alone none t ys (w .puts) in (w .block, f .0, f .1)
+  own-filled alone none t ys e = let w = take-steps g h true t ys e in let f = put-filled (w .out) alone none t ys (w .puts) in (s .block (w .x), f .0, f .1)
 
   -- a chain with a block in each anode
   pub own-appended : ((a : ℕ) → 0 < times a (chainOf (s .next) A h) → s .count a ≡ 1) → (t : Anodes) (ys : List ℕ) → takeBlock A ex last true s h ≡ planned t ys →
       (y : ℕ) × (ys ≡ y ∷ []) × Appended A s t h y
-  own-appended ones t ys e = let w = own-steps t ys e in let f = put-behind (w .out) (w .some) ones t ys (w .puts) in (w .block, f .0, f .1)
+  own-appended ones t ys e = let w = take-steps g h true t ys e in let f = put-behind (w .out) (w .some) ones t ys (w .puts) in (s .block (w .x), f .0, f .1)

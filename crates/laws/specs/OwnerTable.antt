@@ -22,19 +22,18 @@ use Rattle.laws.specs.Tests.{same?, less?}
 use Rattle.laws.specs.Sums.{oneAt-cases, oneAt-same, oneAt-other, sum-congr, sum-scale, sum-swap, sum-member, sum-some, sum-single, sum-pick}
 use Rattle.laws.specs.Bags.{times-nil, times-cons}
 use Rattle.laws.specs.Ownership.{covers-cases, covers-none}
-use Rattle.laws.specs.Links.{View, Linked}
-use Rattle.laws.specs.LinkChanges.{without, without-cases}
-use Rattle.laws.specs.Heads.{Head, Heads, heads-one, headOf-heads}
+use Rattle.laws.specs.LinkChanges.{without, without-cases, without-other}
+use Rattle.laws.specs.Heads.{Head, heads-one, headOf-heads}
 use Rattle.laws.specs.Held.{held, held-fresh}
 use Rattle.laws.specs.Space.{Good, head-good, dead-head, drop-good}
 use Rattle.laws.specs.Owners.{hd-below, holder, owner}
 use Rattle.laws.specs.Resize.{Ran}
 
 -- the list of a function's values below k, by its entries
-pub listed-at : (f : ℕ → ℕ) (k i : ℕ) → i < k → getD (listed f 0 k) i 0 ≡ f i
+listed-at : (f : ℕ → ℕ) (k i : ℕ) → i < k → getD (listed f 0 k) i 0 ≡ f i
 listed-at f k i l = getD-listed f 0 k i 0 l ∙ ap f (zero-add i)
 
-pub listed-is : (f : ℕ → ℕ) (k : ℕ) (l : List ℕ) → length l ≡ k → ((i : ℕ) → i < k → f i ≡ getD l i 0) → listed f 0 k ≡ l
+listed-is : (f : ℕ → ℕ) (k : ℕ) (l : List ℕ) → length l ≡ k → ((i : ℕ) → i < k → f i ≡ getD l i 0) → listed f 0 k ≡ l
 listed-is f k l e h =
     ext-getD 0 (listed f 0 k) l (length-listed f 0 k ∙ sym e) (λ i b. (let c : i < k = rw (length-listed f 0 k) at b in listed-at f k i c ∙ h i c))
 
@@ -43,35 +42,29 @@ listed-same f f′ k h = listed-is f k (listed f′ 0 k) (length-listed f′ 0 k
 
 -- ---- the tables of one state
 
--- the rules that settle the table of heads settle the anode table
-module _ (s : Anodes) {hd : ℕ → ℕ} (v : View limit (s .next) (s .block)) (k : Linked limit (s .next) (s .block)) (t : Heads (s .next) (s .block) hd) where
-  headOf-is : (a : ℕ) → chainHead s a ≡ hd a
+module _ {ex : ℕ → Bool} {n last : ℕ} {s : Anodes} {system hd sd : ℕ → ℕ} (g : Good limit ex n last s system hd sd) where
+  -- the head that the rules compute for an anode is the one that the table of heads gives it
+  chainHead-is : (a : ℕ) → chainHead s a ≡ hd a
   unfolding chainHead
-  headOf-is a = heads-one v k (headOf limit (s .next) (s .block)) hd (headOf-heads v k) t a
+  chainHead-is a = heads-one (g .view) (g .linked) (headOf limit (s .next) (s .block)) hd (headOf-heads (g .view) (g .linked)) (g .heads) a
 
-  entry-is : (a : ℕ) → anodeEntry s a ≡ hd a
+  -- and so is its entry in the anode table
+  pub anodeEntry-is : (a : ℕ) → anodeEntry s a ≡ hd a
   unfolding anodeEntry
-  entry-is a = elim (same? a 0) [
-    | inl e ↦ rw (eq-eqb a 0 e) (sym (ap hd e ∙ t .off-zero))
+  anodeEntry-is a = elim (same? a 0) [
+    | inl e ↦ rw (eq-eqb a 0 e) (sym (ap hd e ∙ g .heads .off-zero))
     | inr e ↦ rw (ne-eqb a 0 e) (elim (same? (s .block a) 0) [
-      | inl u ↦ rw (eq-eqb (s .block a) 0 u) (sym (t .off a u))
-      | inr u ↦ rw (ne-eqb (s .block a) 0 u) (headOf-is a)
+      | inl u ↦ rw (eq-eqb (s .block a) 0 u) (sym (g .heads .off a u))
+      | inr u ↦ rw (ne-eqb (s .block a) 0 u) (chainHead-is a)
     ])
   ]
 
-  pub table-of-heads : anodeTable s ≡ listed hd 0 limit
-  unfolding anodeTable
-  table-of-heads = listed-same (anodeEntry s) hd limit (λ a l. entry-is a)
-
-module _ {ex : ℕ → Bool} {n last : ℕ} {s : Anodes} {system hd sd : ℕ → ℕ} (g : Good limit ex n last s system hd sd) where
-  pub chainHead-is : (a : ℕ) → chainHead s a ≡ hd a
-  chainHead-is = headOf-is s (g .view) (g .linked) (g .heads)
-
-  pub anodeEntry-is : (a : ℕ) → anodeEntry s a ≡ hd a
-  anodeEntry-is = entry-is s (g .view) (g .linked) (g .heads)
-
+  -- the anode table is the table of heads, listed
   pub anodeTable-is : anodeTable s ≡ listed hd 0 limit
-  anodeTable-is = table-of-heads s (g .view) (g .linked) (g .heads)
+  unfolding anodeTable
+  anodeTable-is = listed-same (anodeEntry s) hd limit (λ a l. anodeEntry-is a)
+
+  -- what an anode adds to a block's owner: its head, where it covers the block
 
   headWhere-is : (x a : ℕ) → headWhere s x a ≡ covers (s .count a) (s .block a) x * hd a
   unfolding headWhere
@@ -130,10 +123,7 @@ held-dropped A hd count block dead none x m =
     same : (a : ℕ) → oneAt (without dead hd a) m * covers (without dead count a) (without dead block a) x ≡ oneAt (hd a) m * covers (count a) (block a) x
     same a = elim (without-cases dead count a) [
       | inl c ↦ rw (c .1, none a (c .0), covers-none (without dead block a) x, covers-none (block a) x) (omega arith)
-      | inr c ↦ elim (without-cases dead hd a) [
-        | inl e ↦ absurd (c .0 (e .0))
-        | inr e ↦ elim (without-cases dead block a) [ inl f ↦ absurd (c .0 (f .0)) | inr f ↦ rw (c .1, e .1, f .1) ]
-      ]
+      | inr c ↦ rw (c .1, without-other dead hd a (c .0), without-other dead block a (c .0))
     ]
 
 -- a state in which every head holds what it held
@@ -154,6 +144,7 @@ module _ {ex : ℕ → Bool} {n last : ℕ} {s : Anodes} {system hd sd : ℕ →
     pub ran-data : (x : ℕ) → 0 < times x ys → (x < n) × (system x ≡ 0)
     ran-data x p = held-data (ran .good) to x (arrived x p)
 
+    -- the owner of a block of ys is now `to`, and that of any other block is as before
     pub ran-owner : (x : ℕ) → ownerHead t x ≡ cond (leb 1 (times x ys)) to (ownerHead s x)
     ran-owner x = elim (less? 0 (times x ys)) [
       | inl p ↦ rw (le-leb 1 (times x ys) p) (ownerHead-is (ran .good) to x (arrived x p))
@@ -180,12 +171,12 @@ unfoldable pub setAll : List ℕ → List ℕ → ℕ → List ℕ
 setAll l [] v = l
 setAll l (y ∷ ys) v = setAll (set l y v) ys v
 
-pub length-setAll : (l ys : List ℕ) (v : ℕ) → length (setAll l ys v) ≡ length l
+length-setAll : (l ys : List ℕ) (v : ℕ) → length (setAll l ys v) ≡ length l
 unfolding setAll
 length-setAll l [] v = refl
 length-setAll l (y ∷ ys) v = length-setAll (set l y v) ys v ∙ length-set l y v
 
-pub getD-setAll : (l ys : List ℕ) (v x : ℕ) → x < length l → getD (setAll l ys v) x 0 ≡ cond (leb 1 (times x ys)) v (getD l x 0)
+getD-setAll : (l ys : List ℕ) (v x : ℕ) → x < length l → getD (setAll l ys v) x 0 ≡ cond (leb 1 (times x ys)) v (getD l x 0)
 unfolding setAll
 getD-setAll l [] v x p = rw (times-nil x)
 getD-setAll l (y ∷ ys) v x p = getD-setAll (set l y v) ys v x (rw (length-set l y v) p) ∙ elim (less? 0 (times x ys)) [
@@ -210,7 +201,7 @@ unfolding systemOwns
 not-system img x z = elim (less? x 3) [ inl l ↦ absurd (omega (arith, rw (lt-ltb x 3 l) at z)) | inr l ↦ l ]
 
 module _ (img j : List ℕ) (same-size : diskSize j ≡ diskSize img) (same-system : systemOwns j ≡ systemOwns img) (s t : Anodes) where
-  -- every block has the owner that it had
+  -- where every block has the owner that it had, the block table is the same
   pub kept-table : ((x : ℕ) → ownerHead t x ≡ ownerHead s x) → blockTable j t ≡ blockTable img s
   unfolding blockTable blockEntry
   kept-table same = rw same-size (listed-same (blockEntry j t) (blockEntry img s) (diskSize img) (λ x l. rw (same-system, same x)))
@@ -223,7 +214,7 @@ module _ (img j : List ℕ) (same-size : diskSize j ≡ diskSize img) (same-syst
     | inr p ↦ rw (lt-leb 1 (times x ys) (omega arith))
   ])
 
-  -- the blocks of ys have gone from one head's chain to another's
+  -- where the blocks of ys have gone from one head's chain to another's, the block table has that head at each of them
   pub ran-table : {ex : ℕ → Bool} {last : ℕ} {hd sd : ℕ → ℕ} → Good limit ex (diskSize img) last s (systemOwns img) hd sd → {from to h size : ℕ} {ys : List ℕ} →
       Ran limit ex (diskSize img) last s (systemOwns img) hd from to h size ys t → from ≢ to → blockTable j t ≡ setAll (blockTable img s) ys to
   unfolding blockTable

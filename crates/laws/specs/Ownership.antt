@@ -94,11 +94,8 @@ module _ (A : ℕ) where
       each : (a : ℕ) → a < A → sumBelow (λ x. covers (count a) (block a) x) n ≡ count a
       each a l = elim (less? 0 (count a)) [
         | inl p ↦ covers-sum (count a) (block a) n (e .fits a l p)
-        | inr p ↦ rw (zero-is p) (sum-zero (λ x. covers 0 (block a) x) n (λ i m. covers-none (block a) i))
+        | inr p ↦ (let none : count a ≡ 0 = omega arith in rw none (sum-zero (λ x. covers 0 (block a) x) n (λ i m. covers-none (block a) i)))
       ]
-        where
-          zero-is : count a ≤ 0 → count a ≡ 0
-          zero-is p = omega arith
 
   -- one anode a is rewritten to (c, b): x's owners change by what a covered and covers
   pub owners-changed : (count block system : ℕ → ℕ) (a c b x : ℕ) → a < A → owners A (changed count a c) (changed block a b) system x + covers (count a) (block a) x ≡ owners A count block system x + covers c b x

@@ -64,6 +64,7 @@ from-two {A} {next} {block} v k u =
         seg-rank v k 2 0 (chainOf next A 2) x (λ q. u) (the-chain v k 2 (λ q. u)) (rw e at (k .falls x (next-pos v x nx) (used v x nx)))
 
 module _ {A : ℕ} {ex : ℕ → Bool} {n last : ℕ} {s : Anodes} {system : ℕ → ℕ} where
+  -- a state that passes 6 to 11 is good
   pub good-of : Reading A ex n last s → Passes A ex n last s system → Good A ex n last s system (headOf A (s .next) (s .block)) (headOf A (cut (s .next)) (s .block))
   unfolding side
   good-of r c = record {
@@ -113,6 +114,7 @@ module _ {A : ℕ} {ex : ℕ → Bool} {n last : ℕ} {s : Anodes} {system : ℕ
         | inr e ↦ absurd (omega (arith, c .two-on, times-on-chain v k (headOf A (s .next) (s .block)) (headOf-heads v k) 1 head-1 2, e .1))
       ]
 
+  -- and a good state passes them
   pub passes-of : {hd sd : ℕ → ℕ} → Good A ex n last s system hd sd → Reading A ex n last s × Passes A ex n last s system
   unfolding side
   passes-of {hd} {sd} g = (

@@ -2,23 +2,25 @@
 use Prim.Native.Nat.{ℕ, _+_, _*_, _<_}
 use mathlib.Core.Path.{_≡_, refl, sym, ap, _∙_}
 use mathlib.Core.Logic.{_≢_, _⊎_, inl, inr}
-use mathlib.Core.Bool.{Bool, true, false, not, _&&_}
+use mathlib.Core.Bool.{Bool}
 use mathlib.Core.List.{List, [], _∷_}
 use native.Mathlib.Omega.{arith}
-use lib.Dec.{T, eqb}
+use lib.Dec.{T}
 use Rattle.rules.specs.Counting.{oneAt, times, lastOf}
 use Rattle.rules.specs.Anodes.{Anodes}
 use Rattle.rules.specs.Chains.{chainOf, cut, side}
-use Rattle.rules.specs.Space.{Plan, refused, planned, rewritten, insertedAfter, Found, nowhere, found, firstFull, free, lowestFree, append, growOrAppend, put, withoutFirst, takeFrom, takeSide, takeBlock}
-use Rattle.laws.specs.Tests.{same?, cond-cases}
+use Rattle.rules.specs.Space.{refused, planned, rewritten, insertedAfter, Found, nowhere, found, firstFull, free, lowestFree, append, put, withoutFirst, takeFrom, takeBlock}
+use Rattle.laws.specs.Tests.{same?}
 use Rattle.laws.specs.Sums.{oneAt-cases, sum-zero}
+use Rattle.laws.specs.LinkChanges.{first, second, third}
 use Rattle.laws.specs.Heads.{Head, head-of-is, on-own}
 use Rattle.laws.specs.Blocks.{blocks}
 use Rattle.laws.specs.Cut.{cut-other, cut-view, cut-linked}
 use Rattle.laws.specs.Space.{Good}
 use Rattle.laws.specs.Sides.{side-head}
 use Rattle.laws.specs.Searches.{firstFull-none}
-use Rattle.laws.specs.Arriving.{append-cases, refused≢planned}
+use Rattle.laws.specs.FirstFree.{firstFree, firstFree-nowhere, take-found}
+use Rattle.laws.specs.Arriving.{append-cases, put-cases, refused≢planned}
 
 pub refused-same : (j k : ℕ) → refused j ≡ refused k → j ≡ k
 refused-same j k e = cc
@@ -35,13 +37,10 @@ module _ (A : ℕ) (ex : ℕ → Bool) (last : ℕ) where
   ]
 
   pub put-refused : (own : Bool) (s : Anodes) (z y k : ℕ) → put A ex last own s z y ≡ refused k → (k ≡ 28) × ((f : ℕ) → f < A → T (free A ex last s f) → ⊥)
-  unfolding put growOrAppend
-  put-refused own s z y k e = elim (cond-cases (eqb (s .count z) 0) (planned (rewritten s z 1 y) (y ∷ [])) (growOrAppend A ex last own s z y)) [
-    | inl c ↦ absurd (planned≢refused (rewritten s z 1 y) (y ∷ []) k (sym (c .1) ∙ e))
-    | inr c ↦ elim (cond-cases (not own && eqb (s .block z + s .count z) y) (planned (rewritten s z (s .count z + 1) (s .block z)) (y ∷ [])) (append A ex last s z y)) [
-      | inl d ↦ absurd (planned≢refused (rewritten s z (s .count z + 1) (s .block z)) (y ∷ []) k (sym (d .1) ∙ sym (c .1) ∙ e))
-      | inr d ↦ append-refused s z y k (sym (d .1) ∙ sym (c .1) ∙ e)
-    ]
+  put-refused own s z y k e = elim (put-cases A ex last own s z y) [
+    | first c ↦ absurd (planned≢refused (rewritten s z 1 y) (y ∷ []) k (sym (c .1) ∙ e))
+    | second c ↦ absurd (planned≢refused (rewritten s z (s .count z + 1) (s .block z)) (y ∷ []) k (sym (c .3) ∙ e))
+    | third c ↦ append-refused s z y k (sym (c .2) ∙ e)
   ]
 
 module _ {A : ℕ} {ex : ℕ → Bool} {n last : ℕ} {s : Anodes} {system hd sd : ℕ → ℕ} (g : Good A ex n last s system hd sd) where
@@ -79,21 +78,14 @@ module _ {A : ℕ} {ex : ℕ → Bool} {n last : ℕ} {s : Anodes} {system hd sd
         ]
       ]
 
-  side-27 : (own : Bool) (h m : ℕ) (other : Plan) → takeSide A ex last own s h m other ≡ refused 27 → (firstFull (s .count) 0 (side A s m) ≡ nowhere) × (other ≡ refused 27)
-  unfolding takeSide takeFrom
-  side-27 own h m other e = go (firstFull (s .count) 0 (side A s m)) refl e
-    where
-      go : (c : Found) → firstFull (s .count) 0 (side A s m) ≡ c → elim c [ nowhere ↦ other | found p x ↦ takeFrom A ex last own s h p x ] ≡ refused 27 →
-          (firstFull (s .count) 0 (side A s m) ≡ nowhere) × (other ≡ refused 27)
-      go nowhere q e = (q, e)
-      go (found p x) q e = absurd (omega (arith, put-refused A ex last own (withoutFirst A ex last s p x) (lastOf h (chainOf (withoutFirst A ex last s p x .next) A h)) (s .block x) 27 e .0))
-
   -- 27 only where no free block is left
   pub take-27 : (own : Bool) (h : ℕ) → takeBlock A ex last own s h ≡ refused 27 → blocks A hd (s .count) 1 ≡ 0
-  unfolding takeBlock
-  take-27 true h e =
-      let a = side-27 true h 2 (takeSide A ex last true s h 1 (refused 27)) e in
-      let b = side-27 true h 1 (refused 27) (a .1) in no-block (b .0) (a .0)
-  take-27 false h e =
-      let a = side-27 false h 1 (takeSide A ex last false s h 2 (refused 27)) e in
-      let b = side-27 false h 2 (refused 27) (a .1) in no-block (a .0) (b .0)
+  unfolding takeFrom
+  take-27 own h e = go (firstFree A own s) refl
+    where
+      go : (c : Found) → firstFree A own s ≡ c → blocks A hd (s .count) 1 ≡ 0
+      go nowhere q = let n = firstFree-nowhere A own s q in no-block (n .0) (n .1)
+      go (found p x) q = absurd (omega (
+        arith,
+        put-refused A ex last own (withoutFirst A ex last s p x) (lastOf h (chainOf (withoutFirst A ex last s p x .next) A h)) (s .block x) 27 (sym (take-found A own s ex last h p x q) ∙ e) .0,
+      ))

@@ -2,22 +2,22 @@
 use Prim.Native.Nat.{ℕ, zero, suc, _+_, _-_, _≤_, _<_}
 use mathlib.Core.Path.{_≡_, refl, sym, _∙_}
 use mathlib.Core.Logic.{_≢_, _⊎_, inl, inr, _↔_}
-use mathlib.Core.Bool.{Bool, true, false, not, _&&_, true≢false}
+use mathlib.Core.Bool.{Bool, true, true≢false}
 use mathlib.Core.List.{List, [], _∷_, _++_}
 use native.Mathlib.Omega.{arith}
-use lib.Dec.{T, eqb, eqb→eq}
+use lib.Dec.{T}
 use Rattle.rules.specs.Counting.{sumList, lastOf}
 use Rattle.rules.specs.Anodes.{Anodes}
 use Rattle.rules.specs.Chains.{chainOf, side}
-use Rattle.rules.specs.Space.{Plan, refused, planned, rewritten, Found, nowhere, found, firstFull, lastFull, free, lowestFree, append, growOrAppend, put, withoutFirst, takeFrom, takeSide, takeBlock, withoutLast, sideOf, joinBefore, joinAfter, joinFilling, join, release, giveFrom, giveBack, after, takeMany, giveMany}
-use Rattle.laws.specs.Tests.{same?, cond-cases, eq→eqb, eqb-true, eqb-false}
+use Rattle.rules.specs.Space.{Plan, refused, planned, rewritten, Found, nowhere, found, lastFull, free, lowestFree, append, put, withoutFirst, takeFrom, takeBlock, withoutLast, sideOf, join, release, giveFrom, giveBack, after, takeMany, giveMany}
 use Rattle.laws.specs.Sums.{oneAt-same, oneAt-other}
 use Rattle.laws.specs.Bags.{list-nil, list-cons}
+use Rattle.laws.specs.LinkChanges.{first, second, third}
 use Rattle.laws.specs.Heads.{Head}
 use Rattle.laws.specs.Blocks.{blocks, blocks-chain}
 use Rattle.laws.specs.Space.{Good}
 use Rattle.laws.specs.Searches.{nowhere≢found}
-use Rattle.laws.specs.Arriving.{append-cases}
+use Rattle.laws.specs.Arriving.{fills, ends, starts, behind, append-cases, put-cases, join-cases}
 use Rattle.laws.specs.Take.{withoutFirst-out}
 use Rattle.laws.specs.Refusals.{refused-same, planned≢refused, append-refused, put-refused, take-27}
 use Rattle.laws.specs.Give.{give-good}
@@ -59,21 +59,14 @@ module _ (A : ℕ) (ex : ℕ → Bool) (last : ℕ) where
 
   -- ---- take
 
-  takeSide-refused : (own : Bool) (s : Anodes) (h m k : ℕ) (other : Plan) → (other ≡ refused k → (k ≡ 27) ⊎ (k ≡ 28)) →
-      takeSide A ex last own s h m other ≡ refused k → (k ≡ 27) ⊎ (k ≡ 28)
-  unfolding takeSide takeFrom
-  takeSide-refused own s h m k other r e = go (firstFull (s .count) 0 (side A s m)) e
-    where
-      go : (c : Found) → elim c [ nowhere ↦ other | found p x ↦ takeFrom A ex last own s h p x ] ≡ refused k → (k ≡ 27) ⊎ (k ≡ 28)
-      go nowhere e = r e
-      go (found p x) e = inr (put-refused A ex last own (withoutFirst A ex last s p x) (lastOf h (chainOf (withoutFirst A ex last s p x .next) A h)) (s .block x) k e .0)
-
   pub take-refused : (own : Bool) (s : Anodes) (h k : ℕ) → takeBlock A ex last own s h ≡ refused k → (k ≡ 27) ⊎ (k ≡ 28)
-  unfolding takeBlock
-  take-refused true s h k e = takeSide-refused true s h 2 k (takeSide A ex last true s h 1 (refused 27))
-      (takeSide-refused true s h 1 k (refused 27) (λ q. inl (refused-same k 27 (sym q)))) e
-  take-refused false s h k e = takeSide-refused false s h 1 k (takeSide A ex last false s h 2 (refused 27))
-      (takeSide-refused false s h 2 k (refused 27) (λ q. inl (refused-same k 27 (sym q)))) e
+  unfolding takeFrom
+  take-refused own s h k e = go (firstFree A own s) refl
+    where
+      go : (c : Found) → firstFree A own s ≡ c → (k ≡ 27) ⊎ (k ≡ 28)
+      go nowhere q = inl (refused-same k 27 (sym e ∙ take-nowhere A own s ex last h q))
+      go (found p x) q = inr (put-refused A ex last own (withoutFirst A ex last s p x) (lastOf h (chainOf (withoutFirst A ex last s p x .next) A h)) (s .block x) k
+          (sym (take-found A own s ex last h p x q) ∙ e) .0)
 
   pub takes-refused : (own : Bool) (i : ℕ) (s : Anodes) (h k : ℕ) → takeMany A ex last own i s h ≡ refused k → (k ≡ 27) ⊎ (k ≡ 28)
   unfolding takeMany
@@ -88,24 +81,12 @@ module _ (A : ℕ) (ex : ℕ → Bool) (last : ℕ) where
   -- ---- give
 
   join-refused : (s : Anodes) (z y k : ℕ) → join A ex last s z y ≡ refused k → (k ≡ 28) × JoinsNone s z y × NoneFree A ex last s
-  unfolding join joinFilling joinAfter joinBefore
-  join-refused s z y k e = elim (cond-cases (eqb z 1) (append A ex last s z y) (joinFilling A ex last s z y)) [
-    | inl c ↦ appended (inl (eqb→eq z 1 (c .0))) (sym (c .1) ∙ e)
-    | inr c ↦ elim (cond-cases (eqb (s .count z) 0) (planned (rewritten s z 1 y) (y ∷ [])) (joinAfter A ex last s z y)) [
-      | inl d ↦ absurd (planned≢refused (rewritten s z 1 y) (y ∷ []) k (sym (d .1) ∙ sym (c .1) ∙ e))
-      | inr d ↦ elim (cond-cases (eqb (s .block z + s .count z) y) (planned (rewritten s z (s .count z + 1) (s .block z)) (y ∷ [])) (joinBefore A ex last s z y)) [
-        | inl f ↦ absurd (planned≢refused (rewritten s z (s .count z + 1) (s .block z)) (y ∷ []) k (sym (f .1) ∙ sym (d .1) ∙ sym (c .1) ∙ e))
-        | inr f ↦ elim (cond-cases (eqb (y + 1) (s .block z)) (planned (rewritten s z (s .count z + 1) y) (y ∷ [])) (append A ex last s z y)) [
-          | inl i ↦ absurd (planned≢refused (rewritten s z (s .count z + 1) y) (y ∷ []) k (sym (i .1) ∙ sym (f .1) ∙ sym (d .1) ∙ sym (c .1) ∙ e))
-          | inr i ↦ appended (inr (λ q. d .0 (eq→eqb (s .count z) 0 q), λ q. f .0 (eq→eqb (s .block z + s .count z) y q), λ q. i .0 (eq→eqb (y + 1) (s .block z) q)))
-              (sym (i .1) ∙ sym (f .1) ∙ sym (d .1) ∙ sym (c .1) ∙ e)
-        ]
-      ]
-    ]
+  join-refused s z y k e = elim (join-cases A ex last s z y) [
+    | fills c ↦ absurd (planned≢refused (rewritten s z 1 y) (y ∷ []) k (sym (c .2) ∙ e))
+    | ends c ↦ absurd (planned≢refused (rewritten s z (s .count z + 1) (s .block z)) (y ∷ []) k (sym (c .3) ∙ e))
+    | starts c ↦ absurd (planned≢refused (rewritten s z (s .count z + 1) y) (y ∷ []) k (sym (c .3) ∙ e))
+    | behind c ↦ (let r = append-refused A ex last s z y k (sym (c .1) ∙ e) in (r .0, c .0, r .1))
   ]
-    where
-      appended : JoinsNone s z y → append A ex last s z y ≡ refused k → (k ≡ 28) × JoinsNone s z y × NoneFree A ex last s
-      appended n q = let r = append-refused A ex last s z y k q in (r .0, n, r .1)
 
 module _ {A : ℕ} {ex : ℕ → Bool} {n last : ℕ} where
   -- a head with a block has a last anode with one
@@ -149,35 +130,29 @@ module _ (A : ℕ) (ex : ℕ → Bool) (last : ℕ) (s : Anodes) (z y : ℕ) whe
   none-append none = elim (append-cases A ex last s z y) [ inl c ↦ absurd (none (lowestFree A ex last s) (c .0) (c .1)) | inr c ↦ c .0 ]
 
   put-28 : (own : Bool) → (put A ex last own s z y ≡ refused 28) ↔ (NeedsAnode own s z y × NoneFree A ex last s)
-  unfolding put growOrAppend
   put-28 own = (
-    λ e. elim (cond-cases (eqb (s .count z) 0) (planned (rewritten s z 1 y) (y ∷ [])) (growOrAppend A ex last own s z y)) [
-      | inl c ↦ absurd (planned≢refused (rewritten s z 1 y) (y ∷ []) 28 (sym (c .1) ∙ e))
-      | inr c ↦ elim (cond-cases (not own && eqb (s .block z + s .count z) y) (planned (rewritten s z (s .count z + 1) (s .block z)) (y ∷ [])) (append A ex last s z y)) [
-        | inl d ↦ absurd (planned≢refused (rewritten s z (s .count z + 1) (s .block z)) (y ∷ []) 28 (sym (d .1) ∙ sym (c .1) ∙ e))
-        | inr d ↦ ((λ q. c .0 (eq→eqb (s .count z) 0 q), apart own (d .0)), append-refused A ex last s z y 28 (sym (d .1) ∙ sym (c .1) ∙ e) .1)
-      ]
+    λ e. elim (put-cases A ex last own s z y) [
+      | first c ↦ absurd (planned≢refused (rewritten s z 1 y) (y ∷ []) 28 (sym (c .1) ∙ e))
+      | second c ↦ absurd (planned≢refused (rewritten s z (s .count z + 1) (s .block z)) (y ∷ []) 28 (sym (c .3) ∙ e))
+      | third c ↦ ((c .0, c .1), append-refused A ex last s z y 28 (sym (c .2) ∙ e) .1)
     ],
-    λ n. rw (eqb-false (s .count z) 0 (n .0 .0), shut own (n .0 .1)) (none-append (n .1)),
+    λ n. elim (put-cases A ex last own s z y) [
+      | first c ↦ absurd (n .0 .0 (c .0))
+      | second c ↦ absurd (elim (n .0 .1) [ inl i ↦ true≢false (sym i ∙ c .1) | inr i ↦ i (c .2) ])
+      | third c ↦ c .2 ∙ none-append (n .1)
+    ],
   )
-    where
-      apart : (b : Bool) → (T (not b && eqb (s .block z + s .count z) y) → ⊥) → (b ≡ true) ⊎ (s .block z + s .count z ≢ y)
-      apart true h = inl refl
-      apart false h = inr (λ q. h (eq→eqb (s .block z + s .count z) y q))
-
-      shut : (b : Bool) → (b ≡ true) ⊎ (s .block z + s .count z ≢ y) → (not b && eqb (s .block z + s .count z) y) ≡ false
-      shut true h = refl
-      shut false (inl e) = absurd (true≢false (sym e))
-      shut false (inr e) = eqb-false (s .block z + s .count z) y e
 
   join-28 : (join A ex last s z y ≡ refused 28) ↔ (JoinsNone s z y × NoneFree A ex last s)
-  unfolding join joinFilling joinAfter joinBefore
-  join-28 = (λ e. (let r = join-refused A ex last s z y 28 e in (r .1, r .2)), λ n. back (n .0) (same? z 1) (none-append (n .1)))
-    where
-      back : JoinsNone s z y → (z ≡ 1) ⊎ (z ≢ 1) → append A ex last s z y ≡ refused 28 → join A ex last s z y ≡ refused 28
-      back n (inl i) e = rw (eqb-true z 1 i) e
-      back (inl n) (inr i) e = absurd (i n)
-      back (inr n) (inr i) e = rw (eqb-false z 1 i, eqb-false (s .count z) 0 (n .0), eqb-false (s .block z + s .count z) y (n .1), eqb-false (y + 1) (s .block z) (n .2)) e
+  join-28 = (
+    λ e. (let r = join-refused A ex last s z y 28 e in (r .1, r .2)),
+    λ n. elim (join-cases A ex last s z y) [
+      | fills c ↦ absurd (elim (n .0) [ inl i ↦ c .0 i | inr i ↦ i .0 (c .1) ])
+      | ends c ↦ absurd (elim (n .0) [ inl i ↦ c .0 i | inr i ↦ i .1 (c .2) ])
+      | starts c ↦ absurd (elim (n .0) [ inl i ↦ c .0 i | inr i ↦ i .2 (c .2) ])
+      | behind c ↦ c .1 ∙ none-append (n .1)
+    ],
+  )
 
 module _ (A : ℕ) (ex : ℕ → Bool) (last : ℕ) (s : Anodes) (h p x : ℕ) where
   -- with a free block there, x after p the first extent that has one, a take is refused with 28 exactly if an anode is needed and none is free, the one just emptied counted
@@ -204,11 +179,3 @@ module _ {A : ℕ} {ex : ℕ → Bool} {n last : ℕ} {s : Anodes} {system hd sd
       go : (c : Found) → firstFree A own s ≡ c → blocks A hd (s .count) 1 ≡ 0 → takeBlock A ex last own s h ≡ refused 27
       go nowhere e z = take-nowhere A own s ex last h e
       go (found p x) e z = let f = firstFree-found A own s g p x e in absurd (omega (arith, z, withoutFirst-out g (f .0) (f .1) p x (f .2) .fewer 1, oneAt-same 1 1 refl))
-
-  -- and else it finds one
-  pub free-block : (own : Bool) → blocks A hd (s .count) 1 ≢ 0 → (p : ℕ) × (x : ℕ) × (firstFree A own s ≡ found p x)
-  free-block own some = go (firstFree A own s) refl
-    where
-      go : (c : Found) → firstFree A own s ≡ c → (p : ℕ) × (x : ℕ) × (firstFree A own s ≡ found p x)
-      go nowhere e = absurd (some (take-27 g own 0 (take-nowhere A own s ex last 0 e)))
-      go (found p x) e = (p, x, e)

@@ -8,24 +8,24 @@ use native.Mathlib.Omega.{arith}
 use Rattle.rules.specs.Counting.{oneAt, sumList, times, gather}
 use Rattle.rules.specs.Anodes.{limit, Anodes}
 use Rattle.rules.specs.Chains.{chainOf}
-use Rattle.rules.specs.Walk.{Dir, root, Entered, Item, itemOf, broken, itemsAt, itemsBy}
+use Rattle.rules.specs.Walk.{Dir, root, Entered, Item, itemOf, itemsAt, itemsBy}
 use Rattle.rules.specs.Space.{onChain, dropped}
 use Rattle.laws.specs.Tests.{same?, less?}
 use Rattle.laws.specs.Sums.{oneAt-same, oneAt-other, sum-none}
-use Rattle.laws.specs.Bags.{list-nil, list-cons, list-append, list-one, list-add, list-mono}
+use Rattle.laws.specs.Bags.{list-nil, list-cons, list-append, list-add, list-mono}
 use Rattle.laws.specs.Heads.{Head}
 use Rattle.laws.specs.Blocks.{blocks}
-use Rattle.laws.specs.LinkChanges.{without, without-cases}
+use Rattle.laws.specs.LinkChanges.{without, without-cases, without-other}
 use Rattle.laws.specs.HeadChanges.{drop-head-was}
 use Rattle.laws.specs.Space.{Alike, alike-trans, Good, on-chain, dead-head, head-dead, dead-along, drop-good}
-use Rattle.laws.specs.Frame.{kept-count, chain-kept}
-use Rattle.laws.specs.Each.{Each, each-map, each-both, each-right, list-congr-each, each-zero}
-use Rattle.laws.specs.Items.{wrong, weighItem, names-sum, below, namedIn, faults, subs-named}
+use Rattle.laws.specs.Frame.{kept-count, apart-alike, apart-chain}
+use Rattle.laws.specs.Each.{Each, each-both, each-right, each-zero}
+use Rattle.laws.specs.Items.{wrong, names-sum, below, namedIn, faults, subs-named}
 use Rattle.laws.specs.Trees.{Tree}
 use Rattle.laws.specs.TreeChanges.{headed, none-headed, Gain, sum-named, dir-there, remove-file, remove-dir, AlikeItems, alike-named, alike-tree}
-use Rattle.laws.specs.Entries.{weighEntry, broken-wrong, item-fine, fine-item, item-anode, item-dir, asEntry, weigh-item, entries-sum, items-sum, itemsAt-cases, itemsAt-whole, items-alike}
-use Rattle.laws.specs.Whole.{Whole, head-counts, counts-head, on-dir, dir-heads, named-heads}
-use Rattle.laws.specs.Make.{one-more}
+use Rattle.laws.specs.Entries.{weighEntry, broken-wrong, item-fine, fine-item, item-anode, item-dir, items-sum, itemsAt-fine, anodes-fine, items-alike}
+use Rattle.laws.specs.Whole.{Whole, head-counts, counts-head, dir-heads, named-heads}
+use Rattle.laws.specs.Make.{entry-gain}
 use Rattle.laws.specs.Resize.{Ran}
 
 each-less : (P : Dir → Type 0) (l₁ : List Dir) (d : Dir) (l₂ : List Dir) → Each P (l₁ ++ (d ∷ l₂)) → Each P (l₁ ++ l₂)
@@ -43,10 +43,8 @@ no-items entries marked s d z none = each (chainOf (s .next) limit (d .head)) (s
     each (a ∷ l) z none =
         let both = append-eq-nil-iff {p = entries (s .block a)} {q = gather (λ a. entries (s .block a)) l} .0 none in
         let right = list-cons (λ a. sumList wrong (itemsAt entries marked s d a)) a l in
-        elim (itemsAt-cases entries marked s d a) [
-          | inl k ↦ rw (k .2, both .0) (each l (omega arith) (both .1))
-          | inr k ↦ absurd (omega (arith, rw k at right, list-one wrong broken, broken-wrong))
-        ]
+        let k = itemsAt-fine entries marked s d wrong (λ q. omega (arith, q, broken-wrong)) a (omega arith) in
+        rw (k .2, both .0) (each l (omega arith) (both .1))
 
 -- ---- a chain goes
 
@@ -82,7 +80,7 @@ module _ {ex : ℕ → Bool} {n last : ℕ} {s : Anodes} {system hd : ℕ → �
   dropped-good = drop-good (ran .good) h h6 still none
 
   alive : (F : ℕ → ℕ) (a : ℕ) → hd′ a ≢ h → without dead F a ≡ F a
-  alive F a q = elim (without-cases dead F a) [ inl i ↦ absurd (q (dead-head (ran .good) h h6 still none a (i .0))) | inr i ↦ i .1 ]
+  alive F a q = without-other dead F a (λ i. q (dead-head (ran .good) h h6 still none a i))
 
   alike : (a : ℕ) → hd′ a ≢ h → Alike t left a
   unfolding dropped without
@@ -106,10 +104,10 @@ module _ {ex : ℕ → Bool} {n last : ℕ} {s : Anodes} {system hd : ℕ → �
 module _ {ex : ℕ → Bool} {n last : ℕ} {s t : Anodes} {system hd sd hd′ sd′ : ℕ → ℕ} (g : Good limit ex n last s system hd sd) (g′ : Good limit ex n last t system hd′ sd′)
     (h : ℕ) (gone : Gone s hd t h) (m : ℕ) (m1 : m ≢ 1) (mh : m ≢ h) (d : Head (s .next) (s .block) m) where
   pub gone-alike : (a : ℕ) → 0 < times a (chainOf (s .next) limit m) → Alike s t a
-  gone-alike a k = let o = on-chain g m d a k in gone .apart a (o .1) (λ i. m1 (sym (o .0) ∙ i)) (λ i. mh (sym (o .0) ∙ i))
+  gone-alike = apart-alike g (gone .apart) m d m1 mh
 
   pub gone-chain : chainOf (t .next) limit m ≡ chainOf (s .next) limit m
-  gone-chain = chain-kept g g′ m d (gone .stays m mh d) gone-alike
+  gone-chain = apart-chain g (gone .apart) m d m1 mh g′ (gone .stays m mh d)
 
 -- ---- the entry goes while the chain is still there
 
@@ -126,21 +124,8 @@ module _ {ex : ℕ → Bool} {n last : ℕ} {s : Anodes} {system hd sd : ℕ →
   abbrev between : Dir → List Item
   between = itemsBy entries′ marked s
 
-  at-a : (d : Dir) (u : ℕ → Bool → ℕ → ℕ) (a : ℕ) → hd a ≢ 1 → sumList wrong (itemsAt entries marked s d a) ≡ 0 →
-      sumList (weighItem u) (itemsAt entries marked s d a) ≡ sumList (weighItem u) (itemsAt entries′ marked s d a) + oneAt a a₀ * weighItem u (itemOf s e)
-  at-a d u a q z = elim (itemsAt-cases entries marked s d a) [
-    | inr k ↦ absurd (omega (arith, rw k at z, list-one wrong broken, broken-wrong))
-    | inl k ↦ rw (k .2, itemsAt-whole entries′ marked s d a (k .0) (k .1)) (entries-sum s u (entries (s .block a)) ∙ cont a (k .0) q (asEntry s u)
-        ∙ omega (arith, entries-sum s u (entries′ (s .block a)), ap (λ (i : ℕ). oneAt a a₀ * i) (weigh-item s u e)))
-  ]
-
   gain : (d : Dir) → Head (s .next) (s .block) (d .head) × (d .head ≢ 1) → faults items d ≡ 0 → Gain between items h₀ (itemOf s e) d
-  gain d p z u =
-      items-sum entries marked s d (weighItem u)
-      ∙ one-more (λ a. sumList wrong (itemsAt entries marked s d a)) (λ a. sumList (weighItem u) (itemsAt entries′ marked s d a)) (λ a. sumList (weighItem u) (itemsAt entries marked s d a))
-      a₀ (weighItem u (itemOf s e)) (chainOf (s .next) limit (d .head)) (sym (items-sum entries marked s d wrong) ∙ z)
-      (λ a k q. at-a d u a (λ i. p .1 (sym (on-chain (w .good) (d .head) (p .0) a k .0) ∙ i)) q)
-      ∙ omega (arith, items-sum entries′ marked s d (weighItem u), ap (λ (k : ℕ). k * weighItem u (itemOf s e)) (on-dir (w .good) a₀ h₀ at₀ (d .head) (p .0)))
+  gain d p z = entry-gain (w .good) e a₀ h₀ at₀ entries′ entries marked marked cont d p (λ a k q. let c = anodes-fine entries marked s d z a k in (c .0, c .1, c .1))
 
   gains : Each (Gain between items h₀ (itemOf s e)) dirs
   gains = each-both (λ d. Head (s .next) (s .block) (d .head) × (d .head ≢ 1)) (λ d. faults items d ≡ 0) (Gain between items h₀ (itemOf s e)) dirs
@@ -248,12 +233,6 @@ module _ {ex : ℕ → Bool} {n last : ℕ} {s : Anodes} {system hd sd : ℕ →
     gone : Gone s hd end h
     gone = dropped-gone h (head-h .0) (head-h .2) ran
 
-    same-chain : (m : ℕ) → m ≢ 1 → m ≢ h → Head (s .next) (s .block) m → chainOf (end .next) limit m ≡ chainOf (s .next) limit m
-    same-chain = gone-chain (w .good) good h gone
-
-    like-a : (m : ℕ) → m ≢ 1 → m ≢ h → Head (s .next) (s .block) m → (a : ℕ) → 0 < times a (chainOf (s .next) limit m) → Alike s end a
-    like-a = gone-alike (w .good) good h gone
-
     -- what is wrong, or names h
     guard : Item → ℕ
     guard i = wrong i + oneAt (i .anode) h
@@ -270,14 +249,14 @@ module _ {ex : ℕ → Bool} {n last : ℕ} {s : Anodes} {system hd sd : ℕ →
           fine-item end j (f .0) (f .1) (head-counts good (j .anode) (gone .stays (j .anode) jh d))
               (elim (f .3) [
                 | inl q ↦ inl q
-                | inr q ↦ inr (kept-count s end (j .anode) (same-chain (j .anode) j1 jh d) (λ a k. like-a (j .anode) j1 jh d a k .same-count) ∙ q)
+                | inr q ↦ inr (kept-count s end (j .anode) (gone-chain (w .good) good h gone (j .anode) j1 jh d) (λ a k. gone-alike (w .good) good h gone (j .anode) j1 jh d a k .same-count) ∙ q)
               ]),
         )
 
     one : (d : Dir) → Head (s .next) (s .block) (d .head) × (d .head ≢ 1) → (faults between d ≡ 0) × (d .head ≢ h) × (namedIn between h d ≡ 0) → AlikeItems between items′ d
     unfolding guard
     one d p q = items-alike s end (λ j. j) guard (λ z. omega (arith, z, broken-wrong)) like entries′ entries′ marked marked′ d
-        (same-chain (d .head) (p .1) (q .1) (p .0)) (like-a (d .head) (p .1) (q .1) (p .0))
+        (gone-chain (w .good) good h gone (d .head) (p .1) (q .1) (p .0)) (gone-alike (w .good) good h gone (d .head) (p .1) (q .1) (p .0))
         (λ a k c. (sym (map-id (entries′ (s .block a))), same-marks a c (λ i. p .1 (sym (on-chain (w .good) (d .head) (p .0) a k .0) ∙ i)) d))
         (list-add wrong (λ i. oneAt (i .anode) h) (between d) ∙ omega (arith, q .0, q .2, names-sum h (between d)))
 
@@ -305,8 +284,7 @@ module _ {ex : ℕ → Bool} {n last : ℕ} {s : Anodes} {system hd sd : ℕ →
               named-less x,
               oneAt-other h x (λ i. k .0 (sym i)),
               rest .names x,
-              list-congr-each (namedIn items′ x) (namedIn between x) (rest .dirs′)
-                  (each-map (AlikeItems between items′) (λ d. namedIn items′ x d ≡ namedIn between x d) (rest .dirs′) (λ d i. alike-named between items′ d i x) alikes),
+              alike-named between items′ (rest .dirs′) alikes x,
             );
       },
       rest .heads,

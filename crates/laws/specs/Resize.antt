@@ -33,12 +33,21 @@ module _ (A : ℕ) (ex : ℕ → Bool) (n last : ℕ) where
     pub has : blocks A hd′ (t .count) h ≡ size
     pub passed : (m y : ℕ) → held A hd′ (t .count) (t .block) m y + oneAt from m * times y ys ≡ held A hd (s .count) (s .block) m y + oneAt to m * times y ys
 
-pub after-planned : (A : ℕ) (ex : ℕ → Bool) (last : ℕ) (ys : List ℕ) (p : Plan) (t : Anodes) (zs : List ℕ) → after A ex last ys p ≡ planned t zs → (xs : List ℕ) × (p ≡ planned t xs) × (zs ≡ ys ++ xs)
+-- a plan behind blocks that changed hands before
+after-planned : (A : ℕ) (ex : ℕ → Bool) (last : ℕ) (ys : List ℕ) (p : Plan) (t : Anodes) (zs : List ℕ) → after A ex last ys p ≡ planned t zs → (xs : List ℕ) × (p ≡ planned t xs) × (zs ≡ ys ++ xs)
 unfolding after
 after-planned A ex last ys (refused k) t zs e = absurd (refused≢planned k t zs e)
 after-planned A ex last ys (planned r xs) t zs e = let q = planned-same r t (ys ++ xs) zs e in (xs, rw (q .0), q .1)
 
+-- a step and the rest, both done
+pub step-done : (A : ℕ) (ex : ℕ → Bool) (last : ℕ) (step : Plan) (rest : Anodes → Plan) (t : Anodes) (zs : List ℕ) →
+    elim step [ refused i ↦ refused i | planned r ys ↦ after A ex last ys (rest r) ] ≡ planned t zs →
+    (r : Anodes) × (ys : List ℕ) × (xs : List ℕ) × (step ≡ planned r ys) × (rest r ≡ planned t xs) × (zs ≡ ys ++ xs)
+step-done A ex last (refused i) rest t zs e = absurd (refused≢planned i t zs e)
+step-done A ex last (planned r ys) rest t zs e = let f = after-planned A ex last ys (rest r) t zs e in (r, ys, f .0, refl, f .1, f .2)
+
 module _ {A : ℕ} {ex : ℕ → Bool} {n last : ℕ} where
+  -- no step at all
   ran-none : {s : Anodes} {system hd sd : ℕ → ℕ} → Good A ex n last s system hd sd → (from to h : ℕ) → Ran A ex n last s system hd from to h (blocks A hd (s .count) h) [] s
   ran-none {s} {system} {hd} {sd} g from to h = record {
     hd′ = hd;
@@ -64,6 +73,7 @@ module _ {A : ℕ} {ex : ℕ → Bool} {n last : ℕ} where
       all : (y : ℕ) → times y zs ≡ oneAt (w .block) y + times y xs
       all y = ap (times y) (e ∙ ap (λ (l : List ℕ). l ++ xs) (w .handed)) ∙ times-cons y (w .block) xs
 
+  -- k takes that are done
   pub grow-ran : (k h : ℕ) → h ≢ 1 → (own : Bool) (t : Anodes) (zs : List ℕ) (s : Anodes) (system hd sd : ℕ → ℕ) → Good A ex n last s system hd sd → Head (s .next) (s .block) h →
       takeMany A ex last own k s h ≡ planned t zs → Ran A ex n last s system hd 1 h h (blocks A hd (s .count) h + k) zs t
   unfolding takeMany
@@ -72,19 +82,13 @@ module _ {A : ℕ} {ex : ℕ → Bool} {n last : ℕ} where
     where
       plus : blocks A hd (s .count) h ≡ blocks A hd (s .count) h + 0
       plus = omega arith
-  grow-ran (suc k) h h1 own t zs s system hd sd g d e = go (takeBlock A ex last own s h) refl e (grow-ran k h h1 own t)
-    where
-      go : (p : Plan) → takeBlock A ex last own s h ≡ p → elim p [ refused i ↦ refused i | planned r ys ↦ after A ex last ys (takeMany A ex last own k r h) ] ≡ planned t zs →
-          ((zs : List ℕ) (s : Anodes) (system hd sd : ℕ → ℕ) → Good A ex n last s system hd sd → Head (s .next) (s .block) h → takeMany A ex last own k s h ≡ planned t zs →
-          Ran A ex n last s system hd 1 h h (blocks A hd (s .count) h + k) zs t) →
-          Ran A ex n last s system hd 1 h h (blocks A hd (s .count) h + suc k) zs t
-      go (refused i) q e rec = absurd (refused≢planned i t zs e)
-      go (planned r ys) q e rec =
-          let w = take-good g h d h1 own r ys q in
-          let f = after-planned A ex last ys (takeMany A ex last own k r h) t zs e in
-          let more : blocks A (w .hd′) (r .count) h + k ≡ blocks A hd (s .count) h + suc k = omega (arith, w .moved h, oneAt-same h h refl, oneAt-other 1 h (λ i. h1 (sym i))) in
-          ran-after w (take-shift g w) (rw more at (rec (f .0) r system (w .hd′) (w .sd′) (w .good) (moved-stays g w h d) (f .1))) (f .2)
+  grow-ran (suc k) h h1 own t zs s system hd sd g d e =
+      let (r, ys, xs, q, f, z) = step-done A ex last (takeBlock A ex last own s h) (λ r. takeMany A ex last own k r h) t zs e in
+      let w = take-good g h d h1 own r ys q in
+      let more : blocks A (w .hd′) (r .count) h + k ≡ blocks A hd (s .count) h + suc k = omega (arith, w .moved h, oneAt-same h h refl, oneAt-other 1 h (λ i. h1 (sym i))) in
+      ran-after w (take-shift g w) (rw more at (grow-ran k h h1 own t xs r system (w .hd′) (w .sd′) (w .good) (moved-stays g w h d) f)) z
 
+  -- k gives that are done
   pub shrink-ran : (k h : ℕ) → h ≢ 1 → (t : Anodes) (zs : List ℕ) (s : Anodes) (system hd sd : ℕ → ℕ) (size : ℕ) → blocks A hd (s .count) h ≡ size + k → Good A ex n last s system hd sd →
       Head (s .next) (s .block) h → giveMany A ex last k s h ≡ planned t zs → Ran A ex n last s system hd h 1 h size zs t
   unfolding giveMany
@@ -93,18 +97,11 @@ module _ {A : ℕ} {ex : ℕ → Bool} {n last : ℕ} where
     where
       plus : blocks A hd (s .count) h ≡ size
       plus = omega arith
-  shrink-ran (suc k) h h1 t zs s system hd sd size b g d e = go (giveBack A ex last s h) refl e (shrink-ran k h h1 t)
-    where
-      go : (p : Plan) → giveBack A ex last s h ≡ p → elim p [ refused i ↦ refused i | planned r ys ↦ after A ex last ys (giveMany A ex last k r h) ] ≡ planned t zs →
-          ((zs : List ℕ) (s : Anodes) (system hd sd : ℕ → ℕ) (size : ℕ) → blocks A hd (s .count) h ≡ size + k → Good A ex n last s system hd sd → Head (s .next) (s .block) h →
-          giveMany A ex last k s h ≡ planned t zs → Ran A ex n last s system hd h 1 h size zs t) →
-          Ran A ex n last s system hd h 1 h size zs t
-      go (refused i) q e rec = absurd (refused≢planned i t zs e)
-      go (planned r ys) q e rec =
-          let w = give-good g h d h1 r ys q in
-          let f = after-planned A ex last ys (giveMany A ex last k r h) t zs e in
-          ran-after w (give-shift g w)
-          (rec (f .0) r system (w .hd′) (w .sd′) size (omega (arith, b, w .moved h, oneAt-same h h refl, oneAt-other 1 h (λ i. h1 (sym i)))) (w .good) (moved-stays g w h d) (f .1)) (f .2)
+  shrink-ran (suc k) h h1 t zs s system hd sd size b g d e =
+      let (r, ys, xs, q, f, z) = step-done A ex last (giveBack A ex last s h) (λ r. giveMany A ex last k r h) t zs e in
+      let w = give-good g h d h1 r ys q in
+      ran-after w (give-shift g w)
+      (shrink-ran k h h1 t xs r system (w .hd′) (w .sd′) size (omega (arith, b, w .moved h, oneAt-same h h refl, oneAt-other 1 h (λ i. h1 (sym i)))) (w .good) (moved-stays g w h d) f) z
 
 -- a file resized leaves an accepted state: after the steps its chain has as many blocks as its entry's new size asks for
 pub resized : {ex : ℕ → Bool} {n last : ℕ} {s : Anodes} {system hd sd : ℕ → ℕ} {entries : ℕ → List Entered} {marked : Dir → ℕ → Bool} {dirs : List Dir} →

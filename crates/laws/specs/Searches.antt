@@ -19,6 +19,22 @@ pub record FoundIn (count next : ℕ → ℕ) (a : ℕ) (l : List ℕ) (p q x : 
 pub nowhere≢found : (q x : ℕ) → nowhere ≡ found q x → ⊥
 nowhere≢found q x e = let z : _≡_ {A = ℕ} 0 1 = cc in omega arith
 
+module _ (count next : ℕ → ℕ) (a p b : ℕ) (l : List ℕ) (q x : ℕ) where
+  -- found at the start of the walk
+  found-here : a ≡ b → 0 < count b → found p b ≡ found q x → FoundIn count next a (b ∷ l) p q x
+  found-here ab full same =
+      let bx : b ≡ x = cc in
+      let pq : p ≡ q = cc in
+      record { full = rw (← bx) full; on = omega (arith, times-cons x b l, oneAt-same b x bx); before = inl (sym bx ∙ sym ab, sym pq) }
+
+  -- or on the rest of it
+  found-later : FoundIn count next (next b) l b q x → FoundIn count next a (b ∷ l) p q x
+  found-later f = record {
+    full = f .full;
+    on = omega (arith, f .on, times-cons x b l);
+    before = inr (elim (f .before) [ inl d ↦ ap next (d .1) ∙ sym (d .0) | inr d ↦ d ]);
+  }
+
 -- ---- the first
 
 firstFull-skip : (count : ℕ → ℕ) (p x : ℕ) (l : List ℕ) → count x ≡ 0 → firstFull count p (x ∷ l) ≡ firstFull count x l
@@ -35,18 +51,8 @@ firstFull-found count next a z p [] s q x e = absurd (nowhere≢found q x e)
 firstFull-found count next a z p (b ∷ l) s q x e = go (count b) refl (firstFull-found count next (next b) z b l (s .2) q x)
   where
     go : (c : ℕ) → count b ≡ c → (firstFull count b l ≡ found q x → FoundIn count next (next b) l b q x) → FoundIn count next a (b ∷ l) p q x
-    go zero c r =
-        let f = r (sym (firstFull-skip count p b l c) ∙ e) in
-        record {
-          full = f .full;
-          on = omega (arith, f .on, times-cons x b l);
-          before = inr (elim (f .before) [ inl d ↦ ap next (d .1) ∙ sym (d .0) | inr d ↦ d ]);
-        }
-    go (suc k) c r =
-        let same : found p b ≡ found q x = sym (firstFull-stop count p b k l c) ∙ e in
-        let bx : b ≡ x = cc in
-        let pq : p ≡ q = cc in
-        record { full = rw (← bx) (omega arith); on = omega (arith, times-cons x b l, oneAt-same b x bx); before = inl (sym bx ∙ sym (s .0), sym pq) }
+    go zero c r = found-later count next a p b l q x (r (sym (firstFull-skip count p b l c) ∙ e))
+    go (suc k) c r = found-here count next a p b l q x (s .0) (omega arith) (sym (firstFull-stop count p b k l c) ∙ e)
 
 pub firstFull-none : (count : ℕ → ℕ) (p : ℕ) (l : List ℕ) → firstFull count p l ≡ nowhere → (x : ℕ) → 0 < times x l → count x ≡ 0
 firstFull-none count p [] e x c = absurd (omega (arith, c, times-nil x))
@@ -68,17 +74,12 @@ lastFull-found count next a z p (b ∷ l) s q x e = go (lastFull count b l) refl
   where
     go : (c : Found) → lastFull count b l ≡ c → elim c [ nowhere ↦ elim (count b) [ zero ↦ nowhere | suc k ↦ found p b ] | found q y ↦ found q y ] ≡ found q x →
         (lastFull count b l ≡ found q x → FoundIn count next (next b) l b q x) → FoundIn count next a (b ∷ l) p q x
-    go (found q′ y) f e r =
-        let t = r (f ∙ e) in
-        record { full = t .full; on = omega (arith, t .on, times-cons x b l); before = inr (elim (t .before) [ inl d ↦ ap next (d .1) ∙ sym (d .0) | inr d ↦ d ]) }
+    go (found q′ y) f e r = found-later count next a p b l q x (r (f ∙ e))
     go nowhere f e r = here (count b) refl e
       where
         here : (k : ℕ) → count b ≡ k → elim k [ zero ↦ nowhere | suc j ↦ found p b ] ≡ found q x → FoundIn count next a (b ∷ l) p q x
         here zero c e = absurd (nowhere≢found q x e)
-        here (suc k) c e =
-            let bx : b ≡ x = cc in
-            let pq : p ≡ q = cc in
-            record { full = rw (← bx) (omega arith); on = omega (arith, times-cons x b l, oneAt-same b x bx); before = inl (sym bx ∙ sym (s .0), sym pq) }
+        here (suc k) c e = found-here count next a p b l q x (s .0) (omega arith) e
 
 -- ---- the end of a list
 

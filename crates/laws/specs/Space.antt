@@ -14,7 +14,7 @@ use Rattle.laws.specs.Sums.{oneAt-cases, oneAt-same, changed-cases, chan
 use Rattle.laws.specs.Ownership.{covers-none, EachOnce, own-same, move}
 use Rattle.laws.specs.Links.{View, Linked}
 use Rattle.laws.specs.Heads.{Head, Heads, times-on-chain}
-use Rattle.laws.specs.LinkChanges.{first, second, third, insertAfter, insertAfter-cases, unlink, unlink-cases, without, without-cases, insert-view, insert-linked, unlink-view, unlink-linked, head-view, head-linked, drop-view, drop-linked, same-use, use-same, rewrite-view, rewrite-linked}
+use Rattle.laws.specs.LinkChanges.{first, second, third, insertAfter, insertAfter-cases, unlink, unlink-cases, without, without-cases, without-other, insert-view, insert-linked, unlink-view, unlink-linked, head-view, head-linked, drop-view, drop-linked, same-use, use-same, rewrite-view, rewrite-linked}
 use Rattle.laws.specs.HeadChanges.{insert-heads, unlink-heads, fresh-heads, drop-heads, rewrite-heads}
 use Rattle.laws.specs.Cut.{cut-cases, cut-other, cut-view, cut-linked, cut-insertAfter, cut-unlink, cut-drop}
 
@@ -97,6 +97,33 @@ module _ {A : ℕ} {ex : ℕ → Bool} {n last : ℕ} {s : Anodes} {system hd sd
       ];
     }
 
+  -- x becomes (c, b), and its side v
+  module _ (x c b : ℕ) where
+    -- above last reserved, and up to it, where x is
+    high-kept : (v : ℕ) → (v ≡ 1 → 0 < c → last < b) → (a : ℕ) → changed sd x v a ≡ 1 → 0 < changed (s .count) x c a → last < changed (s .block) x b a
+    high-kept v at-x a q = elim (changed-cases sd x v a) [
+      | inl e ↦ rw (e .0, changed-same (s .count) x c, changed-same (s .block) x b) (at-x (sym (e .1) ∙ q))
+      | inr e ↦ rw (changed-other (s .count) x c a (e .0), changed-other (s .block) x b a (e .0)) (g .high a (sym (e .1) ∙ q))
+    ]
+
+    low-kept : (v : ℕ) → (v ≡ 2 → 0 < c → b + c ≤ suc last) → (a : ℕ) → changed sd x v a ≡ 2 → 0 < changed (s .count) x c a → changed (s .block) x b a + changed (s .count) x c a ≤ suc last
+    low-kept v at-x a q = elim (changed-cases sd x v a) [
+      | inl e ↦ rw (e .0, changed-same (s .count) x c, changed-same (s .block) x b) (at-x (sym (e .1) ∙ q))
+      | inr e ↦ rw (changed-other (s .count) x c a (e .0), changed-other (s .block) x b a (e .0)) (g .low a (sym (e .1) ∙ q))
+    ]
+
+    -- where x is from 6 up, what is fixed of the anodes below stays
+    fixed : 6 ≤ x → (changed (s .count) x c 0 ≡ 0) × (changed (s .block) x b 0 ≡ 65535) × (changed (s .count) x c 1 ≡ 0) × (changed (s .block) x b 1 ≡ 65535)
+        × (changed (s .block) x b 2 ≢ 0) × (changed (s .block) x b 5 ≢ 0)
+    fixed x6 = (
+      changed-other (s .count) x c 0 (omega arith) ∙ g .count-0,
+      changed-other (s .block) x b 0 (omega arith) ∙ g .block-0,
+      changed-other (s .count) x c 1 (omega arith) ∙ g .count-1,
+      changed-other (s .block) x b 1 (omega arith) ∙ g .block-1,
+      rw (changed-other (s .block) x b 2 (omega arith)) (g .block-2),
+      rw (changed-other (s .block) x b 5 (omega arith)) (g .block-5),
+    )
+
   -- x, with no block and from 6 up, is unlinked after p and zeroed
   module _ (p x : ℕ) (px : s .next p ≡ x) (x6 : 6 ≤ x) (none : s .count x ≡ 0) where
     x0 : x ≢ 0
@@ -111,12 +138,12 @@ module _ {A : ℕ} {ex : ℕ → Bool} {n last : ℕ} {s : Anodes} {system hd sd
       free-none = λ a h. elim (changed-cases (s .count) x 0 a) [ inl e ↦ e .1 | inr e ↦ e .1 ∙ g .free-none a (sym (changed-other (s .block) x 0 a (e .0)) ∙ h) ];
       own = move A (s .count) (s .block) system n x (g .view .below x ux) 0 0 system
           (λ y. rw none (omega (arith, covers-none (s .block x) y, covers-none 0 y))) (λ q. absurd (omega arith)) (g .own);
-      count-0 = other-count 0 (omega arith) ∙ g .count-0;
-      block-0 = other-block 0 (omega arith) ∙ g .block-0;
-      count-1 = other-count 1 (omega arith) ∙ g .count-1;
-      block-1 = other-block 1 (omega arith) ∙ g .block-1;
-      block-2 = rw (other-block 2 (omega arith)) (g .block-2);
-      block-5 = rw (other-block 5 (omega arith)) (g .block-5);
+      count-0 = fixed x 0 0 x6 .0;
+      block-0 = fixed x 0 0 x6 .1;
+      count-1 = fixed x 0 0 x6 .2;
+      block-1 = fixed x 0 0 x6 .3;
+      block-2 = fixed x 0 0 x6 .4;
+      block-5 = fixed x 0 0 x6 .5;
       first-1 = first-of 1 (omega arith) (g .first-1);
       first-3 = first-of 3 (omega arith) (g .first-3);
       first-4 = first-of 4 (omega arith) (g .first-4);
@@ -124,24 +151,12 @@ module _ {A : ℕ} {ex : ℕ → Bool} {n last : ℕ} {s : Anodes} {system hd sd
       heads = unlink-heads (g .view) (g .linked) hd (g .heads) p x x0 px;
       two-on = changed-other hd x 0 2 (omega arith) ∙ g .two-on;
       sides = rw (cut-unlink (s .next) p x) at (unlink-heads (cut-view (g .view)) (cut-linked (g .linked)) sd (g .sides) p x x0 (cut-other (s .next) p (λ q. omega (arith, px, q)) ∙ px));
-      high = λ a q. elim (changed-cases sd x 0 a) [
-        | inl e ↦ absurd (omega (arith, q, e .1))
-        | inr e ↦ rw (other-count a (e .0), other-block a (e .0)) (g .high a (sym (e .1) ∙ q))
-      ];
-      low = λ a q. elim (changed-cases sd x 0 a) [
-        | inl e ↦ absurd (omega (arith, q, e .1))
-        | inr e ↦ rw (other-count a (e .0), other-block a (e .0)) (g .low a (sym (e .1) ∙ q))
-      ];
+      high = high-kept x 0 0 0 (λ q. absurd (omega (arith, q)));
+      low = low-kept x 0 0 0 (λ q. absurd (omega (arith, q)));
     }
       where
         ux : s .block x ≢ 0
         ux = rw px at (g .linked .closed p (λ z. x0 (sym px ∙ z)))
-
-        other-count : (a : ℕ) → a ≢ x → changed (s .count) x 0 a ≡ s .count a
-        other-count a h = changed-other (s .count) x 0 a h
-
-        other-block : (a : ℕ) → a ≢ x → changed (s .block) x 0 a ≡ s .block a
-        other-block a h = changed-other (s .block) x 0 a h
 
         first-of : (m : ℕ) → m ≢ 0 → ((q : ℕ) → s .next q ≢ m) → (q : ℕ) → unlink (s .next) p x q ≢ m
         first-of m m0 f q e = elim (unlink-cases (s .next) p x q) [
@@ -163,14 +178,14 @@ module _ {A : ℕ} {ex : ℕ → Bool} {n last : ℕ} {s : Anodes} {system hd sd
       view = insert-view (g .view) (g .linked) p f b p0 up f0 fresh fA b0;
       linked = insert-linked (g .view) (g .linked) p f b p0 up f0 fresh fA b0;
       exist = λ a h. elim (changed-cases (s .block) f b a) [ inl e ↦ rw (e .0) there | inr e ↦ g .exist a (rw (e .1) at h) ];
-      free-none = λ a h. elim (changed-cases (s .block) f b a) [ inl e ↦ absurd (b0 (sym (e .1) ∙ h)) | inr e ↦ other-count a (e .0) ∙ g .free-none a (sym (e .1) ∙ h) ];
+      free-none = λ a h. elim (changed-cases (s .block) f b a) [ inl e ↦ absurd (b0 (sym (e .1) ∙ h)) | inr e ↦ changed-other (s .count) f c a (e .0) ∙ g .free-none a (sym (e .1) ∙ h) ];
       own = move A (s .count) (s .block) system n f fA c b system′ (λ y. rw (g .free-none f fresh) (omega (arith, covers-none (s .block f) y, moved y))) fits (g .own);
-      count-0 = other-count 0 (omega arith) ∙ g .count-0;
-      block-0 = other-block 0 (omega arith) ∙ g .block-0;
-      count-1 = other-count 1 (omega arith) ∙ g .count-1;
-      block-1 = other-block 1 (omega arith) ∙ g .block-1;
-      block-2 = rw (other-block 2 (omega arith)) (g .block-2);
-      block-5 = rw (other-block 5 (omega arith)) (g .block-5);
+      count-0 = fixed f c b f6 .0;
+      block-0 = fixed f c b f6 .1;
+      count-1 = fixed f c b f6 .2;
+      block-1 = fixed f c b f6 .3;
+      block-2 = fixed f c b f6 .4;
+      block-5 = fixed f c b f6 .5;
       first-1 = first-of 1 (omega arith) (g .first-1);
       first-3 = first-of 3 (omega arith) (g .first-3);
       first-4 = first-of 4 (omega arith) (g .first-4);
@@ -178,22 +193,10 @@ module _ {A : ℕ} {ex : ℕ → Bool} {n last : ℕ} {s : Anodes} {system hd sd
       heads = insert-heads (g .view) (g .linked) hd (g .heads) p f b p0 up f0 fresh fA b0;
       two-on = changed-other hd f (hd p) 2 (omega arith) ∙ g .two-on;
       sides = rw (cut-insertAfter (s .next) p f (omega arith)) at (insert-heads (cut-view (g .view)) (cut-linked (g .linked)) sd (g .sides) p f b p0 up f0 fresh fA b0);
-      high = λ a q. elim (changed-cases sd f (sd p) a) [
-        | inl e ↦ rw (e .0, changed-same (s .count) f c, changed-same (s .block) f b) (is-high (sym (e .1) ∙ q))
-        | inr e ↦ rw (other-count a (e .0), other-block a (e .0)) (g .high a (sym (e .1) ∙ q))
-      ];
-      low = λ a q. elim (changed-cases sd f (sd p) a) [
-        | inl e ↦ rw (e .0, changed-same (s .count) f c, changed-same (s .block) f b) (is-low (sym (e .1) ∙ q))
-        | inr e ↦ rw (other-count a (e .0), other-block a (e .0)) (g .low a (sym (e .1) ∙ q))
-      ];
+      high = high-kept f c b (sd p) is-high;
+      low = low-kept f c b (sd p) is-low;
     }
       where
-        other-count : (a : ℕ) → a ≢ f → changed (s .count) f c a ≡ s .count a
-        other-count a h = changed-other (s .count) f c a h
-
-        other-block : (a : ℕ) → a ≢ f → changed (s .block) f b a ≡ s .block a
-        other-block a h = changed-other (s .block) f b a h
-
         first-of : (m : ℕ) → m < 6 → ((q : ℕ) → s .next q ≢ m) → (q : ℕ) → insertAfter (s .next) p f q ≢ m
         first-of m l t q e = elim (insertAfter-cases (s .next) p f q) [
           | first d ↦ omega (arith, d .1, e)
@@ -209,14 +212,14 @@ module _ {A : ℕ} {ex : ℕ → Bool} {n last : ℕ} {s : Anodes} {system hd sd
       view = head-view (g .view) (g .linked) f b (omega arith) fresh fA b0;
       linked = head-linked (g .view) (g .linked) f b (omega arith) fresh fA b0;
       exist = λ a h. elim (changed-cases (s .block) f b a) [ inl e ↦ rw (e .0) there | inr e ↦ g .exist a (rw (e .1) at h) ];
-      free-none = λ a h. elim (changed-cases (s .count) f 0 a) [ inl e ↦ e .1 | inr e ↦ e .1 ∙ g .free-none a (sym (other-block a (e .0)) ∙ h) ];
+      free-none = λ a h. elim (changed-cases (s .count) f 0 a) [ inl e ↦ e .1 | inr e ↦ e .1 ∙ g .free-none a (sym (changed-other (s .block) f b a (e .0)) ∙ h) ];
       own = move A (s .count) (s .block) system n f fA 0 b system (λ y. rw (g .free-none f fresh) (omega (arith, covers-none (s .block f) y, covers-none b y))) (λ q. absurd (omega arith)) (g .own);
-      count-0 = other-count 0 (omega arith) ∙ g .count-0;
-      block-0 = other-block 0 (omega arith) ∙ g .block-0;
-      count-1 = other-count 1 (omega arith) ∙ g .count-1;
-      block-1 = other-block 1 (omega arith) ∙ g .block-1;
-      block-2 = rw (other-block 2 (omega arith)) (g .block-2);
-      block-5 = rw (other-block 5 (omega arith)) (g .block-5);
+      count-0 = fixed f 0 b f6 .0;
+      block-0 = fixed f 0 b f6 .1;
+      count-1 = fixed f 0 b f6 .2;
+      block-1 = fixed f 0 b f6 .3;
+      block-2 = fixed f 0 b f6 .4;
+      block-5 = fixed f 0 b f6 .5;
       first-1 = g .first-1;
       first-3 = g .first-3;
       first-4 = g .first-4;
@@ -224,21 +227,9 @@ module _ {A : ℕ} {ex : ℕ → Bool} {n last : ℕ} {s : Anodes} {system hd sd
       heads = fresh-heads (g .view) (g .linked) hd (g .heads) f b (omega arith) fresh fA b0;
       two-on = changed-other hd f f 2 (omega arith) ∙ g .two-on;
       sides = fresh-heads (cut-view (g .view)) (cut-linked (g .linked)) sd (g .sides) f b (omega arith) fresh fA b0;
-      high = λ a q. elim (changed-cases sd f f a) [
-        | inl e ↦ absurd (omega (arith, q, e .1))
-        | inr e ↦ rw (other-count a (e .0), other-block a (e .0)) (g .high a (sym (e .1) ∙ q))
-      ];
-      low = λ a q. elim (changed-cases sd f f a) [
-        | inl e ↦ absurd (omega (arith, q, e .1))
-        | inr e ↦ rw (other-count a (e .0), other-block a (e .0)) (g .low a (sym (e .1) ∙ q))
-      ];
+      high = high-kept f 0 b f (λ q. absurd (omega (arith, q, f6)));
+      low = low-kept f 0 b f (λ q. absurd (omega (arith, q, f6)));
     }
-      where
-        other-count : (a : ℕ) → a ≢ f → changed (s .count) f 0 a ≡ s .count a
-        other-count a h = changed-other (s .count) f 0 a h
-
-        other-block : (a : ℕ) → a ≢ f → changed (s .block) f b a ≡ s .block a
-        other-block a h = changed-other (s .block) f b a h
 
   -- what stands on the chain of a head has it for head and is in use
   pub on-chain : (m : ℕ) → Head (s .next) (s .block) m → (a : ℕ) → 0 < times a (chainOf (s .next) A m) → (hd a ≡ m) × (s .block a ≢ 0)
@@ -273,41 +264,38 @@ module _ {A : ℕ} {ex : ℕ → Bool} {n last : ℕ} {s : Anodes} {system hd sd
       exist = λ a q. elim (without-cases dead (s .block) a) [ inl e ↦ absurd (q (e .1)) | inr e ↦ g .exist a (rw (e .1) at q) ];
       free-none = λ a q. elim (without-cases dead (s .count) a) [
         | inl e ↦ e .1
-        | inr e ↦ e .1 ∙ g .free-none a (sym (alive (s .block) a (e .0)) ∙ q)
+        | inr e ↦ e .1 ∙ g .free-none a (sym (without-other dead (s .block) a (e .0)) ∙ q)
       ];
       own = own-same A (s .count) (s .block) (without dead (s .count)) (without dead (s .block)) system n covered
           (λ a l. elim (without-cases dead (s .count) a) [
             | inl e ↦ rw (e .1) (λ q. absurd (omega arith))
-            | inr e ↦ rw (e .1, alive (s .block) a (e .0)) (g .own .fits a l)
+            | inr e ↦ rw (e .1, without-other dead (s .block) a (e .0)) (g .own .fits a l)
           ]) (g .own);
-      count-0 = alive (s .count) 0 dead-0 ∙ g .count-0;
-      block-0 = alive (s .block) 0 dead-0 ∙ g .block-0;
-      count-1 = alive (s .count) 1 dead-1 ∙ g .count-1;
-      block-1 = alive (s .block) 1 dead-1 ∙ g .block-1;
-      block-2 = rw (alive (s .block) 2 dead-2) (g .block-2);
-      block-5 = rw (alive (s .block) 5 dead-5) (g .block-5);
+      count-0 = without-other dead (s .count) 0 dead-0 ∙ g .count-0;
+      block-0 = without-other dead (s .block) 0 dead-0 ∙ g .block-0;
+      count-1 = without-other dead (s .count) 1 dead-1 ∙ g .count-1;
+      block-1 = without-other dead (s .block) 1 dead-1 ∙ g .block-1;
+      block-2 = rw (without-other dead (s .block) 2 dead-2) (g .block-2);
+      block-5 = rw (without-other dead (s .block) 5 dead-5) (g .block-5);
       first-1 = first-of 1 (omega arith) (g .first-1);
       first-3 = first-of 3 (omega arith) (g .first-3);
       first-4 = first-of 4 (omega arith) (g .first-4);
       first-5 = first-of 5 (omega arith) (g .first-5);
       heads = drop-heads (g .view) (g .linked) hd (g .heads) dead dead-along;
-      two-on = alive hd 2 dead-2 ∙ g .two-on;
+      two-on = without-other dead hd 2 dead-2 ∙ g .two-on;
       sides = rw (cut-drop (s .next) dead) at (drop-heads (cut-view (g .view)) (cut-linked (g .linked)) sd (g .sides) dead cut-along);
       high = λ a q. elim (without-cases dead sd a) [
         | inl e ↦ absurd (omega (arith, q, e .1))
-        | inr e ↦ rw (alive (s .count) a (e .0), alive (s .block) a (e .0)) (g .high a (sym (e .1) ∙ q))
+        | inr e ↦ rw (without-other dead (s .count) a (e .0), without-other dead (s .block) a (e .0)) (g .high a (sym (e .1) ∙ q))
       ];
       low = λ a q. elim (without-cases dead sd a) [
         | inl e ↦ absurd (omega (arith, q, e .1))
-        | inr e ↦ rw (alive (s .count) a (e .0), alive (s .block) a (e .0)) (g .low a (sym (e .1) ∙ q))
+        | inr e ↦ rw (without-other dead (s .count) a (e .0), without-other dead (s .block) a (e .0)) (g .low a (sym (e .1) ∙ q))
       ];
     }
       where
         cut-along : (a : ℕ) → cut (s .next) a ≢ 0 → dead (cut (s .next) a) ≡ dead a
         cut-along a q = elim (cut-cases (s .next) a) [ inl c ↦ absurd (q (c .1)) | inr c ↦ rw (c .1) (dead-along a (rw (c .1) at q)) ]
-
-        alive : (F : ℕ → ℕ) (a : ℕ) → (T (dead a) → ⊥) → without dead F a ≡ F a
-        alive F a q = elim (without-cases dead F a) [ inl e ↦ absurd (q (e .0)) | inr e ↦ e .1 ]
 
         live : (a m : ℕ) → hd a ≡ m → m < 6 → T (dead a) → ⊥
         live a m e l t = omega (arith, dead-head a t)
@@ -327,7 +315,7 @@ module _ {A : ℕ} {ex : ℕ → Bool} {n last : ℕ} {s : Anodes} {system hd sd
         covered : (a y : ℕ) → covers (without dead (s .count) a) (without dead (s .block) a) y ≡ covers (s .count a) (s .block a) y
         covered a y = elim (without-cases dead (s .count) a) [
           | inl e ↦ rw (e .1, none a (dead-head a (e .0))) (covers-none (without dead (s .block) a) y ∙ sym (covers-none (s .block a) y))
-          | inr e ↦ rw (e .1, alive (s .block) a (e .0))
+          | inr e ↦ rw (e .1, without-other dead (s .block) a (e .0))
         ]
 
         first-of : (m : ℕ) → m ≢ 0 → ((q : ℕ) → s .next q ≢ m) → (q : ℕ) → without dead (s .next) q ≢ m

@@ -19,6 +19,10 @@ oneAt-same a b e = elim (oneAt-cases a b) [ inl h ↦ h .1 | inr h ↦ absurd (h
 pub oneAt-other : (a b : ℕ) → a ≢ b → oneAt a b ≡ 0
 oneAt-other a b e = elim (oneAt-cases a b) [ inl h ↦ absurd (e (h .0)) | inr h ↦ h .1 ]
 
+-- where it is not 0, the two are the same
+pub oneAt-some : (a b : ℕ) → 0 < oneAt a b → a ≡ b
+oneAt-some a b p = elim (oneAt-cases a b) [ inl h ↦ h .0 | inr h ↦ absurd (omega arith) ]
+
 pub oneAt-le : (a b : ℕ) → oneAt a b ≤ 1
 oneAt-le a b = elim (oneAt-cases a b) [ inl h ↦ omega arith | inr h ↦ omega arith ]
 

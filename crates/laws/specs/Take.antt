@@ -2,25 +2,26 @@
 use Prim.Native.Nat.{ℕ, _+_, _-_, _≤_, _<_}
 use mathlib.Core.Path.{_≡_, refl, sym, ap, _∙_}
 use mathlib.Core.Logic.{_≢_, _⊎_, inl, inr}
-use mathlib.Core.Bool.{Bool, true, false, not, _&&_}
+use mathlib.Core.Bool.{Bool}
 use mathlib.Core.List.{List, [], _∷_}
 use native.Mathlib.Omega.{arith}
-use lib.Dec.{eqb, eqb→eq}
 use Rattle.rules.specs.Counting.{lastOf}
 use Rattle.rules.specs.Anodes.{Anodes}
 use Rattle.rules.specs.Chains.{chainOf, cut, side}
-use Rattle.rules.specs.Space.{Plan, refused, planned, rewritten, emptied, Found, nowhere, found, firstFull, append, growOrAppend, put, withoutFirst, takeFrom, takeSide, takeBlock}
-use Rattle.laws.specs.Tests.{same?, cond-cases, eq→eqb, eqb-true, eqb-false, both}
+use Rattle.rules.specs.Space.{planned, rewritten, emptied, Found, nowhere, found, put, withoutFirst, takeFrom, takeBlock}
+use Rattle.laws.specs.Tests.{same?, eqb-true, eqb-false}
 use Rattle.laws.specs.Ownership.{hand}
 use Rattle.laws.specs.Links.{the-chain}
+use Rattle.laws.specs.LinkChanges.{first, second, third}
 use Rattle.laws.specs.Heads.{Head, seg-head}
 use Rattle.laws.specs.Cut.{cut-cases}
 use Rattle.laws.specs.Space.{Good}
-use Rattle.laws.specs.Sides.{head-of-1, side-head, not-free, side-chain, side-sd}
-use Rattle.laws.specs.Searches.{FoundIn, firstFull-found, last-on}
+use Rattle.laws.specs.Sides.{head-of-1, side-head, not-free, side-sd}
+use Rattle.laws.specs.Searches.{FoundIn, last-on}
 use Rattle.laws.specs.Moves.{InHand, Placed, Moved, headed-used, moved-by}
-use Rattle.laws.specs.Leaving.{only-gone, first-gone, full-used, full-0, full-1, full-6, shrunk, unlinked-out}
-use Rattle.laws.specs.Arriving.{refused≢planned, filled, grown, placed-by, append-placed}
+use Rattle.laws.specs.Leaving.{only-gone, first-gone, full-used, full-inside, full-0, full-1, full-6, shrunk, unlinked-out}
+use Rattle.laws.specs.FirstFree.{firstFree, firstFree-found, take-nowhere, take-found}
+use Rattle.laws.specs.Arriving.{put-cases, refused≢planned, filled, grown, placed-by, append-placed}
 
 -- the last anode of a chain has its head
 pub last-head : {A : ℕ} {ex : ℕ → Bool} {n last : ℕ} {s : Anodes} {system hd sd : ℕ → ℕ} → Good A ex n last s system hd sd → (h : ℕ) → h ≢ 0 → hd h ≡ h → hd (lastOf h (chainOf (s .next) A h)) ≡ h
@@ -65,7 +66,7 @@ module _ {A : ℕ} {ex : ℕ → Bool} {n last : ℕ} {s : Anodes} (system : ℕ
   end = lastOf h (chainOf (s .next) A h)
 
   pub put-placed : (own : Bool) (t : Anodes) (ys : List ℕ) → put A ex last own s (lastOf h (chainOf (s .next) A h)) y ≡ planned t ys → Placed A ex n last s system hd h y t × (ys ≡ y ∷ [])
-  unfolding put growOrAppend end
+  unfolding end
   put-placed own t ys e = rw e-head at placed
     where
       e-head : hd end ≡ h
@@ -90,39 +91,57 @@ module _ {A : ℕ} {ex : ℕ → Bool} {n last : ℕ} {s : Anodes} (system : ℕ
       low q = absurd (off .1 q)
 
       placed : Placed A ex n last s system hd (hd end) y t × (ys ≡ y ∷ [])
-      placed = elim (cond-cases (eqb (s .count end) 0) (planned (rewritten s end 1 y) (y ∷ [])) (growOrAppend A ex last own s end y)) [
-        | inl c ↦ placed-by system y g y0 yn end e0 u high low (rewritten s end 1 y) t ys (sym (c .1) ∙ e) (filled system y g y0 yn end e0 u high low e1 (eqb→eq (s .count end) 0 (c .0)))
-        | inr c ↦ elim (cond-cases (not own && eqb (s .block end + s .count end) y) (planned (rewritten s end (s .count end + 1) (s .block end)) (y ∷ [])) (append A ex last s end y)) [
-          | inl d ↦ placed-by system y g y0 yn end e0 u high low (rewritten s end (s .count end + 1) (s .block end)) t ys (sym (d .1) ∙ sym (c .1) ∙ e)
-              (grown system y g y0 yn end e0 u high low e1 (λ q. c .0 (eq→eqb (s .count end) 0 q)) (eqb→eq (s .block end + s .count end) y (both (not own) (eqb (s .block end + s .count end) y) (d .0) .1)))
-          | inr d ↦ append-placed system y g y0 yn end e0 u high low t ys (sym (d .1) ∙ sym (c .1) ∙ e)
-        ]
+      placed = elim (put-cases A ex last own s end y) [
+        | first c ↦ placed-by system y g y0 yn end e0 u high low (rewritten s end 1 y) t ys (sym (c .1) ∙ e) (filled system y g y0 yn end e0 u high low e1 (c .0))
+        | second c ↦ placed-by system y g y0 yn end e0 u high low (rewritten s end (s .count end + 1) (s .block end)) t ys (sym (c .3) ∙ e) (grown system y g y0 yn end e0 u high low e1 (c .0) (c .2))
+        | third c ↦ append-placed system y g y0 yn end e0 u high low t ys (sym (c .2) ∙ e)
       ]
 
 -- ---- the whole
 
-module _ {A : ℕ} {ex : ℕ → Bool} {n last : ℕ} {s : Anodes} {system hd sd : ℕ → ℕ} (g : Good A ex n last s system hd sd) (h : ℕ) (d : Head (s .next) (s .block) h) (h1 : h ≢ 1) where
-  takeFrom-moves : (m : ℕ) → (m ≡ 1) ⊎ (m ≡ 2) → (own : Bool) (p x : ℕ) → FoundIn (s .count) (cut (s .next)) m (side A s m) 0 p x → (t : Anodes) (ys : List ℕ) →
-      takeFrom A ex last own s h p x ≡ planned t ys → Moved A ex n last s system hd 1 h ys t
+-- a take that is done: x after p is the first extent with a block on one of the two sides, its first block is out, and is put behind the last anode of the taker's chain
+pub record Takes (A : ℕ) (ex : ℕ → Bool) (n last : ℕ) (s : Anodes) (system hd : ℕ → ℕ) (own : Bool) (h : ℕ) (t : Anodes) (ys : List ℕ) : Type 0 where
+  pub m : ℕ
+  pub one-side : (m ≡ 1) ⊎ (m ≡ 2)
+  pub p : ℕ
+  pub x : ℕ
+  pub on : FoundIn (s .count) (cut (s .next)) m (side A s m) 0 p x
+  pub some : s .block x ≢ 0
+  pub inside : s .block x < n
+  pub out : InHand A ex n last s system hd 1 (s .block x) (withoutFirst A ex last s p x)
+  pub puts : put A ex last own (withoutFirst A ex last s p x) (lastOf h (chainOf (withoutFirst A ex last s p x .next) A h)) (s .block x) ≡ planned t ys
+
+module _ {A : ℕ} {ex : ℕ → Bool} {n last : ℕ} {s : Anodes} {system hd sd : ℕ → ℕ} (g : Good A ex n last s system hd sd) (h : ℕ) where
+  -- a take that is done has made these steps
+  pub take-steps : (own : Bool) (t : Anodes) (ys : List ℕ) → takeBlock A ex last own s h ≡ planned t ys → Takes A ex n last s system hd own h t ys
   unfolding takeFrom
-  takeFrom-moves m o own p x f t ys e =
-      let i = withoutFirst-out g m o p x f in
-      let u = full-used g x (f .full) in
-      let w = put-placed system (s .block x) (i .good) u (omega (arith, g .own .fits x (g .view .below x u) (f .full), f .full)) h (d .pos) h1 (i .heads-kept h d) own t ys e in
-      moved-by i (w .0) (w .1)
-
-  takeSide-moves : (m : ℕ) → (m ≡ 1) ⊎ (m ≡ 2) → (own : Bool) (other : Plan) → ((t : Anodes) (ys : List ℕ) → other ≡ planned t ys → Moved A ex n last s system hd 1 h ys t) →
-      (t : Anodes) (ys : List ℕ) → takeSide A ex last own s h m other ≡ planned t ys → Moved A ex n last s system hd 1 h ys t
-  unfolding takeSide
-  takeSide-moves m o own other r t ys e = go (firstFull (s .count) 0 (side A s m)) refl e
+  take-steps own t ys e = go (firstFree A own s) refl
     where
-      go : (c : Found) → firstFull (s .count) 0 (side A s m) ≡ c → elim c [ nowhere ↦ other | found p x ↦ takeFrom A ex last own s h p x ] ≡ planned t ys → Moved A ex n last s system hd 1 h ys t
-      go nowhere q e = r t ys e
-      go (found p x) q e = takeFrom-moves m o own p x (firstFull-found (s .count) (cut (s .next)) m 0 0 (side A s m) (side-chain g m o) p x q) t ys e
+      go : (c : Found) → firstFree A own s ≡ c → Takes A ex n last s system hd own h t ys
+      go nowhere q = absurd (refused≢planned 27 t ys (sym (take-nowhere A own s ex last h q) ∙ e))
+      go (found p x) q =
+          let (m, o, f) = firstFree-found A own s g p x q in
+          let u = full-used g x (f .full) in
+          record {
+            m = m;
+            one-side = o;
+            p = p;
+            x = x;
+            on = f;
+            some = u;
+            inside = omega (arith, full-inside g x (f .full), f .full);
+            out = withoutFirst-out g m o p x f;
+            puts = sym (take-found A own s ex last h p x q) ∙ e;
+          }
 
-  pub take-good : (own : Bool) (t : Anodes) (ys : List ℕ) → takeBlock A ex last own s h ≡ planned t ys → Moved A ex n last s system hd 1 h ys t
-  unfolding takeBlock
-  take-good true t ys e = takeSide-moves 2 (inr refl) true (takeSide A ex last true s h 1 (refused 27))
-      (takeSide-moves 1 (inl refl) true (refused 27) (λ t ys q. absurd (refused≢planned 27 t ys q))) t ys e
-  take-good false t ys e = takeSide-moves 1 (inl refl) false (takeSide A ex last false s h 2 (refused 27))
-      (takeSide-moves 2 (inr refl) false (refused 27) (λ t ys q. absurd (refused≢planned 27 t ys q))) t ys e
+  -- the block in hand has come to the chain of h
+  pub take-placed : Head (s .next) (s .block) h → h ≢ 1 → {own : Bool} {t : Anodes} {ys : List ℕ} → (k : Takes A ex n last s system hd own h t ys) →
+      Placed A ex n last (withoutFirst A ex last s (k .p) (k .x)) system (k .out .hd′) h (s .block (k .x)) t × (ys ≡ s .block (k .x) ∷ [])
+  take-placed d h1 {own} {t} {ys} k = put-placed system (s .block (k .x)) (k .out .good) (k .some) (k .inside) h (d .pos) h1 (k .out .heads-kept h d) own t ys (k .puts)
+
+  -- a take moves one block from the free list to the chain of h
+  pub take-good : Head (s .next) (s .block) h → h ≢ 1 → (own : Bool) (t : Anodes) (ys : List ℕ) → takeBlock A ex last own s h ≡ planned t ys → Moved A ex n last s system hd 1 h ys t
+  take-good d h1 own t ys e =
+      let k = take-steps own t ys e in
+      let w = take-placed d h1 k in
+      moved-by (k .out) (w .0) (w .1)

@@ -2,30 +2,27 @@
 use Prim.Native.Nat.{ℕ, zero, suc, _+_, _≤_, _<_}
 use mathlib.Core.Path.{_≡_, refl, sym, ap, _∙_}
 use mathlib.Core.Logic.{_≢_, inl, inr}
-use mathlib.Core.Bool.{Bool, not, _&&_}
+use mathlib.Core.Bool.{Bool}
 use mathlib.Core.List.{List, [], _∷_, _++_, append-nil, append-assoc}
 use native.Mathlib.Omega.{arith}
 use native.Mathlib.Numerals.{add-one}
-use lib.Dec.{eqb, eqb→eq}
 use lib.ListN.{length}
 use Rattle.rules.specs.Counting.{times, gather, lastOf}
 use Rattle.rules.specs.Anodes.{Anodes, limit}
 use Rattle.rules.specs.Chains.{chainOf, run, blocksOf}
-use Rattle.rules.specs.Space.{Plan, refused, planned, rewritten, insertedAfter, Found, nowhere, found, lowestFree, append, growOrAppend, put, takeFrom, takeBlock, after, takeMany}
-use Rattle.laws.specs.Tests.{cond-cases, both}
+use Rattle.rules.specs.Space.{planned, rewritten, insertedAfter, lowestFree, put, takeBlock, takeMany}
 use Rattle.laws.specs.Sums.{changed-same, changed-other}
 use Rattle.laws.specs.Segments.{Chain}
 use Rattle.laws.specs.Links.{the-chain, seg-used}
+use Rattle.laws.specs.LinkChanges.{first, second, third}
 use Rattle.laws.specs.Heads.{Head}
 use Rattle.laws.specs.Space.{Good}
-use Rattle.laws.specs.Moves.{InHand, headed-used}
-use Rattle.laws.specs.Leaving.{full-used}
-use Rattle.laws.specs.Arriving.{free-is, append-cases, refused≢planned, planned-same}
-use Rattle.laws.specs.Take.{last-head, withoutFirst-out, take-good}
+use Rattle.laws.specs.Moves.{InHand, headed-used, hand-stays}
+use Rattle.laws.specs.Arriving.{free-is, append-cases, put-cases, refused≢planned, planned-same}
+use Rattle.laws.specs.Take.{last-head, take-steps, take-good}
 use Rattle.laws.specs.Frame.{shift-of, moved-stays}
-use Rattle.laws.specs.Resize.{after-planned}
-use Rattle.laws.specs.ChainBlocks.{gather-append, extent, blocksOf-extents, self-headed, shift-blocks, gather-off, stands-once, inserted-chain}
-use Rattle.laws.specs.FirstFree.{firstFree, firstFree-found, take-nowhere, take-found}
+use Rattle.laws.specs.Resize.{step-done}
+use Rattle.laws.specs.ChainBlocks.{gather-append, extent, blocksOf-extents, shift-blocks, gather-off, stands-once, inserted-chain}
 
 -- one block more at the end of an extent
 pub run-end : (b c : ℕ) → run b (suc c) ≡ run b c ++ ((b + c) ∷ [])
@@ -49,7 +46,7 @@ last-split p x [] = ([], refl)
 last-split p x (y ∷ l) = let r = last-split x y l in (x ∷ r .0, ap (λ (k : List ℕ). x ∷ k) (r .1))
 
 -- a chain's last anode
-chain-end : (next : ℕ → ℕ) (h : ℕ) (l : List ℕ) → h ≢ 0 → Chain next h l → (pre : List ℕ) × (l ≡ pre ++ (lastOf h l ∷ []))
+pub chain-end : (next : ℕ → ℕ) (h : ℕ) (l : List ℕ) → h ≢ 0 → Chain next h l → (pre : List ℕ) × (l ≡ pre ++ (lastOf h l ∷ []))
 chain-end next h [] h0 c = absurd (h0 c)
 chain-end next h (x ∷ l) h0 c = last-split h x l
 
@@ -107,17 +104,14 @@ module _ {ex : ℕ → Bool} {n last : ℕ} {s : Anodes} {system hd sd : ℕ →
       ∙ ap (λ (k : List ℕ). k ++ (extent t f ++ [])) same ∙ ap (λ (k : List ℕ). gather (extent s) l ++ (k ++ [])) new ∙ ap (λ (k : List ℕ). k ++ (y ∷ [])) (sym (blocksOf-extents s h))
 
   put-blocks : (own : Bool) (t : Anodes) (ys : List ℕ) → put limit ex last own s (lastOf h (chainOf (s .next) limit h)) y ≡ planned t ys → blocksOf t h ≡ blocksOf s h ++ ys
-  unfolding put growOrAppend end
-  put-blocks own t ys e = elim (cond-cases (eqb (s .count end) 0) (planned (rewritten s end 1 y) (y ∷ [])) (growOrAppend limit ex last own s end y)) [
-    | inl c ↦ by (rewritten s end 1 y) (sym (c .1) ∙ e) (gained 1 y (extent-filled s end y (eqb→eq (s .count end) 0 (c .0))))
-    | inr c ↦ elim (cond-cases (not own && eqb (s .block end + s .count end) y) (planned (rewritten s end (s .count end + 1) (s .block end)) (y ∷ [])) (append limit ex last s end y)) [
-      | inl d ↦ by (rewritten s end (s .count end + 1) (s .block end)) (sym (d .1) ∙ sym (c .1) ∙ e)
-          (gained (s .count end + 1) (s .block end) (extent-longer s end y (eqb→eq (s .block end + s .count end) y (both (not own) (eqb (s .block end + s .count end) y) (d .0) .1))))
-      | inr d ↦ elim (append-cases limit ex last s end y) [
-        | inl f ↦ (let i = free-is limit ex last s (lowestFree limit ex last s) (f .1) in
-            by (insertedAfter s end (lowestFree limit ex last s) 1 y) (sym (f .2) ∙ sym (d .1) ∙ sym (c .1) ∙ e) (appended (lowestFree limit ex last s) (f .0) (i .0) (i .1)))
-        | inr f ↦ absurd (refused≢planned 28 t ys (sym (f .0) ∙ sym (d .1) ∙ sym (c .1) ∙ e))
-      ]
+  unfolding end
+  put-blocks own t ys e = elim (put-cases limit ex last own s end y) [
+    | first c ↦ by (rewritten s end 1 y) (sym (c .1) ∙ e) (gained 1 y (extent-filled s end y (c .0)))
+    | second c ↦ by (rewritten s end (s .count end + 1) (s .block end)) (sym (c .3) ∙ e) (gained (s .count end + 1) (s .block end) (extent-longer s end y (c .2)))
+    | third c ↦ elim (append-cases limit ex last s end y) [
+      | inl f ↦ (let i = free-is limit ex last s (lowestFree limit ex last s) (f .1) in
+          by (insertedAfter s end (lowestFree limit ex last s) 1 y) (sym (f .2) ∙ sym (c .2) ∙ e) (appended (lowestFree limit ex last s) (f .0) (i .0) (i .1)))
+      | inr f ↦ absurd (refused≢planned 28 t ys (sym (f .0) ∙ sym (c .2) ∙ e))
     ]
   ]
     where
@@ -129,36 +123,23 @@ module _ {ex : ℕ → Bool} {n last : ℕ} {s : Anodes} {system hd sd : ℕ →
 module _ {ex : ℕ → Bool} {n last : ℕ} {s : Anodes} {system hd sd : ℕ → ℕ} (g : Good limit ex n last s system hd sd) (h : ℕ) (d : Head (s .next) (s .block) h) (h1 : h ≢ 1) where
   -- the block out of the free list: the taker's chain has its blocks as before
   free-left : {y : ℕ} {r : Anodes} → InHand limit ex n last s system hd 1 y r → blocksOf r h ≡ blocksOf s h
-  free-left i = shift-blocks g (i .good) (shift-of g (i .good) 1 (λ m c. self-headed (i .good) m (c .pos) (i .heads-kept m c)) (i .no-new) (λ a u q j. i .apart a q)) h d h1 h1
+  free-left i = shift-blocks g (i .good) (shift-of g (i .good) 1 (hand-stays i) (i .no-new) (λ a u q j. i .apart a q)) h d h1 h1
 
+  -- a take puts its block behind the blocks of the taker's chain
   pub take-blocks : (own : Bool) (t : Anodes) (ys : List ℕ) → takeBlock limit ex last own s h ≡ planned t ys → blocksOf t h ≡ blocksOf s h ++ ys
-  unfolding takeFrom
-  take-blocks own t ys e = go (firstFree limit own s) refl
-    where
-      go : (c : Found) → firstFree limit own s ≡ c → blocksOf t h ≡ blocksOf s h ++ ys
-      go nowhere q = absurd (refused≢planned 27 t ys (sym (take-nowhere limit own s ex last h q) ∙ e))
-      go (found p x) q =
-          let f = firstFree-found limit own s g p x q in
-          let i = withoutFirst-out g (f .0) (f .1) p x (f .2) in
-          put-blocks (i .good) h (self-headed (i .good) h (d .pos) (i .heads-kept h d)) (s .block x) (full-used g x (f .2 .full)) own t ys (sym (take-found limit own s ex last h p x q) ∙ e)
-          ∙ ap (λ (l : List ℕ). l ++ ys) (free-left i)
+  take-blocks own t ys e =
+      let k = take-steps g h own t ys e in
+      put-blocks (k .out .good) h (hand-stays (k .out) h d) (s .block (k .x)) (k .some) own t ys (k .puts) ∙ ap (λ (l : List ℕ). l ++ ys) (free-left (k .out))
 
--- k takes, one after the other
+-- k takes, one after the other, put their blocks behind those of the taker's chain in order
 pub takes-blocks : {ex : ℕ → Bool} {n last : ℕ} (k h : ℕ) → h ≢ 1 → (own : Bool) (t : Anodes) (zs : List ℕ) (s : Anodes) (system hd sd : ℕ → ℕ) → Good limit ex n last s system hd sd →
     Head (s .next) (s .block) h → takeMany limit ex last own k s h ≡ planned t zs → (blocksOf t h ≡ blocksOf s h ++ zs) × (length zs ≡ k)
 unfolding takeMany
 takes-blocks zero h h1 own t zs s system hd sd g d e = let q = planned-same s t [] zs e in rw (← (q .0), q .1) (sym (append-nil (blocksOf s h)), refl)
-takes-blocks {ex} {n} {last} (suc k) h h1 own t zs s system hd sd g d e = go (takeBlock limit ex last own s h) refl e (takes-blocks k h h1 own t)
-  where
-    go : (p : Plan) → takeBlock limit ex last own s h ≡ p → elim p [ refused i ↦ refused i | planned r ys ↦ after limit ex last ys (takeMany limit ex last own k r h) ] ≡ planned t zs →
-        ((zs : List ℕ) (s : Anodes) (system hd sd : ℕ → ℕ) → Good limit ex n last s system hd sd → Head (s .next) (s .block) h → takeMany limit ex last own k s h ≡ planned t zs →
-        (blocksOf t h ≡ blocksOf s h ++ zs) × (length zs ≡ k)) →
-        (blocksOf t h ≡ blocksOf s h ++ zs) × (length zs ≡ suc k)
-    go (refused i) q e rec = absurd (refused≢planned i t zs e)
-    go (planned r ys) q e rec =
-        let w = take-good g h d h1 own r ys q in
-        let f = after-planned limit ex last ys (takeMany limit ex last own k r h) t zs e in
-        let b = rec (f .0) r system (w .hd′) (w .sd′) (w .good) (moved-stays g w h d) (f .1) in (
-          b .0 ∙ ap (λ (l : List ℕ). l ++ f .0) (take-blocks g h d h1 own r ys q) ∙ append-assoc (blocksOf s h) ys (f .0) ∙ ap (λ (l : List ℕ). blocksOf s h ++ l) (sym (f .2)),
-          ap length (f .2 ∙ ap (λ (l : List ℕ). l ++ f .0) (w .handed)) ∙ ap suc (b .1),
-        )
+takes-blocks {ex} {n} {last} (suc k) h h1 own t zs s system hd sd g d e =
+    let (r, ys, xs, q, f, z) = step-done limit ex last (takeBlock limit ex last own s h) (λ r. takeMany limit ex last own k r h) t zs e in
+    let w = take-good g h d h1 own r ys q in
+    let b = takes-blocks k h h1 own t xs r system (w .hd′) (w .sd′) (w .good) (moved-stays g w h d) f in (
+      b .0 ∙ ap (λ (l : List ℕ). l ++ xs) (take-blocks g h d h1 own r ys q) ∙ append-assoc (blocksOf s h) ys xs ∙ ap (λ (l : List ℕ). blocksOf s h ++ l) (sym z),
+      ap length (z ∙ ap (λ (l : List ℕ). l ++ xs) (w .handed)) ∙ ap suc (b .1),
+    )

@@ -5,7 +5,7 @@ use mathlib.Core.Logic.{inl, inr}
 use mathlib.Core.Bool.{Bool, true, false, cond}
 use mathlib.Core.List.{List, [], _∷_}
 use native.Mathlib.Omega.{arith}
-use Rattle.rules.specs.Counting.{oneAt, sumBelow, sumList}
+use Rattle.rules.specs.Counting.{oneAt, sumBelow, sumList, times}
 use Rattle.rules.specs.Walk.{Dir, Item}
 use Rattle.laws.specs.Tests.{less?}
 use Rattle.laws.specs.Sums.{oneAt-other, sum-congr, sum-add, sum-at}
@@ -22,7 +22,7 @@ use Rattle.laws.specs.Trees.{Tree}
 abbrev pub file-size : (ℕ → ℕ) → Item → ℕ
 file-size f i = cond (i .dir) 0 (f (i .anode))
 
-pub names-parts : (items : Dir → List Item) (f : ℕ → ℕ) (d : Dir) → sumList f (names (items d)) ≡ sumList (file-size f) (items d) + below items (λ e. f (e .head)) d
+names-parts : (items : Dir → List Item) (f : ℕ → ℕ) (d : Dir) → sumList f (names (items d)) ≡ sumList (file-size f) (items d) + below items (λ e. f (e .head)) d
 names-parts items f d =
     map-sum (λ i. i .anode) f (items d)
     ∙ list-congr (λ i. f (i .anode)) (λ i. file-size f i + giving (λ e. f (e .head)) (d .head) i) (items d) (λ i. one (i .dir) (f (i .anode)))
@@ -32,6 +32,19 @@ names-parts items f d =
     one : (b : Bool) (m : ℕ) → m ≡ cond b 0 m + cond b m 0
     one true m = omega arith
     one false m = omega arith
+
+-- and so a sum over what some directories name
+by-kind : (items : Dir → List Item) (f : ℕ → ℕ) (dirs : List Dir) →
+    sumList (λ d. sumList f (names (items d))) dirs ≡ sumList (λ d. sumList (file-size f) (items d)) dirs + sumList (below items (λ e. f (e .head))) dirs
+by-kind items f dirs =
+    list-congr (λ d. sumList f (names (items d))) (λ d. sumList (file-size f) (items d) + below items (λ e. f (e .head)) d) dirs (names-parts items f)
+    ∙ list-add (λ d. sumList (file-size f) (items d)) (below items (λ e. f (e .head))) dirs
+
+-- an anode is named by files and by directories
+pub named-by-kind : (items : Dir → List Item) (h : ℕ) (dirs : List Dir) →
+    sumList (namedIn items h) dirs ≡ sumList (λ d. sumList (file-size (λ x. oneAt x h)) (items d)) dirs + sumList (below items (λ e. oneAt (e .head) h)) dirs
+unfolding times
+named-by-kind items h dirs = by-kind items (λ x. oneAt x h) dirs
 
 -- the blocks of the files and of the directories that the tree's directories name, f giving a head's
 unfoldable pub filesOf : (Dir → List Item) → (ℕ → ℕ) → List Dir → ℕ
@@ -119,8 +132,7 @@ module _ {A : ℕ} {next block : ℕ → ℕ} (v : View A next block) (k : Linke
         blocks-all A hd count low,
         total-named,
         by-dirs,
-        list-congr (λ d. sumList f (names (items d))) (λ d. sumList (file-size f) (items d) + below items (λ e. f (e .head)) d) dirs (λ d. names-parts items f d),
-        list-add (λ d. sumList (file-size f) (items d)) (below items (λ e. f (e .head))) dirs,
+        by-kind items f dirs,
         tree .exact (λ e. f (e .head)),
         ap f top-is,
       )

@@ -20,6 +20,17 @@ not-lower-is height m e = refl
 never : (a : ℕ) → oneBelow a 0 ≡ 0
 never a = elim (oneBelow-cases a 0) [ inl c ↦ absurd (omega arith) | inr c ↦ c .1 ]
 
+-- an item of a file gives no directory, one of a directory gives that
+giving-file : (w : Dir → ℕ) (h : ℕ) (i : Item) → i .dir ≡ false → giving w h i ≡ 0
+giving-file w h i file = rw file
+
+giving-dir : (w : Dir → ℕ) (h : ℕ) (i : Item) → i .dir ≡ true → giving w h i ≡ w (record { head = i .anode; parent = h })
+giving-dir w h i isdir = rw isdir
+
+-- a directory with no item has nothing below it
+nothing-below : (items : Dir → List Item) (w : Dir → ℕ) (d : Dir) → items d ≡ [] → below items w d ≡ 0
+nothing-below items w d empty = below-items items w d ∙ ap (sumList (giving w (d .head))) empty ∙ list-nil (giving w (d .head))
+
 -- how many have the head h
 unfoldable pub headed : ℕ → List Dir → ℕ
 headed h l = sumList (λ d. oneAt (d .head) h) l
@@ -51,29 +62,22 @@ module _ (items items′ : Dir → List Item) (h : ℕ) (i : Item) where
   gain-named x d g = omega (arith, names-sum x (items′ d), names-sum x (items d), g (λ f b a. oneAt a x))
 
   module _ (dirs : List Dir) (once : headed h dirs ≡ 1) (gains : Each (Gain items items′ h i) dirs) where
-    pub sum-below : (w : Dir → ℕ) → sumList (below items′ w) dirs ≡ sumList (below items w) dirs + giving w h i
-    sum-below w = omega (
+    -- a weight that the item adds in the directory with the head h
+    sum-gain : (w u : Dir → ℕ) (c : ℕ) → ((d : Dir) → Gain items items′ h i d → u d ≡ w d + oneAt (d .head) h * c) → sumList u dirs ≡ sumList w dirs + c
+    sum-gain w u c at = omega (
       arith,
-      list-gain (below items w) (below items′ w) h (giving w h i) dirs
-          (each-map (Gain items items′ h i) (λ d. below items′ w d ≡ below items w d + oneAt (d .head) h * giving w h i) dirs (λ d g. gain-below w d g) gains),
-      ap (λ (n : ℕ). n * giving w h i) once,
+      list-gain w u h c dirs (each-map (Gain items items′ h i) (λ d. u d ≡ w d + oneAt (d .head) h * c) dirs at gains),
+      ap (λ (n : ℕ). n * c) once,
     )
+
+    sum-below : (w : Dir → ℕ) → sumList (below items′ w) dirs ≡ sumList (below items w) dirs + giving w h i
+    sum-below w = sum-gain (below items w) (below items′ w) (giving w h i) (gain-below w)
 
     pub sum-named : (x : ℕ) → sumList (namedIn items′ x) dirs ≡ sumList (namedIn items x) dirs + oneAt (i .anode) x
-    sum-named x = omega (
-      arith,
-      list-gain (namedIn items x) (namedIn items′ x) h (oneAt (i .anode) x) dirs
-          (each-map (Gain items items′ h i) (λ d. namedIn items′ x d ≡ namedIn items x d + oneAt (d .head) h * oneAt (i .anode) x) dirs (λ d g. gain-named x d g) gains),
-      ap (λ (n : ℕ). n * oneAt (i .anode) x) once,
-    )
+    sum-named x = sum-gain (namedIn items x) (namedIn items′ x) (oneAt (i .anode) x) (gain-named x)
 
-    pub sum-faults : sumList (faults items′) dirs ≡ sumList (faults items) dirs + wrong i
-    sum-faults = omega (
-      arith,
-      list-gain (faults items) (faults items′) h (wrong i) dirs
-          (each-map (Gain items items′ h i) (λ d. faults items′ d ≡ faults items d + oneAt (d .head) h * wrong i) dirs (λ d g. g (λ f b a. f)) gains),
-      ap (λ (n : ℕ). n * wrong i) once,
-    )
+    sum-faults : sumList (faults items′) dirs ≡ sumList (faults items) dirs + wrong i
+    sum-faults = sum-gain (faults items) (faults items′) (wrong i) (λ d g. g (λ f b a. f))
 
     module _ (top : Dir) where
       once-named : Tree items top dirs → sumList (namedIn items (i .anode)) dirs ≡ 0 → (x : ℕ) → sumList (namedIn items′ x) dirs ≤ 1
@@ -85,31 +89,28 @@ module _ (items items′ : Dir → List Item) (h : ℕ) (i : Item) where
       -- a directory gains a file
       pub add-file : Tree items top dirs → i .dir ≡ false → wrong i ≡ 0 → sumList (namedIn items (i .anode)) dirs ≡ 0 → Tree items′ top dirs
       add-file t file fine free = record {
-        exact = λ w. omega (arith, t .exact w, sum-below w, no-dir w);
+        exact = λ w. omega (arith, t .exact w, sum-below w, giving-file w h i file);
         faultless = omega (arith, sum-faults, t .faultless);
         once = once-named t free;
         height = t .height;
         lower = list-congr-each (lowering items′ (t .height)) (lowering items (t .height)) dirs
             (each-map (Gain items items′ h i) (λ d. lowering items′ (t .height) d ≡ lowering items (t .height) d) dirs
-            (λ d g. gain-below (not-lower (t .height) (t .height (d .head))) d g ∙ rw (no-dir (not-lower (t .height) (t .height (d .head)))) (omega arith)) gains)
+            (λ d g. gain-below (not-lower (t .height) (t .height (d .head))) d g ∙ rw (giving-file (not-lower (t .height) (t .height (d .head))) h i file) (omega arith)) gains)
             ∙ t .lower;
       }
-        where
-          no-dir : (w : Dir → ℕ) → giving w h i ≡ 0
-          no-dir w = rw file
 
       -- a directory gains a directory with nothing in it
       pub add-dir : Tree items top dirs → i .dir ≡ true → wrong i ≡ 0 → sumList (namedIn items (i .anode)) dirs ≡ 0 → i .anode ≢ top .head →
           items′ (record { head = i .anode; parent = h }) ≡ [] → Tree items′ top (record { head = i .anode; parent = h } ∷ dirs)
       add-dir t isdir fine free other empty = record {
-        exact = λ w. omega (arith, t .exact w, sum-below w, the-dir w, list-cons w e dirs, list-cons (below items′ w) e dirs, below-e w);
+        exact = λ w. omega (arith, t .exact w, sum-below w, giving-dir w h i isdir, list-cons w e dirs, list-cons (below items′ w) e dirs, nothing-below items′ w e empty);
         faultless = omega (arith, sum-faults, t .faultless, list-cons (faults items′) e dirs, ap (sumList wrong) empty, list-nil wrong);
         once = λ x. omega (arith, once-named t free x, list-cons (namedIn items′ x) e dirs, ap (λ (l : List Item). times x (names l)) empty, names-sum x [], list-nil {X = Item} (λ j. oneAt (j .anode) x));
         height = ht;
         lower = omega (
           arith,
           list-cons (lowering items′ ht) e dirs,
-          below-e (not-lower ht (ht (e .head))),
+          nothing-below items′ (not-lower ht (ht (e .head))) e empty,
           list-congr-each (lowering items′ ht) (lowering items (t .height)) dirs
               (each-both (λ d. here d + below items here d ≡ 0) (Gain items items′ h i) (λ d. lowering items′ ht d ≡ lowering items (t .height) d) dirs low (each-zero (λ d. here d + below items here d) dirs guards) gains),
           t .lower,
@@ -118,12 +119,6 @@ module _ (items items′ : Dir → List Item) (h : ℕ) (i : Item) where
         where
           e : Dir
           e = record { head = i .anode; parent = h }
-
-          the-dir : (w : Dir → ℕ) → giving w h i ≡ w e
-          the-dir w = rw isdir
-
-          below-e : (w : Dir → ℕ) → below items′ w e ≡ 0
-          below-e w = below-items items′ w e ∙ ap (sumList (giving w (i .anode))) empty ∙ list-nil (giving w (i .anode))
 
           ht : ℕ → ℕ
           ht = changed (λ x. suc (t .height x)) (i .anode) 0
@@ -151,7 +146,7 @@ module _ (items items′ : Dir → List Item) (h : ℕ) (i : Item) where
             where
               product : oneAt (d .head) h * giving (not-lower ht (ht (d .head))) h i ≡ 0
               product = rw (
-                the-dir (not-lower ht (ht (d .head))),
+                giving-dir (not-lower ht (ht (d .head))) h i isdir,
                 not-lower-is ht (ht (d .head)) e,
                 ht-other d (omega arith),
                 changed-same (λ x. suc (t .height x)) (i .anode) 0,
@@ -163,7 +158,7 @@ module _ (items items′ : Dir → List Item) (h : ℕ) (i : Item) where
               shifted c y = rw (not-lower-is ht (ht (d .head)) c, not-lower-is (t .height) (t .height (d .head)) c, ht-other d (omega arith), ht-other c y)
                   (oneBelow-suc (t .height (d .head)) (suc (t .height (c .head))))
 
--- ---- a directory loses an item: under read it has what it has under read′, and i too
+-- ---- a directory loses an item: under items it has what it has under items′, and i too
 
 -- a member of a list, and the list parted there
 pub find-dir : (x p : ℕ) (l : List Dir) → 0 < sumList (λ d. oneAt (d .head) x * oneAt (d .parent) p) l →
@@ -199,43 +194,34 @@ module _ (items items′ : Dir → List Item) (h : ℕ) (i : Item) (top : Dir) w
       given : giving w h i ≡ 1
       given = rw (isdir, oneAt-same (i .anode) (i .anode) refl, oneAt-same h h refl) (omega arith)
 
-  -- under read′ nothing has more below it
+  -- under items′ nothing has more below it
   less-below : (w : Dir → ℕ) (d : Dir) → Gain items′ items h i d → below items′ w d ≤ below items w d
   less-below w d g = omega (arith, gain-below items′ items h i w d g)
 
+  -- and so no more directories are named that are not lower
+  less-lowering : (height : ℕ → ℕ) (dirs : List Dir) → Each (Gain items′ items h i) dirs → sumList (lowering items′ height) dirs ≤ sumList (lowering items height) dirs
+  less-lowering height dirs gains = list-mono-each (lowering items′ height) (lowering items height) dirs
+      (each-map (Gain items′ items h i) (λ d. lowering items′ height d ≤ lowering items height d) dirs (λ d g. less-below (not-lower height (height (d .head))) d g) gains)
+
   pub remove-file : (dirs : List Dir) → headed h dirs ≡ 1 → Each (Gain items′ items h i) dirs → Tree items top dirs → i .dir ≡ false → Tree items′ top dirs
   remove-file dirs one gains t file = record {
-    exact = λ w. omega (arith, t .exact w, sum-below items′ items h i dirs one gains w, no-dir w);
+    exact = λ w. omega (arith, t .exact w, sum-below items′ items h i dirs one gains w, giving-file w h i file);
     faultless = omega (arith, t .faultless, sum-faults items′ items h i dirs one gains);
     once = λ x. omega (arith, t .once x, sum-named items′ items h i dirs one gains x);
     height = t .height;
-    lower = omega (
-      arith,
-      t .lower,
-      list-mono-each (lowering items′ (t .height)) (lowering items (t .height)) dirs
-          (each-map (Gain items′ items h i) (λ d. lowering items′ (t .height) d ≤ lowering items (t .height) d) dirs (λ d g. less-below (not-lower (t .height) (t .height (d .head))) d g) gains),
-    );
+    lower = omega (arith, t .lower, less-lowering (t .height) dirs gains);
   }
-    where
-      no-dir : (w : Dir → ℕ) → giving w h i ≡ 0
-      no-dir w = rw file
 
   -- a directory with nothing in it goes, with the item that names it
   pub remove-dir : (l₁ l₂ : List Dir) → headed h (l₁ ++ (record { head = i .anode; parent = h } ∷ l₂)) ≡ 1 →
       Each (Gain items′ items h i) (l₁ ++ (record { head = i .anode; parent = h } ∷ l₂)) → Tree items top (l₁ ++ (record { head = i .anode; parent = h } ∷ l₂)) →
       i .dir ≡ true → items (record { head = i .anode; parent = h }) ≡ [] → Tree items′ top (l₁ ++ l₂)
   remove-dir l₁ l₂ one gains t isdir empty = record {
-    exact = λ w. omega (arith, t .exact w, sum-below items′ items h i dirs one gains w, the-dir w, split w, split (below items′ w), below-e w);
+    exact = λ w. omega (arith, t .exact w, sum-below items′ items h i dirs one gains w, giving-dir w h i isdir, split w, split (below items′ w), below-e w);
     faultless = omega (arith, t .faultless, sum-faults items′ items h i dirs one gains, split (faults items′));
     once = λ x. omega (arith, t .once x, sum-named items′ items h i dirs one gains x, split (namedIn items′ x));
     height = t .height;
-    lower = omega (
-      arith,
-      t .lower,
-      split (lowering items′ (t .height)),
-      list-mono-each (lowering items′ (t .height)) (lowering items (t .height)) dirs
-          (each-map (Gain items′ items h i) (λ d. lowering items′ (t .height) d ≤ lowering items (t .height) d) dirs (λ d g. less-below (not-lower (t .height) (t .height (d .head))) d g) gains),
-    );
+    lower = omega (arith, t .lower, split (lowering items′ (t .height)), less-lowering (t .height) dirs gains);
   }
     where
       e : Dir
@@ -244,33 +230,27 @@ module _ (items items′ : Dir → List Item) (h : ℕ) (i : Item) (top : Dir) w
       dirs : List Dir
       dirs = l₁ ++ (e ∷ l₂)
 
-      the-dir : (w : Dir → ℕ) → giving w h i ≡ w e
-      the-dir w = rw isdir
-
       split : (w : Dir → ℕ) → sumList w dirs ≡ sumList w (l₁ ++ l₂) + w e
       split w = omega (arith, list-append w l₁ (e ∷ l₂), list-append w l₁ l₂, list-cons w e l₂)
 
       below-e : (w : Dir → ℕ) → below items′ w e ≡ 0
-      below-e w = omega (arith, less-below w e (each-right (Gain items′ items h i) l₁ (e ∷ l₂) gains .0), below-items items w e, ap (sumList (giving w (i .anode))) empty, list-nil (giving w (i .anode)))
+      below-e w = omega (arith, less-below w e (each-right (Gain items′ items h i) l₁ (e ∷ l₂) gains .0), nothing-below items w e empty)
 
 -- ---- the items stay, but for the numbers of their faults: a size changes
 
 abbrev pub AlikeItems : (Dir → List Item) → (Dir → List Item) → Dir → Type 0
 AlikeItems items items′ d = ((w : Bool → ℕ → ℕ) → sumList (λ j. w (j .dir) (j .anode)) (items′ d) ≡ sumList (λ j. w (j .dir) (j .anode)) (items d)) × (faults items′ d ≡ 0)
 
-pub alike-named : (items items′ : Dir → List Item) (d : Dir) → AlikeItems items items′ d → (x : ℕ) → namedIn items′ x d ≡ namedIn items x d
-alike-named items items′ d g x = names-sum x (items′ d) ∙ g .0 (λ b a. oneAt a x) ∙ sym (names-sum x (items d))
+-- each anode is named as often
+pub alike-named : (items items′ : Dir → List Item) (dirs : List Dir) → Each (AlikeItems items items′) dirs → (x : ℕ) → sumList (namedIn items′ x) dirs ≡ sumList (namedIn items x) dirs
+alike-named items items′ dirs each x = list-congr-each (namedIn items′ x) (namedIn items x) dirs
+    (each-map (AlikeItems items items′) (λ d. namedIn items′ x d ≡ namedIn items x d) dirs (λ d g. names-sum x (items′ d) ∙ g .0 (λ b a. oneAt a x) ∙ sym (names-sum x (items d))) each)
 
 pub alike-tree : (items items′ : Dir → List Item) (top : Dir) (dirs : List Dir) → Each (AlikeItems items items′) dirs → Tree items top dirs → Tree items′ top dirs
 alike-tree items items′ top dirs each t = record {
   exact = λ w. omega (arith, t .exact w, list-congr-each (below items′ w) (below items w) dirs (to (λ d. below items′ w d ≡ below items w d) (λ d g. at w d g)));
   faultless = list-congr-each (faults items′) (λ d. 0) dirs (to (λ d. faults items′ d ≡ 0) (λ d g. g .1)) ∙ list-zero {X = Dir} (λ d. 0) dirs (λ d. refl);
-  once = λ x. omega (
-    arith,
-    t .once x,
-    list-congr-each (namedIn items′ x) (namedIn items x) dirs
-        (to (λ d. namedIn items′ x d ≡ namedIn items x d) (λ d g. names-sum x (items′ d) ∙ g .0 (λ b a. oneAt a x) ∙ sym (names-sum x (items d)))),
-  );
+  once = λ x. omega (arith, t .once x, alike-named items items′ dirs each x);
   height = t .height;
   lower = list-congr-each (lowering items′ (t .height)) (lowering items (t .height)) dirs
       (to (λ d. lowering items′ (t .height) d ≡ lowering items (t .height) d) (λ d g. at (not-lower (t .height) (t .height (d .head))) d g)) ∙ t .lower;

@@ -193,7 +193,7 @@ module _ (items : Dir → List Item) where
         | inr c ↦ omega (arith, e (λ d. oneAt (d .head) x), list-mono (below items (λ d. oneAt (d .head) x)) (namedIn items x) dirs (λ d. subs-named items x d), o x)
       ]
 
-      -- the walk finds a tree
+      -- the directories of a walk that meets no fault are a tree
       pub walk-tree : (k : ℕ) (Q : List Dir) → walk items k (top ∷ []) [] ≡ done Q → Tree Q
       walk-tree k Q e =
           let f = walk-found items k (top ∷ []) [] Q e in
@@ -234,7 +234,7 @@ module _ (items : Dir → List Item) where
             | inr c ↦ omega (arith, t .once x)
           ]
 
-      -- and is walked through, with fuel A
+      -- and a tree is walked through without a fault, with fuel A
       pub tree-walk : (dirs : List Dir) → Tree dirs → (Q : List Dir) × (walk items A (top ∷ []) [] ≡ done Q)
       tree-walk dirs t = walk-runs dirs t A [] (top ∷ []) []
           (λ w. omega (arith, list-nil w, list-one w top, list-nil (below items w)))

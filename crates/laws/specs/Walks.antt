@@ -10,6 +10,7 @@ use Rattle.rules.specs.Walk.{Dir, Item, subDirs, faultOf, Scanned, faulty, fine
 use Rattle.laws.specs.Tests.{less?, if-cases}
 use Rattle.laws.specs.Sums.{oneAt-cases, oneAt-same}
 use Rattle.laws.specs.Bags.{list-nil, list-cons, list-append, gather-sum, times-nil, times-cons}
+use Rattle.laws.specs.Acceptance.{firstOf-zero}
 use Rattle.laws.specs.Items.{wrong, names, subs, below, namedIn, faults}
 
 -- ---- one directory
@@ -19,15 +20,10 @@ unfoldable pub namedAfter : List Item → List ℕ → List ℕ
 namedAfter [] s = s
 namedAfter (i ∷ is) s = namedAfter is (i .anode ∷ s)
 
-first-zero : (a b : ℕ) → firstOf a b ≡ 0 → (a ≡ 0) × (b ≡ 0)
-unfolding firstOf
-first-zero zero b h = (refl, h)
-first-zero (suc a) b h = absurd (omega arith)
-
 pub fault-none : (i : Item) (s : List ℕ) → faultOf i s ≡ 0 → (wrong i ≡ 0) × (times (i .anode) s ≡ 0)
 unfolding faultOf wrong
 fault-none i s h =
-    let f = first-zero (i .early) (14 if leb 1 (times (i .anode) s) else i .late) h in
+    let f = firstOf-zero (i .early) (14 if leb 1 (times (i .anode) s) else i .late) h in
     elim (if-cases 14 (leb 1 (times (i .anode) s)) (i .late)) [
       | inl c ↦ absurd (omega (arith, f .1, c .1))
       | inr c ↦ (omega (arith, f .0, f .1, c .1), elim (less? 0 (times (i .anode) s)) [ inl p ↦ absurd (c .0 (le→leb 1 (times (i .anode) s) p)) | inr p ↦ omega arith ])

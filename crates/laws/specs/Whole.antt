@@ -6,24 +6,26 @@ use mathlib.Core.Bool.{Bool, true, cond, _&&_}
 use mathlib.Core.List.{List, map}
 use native.Mathlib.Omega.{arith}
 use lib.Dec.{eqb, leb, eqb→eq, leb→le}
+use borrow.Author.Tests.{le-leb}
 use Rattle.rules.specs.Counting.{oneAt, sumBelow, sumList, times}
 use Rattle.rules.specs.Anodes.{limit, Anodes}
 use Rattle.rules.specs.Chains.{chainOf, heads, blocksOf, blockCount}
 use Rattle.rules.specs.Walk.{Dir, root, Entered, Item, blocksFor, itemOf, itemsBy}
-use Rattle.laws.specs.Tests.{same?, less?, cond-cases, eqb-true, leb-true, both}
+use Rattle.laws.specs.Tests.{same?, less?, cond-cases, eqb-true, both}
 use Rattle.laws.specs.Sums.{oneAt-cases, oneAt-same, oneAt-other, oneAt-le}
-use Rattle.laws.specs.Bags.{list-add, list-mono, list-congr}
+use Rattle.laws.specs.Bags.{list-mono}
 use Rattle.laws.specs.Heads.{Head, heads-cases, times-on-chain}
 use Rattle.laws.specs.Blocks.{blocks, blocks-chain}
 use Rattle.laws.specs.Held.{held, chain-blocks}
-use Rattle.laws.specs.Space.{Good, head-5, on-chain}
+use Rattle.laws.specs.Space.{Good, head-5}
 use Rattle.laws.specs.Owners.{hd-below}
-use Rattle.laws.specs.Frame.{kept-count, Shift, kept-chain}
-use Rattle.laws.specs.Each.{Each, each-map, each-both, list-congr-each, each-zero}
+use Rattle.laws.specs.Frame.{Shift, on-other}
+use Rattle.laws.specs.ChainBlocks.{shift-alike, shift-chain, shift-count}
+use Rattle.laws.specs.Each.{Each, each-map, each-both, each-zero}
 use Rattle.laws.specs.Items.{wrong, names-sum, giving, giving-le, below, namedIn, faults, below-items}
 use Rattle.laws.specs.Trees.{Tree}
 use Rattle.laws.specs.TreeChanges.{none-headed, AlikeItems, alike-named, alike-tree}
-use Rattle.laws.specs.Totals.{file-size, names-parts, filesOf, dirsOf, tree-total}
+use Rattle.laws.specs.Totals.{file-size, named-by-kind, filesOf, dirsOf, tree-total}
 use Rattle.laws.specs.Entries.{broken-wrong, item-fine, fine-item, item-anode, items-mono, items-alike}
 
 -- 1 for a directory whose head is below 5 or heads no chain
@@ -32,7 +34,7 @@ odd s d = cond (leb 5 (d .head) && eqb (heads limit (s .next) (s .block) (d .hea
 
 odd-none : (s : Anodes) (d : Dir) → 5 ≤ d .head → heads limit (s .next) (s .block) (d .head) ≡ 1 → odd s d ≡ 0
 unfolding odd
-odd-none s d l e = rw (leb-true 5 (d .head) l, eqb-true (heads limit (s .next) (s .block) (d .head)) 1 e)
+odd-none s d l e = rw (le-leb 5 (d .head) l, eqb-true (heads limit (s .next) (s .block) (d .head)) 1 e)
 
 none-odd : (s : Anodes) (d : Dir) → odd s d ≡ 0 → (5 ≤ d .head) × (heads limit (s .next) (s .block) (d .head) ≡ 1)
 unfolding odd
@@ -157,19 +159,13 @@ module _ {ex : ℕ → Bool} {n last : ℕ} {s : Anodes} {system hd sd : ℕ →
 
   -- h is a file's: some reached entry of a file names it
   module _ (h : ℕ) (file : 1 ≤ sumList (λ d. sumList (file-size (λ x. oneAt x h)) (itemsBy entries marked s d)) dirs) where
-    by-kind : sumList (namedIn items h) dirs ≡ sumList (λ d. sumList (file-size (λ x. oneAt x h)) (items d)) dirs + sumList (below items (λ e. oneAt (e .head) h)) dirs
-    unfolding times
-    by-kind =
-        list-congr (namedIn items h) (λ d. sumList (file-size (λ x. oneAt x h)) (items d) + below items (λ e. oneAt (e .head) h) d) dirs (λ d. names-parts items (λ x. oneAt x h) d)
-        ∙ list-add (λ d. sumList (file-size (λ x. oneAt x h)) (items d)) (below items (λ e. oneAt (e .head) h)) dirs
-
     pub file-head : (6 ≤ h) × (h < limit) × Head (s .next) (s .block) h
     unfolding items
-    file-head = named-heads h (omega (arith, by-kind, file))
+    file-head = named-heads h (omega (arith, named-by-kind items h dirs, file))
 
     pub not-dir : Each (λ d. d .head ≢ h) dirs
     unfolding items
-    not-dir = none-headed h dirs (omega (arith, w .tree .exact (λ d. oneAt (d .head) h), oneAt-other 5 h (λ e. omega (arith, e, file-head .0)), w .tree .once h, file, by-kind))
+    not-dir = none-headed h dirs (omega (arith, w .tree .exact (λ d. oneAt (d .head) h), oneAt-other 5 h (λ e. omega (arith, e, file-head .0)), w .tree .once h, file, named-by-kind items h dirs))
 
     -- a file's chain is changed, by takes or gives, its entry's size with it, and nothing else of the directories
     pub change-file : {t : Anodes} {hd′ sd′ : ℕ → ℕ} → Good limit ex n last t system hd′ sd′ → Shift s hd t hd′ h →
@@ -183,32 +179,18 @@ module _ {ex : ℕ → Bool} {n last : ℕ} {s : Anodes} {system hd sd : ℕ →
     change-file {t} {hd′} {sd′} g′ sh φ entries′ marked′ keeps other mine cont = record {
       good = g′;
       tree = alike-tree items items′ root dirs alikes (w .tree);
-      all-named = λ x l d. omega (
-        arith,
-        w .all-named x l (sh .no-new x d),
-        list-congr-each (namedIn items′ x) (namedIn items x) dirs
-            (each-map (AlikeItems items items′) (λ d. namedIn items′ x d ≡ namedIn items x d) dirs (λ d e. alike-named items items′ d e x) alikes),
-      );
+      all-named = λ x l d. omega (arith, w .all-named x l (sh .no-new x d), alike-named items items′ dirs alikes x);
     }
       where
         items′ : Dir → List Item
         items′ = itemsBy entries′ marked′ t
-
-        same-chain : (m : ℕ) → Head (s .next) (s .block) m → m ≢ 1 → m ≢ h → chainOf (t .next) limit m ≡ chainOf (s .next) limit m
-        same-chain m d m1 mh = kept-chain (w .good) g′ h (sh .stays) (sh .no-new) (sh .apart) m d m1 mh
-
-        on : (m : ℕ) → Head (s .next) (s .block) m → m ≢ 1 → m ≢ h → (a : ℕ) → 0 < times a (chainOf (s .next) limit m) → (s .block a ≢ 0) × (hd a ≢ 1) × (hd a ≢ h)
-        on m d m1 mh a k = let o = on-chain (w .good) m d a k in (o .1, λ q. m1 (sym (o .0) ∙ q), λ q. mh (sym (o .0) ∙ q))
-
-        same-count : (m : ℕ) → Head (s .next) (s .block) m → m ≢ 1 → m ≢ h → blockCount t m ≡ blockCount s m
-        same-count m d m1 mh = kept-count s t m (same-chain m d m1 mh) (λ a k. let o = on m d m1 mh a k in sh .apart a (o .0) (o .1) (o .2) .same-count)
 
         size : (e : Entered) → Head (s .next) (s .block) (e .anode) → 6 ≤ e .anode → (e .dir ≡ true) ⊎ (blockCount s (e .anode) ≡ blocksFor (e .size)) →
             (φ e .dir ≡ true) ⊎ (blockCount t (φ e .anode) ≡ blocksFor (φ e .size))
         size e d l (inl q) = inl (keeps e .1 ∙ q)
         size e d l (inr q) = elim (same? (e .anode) h) [
           | inl i ↦ inr (ap (blockCount t) (keeps e .2 ∙ i) ∙ mine e i)
-          | inr i ↦ inr (ap (blockCount t) (keeps e .2) ∙ same-count (e .anode) d (omega arith) i ∙ q ∙ ap blocksFor (sym (other e i)))
+          | inr i ↦ inr (ap (blockCount t) (keeps e .2) ∙ shift-count (w .good) g′ sh (e .anode) d (omega arith) i ∙ q ∙ ap blocksFor (sym (other e i)))
         ]
 
         like : (e : Entered) → wrong (itemOf s e) ≡ 0 → (φ e .dir ≡ e .dir) × (φ e .anode ≡ e .anode) × (wrong (itemOf t (φ e)) ≡ 0)
@@ -222,9 +204,9 @@ module _ {ex : ℕ → Bool} {n last : ℕ} {s : Anodes} {system hd sd : ℕ →
             )
 
         one : (d : Dir) → Head (s .next) (s .block) (d .head) × (d .head ≢ 1) → (d .head ≢ h) × (faults items d ≡ 0) → AlikeItems items items′ d
-        one d p q = items-alike s t φ wrong (λ z. omega (arith, z, broken-wrong)) like entries entries′ marked marked′ d (same-chain (d .head) (p .0) (p .1) (q .0))
-            (λ a k. let o = on (d .head) (p .0) (p .1) (q .0) a k in sh .apart a (o .0) (o .1) (o .2))
-            (λ a k i. let o = on (d .head) (p .0) (p .1) (q .0) a k in let e = cont a i (o .1) (o .2) in (e .0, e .1 d)) (q .1)
+        one d p q = items-alike s t φ wrong (λ z. omega (arith, z, broken-wrong)) like entries entries′ marked marked′ d
+            (shift-chain (w .good) g′ sh (d .head) (p .0) (p .1) (q .0)) (shift-alike (w .good) g′ sh (d .head) (p .0) (p .1) (q .0))
+            (λ a k i. let o = on-other (w .good) (d .head) (p .0) (p .1) (q .0) a k in let e = cont a i (o .1) (o .2) in (e .0, e .1 d)) (q .1)
 
         alikes : Each (AlikeItems items items′) dirs
         alikes = each-both (λ d. Head (s .next) (s .block) (d .head) × (d .head ≢ 1)) (λ d. (d .head ≢ h) × (faults items d ≡ 0)) (AlikeItems items items′) dirs one dir-heads

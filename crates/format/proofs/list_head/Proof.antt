@@ -1,3 +1,4 @@
+-- `list_head` gives anode 1.
 use borrow.Author.Tests.{eq-eqb, ne-eqb}
 use Rattle.rules.specs.Format.{listHead}
 use borrow.Author.Needs.{needs}

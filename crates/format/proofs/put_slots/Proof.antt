@@ -1,3 +1,4 @@
+-- `put_slots` stores the slots, one after the other.
 use mathlib.Core.Path.{_≡_, sym}
 use Prim.Native.Nat.{_≤_, _-_}
 use native.Mathlib.Omega.{arith}
@@ -8,9 +9,11 @@ use Rattle.format.proofs.Laws.{withSlots-none, withSlots-more}
 use Rattle.format.proofs.put_slots.Statement.{statement}
 use Rattle.format.proofs.put_slots.Tie as tie
 
+-- what holds before each turn
 abbrev Inv-loop : tie.InvT-loop
 Inv-loop block₀ slots s₀ block s = (s ≤ slots) × (length block ≡ length block₀) × (block ≡ withSlots block₀ s)
 
+-- what gets less with each turn
 abbrev μ-loop : tie.MeasureT-loop
 μ-loop block₀ slots s₀ block s = slots - s
 

@@ -1,3 +1,4 @@
+-- `start_disk` leaves zeros and the disk type.
 use Rattle.format.proofs.Laws.{start-stored}
 use borrow.Author.Needs.{needs}
 use Rattle.format.proofs.start_disk.Statement.{statement}

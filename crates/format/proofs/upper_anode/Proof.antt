@@ -1,3 +1,4 @@
+-- `upper_anode` gives anode 6.
 use borrow.Author.Tests.{eq-eqb, ne-eqb}
 use Rattle.rules.specs.Format.{upperAnode}
 use borrow.Author.Needs.{needs}

@@ -1,3 +1,4 @@
+-- `zero` leaves zeros.
 use mathlib.Core.Path.{_≡_, _∙_}
 use mathlib.Core.List.{_++_}
 use Prim.Native.Nat.{_≤_, _-_}
@@ -9,9 +10,11 @@ use Rattle.format.proofs.Laws.{fill-all}
 use Rattle.format.proofs.zero.Statement.{statement}
 use Rattle.format.proofs.zero.Tie as tie
 
+-- what holds before each turn
 abbrev Inv-loop : tie.InvT-loop
 Inv-loop image₀ i₀ image i = (i ≤ length image₀) × (length image ≡ length image₀) × (image ≡ replicate i 0 ++ drop i image₀)
 
+-- what gets less with each turn
 abbrev μ-loop : tie.MeasureT-loop
 μ-loop image₀ i₀ image i = length image₀ - i
 

@@ -1,0 +1,140 @@
+-- The stores of a removal, and what they leave of an accepted image.
+use Prim.Native.Nat.{ℕ, _/_, _%_}
+use mathlib.Core.Path.{_≡_, sym, ap, _∙_}
+use mathlib.Core.Logic.{_≢_}
+use mathlib.Core.Bool.{false}
+use mathlib.Core.List.{List, _++_, map}
+use native.Mathlib.Omega.{arith}
+use lib.ListN.{length, getD}
+use Rattle.disk.specs.Blocks.{blockOf}
+use Rattle.directory.specs.Entries.{directoryHeadIn}
+use Rattle.rules.specs.Anodes.{Anodes, limit, exists, anodesOf, withAnodes}
+use Rattle.rules.specs.Chains.{blockCount, systemOwns}
+use Rattle.rules.specs.Walk.{Dir, Entered, entriesFrom, entriesIn, isBlockOf, reachedDirs}
+use Rattle.rules.specs.Accepted.{diskSize, lastReserved, checkAnswer}
+use Rattle.rules.specs.Lookup.{noDirectory, entriesOf}
+use Rattle.rules.specs.Space.{planned, giveMany, dropped}
+use Rattle.rules.specs.Changes.{entriesEnd, gapClosed, withoutEntry, removedImage}
+use Rattle.laws.specs.Whole.{blocks-count}
+use Rattle.laws.specs.Resize.{Ran, shrink-ran}
+use Rattle.laws.specs.Remove.{dropped-good}
+use Rattle.frames.specs.Kept.{Kept, kept-both}
+use Rattle.frames.specs.StoredBlocks.{inBlock-kept, blockOf-inBlock}
+use Rattle.frames.specs.DisjointBlocks.{DataBlock}
+use Rattle.changes.specs.Image.{WholeImage, headIn, sideIn, accepted-whole, SameDisk, stored-kept, stored-same, stored-anodes, not-one, same-then, anodes-then}
+use Rattle.changes.specs.Members.{Member}
+use Rattle.changes.specs.Reached.{EntryFacts, block-whole, block-unbroken, parted, entry-facts}
+use Rattle.changes.specs.SingleBlocks.{single-apart, single-data}
+use Rattle.changes.specs.Gap.{lowered, length-closed, head-closed, entries-closed}
+
+-- a removal of an entry of an accepted image, and the steps that were planned
+pub record PlannedRemove (img : List ℕ) (e : Entered) (t : Anodes) (ys : List ℕ) : Type 0 where
+  pub blocks : ℕ
+  pub anodes : ℕ
+  pub accepted : checkAnswer img blocks anodes ≡ 0
+  -- the directory that has the entry
+  pub home : ℕ
+  pub reached : noDirectory img (anodesOf img) home ≡ false
+  pub member : Member e (entriesOf img (anodesOf img) home)
+  pub plan : giveMany limit (exists img) (lastReserved img) (blockCount (anodesOf img) (e .anode)) (anodesOf img) (e .anode) ≡ planned t ys
+
+module _ {img : List ℕ} {e : Entered} {t : Anodes} {ys : List ℕ} (p : PlannedRemove img e t ys) where
+  abbrev s : Anodes
+  s = anodesOf img
+
+  pub w : WholeImage img s (headIn img) (sideIn img) (reachedDirs img s)
+  w = accepted-whole img (p .blocks) (p .anodes) (p .accepted)
+
+  -- what is known of the entry
+  abbrev pub facts : EntryFacts img (p .home) e
+  facts = entry-facts img (p .blocks) (p .anodes) (p .accepted) (p .home) (p .reached) e (p .member)
+
+  -- ---- the block that the entry stands in, and where
+
+  abbrev y : ℕ
+  y = e .place / 512
+
+  abbrev b : List ℕ
+  b = blockOf img y
+
+  abbrev at : ℕ
+  at = e .place % 512
+
+  y-data : DataBlock img y
+  y-data = rw (facts .in-block) (facts .block-facts .is-data)
+
+  abbrev len : ℕ
+  len = getD b at 0
+
+  abbrev closed : List ℕ
+  closed = gapClosed b at len (entriesEnd b)
+
+  length-block : length closed ≡ 512
+  unfolding entriesIn
+  length-block = length-closed b y at (block-whole facts) (parted facts .0) e (parted facts .1) (parted facts .2) (block-unbroken facts) (omega arith)
+
+  head-block : directoryHeadIn closed ≡ directoryHeadIn b
+  unfolding entriesIn
+  head-block = head-closed b y at (block-whole facts) (parted facts .0) e (parted facts .1) (parted facts .2) (block-unbroken facts) (omega arith)
+
+  entries-block : entriesFrom 28 closed y 16 ≡ parted facts .0 ++ map (lowered len) (parted facts .1)
+  unfolding entriesIn
+  entries-block = entries-closed b y at (block-whole facts) (parted facts .0) e (parted facts .1) (parted facts .2) (block-unbroken facts) (omega arith)
+
+  -- ---- its stores, one after the other
+
+  abbrev end : Anodes
+  end = dropped limit (exists img) (lastReserved img) t (e .anode)
+
+  abbrev stored : List ℕ
+  stored = withAnodes img end
+
+  abbrev j : List ℕ
+  j = removedImage img e t ys
+
+  pub ran : Ran limit (exists img) (diskSize img) (lastReserved img) s (systemOwns img) (headIn img) (e .anode) 1 (e .anode) 0 ys t
+  ran = shrink-ran (blockCount s (e .anode)) (e .anode) (λ q. omega (arith, q, facts .from-6)) t ys s (systemOwns img) (headIn img) (sideIn img) 0 (omega (arith, blocks-count (w .good) (e .anode) (facts .head))) (w .good) (facts .head)
+      (p .plan)
+
+  same-block : blockOf stored y ≡ b
+  same-block = stored-kept img (p .blocks) (p .anodes) (p .accepted) end .block-kept y (y-data .unheld)
+
+  closer : List ℕ → List ℕ
+  closer c = gapClosed c at (getD c at 0) (entriesEnd c)
+
+  long : length (closer (blockOf stored y)) ≡ length (blockOf stored y)
+  unfolding closer
+  long = rw same-block (length-block ∙ sym (block-whole facts))
+
+  kept-last : Kept (λ d. d ≢ y) stored j
+  unfolding removedImage withoutEntry closer
+  kept-last = inBlock-kept stored y closer long
+
+  pub block-left : blockOf j y ≡ closed
+  unfolding removedImage withoutEntry closer
+  block-left = blockOf-inBlock stored y closer long ∙ ap closer same-block
+
+  pub removed-same : SameDisk img (removedImage img e t ys)
+  removed-same = same-then (stored-same img (p .blocks) (p .anodes) (p .accepted) end) kept-last (not-one y-data)
+
+  pub removed-anodes : anodesOf (removedImage img e t ys) ≡ dropped limit (exists img) (lastReserved img) t (e .anode)
+  removed-anodes =
+      anodes-then (stored-same img (p .blocks) (p .anodes) (p .accepted) end) kept-last (not-one y-data)
+      ∙ stored-anodes img (p .blocks) (p .anodes) (p .accepted) end (dropped-good (e .anode) (facts .from-6) (facts .head) ran)
+
+  -- ---- the entries and marks of the blocks
+
+  pub kept-data : Kept (λ d. DataBlock img d × (d ≢ y)) img j
+  kept-data = kept-both (λ d o. o .0 .unheld) (λ d o. o .1) (stored-kept img (p .blocks) (p .anodes) (p .accepted) end) kept-last
+
+  pub entries-left : entriesIn j y ≡ parted facts .0 ++ map (lowered len) (parted facts .1)
+  unfolding entriesIn
+  entries-left = rw block-left entries-block
+
+  pub marks-left : (d : Dir) → isBlockOf j d y ≡ isBlockOf img d y
+  unfolding isBlockOf
+  marks-left d = rw (block-left, head-block)
+
+  -- the block of another anode that has one
+  pub apart : (a : ℕ) → s .count a ≡ 1 → a ≢ facts .a₀ → DataBlock img (s .block a) × (s .block a ≢ y)
+  apart a one q = (single-data img (w .good) a one, λ i. single-apart (w .good) a one (facts .a₀) (facts .block-facts .one) q (i ∙ facts .in-block))
