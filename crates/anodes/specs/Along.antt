@@ -1,13 +1,22 @@
 -- The blocks of a chain in loaded tables, followed step by step.
 use Prim.Native.Nat.{ℕ, zero, suc, _+_}
 use mathlib.Core.Path.{_≡_, refl}
-use mathlib.Core.List.{List, [], _++_}
+use mathlib.Core.List.{List, [], _∷_, _++_}
 use native.Mathlib.Numerals.{add-one}
 use lib.ListN.{getD}
 use Rattle.rules.specs.Counting.{gather}
 use Rattle.rules.specs.Anodes.{limit}
 use Rattle.rules.specs.Chains.{chainOf, run, blocksOf}
 use Rattle.anodes.specs.Loaded.{anodesFrom}
+
+-- a run of blocks: its first, and those after it
+pub run-none : (b n : ℕ) → n ≡ 0 → run b n ≡ []
+unfolding run
+run-none b n e = rw e
+
+pub run-step : (b n m : ℕ) → n ≡ m + 1 → run b n ≡ b ∷ run (b + 1) m
+unfolding run
+run-step b n m e = rw (e, add-one m, add-one b)
 
 -- the blocks of at most k anodes from a on
 unfoldable pub blocksAlong : List ℕ → List ℕ → List ℕ → ℕ → ℕ → List ℕ

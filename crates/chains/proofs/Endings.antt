@@ -6,18 +6,18 @@ use mathlib.Core.Bool.{Bool, true, false, not, _&&_}
 use mathlib.Core.List.{List}
 use native.Mathlib.Omega.{arith}
 use native.Mathlib.Numerals.{add-one}
-use lib.ListN.{length, getD, set, replicate, length-set, length-replicate, List·getD-eq-default}
+use lib.ListN.{length, getD, set, replicate, length-set, length-replicate}
 use lib.Seq.{getD-set-same, getD-set-other}
 use lib.Dec.{T, eqb, eqb→eq, T-not, not-T}
 use Rattle.endian.proofs.Laws.{getD-zeros}
 use Rattle.rules.specs.Counting.{anyBelow}
 use Rattle.rules.specs.Chains.{followed}
-use Rattle.laws.specs.Tests.{same?, less?, eq→eqb, both, and, any-some, some-any}
+use Rattle.laws.specs.Tests.{same?, eq→eqb, both, and, any-some, some-any}
 use Rattle.laws.specs.Segments.{followed-zero}
 use Rattle.chains.specs.Predecessors.{Closed, PredTable}
 use Rattle.chains.specs.Storing.{storedAlong}
 use Rattle.chains.specs.Endings.{EndsBelow, unmarked, Endless, AllEnd, Ends}
-use Rattle.chains.proofs.Storing.{stored-length, stored-kept}
+use Rattle.chains.proofs.Storing.{entry-below, stored-length, stored-kept}
 
 -- ---- following next
 
@@ -87,6 +87,7 @@ module _ (t n : List ℕ) (w : PredTable t n) (first : getD n 0 0 ≡ 0) (limit 
   back-marked (suc k) m (suc a) whole h l (suc j) x b e =
       back-marked k (set m (suc a) 1) (getD t (suc a) 0) (whole ∙ sym (length-set m (suc a) 1)) (rw is before-some) (rw (is, length-set m (suc a) 1) before-in) j x (omega arith) (sym is)
     where
+      -- the anode that leads to a
       before : ℕ
       before = followed (λ y. getD n y 0) j x
 
@@ -100,10 +101,7 @@ module _ (t n : List ℕ) (w : PredTable t n) (first : getD n 0 0 ≡ 0) (limit 
       before-some z = omega (arith, sym leads ∙ ap (λ (y : ℕ). getD n y 0) z ∙ first)
 
       before-in : before < length m
-      before-in = elim (less? before (length m)) [
-        | inl q ↦ q
-        | inr q ↦ absurd (omega (arith, sym leads ∙ List·getD-eq-default n 0 (rw whole q)))
-      ]
+      before-in = rw (← whole) (entry-below n before (λ z. omega (arith, sym leads ∙ z)))
 
 -- ---- the ends, one anode after the other
 
@@ -141,7 +139,7 @@ module _ (n b : List ℕ) where
 
   module _ (m : List ℕ) (w : EndsBelow m n b 3444) (whole : length b ≡ 3444) where
     below : (a : ℕ) → getD b a 0 ≢ 0 → a < 3444
-    below a u = elim (less? a 3444) [ inl l ↦ l | inr l ↦ absurd (u (List·getD-eq-default b 0 (rw whole l))) ]
+    below a u = rw whole at (entry-below b a u)
 
     all-end : anyBelow (unmarked b m) 3444 ≡ false → AllEnd n b
     unfolding unmarked

@@ -4,16 +4,15 @@ use mathlib.Core.Path.{_≡_, refl, sym, ap, _∙_}
 use mathlib.Core.Logic.{_≢_, _⊎_, inl, inr}
 use mathlib.Core.List.{List, _++_}
 use native.Mathlib.Omega.{arith}
-use native.Mathlib.Nat.{zero-add}
 use lib.ListN.{length, getD, set, take, drop, length-set, take-append-drop}
-use lib.Seq.{getD-set-same, getD-set-other, drop-set-lt, ext-getD, getD-take, length-take-le}
+use lib.Seq.{getD-set-same, getD-set-other, drop-set-lt, getD-take, length-take-le}
 use borrow.Author.Tests.{eq-eqb, ne-eqb}
 use Rattle.disk.specs.AnodeBlocks.{listed}
-use Rattle.disk.proofs.Laws.{getD-listed, length-listed}
 use Rattle.rules.specs.Chains.{followed, headOf}
 use Rattle.rules.specs.Tables.{chainHead, anodeEntry, anodeTable}
 use Rattle.anodes.specs.Loaded.{anodesFrom}
 use Rattle.laws.specs.Tests.{same?}
+use Rattle.laws.specs.OwnerTable.{listed-is}
 use Rattle.laws.specs.Links.{View, Linked, next-below, checked}
 use Rattle.laws.specs.Heads.{Head, chain-ind, headOf-heads}
 use Rattle.chains.specs.Predecessors.{PredTable}
@@ -43,6 +42,7 @@ module _ (n b : List ℕ) (v : View 3444 (λ a. getD n a 0) (λ a. getD b a 0)) 
         stored-rest f (set m (suc a) h) (getD n (suc a) 0) (on-next (suc a) (λ z. omega arith) on)
         ∙ drop-set-lt 3444 m (suc a) h (v .below (suc a) (on (λ z. omega arith) .0))
 
+    -- each entry that is not 0 is the head of its anode's chain
     Right : List ℕ → Type 0
     Right m = (x : ℕ) → x < 3444 → getD m x 0 ≢ 0 → getD m x 0 ≡ headOf 3444 (λ a. getD n a 0) (λ a. getD b a 0) x
 
@@ -148,13 +148,7 @@ module _ (n b : List ℕ) (v : View 3444 (λ a. getD n a 0) (λ a. getD b a 0)) 
 
     pub fill-done : (c rest : List ℕ) → drop 3444 m ≡ rest → m ≡ anodeTable (anodesFrom c b n) ++ rest
     unfolding anodeTable
-    fill-done c rest e = rw (← e, ← front) (sym (take-append-drop 3444 m))
+    fill-done c rest e = rw (← e, front) (sym (take-append-drop 3444 m))
       where
-        front : take 3444 m ≡ listed (anodeEntry (anodesFrom c b n)) 0 3444
-        front = ext-getD 0 (take 3444 m) (listed (anodeEntry (anodesFrom c b n)) 0 3444)
-            (short ∙ sym (length-listed (anodeEntry (anodesFrom c b n)) 0 3444))
-            (λ i l. let j : i < 3444 = omega (arith, short) in
-            getD-take 3444 m i 0 j ∙ entry-is c i j ∙ ap (anodeEntry (anodesFrom c b n)) (sym (zero-add i)) ∙ sym (getD-listed (anodeEntry (anodesFrom c b n)) 0 3444 i 0 j))
-          where
-            short : length (take 3444 m) ≡ 3444
-            short = length-take-le 3444 m (w .long)
+        front : listed (anodeEntry (anodesFrom c b n)) 0 3444 ≡ take 3444 m
+        front = listed-is (anodeEntry (anodesFrom c b n)) 3444 (take 3444 m) (length-take-le 3444 m (w .long)) (λ i l. sym (getD-take 3444 m i 0 l ∙ entry-is c i l))

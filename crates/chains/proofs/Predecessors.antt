@@ -4,14 +4,16 @@ use mathlib.Core.Path.{_≡_, sym, ap, _∙_}
 use mathlib.Core.Logic.{_≢_, inl, inr}
 use mathlib.Core.List.{List}
 use native.Mathlib.Omega.{arith}
-use lib.ListN.{length, getD, set, replicate, List·getD-eq-default}
+use lib.ListN.{length, getD, set, replicate}
 use lib.Seq.{getD-set-same, getD-set-other}
 use Rattle.endian.proofs.Laws.{getD-zeros}
 use Rattle.rules.specs.Counting.{oneAt}
 use Rattle.rules.specs.Chains.{preds}
-use Rattle.laws.specs.Tests.{same?, less?}
-use Rattle.laws.specs.Sums.{oneAt-same, oneAt-other, oneAt-cases, oneAt-le, sum-member, sum-members, sum-zero, sum-le-one}
+use Rattle.laws.specs.Tests.{same?}
+use Rattle.laws.specs.Sums.{oneAt-same, oneAt-cases, oneAt-le, sum-member, sum-members, sum-le-one}
+use Rattle.laws.specs.Links.{preds-none as none-before}
 use Rattle.chains.specs.Predecessors.{PredTable, NotedBelow, Twice}
+use Rattle.chains.proofs.Storing.{entry-below}
 
 pub noted-none : (n : List ℕ) → NotedBelow (replicate 3444 0) n 0
 noted-none n = record {
@@ -66,7 +68,7 @@ module _ (t n : List ℕ) (a : ℕ) (w : NotedBelow t n a) where
 pub table-of : (t n : List ℕ) → length n ≡ 3444 → NotedBelow t n 3444 → PredTable t n
 table-of t n whole w = record {
   is-pred = w .is-pred;
-  only = λ p h. elim (less? p 3444) [ inl l ↦ w .only p l h | inr l ↦ absurd (h (List·getD-eq-default n 0 (rw whole l))) ];
+  only = λ p h. w .only p (rw whole at (entry-below n p h)) h;
 }
 
 module _ (t n : List ℕ) (w : PredTable t n) where
@@ -78,15 +80,13 @@ module _ (t n : List ℕ) (w : PredTable t n) where
   no-pred first x h z p e = h (sym e ∙ ap (λ (q : ℕ). getD n q 0) (sym (pred-is p x h e) ∙ z) ∙ first)
 
   pub preds-none : getD n 0 0 ≡ 0 → (x : ℕ) → x ≢ 0 → getD t x 0 ≡ 0 → preds 3444 (λ a. getD n a 0) x ≡ 0
-  unfolding preds
-  preds-none first x h z = sum-zero (λ p. oneAt (getD n p 0) x) 3444 (λ p l. oneAt-other (getD n p 0) x (no-pred first x h z p))
+  preds-none first x h z = none-before 3444 (λ a. getD n a 0) x (no-pred first x h z)
 
   pub preds-some : length n ≡ 3444 → (x : ℕ) → x ≢ 0 → getD t x 0 ≢ 0 → 0 < preds 3444 (λ a. getD n a 0) x
   unfolding preds
-  preds-some whole x h z = elim (less? (getD t x 0) 3444) [
-    | inl l ↦ omega (arith, sum-member (λ p. oneAt (getD n p 0) x) (getD t x 0) 3444 l, oneAt-same (getD n (getD t x 0) 0) x (w .is-pred x z))
-    | inr l ↦ absurd (h (sym (w .is-pred x z) ∙ List·getD-eq-default n 0 (rw whole l)))
-  ]
+  preds-some whole x h z =
+      let l : getD t x 0 < 3444 = rw whole at (entry-below n (getD t x 0) (λ q. h (sym (w .is-pred x z) ∙ q))) in
+      omega (arith, sum-member (λ p. oneAt (getD n p 0) x) (getD t x 0) 3444 l, oneAt-same (getD n (getD t x 0) 0) x (w .is-pred x z))
 
   pub preds-one : (x : ℕ) → x ≢ 0 → preds 3444 (λ a. getD n a 0) x ≤ 1
   unfolding preds

@@ -1,5 +1,5 @@
--- A number stored along a walk, one step after the other.
-use Prim.Native.Nat.{ℕ, zero, suc, _+_}
+-- Entries that are not 0, and a number stored along a walk, one step after the other.
+use Prim.Native.Nat.{ℕ, zero, suc, _+_, _<_}
 use mathlib.Core.Path.{_≡_, refl, _∙_}
 use mathlib.Core.Logic.{_≢_, inl, inr}
 use mathlib.Core.List.{List}
@@ -8,6 +8,10 @@ use lib.ListN.{length, getD, set, length-set, List·getD-eq-default}
 use lib.Seq.{getD-set-same, getD-set-other}
 use Rattle.laws.specs.Tests.{same?, less?}
 use Rattle.chains.specs.Storing.{storedAlong}
+
+-- an entry that is not 0 stands in the table
+pub entry-below : (l : List ℕ) (a : ℕ) → getD l a 0 ≢ 0 → a < length l
+entry-below l a h = elim (less? a (length l)) [ inl k ↦ k | inr k ↦ absurd (h (List·getD-eq-default l 0 k)) ]
 
 module _ (links : List ℕ) (v : ℕ) where
   pub stored-none : (m : List ℕ) (a : ℕ) → storedAlong 0 links m v a ≡ m
@@ -34,10 +38,7 @@ module _ (links : List ℕ) (v : ℕ) where
     -- storing takes no entry away
     pub set-kept : (m : List ℕ) (i x : ℕ) → getD m x 0 ≢ 0 → getD (set m i v) x 0 ≢ 0
     set-kept m i x h = elim (same? x i) [
-      | inl e ↦ elim (less? i (length m)) [
-        | inl l ↦ rw (e, getD-set-same m i v 0 l) some
-        | inr l ↦ absurd (h (List·getD-eq-default m 0 (rw e l)))
-      ]
+      | inl e ↦ rw (e, getD-set-same m i v 0 (rw e at (entry-below m x h))) some
       | inr e ↦ rw (getD-set-other m i x v 0 e) h
     ]
 

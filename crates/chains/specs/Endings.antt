@@ -26,6 +26,7 @@ pub record Endless (nexts firsts : List ℕ) : Type 0 where
   pub in-use : getD firsts anode 0 ≢ 0
   pub never : followed (λ a. getD nexts a 0) 3444 anode ≢ 0
 
+-- every chain ends
 pub record AllEnd (nexts firsts : List ℕ) : Type 0 where
   pub ends : (a : ℕ) → a ≢ 0 → getD firsts a 0 ≢ 0 → followed (λ x. getD nexts x 0) 3444 a ≡ 0
 

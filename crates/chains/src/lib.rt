@@ -20,37 +20,27 @@ use tables::entry;
 use tables::set_entry;
 use tables::zero_first;
 
-// Anode 0 is not (0, 65535, 0).
-fn wrong_zero(counts: &[u16], firsts: &[u16], nexts: &[u16]) -> bool
-    ensures { λ r. ⌜ r ≡ not (eqb (getD (now (counts .entry)) 0 0) 0 && (eqb (getD (now (firsts .entry)) 0 0) 65535 && eqb (getD (now (nexts .entry)) 0 0) 0)) ⌝ }
+// Anode `a` is not an empty one in use: its count is not 0, or its block not 65535.
+fn not_empty(counts: &[u16], firsts: &[u16], a: usize) -> bool
+    ensures { λ r. ⌜ r ≡ not (eqb (getD (now (counts .entry)) a 0) 0 && eqb (getD (now (firsts .entry)) a 0) 65535) ⌝ }
 {
-    if entry(counts, 0) != 0 {
+    if entry(counts, a) != 0 {
         return true;
     }
-    if entry(firsts, 0) != 65535 {
-        return true;
-    }
-    entry(nexts, 0) != 0
-}
-
-// Anode 1's count is not 0, or its block not 65535.
-fn wrong_one(counts: &[u16], firsts: &[u16]) -> bool
-    ensures { λ r. ⌜ r ≡ not (eqb (getD (now (counts .entry)) 1 0) 0 && eqb (getD (now (firsts .entry)) 1 0) 65535) ⌝ }
-{
-    if entry(counts, 1) != 0 {
-        return true;
-    }
-    entry(firsts, 1) != 65535
+    entry(firsts, a) != 65535
 }
 
 // 6: the fixed anodes.
 pub fn wrong_fixed(counts: &[u16], firsts: &[u16], nexts: &[u16]) -> bool
     ensures { λ r. ⌜ r ≡ wrongFixed (anodesFrom (now (counts .entry)) (now (firsts .entry)) (now (nexts .entry))) ⌝ }
 {
-    if wrong_zero(counts, firsts, nexts) {
+    if not_empty(counts, firsts, 0) {
         return true;
     }
-    if wrong_one(counts, firsts) {
+    if entry(nexts, 0) != 0 {
+        return true;
+    }
+    if not_empty(counts, firsts, 1) {
         return true;
     }
     if entry(firsts, 2) == 0 {

@@ -5,8 +5,9 @@ use mathlib.Core.Bool.{Bool, false, not}
 use mathlib.Core.List.{List, [], map}
 use mathlib.Core.Option.{Option, some}
 use native.Mathlib.Omega.{arith}
-use lib.Dec.{eqb}
+use lib.Dec.{eqb, ltb}
 use lib.ListN.{getD}
+use borrow.Author.Tests.{lt-ltb}
 use Rattle.rules.specs.Counting.{times, anyIn}
 use Rattle.rules.specs.Anodes.{Anodes, limit, anodesOf}
 use Rattle.rules.specs.Walk.{Entered, Dir}
@@ -19,12 +20,11 @@ use Rattle.changes.specs.Image.{accepted-whole}
 use Rattle.changes.specs.Reached.{reached-head, reached-unbroken}
 use Rattle.lookup.specs.declared.EntryAt.{EntryAt}
 use Rattle.lookup.specs.declared.Lookup.{Lookup}
-use Rattle.lookup.specs.declared.Lookup.the-variants.{Found, Missing}
+use Rattle.lookup.specs.declared.Lookup.the-variants.{Found}
 use Rattle.lookup.specs.Answers.{entered, entryOf}
-use Rattle.lookup.specs.Queued.{isQueued}
-use Rattle.lookup.proofs.Queue.{place-queued, queued-times}
+use Rattle.lookup.specs.Queued.{placeOf}
+use Rattle.lookup.proofs.Queue.{place-found, place-times}
 use Rattle.find.specs.Open.{Open}
-use Rattle.find.specs.Found.{searchNumber}
 
 module _ {img counts firsts nexts queue parents heads : List ℕ} {dirs : ℕ} (o : Open img counts firsts nexts queue parents heads dirs) where
   -- the test of 21 is the search in the queue
@@ -33,8 +33,10 @@ module _ {img counts firsts nexts queue parents heads : List ℕ} {dirs : ℕ} (
   reached-queued h r e = sym (e parents ∙ ap (λ (l : List Dir). eqb (times h (map (λ d. d .head) l)) 0) (o .queued))
 
   queued-reached : (i : ℕ) → i < dirs → noDirectory img (anodesOf img) (getD queue i 0) ≡ false
-  unfolding queueOf
-  queued-reached i l = reached-queued (getD queue i 0) (isQueued queue (getD queue i 0) 0 dirs) (λ p. queued-times queue (getD queue i 0) p 0 dirs) ∙ ap not (place-queued queue (getD queue i 0) 0 dirs i (omega arith) (omega arith) refl)
+  queued-reached i l =
+      let h = getD queue i 0 in
+      let found = place-found queue h 0 dirs i (omega arith) (omega arith) refl in
+      reached-queued h (ltb (placeOf queue h 0 dirs) dirs) (λ p. place-times queue h p dirs) ∙ ap not (lt-ltb (placeOf queue h 0 dirs) dirs (omega (arith, found)))
 
   -- a reached directory's head is its own head in the table that the check filled
   pub own-heads : (i : ℕ) → i < dirs → getD heads (getD queue i 0) 0 ≡ getD queue i 0
@@ -52,10 +54,6 @@ module _ {img counts firsts nexts queue parents heads : List ℕ} {dirs : ℕ} (
   pub by-image : {X : Type 0} (f : Anodes → X) (x : X) → ((c : List ℕ) → x ≡ f (anodesFrom c firsts nexts)) → x ≡ f (anodesOf img)
   by-image f x e = e counts ∙ ap f (o .loaded)
 
--- ---- the answer of a search
-
-pub search-22 : (missing : Bool) (e : Option Entered) (r : Lookup) → missing ≡ false → entryOf r ≡ e → r ≡ Missing → searchNumber missing e ≡ 22
-search-22 missing e r is found m = rw (is, ← found, m)
-
+-- the entry that a lookup found is the one that is looked for
 pub search-found : (e : Option Entered) (r : Lookup) (x : EntryAt) → entryOf r ≡ e → r ≡ Found x → e ≡ some (entered x)
 search-found e r x found is = sym found ∙ ap entryOf is

@@ -1,6 +1,8 @@
 // Finds an entry, by its name or by its place, in a directory of an accepted image.
+ghost use mathlib.Core.Bool.{false};
 ghost use Rattle.rules.specs.Anodes.{anodesOf};
 ghost use Rattle.rules.specs.Lookup.{noDirectory, entryNamed, entriesOf, nth};
+ghost use Rattle.lookup.specs.Answers.{entryOf};
 ghost use Rattle.find.specs.Open.{OpenFor};
 ghost use Rattle.find.specs.Found.{Finds};
 use disk::AnodeNo;
@@ -15,6 +17,16 @@ use lookup::nth_entry;
 pub enum Search {
     Found(EntryAt),
     Refused(Refusal),
+}
+
+// The answer of a search in a reached directory: the entry that was found, or 22.
+fn answer_of(found: Lookup) -> Search
+    ensures { λ r. ⌜ Finds r false (entryOf found) ⌝ }
+{
+    match found {
+        Lookup::Found(e) => Search::Found(e),
+        Lookup::Missing => Search::Refused(Refusal::NotFound),
+    }
 }
 
 // The first entry with that name in the directory that `head` heads; 21, then 22.
@@ -35,10 +47,7 @@ pub fn find_named(
         return Search::Refused(Refusal::NoDirectory);
     }
     let found = entry_named(image, firsts, nexts, head, name);
-    match found {
-        Lookup::Found(e) => Search::Found(e),
-        Lookup::Missing => Search::Refused(Refusal::NotFound),
-    }
+    answer_of(found)
 }
 
 // The n-th entry, from 0, of the directory that `head` heads; 21, then 22.
@@ -59,8 +68,5 @@ pub fn find_nth(
         return Search::Refused(Refusal::NoDirectory);
     }
     let found = nth_entry(image, firsts, nexts, head, n);
-    match found {
-        Lookup::Found(e) => Search::Found(e),
-        Lookup::Missing => Search::Refused(Refusal::NotFound),
-    }
+    answer_of(found)
 }

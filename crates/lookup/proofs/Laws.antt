@@ -1,6 +1,6 @@
 -- Laws of the rules' entries and lookups, from a place on. Assumes nothing.
-use Prim.Native.Nat.{ℕ, zero, suc, _+_, _*_, _/_, _%_, _<_, _≤_}
-use mathlib.Core.Path.{_≡_, refl, ap, _∙_}
+use Prim.Native.Nat.{ℕ, suc, _+_, _*_, _/_, _%_, _<_, _≤_}
+use mathlib.Core.Path.{_≡_, refl, ap, sym}
 use mathlib.Core.Bool.{Bool, true, false, and-false, true≢false}
 use mathlib.Core.List.{List, [], _∷_, _++_}
 use mathlib.Core.Option.{Option, none, some}
@@ -13,7 +13,7 @@ use borrow.Author.Tests.{eq-eqb, ne-eqb}
 use Rattle.disk.specs.declared.Refusal.{Refusal}
 use Rattle.disk.specs.Blocks.{blockOf}
 use Rattle.directory.specs.declared.Entry.{Entry}
-use Rattle.directory.specs.declared.Walked.the-variants.{Found, End, Fault}
+use Rattle.directory.specs.declared.Walked.the-variants.{Found, Fault}
 use Rattle.directory.specs.Entries.{nameIn, walkedAt}
 use Rattle.directory.proofs.Laws.{found-at}
 use Rattle.counting.specs.Laws.{neither}
@@ -23,7 +23,9 @@ use Rattle.rules.specs.Chains.{chainOf}
 use Rattle.rules.specs.Walk.{Entered, entriesFrom, entriesIn}
 use Rattle.rules.specs.Lookup.{nameAt, isNamed, firstNamed, entryNamed, entriesOf, nth}
 use Rattle.anodes.specs.Loaded.{anodesFrom}
-use Rattle.lookup.specs.Answers.{placed, entered, Unbroken}
+use Rattle.tree.specs.Steps.{enteredAt}
+use Rattle.tree.proofs.Laws.{gathered-step, entries-fault, entries-step}
+use Rattle.lookup.specs.Answers.{placed, entered, orElse, onlyIf, Unbroken}
 
 -- ---- bytes from `i` on
 
@@ -57,47 +59,50 @@ is-named img y block at name e is h =
     let q : (y * 512 + at) % 512 ≡ at = omega arith in
     rw (p, q, is)
 
-first-hit : (img name : List ℕ) (e : Entered) (es : List Entered) → isNamed img name e ≡ true → firstNamed img name (e ∷ es) ≡ some e
+first-step : (img name : List ℕ) (e : Entered) (es : List Entered) → firstNamed img name (e ∷ es) ≡ orElse (onlyIf (isNamed img name e) e) (firstNamed img name es)
 unfolding firstNamed
-first-hit img name e es h = rw (h, firstNamed)
+first-step img name e es = cases (isNamed img name e) where
+  cases : (b : Bool) → elim b [ true ↦ some e | false ↦ firstNamed img name es ] ≡ orElse (onlyIf b e) (firstNamed img name es)
+  cases true = refl
+  cases false = refl
 
-first-pass : (img name : List ℕ) (e : Entered) (es : List Entered) → isNamed img name e ≡ false → firstNamed img name (e ∷ es) ≡ firstNamed img name es
-unfolding firstNamed
-first-pass img name e es h = rw (h, firstNamed)
+or-assoc : (one two three : Option Entered) → orElse (orElse one two) three ≡ orElse one (orElse two three)
+or-assoc none two three = refl
+or-assoc (some e) two three = refl
 
-pub none-left : (block : List ℕ) (y k at : ℕ) → k ≡ 0 → entriesFrom k block y at ≡ []
-unfolding entriesFrom
-none-left block y k at e = rw e
+or-none : (o : Option Entered) → orElse o none ≡ o
+or-none none = refl
+or-none (some e) = refl
 
 module _ (block : List ℕ) (y k m at : ℕ) (fuel : k ≡ m + 1) where
-  pub ended : walkedAt block at ≡ End → entriesFrom k block y at ≡ []
-  unfolding entriesFrom
-  ended e = rw (fuel, add-one m, e)
-
   pub unbroken-no-fault : (r : Refusal) → walkedAt block at ≡ Fault r → Unbroken (entriesFrom k block y at) → ⊥
-  unfolding entriesFrom anyIn
-  unbroken-no-fault r e u = true≢false (rw (fuel, add-one m, e) at u)
+  unfolding anyIn
+  unbroken-no-fault r e u = true≢false (rw (entries-fault block y k m at fuel r e) at u)
 
   module _ (e : Entry) (is : walkedAt block at ≡ Found e) where
     one-more : entriesFrom k block y at ≡ entered (placed e (y * 512 + at)) ∷ entriesFrom m block y (at + getD block at 0)
-    unfolding entriesFrom
-    one-more = rw (fuel, add-one m, is)
+    unfolding enteredAt
+    one-more = entries-step block y k m at fuel e is
 
     pub unbroken-rest : Unbroken (entriesFrom k block y at) → Unbroken (entriesFrom m block y (at + getD block at 0))
     unfolding anyIn
     unbroken-rest u = rw one-more at u
 
     module _ (img name : List ℕ) (part : block ≡ blockOf img y) where
-      pub named-here : sameBytes (nameIn block at) name ≡ true → firstNamed img name (entriesFrom k block y at) ≡ some (entered (placed e (y * 512 + at)))
-      named-here h = rw one-more (first-hit img name _ _ (is-named img y block at name e part (omega (arith, found-at block at e is .room)) ∙ h))
-
-      pub named-behind : sameBytes (nameIn block at) name ≡ false
-          → firstNamed img name (entriesFrom k block y at) ≡ firstNamed img name (entriesFrom m block y (at + getD block at 0))
-      named-behind h = rw one-more (first-pass img name _ _ (is-named img y block at name e part (omega (arith, found-at block at e is .room)) ∙ h))
+      -- an entry passed: the first found so far with the entries from the place on, and with the one at the place before those behind it
+      pub named-passed : (found : Option Entered)
+          → orElse (orElse found (onlyIf (sameBytes (nameIn block at) name) (entered (placed e (y * 512 + at))))) (firstNamed img name (entriesFrom m block y (at + getD block at 0)))
+          ≡ orElse found (firstNamed img name (entriesFrom k block y at))
+      named-passed found =
+          rw (one-more, first-step img name (entered (placed e (y * 512 + at))) (entriesFrom m block y (at + getD block at 0)), is-named img y block at name e part (omega (arith, found-at block at e is .room)))
+          (or-assoc found (onlyIf (sameBytes (nameIn block at) name) (entered (placed e (y * 512 + at)))) (firstNamed img name (entriesFrom m block y (at + getD block at 0))))
 
 pub named-none : (img name : List ℕ) (es : List Entered) → es ≡ [] → firstNamed img name es ≡ none
 unfolding firstNamed
 named-none img name es e = rw e
+
+pub named-ended : (img name : List ℕ) (es : List Entered) (found : Option Entered) → es ≡ [] → orElse found (firstNamed img name es) ≡ found
+named-ended img name es found e = rw (named-none img name es e) (or-none found)
 
 -- ---- counting down over the entries of a block, with others behind them
 
@@ -113,31 +118,21 @@ module _ (block : List ℕ) (y k m at : ℕ) (fuel : k ≡ m + 1) (e : Entry) (i
   unfolding nth
   nth-behind l p = rw (one-more block y k m at fuel e is, p, add-one l)
 
--- ---- the entries along a chain of at most k anodes, from anode a on
+-- ---- the entries along a chain
 
+-- the entries of at most k anodes from a on
 unfoldable pub entriesAlong : List ℕ → List ℕ → List ℕ → ℕ → ℕ → List Entered
 entriesAlong img firsts nexts k a = gather (λ x. entriesIn img (getD firsts x 0)) (chainOf (λ x. getD nexts x 0) k a)
 
-module _ (img firsts nexts : List ℕ) where
-  -- the counts are not looked at
-  pub along-whole : (c : List ℕ) (h : ℕ) → entriesOf img (anodesFrom c firsts nexts) h ≡ entriesAlong img firsts nexts limit h
-  unfolding entriesOf anodesFrom entriesAlong
-  along-whole c h = refl
-
-  pub along-none : (k a : ℕ) → k ≡ 0 → entriesAlong img firsts nexts k a ≡ []
-  unfolding entriesAlong chainOf gather
-  along-none k a e = rw e
-
-  module _ (k m a : ℕ) (fuel : k ≡ m + 1) where
-    pub along-end : a ≡ 0 → entriesAlong img firsts nexts k a ≡ []
-    unfolding entriesAlong chainOf gather
-    along-end z = rw (fuel, add-one m, z)
+-- the counts are not looked at
+pub along-whole : (img firsts nexts c : List ℕ) (h : ℕ) → entriesOf img (anodesFrom c firsts nexts) h ≡ entriesAlong img firsts nexts limit h
+unfolding entriesOf anodesFrom entriesAlong
+along-whole img firsts nexts c h = refl
 
 along-step : (img firsts nexts : List ℕ) (k m a : ℕ) → k ≡ m + 1 → (a ≡ 0 → ⊥)
     → entriesAlong img firsts nexts k a ≡ entriesIn img (getD firsts a 0) ++ entriesAlong img firsts nexts m (getD nexts a 0)
-unfolding entriesAlong chainOf gather
-along-step img firsts nexts k m zero fuel n = absurd (n refl)
-along-step img firsts nexts k m (suc a) fuel n = rw (fuel, add-one m)
+unfolding entriesAlong
+along-step img firsts nexts k m a fuel n = gathered-step (λ x. entriesIn img (getD firsts x 0)) (λ x. getD nexts x 0) k m a fuel n
 
 unbroken-append : (xs ys : List Entered) → Unbroken (xs ++ ys) → Unbroken xs × Unbroken ys
 unfolding anyIn
@@ -147,33 +142,23 @@ unbroken-append (x ∷ xs) ys u =
     let each = unbroken-append xs ys (both .1) in
     (rw (both .0, each .0), each .1)
 
-abbrev orElse : Option Entered → Option Entered → Option Entered
-orElse none o = o
-orElse (some e) o = some e
-
 first-append : (img name : List ℕ) (xs ys : List Entered) → firstNamed img name (xs ++ ys) ≡ orElse (firstNamed img name xs) (firstNamed img name ys)
 unfolding firstNamed
 first-append img name [] ys = refl
-first-append img name (e ∷ xs) ys = go (first-append img name xs ys) (isNamed img name e) refl where
-  go : firstNamed img name (xs ++ ys) ≡ orElse (firstNamed img name xs) (firstNamed img name ys) → (b : Bool) → isNamed img name e ≡ b
-      → firstNamed img name (e ∷ (xs ++ ys)) ≡ orElse (firstNamed img name (e ∷ xs)) (firstNamed img name ys)
-  go ih true p = rw (first-hit img name e (xs ++ ys) p, first-hit img name e xs p)
-  go ih false p = rw (first-pass img name e (xs ++ ys) p, first-pass img name e xs p) ih
+first-append img name (e ∷ xs) ys =
+    rw (first-step img name e (xs ++ ys), first-step img name e xs, first-append img name xs ys)
+    (sym (or-assoc (onlyIf (isNamed img name e) e) (firstNamed img name xs) (firstNamed img name ys)))
 
 module _ (img firsts nexts : List ℕ) (k m a : ℕ) (fuel : k ≡ m + 1) (some-anode : a ≡ 0 → ⊥) where
   pub unbroken-along : Unbroken (entriesAlong img firsts nexts k a)
       → Unbroken (entriesIn img (getD firsts a 0)) × Unbroken (entriesAlong img firsts nexts m (getD nexts a 0))
   unbroken-along u = unbroken-append (entriesIn img (getD firsts a 0)) (entriesAlong img firsts nexts m (getD nexts a 0)) (rw (along-step img firsts nexts k m a fuel some-anode) at u)
 
-  pub along-hit : (name : List ℕ) (e : Entered) → some e ≡ firstNamed img name (entriesIn img (getD firsts a 0))
-      → some e ≡ firstNamed img name (entriesAlong img firsts nexts k a)
-  along-hit name e h =
-      rw (along-step img firsts nexts k m a fuel some-anode, first-append img name (entriesIn img (getD firsts a 0)) (entriesAlong img firsts nexts m (getD nexts a 0)), ← h)
-
-  pub along-pass : (name : List ℕ) → none ≡ firstNamed img name (entriesIn img (getD firsts a 0))
-      → firstNamed img name (entriesAlong img firsts nexts m (getD nexts a 0)) ≡ firstNamed img name (entriesAlong img firsts nexts k a)
-  along-pass name h =
-      rw (along-step img firsts nexts k m a fuel some-anode, first-append img name (entriesIn img (getD firsts a 0)) (entriesAlong img firsts nexts m (getD nexts a 0)), ← h)
+  -- the first in the block of anode a, else the first behind it
+  pub named-along : (name : List ℕ) (o : Option Entered) → o ≡ firstNamed img name (entriesIn img (getD firsts a 0))
+      → orElse o (firstNamed img name (entriesAlong img firsts nexts m (getD nexts a 0))) ≡ firstNamed img name (entriesAlong img firsts nexts k a)
+  named-along name o h =
+      rw (along-step img firsts nexts k m a fuel some-anode, first-append img name (entriesIn img (getD firsts a 0)) (entriesAlong img firsts nexts m (getD nexts a 0)), h)
 
   pub nth-along : (n : ℕ) (o : Option Entered) → o ≡ nth (entriesIn img (getD firsts a 0) ++ entriesAlong img firsts nexts m (getD nexts a 0)) n
       → o ≡ nth (entriesAlong img firsts nexts k a) n

@@ -2,85 +2,90 @@
 use Prim.Native.Nat.{ℕ, zero, suc, _+_, _≤_, _<_}
 use mathlib.Core.Path.{_≡_, refl, sym, ap, _∙_}
 use mathlib.Core.Logic.{inl, inr}
-use mathlib.Core.Bool.{Bool, true, false, cond, not, _||_, false≢true}
+use mathlib.Core.Bool.{cond, not}
 use mathlib.Core.List.{List, map}
+use native.Mathlib.Nat.{zero-add}
 use native.Mathlib.Numerals.{add-one}
 use native.Mathlib.Omega.{arith}
-use lib.Dec.{eqb}
+use lib.Dec.{eqb, ltb}
 use lib.ListN.{getD}
-use borrow.Author.Tests.{eq-eqb, ne-eqb, eqb-true}
-use Rattle.endian.proofs.Laws.{eq-or-ne}
-use Rattle.rules.specs.Counting.{oneAt, sumList, times}
+use borrow.Author.Tests.{eq-eqb, ne-eqb, lt-ltb, le-ltb}
+use Rattle.endian.proofs.Laws.{le-or-lt, eq-or-ne}
+use Rattle.rules.specs.Counting.{times}
 use Rattle.rules.specs.Changes.{parentOf}
-use Rattle.tree.specs.Steps.{dirsFrom}
-use Rattle.lookup.specs.Queued.{isQueued}
+use Rattle.laws.specs.Sums.{oneAt-same, oneAt-other}
+use Rattle.laws.specs.Bags.{times-nil, times-cons}
+use Rattle.tree.specs.Steps.{dirsFrom, queueOf}
+use Rattle.lookup.specs.Queued.{placeOf}
 
 module _ (queue : List ℕ) (h : ℕ) where
-  pub queued-hit : (i n m : ℕ) → n ≡ suc m → getD queue i 0 ≡ h → isQueued queue h i n ≡ true
-  unfolding isQueued
-  queued-hit i n m e is = rw (e, eq-eqb (getD queue i 0) h is)
+  pub place-hit : (i n m : ℕ) → n ≡ suc m → getD queue i 0 ≡ h → placeOf queue h i n ≡ i
+  unfolding placeOf
+  place-hit i n m e is = rw (e, eq-eqb (getD queue i 0) h is)
 
-  pub queued-pass : (i n m : ℕ) → n ≡ suc m → (getD queue i 0 ≡ h → ⊥) → isQueued queue h i n ≡ isQueued queue h (i + 1) m
-  unfolding isQueued
-  queued-pass i n m e is = rw (e, ne-eqb (getD queue i 0) h is, add-one i)
+  pub place-pass : (i n m : ℕ) → n ≡ suc m → (getD queue i 0 ≡ h → ⊥) → placeOf queue h i n ≡ placeOf queue h (i + 1) m
+  unfolding placeOf
+  place-pass i n m e is = rw (e, ne-eqb (getD queue i 0) h is, add-one i)
 
-  pub queued-none : (i n : ℕ) → n ≡ 0 → isQueued queue h i n ≡ false
-  unfolding isQueued
-  queued-none i n e = rw e
+  pub place-none : (i n : ℕ) → n ≡ 0 → placeOf queue h i n ≡ i
+  unfolding placeOf
+  place-none i n e = rw e
 
-  -- a number that is queued stands at some place
-  queued-at : (i n : ℕ) → isQueued queue h i n ≡ true → (j : ℕ) × (j < i + n) × (getD queue j 0 ≡ h)
-  unfolding isQueued
-  queued-at i zero e = absurd (false≢true e)
-  queued-at i (suc n) e = go (eqb (getD queue i 0) h) refl e (queued-at (suc i) n)
-    where
-      go : (b : Bool) → eqb (getD queue i 0) h ≡ b → (b || isQueued queue h (suc i) n) ≡ true → (isQueued queue h (suc i) n ≡ true → (j : ℕ) × (j < suc i + n) × (getD queue j 0 ≡ h)) →
-          (j : ℕ) × (j < i + suc n) × (getD queue j 0 ≡ h)
-      go true p q r = (i, omega arith, eqb-true (getD queue i 0) h p)
-      go false p q r = let k = r q in (k .0, omega (arith, k .1), k .2)
+  -- h stands at the place that is found
+  place-at : (i n : ℕ) → placeOf queue h i n < i + n → getD queue (placeOf queue h i n) 0 ≡ h
+  place-at i zero l = absurd (omega (arith, place-none i 0 refl))
+  place-at i (suc n) l = elim (eq-or-ne (getD queue i 0) h) [
+    | inl is ↦ rw (place-hit i (suc n) n refl is) is
+    | inr is ↦ rw (place-pass i (suc n) n refl is) (place-at (i + 1) n (omega (arith, l, place-pass i (suc n) n refl is)))
+  ]
 
-  -- a number that stands at a place is queued
-  pub place-queued : (i n j : ℕ) → i ≤ j → j < i + n → getD queue j 0 ≡ h → isQueued queue h i n ≡ true
-  place-queued i zero j a b e = absurd (omega arith)
-  place-queued i (suc n) j a b e = elim (eq-or-ne (getD queue i 0) h) [
-    | inl is ↦ queued-hit i (suc n) n refl is
-    | inr not ↦ queued-pass i (suc n) n refl not ∙ place-queued (i + 1) n j (after not) (omega arith) e
+  -- a place is found for a number that is queued
+  pub place-found : (i n j : ℕ) → i ≤ j → j < i + n → getD queue j 0 ≡ h → placeOf queue h i n < i + n
+  place-found i zero j a b e = absurd (omega arith)
+  place-found i (suc n) j a b e = elim (eq-or-ne (getD queue i 0) h) [
+    | inl is ↦ omega (arith, place-hit i (suc n) n refl is)
+    | inr is ↦ omega (arith, place-pass i (suc n) n refl is, place-found (i + 1) n j (after is) (omega arith) e)
   ]
     where
       after : (getD queue i 0 ≡ h → ⊥) → i + 1 ≤ j
-      after not = elim (eq-or-ne i j) [ inl q ↦ absurd (not (ap (λ (x : ℕ). getD queue x 0) q ∙ e)) | inr q ↦ omega (arith, a, q) ]
+      after is = elim (eq-or-ne i j) [ inl q ↦ absurd (is (ap (λ (x : ℕ). getD queue x 0) q ∙ e)) | inr q ↦ omega (arith, a, q) ]
 
-  -- a number that is not its own head in the table is not queued, where all queued ones are
-  pub not-queued : (heads : List ℕ) (n : ℕ) → ((i : ℕ) → i < n → getD heads (getD queue i 0) 0 ≡ getD queue i 0) → (getD heads h 0 ≡ h → ⊥) → isQueued queue h 0 n ≡ false
-  not-queued heads n own is = go (isQueued queue h 0 n) refl
-    where
-      go : (b : Bool) → isQueued queue h 0 n ≡ b → b ≡ false
-      go true e = absurd (let k = queued-at 0 n e in is (ap (λ (x : ℕ). getD heads x 0) (sym (k .2)) ∙ own (k .0) (omega (arith, k .1)) ∙ k .2))
-      go false e = refl
-
-  -- as the rules count it
-  pub queued-times : (parents : List ℕ) (i n : ℕ) → not (isQueued queue h i n) ≡ eqb (times h (map (λ d. d .head) (dirsFrom queue parents i n))) 0
-  unfolding isQueued dirsFrom times sumList oneAt
-  queued-times parents i zero = refl
-  queued-times parents i (suc n) = go (eqb (getD queue i 0) h) refl (queued-times parents (suc i) n)
-    where
-      rest : ℕ
-      rest = times h (map (λ d. d .head) (dirsFrom queue parents (suc i) n))
-
-      go : (b : Bool) → eqb (getD queue i 0) h ≡ b → not (isQueued queue h (suc i) n) ≡ eqb (times h (map (λ d. d .head) (dirsFrom queue parents (suc i) n))) 0 →
-          not (b || isQueued queue h (suc i) n) ≡ eqb (oneAt (getD queue i 0) h + times h (map (λ d. d .head) (dirsFrom queue parents (suc i) n))) 0
-      go true p q = let one : oneAt (getD queue i 0) h ≡ 1 = ap (λ (b : Bool). cond b 1 0) p in sym (ne-eqb (oneAt (getD queue i 0) h + rest) 0 (λ z. omega (arith, z, one)))
-      go false p q = let none : oneAt (getD queue i 0) h ≡ 0 = ap (λ (b : Bool). cond b 1 0) p in let e : rest ≡ oneAt (getD queue i 0) h + rest = omega (arith, none) in q ∙ ap (λ (k : ℕ). eqb k 0) e
+  -- none is found for a number that is not its own head in the table, where all queued ones are
+  pub place-out : (heads : List ℕ) (n : ℕ) → ((i : ℕ) → i < n → getD heads (getD queue i 0) 0 ≡ getD queue i 0) → (getD heads h 0 ≡ h → ⊥) → n ≤ placeOf queue h 0 n
+  place-out heads n own is = elim (le-or-lt n (placeOf queue h 0 n)) [
+    | inl l ↦ l
+    | inr l ↦ (let at = place-at 0 n (omega (arith, l)) in absurd (is (ap (λ (x : ℕ). getD heads x 0) (sym at) ∙ own (placeOf queue h 0 n) l ∙ at)))
+  ]
 
   module _ (parents : List ℕ) where
-    pub parent-hit : (i n m : ℕ) → n ≡ suc m → getD queue i 0 ≡ h → parentOf (dirsFrom queue parents i n) h ≡ getD parents i 0
-    unfolding parentOf dirsFrom
-    parent-hit i n m e is = rw (e, eq-eqb (getD queue i 0) h is)
+    times-from : (i n : ℕ) → not (ltb (placeOf queue h i n) (i + n)) ≡ eqb (times h (map (λ d. d .head) (dirsFrom queue parents i n))) 0
+    unfolding dirsFrom
+    times-from i zero = rw (place-none i 0 refl, le-ltb i (i + 0) (omega arith), times-nil h)
+    times-from i (suc n) =
+        let rest = times h (map (λ d. d .head) (dirsFrom queue parents (suc i) n)) in
+        let behind : i + suc n ≡ suc i + n = omega arith in
+        let none : 0 + rest ≡ rest = omega arith in
+        elim (eq-or-ne (getD queue i 0) h) [
+          | inl is ↦ rw (place-hit i (suc n) n refl is, lt-ltb i (i + suc n) (omega arith), times-cons h (getD queue i 0) (map (λ d. d .head) (dirsFrom queue parents (suc i) n)), oneAt-same (getD queue i 0) h is, ne-eqb (1 + rest) 0 (λ z. omega arith))
+          | inr is ↦ rw (place-pass i (suc n) n refl is, add-one i, behind, times-cons h (getD queue i 0) (map (λ d. d .head) (dirsFrom queue parents (suc i) n)), oneAt-other (getD queue i 0) h is, none) (times-from (suc i) n)
+        ]
 
-    pub parent-pass : (i n m : ℕ) → n ≡ suc m → (getD queue i 0 ≡ h → ⊥) → parentOf (dirsFrom queue parents i n) h ≡ parentOf (dirsFrom queue parents (i + 1) m) h
-    unfolding parentOf dirsFrom
-    parent-pass i n m e is = rw (e, ne-eqb (getD queue i 0) h is, add-one i)
+    -- as the rules count the directories with that head
+    pub place-times : (n : ℕ) → not (ltb (placeOf queue h 0 n) n) ≡ eqb (times h (map (λ d. d .head) (queueOf queue parents n))) 0
+    unfolding queueOf
+    place-times n = rw (zero-add n) at (times-from 0 n)
 
-    pub parent-none : (i n : ℕ) → n ≡ 0 → parentOf (dirsFrom queue parents i n) h ≡ 0
+    parent-from : (i n : ℕ) → parentOf (dirsFrom queue parents i n) h ≡ cond (ltb (placeOf queue h i n) (i + n)) (getD parents (placeOf queue h i n) 0) 0
     unfolding parentOf dirsFrom
-    parent-none i n e = rw e
+    parent-from i zero = rw (place-none i 0 refl, le-ltb i (i + 0) (omega arith))
+    parent-from i (suc n) =
+        let behind : i + suc n ≡ suc i + n = omega arith in
+        elim (eq-or-ne (getD queue i 0) h) [
+          | inl is ↦ rw (place-hit i (suc n) n refl is, lt-ltb i (i + suc n) (omega arith), eq-eqb (getD queue i 0) h is)
+          | inr is ↦ rw (place-pass i (suc n) n refl is, add-one i, behind, ne-eqb (getD queue i 0) h is) (parent-from (suc i) n)
+        ]
+
+    -- the parent that the rules find
+    pub place-parent : (n : ℕ) → parentOf (queueOf queue parents n) h ≡ cond (ltb (placeOf queue h 0 n) n) (getD parents (placeOf queue h 0 n) 0) 0
+    unfolding queueOf
+    place-parent n = rw (zero-add n) at (parent-from 0 n)

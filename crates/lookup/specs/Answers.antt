@@ -1,7 +1,7 @@
 -- The answer of a lookup: the entry that stands for each case.
 use Prim.Native.Nat.{ℕ}
 use mathlib.Core.Path.{_≡_}
-use mathlib.Core.Bool.{false}
+use mathlib.Core.Bool.{Bool, true, false}
 use mathlib.Core.List.{List}
 use mathlib.Core.Option.{Option, none, some}
 use Rattle.directory.specs.declared.Entry.{Entry}
@@ -23,9 +23,20 @@ placed e place = record { kind = e .kind; anode = e .anode; size = e .size; plac
 abbrev pub entered : EntryAt → Entered
 entered e = record { broken = false; dir = isDir (e .kind); anode = e .anode .0; size = e .size; place = e .place }
 
+-- the entry that a lookup found
 abbrev pub entryOf : Lookup → Option Entered
 entryOf (Found e) = some (entered e)
 entryOf Missing = none
+
+-- the first of two entries that is there
+abbrev pub orElse : Option Entered → Option Entered → Option Entered
+orElse (some e) o = some e
+orElse none o = o
+
+-- the entry, if the test holds
+abbrev pub onlyIf : Bool → Entered → Option Entered
+onlyIf true e = some e
+onlyIf false e = none
 
 -- the entry met while counting down, or the one in the entries behind
 abbrev pub orRest : Passed → List Entered → Option Entered

@@ -13,9 +13,9 @@ ghost use Rattle.rules.specs.Walk.{Entered, entriesIn};
 ghost use Rattle.rules.specs.Changes.{parentOf};
 ghost use Rattle.rules.specs.Lookup.{firstNamed, entryNamed, entriesOf, nth, bytesOf};
 ghost use Rattle.anodes.specs.Loaded.{anodesFrom};
-ghost use Rattle.lookup.specs.Answers.{entryOf, placed, Unbroken, orRest};
+ghost use Rattle.lookup.specs.Answers.{entered, entryOf, orElse, onlyIf, placed, Unbroken, orRest};
 ghost use Rattle.lookup.specs.Copied.{filled, Copied};
-ghost use Rattle.lookup.specs.Queued.{isQueued};
+ghost use Rattle.lookup.specs.Queued.{placeOf};
 ghost use Rattle.tree.specs.Steps.{queueOf};
 use directory::Entry;
 use directory::Kind;
@@ -54,18 +54,18 @@ struct Cursor {
     done: usize,
 }
 
-// Whether `head` is among the first `dirs` numbers of the queue.
-fn is_queued(queue: &[u16], dirs: u16, head: AnodeNo) -> bool
-    ensures { λ r. ⌜ r ≡ isQueued (now (queue .entry)) (head .0) 0 dirs ⌝ }
+// Where `head` first stands among the first `dirs` numbers of the queue; `dirs` if it does not.
+fn place_in_queue(queue: &[u16], dirs: u16, head: AnodeNo) -> u16
+    ensures { λ r. ⌜ r ≡ placeOf (now (queue .entry)) (head .0) 0 dirs ⌝ }
 {
     let mut i: u16 = 0;
     while i < dirs {
         if entry(queue, i as usize) == head.0 {
-            return true;
+            return i;
         }
         i += 1;
     }
-    false
+    i
 }
 
 // Whether `head` heads a reached directory: its chain's head is itself in the table that the check filled, and the walk queued it.
@@ -76,19 +76,16 @@ pub fn is_reached(heads: &[u16], queue: &[u16], dirs: u16, head: AnodeNo) -> boo
     if entry(heads, head.0 as usize) != head.0 {
         return false;
     }
-    is_queued(queue, dirs, head)
+    place_in_queue(queue, dirs, head) < dirs
 }
 
 // The head of a reached directory's parent; 0 for the root, and where the walk queued no such directory.
 pub fn parent_of(queue: &[u16], parents: &[u16], dirs: u16, head: AnodeNo) -> AnodeNo
     ensures { λ r. ⌜ r .0 ≡ parentOf (queueOf (now (queue .entry)) (now (parents .entry)) dirs) (head .0) ⌝ }
 {
-    let mut i: u16 = 0;
-    while i < dirs {
-        if entry(queue, i as usize) == head.0 {
-            return AnodeNo(entry(parents, i as usize));
-        }
-        i += 1;
+    let i = place_in_queue(queue, dirs, head);
+    if i < dirs {
+        return AnodeNo(entry(parents, i as usize));
     }
     AnodeNo(0)
 }
@@ -134,28 +131,49 @@ fn has_name(block: &[u8], at: usize, name: &[u8]) -> bool
     same_bytes(part(block, at + 16, len), name)
 }
 
+// The first of two answers that found an entry.
+fn first_of(one: Lookup, later: Lookup) -> Lookup
+    ensures { λ r. ⌜ entryOf r ≡ orElse (entryOf one) (entryOf later) ⌝ }
+{
+    if let Lookup::Found(_) = one {
+        return one;
+    }
+    later
+}
+
+// The entry at a place of block `b`, if it has that name.
+fn named_at(block: &[u8], b: BlockNo, at: usize, e: Entry, name: &[u8]) -> Lookup
+    requires { ⌜ at ≤ 65535 ⌝ }
+    ensures { λ r. ⌜ entryOf r ≡ onlyIf (sameBytes (nameIn (now (block .entry)) at) (now (name .entry))) (entered (placed e (b .0 * 512 + at))) ⌝ }
+{
+    if has_name(block, at, name) {
+        return Lookup::Found(entry_in_image(b, at, e));
+    }
+    Lookup::Missing
+}
+
 // The first entry with that name in block `b`.
 fn named_in(image: &[u8], b: BlockNo, name: &[u8]) -> Lookup
     requires { ⌜ Unbroken (entriesIn (now image) (b .0)) ⌝ }
     ensures { λ r. ⌜ entryOf r ≡ firstNamed (now (image .entry)) (now (name .entry)) (entriesIn (now (image .entry)) (b .0)) ⌝ }
 {
     let block = block_part(image, b);
+    let mut found = Lookup::Missing;
     let mut at: usize = 16;
     let mut fuel: usize = 28;
     while fuel > 0 {
-        let found = entry_at(block, at);
-        let e = match found {
+        let step = entry_at(block, at);
+        let e = match step {
             Walked::Found(e) => e,
-            Walked::End => return Lookup::Missing,
-            Walked::Fault(_) => return Lookup::Missing,
+            Walked::End => return found,
+            Walked::Fault(_) => return found,
         };
-        if has_name(block, at, name) {
-            return Lookup::Found(entry_in_image(b, at, e));
-        }
+        let here = named_at(block, b, at, e, name);
+        found = first_of(found, here);
         at += read8(block, at) as usize;
         fuel -= 1;
     }
-    Lookup::Missing
+    found
 }
 
 // The first entry with that name in the directory that `head` heads.

@@ -69,6 +69,7 @@ module _ (c f nexts : List ℕ) (fixed : wrongFixed (anodesFrom c f nexts) ≡ f
 unfoldable pub systemBelow : List ℕ → ℕ → ℕ → ℕ
 systemBelow img k x = covers 3 0 x + sumBelow (holds img x) k
 
+-- and its entry then
 unfoldable pub systemEntryBelow : List ℕ → ℕ → ℕ → ℕ
 systemEntryBelow img k x = covers 3 0 x * 65535 + sumBelow (holds img x) k * 65534
 
@@ -168,10 +169,11 @@ module _ (img : List ℕ) (n : ℕ) where
 
 -- ---- the anodes' blocks
 
--- 1 where anode a covers block x, and what it marks it with
+-- 1 where anode a covers block x
 abbrev coverOf : List ℕ → List ℕ → ℕ → ℕ → ℕ
 coverOf c f x a = covers (getD c a 0) (getD f a 0) x
 
+-- what anode a marks block x with
 abbrev markOf : List ℕ → List ℕ → List ℕ → ℕ → ℕ → ℕ
 markOf c f h x a = cond (eqb (coverOf c f x a) 1) (getD h a 0) 0
 
@@ -179,6 +181,7 @@ markOf c f h x a = cond (eqb (coverOf c f x a) 1) (getD h a 0) 0
 unfoldable pub ownersBelow : List ℕ → List ℕ → List ℕ → ℕ → ℕ → ℕ
 ownersBelow img c f k x = systemOwns img x + sumBelow (coverOf c f x) k
 
+-- and its entry then
 unfoldable pub entryBelow : List ℕ → List ℕ → List ℕ → List ℕ → ℕ → ℕ → ℕ
 entryBelow img c f h k x = systemEntry img x + sumBelow (markOf c f h x) k
 

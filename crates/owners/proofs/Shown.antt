@@ -4,12 +4,9 @@ use mathlib.Core.Logic.{inl, inr}
 use mathlib.Core.List.{List, _++_}
 use Prim.Native.Nat.{ℕ, _<_, _≤_}
 use native.Mathlib.Omega.{arith}
-use native.Mathlib.Nat.{zero-add}
 use lib.Dec.{eqb}
 use lib.ListN.{length, getD, take, drop, take-append-drop}
-use lib.Seq.{length-take-le, getD-take, ext-getD}
-use Rattle.disk.specs.AnodeBlocks.{listed}
-use Rattle.disk.proofs.Laws.{length-listed, getD-listed}
+use lib.Seq.{length-take-le, getD-take}
 use Rattle.rules.specs.Counting.{anyBelow}
 use Rattle.rules.specs.Anodes.{Anodes}
 use Rattle.rules.specs.Accepted.{diskSize, ownersOf, noOwner}
@@ -17,6 +14,7 @@ use Rattle.rules.specs.Tables.{chainHead, headWhere, ownerHead, blockEntry, blo
 use Rattle.counting.specs.Laws.{anyBelow-same}
 use Rattle.laws.specs.Sums.{sum-congr}
 use Rattle.laws.specs.Ownership.{covers-cases}
+use Rattle.laws.specs.OwnerTable.{listed-is}
 use Rattle.owners.specs.Marks.{Marked, headMark, ownerEntry, OwnersMarked}
 
 -- 11: an entry of 0 is a block with no owner
@@ -42,10 +40,5 @@ module _ (img : List ℕ) (s : Anodes) (heads : List ℕ) (are : (a : ℕ) → a
   unfolding blockTable
   marked-table t room m =
       let n = diskSize img in
-      let short = length-take-le n t room in
-      let front : take n t ≡ listed (blockEntry img s) 0 n =
-      ext-getD 0 (take n t) (listed (blockEntry img s) 0 n) (short ∙ sym (length-listed (blockEntry img s) 0 n))
-      (λ x l.
-      let below : x < n = omega arith in
-      getD-take n t x 0 below ∙ m .entries x below ∙ entry-is x ∙ sym (getD-listed (blockEntry img s) 0 n x 0 below ∙ ap (blockEntry img s) (zero-add x))) in
-      sym (ap (λ (l : List ℕ). l ++ drop n t) (sym front) ∙ take-append-drop n t)
+      let front = listed-is (blockEntry img s) n (take n t) (length-take-le n t room) (λ x l. sym (getD-take n t x 0 l ∙ m .entries x l ∙ entry-is x)) in
+      sym (ap (λ (l : List ℕ). l ++ drop n t) front ∙ take-append-drop n t)

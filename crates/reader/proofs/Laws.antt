@@ -22,6 +22,7 @@ none-before (e ∷ es) rest h = absurd (true≢false h)
 
 -- the block of anode a, and the chain of at most k anodes from a on
 module _ (img firsts nexts : List ℕ) (k m a : ℕ) (fuel : k ≡ m + 1) (some-anode : a ≡ 0 → ⊥) (block : List ℕ) (part : block ≡ blockOf img (getD firsts a 0)) where
+  -- the entries behind the block
   abbrev rest : List Entered
   rest = entriesAlong img firsts nexts m (getD nexts a 0)
 

@@ -1,10 +1,9 @@
 -- Laws of the definitions of `specs/`. Assumes nothing.
 use Prim.Native.Nat.{ℕ, zero, suc, _+_, _*_, _<_, _≤_}
 use mathlib.Core.Path.{_≡_, refl, sym, ap, _∙_}
-use mathlib.Core.Bool.{Bool, true, false, cond, or-true, false≢true}
-use mathlib.Core.Logic.{⊎-elim}
+use mathlib.Core.Bool.{Bool, true, false, cond, false≢true}
 use mathlib.Core.List.{List, [], _∷_, _++_, map}
-use native.Mathlib.Nat.{not-suc-le-zero, zero-add, add-zero, eq-or-lt-of-le, le-of-suc-le-suc}
+use native.Mathlib.Nat.{not-suc-le-zero, zero-add, add-zero}
 use native.Mathlib.Numerals.{add-one}
 use native.Mathlib.Omega.{arith}
 use lib.Dec.{eqb, leb, ltb}
@@ -18,28 +17,44 @@ use Rattle.directory.specs.declared.Kind.the-variants.{File, Directory}
 use Rattle.directory.specs.declared.Entry.{Entry}
 use Rattle.directory.specs.declared.Walked.the-variants.{Found, End, Fault}
 use Rattle.directory.specs.Entries.{walkedAt}
-use Rattle.rules.specs.Counting.{anyBelow, sumList, gather}
+use Rattle.rules.specs.Counting.{sumList, gather}
 use Rattle.rules.specs.Anodes.{Anodes, limit}
 use Rattle.rules.specs.Chains.{chainOf}
 use Rattle.rules.specs.Walk.{Dir, Entered, Item, entriesFrom, entriesIn, isBlockOf, blocksFor}
+use Rattle.laws.specs.Chains.{chain-none, chain-zero, chain-step}
+use Rattle.laws.specs.Bags.{list-nil, list-cons}
 use Rattle.tree.specs.Steps.{dirMade, sumFrom, headAt, enteredAt, itemIn, Progress, stopped, going, refuse, enterItem, onward, enterAll, itemsFor, itemsAlong, halted, ended, afterDir, runFrom, dirsFrom, queueOf, marked}
+
+-- ---- what a chain of at most k anodes gives, from anode a on
+
+module _ {X : Type 0} (f : ℕ → List X) (next : ℕ → ℕ) where
+  pub gathered-none : (k a : ℕ) → k ≡ 0 → gather f (chainOf next k a) ≡ []
+  unfolding gather
+  gathered-none k a e = rw (e, chain-none next a)
+
+  pub gathered-end : (k a : ℕ) → a ≡ 0 → gather f (chainOf next k a) ≡ []
+  unfolding gather
+  gathered-end k a e = rw (e, chain-zero next k)
+
+  pub gathered-step : (k m a : ℕ) → k ≡ m + 1 → (a ≡ 0 → ⊥) → gather f (chainOf next k a) ≡ f a ++ gather f (chainOf next m (next a))
+  unfolding gather
+  gathered-step k m a e n = rw (chain-step next k m a e n)
 
 -- ---- the sum along a chain
 
 pub sum-none : (counts nexts : List ℕ) (a : ℕ) → sumFrom counts nexts 0 a ≡ 0
-unfolding sumFrom sumList chainOf
-sum-none counts nexts a = refl
+unfolding sumFrom
+sum-none counts nexts a = rw (chain-none (λ x. getD nexts x 0) a, list-nil (λ x. getD counts x 0))
 
 pub sum-end : (counts nexts : List ℕ) (k a : ℕ) → a ≡ 0 → sumFrom counts nexts k a ≡ 0
-unfolding sumFrom sumList chainOf
-sum-end counts nexts zero a e = refl
-sum-end counts nexts (suc k) a e = rw e
+unfolding sumFrom
+sum-end counts nexts k a e = rw (e, chain-zero (λ x. getD nexts x 0) k, list-nil (λ x. getD counts x 0))
 
 pub sum-step : (counts nexts : List ℕ) (k m a : ℕ) → k ≡ m + 1 → (a ≡ 0 → ⊥)
     → sumFrom counts nexts k a ≡ getD counts a 0 + sumFrom counts nexts m (getD nexts a 0)
-unfolding sumFrom sumList chainOf
-sum-step counts nexts k m zero e n = absurd (n refl)
-sum-step counts nexts k m (suc a) e n = rw (e, add-one m)
+unfolding sumFrom
+sum-step counts nexts k m a e n =
+    rw (chain-step (λ x. getD nexts x 0) k m a e n, list-cons (λ x. getD counts x 0) a (chainOf (λ x. getD nexts x 0) m (getD nexts a 0)))
 
 -- ---- marks
 
@@ -149,33 +164,45 @@ pub block-whole : (img : List ℕ) (y : ℕ) (block : List ℕ) → block ≡ bl
 unfolding entriesIn
 block-whole img y block e = rw e
 
-pub block-none : (item : Entered → Item) (head y : ℕ) (block : List ℕ) (k at : ℕ) (queue : List Dir) (marks : List ℕ) (files : ℕ) → k ≡ 0
-    → enterAll head (map item (entriesFrom k block y at)) queue marks files ≡ going queue marks files
-unfolding entriesFrom enterAll
-block-none item head y block k at queue marks files e = rw e
+pub entries-none : (block : List ℕ) (y k at : ℕ) → k ≡ 0 → entriesFrom k block y at ≡ []
+unfolding entriesFrom
+entries-none block y k at e = rw e
 
-module _ (item : Entered → Item) (head y : ℕ) (block : List ℕ) (k m at : ℕ) (queue : List Dir) (marks : List ℕ) (files : ℕ) (fuel : k ≡ m + 1) where
-  pub block-end : walkedAt block at ≡ End → enterAll head (map item (entriesFrom k block y at)) queue marks files ≡ going queue marks files
-  unfolding entriesFrom enterAll
-  block-end e = rw (fuel, add-one m, e)
+module _ (block : List ℕ) (y k m at : ℕ) (fuel : k ≡ m + 1) where
+  pub entries-end : walkedAt block at ≡ End → entriesFrom k block y at ≡ []
+  unfolding entriesFrom
+  entries-end e = rw (fuel, add-one m, e)
 
-  pub block-stop : (e : Entry) → walkedAt block at ≡ Found e → (n : ℕ)
-      → enterItem head (item (enteredAt (e .kind) (e .anode .0) (e .size) (y * 512 + at))) queue marks files ≡ stopped n
+  pub entries-fault : (r : Refusal) → walkedAt block at ≡ Fault r → entriesFrom k block y at ≡ record { broken = true; dir = false; anode = 0; size = 0; place = y * 512 + at } ∷ []
+  unfolding entriesFrom
+  entries-fault r e = rw (fuel, add-one m, e)
+
+  pub entries-step : (e : Entry) → walkedAt block at ≡ Found e
+      → entriesFrom k block y at ≡ enteredAt (e .kind) (e .anode .0) (e .size) (y * 512 + at) ∷ entriesFrom m block y (at + getD block at 0)
+  unfolding entriesFrom enteredAt
+  entries-step e w = rw (fuel, add-one m, w)
+
+pub enter-none : (head : ℕ) (is : List Item) (queue : List Dir) (marks : List ℕ) (files : ℕ) → is ≡ [] → enterAll head is queue marks files ≡ going queue marks files
+unfolding enterAll
+enter-none head is queue marks files e = rw e
+
+module _ (item : Entered → Item) (head y : ℕ) (block : List ℕ) (k m at : ℕ) (queue : List Dir) (marks : List ℕ) (files : ℕ) (fuel : k ≡ m + 1) (e : Entry) (w : walkedAt block at ≡ Found e) where
+  pub block-stop : (n : ℕ) → enterItem head (item (enteredAt (e .kind) (e .anode .0) (e .size) (y * 512 + at))) queue marks files ≡ stopped n
       → enterAll head (map item (entriesFrom k block y at)) queue marks files ≡ stopped n
-  unfolding entriesFrom enterAll enteredAt
-  block-stop e w n h = rw (fuel, add-one m, w, h)
+  unfolding enterAll
+  block-stop n h = rw (entries-step block y k m at fuel e w, h)
 
-  pub block-step : (e : Entry) → walkedAt block at ≡ Found e → (q : List Dir) (l : List ℕ) (f : ℕ)
+  pub block-step : (q : List Dir) (l : List ℕ) (f : ℕ)
       → enterItem head (item (enteredAt (e .kind) (e .anode .0) (e .size) (y * 512 + at))) queue marks files ≡ going q l f
       → enterAll head (map item (entriesFrom k block y at)) queue marks files ≡ enterAll head (map item (entriesFrom m block y (at + getD block at 0))) q l f
-  unfolding entriesFrom enterAll enteredAt
-  block-step e w q l f h = rw (fuel, add-one m, w, h)
+  unfolding enterAll
+  block-step q l f h = rw (entries-step block y k m at fuel e w, h)
 
 pub block-broken : (counts nexts heads : List ℕ) (head y : ℕ) (block : List ℕ) (k m at : ℕ) (queue : List Dir) (marks : List ℕ) (files : ℕ)
     → k ≡ m + 1 → (r : Refusal) → walkedAt block at ≡ Fault r
     → enterAll head (map (itemIn counts nexts heads) (entriesFrom k block y at)) queue marks files ≡ stopped 12
-unfolding entriesFrom enterAll enterItem itemIn
-block-broken counts nexts heads head y block k m at queue marks files fuel r w = rw (fuel, add-one m, w)
+unfolding enterAll enterItem itemIn
+block-broken counts nexts heads head y block k m at queue marks files fuel r w = rw (entries-fault block y k m at fuel r w)
 
 -- ---- the anodes of a directory
 
@@ -207,19 +234,10 @@ module _ (item : Entered → Item) (img : List ℕ) (s : Anodes) (d : Dir) (a he
   unfolding itemsFor
   anode-block n h = rw (eq-eqb (s .count a) 1 n, h)
 
-  pub along-none : (k : ℕ) → k ≡ 0 → enterAll head (itemsAlong item img s d k a) queue marks files ≡ going queue marks files
-  unfolding itemsAlong chainOf gather enterAll
-  along-none k e = rw e
-
-  pub along-end : (k m : ℕ) → k ≡ m + 1 → a ≡ 0 → enterAll head (itemsAlong item img s d k a) queue marks files ≡ going queue marks files
-  unfolding itemsAlong chainOf gather enterAll
-  along-end k m e z = rw (e, add-one m, z)
-
 along-items : (item : Entered → Item) (img : List ℕ) (s : Anodes) (d : Dir) (a k m : ℕ) → k ≡ m + 1 → (a ≡ 0 → ⊥)
     → itemsAlong item img s d k a ≡ itemsFor item img s d a ++ itemsAlong item img s d m (s .next a)
-unfolding itemsAlong chainOf gather
-along-items item img s d zero k m e n = absurd (n refl)
-along-items item img s d (suc a) k m e n = rw (e, add-one m)
+unfolding itemsAlong
+along-items item img s d a k m e n = gathered-step (itemsFor item img s d) (s .next) k m a e n
 
 module _ (item : Entered → Item) (img : List ℕ) (s : Anodes) (d : Dir) (a head : ℕ) (queue : List Dir) (marks : List ℕ) (files k m : ℕ) (fuel : k ≡ m + 1) (some : a ≡ 0 → ⊥) where
   pub along-stop : (n : ℕ) → enterAll head (itemsFor item img s d a) queue marks files ≡ stopped n
@@ -232,6 +250,7 @@ module _ (item : Entered → Item) (img : List ℕ) (s : Anodes) (d : Dir) (a he
 
 -- ---- the queue without the directories taken from it, and those
 
+-- how far the walk is, without the first v directories of the queue
 abbrev dropped : ℕ → Progress → Progress
 dropped v (stopped n) = stopped n
 dropped v (going queue marks files) = going (drop v queue) marks files
@@ -301,19 +320,3 @@ module _ (items : Dir → List Item) (k : ℕ) (queue parents : List ℕ) (first
     pub run-step : (q : List Dir) (l : List ℕ) (f : ℕ) → enterAll (getD queue first 0) (items (dirMade (getD queue first 0) (getD parents first 0))) (queueOf queue parents last) marks files ≡ going q l f
         → runFrom items k (drop first (queueOf queue parents last)) marks files (take first (queueOf queue parents last)) ≡ runFrom items m (drop (first + 1) q) l f (take (first + 1) q)
     run-step q l f e = run-pop ∙ rw (e, (rw e at (entered .1)) .1)
-
--- ---- a test of the numbers below a bound
-
-pub any-none : (f : ℕ → Bool) → anyBelow f 0 ≡ false
-unfolding anyBelow
-any-none f = refl
-
-pub any-more : (f : ℕ → Bool) (i : ℕ) → anyBelow f i ≡ false → f i ≡ false → anyBelow f (i + 1) ≡ false
-unfolding anyBelow
-any-more f i p q = rw (add-one i, p, q)
-
-pub any-hit : (f : ℕ → Bool) (i n : ℕ) → i < n → f i ≡ true → anyBelow f n ≡ true
-unfolding anyBelow
-any-hit f i zero l q = absurd (not-suc-le-zero l)
-any-hit f i (suc n) l q =
-    ⊎-elim (λ e. rw (← e, q) (or-true (anyBelow f i))) (λ k. rw (any-hit f i n k q)) (eq-or-lt-of-le (le-of-suc-le-suc l))

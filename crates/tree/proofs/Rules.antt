@@ -20,7 +20,9 @@ use Rattle.rules.specs.Accepted.{unnamed, unnamedChain, treeFault}
 use Rattle.rules.specs.Calls.{fileCount, dirCount}
 use Rattle.counting.specs.Laws.{anyBelow-same}
 use Rattle.laws.specs.Sums.{oneAt-same, oneAt-other}
-use Rattle.laws.specs.Bags.{times-nil, times-cons}
+use Rattle.laws.specs.Bags.{list-append, times-nil, times-cons}
+use Rattle.laws.specs.Items.{names-sum}
+use Rattle.laws.specs.Walks.{scan-next, scan-stops}
 use Rattle.anodes.specs.Loaded.{anodesFrom}
 use Rattle.tree.specs.declared.TreeRead.{TreeRead}
 use Rattle.tree.specs.declared.TreeRead.the-variants.{Counted, Fault}
@@ -28,23 +30,15 @@ use Rattle.tree.specs.Tree.{HeadTable}
 use Rattle.tree.specs.Steps.{sumFrom, headAt, itemIn, Progress, stopped, going, enterItem, enterAll, itemsFor, itemsAlong, itemsWith, Run, halted, ended, afterDir, runFrom, conclusion, dirsFrom, queueOf, unnamedAt, marked}
 use Rattle.tree.proofs.Laws.{head-range, marked-more, length-queue}
 
--- ---- how often a list of items names an anode, and how many files it names
+-- ---- counts over a list of items
 
+-- how often the items name anode x
 namings : ℕ → List Item → ℕ
 namings x is = sumList (λ i. oneAt (i .anode) x) is
 
+-- how many files they name
 filesIn : List Item → ℕ
 filesIn is = sumList (λ i. cond (i .dir) 0 1) is
-
-sum-append : (w : Item → ℕ) (is js : List Item) → sumList w (is ++ js) ≡ sumList w is + sumList w js
-unfolding sumList
-sum-append w [] js = omega arith
-sum-append w (i ∷ is) js = omega (arith, sum-append w is js)
-
-times-namings : (x : ℕ) (is : List Item) → times x (map (λ i. i .anode) is) ≡ namings x is
-unfolding times namings sumList
-times-namings x [] = refl
-times-namings x (i ∷ is) = omega (arith, times-namings x is)
 
 -- ---- marks
 
@@ -92,15 +86,6 @@ scan-widen i is files g named (going q m f) (faulty n) e h = h
 scan-widen i is files g named (going q m f) (fine r l) e h =
     (h .0, h .1, h .2, λ x. omega (arith, h .3 x, times-cons x (i .anode) named), omega arith)
 
-module _ (d : Dir) (i : Item) (is : List Item) (queue : List Dir) (named : List ℕ) where
-  scan-stop : (n : ℕ) → faultOf i named ≡ suc n → scan d (i ∷ is) queue named ≡ faulty (suc n)
-  unfolding scan
-  scan-stop n e = rw (e, scan)
-
-  scan-step : faultOf i named ≡ 0 → scan d (i ∷ is) queue named ≡ scan d is (queue ++ subDirs d i) (i .anode ∷ named)
-  unfolding scan
-  scan-step e = rw (e, scan)
-
 fault-named : (i : Item) (named : List ℕ) → i .early ≡ 0 → 1 ≤ times (i .anode) named → faultOf i named ≡ 14
 unfolding faultOf firstOf
 fault-named i named e h = rw (e, le-leb 1 (times (i .anode) named) h)
@@ -109,6 +94,7 @@ fault-late : (i : Item) (named : List ℕ) → i .early ≡ 0 → times (i .anod
 unfolding faultOf firstOf
 fault-late i named e h = rw (e, lt-leb 1 (times (i .anode) named) (omega arith))
 
+-- an item, by its fields
 abbrev itemMade : ℕ → ℕ → Bool → ℕ → ℕ → Item
 itemMade early late dir a place = record { early = early; late = late; dir = dir; anode = a; place = place }
 
@@ -120,8 +106,9 @@ module _ (d : Dir) where
       (enterAll (d .head) (itemMade early late dir a place ∷ is) queue marks files)
       (scan d (itemMade early late dir a place ∷ is) queue named)
   unfolding enterAll enterItem faultOf firstOf subDirs
-  item-match (suc e) late dir a place is queue marks files named range whole agree ih = rw (scan-stop d (itemMade (suc e) late dir a place) is queue named e refl) (refl, omega arith)
+  item-match (suc e) late dir a place is queue marks files named range whole agree ih = rw (scan-stops d (itemMade (suc e) late dir a place) is queue named e refl) (refl, omega arith)
   item-match zero late dir a place is queue marks files named range whole agree ih = go (eqb (getD marks a 0) 0) refl late dir where
+    -- the item without an early fault
     made : ℕ → Bool → Item
     made late dir = itemMade 0 late dir a place
 
@@ -137,14 +124,14 @@ module _ (d : Dir) where
     go : (b : Bool) → eqb (getD marks a 0) 0 ≡ b → (late : ℕ) (dir : Bool)
         → ScanMatch (made late dir ∷ is) files named (enterAll (d .head) (made late dir ∷ is) queue marks files) (scan d (made late dir ∷ is) queue named)
     go false e late dir =
-        rw (e, scan-stop d (made late dir) is queue named 13 (fault-named (made late dir) named refl (agree a (range refl .0) (range refl .1) .1 (eqb-false (getD marks a 0) 0 e))))
+        rw (e, scan-stops d (made late dir) is queue named 13 (fault-named (made late dir) named refl (agree a (range refl .0) (range refl .1) .1 (eqb-false (getD marks a 0) 0 e))))
         (refl, omega arith)
-    go true e (suc l) dir = rw (e, scan-stop d (made (suc l) dir) is queue named l (fault-late (made (suc l) dir) named refl (none e))) (refl, omega arith)
+    go true e (suc l) dir = rw (e, scan-stops d (made (suc l) dir) is queue named l (fault-late (made (suc l) dir) named refl (none e))) (refl, omega arith)
     go true e zero false =
-        rw (e, scan-step d (made 0 false) is queue named (fault-late (made 0 false) named refl (none e)), append-nil queue)
+        rw (e, scan-next d (made 0 false) is queue named (fault-late (made 0 false) named refl (none e)), append-nil queue)
         (behind false queue (files + 1) refl)
     go true e zero true =
-        rw (e, scan-step d (made 0 true) is queue named (fault-late (made 0 true) named refl (none e)))
+        rw (e, scan-next d (made 0 true) is queue named (fault-late (made 0 true) named refl (none e)))
         (behind true (queue ++ (record { head = a; parent = d .head } ∷ [])) files (omega arith))
 
   scan-match : (is : List Item) (queue : List Dir) (marks : List ℕ) (files : ℕ) (named : List ℕ) → InRange is → length marks ≡ limit → Agree marks (λ x. times x named)
@@ -175,8 +162,8 @@ module _ (items : Dir → List Item) where
   walk-widen d files g taken named l (ended m f all) (fault r) e t h = h
   walk-widen d files g taken named l (ended m f all) (done ds) e t h = (
     agree-same m (λ x. namings x (gather items ds) + times x l) (λ x. namings x (items d ++ gather items ds) + times x named)
-        (λ x. omega (arith, t x, sum-append (λ i. oneAt (i .anode) x) (items d) (gather items ds))) (h .0),
-    omega (arith, sum-append (λ i. cond (i .dir) 0 1) (items d) (gather items ds)),
+        (λ x. omega (arith, t x, list-append (λ i. oneAt (i .anode) x) (items d) (gather items ds))) (h .0),
+    omega (arith, list-append (λ i. cond (i .dir) 0 1) (items d) (gather items ds)),
     h .2 ∙ append-assoc taken (d ∷ []) ds,
   )
 
@@ -332,8 +319,8 @@ module _ (counts nexts t : List ℕ) (s : Anodes) (table : HeadTable t s) (past 
       tree-dirs = rw (reached-all .1) (reached-all .2 .2)
 
       naming-reached : (x : ℕ) → namings x (gather (itemsOf img s) (reached-all .0)) + times x [] ≡ naming img s x
-      unfolding naming reached reachedDirs
-      naming-reached x = rw (reached-all .1) (omega (arith, times-nil x, times-namings x (gather (itemsOf img s) (reached-all .0))))
+      unfolding naming namings reached reachedDirs
+      naming-reached x = rw (reached-all .1) (omega (arith, times-nil x, names-sum x (gather (itemsOf img s) (reached-all .0))))
 
       naming-agrees : Agree m (naming img s)
       naming-agrees = agree-same m (λ x. namings x (gather (itemsOf img s) (reached-all .0)) + times x []) (naming img s) naming-reached (reached-all .2 .0)
@@ -365,6 +352,7 @@ module _ (counts nexts t : List ℕ) (s : Anodes) (table : HeadTable t s) (past 
 
 -- ---- the tables at the start: a mark for the root, and the root in the queue
 
+-- a mark for the root alone
 abbrev startMarks : List ℕ
 startMarks = set (replicate limit 0) 5 1
 

@@ -18,6 +18,7 @@ use Rattle.tree.specs.declared.Step.the-variants.{Go, Fault}
 use Rattle.tree.specs.declared.TreeRead.{TreeRead}
 use Rattle.tree.specs.declared.TreeRead.the-variants.{Counted, Fault as Refused}
 
+-- a directory, by its head and its parent's
 abbrev pub dirMade : ℕ → ℕ → Dir
 dirMade head parent = record { head = head; parent = parent }
 
@@ -48,6 +49,7 @@ pub data Progress : Type 0 where
   stopped : ℕ → Progress
   going : List Dir → List ℕ → ℕ → Progress
 
+-- a fault's number stops the walk, 0 does not
 abbrev pub refuse : ℕ → Progress → Progress
 refuse zero p = p
 refuse (suc n) p = stopped (suc n)
@@ -62,19 +64,22 @@ enterItem head i queue marks files =
     (going queue (set marks (i .anode) 1) (files + 1))))
     (stopped 14))
 
+-- what comes after, if the walk goes on
 abbrev pub onward : Progress → (List Dir → List ℕ → ℕ → Progress) → Progress
 onward (stopped n) f = stopped n
 onward (going queue marks files) f = f queue marks files
 
+-- the items of the directory with this head, one after the other
 unfoldable pub enterAll : ℕ → List Item → List Dir → List ℕ → ℕ → Progress
 enterAll head [] queue marks files = going queue marks files
 enterAll head (i ∷ is) queue marks files = onward (enterItem head i queue marks files) (enterAll head is)
 
--- what anode a of directory d gives, and what the chain of at most k anodes from a on gives, where `item` looks at an entry
+-- what anode a of directory d gives, where `item` looks at an entry
 unfoldable pub itemsFor : (Entered → Item) → List ℕ → Anodes → Dir → ℕ → List Item
 itemsFor item img s d a =
     cond (eqb (s .count a) 1 && isBlockOf img d (s .block a)) (map item (entriesIn img (s .block a))) (broken ∷ [])
 
+-- what the chain of at most k anodes from a on gives
 unfoldable pub itemsAlong : (Entered → Item) → List ℕ → Anodes → Dir → ℕ → ℕ → List Item
 itemsAlong item img s d k a = gather (itemsFor item img s d) (chainOf (s .next) k a)
 
@@ -87,11 +92,13 @@ pub data Run : Type 0 where
   halted : ℕ → Run
   ended : List ℕ → ℕ → List Dir → Run
 
+-- what comes after a directory, if the walk goes on
 abbrev pub afterDir : Progress → (List Dir → List ℕ → ℕ → Run) → Run
 afterDir (stopped n) f = halted n
 afterDir (going queue marks files) f = f queue marks files
 
 module _ (items : Dir → List Item) where
+  -- at most k directories of the queue, each with the items that it gives, after those taken
   unfoldable pub runFrom : ℕ → List Dir → List ℕ → ℕ → List Dir → Run
   runFrom zero [] marks files taken = ended marks files taken
   runFrom zero (d ∷ queue) marks files taken = halted 14
@@ -99,11 +106,12 @@ module _ (items : Dir → List Item) where
   runFrom (suc k) (d ∷ queue) marks files taken =
       afterDir (enterAll (d .head) (items d) queue marks files) (λ q m f. runFrom k q m f (taken ++ (d ∷ [])))
 
--- the n directories of the two tables from i on, and the first n
+-- the n directories of the two tables from i on
 unfoldable pub dirsFrom : List ℕ → List ℕ → ℕ → ℕ → List Dir
 dirsFrom queue parents i zero = []
 dirsFrom queue parents i (suc n) = dirMade (getD queue i 0) (getD parents i 0) ∷ dirsFrom queue parents (suc i) n
 
+-- the first n directories of the two tables
 unfoldable pub queueOf : List ℕ → List ℕ → ℕ → List Dir
 queueOf queue parents n = dirsFrom queue parents 0 n
 
@@ -129,6 +137,7 @@ abbrev pub progress : Step → List ℕ → List ℕ → List ℕ → Progress
 progress (Go t) marks queue parents = going (queueOf queue parents (t .last)) marks (t .files)
 progress (Fault r) marks queue parents = stopped (numberOf r)
 
+-- a tally, by its two numbers
 abbrev pub tallyMade : ℕ → ℕ → Tally
 tallyMade last files = record { last = last; files = files }
 
@@ -136,9 +145,11 @@ tallyMade last files = record { last = last; files = files }
 abbrev pub Fits : Tally → List ℕ → Type 0
 Fits t marks = t .last + t .files ≤ marked marks
 
+-- tables of the right length that suffice
 abbrev pub Room : Tally → List ℕ → List ℕ → List ℕ → Type 0
 Room t marks queue parents = (length marks ≡ limit) × (length queue ≡ limit) × (length parents ≡ limit) × Fits t marks
 
+-- what a step that goes on leaves still suffices
 abbrev pub StepFits : Step → List ℕ → Type 0
 StepFits (Go t) marks = Fits t marks
 StepFits (Fault r) marks = Unit {0}

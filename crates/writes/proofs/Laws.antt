@@ -2,7 +2,6 @@
 use Prim.Native.Nat.{ℕ, zero, suc, _+_, _-_, _*_, _<_, _≤_}
 use mathlib.Core.Path.{_≡_, refl, sym, ap, _∙_}
 use mathlib.Core.List.{List, [], _∷_, _++_}
-use native.Mathlib.Numerals.{add-one}
 use native.Mathlib.Omega.{arith}
 use native.Mathlib.Nat.{le-of-eq}
 use lib.ListN.{length, getD, set, take, drop, take-append-drop, drop-of-length-le}
@@ -22,7 +21,7 @@ use Rattle.rules.specs.Changes.{spread, written}
 use Rattle.laws.specs.Chains.{Inside}
 use Rattle.laws.specs.Sums.{oneAt-same}
 use Rattle.laws.specs.Bags.{times-cons, times-append}
-use Rattle.anodes.specs.Along.{blocksAlong, along-step}
+use Rattle.anodes.specs.Along.{blocksAlong, along-step, run-step}
 use Rattle.writes.specs.Written.{writtenOver, InsideOnce}
 
 -- ---- a store over two lists
@@ -125,14 +124,6 @@ over-written img s h e offset bytes is i = rw is (over-spread img img (blocksOf 
 
 -- ---- a run of blocks
 
-pub run-none : (b n : ℕ) → n ≡ 0 → run b n ≡ []
-unfolding run
-run-none b n e = rw e
-
-pub run-step : (b n m : ℕ) → n ≡ m + 1 → run b n ≡ b ∷ run (b + 1) m
-unfolding run
-run-step b n m e = rw (e, add-one m, add-one b)
-
 module _ (img : List ℕ) (b n m : ℕ) (more : n ≡ m + 1) (i : Inside img (run b n)) where
   pub first-inside : b * 512 + 512 ≤ length img
   first-inside = (rw (run-step b n m more) at i) b (omega (arith, times-cons b b (run (b + 1) m), oneAt-same b b refl))
@@ -142,20 +133,11 @@ module _ (img : List ℕ) (b n m : ℕ) (more : n ≡ m + 1) (i : Inside img (ru
 
 -- ---- the blocks along a chain
 
-module _ (img counts firsts nexts : List ℕ) (k m a : ℕ) (fuel : k ≡ m + 1) (some-anode : a ≡ 0 → ⊥) (i : Inside img (blocksAlong counts firsts nexts k a)) where
-  -- the anode's own blocks
-  abbrev here : List ℕ
-  here = run (getD firsts a 0) (getD counts a 0)
-
-  -- those of the anodes after it
-  abbrev behind : List ℕ
-  behind = blocksAlong counts firsts nexts m (getD nexts a 0)
-
-  both-inside : Inside img (here ++ behind)
-  both-inside = rw (along-step counts firsts nexts k m a fuel some-anode) at i
-
-  pub run-inside : Inside img here
-  run-inside y p = both-inside y (omega (arith, p, times-append y here behind))
-
-  pub chain-inside : Inside img behind
-  chain-inside y p = both-inside y (omega (arith, p, times-append y here behind))
+-- the anode's own blocks, and those of the anodes after it
+pub along-inside : (img counts firsts nexts : List ℕ) (k m a : ℕ) → k ≡ m + 1 → (a ≡ 0 → ⊥) → Inside img (blocksAlong counts firsts nexts k a)
+    → Inside img (run (getD firsts a 0) (getD counts a 0)) × Inside img (blocksAlong counts firsts nexts m (getD nexts a 0))
+along-inside img counts firsts nexts k m a fuel some i =
+    parts (run (getD firsts a 0) (getD counts a 0)) (blocksAlong counts firsts nexts m (getD nexts a 0)) (rw (along-step counts firsts nexts k m a fuel some) at i)
+  where
+    parts : (l n : List ℕ) → Inside img (l ++ n) → Inside img l × Inside img n
+    parts l n both = (λ y p. both y (omega (arith, p, times-append y l n)), λ y p. both y (omega (arith, p, times-append y l n)))

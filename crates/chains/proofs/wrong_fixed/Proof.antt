@@ -1,64 +1,80 @@
-use mathlib.Core.Path.{sym, _∙_}
 use borrow.Author.Tests.{eq-eqb, ne-eqb}
 use borrow.Author.Needs.{needs}
-use Rattle.rules.specs.Accepted.{wrongFixed}
 use Rattle.anodes.specs.Loaded.{anodesFrom}
+use Rattle.chains.proofs.Laws.{fixed-tests}
 use Rattle.chains.proofs.wrong_fixed.Statement.{statement}
 use Rattle.chains.proofs.wrong_fixed.Tie as tie
 
-wrong-zero-requires : tie.Need-wrong-zero-requires
-wrong-zero-requires c κs = search needs
+not-empty-requires : tie.Need-not-empty-requires
+not-empty-requires c κs = search needs
 
 returns : tie.Need-returns
-unfolding wrongFixed anodesFrom
-returns c = rw (← c .before .wrong-zero .ensures, c .if1 .taken)
-
-wrong-one-requires : tie.Need-wrong-one-requires
-wrong-one-requires c κs = search needs
-
-returns-2 : tie.Need-returns-2
-unfolding wrongFixed anodesFrom
-returns-2 c = rw (← c .before .before .before .wrong-zero .ensures, c .before .before .if1 .left, ← c .before .wrong-one .ensures, c .if2 .taken)
+unfolding anodesFrom
+returns c = rw (fixed-tests _, ← c .before .not-empty .ensures, c .if1 .taken)
 
 entry-requires : tie.Need-entry-requires
 entry-requires c κs = search needs
 
+returns-2 : tie.Need-returns-2
+unfolding anodesFrom
+returns-2 c = rw (fixed-tests _, ← c .before .before .before .not-empty .ensures, c .before .before .if1 .left, ← c .before .entry .ensures, ne-eqb _ 0 (c .if2 .taken))
+
+not-empty-requires-2 : tie.Need-not-empty-requires-2
+not-empty-requires-2 c κs = search needs
+
 returns-3 : tie.Need-returns-3
-unfolding wrongFixed anodesFrom
+unfolding anodesFrom
 returns-3 c =
-    rw (
-      ← c .before .before .before .before .before .wrong-zero .ensures,
-      c .before .before .before .before .if1 .left,
-      ← c .before .before .before .wrong-one .ensures,
-      c .before .before .if2 .left,
-      eq-eqb _ 0 (sym (c .before .entry .ensures) ∙ c .if3 .taken),
-    )
+    rw (fixed-tests _, ← c .before .before .before .before .before .not-empty .ensures, c .before .before .before .before .if1 .left, ← c .before .before .before .entry .ensures, eq-eqb _ 0 (c .before .before .if2 .left), ← c .before .not-empty2 .ensures, c .if3 .taken)
 
 entry-requires-2 : tie.Need-entry-requires-2
 entry-requires-2 c κs = search needs
 
 returns-4 : tie.Need-returns-4
-unfolding wrongFixed anodesFrom
+unfolding anodesFrom
 returns-4 c =
     rw (
-      ← c .before .before .before .before .before .before .wrong-zero .ensures,
-      c .before .before .before .before .before .if1 .left,
-      ← c .before .before .before .before .wrong-one .ensures,
-      c .before .before .before .if2 .left,
-      ← c .before .before .entry .ensures,
-      ne-eqb _ 0 (c .before .if3 .left),
-      c .entry2 .ensures,
+      fixed-tests _,
+      ← c .before .before .before .before .before .before .before .not-empty .ensures,
+      c .before .before .before .before .before .before .if1 .left,
+      ← c .before .before .before .before .before .entry .ensures,
+      eq-eqb _ 0 (c .before .before .before .before .if2 .left),
+      ← c .before .before .before .not-empty2 .ensures,
+      c .before .before .if3 .left,
+      ← c .before .entry2 .ensures,
+      eq-eqb _ 0 (c .if4 .taken),
+    )
+
+entry-requires-3 : tie.Need-entry-requires-3
+entry-requires-3 c κs = search needs
+
+returns-5 : tie.Need-returns-5
+unfolding anodesFrom
+returns-5 c =
+    rw (
+      fixed-tests _,
+      ← c .before .before .before .before .before .before .before .before .not-empty .ensures,
+      c .before .before .before .before .before .before .before .if1 .left,
+      ← c .before .before .before .before .before .before .entry .ensures,
+      eq-eqb _ 0 (c .before .before .before .before .before .if2 .left),
+      ← c .before .before .before .before .not-empty2 .ensures,
+      c .before .before .before .if3 .left,
+      ← c .before .before .entry2 .ensures,
+      ne-eqb _ 0 (c .before .if4 .left),
+      c .entry3 .ensures,
     )
 
 pub wrong-fixed-spec : {M : Type 1} → statement M
 wrong-fixed-spec =
     tie.close
     (tie.spec
-    wrong-zero-requires
+    not-empty-requires
     returns
-    wrong-one-requires
-    returns-2
     entry-requires
+    returns-2
+    not-empty-requires-2
     returns-3
     entry-requires-2
-    returns-4)
+    returns-4
+    entry-requires-3
+    returns-5)

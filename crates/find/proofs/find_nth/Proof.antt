@@ -1,7 +1,7 @@
 use mathlib.Core.Path.{_∙_}
 use Rattle.rules.specs.Lookup.{entriesOf, nth}
 use Rattle.rules.specs.Anodes.{Anodes}
-use Rattle.find.proofs.Laws.{reached-queued, own-heads, open-unbroken, by-image, search-22, search-found}
+use Rattle.find.proofs.Laws.{reached-queued, own-heads, open-unbroken, by-image}
 use borrow.Author.Needs.{needs}
 use Rattle.find.proofs.find_nth.Statement.{statement}
 use Rattle.find.proofs.find_nth.Tie as tie
@@ -15,26 +15,19 @@ returns c = let r = c .before .is-reached in rw (reached-queued (c .before .befo
 nth-entry-requires : tie.Need-nth-entry-requires
 nth-entry-requires c κs = let r = c .before .is-reached in open-unbroken (c .before .before .before .before .before .before .before .pre .2) _ (reached-queued (c .before .before .before .before .before .before .before .pre .2) _ (r .result) (r .ensures) ∙ c .if1 .left)
 
-enum-known-found : tie.Need-enum-known-found
-enum-known-found c = search needs
-
-enum-told : tie.Need-enum-told
-enum-told c = search needs
+answer-of-requires : tie.Need-answer-of-requires
+answer-of-requires c κs = search needs
 
 returns-2 : tie.Need-returns-2
 returns-2 c =
-    let o = c .before .before .before .before .before .before .before .before .before .before .before .pre .2 in
-    let a = c .before .before .before .before .before .before .before .before .before .before .before .args in
-    let r = c .before .before .before .before .before .is-reached in
-    let g = c .before .found .given in
-    (reached-queued o _ (r .result) (r .ensures) ∙ c .before .before .before .before .if1 .left, search-found _ _ (g .0 .0) (by-image o (λ (s : Anodes). nth (entriesOf (a .image .now) s (a .head .0)) (a .n)) _ (c .before .before .before .nth-entry .ensures)) (g .1))
-
-returns-3 : tie.Need-returns-3
-returns-3 c =
-    let o = c .before .before .before .before .before .before .before .before .before .before .pre .2 in
-    let a = c .before .before .before .before .before .before .before .before .before .before .args in
-    let r = c .before .before .before .before .is-reached in
-    search-22 _ _ _ (reached-queued o _ (r .result) (r .ensures) ∙ c .before .before .before .if1 .left) (by-image o (λ (s : Anodes). nth (entriesOf (a .image .now) s (a .head .0)) (a .n)) _ (c .before .before .nth-entry .ensures)) (c .enum-told .given .1)
+    let o = c .before .before .before .before .before .before .before .before .before .pre .2 in
+    let a = c .before .before .before .before .before .before .before .before .before .args in
+    let r = c .before .before .before .is-reached in
+    rw (
+      reached-queued o (a .head .0) (r .result) (r .ensures) ∙ c .before .before .if1 .left,
+      ← by-image o (λ (s : Anodes). nth (entriesOf (a .image .now) s (a .head .0)) (a .n)) _ (c .before .nth-entry .ensures),
+    )
+    (c .answer-of .ensures)
 
 pub find-nth-spec : {M : Type 1} → statement M
-find-nth-spec = tie.close (tie.spec is-reached-requires returns nth-entry-requires enum-known-found enum-told returns-2 returns-3)
+find-nth-spec = tie.close (tie.spec is-reached-requires returns nth-entry-requires answer-of-requires returns-2)

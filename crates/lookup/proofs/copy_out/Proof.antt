@@ -2,10 +2,13 @@ use mathlib.Core.Path.{_≡_, refl, sym, _∙_}
 use Prim.Native.Nat.{_-_}
 use native.Mathlib.Omega.{arith}
 use lib.ListN.{length, getD, take, drop}
+use Rattle.disk.specs.Blocks.{blockOf}
+use Rattle.rules.specs.Counting.{gather}
 use Rattle.rules.specs.Lookup.{bytesOf}
 use Rattle.anodes.specs.Loaded.{anodesFrom}
+use Rattle.anodes.specs.Along.{blocksAlong, along-whole, along-none, along-end}
 use Rattle.lookup.specs.Copied.{filled}
-use Rattle.lookup.proofs.Copying.{part-length, filled-start, filled-full, filled-end, bytesAlong, bytes-whole, bytes-none, bytes-end, bytes-step}
+use Rattle.lookup.proofs.Copying.{part-length, filled-start, filled-full, filled-end, bytes-step}
 use borrow.Author.Needs.{needs}
 use Rattle.lookup.proofs.copy_out.Statement.{statement}
 use Rattle.lookup.proofs.copy_out.Tie as tie
@@ -13,7 +16,7 @@ use Rattle.lookup.proofs.copy_out.Tie as tie
 abbrev Inv-loop : tie.InvT-loop
 Inv-loop image counts firsts nexts offset out₀ cursor₀ at₀ fuel₀ out cursor at fuel =
     (length out ≡ length out₀)
-    × (filled out (cursor .done) (drop (cursor .skip) (bytesAlong image counts firsts nexts fuel at)) ≡ take (length out₀) (drop offset (bytesOf image (anodesFrom counts firsts nexts) at₀)))
+    × (filled out (cursor .done) (drop (cursor .skip) (gather (blockOf image) (blocksAlong counts firsts nexts fuel at))) ≡ take (length out₀) (drop offset (bytesOf image (anodesFrom counts firsts nexts) at₀)))
 
 abbrev μ-loop : tie.MeasureT-loop
 μ-loop image counts firsts nexts offset out₀ cursor₀ at₀ fuel₀ out cursor at fuel = fuel
@@ -22,7 +25,8 @@ cast-at : tie.Need-cast-at Inv-loop μ-loop
 cast-at c = search needs
 
 loop-holds : tie.Need-loop-holds Inv-loop μ-loop
-loop-holds c = (refl, rw (bytes-whole _ _ _ _ _) (filled-start _ _))
+unfolding bytesOf
+loop-holds c = (refl, rw (along-whole _ _ _ _) (filled-start _ _))
 
 same-length : tie.Need-same-length Inv-loop μ-loop
 same-length c = search needs
@@ -31,8 +35,8 @@ returns : tie.Need-returns Inv-loop μ-loop
 returns c =
     let l = c .before .before .loop in
     let a = c .before .before .before .before .before .before .before .before .before .args in
-    let none = bytes-end (a .image .now) (a .counts .now) (a .firsts .now) (a .nexts .now) (l .fuel) (l .fuel - 1) (l .at) (omega arith) (c .if1 .taken) in
-    filled-end _ _ _ (l .cursor .skip) _ none (l .inv .1) (part-length _ _ _ (c .before .before .before .before .before .before .before .before .before .pre) ∙ sym (l .inv .0))
+    let none = along-end (a .counts .now) (a .firsts .now) (a .nexts .now) (l .fuel) (l .fuel - 1) (l .at) (omega arith) (c .if1 .taken) in
+    filled-end _ _ _ _ (l .cursor .skip) _ none (l .inv .1) (part-length _ _ _ (c .before .before .before .before .before .before .before .before .before .pre) ∙ sym (l .inv .0))
 
 same-length-2 : tie.Need-same-length-2 Inv-loop μ-loop
 same-length-2 c = search needs
@@ -65,7 +69,7 @@ loop-again : tie.Need-loop-again Inv-loop μ-loop
 loop-again c =
     let l = c .before .before .before .before .before .before .before .before .before .before .before .loop in
     let a = c .before .before .before .before .before .before .before .before .before .before .before .before .before .before .before .before .before .before .args in
-    let rest = bytesAlong (a .image .now) (a .counts .now) (a .firsts .now) (a .nexts .now) (l .fuel - 1) (getD (a .nexts .now) (l .at) 0) in
+    let rest = gather (blockOf (a .image .now)) (blocksAlong (a .counts .now) (a .firsts .now) (a .nexts .now) (l .fuel - 1) (getD (a .nexts .now) (l .at) 0)) in
     let step = bytes-step (a .image .now) (a .counts .now) (a .firsts .now) (a .nexts .now) (l .fuel) (l .fuel - 1) (l .at) (omega arith) (c .before .before .before .before .before .before .before .before .before .if1 .left) in
     (search needs, rw (c .entry3 .ensures) ((rw (c .before .before .before .before .before .before .entry .ensures, c .before .before .before .before .before .entry2 .ensures, ← step) at (c .before .before .before .copy-run .ensures rest)) ∙ l .inv .1))
 
@@ -76,8 +80,8 @@ returns-3 : tie.Need-returns-3 Inv-loop μ-loop
 returns-3 c =
     let l = c .before .loop in
     let a = c .before .before .before .before .before .before .before .before .args in
-    let none = bytes-none (a .image .now) (a .counts .now) (a .firsts .now) (a .nexts .now) (l .fuel) (l .at) (omega arith) in
-    filled-end _ _ _ (l .cursor .skip) _ none (l .inv .1) (part-length _ _ _ (c .before .before .before .before .before .before .before .before .pre) ∙ sym (l .inv .0))
+    let none = along-none (a .counts .now) (a .firsts .now) (a .nexts .now) (l .fuel) (l .at) (omega arith) in
+    filled-end _ _ _ _ (l .cursor .skip) _ none (l .inv .1) (part-length _ _ _ (c .before .before .before .before .before .before .before .before .pre) ∙ sym (l .inv .0))
 
 pub copy-out-spec : {M : Type 1} → statement M
 copy-out-spec =

@@ -7,7 +7,7 @@ use Rattle.disk.specs.Blocks.{blockOf}
 use Rattle.rules.specs.Counting.{gather}
 use Rattle.rules.specs.Chains.{run}
 use Rattle.lookup.specs.Copied.{filled}
-use Rattle.lookup.proofs.Copying.{filled-any, run-none, run-step}
+use Rattle.lookup.proofs.Copying.{filled-any, run-bytes-none, run-bytes-step}
 use borrow.Author.Needs.{needs}
 use Rattle.lookup.proofs.copy_run.Statement.{statement}
 use Rattle.lookup.proofs.copy_run.Tie as tie
@@ -48,7 +48,7 @@ loop-again c =
     let img = c .before .before .before .before .before .before .before .before .before .before .args .image .now in (
       search needs,
       search needs,
-      λ rest. (rw (← run-step img rest (l .b) (l .left) (l .left - 1) (omega arith)) at (c .before .before .copy-block .ensures (gather (blockOf img) (run (l .b + 1) (l .left - 1)) ++ rest))) ∙ l .inv .2 rest,
+      λ rest. (rw (← run-bytes-step img rest (l .b) (l .left) (l .left - 1) (omega arith)) at (c .before .before .copy-block .ensures (gather (blockOf img) (run (l .b + 1) (l .left - 1)) ++ rest))) ∙ l .inv .2 rest,
     )
 
 same-length-2 : tie.Need-same-length-2 Inv-loop μ-loop
@@ -57,7 +57,7 @@ same-length-2 c = search needs
 returns-2 : tie.Need-returns-2 Inv-loop μ-loop
 returns-2 c =
     let l = c .before .loop in
-    λ rest. rw (run-none (c .before .before .before .before .args .image .now) (l .b) (l .left) (omega arith)) at (l .inv .2 rest)
+    λ rest. rw (run-bytes-none (c .before .before .before .before .args .image .now) (l .b) (l .left) (omega arith)) at (l .inv .2 rest)
 
 pub copy-run-spec : {M : Type 1} → statement M
 copy-run-spec =

@@ -1,9 +1,11 @@
 use mathlib.Core.Path.{_≡_, refl, sym, _∙_}
+use mathlib.Core.Option.{none}
 use Prim.Native.Nat.{_-_}
 use native.Mathlib.Omega.{arith}
 use Rattle.rules.specs.Lookup.{firstNamed}
 use Rattle.lookup.specs.Answers.{Unbroken}
-use Rattle.lookup.proofs.Laws.{entriesAlong, along-whole, along-none, along-end, unbroken-along, along-hit, along-pass, named-none, named-whole}
+use Rattle.lookup.proofs.Laws.{entriesAlong, along-whole, unbroken-along, named-along, named-none, named-whole}
+use Rattle.tree.proofs.Laws.{gathered-none, gathered-end}
 use borrow.Author.Needs.{needs}
 use Rattle.lookup.proofs.entry_named.Statement.{statement}
 use Rattle.lookup.proofs.entry_named.Tie as tie
@@ -23,9 +25,10 @@ loop-holds : tie.Need-loop-holds Inv-loop μ-loop
 loop-holds c = (rw (along-whole _ _ _ _ _) at (c .before .before .before .before .before .pre), refl)
 
 returns : tie.Need-returns Inv-loop μ-loop
+unfolding entriesAlong
 returns c =
     let l = c .before .before .loop in
-    λ counts. sym (named-none _ _ _ (along-end _ _ _ _ (l .fuel - 1) _ (omega arith) (c .if1 .taken))) ∙ l .inv .1 ∙ sym (named-whole _ _ _ counts _ _)
+    λ counts. sym (named-none _ _ _ (gathered-end _ _ (l .fuel) _ (c .if1 .taken))) ∙ l .inv .1 ∙ sym (named-whole _ _ _ counts _ _)
 
 entry-requires : tie.Need-entry-requires Inv-loop μ-loop
 entry-requires c κs = search needs
@@ -42,7 +45,7 @@ returns-2 : tie.Need-returns-2 Inv-loop μ-loop
 returns-2 c =
     let l = c .before .before .before .before .before .before .loop in
     let g = c .enum-told .given in
-    λ counts. rw (g .1) (along-hit _ _ _ _ (l .fuel - 1) _ (omega arith) (c .before .before .before .before .if1 .left) _ _ (rw (g .1, c .before .before .before .entry .ensures) at (c .before .before .named-in .ensures)) ∙ l .inv .1 ∙ sym (named-whole _ _ _ counts _ _))
+    λ counts. rw (g .1) (named-along _ _ _ _ (l .fuel - 1) _ (omega arith) (c .before .before .before .before .if1 .left) _ _ (rw (g .1, c .before .before .before .entry .ensures) at (c .before .before .named-in .ensures)) ∙ l .inv .1 ∙ sym (named-whole _ _ _ counts _ _))
 
 enum-told-2 : tie.Need-enum-told-2 Inv-loop μ-loop
 enum-told-2 c = search needs
@@ -64,13 +67,14 @@ loop-again c =
     let l = c .before .before .before .before .before .before .before .loop in
     let g = c .before .enum-told2 .given in (
       rw (c .entry2 .ensures) (unbroken-along _ _ _ _ (l .fuel - 1) _ (omega arith) (c .before .before .before .before .before .if1 .left) (l .inv .0) .1),
-      rw (c .entry2 .ensures) (along-pass _ _ _ _ (l .fuel - 1) _ (omega arith) (c .before .before .before .before .before .if1 .left) _ (rw (g .1, c .before .before .before .before .entry .ensures) at (c .before .before .before .named-in .ensures)) ∙ l .inv .1),
+      rw (c .entry2 .ensures) (named-along _ _ _ _ (l .fuel - 1) _ (omega arith) (c .before .before .before .before .before .if1 .left) _ none (rw (g .1, c .before .before .before .before .entry .ensures) at (c .before .before .before .named-in .ensures)) ∙ l .inv .1),
     )
 
 returns-3 : tie.Need-returns-3 Inv-loop μ-loop
+unfolding entriesAlong
 returns-3 c =
     let l = c .before .loop in
-    λ counts. sym (named-none _ _ _ (along-none _ _ _ (l .fuel) _ (omega arith))) ∙ l .inv .1 ∙ sym (named-whole _ _ _ counts _ _)
+    λ counts. sym (named-none _ _ _ (gathered-none _ _ (l .fuel) _ (omega arith))) ∙ l .inv .1 ∙ sym (named-whole _ _ _ counts _ _)
 
 pub entry-named-spec : {M : Type 1} → statement M
 entry-named-spec =

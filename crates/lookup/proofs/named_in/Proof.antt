@@ -3,21 +3,21 @@ use Prim.Native.Nat.{_+_, _-_, _*_, _≤_}
 use native.Mathlib.Omega.{arith}
 use Rattle.rules.specs.Walk.{entriesFrom, entriesIn}
 use Rattle.rules.specs.Lookup.{firstNamed}
-use Rattle.lookup.specs.Answers.{Unbroken}
-use Rattle.tree.proofs.Laws.{block-whole}
-use Rattle.lookup.proofs.Laws.{none-left, ended, unbroken-no-fault, unbroken-rest, named-here, named-behind, named-none}
+use Rattle.lookup.specs.Answers.{entryOf, orElse, Unbroken}
+use Rattle.tree.proofs.Laws.{block-whole, entries-none, entries-end}
+use Rattle.lookup.proofs.Laws.{unbroken-no-fault, unbroken-rest, named-passed, named-ended}
 use borrow.Author.Needs.{needs}
 use Rattle.lookup.proofs.named_in.Statement.{statement}
 use Rattle.lookup.proofs.named_in.Tie as tie
 
 abbrev Inv-loop : tie.InvT-loop
-Inv-loop image b name block at₀ fuel₀ at fuel =
+Inv-loop image b name block found₀ at₀ fuel₀ found at fuel =
     (at + fuel * 255 ≤ at₀ + fuel₀ * 255)
     × Unbroken (entriesFrom fuel block (b .0) at)
-    × (firstNamed image name (entriesFrom fuel block (b .0) at) ≡ firstNamed image name (entriesIn image (b .0)))
+    × (orElse (entryOf found) (firstNamed image name (entriesFrom fuel block (b .0) at)) ≡ firstNamed image name (entriesIn image (b .0)))
 
 abbrev μ-loop : tie.MeasureT-loop
-μ-loop image b name block at₀ fuel₀ at fuel = fuel
+μ-loop image b name block found₀ at₀ fuel₀ found at fuel = fuel
 
 block-part-requires : tie.Need-block-part-requires Inv-loop μ-loop
 block-part-requires c κs = search needs
@@ -30,8 +30,8 @@ loop-holds c =
 entry-at-requires : tie.Need-entry-at-requires Inv-loop μ-loop
 entry-at-requires c κs = search needs
 
-enum-known-found : tie.Need-enum-known-found Inv-loop μ-loop
-enum-known-found c = search needs
+enum-known-step : tie.Need-enum-known-step Inv-loop μ-loop
+enum-known-step c = search needs
 
 enum-told : tie.Need-enum-told Inv-loop μ-loop
 enum-told c = search needs
@@ -39,7 +39,7 @@ enum-told c = search needs
 returns : tie.Need-returns Inv-loop μ-loop
 returns c =
     let l = c .before .before .before .before .loop in
-    sym (named-none _ _ _ (ended _ _ _ (l .fuel - 1) _ (omega arith) (sym (c .before .before .entry-at .ensures) ∙ c .enum-told .given .1))) ∙ l .inv .2
+    sym (named-ended _ _ _ (entryOf (l .found)) (entries-end _ _ _ (l .fuel - 1) _ (omega arith) (sym (c .before .before .entry-at .ensures) ∙ c .enum-told .given .1))) ∙ l .inv .2
 
 enum-told-2 : tie.Need-enum-told-2 Inv-loop μ-loop
 enum-told-2 c = search needs
@@ -49,17 +49,11 @@ returns-2 c =
     let l = c .before .before .before .before .loop in
     absurd (unbroken-no-fault _ _ _ (l .fuel - 1) _ (omega arith) _ (sym (c .before .before .entry-at .ensures) ∙ c .enum-told2 .given .1) (l .inv .1))
 
-has-name-requires : tie.Need-has-name-requires Inv-loop μ-loop
-has-name-requires c κs = search needs
+named-at-requires : tie.Need-named-at-requires Inv-loop μ-loop
+named-at-requires c κs = search needs
 
-entry-in-image-requires : tie.Need-entry-in-image-requires Inv-loop μ-loop
-entry-in-image-requires c κs = search needs
-
-returns-3 : tie.Need-returns-3 Inv-loop μ-loop
-returns-3 c =
-    let l = c .before .before .before .before .before .before .before .before .loop in
-    let f = c .before .before .before .before .found .given in
-    rw (c .entry-in-image .ensures) (sym (named-here _ _ _ (l .fuel - 1) _ (omega arith) (f .0 .0) (sym (c .before .before .before .before .before .before .entry-at .ensures) ∙ f .1) _ _ (c .before .before .before .before .before .before .before .before .before .block-part .ensures) (sym (c .before .before .has-name .ensures) ∙ c .before .if1 .taken)) ∙ l .inv .2)
+first-of-requires : tie.Need-first-of-requires Inv-loop μ-loop
+first-of-requires c κs = search needs
 
 read8-requires : tie.Need-read8-requires Inv-loop μ-loop
 read8-requires c κs = search needs
@@ -79,15 +73,18 @@ loop-less c = search needs
 loop-again : tie.Need-loop-again Inv-loop μ-loop
 loop-again c =
     let l = c .before .before .before .before .before .before .before .before .loop in
-    let f = c .before .before .before .before .found .given in
+    let f = c .before .before .before .before .step .given in
     let is = sym (c .before .before .before .before .before .before .entry-at .ensures) ∙ f .1 in (
       search needs,
       rw (c .read8 .ensures) (unbroken-rest _ _ _ (l .fuel - 1) _ (omega arith) (f .0 .0) is (l .inv .1)),
-      rw (c .read8 .ensures) (sym (named-behind _ _ _ (l .fuel - 1) _ (omega arith) (f .0 .0) is _ _ (c .before .before .before .before .before .before .before .before .before .block-part .ensures) (sym (c .before .before .has-name .ensures) ∙ c .before .if1 .left)) ∙ l .inv .2),
+      rw (c .read8 .ensures, c .before .first-of .ensures, c .before .before .named-at .ensures)
+          (named-passed _ _ _ (l .fuel - 1) _ (omega arith) (f .0 .0) is _ _ (c .before .before .before .before .before .before .before .before .before .block-part .ensures) (entryOf (l .found)) ∙ l .inv .2),
     )
 
-returns-4 : tie.Need-returns-4 Inv-loop μ-loop
-returns-4 c = sym (named-none _ _ _ (none-left _ _ (c .before .loop .fuel) _ (omega arith))) ∙ c .before .loop .inv .2
+returns-3 : tie.Need-returns-3 Inv-loop μ-loop
+returns-3 c =
+    let l = c .before .loop in
+    sym (named-ended _ _ _ (entryOf (l .found)) (entries-none _ _ (l .fuel) _ (omega arith))) ∙ l .inv .2
 
 pub named-in-spec : {M : Type 1} → statement M
 named-in-spec =
@@ -98,18 +95,17 @@ named-in-spec =
     block-part-requires
     loop-holds
     entry-at-requires
-    enum-known-found
+    enum-known-step
     enum-told
     returns
     enum-told-2
     returns-2
-    has-name-requires
-    entry-in-image-requires
-    returns-3
+    named-at-requires
+    first-of-requires
     read8-requires
     cast-at
     add-at
     sub-fuel
     loop-less
     loop-again
-    returns-4)
+    returns-3)

@@ -4,7 +4,8 @@ use Prim.Native.Nat.{_-_}
 use native.Mathlib.Omega.{arith}
 use Rattle.rules.specs.Lookup.{nth}
 use Rattle.lookup.specs.Answers.{Unbroken}
-use Rattle.lookup.proofs.Laws.{entriesAlong, along-whole, along-none, along-end, unbroken-along, nth-along, nth-empty}
+use Rattle.lookup.proofs.Laws.{entriesAlong, along-whole, unbroken-along, nth-along, nth-empty}
+use Rattle.tree.proofs.Laws.{gathered-none, gathered-end}
 use borrow.Author.Needs.{needs}
 use Rattle.lookup.proofs.nth_entry.Statement.{statement}
 use Rattle.lookup.proofs.nth_entry.Tie as tie
@@ -24,9 +25,10 @@ loop-holds : tie.Need-loop-holds Inv-loop μ-loop
 loop-holds c = (rw (along-whole _ _ _ _ _) at (c .before .before .before .before .pre), refl)
 
 returns : tie.Need-returns Inv-loop μ-loop
+unfolding entriesAlong
 returns c =
     let l = c .before .before .loop in
-    λ counts. rw (along-whole _ _ _ counts _) (sym (nth-empty _ _ (along-end _ _ _ _ (l .fuel - 1) _ (omega arith) (c .if1 .taken))) ∙ l .inv .1)
+    λ counts. rw (along-whole _ _ _ counts _) (sym (nth-empty _ _ (gathered-end _ _ (l .fuel) _ (c .if1 .taken))) ∙ l .inv .1)
 
 entry-requires : tie.Need-entry-requires Inv-loop μ-loop
 entry-requires c κs = search needs
@@ -73,9 +75,10 @@ loop-again c =
     )
 
 returns-3 : tie.Need-returns-3 Inv-loop μ-loop
+unfolding entriesAlong
 returns-3 c =
     let l = c .before .loop in
-    λ counts. rw (along-whole _ _ _ counts _) (sym (nth-empty _ _ (along-none _ _ _ (l .fuel) _ (omega arith))) ∙ l .inv .1)
+    λ counts. rw (along-whole _ _ _ counts _) (sym (nth-empty _ _ (gathered-none _ _ (l .fuel) _ (omega arith))) ∙ l .inv .1)
 
 pub nth-entry-spec : {M : Type 1} → statement M
 nth-entry-spec =

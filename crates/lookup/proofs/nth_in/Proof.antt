@@ -5,8 +5,8 @@ use native.Mathlib.Omega.{arith}
 use Rattle.rules.specs.Walk.{Entered, entriesFrom, entriesIn}
 use Rattle.rules.specs.Lookup.{nth}
 use Rattle.lookup.specs.Answers.{Unbroken}
-use Rattle.tree.proofs.Laws.{block-whole}
-use Rattle.lookup.proofs.Laws.{none-left, ended, unbroken-no-fault, unbroken-rest, nth-none, nth-here, nth-behind}
+use Rattle.tree.proofs.Laws.{block-whole, entries-none, entries-end}
+use Rattle.lookup.proofs.Laws.{unbroken-no-fault, unbroken-rest, nth-none, nth-here, nth-behind}
 use borrow.Author.Needs.{needs}
 use Rattle.lookup.proofs.nth_in.Statement.{statement}
 use Rattle.lookup.proofs.nth_in.Tie as tie
@@ -40,7 +40,7 @@ enum-told c = search needs
 returns : tie.Need-returns Inv-loop μ-loop
 returns c =
     let l = c .before .before .before .before .loop in
-    λ rest. sym (nth-none _ rest _ (ended _ _ _ (l .fuel - 1) _ (omega arith) (sym (c .before .before .entry-at .ensures) ∙ c .enum-told .given .1))) ∙ l .inv .2 rest
+    λ rest. sym (nth-none _ rest _ (entries-end _ _ _ (l .fuel - 1) _ (omega arith) (sym (c .before .before .entry-at .ensures) ∙ c .enum-told .given .1))) ∙ l .inv .2 rest
 
 enum-told-2 : tie.Need-enum-told-2 Inv-loop μ-loop
 enum-told-2 c = search needs
@@ -88,7 +88,7 @@ loop-again c =
     )
 
 returns-4 : tie.Need-returns-4 Inv-loop μ-loop
-returns-4 c = λ rest. sym (nth-none _ rest _ (none-left _ _ (c .before .loop .fuel) _ (omega arith))) ∙ c .before .loop .inv .2 rest
+returns-4 c = λ rest. sym (nth-none _ rest _ (entries-none _ _ (c .before .loop .fuel) _ (omega arith))) ∙ c .before .loop .inv .2 rest
 
 pub nth-in-spec : {M : Type 1} → statement M
 nth-in-spec =

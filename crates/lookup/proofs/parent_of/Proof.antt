@@ -1,74 +1,23 @@
-use mathlib.Core.Path.{_≡_, refl, sym, _∙_}
-use Prim.Native.Nat.{_-_, _≤_}
-use native.Mathlib.Numerals.{unary-clauses}
-use native.Mathlib.Omega.{arith}
-use Rattle.rules.specs.Changes.{parentOf}
-use Rattle.tree.specs.Steps.{dirsFrom, queueOf}
-use Rattle.lookup.proofs.Queue.{parent-hit, parent-pass, parent-none}
+use borrow.Author.Tests.{lt-ltb, le-ltb}
+use Rattle.lookup.proofs.Queue.{place-parent}
 use borrow.Author.Needs.{needs}
 use Rattle.lookup.proofs.parent_of.Statement.{statement}
 use Rattle.lookup.proofs.parent_of.Tie as tie
 
-abbrev Inv-loop : tie.InvT-loop
-Inv-loop queue parents dirs head i₀ i = (i ≤ dirs) × (parentOf (dirsFrom queue parents i (dirs - i)) (head .0) ≡ parentOf (queueOf queue parents dirs) (head .0))
+place-in-queue-requires : tie.Need-place-in-queue-requires
+place-in-queue-requires c κs = search needs
 
-abbrev μ-loop : tie.MeasureT-loop
-μ-loop queue parents dirs head i₀ i = dirs - i
-
-loop-holds : tie.Need-loop-holds Inv-loop μ-loop
-unfolding queueOf
-loop-holds c = (search needs, simp unary-clauses refl)
-
-cast-entry : tie.Need-cast-entry Inv-loop μ-loop
+cast-entry : tie.Need-cast-entry
 cast-entry c = search needs
 
-entry-requires : tie.Need-entry-requires Inv-loop μ-loop
+entry-requires : tie.Need-entry-requires
 entry-requires c κs = search needs
 
-cast-entry-2 : tie.Need-cast-entry-2 Inv-loop μ-loop
-cast-entry-2 c = search needs
+returns : tie.Need-returns
+returns c = rw (place-parent _ _ _ _, ← c .before .before .place-in-queue .ensures, lt-ltb _ _ (c .before .if1 .taken)) (c .entry .ensures)
 
-entry-requires-2 : tie.Need-entry-requires-2 Inv-loop μ-loop
-entry-requires-2 c κs = search needs
-
-returns : tie.Need-returns Inv-loop μ-loop
-returns c =
-    let l = c .before .before .before .before .before .loop in
-    let a = c .before .before .before .before .before .before .before .before .args in
-    c .entry2 .ensures
-    ∙ sym (parent-hit _ _ _ (l .i) (a .dirs - l .i) (a .dirs - l .i - 1) (omega (arith, c .before .before .before .before .loop-test .taken)) (sym (c .before .before .before .entry .ensures) ∙ c .before .if1 .taken))
-    ∙ l .inv .1
-
-add-i : tie.Need-add-i Inv-loop μ-loop
-add-i c = search needs
-
-loop-less : tie.Need-loop-less Inv-loop μ-loop
-loop-less c = search needs
-
-loop-again : tie.Need-loop-again Inv-loop μ-loop
-loop-again c =
-    let l = c .before .before .before .before .loop in
-    let a = c .before .before .before .before .before .before .before .args in
-    (search needs, sym (parent-pass _ _ _ (l .i) (a .dirs - l .i) _ (omega (arith, c .before .before .before .loop-test .taken)) (λ e. c .if1 .left (c .before .before .entry .ensures ∙ e))) ∙ l .inv .1)
-
-returns-2 : tie.Need-returns-2 Inv-loop μ-loop
-returns-2 c =
-    let l = c .before .loop in
-    sym (parent-none _ _ _ (l .i) (c .before .before .before .before .args .dirs - l .i) (omega (arith, c .loop-test .left))) ∙ l .inv .1
+returns-2 : tie.Need-returns-2
+returns-2 c = rw (place-parent _ _ _ _, ← c .before .place-in-queue .ensures, le-ltb _ _ (c .if1 .left))
 
 pub parent-of-spec : {M : Type 1} → statement M
-parent-of-spec =
-    tie.close
-    (tie.spec
-    Inv-loop
-    μ-loop
-    loop-holds
-    cast-entry
-    entry-requires
-    cast-entry-2
-    entry-requires-2
-    returns
-    add-i
-    loop-less
-    loop-again
-    returns-2)
+parent-of-spec = tie.close (tie.spec place-in-queue-requires cast-entry entry-requires returns returns-2)

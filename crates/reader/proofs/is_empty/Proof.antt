@@ -2,8 +2,9 @@ use mathlib.Core.Path.{_≡_, refl, sym, ap, _∙_}
 use Prim.Native.Nat.{_-_}
 use native.Mathlib.Omega.{arith}
 use Rattle.rules.specs.Lookup.{isThere, nth}
-use Rattle.lookup.proofs.Laws.{entriesAlong, along-whole, along-none, along-end, nth-empty}
+use Rattle.lookup.proofs.Laws.{entriesAlong, along-whole, nth-empty}
 use Rattle.reader.proofs.Laws.{there-along, none-along}
+use Rattle.tree.proofs.Laws.{gathered-none, gathered-end}
 use borrow.Author.Needs.{needs}
 use Rattle.reader.proofs.is_empty.Statement.{statement}
 use Rattle.reader.proofs.is_empty.Tie as tie
@@ -22,9 +23,10 @@ loop-holds : tie.Need-loop-holds Inv-loop μ-loop
 loop-holds c = refl
 
 returns : tie.Need-returns Inv-loop μ-loop
+unfolding entriesAlong
 returns c =
     let l = c .before .before .loop in
-    λ counts. rw (along-whole _ _ _ counts _) (ap isThere (sym (nth-empty _ 0 (along-end _ _ _ _ (l .fuel - 1) _ (omega arith) (c .if1 .taken))) ∙ l .inv))
+    λ counts. rw (along-whole _ _ _ counts _) (ap isThere (sym (nth-empty _ 0 (gathered-end _ _ (l .fuel) _ (c .if1 .taken))) ∙ l .inv))
 
 entry-requires : tie.Need-entry-requires Inv-loop μ-loop
 entry-requires c κs = search needs
@@ -64,9 +66,10 @@ loop-again c =
     ∙ l .inv)
 
 returns-3 : tie.Need-returns-3 Inv-loop μ-loop
+unfolding entriesAlong
 returns-3 c =
     let l = c .before .loop in
-    λ counts. rw (along-whole _ _ _ counts _) (ap isThere (sym (nth-empty _ 0 (along-none _ _ _ (l .fuel) _ (omega arith))) ∙ l .inv))
+    λ counts. rw (along-whole _ _ _ counts _) (ap isThere (sym (nth-empty _ 0 (gathered-none _ _ (l .fuel) _ (omega arith))) ∙ l .inv))
 
 pub is-empty-spec : {M : Type 1} → statement M
 is-empty-spec =

@@ -1,10 +1,10 @@
-use mathlib.Core.Path.{_≡_, sym, _∙_}
+use mathlib.Core.Path.{_≡_, sym, ap, _∙_}
 use mathlib.Core.List.{map}
 use Prim.Native.Nat.{ℕ, _+_, _-_, _*_, _≤_}
 use native.Mathlib.Omega.{arith}
 use Rattle.rules.specs.Walk.{entriesFrom}
 use Rattle.tree.specs.Steps.{itemIn, entering, Room}
-use Rattle.tree.proofs.Laws.{block-whole, block-none, block-end, block-broken, block-stop, block-step}
+use Rattle.tree.proofs.Laws.{block-whole, entries-none, entries-end, enter-none, block-broken, block-stop, block-step}
 use borrow.Author.Needs.{needs}
 use Rattle.tree.proofs.enter_block.Statement.{statement}
 use Rattle.tree.proofs.enter_block.Tie as tie
@@ -47,7 +47,7 @@ returns c =
     let l = c .before .before .before .before .loop in
     let y = c .before .before .before .before .before .before .before .before .before .before .before .before .before .args .b .0 in
     let i = rw (block-whole _ _ _ (c .before .before .before .before .before .block-part .ensures)) at (l .inv .2 y) in
-    (sym (block-end _ _ y _ _ (l .fuel - 1) _ _ _ _ (omega arith) (sym (c .before .before .entry-at .ensures) ∙ c .enum-told .given .1)) ∙ i, l .inv .0 .3)
+    (sym (enter-none _ _ _ _ _ (ap (map _) (entries-end _ y _ (l .fuel - 1) _ (omega arith) (sym (c .before .before .entry-at .ensures) ∙ c .enum-told .given .1)))) ∙ i, l .inv .0 .3)
 
 enum-told-2 : tie.Need-enum-told-2 Inv-loop μ-loop
 enum-told-2 c = search needs
@@ -134,7 +134,7 @@ returns-4 c =
     let l = c .before .loop in
     let y = c .before .before .before .before .before .before .before .before .before .before .args .b .0 in
     let i = rw (block-whole _ _ _ (c .before .before .block-part .ensures)) at (l .inv .2 y) in
-    (sym (block-none _ _ y _ (l .fuel) _ _ _ _ (omega arith)) ∙ i, l .inv .0 .3)
+    (sym (enter-none _ _ _ _ _ (ap (map _) (entries-none _ y (l .fuel) _ (omega arith)))) ∙ i, l .inv .0 .3)
 
 pub enter-block-spec : {M : Type 1} → statement M
 enter-block-spec =

@@ -3,7 +3,7 @@ use Prim.Native.Nat.{_-_}
 use native.Mathlib.Omega.{arith}
 use Rattle.anodes.specs.Loaded.{anodesFrom}
 use Rattle.tree.specs.Steps.{dirMade, itemIn, itemsAlong, itemsWith, entering, Room}
-use Rattle.tree.proofs.Laws.{along-none, along-end, along-stop, along-step}
+use Rattle.tree.proofs.Laws.{gathered-none, gathered-end, enter-none, along-stop, along-step}
 use borrow.Author.Needs.{needs}
 use Rattle.tree.proofs.enter_directory.Statement.{statement}
 use Rattle.tree.proofs.enter_directory.Tie as tie
@@ -32,10 +32,10 @@ same-length-3 : tie.Need-same-length-3 Inv-loop μ-loop
 same-length-3 c = search needs
 
 returns : tie.Need-returns Inv-loop μ-loop
-unfolding itemsWith
+unfolding itemsWith itemsAlong
 returns c =
     let l = c .before .before .loop in
-    (sym (along-end _ _ _ _ _ _ _ _ _ _ (l .fuel - 1) (omega arith) (c .if1 .taken)) ∙ l .inv .1, l .inv .0 .3)
+    (sym (enter-none _ _ _ _ _ (gathered-end _ _ (l .fuel) _ (c .if1 .taken))) ∙ l .inv .1, l .inv .0 .3)
 
 enter-anode-requires : tie.Need-enter-anode-requires Inv-loop μ-loop
 enter-anode-requires c κs = search needs
@@ -93,10 +93,10 @@ same-length-9 : tie.Need-same-length-9 Inv-loop μ-loop
 same-length-9 c = search needs
 
 returns-3 : tie.Need-returns-3 Inv-loop μ-loop
-unfolding itemsWith
+unfolding itemsWith itemsAlong
 returns-3 c =
     let l = c .before .loop in
-    (sym (along-none _ _ _ _ _ _ _ _ _ (l .fuel) (omega arith)) ∙ l .inv .1, l .inv .0 .3)
+    (sym (enter-none _ _ _ _ _ (gathered-none _ _ (l .fuel) _ (omega arith))) ∙ l .inv .1, l .inv .0 .3)
 
 pub enter-directory-spec : {M : Type 1} → statement M
 enter-directory-spec =

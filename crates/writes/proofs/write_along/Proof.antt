@@ -8,7 +8,7 @@ use Rattle.anodes.specs.Loaded.{anodesFrom}
 use Rattle.anodes.specs.Along.{blocksAlong, along-whole, along-none, along-end, along-step}
 use Rattle.laws.specs.Chains.{Inside}
 use Rattle.writes.specs.Written.{writtenOver}
-use Rattle.writes.proofs.Laws.{over-empty, over-done, over-written, run-inside, chain-inside}
+use Rattle.writes.proofs.Laws.{over-empty, over-done, over-written, along-inside}
 use borrow.Author.Needs.{needs}
 use Rattle.writes.proofs.write_along.Statement.{statement}
 use Rattle.writes.proofs.write_along.Tie as tie
@@ -59,8 +59,8 @@ write-run-requires : tie.Need-write-run-requires Inv-loop μ-loop
 write-run-requires c κs =
     let l = c .before .before .before .before .before .before .before .loop in
     let a = c .before .before .before .before .before .before .before .before .before .before .before .before .before .before .args in
-    let i = run-inside (a .image .now) (a .counts .now) (a .firsts .now) (a .nexts .now) (l .fuel) (l .fuel - 1) (l .at) (omega arith) (c .before .before .before .before .before .if1 .left) (l .inv .1) in
-    rw (c .before .entry .ensures, c .entry2 .ensures, l .inv .0) i
+    let i = along-inside (a .image .now) (a .counts .now) (a .firsts .now) (a .nexts .now) (l .fuel) (l .fuel - 1) (l .at) (omega arith) (c .before .before .before .before .before .if1 .left) (l .inv .1) in
+    rw (c .before .entry .ensures, c .entry2 .ensures, l .inv .0) (i .0)
 
 entry-requires-3 : tie.Need-entry-requires-3 Inv-loop μ-loop
 entry-requires-3 c κs = search needs
@@ -82,7 +82,7 @@ loop-again c =
     let rest = blocksAlong (a .counts .now) (a .firsts .now) (a .nexts .now) (l .fuel - 1) (getD (a .nexts .now) (l .at) 0) in
     let step = along-step (a .counts .now) (a .firsts .now) (a .nexts .now) (l .fuel) (l .fuel - 1) (l .at) more (c .before .before .before .before .before .before .before .before .before .if1 .left) in (
       search needs,
-      rw (c .entry3 .ensures) (chain-inside (a .image .now) (a .counts .now) (a .firsts .now) (a .nexts .now) (l .fuel) (l .fuel - 1) (l .at) more (c .before .before .before .before .before .before .before .before .before .if1 .left) (l .inv .1)),
+      rw (c .entry3 .ensures) (along-inside (a .image .now) (a .counts .now) (a .firsts .now) (a .nexts .now) (l .fuel) (l .fuel - 1) (l .at) more (c .before .before .before .before .before .before .before .before .before .if1 .left) (l .inv .1) .1),
       λ e is. rw (c .entry3 .ensures) ((rw (c .before .before .before .before .before .entry .ensures, c .before .before .before .before .entry2 .ensures, ← step) at (c .before .before .before .write-run .ensures rest)) ∙ l .inv .2 e is),
     )
 

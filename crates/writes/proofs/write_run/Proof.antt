@@ -4,9 +4,10 @@ use Prim.Native.Nat.{ℕ, _+_, _-_, _≤_}
 use native.Mathlib.Omega.{arith}
 use lib.ListN.{length, drop}
 use Rattle.rules.specs.Chains.{run}
+use Rattle.anodes.specs.Along.{run-none, run-step}
 use Rattle.laws.specs.Chains.{Inside}
 use Rattle.writes.specs.Written.{writtenOver}
-use Rattle.writes.proofs.Laws.{over-done, run-none, run-step, first-inside, rest-inside}
+use Rattle.writes.proofs.Laws.{over-done, first-inside, rest-inside}
 use borrow.Author.Needs.{needs}
 use Rattle.writes.proofs.write_run.Statement.{statement}
 use Rattle.writes.proofs.write_run.Tie as tie

@@ -1,8 +1,8 @@
 use mathlib.Core.Path.{sym}
 use borrow.Author.Tests.{eq-eqb, ne-eqb}
 use borrow.Author.Needs.{needs}
-use Rattle.chains.proofs.wrong_one.Statement.{statement}
-use Rattle.chains.proofs.wrong_one.Tie as tie
+use Rattle.chains.proofs.not_empty.Statement.{statement}
+use Rattle.chains.proofs.not_empty.Tie as tie
 
 entry-requires : tie.Need-entry-requires
 entry-requires c κs = search needs
@@ -16,5 +16,5 @@ entry-requires-2 c κs = search needs
 returns-2 : tie.Need-returns-2
 returns-2 c = simp (sym (c .before .before .entry .ensures), eq-eqb _ _ (c .before .if1 .left), sym (c .entry2 .ensures))
 
-pub wrong-one-spec : {M : Type 1} → statement M
-wrong-one-spec = tie.close (tie.spec entry-requires returns entry-requires-2 returns-2)
+pub not-empty-spec : {M : Type 1} → statement M
+not-empty-spec = tie.close (tie.spec entry-requires returns entry-requires-2 returns-2)

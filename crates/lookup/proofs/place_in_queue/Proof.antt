@@ -2,14 +2,14 @@ use mathlib.Core.Path.{_≡_, refl, sym, _∙_}
 use Prim.Native.Nat.{_-_, _≤_}
 use native.Mathlib.Numerals.{unary-clauses}
 use native.Mathlib.Omega.{arith}
-use Rattle.lookup.specs.Queued.{isQueued}
-use Rattle.lookup.proofs.Queue.{queued-hit, queued-pass, queued-none}
+use Rattle.lookup.specs.Queued.{placeOf}
+use Rattle.lookup.proofs.Queue.{place-hit, place-pass, place-none}
 use borrow.Author.Needs.{needs}
-use Rattle.lookup.proofs.is_queued.Statement.{statement}
-use Rattle.lookup.proofs.is_queued.Tie as tie
+use Rattle.lookup.proofs.place_in_queue.Statement.{statement}
+use Rattle.lookup.proofs.place_in_queue.Tie as tie
 
 abbrev Inv-loop : tie.InvT-loop
-Inv-loop queue dirs head i₀ i = (i ≤ dirs) × (isQueued queue (head .0) i (dirs - i) ≡ isQueued queue (head .0) 0 dirs)
+Inv-loop queue dirs head i₀ i = (i ≤ dirs) × (placeOf queue (head .0) i (dirs - i) ≡ placeOf queue (head .0) 0 dirs)
 
 abbrev μ-loop : tie.MeasureT-loop
 μ-loop queue dirs head i₀ i = dirs - i
@@ -27,7 +27,7 @@ returns : tie.Need-returns Inv-loop μ-loop
 returns c =
     let l = c .before .before .before .before .loop in
     let a = c .before .before .before .before .before .before .args in
-    sym (queued-hit _ _ (l .i) (a .dirs - l .i) (a .dirs - l .i - 1) (omega (arith, c .before .before .before .loop-test .taken)) (sym (c .before .before .entry .ensures) ∙ c .if1 .taken)) ∙ l .inv .1
+    sym (place-hit _ _ (l .i) (a .dirs - l .i) (a .dirs - l .i - 1) (omega (arith, c .before .before .before .loop-test .taken)) (sym (c .before .before .entry .ensures) ∙ c .if1 .taken)) ∙ l .inv .1
 
 add-i : tie.Need-add-i Inv-loop μ-loop
 add-i c = search needs
@@ -39,15 +39,15 @@ loop-again : tie.Need-loop-again Inv-loop μ-loop
 loop-again c =
     let l = c .before .before .before .before .loop in
     let a = c .before .before .before .before .before .before .args in
-    (search needs, sym (queued-pass _ _ (l .i) (a .dirs - l .i) _ (omega (arith, c .before .before .before .loop-test .taken)) (λ e. c .if1 .left (c .before .before .entry .ensures ∙ e))) ∙ l .inv .1)
+    (search needs, sym (place-pass _ _ (l .i) (a .dirs - l .i) _ (omega (arith, c .before .before .before .loop-test .taken)) (λ e. c .if1 .left (c .before .before .entry .ensures ∙ e))) ∙ l .inv .1)
 
 returns-2 : tie.Need-returns-2 Inv-loop μ-loop
 returns-2 c =
     let l = c .before .loop in
-    sym (queued-none _ _ (l .i) (c .before .before .before .args .dirs - l .i) (omega (arith, c .loop-test .left))) ∙ l .inv .1
+    sym (place-none _ _ (l .i) (c .before .before .before .args .dirs - l .i) (omega (arith, c .loop-test .left))) ∙ l .inv .1
 
-pub is-queued-spec : {M : Type 1} → statement M
-is-queued-spec =
+pub place-in-queue-spec : {M : Type 1} → statement M
+place-in-queue-spec =
     tie.close
     (tie.spec
     Inv-loop

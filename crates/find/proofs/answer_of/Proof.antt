@@ -1,0 +1,20 @@
+use mathlib.Core.Path.{refl}
+use Rattle.find.proofs.Laws.{search-found}
+use borrow.Author.Needs.{needs}
+use Rattle.find.proofs.answer_of.Statement.{statement}
+use Rattle.find.proofs.answer_of.Tie as tie
+
+enum-known-found : tie.Need-enum-known-found
+enum-known-found c = search needs
+
+enum-told : tie.Need-enum-told
+enum-told c = search needs
+
+returns : tie.Need-returns
+returns c = (refl, search-found _ _ _ refl (c .before .found .given .1))
+
+returns-2 : tie.Need-returns-2
+returns-2 c = search needs
+
+pub answer-of-spec : {M : Type 1} → statement M
+answer-of-spec = tie.close (tie.spec enum-known-found enum-told returns returns-2)
