@@ -8,7 +8,7 @@ use mathlib.Core.Option.{Option, none, some}
 use native.Mathlib.Omega.{arith}
 use lib.Dec.{T, eqb}
 use lib.ListN.{length}
-use borrow.Author.Tests.{leb-true}
+use borrow.Author.Tests.{leb-true, eq-eqb, ne-eqb}
 use Rattle.disk.specs.Blocks.{blockOf}
 use Rattle.disk.proofs.Laws.{length-blockOf}
 use Rattle.directory.specs.Entries.{directoryMark, goodName, goodComment, entryLength, putEntry}
@@ -21,7 +21,7 @@ use Rattle.rules.specs.Accepted.{diskSize, lastReserved, checkAnswer}
 use Rattle.rules.specs.Lookup.{noDirectory}
 use Rattle.rules.specs.Space.{planned, rewritten}
 use Rattle.rules.specs.Changes.{withBlocks, entriesEnd, firstRoom, ownBlock, parentBlock, newDirectoryBlock, parentOf, entryPlace, NewEntry, entryOf, madeImage}
-use Rattle.laws.specs.Tests.{eq→eqb, eqb-true, eqb-false, and, or-right}
+use Rattle.laws.specs.Tests.{eq→eqb, and, or-right}
 use Rattle.laws.specs.Sums.{oneAt-cases, oneAt-same}
 use Rattle.laws.specs.Bags.{list-cons, times-nil, times-cons, times-append}
 use Rattle.laws.specs.Space.{Good, on-chain}
@@ -66,13 +66,13 @@ unfolding headed parentOf
 parents-right h [] e = tt
 parents-right h (d ∷ l) e = elim (oneAt-cases (d .head) h) [
   | inl c ↦ (
-    λ q. rw (eqb-true (d .head) h q),
+    λ q. rw (eq-eqb (d .head) h q),
     each-map (λ x. x .head ≢ h) (λ x. x .head ≡ h → x .parent ≡ parentOf (d ∷ l) h) l (λ x n q. absurd (n q))
         (none-headed h l (omega (arith, e, c .1, list-cons {X = Dir} (λ x. oneAt (x .head) h) d l))),
   )
   | inr c ↦ (
     λ q. absurd (c .0 q),
-    rw (eqb-false (d .head) h (c .0)) (parents-right h l (omega (arith, e, c .1, list-cons {X = Dir} (λ x. oneAt (x .head) h) d l))),
+    rw (ne-eqb (d .head) h (c .0)) (parents-right h l (omega (arith, e, c .1, list-cons {X = Dir} (λ x. oneAt (x .head) h) d l))),
   )
 ]
 

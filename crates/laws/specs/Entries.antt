@@ -6,12 +6,12 @@ use mathlib.Core.Bool.{Bool, true, false, cond, _&&_}
 use mathlib.Core.List.{List, [], _∷_, map}
 use native.Mathlib.Omega.{arith}
 use lib.Dec.{T, eqb, leb, eqb→eq, leb→le}
-use borrow.Author.Tests.{le-leb}
+use borrow.Author.Tests.{le-leb, eq-eqb}
 use Rattle.rules.specs.Counting.{sumList, times}
 use Rattle.rules.specs.Anodes.{limit, Anodes}
 use Rattle.rules.specs.Chains.{chainOf, heads, blockCount}
 use Rattle.rules.specs.Walk.{Dir, Entered, Item, blocksFor, wrongAnode, wrongFileSize, itemOf, broken, itemsAt, itemsBy}
-use Rattle.laws.specs.Tests.{cond-cases, T-true, eqb-true, both}
+use Rattle.laws.specs.Tests.{cond-cases, T-true, both}
 use Rattle.laws.specs.Bags.{list-one, list-mono, list-congr, list-congr-where, list-zero, gather-sum, map-sum, none-at}
 use Rattle.laws.specs.Space.{Alike}
 use Rattle.laws.specs.Frame.{kept-sum-where}
@@ -38,7 +38,7 @@ module _ (s : Anodes) where
 
   anode-right : (a : ℕ) → 6 ≤ a → heads limit (s .next) (s .block) a ≡ 1 → wrongAnode s a ≡ 0
   unfolding wrongAnode
-  anode-right a l e = rw (le-leb 6 a l, eqb-true (heads limit (s .next) (s .block) a) 1 e)
+  anode-right a l e = rw (le-leb 6 a l, eq-eqb (heads limit (s .next) (s .block) a) 1 e)
 
   right-size : (e : Entered) → wrongFileSize s e ≡ 0 → (e .dir ≡ true) ⊎ (blockCount s (e .anode) ≡ blocksFor (e .size))
   unfolding wrongFileSize
@@ -54,7 +54,7 @@ module _ (s : Anodes) where
   size-right : (e : Entered) → (e .dir ≡ true) ⊎ (blockCount s (e .anode) ≡ blocksFor (e .size)) → wrongFileSize s e ≡ 0
   unfolding wrongFileSize
   size-right e (inl q) = rw q
-  size-right e (inr q) = rw (eqb-true (blockCount s (e .anode)) (blocksFor (e .size)) q) (go (e .dir))
+  size-right e (inr q) = rw (eq-eqb (blockCount s (e .anode)) (blocksFor (e .size)) q) (go (e .dir))
     where
       go : (b : Bool) → cond {A = ℕ} b 0 0 ≡ 0
       go true = refl
@@ -124,7 +124,7 @@ module _ (entries : ℕ → List Entered) (marked : Dir → ℕ → Bool) (s : A
 
   pub itemsAt-whole : (a : ℕ) → s .count a ≡ 1 → T (marked d (s .block a)) → itemsAt entries marked s d a ≡ map (itemOf s) (entries (s .block a))
   unfolding itemsAt
-  itemsAt-whole a c m = rw (eqb-true (s .count a) 1 c, T-true (marked d (s .block a)) m)
+  itemsAt-whole a c m = rw (eq-eqb (s .count a) 1 c, T-true (marked d (s .block a)) m)
 
   -- a weight that is at most another at every entry
   pub items-mono : (w u : Item → ℕ) → ((e : Entered) → w (itemOf s e) ≤ u (itemOf s e)) → w broken ≤ u broken → sumList w (itemsBy entries marked s d) ≤ sumList u (itemsBy entries marked s d)

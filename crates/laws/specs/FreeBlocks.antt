@@ -6,11 +6,12 @@ use mathlib.Core.Bool.{Bool}
 use mathlib.Core.List.{List, [], _∷_, _++_, append-nil, append-assoc}
 use native.Mathlib.Omega.{arith}
 use native.Mathlib.Numerals.{add-one}
+use borrow.Author.Tests.{eq-eqb, ne-eqb}
 use Rattle.rules.specs.Counting.{oneAt, times, gather, lastOf}
 use Rattle.rules.specs.Anodes.{Anodes, limit}
 use Rattle.rules.specs.Chains.{chainOf, run, blocksOf, cut, side}
 use Rattle.rules.specs.Space.{planned, rewritten, insertedAfter, unlinked, emptied, lowestFree, append, withoutFirst, takeBlock, withoutLast, sideOf, join, release, giveBack}
-use Rattle.laws.specs.Tests.{same?, eqb-true, eqb-false}
+use Rattle.laws.specs.Tests.{same?}
 use Rattle.laws.specs.Sums.{oneAt-cases, oneAt-same, changed-same, changed-other}
 use Rattle.laws.specs.Bags.{times-nil, times-cons, times-append}
 use Rattle.laws.specs.Links.{the-chain, seg-used}
@@ -135,10 +136,10 @@ module _ {ex : ℕ → Bool} {n last : ℕ} {s : Anodes} {system hd sd : ℕ →
       OneMore (s .block x) (blocksOf (withoutFirst limit ex last s p x) 1) (blocksOf s 1)
   unfolding withoutFirst emptied extent run
   withoutFirst-less m o p x f = elim (same? (s .count x) 1) [
-    | inr i ↦ rw (eqb-false (s .count x) 1 i) (rewritten-less g x free (s .block x) (s .count x - 1) (s .block x + 1) ([], run (s .block x + 1) (s .count x - 1), refl, shorter))
-    | inl i ↦ rw (eqb-true (s .count x) 1 i) (elim (same? x 2) [
-      | inl j ↦ rw (eqb-true x 2 j) (rewritten-less g x free (s .block x) 0 65535 (only i))
-      | inr j ↦ rw (eqb-false x 2 j) (unlinked-less g x free (s .block x) p (free-after g m o p x f j) (full-0 g x (f .full)) (full-1 g x (f .full)) (only i))
+    | inr i ↦ rw (ne-eqb (s .count x) 1 i) (rewritten-less g x free (s .block x) (s .count x - 1) (s .block x + 1) ([], run (s .block x + 1) (s .count x - 1), refl, shorter))
+    | inl i ↦ rw (eq-eqb (s .count x) 1 i) (elim (same? x 2) [
+      | inl j ↦ rw (eq-eqb x 2 j) (rewritten-less g x free (s .block x) 0 65535 (only i))
+      | inr j ↦ rw (ne-eqb x 2 j) (unlinked-less g x free (s .block x) p (free-after g m o p x f j) (full-0 g x (f .full)) (full-1 g x (f .full)) (only i))
     ])
   ]
     where

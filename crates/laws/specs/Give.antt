@@ -6,11 +6,12 @@ use mathlib.Core.Bool.{Bool}
 use mathlib.Core.List.{List, [], _∷_}
 use native.Mathlib.Omega.{arith}
 use lib.Dec.{ltb, ltb→lt, lt→ltb}
+use borrow.Author.Tests.{eq-eqb, ne-eqb}
 use Rattle.rules.specs.Counting.{lastOf}
 use Rattle.rules.specs.Anodes.{Anodes}
 use Rattle.rules.specs.Chains.{chainOf, side}
 use Rattle.rules.specs.Space.{refused, planned, rewritten, emptied, Found, nowhere, found, lastFull, withoutLast, sideOf, join, release, giveFrom, giveBack}
-use Rattle.laws.specs.Tests.{same?, less?, cond-cases, eqb-true, eqb-false}
+use Rattle.laws.specs.Tests.{same?, less?, cond-cases}
 use Rattle.laws.specs.Ownership.{hand}
 use Rattle.laws.specs.Links.{the-chain}
 use Rattle.laws.specs.Heads.{Head}
@@ -44,11 +45,11 @@ module _ {A : ℕ} {ex : ℕ → Bool} {n last : ℕ} {s : Anodes} {system hd sd
 
       out : InHand A ex n last s system hd (hd x) (s .block x + (s .count x - 1)) (withoutLast A ex last s h p x)
       out = elim (same? (s .count x) 1) [
-        | inr q ↦ rw (eqb-false (s .count x) 1 q) (shrunk g x (f .full) (s .count x - 1) (s .block x) (s .block x + (s .count x - 1)) (omega (arith, f .full)) (full-used g x (f .full))
+        | inr q ↦ rw (ne-eqb (s .count x) 1 q) (shrunk g x (f .full) (s .count x - 1) (s .block x) (s .block x + (s .count x - 1)) (omega (arith, f .full)) (full-used g x (f .full))
             (λ w. last-gone (s .count x) (s .block x) w (f .full)) (λ l. (omega arith, omega arith)))
-        | inl q ↦ rw (first-too q, eqb-true (s .count x) 1 q) (elim (same? x h) [
-          | inl e ↦ rw (eqb-true x h e) (shrunk g x (f .full) 0 65535 (s .block x) q (omega arith) (λ w. only-gone (s .count x) (s .block x) w 65535 q) (λ l. absurd (omega arith)))
-          | inr e ↦ rw (eqb-false x h e) (unlinked-out g x (f .full) q p (after-p e) (full-6 g x (f .full) p (after-p e) not-2))
+        | inl q ↦ rw (first-too q, eq-eqb (s .count x) 1 q) (elim (same? x h) [
+          | inl e ↦ rw (eq-eqb x h e) (shrunk g x (f .full) 0 65535 (s .block x) q (omega arith) (λ w. only-gone (s .count x) (s .block x) w 65535 q) (λ l. absurd (omega arith)))
+          | inr e ↦ rw (ne-eqb x h e) (unlinked-out g x (f .full) q p (after-p e) (full-6 g x (f .full) p (after-p e) not-2))
         ])
       ]
 

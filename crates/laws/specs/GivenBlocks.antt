@@ -6,11 +6,12 @@ use mathlib.Core.Bool.{Bool}
 use mathlib.Core.List.{List, [], _∷_, _++_, reverse, append-nil, append-assoc, reverse-cons}
 use native.Mathlib.Omega.{arith}
 use lib.ListN.{length}
+use borrow.Author.Tests.{eq-eqb, ne-eqb}
 use Rattle.rules.specs.Counting.{sumList, times, gather, lastOf}
 use Rattle.rules.specs.Anodes.{Anodes, limit}
 use Rattle.rules.specs.Chains.{chainOf, run, blocksOf}
 use Rattle.rules.specs.Space.{planned, rewritten, unlinked, emptied, Found, nowhere, found, lastFull, withoutLast, giveBack, giveMany}
-use Rattle.laws.specs.Tests.{same?, eqb-true, eqb-false}
+use Rattle.laws.specs.Tests.{same?}
 use Rattle.laws.specs.Sums.{changed-same, changed-other}
 use Rattle.laws.specs.Bags.{list-cons}
 use Rattle.laws.specs.Segments.{Seg, Chain, seg-split}
@@ -144,10 +145,10 @@ module _ {ex : ℕ → Bool} {n last : ℕ} {s : Anodes} {system hd sd : ℕ →
   withoutLast-blocks : blocksOf s h ≡ blocksOf (withoutLast limit ex last s h q x) h ++ ((s .block x + (s .count x - 1)) ∷ [])
   unfolding withoutLast emptied y run
   withoutLast-blocks = elim (same? (s .count x) 1) [
-    | inr c ↦ rw (eqb-false (s .count x) 1 c) (rewritten-blocks (s .count x - 1) (s .block x) refl refl)
-    | inl c ↦ rw (eqb-true (s .count x) 1 c) (elim (same? x h) [
-      | inl i ↦ rw (eqb-true x h i) (rewritten-blocks 0 65535 (omega arith) refl)
-      | inr i ↦ rw (eqb-false x h i) (unlinked-blocks i c)
+    | inr c ↦ rw (ne-eqb (s .count x) 1 c) (rewritten-blocks (s .count x - 1) (s .block x) refl refl)
+    | inl c ↦ rw (eq-eqb (s .count x) 1 c) (elim (same? x h) [
+      | inl i ↦ rw (eq-eqb x h i) (rewritten-blocks 0 65535 (omega arith) refl)
+      | inr i ↦ rw (ne-eqb x h i) (unlinked-blocks i c)
     ])
   ]
 

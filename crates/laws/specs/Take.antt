@@ -5,11 +5,12 @@ use mathlib.Core.Logic.{_≢_, _⊎_, inl, inr}
 use mathlib.Core.Bool.{Bool}
 use mathlib.Core.List.{List, [], _∷_}
 use native.Mathlib.Omega.{arith}
+use borrow.Author.Tests.{eq-eqb, ne-eqb}
 use Rattle.rules.specs.Counting.{lastOf}
 use Rattle.rules.specs.Anodes.{Anodes}
 use Rattle.rules.specs.Chains.{chainOf, cut, side}
 use Rattle.rules.specs.Space.{planned, rewritten, emptied, Found, nowhere, found, put, withoutFirst, takeFrom, takeBlock}
-use Rattle.laws.specs.Tests.{same?, eqb-true, eqb-false}
+use Rattle.laws.specs.Tests.{same?}
 use Rattle.laws.specs.Ownership.{hand}
 use Rattle.laws.specs.Links.{the-chain}
 use Rattle.laws.specs.LinkChanges.{first, second, third}
@@ -50,11 +51,11 @@ module _ {A : ℕ} {ex : ℕ → Bool} {n last : ℕ} {s : Anodes} {system hd sd
       where
         out : InHand A ex n last s system hd (hd x) (s .block x) (withoutFirst A ex last s p x)
         out = elim (same? (s .count x) 1) [
-          | inr h ↦ rw (eqb-false (s .count x) 1 h) (shrunk g x (f .full) (s .count x - 1) (s .block x + 1) (s .block x) (omega (arith, f .full)) (omega arith)
+          | inr h ↦ rw (ne-eqb (s .count x) 1 h) (shrunk g x (f .full) (s .count x - 1) (s .block x + 1) (s .block x) (omega (arith, f .full)) (omega arith)
               (λ w. first-gone (s .count x) (s .block x) w (f .full)) (λ l. (omega arith, omega arith)))
-          | inl h ↦ rw (eqb-true (s .count x) 1 h) (elim (same? x 2) [
-            | inl e ↦ rw (eqb-true x 2 e) (shrunk g x (f .full) 0 65535 (s .block x) h (omega arith) (λ w. only-gone (s .count x) (s .block x) w 65535 h) (λ l. absurd (omega arith)))
-            | inr e ↦ rw (eqb-false x 2 e) (unlinked-out g x (f .full) h p (free-after e) (full-6 g x (f .full) p (free-after e) e))
+          | inl h ↦ rw (eq-eqb (s .count x) 1 h) (elim (same? x 2) [
+            | inl e ↦ rw (eq-eqb x 2 e) (shrunk g x (f .full) 0 65535 (s .block x) h (omega arith) (λ w. only-gone (s .count x) (s .block x) w 65535 h) (λ l. absurd (omega arith)))
+            | inr e ↦ rw (ne-eqb x 2 e) (unlinked-out g x (f .full) h p (free-after e) (full-6 g x (f .full) p (free-after e) e))
           ])
         ]
 

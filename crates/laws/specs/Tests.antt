@@ -5,7 +5,7 @@ use mathlib.Core.Logic.{_≢_, _⊎_, inl, inr}
 use mathlib.Core.Bool.{Bool, true, false, cond, _&&_, _||_}
 use native.Mathlib.Omega.{arith}
 use native.Mathlib.Decide.{ℕ-discrete, decLt}
-use lib.Dec.{T, eqb, eqb→eq, eqb-refl}
+use lib.Dec.{T, eqb, eqb-refl}
 use Rattle.rules.specs.Counting.{_if_else_, anyBelow}
 
 pub same? : (a b : ℕ) → (a ≡ b) ⊎ (a ≢ b)
@@ -36,12 +36,6 @@ T-same false t f g = rw (T-false t g)
 
 pub eq→eqb : (a b : ℕ) → a ≡ b → T (eqb a b)
 eq→eqb a b e = rw (← e) (eqb-refl a)
-
-pub eqb-true : (a b : ℕ) → a ≡ b → eqb a b ≡ true
-eqb-true a b e = T-true (eqb a b) (eq→eqb a b e)
-
-pub eqb-false : (a b : ℕ) → a ≢ b → eqb a b ≡ false
-eqb-false a b h = T-false (eqb a b) (λ t. h (eqb→eq a b t))
 
 pub both : (a b : Bool) → T (a && b) → T a × T b
 both true b h = (tt, h)

@@ -6,12 +6,12 @@ use mathlib.Core.Bool.{Bool, true, cond, _&&_}
 use mathlib.Core.List.{List, map}
 use native.Mathlib.Omega.{arith}
 use lib.Dec.{eqb, leb, eqb→eq, leb→le}
-use borrow.Author.Tests.{le-leb}
+use borrow.Author.Tests.{le-leb, eq-eqb}
 use Rattle.rules.specs.Counting.{oneAt, sumBelow, sumList, times}
 use Rattle.rules.specs.Anodes.{limit, Anodes}
 use Rattle.rules.specs.Chains.{chainOf, heads, blocksOf, blockCount}
 use Rattle.rules.specs.Walk.{Dir, root, Entered, Item, blocksFor, itemOf, itemsBy}
-use Rattle.laws.specs.Tests.{same?, less?, cond-cases, eqb-true, both}
+use Rattle.laws.specs.Tests.{same?, less?, cond-cases, both}
 use Rattle.laws.specs.Sums.{oneAt-cases, oneAt-same, oneAt-other, oneAt-le}
 use Rattle.laws.specs.Bags.{list-mono}
 use Rattle.laws.specs.Heads.{Head, heads-cases, times-on-chain}
@@ -34,7 +34,7 @@ odd s d = cond (leb 5 (d .head) && eqb (heads limit (s .next) (s .block) (d .hea
 
 odd-none : (s : Anodes) (d : Dir) → 5 ≤ d .head → heads limit (s .next) (s .block) (d .head) ≡ 1 → odd s d ≡ 0
 unfolding odd
-odd-none s d l e = rw (le-leb 5 (d .head) l, eqb-true (heads limit (s .next) (s .block) (d .head)) 1 e)
+odd-none s d l e = rw (le-leb 5 (d .head) l, eq-eqb (heads limit (s .next) (s .block) (d .head)) 1 e)
 
 none-odd : (s : Anodes) (d : Dir) → odd s d ≡ 0 → (5 ≤ d .head) × (heads limit (s .next) (s .block) (d .head) ≡ 1)
 unfolding odd
