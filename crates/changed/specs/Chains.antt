@@ -11,7 +11,7 @@ use Rattle.rules.specs.Anodes.{Anodes, limit, exists}
 use Rattle.rules.specs.Chains.{systemOwns, blockCount}
 use Rattle.rules.specs.Walk.{Entered}
 use Rattle.rules.specs.Accepted.{diskSize, wrongSize, lastReserved}
-use Rattle.laws.specs.Acceptance.{passed-of}
+use Rattle.laws.specs.Acceptance.{passed-of, size-bounds}
 use Rattle.laws.specs.Sums.{oneAt-cases, sum-mono, sum-member}
 use Rattle.laws.specs.Ownership.{total}
 use Rattle.laws.specs.Heads.{Head}
@@ -21,7 +21,6 @@ use Rattle.laws.specs.Whole.{blocks-count}
 use Rattle.anodes.specs.Loaded.{anodesFrom}
 use Rattle.changes.specs.Image.{headIn, sideIn, accepted-whole}
 use Rattle.changes.specs.Reached.{EntryFacts, entry-facts}
-use Rattle.changes.specs.Totals.{size-bounds}
 use Rattle.changed.specs.Leaves.{Loaded, ReachedEntry}
 
 module _ {img counts firsts nexts : List ℕ} (l : Loaded img counts firsts nexts) where

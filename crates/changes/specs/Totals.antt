@@ -1,25 +1,23 @@
 -- In every accepted image the blocks of all kinds make the disk's size.
-use Prim.Native.Nat.{ℕ, zero, suc, _+_, _%_, _≤_, _<_}
+use Prim.Native.Nat.{ℕ, zero, suc, _+_, _≤_, _<_}
 use mathlib.Core.Path.{_≡_, refl, sym, ap, _∙_}
 use mathlib.Core.Logic.{_≢_, inl, inr}
-use mathlib.Core.Bool.{false, cond, not, _||_}
+use mathlib.Core.Bool.{false, cond}
 use mathlib.Core.List.{List}
 use native.Mathlib.Omega.{arith}
-use lib.Dec.{eqb, ltb}
-use lib.ListN.{length}
-use borrow.Author.Tests.{lt-ltb, le-ltb, eq-eqb, ne-eqb, ltb-false}
+use lib.Dec.{eqb}
+use borrow.Author.Tests.{lt-ltb, le-ltb, eq-eqb, ne-eqb}
 use Rattle.disk.specs.Root.{slotOf}
 use Rattle.rules.specs.Counting.{oneAt, sumBelow, sumList}
 use Rattle.rules.specs.Anodes.{Anodes, limit, anodesOf}
 use Rattle.rules.specs.Chains.{holds, systemOwns, blockCount}
 use Rattle.rules.specs.Walk.{Dir, Item, entriesIn, isBlockOf, itemsBy, itemsOf, reached, reachedDirs}
-use Rattle.rules.specs.Accepted.{diskSize, wrongSize, wrongSlots, checkAnswer}
+use Rattle.rules.specs.Accepted.{diskSize, wrongSlots, checkAnswer}
 use Rattle.rules.specs.Totals.{freeBlocks, fileBlocks, directoryBlocks, chainBlocks, anodeBlocks, totalIn, total}
-use Rattle.counting.specs.Laws.{neither}
 use Rattle.laws.specs.Tests.{same?, less?}
 use Rattle.laws.specs.Sums.{oneAt-same, oneAt-other, sum-congr, sum-zero, sum-add, sum-swap, sum-oneAt}
 use Rattle.laws.specs.Bags.{gather-sum}
-use Rattle.laws.specs.Acceptance.{passed-of}
+use Rattle.laws.specs.Acceptance.{passed-of, size-bounds}
 use Rattle.laws.specs.Blocks.{blocks, blocks-none}
 use Rattle.laws.specs.Space.{head-1, head-5}
 use Rattle.laws.specs.Items.{giving, below, namedIn, names-sum, below-items}
@@ -73,14 +71,6 @@ module _ (img : List ℕ) (right : wrongSlots img ≡ false) where
         sum-swap (λ x s. holds img x s) (diskSize img) 42,
         sum-congr (λ s. sumBelow (λ x. holds img x s) (diskSize img)) (λ s. cond (eqb (slotOf img s) 0) 0 1) 42 (λ s q. slot-once s),
       )
-
--- a disk has 5 to 65,535 blocks
-pub size-bounds : (img : List ℕ) → wrongSize img ≡ false → (5 ≤ diskSize img) × (diskSize img ≤ 65535)
-unfolding wrongSize
-size-bounds img right =
-    let size = neither (not (eqb (length img % 512) 0)) (ltb (diskSize img) 5 || ltb 65535 (diskSize img)) right in
-    let ends = neither (ltb (diskSize img) 5) (ltb 65535 (diskSize img)) (size .1) in
-    (ltb-false (diskSize img) 5 (ends .0), ltb-false 65535 (diskSize img) (ends .1))
 
 -- ---- the chains
 

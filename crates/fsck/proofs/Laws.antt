@@ -1,13 +1,13 @@
 -- The check's answer and the tables that it leaves, from the answers of its parts.
-use Prim.Native.Nat.{ℕ, _%_, _≤_, _<_}
+use Prim.Native.Nat.{ℕ, _≤_, _<_}
 use mathlib.Core.Path.{_≡_, refl, sym, ap, _∙_}
 use mathlib.Core.Logic.{inl, inr}
-use mathlib.Core.Bool.{Bool, true, false, not, _||_}
+use mathlib.Core.Bool.{Bool, true, false}
 use mathlib.Core.List.{List, [], _++_}
 use native.Mathlib.Omega.{arith}
 use lib.ListN.{length, getD, drop, replicate, length-replicate}
 use lib.Seq.{drop-at}
-use lib.Dec.{eqb, ltb}
+use lib.Dec.{ltb}
 use borrow.Author.Tests.{le-leb, lt-leb, ltb-false}
 use Rattle.disk.specs.declared.Refusal.{Refusal}
 use Rattle.disk.specs.Refusals.{numberOf}
@@ -21,7 +21,7 @@ use Rattle.rules.specs.Accepted.{diskSize, wrongSize, shortTables, wrongType, w
 use Rattle.rules.specs.Tables.{anodeEntry, blockEntry, blockTable, anodeTable, tableLeft, blocksLeft, anodesLeft}
 use Rattle.rules.specs.Calls.{Outcome, outcomeOf, settled, checkOutcome, fileCount, dirCount}
 use Rattle.counting.specs.Laws.{neither}
-use Rattle.laws.specs.Acceptance.{if-zero, passed-of}
+use Rattle.laws.specs.Acceptance.{if-zero, passed-of, size-bounds}
 use Rattle.laws.specs.Damage.{NoneOr, if-number, damage-range}
 use Rattle.chains.proofs.Laws.{zeroed}
 use Rattle.anodes.specs.Loaded.{anodesFrom}
@@ -224,11 +224,10 @@ module _ (img b₀ a₀ : List ℕ) where
 
   -- an accepted image has at most 65,535 blocks
   pub outcome-size : (x : Checked) (t : Tally) → x ≡ Accepted t → (b a : List ℕ) → outcomeOf (checkedNumber x) img b a [] [] ≡ checkOutcome img b₀ a₀ → diskSize img ≤ 65535
-  unfolding checkOutcome settled wrongSize
+  unfolding checkOutcome settled
   outcome-size x t is b a e =
       let z : 0 ≡ checkAnswer img (length b₀) (length a₀) = ap (λ (o : Outcome). o .answer) (rw is at e) in
-      let size = neither (not (eqb (length img % 512) 0)) (ltb (diskSize img) 5 || ltb 65535 (diskSize img)) (passed-of img (length b₀) (length a₀) (sym z) .size-right) in
-      ltb-false 65535 (diskSize img) (neither (ltb (diskSize img) 5) (ltb 65535 (diskSize img)) (size .1) .1)
+      size-bounds img (passed-of img (length b₀) (length a₀) (sym z) .size-right) .1
 
   pub outcome-header : (t : Test) (r : Refusal) → t ≡ Failed r → testNumber t ≡ headerAnswer img (length b₀) (length a₀)
       → outcomeOf (numberOf r) img b₀ a₀ [] [] ≡ checkOutcome img b₀ a₀

@@ -1,11 +1,12 @@
 -- The check's table: its answer is 0 exactly if every test fails, and what the tests 6 to 11 say in numbers.
-use Prim.Native.Nat.{ℕ, zero, suc, _+_, _≤_, _<_}
+use Prim.Native.Nat.{ℕ, zero, suc, _+_, _%_, _≤_, _<_}
 use mathlib.Core.Path.{_≡_, refl, sym, ap, _∙_}
 use mathlib.Core.Logic.{_≢_, inl, inr}
 use mathlib.Core.Bool.{Bool, true, false, not, _&&_, _||_}
 use mathlib.Core.List.{List, [], _∷_}
 use native.Mathlib.Omega.{arith}
 use lib.Dec.{eqb, leb, ltb}
+use lib.ListN.{length}
 use borrow.Author.Tests.{ltb-true, ltb-false, leb-false, eqb-true, eqb-false, not-true, not-false, lt-ltb, le-ltb, lt-leb, eq-eqb, ne-eqb}
 use Rattle.rules.specs.Counting.{_if_else_, firstOf, anyBelow, anyIn, times}
 use Rattle.rules.specs.Anodes.{Anodes, limit, anodesOf}
@@ -72,6 +73,14 @@ pub firstOf-zero : (a b : ℕ) → firstOf a b ≡ 0 → (a ≡ 0) × (b ≡ 0)
 unfolding firstOf
 firstOf-zero zero b e = (refl, e)
 firstOf-zero (suc a) b e = absurd (omega arith)
+
+-- a disk has 5 to 65,535 blocks
+pub size-bounds : (img : List ℕ) → wrongSize img ≡ false → (5 ≤ diskSize img) × (diskSize img ≤ 65535)
+unfolding wrongSize
+size-bounds img right =
+    let size = neither (not (eqb (length img % 512) 0)) (ltb (diskSize img) 5 || ltb 65535 (diskSize img)) right in
+    let ends = neither (ltb (diskSize img) 5) (ltb 65535 (diskSize img)) (size .1) in
+    (ltb-false (diskSize img) 5 (ends .0), ltb-false 65535 (diskSize img) (ends .1))
 
 pub zero-firstOf : (a b : ℕ) → a ≡ 0 → b ≡ 0 → firstOf a b ≡ 0
 unfolding firstOf

@@ -1,19 +1,20 @@
 -- The owners and entries that are marked so far, slot by slot and anode by anode. Assumes nothing.
 use mathlib.Core.Path.{_≡_, refl, sym, _∙_}
 use mathlib.Core.Logic.{_≢_, inl, inr}
-use mathlib.Core.Bool.{true, false, cond, not, _||_, true≢false}
+use mathlib.Core.Bool.{true, false, cond, true≢false}
 use mathlib.Core.List.{List}
-use Prim.Native.Nat.{ℕ, _+_, _*_, _%_, _<_, _≤_}
+use Prim.Native.Nat.{ℕ, _+_, _*_, _<_, _≤_}
 use native.Mathlib.Omega.{arith}
 use native.Mathlib.Nat.{zero-add, add-zero}
 use lib.Dec.{eqb, ltb}
-use lib.ListN.{length, getD}
-use borrow.Author.Tests.{lt-ltb, le-ltb, le-leb, ltb-false, eq-eqb, ne-eqb}
+use lib.ListN.{getD}
+use borrow.Author.Tests.{lt-ltb, le-ltb, le-leb, eq-eqb, ne-eqb}
 use Rattle.disk.specs.Root.{slotOf}
 use Rattle.rules.specs.Counting.{sumBelow, anyBelow}
 use Rattle.rules.specs.Chains.{covers, holds, systemOwns, owners}
 use Rattle.rules.specs.Accepted.{diskSize, wrongSize, wrongSlot, wrongSlots, wrongFixed, outOfRange, ownersOf, twoOwners}
 use Rattle.counting.specs.Laws.{neither, anyBelow-hit, anyBelow-each, anyBelow-all, sumBelow-none, sumBelow-more, sumBelow-upto}
+use Rattle.laws.specs.Acceptance.{size-bounds}
 use Rattle.laws.specs.Tests.{same?, less?}
 use Rattle.laws.specs.Sums.{oneAt-same, oneAt-other, sum-zero, sum-none}
 use Rattle.laws.specs.Ownership.{covers-cases, covers-in, covers-under, covers-over}
@@ -25,11 +26,7 @@ use Rattle.owners.proofs.Laws.{marked-free, marked-same, marked-none, m
 
 -- a disk has blocks 0 to 2
 pub size-some : (img : List ℕ) → wrongSize img ≡ false → 3 ≤ diskSize img
-unfolding wrongSize
-size-some img h =
-    let n = diskSize img in
-    let w = neither (not (eqb (length img % 512) 0)) (ltb n 5 || ltb 65535 n) h .1 in
-    omega (arith, ltb-false n 5 (neither (ltb n 5) (ltb 65535 n) w .0))
+size-some img h = omega (arith, size-bounds img h .0)
 
 -- a slot's block is above the root block and on the disk
 pub slot-within : (img : List ℕ) (s b : ℕ) → wrongSlots img ≡ false → s < 42 → slotOf img s ≡ b → b ≢ 0 → (3 ≤ b) × (b + 1 ≤ diskSize img)

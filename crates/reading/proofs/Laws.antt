@@ -1,22 +1,21 @@
 -- What a read and a list answer, from what the search found.
-use Prim.Native.Nat.{ℕ, zero, suc, _+_, _*_, _%_, _≤_, _<_}
+use Prim.Native.Nat.{ℕ, zero, suc, _+_, _*_, _≤_, _<_}
 use mathlib.Core.Path.{_≡_, refl, sym, ap, _∙_}
-use mathlib.Core.Bool.{Bool, true, false, not, _||_}
+use mathlib.Core.Bool.{Bool, true, false, not}
 use mathlib.Core.List.{List, [], _∷_}
 use mathlib.Core.Option.{Option, none, some}
 use native.Mathlib.Omega.{arith}
-use lib.Dec.{eqb, ltb}
+use lib.Dec.{ltb}
 use lib.ListN.{length, take, drop, replicate}
 use borrow.Author.Tests.{ltb-false}
 use Rattle.rules.specs.Counting.{_if_else_}
 use Rattle.rules.specs.Anodes.{Anodes, limit, anodesOf}
 use Rattle.rules.specs.Chains.{blocksOf}
 use Rattle.rules.specs.Walk.{Entered, blocksFor}
-use Rattle.rules.specs.Accepted.{diskSize, wrongSize}
+use Rattle.rules.specs.Accepted.{diskSize}
 use Rattle.rules.specs.Lookup.{noDirectory, entriesOf, entryNamed, nameAt, nth, isThere, bytesOf, contents}
 use Rattle.rules.specs.Calls.{spanAnswer, bytesRead, listAnswer, fieldsAt, fieldsListed, nameListed}
-use Rattle.counting.specs.Laws.{neither}
-use Rattle.laws.specs.Acceptance.{passed-of}
+use Rattle.laws.specs.Acceptance.{passed-of, size-bounds}
 use Rattle.frames.specs.StoredBytes.{length-gather}
 use Rattle.frames.specs.DisjointBlocks.{chain-block}
 use Rattle.changes.specs.Members.{Member}
@@ -45,15 +44,9 @@ module _ {img counts firsts nexts queue parents heads : List ℕ} {dirs : ℕ} (
   facts : EntryFacts img h e
   facts = entry-facts img (diskSize img) limit (o .accepted) h reached e member
 
-  disk-small : diskSize img ≤ 65535
-  unfolding wrongSize
-  disk-small =
-      let p = passed-of img (diskSize img) limit (o .accepted) .size-right in
-      ltb-false 65535 (diskSize img) (neither (ltb (diskSize img) 5) (ltb 65535 (diskSize img)) (neither (not (eqb (length img % 512) 0)) (ltb (diskSize img) 5 || ltb 65535 (diskSize img)) p .1) .1)
-
   -- an entry stands on the disk
   pub place-low : e .place < 65536 * 512
-  place-low = omega (arith, facts .in-block, facts .block-facts .is-data .below, disk-small)
+  place-low = omega (arith, facts .in-block, facts .block-facts .is-data .below, size-bounds img (passed-of img (diskSize img) limit (o .accepted) .size-right) .1)
 
   -- a file's blocks hold its bytes
   pub file-long : e .dir ≡ false → e .size ≤ length (bytesOf img (anodesOf img) (e .anode))
