@@ -1,23 +1,18 @@
 -- The chains of a loaded image, and how many blocks a chain may have.
-use Prim.Native.Nat.{ℕ, _*_, _≤_, _<_}
+use Prim.Native.Nat.{ℕ, _≤_, _<_}
 use mathlib.Core.Path.{_≡_}
-use mathlib.Core.Logic.{_≢_, inl, inr}
-use mathlib.Core.Bool.{Bool, false}
+use mathlib.Core.Logic.{_≢_}
+use mathlib.Core.Bool.{false}
 use mathlib.Core.List.{List}
 use native.Mathlib.Omega.{arith}
 use lib.ListN.{length, take, length-take}
-use Rattle.rules.specs.Counting.{oneAt}
-use Rattle.rules.specs.Anodes.{Anodes, limit, exists}
-use Rattle.rules.specs.Chains.{systemOwns, blockCount}
+use Rattle.rules.specs.Anodes.{limit, exists}
+use Rattle.rules.specs.Chains.{systemOwns}
 use Rattle.rules.specs.Walk.{Entered}
 use Rattle.rules.specs.Accepted.{diskSize, wrongSize, lastReserved}
-use Rattle.laws.specs.Acceptance.{passed-of, size-bounds}
-use Rattle.laws.specs.Sums.{oneAt-cases, sum-mono, sum-member}
-use Rattle.laws.specs.Ownership.{total}
+use Rattle.laws.specs.Acceptance.{passed-of}
 use Rattle.laws.specs.Heads.{Head}
-use Rattle.laws.specs.Blocks.{blocks}
 use Rattle.laws.specs.Space.{Good}
-use Rattle.laws.specs.Whole.{blocks-count}
 use Rattle.anodes.specs.Loaded.{anodesFrom}
 use Rattle.changes.specs.Image.{headIn, sideIn, accepted-whole}
 use Rattle.changes.specs.Reached.{EntryFacts, entry-facts}
@@ -41,21 +36,6 @@ module _ {img counts firsts nexts : List ℕ} (l : Loaded img counts firsts next
     pub entry-head : Head (anodesFrom counts firsts nexts .next) (anodesFrom counts firsts nexts .block) (e .anode)
     entry-head = rw (l .is-loaded) (entry-known .head)
 
--- fewer than 65,535: block 0 is the system's
-pub count-less : (img : List ℕ) → wrongSize img ≡ false → (s : Anodes) {ex : ℕ → Bool} {last : ℕ} {hd sd : ℕ → ℕ} → Good limit ex (diskSize img) last s (systemOwns img) hd sd →
-    (h : ℕ) → Head (s .next) (s .block) h → blockCount s h < 65535
-unfolding systemOwns blocks
-count-less img right s {hd = hd} g h d =
-    let size = size-bounds img right in
-    omega (
-      arith,
-      size .1,
-      sum-member (systemOwns img) 0 (diskSize img) (omega (arith, size .0)),
-      total limit (s .count) (s .block) (systemOwns img) (diskSize img) (g .own),
-      blocks-count g h d,
-      sum-mono (λ a. oneAt (hd a) h * s .count a) (s .count) limit (λ a q. elim (oneAt-cases (hd a) h) [ inl o ↦ rw (o .1) (omega arith) | inr o ↦ rw (o .1) (omega arith) ]),
-    )
-
--- so a table of 65,535 numbers has all that were noted
+-- a table of 65,535 numbers has all that were noted, where they are fewer
 pub noted-all : (n : ℕ) (moved : List ℕ) → length moved ≡ 65535 → length (take n moved) < 65535 → n ≤ length moved
 noted-all n moved long few = omega (arith, long, few, length-take n moved)

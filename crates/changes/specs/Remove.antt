@@ -7,13 +7,13 @@ use mathlib.Core.List.{List, [], _∷_, map}
 use native.Mathlib.Omega.{arith}
 use lib.ListN.{getD}
 use Rattle.disk.specs.Blocks.{blockOf}
-use Rattle.rules.specs.Counting.{oneAt, sumList, anyIn}
+use Rattle.rules.specs.Counting.{oneAt, sumList}
 use Rattle.rules.specs.Anodes.{Anodes, limit, exists, anodesOf}
 use Rattle.rules.specs.Chains.{blockCount, systemOwns}
 use Rattle.rules.specs.Walk.{Dir, Entered, entriesIn, isBlockOf, reachedDirs}
 use Rattle.rules.specs.Accepted.{diskSize, lastReserved, checkAnswer}
 use Rattle.rules.specs.Lookup.{noDirectory, entriesOf, nth, isThere, notEmpty}
-use Rattle.rules.specs.Space.{Plan, refused, planned, giveMany, onChain, dropped}
+use Rattle.rules.specs.Space.{Plan, refused, planned, giveMany, onChain}
 use Rattle.rules.specs.Changes.{Left, left, leftBy, removedImage, removed}
 use Rattle.laws.specs.Tests.{same?}
 use Rattle.laws.specs.Sums.{oneAt-same, oneAt-other}
@@ -22,11 +22,10 @@ use Rattle.laws.specs.LinkChanges.{without}
 use Rattle.laws.specs.TreeChanges.{headed}
 use Rattle.laws.specs.Entries.{weighEntry}
 use Rattle.laws.specs.Whole.{Whole, blocks-count}
-use Rattle.laws.specs.Resize.{Ran}
 use Rattle.laws.specs.RefusedSteps.{gives-refused}
 use Rattle.laws.specs.Remove as Laws
 use Rattle.frames.specs.Kept.{entriesIn-kept, isBlockOf-kept}
-use Rattle.changes.specs.Image.{headIn, sideIn, accepted-whole, SameDisk, whole-accepted, reached-headed}
+use Rattle.changes.specs.Image.{headIn, sideIn, accepted-whole, whole-accepted, reached-headed}
 use Rattle.changes.specs.Members.{Member}
 use Rattle.changes.specs.Reached.{EntryFacts, entry-facts}
 use Rattle.changes.specs.Reached as Reached
@@ -100,26 +99,9 @@ module _ (img : List ℕ) (blocks anodes : ℕ) (accepted : checkAnswer img bloc
   abbrev its-facts : EntryFacts img h e
   its-facts = entry-facts img blocks anodes accepted h reached e member
 
-  -- ---- what the call has of its entry and its plan
-
-  pub parted : Member e (entriesIn img (e .place / 512))
-  parted = Reached.parted its-facts
-
-  pub unbroken : anyIn (λ f. f .broken) (entriesIn img (e .place / 512)) ≡ false
-  unbroken = Reached.block-unbroken its-facts
-
-  module _ (t : Anodes) (ys : List ℕ) (gives : giveMany limit (exists img) (lastReserved img) (blockCount (anodesOf img) (e .anode)) (anodesOf img) (e .anode) ≡ planned t ys) where
-    abbrev planned-remove : PlannedRemove img e t ys
-    planned-remove = record { blocks = blocks; anodes = anodes; accepted = accepted; home = h; reached = reached; member = member; plan = gives }
-
-    pub ran : Ran limit (exists img) (diskSize img) (lastReserved img) (anodesOf img) (systemOwns img) (headIn img) (e .anode) 1 (e .anode) 0 ys t
-    ran = Stores.ran planned-remove
-
-    pub removed-same : SameDisk img (removedImage img e t ys)
-    removed-same = Stores.removed-same planned-remove
-
-    pub removed-anodes : anodesOf (removedImage img e t ys) ≡ dropped limit (exists img) (lastReserved img) t (e .anode)
-    removed-anodes = Stores.removed-anodes planned-remove
+  -- the removal with its plan
+  abbrev planned-remove : (t : Anodes) (ys : List ℕ) → giveMany limit (exists img) (lastReserved img) (blockCount (anodesOf img) (e .anode)) (anodesOf img) (e .anode) ≡ planned t ys → PlannedRemove img e t ys
+  planned-remove t ys gives = record { blocks = blocks; anodes = anodes; accepted = accepted; home = h; reached = reached; member = member; plan = gives }
 
   -- ---- the answers
 

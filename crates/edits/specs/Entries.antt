@@ -9,10 +9,12 @@ use Rattle.rules.specs.Changes.{NewEntry}
 use Rattle.edits.specs.declared.Room.{Room}
 use Rattle.edits.specs.declared.Room.the-variants.{At, Nowhere}
 
+-- the entry that a caller asks for
 abbrev pub newEntry : Kind → List ℕ → List ℕ → ℕ → ℕ → ℕ → ℕ → NewEntry
 newEntry kind name comment day minute tick protection =
     record { dir = isDir kind; name = name; comment = comment; day = day; minute = minute; tick = tick; protection = protection }
 
+-- the place that a search for room answers, if any
 abbrev pub roomOf : Room → Option ℕ
 roomOf (At place) = some place
 roomOf Nowhere = none

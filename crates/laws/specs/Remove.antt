@@ -66,21 +66,22 @@ module _ {ex : ℕ → Bool} {n last : ℕ} {s : Anodes} {system hd : ℕ → �
   abbrev dead : ℕ → Bool
   dead = onChain limit ex last t h
 
-  still : Head (t .next) (t .block) h
+  pub still : Head (t .next) (t .block) h
   still = ran .shift .stays h d
 
-  none : (a : ℕ) → hd′ a ≡ h → t .count a ≡ 0
+  -- no anode of the chain has a block left
+  pub none-left : (a : ℕ) → hd′ a ≡ h → t .count a ≡ 0
   unfolding blocks
-  none a q = elim (less? a limit) [
+  none-left a q = elim (less? a limit) [
     | inl l ↦ omega (arith, sum-none (λ b. oneAt (hd′ b) h * t .count b) limit (ran .has) a l, ap (λ (k : ℕ). k * t .count a) (oneAt-same (hd′ a) h q))
     | inr l ↦ elim (same? (t .block a) 0) [ inl z ↦ ran .good .free-none a z | inr u ↦ absurd (omega (arith, l, ran .good .view .below a u)) ]
   ]
 
   pub dropped-good : Good limit ex n last left system (without dead hd′) (without dead (ran .sd′))
-  dropped-good = drop-good (ran .good) h h6 still none
+  dropped-good = drop-good (ran .good) h h6 still none-left
 
   alive : (F : ℕ → ℕ) (a : ℕ) → hd′ a ≢ h → without dead F a ≡ F a
-  alive F a q = without-other dead F a (λ i. q (dead-head (ran .good) h h6 still none a i))
+  alive F a q = without-other dead F a (λ i. q (dead-head (ran .good) h h6 still none-left a i))
 
   alike : (a : ℕ) → hd′ a ≢ h → Alike t left a
   unfolding dropped without
@@ -95,8 +96,8 @@ module _ {ex : ℕ → Bool} {n last : ℕ} {s : Anodes} {system hd : ℕ → �
           in-use = rw (alive (t .block) m (λ k. q (sym (ran .good .heads .at-head m j) ∙ k))) (j .in-use);
           no-pred = λ p k. elim (without-cases dead (t .next) p) [ inl c ↦ j .pos (sym k ∙ c .1) | inr c ↦ j .no-pred p (sym (c .1) ∙ k) ];
         };
-    was = λ m i. let k = drop-head-was (ran .good .view) (ran .good .linked) hd′ (ran .good .heads) dead (dead-along (ran .good) h h6 still none) m i in
-        (λ q. k .0 (head-dead (ran .good) h h6 still none m (ran .good .heads .at-head m (k .1) ∙ q)), ran .shift .no-new m (k .1));
+    was = λ m i. let k = drop-head-was (ran .good .view) (ran .good .linked) hd′ (ran .good .heads) dead (dead-along (ran .good) h h6 still none-left) m i in
+        (λ q. k .0 (head-dead (ran .good) h h6 still none-left m (ran .good .heads .at-head m (k .1) ∙ q)), ran .shift .no-new m (k .1));
     apart = λ a u q i. alike-trans (ran .shift .apart a u q i) (alike a (λ k. i (sym (ran .shift .same-hd a u q i) ∙ k)));
   }
 

@@ -1,22 +1,25 @@
 -- Laws of the steps of a make: what each starts from, and what both answer.
 use Prim.Native.Nat.{ℕ, _+_, _≤_}
-use mathlib.Core.Path.{_≡_, refl, sym, ap, _∙_}
+use mathlib.Core.Path.{_≡_, refl, sym, ap, _∙_, subst}
 use mathlib.Core.Logic.{_≢_, inl, inr}
 use mathlib.Core.Bool.{Bool, true, false, cond}
 use mathlib.Core.List.{List, [], _∷_, append-nil}
 use mathlib.Core.Option.{Option, none, some}
 use native.Mathlib.Omega.{arith}
 use lib.Dec.{T}
-use borrow.Author.Tests.{eq-eqb, ne-eqb}
+use lib.ListN.{length}
+use borrow.Author.Tests.{eq-eqb, ne-eqb, lt-ltb}
 use Rattle.disk.specs.declared.BlockNo.{BlockNo}
 use Rattle.disk.specs.declared.Refusal.{Refusal}
 use Rattle.disk.specs.Refusals.{numberOf}
+use Rattle.directory.specs.Entries.{entryLength}
 use Rattle.rules.specs.Anodes.{Anodes, limit, exists, anodesOf}
-use Rattle.rules.specs.Chains.{systemOwns}
+use Rattle.rules.specs.Chains.{systemOwns, blocksOf}
 use Rattle.rules.specs.Walk.{entriesIn, isBlockOf, reachedDirs}
 use Rattle.rules.specs.Accepted.{diskSize, lastReserved, wrongSize}
-use Rattle.rules.specs.Space.{refused, planned, rewritten, takeBlock, after, takeMany}
-use Rattle.rules.specs.Changes.{ownBlock, parentBlock}
+use Rattle.rules.specs.Space.{refused, planned, rewritten, free, lowestFree, takeBlock, after, takeMany}
+use Rattle.rules.specs.Changes.{firstRoom, ownBlock, parentBlock, entryPlace, NewEntry, madeIn, madeWith, made}
+use Rattle.laws.specs.Sums.{least-cases}
 use Rattle.laws.specs.Bags.{times-nil}
 use Rattle.laws.specs.Acceptance.{passed-of}
 use Rattle.laws.specs.Heads.{Head}
@@ -37,8 +40,8 @@ use Rattle.changed.specs.Laws.{Shows, shows-ran}
 use Rattle.space.specs.declared.Step.{Step}
 use Rattle.space.specs.declared.Step.the-variants.{Moved, Refused}
 use Rattle.space.specs.Steps.{stepPlan, GoodAnodes}
-use Rattle.making.specs.declared.Taken.the-variants.{Both, Stopped}
-use Rattle.making.specs.Steps.{Fresh, someBlock, neededPlan, noRoom, Took}
+use Rattle.making.specs.declared.Planned.the-variants.{Make, Stopped}
+use Rattle.making.specs.Steps.{Fresh, someBlock, neededPlan, noRoom, PlanOf}
 
 pub no-block : (y : ℕ) → y ≡ 0 → someBlock y ≡ []
 unfolding someBlock
@@ -97,8 +100,13 @@ abbrev Ready : List ℕ → Anodes → ℕ → Type 0
 Ready img s m = ((wrongSize img ≡ false) × GoodAnodes img s) × (Head (s .next) (s .block) m × (m ≢ 1))
 
 module _ {img : List ℕ} {h f : ℕ} (x : Fresh img h f) where
+  -- the lowest free anode is free
   pub free-f : (6 ≤ f) × (anodesOf img .block f ≡ 0) × T (exists img f)
-  free-f = free-is limit (exists img) (lastReserved img) (anodesOf img) f (x .is-free)
+  unfolding lowestFree
+  free-f = free-is limit (exists img) (lastReserved img) (anodesOf img) f (elim (least-cases (free limit (exists img) (lastReserved img) (anodesOf img)) limit) [
+    | inl i ↦ subst (λ (a : ℕ). T (free limit (exists img) (lastReserved img) (anodesOf img) a)) (x .lowest) (i .1)
+    | inr i ↦ absurd (omega (arith, i .0, x .lowest, x .below))
+  ])
 
   pub whole : WholeImage img (anodesOf img) (headIn img) (sideIn img) (reachedDirs img (anodesOf img))
   whole = accepted-whole img (diskSize img) limit (x .accepted)
@@ -106,28 +114,40 @@ module _ {img : List ℕ} {h f : ℕ} (x : Fresh img h f) where
   pub once : headed h (reachedDirs img (anodesOf img)) ≡ 1
   once = reached-headed img (diskSize img) limit (x .accepted) h (x .reached)
 
-  right-size : wrongSize img ≡ false
-  right-size = passed-of img (diskSize img) limit (x .accepted) .size-right
-
   pub first-ready : (s : Anodes) → s ≡ rewritten (anodesOf img) f 0 65535 → Ready img s f
   first-ready s e =
       let o = fresh-orphan whole f (free-f .0) (free-f .2) (x .below) (free-f .1) (entriesIn img) (isBlockOf img) (λ a i q. (refl, λ d. refl)) in
-      rw e ((right-size, (_, _, o .good)), (o .head, λ q. omega (arith, free-f .0, q)))
+      rw e ((passed-of img (diskSize img) limit (x .accepted) .size-right, (_, _, o .good)), (o .head, λ q. omega (arith, free-f .0, q)))
 
   pub next-ready : (s : Anodes) → s ≡ rewritten (anodesOf img) f 0 65535 → (dir : Bool) (y : BlockNo) (r : Anodes) → neededPlan (Moved y) r ≡ ownBlock img dir s f → Ready img r h
   unfolding parentBlock
   next-ready s e dir y r p =
       let o = made-orphan img whole f (free-f .0) (free-f .2) (x .below) (free-f .1) h once dir r (someBlock (y .0)) (sym (p ∙ ap (λ (u : Anodes). ownBlock img dir u f) e)) (some 0) r [] refl
       (entriesIn img) (isBlockOf img) (λ a i q. (refl, λ d. refl)) (λ z i. absurd (omega (arith, first-in z [] i, times-nil z))) (λ z i. absurd (omega (arith, first-in z [] i, times-nil z))) in
-      ((right-size, (o .0, o .1, o .2 .good)), (dir-head (o .2) h once, dir-not-1 (o .2) h once))
+      ((passed-of img (diskSize img) limit (x .accepted) .size-right, (o .0, o .1, o .2 .good)), (dir-head (o .2) h once, dir-not-1 (o .2) h once))
 
-module _ (img : List ℕ) (dir : Bool) (room : Option ℕ) (f h : ℕ) (s : Anodes) where
-  pub first-stopped : (k : Refusal) → refused (numberOf k) ≡ ownBlock img dir s f → Took (Stopped k) img dir room f h s s
-  first-stopped k e = (late img dir s f (numberOf k) (sym e), λ s₀ new. rw (sym e))
+  -- s the anodes that the steps start from
+  module _ (dir : Bool) (len : ℕ) (room : Option ℕ) (found : room ≡ firstRoom img len (blocksOf (anodesOf img) h)) (s : Anodes) (begun : s ≡ rewritten (anodesOf img) f 0 65535) where
+    made-is : (new : NewEntry) → new .dir ≡ dir → entryLength (length (new .name)) (length (new .comment)) ≡ len →
+        made img (anodesOf img) h new ≡ madeIn (ownBlock img dir s f) img (anodesOf img) h new f room
+    unfolding made madeWith
+    made-is new d n = rw (x .lowest, lt-ltb f limit (x .below), begun, found, sym d, sym n)
 
-  module _ (y : BlockNo) (r : Anodes) (first : neededPlan (Moved y) r ≡ ownBlock img dir s f) where
-    pub next-stopped : (k : Refusal) → refused (numberOf k) ≡ ownBlock img (noRoom room) r h → Took (Stopped k) img dir room f h s s
-    next-stopped k e = (late img (noRoom room) r h (numberOf k) (sym e), λ s₀ new. rw (sym first, parent-own img room r h, sym e))
+    pub first-stopped : (k : Refusal) → refused (numberOf k) ≡ ownBlock img dir s f → PlanOf (Stopped k) img dir len h s
+    first-stopped k e = (late img dir s f (numberOf k) (sym e), λ new d n. made-is new d n ∙ rw (sym e))
 
-    pub both-taken : (z : BlockNo) (t : Anodes) → neededPlan (Moved z) t ≡ ownBlock img (noRoom room) r h → Took (Both (record { own = y; parents = z })) img dir room f h s t
-    both-taken z t e = (r, sym first, parent-own img room r h ∙ sym e)
+    module _ (y : BlockNo) (r : Anodes) (first : neededPlan (Moved y) r ≡ ownBlock img dir s f) where
+      pub next-stopped : (k : Refusal) → refused (numberOf k) ≡ ownBlock img (noRoom room) r h → PlanOf (Stopped k) img dir len h s
+      next-stopped k e = (late img (noRoom room) r h (numberOf k) (sym e), λ new d n. made-is new d n ∙ rw (sym first, parent-own img room r h, sym e))
+
+      pub both-taken : (z : BlockNo) (t : Anodes) → neededPlan (Moved z) t ≡ ownBlock img (noRoom room) r h → (place : ℕ) → place ≡ entryPlace room (z .0 ∷ []) →
+          PlanOf (Make (record { fresh = record { 0 = f }; place = place; own = y; parents = z })) img dir len h t
+      both-taken z t e place at = record {
+        is-fresh = x;
+        room = room;
+        found = found;
+        between = r;
+        own = ap (λ (u : Anodes). ownBlock img dir u f) (sym begun) ∙ sym first;
+        parents = parent-own img room r h ∙ sym e;
+        place = at;
+      }

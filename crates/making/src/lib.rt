@@ -3,22 +3,23 @@ ghost use mathlib.Core.Bool.{true, false};
 ghost use mathlib.Core.List.{[], _∷_};
 ghost use mathlib.Core.Logic.{_≢_};
 ghost use mathlib.Core.Path.{_≡_};
-ghost use Prim.Native.Nat.{_<_, _≤_};
+ghost use Prim.Native.Nat.{ℕ, _≤_};
 ghost use lib.ListN.{length};
-ghost use Rattle.directory.specs.Entries.{goodName, goodComment, isDir};
+ghost use Rattle.directory.specs.Entries.{goodName, goodComment, isDir, entryLength};
 ghost use Rattle.rules.specs.Anodes.{anodesOf};
+ghost use Rattle.rules.specs.Chains.{blocksOf};
 ghost use Rattle.rules.specs.Walk.{reachedDirs};
 ghost use Rattle.rules.specs.Accepted.{wrongSize};
 ghost use Rattle.rules.specs.Lookup.{noDirectory};
 ghost use Rattle.rules.specs.Space.{rewritten};
-ghost use Rattle.rules.specs.Changes.{withBlocks, ownBlock, newDirectoryBlock, parentOf, entryPlace, made};
+ghost use Rattle.rules.specs.Changes.{withBlocks, firstRoom, ownBlock, newDirectoryBlock, parentOf, entryPlace, made};
 ghost use Rattle.laws.specs.Heads.{Head};
 ghost use Rattle.laws.specs.OwnerTable.{setAll};
 ghost use Rattle.anodes.specs.Loaded.{anodesFrom};
 ghost use Rattle.changed.specs.Leaves.{Leaves, Loaded};
 ghost use Rattle.edits.specs.Entries.{newEntry, roomOf};
 ghost use Rattle.space.specs.Steps.{GoodAnodes};
-ghost use Rattle.making.specs.Steps.{Fresh, someBlock, neededPlan, noRoom, Took};
+ghost use Rattle.making.specs.Steps.{Fresh, someBlock, neededPlan, noRoom, Plans, PlanOf};
 use chains::show_heads;
 use directory::Kind;
 use directory::entry_len;
@@ -33,52 +34,33 @@ use edits::head_block;
 use edits::put_new_entry;
 use edits::store_anodes;
 use space::Step;
+use space::copied;
 use space::lowest_free;
 use space::take_block;
-use tables::copy_entries;
 use tables::set_entry;
 
-// The blocks that a make takes, 0 for none: the new directory's own and its parent's.
-struct NewBlocks {
+// A planned make: the fresh head, the entry's place, and the blocks that it takes, 0 for none: the new directory's own and its parent's.
+struct MakePlan {
+    fresh: AnodeNo,
+    place: usize,
     own: BlockNo,
     parents: BlockNo,
 }
 
-// What the steps of a make answer.
-enum Taken {
-    Both(NewBlocks),
+// What the planning of a make answers.
+enum Planned {
+    Make(MakePlan),
     Stopped(Refusal),
 }
 
 // Whether no block of the directory has room.
-fn is_full(room: Room) -> bool
+fn no_room(room: Room) -> bool
     ensures { λ r. ⌜ r ≡ noRoom (roomOf room) ⌝ }
 {
     match room {
         Room::At(_) => false,
         Room::Nowhere => true,
     }
-}
-
-// Copies the tables, with the free anode `f` as the head of a chain with no block.
-fn begin(
-    counts: &[u16],
-    firsts: &[u16],
-    nexts: &[u16],
-    f: usize,
-    new_counts: &mut [u16],
-    new_firsts: &mut [u16],
-    new_nexts: &mut [u16],
-)
-    requires { ⌜ (f < 3444) × (length (now counts) ≡ 3444) × (length (now firsts) ≡ 3444) × (length (now nexts) ≡ 3444) ⌝ }
-    requires { ⌜ (length (now «new_counts») ≡ 3444) × (length (now «new_firsts») ≡ 3444) × (length (now «new_nexts») ≡ 3444) ⌝ }
-    ensures { λ _. ⌜ anodesFrom (now («new_counts» .exit)) (now («new_firsts» .exit)) (now («new_nexts» .exit)) ≡ rewritten (anodesFrom (now (counts .entry)) (now (firsts .entry)) (now (nexts .entry))) f 0 65535 ⌝ }
-{
-    copy_entries(counts, new_counts);
-    copy_entries(firsts, new_firsts);
-    copy_entries(nexts, new_nexts);
-    set_entry(new_counts, f, 0);
-    set_entry(new_firsts, f, 65535);
 }
 
 // Takes a block for the directory that `head` heads, where it needs one; block 0 where it does not.
@@ -101,6 +83,16 @@ fn take_needed(
     Step::Moved(BlockNo(0))
 }
 
+// Where the entry goes: the room that was found, else the first place of the parent's new block.
+fn place_for(room: Room, parents: BlockNo) -> usize
+    ensures { λ r. ⌜ r ≡ entryPlace (roomOf room) (parents .0 ∷ []) ⌝ }
+{
+    match room {
+        Room::At(place) => place,
+        Room::Nowhere => (parents.0 as usize) * 512 + 16,
+    }
+}
+
 // Takes the blocks of a make: one of its own for a directory that `fresh` heads, then one for its parent, where that has no room.
 fn take_blocks(
     image: &[u8],
@@ -111,21 +103,52 @@ fn take_blocks(
     counts: &mut [u16],
     firsts: &mut [u16],
     nexts: &mut [u16],
-) -> Taken
+) -> Planned
     requires { ⌜ (length (now counts) ≡ 3444) × (length (now firsts) ≡ 3444) × (length (now nexts) ≡ 3444) ⌝ }
     requires { ⌜ Fresh (now image) (head .0) (fresh .0) × (anodesFrom (now counts) (now firsts) (now nexts) ≡ rewritten (anodesOf (now image)) (fresh .0) 0 65535) ⌝ }
-    ensures { λ r. ⌜ Took r (now (image .entry)) (isDir kind) (roomOf room) (fresh .0) (head .0) (anodesFrom (now (counts .entry)) (now (firsts .entry)) (now (nexts .entry))) (anodesFrom (now (counts .exit)) (now (firsts .exit)) (now (nexts .exit))) ⌝ }
+    ensures { λ r. ⌜ ((len : ℕ) → roomOf room ≡ firstRoom (now (image .entry)) len (blocksOf (anodesOf (now (image .entry))) (head .0)) → PlanOf r (now (image .entry)) (isDir kind) len (head .0) (anodesFrom (now (counts .exit)) (now (firsts .exit)) (now (nexts .exit)))) ⌝ }
 {
     let first = take_needed(image, is_directory(kind), fresh, counts, firsts, nexts);
     let own = match first {
         Step::Moved(b) => b,
-        Step::Refused(r) => return Taken::Stopped(r),
+        Step::Refused(r) => return Planned::Stopped(r),
     };
-    let second = take_needed(image, is_full(room), head, counts, firsts, nexts);
-    match second {
-        Step::Moved(parents) => Taken::Both(NewBlocks { own, parents }),
-        Step::Refused(r) => Taken::Stopped(r),
+    let second = take_needed(image, no_room(room), head, counts, firsts, nexts);
+    let parents = match second {
+        Step::Moved(b) => b,
+        Step::Refused(r) => return Planned::Stopped(r),
+    };
+    let place = place_for(room, parents);
+    Planned::Make(MakePlan {
+        fresh,
+        place,
+        own,
+        parents,
+    })
+}
+
+// Plans a make of an entry of `len` bytes on the tables: the lowest free anode as its head, the room for it, then its blocks.
+fn plan_make(
+    image: &[u8],
+    kind: Kind,
+    len: usize,
+    head: AnodeNo,
+    counts: &mut [u16],
+    firsts: &mut [u16],
+    nexts: &mut [u16],
+) -> Planned
+    requires { ⌜ Loaded (now image) (now counts) (now firsts) (now nexts) × (noDirectory (now image) (anodesOf (now image)) (head .0) ≡ false) ⌝ }
+    ensures { λ r. ⌜ PlanOf r (now (image .entry)) (isDir kind) len (head .0) (anodesFrom (now (counts .exit)) (now (firsts .exit)) (now (nexts .exit))) ⌝ }
+{
+    let f = lowest_free(image, firsts);
+    if 3444 <= f {
+        return Planned::Stopped(Refusal::NoFreeAnode);
     }
+    let room = first_room(image, firsts, nexts, head, len);
+    set_entry(counts, f, 0);
+    set_entry(firsts, f, 65535);
+    let fresh = AnodeNo(f as u16);
+    take_blocks(image, kind, room, fresh, head, counts, firsts, nexts)
 }
 
 // Makes block `b` a directory's new block, unless it is 0.
@@ -148,14 +171,60 @@ fn note_owner(blocks: &mut [u16], b: BlockNo, owner: AnodeNo)
     set_entry(blocks, b.0 as usize, owner.0);
 }
 
-// Where the entry goes: the room that was found, else the first place of the parent's new block.
-fn place_for(room: Room, parents: BlockNo) -> usize
-    ensures { λ r. ⌜ r ≡ entryPlace (roomOf room) (parents .0 ∷ []) ⌝ }
+// Writes a planned make into the image, and shows it in the two tables.
+fn commit_make(
+    image: &mut [u8],
+    blocks: &mut [u16],
+    anodes: &mut [u16],
+    counts: &[u16],
+    firsts: &[u16],
+    nexts: &[u16],
+    new_counts: &[u16],
+    new_firsts: &[u16],
+    new_nexts: &[u16],
+    plan: MakePlan,
+    head: AnodeNo,
+    parent: AnodeNo,
+    kind: Kind,
+    name: &[u8],
+    comment: &[u8],
+    day: u16,
+    minute: u16,
+    tick: u16,
+    protection: u8,
+)
+    requires { ⌜ Loaded (now image) (now counts) (now firsts) (now nexts) × (3444 ≤ length (now anodes)) × (length (now «new_nexts») ≡ 3444) ⌝ }
+    requires { ⌜ (noDirectory (now image) (anodesOf (now image)) (head .0) ≡ false) × (parent .0 ≡ parentOf (reachedDirs (now image) (anodesOf (now image))) (head .0)) ⌝ }
+    requires { ⌜ (goodName (now name) ≡ true) × (goodComment (now comment) ≡ true) ⌝ }
+    requires { ⌜ Plans (now image) (isDir kind) (entryLength (length (now name)) (length (now comment))) (head .0) plan (anodesFrom (now «new_counts») (now «new_firsts») (now «new_nexts»)) ⌝ }
+    ensures { λ _. ⌜ Leaves 0 (now (image .entry)) (now (blocks .entry)) (now (anodes .entry)) (now (image .exit)) (now (blocks .exit)) (now (anodes .exit)) (made (now (image .entry)) (anodesOf (now (image .entry))) (head .0) (newEntry kind (now (name .entry)) (now (comment .entry)) day minute tick protection)) ⌝ }
 {
-    match room {
-        Room::At(place) => place,
-        Room::Nowhere => (parents.0 as usize) * 512 + 16,
-    }
+    store_anodes(
+        image,
+        counts,
+        firsts,
+        nexts,
+        new_counts,
+        new_firsts,
+        new_nexts,
+    );
+    head_new(image, plan.own, plan.fresh, head);
+    head_new(image, plan.parents, head, parent);
+    put_new_entry(
+        image,
+        plan.place,
+        kind,
+        plan.fresh,
+        name,
+        comment,
+        day,
+        minute,
+        tick,
+        protection,
+    );
+    note_owner(blocks, plan.own, plan.fresh);
+    note_owner(blocks, plan.parents, head);
+    show_heads(new_firsts, new_nexts, anodes);
 }
 
 // Makes an entry in the directory that `head` heads, whose parent's head is `parent`; 27 and 28 leave everything as it was.
@@ -181,60 +250,36 @@ pub fn make_entry(
     requires { ⌜ (goodName (now name) ≡ true) × (goodComment (now comment) ≡ true) ⌝ }
     ensures { λ r. ⌜ Leaves r (now (image .entry)) (now (blocks .entry)) (now (anodes .entry)) (now (image .exit)) (now (blocks .exit)) (now (anodes .exit)) (made (now (image .entry)) (anodesOf (now (image .entry))) (head .0) (newEntry kind (now (name .entry)) (now (comment .entry)) day minute tick protection)) ⌝ }
 {
-    let f = lowest_free(image, firsts);
-    if 3444 <= f {
-        return number(Refusal::NoFreeAnode);
-    }
-    let fresh = AnodeNo(f as u16);
-    let mut new_counts = [0u16; 3444];
-    let mut new_firsts = [0u16; 3444];
-    let mut new_nexts = [0u16; 3444];
-    begin(
-        counts,
-        firsts,
-        nexts,
-        f,
-        &mut new_counts,
-        &mut new_firsts,
-        &mut new_nexts,
-    );
-    let room = first_room(
-        image,
-        firsts,
-        nexts,
-        head,
-        entry_len(name.len() as u8, comment.len() as u8),
-    );
-    let taken = take_blocks(
+    let mut new_counts = copied(counts);
+    let mut new_firsts = copied(firsts);
+    let mut new_nexts = copied(nexts);
+    let planned = plan_make(
         image,
         kind,
-        room,
-        fresh,
+        entry_len(name.len() as u8, comment.len() as u8),
         head,
         &mut new_counts,
         &mut new_firsts,
         &mut new_nexts,
     );
-    let new = match taken {
-        Taken::Both(b) => b,
-        Taken::Stopped(r) => return number(r),
+    let plan = match planned {
+        Planned::Make(plan) => plan,
+        Planned::Stopped(r) => return number(r),
     };
-    store_anodes(
+    commit_make(
         image,
+        blocks,
+        anodes,
         counts,
         firsts,
         nexts,
         &new_counts,
         &new_firsts,
         &new_nexts,
-    );
-    head_new(image, new.own, fresh, head);
-    head_new(image, new.parents, head, parent);
-    put_new_entry(
-        image,
-        place_for(room, new.parents),
+        plan,
+        head,
+        parent,
         kind,
-        fresh,
         name,
         comment,
         day,
@@ -242,8 +287,5 @@ pub fn make_entry(
         tick,
         protection,
     );
-    note_owner(blocks, new.own, fresh);
-    note_owner(blocks, new.parents, head);
-    show_heads(&new_firsts, &new_nexts, anodes);
     0
 }

@@ -1,46 +1,41 @@
 -- A removal by its plan: what it leaves of an accepted image and of its two tables.
 use Prim.Native.Nat.{ℕ, _+_, _*_, _/_, _%_, _<_, _≤_}
-use mathlib.Core.Path.{_≡_, sym, ap, _∙_}
-use mathlib.Core.Logic.{_≢_, inl, inr}
+use mathlib.Core.Path.{_≡_, sym, _∙_}
+use mathlib.Core.Logic.{_≢_}
 use mathlib.Core.Bool.{false}
 use mathlib.Core.List.{List, _++_}
 use native.Mathlib.Omega.{arith}
 use lib.ListN.{length, getD, drop}
 use Rattle.disk.specs.Blocks.{blockOf}
-use Rattle.rules.specs.Counting.{oneAt}
 use Rattle.rules.specs.Anodes.{Anodes, limit, exists, anodesOf, withAnodes}
 use Rattle.rules.specs.Chains.{systemOwns, blockCount}
 use Rattle.rules.specs.Walk.{Entered, entriesIn}
 use Rattle.rules.specs.Accepted.{diskSize, wrongSize, lastReserved}
 use Rattle.rules.specs.Tables.{anodeTable}
-use Rattle.rules.specs.Space.{refused, planned, giveMany, onChain, dropped}
+use Rattle.rules.specs.Space.{Plan, refused, planned, giveMany, onChain, dropped}
 use Rattle.rules.specs.Changes.{entriesEnd, removedImage, removed}
-use Rattle.laws.specs.Tests.{same?}
-use Rattle.laws.specs.Sums.{oneAt-same, sum-none}
 use Rattle.laws.specs.Links.{View, Linked}
 use Rattle.laws.specs.LinkChanges.{without}
 use Rattle.laws.specs.Heads.{Head}
 use Rattle.laws.specs.Blocks.{blocks}
 use Rattle.laws.specs.Space.{Good}
 use Rattle.laws.specs.Whole.{blocks-count}
-use Rattle.laws.specs.Resize.{Ran}
-use Rattle.laws.specs.Remove.{dropped-good}
+use Rattle.laws.specs.Remove.{still, none-left, dropped-good}
 use Rattle.laws.specs.RefusedSteps.{gives-refused}
-use Rattle.laws.specs.GivenBlocks.{gives-blocks}
 use Rattle.laws.specs.OwnerTable.{dropped-owner, setAll}
 use Rattle.frames.specs.StoredAnodes.{withAnodes-stored}
 use Rattle.changes.specs.Image.{headIn, sideIn, accepted-slots, accepted-whole}
 use Rattle.changes.specs.FoundEntries.{end-bounds, entry-standing}
-use Rattle.changes.specs.Remove as Remove
-use Rattle.changes.specs.Remove.{parted, unbroken, removed-same, removed-anodes}
+use Rattle.changes.specs.Reached.{parted, block-unbroken}
+use Rattle.changes.specs.RemoveStores.{PlannedRemove, ran, removed-same, removed-anodes}
 use Rattle.anodes.specs.Loaded.{anodesFrom}
 use Rattle.tree.specs.Steps.{sumFrom}
 use Rattle.tree.proofs.Rules.{sumFrom-count}
-use Rattle.space.specs.declared.Moves.{Moves}
-use Rattle.space.specs.Steps.{manyPlan, GoodAnodes}
+use Rattle.space.specs.Steps.{GoodAnodes}
+use Rattle.space.proofs.Many.{gave-few}
 use Rattle.changed.specs.Leaves.{Leaves, Loaded, ReachedEntry}
 use Rattle.changed.specs.Laws.{leaves-refused, shows-kept, shows-ran, leaves-done}
-use Rattle.changed.specs.Chains.{loaded-size, loaded-good, entry-known, entry-not-1, entry-head, count-less}
+use Rattle.changed.specs.Chains.{loaded-size, loaded-good, entry-known, entry-not-1, entry-head}
 
 module _ {img counts firsts nexts : List ℕ} (l : Loaded img counts firsts nexts) (e : Entered) (r : ReachedEntry img e) where
   abbrev s : Anodes
@@ -56,10 +51,10 @@ module _ {img counts firsts nexts : List ℕ} (l : Loaded img counts firsts next
     gives-ready = rw (c, f, n) ((loaded-size l, (headIn img, sideIn img, loaded-good l)), (entry-head l e r, entry-not-1 l e r, omega (arith, all ∙ sumFrom-count counts firsts nexts (e .anode))))
 
     -- and the plan is that of the image
-    pub gives-made : (m : Moves) (t : Anodes) (moved : List ℕ) → manyPlan m t moved ≡ giveMany limit (exists img) (lastReserved img) have (anodesFrom nc nf nn) (e .anode) →
-        (answer : Moves) → m ≡ answer → giveMany limit (exists img) (lastReserved img) (blockCount s (e .anode)) s (e .anode) ≡ manyPlan answer t moved
-    gives-made m t moved made answer i = sym (ap (λ (k : Moves). manyPlan k t moved) (sym i) ∙ made ∙ rw (c, f, n, all ∙ sumFrom-count counts firsts nexts (e .anode), l .is-loaded))
+    pub gives-made : (p : Plan) → p ≡ giveMany limit (exists img) (lastReserved img) have (anodesFrom nc nf nn) (e .anode) → giveMany limit (exists img) (lastReserved img) (blockCount s (e .anode)) s (e .anode) ≡ p
+    gives-made p made = sym (made ∙ rw (c, f, n, all ∙ sumFrom-count counts firsts nexts (e .anode), l .is-loaded))
 
+  -- refused it leaves everything
   pub refused-leaves : (k : ℕ) → giveMany limit (exists img) (lastReserved img) (blockCount s (e .anode)) s (e .anode) ≡ refused k → (b a : List ℕ) → Leaves k img b a img b a (removed img s e)
   unfolding removed
   refused-leaves k gives b a =
@@ -72,30 +67,24 @@ module _ {img counts firsts nexts : List ℕ} (l : Loaded img counts firsts next
     abbrev end : Anodes
     end = dropped limit (exists img) (lastReserved img) t (e .anode)
 
-    ran : Ran limit (exists img) (diskSize img) (lastReserved img) s (systemOwns img) (headIn img) (e .anode) 1 (e .anode) 0 ys t
-    ran = Remove.ran img (diskSize img) limit (l .accepted) (r .0) (r .1) e (r .2) t ys gives
-
-    still : Head (t .next) (t .block) (e .anode)
-    still = ran .shift .stays (e .anode) (entry-known l e r .head)
+    p : PlannedRemove img e t ys
+    p = record { blocks = diskSize img; anodes = limit; accepted = l .accepted; home = r .0; reached = r .1; member = r .2; plan = gives }
 
     -- the chain can be dropped
     pub drops-ready : View limit (t .next) (t .block) × (Linked limit (t .next) (t .block) × (t .block (e .anode) ≢ 0))
-    drops-ready = (ran .good .view, (ran .good .linked, still .in-use))
+    drops-ready = (ran p .good .view, (ran p .good .linked, still (e .anode) (entry-known l e r .from-6) (entry-known l e r .head) (ran p) .in-use))
 
-    end-good : Good limit (exists img) (diskSize img) (lastReserved img) end (systemOwns img) (without (onChain limit (exists img) (lastReserved img) t (e .anode)) (ran .hd′))
-        (without (onChain limit (exists img) (lastReserved img) t (e .anode)) (ran .sd′))
-    end-good = dropped-good (e .anode) (entry-known l e r .from-6) (entry-known l e r .head) ran
+    end-good : Good limit (exists img) (diskSize img) (lastReserved img) end (systemOwns img) (without (onChain limit (exists img) (lastReserved img) t (e .anode)) (ran p .hd′))
+        (without (onChain limit (exists img) (lastReserved img) t (e .anode)) (ran p .sd′))
+    end-good = dropped-good (e .anode) (entry-known l e r .from-6) (entry-known l e r .head) (ran p)
 
+    -- the links that show_heads asks for
     pub removed-links : (x : Anodes) → x ≡ end → View limit (x .next) (x .block) × Linked limit (x .next) (x .block)
     removed-links x i = rw i (end-good .view, end-good .linked)
 
     -- fewer blocks changed hands than the table of moved blocks holds
     pub moved-few : length ys < 65535
-    moved-few = omega (
-      arith,
-      gives-blocks (blockCount s (e .anode)) (e .anode) (entry-not-1 l e r) t ys s (systemOwns img) (headIn img) (sideIn img) g (entry-known l e r .head) gives .1,
-      count-less img (loaded-size l) s g (e .anode) (entry-known l e r .head),
-    )
+    moved-few = gave-few img s (headIn img, sideIn img, g) (e .anode) (entry-known l e r .head) (loaded-size l) (entry-not-1 l e r) (blockCount s (e .anode)) (omega arith) t ys gives
 
     -- where the entry stands, also after the anodes are stored
     abbrev y : ℕ
@@ -110,8 +99,8 @@ module _ {img counts firsts nexts : List ℕ} (l : Loaded img counts firsts next
         let facts = entry-known l e r in
         let kept = withAnodes-stored img (accepted-slots img (diskSize img) limit (l .accepted)) end .kept in
         let b = blockOf img y in
-        let part = parted img (diskSize img) limit (l .accepted) (r .0) (r .1) e (r .2) in
-        let fine = unbroken img (diskSize img) limit (l .accepted) (r .0) (r .1) e (r .2) in
+        let part = parted facts in
+        let fine = block-unbroken facts in
         let place : e .place ≡ y * 512 + at = omega arith in
         rw (kept .length-kept, kept .block-kept y (rw (facts .in-block) (facts .block-facts .is-data .unheld))) (
           rw (facts .in-block) (facts .block-facts .is-data .inside),
@@ -119,20 +108,12 @@ module _ {img counts firsts nexts : List ℕ} (l : Loaded img counts firsts next
           omega (arith, end-bounds b y 28 16 fine (omega arith) (omega arith) .1),
         )
 
-    none-left : (a : ℕ) → ran .hd′ a ≡ e .anode → t .count a ≡ 0
-    unfolding blocks
-    none-left a q = elim (same? (t .block a) 0) [
-      | inl z ↦ ran .good .free-none a z
-      | inr u ↦ omega (
-        arith,
-        sum-none (λ x. oneAt (ran .hd′ x) (e .anode) * t .count x) limit (ran .has) a (ran .good .view .below a u),
-        ap (λ (k : ℕ). k * t .count a) (oneAt-same (ran .hd′ a) (e .anode) q),
-      )
-    ]
-
+    -- what it leaves of the image and the tables
     pub done-leaves : (b a : List ℕ) → Leaves 0 img b a (removedImage img e t ys) (setAll b ys 1) (anodeTable end ++ drop limit a) (removed img s e)
     unfolding removed
     done-leaves b a =
-        let is-end = removed-anodes img (diskSize img) limit (l .accepted) (r .0) (r .1) e (r .2) t ys gives in
-        rw gives (leaves-done img (removedImage img e t ys) (removed-same img (diskSize img) limit (l .accepted) (r .0) (r .1) e (r .2) t ys gives) b a (setAll b ys 1) (anodeTable end ++ drop limit a)
-        (λ rest q. rw is-end (shows-kept img t end (dropped-owner (ran .good) (e .anode) (entry-known l e r .from-6) still none-left) (setAll b ys 1) rest (shows-ran img s t g ran (entry-not-1 l e r) b rest q))) (rw is-end))
+        let h6 = entry-known l e r .from-6 in
+        let d = entry-known l e r .head in
+        let is-end = removed-anodes p in
+        rw gives (leaves-done img (removedImage img e t ys) (removed-same p) b a (setAll b ys 1) (anodeTable end ++ drop limit a)
+        (λ rest q. rw is-end (shows-kept img t end (dropped-owner (ran p .good) (e .anode) h6 (still (e .anode) h6 d (ran p)) (none-left (e .anode) h6 d (ran p))) (setAll b ys 1) rest (shows-ran img s t g (ran p) (entry-not-1 l e r) b rest q))) (rw is-end))

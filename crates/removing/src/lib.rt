@@ -1,22 +1,62 @@
 // Removes an entry of an accepted image: its blocks go back to the free list, its anodes become free, and its directory block closes the gap.
+ghost use mathlib.Core.Path.{_≡_};
 ghost use Prim.Native.Nat.{_≤_};
-ghost use lib.ListN.{length};
-ghost use Rattle.rules.specs.Anodes.{anodesOf};
+ghost use lib.ListN.{length, take};
+ghost use Rattle.rules.specs.Anodes.{exists, anodesOf};
+ghost use Rattle.rules.specs.Chains.{blockCount};
+ghost use Rattle.rules.specs.Accepted.{lastReserved};
+ghost use Rattle.rules.specs.Space.{planned, giveMany};
 ghost use Rattle.rules.specs.Changes.{removed};
+ghost use Rattle.anodes.specs.Loaded.{anodesFrom};
 ghost use Rattle.lookup.specs.Answers.{entered};
 ghost use Rattle.changed.specs.Leaves.{Leaves, Loaded, ReachedEntry};
 use chains::show_heads;
 use disk::AnodeNo;
-use disk::number;
 use edits::set_owners;
 use edits::store_anodes;
 use edits::take_out;
 use lookup::EntryAt;
-use space::Moves;
+use space::copied;
 use space::drop_chain;
 use space::give_many;
-use tables::copy_entries;
+use space::moves_count;
+use space::moves_number;
 use tree::chain_sum;
+
+// Writes a removal whose blocks are given back into the image, and shows it in the two tables.
+fn commit_remove(
+    image: &mut [u8],
+    blocks: &mut [u16],
+    anodes: &mut [u16],
+    counts: &[u16],
+    firsts: &[u16],
+    nexts: &[u16],
+    new_counts: &mut [u16],
+    new_firsts: &mut [u16],
+    new_nexts: &mut [u16],
+    moved: &[u16],
+    n: usize,
+    e: EntryAt,
+)
+    requires { ⌜ Loaded (now image) (now counts) (now firsts) (now nexts) × ReachedEntry (now image) (entered e) ⌝ }
+    requires { ⌜ (3444 ≤ length (now anodes)) × (length (now «new_nexts») ≡ 3444) × (length (now moved) ≡ 65535) ⌝ }
+    requires { ⌜ giveMany 3444 (exists (now image)) (lastReserved (now image)) (blockCount (anodesOf (now image)) (e .anode .0)) (anodesOf (now image)) (e .anode .0) ≡ planned (anodesFrom (now «new_counts») (now «new_firsts») (now «new_nexts»)) (take n (now moved)) ⌝ }
+    ensures { λ _. ⌜ Leaves 0 (now (image .entry)) (now (blocks .entry)) (now (anodes .entry)) (now (image .exit)) (now (blocks .exit)) (now (anodes .exit)) (removed (now (image .entry)) (anodesOf (now (image .entry))) (entered e)) ⌝ }
+{
+    drop_chain(e.anode, new_counts, new_firsts, new_nexts);
+    store_anodes(
+        image,
+        counts,
+        firsts,
+        nexts,
+        new_counts,
+        new_firsts,
+        new_nexts,
+    );
+    take_out(image, e.place);
+    set_owners(blocks, moved, n, AnodeNo(1));
+    show_heads(new_firsts, new_nexts, anodes);
+}
 
 // Removes an entry with its chain; 28 leaves everything as it was.
 pub fn remove_entry(
@@ -33,13 +73,10 @@ pub fn remove_entry(
     ensures { λ r. ⌜ Leaves r (now (image .entry)) (now (blocks .entry)) (now (anodes .entry)) (now (image .exit)) (now (blocks .exit)) (now (anodes .exit)) (removed (now (image .entry)) (anodesOf (now (image .entry))) (entered e)) ⌝ }
 {
     let have = chain_sum(counts, nexts, e.anode) as u64;
-    let mut new_counts = [0u16; 3444];
-    let mut new_firsts = [0u16; 3444];
-    let mut new_nexts = [0u16; 3444];
+    let mut new_counts = copied(counts);
+    let mut new_firsts = copied(firsts);
+    let mut new_nexts = copied(nexts);
     let mut moved = [0u16; 65535];
-    copy_entries(counts, &mut new_counts);
-    copy_entries(firsts, &mut new_firsts);
-    copy_entries(nexts, &mut new_nexts);
     let plan = give_many(
         image,
         have,
@@ -49,22 +86,22 @@ pub fn remove_entry(
         &mut new_nexts,
         &mut moved,
     );
-    let n = match plan {
-        Moves::Done(n) => n,
-        Moves::Stopped(r) => return number(r),
-    };
-    drop_chain(e.anode, &mut new_counts, &mut new_firsts, &mut new_nexts);
-    store_anodes(
-        image,
-        counts,
-        firsts,
-        nexts,
-        &new_counts,
-        &new_firsts,
-        &new_nexts,
-    );
-    take_out(image, e.place);
-    set_owners(blocks, &moved, n, AnodeNo(1));
-    show_heads(&new_firsts, &new_nexts, anodes);
-    0
+    let answer = moves_number(plan);
+    if answer == 0 {
+        commit_remove(
+            image,
+            blocks,
+            anodes,
+            counts,
+            firsts,
+            nexts,
+            &mut new_counts,
+            &mut new_firsts,
+            &mut new_nexts,
+            &moved,
+            moves_count(plan),
+            e,
+        );
+    }
+    answer
 }

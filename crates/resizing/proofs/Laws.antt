@@ -1,6 +1,6 @@
 -- A resize by its plan: how much it asks for, and what it leaves of an accepted image and of its two tables.
 use Prim.Native.Nat.{ℕ, _+_, _-_, _<_, _≤_}
-use mathlib.Core.Path.{_≡_, sym, ap, _∙_}
+use mathlib.Core.Path.{_≡_, sym, _∙_}
 use mathlib.Core.Logic.{_≢_, _⊎_, inl, inr}
 use mathlib.Core.Bool.{false, cond}
 use mathlib.Core.List.{List, _++_}
@@ -13,7 +13,7 @@ use Rattle.rules.specs.Chains.{systemOwns, blockCount}
 use Rattle.rules.specs.Walk.{Entered, blocksFor}
 use Rattle.rules.specs.Accepted.{diskSize, wrongSize, lastReserved}
 use Rattle.rules.specs.Tables.{anodeTable}
-use Rattle.rules.specs.Space.{refused, planned, takeMany, giveMany}
+use Rattle.rules.specs.Space.{Plan, refused, planned, takeMany, giveMany}
 use Rattle.rules.specs.Format.{zeroBlock}
 use Rattle.rules.specs.Changes.{withBlocks, resizePlan, zeroTaken, resizedImage, resized}
 use Rattle.laws.specs.Tests.{less?}
@@ -22,18 +22,17 @@ use Rattle.laws.specs.Heads.{Head}
 use Rattle.laws.specs.Whole.{blocks-count}
 use Rattle.laws.specs.Resize.{grow-ran, shrink-ran}
 use Rattle.laws.specs.OwnerTable.{setAll}
-use Rattle.laws.specs.GivenBlocks.{gives-blocks}
 use Rattle.changes.specs.Image.{headIn, sideIn, accepted-whole}
 use Rattle.changes.specs.ResizePlan.{plan-refused, plan-longer}
 use Rattle.changes.specs.ResizeStores.{PlannedResize, w, steps, resized-same, resized-anodes}
 use Rattle.anodes.specs.Loaded.{anodesFrom}
 use Rattle.tree.specs.Steps.{sumFrom}
 use Rattle.tree.proofs.Rules.{sumFrom-count}
-use Rattle.space.specs.declared.Moves.{Moves}
-use Rattle.space.specs.Steps.{manyPlan, GoodAnodes}
+use Rattle.space.specs.Steps.{GoodAnodes}
+use Rattle.space.proofs.Many.{count-small, gave-few}
 use Rattle.changed.specs.Leaves.{Leaves, Loaded, ReachedEntry}
 use Rattle.changed.specs.Laws.{Shows, leaves-refused, shows-ran, leaves-done}
-use Rattle.changed.specs.Chains.{loaded-size, loaded-good, entry-known, entry-not-1, entry-head, count-less}
+use Rattle.changed.specs.Chains.{loaded-size, loaded-good, entry-known, entry-not-1, entry-head}
 
 module _ {img counts firsts nexts : List ℕ} (l : Loaded img counts firsts nexts) (e : Entered) (r : ReachedEntry img e) (size : ℕ) where
   abbrev s : Anodes
@@ -46,10 +45,15 @@ module _ {img counts firsts nexts : List ℕ} (l : Loaded img counts firsts next
     plan-ready have q = rw (c, f, n) ((loaded-size l, (headIn img, sideIn img, loaded-good l)), (entry-head l e r, entry-not-1 l e r, q ∙ sumFrom-count counts firsts nexts (e .anode)))
 
     -- and the plan is that of the image
-    pub plan-made : (want : ℕ) → want ≡ blocksFor size → (m : Moves) (t : Anodes) (moved : List ℕ) → manyPlan m t moved ≡ resizePlan img (anodesFrom nc nf nn) (e .anode) want →
-        (answer : Moves) → m ≡ answer → resizePlan img s (e .anode) (blocksFor size) ≡ manyPlan answer t moved
-    plan-made want q m t moved made answer i = sym (ap (λ (k : Moves). manyPlan k t moved) (sym i) ∙ made ∙ rw (c, f, n, q, l .is-loaded))
+    pub plan-made : (want : ℕ) → want ≡ blocksFor size → (p : Plan) → p ≡ resizePlan img (anodesFrom nc nf nn) (e .anode) want → resizePlan img s (e .anode) (blocksFor size) ≡ p
+    plan-made want q p made = sym (made ∙ rw (c, f, n, q, l .is-loaded))
 
+  -- the head that the moved blocks come to, by what was counted
+  pub owner-is : (have want o : ℕ) → have ≡ sumFrom counts nexts 3444 (e .anode) → want ≡ blocksFor size → o ≡ cond (leb have want) (e .anode) 1 →
+      o ≡ cond (leb (blockCount s (e .anode)) (blocksFor size)) (e .anode) 1
+  owner-is have want o i q is = is ∙ rw (i ∙ sumFrom-count counts firsts nexts (e .anode), l .is-loaded, q)
+
+  -- refused it leaves everything
   pub refused-leaves : (k : ℕ) → resizePlan img s (e .anode) (blocksFor size) ≡ refused k → (b a : List ℕ) → Leaves k img b a img b a (resized img s e size)
   unfolding resized
   refused-leaves k plan b a = rw plan (leaves-refused k (late (plan-refused img (accepted-whole img (diskSize img) limit (l .accepted) .good) (e .anode) (entry-known l e r .head) (entry-not-1 l e r) (blocksFor size) k plan)) img b a)
@@ -62,6 +66,7 @@ module _ {img counts firsts nexts : List ℕ} (l : Loaded img counts firsts next
     p : PlannedResize img e size t ys
     p = record { blocks = diskSize img; anodes = limit; accepted = l .accepted; home = r .0; reached = r .1; member = r .2; file = file; plan = plan }
 
+    -- the links that show_heads asks for
     pub resized-view : View limit (t .next) (t .block)
     resized-view = steps p .ran .good .view
 
@@ -72,7 +77,7 @@ module _ {img counts firsts nexts : List ℕ} (l : Loaded img counts firsts next
     asked-less =
         let ran = steps p .ran in
         let head = ran .shift .stays (e .anode) (entry-known l e r .head) in
-        omega (arith, ran .has, blocks-count (ran .good) (e .anode) head, count-less img (loaded-size l) t (ran .good) (e .anode) head)
+        omega (arith, ran .has, blocks-count (ran .good) (e .anode) head, count-small img t (ran .hd′, ran .sd′, ran .good) (e .anode) head (loaded-size l))
 
     -- the size fits the entry's field
     pub size-fits : size < 4294967296
@@ -83,12 +88,8 @@ module _ {img counts firsts nexts : List ℕ} (l : Loaded img counts firsts next
     pub moved-few : length ys < 65535
     unfolding resizePlan
     moved-few = elim (less? (blocksFor size) (blockCount s (e .anode))) [
-      | inl m ↦ omega (
-        arith,
-        gives-blocks (blockCount s (e .anode) - blocksFor size) (e .anode) (entry-not-1 l e r) t ys s (systemOwns img) (headIn img) (sideIn img) (w p .good) (entry-known l e r .head)
-            (rw (lt-leb (blockCount s (e .anode)) (blocksFor size) m) at plan) .1,
-        count-less img (loaded-size l) s (w p .good) (e .anode) (entry-known l e r .head),
-      )
+      | inl m ↦ gave-few img s (headIn img, sideIn img, w p .good) (e .anode) (entry-known l e r .head) (loaded-size l) (entry-not-1 l e r) (blockCount s (e .anode) - blocksFor size) (omega arith) t ys
+          (rw (lt-leb (blockCount s (e .anode)) (blocksFor size) m) at plan)
       | inr m ↦ omega (arith, asked-less, plan-longer img (w p .good) (e .anode) (entry-known l e r .head) (entry-not-1 l e r) (blocksFor size) t ys plan m .1)
     ]
 
@@ -107,10 +108,11 @@ module _ {img counts firsts nexts : List ℕ} (l : Loaded img counts firsts next
           | inr m ↦ rw (le-leb have want m) (shows-ran img s t g (grow-ran (want - have) h h1 false t ys s (systemOwns img) (headIn img) (sideIn img) g d (rw (le-leb have want m) at plan)) (λ i. h1 (sym i)) b rest q)
         ]
 
-    pub done-leaves : (have want : ℕ) → have ≡ sumFrom counts nexts 3444 (e .anode) → want ≡ blocksFor size → (b a : List ℕ) →
-        Leaves 0 img b a (resizedImage img s e size t ys) (setAll b ys (cond (leb have want) (e .anode) 1)) (anodeTable t ++ drop limit a) (resized img s e size)
+    -- what it leaves of the image and the tables
+    pub done-leaves : (o : ℕ) → o ≡ cond (leb (blockCount s (e .anode)) (blocksFor size)) (e .anode) 1 → (b a : List ℕ) →
+        Leaves 0 img b a (resizedImage img s e size t ys) (setAll b ys o) (anodeTable t ++ drop limit a) (resized img s e size)
     unfolding resized
-    done-leaves have want i q b a = rw (plan, i ∙ sumFrom-count counts firsts nexts (e .anode), l .is-loaded, q)
+    done-leaves o i b a = rw (plan, i)
         (leaves-done img (resizedImage img s e size t ys) (resized-same p) b a (setAll b ys (cond (leb (blockCount s (e .anode)) (blocksFor size)) (e .anode) 1)) (anodeTable t ++ drop limit a)
         (λ rest o. rw (resized-anodes p) (owners-shown b rest o)) (rw (resized-anodes p)))
 

@@ -2,15 +2,16 @@
 ghost use mathlib.Core.Bool.{false, cond};
 ghost use mathlib.Core.Logic.{_≢_};
 ghost use mathlib.Core.Path.{_≡_};
-ghost use Prim.Native.Nat.{ℕ, _+_, _<_, _≤_};
+ghost use Prim.Native.Nat.{_≤_};
 ghost use lib.Dec.{leb};
-ghost use lib.ListN.{length, getD, take};
+ghost use lib.ListN.{length, take};
 ghost use Rattle.directory.specs.Entries.{isDir};
 ghost use Rattle.rules.specs.Anodes.{anodesOf};
 ghost use Rattle.rules.specs.Chains.{blockCount};
 ghost use Rattle.rules.specs.Walk.{blocksFor};
 ghost use Rattle.rules.specs.Accepted.{wrongSize};
-ghost use Rattle.rules.specs.Changes.{resizePlan, resizedImage, resized};
+ghost use Rattle.rules.specs.Space.{planned};
+ghost use Rattle.rules.specs.Changes.{resizePlan, resized};
 ghost use Rattle.laws.specs.Heads.{Head};
 ghost use Rattle.anodes.specs.Loaded.{anodesFrom};
 ghost use Rattle.space.specs.Steps.{manyPlan, GoodAnodes};
@@ -18,7 +19,6 @@ ghost use Rattle.lookup.specs.Answers.{entered};
 ghost use Rattle.changed.specs.Leaves.{Leaves, Loaded, ReachedEntry};
 use chains::show_heads;
 use disk::AnodeNo;
-use disk::number;
 use edits::put_size;
 use edits::set_owners;
 use edits::store_anodes;
@@ -26,9 +26,11 @@ use edits::zero_blocks;
 use edits::zero_tail;
 use lookup::EntryAt;
 use space::Moves;
+use space::copied;
 use space::give_many;
+use space::moves_count;
+use space::moves_number;
 use space::take_many;
-use tables::copy_entries;
 use tree::chain_sum;
 
 // The blocks that a file of this size asks for.
@@ -69,9 +71,11 @@ fn plan_resize(
     give_many(image, have - want, head, counts, firsts, nexts, moved)
 }
 
-// Writes a planned resize into the image.
+// Writes a planned resize into the image, and shows it in the two tables.
 fn commit_resize(
     image: &mut [u8],
+    blocks: &mut [u16],
+    anodes: &mut [u16],
     counts: &[u16],
     firsts: &[u16],
     nexts: &[u16],
@@ -80,12 +84,14 @@ fn commit_resize(
     new_nexts: &[u16],
     moved: &[u16],
     n: usize,
+    owner: AnodeNo,
     e: EntryAt,
-    size: u32,
+    size: u64,
 )
-    requires { ⌜ (anodesFrom (now counts) (now firsts) (now nexts) ≡ anodesOf (now image)) × (n ≤ length (now moved)) ⌝ }
-    requires { ⌜ ((a : ℕ) → 0 < getD (now counts) a 0 → getD (now firsts) a 0 + getD (now counts) a 0 ≤ 65535) ⌝ }
-    ensures { λ _. ⌜ now (image .exit) ≡ resizedImage (now (image .entry)) (anodesOf (now (image .entry))) (entered e) size (anodesFrom (now («new_counts» .entry)) (now («new_firsts» .entry)) (now («new_nexts» .entry))) (take n (now (moved .entry))) ⌝ }
+    requires { ⌜ Loaded (now image) (now counts) (now firsts) (now nexts) × ReachedEntry (now image) (entered e) ⌝ }
+    requires { ⌜ (isDir (e .kind) ≡ false) × (3444 ≤ length (now anodes)) × (length (now «new_nexts») ≡ 3444) × (length (now moved) ≡ 65535) ⌝ }
+    requires { ⌜ (resizePlan (now image) (anodesOf (now image)) (e .anode .0) (blocksFor size) ≡ planned (anodesFrom (now «new_counts») (now «new_firsts») (now «new_nexts»)) (take n (now moved))) × (owner .0 ≡ cond (leb (blockCount (anodesOf (now image)) (e .anode .0)) (blocksFor size)) (e .anode .0) 1) ⌝ }
+    ensures { λ _. ⌜ Leaves 0 (now (image .entry)) (now (blocks .entry)) (now (anodes .entry)) (now (image .exit)) (now (blocks .exit)) (now (anodes .exit)) (resized (now (image .entry)) (anodesOf (now (image .entry))) (entered e) size) ⌝ }
 {
     store_anodes(
         image,
@@ -96,11 +102,13 @@ fn commit_resize(
         new_firsts,
         new_nexts,
     );
-    if e.size < size {
+    if (e.size as u64) < size {
         zero_blocks(image, moved, n);
     }
-    zero_tail(image, counts, firsts, nexts, e.anode, e.size, size as u64);
-    put_size(image, e.place, size);
+    zero_tail(image, counts, firsts, nexts, e.anode, e.size, size);
+    put_size(image, e.place, size as u32);
+    set_owners(blocks, moved, n, owner);
+    show_heads(new_firsts, new_nexts, anodes);
 }
 
 // The head of the chain that the moved blocks are in: the file's, or 1 where they were given back.
@@ -130,13 +138,10 @@ pub fn resize_entry(
 {
     let have = chain_sum(counts, nexts, e.anode) as u64;
     let want = blocks_for(size);
-    let mut new_counts = [0u16; 3444];
-    let mut new_firsts = [0u16; 3444];
-    let mut new_nexts = [0u16; 3444];
+    let mut new_counts = copied(counts);
+    let mut new_firsts = copied(firsts);
+    let mut new_nexts = copied(nexts);
     let mut moved = [0u16; 65535];
-    copy_entries(counts, &mut new_counts);
-    copy_entries(firsts, &mut new_firsts);
-    copy_entries(nexts, &mut new_nexts);
     let plan = plan_resize(
         image,
         have,
@@ -147,24 +152,24 @@ pub fn resize_entry(
         &mut new_nexts,
         &mut moved,
     );
-    let n = match plan {
-        Moves::Done(n) => n,
-        Moves::Stopped(r) => return number(r),
-    };
-    commit_resize(
-        image,
-        counts,
-        firsts,
-        nexts,
-        &new_counts,
-        &new_firsts,
-        &new_nexts,
-        &moved,
-        n,
-        e,
-        size as u32,
-    );
-    set_owners(blocks, &moved, n, new_owner(have, want, e.anode));
-    show_heads(&new_firsts, &new_nexts, anodes);
-    0
+    let answer = moves_number(plan);
+    if answer == 0 {
+        commit_resize(
+            image,
+            blocks,
+            anodes,
+            counts,
+            firsts,
+            nexts,
+            &new_counts,
+            &new_firsts,
+            &new_nexts,
+            &moved,
+            moves_count(plan),
+            new_owner(have, want, e.anode),
+            e,
+            size,
+        );
+    }
+    answer
 }

@@ -10,7 +10,7 @@ use Rattle.rules.specs.Anodes.{Anodes}
 use Rattle.rules.specs.Chains.{chainOf, cut, side}
 use Rattle.rules.specs.Space.{refused, planned, rewritten, insertedAfter, unlinked, emptied, nowhere, found, firstFull, lowestFree, append, growOrAppend, put, withoutFirst, withoutLast, sideOf, joinBefore, joinAfter, joinFilling, join}
 use Rattle.anodes.specs.Loaded.{anodesFrom}
-use Rattle.space.specs.Steps.{firstFound, freeExtent}
+use Rattle.space.specs.Steps.{firstFound, freeExtent, withoutBlock}
 
 -- ---- the extent that a block is taken from
 
@@ -38,6 +38,32 @@ module _ (ex : ℕ → Bool) (last : ℕ) where
   pub side-up-to : (y : ℕ) → y ≤ last → sideOf 3444 ex last y ≡ 2
   unfolding sideOf
   side-up-to y h = rw (le-ltb last y h)
+
+-- ---- a block out of anode x
+
+module _ (c f n : List ℕ) (kept p x b : ℕ) where
+  pub block-shrunk : getD c x 0 ≢ 1 → withoutBlock (anodesFrom c f n) kept p x b ≡ rewritten (anodesFrom c f n) x (getD c x 0 - 1) b
+  unfolding withoutBlock anodesFrom
+  block-shrunk e = rw (ne-eqb (getD c x 0) 1 e)
+
+  module _ (one : getD c x 0 ≡ 1) where
+    pub block-emptied : x ≡ kept → withoutBlock (anodesFrom c f n) kept p x b ≡ rewritten (anodesFrom c f n) x 0 65535
+    unfolding withoutBlock emptied anodesFrom
+    block-emptied e = rw (eq-eqb (getD c x 0) 1 one, eq-eqb x kept e)
+
+    pub block-unlinked : x ≢ kept → withoutBlock (anodesFrom c f n) kept p x b ≡ unlinked (anodesFrom c f n) p x
+    unfolding withoutBlock anodesFrom
+    block-unlinked e = rw (eq-eqb (getD c x 0) 1 one, ne-eqb x kept e)
+
+-- the first of the free list, where anode 2 is kept, and the last of a chain, where its head is
+module _ (ex : ℕ → Bool) (last : ℕ) (s : Anodes) (p x b : ℕ) where
+  pub first-out : b ≡ s .block x + 1 → withoutBlock s 2 p x b ≡ withoutFirst 3444 ex last s p x
+  unfolding withoutBlock withoutFirst
+  first-out e = rw e
+
+  pub last-out : (h : ℕ) → b ≡ s .block x → withoutBlock s h p x b ≡ withoutLast 3444 ex last s h p x
+  unfolding withoutBlock withoutLast
+  last-out h e = rw e
 
 module _ (ex : ℕ → Bool) (last : ℕ) (c f n : List ℕ) where
   abbrev s : Anodes
@@ -71,38 +97,6 @@ module _ (ex : ℕ → Bool) (last : ℕ) (c f n : List ℕ) where
       unfolding put growOrAppend anodesFrom
       put-apart true e = rw (ne-eqb (getD c z 0) 0 some)
       put-apart false e = rw (ne-eqb (getD c z 0) 0 some, ne-eqb (getD f z 0 + getD c z 0) y e)
-
-  -- ---- the first block out of anode x
-
-  module _ (p x : ℕ) where
-    pub first-shrunk : getD c x 0 ≢ 1 → withoutFirst 3444 ex last s p x ≡ rewritten s x (getD c x 0 - 1) (getD f x 0 + 1)
-    unfolding withoutFirst anodesFrom
-    first-shrunk e = rw (ne-eqb (getD c x 0) 1 e)
-
-    module _ (one : getD c x 0 ≡ 1) where
-      pub first-emptied : x ≡ 2 → withoutFirst 3444 ex last s p x ≡ rewritten s x 0 65535
-      unfolding withoutFirst emptied anodesFrom
-      first-emptied e = rw (eq-eqb (getD c x 0) 1 one, eq-eqb x 2 e)
-
-      pub first-unlinked : x ≢ 2 → withoutFirst 3444 ex last s p x ≡ unlinked s p x
-      unfolding withoutFirst anodesFrom
-      first-unlinked e = rw (eq-eqb (getD c x 0) 1 one, ne-eqb x 2 e)
-
-  -- ---- the last block out of anode x
-
-  module _ (h p x : ℕ) where
-    pub last-shrunk : getD c x 0 ≢ 1 → withoutLast 3444 ex last s h p x ≡ rewritten s x (getD c x 0 - 1) (getD f x 0)
-    unfolding withoutLast anodesFrom
-    last-shrunk e = rw (ne-eqb (getD c x 0) 1 e)
-
-    module _ (one : getD c x 0 ≡ 1) where
-      pub last-emptied : x ≡ h → withoutLast 3444 ex last s h p x ≡ rewritten s x 0 65535
-      unfolding withoutLast emptied anodesFrom
-      last-emptied e = rw (eq-eqb (getD c x 0) 1 one, eq-eqb x h e)
-
-      pub last-unlinked : x ≢ h → withoutLast 3444 ex last s h p x ≡ unlinked s p x
-      unfolding withoutLast anodesFrom
-      last-unlinked e = rw (eq-eqb (getD c x 0) 1 one, ne-eqb x h e)
 
   -- ---- a block to the end of its side
 

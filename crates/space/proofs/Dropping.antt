@@ -2,7 +2,7 @@
 use Prim.Native.Nat.{ℕ, zero, suc, _+_, _≤_}
 use mathlib.Core.Path.{_≡_, refl, sym, ap, _∙_, fun-ext}
 use mathlib.Core.Logic.{_≢_, inl, inr}
-use mathlib.Core.Bool.{Bool, true, false, cond}
+use mathlib.Core.Bool.{Bool, cond}
 use mathlib.Core.List.{List, [], _∷_}
 use native.Mathlib.Omega.{arith}
 use native.Mathlib.Numerals.{add-one}
@@ -13,6 +13,7 @@ use Rattle.rules.specs.Counting.{times, changed}
 use Rattle.rules.specs.Anodes.{Anodes}
 use Rattle.rules.specs.Chains.{chainOf}
 use Rattle.rules.specs.Space.{onChain, dropped}
+use Rattle.laws.specs.Tests.{cond-cases}
 use Rattle.laws.specs.Sums.{oneAt-same, oneAt-other, changed-cases, changed-other}
 use Rattle.laws.specs.Bags.{times-nil, times-cons}
 use Rattle.laws.specs.Segments.{Seg, seg-keep}
@@ -59,13 +60,9 @@ zeroedOn l s = record { count = without l (s .count); block = without l (s .bloc
 without-none : (f : ℕ → ℕ) → f ≡ without [] f
 without-none f = fun-ext (λ a. rw (times-nil a))
 
-both-zero : (t : Bool) → cond {A = ℕ} t 0 0 ≡ 0
-both-zero true = refl
-both-zero false = refl
-
 without-more : (b : ℕ) (l : List ℕ) (f : ℕ → ℕ) → without l (changed f b 0) ≡ without (b ∷ l) f
 without-more b l f = fun-ext (λ a. elim (changed-cases f b 0 a) [
-  | inl c ↦ rw (c .1, le-leb 1 (times a (b ∷ l)) (omega (arith, times-cons a b l, oneAt-same b a (sym (c .0))))) (both-zero (leb 1 (times a l)))
+  | inl c ↦ rw (c .1, le-leb 1 (times a (b ∷ l)) (omega (arith, times-cons a b l, oneAt-same b a (sym (c .0))))) (elim (cond-cases {A = ℕ} (leb 1 (times a l)) 0 0) [ inl d ↦ d .1 | inr d ↦ d .1 ])
   | inr c ↦ (let e : times a (b ∷ l) ≡ times a l = omega (arith, times-cons a b l, oneAt-other b a (λ q. c .0 (sym q))) in rw (c .1, e))
 ])
 

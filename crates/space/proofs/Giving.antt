@@ -11,20 +11,20 @@ use Rattle.rules.specs.Anodes.{Anodes, exists}
 use Rattle.rules.specs.Chains.{chainOf, cut, systemOwns, side, blockCount}
 use Rattle.rules.specs.Accepted.{diskSize, wrongSize, lastReserved}
 use Rattle.rules.specs.Space.{nowhere, found, lastFull, withoutLast, sideOf, join, release, giveFrom, giveBack}
+use Rattle.laws.specs.Acceptance.{size-bounds}
 use Rattle.laws.specs.Tests.{less?}
-use Rattle.laws.specs.Links.{the-chain, next-below}
+use Rattle.laws.specs.Links.{the-chain}
 use Rattle.laws.specs.Heads.{Head}
 use Rattle.laws.specs.Space.{Good}
 use Rattle.laws.specs.Sides.{side-start, side-sd}
 use Rattle.laws.specs.Searches.{FoundIn, lastFull-found, last-on}
 use Rattle.laws.specs.Moves.{InHand}
-use Rattle.laws.specs.Leaving.{full-used, full-0}
 use Rattle.laws.specs.Give.{withoutLast-out}
 use Rattle.anodes.specs.Loaded.{anodesFrom}
 use Rattle.laws.specs.RefusedSteps.{lastFull-none}
 use Rattle.space.specs.Steps.{GoodAnodes}
 use Rattle.space.proofs.Cases.{side-above, side-up-to}
-use Rattle.space.proofs.Taking.{size-small}
+use Rattle.space.proofs.Taking.{used-below}
 
 -- ---- which extent
 
@@ -47,17 +47,8 @@ one-side ex last y = elim (less? last y) [ inl l ↦ inl (side-above ex last y l
 -- ---- the sums fit
 
 module _ (img : List ℕ) (s : Anodes) (good : GoodAnodes img s) (h : ℕ) (d : Head (s .next) (s .block) h) (p x : ℕ) (e : lastFull (s .count) 0 (chainOf (s .next) 3444 h) ≡ found p x) where
-  last-found : FoundIn (s .count) (s .next) h (chainOf (s .next) 3444 h) 0 p x
+  pub last-found : FoundIn (s .count) (s .next) h (chainOf (s .next) 3444 h) 0 p x
   last-found = let g = good .2 in lastFull-found (s .count) (s .next) h 0 0 (chainOf (s .next) 3444 h) (the-chain (g .view) (g .linked) h (λ q. d .in-use)) p x e
-
-  pub last-full-some : 0 < s .count x
-  last-full-some = last-found .full
-
-  pub last-below : x < 3444
-  last-below = good .2 .view .below x (full-used (good .2) x last-full-some)
-
-  pub before-last-below : p < 3444
-  before-last-below = elim (last-found .before) [ inl c ↦ omega (arith, c .1) | inr c ↦ next-below (good .2 .view) p (λ z. full-0 (good .2) x last-full-some (sym c ∙ z)) ]
 
   -- once its last block y is out, in other tables, the end z of that block's side
   module _ (size : wrongSize img ≡ false) (h1 : h ≢ 1) (c f n : List ℕ) (left : anodesFrom c f n ≡ withoutLast 3444 (exists img) (lastReserved img) s h p x)
@@ -69,20 +60,15 @@ module _ (img : List ℕ) (s : Anodes) (good : GoodAnodes img s) (h : ℕ) (d : 
     unfolding side anodesFrom
     is-end = end ∙ ap (λ (t : Anodes). lastOf m (chainOf (cut (t .next)) 3444 m)) left
 
-    pub side-end-used : getD f z 0 ≢ 0
+    -- it is in use, and its sum fits
+    pub side-end : (z < 3444) × (getD f z 0 ≢ 0) × (0 < getD c z 0 → getD f z 0 + getD c z 0 ≤ 65535)
     unfolding anodesFrom
-    side-end-used q = end-of-side (out .good) m (rw start (one-side (exists img) (lastReserved img) y)) (rw (← is-end) (sym (ap (λ (t : Anodes). t .block z) left) ∙ q))
-
-    pub side-end-below : z < 3444
-    unfolding anodesFrom
-    side-end-below = out .good .view .below z (λ q. side-end-used (ap (λ (t : Anodes). t .block z) left ∙ q))
-
-    pub side-end-fits : 0 < getD c z 0 → getD f z 0 + getD c z 0 ≤ 65535
-    unfolding anodesFrom
-    side-end-fits l =
+    side-end =
         let b = ap (λ (t : Anodes). t .block z) left in
         let k = ap (λ (t : Anodes). t .count z) left in
-        rw (b, k) (omega (arith, size-small img size, out .good .own .fits z side-end-below (rw k at l)))
+        let used : getD f z 0 ≢ 0 = λ q. end-of-side (out .good) m (rw start (one-side (exists img) (lastReserved img) y)) (rw (← is-end) (sym b ∙ q)) in
+        let below = used-below (out .good .view) c f n left z used in
+        (below, used, λ l. rw (b, k) (omega (arith, size-bounds img size .1, out .good .own .fits z below (rw k at l))))
 
     pub given-back : join 3444 (exists img) (lastReserved img) (anodesFrom c f n) z y ≡ giveBack 3444 (exists img) (lastReserved img) s h
     unfolding giveBack giveFrom release

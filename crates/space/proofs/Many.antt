@@ -8,12 +8,15 @@ use native.Mathlib.Omega.{arith}
 use native.Mathlib.Numerals.{add-one}
 use lib.ListN.{length, set, take}
 use lib.Seq.{take-suc-set}
+use Rattle.disk.proofs.Laws.{number-some}
 use Rattle.rules.specs.Counting.{oneAt}
 use Rattle.rules.specs.Anodes.{Anodes, exists}
 use Rattle.rules.specs.Chains.{systemOwns, blockCount}
 use Rattle.rules.specs.Accepted.{diskSize, wrongSize, lastReserved}
 use Rattle.rules.specs.Space.{Plan, refused, planned, takeBlock, giveBack, after, takeMany, giveMany}
-use Rattle.laws.specs.Sums.{oneAt-cases, oneAt-same, oneAt-other, sum-mono}
+use Rattle.laws.specs.Acceptance.{size-bounds}
+use Rattle.laws.specs.Tests.{less?}
+use Rattle.laws.specs.Sums.{oneAt-cases, oneAt-same, oneAt-other, sum-mono, sum-member}
 use Rattle.laws.specs.Ownership.{total}
 use Rattle.laws.specs.Heads.{Head}
 use Rattle.laws.specs.Blocks.{blocks}
@@ -21,24 +24,27 @@ use Rattle.laws.specs.Take.{take-good}
 use Rattle.laws.specs.Give.{give-good}
 use Rattle.laws.specs.Frame.{moved-stays}
 use Rattle.laws.specs.Whole.{blocks-count}
-use Rattle.space.specs.Steps.{GoodAnodes}
-use Rattle.space.proofs.Taking.{size-small}
+use Rattle.laws.specs.GivenBlocks.{gives-blocks}
+use Rattle.space.specs.declared.Moves.{Moves}
+use Rattle.space.specs.declared.Moves.the-variants.{Done, Stopped}
+use Rattle.space.specs.Steps.{manyPlan, movesNumber, movesCount, GoodAnodes}
 
 -- ---- what a step leaves
 
 module _ (img : List ℕ) (s : Anodes) (good : GoodAnodes img s) (h : ℕ) (d : Head (s .next) (s .block) h) where
-  -- a chain has no more blocks than the disk
-  pub count-small : wrongSize img ≡ false → blockCount s h ≤ 65535
-  unfolding blocks
+  -- a chain has fewer than 65,535 blocks: the disk has no more, and its block 0 is the system's
+  pub count-small : wrongSize img ≡ false → blockCount s h < 65535
+  unfolding blocks systemOwns
   count-small size =
       let g = good .2 in
-      omega (
-        arith,
-        size-small img size,
-        total 3444 (s .count) (s .block) (systemOwns img) (diskSize img) (g .own),
-        blocks-count g h d,
-        sum-mono (λ a. oneAt (good .0 a) h * s .count a) (s .count) 3444 (λ a l. elim (oneAt-cases (good .0 a) h) [ inl q ↦ rw (q .1) (omega arith) | inr q ↦ rw (q .1) (omega arith) ]),
-      )
+      let all = total 3444 (s .count) (s .block) (systemOwns img) (diskSize img) (g .own) in
+      let has = blocks-count g h d in
+      let part = sum-mono (λ a. oneAt (good .0 a) h * s .count a) (s .count) 3444 (λ a l. elim (oneAt-cases (good .0 a) h) [ inl q ↦ rw (q .1) (omega arith) | inr q ↦ rw (q .1) (omega arith) ]) in
+      elim (less? (blockCount s h) 65535) [ inl l ↦ l | inr l ↦ omega (arith, size-bounds img size .1, sum-member (systemOwns img) 0 (diskSize img) (omega arith)) ]
+
+  -- so a table of 65,535 numbers holds the blocks that were given back
+  pub gave-few : wrongSize img ≡ false → h ≢ 1 → (k : ℕ) → k ≤ blockCount s h → (t : Anodes) (ys : List ℕ) → giveMany 3444 (exists img) (lastReserved img) k s h ≡ planned t ys → length ys < 65535
+  gave-few size h1 k l t ys e = omega (arith, count-small size, gives-blocks k h h1 t ys s (systemOwns img) (good .0) (good .1) (good .2) d e .1)
 
   module _ (h1 : h ≢ 1) (t : Anodes) (y : ℕ) where
     pub took : (own : Bool) → takeBlock 3444 (exists img) (lastReserved img) own s h ≡ planned t (y ∷ []) → GoodAnodes img t × Head (t .next) (t .block) h × (blockCount t h ≡ blockCount s h + 1)
@@ -119,3 +125,16 @@ module _ (img : List ℕ) (h : ℕ) where
     pub run-done : rest ≡ planned s [] → planned s (take done moved) ≡ whole
     unfolding after
     run-done e = ap (planned s) (sym (append-nil (take done moved))) ∙ rw e at (run .same)
+
+-- ---- the answer of a run
+
+module _ (t : Anodes) (moved : List ℕ) where
+  -- with the number 0 it is done
+  pub moves-done : (m : Moves) → movesNumber m ≡ 0 → manyPlan m t moved ≡ planned t (take (movesCount m) moved)
+  moves-done (Done n) e = refl
+  moves-done (Stopped r) e = absurd (omega (arith, number-some r, e))
+
+  -- with another it is refused
+  pub moves-stopped : (m : Moves) → movesNumber m ≢ 0 → manyPlan m t moved ≡ refused (movesNumber m)
+  moves-stopped (Done n) u = absurd (u refl)
+  moves-stopped (Stopped r) u = refl

@@ -1,21 +1,19 @@
 -- What a take meets in a good state: where its anodes are, and that its sums fit.
-use Prim.Native.Nat.{ℕ, _+_, _%_, _≤_, _<_}
+use Prim.Native.Nat.{ℕ, _+_, _≤_, _<_}
 use mathlib.Core.Path.{_≡_, refl, sym, ap, _∙_}
 use mathlib.Core.Logic.{_≢_, _⊎_, inl, inr}
-use mathlib.Core.Bool.{Bool, true, false, not, _||_}
+use mathlib.Core.Bool.{Bool, true, false}
 use mathlib.Core.List.{List}
 use native.Mathlib.Omega.{arith}
-use lib.Dec.{eqb, ltb, lt→ltb}
-use lib.ListN.{length, getD}
+use lib.ListN.{getD}
 use Rattle.rules.specs.Counting.{times, lastOf}
 use Rattle.rules.specs.Anodes.{Anodes, exists}
 use Rattle.rules.specs.Chains.{chainOf, cut, systemOwns, side}
 use Rattle.rules.specs.Accepted.{diskSize, wrongSize, lastReserved}
 use Rattle.rules.specs.Space.{Plan, refused, Found, nowhere, found, firstFull, put, withoutFirst, takeFrom, takeSide, takeBlock}
-use Rattle.counting.specs.Laws.{neither}
-use Rattle.laws.specs.Tests.{less?}
+use Rattle.laws.specs.Acceptance.{size-bounds}
 use Rattle.laws.specs.Segments.{Chain, seg-keep}
-use Rattle.laws.specs.Links.{the-chain, chain-the, next-below}
+use Rattle.laws.specs.Links.{View, the-chain, chain-the, next-below}
 use Rattle.laws.specs.Heads.{Head, seg-head}
 use Rattle.laws.specs.Cut.{cut-cases, cut-other, cut-view, cut-linked}
 use Rattle.laws.specs.Space.{Good}
@@ -87,38 +85,36 @@ module _ {A : ℕ} {ex : ℕ → Bool} {n last : ℕ} {s : Anodes} {system hd sd
   last-used : s .block (lastOf h (chainOf (cut (s .next)) A h)) ≢ 0
   last-used = rw last-before-two (headed-used g (lastOf h (chainOf (s .next) A h)) (λ q. h0 (sym (last-head g h h0 own-head) ∙ q)))
 
--- ---- the sums fit
+-- ---- an anode that a search finds
 
-pub size-small : (img : List ℕ) → wrongSize img ≡ false → diskSize img ≤ 65535
-unfolding wrongSize
-size-small img e = elim (less? 65535 (diskSize img)) [
-  | inl l ↦ absurd (rw (neither (ltb (diskSize img) 5) (ltb 65535 (diskSize img)) (neither (not (eqb (length img % 512) 0)) (ltb (diskSize img) 5 || ltb 65535 (diskSize img)) e .1) .1) at (lt→ltb 65535 (diskSize img) l))
-  | inr l ↦ l
-]
+-- along a side the next anode is the chain's
+pub cut-goes : (next : ℕ → ℕ) (a : ℕ) → cut next a ≢ 0 → cut next a ≡ next a
+cut-goes next a q = elim (cut-cases next a) [ inl d ↦ absurd (q (d .1)) | inr d ↦ d .1 ]
+
+-- the anode x that a search finds, and the one before it
+pub found-at : {ex : ℕ → Bool} {n last : ℕ} {s : Anodes} {system hd sd : ℕ → ℕ} → Good 3444 ex n last s system hd sd → (next : ℕ → ℕ) → ((a : ℕ) → next a ≢ 0 → next a ≡ s .next a) →
+    {m : ℕ} {l : List ℕ} (p x : ℕ) → FoundIn (s .count) next m l 0 p x → (p < 3444) × (x < 3444) × (0 < s .count x)
+found-at g next goes p x w = (
+  elim (w .before) [ inl c ↦ omega (arith, c .1) | inr c ↦ next-below (g .view) p (λ z. full-0 g x (w .full) (sym c ∙ goes p (λ q. full-0 g x (w .full) (sym c ∙ q)) ∙ z)) ],
+  g .view .below x (full-used g x (w .full)),
+  w .full,
+)
+
+-- an anode in use, in other tables
+pub used-below : {t : Anodes} → View 3444 (t .next) (t .block) → (c f n : List ℕ) → anodesFrom c f n ≡ t → (z : ℕ) → getD f z 0 ≢ 0 → z < 3444
+unfolding anodesFrom
+used-below view c f n left z used = view .below z (λ q. used (ap (λ (t : Anodes). t .block z) left ∙ q))
+
+-- ---- the sums fit
 
 module _ (img : List ℕ) (s : Anodes) (good : GoodAnodes img s) where
   pub full-fits : wrongSize img ≡ false → (x : ℕ) → 0 < s .count x → s .block x + s .count x ≤ 65535
-  full-fits size x f = let g = good .2 in omega (arith, size-small img size, g .own .fits x (g .view .below x (full-used g x f)) f)
+  full-fits size x f = let g = good .2 in omega (arith, size-bounds img size .1, g .own .fits x (g .view .below x (full-used g x f)) f)
 
   -- the extent that a take finds
   module _ (own : Bool) (p x : ℕ) (e : freeExtent own s ≡ found p x) where
-    side-found : (m : ℕ) × ((m ≡ 1) ⊎ (m ≡ 2)) × FoundIn (s .count) (cut (s .next)) m (side 3444 s m) 0 p x
+    pub side-found : (m : ℕ) × ((m ≡ 1) ⊎ (m ≡ 2)) × FoundIn (s .count) (cut (s .next)) m (side 3444 s m) 0 p x
     side-found = let w = found-side own s p x e in (w .0, w .1, firstFull-found (s .count) (cut (s .next)) (w .0) 0 0 (side 3444 s (w .0)) (side-chain (good .2) (w .0) (w .1)) p x (w .2))
-
-    pub found-full : 0 < s .count x
-    found-full = side-found .2 .full
-
-    pub found-below : x < 3444
-    found-below = good .2 .view .below x (full-used (good .2) x found-full)
-
-    pub before-below : p < 3444
-    before-below = elim (side-found .2 .before) [
-      | inl c ↦ omega (arith, c .1)
-      | inr c ↦ elim (cut-cases (s .next) p) [
-        | inl d ↦ absurd (full-0 (good .2) x found-full (sym c ∙ d .1))
-        | inr d ↦ next-below (good .2 .view) p (λ z. full-0 (good .2) x found-full (sym c ∙ d .1 ∙ z))
-      ]
-    ]
 
     -- once its first block is out, in other tables, the end z of the taker's chain
     module _ (h : ℕ) (d : Head (s .next) (s .block) h) (h1 : h ≢ 1) (c f n : List ℕ) (left : anodesFrom c f n ≡ withoutFirst 3444 (exists img) (lastReserved img) s p x)
@@ -130,13 +126,12 @@ module _ (img : List ℕ) (s : Anodes) (good : GoodAnodes img s) where
       unfolding anodesFrom
       is-end = end ∙ ap (λ (t : Anodes). lastOf h (chainOf (cut (t .next)) 3444 h)) left
 
-      pub end-used : getD f z 0 ≢ 0
+      -- it is in use
+      pub chain-end : (z < 3444) × (getD f z 0 ≢ 0)
       unfolding anodesFrom
-      end-used q = last-used (out .good) h (d .pos) h1 (out .heads-kept h d) (rw (← is-end) (sym (ap (λ (t : Anodes). t .block z) left) ∙ q))
-
-      pub end-below : z < 3444
-      unfolding anodesFrom
-      end-below = out .good .view .below z (λ q. end-used (ap (λ (t : Anodes). t .block z) left ∙ q))
+      chain-end =
+          let used : getD f z 0 ≢ 0 = λ q. last-used (out .good) h (d .pos) h1 (out .heads-kept h d) (rw (← is-end) (sym (ap (λ (t : Anodes). t .block z) left) ∙ q)) in
+          (used-below (out .good .view) c f n left z used, used)
 
       pub taken-from : (y : ℕ) → y ≡ s .block x → put 3444 (exists img) (lastReserved img) own (anodesFrom c f n) z y ≡ takeBlock 3444 (exists img) (lastReserved img) own s h
       unfolding takeFrom

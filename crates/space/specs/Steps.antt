@@ -1,13 +1,14 @@
 -- What the steps on tables of anodes answer, in the terms of the rules, and the state that they start from.
-use Prim.Native.Nat.{ℕ}
+use Prim.Native.Nat.{ℕ, _-_}
 use mathlib.Core.Bool.{Bool, cond}
 use mathlib.Core.List.{List, [], _∷_}
+use lib.Dec.{eqb}
 use lib.ListN.{take}
 use Rattle.disk.specs.Refusals.{numberOf}
 use Rattle.rules.specs.Anodes.{Anodes, limit, exists}
 use Rattle.rules.specs.Chains.{systemOwns, side}
 use Rattle.rules.specs.Accepted.{diskSize, lastReserved}
-use Rattle.rules.specs.Space.{Plan, refused, planned, Found, nowhere, found, firstFull}
+use Rattle.rules.specs.Space.{Plan, refused, planned, rewritten, unlinked, emptied, Found, nowhere, found, firstFull}
 use Rattle.laws.specs.Space.{Good}
 use Rattle.space.specs.declared.Step.{Step}
 use Rattle.space.specs.declared.Step.the-variants.{Moved, Refused}
@@ -31,6 +32,16 @@ abbrev pub stoppedBy : Step → Moves
 stoppedBy (Moved y) = Done 0
 stoppedBy (Refused r) = Stopped r
 
+-- the number that a run of steps answers, 0 where it is done
+abbrev pub movesNumber : Moves → ℕ
+movesNumber (Done n) = 0
+movesNumber (Stopped r) = numberOf r
+
+-- how many blocks a run of steps moved, none where it is stopped
+abbrev pub movesCount : Moves → ℕ
+movesCount (Done n) = n
+movesCount (Stopped r) = 0
+
 -- the anodes of a disk in good order: refusals 6 to 11 hold, with some table of heads and of sides
 abbrev pub GoodAnodes : List ℕ → Anodes → Type 0
 GoodAnodes img s = (hd : ℕ → ℕ) × (sd : ℕ → ℕ) × Good limit (exists img) (diskSize img) (lastReserved img) s (systemOwns img) hd sd
@@ -48,3 +59,7 @@ firstFound (found p x) b = found p x
 -- the extent that a take takes from: data looks from 1 first, directories (own) from 2
 unfoldable pub freeExtent : Bool → Anodes → Found
 freeExtent own s = firstFound (firstFull (s .count) 0 (side limit s (cond own 2 1))) (firstFull (s .count) 0 (side limit s (cond own 1 2)))
+
+-- anode x, after p, with a block less, its first block then b: emptied, it stays where it is the one that is kept, else it is unlinked and zeroed
+unfoldable pub withoutBlock : Anodes → ℕ → ℕ → ℕ → ℕ → Anodes
+withoutBlock s kept p x b = cond (eqb (s .count x) 1) (cond (eqb x kept) (emptied s x) (unlinked s p x)) (rewritten s x (s .count x - 1) b)

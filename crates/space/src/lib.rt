@@ -10,17 +10,19 @@ ghost use Rattle.rules.specs.Counting.{lastOf};
 ghost use Rattle.rules.specs.Anodes.{exists};
 ghost use Rattle.rules.specs.Chains.{chainOf, cut, blockCount};
 ghost use Rattle.rules.specs.Accepted.{wrongSize, lastReserved};
-ghost use Rattle.rules.specs.Space.{rewritten, insertedAfter, unlinked, firstFull, lastFull, lowestFree, append, put, withoutFirst, takeBlock, withoutLast, sideOf, join, giveBack, takeMany, giveMany, dropped};
+ghost use Rattle.rules.specs.Space.{rewritten, insertedAfter, unlinked, firstFull, lastFull, lowestFree, append, put, takeBlock, sideOf, join, giveBack, takeMany, giveMany, dropped};
 ghost use Rattle.laws.specs.Links.{View, Linked};
 ghost use Rattle.laws.specs.Heads.{Head};
 ghost use Rattle.anodes.specs.Loaded.{anodesFrom};
-ghost use Rattle.space.specs.Steps.{stepPlan, manyPlan, stoppedBy, GoodAnodes, foundOf, freeExtent};
+ghost use Rattle.space.specs.Steps.{stepPlan, manyPlan, stoppedBy, movesNumber, movesCount, GoodAnodes, foundOf, freeExtent, withoutBlock};
 use disk::AnodeNo;
 use disk::BlockNo;
 use disk::Refusal;
 use disk::block_part;
+use disk::number;
 use disk::root_in;
 use disk::slot_of;
+use tables::copy_entries;
 use tables::entry;
 use tables::set_entry;
 
@@ -242,19 +244,25 @@ fn put(
     append(image, z, y, counts, firsts, nexts)
 }
 
-// Takes the first block from anode `x` of the free list, which stands after `p`.
-fn without_first(counts: &mut [u16], firsts: &mut [u16], nexts: &mut [u16], p: usize, x: usize)
-    requires { ⌜ (p < 3444) × (x < 3444) × (length (now counts) ≡ 3444) × (length (now firsts) ≡ 3444) × (length (now nexts) ≡ 3444) ⌝ }
-    requires { ⌜ (0 < getD (now counts) x 0) × (getD (now firsts) x 0 + getD (now counts) x 0 ≤ 65535) ⌝ }
-    ensures { λ _. ⌜ ((ex : ℕ → Bool) (last : ℕ) → anodesFrom (now (counts .exit)) (now (firsts .exit)) (now (nexts .exit)) ≡ withoutFirst 3444 ex last (anodesFrom (now (counts .entry)) (now (firsts .entry)) (now (nexts .entry))) p x) ⌝ }
+// Takes a block from anode `x`, which stands after `p`; its first block is then `first`. Emptied, `kept` stays and any other is unlinked.
+fn without_block(
+    counts: &mut [u16],
+    firsts: &mut [u16],
+    nexts: &mut [u16],
+    kept: usize,
+    p: usize,
+    x: usize,
+    first: BlockNo,
+)
+    requires { ⌜ (p < 3444) × (x < 3444) × (length (now counts) ≡ 3444) × (length (now firsts) ≡ 3444) × (length (now nexts) ≡ 3444) × (0 < getD (now counts) x 0) ⌝ }
+    ensures { λ _. ⌜ anodesFrom (now (counts .exit)) (now (firsts .exit)) (now (nexts .exit)) ≡ withoutBlock (anodesFrom (now (counts .entry)) (now (firsts .entry)) (now (nexts .entry))) kept p x (first .0) ⌝ }
 {
     let count = entry(counts, x);
     if count != 1 {
-        let first = entry(firsts, x);
-        rewrite(counts, firsts, x, count - 1, BlockNo(first + 1));
+        rewrite(counts, firsts, x, count - 1, first);
         return;
     }
-    if x == 2 {
+    if x == kept {
         rewrite(counts, firsts, x, 0, BlockNo(65535));
         return;
     }
@@ -280,34 +288,9 @@ pub fn take_block(
         return Step::Refused(Refusal::NoFreeBlock);
     };
     let y = BlockNo(entry(firsts, x));
-    without_first(counts, firsts, nexts, p, x);
+    without_block(counts, firsts, nexts, 2, p, x, BlockNo(y.0 + 1));
     let z = last_anode(nexts, head.0 as usize);
     put(image, own, z, y, counts, firsts, nexts)
-}
-
-// Takes the last block from anode `x` of the chain of `head`, which stands after `p`.
-fn without_last(
-    counts: &mut [u16],
-    firsts: &mut [u16],
-    nexts: &mut [u16],
-    head: usize,
-    p: usize,
-    x: usize,
-)
-    requires { ⌜ (p < 3444) × (x < 3444) × (length (now counts) ≡ 3444) × (length (now firsts) ≡ 3444) × (length (now nexts) ≡ 3444) × (0 < getD (now counts) x 0) ⌝ }
-    ensures { λ _. ⌜ ((ex : ℕ → Bool) (last : ℕ) → anodesFrom (now (counts .exit)) (now (firsts .exit)) (now (nexts .exit)) ≡ withoutLast 3444 ex last (anodesFrom (now (counts .entry)) (now (firsts .entry)) (now (nexts .entry))) head p x) ⌝ }
-{
-    let count = entry(counts, x);
-    if count != 1 {
-        let first = entry(firsts, x);
-        rewrite(counts, firsts, x, count - 1, BlockNo(first));
-        return;
-    }
-    if x == head {
-        rewrite(counts, firsts, x, 0, BlockNo(65535));
-        return;
-    }
-    unlink(counts, firsts, nexts, p, x);
 }
 
 // The anode where the side of block `y` starts: 1 above last reserved, else 2.
@@ -373,8 +356,9 @@ pub fn give_back(
     let Extent::At(p, x) = found else {
         return Step::Refused(Refusal::NoFreeBlock);
     };
-    let y = BlockNo(entry(firsts, x) + (entry(counts, x) - 1));
-    without_last(counts, firsts, nexts, from, p, x);
+    let first = entry(firsts, x);
+    let y = BlockNo(first + (entry(counts, x) - 1));
+    without_block(counts, firsts, nexts, from, p, x, BlockNo(first));
     let z = last_anode(nexts, side_of(image, y));
     join(image, z, y, counts, firsts, nexts)
 }
@@ -387,6 +371,36 @@ fn stopped(step: Step) -> Moves
         Step::Moved(_) => Moves::Done(0),
         Step::Refused(r) => Moves::Stopped(r),
     }
+}
+
+// The number that a run of steps answers: 0 where it is done, else the refusal's.
+pub fn moves_number(moves: Moves) -> u32
+    ensures { λ r. ⌜ r ≡ movesNumber moves ⌝ }
+{
+    match moves {
+        Moves::Done(_) => 0,
+        Moves::Stopped(r) => number(r),
+    }
+}
+
+// How many blocks changed hands in a run of steps that is done; 0 for a stopped one.
+pub fn moves_count(moves: Moves) -> usize
+    ensures { λ r. ⌜ r ≡ movesCount moves ⌝ }
+{
+    match moves {
+        Moves::Done(n) => n,
+        Moves::Stopped(_) => 0,
+    }
+}
+
+// A copy of a table of anodes, for the steps to work on.
+pub fn copied(table: &[u16]) -> [u16; 3444]
+    requires { ⌜ length (now table) ≡ 3444 ⌝ }
+    ensures { λ r. ⌜ r ≡ now (table .entry) ⌝ }
+{
+    let mut copy = [0u16; 3444];
+    copy_entries(table, &mut copy);
+    copy
 }
 
 // Takes `k` blocks for the chain of `head`, one at a time, and notes them in `moved`.

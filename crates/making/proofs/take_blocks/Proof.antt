@@ -25,16 +25,13 @@ same-length-3 : tie.Need-same-length-3
 same-length-3 c = search needs
 
 returns : tie.Need-returns
-returns c = first-stopped _ _ _ _ _ _ (c .before .first2 .given .0 .0) (rw (c .before .first2 .given .1, c .before .before .before .before .before .before .before .before .before .before .before .before .before .is-directory .ensures) at (c .before .before .before .before .before .before .before .before .before .take-needed .ensures))
+returns c = λ len found. first-stopped (c .before .before .before .before .before .before .before .before .before .before .before .before .before .before .before .before .before .before .pre .1 .0) _ len _ found _ (c .before .before .before .before .before .before .before .before .before .before .before .before .before .before .before .before .before .before .pre .1 .1) (c .before .first2 .given .0 .0) (rw (c .before .first2 .given .1, c .before .before .before .before .before .before .before .before .before .before .before .before .before .is-directory .ensures) at (c .before .before .before .before .before .before .before .before .before .take-needed .ensures))
 
-is-full-requires : tie.Need-is-full-requires
-is-full-requires c κs = search needs
+no-room-requires : tie.Need-no-room-requires
+no-room-requires c κs = search needs
 
 take-needed-requires-2 : tie.Need-take-needed-requires-2
-take-needed-requires-2 c κs = (
-  (search needs, search needs, search needs),
-  next-ready (c .before .before .before .before .before .before .before .before .before .before .before .before .before .before .before .before .before .before .before .before .before .before .pre .1 .0) _ (c .before .before .before .before .before .before .before .before .before .before .before .before .before .before .before .before .before .before .before .before .before .before .pre .1 .1) _ (c .before .before .before .before .before .first .given .0 .0) _ (rw (c .before .before .before .before .before .first .given .1) at (c .before .before .before .before .before .before .before .before .before .before .before .before .before .take-needed .ensures)),
-)
+take-needed-requires-2 c κs = ((search needs, search needs, search needs), next-ready (c .before .before .before .before .before .before .before .before .before .before .before .before .before .before .before .before .before .before .before .before .before .before .pre .1 .0) _ (c .before .before .before .before .before .before .before .before .before .before .before .before .before .before .before .before .before .before .before .before .before .before .pre .1 .1) _ (c .before .before .before .before .before .first .given .0 .0) _ (rw (c .before .before .before .before .before .first .given .1) at (c .before .before .before .before .before .before .before .before .before .before .before .before .before .take-needed .ensures)))
 
 enum-known-second : tie.Need-enum-known-second
 enum-known-second c = search needs
@@ -52,9 +49,12 @@ same-length-6 : tie.Need-same-length-6
 same-length-6 c = search needs
 
 returns-2 : tie.Need-returns-2
-returns-2 c =
-    both-taken _ _ _ _ _ _ (c .before .before .before .before .before .before .before .before .before .before .before .before .before .before .before .first .given .0 .0) _ (rw (c .before .before .before .before .before .before .before .before .before .before .before .before .before .before .before .first .given .1, c .before .before .before .before .before .before .before .before .before .before .before .before .before .before .before .before .before .before .before .before .before .before .before .before .before .before .before .is-directory .ensures) at (c .before .before .before .before .before .before .before .before .before .before .before .before .before .before .before .before .before .before .before .before .before .before .before .take-needed .ensures))
-    (c .before .second .given .0 .0) _ (rw (c .before .second .given .1, c .before .before .before .before .before .before .before .before .before .before .before .before .before .is-full .ensures) at (c .before .before .before .before .before .before .before .before .before .take-needed2 .ensures))
+returns-2 c = λ len found.
+    next-stopped (c .before .before .before .before .before .before .before .before .before .before .before .before .before .before .before .before .before .before .before .before .before .before .before .before .before .before .before .before .before .before .before .before .pre .1 .0) _ len _ found _ (c .before .before .before .before .before .before .before .before .before .before .before .before .before .before .before .before .before .before .before .before .before .before .before .before .before .before .before .before .before .before .before .before .pre .1 .1) (c .before .before .before .before .before .before .before .before .before .before .before .before .before .before .before .first .given .0 .0) _ (rw (c .before .before .before .before .before .before .before .before .before .before .before .before .before .before .before .first .given .1, c .before .before .before .before .before .before .before .before .before .before .before .before .before .before .before .before .before .before .before .before .before .before .before .before .before .before .before .is-directory .ensures) at (c .before .before .before .before .before .before .before .before .before .before .before .before .before .before .before .before .before .before .before .before .before .before .before .take-needed .ensures))
+    (c .before .second2 .given .0 .0) (rw (c .before .second2 .given .1, c .before .before .before .before .before .before .before .before .before .before .before .before .before .no-room .ensures) at (c .before .before .before .before .before .before .before .before .before .take-needed2 .ensures))
+
+place-for-requires : tie.Need-place-for-requires
+place-for-requires c κs = search needs
 
 same-length-7 : tie.Need-same-length-7
 same-length-7 c = search needs
@@ -66,9 +66,9 @@ same-length-9 : tie.Need-same-length-9
 same-length-9 c = search needs
 
 returns-3 : tie.Need-returns-3
-returns-3 c =
-    next-stopped _ _ _ _ _ _ (c .before .before .before .before .before .before .before .before .before .before .before .before .before .before .before .first .given .0 .0) _ (rw (c .before .before .before .before .before .before .before .before .before .before .before .before .before .before .before .first .given .1, c .before .before .before .before .before .before .before .before .before .before .before .before .before .before .before .before .before .before .before .before .before .before .before .before .before .before .before .is-directory .ensures) at (c .before .before .before .before .before .before .before .before .before .before .before .before .before .before .before .before .before .before .before .before .before .before .before .take-needed .ensures))
-    (c .before .second2 .given .0 .0) (rw (c .before .second2 .given .1, c .before .before .before .before .before .before .before .before .before .before .before .before .before .is-full .ensures) at (c .before .before .before .before .before .before .before .before .before .take-needed2 .ensures))
+returns-3 c = λ len found.
+    both-taken (c .before .before .before .before .before .before .before .before .before .before .before .before .before .before .before .before .before .before .before .before .before .before .before .before .before .before .before .before .before .before .before .before .before .pre .1 .0) _ len _ found _ (c .before .before .before .before .before .before .before .before .before .before .before .before .before .before .before .before .before .before .before .before .before .before .before .before .before .before .before .before .before .before .before .before .before .pre .1 .1) (c .before .before .before .before .before .before .before .before .before .before .before .before .before .before .before .before .first .given .0 .0) _ (rw (c .before .before .before .before .before .before .before .before .before .before .before .before .before .before .before .before .first .given .1, c .before .before .before .before .before .before .before .before .before .before .before .before .before .before .before .before .before .before .before .before .before .before .before .before .before .before .before .before .is-directory .ensures) at (c .before .before .before .before .before .before .before .before .before .before .before .before .before .before .before .before .before .before .before .before .before .before .before .before .take-needed .ensures))
+    (c .before .before .second .given .0 .0) _ (rw (c .before .before .second .given .1, c .before .before .before .before .before .before .before .before .before .before .before .before .before .before .no-room .ensures) at (c .before .before .before .before .before .before .before .before .before .before .take-needed2 .ensures)) _ (c .place-for .ensures)
 
 pub take-blocks-spec : {M : Type 1} → statement M
 take-blocks-spec =
@@ -82,7 +82,7 @@ take-blocks-spec =
     same-length-2
     same-length-3
     returns
-    is-full-requires
+    no-room-requires
     take-needed-requires-2
     enum-known-second
     enum-known-second-2
@@ -90,6 +90,7 @@ take-blocks-spec =
     same-length-5
     same-length-6
     returns-2
+    place-for-requires
     same-length-7
     same-length-8
     same-length-9

@@ -1,13 +1,14 @@
 use Prim.Native.Nat.{_+_, _-_}
-use mathlib.Core.Path.{_≡_, sym, ap, _∙_}
+use mathlib.Core.Path.{_≡_, refl, sym, ap, _∙_}
 use native.Mathlib.Omega.{arith}
 use Rattle.rules.specs.Chains.{chainOf}
 use Rattle.rules.specs.Accepted.{lastReserved}
 use Rattle.rules.specs.Space.{nowhere, found, lastFull}
 use Rattle.anodes.specs.Loaded.{anodesFrom}
 use Rattle.space.specs.Steps.{foundOf}
-use Rattle.space.proofs.Taking.{full-fits}
-use Rattle.space.proofs.Giving.{full-there, last-full-some, last-below, before-last-below, side-end-used, side-end-below, side-end-fits, given-back}
+use Rattle.space.proofs.Cases.{last-out}
+use Rattle.space.proofs.Taking.{found-at, full-fits}
+use Rattle.space.proofs.Giving.{full-there, last-found, side-end, given-back}
 use borrow.Author.Needs.{needs}
 use Rattle.space.proofs.give_back.Statement.{statement}
 use Rattle.space.proofs.give_back.Tie as tie
@@ -50,11 +51,9 @@ sub-t23 c =
     let a = c .before .before .before .before .before .before .before .before .before .before .before .before .before .before .before .args in
     let pre = c .before .before .before .before .before .before .before .before .before .before .before .before .before .before .before .pre in
     let s = anodesFrom (a .counts .now) (a .firsts .now) (a .nexts .now) in
-    let good = pre .1 .0 .1 in
-    let h = pre .1 .1 in
     let at = c .before .before .before .before .before .found .given in
     let e : lastFull (s .count) 0 (chainOf (s .next) 3444 (a .head .0)) ≡ found (at .0 .0) (at .0 .1 .0) = sym (c .before .before .before .before .before .before .before .last-full .ensures) ∙ ap foundOf (at .1) in
-    omega (arith, c .entry2 .ensures, last-full-some _ s good _ (h .0) _ _ e)
+    omega (arith, c .entry2 .ensures, last-found _ s (pre .1 .0 .1) _ (pre .1 .1 .0) _ _ e .full)
 
 add-t24 : tie.Need-add-t24
 unfolding anodesFrom
@@ -63,23 +62,22 @@ add-t24 c =
     let pre = c .before .before .before .before .before .before .before .before .before .before .before .before .before .before .before .pre in
     let s = anodesFrom (a .counts .now) (a .firsts .now) (a .nexts .now) in
     let good = pre .1 .0 .1 in
-    let h = pre .1 .1 in
     let at = c .before .before .before .before .before .found .given in
     let e : lastFull (s .count) 0 (chainOf (s .next) 3444 (a .head .0)) ≡ found (at .0 .0) (at .0 .1 .0) = sym (c .before .before .before .before .before .before .before .last-full .ensures) ∙ ap foundOf (at .1) in
-    let some = last-full-some _ s good _ (h .0) _ _ e in
+    let some = last-found _ s good _ (pre .1 .1 .0) _ _ e .full in
     record { fits = omega (arith, c .entry2 .ensures, c .before .before .entry .ensures, some, full-fits _ s good (pre .1 .0 .0) _ some) }
 
-without-last-requires : tie.Need-without-last-requires
+without-block-requires : tie.Need-without-block-requires
 unfolding anodesFrom
-without-last-requires c κs =
+without-block-requires c κs =
     let a = c .before .before .before .before .before .before .before .before .before .before .before .before .before .before .before .before .before .before .args in
     let pre = c .before .before .before .before .before .before .before .before .before .before .before .before .before .before .before .before .before .before .pre in
     let s = anodesFrom (a .counts .now) (a .firsts .now) (a .nexts .now) in
     let good = pre .1 .0 .1 in
-    let h = pre .1 .1 in
     let at = c .before .before .before .before .before .before .before .before .found .given in
     let e : lastFull (s .count) 0 (chainOf (s .next) 3444 (a .head .0)) ≡ found (at .0 .0) (at .0 .1 .0) = sym (c .before .before .before .before .before .before .before .before .before .before .last-full .ensures) ∙ ap foundOf (at .1) in
-    (before-last-below _ s good _ (h .0) _ _ e, last-below _ s good _ (h .0) _ _ e, pre .0 .0, pre .0 .1, pre .0 .2, last-full-some _ s good _ (h .0) _ _ e)
+    let w = found-at (good .2) (s .next) (λ b q. refl) _ _ (last-found _ s good _ (pre .1 .1 .0) _ _ e) in
+    (w .0, w .1, pre .0 .0, pre .0 .1, pre .0 .2, w .2)
 
 side-of-requires : tie.Need-side-of-requires
 side-of-requires c κs = search needs
@@ -93,15 +91,14 @@ join-requires c κs =
     let a = c .before .before .before .before .before .before .before .before .before .before .before .before .before .before .before .before .before .before .before .before .before .before .before .before .before .before .before .before .before .before .before .args in
     let pre = c .before .before .before .before .before .before .before .before .before .before .before .before .before .before .before .before .before .before .before .before .before .before .before .before .before .before .before .before .before .before .before .pre in
     let s = anodesFrom (a .counts .now) (a .firsts .now) (a .nexts .now) in
-    let good = pre .1 .0 .1 in
     let h = pre .1 .1 in
     let at = c .before .before .before .before .before .before .before .before .before .before .before .before .before .before .before .before .before .before .before .before .before .found .given in
     let e : lastFull (s .count) 0 (chainOf (s .next) 3444 (a .head .0)) ≡ found (at .0 .0) (at .0 .1 .0) = sym (c .before .before .before .before .before .before .before .before .before .before .before .before .before .before .before .before .before .before .before .before .before .before .before .last-full .ensures) ∙ ap foundOf (at .1) in
-    let w = c .before .before .before .before .before .before .before .before .before .before .before .before .without-last in
-    let y : c .before .before .before .before .before .before .before .before .before .before .before .before .before .before .before .before .before .before .entry .result + (c .before .before .before .before .before .before .before .before .before .before .before .before .before .before .before .before .entry2 .result - 1) ≡ s .block (at .0 .1 .0) + (s .count (at .0 .1 .0) - 1) = rw (c .before .before .before .before .before .before .before .before .before .before .before .before .before .before .before .before .before .before .entry .ensures, c .before .before .before .before .before .before .before .before .before .before .before .before .before .before .before .before .entry2 .ensures) in (
-      (side-end-below _ s good _ (h .0) _ _ e (pre .1 .0 .0) (h .1) (w .last .0) (w .last .1 .0) (w .last .1 .1 .0) (w .ensures _ _) _ _ _ y (c .before .before .before .before .side-of .ensures) (c .before .before .before .last-anode .ensures), w .kept .0 ∙ pre .0 .0, w .kept .1 .0 ∙ pre .0 .1, w .kept .1 .1 .0 ∙ pre .0 .2),
-      (side-end-used _ s good _ (h .0) _ _ e (pre .1 .0 .0) (h .1) (w .last .0) (w .last .1 .0) (w .last .1 .1 .0) (w .ensures _ _) _ _ _ y (c .before .before .before .before .side-of .ensures) (c .before .before .before .last-anode .ensures), side-end-fits _ s good _ (h .0) _ _ e (pre .1 .0 .0) (h .1) (w .last .0) (w .last .1 .0) (w .last .1 .1 .0) (w .ensures _ _) _ _ _ y (c .before .before .before .before .side-of .ensures) (c .before .before .before .last-anode .ensures)),
-    )
+    let w = c .before .before .before .before .before .before .before .before .before .before .before .before .without-block in
+    let left = w .ensures ∙ last-out _ _ s _ _ _ _ (c .before .before .before .before .before .before .before .before .before .before .before .before .before .before .before .before .before .before .entry .ensures) in
+    let y : c .before .before .before .before .before .before .before .before .before .before .before .before .before .before .before .before .before .before .entry .result + (c .before .before .before .before .before .before .before .before .before .before .before .before .before .before .before .before .entry2 .result - 1) ≡ s .block (at .0 .1 .0) + (s .count (at .0 .1 .0) - 1) = rw (c .before .before .before .before .before .before .before .before .before .before .before .before .before .before .before .before .before .before .entry .ensures, c .before .before .before .before .before .before .before .before .before .before .before .before .before .before .before .before .entry2 .ensures) in
+    let end = side-end _ s (pre .1 .0 .1) _ (h .0) _ _ e (pre .1 .0 .0) (h .1) (w .last .0) (w .last .1 .0) (w .last .1 .1 .0) left _ _ _ y (c .before .before .before .before .side-of .ensures) (c .before .before .before .last-anode .ensures) in
+    ((end .0, w .kept .0 ∙ pre .0 .0, w .kept .1 .0 ∙ pre .0 .1, w .kept .1 .1 .0 ∙ pre .0 .2), (end .1, end .2))
 
 same-length-3 : tie.Need-same-length-3
 same-length-3 c = search needs
@@ -118,13 +115,13 @@ returns-2 c =
     let a = c .before .before .before .before .before .before .before .before .before .before .before .before .before .before .before .before .before .before .before .before .before .before .before .before .before .before .before .before .before .before .before .before .before .before .before .before .before .before .args in
     let pre = c .before .before .before .before .before .before .before .before .before .before .before .before .before .before .before .before .before .before .before .before .before .before .before .before .before .before .before .before .before .before .before .before .before .before .before .before .before .before .pre in
     let s = anodesFrom (a .counts .now) (a .firsts .now) (a .nexts .now) in
-    let good = pre .1 .0 .1 in
     let h = pre .1 .1 in
     let at = c .before .before .before .before .before .before .before .before .before .before .before .before .before .before .before .before .before .before .before .before .before .before .before .before .before .before .before .before .found .given in
     let e : lastFull (s .count) 0 (chainOf (s .next) 3444 (a .head .0)) ≡ found (at .0 .0) (at .0 .1 .0) = sym (c .before .before .before .before .before .before .before .before .before .before .before .before .before .before .before .before .before .before .before .before .before .before .before .before .before .before .before .before .before .before .last-full .ensures) ∙ ap foundOf (at .1) in
-    let w = c .before .before .before .before .before .before .before .before .before .before .before .before .before .before .before .before .before .before .before .without-last in
+    let w = c .before .before .before .before .before .before .before .before .before .before .before .before .before .before .before .before .before .before .before .without-block in
+    let left = w .ensures ∙ last-out _ _ s _ _ _ _ (c .before .before .before .before .before .before .before .before .before .before .before .before .before .before .before .before .before .before .before .before .before .before .before .before .before .entry .ensures) in
     let y : c .before .before .before .before .before .before .before .before .before .before .before .before .before .before .before .before .before .before .before .before .before .before .before .before .before .entry .result + (c .before .before .before .before .before .before .before .before .before .before .before .before .before .before .before .before .before .before .before .before .before .before .before .entry2 .result - 1) ≡ s .block (at .0 .1 .0) + (s .count (at .0 .1 .0) - 1) = rw (c .before .before .before .before .before .before .before .before .before .before .before .before .before .before .before .before .before .before .before .before .before .before .before .before .before .entry .ensures, c .before .before .before .before .before .before .before .before .before .before .before .before .before .before .before .before .before .before .before .before .before .before .before .entry2 .ensures) in
-    c .before .before .before .before .before .before .join .ensures (lastReserved (a .image .now)) ∙ given-back _ s good _ (h .0) _ _ e (pre .1 .0 .0) (h .1) (w .last .0) (w .last .1 .0) (w .last .1 .1 .0) (w .ensures _ _) _ _ _ y (c .before .before .before .before .before .before .before .before .before .before .before .side-of .ensures) (c .before .before .before .before .before .before .before .before .before .before .last-anode .ensures)
+    c .before .before .before .before .before .before .join .ensures (lastReserved (a .image .now)) ∙ given-back _ s (pre .1 .0 .1) _ (h .0) _ _ e (pre .1 .0 .0) (h .1) (w .last .0) (w .last .1 .0) (w .last .1 .1 .0) left _ _ _ y (c .before .before .before .before .before .before .before .before .before .before .before .side-of .ensures) (c .before .before .before .before .before .before .before .before .before .before .last-anode .ensures)
 
 pub give-back-spec : {M : Type 1} → statement M
 give-back-spec =
@@ -141,7 +138,7 @@ give-back-spec =
     entry-requires-2
     sub-t23
     add-t24
-    without-last-requires
+    without-block-requires
     side-of-requires
     last-anode-requires
     join-requires

@@ -1,0 +1,62 @@
+use native.Mathlib.Omega.{arith}
+use Rattle.space.proofs.Tables.{rewritten-tables}
+use Rattle.making.proofs.Done.{lowest-is, begun-is, lowest-fresh, room-is, no-anode}
+use borrow.Author.Needs.{needs}
+use Rattle.making.proofs.plan_make.Statement.{statement}
+use Rattle.making.proofs.plan_make.Tie as tie
+
+lowest-free-requires : tie.Need-lowest-free-requires
+lowest-free-requires c κs = search needs
+
+same-length : tie.Need-same-length
+same-length c = search needs
+
+returns : tie.Need-returns
+returns c = no-anode _ _ _ _ _ (lowest-is (c .before .before .before .before .before .before .before .pre .0) _ (c .before .lowest-free .ensures)) (c .if1 .taken)
+
+first-room-requires : tie.Need-first-room-requires
+first-room-requires c κs = search needs
+
+set-entry-requires : tie.Need-set-entry-requires
+set-entry-requires c κs = search needs
+
+set-entry-requires-2 : tie.Need-set-entry-requires-2
+set-entry-requires-2 c κs = search needs
+
+cast-t24 : tie.Need-cast-t24
+cast-t24 c = search needs
+
+take-blocks-requires : tie.Need-take-blocks-requires
+take-blocks-requires c κs =
+    let a = c .before .before .before .before .before .before .before .before .before .before .before .before .before .before .before .before .before .before .before .before .before .args in
+    let l = c .before .before .before .before .before .before .before .before .before .before .before .before .before .before .before .before .before .before .before .before .before .pre .0 in
+    ((search needs, search needs, search needs), (lowest-fresh l _ (c .before .before .before .before .before .before .before .before .before .before .before .before .before .before .before .before .before .before .before .before .before .pre .1) _ (lowest-is l _ (c .before .before .before .before .before .before .before .before .before .before .before .before .before .before .before .lowest-free .ensures)) (c .before .before .before .before .before .before .before .before .before .before .before .before .before .before .if1 .left), rw (c .before .before .before .before .before .before .before .before .before .set-entry .ensures, c .before .before .before .before .before .set-entry2 .ensures) (begun-is l _ _ (rewritten-tables (a .counts .now) (a .firsts .now) (a .nexts .now) (c .before .before .before .before .before .before .before .before .before .before .before .before .before .before .before .lowest-free .result) 0 65535 (omega arith) (omega arith)))))
+
+same-length-2 : tie.Need-same-length-2
+same-length-2 c = search needs
+
+same-length-3 : tie.Need-same-length-3
+same-length-3 c = search needs
+
+same-length-4 : tie.Need-same-length-4
+same-length-4 c = search needs
+
+returns-2 : tie.Need-returns-2
+returns-2 c = c .before .before .before .before .before .before .take-blocks .ensures _ (room-is (c .before .before .before .before .before .before .before .before .before .before .before .before .before .before .before .before .before .before .before .before .before .before .before .before .before .before .before .before .pre .0) _ (c .before .before .before .before .before .before .before .before .before .before .before .before .before .before .before .before .before .before .before .before .before .before .before .before .before .before .before .before .pre .1) _ _ (c .before .before .before .before .before .before .before .before .before .before .before .before .before .before .before .before .before .before .first-room .ensures))
+
+pub plan-make-spec : {M : Type 1} → statement M
+plan-make-spec =
+    tie.close
+    (tie.spec
+    lowest-free-requires
+    same-length
+    returns
+    first-room-requires
+    set-entry-requires
+    set-entry-requires-2
+    cast-t24
+    take-blocks-requires
+    same-length-2
+    same-length-3
+    same-length-4
+    returns-2)
