@@ -14,6 +14,7 @@ pub run-none : (b n : ℕ) → n ≡ 0 → run b n ≡ []
 unfolding run
 run-none b n e = rw e
 
+-- a run of one block or more begins with its first
 pub run-step : (b n m : ℕ) → n ≡ m + 1 → run b n ≡ b ∷ run (b + 1) m
 unfolding run
 run-step b n m e = rw (e, add-one m, add-one b)

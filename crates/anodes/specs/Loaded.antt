@@ -9,6 +9,7 @@ use Rattle.disk.specs.declared.Anode.{Anode}
 use Rattle.disk.specs.AnodeBlocks.{anodeMade}
 use Rattle.rules.specs.Anodes.{Anodes}
 
+-- the anodes in three lists
 unfoldable pub anodesFrom : List ℕ → List ℕ → List ℕ → Anodes
 anodesFrom c b n = record { count = λ a. getD c a 0; block = λ a. getD b a 0; next = λ a. getD n a 0 }
 

@@ -23,6 +23,7 @@ directoryMark = 0x4442
 unfoldable pub directoryHeadIn : List ℕ → DirectoryHead
 directoryHeadIn b = record { mark = be16 b 0; owner = record { 0 = be16 b 12 }; parent = record { 0 = be16 b 14 } }
 
+-- the block with these three stored
 unfoldable pub putDirectoryHead : List ℕ → DirectoryHead → List ℕ
 putDirectoryHead b h = put16 (put16 (put16 b 0 (h .mark)) 12 (h .owner .0)) 14 (h .parent .0)
 
@@ -30,10 +31,12 @@ putDirectoryHead b h = put16 (put16 (put16 b 0 (h .mark)) 12 (h .owner .0)) 14 (
 unfoldable pub kindRead : ℕ → KindRead
 kindRead byte = cond (eqb byte 253) (Is File) (cond (eqb byte 2) (Is Directory) Neither)
 
+-- the type byte of each kind
 abbrev pub typeOf : Kind → ℕ
 typeOf File = 253
 typeOf Directory = 2
 
+-- whether an entry is a directory's
 abbrev pub isDir : Kind → Bool
 isDir File = false
 isDir Directory = true
@@ -42,6 +45,7 @@ isDir Directory = true
 unfoldable pub goodNameByte : ℕ → Bool
 goodNameByte byte = not (eqb byte 0) && (not (eqb byte 58) && not (eqb byte 47))
 
+-- every byte passes the test
 unfoldable pub allBytes : (ℕ → Bool) → List ℕ → Bool
 allBytes test [] = true
 allBytes test (x ∷ l) = test x && allBytes test l
@@ -62,6 +66,7 @@ entryLength name comment = (name + comment + 18) / 2 * 2
 unfoldable pub nameLength : List ℕ → ℕ → ℕ
 nameLength b at = getD b (at + 15) 0
 
+-- the comment's length stands behind the name
 unfoldable pub commentLength : List ℕ → ℕ → ℕ
 commentLength b at = getD b (at + 16 + nameLength b at) 0
 

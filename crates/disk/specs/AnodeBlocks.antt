@@ -18,6 +18,7 @@ anodeMark = 0x4142
 unfoldable pub anodeHeadIn : List ℕ → AnodeHead
 anodeHeadIn b = record { mark = be16 b 0; sequence = be16 b 10 }
 
+-- the block with both stored
 unfoldable pub putAnodeHead : List ℕ → AnodeHead → List ℕ
 putAnodeHead b h = put16 (put16 b 0 (h .mark)) 10 (h .sequence)
 
@@ -33,6 +34,7 @@ anodeByte p = 16 + 6 * p
 unfoldable pub anodeIn : List ℕ → ℕ → Anode
 anodeIn b p = anodeMade (be16 b (anodeByte p)) (be16 b (anodeByte p + 2)) (be16 b (anodeByte p + 4))
 
+-- the block with the anode at a place stored
 unfoldable pub putAnode : List ℕ → ℕ → Anode → List ℕ
 putAnode b p x =
     put16 (put16 (put16 b (anodeByte p) (x .count)) (anodeByte p + 2) (x .block .0)) (anodeByte p + 4) (x .next .0)
@@ -55,6 +57,7 @@ anodeSlots img = listed (λ s. anodesIn img (slotOf img s)) 0 42
 abbrev pub slotFor : ℕ → ℕ
 slotFor a = a / 82
 
+-- the place in that slot's block
 abbrev pub placeFor : ℕ → ℕ
 placeFor a = a % 82
 
@@ -62,6 +65,7 @@ placeFor a = a % 82
 unfoldable pub anodeAt : List (List Anode) → ℕ → Anode
 anodeAt slots a = getD (getD slots (slotFor a) []) (placeFor a) (anodeMade 0 0 0)
 
+-- anode `a` of an image
 unfoldable pub anodeOf : List ℕ → ℕ → Anode
 anodeOf img a = anodeAt (anodeSlots img) a
 

@@ -3,6 +3,7 @@ use Prim.Native.Nat.{ℕ}
 use Rattle.disk.specs.declared.Refusal.{Refusal}
 use Rattle.disk.specs.declared.Refusal.the-variants.{ImageSize, TableSize, DiskType, RootBlock, AnodeBlock, FixedAnode, AnodeRange, ChainLinks, FreeList, TwoOwners, NoOwner, DirectoryBlock, EntryAnode, NamedTwice, FileSize, UnnamedChain, BadArgument, NoDirectory, NotFound, AlreadyThere, IsDirectory, NotEmpty, PastEnd, NoFreeBlock, NoFreeAnode}
 
+-- one number for each case
 abbrev pub numberOf : Refusal → ℕ
 numberOf ImageSize = 1
 numberOf TableSize = 2

@@ -50,5 +50,6 @@ putRoot b r name =
 unfoldable pub slotIn : List ℕ → ℕ → ℕ
 slotIn b s = be16 b (96 + 2 * s)
 
+-- the number in slot `s` of an image; 0 past the 42 slots
 unfoldable pub slotOf : List ℕ → ℕ → ℕ
 slotOf img s = cond (ltb s 42) (slotIn (blockOf img 2) s) 0

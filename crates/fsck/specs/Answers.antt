@@ -24,6 +24,7 @@ abbrev pub checkedNumber : Checked → ℕ
 checkedNumber (Accepted t) = 0
 checkedNumber (Refused r) = numberOf r
 
+-- 0 where every test of a group passed, else the refusal's number
 abbrev pub testNumber : Test → ℕ
 testNumber Passed = 0
 testNumber (Failed r) = numberOf r
@@ -58,14 +59,17 @@ pub record Filled (img : List ℕ) (s : Anodes) (blocks₀ anodes₀ blocks anod
   pub blocks-shown : blocks ≡ blockTable img s ++ drop (diskSize img) blocks₀
   pub anodes-shown : anodes ≡ anodeTable s ++ drop limit anodes₀
 
+-- entries past the ranges are kept, whatever stands in them
 pub record Kept (img : List ℕ) (blocks₀ anodes₀ blocks anodes : List ℕ) : Type 0 where
   pub blocks-kept : drop (diskSize img) blocks ≡ drop (diskSize img) blocks₀
   pub anodes-kept : drop limit anodes ≡ drop limit anodes₀
 
+-- the tables after the tests of 6 to 11
 abbrev pub TablesAfter : Test → List ℕ → Anodes → List ℕ → List ℕ → List ℕ → List ℕ → Type 0
 TablesAfter Passed img s b₀ a₀ b a = Filled img s b₀ a₀ b a × HeadTable a s
 TablesAfter (Failed r) img s b₀ a₀ b a = Kept img b₀ a₀ b a
 
+-- the tables after the tests of 6 to 16
 abbrev pub TablesLeft : Checked → List ℕ → Anodes → List ℕ → List ℕ → List ℕ → List ℕ → Type 0
 TablesLeft (Accepted t) img s b₀ a₀ b a = Filled img s b₀ a₀ b a
 TablesLeft (Refused r) img s b₀ a₀ b a = Kept img b₀ a₀ b a

@@ -73,6 +73,7 @@ outOfRange s n a =
 unfoldable pub wrongLink : Anodes → ℕ → Bool
 wrongLink s a = ltb 1 (preds limit (s .next) a) || not (eqb (followed (s .next) limit a) 0)
 
+-- 8: for anode a, where it is in use and not 0
 unfoldable pub wrongAt : Anodes → ℕ → Bool
 wrongAt s a = not (eqb a 0) && (not (eqb (s .block a) 0) && wrongLink s a)
 
@@ -80,6 +81,7 @@ wrongAt s a = not (eqb a 0) && (not (eqb (s .block a) 0) && wrongLink s a)
 unfoldable pub hasPred : Anodes → ℕ → Bool
 hasPred s a = ltb 0 (preds limit (s .next) a)
 
+-- 8: some anode in use is linked wrongly, or 1, 3, 4 or 5 is somebody's next
 unfoldable pub wrongLinks : Anodes → Bool
 wrongLinks s = anyBelow (wrongAt s) limit || (hasPred s 1 || (hasPred s 3 || (hasPred s 4 || hasPred s 5)))
 
@@ -87,6 +89,7 @@ wrongLinks s = anyBelow (wrongAt s) limit || (hasPred s 1 || (hasPred s 3 || (ha
 unfoldable pub notAbove : Anodes → ℕ → ℕ → Bool
 notAbove s last a = ltb 0 (s .count a) && leb (s .block a) last
 
+-- 9: the other side: an extent that reaches above last reserved
 unfoldable pub notUpTo : Anodes → ℕ → ℕ → Bool
 notUpTo s last a = ltb 0 (s .count a) && ltb (last + 1) (s .block a + s .count a)
 
@@ -101,9 +104,11 @@ wrongFreeList s last =
 unfoldable pub ownersOf : List ℕ → Anodes → ℕ → ℕ
 ownersOf img s = owners limit (s .count) (s .block) (systemOwns img)
 
+-- 10: a block has two owners
 unfoldable pub twoOwners : List ℕ → Anodes → Bool
 twoOwners img s = anyBelow (λ x. ltb 1 (ownersOf img s x)) (diskSize img)
 
+-- 11: a block has no owner
 unfoldable pub noOwner : List ℕ → Anodes → Bool
 noOwner img s = anyBelow (λ x. eqb (ownersOf img s x) 0) (diskSize img)
 
@@ -111,6 +116,7 @@ noOwner img s = anyBelow (λ x. eqb (ownersOf img s x) 0) (diskSize img)
 unfoldable pub unnamed : List ℕ → Anodes → ℕ → Bool
 unnamed img s x = eqb (naming img s x) 0
 
+-- 16: x is from 6 up, heads a chain, and no reached entry names it
 unfoldable pub unnamedChain : List ℕ → Anodes → ℕ → Bool
 unnamedChain img s x = leb 6 x && (eqb (heads limit (s .next) (s .block) x) 1 && unnamed img s x)
 

@@ -11,6 +11,7 @@ use Rattle.disk.specs.AnodeBlocks.{anodeMade, anodeSlots, anodeAt, slotFor, pla
 abbrev pub limit : ℕ
 limit = 3444
 
+-- the three fields of every anode, by its number
 pub record Anodes : Type 0 where
   pub count : ℕ → ℕ
   pub block : ℕ → ℕ
@@ -20,6 +21,7 @@ pub record Anodes : Type 0 where
 unfoldable pub existsIn : List (List Anode) → ℕ → Bool
 existsIn slots a = ltb (placeFor a) (length (getD slots (slotFor a) []))
 
+-- the anodes that exist in an image
 unfoldable pub exists : List ℕ → ℕ → Bool
 exists img = existsIn (anodeSlots img)
 
@@ -43,6 +45,7 @@ inUse s = record {
 unfoldable pub anodesOf : List ℕ → Anodes
 anodesOf img = inUse (fieldsOf (anodeSlots img))
 
+-- anode a has the same three fields in both
 unfoldable pub sameAnode : Anodes → Anodes → ℕ → Bool
 sameAnode s t a = eqb (s .count a) (t .count a) && (eqb (s .block a) (t .block a) && eqb (s .next a) (t .next a))
 

@@ -29,6 +29,7 @@ pub record Outcome : Type 0 where
   pub output : List ℕ
   pub name : List ℕ
 
+-- the same, field by field in one line
 abbrev pub outcomeOf : ℕ → List ℕ → List ℕ → List ℕ → List ℕ → List ℕ → Outcome
 outcomeOf answer image blocks anodes output name = record { answer = answer; image = image; blocks = blocks; anodes = anodes; output = output; name = name }
 
@@ -45,16 +46,20 @@ checkOutcome img blocks anodes = settled (left (checkAnswer img (length blocks) 
 unfoldable pub fileCount : List ℕ → Anodes → ℕ
 fileCount img s = sumList (λ i. cond (i .dir) 0 1) (reached img s)
 
+-- the reached directories, the root among them
 unfoldable pub dirCount : List ℕ → Anodes → ℕ
 dirCount img s = length (reachedDirs img s)
 
+-- the four numbers of an accepted image
 unfoldable pub summaryOf : List ℕ → Anodes → List ℕ
 summaryOf img s = diskSize img ∷ blockCount s 1 ∷ fileCount img s ∷ dirCount img s ∷ []
 
+-- the four numbers, or zeros after a refusal
 unfoldable pub summaryAfter : ℕ → List ℕ → List ℕ
 summaryAfter zero img = summaryOf img (anodesOf img)
 summaryAfter (suc n) img = replicate 4 0
 
+-- Summary: the check's outcome with the four numbers as output
 unfoldable pub summaryOutcome : List ℕ → List ℕ → List ℕ → Outcome
 summaryOutcome img blocks anodes =
     settled (left (checkAnswer img (length blocks) (length anodes)) img) blocks anodes (summaryAfter (checkAnswer img (length blocks) (length anodes)) img) []
@@ -64,6 +69,7 @@ abbrev pub formatLeft : ℕ → List ℕ → List ℕ → Left
 formatLeft zero img new = left 0 new
 formatLeft (suc n) img new = left (suc n) img
 
+-- Format: the answer, and the image that is left
 unfoldable pub formatOutcome : List ℕ → ℕ → ℕ → List ℕ → ℕ → ℕ → ℕ → ℕ → Left
 formatOutcome img last k name day minute tick protection =
     formatLeft (formatAnswer img last k name) img (formatted img last k name day minute tick protection)
@@ -97,6 +103,7 @@ removeAnswer img s h name =
 unfoldable pub wrongEntry : ℕ → List ℕ → List ℕ → Bool
 wrongEntry type name comment = not (eqb type 253 || eqb type 2) || (not (goodName name) || not (goodComment comment))
 
+-- make: 20, 21, 23 in order
 unfoldable pub makeAnswer : List ℕ → Anodes → ℕ → ℕ → List ℕ → List ℕ → ℕ
 makeAnswer img s h type name comment =
     20 if wrongEntry type name comment
@@ -123,10 +130,12 @@ bytesRead (suc n) img s e offset out = out
 bytesRead zero img s none offset out = out
 bytesRead zero img s (some e) offset out = take (length out) (drop offset (contents img s e))
 
+-- the check first, then 21, 22, 24, 26; write answers the same
 unfoldable pub readAnswer : List ℕ → List ℕ → List ℕ → ℕ → List ℕ → ℕ → ℕ → ℕ
 readAnswer img blocks anodes h name offset len =
     firstOf (checkAnswer img (length blocks) (length anodes)) (spanAnswer img (anodesOf img) h name offset len)
 
+-- Read: the image stays, the buffer is the output
 unfoldable pub readOutcome : List ℕ → List ℕ → List ℕ → ℕ → List ℕ → ℕ → List ℕ → Outcome
 readOutcome img blocks anodes h name offset out =
     settled (left (readAnswer img blocks anodes h name offset (length out)) img) blocks anodes
@@ -138,23 +147,28 @@ fieldList e type place =
     type ∷ e .anode .0 ∷ e .size ∷ e .day ∷ e .minute ∷ e .tick ∷ e .protection
     ∷ (place + 16) ∷ e .name ∷ (place + 17 + e .name) ∷ e .comment ∷ []
 
+-- the eleven fields of the entry at a place of the image
 unfoldable pub fieldsAt : List ℕ → ℕ → List ℕ
 fieldsAt img place =
     fieldList (entryIn (blockOf img (place / 512)) (place % 512) File) (getD (blockOf img (place / 512)) (place % 512 + 1) 0) place
 
+-- the fields of the entry that was found; zeros after a refusal
 abbrev pub fieldsListed : ℕ → List ℕ → Option Entered → List ℕ
 fieldsListed (suc n) img e = replicate 11 0
 fieldsListed zero img none = replicate 11 0
 fieldsListed zero img (some e) = fieldsAt img (e .place)
 
+-- its name; empty after a refusal
 abbrev pub nameListed : ℕ → List ℕ → Option Entered → List ℕ
 nameListed (suc n) img e = []
 nameListed zero img none = []
 nameListed zero img (some e) = nameAt img (e .place)
 
+-- the check first, then 21, 22
 unfoldable pub listAnswered : List ℕ → List ℕ → List ℕ → ℕ → ℕ → ℕ
 listAnswered img blocks anodes h n = firstOf (checkAnswer img (length blocks) (length anodes)) (listAnswer img (anodesOf img) h n)
 
+-- List: the image stays, the fields are the output, and the name
 unfoldable pub listOutcome : List ℕ → List ℕ → List ℕ → ℕ → ℕ → Outcome
 listOutcome img blocks anodes h n =
     settled (left (listAnswered img blocks anodes h n) img) blocks anodes
@@ -166,6 +180,7 @@ abbrev pub madeAfter : ℕ → List ℕ → ℕ → NewEntry → Left
 madeAfter zero img h new = made img (anodesOf img) h new
 madeAfter (suc n) img h new = left (suc n) img
 
+-- Make: the check first, then 20, 21, 23, then the steps
 unfoldable pub makeOutcome : List ℕ → List ℕ → List ℕ → ℕ → ℕ → List ℕ → List ℕ → ℕ → ℕ → ℕ → ℕ → Outcome
 makeOutcome img blocks anodes h type name comment day minute tick protection =
     settled

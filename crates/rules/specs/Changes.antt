@@ -24,6 +24,7 @@ pub record Left : Type 0 where
   pub answer : ℕ
   pub image : List ℕ
 
+-- the same in one line
 abbrev pub left : ℕ → List ℕ → Left
 left answer image = record { answer = answer; image = image }
 
@@ -65,9 +66,11 @@ withSize img place new = inBlock img (place / 512) (λ b. put32 b (place % 512 +
 unfoldable pub zeroTaken : List ℕ → Entered → ℕ → List ℕ → List ℕ
 zeroTaken img e new ys = cond (ltb (e .size) new) (withBlocks img ys zeroBlock) img
 
+-- the image after a resize whose steps left the anodes t and moved the blocks ys
 unfoldable pub resizedImage : List ℕ → Anodes → Entered → ℕ → Anodes → List ℕ → List ℕ
 resizedImage img s e new t ys = withSize (zeroTail (zeroTaken (withAnodes img t) e new ys) s e new) (e .place) new
 
+-- Resize: refused by its first step that fails, else that image
 unfoldable pub resized : List ℕ → Anodes → Entered → ℕ → Left
 resized img s e new = leftBy (resizePlan img s (e .anode) (blocksFor new)) img (resizedImage img s e new)
 
@@ -78,6 +81,7 @@ unfoldable pub endFrom : ℕ → List ℕ → ℕ → ℕ
 endFrom zero b at = at
 endFrom (suc k) b at = cond (eqb (getD b at 0) 0) at (endFrom k b (at + getD b at 0))
 
+-- the end mark's place, from byte 16 on
 unfoldable pub entriesEnd : List ℕ → ℕ
 entriesEnd b = endFrom 28 b 16
 
@@ -122,6 +126,7 @@ pub record NewEntry : Type 0 where
   pub tick : ℕ
   pub protection : ℕ
 
+-- the new entry's fields, with head anode f
 unfoldable pub entryOf : NewEntry → ℕ → Entry
 entryOf new f = record {
   kind = cond (new .dir) Directory File;
@@ -157,6 +162,7 @@ madeWith img s h new f =
     madeIn (ownBlock img (new .dir) (rewritten s f 0 65535) f) img s h new f
     (firstRoom img (entryLength (length (new .name)) (length (new .comment))) (blocksOf s h))
 
+-- Make: 28 if there is no free anode, else its steps with the lowest one
 unfoldable pub made : List ℕ → Anodes → ℕ → NewEntry → Left
 made img s h new =
     cond (ltb (Space.lowestFree limit (exists img) (lastReserved img) s) limit)
@@ -180,6 +186,7 @@ written img s e offset bytes = spread img (blocksOf s (e .anode)) (stored (bytes
 unfoldable pub gapClosed : List ℕ → ℕ → ℕ → ℕ → List ℕ
 gapClosed b at len end = take at b ++ (take (end - (at + len)) (drop (at + len) b) ++ (replicate len 0 ++ drop end b))
 
+-- the image without the entry at a place
 unfoldable pub withoutEntry : List ℕ → ℕ → List ℕ
 withoutEntry img place = inBlock img (place / 512) (λ b. gapClosed b (place % 512) (getD b (place % 512) 0) (entriesEnd b))
 
@@ -187,6 +194,7 @@ withoutEntry img place = inBlock img (place / 512) (λ b. gapClosed b (place % 5
 unfoldable pub removedImage : List ℕ → Entered → Anodes → List ℕ → List ℕ
 removedImage img e t ys = withoutEntry (withAnodes img (Space.dropped limit (exists img) (lastReserved img) t (e .anode))) (e .place)
 
+-- Remove: refused by its first step that fails, else that image
 unfoldable pub removed : List ℕ → Anodes → Entered → Left
 removed img s e =
     leftBy (Space.giveMany limit (exists img) (lastReserved img) (blockCount s (e .anode)) s (e .anode)) img (removedImage img e)

@@ -23,12 +23,14 @@ wrongFormat img last k name =
     || (eqb (length name) 0
     || ltb 31 (length name)))))
 
+-- format's refusals in order: 1, 20
 unfoldable pub formatAnswer : List ℕ → ℕ → ℕ → List ℕ → ℕ
 formatAnswer img last k name =
     1 if wrongSize img
     else 20 if wrongFormat img last k name
     else 0
 
+-- a block of zeros
 abbrev pub zeroBlock : List ℕ
 zeroBlock = replicate 512 0
 
@@ -37,6 +39,7 @@ unfoldable pub withSlots : List ℕ → ℕ → List ℕ
 withSlots b zero = b
 withSlots b (suc s) = put16 (withSlots b s) (96 + 2 * s) (3 + s)
 
+-- the root block: disk type, stamps, protection, name, first reserved 0, last reserved L, slots
 unfoldable pub rootBlock : ℕ → ℕ → List ℕ → ℕ → ℕ → ℕ → ℕ → List ℕ
 rootBlock last k name day minute tick protection =
     withSlots
@@ -62,6 +65,7 @@ lowerAnode last k = cond (eqb last (3 + k)) (anodeMade 0 65535 0) (anodeMade (la
 unfoldable pub upperAnode : ℕ → ℕ → Anode
 upperAnode n last = cond (eqb (last + 1) n) (anodeMade 0 0 0) (anodeMade (n - (last + 1)) (last + 1) 2)
 
+-- anode 1, the head of the free list: (0, 65535, 6), or (0, 65535, 2) if no block is above L
 unfoldable pub listHead : ℕ → ℕ → Anode
 listHead n last = anodeMade 0 65535 (cond (eqb (last + 1) n) 2 6)
 
@@ -78,9 +82,11 @@ firstAnodes b n last k =
     5 (anodeMade 1 (3 + k) 0))
     6 (upperAnode n last)
 
+-- an anode block with its mark and sequence number
 unfoldable pub emptyAnodeBlock : ℕ → List ℕ
 emptyAnodeBlock s = putAnodeHead zeroBlock (record { mark = anodeMark; sequence = s })
 
+-- anode block s; the first has the anodes above
 unfoldable pub anodeBlock : ℕ → ℕ → ℕ → ℕ → List ℕ
 anodeBlock n last k s = cond (eqb s 0) (firstAnodes (emptyAnodeBlock s) n last k) (emptyAnodeBlock s)
 

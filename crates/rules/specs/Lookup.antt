@@ -33,6 +33,7 @@ unfoldable pub firstNamed : List ℕ → List ℕ → List Entered → Option En
 firstNamed img name [] = none
 firstNamed img name (e ∷ es) = elim (isNamed img name e) [ true ↦ some e | false ↦ firstNamed img name es ]
 
+-- the entry of that name in the directory that h heads
 unfoldable pub entryNamed : List ℕ → Anodes → ℕ → List ℕ → Option Entered
 entryNamed img s h name = firstNamed img name (entriesOf img s h)
 
@@ -56,6 +57,7 @@ namesDir (some e) = e .dir
 unfoldable pub notEmpty : List ℕ → Anodes → Entered → Bool
 notEmpty img s e = isThere (nth (entriesOf img s (e .anode)) 0)
 
+-- 25: the entry is there, is a directory's, and that is not empty
 abbrev pub fullDir : List ℕ → Anodes → Option Entered → Bool
 fullDir img s none = false
 fullDir img s (some e) = cond (e .dir) (notEmpty img s e) false

@@ -134,19 +134,21 @@ module _ (A : ℕ) (ex : ℕ → Bool) (last : ℕ) where
   after ys (refused n) = refused n
   after ys (planned t zs) = planned t (ys ++ zs)
 
-  -- k takes or k gives, one block at a time; refused if any step is
+  -- k takes, one block at a time; refused if any step is
   unfoldable pub takeMany : Bool → ℕ → Anodes → ℕ → Plan
   takeMany own zero s h = planned s []
   takeMany own (suc k) s h = elim (takeBlock own s h) [ refused n ↦ refused n | planned t ys ↦ after ys (takeMany own k t h) ]
 
+  -- k gives, one block at a time; refused if any step is
   unfoldable pub giveMany : ℕ → Anodes → ℕ → Plan
   giveMany zero s h = planned s []
   giveMany (suc k) s h = elim (giveBack s h) [ refused n ↦ refused n | planned t ys ↦ after ys (giveMany k t h) ]
 
-  -- the anodes of h's chain zeroed
+  -- anode a is in h's chain
   unfoldable pub onChain : Anodes → ℕ → ℕ → Bool
   onChain s h a = leb 1 (times a (chainOf (s .next) A h))
 
+  -- the anodes of h's chain zeroed
   unfoldable pub dropped : Anodes → ℕ → Anodes
   dropped s h = record {
     count = λ a. cond (onChain s h a) 0 (s .count a);

@@ -14,9 +14,11 @@ use Rattle.rules.specs.Accepted.{diskSize}
 unfoldable pub chainHead : Anodes → ℕ → ℕ
 chainHead s a = headOf limit (s .next) (s .block) a
 
+-- the entry of anode a in the anode table
 unfoldable pub anodeEntry : Anodes → ℕ → ℕ
 anodeEntry s a = cond (eqb a 0) 0 (cond (eqb (s .block a) 0) 0 (chainHead s a))
 
+-- the anode table, 3,444 entries
 unfoldable pub anodeTable : Anodes → List ℕ
 anodeTable s = listed (anodeEntry s) 0 limit
 
@@ -24,12 +26,15 @@ anodeTable s = listed (anodeEntry s) 0 limit
 unfoldable pub headWhere : Anodes → ℕ → ℕ → ℕ
 headWhere s x a = cond (eqb (covers (s .count a) (s .block a) x) 1) (chainHead s a) 0
 
+-- the head of the chain that owns block x; in an accepted image one anode at most covers it
 unfoldable pub ownerHead : Anodes → ℕ → ℕ
 ownerHead s x = sumBelow (headWhere s x) limit
 
+-- the entry of block x in the block table
 unfoldable pub blockEntry : List ℕ → Anodes → ℕ → ℕ
 blockEntry img s x = cond (ltb x 3) 65535 (cond (eqb (systemOwns img x) 0) (ownerHead s x) 65534)
 
+-- the block table, N entries
 unfoldable pub blockTable : List ℕ → Anodes → List ℕ
 blockTable img s = listed (blockEntry img s) 0 (diskSize img)
 
@@ -40,8 +45,10 @@ tableLeft answer range shown old =
     cond (leb 1 answer && leb answer 4) old
     (cond (leb 5 answer && leb answer 16) (replicate range 0) shown ++ drop range old)
 
+-- the block table after a call that answers so and leaves this image
 unfoldable pub blocksLeft : ℕ → List ℕ → List ℕ → List ℕ
 blocksLeft answer img old = tableLeft answer (diskSize img) (blockTable img (anodesOf img)) old
 
+-- the anode table after it
 unfoldable pub anodesLeft : ℕ → List ℕ → List ℕ → List ℕ
 anodesLeft answer img old = tableLeft answer limit (anodeTable (anodesOf img)) old

@@ -33,6 +33,7 @@ anodeBlocks img = sumBelow (λ s. cond (eqb (slotOf img s) 0) 0 1) 42
 abbrev pub startBlocks : ℕ
 startBlocks = 3
 
+-- the sum of the kinds of blocks
 unfoldable pub totalIn : List ℕ → Anodes → ℕ
 totalIn img s = freeBlocks s + fileBlocks img s + directoryBlocks img s + chainBlocks s 3 + chainBlocks s 4 + anodeBlocks img + startBlocks
 

@@ -94,6 +94,7 @@ itemsAt entries marked s d a =
 unfoldable pub itemsBy : (ℕ → List Entered) → (Dir → ℕ → Bool) → Anodes → Dir → List Item
 itemsBy entries marked s d = gather (itemsAt entries marked s d) (chainOf (s .next) limit (d .head))
 
+-- what directory d of an image gives
 unfoldable pub itemsOf : List ℕ → Anodes → Dir → List Item
 itemsOf img s = itemsBy (entriesIn img) (isBlockOf img) s
 
@@ -110,6 +111,7 @@ pub data Scanned : Type 0 where
   faulty : ℕ → Scanned
   fine : List Dir → List ℕ → Scanned
 
+-- the items of directory d in order: the first fault, or the queue and the named anodes behind them
 unfoldable pub scan : Dir → List Item → List Dir → List ℕ → Scanned
 scan d [] queue named = fine queue named
 scan d (i ∷ is) queue named =
@@ -120,11 +122,13 @@ pub data Walk : Type 0 where
   fault : ℕ → Walk
   done : List Dir → Walk
 
+-- a directory before those of the rest of the walk
 unfoldable pub visited : Dir → Walk → Walk
 visited d (fault n) = fault n
 visited d (done ds) = done (d ∷ ds)
 
 module _ (items : Dir → List Item) where
+  -- one directory of the queue after the other, k at most, with the anodes named so far; a queue that has more would name one twice
   unfoldable pub walk : ℕ → List Dir → List ℕ → Walk
   walk zero [] named = done []
   walk zero (d ∷ queue) named = fault 14
@@ -135,10 +139,12 @@ module _ (items : Dir → List Item) where
 unfoldable pub walkOf : List ℕ → Anodes → Walk
 walkOf img s = walk (itemsOf img s) limit (root ∷ []) []
 
+-- the fault that a walk met, 0 for none
 abbrev pub faultIn : Walk → ℕ
 faultIn (fault n) = n
 faultIn (done ds) = 0
 
+-- the directories of a walk that met no fault
 abbrev pub dirsIn : Walk → List Dir
 dirsIn (fault n) = []
 dirsIn (done ds) = ds
@@ -147,6 +153,7 @@ dirsIn (done ds) = ds
 unfoldable pub reachedDirs : List ℕ → Anodes → List Dir
 reachedDirs img s = dirsIn (walkOf img s)
 
+-- what is named in the reached directories
 unfoldable pub reached : List ℕ → Anodes → List Item
 reached img s = gather (itemsOf img s) (reachedDirs img s)
 

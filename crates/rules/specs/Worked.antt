@@ -25,6 +25,7 @@ oneExtent c b = record { count = changed (λ a. 0) 6 c; block = changed (λ a. 0
 abbrev extent : ℕ → ℕ → ℕ → List ℕ
 extent c b n = (b + c) ∷ (7 if outOfRange (oneExtent c b) n 6 else 0) ∷ []
 
+-- the rows, by the definitions
 abbrev pub rows : List Row
 rows =
     -- W1 to W3: the length of an entry with name and comment of 1 and 0, 4 and 0, 107 and 79 bytes
@@ -44,6 +45,7 @@ rows =
     ∷ row (slotFor 3443 ∷ placeFor 3443 ∷ []) (41 ∷ 81 ∷ [])
     ∷ []
 
+-- they give what the paper states
 pub worked-values : map (λ r. r .given) rows ≡ map (λ r. r .stated) rows
 unfolding entryLength outOfRange changed blocksFor
 worked-values = refl
