@@ -2,6 +2,7 @@
 //!
 //! * [`formatted`]: what format makes, for any arguments it takes.
 //! * [`shaped`]: accepted disks that format never makes, built from a plan that gives every block an owner.
+//! * [`accepted`]: one or the other.
 //! * [`Bender`]: accepted disks with a fault aimed at one refusal number, and disks with random damage.
 
 mod bend;
@@ -58,4 +59,13 @@ pub fn disk_blocks(most: usize, rng: &mut Rng) -> usize {
         _ => most,
     };
     rng.within(5..=bound.min(most))
+}
+
+/// An accepted disk of at most this many blocks: at times formatted, mostly shaped.
+pub fn accepted(most: usize, rng: &mut Rng) -> Vec<u8> {
+    let blocks = disk_blocks(most, rng);
+    match rng.percent(15) {
+        true => formatted(blocks, rng),
+        false => shaped(&Recipe::random(blocks, rng), rng).image,
+    }
 }

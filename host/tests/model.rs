@@ -9,7 +9,7 @@ use ovenknit_host::histories::{expect_format, head_of, random_call, Mood};
 use ovenknit_host::model::layout::{Anode, AnodeTable, ANODES, BLOCK};
 use ovenknit_host::model::{self, layout, naive};
 use ovenknit_host::rng::{Rng, SeedNote};
-use ovenknit_host::shapes::{disk_blocks, formatted, shaped, Bender, Recipe, Shaped};
+use ovenknit_host::shapes::{accepted, disk_blocks, formatted, shaped, Bender, Recipe, Shaped};
 use ovenknit_host::starts::Start;
 use ovenknit_host::tree::{Expected, Tree};
 
@@ -60,11 +60,7 @@ fn linear_check_equals_naive_check() {
     for seed in 0..1_000 {
         let _note = SeedNote::new("linear_check_equals_naive_check", seed);
         let rng = &mut Rng::new(seed);
-        let blocks = disk_blocks(600, rng);
-        let image = match rng.percent(15) {
-            true => formatted(blocks, rng),
-            false => shaped(&Recipe::random(blocks, rng), rng).image,
-        };
+        let image = accepted(600, rng);
         let answer = compare_with_junk(&image, rng);
         assert_eq!(answer, 0, "a formatted or shaped disk is refused");
         histogram.add(answer, "check");

@@ -10,7 +10,7 @@ use ovenknit_host::ffi::Proved;
 use ovenknit_host::histories::{random_call, Mood};
 use ovenknit_host::model::layout::put_word;
 use ovenknit_host::rng::{Rng, SeedNote};
-use ovenknit_host::shapes::{disk_blocks, formatted, shaped, Bender, Recipe, Shaped};
+use ovenknit_host::shapes::{accepted, formatted, shaped, Bender, Recipe, Shaped};
 use ovenknit_host::starts::Start;
 
 /// One image with junk in the tables, checked by both libraries. One case in some twenty has a table too short.
@@ -64,11 +64,7 @@ fn check_and_summary_equal_the_model() {
     for seed in 0..2_000 {
         let _note = SeedNote::new("check_and_summary_equal_the_model", seed);
         let rng = &mut Rng::new(seed);
-        let blocks = disk_blocks(600, rng);
-        let mut image = match rng.percent(15) {
-            true => formatted(blocks, rng),
-            false => shaped(&Recipe::random(blocks, rng), rng).image,
-        };
+        let mut image = accepted(600, rng);
         compare_disk(&mut image, 2, &mut cases, rng);
         for _ in 0..6 {
             compare_case(&mut random_bytes(rng), &mut cases, rng);
