@@ -71,6 +71,24 @@ pub enum Kind {
     Directory,
 }
 
+impl Kind {
+    /// The kind that an entry's type byte says.
+    pub fn of(type_byte: u8) -> Self {
+        match type_byte {
+            DIRECTORY => Kind::Directory,
+            _ => Kind::File,
+        }
+    }
+
+    /// The type byte of an entry of this kind.
+    pub fn type_byte(self) -> u8 {
+        match self {
+            Kind::File => FILE,
+            Kind::Directory => DIRECTORY,
+        }
+    }
+}
+
 /// A new entry.
 #[derive(Clone, Debug)]
 pub struct New<'a> {
@@ -156,7 +174,7 @@ impl Entry {
         let [kind, anode, size, day, minute, tick, protection, name, name_length, comment, comment_length] =
             *fields;
         Entry {
-            kind: if kind == u32::from(DIRECTORY) { Kind::Directory } else { Kind::File },
+            kind: Kind::of(kind as u8),
             anode: anode as u16,
             size,
             stamp: Stamp::new(day as u16, minute as u16, tick as u16),
@@ -238,10 +256,7 @@ impl<L: Library> Disk<L> {
 
     /// Makes an empty file or directory.
     pub fn make(&mut self, directory: u16, new: &New) -> Result<(), Error> {
-        let kind = match new.kind {
-            Kind::File => FILE,
-            Kind::Directory => DIRECTORY,
-        };
+        let kind = new.kind.type_byte();
         let (name, comment) = (new.name.to_vec(), new.comment.to_vec());
         let New { stamp, protection, .. } = *new;
         self.call(&Call::Make { directory, kind, name, comment, stamp, protection }).map(drop)

@@ -2,6 +2,7 @@
 //! such that it must be refused, and often at the very edge.
 
 use crate::calls::{Call, DIRECTORY, FILE, ROOT};
+use crate::disk::Kind;
 use crate::model;
 use crate::rng::Rng;
 use crate::shapes::format_call;
@@ -70,7 +71,7 @@ fn any_directory(tree: &Tree, rng: &mut Rng) -> u16 {
     if rng.percent(95) {
         return known;
     }
-    let nodes: Vec<u16> = tree.directories[&known].nodes().map(|node| node.anode).collect();
+    let nodes: Vec<u16> = tree.directories[&known].nodes().map(|node| node.entry.anode).collect();
     match rng.below(4) {
         0 => rng.within16(0..=4),
         1 => rng.pick(&nodes).copied().unwrap_or(6),
@@ -88,17 +89,17 @@ fn any_entry(tree: &Tree, fits: impl Fn(&Node) -> bool, rng: &mut Rng) -> (u16, 
         return (any_directory(tree, rng), fresh_name(rng));
     };
     match rng.below(100) {
-        0..=2 => (any_directory(tree, rng), node.name.clone()),
+        0..=2 => (any_directory(tree, rng), node.entry.name.clone()),
         3 | 4 => (directory, fresh_name(rng)),
         5 => (directory, impossible_name(rng)),
-        _ => (directory, node.name.clone()),
+        _ => (directory, node.entry.name.clone()),
     }
 }
 
 /// A file, or now and then a directory.
 fn any_file(tree: &Tree, rng: &mut Rng) -> (u16, Vec<u8>) {
-    let kind = if rng.percent(95) { FILE } else { DIRECTORY };
-    any_entry(tree, |node| node.kind == kind, rng)
+    let kind = if rng.percent(95) { Kind::File } else { Kind::Directory };
+    any_entry(tree, |node| node.entry.kind == kind, rng)
 }
 
 fn fresh_name(rng: &mut Rng) -> Vec<u8> {

@@ -4,7 +4,8 @@
 
 use std::collections::BTreeMap;
 
-use crate::calls::{Call, Stamp, DIRECTORY, FILE, ROOT};
+use crate::calls::{Call, DIRECTORY, FILE, ROOT};
+use crate::disk::{Entry, Kind};
 
 /// The bytes of a directory block that entries may fill.
 pub const ENTRY_SPACE: usize = 494;
@@ -12,21 +13,14 @@ pub const ENTRY_SPACE: usize = 494;
 /// An entry, with the bytes of the file.
 #[derive(Clone, Debug, PartialEq, Eq)]
 pub struct Node {
-    pub kind: u8,
-    pub anode: u16,
-    /// The size as it stands on the disk; junk in a directory's entry.
-    pub size: u32,
-    pub stamp: Stamp,
-    pub protection: u8,
-    pub name: Vec<u8>,
-    pub comment: Vec<u8>,
+    pub entry: Entry,
     pub content: Vec<u8>,
 }
 
 impl Node {
     /// The bytes that the entry takes.
     pub fn length(&self) -> usize {
-        (17 + self.name.len() + self.comment.len()).div_ceil(2) * 2
+        (17 + self.entry.name.len() + self.entry.comment.len()).div_ceil(2) * 2
     }
 }
 
@@ -42,11 +36,11 @@ impl Directory {
     }
 
     pub fn find(&self, name: &[u8]) -> Option<&Node> {
-        self.nodes().find(|node| node.name == name)
+        self.nodes().find(|node| node.entry.name == name)
     }
 
     fn find_mut(&mut self, name: &[u8]) -> Option<&mut Node> {
-        self.blocks.iter_mut().flatten().find(|node| node.name == name)
+        self.blocks.iter_mut().flatten().find(|node| node.entry.name == name)
     }
 
     pub fn is_empty(&self) -> bool {
@@ -69,7 +63,7 @@ impl Directory {
 
     fn take(&mut self, name: &[u8]) -> Option<Node> {
         for block in &mut self.blocks {
-            if let Some(place) = block.iter().position(|node| node.name == name) {
+            if let Some(place) = block.iter().position(|node| node.entry.name == name) {
                 return Some(block.remove(place));
             }
         }
@@ -108,7 +102,7 @@ impl Tree {
     /// Files and directories, the root among these.
     pub fn counts(&self) -> (usize, usize) {
         let nodes = self.directories.values().flat_map(Directory::nodes);
-        (nodes.filter(|node| node.kind == FILE).count(), self.directories.len())
+        (nodes.filter(|node| node.entry.kind == Kind::File).count(), self.directories.len())
     }
 
     /// The blocks that files and directories take.
@@ -148,7 +142,7 @@ impl Tree {
 
     fn refuse_file(&self, directory: u16, name: &[u8]) -> Option<u32> {
         match self.refuse_name(directory, name) {
-            Ok(node) if node.kind == FILE => None,
+            Ok(node) if node.entry.kind == Kind::File => None,
             Ok(_) => Some(24),
             Err(number) => Some(number),
         }
@@ -195,8 +189,8 @@ impl Tree {
             Ok(node) => node,
             Err(number) => return Some(number),
         };
-        let full = self.directories.get(&node.anode).is_some_and(|directory| !directory.is_empty());
-        (node.kind == DIRECTORY && full).then_some(25)
+        let full = self.directories.get(&node.entry.anode).is_some_and(|directory| !directory.is_empty());
+        (node.entry.kind == Kind::Directory && full).then_some(25)
     }
 
     /// The bytes that a done read gives.
@@ -217,16 +211,16 @@ impl Tree {
             Call::Check | Call::Summary | Call::Read { .. } | Call::List { .. } => {}
             Call::Format { .. } => *self = Tree::default(),
             Call::Make { directory, kind, name, comment, stamp, protection } => {
-                let node = Node {
-                    kind: *kind,
+                let entry = Entry {
+                    kind: Kind::of(*kind),
                     anode: made,
                     size: 0,
                     stamp: *stamp,
                     protection: *protection,
                     name: name.clone(),
                     comment: comment.clone(),
-                    content: Vec::new(),
                 };
+                let node = Node { entry, content: Vec::new() };
                 if let Some(directory) = self.directories.get_mut(directory) {
                     directory.add(node);
                 }
@@ -237,7 +231,7 @@ impl Tree {
             Call::Resize { directory, name, size } => {
                 if let Some(node) = self.find_mut(*directory, name) {
                     node.content.resize(*size as usize, 0);
-                    node.size = *size as u32;
+                    node.entry.size = *size as u32;
                 }
             }
             Call::Write { directory, name, offset, data } => {
@@ -248,8 +242,8 @@ impl Tree {
             }
             Call::Remove { directory, name } => {
                 let gone = self.directories.get_mut(directory).and_then(|directory| directory.take(name));
-                if let Some(node) = gone.filter(|node| node.kind == DIRECTORY) {
-                    self.directories.remove(&node.anode);
+                if let Some(node) = gone.filter(|node| node.entry.kind == Kind::Directory) {
+                    self.directories.remove(&node.entry.anode);
                 }
             }
         }

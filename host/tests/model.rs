@@ -3,8 +3,9 @@
 
 use std::collections::BTreeMap;
 
-use ovenknit_host::calls::{run, Call, Model, Outcome, DIRECTORY, FILE, ROOT, UNREAD};
+use ovenknit_host::calls::{run, Call, Model, Outcome, DIRECTORY, ROOT, UNREAD};
 use ovenknit_host::compare::{junk_tables, Histogram};
+use ovenknit_host::disk::Kind;
 use ovenknit_host::histories::{expect_format, head_of, random_call, Mood};
 use ovenknit_host::model::layout::{Anode, AnodeTable, ANODES, BLOCK};
 use ovenknit_host::model::{self, layout, naive};
@@ -165,15 +166,15 @@ fn shapes_have_what_format_never_makes() {
         let nodes: Vec<_> = tree.directories.values().flat_map(|d| d.nodes()).collect();
         let file_chains: Vec<Vec<(u16, Anode)>> = nodes
             .iter()
-            .filter(|node| node.kind == FILE)
-            .map(|node| table.chain(node.anode).collect())
+            .filter(|node| node.entry.kind == Kind::File)
+            .map(|node| table.chain(node.entry.anode).collect())
             .collect();
         let crosses = |&(_, anode): &(u16, Anode)| {
             anode.count > 0 && anode.block <= last_reserved && anode.end() > usize::from(last_reserved) + 1
         };
         let used: Vec<usize> = (0..42).filter(|&slot| slots[slot] != 0).collect();
         let duplicates = tree.directories.values().any(|directory| {
-            let mut names: Vec<_> = directory.nodes().map(|node| &node.name).collect();
+            let mut names: Vec<_> = directory.nodes().map(|node| &node.entry.name).collect();
             names.sort();
             names.windows(2).any(|pair| pair[0] == pair[1])
         });
@@ -199,7 +200,7 @@ fn shapes_have_what_format_never_makes() {
         note(
             "nested directory",
             tree.directories.iter().any(|(&head, directory)| {
-                head != ROOT && directory.nodes().any(|node| node.kind == DIRECTORY)
+                head != ROOT && directory.nodes().any(|node| node.entry.kind == Kind::Directory)
             }),
         );
         note("duplicate name", duplicates);
@@ -359,7 +360,7 @@ impl<'a> History<'a> {
                 }
             }
             Call::Remove { directory, name } => {
-                let head = self.tree.find(*directory, name).map_or(0, |node| node.anode);
+                let head = self.tree.find(*directory, name).map_or(0, |node| node.entry.anode);
                 match table.chain_blocks(head).count() {
                     blocks if blocks <= anodes => vec![0],
                     _ => vec![0, 28],
@@ -408,18 +409,18 @@ impl<'a> History<'a> {
     fn compare_entry(&self, directory: u16, place: u64, fields: &[u32; 11]) {
         let node = self.tree.listed(directory, place).expect("the place is there");
         let numbers = [
-            u32::from(node.kind),
-            u32::from(node.anode),
-            node.size,
-            u32::from(node.stamp.day),
-            u32::from(node.stamp.minute),
-            u32::from(node.stamp.tick),
-            u32::from(node.protection),
+            u32::from(node.entry.kind.type_byte()),
+            u32::from(node.entry.anode),
+            node.entry.size,
+            u32::from(node.entry.stamp.day),
+            u32::from(node.entry.stamp.minute),
+            u32::from(node.entry.stamp.tick),
+            u32::from(node.entry.protection),
         ];
         assert_eq!(fields[..7], numbers);
         let part = |at: u32, length: u32| &self.image[at as usize..(at + length) as usize];
-        assert_eq!(part(fields[7], fields[8]), node.name);
-        assert_eq!(part(fields[9], fields[10]), node.comment);
+        assert_eq!(part(fields[7], fields[8]), node.entry.name);
+        assert_eq!(part(fields[9], fields[10]), node.entry.comment);
         assert_eq!(fields[9], fields[7] + fields[8] + 1);
     }
 
@@ -448,7 +449,8 @@ impl<'a> History<'a> {
     fn compare_untouched(&self, call: &Call, before: &[u8], made: u16) {
         let (mut owners, mut heads) = (vec![0; self.blocks()], vec![0; ANODES]);
         assert_eq!(model::check(self.image, &mut owners, &mut heads), 0);
-        let head = |directory: u16, name: &[u8]| self.tree.find(directory, name).map_or(0, |node| node.anode);
+        let head =
+            |directory: u16, name: &[u8]| self.tree.find(directory, name).map_or(0, |node| node.entry.anode);
         let touched = match call {
             Call::Make { directory, .. } => [*directory, made],
             Call::Resize { directory, name, .. } => [*directory, head(*directory, name)],
@@ -489,7 +491,7 @@ impl<'a> History<'a> {
             }
             for node in entries.nodes() {
                 let length = node.content.len();
-                self.call(&Call::Read { directory, name: node.name.clone(), offset: 0, length });
+                self.call(&Call::Read { directory, name: node.entry.name.clone(), offset: 0, length });
             }
         }
     }

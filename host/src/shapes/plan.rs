@@ -7,7 +7,8 @@
 
 use std::collections::BTreeMap;
 
-use crate::calls::{DIRECTORY, FILE, ROOT};
+use crate::calls::ROOT;
+use crate::disk::{Entry, Kind};
 use crate::rng::Rng;
 use crate::tree::{Directory, Node, Tree, ENTRY_SPACE};
 
@@ -380,16 +381,16 @@ impl Plan {
     fn node(&self, disk: &Writer, draft: &Draft, files: &[u16], directories: &[u16], rng: &mut Rng) -> Node {
         let (kind, anode, size, content) = match draft.item {
             Item::Directory(directory) => {
-                (DIRECTORY, directories[directory], rng.next64() as u32, Vec::new())
+                (Kind::Directory, directories[directory], rng.next64() as u32, Vec::new())
             }
             Item::File(file) => {
                 let mut content = disk.bytes_of(&self.chains.files[file]);
                 let missing = if rng.percent(30) { 0 } else { rng.below(512) };
                 content.truncate(content.len().saturating_sub(missing));
-                (FILE, files[file], content.len() as u32, content)
+                (Kind::File, files[file], content.len() as u32, content)
             }
         };
-        Node {
+        let entry = Entry {
             kind,
             anode,
             size,
@@ -397,8 +398,8 @@ impl Plan {
             protection: rng.byte(),
             name: draft.name.clone(),
             comment: draft.comment.clone(),
-            content,
-        }
+        };
+        Node { entry, content }
     }
 }
 
@@ -680,16 +681,16 @@ impl Writer {
         }
         let mut at = 16;
         for node in nodes {
-            self.put(number, at, &[node.length() as u8, node.kind]);
-            self.put_number(number, at + 2, node.anode);
-            self.put(number, at + 4, &node.size.to_be_bytes());
-            self.put_number(number, at + 8, node.stamp.day);
-            self.put_number(number, at + 10, node.stamp.minute);
-            self.put_number(number, at + 12, node.stamp.tick);
-            self.put(number, at + 14, &[node.protection, node.name.len() as u8]);
-            self.put(number, at + 16, &node.name);
-            self.put(number, at + 16 + node.name.len(), &[node.comment.len() as u8]);
-            self.put(number, at + 17 + node.name.len(), &node.comment);
+            self.put(number, at, &[node.length() as u8, node.entry.kind.type_byte()]);
+            self.put_number(number, at + 2, node.entry.anode);
+            self.put(number, at + 4, &node.entry.size.to_be_bytes());
+            self.put_number(number, at + 8, node.entry.stamp.day);
+            self.put_number(number, at + 10, node.entry.stamp.minute);
+            self.put_number(number, at + 12, node.entry.stamp.tick);
+            self.put(number, at + 14, &[node.entry.protection, node.entry.name.len() as u8]);
+            self.put(number, at + 16, &node.entry.name);
+            self.put(number, at + 16 + node.entry.name.len(), &[node.entry.comment.len() as u8]);
+            self.put(number, at + 17 + node.entry.name.len(), &node.entry.comment);
             at += node.length();
         }
         self.put(number, at, &[0]);
