@@ -89,22 +89,22 @@ impl Rng {
     }
 }
 
-/// Prints what was being tried, with its seed, if the test fails while this is alive.
-pub struct SeedNote {
+/// A generator with its seed. If the test fails while it is in use, it prints what was being tried and the seed.
+pub struct Seeded {
+    pub rng: Rng,
+    pub seed: u64,
     what: &'static str,
-    seed: u64,
 }
 
-impl SeedNote {
-    pub fn new(what: &'static str, seed: u64) -> Self {
-        SeedNote { what, seed }
-    }
-}
-
-impl Drop for SeedNote {
+impl Drop for Seeded {
     fn drop(&mut self) {
         if std::thread::panicking() {
             eprintln!("failed in {} with seed {}", self.what, self.seed);
         }
     }
+}
+
+/// A generator for each seed.
+pub fn seeded(what: &'static str, seeds: impl Iterator<Item = u64>) -> impl Iterator<Item = Seeded> {
+    seeds.map(move |seed| Seeded { rng: Rng::new(seed), seed, what })
 }

@@ -3,6 +3,7 @@
 //! * [`formatted`]: what format makes, for any arguments it takes.
 //! * [`shaped`]: accepted disks that format never makes, built from a plan that gives every block an owner.
 //! * [`accepted`]: one or the other.
+//! * [`random_bytes`]: junk, mostly with a root block that passes.
 //! * [`Bender`]: accepted disks with a fault aimed at one refusal number, and disks with random damage.
 
 mod bend;
@@ -13,6 +14,7 @@ pub use bend::Bender;
 pub use plan::{shaped, Deal, Recipe, Shaped};
 
 use crate::calls::{run, Call, Model};
+use crate::model::layout::{put_word, BLOCK};
 use crate::rng::Rng;
 
 /// The arguments of a format that is done on a disk of this many blocks.
@@ -68,4 +70,21 @@ pub fn accepted(most: usize, rng: &mut Rng) -> Vec<u8> {
         true => formatted(blocks, rng),
         false => shaped(&Recipe::random(blocks, rng), rng).image,
     }
+}
+
+/// Junk of at most 13 blocks, mostly with a root block that can be gone into.
+pub fn random_bytes(rng: &mut Rng) -> Vec<u8> {
+    let blocks = rng.within(0..=12);
+    let extra = if rng.percent(10) { rng.below(BLOCK) } else { 0 };
+    let mut image = rng.bytes(blocks * BLOCK + extra);
+    if blocks >= 3 && rng.percent(80) {
+        let root = &mut image[2 * BLOCK..3 * BLOCK];
+        root[..4].copy_from_slice(b"PFS\0");
+        root[20] = rng.below(34) as u8;
+        put_word(root, 52, 0);
+        put_word(root, 54, rng.below(blocks + 1) as u16);
+        root[96..180].fill(0);
+        put_word(root, 96, rng.below(blocks + 1) as u16);
+    }
+    image
 }

@@ -9,8 +9,8 @@ use ovenknit_host::disk::Kind;
 use ovenknit_host::histories::{expect_format, head_of, random_call, Mood};
 use ovenknit_host::model::layout::{Anode, AnodeTable, ANODES, BLOCK};
 use ovenknit_host::model::{self, layout, naive};
-use ovenknit_host::rng::{Rng, SeedNote};
-use ovenknit_host::shapes::{accepted, disk_blocks, formatted, shaped, Bender, Recipe, Shaped};
+use ovenknit_host::rng::{seeded, Rng};
+use ovenknit_host::shapes::{accepted, disk_blocks, formatted, random_bytes, shaped, Bender, Recipe, Shaped};
 use ovenknit_host::starts::Start;
 use ovenknit_host::tree::{Expected, Tree};
 
@@ -58,9 +58,8 @@ fn compare_bent(image: &[u8], histogram: &mut Histogram, rng: &mut Rng) {
 #[test]
 fn linear_check_equals_naive_check() {
     let mut histogram = Histogram::default();
-    for seed in 0..1_000 {
-        let _note = SeedNote::new("linear_check_equals_naive_check", seed);
-        let rng = &mut Rng::new(seed);
+    for mut case in seeded("linear_check_equals_naive_check", 0..1_000) {
+        let rng = &mut case.rng;
         let image = accepted(600, rng);
         let answer = compare_with_junk(&image, rng);
         assert_eq!(answer, 0, "a formatted or shaped disk is refused");
@@ -73,11 +72,10 @@ fn linear_check_equals_naive_check() {
 
 #[test]
 fn linear_check_equals_naive_check_with_full_slots() {
-    for seed in 0..3 {
-        let _note = SeedNote::new("linear_check_equals_naive_check_with_full_slots", seed);
-        let rng = &mut Rng::new(seed);
+    for mut case in seeded("linear_check_equals_naive_check_with_full_slots", 0..3) {
+        let rng = &mut case.rng;
         let mut recipe = Recipe::fragmented(900);
-        recipe.cuts = 200 * seed as usize;
+        recipe.cuts = 200 * case.seed as usize;
         let image = shaped(&recipe, rng).image;
         let table = AnodeTable::read(&image, layout::slots(&image));
         assert!((0..ANODES as u16).filter(|&number| number != 3 && number != 4).all(|a| table.in_use(a)));
@@ -88,22 +86,9 @@ fn linear_check_equals_naive_check_with_full_slots() {
 #[test]
 fn checks_agree_on_random_bytes() {
     let mut histogram = Histogram::default();
-    for seed in 0..2_000 {
-        let _note = SeedNote::new("checks_agree_on_random_bytes", seed);
-        let rng = &mut Rng::new(seed);
-        let blocks = rng.within(0..=12);
-        let extra = if rng.percent(10) { rng.below(512) } else { 0 };
-        let mut image = rng.bytes(blocks * BLOCK + extra);
-        if image.len() >= 3 * BLOCK && rng.percent(80) {
-            // A root block that can be gone into, over junk.
-            let root = layout::block_mut(&mut image, 2);
-            root[..4].copy_from_slice(b"PFS\0");
-            root[20] = 1 + rng.below(31) as u8;
-            layout::put_word(root, 52, 0);
-            layout::put_word(root, 54, rng.below(blocks + 1) as u16);
-            root[96..180].fill(0);
-            layout::put_word(root, 96, rng.below(blocks + 1) as u16);
-        }
+    for mut case in seeded("checks_agree_on_random_bytes", 0..2_000) {
+        let rng = &mut case.rng;
+        let image = random_bytes(rng);
         histogram.add(compare_with_junk(&image, rng), "check");
     }
     histogram.print("random bytes");
@@ -137,12 +122,11 @@ fn large_disks_are_accepted_and_too_large_ones_refused() {
 
 #[test]
 fn shaped_disks_read_back_as_planned() {
-    for seed in 0..400 {
-        let _note = SeedNote::new("shaped_disks_read_back_as_planned", seed);
-        let rng = &mut Rng::new(seed);
+    for mut case in seeded("shaped_disks_read_back_as_planned", 0..400) {
+        let rng = &mut case.rng;
         let blocks = disk_blocks(400, rng);
         let Shaped { mut image, tree } = shaped(&Recipe::random(blocks, rng), rng);
-        let mut history = History::new(&mut image, tree, seed);
+        let mut history = History::new(&mut image, tree, case.seed);
         history.read_everything();
     }
 }
@@ -152,9 +136,8 @@ fn shaped_disks_read_back_as_planned() {
 fn shapes_have_what_format_never_makes() {
     let mut met: BTreeMap<&str, usize> = BTreeMap::new();
     let mut note = |what, there: bool| *met.entry(what).or_default() += usize::from(there);
-    for seed in 0..400 {
-        let _note = SeedNote::new("shapes_have_what_format_never_makes", seed);
-        let rng = &mut Rng::new(seed);
+    for mut case in seeded("shapes_have_what_format_never_makes", 0..400) {
+        let rng = &mut case.rng;
         let blocks = disk_blocks(300, rng);
         let Shaped { image, tree } = shaped(&Recipe::random(blocks, rng), rng);
         let slots = layout::slots(&image);
@@ -500,10 +483,9 @@ impl<'a> History<'a> {
 /// Runs histories from one kind of disk and gathers their answers.
 fn histories(start: Start, seeds: u64, calls: usize) -> Histogram {
     let mut answers = Histogram::default();
-    for seed in 0..seeds {
-        let _note = SeedNote::new("histories", seed);
-        let Shaped { mut image, tree } = start.disk(&mut Rng::new(seed));
-        let mut history = History::new(&mut image, tree, seed);
+    for mut case in seeded("histories", 0..seeds) {
+        let Shaped { mut image, tree } = start.disk(&mut case.rng);
+        let mut history = History::new(&mut image, tree, case.seed);
         history.go_on(calls);
         history.read_everything();
         answers.merge(&history.answers);

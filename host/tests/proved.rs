@@ -8,9 +8,8 @@ use ovenknit_host::calls::{Call, BLOCK};
 use ovenknit_host::compare::{compare, junk_tables, Histogram, History};
 use ovenknit_host::ffi::Proved;
 use ovenknit_host::histories::{random_call, Mood};
-use ovenknit_host::model::layout::put_word;
-use ovenknit_host::rng::{Rng, SeedNote};
-use ovenknit_host::shapes::{accepted, formatted, shaped, Bender, Recipe, Shaped};
+use ovenknit_host::rng::{seeded, Rng};
+use ovenknit_host::shapes::{accepted, formatted, random_bytes, shaped, Bender, Recipe, Shaped};
 use ovenknit_host::starts::Start;
 
 /// One image with junk in the tables, checked by both libraries. One case in some twenty has a table too short.
@@ -41,29 +40,11 @@ fn compare_disk(image: &mut [u8], turns: usize, cases: &mut Histogram, rng: &mut
     }
 }
 
-/// Junk, mostly with a root block that can be gone into.
-fn random_bytes(rng: &mut Rng) -> Vec<u8> {
-    let blocks = rng.within(0..=12);
-    let extra = if rng.percent(10) { rng.below(BLOCK) } else { 0 };
-    let mut image = rng.bytes(blocks * BLOCK + extra);
-    if blocks >= 3 && rng.percent(80) {
-        let root = &mut image[2 * BLOCK..3 * BLOCK];
-        root[..4].copy_from_slice(b"PFS\0");
-        root[20] = rng.below(34) as u8;
-        put_word(root, 52, 0);
-        put_word(root, 54, rng.below(blocks + 1) as u16);
-        root[96..180].fill(0);
-        put_word(root, 96, rng.below(blocks + 1) as u16);
-    }
-    image
-}
-
 #[test]
 fn check_and_summary_equal_the_model() {
     let mut cases = Histogram::default();
-    for seed in 0..2_000 {
-        let _note = SeedNote::new("check_and_summary_equal_the_model", seed);
-        let rng = &mut Rng::new(seed);
+    for mut case in seeded("check_and_summary_equal_the_model", 0..2_000) {
+        let rng = &mut case.rng;
         let mut image = accepted(600, rng);
         compare_disk(&mut image, 2, &mut cases, rng);
         for _ in 0..6 {
@@ -97,11 +78,10 @@ fn check_and_summary_equal_the_model_on_large_disks() {
 fn compare_histories(first_seed: u64, calls: usize) -> Histogram {
     let mut answers = Histogram::default();
     let mut sizes = BTreeSet::new();
-    for seed in first_seed.. {
-        let _note = SeedNote::new("compare_histories", seed);
-        let rng = &mut Rng::new(seed);
+    for mut case in seeded("compare_histories", first_seed..) {
+        let rng = &mut case.rng;
         // A call on a large disk takes long, so there are few of them.
-        let (start, calls_here) = match seed % 100 {
+        let (start, calls_here) = match case.seed % 100 {
             0 => (Start::Largest, 12),
             1..=3 => (Start::Larger, 60),
             other => (Start::ALL[other as usize % 4], 100),
@@ -156,9 +136,8 @@ fn histories_equal_the_model() {
 #[test]
 fn every_call_refuses_damage_like_the_model() {
     let mut answers = Histogram::default();
-    for seed in 0..300 {
-        let _note = SeedNote::new("every_call_refuses_damage_like_the_model", seed);
-        let rng = &mut Rng::new(seed);
+    for mut case in seeded("every_call_refuses_damage_like_the_model", 0..300) {
+        let rng = &mut case.rng;
         let Shaped { image, tree } = Start::ALL[rng.below(4)].disk(rng);
         let bender = Bender::new(&image).expect("the model accepts its own shapes");
         for number in 1..=16 {
