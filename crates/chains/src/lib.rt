@@ -49,15 +49,15 @@ pub fn wrong_fixed(counts: &[u16], firsts: &[u16], nexts: &[u16]) -> bool
     entry(firsts, 5) == 0
 }
 
-// A non-empty extent ends past the disk's end; the end is the whole-number sum.
-fn past_end(count: u16, first: u16, size: usize) -> bool
-    ensures { λ r. ⌜ r ≡ (ltb 0 count && ltb size (first + count)) ⌝ }
+// A non-empty extent ends past `limit`; its end is the whole-number sum.
+fn ends_past(count: u16, first: u16, limit: usize) -> bool
+    ensures { λ r. ⌜ r ≡ (ltb 0 count && ltb limit (first + count)) ⌝ }
 {
     if count == 0 {
         return false;
     }
     let end = first as usize + count as usize;
-    size < end
+    limit < end
 }
 
 // 7 for one anode.
@@ -67,7 +67,7 @@ fn anode_out_of_range(counts: &[u16], firsts: &[u16], nexts: &[u16], size: usize
     if a == 0 {
         return false;
     }
-    if past_end(entry(counts, a), entry(firsts, a), size) {
+    if ends_past(entry(counts, a), entry(firsts, a), size) {
         return true;
     }
     let next = entry(nexts, a);
@@ -270,17 +270,6 @@ fn not_above(count: u16, first: u16, last: u16) -> bool
     first <= last
 }
 
-// A free extent that ends behind last reserved.
-fn not_up_to(count: u16, first: u16, last: u16) -> bool
-    ensures { λ r. ⌜ r ≡ (ltb 0 count && ltb (last + 1) (first + count)) ⌝ }
-{
-    if count == 0 {
-        return false;
-    }
-    let end = first as u32 + count as u32;
-    last as u32 + 1 < end
-}
-
 // 9 from anode 1 until 2 is met.
 fn wrong_before_two(counts: &[u16], firsts: &[u16], nexts: &[u16], last: u16) -> bool
     ensures { λ r. ⌜ r ≡ wrongBefore (anodesFrom (now (counts .entry)) (now (firsts .entry)) (now (nexts .entry))) last 3444 1 ⌝ }
@@ -313,7 +302,7 @@ fn wrong_from_two(counts: &[u16], firsts: &[u16], nexts: &[u16], last: u16) -> b
         if at == 0 {
             return false;
         }
-        if not_up_to(entry(counts, at), entry(firsts, at), last) {
+        if ends_past(entry(counts, at), entry(firsts, at), last as usize + 1) {
             return true;
         }
         at = entry(nexts, at) as usize;

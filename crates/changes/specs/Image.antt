@@ -17,7 +17,7 @@ use Rattle.rules.specs.Walk.{Dir, Entered, Item, root, entriesIn, isBlockOf, it
 use Rattle.rules.specs.Accepted.{diskSize, lastReserved, wrongSlots, ownersOf, twoOwners, noOwner, unnamed, unnamedChain, checkAnswer}
 use Rattle.rules.specs.Lookup.{noDirectory}
 use Rattle.counting.specs.Laws.{anyBelow-all}
-use Rattle.laws.specs.Tests.{less?}
+use Rattle.laws.specs.Tests.{less?, none-and}
 use Rattle.laws.specs.Sums.{oneAt-cases}
 use Rattle.laws.specs.Bags.{list-mono, map-sum}
 use Rattle.laws.specs.Items.{below, namedIn, subs-named}
@@ -27,7 +27,7 @@ use Rattle.laws.specs.Space.{Good}
 use Rattle.laws.specs.Passes.{passes-of}
 use Rattle.laws.specs.Whole.{Whole, head-counts, counts-head, named-heads}
 use Rattle.laws.specs.Accepted.{Accepted, whole-of, accepted-of}
-use Rattle.laws.specs.Acceptance.{none-and, passed-of, passed-accepted, Tested, passes-tested}
+use Rattle.laws.specs.Acceptance.{passed-of, passed-accepted, Tested, passes-tested}
 use Rattle.laws.specs.ImageAnodes.{reading-of}
 use Rattle.laws.specs.OneOwner.{naming-sum, passes, accepted-one-owner, good}
 use Rattle.frames.specs.Kept.{Unheld, Kept, kept-all, diskSize-kept, wrongSize-kept, shortTables-kept, slotOf-kept, lastReserved-kept, wrongType-kept, wrongRoot-kept, systemOwns-kept, wrongSlots-heads, anodesOf-kept, kept-both}

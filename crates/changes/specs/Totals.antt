@@ -23,7 +23,7 @@ use Rattle.laws.specs.Space.{head-1, head-5}
 use Rattle.laws.specs.Items.{giving, below, namedIn, names-sum, below-items}
 use Rattle.laws.specs.Totals.{file-size, filesOf, dirsOf}
 use Rattle.laws.specs.Whole.{blocks-count, named-heads, whole-total}
-use Rattle.frames.specs.Slots.{right-slot}
+use Rattle.laws.specs.TestsPassed.{right-slot}
 use Rattle.changes.specs.Image.{WholeImage, headIn, sideIn, accepted-slots, accepted-whole}
 use Rattle.changes.specs.Members.{Member, member-sum, member-congr}
 

@@ -12,7 +12,8 @@ use Rattle.rules.specs.Walk.{root, reached, reachedDirs, faultIn}
 use Rattle.rules.specs.Accepted.{diskSize, wrongSize, ownersOf, twoOwners, noOwner, unnamedChain, checkAnswer}
 use Rattle.rules.specs.Format.{wrongFormat, formatted}
 use Rattle.counting.specs.Laws.{anyBelow-all}
-use Rattle.laws.specs.Acceptance.{none-and, Passed, passed-accepted, Tested, passes-tested}
+use Rattle.laws.specs.Tests.{none-and}
+use Rattle.laws.specs.Acceptance.{Passed, passed-accepted, Tested, passes-tested}
 use Rattle.format.proofs.Laws.{Taken, taken}
 use Rattle.format_laws.specs.Anodes.{Laid, laid}
 use Rattle.format_laws.specs.Links.{no-head, free-blocks}

@@ -18,8 +18,7 @@ use Rattle.rules.specs.Anodes.{limit}
 use Rattle.rules.specs.Accepted.{diskSize, wrongSize, shortTables, wrongType, lastReserved, wrongRoot, wrongSlot, wrongSlots}
 use Rattle.rules.specs.Format.{wrongFormat, zeroBlock, firstAnodes, emptyAnodeBlock, anodeBlock, formatted}
 use Rattle.counting.specs.Laws.{anyBelow-all}
-use Rattle.laws.specs.Tests.{less?}
-use Rattle.laws.specs.Acceptance.{none-or, none-and, same}
+use Rattle.laws.specs.Tests.{less?, none-or, none-and, same}
 use Rattle.format.proofs.Laws.{Taken, taken, length-formatted, rootIn-formatted, slotOf-formatted-some, slotOf-formatted-none, blockOf-formatted-anodes}
 
 -- the head of anode block s

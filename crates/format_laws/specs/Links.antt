@@ -11,11 +11,11 @@ use borrow.Author.Tests.{eqb-false, not-true, ne-eqb}
 use Rattle.rules.specs.Counting.{oneAt, sumList, times}
 use Rattle.rules.specs.Anodes.{Anodes, limit}
 use Rattle.rules.specs.Chains.{chainOf, followed, preds, heads, blockCount, cut, side}
+use Rattle.laws.specs.Tests.{none-and}
 use Rattle.laws.specs.Sums.{oneAt-cases, oneAt-same, oneAt-other, oneAt-le, sum-member, sum-le-one}
 use Rattle.laws.specs.Bags.{times-nil, times-cons}
 use Rattle.laws.specs.Segments.{Chain, followed-zero, chain-is, chain-ends}
 use Rattle.laws.specs.Links.{preds-none}
-use Rattle.laws.specs.Acceptance.{none-and}
 use Rattle.format_laws.specs.Anodes.{Which, is-0, is-1, is-2, is-5, is-6, free, Linking, plain, over, Laid}
 
 module _ {s : Anodes} {n last k : ℕ} (m : Laid s n last k) where

@@ -19,7 +19,7 @@ use Rattle.laws.specs.Held.{held}
 use Rattle.laws.specs.Space.{Good}
 use Rattle.laws.specs.Owners.{held-all, hd-below}
 use Rattle.laws.specs.Whole.{blocks-sum}
-use Rattle.frames.specs.Slots.{slot-low}
+use Rattle.laws.specs.TestsPassed.{slot-low}
 use Rattle.frames.specs.Kept.{Unheld}
 
 module _ {ex : ℕ → Bool} {n last : ℕ} {s : Anodes} {system hd sd : ℕ → ℕ} (g : Good limit ex n last s system hd sd) where

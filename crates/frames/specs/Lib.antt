@@ -1,5 +1,4 @@
 -- What a store changes and what it leaves.
-pub mod Slots
 pub mod Kept
 pub mod StoredBlocks
 pub mod StoredAnodes

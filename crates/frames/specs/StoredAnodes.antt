@@ -15,12 +15,11 @@ use Rattle.disk.proofs.Laws.{slotOf-high, anodeOf-missing, setAnode-missing}
 use Rattle.disk.proofs.Store.{anodeHeadIn-putAnode, length-setAnode, blockOf-setAnode-same, blockOf-setAnode-other, anodeOf-setAnode-same, anodeOf-setAnode-other}
 use Rattle.rules.specs.Anodes.{Anodes, limit, exists, inUse, fieldsOf, anodesOf, sameAnode, storeChanged, withAnodes}
 use Rattle.rules.specs.Accepted.{wrongSlots}
-use Rattle.laws.specs.Tests.{same?, less?}
-use Rattle.laws.specs.Acceptance.{and-both}
+use Rattle.laws.specs.Tests.{same?, less?, and-both}
 use Rattle.laws.specs.Space.{Alike, alike-trans}
 use Rattle.laws.specs.Passes.{Reading}
 use Rattle.laws.specs.ImageAnodes.{block-at, count-at, next-at, reading-of, slot-missing}
-use Rattle.frames.specs.Slots.{right-slot, one-slot}
+use Rattle.laws.specs.TestsPassed.{right-slot, one-slot}
 use Rattle.frames.specs.Kept.{Unheld, Kept, kept-all, kept-both, slotOf-kept, unheld-kept, wrongSlots-heads}
 
 -- j has the length of img, the blocks that no slot holds, and the heads of the anode blocks

@@ -5,34 +5,34 @@ use mathlib.Core.Logic.{_≢_}
 use mathlib.Core.Bool.{true, false}
 use mathlib.Core.List.{List, _++_}
 use native.Mathlib.Omega.{arith}
-use native.Mathlib.Nat.{zero-add}
-use lib.ListN.{length, getD, drop, List·getD-append}
+use lib.ListN.{length, getD, drop}
 use lib.Seq.{drop-at}
 use lib.Dec.{eqb}
-use borrow.Author.Tests.{eq-eqb, ne-eqb}
+use borrow.Author.Tests.{ne-eqb}
 use Rattle.disk.specs.declared.Root.{Root}
 use Rattle.disk.specs.Blocks.{blockOf}
 use Rattle.disk.specs.Root.{rootIn}
-use Rattle.disk.proofs.Laws.{getD-listed, length-listed}
+use Rattle.disk.proofs.Laws.{length-listed}
 use Rattle.rules.specs.Counting.{anyBelow}
-use Rattle.rules.specs.Anodes.{Anodes, limit, fieldsOf, inUse, anodesOf}
+use Rattle.rules.specs.Anodes.{Anodes, limit, exists, anodesOf}
 use Rattle.rules.specs.Accepted.{diskSize, wrongFixed, outOfRange, wrongLinks, wrongFreeList, lastReserved, twoOwners, noOwner}
 use Rattle.rules.specs.Tables.{chainHead, anodeEntry, anodeTable}
-use Rattle.laws.specs.Links.{View, Linked}
+use Rattle.laws.specs.Links.{View, Linked, next-below}
+use Rattle.laws.specs.Passes.{Reading}
+use Rattle.laws.specs.TestsPassed.{fixed-anodes, next-used, tested-view, tested-linked}
+use Rattle.laws.specs.ImageAnodes.{reading-of}
 use Rattle.anodes.specs.Loaded.{anodesFrom}
 use Rattle.chains.specs.Predecessors.{Closed}
-use Rattle.chains.proofs.Laws.{fixed-of, view-of, closed-of, linked-of, entry-some, head-table}
+use Rattle.chains.proofs.Laws.{table-at, entry-some, head-table}
 use Rattle.owners.specs.Marks.{OwnersMarked}
 use Rattle.owners.proofs.Shown.{marked-no-owner, marked-table}
 use Rattle.tree.specs.Tree.{HeadTable}
 use Rattle.fsck.specs.Answers.{spaceAnswer, Filled}
 
--- a free anode has no blocks
-free-count : (s : Anodes) (a : ℕ) → inUse s .block a ≡ 0 → inUse s .count a ≡ 0
-unfolding inUse
-free-count s a z = rw (eq-eqb (s .block a) 0 z)
-
 module _ (img c b n : List ℕ) (e : anodesFrom c b n ≡ anodesOf img) where
+  reading : Reading limit (exists img) 0 0 (anodesFrom c b n)
+  reading = rw e (reading-of img 0 0)
+
   pub space-6 : wrongFixed (anodesFrom c b n) ≡ true → 6 ≡ spaceAnswer img (anodesOf img)
   unfolding spaceAnswer
   space-6 t = rw (sym e, t)
@@ -47,75 +47,71 @@ module _ (img c b n : List ℕ) (e : anodesFrom c b n ≡ anodesOf img) where
       unfolding spaceAnswer
       space-8 t = rw (sym e, f6, sym size, f7, t)
 
-      module _ (whole : length b ≡ 3444) where
-        pub view : View 3444 (λ a. getD n a 0) (λ a. getD b a 0)
-        view = view-of c b n img whole e f6
+      pub view : View 3444 (λ a. getD n a 0) (λ a. getD b a 0)
+      unfolding anodesFrom
+      view = tested-view (anodesFrom c b n) f6 reading
 
-        pub closed : Closed n b
-        closed = closed-of c b n k f7 view
+      pub closed : Closed n b
+      unfolding anodesFrom
+      closed = record { next-used = λ a h. next-used (anodesFrom c b n) f6 k f7 a (next-below view a h) h }
 
-        module _ (f8 : wrongLinks (anodesFrom c b n) ≡ false) where
-          pub links : Linked 3444 (λ a. getD n a 0) (λ a. getD b a 0)
-          links = linked-of c b n view closed f8
+      module _ (f8 : wrongLinks (anodesFrom c b n) ≡ false) where
+        pub links : Linked 3444 (λ a. getD n a 0) (λ a. getD b a 0)
+        unfolding anodesFrom
+        links = tested-linked (anodesFrom c b n) f6 reading k f7 f8
 
-          module _ (last : ℕ) (limits : last ≡ lastReserved img) where
-            pub space-9 : wrongFreeList (anodesFrom c b n) last ≡ true → 9 ≡ spaceAnswer img (anodesOf img)
+        module _ (last : ℕ) (limits : last ≡ lastReserved img) where
+          pub space-9 : wrongFreeList (anodesFrom c b n) last ≡ true → 9 ≡ spaceAnswer img (anodesOf img)
+          unfolding spaceAnswer
+          space-9 t = rw (sym e, f6, sym size, f7, f8, sym limits, t)
+
+          module _ (f9 : wrongFreeList (anodesFrom c b n) last ≡ false) where
+            pub space-10 : twoOwners img (anodesFrom c b n) ≡ true → 10 ≡ spaceAnswer img (anodesOf img)
             unfolding spaceAnswer
-            space-9 t = rw (sym e, f6, sym size, f7, f8, sym limits, t)
+            space-10 t = rw (sym e, f6, sym size, f7, f8, sym limits, f9, t)
 
-            module _ (f9 : wrongFreeList (anodesFrom c b n) last ≡ false) where
-              pub space-10 : twoOwners img (anodesFrom c b n) ≡ true → 10 ≡ spaceAnswer img (anodesOf img)
+            module _ (f10 : twoOwners img (anodesFrom c b n) ≡ false) where
+              pub space-11 : noOwner img (anodesFrom c b n) ≡ true → 11 ≡ spaceAnswer img (anodesOf img)
               unfolding spaceAnswer
-              space-10 t = rw (sym e, f6, sym size, f7, f8, sym limits, f9, t)
+              space-11 t = rw (sym e, f6, sym size, f7, f8, sym limits, f9, f10, t)
 
-              module _ (f10 : twoOwners img (anodesFrom c b n) ≡ false) where
-                pub space-11 : noOwner img (anodesFrom c b n) ≡ true → 11 ≡ spaceAnswer img (anodesOf img)
-                unfolding spaceAnswer
-                space-11 t = rw (sym e, f6, sym size, f7, f8, sym limits, f9, f10, t)
+              pub space-none : noOwner img (anodesFrom c b n) ≡ false → 0 ≡ spaceAnswer img (anodesOf img)
+              unfolding spaceAnswer
+              space-none t = rw (sym e, f6, sym size, f7, f8, sym limits, f9, f10, t)
 
-                pub space-none : noOwner img (anodesFrom c b n) ≡ false → 0 ≡ spaceAnswer img (anodesOf img)
-                unfolding spaceAnswer
-                space-none t = rw (sym e, f6, sym size, f7, f8, sym limits, f9, f10, t)
+        -- the table of heads
+        module _ (t t₀ : List ℕ) (is : t ≡ anodeTable (anodesFrom c b n) ++ drop 3444 t₀) where
+          pub heads-kept : drop limit t ≡ drop limit t₀
+          unfolding anodeTable
+          heads-kept = ap (λ (l : List ℕ). drop limit l) is ∙ drop-at (anodeTable (anodesFrom c b n)) (drop limit t₀) limit (length-listed (anodeEntry (anodesFrom c b n)) 0 limit)
 
-          -- the table of heads
-          module _ (t t₀ : List ℕ) (is : t ≡ anodeTable (anodesFrom c b n) ++ drop 3444 t₀) where
-            pub heads-kept : drop limit t ≡ drop limit t₀
-            unfolding anodeTable
-            heads-kept = ap (λ (l : List ℕ). drop limit l) is ∙ drop-at (anodeTable (anodesFrom c b n)) (drop limit t₀) limit (length-listed (anodeEntry (anodesFrom c b n)) 0 limit)
+          pub heads-some : (a : ℕ) → a ≢ 0 → getD b a 0 ≢ 0 → getD t a 0 ≢ 0
+          unfolding anodesFrom
+          heads-some = entry-some (anodesFrom c b n) view links t (drop 3444 t₀) is
 
-            pub heads-some : (a : ℕ) → a ≢ 0 → getD b a 0 ≢ 0 → getD t a 0 ≢ 0
-            unfolding anodesFrom
-            heads-some = entry-some (anodesFrom c b n) view links t (drop 3444 t₀) is
+          heads-table : HeadTable t (anodesFrom c b n)
+          unfolding anodesFrom
+          heads-table = head-table (anodesFrom c b n) view links t (drop 3444 t₀) is
 
-            heads-table : HeadTable t (anodesFrom c b n)
-            unfolding anodesFrom
-            heads-table = head-table (anodesFrom c b n) view links t (drop 3444 t₀) is
+          used : (a : ℕ) → 0 < anodesFrom c b n .count a → anodesFrom c b n .block a ≢ 0
+          used a some z = omega (arith, reading .free-count a z)
 
-            head-at : (a : ℕ) → a < limit → getD t a 0 ≡ anodeEntry (anodesFrom c b n) a
-            unfolding anodeTable
-            head-at a l =
-                let s = anodesFrom c b n in
-                rw is (List·getD-append (anodeTable s) (drop 3444 t₀) 0 a (rw (length-listed (anodeEntry s) 0 limit) l) ∙ getD-listed (anodeEntry s) 0 limit a 0 l ∙ ap (anodeEntry s) (zero-add a))
+          heads-are : (a : ℕ) → a < 3444 → 0 < anodesFrom c b n .count a → getD t a 0 ≡ chainHead (anodesFrom c b n) a
+          unfolding anodeEntry anodesFrom
+          heads-are a l some =
+              table-at (anodesFrom c b n) view links t (drop 3444 t₀) is a l
+              ∙ rw (ne-eqb a 0 (λ z. omega (arith, ap (anodesFrom c b n .count) z, fixed-anodes (anodesFrom c b n) f6 .count-0)), ne-eqb (anodesFrom c b n .block a) 0 (used a some))
 
-            used : (a : ℕ) → 0 < anodesFrom c b n .count a → anodesFrom c b n .block a ≢ 0
-            unfolding anodesOf
-            used a some z = omega (arith, ap (λ (s : Anodes). s .count a) e, free-count (fieldsOf _) a (sym (ap (λ (s : Anodes). s .block a) e) ∙ z))
-
-            heads-are : (a : ℕ) → a < 3444 → 0 < anodesFrom c b n .count a → getD t a 0 ≡ chainHead (anodesFrom c b n) a
-            unfolding anodeEntry
-            heads-are a l some =
-                head-at a l ∙ rw (ne-eqb a 0 (λ z. omega (arith, ap (anodesFrom c b n .count) z, fixed-of (anodesFrom c b n) f6 .count-0)), ne-eqb (anodesFrom c b n .block a) 0 (used a some))
-
-            -- both tables, once the owners are marked
-            pub shown : (u u₀ : List ℕ) → drop (diskSize img) u ≡ drop (diskSize img) u₀ → diskSize img ≤ length u → OwnersMarked img (anodesFrom c b n) t u
-                → Filled img (anodesOf img) u₀ t₀ u t × HeadTable t (anodesOf img)
-            shown u u₀ kept room m = (
-              record {
-                blocks-shown = rw (sym e, sym kept) (marked-table img (anodesFrom c b n) t heads-are u room m);
-                anodes-shown = rw (sym e) is;
-              },
-              rw (sym e) heads-table,
-            )
+          -- both tables, once the owners are marked
+          pub shown : (u u₀ : List ℕ) → drop (diskSize img) u ≡ drop (diskSize img) u₀ → diskSize img ≤ length u → OwnersMarked img (anodesFrom c b n) t u
+              → Filled img (anodesOf img) u₀ t₀ u t × HeadTable t (anodesOf img)
+          shown u u₀ kept room m = (
+            record {
+              blocks-shown = rw (sym e, sym kept) (marked-table img (anodesFrom c b n) t heads-are u room m);
+              anodes-shown = rw (sym e) is;
+            },
+            rw (sym e) heads-table,
+          )
 
 pub last-of : (img block : List ℕ) (root : Root) → block ≡ blockOf img 2 → root ≡ rootIn block → root .last .0 ≡ lastReserved img
 unfolding lastReserved

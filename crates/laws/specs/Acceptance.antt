@@ -1,13 +1,13 @@
 -- The check's table: its answer is 0 exactly if every test fails, and what the tests 6 to 11 say in numbers.
 use Prim.Native.Nat.{ℕ, zero, suc, _+_, _%_, _≤_, _<_}
-use mathlib.Core.Path.{_≡_, refl, sym, ap, _∙_}
+use mathlib.Core.Path.{_≡_, refl, sym}
 use mathlib.Core.Logic.{_≢_, inl, inr}
 use mathlib.Core.Bool.{Bool, true, false, not, _&&_, _||_}
 use mathlib.Core.List.{List, [], _∷_}
 use native.Mathlib.Omega.{arith}
 use lib.Dec.{eqb, leb, ltb}
 use lib.ListN.{length}
-use borrow.Author.Tests.{ltb-true, ltb-false, leb-false, eqb-true, eqb-false, not-true, not-false, lt-ltb, le-ltb, lt-leb, eq-eqb, ne-eqb}
+use borrow.Author.Tests.{ltb-true, ltb-false, leb-false, eqb-false, not-true, lt-ltb, le-ltb, lt-leb, eq-eqb, ne-eqb}
 use Rattle.rules.specs.Counting.{_if_else_, firstOf, anyBelow, anyIn, times}
 use Rattle.rules.specs.Anodes.{Anodes, limit, anodesOf}
 use Rattle.rules.specs.Chains.{chainOf, followed, preds, owners, side}
@@ -16,34 +16,9 @@ use Rattle.rules.specs.Accepted.{diskSize, wrongSize, shortTables, wrongType, l
 use Rattle.counting.specs.Laws.{neither, anyBelow-each, anyBelow-all}
 use Rattle.laws.specs.Sums.{oneAt-cases, oneAt-same}
 use Rattle.laws.specs.Bags.{times-nil, times-cons}
-use Rattle.laws.specs.Tests.{same?}
-use Rattle.laws.specs.Segments.{followed-zero}
+use Rattle.laws.specs.Tests.{and-none, none-and, none-or, same}
+use Rattle.laws.specs.TestsPassed.{FixedAnodes, fixed-anodes, extent-inside, next-used, one-pred, chain-ends}
 use Rattle.laws.specs.Passes.{Reading, Passes}
-
--- ---- Booleans
-
-pub none-or : (a b : Bool) → a ≡ false → b ≡ false → (a || b) ≡ false
-none-or a b p q = rw (p, q)
-
--- a conjunction that fails, given its first part
-pub and-none : (a b : Bool) → (a && b) ≡ false → a ≡ true → b ≡ false
-and-none a b e t = rw t at e
-
-pub none-and : (a b : Bool) → (a ≡ true → b ≡ false) → (a && b) ≡ false
-none-and true b f = f refl
-none-and false b f = refl
-
--- a conjunction that holds
-pub and-both : (a b : Bool) → (a && b) ≡ true → (a ≡ true) × (b ≡ true)
-and-both true b e = (refl, e)
-and-both false b e = absurd (let z : _≡_ {A = ℕ} 0 1 = cc in omega arith)
-
--- a number that is another, and one that is the same
-pub other : (a b : ℕ) → a ≢ b → not (eqb a b) ≡ true
-other a b p = rw (ne-eqb a b p)
-
-pub same : (a b : ℕ) → a ≡ b → not (eqb a b) ≡ false
-same a b p = rw (eq-eqb a b p)
 
 -- no number of a list passes
 pub in-none : (test : ℕ → Bool) (l : List ℕ) → anyIn test l ≡ false → (x : ℕ) → 0 < times x l → test x ≡ false
@@ -156,19 +131,19 @@ module _ (s : Anodes) (n last : ℕ) (system : ℕ → ℕ) (ex : ℕ → Bool) 
 
   -- where no test holds, the same is true in numbers, and what is proved of accepted images stands on that form
   pub tested-passes : Reading limit ex n last s → Tested → Passes limit ex n last s system
-  unfolding wrongFixed outOfRange wrongLinks wrongAt wrongLink hasPred wrongFreeList notAbove notUpTo
+  unfolding wrongLinks hasPred wrongFreeList notAbove notUpTo
   tested-passes r t = record {
-    count-0 = eqb-true _ _ (f0 .0);
-    block-0 = eqb-true _ _ (f00 .0);
-    next-0 = eqb-true _ _ (f00 .1);
-    count-1 = eqb-true _ _ (f1 .0);
-    block-1 = eqb-true _ _ (f1 .1);
-    block-2 = eqb-false _ _ (k2 .0);
-    block-5 = eqb-false _ _ (k2 .1);
-    fits = fits;
-    closed = closed;
-    one-pred = λ x x0 u. ltb-false 1 _ (link x x0 u .0);
-    ends = ends;
+    count-0 = fixed .count-0;
+    block-0 = fixed .block-0;
+    next-0 = fixed .next-0;
+    count-1 = fixed .count-1;
+    block-1 = fixed .block-1;
+    block-2 = fixed .block-2;
+    block-5 = fixed .block-5;
+    fits = extent-inside s (t .fixed-right) n (t .in-range);
+    closed = next-used s (t .fixed-right) n (t .in-range);
+    one-pred = λ x x0 u. one-pred s (t .fixed-right) (t .links-right) x (r .low x u) x0 u;
+    ends = λ a u. chain-ends s (t .fixed-right) (t .links-right) a (r .low a u) u;
     first-1 = none-before 1 (p1 .0);
     first-3 = none-before 3 (p3 .0);
     first-4 = none-before 4 (p4 .0);
@@ -183,44 +158,11 @@ module _ (s : Anodes) (n last : ℕ) (system : ℕ → ℕ) (ex : ℕ → Bool) 
       positive : (k : ℕ) → k ≢ 0 → 1 ≤ k
       positive k p = omega arith
 
-      g : (not (eqb (s .count 0) 0 && (eqb (s .block 0) 65535 && eqb (s .next 0) 0)) ≡ false) × ((not (eqb (s .count 1) 0 && eqb (s .block 1) 65535) || (eqb (s .block 2) 0 || eqb (s .block 5) 0)) ≡ false)
-      g = neither _ _ (t .fixed-right)
-
-      g1 : (not (eqb (s .count 1) 0 && eqb (s .block 1) 65535) ≡ false) × ((eqb (s .block 2) 0 || eqb (s .block 5) 0) ≡ false)
-      g1 = neither _ _ (g .1)
-
-      f0 : (eqb (s .count 0) 0 ≡ true) × ((eqb (s .block 0) 65535 && eqb (s .next 0) 0) ≡ true)
-      f0 = and-both _ _ (not-false _ (g .0))
-
-      f00 : (eqb (s .block 0) 65535 ≡ true) × (eqb (s .next 0) 0 ≡ true)
-      f00 = and-both _ _ (f0 .1)
-
-      f1 : (eqb (s .count 1) 0 ≡ true) × (eqb (s .block 1) 65535 ≡ true)
-      f1 = and-both _ _ (not-false _ (g1 .0))
-
-      k2 : (eqb (s .block 2) 0 ≡ false) × (eqb (s .block 5) 0 ≡ false)
-      k2 = neither _ _ (g1 .1)
-
-      range : (a : ℕ) → a < limit → a ≢ 0 → ((ltb 0 (s .count a) && ltb n (s .block a + s .count a)) ≡ false) × ((not (eqb (s .next a) 0) && eqb (s .block (s .next a)) 0) ≡ false)
-      range a l a0 = neither _ _ (and-none (not (eqb a 0)) _ (anyBelow-each (outOfRange s n) a limit l (t .in-range)) (other a 0 a0))
-
-      fits : (a : ℕ) → a < limit → 0 < s .count a → s .block a + s .count a ≤ n
-      fits a l c = elim (same? a 0) [
-        | inl e ↦ absurd (omega (arith, c, ap (s .count) e, eqb-true (s .count 0) 0 (f0 .0)))
-        | inr e ↦ ltb-false n _ (and-none _ _ (range a l e .0) (lt-ltb 0 _ c))
-      ]
-
-      closed : (a : ℕ) → a < limit → s .next a ≢ 0 → s .block (s .next a) ≢ 0
-      closed a l h = elim (same? a 0) [
-        | inl e ↦ absurd (h (ap (s .next) e ∙ eqb-true (s .next 0) 0 (f00 .1)))
-        | inr e ↦ eqb-false _ 0 (and-none _ _ (range a l e .1) (other (s .next a) 0 h))
-      ]
-
-      o : (anyBelow (wrongAt s) limit ≡ false) × ((hasPred s 1 || (hasPred s 3 || (hasPred s 4 || hasPred s 5))) ≡ false)
-      o = neither _ _ (t .links-right)
+      fixed : FixedAnodes s
+      fixed = fixed-anodes s (t .fixed-right)
 
       p1 : (hasPred s 1 ≡ false) × ((hasPred s 3 || (hasPred s 4 || hasPred s 5)) ≡ false)
-      p1 = neither _ _ (o .1)
+      p1 = neither _ _ (neither (anyBelow (wrongAt s) limit) _ (t .links-right) .1)
 
       p3 : (hasPred s 3 ≡ false) × ((hasPred s 4 || hasPred s 5) ≡ false)
       p3 = neither _ _ (p1 .1)
@@ -230,15 +172,6 @@ module _ (s : Anodes) (n last : ℕ) (system : ℕ → ℕ) (ex : ℕ → Bool) 
 
       none-before : (a : ℕ) → hasPred s a ≡ false → preds limit (s .next) a ≡ 0
       none-before a e = omega (arith, ltb-false 0 (preds limit (s .next) a) e)
-
-      link : (x : ℕ) → x ≢ 0 → s .block x ≢ 0 → (ltb 1 (preds limit (s .next) x) ≡ false) × (not (eqb (followed (s .next) limit x) 0) ≡ false)
-      link x x0 u = neither _ _ (and-none _ _ (and-none _ _ (anyBelow-each (wrongAt s) x limit (r .low x u) (o .0)) (other x 0 x0)) (other (s .block x) 0 u))
-
-      ends : (a : ℕ) → s .block a ≢ 0 → followed (s .next) limit a ≡ 0
-      ends a u = elim (same? a 0) [
-        | inl e ↦ rw e (followed-zero (s .next) limit (eqb-true _ _ (f00 .1)))
-        | inr e ↦ eqb-true _ 0 (not-false _ (link a e u .1))
-      ]
 
       w : (eqb (times 2 (chainOf (s .next) limit 1)) 0 ≡ false) × ((anyIn (notAbove s last) (side limit s 1) || anyIn (notUpTo s last) (chainOf (s .next) limit 2)) ≡ false)
       w = neither _ _ (t .free-right)

@@ -15,6 +15,7 @@ pub mod Cut
 pub mod Space
 pub mod Sides
 pub mod Passes
+pub mod TestsPassed
 pub mod Owners
 pub mod Searches
 pub mod Moves

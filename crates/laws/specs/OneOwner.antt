@@ -13,7 +13,7 @@ use Rattle.rules.specs.Chains.{followed, heads, headOf, systemOwns, cut}
 use Rattle.rules.specs.Walk.{Dir, Item, Walk, fault, done, walkOf, faultIn, dirsIn, itemsOf, reached, reachedDirs, naming, root}
 use Rattle.rules.specs.Accepted.{diskSize, lastReserved, ownersOf, twoOwners, noOwner, unnamed, unnamedChain, checkAnswer}
 use Rattle.counting.specs.Laws.{anyBelow-each}
-use Rattle.laws.specs.Tests.{same?}
+use Rattle.laws.specs.Tests.{same?, and-none}
 use Rattle.laws.specs.Bags.{times-nil, list-congr, gather-sum}
 use Rattle.laws.specs.Heads.{Head}
 use Rattle.laws.specs.Space.{Good}
@@ -21,7 +21,7 @@ use Rattle.laws.specs.Passes.{Passes, good-of}
 use Rattle.laws.specs.Items.{names-sum, namedIn}
 use Rattle.laws.specs.Walks.{walk-found}
 use Rattle.laws.specs.Whole.{counts-head}
-use Rattle.laws.specs.Acceptance.{and-none, Passed, passed-of, Tested, tested-passes}
+use Rattle.laws.specs.Acceptance.{Passed, passed-of, Tested, tested-passes}
 use Rattle.laws.specs.ImageAnodes.{reading-of}
 
 -- every block of the image has one owner, every chain ends, and every chain in use is named once

@@ -2,10 +2,11 @@
 use Prim.Native.Nat.{ℕ, zero, suc, _≤_, _<_}
 use mathlib.Core.Path.{_≡_, refl}
 use mathlib.Core.Logic.{_≢_, _⊎_, inl, inr}
-use mathlib.Core.Bool.{Bool, true, false, cond, _&&_, _||_}
+use mathlib.Core.Bool.{Bool, true, false, cond, not, _&&_, _||_}
 use native.Mathlib.Omega.{arith}
 use native.Mathlib.Decide.{ℕ-discrete, decLt}
 use lib.Dec.{T, eqb, eqb-refl}
+use borrow.Author.Tests.{eq-eqb, ne-eqb}
 use Rattle.rules.specs.Counting.{_if_else_, anyBelow}
 
 pub same? : (a b : ℕ) → (a ≡ b) ⊎ (a ≢ b)
@@ -74,3 +75,28 @@ some-any t (suc k) i l h = go (some-any t k i) (same? i k)
     go : (i < k → T (t i) → T (anyBelow t k)) → (i ≡ k) ⊎ (i ≢ k) → T (anyBelow t k || t k)
     go r (inl e) = or-right (anyBelow t k) (t k) (rw e at h)
     go r (inr e) = or-left (anyBelow t k) (t k) (r (omega arith) h)
+
+-- ---- tests that fail
+
+pub none-or : (a b : Bool) → a ≡ false → b ≡ false → (a || b) ≡ false
+none-or a b p q = rw (p, q)
+
+-- a conjunction that fails, given its first part
+pub and-none : (a b : Bool) → (a && b) ≡ false → a ≡ true → b ≡ false
+and-none a b e t = rw t at e
+
+pub none-and : (a b : Bool) → (a ≡ true → b ≡ false) → (a && b) ≡ false
+none-and true b f = f refl
+none-and false b f = refl
+
+-- a conjunction that holds
+pub and-both : (a b : Bool) → (a && b) ≡ true → (a ≡ true) × (b ≡ true)
+and-both true b e = (refl, e)
+and-both false b e = absurd (let z : _≡_ {A = ℕ} 0 1 = cc in omega arith)
+
+-- a number that is another, and one that is the same
+pub other : (a b : ℕ) → a ≢ b → not (eqb a b) ≡ true
+other a b p = rw (ne-eqb a b p)
+
+pub same : (a b : ℕ) → a ≡ b → not (eqb a b) ≡ false
+same a b p = rw (eq-eqb a b p)

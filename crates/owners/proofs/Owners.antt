@@ -1,19 +1,20 @@
 -- The owners and entries that are marked so far, slot by slot and anode by anode. Assumes nothing.
 use mathlib.Core.Path.{_≡_, refl, sym, _∙_}
 use mathlib.Core.Logic.{_≢_, inl, inr}
-use mathlib.Core.Bool.{true, false, cond, true≢false}
+use mathlib.Core.Bool.{true, false, cond}
 use mathlib.Core.List.{List}
 use Prim.Native.Nat.{ℕ, _+_, _*_, _<_, _≤_}
 use native.Mathlib.Omega.{arith}
 use native.Mathlib.Nat.{zero-add, add-zero}
 use lib.Dec.{eqb, ltb}
 use lib.ListN.{getD}
-use borrow.Author.Tests.{lt-ltb, le-ltb, le-leb, eq-eqb, ne-eqb}
+use borrow.Author.Tests.{lt-ltb, le-ltb, eq-eqb, ne-eqb}
 use Rattle.disk.specs.Root.{slotOf}
-use Rattle.rules.specs.Counting.{sumBelow, anyBelow}
+use Rattle.rules.specs.Counting.{sumBelow}
 use Rattle.rules.specs.Chains.{covers, holds, systemOwns, owners}
-use Rattle.rules.specs.Accepted.{diskSize, wrongSize, wrongSlot, wrongSlots, wrongFixed, outOfRange, ownersOf, twoOwners}
-use Rattle.counting.specs.Laws.{neither, anyBelow-hit, anyBelow-each, anyBelow-all, sumBelow-none, sumBelow-more, sumBelow-upto}
+use Rattle.rules.specs.Accepted.{diskSize, wrongSize, wrongSlots, ownersOf, twoOwners}
+use Rattle.counting.specs.Laws.{anyBelow-hit, anyBelow-all, sumBelow-none, sumBelow-more, sumBelow-upto}
+use Rattle.laws.specs.TestsPassed.{right-slot}
 use Rattle.laws.specs.Acceptance.{size-bounds}
 use Rattle.laws.specs.Tests.{same?, less?}
 use Rattle.laws.specs.Sums.{oneAt-same, oneAt-other, sum-zero, sum-none}
@@ -29,36 +30,10 @@ pub size-some : (img : List ℕ) → wrongSize img ≡ false → 3 ≤ diskSize 
 size-some img h = omega (arith, size-bounds img h .0)
 
 -- a slot's block is above the root block and on the disk
-pub slot-within : (img : List ℕ) (s b : ℕ) → wrongSlots img ≡ false → s < 42 → slotOf img s ≡ b → b ≢ 0 → (3 ≤ b) × (b + 1 ≤ diskSize img)
-unfolding wrongSlots wrongSlot
-slot-within img s b h l e some =
-    let w = anyBelow-each (wrongSlot img) s 42 l (neither (eqb (slotOf img 0) 0) (anyBelow (wrongSlot img) 42) h .1) in
-    let low : 3 ≤ b = elim (less? b 3) [
-      | inl m ↦ absurd (true≢false (rw (e, ne-eqb b 0 some, lt-ltb b 3 m) at w))
-      | inr m ↦ m
-    ] in
-    elim (less? b (diskSize img)) [
-      | inl m ↦ (low, omega arith)
-      | inr m ↦ absurd (true≢false (rw (e, ne-eqb b 0 some, le-ltb b 3 low, le-leb (diskSize img) b m) at w))
-    ]
-
-module _ (c f nexts : List ℕ) (fixed : wrongFixed (anodesFrom c f nexts) ≡ false) where
-  -- anode 0 has no blocks
-  pub none-at-zero : getD c 0 0 ≡ 0
-  unfolding wrongFixed anodesFrom
-  none-at-zero = elim (same? (getD c 0 0) 0) [ inl e ↦ e | inr e ↦ absurd (true≢false (rw (ne-eqb (getD c 0 0) 0 e) at fixed)) ]
-
-  -- an anode's blocks are on the disk
-  pub extent-within : (n : ℕ) → anyBelow (outOfRange (anodesFrom c f nexts) n) 3444 ≡ false → (a : ℕ) → a < 3444 → 0 < getD c a 0
-      → getD f a 0 + getD c a 0 ≤ n
-  unfolding outOfRange anodesFrom
-  extent-within n h a l some =
-      let w = anyBelow-each (outOfRange (anodesFrom c f nexts) n) a 3444 l h in
-      let pos : a ≢ 0 = λ e. omega (arith, none-at-zero, rw e at some) in
-      elim (less? n (getD f a 0 + getD c a 0)) [
-        | inl m ↦ absurd (true≢false (rw (ne-eqb a 0 pos, lt-ltb 0 (getD c a 0) some, lt-ltb n (getD f a 0 + getD c a 0) m) at w))
-        | inr m ↦ m
-      ]
+pub slot-within : (img : List ℕ) (s b : ℕ) → wrongSlots img ≡ false → slotOf img s ≡ b → b ≢ 0 → (3 ≤ b) × (b + 1 ≤ diskSize img)
+slot-within img s b h e some =
+    let right = right-slot img h s (λ z. some (sym e ∙ z)) in
+    (omega (arith, e, right .above), omega (arith, e, right .below))
 
 -- ---- the system's blocks
 

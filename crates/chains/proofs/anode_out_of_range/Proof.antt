@@ -16,19 +16,19 @@ entry-requires c κs = search needs
 entry-requires-2 : tie.Need-entry-requires-2
 entry-requires-2 c κs = search needs
 
-past-end-requires : tie.Need-past-end-requires
-past-end-requires c κs = search needs
+ends-past-requires : tie.Need-ends-past-requires
+ends-past-requires c κs = search needs
 
 returns-2 : tie.Need-returns-2
 unfolding outOfRange anodesFrom
-returns-2 c = simp (ne-eqb _ _ (c .before .before .before .before .if1 .left), sym (c .before .before .before .entry .ensures), sym (c .before .before .entry2 .ensures), sym (c .before .past-end .ensures), c .if2 .taken)
+returns-2 c = simp (ne-eqb _ _ (c .before .before .before .before .if1 .left), sym (c .before .before .before .entry .ensures), sym (c .before .before .entry2 .ensures), sym (c .before .ends-past .ensures), c .if2 .taken)
 
 entry-requires-3 : tie.Need-entry-requires-3
 entry-requires-3 c κs = search needs
 
 returns-3 : tie.Need-returns-3
 unfolding outOfRange anodesFrom
-returns-3 c = simp (ne-eqb _ _ (c .before .before .before .before .before .before .if1 .left), sym (c .before .before .before .before .before .entry .ensures), sym (c .before .before .before .before .entry2 .ensures), sym (c .before .before .before .past-end .ensures), c .before .before .if2 .left, sym (c .before .entry3 .ensures), eq-eqb _ _ (c .if3 .taken))
+returns-3 c = simp (ne-eqb _ _ (c .before .before .before .before .before .before .if1 .left), sym (c .before .before .before .before .before .entry .ensures), sym (c .before .before .before .before .entry2 .ensures), sym (c .before .before .before .ends-past .ensures), c .before .before .if2 .left, sym (c .before .entry3 .ensures), eq-eqb _ _ (c .if3 .taken))
 
 cast-entry : tie.Need-cast-entry
 cast-entry c = search needs
@@ -38,7 +38,7 @@ entry-requires-4 c κs = search needs
 
 returns-4 : tie.Need-returns-4
 unfolding outOfRange anodesFrom
-returns-4 c = simp (ne-eqb _ _ (c .before .before .before .before .before .before .before .if1 .left), sym (c .before .before .before .before .before .before .entry .ensures), sym (c .before .before .before .before .before .entry2 .ensures), sym (c .before .before .before .before .past-end .ensures), c .before .before .before .if2 .left, sym (c .before .before .entry3 .ensures), ne-eqb _ _ (c .before .if3 .left), c .entry4 .ensures)
+returns-4 c = simp (ne-eqb _ _ (c .before .before .before .before .before .before .before .if1 .left), sym (c .before .before .before .before .before .before .entry .ensures), sym (c .before .before .before .before .before .entry2 .ensures), sym (c .before .before .before .before .ends-past .ensures), c .before .before .before .if2 .left, sym (c .before .before .entry3 .ensures), ne-eqb _ _ (c .before .if3 .left), c .entry4 .ensures)
 
 pub anode-out-of-range-spec : {M : Type 1} → statement M
 anode-out-of-range-spec =
@@ -47,7 +47,7 @@ anode-out-of-range-spec =
     returns
     entry-requires
     entry-requires-2
-    past-end-requires
+    ends-past-requires
     returns-2
     entry-requires-3
     returns-3

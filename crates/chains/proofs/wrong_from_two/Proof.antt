@@ -30,15 +30,18 @@ entry-requires c κs = search needs
 entry-requires-2 : tie.Need-entry-requires-2 Inv-loop μ-loop
 entry-requires-2 c κs = search needs
 
-not-up-to-requires : tie.Need-not-up-to-requires Inv-loop μ-loop
-not-up-to-requires c κs = search needs
+add-ends-past : tie.Need-add-ends-past Inv-loop μ-loop
+add-ends-past c = search needs
+
+ends-past-requires : tie.Need-ends-past-requires Inv-loop μ-loop
+ends-past-requires c κs = search needs
 
 returns-2 : tie.Need-returns-2 Inv-loop μ-loop
 unfolding notUpTo anodesFrom
 returns-2 c =
     let l = c .before .before .before .before .before .before .loop in
     sym (along-hit _ _ (l .fuel) (l .fuel - 1) (l .at) (omega arith) (c .before .before .before .before .if1 .left)
-    (rw (← c .before .before .before .entry .ensures, ← c .before .before .entry2 .ensures) (sym (c .before .not-up-to .ensures) ∙ c .if2 .taken)))
+    (rw (← c .before .before .before .entry .ensures, ← c .before .before .entry2 .ensures) (sym (c .before .ends-past .ensures) ∙ c .if2 .taken)))
     ∙ l .inv
 
 entry-requires-3 : tie.Need-entry-requires-3 Inv-loop μ-loop
@@ -59,7 +62,7 @@ loop-again c =
     let l = c .before .before .before .before .before .before .before .loop in
     rw (c .entry3 .ensures)
     (sym (along-step _ _ (l .fuel) (l .fuel - 1) (l .at) (omega arith) (c .before .before .before .before .before .if1 .left)
-    (rw (← c .before .before .before .before .entry .ensures, ← c .before .before .before .entry2 .ensures) (sym (c .before .before .not-up-to .ensures) ∙ c .before .if2 .left)))
+    (rw (← c .before .before .before .before .entry .ensures, ← c .before .before .before .entry2 .ensures) (sym (c .before .before .ends-past .ensures) ∙ c .before .if2 .left)))
     ∙ l .inv)
 
 returns-3 : tie.Need-returns-3 Inv-loop μ-loop
@@ -75,7 +78,8 @@ wrong-from-two-spec =
     returns
     entry-requires
     entry-requires-2
-    not-up-to-requires
+    add-ends-past
+    ends-past-requires
     returns-2
     entry-requires-3
     cast-at

@@ -4,9 +4,11 @@ use Prim.Native.Nat.{_-_, _≤_}
 use native.Mathlib.Omega.{arith}
 use lib.ListN.{length, drop}
 use Rattle.rules.specs.Accepted.{diskSize}
+use Rattle.anodes.specs.Loaded.{anodesFrom}
+use Rattle.laws.specs.TestsPassed.{fixed-anodes, extent-inside}
 use Rattle.owners.specs.Marks.{Marked}
 use Rattle.owners.proofs.Laws.{kept-drop}
-use Rattle.owners.proofs.Owners.{size-some, none-at-zero, extent-within, ownersBelow, entryBelow, anode-first, anode-more, head-some, anode-hit, system-twice, two-owners, one-owner, anode-done}
+use Rattle.owners.proofs.Owners.{size-some, ownersBelow, entryBelow, anode-first, anode-more, head-some, anode-hit, system-twice, two-owners, one-owner, anode-done}
 use borrow.Author.Needs.{needs}
 use Rattle.owners.proofs.mark_owners.Statement.{statement}
 use Rattle.owners.proofs.mark_owners.Tie as tie
@@ -50,19 +52,21 @@ shared-slice-read-mark-run-3 : tie.Need-shared-slice-read-mark-run-3 Inv-loop μ
 shared-slice-read-mark-run-3 c = search needs
 
 mark-run-requires : tie.Need-mark-run-requires Inv-loop μ-loop
+unfolding anodesFrom
 mark-run-requires c κs = λ z.
     let s = c .before .before .before .before .before .before .before .before .before .before .before .before .before .before .before .before .pre .1 .1 .1 .0 in
-    let w = extent-within _ _ (s .0) (s .1) _ (s .2) (c .before .before .before .before .before .loop .a) (c .before .before .before .before .loop-test .taken) z in
+    let w = extent-inside _ (s .1) _ (s .2) (c .before .before .before .before .before .loop .a) (c .before .before .before .before .loop-test .taken) z in
     search needs
 
 same-length-2 : tie.Need-same-length-2 Inv-loop μ-loop
 same-length-2 c = search needs
 
 returns-2 : tie.Need-returns-2 Inv-loop μ-loop
+unfolding anodesFrom
 returns-2 c =
     let l = c .before .before .before .before .before .before .before .before .before .loop in
     let s = c .before .before .before .before .before .before .before .before .before .before .before .before .before .before .before .before .before .before .before .before .pre .1 .1 .1 .0 in
-    let within = extent-within _ _ (s .0) (s .1) _ (s .2) (l .a) (c .before .before .before .before .before .before .before .before .loop-test .taken) in
+    let within = extent-inside _ (s .1) _ (s .2) (l .a) (c .before .before .before .before .before .before .before .before .loop-test .taken) in
     let o = anode-hit _ _ _ _ _ (l .a) _ (l .inv .3) (c .before .before .before .before .before .before .before .before .loop-test .taken) (rw (c .if2 .taken) at (c .before .before .before .mark-run .ensures .0)) within in
     (λ n. sym (two-owners _ _ _ n o), (λ e. absurd (true≢false e), kept-drop _ _ _ _ _ (c .before .before .before .mark-run .ensures .1) within (search needs) ∙ l .inv .2 ∙ c .before .before .before .before .before .before .before .before .before .before .before .before .before .mark-system .ensures .1))
 
@@ -73,13 +77,14 @@ loop-less : tie.Need-loop-less Inv-loop μ-loop
 loop-less c = search needs
 
 loop-again : tie.Need-loop-again Inv-loop μ-loop
+unfolding anodesFrom
 loop-again c =
     let l = c .before .before .before .before .before .before .before .before .before .loop in
     let s = c .before .before .before .before .before .before .before .before .before .before .before .before .before .before .before .before .before .before .before .before .pre .1 .1 .1 .0 in
-    let within = extent-within _ _ (s .0) (s .1) _ (s .2) (l .a) (c .before .before .before .before .before .before .before .before .loop-test .taken) in
+    let within = extent-inside _ (s .1) _ (s .2) (l .a) (c .before .before .before .before .before .before .before .before .loop-test .taken) in
     let size = size-some _ (c .before .before .before .before .before .before .before .before .before .before .before .before .before .before .before .before .before .before .before .before .pre .1 .0 .0) in
     let run = rw (c .if2 .left) at (c .before .before .before .mark-run .ensures .0) in
-    let some = head-some _ _ _ _ _ (l .a) _ (l .inv .3) _ run (omega arith) (none-at-zero _ _ (s .0) (s .1)) (c .before .before .before .before .before .before .before .before .before .before .before .before .before .before .before .before .before .before .before .before .pre .1 .1 .1 .1 (l .a)) in (
+    let some = head-some _ _ _ _ _ (l .a) _ (l .inv .3) _ run (omega arith) (fixed-anodes _ (s .1) .count-0) (c .before .before .before .before .before .before .before .before .before .before .before .before .before .before .before .before .before .before .before .before .pre .1 .1 .1 .1 (l .a)) in (
       search needs,
       search needs,
       kept-drop _ _ _ _ _ (c .before .before .before .mark-run .ensures .1) within (search needs) ∙ l .inv .2,

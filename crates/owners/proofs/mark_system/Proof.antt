@@ -46,7 +46,7 @@ loop-again c =
     (search needs, search needs, search needs, system-skip _ _ _ _ (l .inv .3) (sym (c .before .before .slot-of .ensures) ∙ c .if2 .taken))
 
 mark-run-requires-2 : tie.Need-mark-run-requires-2 Inv-loop μ-loop
-mark-run-requires-2 c κs = λ z. let h = slot-within _ _ _ (c .before .before .before .before .before .before .before .before .before .before .before .before .before .pre .0 .1) (c .before .before .before .before .loop-test .taken) (sym (c .before .before .before .slot-of .ensures)) (c .before .if2 .left) in search needs
+mark-run-requires-2 c κs = λ z. let h = slot-within _ _ _ (c .before .before .before .before .before .before .before .before .before .before .before .before .before .pre .0 .1) (sym (c .before .before .before .slot-of .ensures)) (c .before .if2 .left) in search needs
 
 same-length-2 : tie.Need-same-length-2 Inv-loop μ-loop
 same-length-2 c = search needs
@@ -56,7 +56,7 @@ returns-2 c =
     let b = sym (c .before .before .before .before .before .before .before .slot-of .ensures) in
     let l = c .before .before .before .before .before .before .before .before .before .loop in
     let h = size-some _ (c .before .before .before .before .before .before .before .before .before .before .before .before .before .before .before .before .before .pre .0 .0) in
-    let w = slot-within _ _ _ (c .before .before .before .before .before .before .before .before .before .before .before .before .before .before .before .before .before .pre .0 .1) (c .before .before .before .before .before .before .before .before .loop-test .taken) b (c .before .before .before .before .before .if2 .left) in (
+    let w = slot-within _ _ _ (c .before .before .before .before .before .before .before .before .before .before .before .before .before .before .before .before .before .pre .0 .1) b (c .before .before .before .before .before .if2 .left) in (
       system-hit _ _ _ _ (l .inv .3) _ (c .before .before .before .before .before .before .before .before .loop-test .taken) b (c .before .before .before .before .before .if2 .left) (w .0) (w .1) (rw (c .if3 .taken) at (c .before .before .before .mark-run2 .ensures .0)),
       kept-drop _ _ _ 1 _ (c .before .before .before .mark-run2 .ensures .1) (λ z. w .1) (search needs) ∙ l .inv .2 ∙ kept-drop _ _ 0 3 _ (c .before .before .before .before .before .before .before .before .before .before .before .before .before .mark-run .ensures .1) (λ z. h) (search needs),
     )
@@ -71,7 +71,7 @@ loop-again-2 : tie.Need-loop-again-2 Inv-loop μ-loop
 loop-again-2 c =
     let b = sym (c .before .before .before .before .before .before .before .slot-of .ensures) in
     let l = c .before .before .before .before .before .before .before .before .before .loop in
-    let w = slot-within _ _ _ (c .before .before .before .before .before .before .before .before .before .before .before .before .before .before .before .before .before .pre .0 .1) (c .before .before .before .before .before .before .before .before .loop-test .taken) b (c .before .before .before .before .before .if2 .left) in (
+    let w = slot-within _ _ _ (c .before .before .before .before .before .before .before .before .before .before .before .before .before .before .before .before .before .pre .0 .1) b (c .before .before .before .before .before .if2 .left) in (
       search needs,
       search needs,
       kept-drop _ _ _ 1 _ (c .before .before .before .mark-run2 .ensures .1) (λ z. w .1) (search needs) ∙ l .inv .2,
