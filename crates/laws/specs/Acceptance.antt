@@ -49,6 +49,15 @@ unfolding firstOf
 firstOf-zero zero b e = (refl, e)
 firstOf-zero (suc a) b e = absurd (omega arith)
 
+pub firstOf-some : (a b : ℕ) → 1 ≤ a → firstOf a b ≡ a
+unfolding firstOf
+firstOf-some zero b l = absurd (omega arith)
+firstOf-some (suc a) b l = refl
+
+pub firstOf-none : (a b : ℕ) → a ≡ 0 → firstOf a b ≡ b
+unfolding firstOf
+firstOf-none a b e = rw e
+
 -- a disk has 5 to 65,535 blocks
 pub size-bounds : (img : List ℕ) → wrongSize img ≡ false → (5 ≤ diskSize img) × (diskSize img ≤ 65535)
 unfolding wrongSize
@@ -56,10 +65,6 @@ size-bounds img right =
     let size = neither (not (eqb (length img % 512) 0)) (ltb (diskSize img) 5 || ltb 65535 (diskSize img)) right in
     let ends = neither (ltb (diskSize img) 5) (ltb 65535 (diskSize img)) (size .1) in
     (ltb-false (diskSize img) 5 (ends .0), ltb-false 65535 (diskSize img) (ends .1))
-
-pub zero-firstOf : (a b : ℕ) → a ≡ 0 → b ≡ 0 → firstOf a b ≡ 0
-unfolding firstOf
-zero-firstOf a b p q = rw p q
 
 -- no test of the table holds
 pub record Passed (img : List ℕ) (blocks anodes : ℕ) : Type 0 where
@@ -115,7 +120,7 @@ pub passed-accepted : (img : List ℕ) (blocks anodes : ℕ) → Passed img bloc
 unfolding checkAnswer damageIn treeFault
 passed-accepted img blocks anodes p =
     rw (p .size-right, p .tables-long, p .type-right, p .root-right, p .slots-right, p .fixed-right, p .in-range, p .links-right, p .free-right, p .none-twice, p .all-owned, p .all-named)
-    (zero-firstOf (faultIn (walkOf img (anodesOf img))) 0 (p .walked) refl)
+    (firstOf-none (faultIn (walkOf img (anodesOf img))) 0 (p .walked))
 
 -- ---- 6 to 11
 

@@ -6,11 +6,12 @@ use mathlib.Core.Bool.{Bool, true, false, cond, _&&_}
 use mathlib.Core.List.{List, [], _∷_, _++_, map}
 use native.Mathlib.Omega.{arith}
 use lib.Dec.{eqb, leb}
-use Rattle.rules.specs.Counting.{_if_else_, firstOf, times, gather, anyBelow}
+use Rattle.rules.specs.Counting.{_if_else_, firstOf, times, anyBelow}
 use Rattle.rules.specs.Anodes.{Anodes, limit}
 use Rattle.rules.specs.Chains.{chainOf, heads, blockCount}
 use Rattle.rules.specs.Walk.{Dir, Entered, Item, Scanned, faulty, fine, Walk, fault, done, walk, walkOf, visited, faultIn, scan, faultOf, subDirs, itemOf, itemsAt, itemsBy, itemsOf, broken, wrongAnode, wrongFileSize, blocksFor, entriesIn, isBlockOf, root}
 use Rattle.rules.specs.Accepted.{diskSize, lastReserved, wrongFixed, outOfRange, wrongLinks, wrongFreeList, twoOwners, noOwner, unnamedChain, treeFault, damageIn}
+use Rattle.laws.specs.Each.{Each, each-given, each-gather}
 
 -- 0, or one of the numbers from a up to b
 abbrev pub NoneOr : ℕ → ℕ → ℕ → Type 0
@@ -34,12 +35,7 @@ abbrev Told : Item → Type 0
 Told i = NoneOr 12 15 (i .early) × NoneOr 12 15 (i .late)
 
 abbrev AllTold : List Item → Type 0
-AllTold [] = Unit {0}
-AllTold (i ∷ is) = Told i × AllTold is
-
-told-append : (is js : List Item) → AllTold is → AllTold js → AllTold (is ++ js)
-told-append [] js p q = q
-told-append (i ∷ is) js p q = (p .0, told-append is js (p .1) q)
+AllTold = Each Told
 
 told-entry : (s : Anodes) (e : Entered) → Told (itemOf s e)
 unfolding itemOf wrongAnode wrongFileSize
@@ -48,22 +44,13 @@ told-entry s e = (
   either-number (e .dir) 12 15 0 _ (inl refl) (either-number (eqb (blockCount s (e .anode)) (blocksFor (e .size))) 12 15 0 15 (inl refl) (inr (omega arith, omega arith))),
 )
 
-told-entries : (s : Anodes) (es : List Entered) → AllTold (map (itemOf s) es)
-told-entries s [] = tt
-told-entries s (e ∷ es) = (told-entry s e, told-entries s es)
-
 told-at : (t : Bool) (s : Anodes) (es : List Entered) → AllTold (cond t (map (itemOf s) es) (broken ∷ []))
-told-at true s es = told-entries s es
+told-at true s es = each-given Told (itemOf s) (told-entry s) es
 told-at false s es = ((inr (omega arith, omega arith), inl refl), tt)
-
-told-gather : (f : ℕ → List Item) → ((a : ℕ) → AllTold (f a)) → (l : List ℕ) → AllTold (gather f l)
-unfolding gather
-told-gather f p [] = tt
-told-gather f p (a ∷ l) = told-append (f a) (gather f l) (p a) (told-gather f p l)
 
 told-items : (img : List ℕ) (s : Anodes) (d : Dir) → AllTold (itemsOf img s d)
 unfolding itemsOf itemsBy itemsAt
-told-items img s d = told-gather (itemsAt (entriesIn img) (isBlockOf img) s d) (λ a. told-at (eqb (s .count a) 1 && isBlockOf img d (s .block a)) s (entriesIn img (s .block a))) (chainOf (s .next) limit (d .head))
+told-items img s d = each-gather Told (itemsAt (entriesIn img) (isBlockOf img) s d) (λ a. told-at (eqb (s .count a) 1 && isBlockOf img d (s .block a)) s (entriesIn img (s .block a))) (chainOf (s .next) limit (d .head))
 
 fault-told : (i : Item) (named : List ℕ) → Told i → NoneOr 12 15 (faultOf i named)
 unfolding faultOf

@@ -1,9 +1,9 @@
 -- What holds of each member of a list.
 use Prim.Native.Nat.{ℕ, _≤_}
 use mathlib.Core.Path.{_≡_, refl}
-use mathlib.Core.List.{List, [], _∷_, _++_}
+use mathlib.Core.List.{List, [], _∷_, _++_, map}
 use native.Mathlib.Omega.{arith}
-use Rattle.rules.specs.Counting.{sumList}
+use Rattle.rules.specs.Counting.{sumList, gather}
 
 abbrev pub Each {ℓ} : {X : Type ℓ} → (X → Type 0) → List X → Type 0
 Each P [] = Unit {0}
@@ -16,6 +16,20 @@ each-map P Q (x ∷ l) f e = (f x (e .0), each-map P Q l f (e .1))
 pub each-both {ℓ} : {X : Type ℓ} (P Q R : X → Type 0) (l : List X) → ((x : X) → P x → Q x → R x) → Each P l → Each Q l → Each R l
 each-both P Q R [] f p q = tt
 each-both P Q R (x ∷ l) f p q = (f x (p .0) (q .0), each-both P Q R l f (p .1) (q .1))
+
+-- of each element that f gives
+pub each-given {ℓ κ} : {X : Type ℓ} {Y : Type κ} (P : Y → Type 0) (f : X → Y) → ((x : X) → P (f x)) → (l : List X) → Each P (map f l)
+each-given P f h [] = tt
+each-given P f h (x ∷ l) = (h x, each-given P f h l)
+
+pub each-append {ℓ} : {X : Type ℓ} (P : X → Type 0) (l m : List X) → Each P l → Each P m → Each P (l ++ m)
+each-append P [] m p q = q
+each-append P (x ∷ l) m p q = (p .0, each-append P l m (p .1) q)
+
+pub each-gather {ℓ κ} : {X : Type ℓ} {Y : Type κ} (P : Y → Type 0) (f : X → List Y) → ((x : X) → Each P (f x)) → (l : List X) → Each P (gather f l)
+unfolding gather
+each-gather P f h [] = tt
+each-gather P f h (x ∷ l) = each-append P (f x) (gather f l) (h x) (each-gather P f h l)
 
 pub each-right {ℓ} : {X : Type ℓ} (P : X → Type 0) (l m : List X) → Each P (l ++ m) → Each P m
 each-right P [] m e = e

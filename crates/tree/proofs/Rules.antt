@@ -4,7 +4,6 @@ use mathlib.Core.Path.{_≡_, refl, sym, ap, _∙_, subst, fun-ext}
 use mathlib.Core.Bool.{Bool, true, false, cond, _&&_, and-false}
 use mathlib.Core.Logic.{⊎-elim}
 use mathlib.Core.List.{List, [], _∷_, _++_, map, append-nil, append-assoc}
-use native.Mathlib.Nat.{not-suc-le-zero}
 use native.Mathlib.Omega.{arith}
 use lib.Dec.{eqb}
 use lib.ListN.{length, getD, set, replicate, length-set, length-replicate, List·getD-eq-default}
@@ -21,8 +20,10 @@ use Rattle.rules.specs.Calls.{fileCount, dirCount}
 use Rattle.counting.specs.Laws.{anyBelow-same}
 use Rattle.laws.specs.Sums.{oneAt-same, oneAt-other}
 use Rattle.laws.specs.Bags.{list-append, times-nil, times-cons}
+use Rattle.laws.specs.Each.{Each, each-given, each-gather}
 use Rattle.laws.specs.Items.{names-sum}
 use Rattle.laws.specs.Walks.{scan-next, scan-stops}
+use Rattle.laws.specs.Acceptance.{firstOf-some}
 use Rattle.anodes.specs.Loaded.{anodesFrom}
 use Rattle.tree.specs.declared.TreeRead.{TreeRead}
 use Rattle.tree.specs.declared.TreeRead.the-variants.{Counted, Fault}
@@ -64,9 +65,8 @@ agree-more marks a named whole room h x lo hi =
 -- ---- the items of one directory
 
 -- an item without an early fault names an anode that has a mark
-abbrev InRange : List Item → Type 0
-InRange [] = Unit {0}
-InRange (i ∷ is) = (i .early ≡ 0 → (6 ≤ i .anode) × (i .anode < limit)) × InRange is
+abbrev InRange : Item → Type 0
+InRange i = i .early ≡ 0 → (6 ≤ i .anode) × (i .anode < limit)
 
 -- what is behind the items: one fault in both walks, or one queue, marks for the named anodes and the files counted
 abbrev ScanMatch : List Item → ℕ → List ℕ → Progress → Scanned → Type 0
@@ -134,7 +134,7 @@ module _ (d : Dir) where
         rw (e, scan-next d (made 0 true) is queue named (fault-late (made 0 true) named refl (none e)))
         (behind true (queue ++ (record { head = a; parent = d .head } ∷ [])) files (omega arith))
 
-  scan-match : (is : List Item) (queue : List Dir) (marks : List ℕ) (files : ℕ) (named : List ℕ) → InRange is → length marks ≡ limit → Agree marks (λ x. times x named)
+  scan-match : (is : List Item) (queue : List Dir) (marks : List ℕ) (files : ℕ) (named : List ℕ) → Each InRange is → length marks ≡ limit → Agree marks (λ x. times x named)
       → ScanMatch is files named (enterAll (d .head) is queue marks files) (scan d is queue named)
   unfolding enterAll scan namings filesIn sumList
   scan-match [] queue marks files named range whole agree = (refl, whole, agree, λ x. omega arith, omega arith)
@@ -177,7 +177,7 @@ module _ (items : Dir → List Item) where
   after-match d k files taken named (going q m f) (fine r l) h ih =
       rw (← h .0) (walk-widen d files f taken named l (runFrom items k q m f (taken ++ (d ∷ []))) (walk items k q l) (h .4) (h .3) (ih q m f (taken ++ (d ∷ [])) l (h .1) (h .2)))
 
-  walk-match : ((d : Dir) → InRange (items d)) → (k : ℕ) (queue : List Dir) (marks : List ℕ) (files : ℕ) (taken : List Dir) (named : List ℕ)
+  walk-match : ((d : Dir) → Each InRange (items d)) → (k : ℕ) (queue : List Dir) (marks : List ℕ) (files : ℕ) (taken : List Dir) (named : List ℕ)
       → length marks ≡ limit → Agree marks (λ x. times x named) → WalkMatch files taken named (runFrom items k queue marks files taken) (walk items k queue named)
   unfolding runFrom walk gather namings filesIn sumList
   walk-match range zero [] marks files taken named whole agree =
@@ -192,10 +192,6 @@ module _ (items : Dir → List Item) where
 
 -- ---- the items by tables are those of the rules
 
-range-append : (is js : List Item) → InRange is → InRange js → InRange (is ++ js)
-range-append [] js p q = q
-range-append (i ∷ is) js p q = (p .0, range-append is js (p .1) q)
-
 module _ (counts nexts heads : List ℕ) where
   early-range : (b : Bool) (a : ℕ) → _≡_ {A = ℕ} (cond b 12 (cond (headAt heads a) 0 13)) 0 → (6 ≤ a) × (a < limit)
   early-range true a e = absurd (omega arith)
@@ -204,27 +200,21 @@ module _ (counts nexts heads : List ℕ) where
     go true h e = head-range heads a h
     go false h e = absurd (omega arith)
 
-  range-map : (es : List Entered) → InRange (map (itemIn counts nexts heads) es)
+  range-item : (e : Entered) → InRange (itemIn counts nexts heads e)
   unfolding itemIn
-  range-map [] = tt
-  range-map (e ∷ es) = (early-range (e .broken) (e .anode), range-map es)
+  range-item e = early-range (e .broken) (e .anode)
 
   module _ (img : List ℕ) (s : Anodes) where
-    range-for : (d : Dir) (a : ℕ) → InRange (itemsFor (itemIn counts nexts heads) img s d a)
+    range-for : (d : Dir) (a : ℕ) → Each InRange (itemsFor (itemIn counts nexts heads) img s d a)
     unfolding itemsFor
     range-for d a = go (eqb (s .count a) 1 && isBlockOf img d (s .block a)) where
-      go : (b : Bool) → InRange (cond b (map (itemIn counts nexts heads) (entriesIn img (s .block a))) (broken ∷ []))
-      go true = range-map (entriesIn img (s .block a))
+      go : (b : Bool) → Each InRange (cond b (map (itemIn counts nexts heads) (entriesIn img (s .block a))) (broken ∷ []))
+      go true = each-given InRange (itemIn counts nexts heads) range-item (entriesIn img (s .block a))
       go false = (λ e. absurd (omega arith), tt)
 
-    range-gather : (d : Dir) (l : List ℕ) → InRange (gather (itemsFor (itemIn counts nexts heads) img s d) l)
-    unfolding gather
-    range-gather d [] = tt
-    range-gather d (a ∷ l) = range-append (itemsFor (itemIn counts nexts heads) img s d a) _ (range-for d a) (range-gather d l)
-
-    range-items : (d : Dir) → InRange (itemsWith (itemIn counts nexts heads) img s d)
+    range-items : (d : Dir) → Each InRange (itemsWith (itemIn counts nexts heads) img s d)
     unfolding itemsWith itemsAlong
-    range-items d = range-gather d (chainOf (s .next) limit (d .head))
+    range-items d = each-gather InRange (itemsFor (itemIn counts nexts heads) img s d) (range-for d) (chainOf (s .next) limit (d .head))
 
 -- an anode without a block heads no chain
 heads-none : (next block : ℕ → ℕ) (a : ℕ) → block a ≡ 0 → heads limit next block a ≡ 0
@@ -250,11 +240,6 @@ module _ (t : List ℕ) (s : Anodes) (table : HeadTable t s) where
         (le-or-lt limit a))
         (λ lo. rw (lt-leb 6 a lo))
         (le-or-lt 6 a)
-
-first-some : (a b : ℕ) → 1 ≤ a → firstOf a b ≡ a
-unfolding firstOf
-first-some zero b h = absurd (not-suc-le-zero h)
-first-some (suc a) b h = refl
 
 -- what the walk's answer, and the marks and the queue behind it, say of the rules
 abbrev Says : List ℕ → Anodes → List ℕ → TreeRead → List ℕ → List ℕ → List ℕ → Type 0
@@ -298,7 +283,7 @@ module _ (counts nexts t : List ℕ) (s : Anodes) (table : HeadTable t s) (past 
     tree-halted r e = go (walkOf img s) refl (rw e at run-match) where
       go : (w : Walk) → walkOf img s ≡ w → WalkMatch (itemsOf img s) 0 [] [] (halted r) w
           → firstOf (faultIn (walkOf img s)) (16 if anyBelow (unnamedChain img s) limit else 0) ≡ r
-      go (fault m) w h = rw (w, ← h .0) (first-some r _ (h .1))
+      go (fault m) w h = rw (w, ← h .0) (firstOf-some r _ (h .1))
       go (done ds) w h = absurd h
 
     module _ (m : List ℕ) (f : ℕ) (all : List Dir) (e : runFrom (itemsWith (itemIn counts nexts t) img s) limit (root ∷ []) marks 0 [] ≡ ended m f all) where
