@@ -9,13 +9,12 @@ use lib.ListN.{getD, replicate, length-replicate, List·getD-append}
 use lib.Dec.{eqb}
 use borrow.Author.Tests.{eq-eqb, ne-eqb}
 use Rattle.endian.proofs.Laws.{getD-zeros}
-use Rattle.disk.proofs.Laws.{length-listed}
 use Rattle.rules.specs.Anodes.{Anodes, limit}
 use Rattle.rules.specs.Chains.{heads, headOf}
 use Rattle.rules.specs.Accepted.{wrongFixed}
 use Rattle.rules.specs.Tables.{chainHead, anodeEntry, anodeTable}
 use Rattle.laws.specs.Tests.{same?}
-use Rattle.laws.specs.OwnerTable.{listed-at}
+use Rattle.laws.specs.OwnerTable.{table-entry}
 use Rattle.laws.specs.Links.{View, Linked}
 use Rattle.laws.specs.Heads.{headOf-heads, heads-cases, head-of-is}
 
@@ -41,8 +40,7 @@ zeroed k rest a l = List·getD-append (replicate k 0) rest 0 a (rw (length-repli
 module _ (s : Anodes) (v : View limit (s .next) (s .block)) (k : Linked limit (s .next) (s .block)) (t rest : List ℕ) (is : t ≡ anodeTable s ++ rest) where
   pub table-at : (a : ℕ) → a < limit → getD t a 0 ≡ anodeEntry s a
   unfolding anodeTable
-  table-at a l =
-      rw is (List·getD-append (anodeTable s) rest 0 a (rw (length-listed (anodeEntry s) 0 limit) l) ∙ listed-at (anodeEntry s) limit a l)
+  table-at a l = rw is (table-entry (anodeEntry s) limit rest a l)
 
   entry-used : (a : ℕ) → a ≢ 0 → s .block a ≢ 0 → getD t a 0 ≡ headOf limit (s .next) (s .block) a
   unfolding anodeEntry chainHead

@@ -2,7 +2,7 @@
 use Prim.Native.Nat.{ℕ, _≤_, _<_}
 use mathlib.Core.Path.{_≡_, refl, sym, ap, _∙_}
 use mathlib.Core.Logic.{inl, inr}
-use mathlib.Core.Bool.{Bool, true, false}
+use mathlib.Core.Bool.{true, false}
 use mathlib.Core.List.{List, [], _++_}
 use native.Mathlib.Omega.{arith}
 use lib.ListN.{length, getD, drop, replicate, length-replicate}
@@ -12,16 +12,16 @@ use borrow.Author.Tests.{le-leb, lt-leb, ltb-false}
 use Rattle.disk.specs.declared.Refusal.{Refusal}
 use Rattle.disk.specs.Refusals.{numberOf}
 use Rattle.disk.proofs.Laws.{number-some}
-use Rattle.disk.proofs.Laws.{length-listed}
-use Rattle.rules.specs.Counting.{_if_else_, anyBelow}
+use Rattle.rules.specs.Counting.{_if_else_}
 use Rattle.rules.specs.Anodes.{Anodes, limit, anodesOf}
 use Rattle.rules.specs.Chains.{blockCount}
 use Rattle.rules.specs.Walk.{reachedDirs}
-use Rattle.rules.specs.Accepted.{diskSize, wrongSize, shortTables, wrongType, wrongRoot, wrongSlots, wrongFixed, outOfRange, wrongLinks, wrongFreeList, lastReserved, twoOwners, noOwner, treeFault, damageIn, checkAnswer}
+use Rattle.rules.specs.Accepted.{diskSize, wrongSize, shortTables, wrongType, wrongRoot, wrongSlots, treeFault, damageIn, checkAnswer}
 use Rattle.rules.specs.Tables.{anodeEntry, blockEntry, blockTable, anodeTable, tableLeft, blocksLeft, anodesLeft}
 use Rattle.rules.specs.Calls.{Outcome, outcomeOf, settled, checkOutcome, fileCount, dirCount}
 use Rattle.counting.specs.Laws.{neither}
-use Rattle.laws.specs.Acceptance.{if-zero, passed-of, size-bounds}
+use Rattle.laws.specs.Acceptance.{passed-of, size-bounds}
+use Rattle.laws.specs.OwnerTable.{table-past}
 use Rattle.laws.specs.Damage.{NoneOr, if-number, damage-range}
 use Rattle.chains.proofs.Laws.{zeroed}
 use Rattle.anodes.specs.Loaded.{anodesFrom}
@@ -34,123 +34,58 @@ use Rattle.fsck.specs.declared.Checked.{Checked}
 use Rattle.fsck.specs.declared.Checked.the-variants.{Accepted, Refused}
 use Rattle.fsck.specs.declared.Test.{Test}
 use Rattle.fsck.specs.declared.Test.the-variants.{Passed, Failed}
-use Rattle.fsck.specs.Answers.{checkedNumber, testNumber, headerAnswer, spaceAnswer, Filled, Kept, TablesAfter, TablesLeft}
-
--- ---- numbers
-
--- a row before others that may change
-row : (n : ℕ) (t : Bool) (r q k : ℕ) → (r ≡ k → q ≡ k) → (n if t else r) ≡ k → (n if t else q) ≡ k
-row n true r q k f e = e
-row n false r q k f e = f e
-
--- behind the last row
-past : (q k : ℕ) → 1 ≤ k → 0 ≡ k → q ≡ k
-past q k some e = absurd (omega arith)
+use Rattle.fsck.specs.Answers.{checkedNumber, Headed, HeaderTested, SpaceTested, Filled, Kept, TablesAfter, TablesLeft}
 
 -- ---- 1 to 4
 
 module _ (img : List ℕ) (b a : ℕ) where
-  pub header-1 : wrongSize img ≡ true → 1 ≡ headerAnswer img b a
-  unfolding headerAnswer
+  pub header-1 : wrongSize img ≡ true → checkAnswer img b a ≡ 1
+  unfolding checkAnswer
   header-1 t = rw t
 
   module _ (size : wrongSize img ≡ false) where
-    pub header-2 : shortTables img b a ≡ true → 2 ≡ headerAnswer img b a
-    unfolding headerAnswer
+    pub header-2 : shortTables img b a ≡ true → checkAnswer img b a ≡ 2
+    unfolding checkAnswer
     header-2 t = rw (size, t)
 
     module _ (tables : shortTables img b a ≡ false) where
-      pub header-3 : wrongType img ≡ true → 3 ≡ headerAnswer img b a
-      unfolding headerAnswer
+      pub header-3 : wrongType img ≡ true → checkAnswer img b a ≡ 3
+      unfolding checkAnswer
       header-3 t = rw (size, tables, t)
 
       module _ (type : wrongType img ≡ false) where
-        pub header-4 : wrongRoot img ≡ true → 4 ≡ headerAnswer img b a
-        unfolding headerAnswer
+        pub header-4 : wrongRoot img ≡ true → checkAnswer img b a ≡ 4
+        unfolding checkAnswer
         header-4 t = rw (size, tables, type, t)
 
-        pub header-none : wrongRoot img ≡ false → 0 ≡ headerAnswer img b a
-        unfolding headerAnswer
-        header-none t = rw (size, tables, type, t)
+        pub header-none : wrongRoot img ≡ false → Headed img b a
+        unfolding checkAnswer shortTables
+        header-none t =
+            let room = neither (ltb b (diskSize img)) (ltb a limit) tables in
+            record {
+              size-right = size;
+              blocks-room = ltb-false b (diskSize img) (room .0);
+              anodes-room = ltb-false a limit (room .1);
+              answered = rw (size, tables, type, t);
+            }
 
-  -- what a passed header says
-  pub record Headed : Type 0 where
-    pub size-right : wrongSize img ≡ false
-    pub blocks-room : diskSize img ≤ b
-    pub anodes-room : 3444 ≤ a
-    pub answered : checkAnswer img b a ≡ (5 if wrongSlots img else damageIn img (anodesOf img))
-
-  passed-all : 0 ≡ headerAnswer img b a → Headed
-  unfolding headerAnswer shortTables checkAnswer
-  passed-all e =
-      let r1 = if-zero 1 (wrongSize img) _ (omega arith) (sym e) in
-      let r2 = if-zero 2 (shortTables img b a) _ (omega arith) (r1 .1) in
-      let r3 = if-zero 3 (wrongType img) _ (omega arith) (r2 .1) in
-      let r4 = if-zero 4 (wrongRoot img) 0 (omega arith) (r3 .1) in
-      let room = neither (ltb b (diskSize img)) (ltb a limit) (r2 .0) in
-      record {
-        size-right = r1 .0;
-        blocks-room = ltb-false b (diskSize img) (room .0);
-        anodes-room = ltb-false a limit (room .1);
-        answered = rw (r1 .0, r2 .0, r3 .0, r4 .0);
-      }
-
-  pub headed : (t : Test) → t ≡ Passed → testNumber t ≡ headerAnswer img b a → Headed
-  headed t is e = passed-all (rw is at e)
-
-  header-range : NoneOr 1 4 (headerAnswer img b a)
-  unfolding headerAnswer
-  header-range =
-      if-number 1 (wrongSize img) 1 4 _ (omega arith) (omega arith)
-      (if-number 2 (shortTables img b a) 1 4 _ (omega arith) (omega arith)
-      (if-number 3 (wrongType img) 1 4 _ (omega arith) (omega arith)
-      (if-number 4 (wrongRoot img) 1 4 0 (omega arith) (omega arith) (inl refl))))
-
-  header-refused : (k : ℕ) → 1 ≤ k → headerAnswer img b a ≡ k → checkAnswer img b a ≡ k
-  unfolding headerAnswer checkAnswer
-  header-refused k some e =
-      row 1 (wrongSize img) _ _ k
-      (row 2 (shortTables img b a) _ _ k
-      (row 3 (wrongType img) _ _ k
-      (row 4 (wrongRoot img) _ _ k (past (5 if wrongSlots img else damageIn img (anodesOf img)) k some)))) e
+  pub headed : (t : Test) → t ≡ Passed → HeaderTested t img b a → Headed img b a
+  headed t is e = rw is at e
 
 -- ---- 6 to 16
 
 module _ (img : List ℕ) (s : Anodes) where
-  space-refused : (k : ℕ) → 1 ≤ k → spaceAnswer img s ≡ k → damageIn img s ≡ k
-  unfolding spaceAnswer damageIn
-  space-refused k some e =
-      row 6 (wrongFixed s) _ _ k
-      (row 7 (anyBelow (outOfRange s (diskSize img)) limit) _ _ k
-      (row 8 (wrongLinks s) _ _ k
-      (row 9 (wrongFreeList s (lastReserved img)) _ _ k
-      (row 10 (twoOwners img s) _ _ k
-      (row 11 (noOwner img s) _ _ k (past (treeFault img s) k some)))))) e
-
-  space-passed : spaceAnswer img s ≡ 0 → damageIn img s ≡ treeFault img s
-  unfolding spaceAnswer damageIn
-  space-passed e =
-      let r6 = if-zero 6 (wrongFixed s) _ (omega arith) e in
-      let r7 = if-zero 7 (anyBelow (outOfRange s (diskSize img)) limit) _ (omega arith) (r6 .1) in
-      let r8 = if-zero 8 (wrongLinks s) _ (omega arith) (r7 .1) in
-      let r9 = if-zero 9 (wrongFreeList s (lastReserved img)) _ (omega arith) (r8 .1) in
-      let r10 = if-zero 10 (twoOwners img s) _ (omega arith) (r9 .1) in
-      let r11 = if-zero 11 (noOwner img s) 0 (omega arith) (r10 .1) in
-      rw (r6 .0, r7 .0, r8 .0, r9 .0, r10 .0, r11 .0)
-
   -- a table that shows the image keeps what stands behind it
   filled-kept : (b₀ a₀ b a : List ℕ) → Filled img s b₀ a₀ b a → Kept img b₀ a₀ b a
   unfolding blockTable anodeTable
   filled-kept b₀ a₀ b a f = record {
-    blocks-kept = ap (λ (l : List ℕ). drop (diskSize img) l) (f .blocks-shown) ∙ drop-at (blockTable img s) (drop (diskSize img) b₀) (diskSize img) (length-listed (blockEntry img s) 0 (diskSize img));
-    anodes-kept = ap (λ (l : List ℕ). drop limit l) (f .anodes-shown) ∙ drop-at (anodeTable s) (drop limit a₀) limit (length-listed (anodeEntry s) 0 limit);
+    blocks-kept = ap (λ (l : List ℕ). drop (diskSize img) l) (f .blocks-shown) ∙ table-past (blockEntry img s) (diskSize img) (drop (diskSize img) b₀);
+    anodes-kept = ap (λ (l : List ℕ). drop limit l) (f .anodes-shown) ∙ table-past (anodeEntry s) limit (drop limit a₀);
   }
 
-  module _ (b₀ a₀ b a : List ℕ) (t : Test) (e : testNumber t ≡ spaceAnswer img s) (left : TablesAfter t img s b₀ a₀ b a) where
+  module _ (b₀ a₀ b a : List ℕ) (t : Test) (e : SpaceTested t img s) (left : TablesAfter t img s b₀ a₀ b a) where
     pub all-failed : (r : Refusal) → t ≡ Failed r → (numberOf r ≡ damageIn img s) × Kept img b₀ a₀ b a
-    all-failed r is =
-        let n = rw is at e in
-        (sym (space-refused (numberOf r) (number-some r) (sym n)), rw is at left)
+    all-failed r is = (sym (rw is at e), rw is at left)
 
     module _ (is : t ≡ Passed) (s₁ : Anodes) (same : s₁ ≡ s) where
       pub all-heads : HeadTable a s₁
@@ -158,7 +93,7 @@ module _ (img : List ℕ) (s : Anodes) where
 
       module _ (w : TreeRead) (n : treeNumber w ≡ treeFault img s₁) where
         damaged : damageIn img s ≡ treeNumber w
-        damaged = space-passed (sym (rw is at e)) ∙ sym (rw same at n)
+        damaged = rw is at e ∙ sym (rw same at n)
 
         pub all-fault : (r : Refusal) → w ≡ Fault r → (numberOf r ≡ damageIn img s) × Kept img b₀ a₀ b a
         all-fault r fault = (sym (rw fault at damaged), filled-kept b₀ a₀ b a ((rw is at left) .0))
@@ -229,15 +164,13 @@ module _ (img b₀ a₀ : List ℕ) where
       let z : 0 ≡ checkAnswer img (length b₀) (length a₀) = ap (λ (o : Outcome). o .answer) (rw is at e) in
       size-bounds img (passed-of img (length b₀) (length a₀) (sym z) .size-right) .1
 
-  pub outcome-header : (t : Test) (r : Refusal) → t ≡ Failed r → testNumber t ≡ headerAnswer img (length b₀) (length a₀)
+  pub outcome-header : (t : Test) (r : Refusal) → t ≡ Failed r → HeaderTested t img (length b₀) (length a₀)
       → outcomeOf (numberOf r) img b₀ a₀ [] [] ≡ checkOutcome img b₀ a₀
   unfolding blocksLeft anodesLeft
   outcome-header t r is e =
-      let n : numberOf r ≡ headerAnswer img (length b₀) (length a₀) = rw is at e in
-      let some = number-some r in
-      let most : numberOf r ≤ 4 = elim (header-range img (length b₀) (length a₀)) [ inl z ↦ absurd (omega arith) | inr l ↦ omega (arith, l .1) ] in
-      outcome (numberOf r) b₀ a₀ (header-refused img (length b₀) (length a₀) (numberOf r) some (sym n))
-      (sym (left-early (diskSize img) _ b₀ (numberOf r) some most)) (sym (left-early limit _ a₀ (numberOf r) some most))
+      let n : (checkAnswer img (length b₀) (length a₀) ≡ numberOf r) × (numberOf r ≤ 4) = rw is at e in
+      outcome (numberOf r) b₀ a₀ (n .0)
+      (sym (left-early (diskSize img) _ b₀ (numberOf r) (number-some r) (n .1))) (sym (left-early limit _ a₀ (numberOf r) (number-some r) (n .1)))
 
   module _ (n : ℕ) (size : n ≡ diskSize img) (h : Headed img (length b₀) (length a₀)) (b₁ a₁ b₂ a₂ : List ℕ)
       (zb : b₁ ≡ replicate n 0 ++ drop n b₀) (za : a₁ ≡ replicate 3444 0 ++ drop 3444 a₀)

@@ -6,45 +6,44 @@ use mathlib.Core.Bool.{true, false}
 use mathlib.Core.List.{List, _++_}
 use native.Mathlib.Omega.{arith}
 use lib.ListN.{length, getD, drop}
-use lib.Seq.{drop-at}
 use lib.Dec.{eqb}
 use borrow.Author.Tests.{ne-eqb}
 use Rattle.disk.specs.declared.Root.{Root}
 use Rattle.disk.specs.Blocks.{blockOf}
 use Rattle.disk.specs.Root.{rootIn}
-use Rattle.disk.proofs.Laws.{length-listed}
 use Rattle.rules.specs.Counting.{anyBelow}
 use Rattle.rules.specs.Anodes.{Anodes, limit, exists, anodesOf}
-use Rattle.rules.specs.Accepted.{diskSize, wrongFixed, outOfRange, wrongLinks, wrongFreeList, lastReserved, twoOwners, noOwner}
+use Rattle.rules.specs.Accepted.{diskSize, wrongFixed, outOfRange, wrongLinks, wrongFreeList, lastReserved, twoOwners, noOwner, treeFault, damageIn}
 use Rattle.rules.specs.Tables.{chainHead, anodeEntry, anodeTable}
 use Rattle.laws.specs.Links.{View, Linked, next-below}
 use Rattle.laws.specs.Passes.{Reading}
 use Rattle.laws.specs.TestsPassed.{fixed-anodes, next-used, tested-view, tested-linked}
 use Rattle.laws.specs.ImageAnodes.{reading-of}
+use Rattle.laws.specs.OwnerTable.{table-past}
 use Rattle.anodes.specs.Loaded.{anodesFrom}
 use Rattle.chains.specs.Predecessors.{Closed}
 use Rattle.chains.proofs.Laws.{table-at, entry-some, head-table}
 use Rattle.owners.specs.Marks.{OwnersMarked}
 use Rattle.owners.proofs.Shown.{marked-no-owner, marked-table}
 use Rattle.tree.specs.Tree.{HeadTable}
-use Rattle.fsck.specs.Answers.{spaceAnswer, Filled}
+use Rattle.fsck.specs.Answers.{Filled}
 
 module _ (img c b n : List ℕ) (e : anodesFrom c b n ≡ anodesOf img) where
   reading : Reading limit (exists img) 0 0 (anodesFrom c b n)
   reading = rw e (reading-of img 0 0)
 
-  pub space-6 : wrongFixed (anodesFrom c b n) ≡ true → 6 ≡ spaceAnswer img (anodesOf img)
-  unfolding spaceAnswer
+  pub space-6 : wrongFixed (anodesFrom c b n) ≡ true → damageIn img (anodesOf img) ≡ 6
+  unfolding damageIn
   space-6 t = rw (sym e, t)
 
   module _ (f6 : wrongFixed (anodesFrom c b n) ≡ false) (k : ℕ) (size : k ≡ diskSize img) where
-    pub space-7 : anyBelow (outOfRange (anodesFrom c b n) k) 3444 ≡ true → 7 ≡ spaceAnswer img (anodesOf img)
-    unfolding spaceAnswer
+    pub space-7 : anyBelow (outOfRange (anodesFrom c b n) k) 3444 ≡ true → damageIn img (anodesOf img) ≡ 7
+    unfolding damageIn
     space-7 t = rw (sym e, f6, sym size, t)
 
     module _ (f7 : anyBelow (outOfRange (anodesFrom c b n) k) 3444 ≡ false) where
-      pub space-8 : wrongLinks (anodesFrom c b n) ≡ true → 8 ≡ spaceAnswer img (anodesOf img)
-      unfolding spaceAnswer
+      pub space-8 : wrongLinks (anodesFrom c b n) ≡ true → damageIn img (anodesOf img) ≡ 8
+      unfolding damageIn
       space-8 t = rw (sym e, f6, sym size, f7, t)
 
       pub view : View 3444 (λ a. getD n a 0) (λ a. getD b a 0)
@@ -61,29 +60,29 @@ module _ (img c b n : List ℕ) (e : anodesFrom c b n ≡ anodesOf img) where
         links = tested-linked (anodesFrom c b n) f6 reading k f7 f8
 
         module _ (last : ℕ) (limits : last ≡ lastReserved img) where
-          pub space-9 : wrongFreeList (anodesFrom c b n) last ≡ true → 9 ≡ spaceAnswer img (anodesOf img)
-          unfolding spaceAnswer
+          pub space-9 : wrongFreeList (anodesFrom c b n) last ≡ true → damageIn img (anodesOf img) ≡ 9
+          unfolding damageIn
           space-9 t = rw (sym e, f6, sym size, f7, f8, sym limits, t)
 
           module _ (f9 : wrongFreeList (anodesFrom c b n) last ≡ false) where
-            pub space-10 : twoOwners img (anodesFrom c b n) ≡ true → 10 ≡ spaceAnswer img (anodesOf img)
-            unfolding spaceAnswer
+            pub space-10 : twoOwners img (anodesFrom c b n) ≡ true → damageIn img (anodesOf img) ≡ 10
+            unfolding damageIn
             space-10 t = rw (sym e, f6, sym size, f7, f8, sym limits, f9, t)
 
             module _ (f10 : twoOwners img (anodesFrom c b n) ≡ false) where
-              pub space-11 : noOwner img (anodesFrom c b n) ≡ true → 11 ≡ spaceAnswer img (anodesOf img)
-              unfolding spaceAnswer
+              pub space-11 : noOwner img (anodesFrom c b n) ≡ true → damageIn img (anodesOf img) ≡ 11
+              unfolding damageIn
               space-11 t = rw (sym e, f6, sym size, f7, f8, sym limits, f9, f10, t)
 
-              pub space-none : noOwner img (anodesFrom c b n) ≡ false → 0 ≡ spaceAnswer img (anodesOf img)
-              unfolding spaceAnswer
+              pub space-none : noOwner img (anodesFrom c b n) ≡ false → damageIn img (anodesOf img) ≡ treeFault img (anodesOf img)
+              unfolding damageIn
               space-none t = rw (sym e, f6, sym size, f7, f8, sym limits, f9, f10, t)
 
         -- the table of heads
         module _ (t t₀ : List ℕ) (is : t ≡ anodeTable (anodesFrom c b n) ++ drop 3444 t₀) where
           pub heads-kept : drop limit t ≡ drop limit t₀
           unfolding anodeTable
-          heads-kept = ap (λ (l : List ℕ). drop limit l) is ∙ drop-at (anodeTable (anodesFrom c b n)) (drop limit t₀) limit (length-listed (anodeEntry (anodesFrom c b n)) 0 limit)
+          heads-kept = ap (λ (l : List ℕ). drop limit l) is ∙ table-past (anodeEntry (anodesFrom c b n)) limit (drop limit t₀)
 
           pub heads-some : (a : ℕ) → a ≢ 0 → getD b a 0 ≢ 0 → getD t a 0 ≢ 0
           unfolding anodesFrom

@@ -1,14 +1,15 @@
 -- The check's answer: the number and values of each case, what its parts leave in the tables, and what it lends out.
-use Prim.Native.Nat.{ℕ}
+use Prim.Native.Nat.{ℕ, _≤_}
 use mathlib.Core.Path.{_≡_}
+use mathlib.Core.Bool.{false}
 use mathlib.Core.List.{List, _++_}
 use lib.ListN.{length, drop}
 use Rattle.disk.specs.Refusals.{numberOf}
-use Rattle.rules.specs.Counting.{_if_else_, anyBelow}
+use Rattle.rules.specs.Counting.{_if_else_}
 use Rattle.rules.specs.Anodes.{Anodes, limit, anodesOf}
 use Rattle.rules.specs.Chains.{blockCount}
 use Rattle.rules.specs.Walk.{reachedDirs}
-use Rattle.rules.specs.Accepted.{diskSize, wrongSize, shortTables, wrongType, wrongRoot, wrongFixed, outOfRange, wrongLinks, wrongFreeList, lastReserved, twoOwners, noOwner}
+use Rattle.rules.specs.Accepted.{diskSize, wrongSize, wrongSlots, treeFault, damageIn, checkAnswer}
 use Rattle.rules.specs.Tables.{blockTable, anodeTable}
 use Rattle.rules.specs.Calls.{fileCount, dirCount}
 use Rattle.anodes.specs.Loaded.{anodesFrom}
@@ -24,35 +25,27 @@ abbrev pub checkedNumber : Checked → ℕ
 checkedNumber (Accepted t) = 0
 checkedNumber (Refused r) = numberOf r
 
--- 0 where every test of a group passed, else the refusal's number
-abbrev pub testNumber : Test → ℕ
-testNumber Passed = 0
-testNumber (Failed r) = numberOf r
-
 -- an accepted image's free blocks, files, and directories with the root
 abbrev pub Tallied : Checked → List ℕ → Anodes → Type 0
 Tallied (Accepted t) img s = (t .free ≡ blockCount s 1) × (t .files ≡ fileCount img s) × (t .dirs ≡ dirCount img s)
 Tallied (Refused r) img s = Unit {0}
 
--- 1 to 4, which touch no table
-unfoldable pub headerAnswer : List ℕ → ℕ → ℕ → ℕ
-headerAnswer img blocks anodes =
-    1 if wrongSize img
-    else 2 if shortTables img blocks anodes
-    else 3 if wrongType img
-    else 4 if wrongRoot img
-    else 0
+-- what 1 to 4 say where none holds: the image's size is a disk's, the tables have room, and the rest of the table is the answer
+pub record Headed (img : List ℕ) (blocks anodes : ℕ) : Type 0 where
+  pub size-right : wrongSize img ≡ false
+  pub blocks-room : diskSize img ≤ blocks
+  pub anodes-room : limit ≤ anodes
+  pub answered : checkAnswer img blocks anodes ≡ (5 if wrongSlots img else damageIn img (anodesOf img))
 
--- 6 to 11
-unfoldable pub spaceAnswer : List ℕ → Anodes → ℕ
-spaceAnswer img s =
-    6 if wrongFixed s
-    else 7 if anyBelow (outOfRange s (diskSize img)) limit
-    else 8 if wrongLinks s
-    else 9 if wrongFreeList s (lastReserved img)
-    else 10 if twoOwners img s
-    else 11 if noOwner img s
-    else 0
+-- what 1 to 4 say, which touch no table
+abbrev pub HeaderTested : Test → List ℕ → ℕ → ℕ → Type 0
+HeaderTested Passed img blocks anodes = Headed img blocks anodes
+HeaderTested (Failed r) img blocks anodes = (checkAnswer img blocks anodes ≡ numberOf r) × (numberOf r ≤ 4)
+
+-- what 6 to 11 say: the walk's answer is what is left, or the answer is the refusal's number
+abbrev pub SpaceTested : Test → List ℕ → Anodes → Type 0
+SpaceTested Passed img s = damageIn img s ≡ treeFault img s
+SpaceTested (Failed r) img s = damageIn img s ≡ numberOf r
 
 -- the tables after the tests of anodes and blocks: filled where they passed; entries past the ranges kept
 pub record Filled (img : List ℕ) (s : Anodes) (blocks₀ anodes₀ blocks anodes : List ℕ) : Type 0 where

@@ -9,7 +9,7 @@ ghost use Rattle.rules.specs.Anodes.{anodesOf};
 ghost use Rattle.rules.specs.Accepted.{diskSize, wrongSize, wrongSlots, damageIn};
 ghost use Rattle.rules.specs.Calls.{outcomeOf, checkOutcome};
 ghost use Rattle.anodes.specs.Loaded.{anodesFrom};
-ghost use Rattle.fsck.specs.Answers.{checkedNumber, testNumber, Tallied, headerAnswer, spaceAnswer, TablesAfter, TablesLeft, Sized, Opened};
+ghost use Rattle.fsck.specs.Answers.{checkedNumber, Tallied, HeaderTested, SpaceTested, TablesAfter, TablesLeft, Sized, Opened};
 use anodes::load;
 use chains::fill_heads;
 use chains::out_of_range;
@@ -55,7 +55,7 @@ pub enum Test {
 
 // 1 to 4: what is tried before a table is touched.
 fn test_header(image: &[u8], blocks: usize, anodes: usize) -> Test
-    ensures { λ r. ⌜ testNumber r ≡ headerAnswer (now (image .entry)) blocks anodes ⌝ }
+    ensures { λ r. ⌜ HeaderTested r (now (image .entry)) blocks anodes ⌝ }
 {
     if wrong_size(image) {
         return Test::Failed(Refusal::ImageSize);
@@ -86,7 +86,7 @@ fn test_space(
     requires { ⌜ (wrongSize (now image) ≡ false) × (wrongSlots (now image) ≡ false) × (diskSize (now image) ≤ length (now blocks)) × (3444 ≤ length (now anodes)) ⌝ }
     requires { ⌜ ((x : ℕ) → x < diskSize (now image) → getD (now blocks) x 0 ≡ 0) ⌝ }
     requires { ⌜ ((a : ℕ) → a < 3444 → getD (now anodes) a 0 ≡ 0) ⌝ }
-    ensures answer { λ r. ⌜ testNumber r ≡ spaceAnswer (now (image .entry)) (anodesOf (now (image .entry))) ⌝ }
+    ensures answer { λ r. ⌜ SpaceTested r (now (image .entry)) (anodesOf (now (image .entry))) ⌝ }
     ensures tables { λ r. ⌜ TablesAfter r (now (image .entry)) (anodesOf (now (image .entry))) (now (blocks .entry)) (now (anodes .entry)) (now (blocks .exit)) (now (anodes .exit)) ⌝ }
 {
     let n = disk_size(image);

@@ -8,8 +8,8 @@ use native.Mathlib.Omega.{arith}
 use native.Mathlib.Nat.{zero-add}
 use borrow.Author.Tests.{le-leb, lt-leb, eq-eqb, ne-eqb, lt-ltb, le-ltb}
 use lib.Dec.{T, leb}
-use lib.ListN.{length, getD, set, length-set}
-use lib.Seq.{set-append-left, getD-set-same, getD-set-other, ext-getD}
+use lib.ListN.{length, getD, set, drop, length-set, List·getD-append}
+use lib.Seq.{drop-at, set-append-left, getD-set-same, getD-set-other, ext-getD}
 use Rattle.disk.specs.AnodeBlocks.{listed}
 use Rattle.disk.proofs.Laws.{getD-listed, length-listed}
 use Rattle.rules.specs.Counting.{oneAt, sumBelow, times}
@@ -36,6 +36,13 @@ listed-at f k i l = getD-listed f 0 k i 0 l ∙ ap f (zero-add i)
 pub listed-is : (f : ℕ → ℕ) (k : ℕ) (l : List ℕ) → length l ≡ k → ((i : ℕ) → i < k → f i ≡ getD l i 0) → listed f 0 k ≡ l
 listed-is f k l e h =
     ext-getD 0 (listed f 0 k) l (length-listed f 0 k ∙ sym e) (λ i b. (let c : i < k = rw (length-listed f 0 k) at b in listed-at f k i c ∙ h i c))
+
+-- before other numbers: its entries, and what stands behind it
+pub table-entry : (f : ℕ → ℕ) (k : ℕ) (rest : List ℕ) (i : ℕ) → i < k → getD (listed f 0 k ++ rest) i 0 ≡ f i
+table-entry f k rest i l = List·getD-append (listed f 0 k) rest 0 i (rw (length-listed f 0 k) l) ∙ listed-at f k i l
+
+pub table-past : (f : ℕ → ℕ) (k : ℕ) (rest : List ℕ) → drop k (listed f 0 k ++ rest) ≡ rest
+table-past f k rest = drop-at (listed f 0 k) rest k (length-listed f 0 k)
 
 listed-same : (f f′ : ℕ → ℕ) (k : ℕ) → ((i : ℕ) → i < k → f i ≡ f′ i) → listed f 0 k ≡ listed f′ 0 k
 listed-same f f′ k h = listed-is f k (listed f′ 0 k) (length-listed f′ 0 k) (λ i l. h i l ∙ sym (listed-at f′ k i l))

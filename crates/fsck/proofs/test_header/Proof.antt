@@ -1,4 +1,5 @@
 use mathlib.Core.Path.{sym, _∙_}
+use native.Mathlib.Omega.{arith}
 use Rattle.fsck.proofs.Laws.{header-1, header-2, header-3, header-4, header-none}
 use borrow.Author.Needs.{needs}
 use Rattle.fsck.proofs.test_header.Statement.{statement}
@@ -8,25 +9,25 @@ wrong-size-requires : tie.Need-wrong-size-requires
 wrong-size-requires c κs = search needs
 
 returns : tie.Need-returns
-returns c = header-1 _ _ _ (sym (c .before .wrong-size .ensures) ∙ c .if1 .taken)
+returns c = (header-1 _ _ _ (sym (c .before .wrong-size .ensures) ∙ c .if1 .taken), omega arith)
 
 short-tables-requires : tie.Need-short-tables-requires
 short-tables-requires c κs = search needs
 
 returns-2 : tie.Need-returns-2
-returns-2 c = header-2 _ _ _ (sym (c .before .before .before .wrong-size .ensures) ∙ c .before .before .if1 .left) (sym (c .before .short-tables .ensures) ∙ c .if2 .taken)
+returns-2 c = (header-2 _ _ _ (sym (c .before .before .before .wrong-size .ensures) ∙ c .before .before .if1 .left) (sym (c .before .short-tables .ensures) ∙ c .if2 .taken), omega arith)
 
 wrong-type-requires : tie.Need-wrong-type-requires
 wrong-type-requires c κs = search needs
 
 returns-3 : tie.Need-returns-3
-returns-3 c = header-3 _ _ _ (sym (c .before .before .before .before .before .wrong-size .ensures) ∙ c .before .before .before .before .if1 .left) (sym (c .before .before .before .short-tables .ensures) ∙ c .before .before .if2 .left) (sym (c .before .wrong-type .ensures) ∙ c .if3 .taken)
+returns-3 c = (header-3 _ _ _ (sym (c .before .before .before .before .before .wrong-size .ensures) ∙ c .before .before .before .before .if1 .left) (sym (c .before .before .before .short-tables .ensures) ∙ c .before .before .if2 .left) (sym (c .before .wrong-type .ensures) ∙ c .if3 .taken), omega arith)
 
 wrong-root-requires : tie.Need-wrong-root-requires
 wrong-root-requires c κs = search needs
 
 returns-4 : tie.Need-returns-4
-returns-4 c = header-4 _ _ _ (sym (c .before .before .before .before .before .before .before .wrong-size .ensures) ∙ c .before .before .before .before .before .before .if1 .left) (sym (c .before .before .before .before .before .short-tables .ensures) ∙ c .before .before .before .before .if2 .left) (sym (c .before .before .before .wrong-type .ensures) ∙ c .before .before .if3 .left) (sym (c .before .wrong-root .ensures) ∙ c .if4 .taken)
+returns-4 c = (header-4 _ _ _ (sym (c .before .before .before .before .before .before .before .wrong-size .ensures) ∙ c .before .before .before .before .before .before .if1 .left) (sym (c .before .before .before .before .before .short-tables .ensures) ∙ c .before .before .before .before .if2 .left) (sym (c .before .before .before .wrong-type .ensures) ∙ c .before .before .if3 .left) (sym (c .before .wrong-root .ensures) ∙ c .if4 .taken), omega arith)
 
 returns-5 : tie.Need-returns-5
 returns-5 c = header-none _ _ _ (sym (c .before .before .before .before .before .before .before .wrong-size .ensures) ∙ c .before .before .before .before .before .before .if1 .left) (sym (c .before .before .before .before .before .short-tables .ensures) ∙ c .before .before .before .before .if2 .left) (sym (c .before .before .before .wrong-type .ensures) ∙ c .before .before .if3 .left) (sym (c .before .wrong-root .ensures) ∙ c .if4 .left)
