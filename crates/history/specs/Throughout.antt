@@ -17,7 +17,7 @@ use Rattle.rules.specs.Accepted.{diskSize, wrongSize, checkAnswer}
 use Rattle.rules.specs.Lookup.{noDirectory, entryNamed, isThere, namesDir, notEmpty, fullDir}
 use Rattle.rules.specs.Format.{wrongFormat, formatAnswer, formatted}
 use Rattle.rules.specs.Changes.{Left, left, NewEntry, resized, made, written, removed}
-use Rattle.rules.specs.Calls.{settled, checkOutcome, summaryOutcome, formatOutcome, formatLeft, readAnswer, readOutcome, spanAnswer, listAnswered, listOutcome, makeOutcome, makeAnswer, madeAfter, wrongEntry, resizeOutcome, resizeAnswer, writeOutcome, removeOutcome, removeAnswer, changeNamed}
+use Rattle.rules.specs.Calls.{checkedFirst, settled, checkOutcome, summaryOutcome, formatOutcome, formatLeft, readAnswer, readOutcome, spanAnswer, listAnswered, listOutcome, makeOutcome, makeAnswer, madeAfter, wrongEntry, resizeOutcome, resizeAnswer, writeOutcome, removeOutcome, removeAnswer, changeNamed}
 use Rattle.rules.specs.History.{Call, check, summary, format, read, list, make, resize, write, remove, outcome, Sound, Damage, SoundThroughout}
 use Rattle.counting.specs.Laws.{neither}
 use Rattle.laws.specs.Acceptance.{if-zero, firstOf-zero}
@@ -118,10 +118,10 @@ module _ (img : List ℕ) (ok : checkAnswer img (diskSize img) limit ≡ 0) wher
       })
 
   resize-kept : (blocks anodes : List ℕ) (h : ℕ) (name : List ℕ) (new : ℕ) →
-      let l = changeNamed (firstOf (checkAnswer img (length blocks) (length anodes)) (resizeAnswer img s h name)) img (entryNamed img s h name) (λ e. resized img s e new) in Kept (l .answer) (l .image)
+      let l = changeNamed (checkedFirst img blocks anodes (resizeAnswer img s h name)) img (entryNamed img s h name) (λ e. resized img s e new) in Kept (l .answer) (l .image)
   unfolding resizeAnswer
   resize-kept blocks anodes h name new =
-      named-kept (firstOf (checkAnswer img (length blocks) (length anodes)) (resizeAnswer img s h name)) (answers (length blocks) (length anodes) _ (resize-late img s h name)) (entryNamed img s h name) (λ e. resized img s e new)
+      named-kept (checkedFirst img blocks anodes (resizeAnswer img s h name)) (answers (length blocks) (length anodes) _ (resize-late img s h name)) (entryNamed img s h name) (λ e. resized img s e new)
       (λ z e q.
       let r = named-zero (checkAnswer img (length blocks) (length anodes)) h name _ z in
       let f = if-zero 24 (namesDir (entryNamed img s h name)) _ (omega arith) (r .1) in
@@ -132,10 +132,10 @@ module _ (img : List ℕ) (ok : checkAnswer img (diskSize img) limit ≡ 0) wher
       })
 
   remove-kept : (blocks anodes : List ℕ) (h : ℕ) (name : List ℕ) →
-      let l = changeNamed (firstOf (checkAnswer img (length blocks) (length anodes)) (removeAnswer img s h name)) img (entryNamed img s h name) (λ e. removed img s e) in Kept (l .answer) (l .image)
+      let l = changeNamed (checkedFirst img blocks anodes (removeAnswer img s h name)) img (entryNamed img s h name) (λ e. removed img s e) in Kept (l .answer) (l .image)
   unfolding removeAnswer notEmpty
   remove-kept blocks anodes h name =
-      named-kept (firstOf (checkAnswer img (length blocks) (length anodes)) (removeAnswer img s h name)) (answers (length blocks) (length anodes) _ (remove-late img s h name)) (entryNamed img s h name) (λ e. removed img s e)
+      named-kept (checkedFirst img blocks anodes (removeAnswer img s h name)) (answers (length blocks) (length anodes) _ (remove-late img s h name)) (entryNamed img s h name) (λ e. removed img s e)
       (λ z e q.
       let r = named-zero (checkAnswer img (length blocks) (length anodes)) h name _ z in
       let f = if-zero 25 (fullDir img s (entryNamed img s h name)) _ (omega arith) (r .1) in
@@ -152,10 +152,10 @@ module _ (img : List ℕ) (ok : checkAnswer img (diskSize img) limit ≡ 0) wher
   made-kept (suc n) h k new f = stays (suc n) k
 
   make-kept : (blocks anodes : List ℕ) (h type : ℕ) (name comment : List ℕ) (new : NewEntry) → new .name ≡ name → new .comment ≡ comment →
-      let l = madeAfter (firstOf (checkAnswer img (length blocks) (length anodes)) (makeAnswer img s h type name comment)) img h new in Kept (l .answer) (l .image)
+      let l = madeAfter (checkedFirst img blocks anodes (makeAnswer img s h type name comment)) img h new in Kept (l .answer) (l .image)
   unfolding makeAnswer wrongEntry
   make-kept blocks anodes h type name comment new en ec =
-      made-kept (firstOf (checkAnswer img (length blocks) (length anodes)) (makeAnswer img s h type name comment)) h (answers (length blocks) (length anodes) _ (make-late img s h type name comment)) new
+      made-kept (checkedFirst img blocks anodes (makeAnswer img s h type name comment)) h (answers (length blocks) (length anodes) _ (make-late img s h type name comment)) new
       (λ z.
       let c = firstOf-zero (checkAnswer img (length blocks) (length anodes)) (makeAnswer img s h type name comment) z in
       let w = if-zero 20 (wrongEntry type name comment) _ (omega arith) (c .1) in

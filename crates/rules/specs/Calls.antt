@@ -74,6 +74,10 @@ unfoldable pub formatOutcome : List ℕ → ℕ → ℕ → List ℕ → ℕ →
 formatOutcome img last k name day minute tick protection =
     formatLeft (formatAnswer img last k name) img (formatted img last k name day minute tick protection)
 
+-- every call but format runs the whole check first; n is what its own refusals come to
+abbrev pub checkedFirst : List ℕ → List ℕ → List ℕ → ℕ → ℕ
+checkedFirst img blocks anodes n = firstOf (checkAnswer img (length blocks) (length anodes)) n
+
 -- read and write: 21, 22, 24, 26
 unfoldable pub spanAnswer : List ℕ → Anodes → ℕ → List ℕ → ℕ → ℕ → ℕ
 spanAnswer img s h name offset len =
@@ -132,8 +136,7 @@ bytesRead zero img s (some e) offset out = take (length out) (drop offset (conte
 
 -- the check first, then 21, 22, 24, 26; write answers the same
 unfoldable pub readAnswer : List ℕ → List ℕ → List ℕ → ℕ → List ℕ → ℕ → ℕ → ℕ
-readAnswer img blocks anodes h name offset len =
-    firstOf (checkAnswer img (length blocks) (length anodes)) (spanAnswer img (anodesOf img) h name offset len)
+readAnswer img blocks anodes h name offset len = checkedFirst img blocks anodes (spanAnswer img (anodesOf img) h name offset len)
 
 -- Read: the image stays, the buffer is the output
 unfoldable pub readOutcome : List ℕ → List ℕ → List ℕ → ℕ → List ℕ → ℕ → List ℕ → Outcome
@@ -166,7 +169,7 @@ nameListed zero img (some e) = nameAt img (e .place)
 
 -- the check first, then 21, 22
 unfoldable pub listAnswered : List ℕ → List ℕ → List ℕ → ℕ → ℕ → ℕ
-listAnswered img blocks anodes h n = firstOf (checkAnswer img (length blocks) (length anodes)) (listAnswer img (anodesOf img) h n)
+listAnswered img blocks anodes h n = checkedFirst img blocks anodes (listAnswer img (anodesOf img) h n)
 
 -- List: the image stays, the fields are the output, and the name
 unfoldable pub listOutcome : List ℕ → List ℕ → List ℕ → ℕ → ℕ → Outcome
@@ -184,7 +187,7 @@ madeAfter (suc n) img h new = left (suc n) img
 unfoldable pub makeOutcome : List ℕ → List ℕ → List ℕ → ℕ → ℕ → List ℕ → List ℕ → ℕ → ℕ → ℕ → ℕ → Outcome
 makeOutcome img blocks anodes h type name comment day minute tick protection =
     settled
-    (madeAfter (firstOf (checkAnswer img (length blocks) (length anodes)) (makeAnswer img (anodesOf img) h type name comment)) img h
+    (madeAfter (checkedFirst img blocks anodes (makeAnswer img (anodesOf img) h type name comment)) img h
     (record { dir = eqb type 2; name = name; comment = comment; day = day; minute = minute; tick = tick; protection = protection }))
     blocks anodes [] []
 
@@ -192,7 +195,7 @@ makeOutcome img blocks anodes h type name comment day minute tick protection =
 unfoldable pub resizeOutcome : List ℕ → List ℕ → List ℕ → ℕ → List ℕ → ℕ → Outcome
 resizeOutcome img blocks anodes h name new =
     settled
-    (changeNamed (firstOf (checkAnswer img (length blocks) (length anodes)) (resizeAnswer img (anodesOf img) h name)) img
+    (changeNamed (checkedFirst img blocks anodes (resizeAnswer img (anodesOf img) h name)) img
     (entryNamed img (anodesOf img) h name) (λ e. resized img (anodesOf img) e new))
     blocks anodes [] []
 
@@ -208,6 +211,6 @@ writeOutcome img blocks anodes h name offset bytes =
 unfoldable pub removeOutcome : List ℕ → List ℕ → List ℕ → ℕ → List ℕ → Outcome
 removeOutcome img blocks anodes h name =
     settled
-    (changeNamed (firstOf (checkAnswer img (length blocks) (length anodes)) (removeAnswer img (anodesOf img) h name)) img
+    (changeNamed (checkedFirst img blocks anodes (removeAnswer img (anodesOf img) h name)) img
     (entryNamed img (anodesOf img) h name) (λ e. removed img (anodesOf img) e))
     blocks anodes [] []
