@@ -38,6 +38,6 @@ pub single-data : {ex : ℕ → Bool} {last : ℕ} {s : Anodes} {hd sd : ℕ →
     (a : ℕ) → s .count a ≡ 1 → DataBlock img (s .block a)
 single-data {s = s} {hd = hd} img g a one =
     let used = single-used g a one in
-    let a0 : a ≢ 0 = λ z. omega (arith, one, ap (s .count) z, g .count-0) in
+    let a0 : a ≢ 0 = λ z. omega (arith, one, ap (s .count) z, g .fixed .count-0) in
     let h = head-of-is (g .view) (g .linked) hd (g .heads) a a0 used in
     chain-block img g (hd a) h (s .block a) (block-on s (hd a) a (times-member a (chainOf (s .next) limit (hd a)) (omega (arith, on-own (g .view) (g .linked) hd (g .heads) a a0 used))) one)

@@ -124,7 +124,7 @@ module _ (img : List ℕ) (number anodes : ℕ) (accepted : checkAnswer img numb
   maybe : (h : ℕ) → h ≢ 0 → ((p : ℕ) → s .next p ≢ h) → has h ≡ chainBlocks s h
   unfolding chainBlocks
   maybe h h0 first = elim (same? (s .block h) 0) [
-    | inl z ↦ rw (eq-eqb (s .block h) 0 z) (blocks-none (w .good .view) (w .good .linked) (headIn img) (w .good .heads) (s .count) (w .good .free-none) (w .good .count-0) h (λ d. d .in-use z))
+    | inl z ↦ rw (eq-eqb (s .block h) 0 z) (blocks-none (w .good .view) (w .good .linked) (headIn img) (w .good .heads) (s .count) (w .good .free-none) (w .good .fixed .count-0) h (λ d. d .in-use z))
     | inr u ↦ rw (ne-eqb (s .block h) 0 u) (blocks-count (w .good) h (record { pos = h0; in-use = u; no-pred = first }))
   ]
 
@@ -138,6 +138,6 @@ module _ (img : List ℕ) (number anodes : ℕ) (accepted : checkAnswer img numb
     blocks-count (w .good) 1 (head-1 (w .good)),
     files,
     directories,
-    maybe 3 (omega arith) (w .good .first-3),
-    maybe 4 (omega arith) (w .good .first-4),
+    maybe 3 (omega arith) (w .good .first 3 (inr (inl refl))),
+    maybe 4 (omega arith) (w .good .first 4 (inr (inr (inl refl)))),
   )

@@ -1,10 +1,12 @@
 -- A formatted image passes 6 to 11.
 use Prim.Native.Nat.{ℕ, _+_, _≤_, _<_}
 use mathlib.Core.Path.{_≡_}
+use mathlib.Core.Logic.{inl, inr}
 use mathlib.Core.Bool.{Bool}
 use native.Mathlib.Omega.{arith}
 use Rattle.rules.specs.Anodes.{Anodes, limit}
-use Rattle.rules.specs.Chains.{covers}
+use Rattle.rules.specs.Chains.{covers, preds}
+use Rattle.laws.specs.Space.{FixedHead}
 use Rattle.laws.specs.Passes.{Passes}
 use Rattle.format_laws.specs.Anodes.{Which, is-0, is-1, is-2, is-5, is-6, free, Laid}
 use Rattle.format_laws.specs.Links.{closed, one-pred, no-pred, ends, two-on, count-1, block-1, high, low}
@@ -21,24 +23,27 @@ module _ {s : Anodes} {n last k : ℕ} (m : Laid s n last k) (room : 3 + k ≤ l
 
   pub laid-passes : (system : ℕ → ℕ) → ((x : ℕ) → system x ≡ covers (3 + k) 0 x) → (ex : ℕ → Bool) → Passes limit ex n last s system
   laid-passes system sys ex = record {
-    count-0 = m .at-0 .count;
-    block-0 = m .at-0 .block;
+    fixed = record {
+      count-0 = m .at-0 .count;
+      block-0 = m .at-0 .block;
+      count-1 = count-1 m;
+      block-1 = block-1 m;
+      block-2 = m .block-2;
+      block-5 = λ z. omega (arith, z, m .at-5 .block);
+    };
     next-0 = m .at-0 .next;
-    count-1 = count-1 m;
-    block-1 = block-1 m;
-    block-2 = m .block-2;
-    block-5 = λ z. omega (arith, z, m .at-5 .block);
     fits = λ a l. fits a (m .which a);
-    closed = λ a l. closed m a;
-    one-pred = λ x x0 u. one-pred m x x0;
-    ends = λ a. ends m a (m .which a) (m .linking);
-    first-1 = no-pred m 1 (omega arith) (omega arith) (omega arith);
-    first-3 = no-pred m 3 (omega arith) (omega arith) (omega arith);
-    first-4 = no-pred m 4 (omega arith) (omega arith) (omega arith);
-    first-5 = no-pred m 5 (omega arith) (omega arith) (omega arith);
+    links = record { closed = λ a l. closed m a; one-pred = λ x x0 u. one-pred m x x0; ends = λ a. ends m a (m .which a) (m .linking) };
+    first = first;
     two-on = two-on m;
     high = λ a. high m a (m .which a);
     low = λ a. low m room a (m .which a);
     not-two = λ x l. omega (arith, one-owner m system x (sys x) room there l);
     not-none = λ x l. omega (arith, one-owner m system x (sys x) room there l);
   }
+    where
+      first : (h : ℕ) → FixedHead h → preds limit (s .next) h ≡ 0
+      first h (inl e) = no-pred m h (omega arith) (omega arith) (omega arith)
+      first h (inr (inl e)) = no-pred m h (omega arith) (omega arith) (omega arith)
+      first h (inr (inr (inl e))) = no-pred m h (omega arith) (omega arith) (omega arith)
+      first h (inr (inr (inr e))) = no-pred m h (omega arith) (omega arith) (omega arith)

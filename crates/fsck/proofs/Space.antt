@@ -15,9 +15,9 @@ use Rattle.rules.specs.Counting.{anyBelow}
 use Rattle.rules.specs.Anodes.{Anodes, limit, exists, anodesOf}
 use Rattle.rules.specs.Accepted.{diskSize, wrongFixed, outOfRange, wrongLinks, wrongFreeList, lastReserved, twoOwners, noOwner, treeFault, damageIn}
 use Rattle.rules.specs.Tables.{chainHead, anodeEntry, anodeTable}
-use Rattle.laws.specs.Links.{View, Linked, next-below}
+use Rattle.laws.specs.Links.{View, Linked, next-below, linked}
 use Rattle.laws.specs.Passes.{Reading}
-use Rattle.laws.specs.TestsPassed.{fixed-anodes, next-used, tested-view, tested-linked}
+use Rattle.laws.specs.TestsPassed.{fixed-anodes, next-used, tested-view, tested-checked}
 use Rattle.laws.specs.ImageAnodes.{reading-of}
 use Rattle.laws.specs.OwnerTable.{table-past}
 use Rattle.anodes.specs.Loaded.{anodesFrom}
@@ -57,7 +57,7 @@ module _ (img c b n : List ℕ) (e : anodesFrom c b n ≡ anodesOf img) where
       module _ (f8 : wrongLinks (anodesFrom c b n) ≡ false) where
         pub links : Linked 3444 (λ a. getD n a 0) (λ a. getD b a 0)
         unfolding anodesFrom
-        links = tested-linked (anodesFrom c b n) f6 reading k f7 f8
+        links = linked view (tested-checked (anodesFrom c b n) f6 reading k f7 f8)
 
         module _ (last : ℕ) (limits : last ≡ lastReserved img) where
           pub space-9 : wrongFreeList (anodesFrom c b n) last ≡ true → damageIn img (anodesOf img) ≡ 9
@@ -99,7 +99,7 @@ module _ (img c b n : List ℕ) (e : anodesFrom c b n ≡ anodesOf img) where
           unfolding anodeEntry anodesFrom
           heads-are a l some =
               table-at (anodesFrom c b n) view links t (drop 3444 t₀) is a l
-              ∙ rw (ne-eqb a 0 (λ z. omega (arith, ap (anodesFrom c b n .count) z, fixed-anodes (anodesFrom c b n) f6 .count-0)), ne-eqb (anodesFrom c b n .block a) 0 (used a some))
+              ∙ rw (ne-eqb a 0 (λ z. omega (arith, ap (anodesFrom c b n .count) z, fixed-anodes (anodesFrom c b n) f6 .0 .count-0)), ne-eqb (anodesFrom c b n .block a) 0 (used a some))
 
           -- both tables, once the owners are marked
           pub shown : (u u₀ : List ℕ) → drop (diskSize img) u ≡ drop (diskSize img) u₀ → diskSize img ≤ length u → OwnersMarked img (anodesFrom c b n) t u

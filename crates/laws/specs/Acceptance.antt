@@ -17,7 +17,8 @@ use Rattle.counting.specs.Laws.{neither, anyBelow-each, anyBelow-all}
 use Rattle.laws.specs.Sums.{oneAt-cases, oneAt-same}
 use Rattle.laws.specs.Bags.{times-nil, times-cons}
 use Rattle.laws.specs.Tests.{and-none, none-and, none-or, same}
-use Rattle.laws.specs.TestsPassed.{FixedAnodes, fixed-anodes, extent-inside, next-used, one-pred, chain-ends}
+use Rattle.laws.specs.TestsPassed.{fixed-anodes, extent-inside, tested-checked}
+use Rattle.laws.specs.Space.{FixedHead}
 use Rattle.laws.specs.Passes.{Reading, Passes}
 
 -- no number of a list passes
@@ -138,21 +139,11 @@ module _ (s : Anodes) (n last : ℕ) (system : ℕ → ℕ) (ex : ℕ → Bool) 
   pub tested-passes : Reading limit ex n last s → Tested → Passes limit ex n last s system
   unfolding wrongLinks hasPred wrongFreeList notAbove notUpTo
   tested-passes r t = record {
-    count-0 = fixed .count-0;
-    block-0 = fixed .block-0;
-    next-0 = fixed .next-0;
-    count-1 = fixed .count-1;
-    block-1 = fixed .block-1;
-    block-2 = fixed .block-2;
-    block-5 = fixed .block-5;
+    fixed = fixed-anodes s (t .fixed-right) .0;
+    next-0 = fixed-anodes s (t .fixed-right) .1;
     fits = extent-inside s (t .fixed-right) n (t .in-range);
-    closed = next-used s (t .fixed-right) n (t .in-range);
-    one-pred = λ x x0 u. one-pred s (t .fixed-right) (t .links-right) x (r .low x u) x0 u;
-    ends = λ a u. chain-ends s (t .fixed-right) (t .links-right) a (r .low a u) u;
-    first-1 = none-before 1 (p1 .0);
-    first-3 = none-before 3 (p3 .0);
-    first-4 = none-before 4 (p4 .0);
-    first-5 = none-before 5 (p4 .1);
+    links = tested-checked s (t .fixed-right) r n (t .in-range) (t .links-right);
+    first = first;
     two-on = positive _ (eqb-false _ 0 (w .0));
     high = λ a p c. leb-false _ last (and-none _ _ (in-none (notAbove s last) (side limit s 1) (w1 .0) a p) (lt-ltb 0 _ c));
     low = λ a p c. omega (arith, ltb-false (last + 1) _ (and-none _ _ (in-none (notUpTo s last) (chainOf (s .next) limit 2) (w1 .1) a p) (lt-ltb 0 _ c)));
@@ -162,9 +153,6 @@ module _ (s : Anodes) (n last : ℕ) (system : ℕ → ℕ) (ex : ℕ → Bool) 
     where
       positive : (k : ℕ) → k ≢ 0 → 1 ≤ k
       positive k p = omega arith
-
-      fixed : FixedAnodes s
-      fixed = fixed-anodes s (t .fixed-right)
 
       p1 : (hasPred s 1 ≡ false) × ((hasPred s 3 || (hasPred s 4 || hasPred s 5)) ≡ false)
       p1 = neither _ _ (neither (anyBelow (wrongAt s) limit) _ (t .links-right) .1)
@@ -178,6 +166,12 @@ module _ (s : Anodes) (n last : ℕ) (system : ℕ → ℕ) (ex : ℕ → Bool) 
       none-before : (a : ℕ) → hasPred s a ≡ false → preds limit (s .next) a ≡ 0
       none-before a e = omega (arith, ltb-false 0 (preds limit (s .next) a) e)
 
+      first : (m : ℕ) → FixedHead m → preds limit (s .next) m ≡ 0
+      first m (inl e) = rw e (none-before 1 (p1 .0))
+      first m (inr (inl e)) = rw e (none-before 3 (p3 .0))
+      first m (inr (inr (inl e))) = rw e (none-before 4 (p4 .0))
+      first m (inr (inr (inr e))) = rw e (none-before 5 (p4 .1))
+
       w : (eqb (times 2 (chainOf (s .next) limit 1)) 0 ≡ false) × ((anyIn (notAbove s last) (side limit s 1) || anyIn (notUpTo s last) (chainOf (s .next) limit 2)) ≡ false)
       w = neither _ _ (t .free-right)
 
@@ -188,33 +182,33 @@ module _ (s : Anodes) (n last : ℕ) (system : ℕ → ℕ) (ex : ℕ → Bool) 
   pub passes-tested : Passes limit ex n last s system → Tested
   unfolding wrongFixed outOfRange wrongLinks wrongAt wrongLink hasPred wrongFreeList notAbove notUpTo
   passes-tested p = record {
-    fixed-right = rw (eq-eqb (s .count 0) 0 (p .count-0), eq-eqb (s .block 0) 65535 (p .block-0), eq-eqb (s .next 0) 0 (p .next-0), eq-eqb (s .count 1) 0 (p .count-1), eq-eqb (s .block 1) 65535 (p .block-1), ne-eqb (s .block 2) 0 (p .block-2), ne-eqb (s .block 5) 0 (p .block-5));
+    fixed-right = rw (eq-eqb (s .count 0) 0 (p .fixed .count-0), eq-eqb (s .block 0) 65535 (p .fixed .block-0), eq-eqb (s .next 0) 0 (p .next-0), eq-eqb (s .count 1) 0 (p .fixed .count-1), eq-eqb (s .block 1) 65535 (p .fixed .block-1), ne-eqb (s .block 2) 0 (p .fixed .block-2), ne-eqb (s .block 5) 0 (p .fixed .block-5));
     in-range = anyBelow-all (outOfRange s n) limit range;
     links-right = none-or _ _ (anyBelow-all (wrongAt s) limit link)
-        (none-or _ _ (le-ltb 0 _ (none 1 (p .first-1))) (none-or _ _ (le-ltb 0 _ (none 3 (p .first-3))) (none-or _ _ (le-ltb 0 _ (none 4 (p .first-4))) (le-ltb 0 _ (none 5 (p .first-5))))));
+        (none-or _ _ (le-ltb 0 _ (none 1 (inl refl))) (none-or _ _ (le-ltb 0 _ (none 3 (inr (inl refl)))) (none-or _ _ (le-ltb 0 _ (none 4 (inr (inr (inl refl))))) (le-ltb 0 _ (none 5 (inr (inr (inr refl))))))));
     free-right = none-or _ _ (ne-eqb (times 2 (chainOf (s .next) limit 1)) 0 (λ e. omega (arith, e, p .two-on)))
         (none-or _ _ (none-in (notAbove s last) (side limit s 1) above) (none-in (notUpTo s last) (chainOf (s .next) limit 2) up-to));
     none-twice = anyBelow-all (λ x. ltb 1 (owners limit (s .count) (s .block) system x)) n (λ x l. le-ltb 1 _ (p .not-two x l));
     all-owned = anyBelow-all (λ x. eqb (owners limit (s .count) (s .block) system x) 0) n (λ x l. ne-eqb (owners limit (s .count) (s .block) system x) 0 (λ e. omega (arith, e, p .not-none x l)));
   }
     where
-      none : (a : ℕ) → preds limit (s .next) a ≡ 0 → preds limit (s .next) a ≤ 0
-      none a e = omega arith
+      none : (m : ℕ) → FixedHead m → preds limit (s .next) m ≤ 0
+      none m f = omega (arith, p .first m f)
 
       range : (a : ℕ) → a < limit → outOfRange s n a ≡ false
       range a l =
           none-and (not (eqb a 0)) (ltb 0 (s .count a) && ltb n (s .block a + s .count a) || not (eqb (s .next a) 0) && eqb (s .block (s .next a)) 0) (λ e.
           none-or (ltb 0 (s .count a) && ltb n (s .block a + s .count a)) (not (eqb (s .next a) 0) && eqb (s .block (s .next a)) 0)
           (none-and (ltb 0 (s .count a)) (ltb n (s .block a + s .count a)) (λ c. le-ltb n (s .block a + s .count a) (p .fits a l (ltb-true 0 (s .count a) c))))
-          (none-and (not (eqb (s .next a) 0)) (eqb (s .block (s .next a)) 0) (λ c. ne-eqb (s .block (s .next a)) 0 (p .closed a l (eqb-false (s .next a) 0 (not-true (eqb (s .next a) 0) c))))))
+          (none-and (not (eqb (s .next a) 0)) (eqb (s .block (s .next a)) 0) (λ c. ne-eqb (s .block (s .next a)) 0 (p .links .closed a l (eqb-false (s .next a) 0 (not-true (eqb (s .next a) 0) c))))))
 
       link : (a : ℕ) → a < limit → wrongAt s a ≡ false
       link a l =
           none-and (not (eqb a 0)) (not (eqb (s .block a) 0) && wrongLink s a) (λ e.
           none-and (not (eqb (s .block a) 0)) (wrongLink s a) (λ u.
           none-or (ltb 1 (preds limit (s .next) a)) (not (eqb (followed (s .next) limit a) 0))
-          (le-ltb 1 (preds limit (s .next) a) (p .one-pred a (eqb-false a 0 (not-true (eqb a 0) e)) (eqb-false (s .block a) 0 (not-true (eqb (s .block a) 0) u))))
-          (same (followed (s .next) limit a) 0 (p .ends a (eqb-false (s .block a) 0 (not-true (eqb (s .block a) 0) u))))))
+          (le-ltb 1 (preds limit (s .next) a) (p .links .one-pred a (eqb-false a 0 (not-true (eqb a 0) e)) (eqb-false (s .block a) 0 (not-true (eqb (s .block a) 0) u))))
+          (same (followed (s .next) limit a) 0 (p .links .ends a (eqb-false (s .block a) 0 (not-true (eqb (s .block a) 0) u))))))
 
       above : (a : ℕ) → 0 < times a (side limit s 1) → notAbove s last a ≡ false
       above a q = none-and (ltb 0 (s .count a)) (leb (s .block a) last) (λ c. lt-leb (s .block a) last (p .high a q (ltb-true 0 (s .count a) c)))

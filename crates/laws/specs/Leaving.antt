@@ -1,7 +1,7 @@
 -- A block leaves the anode x, which has one, into the hand: x shrinks, or is unlinked with its only block.
 use Prim.Native.Nat.{ℕ, zero, suc, _+_, _-_, _*_, _≤_, _<_}
 use mathlib.Core.Path.{_≡_, refl, sym, ap, _∙_}
-use mathlib.Core.Logic.{_≢_}
+use mathlib.Core.Logic.{_≢_, inl, inr}
 use mathlib.Core.Bool.{Bool}
 use native.Mathlib.Omega.{arith}
 use native.Mathlib.Numerals.{add-one}
@@ -48,14 +48,14 @@ module _ {A : ℕ} {ex : ℕ → Bool} {n last : ℕ} {s : Anodes} {system hd sd
   full-inside = g .own .fits x (g .view .below x full-used) full
 
   pub full-0 : x ≢ 0
-  full-0 e = omega (arith, full, ap (s .count) e, g .count-0)
+  full-0 e = omega (arith, full, ap (s .count) e, g .fixed .count-0)
 
   pub full-1 : x ≢ 1
-  full-1 e = omega (arith, full, ap (s .count) e, g .count-1)
+  full-1 e = omega (arith, full, ap (s .count) e, g .fixed .count-1)
 
   -- one that is another's next, and not 2, is from 6 up
   pub full-6 : (p : ℕ) → s .next p ≡ x → x ≢ 2 → 6 ≤ x
-  full-6 p e x2 = from-6 x full-0 full-1 x2 (λ q. g .first-3 p (e ∙ q)) (λ q. g .first-4 p (e ∙ q)) (λ q. g .first-5 p (e ∙ q))
+  full-6 p e x2 = from-6 x full-0 full-1 x2 (λ q. g .first 3 (inr (inl refl)) p (e ∙ q)) (λ q. g .first 4 (inr (inr (inl refl))) p (e ∙ q)) (λ q. g .first 5 (inr (inr (inr refl))) p (e ∙ q))
 
   -- x becomes (c, b), within its old extent, and has lost the block y
   module _ (c b y : ℕ) (e : s .count x ≡ suc c) (b0 : b ≢ 0) (left : (w : ℕ) → covers (s .count x) (s .block x) w ≡ oneAt y w + covers c b w)

@@ -94,7 +94,7 @@ module _ (img : List ℕ) (blocks anodes : ℕ) (p : Passed img blocks anodes) w
   unfolding ownersOf
   one-owner-of = record {
     one-owner = λ x l. omega (arith, passes .not-two x l, passes .not-none x l);
-    ends = passes .ends;
+    ends = passes .links .ends;
     named-once = λ h e l. omega (arith, once h, named h e l);
     systems = λ h e l. below-6 h (counts-head good h e .pos) (not-two h (counts-head good h e)) l;
   }

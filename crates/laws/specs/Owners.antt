@@ -31,7 +31,7 @@ module _ {A : ℕ} {ex : ℕ → Bool} {n last : ℕ} {s : Anodes} {system hd sd
   ]
     where
       some : 0 < A
-      some = omega (arith, g .view .below 5 (g .block-5))
+      some = omega (arith, g .view .below 5 (g .fixed .block-5))
 
   total-held : (y : ℕ) → y < n → system y + sumBelow (λ m. held A hd (s .count) (s .block) m y) A ≡ 1
   unfolding owners
@@ -48,7 +48,7 @@ module _ {A : ℕ} {ex : ℕ → Bool} {n last : ℕ} {s : Anodes} {system hd sd
       at a i = elim (oneAt-cases (hd a) m) [
         | inr e ↦ absurd (omega (arith, rw (e .1) at i))
         | inl e ↦ rw (e .0) at (head-of-is (g .view) (g .linked) hd (g .heads) a
-            (λ z. none (ap (s .count) z ∙ g .count-0)) (λ z. none (g .free-none a z)))
+            (λ z. none (ap (s .count) z ∙ g .fixed .count-0)) (λ z. none (g .free-none a z)))
       ]
         where
           none : s .count a ≡ 0 → ⊥

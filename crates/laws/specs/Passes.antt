@@ -7,14 +7,14 @@ use native.Mathlib.Omega.{arith}
 use lib.Dec.{T}
 use Rattle.rules.specs.Counting.{times}
 use Rattle.rules.specs.Anodes.{Anodes}
-use Rattle.rules.specs.Chains.{chainOf, followed, preds, headOf, owners, cut, side}
+use Rattle.rules.specs.Chains.{chainOf, preds, headOf, owners, cut, side}
 use Rattle.rules.specs.Space.{after}
 use Rattle.laws.specs.Sums.{oneAt-cases, oneAt-same}
 use Rattle.laws.specs.Segments.{seg-keep}
 use Rattle.laws.specs.Links.{View, Checked, Linked, preds-none, used, next-pos, no-preds, linked, seg-rank, the-chain, chain-the, checked}
 use Rattle.laws.specs.Heads.{Head, headOf-heads, times-on-chain}
 use Rattle.laws.specs.Cut.{cut-other, cut-view, cut-linked, cut-head, cut-head-2}
-use Rattle.laws.specs.Space.{Good, head-1}
+use Rattle.laws.specs.Space.{FixedAnodes, FixedHead, fixed-pos, Good, head-1}
 use Rattle.laws.specs.Sides.{side-sd}
 
 module _ (A : ℕ) (ex : ℕ → Bool) (n last : ℕ) where
@@ -27,23 +27,14 @@ module _ (A : ℕ) (ex : ℕ → Bool) (n last : ℕ) where
 
   pub record Passes (s : Anodes) (system : ℕ → ℕ) : Type 0 where
     -- 6
-    pub count-0 : s .count 0 ≡ 0
-    pub block-0 : s .block 0 ≡ 65535
+    pub fixed : FixedAnodes s
     pub next-0 : s .next 0 ≡ 0
-    pub count-1 : s .count 1 ≡ 0
-    pub block-1 : s .block 1 ≡ 65535
-    pub block-2 : s .block 2 ≢ 0
-    pub block-5 : s .block 5 ≢ 0
     -- 7
     pub fits : (a : ℕ) → a < A → 0 < s .count a → s .block a + s .count a ≤ n
-    pub closed : (a : ℕ) → a < A → s .next a ≢ 0 → s .block (s .next a) ≢ 0
+    -- 7 and 8
+    pub links : Checked A (s .next) (s .block)
     -- 8
-    pub one-pred : (x : ℕ) → x ≢ 0 → s .block x ≢ 0 → preds A (s .next) x ≤ 1
-    pub ends : (a : ℕ) → s .block a ≢ 0 → followed (s .next) A a ≡ 0
-    pub first-1 : preds A (s .next) 1 ≡ 0
-    pub first-3 : preds A (s .next) 3 ≡ 0
-    pub first-4 : preds A (s .next) 4 ≡ 0
-    pub first-5 : preds A (s .next) 5 ≡ 0
+    pub first : (m : ℕ) → FixedHead m → preds A (s .next) m ≡ 0
     -- 9
     pub two-on : 0 < times 2 (chainOf (s .next) A 1)
     pub high : (a : ℕ) → 0 < times a (side A s 1) → 0 < s .count a → last < s .block a
@@ -73,28 +64,20 @@ module _ {A : ℕ} {ex : ℕ → Bool} {n last : ℕ} {s : Anodes} {system : ℕ
     exist = r .exist;
     free-none = r .free-count;
     own = record { not-two = c .not-two; not-none = c .not-none; fits = c .fits };
-    count-0 = c .count-0;
-    block-0 = c .block-0;
-    count-1 = c .count-1;
-    block-1 = c .block-1;
-    block-2 = c .block-2;
-    block-5 = c .block-5;
-    first-1 = no-preds v 1 (omega arith) (c .first-1);
-    first-3 = no-preds v 3 (omega arith) (c .first-3);
-    first-4 = no-preds v 4 (omega arith) (c .first-4);
-    first-5 = no-preds v 5 (omega arith) (c .first-5);
+    fixed = c .fixed;
+    first = λ m f. no-preds v m (fixed-pos m f) (c .first m f);
     heads = headOf-heads v k;
     two-on = on-one;
     sides = headOf-heads cv ck;
     high = λ a q. c .high a (omega (arith, times-on-chain cv ck sd (headOf-heads cv ck) 1 (cut-head head-1) a, oneAt-same (sd a) 1 q));
-    low = λ a q. c .low a (rw (← (from-two v k (c .block-2))) (omega (arith, times-on-chain cv ck sd (headOf-heads cv ck) 2 (cut-head-2 (s .next) (c .block-2)) a, oneAt-same (sd a) 2 q)));
+    low = λ a q. c .low a (rw (← (from-two v k (c .fixed .block-2))) (omega (arith, times-on-chain cv ck sd (headOf-heads cv ck) 2 (cut-head-2 (s .next) (c .fixed .block-2)) a, oneAt-same (sd a) 2 q)));
   }
     where
       v : View A (s .next) (s .block)
       v = record { below = r .low; free-end = r .free-next; zero-end = c .next-0 }
 
       k : Linked A (s .next) (s .block)
-      k = linked v (record { closed = c .closed; one-pred = c .one-pred; ends = c .ends })
+      k = linked v (c .links)
 
       cv : View A (cut (s .next)) (s .block)
       cv = cut-view v
@@ -106,7 +89,7 @@ module _ {A : ℕ} {ex : ℕ → Bool} {n last : ℕ} {s : Anodes} {system : ℕ
       sd = headOf A (cut (s .next)) (s .block)
 
       head-1 : Head (s .next) (s .block) 1
-      head-1 = record { pos = omega arith; in-use = λ z. omega (arith, z, c .block-1); no-pred = no-preds v 1 (omega arith) (c .first-1) }
+      head-1 = record { pos = omega arith; in-use = λ z. omega (arith, z, c .fixed .block-1); no-pred = no-preds v 1 (omega arith) (c .first 1 (inl refl)) }
 
       on-one : headOf A (s .next) (s .block) 2 ≡ 1
       on-one = elim (oneAt-cases (headOf A (s .next) (s .block) 2) 1) [
@@ -120,28 +103,15 @@ module _ {A : ℕ} {ex : ℕ → Bool} {n last : ℕ} {s : Anodes} {system : ℕ
   passes-of {hd} {sd} g = (
     record { low = g .view .below; exist = g .exist; free-count = g .free-none; free-next = g .view .free-end },
     record {
-      count-0 = g .count-0;
-      block-0 = g .block-0;
+      fixed = g .fixed;
       next-0 = g .view .zero-end;
-      count-1 = g .count-1;
-      block-1 = g .block-1;
-      block-2 = g .block-2;
-      block-5 = g .block-5;
       fits = g .own .fits;
-      closed = chk .closed;
-      one-pred = chk .one-pred;
-      ends = chk .ends;
-      first-1 = preds-none A (s .next) 1 (g .first-1);
-      first-3 = preds-none A (s .next) 3 (g .first-3);
-      first-4 = preds-none A (s .next) 4 (g .first-4);
-      first-5 = preds-none A (s .next) 5 (g .first-5);
+      links = checked (g .view) (g .linked);
+      first = λ m f. preds-none A (s .next) m (g .first m f);
       two-on = omega (arith, times-on-chain (g .view) (g .linked) hd (g .heads) 1 (head-1 g) 2, oneAt-same (hd 2) 1 (g .two-on));
       high = λ a q. g .high a (side-sd g 1 (inl refl) a q);
-      low = λ a q. g .low a (side-sd g 2 (inr refl) a (rw (from-two (g .view) (g .linked) (g .block-2)) q));
+      low = λ a q. g .low a (side-sd g 2 (inr refl) a (rw (from-two (g .view) (g .linked) (g .fixed .block-2)) q));
       not-two = g .own .not-two;
       not-none = g .own .not-none;
     },
   )
-    where
-      chk : Checked A (s .next) (s .block)
-      chk = checked (g .view) (g .linked)

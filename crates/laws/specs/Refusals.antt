@@ -68,7 +68,7 @@ module _ {A : ℕ} {ex : ℕ → Bool} {n last : ℕ} {s : Anodes} {system hd sd
 
       empty : (a : ℕ) → hd a ≡ 1 → s .count a ≡ 0
       empty a q = elim (same? a 0) [
-        | inl i ↦ ap (s .count) i ∙ g .count-0
+        | inl i ↦ ap (s .count) i ∙ g .fixed .count-0
         | inr i ↦ elim (same? (s .block a) 0) [
           | inl u ↦ g .free-none a u
           | inr u ↦ elim (on-side a i u q) [

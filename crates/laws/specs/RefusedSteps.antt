@@ -95,7 +95,7 @@ module _ {A : ℕ} {ex : ℕ → Bool} {n last : ℕ} where
   last-block {s} {hd = hd} g h d some = go (lastFull (s .count) 0 (chainOf (s .next) A h)) refl
     where
       go : (c : Found) → lastFull (s .count) 0 (chainOf (s .next) A h) ≡ c → (p : ℕ) × (x : ℕ) × (lastFull (s .count) 0 (chainOf (s .next) A h) ≡ found p x)
-      go nowhere e = absurd (omega (arith, some, blocks-chain (g .view) (g .linked) hd (g .heads) (s .count) (g .free-none) (g .count-0) h d, lastFull-none (s .count) 0 (chainOf (s .next) A h) e))
+      go nowhere e = absurd (omega (arith, some, blocks-chain (g .view) (g .linked) hd (g .heads) (s .count) (g .free-none) (g .fixed .count-0) h d, lastFull-none (s .count) 0 (chainOf (s .next) A h) e))
       go (found p x) e = (p, x, e)
 
   -- so a give is refused with 28 alone

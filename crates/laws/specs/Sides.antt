@@ -38,7 +38,7 @@ module _ {A : ℕ} {ex : ℕ → Bool} {n last : ℕ} {s : Anodes} {system hd sd
   -- the two sides
   pub side-start : (m : ℕ) → (m ≡ 1) ⊎ (m ≡ 2) → Head (cut (s .next)) (s .block) m
   side-start m (inl e) = rw e (cut-head (head-1 g))
-  side-start m (inr e) = rw e (cut-head-2 (s .next) (g .block-2))
+  side-start m (inr e) = rw e (cut-head-2 (s .next) (g .fixed .block-2))
 
   pub side-chain : (m : ℕ) → (m ≡ 1) ⊎ (m ≡ 2) → Chain (cut (s .next)) m (side A s m)
   unfolding side

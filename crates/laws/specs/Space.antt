@@ -1,7 +1,7 @@
 -- The accepted state of anodes and blocks, refusals 6 to 11, in the form to prove with, and the elementary changes that keep it.
 use Prim.Native.Nat.{ℕ, suc, _+_, _≤_, _<_}
-use mathlib.Core.Path.{_≡_, sym, ap, _∙_}
-use mathlib.Core.Logic.{_≢_, inl, inr}
+use mathlib.Core.Path.{_≡_, refl, sym, ap, _∙_}
+use mathlib.Core.Logic.{_≢_, _⊎_, inl, inr}
 use mathlib.Core.Bool.{Bool}
 use native.Mathlib.Omega.{arith}
 use lib.Dec.{T, leb→le, le→leb}
@@ -27,6 +27,28 @@ pub record Alike (s t : Anodes) (a : ℕ) : Type 0 where
 pub alike-trans : {s t r : Anodes} {a : ℕ} → Alike s t a → Alike t r a → Alike s r a
 alike-trans e f = record { same-count = f .same-count ∙ e .same-count; same-block = f .same-block ∙ e .same-block; same-next = f .same-next ∙ e .same-next }
 
+-- the fields of anodes 0, 1, 2 and 5 that the rules fix
+pub record FixedAnodes (s : Anodes) : Type 0 where
+  pub count-0 : s .count 0 ≡ 0
+  pub block-0 : s .block 0 ≡ 65535
+  pub count-1 : s .count 1 ≡ 0
+  pub block-1 : s .block 1 ≡ 65535
+  pub block-2 : s .block 2 ≢ 0
+  pub block-5 : s .block 5 ≢ 0
+
+-- the anodes that have no predecessor
+abbrev pub FixedHead : ℕ → Type 0
+FixedHead m = (m ≡ 1) ⊎ ((m ≡ 3) ⊎ ((m ≡ 4) ⊎ (m ≡ 5)))
+
+pub fixed-low : (m : ℕ) → FixedHead m → (1 ≤ m) × (m < 6)
+fixed-low m (inl e) = (omega arith, omega arith)
+fixed-low m (inr (inl e)) = (omega arith, omega arith)
+fixed-low m (inr (inr (inl e))) = (omega arith, omega arith)
+fixed-low m (inr (inr (inr e))) = (omega arith, omega arith)
+
+pub fixed-pos : (m : ℕ) → FixedHead m → m ≢ 0
+fixed-pos m f z = omega (arith, z, fixed-low m f .0)
+
 -- A: how many anodes there may be; ex: those that exist; n: the disk's size; last: last reserved
 module _ (A : ℕ) (ex : ℕ → Bool) (n last : ℕ) where
   -- hd is the table of heads, sd that of the sides
@@ -36,16 +58,8 @@ module _ (A : ℕ) (ex : ℕ → Bool) (n last : ℕ) where
     pub exist : (a : ℕ) → s .block a ≢ 0 → T (ex a)
     pub free-none : (a : ℕ) → s .block a ≡ 0 → s .count a ≡ 0
     pub own : EachOnce A (s .count) (s .block) system n
-    pub count-0 : s .count 0 ≡ 0
-    pub block-0 : s .block 0 ≡ 65535
-    pub count-1 : s .count 1 ≡ 0
-    pub block-1 : s .block 1 ≡ 65535
-    pub block-2 : s .block 2 ≢ 0
-    pub block-5 : s .block 5 ≢ 0
-    pub first-1 : (p : ℕ) → s .next p ≢ 1
-    pub first-3 : (p : ℕ) → s .next p ≢ 3
-    pub first-4 : (p : ℕ) → s .next p ≢ 4
-    pub first-5 : (p : ℕ) → s .next p ≢ 5
+    pub fixed : FixedAnodes s
+    pub first : (m : ℕ) → FixedHead m → (p : ℕ) → s .next p ≢ m
     pub heads : Heads (s .next) (s .block) hd
     pub two-on : hd 2 ≡ 1
     pub sides : Heads (cut (s .next)) (s .block) sd
@@ -54,10 +68,10 @@ module _ (A : ℕ) (ex : ℕ → Bool) (n last : ℕ) where
 
 module _ {A : ℕ} {ex : ℕ → Bool} {n last : ℕ} {s : Anodes} {system hd sd : ℕ → ℕ} (g : Good A ex n last s system hd sd) where
   pub head-1 : Head (s .next) (s .block) 1
-  head-1 = record { pos = omega arith; in-use = λ z. omega (arith, z, g .block-1); no-pred = g .first-1 }
+  head-1 = record { pos = omega arith; in-use = λ z. omega (arith, z, g .fixed .block-1); no-pred = g .first 1 (inl refl) }
 
   pub head-5 : Head (s .next) (s .block) 5
-  head-5 = record { pos = omega arith; in-use = g .block-5; no-pred = g .first-5 }
+  head-5 = record { pos = omega arith; in-use = g .fixed .block-5; no-pred = g .first 5 (inr (inr (inr refl))) }
 
   -- an anode in use, neither 0 nor 1, is rewritten to (c, b)
   module _ (x c b : ℕ) (system′ : ℕ → ℕ) (u : s .block x ≢ 0) (b0 : b ≢ 0) (x0 : x ≢ 0) (x1 : x ≢ 1)
@@ -74,16 +88,15 @@ module _ {A : ℕ} {ex : ℕ → Bool} {n last : ℕ} {s : Anodes} {system hd sd
         | inr e ↦ e .1 ∙ g .free-none a (same-use (s .block) x b u b0 a h)
       ];
       own = move A (s .count) (s .block) system n x (g .view .below x u) c b system′ moved fits (g .own);
-      count-0 = changed-other (s .count) x c 0 (λ q. x0 (sym q)) ∙ g .count-0;
-      block-0 = changed-other (s .block) x b 0 (λ q. x0 (sym q)) ∙ g .block-0;
-      count-1 = changed-other (s .count) x c 1 (λ q. x1 (sym q)) ∙ g .count-1;
-      block-1 = changed-other (s .block) x b 1 (λ q. x1 (sym q)) ∙ g .block-1;
-      block-2 = λ z. g .block-2 (same-use (s .block) x b u b0 2 z);
-      block-5 = λ z. g .block-5 (same-use (s .block) x b u b0 5 z);
-      first-1 = g .first-1;
-      first-3 = g .first-3;
-      first-4 = g .first-4;
-      first-5 = g .first-5;
+      fixed = record {
+        count-0 = changed-other (s .count) x c 0 (λ q. x0 (sym q)) ∙ g .fixed .count-0;
+        block-0 = changed-other (s .block) x b 0 (λ q. x0 (sym q)) ∙ g .fixed .block-0;
+        count-1 = changed-other (s .count) x c 1 (λ q. x1 (sym q)) ∙ g .fixed .count-1;
+        block-1 = changed-other (s .block) x b 1 (λ q. x1 (sym q)) ∙ g .fixed .block-1;
+        block-2 = λ z. g .fixed .block-2 (same-use (s .block) x b u b0 2 z);
+        block-5 = λ z. g .fixed .block-5 (same-use (s .block) x b u b0 5 z);
+      };
+      first = g .first;
       heads = rewrite-heads (s .block) x b u b0 (g .heads);
       two-on = g .two-on;
       sides = rewrite-heads (s .block) x b u b0 (g .sides);
@@ -113,16 +126,15 @@ module _ {A : ℕ} {ex : ℕ → Bool} {n last : ℕ} {s : Anodes} {system hd sd
     ]
 
     -- where x is from 6 up, what is fixed of the anodes below stays
-    fixed : 6 ≤ x → (changed (s .count) x c 0 ≡ 0) × (changed (s .block) x b 0 ≡ 65535) × (changed (s .count) x c 1 ≡ 0) × (changed (s .block) x b 1 ≡ 65535)
-        × (changed (s .block) x b 2 ≢ 0) × (changed (s .block) x b 5 ≢ 0)
-    fixed x6 = (
-      changed-other (s .count) x c 0 (omega arith) ∙ g .count-0,
-      changed-other (s .block) x b 0 (omega arith) ∙ g .block-0,
-      changed-other (s .count) x c 1 (omega arith) ∙ g .count-1,
-      changed-other (s .block) x b 1 (omega arith) ∙ g .block-1,
-      rw (changed-other (s .block) x b 2 (omega arith)) (g .block-2),
-      rw (changed-other (s .block) x b 5 (omega arith)) (g .block-5),
-    )
+    fixed-kept : (next : ℕ → ℕ) → 6 ≤ x → FixedAnodes (record { count = changed (s .count) x c; block = changed (s .block) x b; next = next })
+    fixed-kept next x6 = record {
+      count-0 = changed-other (s .count) x c 0 (omega arith) ∙ g .fixed .count-0;
+      block-0 = changed-other (s .block) x b 0 (omega arith) ∙ g .fixed .block-0;
+      count-1 = changed-other (s .count) x c 1 (omega arith) ∙ g .fixed .count-1;
+      block-1 = changed-other (s .block) x b 1 (omega arith) ∙ g .fixed .block-1;
+      block-2 = rw (changed-other (s .block) x b 2 (omega arith)) (g .fixed .block-2);
+      block-5 = rw (changed-other (s .block) x b 5 (omega arith)) (g .fixed .block-5);
+    }
 
   -- x, with no block and from 6 up, is unlinked after p and zeroed
   module _ (p x : ℕ) (px : s .next p ≡ x) (x6 : 6 ≤ x) (none : s .count x ≡ 0) where
@@ -138,16 +150,8 @@ module _ {A : ℕ} {ex : ℕ → Bool} {n last : ℕ} {s : Anodes} {system hd sd
       free-none = λ a h. elim (changed-cases (s .count) x 0 a) [ inl e ↦ e .1 | inr e ↦ e .1 ∙ g .free-none a (sym (changed-other (s .block) x 0 a (e .0)) ∙ h) ];
       own = move A (s .count) (s .block) system n x (g .view .below x ux) 0 0 system
           (λ y. rw none (omega (arith, covers-none (s .block x) y, covers-none 0 y))) (λ q. absurd (omega arith)) (g .own);
-      count-0 = fixed x 0 0 x6 .0;
-      block-0 = fixed x 0 0 x6 .1;
-      count-1 = fixed x 0 0 x6 .2;
-      block-1 = fixed x 0 0 x6 .3;
-      block-2 = fixed x 0 0 x6 .4;
-      block-5 = fixed x 0 0 x6 .5;
-      first-1 = first-of 1 (omega arith) (g .first-1);
-      first-3 = first-of 3 (omega arith) (g .first-3);
-      first-4 = first-of 4 (omega arith) (g .first-4);
-      first-5 = first-of 5 (omega arith) (g .first-5);
+      fixed = fixed-kept x 0 0 _ x6;
+      first = λ m f. first-of m (fixed-pos m f) (g .first m f);
       heads = unlink-heads (g .view) (g .linked) hd (g .heads) p x x0 px;
       two-on = changed-other hd x 0 2 (omega arith) ∙ g .two-on;
       sides = rw (cut-unlink (s .next) p x) at (unlink-heads (cut-view (g .view)) (cut-linked (g .linked)) sd (g .sides) p x x0 (cut-other (s .next) p (λ q. omega (arith, px, q)) ∙ px));
@@ -180,16 +184,8 @@ module _ {A : ℕ} {ex : ℕ → Bool} {n last : ℕ} {s : Anodes} {system hd sd
       exist = λ a h. elim (changed-cases (s .block) f b a) [ inl e ↦ rw (e .0) there | inr e ↦ g .exist a (rw (e .1) at h) ];
       free-none = λ a h. elim (changed-cases (s .block) f b a) [ inl e ↦ absurd (b0 (sym (e .1) ∙ h)) | inr e ↦ changed-other (s .count) f c a (e .0) ∙ g .free-none a (sym (e .1) ∙ h) ];
       own = move A (s .count) (s .block) system n f fA c b system′ (λ y. rw (g .free-none f fresh) (omega (arith, covers-none (s .block f) y, moved y))) fits (g .own);
-      count-0 = fixed f c b f6 .0;
-      block-0 = fixed f c b f6 .1;
-      count-1 = fixed f c b f6 .2;
-      block-1 = fixed f c b f6 .3;
-      block-2 = fixed f c b f6 .4;
-      block-5 = fixed f c b f6 .5;
-      first-1 = first-of 1 (omega arith) (g .first-1);
-      first-3 = first-of 3 (omega arith) (g .first-3);
-      first-4 = first-of 4 (omega arith) (g .first-4);
-      first-5 = first-of 5 (omega arith) (g .first-5);
+      fixed = fixed-kept f c b _ f6;
+      first = λ m i. first-of m (fixed-low m i .1) (g .first m i);
       heads = insert-heads (g .view) (g .linked) hd (g .heads) p f b p0 up f0 fresh fA b0;
       two-on = changed-other hd f (hd p) 2 (omega arith) ∙ g .two-on;
       sides = rw (cut-insertAfter (s .next) p f (omega arith)) at (insert-heads (cut-view (g .view)) (cut-linked (g .linked)) sd (g .sides) p f b p0 up f0 fresh fA b0);
@@ -214,16 +210,8 @@ module _ {A : ℕ} {ex : ℕ → Bool} {n last : ℕ} {s : Anodes} {system hd sd
       exist = λ a h. elim (changed-cases (s .block) f b a) [ inl e ↦ rw (e .0) there | inr e ↦ g .exist a (rw (e .1) at h) ];
       free-none = λ a h. elim (changed-cases (s .count) f 0 a) [ inl e ↦ e .1 | inr e ↦ e .1 ∙ g .free-none a (sym (changed-other (s .block) f b a (e .0)) ∙ h) ];
       own = move A (s .count) (s .block) system n f fA 0 b system (λ y. rw (g .free-none f fresh) (omega (arith, covers-none (s .block f) y, covers-none b y))) (λ q. absurd (omega arith)) (g .own);
-      count-0 = fixed f 0 b f6 .0;
-      block-0 = fixed f 0 b f6 .1;
-      count-1 = fixed f 0 b f6 .2;
-      block-1 = fixed f 0 b f6 .3;
-      block-2 = fixed f 0 b f6 .4;
-      block-5 = fixed f 0 b f6 .5;
-      first-1 = g .first-1;
-      first-3 = g .first-3;
-      first-4 = g .first-4;
-      first-5 = g .first-5;
+      fixed = fixed-kept f 0 b _ f6;
+      first = g .first;
       heads = fresh-heads (g .view) (g .linked) hd (g .heads) f b (omega arith) fresh fA b0;
       two-on = changed-other hd f f 2 (omega arith) ∙ g .two-on;
       sides = fresh-heads (cut-view (g .view)) (cut-linked (g .linked)) sd (g .sides) f b (omega arith) fresh fA b0;
@@ -271,16 +259,15 @@ module _ {A : ℕ} {ex : ℕ → Bool} {n last : ℕ} {s : Anodes} {system hd sd
             | inl e ↦ rw (e .1) (λ q. absurd (omega arith))
             | inr e ↦ rw (e .1, without-other dead (s .block) a (e .0)) (g .own .fits a l)
           ]) (g .own);
-      count-0 = without-other dead (s .count) 0 dead-0 ∙ g .count-0;
-      block-0 = without-other dead (s .block) 0 dead-0 ∙ g .block-0;
-      count-1 = without-other dead (s .count) 1 dead-1 ∙ g .count-1;
-      block-1 = without-other dead (s .block) 1 dead-1 ∙ g .block-1;
-      block-2 = rw (without-other dead (s .block) 2 dead-2) (g .block-2);
-      block-5 = rw (without-other dead (s .block) 5 dead-5) (g .block-5);
-      first-1 = first-of 1 (omega arith) (g .first-1);
-      first-3 = first-of 3 (omega arith) (g .first-3);
-      first-4 = first-of 4 (omega arith) (g .first-4);
-      first-5 = first-of 5 (omega arith) (g .first-5);
+      fixed = record {
+        count-0 = without-other dead (s .count) 0 dead-0 ∙ g .fixed .count-0;
+        block-0 = without-other dead (s .block) 0 dead-0 ∙ g .fixed .block-0;
+        count-1 = without-other dead (s .count) 1 dead-1 ∙ g .fixed .count-1;
+        block-1 = without-other dead (s .block) 1 dead-1 ∙ g .fixed .block-1;
+        block-2 = rw (without-other dead (s .block) 2 dead-2) (g .fixed .block-2);
+        block-5 = rw (without-other dead (s .block) 5 dead-5) (g .fixed .block-5);
+      };
+      first = λ m f. first-of m (fixed-pos m f) (g .first m f);
       heads = drop-heads (g .view) (g .linked) hd (g .heads) dead dead-along;
       two-on = without-other dead hd 2 dead-2 ∙ g .two-on;
       sides = rw (cut-drop (s .next) dead) at (drop-heads (cut-view (g .view)) (cut-linked (g .linked)) sd (g .sides) dead cut-along);

@@ -19,7 +19,8 @@ use Rattle.rules.specs.Accepted.{diskSize, wrongSlot, wrongSlots, wrongFixed, o
 use Rattle.counting.specs.Laws.{neither, anyBelow-each}
 use Rattle.laws.specs.Tests.{same?, less?, and-none, and-both, other}
 use Rattle.laws.specs.Segments.{followed-zero}
-use Rattle.laws.specs.Links.{View, Linked, linked}
+use Rattle.laws.specs.Links.{View, Checked}
+use Rattle.laws.specs.Space.{FixedAnodes}
 use Rattle.laws.specs.Passes.{Reading}
 
 -- ---- 5
@@ -63,18 +64,9 @@ one-slot img right s t u e = sym (right-slot img right s u .numbered) ∙ rw e (
 
 -- ---- 6
 
--- the fixed anodes as the rules ask
-pub record FixedAnodes (s : Anodes) : Type 0 where
-  pub count-0 : s .count 0 ≡ 0
-  pub block-0 : s .block 0 ≡ 65535
-  pub next-0 : s .next 0 ≡ 0
-  pub count-1 : s .count 1 ≡ 0
-  pub block-1 : s .block 1 ≡ 65535
-  pub block-2 : s .block 2 ≢ 0
-  pub block-5 : s .block 5 ≢ 0
-
 module _ (s : Anodes) (fixed : wrongFixed s ≡ false) where
-  pub fixed-anodes : FixedAnodes s
+  -- anode 0 is (0, 65535, 0), anode 1 is empty, 2 and 5 are in use
+  pub fixed-anodes : FixedAnodes s × (s .next 0 ≡ 0)
   unfolding wrongFixed
   fixed-anodes =
       let zero = not (eqb (s .count 0) 0 && (eqb (s .block 0) 65535 && eqb (s .next 0) 0)) in
@@ -86,15 +78,17 @@ module _ (s : Anodes) (fixed : wrongFixed s ≡ false) where
       let zeros = and-both (eqb (s .count 0) 0) _ (not-false _ (all .0)) in
       let more = and-both (eqb (s .block 0) 65535) (eqb (s .next 0) 0) (zeros .1) in
       let ones = and-both (eqb (s .count 1) 0) (eqb (s .block 1) 65535) (not-false _ (rest .0)) in
-      record {
-        count-0 = eqb-true _ _ (zeros .0);
-        block-0 = eqb-true _ _ (more .0);
-        next-0 = eqb-true _ _ (more .1);
-        count-1 = eqb-true _ _ (ones .0);
-        block-1 = eqb-true _ _ (ones .1);
-        block-2 = eqb-false _ _ (used .0);
-        block-5 = eqb-false _ _ (used .1);
-      }
+      (
+        record {
+          count-0 = eqb-true _ _ (zeros .0);
+          block-0 = eqb-true _ _ (more .0);
+          count-1 = eqb-true _ _ (ones .0);
+          block-1 = eqb-true _ _ (ones .1);
+          block-2 = eqb-false _ _ (used .0);
+          block-5 = eqb-false _ _ (used .1);
+        },
+        eqb-true _ _ (more .1),
+      )
 
   -- ---- 7
 
@@ -106,14 +100,14 @@ module _ (s : Anodes) (fixed : wrongFixed s ≡ false) where
     -- an anode's blocks are on the disk
     pub extent-inside : (a : ℕ) → a < limit → 0 < s .count a → s .block a + s .count a ≤ n
     extent-inside a l c = elim (same? a 0) [
-      | inl e ↦ absurd (omega (arith, c, ap (s .count) e, fixed-anodes .count-0))
+      | inl e ↦ absurd (omega (arith, c, ap (s .count) e, fixed-anodes .0 .count-0))
       | inr e ↦ ltb-false n _ (and-none _ _ (in-range a l e .0) (lt-ltb 0 _ c))
     ]
 
     -- a next is in use
     pub next-used : (a : ℕ) → a < limit → s .next a ≢ 0 → s .block (s .next a) ≢ 0
     next-used a l h = elim (same? a 0) [
-      | inl e ↦ absurd (h (ap (s .next) e ∙ fixed-anodes .next-0))
+      | inl e ↦ absurd (h (ap (s .next) e ∙ fixed-anodes .1))
       | inr e ↦ eqb-false _ 0 (and-none _ _ (in-range a l e .1) (other (s .next a) 0 h))
     ]
 
@@ -124,12 +118,12 @@ module _ (s : Anodes) (fixed : wrongFixed s ≡ false) where
     unfolding wrongLinks wrongAt wrongLink
     right-link a l a0 u = neither _ _ (and-none _ _ (and-none _ _ (anyBelow-each (wrongAt s) a limit l (neither (anyBelow (wrongAt s) limit) _ links .0)) (other a 0 a0)) (other (s .block a) 0 u))
 
-    pub one-pred : (a : ℕ) → a < limit → a ≢ 0 → s .block a ≢ 0 → preds limit (s .next) a ≤ 1
+    one-pred : (a : ℕ) → a < limit → a ≢ 0 → s .block a ≢ 0 → preds limit (s .next) a ≤ 1
     one-pred a l a0 u = ltb-false 1 _ (right-link a l a0 u .0)
 
-    pub chain-ends : (a : ℕ) → a < limit → s .block a ≢ 0 → followed (s .next) limit a ≡ 0
+    chain-ends : (a : ℕ) → a < limit → s .block a ≢ 0 → followed (s .next) limit a ≡ 0
     chain-ends a l u = elim (same? a 0) [
-      | inl e ↦ rw e (followed-zero (s .next) limit (fixed-anodes .next-0))
+      | inl e ↦ rw e (followed-zero (s .next) limit (fixed-anodes .1))
       | inr e ↦ eqb-true _ 0 (not-false _ (right-link a l e u .1))
     ]
 
@@ -137,12 +131,11 @@ module _ (s : Anodes) (fixed : wrongFixed s ≡ false) where
 
   module _ {ex : ℕ → Bool} {n last : ℕ} (r : Reading limit ex n last s) where
     pub tested-view : View limit (s .next) (s .block)
-    tested-view = record { below = r .low; free-end = r .free-next; zero-end = fixed-anodes .next-0 }
+    tested-view = record { below = r .low; free-end = r .free-next; zero-end = fixed-anodes .1 }
 
-    pub tested-linked : (k : ℕ) → anyBelow (outOfRange s k) limit ≡ false → wrongLinks s ≡ false → Linked limit (s .next) (s .block)
-    tested-linked k right links =
-        linked tested-view (record {
-          closed = next-used k right;
-          one-pred = λ a a0 u. one-pred links a (r .low a u) a0 u;
-          ends = λ a u. chain-ends links a (r .low a u) u;
-        })
+    pub tested-checked : (k : ℕ) → anyBelow (outOfRange s k) limit ≡ false → wrongLinks s ≡ false → Checked limit (s .next) (s .block)
+    tested-checked k right links = record {
+      closed = next-used k right;
+      one-pred = λ a a0 u. one-pred links a (r .low a u) a0 u;
+      ends = λ a u. chain-ends links a (r .low a u) u;
+    }

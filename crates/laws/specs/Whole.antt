@@ -105,7 +105,7 @@ module _ {ex : ℕ → Bool} {n last : ℕ} {s : Anodes} {system hd sd : ℕ →
   -- a head's blocks are those of its chain, how many and which
   pub blocks-count : (h : ℕ) → Head (s .next) (s .block) h → blocks limit hd (s .count) h ≡ blockCount s h
   unfolding blockCount
-  blocks-count h d = blocks-chain (g .view) (g .linked) hd (g .heads) (s .count) (g .free-none) (g .count-0) h d
+  blocks-count h d = blocks-chain (g .view) (g .linked) hd (g .heads) (s .count) (g .free-none) (g .fixed .count-0) h d
 
   pub blocks-sum : (f : ℕ → ℕ) (h : ℕ) → Head (s .next) (s .block) h → sumList f (blocksOf s h) ≡ sumBelow (λ y. held limit hd (s .count) (s .block) h y * f y) n
   unfolding blocksOf
@@ -151,7 +151,7 @@ module _ {ex : ℕ → Bool} {n last : ℕ} {s : Anodes} {system hd sd : ℕ →
   -- the sum of demand 3 of an accepted state
   pub whole-total : sumBelow system n + (blocks limit hd (s .count) 1 + filesOf (itemsBy entries marked s) (blocks limit hd (s .count)) dirs + dirsOf (blocks limit hd (s .count)) dirs
       + blocks limit hd (s .count) 3 + blocks limit hd (s .count) 4) ≡ n
-  whole-total = tree-total (w .good .view) (w .good .linked) hd (w .good .heads) (s .count) (w .good .free-none) (w .good .count-0)
+  whole-total = tree-total (w .good .view) (w .good .linked) hd (w .good .heads) (s .count) (w .good .free-none) (w .good .fixed .count-0)
       (itemsBy entries marked s) root dirs (w .tree) refl (omega arith) (w .good .two-on) named-heads (w .all-named) system n (w .good .own) (head-below-limit)
     where
       head-below-limit : (a : ℕ) → hd a < limit

@@ -84,7 +84,7 @@ loop-again c =
     let within = extent-inside _ (s .1) _ (s .2) (l .a) (c .before .before .before .before .before .before .before .before .loop-test .taken) in
     let size = size-some _ (c .before .before .before .before .before .before .before .before .before .before .before .before .before .before .before .before .before .before .before .before .pre .1 .0 .0) in
     let run = rw (c .if2 .left) at (c .before .before .before .mark-run .ensures .0) in
-    let some = head-some _ _ _ _ _ (l .a) _ (l .inv .3) _ run (omega arith) (fixed-anodes _ (s .1) .count-0) (c .before .before .before .before .before .before .before .before .before .before .before .before .before .before .before .before .before .before .before .before .pre .1 .1 .1 .1 (l .a)) in (
+    let some = head-some _ _ _ _ _ (l .a) _ (l .inv .3) _ run (omega arith) (fixed-anodes _ (s .1) .0 .count-0) (c .before .before .before .before .before .before .before .before .before .before .before .before .before .before .before .before .before .before .before .before .pre .1 .1 .1 .1 (l .a)) in (
       search needs,
       search needs,
       kept-drop _ _ _ _ _ (c .before .before .before .mark-run .ensures .1) within (search needs) ∙ l .inv .2,
