@@ -1,6 +1,6 @@
--- A block of the image that is lent and comes back, the same bytes in some blocks, and the anodes stored one after the other. Assumes nothing.
-use Prim.Native.Nat.{ℕ, zero, suc, _+_, _-_, _*_, _/_, _%_, _<_, _≤_, min}
-use mathlib.Core.Path.{_≡_, refl, sym, ap, _∙_}
+-- The same bytes in some blocks, and the anodes stored one after the other. Assumes nothing.
+use Prim.Native.Nat.{ℕ, zero, suc, _+_, _-_, _*_, _/_, _%_, _<_, _≤_}
+use mathlib.Core.Path.{_≡_, refl, sym, _∙_}
 use mathlib.Core.Logic.{⊎-elim}
 use mathlib.Core.Bool.{Bool, true, false, cond, not, _&&_, and-false}
 use mathlib.Core.List.{List, [], _∷_, append-nil}
@@ -11,13 +11,12 @@ use lib.ListN.{length, getD, set, take, drop, replicate, length-replicate, drop-
 use lib.Seq.{drop-cons, getD-take, getD-drop, length-take-le, take-take, set-out, take-set-lt, take-set-le, sets-eq}
 use lib.Dec.{eqb, ltb}
 use borrow.Author.Tests.{lt-ltb, le-ltb, eq-eqb, ne-eqb, not-true, not-false}
-use borrow.Rule.Slice.PartMut.{putMid}
 use Rattle.endian.specs.Bytes.{put16, stored, cleared}
 use Rattle.endian.proofs.Laws.{le-or-lt, cleared-stored, stored-take}
 use Rattle.disk.specs.Blocks.{blockOf, withBlock}
 use Rattle.disk.specs.declared.Anode.{Anode}
 use Rattle.disk.specs.AnodeBlocks.{anodeMade, setAnode}
-use Rattle.disk.proofs.Laws.{length-blockOf-min, withBlock-out, part-block, block-back}
+use Rattle.disk.proofs.Laws.{length-blockOf-min}
 use Rattle.disk.proofs.Store.{withBlock-stored}
 use Rattle.directory.specs.declared.Kind.{Kind}
 use Rattle.directory.specs.declared.Kind.the-variants.{File, Directory}
@@ -30,33 +29,12 @@ use Rattle.rules.specs.Changes.{inBlock, withBlocks, zeroTail, newDirectoryBloc
 use Rattle.laws.specs.OwnerTable.{setAll}
 use Rattle.anodes.specs.Loaded.{anodesFrom}
 
--- ---- a block that is lent up to e: 512 bytes on, or the image's end before that
-
-module _ (img : List ℕ) (b e : ℕ) (end : e ≡ min (b * 512 + 512) (length img)) where
-  pub withBlock-none : (new : List ℕ) → e ≤ b * 512 → img ≡ withBlock img b new
-  withBlock-none new h = sym (withBlock-out img b new (omega arith))
-
-  pub inBlock-none : (f : List ℕ → List ℕ) → e ≤ b * 512 → img ≡ inBlock img b f
-  unfolding inBlock
-  inBlock-none f h = withBlock-none (f (blockOf img b)) h
-
-  module _ (starts : b * 512 < e) (new : List ℕ) (same : length new ≡ length (take (e - b * 512) (drop (b * 512) img))) where
-    pub inBlock-back : (f : List ℕ → List ℕ) → new ≡ f (take (e - b * 512) (drop (b * 512) img)) → putMid (b * 512) (e - b * 512) img new ≡ inBlock img b f
-    unfolding inBlock
-    inBlock-back f is =
-        let p = part-block img b e end (omega arith) in
-        block-back img b e end (omega arith) new (same ∙ ap length p) ∙ ap (withBlock img b) (is ∙ ap f p)
-
-    -- a block is stored as far as the image has it
-    pub withBlock-back : (full : List ℕ) → new ≡ take (length (take (e - b * 512) (drop (b * 512) img))) full → putMid (b * 512) (e - b * 512) img new ≡ withBlock img b full
-    unfolding withBlock
-    withBlock-back full is =
-        let p = part-block img b e end (omega arith) in
-        let k = length (blockOf img b) in
-        block-back img b e end (omega arith) new (same ∙ ap length p)
-        ∙ rw (is, p, take-take k k full (omega arith))
-
 -- ---- a directory's new block, as far as the image has it
+
+-- a block is stored as far as the image has it
+pub withBlock-fit : (img : List ℕ) (b : ℕ) (new : List ℕ) → withBlock img b (take (length (blockOf img b)) new) ≡ withBlock img b new
+unfolding withBlock
+withBlock-fit img b new = rw (take-take (length (blockOf img b)) (length (blockOf img b)) new (omega arith))
 
 take-set : (k : ℕ) (l : List ℕ) (i v : ℕ) → take k (set l i v) ≡ set (take k l) i v
 take-set k l i v =
