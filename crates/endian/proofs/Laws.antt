@@ -1,7 +1,7 @@
 -- What a reader of bytes gets after a store, and the steps of the loops that store a run. Assumes nothing.
 use mathlib.Core.Path.{_≡_, refl, sym, _∙_}
 use Prim.Native.Nat.{ℕ, zero, suc, _+_, _/_, _%_, _-_, _<_, _≤_}
-use mathlib.Core.List.{List, [], _∷_}
+use mathlib.Core.List.{List, [], _∷_, append-nil}
 use mathlib.Core.Bool.{Bool, true, false}
 use mathlib.Core.Logic.{_⊎_, inl, inr, ⊎-elim}
 use lib.Dec.{leb, eqb}
@@ -9,23 +9,22 @@ use borrow.Author.Tests.{leb-true, leb-false, eqb-true, eqb-false}
 use native.Mathlib.Omega.{arith}
 use native.Mathlib.Numerals.{add-one}
 use native.Mathlib.Nat.{not-suc-le-zero}
-use lib.ListN.{length, getD, set, take, drop, replicate, length-set, length-replicate, getD-replicate, List·getD-eq-default}
-use lib.Seq.{set-out, getD-set-same, getD-set-other, drop-cons, length-sets}
+use lib.ListN.{length, getD, set, take, drop, replicate, length-set, length-replicate, getD-replicate, drop-of-length-le, List·getD-eq-default}
+use lib.Seq.{set-out, getD-set-same, getD-set-other, drop-cons, length-take-le, length-sets, sets-eq}
 use Rattle.endian.specs.Bytes.{be16, be32, put16, put32, stored, cleared}
 
 -- ---- cases
 
+-- what a test's two results say
+either : {A B : Type 0} (t : Bool) → (t ≡ true → A) → (t ≡ false → B) → A ⊎ B
+either true f g = inl (f refl)
+either false f g = inr (g refl)
+
 pub le-or-lt : (a b : ℕ) → (a ≤ b) ⊎ (b < a)
-le-or-lt a b = go (leb a b) refl where
-  go : (t : Bool) → leb a b ≡ t → (a ≤ b) ⊎ (b < a)
-  go true e = inl (leb-true a b e)
-  go false e = inr (leb-false a b e)
+le-or-lt a b = either (leb a b) (leb-true a b) (leb-false a b)
 
 pub eq-or-ne : (a b : ℕ) → (a ≡ b) ⊎ (a ≡ b → ⊥)
-eq-or-ne a b = go (eqb a b) refl where
-  go : (t : Bool) → eqb a b ≡ t → (a ≡ b) ⊎ (a ≡ b → ⊥)
-  go true e = inl (eqb-true a b e)
-  go false e = inr (eqb-false a b e)
+eq-or-ne a b = either (eqb a b) (eqb-true a b) (eqb-false a b)
 
 -- ---- numbers
 
@@ -179,6 +178,17 @@ getD-zeros n i =
     (λ h. List·getD-eq-default (replicate n 0) 0 (rw (length-replicate {A = ℕ} n 0) h))
     (λ h. getD-replicate {A = ℕ} n i 0 0 h)
     (le-or-lt n i)
+
+-- zeros from the front to the end
+pub cleared-front : (l : List ℕ) (n : ℕ) → length l ≤ n → cleared l 0 n ≡ take (length l) (replicate n 0)
+unfolding stored
+cleared-front l n h =
+    let z : List ℕ = take (length l) (replicate n 0) in
+    let m : length z ≡ length l = length-take-le (length l) (replicate n 0) (rw (length-replicate {A = ℕ} n 0) h) in
+    cleared-stored l 0 n
+    ∙ sym (stored-take l 0 (replicate n 0) (length l) (omega arith))
+    ∙ sets-eq z l 0 (omega arith)
+    ∙ rw (drop-of-length-le l {i = 0 + length z} (omega arith)) (append-nil z)
 
 pub cleared-out : (l : List ℕ) (at n : ℕ) → length l ≤ at → cleared l at n ≡ l
 cleared-out l at n h = cleared-stored l at n ∙ stored-out l at (replicate n 0) h
