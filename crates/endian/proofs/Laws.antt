@@ -16,15 +16,15 @@ use Rattle.endian.specs.Bytes.{be16, be32, put16, put32, stored, cleared
 -- ---- cases
 
 -- what a test's two results say
-either : {A B : Type 0} (t : Bool) → (t ≡ true → A) → (t ≡ false → B) → A ⊎ B
-either true f g = inl (f refl)
-either false f g = inr (g refl)
+by-test : {A B : Type 0} (t : Bool) → (t ≡ true → A) → (t ≡ false → B) → A ⊎ B
+by-test true f g = inl (f refl)
+by-test false f g = inr (g refl)
 
 pub le-or-lt : (a b : ℕ) → (a ≤ b) ⊎ (b < a)
-le-or-lt a b = either (leb a b) (leb-true a b) (leb-false a b)
+le-or-lt a b = by-test (leb a b) (leb-true a b) (leb-false a b)
 
 pub eq-or-ne : (a b : ℕ) → (a ≡ b) ⊎ (a ≡ b → ⊥)
-eq-or-ne a b = either (eqb a b) (eqb-true a b) (eqb-false a b)
+eq-or-ne a b = by-test (eqb a b) (eqb-true a b) (eqb-false a b)
 
 -- ---- numbers
 
@@ -73,9 +73,12 @@ module _ (l : List ℕ) (at v : ℕ) where
   unfolding put16
   getD-put16-other k n0 n1 = getD-set-other (set l at (v / 256)) (at + 1) k (v % 256) 0 n1 ∙ getD-set-other l at k (v / 256) 0 n0
 
-  pub be16-put16-other : (k : ℕ) → (k ≡ at → ⊥) → (k + 1 ≡ at → ⊥) → (k ≡ at + 1 → ⊥) → be16 (put16 l at v) k ≡ be16 l k
-  be16-put16-other k n0 n1 n2 =
-      be16-bytes (put16 l at v) l k k (getD-put16-other k n0 n2) (getD-put16-other (k + 1) n1 (λ e. n0 (omega arith)))
+  -- a number with neither of the two bytes
+  pub be16-put16-other : (k : ℕ) → ((j : ℕ) → j < 3 → k + 1 ≡ at + j → ⊥) → be16 (put16 l at v) k ≡ be16 l k
+  be16-put16-other k n =
+      be16-bytes (put16 l at v) l k k
+      (getD-put16-other k (λ e. n 1 (omega arith) (omega arith)) (λ e. n 2 (omega arith) (omega arith)))
+      (getD-put16-other (k + 1) (λ e. n 0 (omega arith) (omega arith)) (λ e. n 1 (omega arith) (omega arith)))
 
 module _ (l : List ℕ) (at v : ℕ) where
   pub length-put32 : length (put32 l at v) ≡ length l
@@ -91,7 +94,7 @@ module _ (l : List ℕ) (at v : ℕ) where
   be32-put32-same h =
       let m = put16 l at (v / 65536) in
       rw (
-        be16-put16-other m (at + 2) (v % 65536) at (λ e. omega arith) (λ e. omega arith) (λ e. omega arith),
+        be16-put16-other m (at + 2) (v % 65536) at (λ j m e. omega arith),
         be16-put16-same l at (v / 65536) (omega arith),
         be16-put16-same m (at + 2) (v % 65536) (simp length-put16 (omega arith)),
       )
