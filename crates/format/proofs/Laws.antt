@@ -224,12 +224,13 @@ module _ (n last k : ℕ) where
   unfolding anodeBlock
   anodeBlock-later s h = rw (ne-eqb s 0 h)
 
+  -- what holds of both holds of every anode block
+  pub anodeBlock-both : (P : List ℕ → Type 0) (s : ℕ) → P (firstAnodes (emptyAnodeBlock s) n last k) → P (emptyAnodeBlock s) → P (anodeBlock n last k s)
+  anodeBlock-both P s p q = ⊎-elim (λ e. rw (anodeBlock-first s e) p) (λ h. rw (anodeBlock-later s h) q) (eq-or-ne s 0)
+
   length-anodeBlock : (s : ℕ) → length (anodeBlock n last k s) ≡ 512
   length-anodeBlock s =
-      ⊎-elim
-      (λ e. rw (anodeBlock-first s e) (length-firstAnodes (emptyAnodeBlock s) ∙ length-emptyAnodeBlock s))
-      (λ h. rw (anodeBlock-later s h) (length-emptyAnodeBlock s))
-      (eq-or-ne s 0)
+      anodeBlock-both (λ b. length b ≡ 512) s (length-firstAnodes (emptyAnodeBlock s) ∙ length-emptyAnodeBlock s) (length-emptyAnodeBlock s)
 
   -- the first block's anodes, over those of the block that it is stored in
   module _ (b : List ℕ) (whole : 512 ≤ length b) where
