@@ -1,21 +1,22 @@
 -- What an anode is seen as, and the tables with one more of them. Assumes nothing.
-use mathlib.Core.Path.{_≡_, refl, sym, _∙_}
+use mathlib.Core.Path.{_≡_, refl, sym, ap, _∙_}
 use mathlib.Core.Logic.{⊎-elim}
-use Prim.Native.Nat.{ℕ, _+_, _*_, _/_, _%_, _<_, _≤_}
-use mathlib.Core.List.{List}
+use Prim.Native.Nat.{ℕ, _+_, _*_, _/_, _%_, _-_, _<_, _≤_}
+use mathlib.Core.List.{List, _++_, append-assoc}
 use native.Mathlib.Omega.{arith}
 use native.Mathlib.Nat.{not-suc-le-zero}
-use lib.ListN.{length, getD, set, List·getD-eq-default}
-use lib.Seq.{getD-set-same, getD-set-other}
+use lib.ListN.{length, getD, set, take, drop, replicate, length-replicate, List·getD-append, List·getD-eq-default}
+use lib.Seq.{getD-set-same, getD-set-other, getD-take, getD-append-add, length-take-le}
+use borrow.Rule.Slice.PartMut.{putMid}
 use borrow.Author.Tests.{eq-eqb, ne-eqb}
-use Rattle.endian.proofs.Laws.{le-or-lt, eq-or-ne}
+use Rattle.endian.proofs.Laws.{le-or-lt, eq-or-ne, getD-zeros}
 use Rattle.disk.specs.declared.Anode.{Anode}
 use Rattle.disk.specs.Root.{slotOf}
 use Rattle.disk.specs.Blocks.{blockOf}
 use Rattle.disk.specs.AnodeBlocks.{anodeMade, anodeIn, anodeOf}
 use Rattle.disk.proofs.Laws.{slotOf-high, anodeOf-missing, anodeOf-there}
 use Rattle.rules.specs.Anodes.{Anodes, fieldsOf, inUse, anodesOf}
-use Rattle.anodes.specs.Loaded.{anodesFrom, asSeen, LoadedBelow, ZeroedFrom}
+use Rattle.anodes.specs.Loaded.{anodesFrom, asSeen, LoadedBelow}
 
 -- ---- the anodes of a slot
 
@@ -77,30 +78,38 @@ module _ (s : Anodes) (c b n : List ℕ) where
     nexts = held-more (s .next) n k (x .next .0) r (l .nexts) (e .2);
   }
 
--- a list with n numbers zeroed, one after the other
-pub zeroed-none : (l : List ℕ) (from : ℕ) → ZeroedFrom l l from 0
-zeroed-none l from = record { kept = λ a h. refl; zeroed = λ a h k. absurd (omega arith) }
+-- the part of a list from k up to e, with its first 82 numbers zeroed
+abbrev zeroed : List ℕ → ℕ → ℕ → List ℕ
+zeroed l k e = replicate 82 0 ++ drop 82 (take (e - k) (drop k l))
 
-pub zeroed-more : (l t : List ℕ) (from n : ℕ) → from + n < length t → ZeroedFrom l t from n → ZeroedFrom l (set t (from + n) 0) from (n + 1)
-zeroed-more l t from n room w = record {
-  kept = λ a h. getD-set-other t (from + n) a 0 0 (λ z. omega arith) ∙ w .kept a h;
-  zeroed = λ a h k. ⊎-elim (λ e. rw e (getD-set-same t (from + n) 0 0 room)) (λ d. getD-set-other t (from + n) a 0 0 d ∙ w .zeroed a h (omega arith)) (eq-or-ne a (from + n));
-}
-
--- a list that holds f below k, where f is 0 from there to k + 82, with those numbers zeroed
-held-zeroed : (f : ℕ → ℕ) (l t : List ℕ) (k : ℕ) → ZeroedFrom l t k 82 → ((a : ℕ) → a < k → getD l a 0 ≡ f a) → ((a : ℕ) → k ≤ a → a < k + 82 → 0 ≡ f a)
-    → (a : ℕ) → a < k + 82 → getD t a 0 ≡ f a
-held-zeroed f l t k w held out a h =
-    ⊎-elim (λ p. w .zeroed a p h ∙ out a p h) (λ p. w .kept a p ∙ held a p) (le-or-lt k a)
+-- a list that holds f below k, where f is 0 from there to e, with that part back and zeroed
+held-zeroed : (f : ℕ → ℕ) (l new : List ℕ) (k e : ℕ) → e ≡ k + 82 → e ≤ length l → new ≡ zeroed l k e
+    → ((a : ℕ) → a < k → getD l a 0 ≡ f a) → ((a : ℕ) → k ≤ a → a < k + 82 → 0 ≡ f a)
+    → (a : ℕ) → a < k + 82 → getD (putMid k (e - k) l new) a 0 ≡ f a
+held-zeroed f l new k e end room is held out a h =
+    let m : length (take k l) ≡ k = length-take-le k l (omega arith) in
+    let z = length-replicate {A = ℕ} 82 0 in
+    let d = drop 82 (take (e - k) (drop k l)) in
+    let r = drop (e - k) (drop k l) in
+    ⊎-elim
+    (λ p.
+    let w : a - k < length (replicate {A = ℕ} 82 0) = omega arith in
+    let q : a ≡ length (take k l) + (a - k) = omega arith in
+    ap (λ (i : ℕ). getD (putMid k (e - k) l new) i 0) q
+    ∙ getD-append-add (take k l) (new ++ r) (a - k) 0
+    ∙ rw (is, append-assoc (replicate 82 0) d r) (List·getD-append (replicate 82 0) (d ++ r) 0 (a - k) w ∙ getD-zeros 82 (a - k) ∙ out a p h))
+    (λ p. List·getD-append (take k l) (new ++ r) 0 a (omega arith) ∙ getD-take k l a 0 p ∙ held a p)
+    (le-or-lt k a)
 
 -- the tables with the anodes of a slot that holds 0
-pub loaded-missing : (img c b n c' b' n' : List ℕ) (s : ℕ) → slotOf img s ≡ 0 → LoadedBelow (anodesOf img) c b n (s * 82)
-    → ZeroedFrom c c' (s * 82) 82 → ZeroedFrom b b' (s * 82) 82 → ZeroedFrom n n' (s * 82) 82
-    → LoadedBelow (anodesOf img) c' b' n' (s * 82 + 82)
-loaded-missing img c b n c' b' n' s e l p q r = record {
-  counts = held-zeroed (anodesOf img .count) c c' (s * 82) p (l .counts) (λ a h k. missing-fields img s a e h k .0);
-  blocks = held-zeroed (anodesOf img .block) b b' (s * 82) q (l .blocks) (λ a h k. missing-fields img s a e h k .1);
-  nexts = held-zeroed (anodesOf img .next) n n' (s * 82) r (l .nexts) (λ a h k. missing-fields img s a e h k .2);
+pub loaded-missing : (img c b n c' b' n' : List ℕ) (s e : ℕ) → slotOf img s ≡ 0 → LoadedBelow (anodesOf img) c b n (s * 82)
+    → e ≡ s * 82 + 82 → e ≤ length c → e ≤ length b → e ≤ length n
+    → c' ≡ zeroed c (s * 82) e → b' ≡ zeroed b (s * 82) e → n' ≡ zeroed n (s * 82) e
+    → LoadedBelow (anodesOf img) (putMid (s * 82) (e - s * 82) c c') (putMid (s * 82) (e - s * 82) b b') (putMid (s * 82) (e - s * 82) n n') (s * 82 + 82)
+loaded-missing img c b n c' b' n' s e none l end p q r x y z = record {
+  counts = held-zeroed (anodesOf img .count) c c' (s * 82) e end p x (l .counts) (λ a h k. missing-fields img s a none h k .0);
+  blocks = held-zeroed (anodesOf img .block) b b' (s * 82) e end q y (l .blocks) (λ a h k. missing-fields img s a none h k .1);
+  nexts = held-zeroed (anodesOf img .next) n n' (s * 82) e end r z (l .nexts) (λ a h k. missing-fields img s a none h k .2);
 }
 
 same-anodes : (s t : Anodes) → ((a : ℕ) → s .count a ≡ t .count a) → ((a : ℕ) → s .block a ≡ t .block a) → ((a : ℕ) → s .next a ≡ t .next a) → s ≡ t

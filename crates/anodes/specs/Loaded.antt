@@ -1,5 +1,5 @@
 -- The anodes that three lists of numbers hold: count, block and next by the anode's number; 0 past the end.
-use Prim.Native.Nat.{ℕ, _+_, _≤_, _<_}
+use Prim.Native.Nat.{ℕ, _<_}
 use mathlib.Core.Path.{_≡_}
 use mathlib.Core.Bool.{cond}
 use mathlib.Core.List.{List}
@@ -22,8 +22,3 @@ pub record LoadedBelow (s : Anodes) (c b n : List ℕ) (k : ℕ) : Type 0 where
   pub counts : (a : ℕ) → a < k → getD c a 0 ≡ s .count a
   pub blocks : (a : ℕ) → a < k → getD b a 0 ≡ s .block a
   pub nexts : (a : ℕ) → a < k → getD n a 0 ≡ s .next a
-
--- t is l with n numbers from `from` on zeroed, as far as it is loaded then
-pub record ZeroedFrom (l t : List ℕ) (from n : ℕ) : Type 0 where
-  pub kept : (a : ℕ) → a < from → getD t a 0 ≡ getD l a 0
-  pub zeroed : (a : ℕ) → from ≤ a → a < from + n → getD t a 0 ≡ 0

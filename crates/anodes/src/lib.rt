@@ -1,17 +1,18 @@
 // Loads the anodes of an image, as the rules see them, into three lent tables.
 ghost use mathlib.Core.Path.{_≡_};
 ghost use mathlib.Core.Logic.{_≢_};
-ghost use Prim.Native.Nat.{_+_, _*_, _≤_, _<_};
+ghost use Prim.Native.Nat.{_+_, _*_, _<_};
 ghost use lib.ListN.{length};
 ghost use Rattle.disk.specs.Root.{slotOf};
 ghost use Rattle.rules.specs.Anodes.{anodesOf};
-ghost use Rattle.anodes.specs.Loaded.{anodesFrom, asSeen, LoadedBelow, ZeroedFrom};
+ghost use Rattle.anodes.specs.Loaded.{anodesFrom, asSeen, LoadedBelow};
 use disk::Anode;
 use disk::BlockNo;
 use disk::anode_in;
 use disk::block_part;
 use disk::no_anode;
 use disk::slot_of;
+use tables::zero_first;
 
 // An anode as the rules see it: a free one is (0, 0, 0).
 fn as_seen(x: Anode) -> Anode
@@ -21,16 +22,6 @@ fn as_seen(x: Anode) -> Anode
         return no_anode();
     }
     x
-}
-
-// Zeroes the 82 numbers from `from` on.
-fn zero_places(table: &mut [u16], from: usize)
-    requires { ⌜ from + 82 ≤ length (now table) ⌝ }
-    ensures { λ _. ⌜ ZeroedFrom (now (table .entry)) (now (table .exit)) from 82 ⌝ }
-{
-    for p in 0..82 {
-        table[from + p] = 0;
-    }
 }
 
 // Loads the 82 anodes of slot `s`, which stand in block `slot`, after those of the slots before it.
@@ -69,9 +60,10 @@ fn load_slot(image: &[u8], s: usize, counts: &mut [u16], firsts: &mut [u16], nex
         return;
     }
     let from = s * 82;
-    zero_places(counts, from);
-    zero_places(firsts, from);
-    zero_places(nexts, from);
+    let end = from + 82;
+    zero_first(&mut counts[from..end], 82);
+    zero_first(&mut firsts[from..end], 82);
+    zero_first(&mut nexts[from..end], 82);
 }
 
 // Loads every anode; a free or missing one is (0, 0, 0).

@@ -66,10 +66,10 @@ module _ (b : List ℕ) (h : DirectoryHead) where
       let n1 : length b1 ≡ length b = length-put16 b 0 (h .mark) in
       let n2 : length b2 ≡ length b1 = length-put16 b1 12 (h .owner .0) in
       rw (
-        be16-put16-other b2 14 (h .parent .0) 0 (omega arith) (omega arith) (omega arith),
-        be16-put16-other b1 12 (h .owner .0) 0 (omega arith) (omega arith) (omega arith),
+        be16-put16-other b2 14 (h .parent .0) 0 (λ j m e. omega arith),
+        be16-put16-other b1 12 (h .owner .0) 0 (λ j m e. omega arith),
         be16-put16-same b 0 (h .mark) (omega arith),
-        be16-put16-other b2 14 (h .parent .0) 12 (omega arith) (omega arith) (omega arith),
+        be16-put16-other b2 14 (h .parent .0) 12 (λ j m e. omega arith),
         be16-put16-same b1 12 (h .owner .0) (omega arith),
         be16-put16-same b2 14 (h .parent .0) (omega arith),
       )

@@ -35,30 +35,40 @@ withBlock-out img b new h =
     let e : length (blockOf img b) ≡ 0 = omega (arith, length-blockOf-min img b) in
     rw (e, take-all (b * 512) img h, drop-of-length-le img {i = b * 512 + 512} (omega arith)) (append-nil img)
 
--- a block's part up to `e`: 512 bytes on, or the image's end before that
-module _ (img : List ℕ) (b e : ℕ) (end : e ≡ min (b * 512 + 512) (length img)) (starts : b * 512 ≤ e) where
-  pub part-block : take (e - b * 512) (drop (b * 512) img) ≡ blockOf img b
-  unfolding blockOf
-  part-block =
-      let l = length-drop (b * 512) img in
-      ⊎-elim
-      (λ w. let n : e - b * 512 ≡ 512 = omega arith in rw n)
-      (λ s. take-all (e - b * 512) (drop (b * 512) img) (omega arith) ∙ sym (take-all 512 (drop (b * 512) img) (omega arith)))
-      (le-or-lt (b * 512 + 512) (length img))
+-- a block that is lent up to `e`: 512 bytes on, or the image's end before that
+module _ (img : List ℕ) (b e : ℕ) (end : e ≡ min (b * 512 + 512) (length img)) where
+  -- nothing of it is there
+  pub withBlock-none : (new : List ℕ) → e ≤ b * 512 → img ≡ withBlock img b new
+  withBlock-none new h = sym (withBlock-out img b new (omega arith))
 
-  -- the bytes after it
-  pub after-block : drop e img ≡ drop (b * 512 + 512) img
-  after-block =
-      ⊎-elim
-      (λ w. let n : e ≡ b * 512 + 512 = omega arith in rw n)
-      (λ s. drop-of-length-le img {i = e} (omega arith) ∙ sym (drop-of-length-le img {i = b * 512 + 512} (omega arith)))
-      (le-or-lt (b * 512 + 512) (length img))
+  module _ (starts : b * 512 ≤ e) where
+    pub part-block : take (e - b * 512) (drop (b * 512) img) ≡ blockOf img b
+    unfolding blockOf
+    part-block =
+        let l = length-drop (b * 512) img in
+        ⊎-elim
+        (λ w. let n : e - b * 512 ≡ 512 = omega arith in rw n)
+        (λ s. take-all (e - b * 512) (drop (b * 512) img) (omega arith) ∙ sym (take-all 512 (drop (b * 512) img) (omega arith)))
+        (le-or-lt (b * 512 + 512) (length img))
 
-  -- the part that was lent and is back
-  pub block-back : (new : List ℕ) → length new ≡ length (blockOf img b) → putMid (b * 512) (e - b * 512) img new ≡ withBlock img b new
-  unfolding withBlock
-  block-back new same =
-      rw (post-is (b * 512) e img starts, after-block, take-all (length (blockOf img b)) new (omega arith))
+    -- the bytes after it
+    pub after-block : drop e img ≡ drop (b * 512 + 512) img
+    after-block =
+        ⊎-elim
+        (λ w. let n : e ≡ b * 512 + 512 = omega arith in rw n)
+        (λ s. drop-of-length-le img {i = e} (omega arith) ∙ sym (drop-of-length-le img {i = b * 512 + 512} (omega arith)))
+        (le-or-lt (b * 512 + 512) (length img))
+
+    -- the part that was lent and is back
+    pub block-back : (new : List ℕ) → length new ≡ length (blockOf img b) → putMid (b * 512) (e - b * 512) img new ≡ withBlock img b new
+    unfolding withBlock
+    block-back new same =
+        rw (post-is (b * 512) e img starts, after-block, take-all (length (blockOf img b)) new (omega arith))
+
+    -- the part that was lent and is back, changed by f
+    pub block-changed : (new : List ℕ) → length new ≡ length (take (e - b * 512) (drop (b * 512) img)) → (f : List ℕ → List ℕ) → new ≡ f (take (e - b * 512) (drop (b * 512) img))
+        → putMid (b * 512) (e - b * 512) img new ≡ withBlock img b (f (blockOf img b))
+    block-changed new same f is = block-back new (same ∙ ap length part-block) ∙ ap (withBlock img b) (is ∙ ap f part-block)
 
 -- ---- slots
 
@@ -127,21 +137,9 @@ pub setAnode-there : (img : List ℕ) (a s : ℕ) (x : Anode) → slotOf img (a 
 unfolding setAnode
 setAnode-there img a s x e n = rw e (simp (ne-eqb s 0 n))
 
-pub setAnode-out : (img : List ℕ) (a s : ℕ) (x : Anode) → slotOf img (a / 82) ≡ s → (s ≡ 0 → ⊥) → length img ≤ s * 512 → setAnode img a x ≡ img
-setAnode-out img a s x e n h = setAnode-there img a s x e n ∙ withBlock-out img s _ h
-
 pub length-putAnode : (l : List ℕ) (p : ℕ) (x : Anode) → length (putAnode l p x) ≡ length l
 unfolding putAnode
 length-putAnode l p x = simp length-put16
-
--- an anode stored in the part of its block that was lent
-pub setAnode-back : (img : List ℕ) (a s e : ℕ) (x : Anode) (new : List ℕ) → slotOf img (a / 82) ≡ s → (s ≡ 0 → ⊥)
-    → e ≡ min (s * 512 + 512) (length img) → s * 512 ≤ e → new ≡ putAnode (take (e - s * 512) (drop (s * 512) img)) (a % 82) x
-    → putMid (s * 512) (e - s * 512) img new ≡ setAnode img a x
-setAnode-back img a s e x new slot some end starts is =
-    let n = is ∙ ap (λ (l : List ℕ). putAnode l (a % 82) x) (part-block img s e end starts) in
-    block-back img s e end starts new (rw n (length-putAnode (blockOf img s) (a % 82) x))
-    ∙ rw n (sym (setAnode-there img a s x slot some))
 
 -- ---- refusals
 

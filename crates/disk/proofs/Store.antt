@@ -27,10 +27,10 @@ module _ (l : List ℕ) (p : ℕ) (x : Anode) where
       let l1 = put16 l at (x .count) in
       let l2 = put16 l1 (at + 2) (x .block .0) in
       rw (
-        be16-put16-other l2 (at + 4) (x .next .0) at (omega arith) (omega arith) (omega arith),
-        be16-put16-other l1 (at + 2) (x .block .0) at (omega arith) (omega arith) (omega arith),
+        be16-put16-other l2 (at + 4) (x .next .0) at (λ j m e. omega arith),
+        be16-put16-other l1 (at + 2) (x .block .0) at (λ j m e. omega arith),
         be16-put16-same l at (x .count) (omega arith),
-        be16-put16-other l2 (at + 4) (x .next .0) (at + 2) (omega arith) (omega arith) (omega arith),
+        be16-put16-other l2 (at + 4) (x .next .0) (at + 2) (λ j m e. omega arith),
         be16-put16-same l1 (at + 2) (x .block .0) (simp length-put16 (omega arith)),
         be16-put16-same l2 (at + 4) (x .next .0) (simp length-put16 (omega arith)),
       )
@@ -39,9 +39,9 @@ module _ (l : List ℕ) (p : ℕ) (x : Anode) where
   be16-putAnode-other : (k : ℕ) → ((j : ℕ) → j < 7 → k + 1 ≡ 16 + 6 * p + j → ⊥) → be16 (putAnode l p x) k ≡ be16 l k
   unfolding putAnode
   be16-putAnode-other k n =
-      be16-put16-other _ (16 + 6 * p + 4) _ k (λ e. n 5 (omega arith) (omega arith)) (λ e. n 4 (omega arith) (omega arith)) (λ e. n 6 (omega arith) (omega arith))
-      ∙ be16-put16-other _ (16 + 6 * p + 2) _ k (λ e. n 3 (omega arith) (omega arith)) (λ e. n 2 (omega arith) (omega arith)) (λ e. n 4 (omega arith) (omega arith))
-      ∙ be16-put16-other _ (16 + 6 * p) _ k (λ e. n 1 (omega arith) (omega arith)) (λ e. n 0 (omega arith) (omega arith)) (λ e. n 2 (omega arith) (omega arith))
+      be16-put16-other _ (16 + 6 * p + 4) _ k (λ j m e. n (j + 4) (omega arith) (omega arith))
+      ∙ be16-put16-other _ (16 + 6 * p + 2) _ k (λ j m e. n (j + 2) (omega arith) (omega arith))
+      ∙ be16-put16-other _ (16 + 6 * p) _ k (λ j m e. n j (omega arith) e)
 
   pub anodeIn-putAnode-other : (q : ℕ) → (q ≡ p → ⊥) → anodeIn (putAnode l p x) q ≡ anodeIn l q
   unfolding anodeIn
@@ -66,7 +66,7 @@ module _ (l : List ℕ) (h : AnodeHead) where
   anodeHeadIn-putAnodeHead k =
       let l1 = put16 l 0 (h .mark) in
       rw (
-        be16-put16-other l1 10 (h .sequence) 0 (omega arith) (omega arith) (omega arith),
+        be16-put16-other l1 10 (h .sequence) 0 (λ j m e. omega arith),
         be16-put16-same l 0 (h .mark) (omega arith),
         be16-put16-same l1 10 (h .sequence) (simp length-put16 (omega arith)),
       )
@@ -74,7 +74,7 @@ module _ (l : List ℕ) (h : AnodeHead) where
   be16-putAnodeHead : (k : ℕ) → 16 ≤ k → be16 (putAnodeHead l h) k ≡ be16 l k
   unfolding putAnodeHead
   be16-putAnodeHead k n =
-      be16-put16-other _ 10 _ k (omega arith) (omega arith) (omega arith) ∙ be16-put16-other _ 0 _ k (omega arith) (omega arith) (omega arith)
+      be16-put16-other _ 10 _ k (λ j m e. omega arith) ∙ be16-put16-other _ 0 _ k (λ j m e. omega arith)
 
   pub anodeIn-putAnodeHead : (p : ℕ) → anodeIn (putAnodeHead l h) p ≡ anodeIn l p
   unfolding anodeIn
@@ -82,14 +82,6 @@ module _ (l : List ℕ) (h : AnodeHead) where
       rw (be16-putAnodeHead (16 + 6 * p) (omega arith), be16-putAnodeHead (16 + 6 * p + 2) (omega arith), be16-putAnodeHead (16 + 6 * p + 4) (omega arith))
 
 -- ---- the root block
-
--- a number that ends before a store
-before : (l : List ℕ) (at v k : ℕ) → k + 1 < at → be16 (put16 l at v) k ≡ be16 l k
-before l at v k h = be16-put16-other l at v k (omega arith) (omega arith) (omega arith)
-
--- a number that starts after one
-after : (l : List ℕ) (at v k : ℕ) → at + 1 < k → be16 (put16 l at v) k ≡ be16 l k
-after l at v k h = be16-put16-other l at v k (omega arith) (omega arith) (omega arith)
 
 module _ (b : List ℕ) (r : Root) (name : List ℕ) where
   pub length-putRoot : length (putRoot b r name) ≡ length b
@@ -107,17 +99,17 @@ module _ (b : List ℕ) (r : Root) (name : List ℕ) where
   be16-dated : (k : ℕ) → k < 19 → be16 (putRoot b r name) k ≡ be16 dated k
   unfolding putRoot
   be16-dated k h =
-      before _ 54 (r .last .0) k (omega arith)
-      ∙ before named 52 (r .first .0) k (omega arith)
+      be16-put16-other _ 54 (r .last .0) k (λ j m e. omega arith)
+      ∙ be16-put16-other named 52 (r .first .0) k (λ j m e. omega arith)
       ∙ be16-stored-before (set dated 20 (r .name)) 21 name k (omega arith)
       ∙ be16-set-other dated 20 (r .name) k (omega arith) (omega arith)
 
   be16-typed : (k : ℕ) → k < 11 → be16 dated k ≡ be16 (put32 b 0 (r .signature)) k
   be16-typed k h =
-      before _ 18 (r .protection) k (omega arith)
-      ∙ before _ 16 (r .tick) k (omega arith)
-      ∙ before _ 14 (r .minute) k (omega arith)
-      ∙ before _ 12 (r .day) k (omega arith)
+      be16-put16-other _ 18 (r .protection) k (λ j m e. omega arith)
+      ∙ be16-put16-other _ 16 (r .tick) k (λ j m e. omega arith)
+      ∙ be16-put16-other _ 14 (r .minute) k (λ j m e. omega arith)
+      ∙ be16-put16-other _ 12 (r .day) k (λ j m e. omega arith)
 
   pub rootIn-putRoot : 512 ≤ length b → rootIn (putRoot b r name) ≡ r
   unfolding rootIn putRoot
@@ -131,16 +123,16 @@ module _ (b : List ℕ) (r : Root) (name : List ℕ) where
         be32-halves (putRoot b r name) b0 0 0 (be16-dated 0 (omega arith) ∙ be16-typed 0 (omega arith)) (be16-dated 2 (omega arith) ∙ be16-typed 2 (omega arith)),
         be32-put32-same b 0 (r .signature) (omega arith),
         be16-dated 12 (omega arith),
-        before b3 18 (r .protection) 12 (omega arith),
-        before b2 16 (r .tick) 12 (omega arith),
-        before b1 14 (r .minute) 12 (omega arith),
+        be16-put16-other b3 18 (r .protection) 12 (λ j m e. omega arith),
+        be16-put16-other b2 16 (r .tick) 12 (λ j m e. omega arith),
+        be16-put16-other b1 14 (r .minute) 12 (λ j m e. omega arith),
         be16-put16-same b0 12 (r .day) (simp length-put32 (omega arith)),
         be16-dated 14 (omega arith),
-        before b3 18 (r .protection) 14 (omega arith),
-        before b2 16 (r .tick) 14 (omega arith),
+        be16-put16-other b3 18 (r .protection) 14 (λ j m e. omega arith),
+        be16-put16-other b2 16 (r .tick) 14 (λ j m e. omega arith),
         be16-put16-same b1 14 (r .minute) (simp (length-put16, length-put32) (omega arith)),
         be16-dated 16 (omega arith),
-        before b3 18 (r .protection) 16 (omega arith),
+        be16-put16-other b3 18 (r .protection) 16 (λ j m e. omega arith),
         be16-put16-same b2 16 (r .tick) (simp (length-put16, length-put32) (omega arith)),
         be16-dated 18 (omega arith),
         be16-put16-same b3 18 (r .protection) (simp (length-put16, length-put32) (omega arith)),
@@ -148,7 +140,7 @@ module _ (b : List ℕ) (r : Root) (name : List ℕ) where
         getD-put16-other named 52 (r .first .0) 20 (omega arith) (omega arith),
         getD-stored-before (set dated 20 (r .name)) 21 name 20 (omega arith),
         getD-set-same dated 20 (r .name) 0 (simp (length-put16, length-put32) (omega arith)),
-        before b7 54 (r .last .0) 52 (omega arith),
+        be16-put16-other b7 54 (r .last .0) 52 (λ j m e. omega arith),
         be16-put16-same named 52 (r .first .0) (simp (length-stored, length-set, length-put16, length-put32) (omega arith)),
         be16-put16-same b7 54 (r .last .0) (simp (length-stored, length-set, length-put16, length-put32) (omega arith)),
       )
@@ -163,16 +155,16 @@ module _ (b : List ℕ) (r : Root) (name : List ℕ) where
   be16-putRoot-after : (k : ℕ) → length name ≤ 31 → 56 ≤ k → be16 (putRoot b r name) k ≡ be16 b k
   unfolding putRoot put32
   be16-putRoot-after k short h =
-      after _ 54 (r .last .0) k (omega arith)
-      ∙ after named 52 (r .first .0) k (omega arith)
+      be16-put16-other _ 54 (r .last .0) k (λ j m e. omega arith)
+      ∙ be16-put16-other named 52 (r .first .0) k (λ j m e. omega arith)
       ∙ be16-stored-after (set dated 20 (r .name)) 21 name k (omega arith)
       ∙ be16-set-other dated 20 (r .name) k (omega arith) (omega arith)
-      ∙ after _ 18 (r .protection) k (omega arith)
-      ∙ after _ 16 (r .tick) k (omega arith)
-      ∙ after _ 14 (r .minute) k (omega arith)
-      ∙ after _ 12 (r .day) k (omega arith)
-      ∙ after _ 2 (r .signature % 65536) k (omega arith)
-      ∙ after b 0 (r .signature / 65536) k (omega arith)
+      ∙ be16-put16-other _ 18 (r .protection) k (λ j m e. omega arith)
+      ∙ be16-put16-other _ 16 (r .tick) k (λ j m e. omega arith)
+      ∙ be16-put16-other _ 14 (r .minute) k (λ j m e. omega arith)
+      ∙ be16-put16-other _ 12 (r .day) k (λ j m e. omega arith)
+      ∙ be16-put16-other _ 2 (r .signature % 65536) k (λ j m e. omega arith)
+      ∙ be16-put16-other b 0 (r .signature / 65536) k (λ j m e. omega arith)
 
   pub slotIn-putRoot : (s : ℕ) → length name ≤ 31 → slotIn (putRoot b r name) s ≡ slotIn b s
   unfolding slotIn
@@ -185,11 +177,11 @@ module _ (b : List ℕ) (s v : ℕ) where
 
   pub slotIn-put16-other : (t : ℕ) → (t ≡ s → ⊥) → slotIn (put16 b (96 + 2 * s) v) t ≡ slotIn b t
   unfolding slotIn
-  slotIn-put16-other t n = be16-put16-other b (96 + 2 * s) v (96 + 2 * t) (omega arith) (omega arith) (omega arith)
+  slotIn-put16-other t n = be16-put16-other b (96 + 2 * s) v (96 + 2 * t) (λ j m e. omega arith)
 
   -- the fields end before the slots
   be16-put16-slot : (k : ℕ) → k < 95 → be16 (put16 b (96 + 2 * s) v) k ≡ be16 b k
-  be16-put16-slot k h = before b (96 + 2 * s) v k (omega arith)
+  be16-put16-slot k h = be16-put16-other b (96 + 2 * s) v k (λ j m e. omega arith)
 
   pub rootIn-put16-slot : rootIn (put16 b (96 + 2 * s) v) ≡ rootIn b
   unfolding rootIn

@@ -1,6 +1,6 @@
 // The vocabulary of a PFS disk: the two kinds of number, anodes and refusals, and readers and writers of the root block and of an anode block.
 ghost use mathlib.Core.Path.{_≡_};
-ghost use Prim.Native.Nat.{_+_, _*_, _<_};
+ghost use Prim.Native.Nat.{_+_, _*_, _<_, min};
 ghost use Rattle.endian.specs.Bytes.{put16};
 ghost use Rattle.disk.specs.Refusals.{numberOf};
 ghost use Rattle.disk.specs.Blocks.{blockOf};
@@ -113,6 +113,19 @@ pub fn block_part(image: &[u8], b: BlockNo) -> &[u8]
     ensures { λ r. ⌜ now r ≡ blockOf (now (image .entry)) (b .0) ⌝ }
 {
     part(image, (b.0 as usize) * 512, 512)
+}
+
+// The end of the block that starts at `from`: 512 bytes on, or the end of an image of `len` bytes before that.
+pub fn block_end(len: usize, from: usize) -> usize
+    ensures { λ r. ⌜ r ≡ min (from + 512) len ⌝ }
+{
+    if len <= from {
+        return len;
+    }
+    if len - from < 512 {
+        return len;
+    }
+    from + 512
 }
 
 // The root block's fields.
@@ -247,14 +260,9 @@ pub fn set_anode(image: &mut [u8], a: AnodeNo, x: Anode)
         return;
     }
     let from = (slot.0 as usize) * 512;
-    let len = image.len();
-    if len <= from {
+    let end = block_end(image.len(), from);
+    if end <= from {
         return;
     }
-    if len - from < 512 {
-        put_anode(&mut image[from..len], n % 82, x);
-        return;
-    }
-    let end = from + 512;
     put_anode(&mut image[from..end], n % 82, x);
 }

@@ -30,18 +30,8 @@ run-past b zero i rest h = ap (λ (j : ℕ). getD rest j 0) (omega arith)
 run-past b (suc c) zero rest h = absurd (omega arith)
 run-past b (suc c) (suc i) rest h = run-past (suc b) c i rest (omega arith) ∙ ap (λ (j : ℕ). getD rest j 0) (omega arith)
 
-module _ (counts firsts nexts : List ℕ) (i : ℕ) where
-  pub nth-whole : (h : ℕ) → getD (blocksAlong counts firsts nexts 3444 h) i 0 ≡ getD (blocksOf (anodesFrom counts firsts nexts) h) i 0
-  unfolding blocksOf anodesFrom blocksAlong
-  nth-whole h = refl
-
-  pub nth-none : (k a : ℕ) → k ≡ 0 → 0 ≡ getD (blocksAlong counts firsts nexts k a) i 0
-  unfolding blocksAlong chainOf gather
-  nth-none k a e = rw e
-
-  pub nth-end : (k m a : ℕ) → k ≡ m + 1 → a ≡ 0 → 0 ≡ getD (blocksAlong counts firsts nexts k a) i 0
-  unfolding blocksAlong chainOf gather
-  nth-end k m a fuel z = rw (fuel, add-one m, z)
+pub nth-none : (l : List ℕ) (i : ℕ) → l ≡ [] → 0 ≡ getD l i 0
+nth-none l i e = rw e
 
 module _ (counts firsts nexts : List ℕ) (k m a : ℕ) (fuel : k ≡ m + 1) (some-anode : a ≡ 0 → ⊥) (i : ℕ) where
   pub nth-here : i < getD counts a 0 → getD (blocksAlong counts firsts nexts k a) i 0 ≡ getD firsts a 0 + i

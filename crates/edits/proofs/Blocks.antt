@@ -1,23 +1,22 @@
--- A block of the image that is lent and comes back, the same bytes in some blocks, and the anodes stored one after the other. Assumes nothing.
-use Prim.Native.Nat.{ℕ, zero, suc, _+_, _-_, _*_, _/_, _%_, _<_, _≤_, min}
-use mathlib.Core.Path.{_≡_, refl, sym, ap, _∙_}
+-- The same bytes in some blocks, and the anodes stored one after the other. Assumes nothing.
+use Prim.Native.Nat.{ℕ, zero, suc, _+_, _-_, _*_, _/_, _%_, _<_, _≤_}
+use mathlib.Core.Path.{_≡_, refl, sym, _∙_}
 use mathlib.Core.Logic.{⊎-elim}
 use mathlib.Core.Bool.{Bool, true, false, cond, not, _&&_, and-false}
-use mathlib.Core.List.{List, [], _∷_, append-nil}
+use mathlib.Core.List.{List, [], _∷_}
 use native.Mathlib.Nat.{add-zero, add-suc, eq-or-lt-of-le}
 use native.Mathlib.Numerals.{add-one}
 use native.Mathlib.Omega.{arith}
-use lib.ListN.{length, getD, set, take, drop, replicate, length-replicate, drop-of-length-le, length-take}
-use lib.Seq.{drop-cons, getD-take, getD-drop, length-take-le, take-take, set-out, take-set-lt, take-set-le, sets-eq}
+use lib.ListN.{length, getD, set, take, drop, length-replicate, drop-of-length-le, length-take}
+use lib.Seq.{drop-cons, getD-take, getD-drop, length-take-le, take-take, set-out, take-set-lt, take-set-le}
 use lib.Dec.{eqb, ltb}
 use borrow.Author.Tests.{lt-ltb, le-ltb, eq-eqb, ne-eqb, not-true, not-false}
-use borrow.Rule.Slice.PartMut.{putMid}
-use Rattle.endian.specs.Bytes.{put16, stored, cleared}
-use Rattle.endian.proofs.Laws.{le-or-lt, cleared-stored, stored-take}
+use Rattle.endian.specs.Bytes.{put16, cleared}
+use Rattle.endian.proofs.Laws.{le-or-lt, cleared-stored, cleared-front}
 use Rattle.disk.specs.Blocks.{blockOf, withBlock}
 use Rattle.disk.specs.declared.Anode.{Anode}
 use Rattle.disk.specs.AnodeBlocks.{anodeMade, setAnode}
-use Rattle.disk.proofs.Laws.{length-blockOf-min, withBlock-out, part-block, block-back}
+use Rattle.disk.proofs.Laws.{length-blockOf-min}
 use Rattle.disk.proofs.Store.{withBlock-stored}
 use Rattle.directory.specs.declared.Kind.{Kind}
 use Rattle.directory.specs.declared.Kind.the-variants.{File, Directory}
@@ -30,33 +29,12 @@ use Rattle.rules.specs.Changes.{inBlock, withBlocks, zeroTail, newDirectoryBloc
 use Rattle.laws.specs.OwnerTable.{setAll}
 use Rattle.anodes.specs.Loaded.{anodesFrom}
 
--- ---- a block that is lent up to e: 512 bytes on, or the image's end before that
-
-module _ (img : List ℕ) (b e : ℕ) (end : e ≡ min (b * 512 + 512) (length img)) where
-  pub withBlock-none : (new : List ℕ) → e ≤ b * 512 → img ≡ withBlock img b new
-  withBlock-none new h = sym (withBlock-out img b new (omega arith))
-
-  pub inBlock-none : (f : List ℕ → List ℕ) → e ≤ b * 512 → img ≡ inBlock img b f
-  unfolding inBlock
-  inBlock-none f h = withBlock-none (f (blockOf img b)) h
-
-  module _ (starts : b * 512 < e) (new : List ℕ) (same : length new ≡ length (take (e - b * 512) (drop (b * 512) img))) where
-    pub inBlock-back : (f : List ℕ → List ℕ) → new ≡ f (take (e - b * 512) (drop (b * 512) img)) → putMid (b * 512) (e - b * 512) img new ≡ inBlock img b f
-    unfolding inBlock
-    inBlock-back f is =
-        let p = part-block img b e end (omega arith) in
-        block-back img b e end (omega arith) new (same ∙ ap length p) ∙ ap (withBlock img b) (is ∙ ap f p)
-
-    -- a block is stored as far as the image has it
-    pub withBlock-back : (full : List ℕ) → new ≡ take (length (take (e - b * 512) (drop (b * 512) img))) full → putMid (b * 512) (e - b * 512) img new ≡ withBlock img b full
-    unfolding withBlock
-    withBlock-back full is =
-        let p = part-block img b e end (omega arith) in
-        let k = length (blockOf img b) in
-        block-back img b e end (omega arith) new (same ∙ ap length p)
-        ∙ rw (is, p, take-take k k full (omega arith))
-
 -- ---- a directory's new block, as far as the image has it
+
+-- a block is stored as far as the image has it
+pub withBlock-take : (img : List ℕ) (b : ℕ) (new : List ℕ) → withBlock img b (take (length (blockOf img b)) new) ≡ withBlock img b new
+unfolding withBlock
+withBlock-take img b new = rw (take-take (length (blockOf img b)) (length (blockOf img b)) new (omega arith))
 
 take-set : (k : ℕ) (l : List ℕ) (i v : ℕ) → take k (set l i v) ≡ set (take k l) i v
 take-set k l i v =
@@ -68,16 +46,6 @@ take-set k l i v =
 take-put16 : (k : ℕ) (l : List ℕ) (at v : ℕ) → take k (put16 l at v) ≡ put16 (take k l) at v
 unfolding put16
 take-put16 k l at v = rw (take-set k (set l at (v / 256)) (at + 1) (v % 256), take-set k l at (v / 256))
-
-cleared-front : (l : List ℕ) (n : ℕ) → length l ≤ n → cleared l 0 n ≡ take (length l) (replicate n 0)
-unfolding stored
-cleared-front l n h =
-    let z : List ℕ = take (length l) (replicate n 0) in
-    let m : length z ≡ length l = length-take-le (length l) (replicate n 0) (rw (length-replicate {A = ℕ} n 0) h) in
-    cleared-stored l 0 n
-    ∙ sym (stored-take l 0 (replicate n 0) (length l) (omega arith))
-    ∙ sets-eq z l 0 (omega arith)
-    ∙ rw (drop-of-length-le l {i = 0 + length z} (omega arith)) (append-nil z)
 
 pub new-head : (l m : List ℕ) (owner parent : ℕ) → length l ≤ 512 → m ≡ cleared l 0 512
     → putDirectoryHead m (record { mark = directoryMark; owner = record { 0 = owner }; parent = record { 0 = parent } }) ≡ take (length l) (newDirectoryBlock owner parent)

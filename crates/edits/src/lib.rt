@@ -2,7 +2,7 @@
 ghost use mathlib.Core.Bool.{_&&_, true};
 ghost use mathlib.Core.List.{List, [], _∷_};
 ghost use mathlib.Core.Path.{_≡_};
-ghost use Prim.Native.Nat.{ℕ, _+_, _*_, _/_, _%_, _<_, _≤_, min};
+ghost use Prim.Native.Nat.{ℕ, _+_, _*_, _/_, _%_, _<_, _≤_};
 ghost use lib.Dec.{eqb};
 ghost use lib.ListN.{length, getD, take};
 ghost use Rattle.disk.specs.AnodeBlocks.{anodeMade};
@@ -25,6 +25,7 @@ use directory::put_entry;
 use disk::Anode;
 use disk::AnodeNo;
 use disk::BlockNo;
+use disk::block_end;
 use disk::block_part;
 use disk::set_anode;
 use endian::clear;
@@ -179,19 +180,6 @@ pub fn zero_blocks(image: &mut [u8], moved: &[u16], n: usize)
         clear(image, (moved[i] as usize) * 512, 512);
         i += 1;
     }
-}
-
-// The end of the block that starts at `from`: 512 bytes on, or the end of an image of `len` bytes before that.
-fn block_end(len: usize, from: usize) -> usize
-    ensures { λ r. ⌜ r ≡ min (from + 512) len ⌝ }
-{
-    if len <= from {
-        return len;
-    }
-    if len - from < 512 {
-        return len;
-    }
-    from + 512
 }
 
 // Zeroes a block and stores the head of a directory block in it.

@@ -1,7 +1,7 @@
 -- What a reader of bytes gets after a store, and the steps of the loops that store a run. Assumes nothing.
 use mathlib.Core.Path.{_≡_, refl, sym, _∙_}
 use Prim.Native.Nat.{ℕ, zero, suc, _+_, _/_, _%_, _-_, _<_, _≤_}
-use mathlib.Core.List.{List, [], _∷_}
+use mathlib.Core.List.{List, [], _∷_, append-nil}
 use mathlib.Core.Bool.{Bool, true, false}
 use mathlib.Core.Logic.{_⊎_, inl, inr, ⊎-elim}
 use lib.Dec.{leb, eqb}
@@ -9,23 +9,22 @@ use borrow.Author.Tests.{leb-true, leb-false, eqb-true, eqb-false}
 use native.Mathlib.Omega.{arith}
 use native.Mathlib.Numerals.{add-one}
 use native.Mathlib.Nat.{not-suc-le-zero}
-use lib.ListN.{length, getD, set, take, drop, replicate, length-set, length-replicate, getD-replicate, List·getD-eq-default}
-use lib.Seq.{set-out, getD-set-same, getD-set-other, drop-cons, length-sets}
+use lib.ListN.{length, getD, set, take, drop, replicate, length-set, length-replicate, getD-replicate, drop-of-length-le, List·getD-eq-default}
+use lib.Seq.{set-out, getD-set-same, getD-set-other, drop-cons, length-take-le, length-sets, sets-eq}
 use Rattle.endian.specs.Bytes.{be16, be32, put16, put32, stored, cleared}
 
 -- ---- cases
 
+-- what a test's two results say
+by-test : {A B : Type 0} (t : Bool) → (t ≡ true → A) → (t ≡ false → B) → A ⊎ B
+by-test true f g = inl (f refl)
+by-test false f g = inr (g refl)
+
 pub le-or-lt : (a b : ℕ) → (a ≤ b) ⊎ (b < a)
-le-or-lt a b = go (leb a b) refl where
-  go : (t : Bool) → leb a b ≡ t → (a ≤ b) ⊎ (b < a)
-  go true e = inl (leb-true a b e)
-  go false e = inr (leb-false a b e)
+le-or-lt a b = by-test (leb a b) (leb-true a b) (leb-false a b)
 
 pub eq-or-ne : (a b : ℕ) → (a ≡ b) ⊎ (a ≡ b → ⊥)
-eq-or-ne a b = go (eqb a b) refl where
-  go : (t : Bool) → eqb a b ≡ t → (a ≡ b) ⊎ (a ≡ b → ⊥)
-  go true e = inl (eqb-true a b e)
-  go false e = inr (eqb-false a b e)
+eq-or-ne a b = by-test (eqb a b) (eqb-true a b) (eqb-false a b)
 
 -- ---- numbers
 
@@ -74,9 +73,12 @@ module _ (l : List ℕ) (at v : ℕ) where
   unfolding put16
   getD-put16-other k n0 n1 = getD-set-other (set l at (v / 256)) (at + 1) k (v % 256) 0 n1 ∙ getD-set-other l at k (v / 256) 0 n0
 
-  pub be16-put16-other : (k : ℕ) → (k ≡ at → ⊥) → (k + 1 ≡ at → ⊥) → (k ≡ at + 1 → ⊥) → be16 (put16 l at v) k ≡ be16 l k
-  be16-put16-other k n0 n1 n2 =
-      be16-bytes (put16 l at v) l k k (getD-put16-other k n0 n2) (getD-put16-other (k + 1) n1 (λ e. n0 (omega arith)))
+  -- a number with neither of the two bytes
+  pub be16-put16-other : (k : ℕ) → ((j : ℕ) → j < 3 → k + 1 ≡ at + j → ⊥) → be16 (put16 l at v) k ≡ be16 l k
+  be16-put16-other k n =
+      be16-bytes (put16 l at v) l k k
+      (getD-put16-other k (λ e. n 1 (omega arith) (omega arith)) (λ e. n 2 (omega arith) (omega arith)))
+      (getD-put16-other (k + 1) (λ e. n 0 (omega arith) (omega arith)) (λ e. n 1 (omega arith) (omega arith)))
 
 module _ (l : List ℕ) (at v : ℕ) where
   pub length-put32 : length (put32 l at v) ≡ length l
@@ -92,7 +94,7 @@ module _ (l : List ℕ) (at v : ℕ) where
   be32-put32-same h =
       let m = put16 l at (v / 65536) in
       rw (
-        be16-put16-other m (at + 2) (v % 65536) at (λ e. omega arith) (λ e. omega arith) (λ e. omega arith),
+        be16-put16-other m (at + 2) (v % 65536) at (λ j m e. omega arith),
         be16-put16-same l at (v / 65536) (omega arith),
         be16-put16-same m (at + 2) (v % 65536) (simp length-put16 (omega arith)),
       )
@@ -179,6 +181,17 @@ getD-zeros n i =
     (λ h. List·getD-eq-default (replicate n 0) 0 (rw (length-replicate {A = ℕ} n 0) h))
     (λ h. getD-replicate {A = ℕ} n i 0 0 h)
     (le-or-lt n i)
+
+-- zeros from the front to the end
+pub cleared-front : (l : List ℕ) (n : ℕ) → length l ≤ n → cleared l 0 n ≡ take (length l) (replicate n 0)
+unfolding stored
+cleared-front l n h =
+    let z : List ℕ = take (length l) (replicate n 0) in
+    let m : length z ≡ length l = length-take-le (length l) (replicate n 0) (rw (length-replicate {A = ℕ} n 0) h) in
+    cleared-stored l 0 n
+    ∙ sym (stored-take l 0 (replicate n 0) (length l) (omega arith))
+    ∙ sets-eq z l 0 (omega arith)
+    ∙ rw (drop-of-length-le l {i = 0 + length z} (omega arith)) (append-nil z)
 
 pub cleared-out : (l : List ℕ) (at n : ℕ) → length l ≤ at → cleared l at n ≡ l
 cleared-out l at n h = cleared-stored l at n ∙ stored-out l at (replicate n 0) h

@@ -3,17 +3,17 @@ use mathlib.Core.Path.{_≡_, refl, sym, ap, _∙_}
 use mathlib.Core.Bool.{false, not}
 use mathlib.Core.Logic.{⊎-elim}
 use Prim.Native.Nat.{ℕ, zero, suc, _+_, _*_, _/_, _%_, _-_, _<_, _≤_}
-use mathlib.Core.List.{List, append-nil, _++_}
+use mathlib.Core.List.{List}
 use native.Mathlib.Omega.{arith}
 use native.Mathlib.Numerals.{add-one}
 use native.Mathlib.Nat.{not-suc-le-zero, eq-or-lt-of-le, le-of-suc-le-suc, le-of-eq}
 use lib.ListN.{length, take, drop, replicate, length-replicate}
-use lib.Seq.{drop-length, ext-getD}
+use lib.Seq.{take-all, ext-getD}
 use lib.Dec.{eqb, leb, ltb}
 use borrow.Rule.Slice.PartMut.{putMid}
 use borrow.Author.Tests.{ltb-false, leb-false, eqb-true, eqb-false, not-false, ne-eqb, eq-eqb}
-use Rattle.endian.specs.Bytes.{be16, put16, put32}
-use Rattle.endian.proofs.Laws.{le-or-lt, eq-or-ne, length-put16, length-put32, getD-zeros}
+use Rattle.endian.specs.Bytes.{be16, put16, put32, cleared}
+use Rattle.endian.proofs.Laws.{le-or-lt, eq-or-ne, length-put16, length-put32, cleared-front, getD-zeros}
 use Rattle.disk.specs.Blocks.{blockOf, withBlock}
 use Rattle.disk.specs.Root.{pfs0, rootIn, putRoot, slotIn, slotOf}
 use Rattle.disk.specs.AnodeBlocks.{anodeMade, anodeIn, putAnode, anodeOf}
@@ -65,9 +65,9 @@ taken img last k name size good =
 
 -- ---- zeros
 
--- zeros stored from the front, up to the end
-pub fill-all : (d : List ℕ) (n : ℕ) → n ≡ length d → replicate n 0 ++ drop n d ≡ replicate (length d) 0
-fill-all d n e = rw (e, drop-length d) (append-nil _)
+-- an image with every byte zeroed
+pub all-cleared : (l : List ℕ) → cleared l 0 (length l) ≡ replicate (length l) 0
+all-cleared l = cleared-front l (length l) (omega arith) ∙ take-all (length l) (replicate (length l) 0) (le-of-eq (length-replicate {A = ℕ} (length l) 0))
 
 be16-zeros : (n k : ℕ) → be16 (replicate n 0) k ≡ 0
 unfolding be16
@@ -224,12 +224,13 @@ module _ (n last k : ℕ) where
   unfolding anodeBlock
   anodeBlock-later s h = rw (ne-eqb s 0 h)
 
+  -- what holds of both holds of every anode block
+  pub anodeBlock-both : (P : List ℕ → Type 0) (s : ℕ) → P (firstAnodes (emptyAnodeBlock s) n last k) → P (emptyAnodeBlock s) → P (anodeBlock n last k s)
+  anodeBlock-both P s p q = ⊎-elim (λ e. rw (anodeBlock-first s e) p) (λ h. rw (anodeBlock-later s h) q) (eq-or-ne s 0)
+
   length-anodeBlock : (s : ℕ) → length (anodeBlock n last k s) ≡ 512
   length-anodeBlock s =
-      ⊎-elim
-      (λ e. rw (anodeBlock-first s e) (length-firstAnodes (emptyAnodeBlock s) ∙ length-emptyAnodeBlock s))
-      (λ h. rw (anodeBlock-later s h) (length-emptyAnodeBlock s))
-      (eq-or-ne s 0)
+      anodeBlock-both (λ b. length b ≡ 512) s (length-firstAnodes (emptyAnodeBlock s) ∙ length-emptyAnodeBlock s) (length-emptyAnodeBlock s)
 
   -- the first block's anodes, over those of the block that it is stored in
   module _ (b : List ℕ) (whole : 512 ≤ length b) where

@@ -25,6 +25,7 @@ use disk::put_anode;
 use disk::put_anode_head;
 use disk::put_root;
 use disk::put_slot;
+use endian::clear;
 use endian::write32;
 use header::disk_size;
 use header::wrong_size;
@@ -51,23 +52,13 @@ fn wrong_format(image: &[u8], last: u16, slots: u16, name: &[u8]) -> bool
     31 < name.len()
 }
 
-// Makes every byte zero.
-fn zero(image: &mut [u8])
-    ensures { λ _. ⌜ now (image .exit) ≡ replicate (length (now (image .entry))) 0 ⌝ }
-{
-    let mut i = 0;
-    while i < image.len() {
-        image[i] = 0;
-        i += 1;
-    }
-}
-
 // Makes every byte zero but the disk type in block 0.
 fn start_disk(image: &mut [u8])
     requires { ⌜ 512 ≤ length (now image) ⌝ }
     ensures { λ _. ⌜ now (image .exit) ≡ withBlock (replicate (length (now (image .entry))) 0) 0 (put32 zeroBlock 0 pfs0) ⌝ }
 {
-    zero(image);
+    let len = image.len();
+    clear(image, 0, len);
     write32(&mut image[0..512], 0, 0x50465300);
 }
 

@@ -2,7 +2,7 @@
 use Prim.Native.Nat.{ℕ, _+_, _≤_, _<_}
 use mathlib.Core.Path.{_≡_, ap, _∙_}
 use mathlib.Core.Logic.{inl, inr}
-use mathlib.Core.Bool.{Bool, true, false, cond, not}
+use mathlib.Core.Bool.{false, not}
 use mathlib.Core.List.{List}
 use native.Mathlib.Omega.{arith}
 use lib.Dec.{eqb}
@@ -19,7 +19,7 @@ use Rattle.rules.specs.Accepted.{diskSize, wrongSize, shortTables, wrongType, l
 use Rattle.rules.specs.Format.{wrongFormat, zeroBlock, firstAnodes, emptyAnodeBlock, anodeBlock, formatted}
 use Rattle.counting.specs.Laws.{anyBelow-all}
 use Rattle.laws.specs.Tests.{less?, none-or, none-and, same}
-use Rattle.format.proofs.Laws.{Taken, taken, length-formatted, rootIn-formatted, slotOf-formatted-some, slotOf-formatted-none, blockOf-formatted-anodes}
+use Rattle.format.proofs.Laws.{Taken, taken, anodeBlock-both, length-formatted, rootIn-formatted, slotOf-formatted-some, slotOf-formatted-none, blockOf-formatted-anodes}
 
 -- the head of anode block s
 abbrev headMade : ℕ → AnodeHead
@@ -34,12 +34,7 @@ unfolding firstAnodes
 head-first b n last k = simp anodeHeadIn-putAnode
 
 head-block : (n last k s : ℕ) → anodeHeadIn (anodeBlock n last k s) ≡ headMade s
-unfolding anodeBlock
-head-block n last k s = go (eqb s 0)
-  where
-    go : (t : Bool) → anodeHeadIn (cond t (firstAnodes (emptyAnodeBlock s) n last k) (emptyAnodeBlock s)) ≡ headMade s
-    go true = head-first (emptyAnodeBlock s) n last k ∙ head-empty s
-    go false = head-empty s
+head-block n last k s = anodeBlock-both n last k (λ b. anodeHeadIn b ≡ headMade s) s (head-first (emptyAnodeBlock s) n last k ∙ head-empty s) (head-empty s)
 
 module _ (img : List ℕ) (last k : ℕ) (name : List ℕ) (day minute tick protection : ℕ) where
   abbrev disk : List ℕ

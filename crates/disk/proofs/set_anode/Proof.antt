@@ -1,6 +1,9 @@
 use mathlib.Core.Path.{sym, _∙_}
+use mathlib.Core.List.{List}
+use Prim.Native.Nat.{ℕ, _%_}
 use native.Mathlib.Omega.{arith}
-use Rattle.disk.proofs.Laws.{setAnode-missing, setAnode-out, setAnode-back}
+use Rattle.disk.specs.AnodeBlocks.{putAnode}
+use Rattle.disk.proofs.Laws.{withBlock-none, block-changed, setAnode-missing, setAnode-there}
 use borrow.Author.Needs.{needs}
 use Rattle.disk.proofs.set_anode.Statement.{statement}
 use Rattle.disk.proofs.set_anode.Tie as tie
@@ -23,14 +26,14 @@ cast-from c = search needs
 mul-from : tie.Need-mul-from
 mul-from c = search needs
 
+block-end-requires : tie.Need-block-end-requires
+block-end-requires c κs = search needs
+
 same-length-2 : tie.Need-same-length-2
 same-length-2 c = search needs
 
 returns-2 : tie.Need-returns-2
-returns-2 c = sym (setAnode-out _ _ _ _ (sym (c .before .before .before .before .slot-of .ensures)) (c .before .before .if1 .left) (c .if2 .taken))
-
-sub-if3 : tie.Need-sub-if3
-sub-if3 c = search needs
+returns-2 c = withBlock-none _ _ _ (c .before .block-end .ensures) _ (c .if2 .taken) ∙ sym (setAnode-there _ _ _ _ (sym (c .before .before .before .before .before .slot-of .ensures)) (c .before .before .before .if1 .left))
 
 sub-put-anode : tie.Need-sub-put-anode
 sub-put-anode c = search needs
@@ -49,29 +52,9 @@ same-length-3 c = search needs
 
 returns-3 : tie.Need-returns-3
 returns-3 c =
-    setAnode-back _ _ (c .before .before .before .before .before .before .before .before .before .slot-of .result .0) _ _ _ (sym (c .before .before .before .before .before .before .before .before .before .slot-of .ensures)) (c .before .before .before .before .before .before .before .if1 .left) (omega arith) (omega arith) (c .before .before .put-anode .ensures)
-
-add-end : tie.Need-add-end
-add-end c = search needs
-
-sub-put-anode-2 : tie.Need-sub-put-anode-2
-sub-put-anode-2 c = search needs
-
-part-put-anode-start-2 : tie.Need-part-put-anode-start-2
-part-put-anode-start-2 c = search needs
-
-part-put-anode-end-2 : tie.Need-part-put-anode-end-2
-part-put-anode-end-2 c = search needs
-
-put-anode-requires-2 : tie.Need-put-anode-requires-2
-put-anode-requires-2 c κs = search needs
-
-same-length-4 : tie.Need-same-length-4
-same-length-4 c = search needs
-
-returns-4 : tie.Need-returns-4
-returns-4 c =
-    setAnode-back _ _ (c .before .before .before .before .before .before .before .before .before .slot-of .result .0) _ _ _ (sym (c .before .before .before .before .before .before .before .before .before .slot-of .ensures)) (c .before .before .before .before .before .before .before .if1 .left) (omega arith) (omega arith) (c .before .before .put-anode2 .ensures)
+    let g = c .before .before .before .before .before .before .before .before .before .before .before .before .before .args in
+    block-changed _ _ _ (c .before .before .before .before .before .block-end .ensures) (omega arith) _ (c .before .before .put-anode .kept .0) (λ (l : List ℕ). putAnode l (g .a .0 % 82) (g .x)) (c .before .before .put-anode .ensures)
+    ∙ sym (setAnode-there _ _ _ _ (sym (c .before .before .before .before .before .before .before .before .before .slot-of .ensures)) (c .before .before .before .before .before .before .before .if1 .left))
 
 pub set-anode-spec : {M : Type 1} → statement M
 set-anode-spec =
@@ -83,19 +66,12 @@ set-anode-spec =
     returns
     cast-from
     mul-from
+    block-end-requires
     same-length-2
     returns-2
-    sub-if3
     sub-put-anode
     part-put-anode-start
     part-put-anode-end
     put-anode-requires
     same-length-3
-    returns-3
-    add-end
-    sub-put-anode-2
-    part-put-anode-start-2
-    part-put-anode-end-2
-    put-anode-requires-2
-    same-length-4
-    returns-4)
+    returns-3)

@@ -1,5 +1,11 @@
 use mathlib.Core.Path.{sym, _∙_}
-use Rattle.edits.proofs.Blocks.{withBlock-none, withBlock-back, withBlocks-one}
+use native.Mathlib.Omega.{arith}
+use mathlib.Core.List.{List}
+use Prim.Native.Nat.{ℕ}
+use lib.ListN.{length, take}
+use Rattle.disk.proofs.Laws.{withBlock-none, block-changed}
+use Rattle.rules.specs.Changes.{newDirectoryBlock}
+use Rattle.edits.proofs.Blocks.{withBlock-take, withBlocks-one}
 use borrow.Author.Needs.{needs}
 use Rattle.edits.proofs.head_block.Statement.{statement}
 use Rattle.edits.proofs.head_block.Tie as tie
@@ -32,7 +38,11 @@ same-length : tie.Need-same-length
 same-length c = search needs
 
 returns-2 : tie.Need-returns-2
-returns-2 c = withBlock-back _ _ _ (c .before .before .before .before .before .block-end .ensures) (c .before .before .before .before .if1 .left) _ (c .before .before .put-new-head .kept .0) _ (c .before .before .put-new-head .ensures) ∙ sym (withBlocks-one _ _ _)
+returns-2 c =
+    let g = c .before .before .before .before .before .before .before .before .args in
+    block-changed _ _ _ (c .before .before .before .before .before .block-end .ensures) (omega arith) _ (c .before .before .put-new-head .kept .0) (λ (l : List ℕ). take (length l) (newDirectoryBlock (g .owner .0) (g .parent .0))) (c .before .before .put-new-head .ensures)
+    ∙ withBlock-take _ _ _
+    ∙ sym (withBlocks-one _ _ _)
 
 pub head-block-spec : {M : Type 1} → statement M
 head-block-spec =

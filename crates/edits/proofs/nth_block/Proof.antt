@@ -1,7 +1,7 @@
 use mathlib.Core.Path.{_≡_, refl, sym, _∙_}
 use Prim.Native.Nat.{_-_}
-use Rattle.anodes.specs.Along.{blocksAlong}
-use Rattle.edits.proofs.Along.{nth-whole, nth-none, nth-end, nth-here, nth-later}
+use Rattle.anodes.specs.Along.{blocksAlong, along-whole, along-none, along-end}
+use Rattle.edits.proofs.Along.{nth-none, nth-here, nth-later}
 use borrow.Author.Needs.{needs}
 use native.Mathlib.Omega.{arith}
 use lib.ListN.{getD}
@@ -23,7 +23,7 @@ loop-holds c = refl
 returns : tie.Need-returns Inv-loop μ-loop
 returns c =
     let l = c .before .before .loop in
-    nth-end _ _ _ (l .left) (l .fuel) (l .fuel - 1) (l .at) (omega arith) (c .if1 .taken) ∙ l .inv ∙ nth-whole _ _ _ _ _
+    rw (along-whole _ _ _ _) (nth-none _ (l .left) (along-end _ _ _ (l .fuel) (l .fuel - 1) (l .at) (omega arith) (c .if1 .taken)) ∙ l .inv)
 
 entry-requires : tie.Need-entry-requires Inv-loop μ-loop
 entry-requires c κs = search needs
@@ -43,7 +43,7 @@ add-result c = omega (arith, c .before .before .before .before .before .before .
 returns-2 : tie.Need-returns-2 Inv-loop μ-loop
 returns-2 c =
     let l = c .before .before .before .before .before .loop in
-    rw (c .entry2 .ensures) (sym (nth-here _ _ _ (l .fuel) (l .fuel - 1) (l .at) (omega arith) (c .before .before .before .if1 .left) (l .left) (omega (arith, c .before .before .entry .ensures)))) ∙ l .inv ∙ nth-whole _ _ _ _ _
+    rw (along-whole _ _ _ _) (rw (c .entry2 .ensures) (sym (nth-here _ _ _ (l .fuel) (l .fuel - 1) (l .at) (omega arith) (c .before .before .before .if1 .left) (l .left) (omega (arith, c .before .before .entry .ensures)))) ∙ l .inv)
 
 cast-left : tie.Need-cast-left Inv-loop μ-loop
 cast-left c = search needs
@@ -71,7 +71,7 @@ loop-again c =
 returns-3 : tie.Need-returns-3 Inv-loop μ-loop
 returns-3 c =
     let l = c .before .loop in
-    nth-none _ _ _ (l .left) (l .fuel) (l .at) (omega arith) ∙ l .inv ∙ nth-whole _ _ _ _ _
+    rw (along-whole _ _ _ _) (nth-none _ (l .left) (along-none _ _ _ (l .fuel) (l .at) (omega arith)) ∙ l .inv)
 
 pub nth-block-spec : {M : Type 1} → statement M
 nth-block-spec =

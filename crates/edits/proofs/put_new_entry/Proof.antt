@@ -5,9 +5,10 @@ use lib.ListN.{length}
 use borrow.Author.Tests.{leb-true}
 use Rattle.directory.specs.Entries.{goodComment, putEntry}
 use Rattle.directory.proofs.Laws.{goodName-length}
-use Rattle.rules.specs.Changes.{entryOf}
+use Rattle.disk.proofs.Laws.{withBlock-none, block-changed}
+use Rattle.rules.specs.Changes.{inBlock, entryOf}
 use Rattle.edits.specs.Entries.{newEntry}
-use Rattle.edits.proofs.Blocks.{inBlock-none, inBlock-back, kind-back}
+use Rattle.edits.proofs.Blocks.{kind-back}
 use borrow.Author.Needs.{needs}
 use Rattle.edits.proofs.put_new_entry.Statement.{statement}
 use Rattle.edits.proofs.put_new_entry.Tie as tie
@@ -19,7 +20,8 @@ block-end-requires : tie.Need-block-end-requires
 block-end-requires c κs = search needs
 
 returns : tie.Need-returns
-returns c = inBlock-none _ _ _ (c .before .block-end .ensures) _ (c .if1 .taken)
+unfolding inBlock
+returns c = withBlock-none _ _ _ (c .before .block-end .ensures) _ (c .if1 .taken)
 
 cast-t16 : tie.Need-cast-t16
 cast-t16 c = omega (arith, goodName-length (c .before .before .before .before .before .args .name .now) (c .before .before .before .before .before .pre .0))
@@ -44,10 +46,10 @@ same-length : tie.Need-same-length
 same-length c = search needs
 
 returns-2 : tie.Need-returns-2
-unfolding entryOf
+unfolding inBlock entryOf
 returns-2 c =
     let g = c .before .before .before .before .before .before .before .before .before .args in
-    inBlock-back (g .image .now) (g .place / 512) (c .before .before .before .before .before .block-end .result) (c .before .before .before .before .before .block-end .ensures) (c .before .before .before .before .if1 .left) (c .before .before .put-entry .last .0) (c .before .before .put-entry .kept .0)
+    block-changed (g .image .now) (g .place / 512) (c .before .before .before .before .before .block-end .result) (c .before .before .before .before .before .block-end .ensures) (omega arith) (c .before .before .put-entry .last .0) (c .before .before .put-entry .kept .0)
     (λ (b : List ℕ). putEntry b (g .place % 512) (entryOf (newEntry (g .kind) (g .name .now) (g .comment .now) (g .day) (g .minute) (g .tick) (g .protection)) (g .anode .0)) (g .name .now) (g .comment .now))
     (rw (kind-back (g .kind)) (c .before .before .put-entry .ensures))
 

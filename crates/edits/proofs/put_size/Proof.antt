@@ -1,8 +1,9 @@
 use mathlib.Core.List.{List}
 use Prim.Native.Nat.{ℕ, _+_, _%_}
+use native.Mathlib.Omega.{arith}
 use Rattle.endian.specs.Bytes.{put32}
-use Rattle.rules.specs.Changes.{withSize}
-use Rattle.edits.proofs.Blocks.{inBlock-none, inBlock-back}
+use Rattle.disk.proofs.Laws.{withBlock-none, block-changed}
+use Rattle.rules.specs.Changes.{inBlock, withSize}
 use borrow.Author.Needs.{needs}
 use Rattle.edits.proofs.put_size.Statement.{statement}
 use Rattle.edits.proofs.put_size.Tie as tie
@@ -14,8 +15,8 @@ block-end-requires : tie.Need-block-end-requires
 block-end-requires c κs = search needs
 
 returns : tie.Need-returns
-unfolding withSize
-returns c = inBlock-none _ _ _ (c .before .block-end .ensures) _ (c .if1 .taken)
+unfolding withSize inBlock
+returns c = withBlock-none _ _ _ (c .before .block-end .ensures) _ (c .if1 .taken)
 
 sub-write32 : tie.Need-sub-write32
 sub-write32 c = search needs
@@ -36,10 +37,10 @@ same-length : tie.Need-same-length
 same-length c = search needs
 
 returns-2 : tie.Need-returns-2
-unfolding withSize
+unfolding withSize inBlock
 returns-2 c =
     let g = c .before .before .before .before .before .before .before .args in
-    inBlock-back _ _ _ (c .before .before .before .before .before .block-end .ensures) (c .before .before .before .before .if1 .left) _ (c .before .before .write32 .kept .0) (λ (b : List ℕ). put32 b (g .place % 512 + 4) (g .size)) (c .before .before .write32 .ensures)
+    block-changed _ _ _ (c .before .before .before .before .before .block-end .ensures) (omega arith) _ (c .before .before .write32 .kept .0) (λ (b : List ℕ). put32 b (g .place % 512 + 4) (g .size)) (c .before .before .write32 .ensures)
 
 pub put-size-spec : {M : Type 1} → statement M
 put-size-spec =

@@ -3,9 +3,8 @@ use mathlib.Core.Path.{ap, _∙_}
 use mathlib.Core.List.{List}
 use Prim.Native.Nat.{ℕ, _+_, _*_, _/_, _%_}
 use native.Mathlib.Omega.{arith}
-use Rattle.disk.proofs.Laws.{length-blockOf, part-block}
-use Rattle.rules.specs.Changes.{entriesEnd, gapClosed, withoutEntry}
-use Rattle.edits.proofs.Blocks.{inBlock-back}
+use Rattle.disk.proofs.Laws.{length-blockOf, part-block, block-changed}
+use Rattle.rules.specs.Changes.{inBlock, entriesEnd, gapClosed, withoutEntry}
 use borrow.Author.Needs.{needs}
 use Rattle.edits.proofs.take_out.Statement.{statement}
 use Rattle.edits.proofs.take_out.Tie as tie
@@ -57,10 +56,10 @@ same-length : tie.Need-same-length
 same-length c = search needs
 
 returns : tie.Need-returns
-unfolding withoutEntry
+unfolding withoutEntry inBlock
 returns c =
     let g = c .before .before .before .before .before .before .before .before .before .args in
-    inBlock-back (g .image .now) (g .place / 512) (g .place / 512 * 512 + 512) (omega arith) (omega arith) (c .before .before .close-gap .last .0) (c .before .before .close-gap .kept .0)
+    block-changed (g .image .now) (g .place / 512) (g .place / 512 * 512 + 512) (omega arith) (omega arith) (c .before .before .close-gap .last .0) (c .before .before .close-gap .kept .0)
     (λ (b : List ℕ). gapClosed b (g .place % 512) (getD b (g .place % 512) 0) (entriesEnd b))
     (rw (c .before .before .before .before .before .read8 .ensures, c .before .before .before .before .entries-end .ensures) at (c .before .before .close-gap .ensures))
 

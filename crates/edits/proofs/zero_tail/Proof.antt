@@ -1,8 +1,11 @@
 use mathlib.Core.Path.{_∙_}
 use mathlib.Core.List.{List}
 use Prim.Native.Nat.{ℕ, _-_, _%_}
+use native.Mathlib.Omega.{arith}
 use Rattle.endian.specs.Bytes.{cleared}
-use Rattle.edits.proofs.Blocks.{inBlock-none, inBlock-back, tail-kept, tail-none, tail-zeroed}
+use Rattle.disk.proofs.Laws.{withBlock-none, block-changed}
+use Rattle.rules.specs.Changes.{inBlock}
+use Rattle.edits.proofs.Blocks.{tail-kept, tail-none, tail-zeroed}
 use borrow.Author.Needs.{needs}
 use Rattle.edits.proofs.zero_tail.Statement.{statement}
 use Rattle.edits.proofs.zero_tail.Tie as tie
@@ -32,7 +35,8 @@ block-end-requires : tie.Need-block-end-requires
 block-end-requires c κs = search needs
 
 returns-3 : tie.Need-returns-3
-returns-3 c = λ e head is. inBlock-none _ _ _ (c .before .block-end .ensures) _ (c .if3 .taken) ∙ tail-zeroed _ _ e _ _ is _ head (c .before .before .before .before .if1 .left) (c .before .before .before .if2 .left) _ (c .before .before .nth-block .ensures)
+unfolding inBlock
+returns-3 c = λ e head is. withBlock-none _ _ _ (c .before .block-end .ensures) _ (c .if3 .taken) ∙ tail-zeroed _ _ e _ _ is _ head (c .before .before .before .before .if1 .left) (c .before .before .before .if2 .left) _ (c .before .before .nth-block .ensures)
 
 sub-clear : tie.Need-sub-clear
 sub-clear c = search needs
@@ -53,9 +57,10 @@ same-length : tie.Need-same-length
 same-length c = search needs
 
 returns-4 : tie.Need-returns-4
+unfolding inBlock
 returns-4 c =
     let n = c .before .before .before .before .before .before .before .before .before .before .before .before .before .args .size in
-    λ e head is. inBlock-back _ _ _ (c .before .before .before .before .before .block-end .ensures) (c .before .before .before .before .if3 .left) _ (c .before .before .clear .kept .0) (λ (l : List ℕ). cleared l (n % 512) (512 - n % 512)) (c .before .before .clear .ensures)
+    λ e head is. block-changed _ _ _ (c .before .before .before .before .before .block-end .ensures) (omega arith) _ (c .before .before .clear .kept .0) (λ (l : List ℕ). cleared l (n % 512) (512 - n % 512)) (c .before .before .clear .ensures)
     ∙ tail-zeroed _ _ e _ _ is _ head (c .before .before .before .before .before .before .before .before .if1 .left) (c .before .before .before .before .before .before .before .if2 .left) _ (c .before .before .before .before .before .before .nth-block .ensures)
 
 pub zero-tail-spec : {M : Type 1} → statement M

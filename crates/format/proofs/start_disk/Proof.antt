@@ -1,11 +1,12 @@
 -- `start_disk` leaves zeros and the disk type.
-use Rattle.format.proofs.Laws.{start-stored}
+use mathlib.Core.Path.{_∙_}
+use Rattle.format.proofs.Laws.{all-cleared, start-stored}
 use borrow.Author.Needs.{needs}
 use Rattle.format.proofs.start_disk.Statement.{statement}
 use Rattle.format.proofs.start_disk.Tie as tie
 
-zero-requires : tie.Need-zero-requires
-zero-requires c κs = search needs
+clear-requires : tie.Need-clear-requires
+clear-requires c κs = search needs
 
 sub-write32 : tie.Need-sub-write32
 sub-write32 c = search needs
@@ -23,13 +24,13 @@ same-length : tie.Need-same-length
 same-length c = search needs
 
 returns : tie.Need-returns
-returns c = start-stored (c .before .before .before .before .before .before .zero .last .0) _ (c .before .before .write32 .last .0) (c .before .before .before .before .before .before .before .before .before .pre) (c .before .before .before .before .before .before .zero .ensures) (c .before .before .write32 .ensures)
+returns c = start-stored (c .before .before .before .before .before .before .clear .last .0) _ (c .before .before .write32 .last .0) (c .before .before .before .before .before .before .before .before .before .pre) (c .before .before .before .before .before .before .clear .ensures ∙ all-cleared _) (c .before .before .write32 .ensures)
 
 pub start-disk-spec : {M : Type 1} → statement M
 start-disk-spec =
     tie.close
     (tie.spec
-    zero-requires
+    clear-requires
     sub-write32
     part-write32-start
     part-write32-end
