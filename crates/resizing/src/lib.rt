@@ -31,14 +31,8 @@ use space::give_many;
 use space::moves_count;
 use space::moves_number;
 use space::take_many;
+use tree::blocks_for;
 use tree::chain_sum;
-
-// The blocks that a file of this size asks for.
-fn blocks_for(size: u64) -> u64
-    ensures { λ r. ⌜ r ≡ blocksFor size ⌝ }
-{
-    size / 512 + (size % 512 + 511) / 512
-}
 
 // Takes or gives back blocks, one at a time, until the chain of `head`, which has `have` blocks, has `want`.
 fn plan_resize(
