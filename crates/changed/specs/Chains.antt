@@ -6,14 +6,17 @@ use mathlib.Core.Bool.{false}
 use mathlib.Core.List.{List}
 use native.Mathlib.Omega.{arith}
 use lib.ListN.{length, take, length-take}
-use Rattle.rules.specs.Anodes.{limit, exists}
-use Rattle.rules.specs.Chains.{systemOwns}
+use Rattle.rules.specs.Anodes.{Anodes, limit, exists, anodesOf}
+use Rattle.rules.specs.Chains.{systemOwns, blockCount}
 use Rattle.rules.specs.Walk.{Entered}
 use Rattle.rules.specs.Accepted.{diskSize, wrongSize, lastReserved}
+use Rattle.rules.specs.Space.{planned, giveMany}
 use Rattle.laws.specs.Acceptance.{passed-of}
 use Rattle.laws.specs.Heads.{Head}
 use Rattle.laws.specs.Space.{Good}
+use Rattle.laws.specs.GivenBlocks.{gives-blocks}
 use Rattle.anodes.specs.Loaded.{anodesFrom}
+use Rattle.space.proofs.Many.{count-small}
 use Rattle.changes.specs.Image.{headIn, sideIn, accepted-whole}
 use Rattle.changes.specs.Reached.{EntryFacts, entry-facts}
 use Rattle.changed.specs.Leaves.{Loaded, ReachedEntry}
@@ -22,8 +25,11 @@ module _ {img counts firsts nexts : List ℕ} (l : Loaded img counts firsts next
   pub loaded-size : wrongSize img ≡ false
   loaded-size = passed-of img (diskSize img) limit (l .accepted) .size-right
 
+  pub image-good : Good limit (exists img) (diskSize img) (lastReserved img) (anodesOf img) (systemOwns img) (headIn img) (sideIn img)
+  image-good = accepted-whole img (diskSize img) limit (l .accepted) .good
+
   pub loaded-good : Good limit (exists img) (diskSize img) (lastReserved img) (anodesFrom counts firsts nexts) (systemOwns img) (headIn img) (sideIn img)
-  loaded-good = rw (l .is-loaded) (accepted-whole img (diskSize img) limit (l .accepted) .good)
+  loaded-good = rw (l .is-loaded) image-good
 
   -- the chain that a reached entry names
   module _ (e : Entered) (r : ReachedEntry img e) where
@@ -35,6 +41,10 @@ module _ {img counts firsts nexts : List ℕ} (l : Loaded img counts firsts next
 
     pub entry-head : Head (anodesFrom counts firsts nexts .next) (anodesFrom counts firsts nexts .block) (e .anode)
     entry-head = rw (l .is-loaded) (entry-known .head)
+
+    -- fewer blocks can be given back than a table of 65,535 numbers holds
+    pub gave-few : (k : ℕ) (t : Anodes) (ys : List ℕ) → giveMany limit (exists img) (lastReserved img) k (anodesOf img) (e .anode) ≡ planned t ys → k ≤ blockCount (anodesOf img) (e .anode) → length ys < 65535
+    gave-few k t ys p fits = omega (arith, count-small img (anodesOf img) (headIn img, sideIn img, image-good) (e .anode) (entry-known .head) loaded-size, gives-blocks k (e .anode) entry-not-1 t ys (anodesOf img) (systemOwns img) (headIn img) (sideIn img) image-good (entry-known .head) p .1)
 
 -- a table of 65,535 numbers has all that were noted, where they are fewer
 pub noted-all : (n : ℕ) (moved : List ℕ) → length moved ≡ 65535 → length (take n moved) < 65535 → n ≤ length moved

@@ -1,5 +1,5 @@
 -- A removal by its plan: what it leaves of an accepted image and of its two tables.
-use Prim.Native.Nat.{ℕ, _+_, _*_, _/_, _%_, _<_, _≤_}
+use Prim.Native.Nat.{ℕ, _+_, _*_, _/_, _%_, _≤_}
 use mathlib.Core.Path.{_≡_, sym, _∙_}
 use mathlib.Core.Logic.{_≢_}
 use mathlib.Core.Bool.{false}
@@ -17,14 +17,13 @@ use Rattle.rules.specs.Changes.{entriesEnd, removedImage, removed}
 use Rattle.laws.specs.Links.{View, Linked}
 use Rattle.laws.specs.LinkChanges.{without}
 use Rattle.laws.specs.Heads.{Head}
-use Rattle.laws.specs.Blocks.{blocks}
 use Rattle.laws.specs.Space.{Good}
 use Rattle.laws.specs.Whole.{blocks-count}
 use Rattle.laws.specs.Remove.{still, none-left, dropped-good}
 use Rattle.laws.specs.RefusedSteps.{gives-refused}
 use Rattle.laws.specs.OwnerTable.{dropped-owner, setAll}
 use Rattle.frames.specs.StoredAnodes.{withAnodes-stored}
-use Rattle.changes.specs.Image.{headIn, sideIn, accepted-slots, accepted-whole}
+use Rattle.changes.specs.Image.{headIn, sideIn, accepted-slots}
 use Rattle.changes.specs.FoundEntries.{end-bounds, entry-standing}
 use Rattle.changes.specs.Reached.{parted, block-unbroken}
 use Rattle.changes.specs.RemoveStores.{PlannedRemove, ran, removed-same, removed-anodes}
@@ -32,17 +31,13 @@ use Rattle.anodes.specs.Loaded.{anodesFrom}
 use Rattle.tree.specs.Steps.{sumFrom}
 use Rattle.tree.proofs.Rules.{sumFrom-count}
 use Rattle.space.specs.Steps.{GoodAnodes}
-use Rattle.space.proofs.Many.{gave-few}
 use Rattle.changed.specs.Leaves.{Leaves, Loaded, ReachedEntry}
 use Rattle.changed.specs.Laws.{leaves-refused, shows-kept, shows-ran, leaves-done}
-use Rattle.changed.specs.Chains.{loaded-size, loaded-good, entry-known, entry-not-1, entry-head}
+use Rattle.changed.specs.Chains.{loaded-size, image-good, loaded-good, entry-known, entry-not-1, entry-head}
 
 module _ {img counts firsts nexts : List ℕ} (l : Loaded img counts firsts nexts) (e : Entered) (r : ReachedEntry img e) where
   abbrev s : Anodes
   s = anodesOf img
-
-  g : Good limit (exists img) (diskSize img) (lastReserved img) s (systemOwns img) (headIn img) (sideIn img)
-  g = accepted-whole img (diskSize img) limit (l .accepted) .good
 
   -- the steps may be planned on copies of the tables
   module _ (nc nf nn : List ℕ) (c : nc ≡ counts) (f : nf ≡ firsts) (n : nn ≡ nexts) (have : ℕ) (all : have ≡ sumFrom counts nexts 3444 (e .anode)) where
@@ -60,7 +55,7 @@ module _ {img counts firsts nexts : List ℕ} (l : Loaded img counts firsts next
   refused-leaves k gives b a =
       let h = e .anode in
       let d = entry-known l e r .head in
-      let number : k ≡ 28 = gives-refused (blockCount s h) h (entry-not-1 l e r) k s (systemOwns img) (headIn img) (sideIn img) g d (omega (arith, blocks-count g h d)) gives in
+      let number : k ≡ 28 = gives-refused (blockCount s h) h (entry-not-1 l e r) k s (systemOwns img) (headIn img) (sideIn img) (image-good l) d (omega (arith, blocks-count (image-good l) h d)) gives in
       rw gives (leaves-refused k (omega (arith, number)) img b a)
 
   module _ (t : Anodes) (ys : List ℕ) (gives : giveMany limit (exists img) (lastReserved img) (blockCount s (e .anode)) s (e .anode) ≡ planned t ys) where
@@ -81,10 +76,6 @@ module _ {img counts firsts nexts : List ℕ} (l : Loaded img counts firsts next
     -- the links that show_heads asks for
     pub removed-links : (x : Anodes) → x ≡ end → View limit (x .next) (x .block) × Linked limit (x .next) (x .block)
     removed-links x i = rw i (end-good .view, end-good .linked)
-
-    -- fewer blocks changed hands than the table of moved blocks holds
-    pub moved-few : length ys < 65535
-    moved-few = gave-few img s (headIn img, sideIn img, g) (e .anode) (entry-known l e r .head) (loaded-size l) (entry-not-1 l e r) (blockCount s (e .anode)) (omega arith) t ys gives
 
     -- where the entry stands, also after the anodes are stored
     abbrev y : ℕ
@@ -116,4 +107,4 @@ module _ {img counts firsts nexts : List ℕ} (l : Loaded img counts firsts next
         let d = entry-known l e r .head in
         let is-end = removed-anodes p in
         rw gives (leaves-done img (removedImage img e t ys) (removed-same p) b a (setAll b ys 1) (anodeTable end ++ drop limit a)
-        (λ rest q. rw is-end (shows-kept img t end (dropped-owner (ran p .good) (e .anode) h6 (still (e .anode) h6 d (ran p)) (none-left (e .anode) h6 d (ran p))) (setAll b ys 1) rest (shows-ran img s t g (ran p) (entry-not-1 l e r) b rest q))) (rw is-end))
+        (λ rest q. rw is-end (shows-kept img t end (dropped-owner (ran p .good) (e .anode) h6 (still (e .anode) h6 d (ran p)) (none-left (e .anode) h6 d (ran p))) (setAll b ys 1) rest (shows-ran img s t (image-good l) (ran p) (entry-not-1 l e r) b rest q))) (rw is-end))

@@ -22,17 +22,17 @@ use Rattle.laws.specs.Heads.{Head}
 use Rattle.laws.specs.Whole.{blocks-count}
 use Rattle.laws.specs.Resize.{grow-ran, shrink-ran}
 use Rattle.laws.specs.OwnerTable.{setAll}
-use Rattle.changes.specs.Image.{headIn, sideIn, accepted-whole}
+use Rattle.changes.specs.Image.{headIn, sideIn}
 use Rattle.changes.specs.ResizePlan.{plan-refused, plan-longer}
-use Rattle.changes.specs.ResizeStores.{PlannedResize, w, steps, resized-same, resized-anodes}
+use Rattle.changes.specs.ResizeStores.{PlannedResize, steps, resized-same, resized-anodes}
 use Rattle.anodes.specs.Loaded.{anodesFrom}
 use Rattle.tree.specs.Steps.{sumFrom}
 use Rattle.tree.proofs.Rules.{sumFrom-count}
 use Rattle.space.specs.Steps.{GoodAnodes}
-use Rattle.space.proofs.Many.{count-small, gave-few}
+use Rattle.space.proofs.Many.{count-small}
 use Rattle.changed.specs.Leaves.{Leaves, Loaded, ReachedEntry}
 use Rattle.changed.specs.Laws.{Shows, leaves-refused, shows-ran, leaves-done}
-use Rattle.changed.specs.Chains.{loaded-size, loaded-good, entry-known, entry-not-1, entry-head}
+use Rattle.changed.specs.Chains.{loaded-size, image-good, loaded-good, entry-known, entry-not-1, entry-head, gave-few}
 
 module _ {img counts firsts nexts : List ℕ} (l : Loaded img counts firsts nexts) (e : Entered) (r : ReachedEntry img e) (size : ℕ) where
   abbrev s : Anodes
@@ -56,7 +56,7 @@ module _ {img counts firsts nexts : List ℕ} (l : Loaded img counts firsts next
   -- refused it leaves everything
   pub refused-leaves : (k : ℕ) → resizePlan img s (e .anode) (blocksFor size) ≡ refused k → (b a : List ℕ) → Leaves k img b a img b a (resized img s e size)
   unfolding resized
-  refused-leaves k plan b a = rw plan (leaves-refused k (late (plan-refused img (accepted-whole img (diskSize img) limit (l .accepted) .good) (e .anode) (entry-known l e r .head) (entry-not-1 l e r) (blocksFor size) k plan)) img b a)
+  refused-leaves k plan b a = rw plan (leaves-refused k (late (plan-refused img (image-good l) (e .anode) (entry-known l e r .head) (entry-not-1 l e r) (blocksFor size) k plan)) img b a)
     where
       late : (k ≡ 27) ⊎ (k ≡ 28) → 17 ≤ k
       late (inl i) = omega (arith, i)
@@ -88,9 +88,8 @@ module _ {img counts firsts nexts : List ℕ} (l : Loaded img counts firsts next
     pub moved-few : length ys < 65535
     unfolding resizePlan
     moved-few = elim (less? (blocksFor size) (blockCount s (e .anode))) [
-      | inl m ↦ gave-few img s (headIn img, sideIn img, w p .good) (e .anode) (entry-known l e r .head) (loaded-size l) (entry-not-1 l e r) (blockCount s (e .anode) - blocksFor size) (omega arith) t ys
-          (rw (lt-leb (blockCount s (e .anode)) (blocksFor size) m) at plan)
-      | inr m ↦ omega (arith, asked-less, plan-longer img (w p .good) (e .anode) (entry-known l e r .head) (entry-not-1 l e r) (blocksFor size) t ys plan m .1)
+      | inl m ↦ gave-few l e r (blockCount s (e .anode) - blocksFor size) t ys (rw (lt-leb (blockCount s (e .anode)) (blocksFor size) m) at plan) (omega arith)
+      | inr m ↦ omega (arith, asked-less, plan-longer img (image-good l) (e .anode) (entry-known l e r .head) (entry-not-1 l e r) (blocksFor size) t ys plan m .1)
     ]
 
     -- the moved blocks are the file's where it has not shrunk, else the free list's
@@ -98,7 +97,7 @@ module _ {img counts firsts nexts : List ℕ} (l : Loaded img counts firsts next
     unfolding resizePlan
     owners-shown b rest q =
         let h = e .anode in
-        let g = w p .good in
+        let g = image-good l in
         let d = entry-known l e r .head in
         let h1 = entry-not-1 l e r in
         let have = blockCount s h in

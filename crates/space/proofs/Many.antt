@@ -24,7 +24,6 @@ use Rattle.laws.specs.Take.{take-good}
 use Rattle.laws.specs.Give.{give-good}
 use Rattle.laws.specs.Frame.{moved-stays}
 use Rattle.laws.specs.Whole.{blocks-count}
-use Rattle.laws.specs.GivenBlocks.{gives-blocks}
 use Rattle.space.specs.declared.Moves.{Moves}
 use Rattle.space.specs.declared.Moves.the-variants.{Done, Stopped}
 use Rattle.space.specs.Steps.{manyPlan, movesNumber, movesCount, GoodAnodes}
@@ -41,10 +40,6 @@ module _ (img : List ℕ) (s : Anodes) (good : GoodAnodes img s) (h : ℕ) (d : 
       let has = blocks-count g h d in
       let part = sum-mono (λ a. oneAt (good .0 a) h * s .count a) (s .count) 3444 (λ a l. elim (oneAt-cases (good .0 a) h) [ inl q ↦ rw (q .1) (omega arith) | inr q ↦ rw (q .1) (omega arith) ]) in
       elim (less? (blockCount s h) 65535) [ inl l ↦ l | inr l ↦ omega (arith, size-bounds img size .1, sum-member (systemOwns img) 0 (diskSize img) (omega arith)) ]
-
-  -- so a table of 65,535 numbers holds the blocks that were given back
-  pub gave-few : wrongSize img ≡ false → h ≢ 1 → (k : ℕ) → k ≤ blockCount s h → (t : Anodes) (ys : List ℕ) → giveMany 3444 (exists img) (lastReserved img) k s h ≡ planned t ys → length ys < 65535
-  gave-few size h1 k l t ys e = omega (arith, count-small size, gives-blocks k h h1 t ys s (systemOwns img) (good .0) (good .1) (good .2) d e .1)
 
   module _ (h1 : h ≢ 1) (t : Anodes) (y : ℕ) where
     pub took : (own : Bool) → takeBlock 3444 (exists img) (lastReserved img) own s h ≡ planned t (y ∷ []) → GoodAnodes img t × Head (t .next) (t .block) h × (blockCount t h ≡ blockCount s h + 1)
