@@ -321,20 +321,12 @@ fn join(
         return append(image, z, y, counts, firsts, nexts);
     }
     let count = entry(counts, z);
-    if count == 0 {
-        rewrite(counts, firsts, z, 1, y);
-        return Step::Moved(y);
-    }
     let first = entry(firsts, z);
-    if first as u32 + count as u32 == y.0 as u32 {
-        rewrite(counts, firsts, z, count + 1, BlockNo(first));
-        return Step::Moved(y);
-    }
-    if y.0 as u32 + 1 == first as u32 {
+    if count != 0 && y.0 as u32 + 1 == first as u32 {
         rewrite(counts, firsts, z, count + 1, y);
         return Step::Moved(y);
     }
-    append(image, z, y, counts, firsts, nexts)
+    put(image, false, z, y, counts, firsts, nexts)
 }
 
 // Gives back the last block of the chain of `head`.
