@@ -1,6 +1,6 @@
 -- The chains of a loaded image, and how many blocks a chain may have.
 use Prim.Native.Nat.{ℕ, _≤_, _<_}
-use mathlib.Core.Path.{_≡_}
+use mathlib.Core.Path.{_≡_, _∙_}
 use mathlib.Core.Logic.{_≢_}
 use mathlib.Core.Bool.{false}
 use mathlib.Core.List.{List}
@@ -16,6 +16,9 @@ use Rattle.laws.specs.Heads.{Head}
 use Rattle.laws.specs.Space.{Good}
 use Rattle.laws.specs.GivenBlocks.{gives-blocks}
 use Rattle.anodes.specs.Loaded.{anodesFrom}
+use Rattle.tree.specs.Steps.{sumFrom}
+use Rattle.tree.proofs.Rules.{sumFrom-count}
+use Rattle.space.specs.Steps.{GoodAnodes}
 use Rattle.space.proofs.Many.{count-small}
 use Rattle.changes.specs.Image.{headIn, sideIn, accepted-whole}
 use Rattle.changes.specs.Reached.{EntryFacts, entry-facts}
@@ -31,6 +34,14 @@ module _ {img counts firsts nexts : List ℕ} (l : Loaded img counts firsts next
   pub loaded-good : Good limit (exists img) (diskSize img) (lastReserved img) (anodesFrom counts firsts nexts) (systemOwns img) (headIn img) (sideIn img)
   loaded-good = rw (l .is-loaded) image-good
 
+  -- copies of the tables have the image's anodes
+  pub copies-loaded : (nc nf nn : List ℕ) → nc ≡ counts → nf ≡ firsts → nn ≡ nexts → anodesFrom nc nf nn ≡ anodesOf img
+  copies-loaded nc nf nn c f n = rw (c, f, n) (l .is-loaded)
+
+  -- the blocks of a chain, as they are counted in the tables
+  pub chain-counted : (h have : ℕ) → have ≡ sumFrom counts nexts limit h → have ≡ blockCount (anodesOf img) h
+  chain-counted h have all = all ∙ rw (← (l .is-loaded)) (sumFrom-count counts firsts nexts h)
+
   -- the chain that a reached entry names
   module _ (e : Entered) (r : ReachedEntry img e) where
     pub entry-known : EntryFacts img (r .0) e
@@ -39,8 +50,10 @@ module _ {img counts firsts nexts : List ℕ} (l : Loaded img counts firsts next
     pub entry-not-1 : e .anode ≢ 1
     entry-not-1 i = omega (arith, i, entry-known .from-6)
 
-    pub entry-head : Head (anodesFrom counts firsts nexts .next) (anodesFrom counts firsts nexts .block) (e .anode)
-    entry-head = rw (l .is-loaded) (entry-known .head)
+    -- steps on it may be planned on copies of the tables, with the count that was read off them
+    pub plan-ready : (nc nf nn : List ℕ) → nc ≡ counts → nf ≡ firsts → nn ≡ nexts → (have : ℕ) → have ≡ sumFrom counts nexts limit (e .anode) → ((wrongSize img ≡ false) × GoodAnodes img (anodesFrom nc nf nn))
+        × (Head (anodesFrom nc nf nn .next) (anodesFrom nc nf nn .block) (e .anode) × (e .anode ≢ 1) × (have ≡ blockCount (anodesFrom nc nf nn) (e .anode)))
+    plan-ready nc nf nn c f n have all = rw (copies-loaded nc nf nn c f n) ((loaded-size, (headIn img, sideIn img, image-good)), (entry-known .head, entry-not-1, chain-counted (e .anode) have all))
 
     -- fewer blocks can be given back than a table of 65,535 numbers holds
     pub gave-few : (k : ℕ) (t : Anodes) (ys : List ℕ) → giveMany limit (exists img) (lastReserved img) k (anodesOf img) (e .anode) ≡ planned t ys → k ≤ blockCount (anodesOf img) (e .anode) → length ys < 65535

@@ -10,13 +10,12 @@ use Rattle.disk.specs.Blocks.{blockOf}
 use Rattle.rules.specs.Anodes.{Anodes, limit, exists, anodesOf, withAnodes}
 use Rattle.rules.specs.Chains.{systemOwns, blockCount}
 use Rattle.rules.specs.Walk.{Entered, entriesIn}
-use Rattle.rules.specs.Accepted.{diskSize, wrongSize, lastReserved}
+use Rattle.rules.specs.Accepted.{diskSize, lastReserved}
 use Rattle.rules.specs.Tables.{anodeTable}
 use Rattle.rules.specs.Space.{Plan, refused, planned, giveMany, onChain, dropped}
 use Rattle.rules.specs.Changes.{entriesEnd, removedImage, removed}
 use Rattle.laws.specs.Links.{View, Linked}
 use Rattle.laws.specs.LinkChanges.{without}
-use Rattle.laws.specs.Heads.{Head}
 use Rattle.laws.specs.Space.{Good}
 use Rattle.laws.specs.Whole.{blocks-count}
 use Rattle.laws.specs.Remove.{still, none-left, dropped-good}
@@ -29,25 +28,20 @@ use Rattle.changes.specs.Reached.{parted, block-unbroken}
 use Rattle.changes.specs.RemoveStores.{PlannedRemove, ran, removed-same, removed-anodes}
 use Rattle.anodes.specs.Loaded.{anodesFrom}
 use Rattle.tree.specs.Steps.{sumFrom}
-use Rattle.tree.proofs.Rules.{sumFrom-count}
-use Rattle.space.specs.Steps.{GoodAnodes}
+use Rattle.space.specs.Steps.{moveMany}
 use Rattle.changed.specs.Leaves.{Leaves, Loaded, ReachedEntry}
 use Rattle.changed.specs.Laws.{leaves-refused, shows-kept, shows-ran, leaves-done}
-use Rattle.changed.specs.Chains.{loaded-size, image-good, loaded-good, entry-known, entry-not-1, entry-head}
+use Rattle.changed.specs.Chains.{image-good, entry-known, entry-not-1, copies-loaded, chain-counted}
 
 module _ {img counts firsts nexts : List ℕ} (l : Loaded img counts firsts nexts) (e : Entered) (r : ReachedEntry img e) where
   abbrev s : Anodes
   s = anodesOf img
 
-  -- the steps may be planned on copies of the tables
-  module _ (nc nf nn : List ℕ) (c : nc ≡ counts) (f : nf ≡ firsts) (n : nn ≡ nexts) (have : ℕ) (all : have ≡ sumFrom counts nexts 3444 (e .anode)) where
-    pub gives-ready : ((wrongSize img ≡ false) × GoodAnodes img (anodesFrom nc nf nn))
-        × (Head (anodesFrom nc nf nn .next) (anodesFrom nc nf nn .block) (e .anode) × (e .anode ≢ 1) × (have ≤ blockCount (anodesFrom nc nf nn) (e .anode)))
-    gives-ready = rw (c, f, n) ((loaded-size l, (headIn img, sideIn img, loaded-good l)), (entry-head l e r, entry-not-1 l e r, omega (arith, all ∙ sumFrom-count counts firsts nexts (e .anode))))
-
-    -- and the plan is that of the image
-    pub gives-made : (p : Plan) → p ≡ giveMany limit (exists img) (lastReserved img) have (anodesFrom nc nf nn) (e .anode) → giveMany limit (exists img) (lastReserved img) (blockCount s (e .anode)) s (e .anode) ≡ p
-    gives-made p made = sym (made ∙ rw (c, f, n, all ∙ sumFrom-count counts firsts nexts (e .anode), l .is-loaded))
+  -- the plan on copies of the tables is that of the image
+  pub gives-made : (nc nf nn : List ℕ) → nc ≡ counts → nf ≡ firsts → nn ≡ nexts → (have : ℕ) → have ≡ sumFrom counts nexts limit (e .anode) → (p : Plan) → p ≡ moveMany img false have (anodesFrom nc nf nn) (e .anode) →
+      giveMany limit (exists img) (lastReserved img) (blockCount s (e .anode)) s (e .anode) ≡ p
+  unfolding moveMany
+  gives-made nc nf nn c f n have all p made = sym (made ∙ rw (copies-loaded l nc nf nn c f n, chain-counted l (e .anode) have all))
 
   -- refused it leaves everything
   pub refused-leaves : (k : ℕ) → giveMany limit (exists img) (lastReserved img) (blockCount s (e .anode)) s (e .anode) ≡ refused k → (b a : List ℕ) → Leaves k img b a img b a (removed img s e)
