@@ -22,6 +22,7 @@ use Rattle.space.specs.Steps.{GoodAnodes}
 use Rattle.space.proofs.Many.{count-small}
 use Rattle.changes.specs.Image.{headIn, sideIn, accepted-whole}
 use Rattle.changes.specs.Reached.{EntryFacts, entry-facts}
+use Rattle.changes.specs.PlannedChange.{PlannedChange}
 use Rattle.changed.specs.Leaves.{Loaded, ReachedEntry}
 
 module _ {img counts firsts nexts : List ℕ} (l : Loaded img counts firsts nexts) where
@@ -46,6 +47,10 @@ module _ {img counts firsts nexts : List ℕ} (l : Loaded img counts firsts next
   module _ (e : Entered) (r : ReachedEntry img e) where
     pub entry-known : EntryFacts img (r .0) e
     entry-known = entry-facts img (diskSize img) limit (l .accepted) (r .0) (r .1) e (r .2)
+
+    -- a change of the entry with its plan
+    pub planned-change : {Plans : Type 0} → Plans → PlannedChange img e Plans
+    planned-change plan = record { blocks = diskSize img; anodes = limit; accepted = l .accepted; home = r .0; reached = r .1; member = r .2; plan = plan }
 
     pub entry-not-1 : e .anode ≢ 1
     entry-not-1 i = omega (arith, i, entry-known .from-6)

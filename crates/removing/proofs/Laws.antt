@@ -12,26 +12,24 @@ use Rattle.rules.specs.Chains.{systemOwns, blockCount}
 use Rattle.rules.specs.Walk.{Entered, entriesIn}
 use Rattle.rules.specs.Accepted.{diskSize, lastReserved}
 use Rattle.rules.specs.Tables.{anodeTable}
-use Rattle.rules.specs.Space.{Plan, refused, planned, giveMany, onChain, dropped}
+use Rattle.rules.specs.Space.{Plan, refused, planned, giveMany, dropped}
 use Rattle.rules.specs.Changes.{entriesEnd, removedImage, removed}
 use Rattle.laws.specs.Links.{View, Linked}
-use Rattle.laws.specs.LinkChanges.{without}
-use Rattle.laws.specs.Space.{Good}
 use Rattle.laws.specs.Whole.{blocks-count}
-use Rattle.laws.specs.Remove.{still, none-left, dropped-good}
+use Rattle.laws.specs.Remove.{still, none-left}
 use Rattle.laws.specs.RefusedSteps.{gives-refused}
 use Rattle.laws.specs.OwnerTable.{dropped-owner, setAll}
 use Rattle.frames.specs.StoredAnodes.{withAnodes-stored}
 use Rattle.changes.specs.Image.{headIn, sideIn, accepted-slots}
 use Rattle.changes.specs.FoundEntries.{end-bounds, entry-standing}
-use Rattle.changes.specs.Reached.{parted, block-unbroken}
-use Rattle.changes.specs.RemoveStores.{PlannedRemove, ran, removed-same, removed-anodes}
+use Rattle.changes.specs.Reached.{block-unbroken, block-data, parted}
+use Rattle.changes.specs.RemoveStores.{PlannedRemove, ran, end-good, removed-same, removed-anodes}
 use Rattle.anodes.specs.Loaded.{anodesFrom}
 use Rattle.tree.specs.Steps.{sumFrom}
 use Rattle.space.specs.Steps.{moveMany}
 use Rattle.changed.specs.Leaves.{Leaves, Loaded, ReachedEntry}
 use Rattle.changed.specs.Laws.{leaves-refused, shows-kept, shows-ran, leaves-done}
-use Rattle.changed.specs.Chains.{image-good, entry-known, entry-not-1, copies-loaded, chain-counted}
+use Rattle.changed.specs.Chains.{image-good, entry-known, entry-not-1, copies-loaded, chain-counted, planned-change}
 
 module _ {img counts firsts nexts : List ℕ} (l : Loaded img counts firsts nexts) (e : Entered) (r : ReachedEntry img e) where
   abbrev s : Anodes
@@ -57,19 +55,15 @@ module _ {img counts firsts nexts : List ℕ} (l : Loaded img counts firsts next
     end = dropped limit (exists img) (lastReserved img) t (e .anode)
 
     p : PlannedRemove img e t ys
-    p = record { blocks = diskSize img; anodes = limit; accepted = l .accepted; home = r .0; reached = r .1; member = r .2; plan = gives }
+    p = planned-change l e r gives
 
     -- the chain can be dropped
     pub drops-ready : View limit (t .next) (t .block) × (Linked limit (t .next) (t .block) × (t .block (e .anode) ≢ 0))
     drops-ready = (ran p .good .view, (ran p .good .linked, still (e .anode) (entry-known l e r .from-6) (entry-known l e r .head) (ran p) .in-use))
 
-    end-good : Good limit (exists img) (diskSize img) (lastReserved img) end (systemOwns img) (without (onChain limit (exists img) (lastReserved img) t (e .anode)) (ran p .hd′))
-        (without (onChain limit (exists img) (lastReserved img) t (e .anode)) (ran p .sd′))
-    end-good = dropped-good (e .anode) (entry-known l e r .from-6) (entry-known l e r .head) (ran p)
-
     -- the links that show_heads asks for
     pub removed-links : (x : Anodes) → x ≡ end → View limit (x .next) (x .block) × Linked limit (x .next) (x .block)
-    removed-links x i = rw i (end-good .view, end-good .linked)
+    removed-links x i = rw i (end-good p .view, end-good p .linked)
 
     -- where the entry stands, also after the anodes are stored
     abbrev y : ℕ
@@ -87,8 +81,8 @@ module _ {img counts firsts nexts : List ℕ} (l : Loaded img counts firsts next
         let part = parted facts in
         let fine = block-unbroken facts in
         let place : e .place ≡ y * 512 + at = omega arith in
-        rw (kept .length-kept, kept .block-kept y (rw (facts .in-block) (facts .block-facts .is-data .unheld))) (
-          rw (facts .in-block) (facts .block-facts .is-data .inside),
+        rw (kept .length-kept, kept .block-kept y (block-data facts .unheld)) (
+          block-data facts .inside,
           entry-standing b y at e place (part .1) (part .0) 28 16 (part .2) fine (omega arith) (omega arith) .before,
           omega (arith, end-bounds b y 28 16 fine (omega arith) (omega arith) .1),
         )

@@ -11,7 +11,6 @@ use borrow.Author.Tests.{le-leb, lt-leb, lt-ltb, le-ltb}
 use Rattle.rules.specs.Anodes.{Anodes, limit, anodesOf}
 use Rattle.rules.specs.Chains.{systemOwns, blockCount}
 use Rattle.rules.specs.Walk.{Entered, blocksFor}
-use Rattle.rules.specs.Accepted.{diskSize}
 use Rattle.rules.specs.Tables.{anodeTable}
 use Rattle.rules.specs.Space.{Plan, refused, planned}
 use Rattle.rules.specs.Format.{zeroBlock}
@@ -30,7 +29,7 @@ use Rattle.space.specs.Steps.{moveMany}
 use Rattle.space.proofs.Many.{count-small}
 use Rattle.changed.specs.Leaves.{Leaves, Loaded, ReachedEntry}
 use Rattle.changed.specs.Laws.{Shows, leaves-refused, shows-ran, leaves-done}
-use Rattle.changed.specs.Chains.{loaded-size, image-good, entry-known, entry-not-1, copies-loaded, chain-counted, gave-few}
+use Rattle.changed.specs.Chains.{loaded-size, image-good, entry-known, entry-not-1, copies-loaded, chain-counted, planned-change, gave-few}
 
 module _ {img counts firsts nexts : List ℕ} (l : Loaded img counts firsts nexts) (e : Entered) (r : ReachedEntry img e) (size : ℕ) where
   abbrev s : Anodes
@@ -56,7 +55,7 @@ module _ {img counts firsts nexts : List ℕ} (l : Loaded img counts firsts next
 
   module _ (file : e .dir ≡ false) (t : Anodes) (ys : List ℕ) (plan : resizePlan img s (e .anode) (blocksFor size) ≡ planned t ys) where
     p : PlannedResize img e size t ys
-    p = record { blocks = diskSize img; anodes = limit; accepted = l .accepted; home = r .0; reached = r .1; member = r .2; file = file; plan = plan }
+    p = planned-change l e r (record { file = file; steps = plan })
 
     -- the links that show_heads asks for
     pub resized-view : View limit (t .next) (t .block)
