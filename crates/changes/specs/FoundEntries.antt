@@ -22,6 +22,7 @@ use Rattle.directory.proofs.Laws.{FoundAt, found-at, end-at}
 use Rattle.rules.specs.Counting.{anyIn}
 use Rattle.rules.specs.Walk.{Entered, withRest, entriesFrom}
 use Rattle.rules.specs.Changes.{endFrom}
+use Rattle.changes.specs.Members.{no-member}
 
 -- parts of two lists of bytes that agree byte for byte
 pub part-same : (l m : List ℕ) (k j n : ℕ) → k + n ≤ length l → j + n ≤ length m → ((i : ℕ) → i < n → getD l (k + i) 0 ≡ getD m (j + i) 0) → take n (drop k l) ≡ take n (drop j m)
@@ -138,39 +139,44 @@ end-bounds b y (suc m) at u l f = elim (unbroken-cases b y m at u) [
       rw (end-more b y m at (e .0) (e .1)) (omega (arith, r .0), r .1, r .2))
 ]
 
-no-fuel : (b : List ℕ) (y at : ℕ) → entriesFrom 0 b y at ≡ []
-unfolding entriesFrom
-no-fuel b y at = refl
+-- the first of the entries from a place on, found there
+pub record FirstFound (b : List ℕ) (y m at : ℕ) (e : Entered) (behind : List Entered) : Type 0 where
+  pub entry : Entry
+  pub walked : walkedAt b at ≡ Found entry
+  pub is : enteredAt entry (y * 512 + at) ≡ e
+  pub rest : entriesFrom m b y (at + getD b at 0) ≡ behind
+  pub unbroken : anyIn (λ f. f .broken) (entriesFrom m b y (at + getD b at 0)) ≡ false
+
+pub first-found : (b : List ℕ) (y m at : ℕ) (e : Entered) (l : List Entered) → entriesFrom (suc m) b y at ≡ e ∷ l → anyIn (λ f. f .broken) (entriesFrom (suc m) b y at) ≡ false → FirstFound b y m at e l
+first-found b y m at e l i u = elim (unbroken-cases b y m at u) [
+  | inl o ↦ absurd (cons≢nil (sym i ∙ found-none b y m at o))
+  | inr o ↦ (let c = sym (found-more b y m at (o .0) (o .1)) ∙ i in record { entry = o .0; walked = o .1; is = head-eq-of-cons-eq c; rest = tail-eq-of-cons-eq c; unbroken = o .2 })
+]
+
+-- by its place
+pub first-here : {b : List ℕ} {y m p : ℕ} {e : Entered} {l : List Entered} → FirstFound b y m p e l → (at : ℕ) → e .place ≡ y * 512 + at → p ≡ at
+first-here o at place = omega (arith, ap (λ (d : Entered). d .place) (o .is), place)
 
 -- the places grow
 pub place-after : (b : List ℕ) (y : ℕ) (xs : List Entered) (e : Entered) (ys : List Entered) (k at : ℕ) → entriesFrom k b y at ≡ xs ++ (e ∷ ys) →
     anyIn (λ f. f .broken) (entriesFrom k b y at) ≡ false → y * 512 + at ≤ e .place
-place-after b y [] e ys zero at i u = absurd (cons≢nil (sym i ∙ no-fuel b y at))
-place-after b y (x ∷ xs) e ys zero at i u = absurd (cons≢nil (sym i ∙ no-fuel b y at))
-place-after b y [] e ys (suc m) at i u = elim (unbroken-cases b y m at u) [
-  | inl o ↦ absurd (cons≢nil (sym i ∙ found-none b y m at o))
-  | inr o ↦ omega (arith, ap (λ (d : Entered). d .place) (head-eq-of-cons-eq (sym (found-more b y m at (o .0) (o .1)) ∙ i)))
-]
-place-after b y (x ∷ xs) e ys (suc m) at i u = elim (unbroken-cases b y m at u) [
-  | inl o ↦ absurd (cons≢nil (sym i ∙ found-none b y m at o))
-  | inr o ↦ omega (arith, place-after b y xs e ys m (at + getD b at 0) (tail-eq-of-cons-eq (sym (found-more b y m at (o .0) (o .1)) ∙ i)) (o .2))
-]
+unfolding entriesFrom
+place-after b y xs e ys zero at i u = absurd (no-member e (xs, ys, i))
+place-after b y [] e ys (suc m) at i u = omega (arith, ap (λ (d : Entered). d .place) (first-found b y m at e ys i u .is))
+place-after b y (x ∷ xs) e ys (suc m) at i u = let o = first-found b y m at x (xs ++ (e ∷ ys)) i u in omega (arith, place-after b y xs e ys m (at + getD b at 0) (o .rest) (o .unbroken))
 
 -- an entry ends before the next begins
 pub place-order : (b : List ℕ) (y at : ℕ) (f e : Entered) → f .place ≡ y * 512 + at → (vs ys us : List Entered) (k p : ℕ) → entriesFrom k b y p ≡ us ++ (f ∷ (vs ++ (e ∷ ys))) →
     anyIn (λ g. g .broken) (entriesFrom k b y p) ≡ false → y * 512 + (at + getD b at 0) ≤ e .place
-place-order b y at f e place vs ys [] zero p i u = absurd (cons≢nil (sym i ∙ no-fuel b y p))
-place-order b y at f e place vs ys (x ∷ us) zero p i u = absurd (cons≢nil (sym i ∙ no-fuel b y p))
-place-order b y at f e place vs ys [] (suc m) p i u = elim (unbroken-cases b y m p u) [
-  | inl o ↦ absurd (cons≢nil (sym i ∙ found-none b y m p o))
-  | inr o ↦ (let c = sym (found-more b y m p (o .0) (o .1)) ∙ i in
-      let here : p ≡ at = omega (arith, ap (λ (d : Entered). d .place) (head-eq-of-cons-eq c), place) in
-      rw here at (place-after b y vs e ys m (p + getD b p 0) (tail-eq-of-cons-eq c) (o .2)))
-]
-place-order b y at f e place vs ys (x ∷ us) (suc m) p i u = elim (unbroken-cases b y m p u) [
-  | inl o ↦ absurd (cons≢nil (sym i ∙ found-none b y m p o))
-  | inr o ↦ place-order b y at f e place vs ys us m (p + getD b p 0) (tail-eq-of-cons-eq (sym (found-more b y m p (o .0) (o .1)) ∙ i)) (o .2)
-]
+unfolding entriesFrom
+place-order b y at f e place vs ys us zero p i u = absurd (no-member f (us, vs ++ (e ∷ ys), i))
+place-order b y at f e place vs ys [] (suc m) p i u =
+    let o = first-found b y m p f (vs ++ (e ∷ ys)) i u in
+    let here = first-here o at place in
+    rw here at (place-after b y vs e ys m (p + getD b p 0) (o .rest) (o .unbroken))
+place-order b y at f e place vs ys (x ∷ us) (suc m) p i u =
+    let o = first-found b y m p x (us ++ (f ∷ (vs ++ (e ∷ ys)))) i u in
+    place-order b y at f e place vs ys us m (p + getD b p 0) (o .rest) (o .unbroken)
 
 -- an entry of the list is found at its place, before the end mark
 pub record Standing (b : List ℕ) (y at end : ℕ) (e : Entered) : Type 0 where
@@ -196,15 +202,11 @@ module _ (b : List ℕ) (y m p : ℕ) (x : Entry) (w : walkedAt b p ≡ Found x)
 pub entry-standing : (b : List ℕ) (y at : ℕ) (e : Entered) → e .place ≡ y * 512 + at → (ys xs : List Entered) (k p : ℕ) → entriesFrom k b y p ≡ xs ++ (e ∷ ys) →
     anyIn (λ f. f .broken) (entriesFrom k b y p) ≡ false → p ≤ 510 → 520 ≤ p + 18 * k → Standing b y at (endFrom k b p) e
 entry-standing b y at e place ys xs zero p i u l f = absurd (omega (arith, l, f))
-entry-standing b y at e place ys [] (suc m) p i u l f = elim (unbroken-cases b y m p u) [
-  | inl o ↦ absurd (cons≢nil (sym i ∙ found-none b y m p o))
-  | inr o ↦ (let c = head-eq-of-cons-eq (sym (found-more b y m p (o .0) (o .1)) ∙ i) in
-      let here : p ≡ at = omega (arith, ap (λ (d : Entered). d .place) c, place) in
-      subst (λ (q : ℕ). Standing b y q (endFrom (suc m) b p) e) here (standing-first b y m p (o .0) (o .1) (o .2) f e c))
-]
-entry-standing b y at e place ys (z ∷ zs) (suc m) p i u l f = elim (unbroken-cases b y m p u) [
-  | inl o ↦ absurd (cons≢nil (sym i ∙ found-none b y m p o))
-  | inr o ↦ (let g = found-at b p (o .0) (o .1) in
-      standing-later b y m p (o .0) (o .1) (o .2) f at e
-      (entry-standing b y at e place ys zs m (p + getD b p 0) (tail-eq-of-cons-eq (sym (found-more b y m p (o .0) (o .1)) ∙ i)) (o .2) (g .room) (omega (arith, f, g .long))))
-]
+entry-standing b y at e place ys [] (suc m) p i u l f =
+    let o = first-found b y m p e ys i u in
+    let here = first-here o at place in
+    subst (λ (q : ℕ). Standing b y q (endFrom (suc m) b p) e) here (standing-first b y m p (o .entry) (o .walked) (o .unbroken) f e (o .is))
+entry-standing b y at e place ys (z ∷ zs) (suc m) p i u l f =
+    let o = first-found b y m p z (zs ++ (e ∷ ys)) i u in
+    let g = found-at b p (o .entry) (o .walked) in
+    standing-later b y m p (o .entry) (o .walked) (o .unbroken) f at e (entry-standing b y at e place ys zs m (p + getD b p 0) (o .rest) (o .unbroken) (g .room) (omega (arith, f, g .long)))

@@ -3,7 +3,7 @@ use Prim.Native.Nat.{ℕ, zero, suc, _+_, _-_, _*_, _≤_, _<_}
 use mathlib.Core.Path.{_≡_, refl, sym, ap, _∙_}
 use mathlib.Core.Logic.{inl, inr}
 use mathlib.Core.Bool.{false}
-use mathlib.Core.List.{List, [], _∷_, _++_, map, cons≢nil, append-assoc, head-eq-of-cons-eq, tail-eq-of-cons-eq}
+use mathlib.Core.List.{List, [], _∷_, _++_, map, append-assoc}
 use native.Mathlib.Omega.{arith}
 use lib.ListN.{length, getD, take, drop, replicate, length-append, length-drop, length-replicate, getD-replicate, List·getD-append}
 use lib.Seq.{getD-take, getD-drop, length-take-le, getD-append-add}
@@ -14,7 +14,7 @@ use Rattle.directory.proofs.Laws.{found-at}
 use Rattle.rules.specs.Counting.{anyIn}
 use Rattle.rules.specs.Walk.{Entered, entriesFrom}
 use Rattle.rules.specs.Changes.{endFrom, entriesEnd, gapClosed}
-use Rattle.changes.specs.FoundEntries.{part-same, head-same, walked-same, Standing, entry-standing, found-more, found-none, unbroken-cases, end-more, end-here, end-bounds, place-after, place-order}
+use Rattle.changes.specs.FoundEntries.{part-same, head-same, walked-same, Standing, entry-standing, found-more, found-none, unbroken-cases, end-more, end-here, end-bounds, first-found, first-here, place-after, place-order}
 use Rattle.changes.specs.Members.{Member}
 
 -- the same entry, so many bytes earlier
@@ -64,24 +64,20 @@ module _ (b b′ : List ℕ) (y at len end : ℕ) (whole : length b ≡ 512) (wh
     closed : (xs : List Entered) (k p : ℕ) → entriesFrom k b y p ≡ xs ++ (e ∷ ys) → anyIn (λ f. f .broken) (entriesFrom k b y p) ≡ false → p ≤ 510 → 520 ≤ p + 18 * k →
         endFrom k b p ≡ end → entriesFrom k b′ y p ≡ xs ++ map (lowered len) ys
     closed xs zero p i u r f q = absurd (omega (arith, r, f))
-    closed [] (suc m) p i u r f q = elim (unbroken-cases b y m p u) [
-      | inl o ↦ absurd (cons≢nil (sym i ∙ found-none b y m p o))
-      | inr o ↦ (let g = found-at b p (o .0) (o .1) in
-          let c = sym (found-more b y m p (o .0) (o .1)) ∙ i in
-          let here : p ≡ at = omega (arith, ap (λ (d : Entered). d .place) (head-eq-of-cons-eq c), place) in
-          let next : p + getD b p 0 ≡ at + len = rw here (ap (λ (n : ℕ). at + n) its-length) in
-          rw here (moved m at (omega arith) (rw next at (o .2)) (omega (arith, g .room, next)) (omega (arith, f, g .long, next)) (rw next at (sym (end-more b y m p (o .0) (o .1)) ∙ q)))
-          ∙ ap (map (lowered len)) (rw next at (tail-eq-of-cons-eq c)))
-    ]
-    closed (z ∷ zs) (suc m) p i u r f q = elim (unbroken-cases b y m p u) [
-      | inl o ↦ absurd (cons≢nil (sym i ∙ found-none b y m p o))
-      | inr o ↦ (let g = found-at b p (o .0) (o .1) in
-          let c = sym (found-more b y m p (o .0) (o .1)) ∙ i in
-          let before : p + getD b p 0 ≤ at = omega (arith, place, place-after b y zs e ys m (p + getD b p 0) (tail-eq-of-cons-eq c) (o .2)) in
-          let same : getD b′ p 0 ≡ getD b p 0 = front p (omega (arith, before, g .long)) in
-          found-more b′ y m p (o .0) (walked-same b b′ p p whole whole′ g (g .room) (λ i l. front (p + i) (omega arith)) ∙ o .1)
-          ∙ rw (same, head-eq-of-cons-eq c, closed zs m (p + getD b p 0) (tail-eq-of-cons-eq c) (o .2) (g .room) (omega (arith, f, g .long)) (sym (end-more b y m p (o .0) (o .1)) ∙ q)))
-    ]
+    closed [] (suc m) p i u r f q =
+        let o = first-found b y m p e ys i u in
+        let g = found-at b p (o .entry) (o .walked) in
+        let here = first-here o at place in
+        let next : p + getD b p 0 ≡ at + len = rw here (ap (λ (n : ℕ). at + n) its-length) in
+        rw here (moved m at (omega arith) (rw next at (o .unbroken)) (omega (arith, g .room, next)) (omega (arith, f, g .long, next)) (rw next at (sym (end-more b y m p (o .entry) (o .walked)) ∙ q)))
+        ∙ ap (map (lowered len)) (rw next at (o .rest))
+    closed (z ∷ zs) (suc m) p i u r f q =
+        let o = first-found b y m p z (zs ++ (e ∷ ys)) i u in
+        let g = found-at b p (o .entry) (o .walked) in
+        let before : p + getD b p 0 ≤ at = omega (arith, place, place-after b y zs e ys m (p + getD b p 0) (o .rest) (o .unbroken)) in
+        let same : getD b′ p 0 ≡ getD b p 0 = front p (omega (arith, before, g .long)) in
+        found-more b′ y m p (o .entry) (walked-same b b′ p p whole whole′ g (g .room) (λ i l. front (p + i) (omega arith)) ∙ o .walked)
+        ∙ rw (same, o .is, closed zs m (p + getD b p 0) (o .rest) (o .unbroken) (g .room) (omega (arith, f, g .long)) (sym (end-more b y m p (o .entry) (o .walked)) ∙ q))
 
 -- ---- the bytes of the block
 

@@ -5,6 +5,7 @@ pub mod Image
 pub mod FoundEntries
 pub mod Reached
 pub mod SingleBlocks
+pub mod PlannedChange
 pub mod NamedOnce
 pub mod SameItems
 pub mod EntryBytes

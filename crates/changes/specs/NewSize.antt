@@ -1,9 +1,9 @@
 -- A directory block with another size in one of its entries: that entry has the size, and nothing else changes.
 use Prim.Native.Nat.{ℕ, zero, suc, _+_, _*_, _/_, _%_, _≤_, _<_}
-use mathlib.Core.Path.{_≡_, refl, sym, ap, _∙_}
+use mathlib.Core.Path.{_≡_, refl, sym, ap, ap₂, _∙_}
 use mathlib.Core.Logic.{_⊎_, inl, inr}
 use mathlib.Core.Bool.{Bool, true, false, cond}
-use mathlib.Core.List.{List, [], _∷_, _++_, cons≢nil, head-eq-of-cons-eq, tail-eq-of-cons-eq}
+use mathlib.Core.List.{List, [], _∷_, _++_}
 use native.Mathlib.Omega.{arith}
 use lib.Dec.{eqb}
 use lib.ListN.{length, getD, drop}
@@ -22,7 +22,7 @@ use Rattle.directory.proofs.Laws.{found-at, end-at}
 use Rattle.rules.specs.Counting.{anyIn}
 use Rattle.rules.specs.Walk.{Entered, entriesFrom}
 use Rattle.changes.specs.Members.{no-member}
-use Rattle.changes.specs.FoundEntries.{head-same, walked-same, found-more, found-none, unbroken-cases, place-after}
+use Rattle.changes.specs.FoundEntries.{head-same, walked-same, enteredAt, found-more, found-none, unbroken-cases, first-found, first-here, place-after}
 
 -- the same entry with another size
 abbrev pub sized : ℕ → Entered → Entered
@@ -137,28 +137,22 @@ module _ (b : List ℕ) (y at new : ℕ) (whole : length b ≡ 512) (e : Entered
       entriesFrom k (put32 b (at + 4) new) y p ≡ xs ++ (sized new e ∷ ys)
   unfolding entriesFrom
   entries-sized xs zero p i u = absurd (no-member e (xs, ys, i))
-  entries-sized [] (suc m) p i u = elim (unbroken-cases b y m p u) [
-    | inl o ↦ absurd (cons≢nil (sym i ∙ found-none b y m p o))
-    | inr o ↦ (let c = sym (found-more b y m p (o .0) (o .1)) ∙ i in
-        let here : p ≡ at = omega (arith, ap (λ (d : Entered). d .place) (head-eq-of-cons-eq c), place) in
-        let x : walkedAt b at ≡ Found (o .0) = rw here at (o .1) in
-        let g = found-at b at (o .0) x in
-        ap (entriesFrom (suc m) (b′ b at new whole) y) here
-        ∙ found-more (b′ b at new whole) y m at (withNew new (o .0)) (walked-new b at new whole (omega (arith, g .long, g .room)) ∙ ap (onFound new) x)
-        ∙ rw (
-          others b at new whole at (inl (omega arith)),
-          entries-later b (b′ b at new whole) y whole whole′ m (at + getD b at 0) (λ i l. others b at new whole i (inr (omega (arith, l, g .long)))) (rw here at (o .2)),
-          ← (tail-eq-of-cons-eq c),
-          ← (head-eq-of-cons-eq c),
-          here,
-        ))
-  ]
-  entries-sized (z ∷ zs) (suc m) p i u = elim (unbroken-cases b y m p u) [
-    | inl o ↦ absurd (cons≢nil (sym i ∙ found-none b y m p o))
-    | inr o ↦ (let g = found-at b p (o .0) (o .1) in
-        let c = sym (found-more b y m p (o .0) (o .1)) ∙ i in
-        let before : p + getD b p 0 ≤ at = omega (arith, place, place-after b y zs e ys m (p + getD b p 0) (tail-eq-of-cons-eq c) (o .2)) in
-        found-more (b′ b at new whole) y m p (o .0)
-        (walked-same b (b′ b at new whole) p p whole whole′ g (g .room) (λ i l. others b at new whole (p + i) (inl (omega arith))) ∙ o .1)
-        ∙ rw (others b at new whole p (inl (omega (arith, before, g .long))), head-eq-of-cons-eq c, entries-sized zs m (p + getD b p 0) (tail-eq-of-cons-eq c) (o .2)))
-  ]
+  entries-sized [] (suc m) p i u =
+      let o = first-found b y m p e ys i u in
+      let here = first-here o at place in
+      let x = ap (walkedAt b) (sym here) ∙ o .walked in
+      let g = found-at b at (o .entry) x in
+      ap (entriesFrom (suc m) (b′ b at new whole) y) here
+      ∙ found-more (b′ b at new whole) y m at (withNew new (o .entry)) (walked-new b at new whole (omega (arith, g .long, g .room)) ∙ ap (onFound new) x)
+      ∙ rw (
+        others b at new whole at (inl (omega arith)),
+        entries-later b (b′ b at new whole) y whole whole′ m (at + getD b at 0) (λ i l. others b at new whole i (inr (omega (arith, l, g .long)))) (rw here at (o .unbroken)),
+      )
+      (ap₂ _∷_ (ap (λ (q : ℕ). sized new (enteredAt (o .entry) (y * 512 + q))) (sym here) ∙ ap (sized new) (o .is)) (rw here at (o .rest)))
+  entries-sized (z ∷ zs) (suc m) p i u =
+      let o = first-found b y m p z (zs ++ (e ∷ ys)) i u in
+      let g = found-at b p (o .entry) (o .walked) in
+      let before : p + getD b p 0 ≤ at = omega (arith, place, place-after b y zs e ys m (p + getD b p 0) (o .rest) (o .unbroken)) in
+      found-more (b′ b at new whole) y m p (o .entry)
+      (walked-same b (b′ b at new whole) p p whole whole′ g (g .room) (λ i l. others b at new whole (p + i) (inl (omega arith))) ∙ o .walked)
+      ∙ rw (others b at new whole p (inl (omega (arith, before, g .long))), o .is, entries-sized zs m (p + getD b p 0) (o .rest) (o .unbroken))

@@ -205,6 +205,9 @@ module _ {img : List ℕ} {h : ℕ} {e : Entered} (f : EntryFacts img h e) where
   pub block-unbroken : anyIn (λ c. c .broken) (entriesIn img (e .place / 512)) ≡ false
   block-unbroken = rw (f .in-block) (f .block-facts .unbroken)
 
+  pub block-data : DataBlock img (e .place / 512)
+  block-data = rw (f .in-block) (f .block-facts .is-data)
+
   -- the entries before it, and those behind it
   pub parted : Member e (entriesIn img (e .place / 512))
   parted = rw (f .in-block) (f .member)

@@ -30,7 +30,8 @@ use Rattle.changes.specs.Members.{Member}
 use Rattle.changes.specs.Reached.{EntryFacts, entry-facts}
 use Rattle.changes.specs.Reached as Reached
 use Rattle.changes.specs.Gap.{lowered}
-use Rattle.changes.specs.RemoveStores.{PlannedRemove, w, facts, kept-data, entries-left, marks-left, apart}
+use Rattle.changes.specs.PlannedChange.{w, facts}
+use Rattle.changes.specs.RemoveStores.{PlannedRemove, kept-data, entries-left, marks-left, apart}
 use Rattle.changes.specs.RemoveStores as Stores
 
 module _ {img : List ℕ} {e : Entered} {t : Anodes} {ys : List ℕ} (p : PlannedRemove img e t ys) where

@@ -9,26 +9,26 @@ use lib.ListN.{take}
 use Rattle.disk.specs.Blocks.{blockOf}
 use Rattle.rules.specs.Counting.{oneAt, times, gather}
 use Rattle.rules.specs.Anodes.{Anodes, limit, exists, anodesOf}
-use Rattle.rules.specs.Chains.{chainOf, blocksOf, systemOwns}
+use Rattle.rules.specs.Chains.{chainOf, blocksOf}
 use Rattle.rules.specs.Walk.{Entered, entriesIn, reachedDirs}
-use Rattle.rules.specs.Accepted.{diskSize, lastReserved}
+use Rattle.rules.specs.Accepted.{lastReserved}
 use Rattle.rules.specs.Lookup.{noDirectory, entriesOf, notEmpty, bytesOf, contents}
-use Rattle.rules.specs.Space.{onChain, dropped}
+use Rattle.rules.specs.Space.{dropped}
 use Rattle.rules.specs.Changes.{removedImage}
-use Rattle.laws.specs.LinkChanges.{without}
 use Rattle.laws.specs.Heads.{Head}
-use Rattle.laws.specs.Space.{Alike, Good}
+use Rattle.laws.specs.Space.{Alike}
 use Rattle.laws.specs.TreeChanges.{headed}
 use Rattle.laws.specs.ChainBlocks.{extent-alike, kept-blocks}
 use Rattle.laws.specs.Remove as Laws
 use Rattle.frames.specs.Kept.{entriesIn-kept}
-use Rattle.frames.specs.DisjointBlocks.{chains-apart, chain-block}
+use Rattle.frames.specs.DisjointBlocks.{chain-block}
 use Rattle.frames.specs.StoredBytes.{bytesOf-kept}
 use Rattle.changes.specs.Image.{headIn, reached-sum, headed-same}
 use Rattle.changes.specs.Members.{Member, member-gather, member-times, gather-congr}
-use Rattle.changes.specs.Reached.{block-on, reached-from-5, reached-head, dir-block, place-in, entry-facts, not-file}
+use Rattle.changes.specs.Reached.{reached-from-5, reached-head, dir-block, place-in, entry-facts, not-file}
 use Rattle.changes.specs.EntryBytes.{entryBytes}
-use Rattle.changes.specs.RemoveStores.{PlannedRemove, w, facts, ran, removed-same, removed-anodes, kept-data, apart}
+use Rattle.changes.specs.PlannedChange.{w, facts, off-chain, not-a₀}
+use Rattle.changes.specs.RemoveStores.{PlannedRemove, ran, end-good, removed-same, removed-anodes, kept-data, apart}
 use Rattle.changes.specs.Remove.{left-whole, planned-accepted}
 
 module _ {img : List ℕ} {e : Entered} {t : Anodes} {ys : List ℕ} (p : PlannedRemove img e t ys) where
@@ -46,19 +46,15 @@ module _ {img : List ℕ} {e : Entered} {t : Anodes} {ys : List ℕ} (p : Planne
 
   -- ---- what is left of the chains
 
-  end-good : let dead = onChain limit (exists img) (lastReserved img) t (e .anode) in
-      Good limit (exists img) (diskSize img) (lastReserved img) end (systemOwns img) (without dead (ran p .hd′)) (without dead (ran p .sd′))
-  end-good = Laws.dropped-good (e .anode) (facts p .from-6) (facts p .head) (ran p)
-
   gone : Laws.Gone s (headIn img) end (e .anode)
   gone = Laws.dropped-gone (e .anode) (facts p .from-6) (facts p .head) (ran p)
 
   module _ (m : ℕ) (head : Head (s .next) (s .block) m) (m1 : m ≢ 1) (other : m ≢ e .anode) where
     chain-same : chainOf (end .next) limit m ≡ chainOf (s .next) limit m
-    chain-same = Laws.gone-chain (w p .good) end-good (e .anode) gone m m1 other head
+    chain-same = Laws.gone-chain (w p .good) (end-good p) (e .anode) gone m m1 other head
 
     alike : (a : ℕ) → 0 < times a (chainOf (s .next) limit m) → Alike s end a
-    alike = Laws.gone-alike (w p .good) end-good (e .anode) gone m m1 other head
+    alike = Laws.gone-alike (w p .good) (end-good p) (e .anode) gone m m1 other head
 
     blocks-same : blocksOf end m ≡ blocksOf s m
     blocks-same = kept-blocks s end m chain-same (λ a q. extent-alike (alike a q))
@@ -72,11 +68,8 @@ module _ {img : List ℕ} {e : Entered} {t : Anodes} {ys : List ℕ} (p : Planne
     unfolding bytesOf
     bytes-same o = ap (gather (blockOf j)) blocks-same ∙ bytesOf-kept (kept-data p) s m (λ z q. (
       chain-block img (w p .good) m head z q,
-      λ i. omega (arith, chains-apart (w p .good) m (p .home) head (reached-head img (p .blocks) (p .anodes) (p .accepted) (p .home) (p .reached)) o z q, rw (sym i) at on-home),
+      off-chain p m head o z q,
     ))
-      where
-        on-home : 0 < times y (blocksOf s (p .home))
-        on-home = rw (facts p .in-block) (block-on s (p .home) (facts p .a₀) (facts p .member-chain) (facts p .block-facts .one))
 
   -- every other file has the bytes that it had
   pub contents-kept : (k : ℕ) → noDirectory img s k ≡ false → (f : Entered) → Member f (entriesOf img s k) → f .dir ≡ false → f .anode ≢ e .anode →
@@ -86,10 +79,6 @@ module _ {img : List ℕ} {e : Entered} {t : Anodes} {ys : List ℕ} (p : Planne
       let g = entry-facts img (p .blocks) (p .anodes) (p .accepted) k r f m in
       rw (removed-anodes p) (ap (take (f .size)) (bytes-same (f .anode) (g .head) (λ q. omega (arith, q, g .from-6)) o (λ q. not-file img (p .blocks) (p .anodes) (p .accepted) (p .home) (p .reached) k f g file (sym q))))
 
-  -- the entry's anode is on its own directory's chain alone
-  not-a₀ : (k : ℕ) → noDirectory img s k ≡ false → k ≢ p .home → (a : ℕ) → Member a (chainOf (s .next) limit k) → a ≢ facts p .a₀
-  not-a₀ k r kh a on q = kh (sym (dir-block img (p .blocks) (p .anodes) (p .accepted) k r a on .on-chain) ∙ ap (headIn img) q ∙ facts p .block-facts .on-chain)
-
   -- every other directory has the entries that it had
   pub entries-kept : (k : ℕ) → noDirectory img s k ≡ false → k ≢ p .home → k ≢ e .anode → entriesOf (removedImage img e t ys) (anodesOf (removedImage img e t ys)) k ≡ entriesOf img s k
   unfolding entriesOf
@@ -97,7 +86,7 @@ module _ {img : List ℕ} {e : Entered} {t : Anodes} {ys : List ℕ} (p : Planne
       (entries-from k (reached-head img (p .blocks) (p .anodes) (p .accepted) k r) (λ q. omega (arith, q, reached-from-5 img (p .blocks) (p .anodes) (p .accepted) k r)) o
       ∙ gather-congr (λ a. entriesIn j (s .block a)) (λ a. entriesIn img (s .block a)) (chainOf (s .next) limit k) (λ a on.
       let d = dir-block img (p .blocks) (p .anodes) (p .accepted) k r a on in
-      entriesIn-kept (kept-data p) (s .block a) (apart p a (d .one) (not-a₀ k r kh a on))))
+      entriesIn-kept (kept-data p) (s .block a) (apart p a (d .one) (not-a₀ p k r kh a on))))
 
   -- ---- where the blocks are the same
 
@@ -116,7 +105,7 @@ module _ {img : List ℕ} {e : Entered} {t : Anodes} {ys : List ℕ} (p : Planne
   unfolding entriesOf
   bytes-kept k r kh f m =
       let q = member-gather (λ a. entriesIn img (s .block a)) (chainOf (s .next) limit k) f m in
-      bytes-other k r (q .0) (q .1) (not-a₀ k r kh (q .0) (q .1)) f (q .2) .1
+      bytes-other k r (q .0) (q .1) (not-a₀ p k r kh (q .0) (q .1)) f (q .2) .1
 
   -- ---- the directories
 

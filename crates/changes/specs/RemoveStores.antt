@@ -2,7 +2,6 @@
 use Prim.Native.Nat.{ℕ, _/_, _%_}
 use mathlib.Core.Path.{_≡_, sym, ap, _∙_}
 use mathlib.Core.Logic.{_≢_}
-use mathlib.Core.Bool.{false}
 use mathlib.Core.List.{List, _++_, map}
 use native.Mathlib.Omega.{arith}
 use lib.ListN.{length, getD}
@@ -10,44 +9,31 @@ use Rattle.disk.specs.Blocks.{blockOf}
 use Rattle.directory.specs.Entries.{directoryHeadIn}
 use Rattle.rules.specs.Anodes.{Anodes, limit, exists, anodesOf, withAnodes}
 use Rattle.rules.specs.Chains.{blockCount, systemOwns}
-use Rattle.rules.specs.Walk.{Dir, Entered, entriesFrom, entriesIn, isBlockOf, reachedDirs}
-use Rattle.rules.specs.Accepted.{diskSize, lastReserved, checkAnswer}
-use Rattle.rules.specs.Lookup.{noDirectory, entriesOf}
-use Rattle.rules.specs.Space.{planned, giveMany, dropped}
+use Rattle.rules.specs.Walk.{Dir, Entered, entriesFrom, entriesIn, isBlockOf}
+use Rattle.rules.specs.Accepted.{diskSize, lastReserved}
+use Rattle.rules.specs.Space.{planned, giveMany, onChain, dropped}
 use Rattle.rules.specs.Changes.{entriesEnd, gapClosed, withoutEntry, removedImage}
+use Rattle.laws.specs.LinkChanges.{without}
+use Rattle.laws.specs.Space.{Good}
 use Rattle.laws.specs.Whole.{blocks-count}
 use Rattle.laws.specs.Resize.{Ran, shrink-ran}
 use Rattle.laws.specs.Remove.{dropped-good}
 use Rattle.frames.specs.Kept.{Kept, kept-both}
 use Rattle.frames.specs.StoredBlocks.{inBlock-kept, blockOf-inBlock}
 use Rattle.frames.specs.DisjointBlocks.{DataBlock}
-use Rattle.changes.specs.Image.{WholeImage, headIn, sideIn, accepted-whole, SameDisk, stored-kept, stored-same, stored-anodes, not-one, same-then, anodes-then}
-use Rattle.changes.specs.Members.{Member}
-use Rattle.changes.specs.Reached.{EntryFacts, block-whole, block-unbroken, parted, entry-facts}
-use Rattle.changes.specs.SingleBlocks.{single-apart, single-data}
+use Rattle.changes.specs.Image.{headIn, sideIn, SameDisk, stored-kept, stored-same, stored-anodes, not-one, same-then, anodes-then}
+use Rattle.changes.specs.Reached.{block-whole, block-unbroken, block-data, parted}
+use Rattle.changes.specs.SingleBlocks.{single-data}
+use Rattle.changes.specs.PlannedChange.{PlannedChange, w, facts, not-1, off-anode}
 use Rattle.changes.specs.Gap.{lowered, length-closed, head-closed, entries-closed}
 
 -- a removal of an entry of an accepted image, and the steps that were planned
-pub record PlannedRemove (img : List ℕ) (e : Entered) (t : Anodes) (ys : List ℕ) : Type 0 where
-  pub blocks : ℕ
-  pub anodes : ℕ
-  pub accepted : checkAnswer img blocks anodes ≡ 0
-  -- the directory that has the entry
-  pub home : ℕ
-  pub reached : noDirectory img (anodesOf img) home ≡ false
-  pub member : Member e (entriesOf img (anodesOf img) home)
-  pub plan : giveMany limit (exists img) (lastReserved img) (blockCount (anodesOf img) (e .anode)) (anodesOf img) (e .anode) ≡ planned t ys
+abbrev pub PlannedRemove : List ℕ → Entered → Anodes → List ℕ → Type 0
+PlannedRemove img e t ys = PlannedChange img e (giveMany limit (exists img) (lastReserved img) (blockCount (anodesOf img) (e .anode)) (anodesOf img) (e .anode) ≡ planned t ys)
 
 module _ {img : List ℕ} {e : Entered} {t : Anodes} {ys : List ℕ} (p : PlannedRemove img e t ys) where
   abbrev s : Anodes
   s = anodesOf img
-
-  pub w : WholeImage img s (headIn img) (sideIn img) (reachedDirs img s)
-  w = accepted-whole img (p .blocks) (p .anodes) (p .accepted)
-
-  -- what is known of the entry
-  abbrev pub facts : EntryFacts img (p .home) e
-  facts = entry-facts img (p .blocks) (p .anodes) (p .accepted) (p .home) (p .reached) e (p .member)
 
   -- ---- the block that the entry stands in, and where
 
@@ -60,9 +46,6 @@ module _ {img : List ℕ} {e : Entered} {t : Anodes} {ys : List ℕ} (p : Planne
   abbrev at : ℕ
   at = e .place % 512
 
-  y-data : DataBlock img y
-  y-data = rw (facts .in-block) (facts .block-facts .is-data)
-
   abbrev len : ℕ
   len = getD b at 0
 
@@ -71,15 +54,15 @@ module _ {img : List ℕ} {e : Entered} {t : Anodes} {ys : List ℕ} (p : Planne
 
   length-block : length closed ≡ 512
   unfolding entriesIn
-  length-block = length-closed b y at (block-whole facts) (parted facts .0) e (parted facts .1) (parted facts .2) (block-unbroken facts) (omega arith)
+  length-block = length-closed b y at (block-whole (facts p)) (parted (facts p) .0) e (parted (facts p) .1) (parted (facts p) .2) (block-unbroken (facts p)) (omega arith)
 
   head-block : directoryHeadIn closed ≡ directoryHeadIn b
   unfolding entriesIn
-  head-block = head-closed b y at (block-whole facts) (parted facts .0) e (parted facts .1) (parted facts .2) (block-unbroken facts) (omega arith)
+  head-block = head-closed b y at (block-whole (facts p)) (parted (facts p) .0) e (parted (facts p) .1) (parted (facts p) .2) (block-unbroken (facts p)) (omega arith)
 
-  entries-block : entriesFrom 28 closed y 16 ≡ parted facts .0 ++ map (lowered len) (parted facts .1)
+  entries-block : entriesFrom 28 closed y 16 ≡ parted (facts p) .0 ++ map (lowered len) (parted (facts p) .1)
   unfolding entriesIn
-  entries-block = entries-closed b y at (block-whole facts) (parted facts .0) e (parted facts .1) (parted facts .2) (block-unbroken facts) (omega arith)
+  entries-block = entries-closed b y at (block-whole (facts p)) (parted (facts p) .0) e (parted (facts p) .1) (parted (facts p) .2) (block-unbroken (facts p)) (omega arith)
 
   -- ---- its stores, one after the other
 
@@ -93,18 +76,22 @@ module _ {img : List ℕ} {e : Entered} {t : Anodes} {ys : List ℕ} (p : Planne
   j = removedImage img e t ys
 
   pub ran : Ran limit (exists img) (diskSize img) (lastReserved img) s (systemOwns img) (headIn img) (e .anode) 1 (e .anode) 0 ys t
-  ran = shrink-ran (blockCount s (e .anode)) (e .anode) (λ q. omega (arith, q, facts .from-6)) t ys s (systemOwns img) (headIn img) (sideIn img) 0 (omega (arith, blocks-count (w .good) (e .anode) (facts .head))) (w .good) (facts .head)
+  ran = shrink-ran (blockCount s (e .anode)) (e .anode) (not-1 p) t ys s (systemOwns img) (headIn img) (sideIn img) 0 (omega (arith, blocks-count (w p .good) (e .anode) (facts p .head))) (w p .good) (facts p .head)
       (p .plan)
 
+  pub end-good : let dead = onChain limit (exists img) (lastReserved img) t (e .anode) in
+      Good limit (exists img) (diskSize img) (lastReserved img) (dropped limit (exists img) (lastReserved img) t (e .anode)) (systemOwns img) (without dead (ran .hd′)) (without dead (ran .sd′))
+  end-good = dropped-good (e .anode) (facts p .from-6) (facts p .head) ran
+
   same-block : blockOf stored y ≡ b
-  same-block = stored-kept img (p .blocks) (p .anodes) (p .accepted) end .block-kept y (y-data .unheld)
+  same-block = stored-kept img (p .blocks) (p .anodes) (p .accepted) end .block-kept y (block-data (facts p) .unheld)
 
   closer : List ℕ → List ℕ
   closer c = gapClosed c at (getD c at 0) (entriesEnd c)
 
   long : length (closer (blockOf stored y)) ≡ length (blockOf stored y)
   unfolding closer
-  long = rw same-block (length-block ∙ sym (block-whole facts))
+  long = rw same-block (length-block ∙ sym (block-whole (facts p)))
 
   kept-last : Kept (λ d. d ≢ y) stored j
   unfolding removedImage withoutEntry closer
@@ -115,19 +102,19 @@ module _ {img : List ℕ} {e : Entered} {t : Anodes} {ys : List ℕ} (p : Planne
   block-left = blockOf-inBlock stored y closer long ∙ ap closer same-block
 
   pub removed-same : SameDisk img (removedImage img e t ys)
-  removed-same = same-then (stored-same img (p .blocks) (p .anodes) (p .accepted) end) kept-last (not-one y-data)
+  removed-same = same-then (stored-same img (p .blocks) (p .anodes) (p .accepted) end) kept-last (not-one (block-data (facts p)))
 
   pub removed-anodes : anodesOf (removedImage img e t ys) ≡ dropped limit (exists img) (lastReserved img) t (e .anode)
   removed-anodes =
-      anodes-then (stored-same img (p .blocks) (p .anodes) (p .accepted) end) kept-last (not-one y-data)
-      ∙ stored-anodes img (p .blocks) (p .anodes) (p .accepted) end (dropped-good (e .anode) (facts .from-6) (facts .head) ran)
+      anodes-then (stored-same img (p .blocks) (p .anodes) (p .accepted) end) kept-last (not-one (block-data (facts p)))
+      ∙ stored-anodes img (p .blocks) (p .anodes) (p .accepted) end end-good
 
   -- ---- the entries and marks of the blocks
 
   pub kept-data : Kept (λ d. DataBlock img d × (d ≢ y)) img j
   kept-data = kept-both (λ d o. o .0 .unheld) (λ d o. o .1) (stored-kept img (p .blocks) (p .anodes) (p .accepted) end) kept-last
 
-  pub entries-left : entriesIn j y ≡ parted facts .0 ++ map (lowered len) (parted facts .1)
+  pub entries-left : entriesIn j y ≡ parted (facts p) .0 ++ map (lowered len) (parted (facts p) .1)
   unfolding entriesIn
   entries-left = rw block-left entries-block
 
@@ -136,5 +123,5 @@ module _ {img : List ℕ} {e : Entered} {t : Anodes} {ys : List ℕ} (p : Planne
   marks-left d = rw (block-left, head-block)
 
   -- the block of another anode that has one
-  pub apart : (a : ℕ) → s .count a ≡ 1 → a ≢ facts .a₀ → DataBlock img (s .block a) × (s .block a ≢ y)
-  apart a one q = (single-data img (w .good) a one, λ i. single-apart (w .good) a one (facts .a₀) (facts .block-facts .one) q (i ∙ facts .in-block))
+  pub apart : (a : ℕ) → s .count a ≡ 1 → a ≢ facts p .a₀ → DataBlock img (s .block a) × (s .block a ≢ y)
+  apart a one q = (single-data img (w p .good) a one, off-anode p a one q)

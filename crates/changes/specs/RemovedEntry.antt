@@ -16,14 +16,14 @@ use Rattle.rules.specs.Chains.{chainOf}
 use Rattle.rules.specs.Walk.{Entered, entriesIn}
 use Rattle.rules.specs.Lookup.{entriesOf, notEmpty}
 use Rattle.rules.specs.Changes.{entriesEnd, gapClosed, removedImage}
-use Rattle.laws.specs.Heads.{Head}
 use Rattle.laws.specs.ChainBlocks.{gather-append, stands-once}
 use Rattle.frames.specs.Kept.{entriesIn-kept}
 use Rattle.changes.specs.Members.{Member, no-member, member-first, member-later, member-append, member-gather, member-times, gather-congr}
-use Rattle.changes.specs.Reached.{block-whole, block-unbroken, parted, reached-from-5, reached-head, dir-block, place-in, not-file}
+use Rattle.changes.specs.Reached.{block-whole, block-unbroken, parted, reached-from-5, dir-block, place-in, not-file}
 use Rattle.changes.specs.Gap.{lowered, bytes-earlier, bytes-later}
 use Rattle.changes.specs.EntryBytes.{entryBytes, bytes-at, with-length}
-use Rattle.changes.specs.RemoveStores.{PlannedRemove, w, facts, block-left, removed-anodes, kept-data, entries-left, apart}
+use Rattle.changes.specs.PlannedChange.{w, facts, home-head}
+use Rattle.changes.specs.RemoveStores.{PlannedRemove, block-left, removed-anodes, kept-data, entries-left, apart}
 use Rattle.changes.specs.Remove.{no-entry}
 use Rattle.changes.specs.RemoveEffects.{entries-from, bytes-other}
 
@@ -127,12 +127,9 @@ module _ {img : List ℕ} {e : Entered} {t : Anodes} {ys : List ℕ} (p : Planne
   abbrev chain : List ℕ
   chain = chainOf (s .next) limit (p .home)
 
-  home-head : Head (s .next) (s .block) (p .home)
-  home-head = reached-head img (p .blocks) (p .anodes) (p .accepted) (p .home) (p .reached)
-
   -- the entry's anode is none of them
   once : (times (facts p .a₀) front ≡ 0) × (times (facts p .a₀) back ≡ 0)
-  once = stands-once (w p .good) (p .home) home-head (facts p .a₀) front back (facts p .member-chain .2)
+  once = stands-once (w p .good) (p .home) (home-head p) (facts p .a₀) front back (facts p .member-chain .2)
 
   in-front : (a : ℕ) → Member a front → Member a chain × (a ≢ facts p .a₀)
   in-front a m = (member-front a (facts p .a₀) front back chain (facts p .member-chain .2) m, λ q. omega (arith, once .0, member-times (facts p .a₀) front (rw q at m)))
@@ -192,7 +189,7 @@ module _ {img : List ℕ} {e : Entered} {t : Anodes} {ys : List ℕ} (p : Planne
     new-entries : entriesOf j (anodesOf j) (p .home) ≡ were ++ map (movedUp img e) behind
     unfolding gather
     new-entries = rw (removed-anodes p, all-moved)
-        (entries-from p (p .home) home-head (λ q. omega (arith, q, reached-from-5 img (p .blocks) (p .anodes) (p .accepted) (p .home) (p .reached))) not-itself
+        (entries-from p (p .home) (home-head p) (λ q. omega (arith, q, reached-from-5 img (p .blocks) (p .anodes) (p .accepted) (p .home) (p .reached))) not-itself
         ∙ ap (gather new) (facts p .member-chain .2) ∙ gather-append new front (facts p .a₀ ∷ back)
         ∙ rw (same-along front in-front, same-along back in-back, ← (facts p .in-block), entries-left p) (joined (map (lowered len) later) (gather old back)))
 

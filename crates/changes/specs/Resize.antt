@@ -27,7 +27,8 @@ use Rattle.changes.specs.NamedOnce.{only-here, only-this}
 use Rattle.changes.specs.SameItems.{whole-same}
 use Rattle.changes.specs.NewSize.{sized, head-sized, entries-sized}
 use Rattle.changes.specs.ResizePlan.{plan-refused}
-use Rattle.changes.specs.ResizeStores.{PlannedResize, w, facts, steps, its-head, head-not-1, head-not-file, its-block, other-block, this-block, resized-same, resized-anodes}
+use Rattle.changes.specs.PlannedChange.{w, facts}
+use Rattle.changes.specs.ResizeStores.{PlannedResize, steps, its-head, head-not-1, head-not-file, its-block, other-block, this-block, resized-same, resized-anodes}
 
 -- ---- the entries
 
@@ -121,7 +122,7 @@ module _ {img : List ℕ} {e : Entered} {new : ℕ} {t : Anodes} {ys : List ℕ}
   -- the state after the steps is whole where the entries have the new size
   sizes-whole : Whole (exists img) (diskSize img) (lastReserved img) t (systemOwns img) (steps p .ran .hd′) (steps p .ran .sd′)
       (λ y. map (resizedEntry (e .anode) new) (entriesIn img y)) (isBlockOf img) dirs
-  sizes-whole = Laws.resized (w p) (e .anode) (facts p .file (p .file)) (steps p .ran) (resizedEntry (e .anode) new) (λ y. map (resizedEntry (e .anode) new) (entriesIn img y)) (isBlockOf img)
+  sizes-whole = Laws.resized (w p) (e .anode) (facts p .file (p .plan .file)) (steps p .ran) (resizedEntry (e .anode) new) (λ y. map (resizedEntry (e .anode) new) (entriesIn img y)) (isBlockOf img)
       (resized-fields (e .anode) new) (λ x n. ap (λ (c : Entered). c .size) (resized-other (e .anode) new x n))
       (λ x i. ap (λ (c : Entered). blocksFor (c .size)) (resized-it (e .anode) new x i)) (λ a c q r. (refl, λ d. refl))
 
@@ -149,8 +150,7 @@ resize-accepted img blocks anodes accepted h reached e member file new = go (res
       home = h;
       reached = reached;
       member = member;
-      file = file;
-      plan = q;
+      plan = record { file = file; steps = q };
     })
 
 -- it answers 0, 27 or 28

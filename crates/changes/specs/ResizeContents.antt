@@ -30,11 +30,12 @@ use Rattle.frames.specs.StoredBlocks.{inBlock-kept, blockOf-inBlock}
 use Rattle.frames.specs.StoredBytes.{length-gather, blockOf-withBlocks, bytesOf-kept}
 use Rattle.frames.specs.DisjointBlocks.{chain-once, chains-apart, chain-block}
 use Rattle.changes.specs.Members.{Member, member-first, member-later, member-times, gather-congr}
-use Rattle.changes.specs.Reached.{entry-facts, reached-head, not-file, block-on}
+use Rattle.changes.specs.Reached.{entry-facts, not-file}
 use Rattle.changes.specs.Read.{bytes-long, file-long}
 use Rattle.changes.specs.NewSize.{sized}
 use Rattle.changes.specs.ResizePlan.{handed-data, handed-apart, plan-longer, plan-shorter}
-use Rattle.changes.specs.ResizeStores.{PlannedResize, w, facts, steps, not-1, stored, taken-kept, tail-in, tail-kept, size-kept, left-kept, home-alone, length-blocksOf}
+use Rattle.changes.specs.PlannedChange.{w, facts, not-1, off-chain}
+use Rattle.changes.specs.ResizeStores.{PlannedResize, steps, stored, taken-kept, tail-in, tail-kept, size-kept, left-kept, home-alone, length-blocksOf}
 
 -- the rest of a block cleared
 cleared-rest : (b : List ℕ) (r : ℕ) → length b ≡ 512 → r ≤ 512 → cleared b r (512 - r) ≡ take r b ++ replicate (512 - r) 0
@@ -75,7 +76,6 @@ module _ {img : List ℕ} {e : Entered} {new : ℕ} {t : Anodes} {ys : List ℕ}
   contents-resized-other k r f m file apart =
       let g = entry-facts img (p .blocks) (p .anodes) (p .accepted) k r f m in
       let not-1f : f .anode ≢ 1 = λ i. omega (arith, i, g .from-6) in
-      let home = reached-head img (p .blocks) (p .anodes) (p .accepted) (p .home) (p .reached) in
       let not-home = not-file img (p .blocks) (p .anodes) (p .accepted) (p .home) (p .reached) k f g file in
       ap (λ (l : List ℕ). take (f .size) (gather (blockOf j) l)) (shift-blocks (w p .good) (steps p .ran .good) (steps p .ran .shift) (f .anode) (g .head) not-1f apart)
       ∙ ap (take (f .size)) (bytesOf-kept (left-kept p) s (f .anode) (λ y q. (
@@ -85,11 +85,7 @@ module _ {img : List ℕ} {e : Entered} {new : ℕ} {t : Anodes} {ys : List ℕ}
             handed-apart img (w p .good) (e .anode) (facts p .head) (not-1 p) (steps p) (f .anode) (g .head) not-1f apart y q,
             chains-apart (w p .good) (f .anode) (e .anode) (g .head) (facts p .head) apart y q,
           ),
-          λ i. omega (
-            arith,
-            chains-apart (w p .good) (f .anode) (p .home) (g .head) home (λ i. not-home (sym i)) y q,
-            rw (← (i ∙ facts p .in-block)) at (block-on s (p .home) (facts p .a₀) (facts p .member-chain) (facts p .block-facts .one)),
-          ),
+          off-chain p (f .anode) (g .head) (λ i. not-home (sym i)) y q,
         ),
       )))
 
@@ -105,7 +101,7 @@ module _ {img : List ℕ} {e : Entered} {new : ℕ} {t : Anodes} {ys : List ℕ}
   module _ (less : new ≤ e .size) where
     shorter : (rest : List ℕ) × (chain ≡ blocksOf t (e .anode) ++ rest)
     unfolding blocksFor
-    shorter = plan-shorter img (w p .good) (e .anode) (facts p .head) (not-1 p) (blocksFor new) t ys (p .plan) (omega (arith, facts p .sized (p .file)))
+    shorter = plan-shorter img (w p .good) (e .anode) (facts p .head) (not-1 p) (blocksFor new) t ys (p .plan .steps) (omega (arith, facts p .sized (p .plan .file)))
 
     abbrev left-blocks : List ℕ
     left-blocks = blocksOf t (e .anode)
@@ -140,7 +136,7 @@ module _ {img : List ℕ} {e : Entered} {new : ℕ} {t : Anodes} {ys : List ℕ}
   module _ (more : e .size < new) where
     longer : (blocksOf t (e .anode) ≡ chain ++ ys) × (length ys ≡ blocksFor new - blockCount s (e .anode))
     unfolding blocksFor
-    longer = plan-longer img (w p .good) (e .anode) (facts p .head) (not-1 p) (blocksFor new) t ys (p .plan) (omega (arith, facts p .sized (p .file)))
+    longer = plan-longer img (w p .good) (e .anode) (facts p .head) (not-1 p) (blocksFor new) t ys (p .plan .steps) (omega (arith, facts p .sized (p .plan .file)))
 
     big : ltb (e .size) new ≡ true
     big = lt-ltb (e .size) new more
@@ -183,7 +179,7 @@ module _ {img : List ℕ} {e : Entered} {new : ℕ} {t : Anodes} {ys : List ℕ}
 
       chain-long : length chain ≡ full + 1
       unfolding blocksFor
-      chain-long = omega (arith, length-blocksOf s (e .anode), facts p .sized (p .file))
+      chain-long = omega (arith, length-blocksOf s (e .anode), facts p .sized (p .plan .file))
 
       parted : chain ≡ front ++ (last ∷ [])
       parted = split-at chain full 0 (omega (arith, chain-long)) ∙ ap (λ (l : List ℕ). front ++ (last ∷ l)) (drop-of-length-le chain {i = suc full} (omega (arith, chain-long)))
@@ -253,7 +249,7 @@ module _ {img : List ℕ} {e : Entered} {new : ℕ} {t : Anodes} {ys : List ℕ}
       | inr odd ↦ (let pad : 512 - e .size % 512 ≡ (e .size + 511) / 512 * 512 - e .size = omega arith in rw (← pad) (odd-bytes odd))
       | inl even ↦ (let none : (e .size + 511) / 512 * 512 - e .size ≡ 0 = omega arith in
           gather-congr (blockOf j) (blockOf img) chain (λ y m. even-left even y (member-times y chain m))
-          ∙ sym (take-all (e .size) (gather (blockOf img) chain) (omega (arith, bytes-long img (p .blocks) (p .anodes) (p .accepted) (p .home) (p .reached) e (p .member) (p .file))))
+          ∙ sym (take-all (e .size) (gather (blockOf img) chain) (omega (arith, bytes-long img (p .blocks) (p .anodes) (p .accepted) (p .home) (p .reached) e (p .member) (p .plan .file))))
           ∙ sym (append-nil (take (e .size) (gather (blockOf img) chain))) ∙ ap (λ (n : ℕ). take (e .size) (gather (blockOf img) chain) ++ replicate n 0) (sym none))
     ]
 
@@ -267,6 +263,6 @@ module _ {img : List ℕ} {e : Entered} {new : ℕ} {t : Anodes} {ys : List ℕ}
         let all : gather (blockOf j) (blocksOf t (e .anode)) ≡ c ++ replicate (a + b) 0 =
         ap (gather (blockOf j)) (longer .0) ∙ gather-append (blockOf j) chain ys ∙ ap₂ _++_ old-bytes zeros ∙ append-assoc c (replicate a 0) (replicate b 0)
         ∙ ap (λ (l : List ℕ). c ++ l) (replicate-append-replicate {A = ℕ} a b 0) in
-        let up-to : new ≡ length c + (new - e .size) = omega (arith, file-long img (p .blocks) (p .anodes) (p .accepted) (p .home) (p .reached) e (p .member) (p .file)) in
+        let up-to : new ≡ length c + (new - e .size) = omega (arith, file-long img (p .blocks) (p .anodes) (p .accepted) (p .home) (p .reached) e (p .member) (p .plan .file)) in
         ap (take new) all ∙ ap (λ (n : ℕ). take n (c ++ replicate (a + b) 0)) up-to ∙ take-append-add c (replicate (a + b) 0) (new - e .size)
-        ∙ ap (λ (l : List ℕ). c ++ l) (take-zeros (new - e .size) (a + b) (omega (arith, longer .1, facts p .sized (p .file))))
+        ∙ ap (λ (l : List ℕ). c ++ l) (take-zeros (new - e .size) (a + b) (omega (arith, longer .1, facts p .sized (p .plan .file))))

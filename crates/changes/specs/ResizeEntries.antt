@@ -19,14 +19,15 @@ use Rattle.rules.specs.Lookup.{noDirectory, entriesOf}
 use Rattle.rules.specs.Changes.{resizedImage}
 use Rattle.laws.specs.Tests.{same?}
 use Rattle.laws.specs.TreeChanges.{headed}
-use Rattle.changes.specs.Image.{headIn, headed-same, reached-sum}
+use Rattle.changes.specs.Image.{headed-same, reached-sum}
 use Rattle.changes.specs.Members.{Member, member-cons, member-append, gather-congr}
 use Rattle.changes.specs.FoundEntries.{part-same, place-order}
-use Rattle.changes.specs.Reached.{EntryFacts, block-whole, block-unbroken, parted, reached-dir, dir-block, entry-facts}
+use Rattle.changes.specs.Reached.{EntryFacts, block-whole, block-unbroken, parted, reached-dir, entry-facts}
 use Rattle.changes.specs.NamedOnce.{only-home}
 use Rattle.changes.specs.EntryBytes.{entryBytes}
 use Rattle.changes.specs.NewSize.{sized, put32-others}
-use Rattle.changes.specs.ResizeStores.{PlannedResize, facts, steps, other-block, this-block, resized-same, resized-anodes}
+use Rattle.changes.specs.PlannedChange.{facts, not-a₀}
+use Rattle.changes.specs.ResizeStores.{PlannedResize, steps, other-block, this-block, resized-same, resized-anodes}
 use Rattle.changes.specs.Resize.{resizedEntry, one-resized, same-chain, alike, other-entries, entries-left, still-whole}
 
 map-gather : (φ : Entered → Entered) (f : ℕ → List Entered) (l : List ℕ) → map φ (gather f l) ≡ gather (λ a. map φ (f a)) l
@@ -85,8 +86,7 @@ module _ {img : List ℕ} {e : Entered} {new : ℕ} {t : Anodes} {ys : List ℕ}
     -- every other directory has the entries that it had
     pub entries-resized-other : k ≢ p .home → entriesOf j t k ≡ entriesOf img s k
     unfolding entriesOf
-    entries-resized-other apart = entries-along (λ a. entriesIn img (s .block a)) (λ a on. other-entries p (in-tree .0) (in-tree .1) a (on-tree a on)
-        (λ i. apart (sym (dir-block img (p .blocks) (p .anodes) (p .accepted) k reached a on .on-chain) ∙ ap (headIn img) i ∙ facts p .block-facts .on-chain)))
+    entries-resized-other apart = entries-along (λ a. entriesIn img (s .block a)) (λ a on. other-entries p (in-tree .0) (in-tree .1) a (on-tree a on) (not-a₀ p k reached apart a on))
 
     all-entries : entriesOf j t k ≡ map (resizedEntry (e .anode) new) (entriesOf img s k)
     unfolding entriesOf

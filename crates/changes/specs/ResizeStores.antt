@@ -16,8 +16,6 @@ use Rattle.rules.specs.Counting.{sumList, times, gather}
 use Rattle.rules.specs.Anodes.{Anodes, limit, anodesOf, withAnodes}
 use Rattle.rules.specs.Chains.{chainOf, run, blocksOf, blockCount}
 use Rattle.rules.specs.Walk.{Dir, Entered, blocksFor, reachedDirs}
-use Rattle.rules.specs.Accepted.{checkAnswer}
-use Rattle.rules.specs.Lookup.{noDirectory, entriesOf}
 use Rattle.rules.specs.Space.{planned}
 use Rattle.rules.specs.Format.{zeroBlock}
 use Rattle.rules.specs.Changes.{inBlock, withBlocks, resizePlan, zeroTail, withSize, zeroTaken, resizedImage}
@@ -28,23 +26,19 @@ use Rattle.laws.specs.Whole.{dir-heads}
 use Rattle.frames.specs.Kept.{Unheld, Kept, kept-all, kept-both}
 use Rattle.frames.specs.StoredBlocks.{inBlock-kept, blockOf-inBlock, withBlocks-kept}
 use Rattle.frames.specs.DisjointBlocks.{DataBlock, chains-apart, chain-block}
-use Rattle.changes.specs.Image.{WholeImage, headIn, sideIn, accepted-whole, SameDisk, stored-kept, stored-same, stored-anodes, not-one, not-among, same-then, anodes-then}
+use Rattle.changes.specs.Image.{headIn, SameDisk, stored-kept, stored-same, stored-anodes, not-one, not-among, same-then, anodes-then}
 use Rattle.changes.specs.Members.{Member, member-each, member-first, member-later, member-times}
-use Rattle.changes.specs.Reached.{DirBlock, EntryFacts, member-reached, block-on, reached-head, dir-block, entry-facts, not-file}
-use Rattle.changes.specs.SingleBlocks.{single-apart}
+use Rattle.changes.specs.Reached.{DirBlock, member-reached, block-on, reached-head, dir-block, block-data, not-file}
+use Rattle.changes.specs.PlannedChange.{PlannedChange, w, facts, not-1, off-anode}
 use Rattle.changes.specs.ResizePlan.{Resizing, plan-runs, handed-data, handed-apart}
 
 -- a resize of a file of an accepted image, and the steps that were planned
-pub record PlannedResize (img : List ℕ) (e : Entered) (new : ℕ) (t : Anodes) (ys : List ℕ) : Type 0 where
-  pub blocks : ℕ
-  pub anodes : ℕ
-  pub accepted : checkAnswer img blocks anodes ≡ 0
-  -- the directory that has the file
-  pub home : ℕ
-  pub reached : noDirectory img (anodesOf img) home ≡ false
-  pub member : Member e (entriesOf img (anodesOf img) home)
+pub record FilePlan (img : List ℕ) (e : Entered) (new : ℕ) (t : Anodes) (ys : List ℕ) : Type 0 where
   pub file : e .dir ≡ false
-  pub plan : resizePlan img (anodesOf img) (e .anode) (blocksFor new) ≡ planned t ys
+  pub steps : resizePlan img (anodesOf img) (e .anode) (blocksFor new) ≡ planned t ys
+
+abbrev pub PlannedResize : List ℕ → Entered → ℕ → Anodes → List ℕ → Type 0
+PlannedResize img e new t ys = PlannedChange img e (FilePlan img e new t ys)
 
 -- ---- the last block of a file
 
@@ -77,17 +71,8 @@ module _ {img : List ℕ} {e : Entered} {new : ℕ} {t : Anodes} {ys : List ℕ}
   abbrev dirs : List Dir
   dirs = reachedDirs img s
 
-  pub w : WholeImage img s (headIn img) (sideIn img) dirs
-  w = accepted-whole img (p .blocks) (p .anodes) (p .accepted)
-
-  pub facts : EntryFacts img (p .home) e
-  facts = entry-facts img (p .blocks) (p .anodes) (p .accepted) (p .home) (p .reached) e (p .member)
-
-  pub not-1 : e .anode ≢ 1
-  not-1 i = omega (arith, i, facts .from-6)
-
   pub steps : Resizing img s (headIn img) (e .anode) (blocksFor new) t ys
-  steps = plan-runs img (w .good) (e .anode) (facts .head) not-1 (blocksFor new) t ys (p .plan)
+  steps = plan-runs img (w p .good) (e .anode) (facts p .head) (not-1 p) (blocksFor new) t ys (p .plan .steps)
 
   -- ---- its stores, one after the other
 
@@ -117,7 +102,7 @@ module _ {img : List ℕ} {e : Entered} {new : ℕ} {t : Anodes} {ys : List ℕ}
   -- the old last block is one of the file's
   pub tail-in : e .size % 512 ≢ 0 → Member (getD chain (e .size / 512) 0) chain
   unfolding blocksFor
-  tail-in n = nth-in chain (e .size / 512) (omega (arith, length-blocksOf s (e .anode), facts .sized (p .file)))
+  tail-in n = nth-in chain (e .size / 512) (omega (arith, length-blocksOf s (e .anode), facts p .sized (p .plan .file)))
 
   pub tail-kept : Kept (λ y. times y chain ≡ 0) zeroed tailed
   unfolding zeroTail
@@ -160,8 +145,8 @@ module _ {img : List ℕ} {e : Entered} {new : ℕ} {t : Anodes} {ys : List ℕ}
 
   only-data : (y : ℕ) → (DataBlock img y → ⊥) → Left-alone y × (y ≢ e .place / 512)
   only-data y n = (
-    (not-among ys (handed-data img (w .good) (e .anode) (facts .head) not-1 steps) y n, not-among chain (chain-block img (w .good) (e .anode) (facts .head)) y n),
-    not-one (rw (facts .in-block) (facts .block-facts .is-data)) y n,
+    (not-among ys (handed-data img (w p .good) (e .anode) (facts p .head) (not-1 p) steps) y n, not-among chain (chain-block img (w p .good) (e .anode) (facts p .head)) y n),
+    not-one (block-data (facts p)) y n,
   )
 
   pub resized-same : SameDisk img (resizedImage img s e new t ys)
@@ -180,10 +165,10 @@ module _ {img : List ℕ} {e : Entered} {new : ℕ} {t : Anodes} {ys : List ℕ}
     its-head = reached-head img (p .blocks) (p .anodes) (p .accepted) (d .head) (member-reached img s d in-tree)
 
     pub head-not-1 : d .head ≢ 1
-    head-not-1 = member-each (λ c. Head (s .next) (s .block) (c .head) × (c .head ≢ 1)) d dirs in-tree (dir-heads w) .1
+    head-not-1 = member-each (λ c. Head (s .next) (s .block) (c .head) × (c .head ≢ 1)) d dirs in-tree (dir-heads (w p)) .1
 
     pub head-not-file : d .head ≢ e .anode
-    head-not-file = not-file img (p .blocks) (p .anodes) (p .accepted) (d .head) (member-reached img s d in-tree) (p .home) e facts (p .file)
+    head-not-file = not-file img (p .blocks) (p .anodes) (p .accepted) (d .head) (member-reached img s d in-tree) (p .home) e (facts p) (p .plan .file)
 
     module _ (a : ℕ) (on : Member a (chainOf (s .next) limit (d .head))) where
       pub its-block : DirBlock img (d .head) a
@@ -194,25 +179,25 @@ module _ {img : List ℕ} {e : Entered} {new : ℕ} {t : Anodes} {ys : List ℕ}
 
       left-alone : Left-alone (s .block a)
       left-alone = (
-        handed-apart img (w .good) (e .anode) (facts .head) not-1 steps (d .head) its-head head-not-1 head-not-file (s .block a) in-chain,
-        chains-apart (w .good) (d .head) (e .anode) its-head (facts .head) head-not-file (s .block a) in-chain,
+        handed-apart img (w p .good) (e .anode) (facts p .head) (not-1 p) steps (d .head) its-head head-not-1 head-not-file (s .block a) in-chain,
+        chains-apart (w p .good) (d .head) (e .anode) its-head (facts p .head) head-not-file (s .block a) in-chain,
       )
 
       -- up to the entry's new size it has the bytes that it had
       before-size : blockOf tailed (s .block a) ≡ blockOf img (s .block a)
       before-size = zeros-kept .block-kept (s .block a) left-alone ∙ stored .block-kept (s .block a) (its-block .is-data .unheld)
 
-      pub other-block : a ≢ facts .a₀ → blockOf (resizedImage img s e new t ys) (s .block a) ≡ blockOf img (s .block a)
+      pub other-block : a ≢ facts p .a₀ → blockOf (resizedImage img s e new t ys) (s .block a) ≡ blockOf img (s .block a)
       unfolding resizedImage
       other-block n =
-          size-kept .block-kept (s .block a) (λ i. single-apart (w .good) a (its-block .one) (facts .a₀) (facts .block-facts .one) n (i ∙ facts .in-block)) ∙ before-size
+          size-kept .block-kept (s .block a) (off-anode p a (its-block .one) n) ∙ before-size
 
-      pub this-block : a ≡ facts .a₀ → blockOf (resizedImage img s e new t ys) (s .block a) ≡ put32 (blockOf img (s .block a)) (e .place % 512 + 4) new
+      pub this-block : a ≡ facts p .a₀ → blockOf (resizedImage img s e new t ys) (s .block a) ≡ put32 (blockOf img (s .block a)) (e .place % 512 + 4) new
       unfolding resizedImage withSize
       this-block i =
-          let here : e .place / 512 ≡ s .block a = facts .in-block ∙ ap (s .block) (sym i) in
+          let here : e .place / 512 ≡ s .block a = facts p .in-block ∙ ap (s .block) (sym i) in
           rw (← before-size, ← here) (blockOf-inBlock tailed (e .place / 512) setSize (length-put32 (blockOf tailed (e .place / 512)) (e .place % 512 + 4) new))
 
   -- the block that has the entry
   pub home-alone : Left-alone (e .place / 512)
-  home-alone = rw (facts .in-block) (left-alone (facts .block-facts .dir) (facts .block-facts .reached) (facts .a₀) (rw (facts .block-facts .dir-head) (facts .member-chain)))
+  home-alone = rw (facts p .in-block) (left-alone (facts p .block-facts .dir) (facts p .block-facts .reached) (facts p .a₀) (rw (facts p .block-facts .dir-head) (facts p .member-chain)))

@@ -1,5 +1,5 @@
 -- A removal by its plan: what it leaves of an accepted image and of its two tables.
-use Prim.Native.Nat.{ℕ, _+_, _*_, _/_, _%_, _<_, _≤_}
+use Prim.Native.Nat.{ℕ, _+_, _*_, _/_, _%_, _≤_}
 use mathlib.Core.Path.{_≡_, sym, _∙_}
 use mathlib.Core.Logic.{_≢_}
 use mathlib.Core.Bool.{false}
@@ -10,49 +10,36 @@ use Rattle.disk.specs.Blocks.{blockOf}
 use Rattle.rules.specs.Anodes.{Anodes, limit, exists, anodesOf, withAnodes}
 use Rattle.rules.specs.Chains.{systemOwns, blockCount}
 use Rattle.rules.specs.Walk.{Entered, entriesIn}
-use Rattle.rules.specs.Accepted.{diskSize, wrongSize, lastReserved}
+use Rattle.rules.specs.Accepted.{diskSize, lastReserved}
 use Rattle.rules.specs.Tables.{anodeTable}
-use Rattle.rules.specs.Space.{Plan, refused, planned, giveMany, onChain, dropped}
+use Rattle.rules.specs.Space.{Plan, refused, planned, giveMany, dropped}
 use Rattle.rules.specs.Changes.{entriesEnd, removedImage, removed}
 use Rattle.laws.specs.Links.{View, Linked}
-use Rattle.laws.specs.LinkChanges.{without}
-use Rattle.laws.specs.Heads.{Head}
-use Rattle.laws.specs.Blocks.{blocks}
-use Rattle.laws.specs.Space.{Good}
 use Rattle.laws.specs.Whole.{blocks-count}
-use Rattle.laws.specs.Remove.{still, none-left, dropped-good}
+use Rattle.laws.specs.Remove.{still, none-left}
 use Rattle.laws.specs.RefusedSteps.{gives-refused}
 use Rattle.laws.specs.OwnerTable.{dropped-owner, setAll}
 use Rattle.frames.specs.StoredAnodes.{withAnodes-stored}
-use Rattle.changes.specs.Image.{headIn, sideIn, accepted-slots, accepted-whole}
+use Rattle.changes.specs.Image.{headIn, sideIn, accepted-slots}
 use Rattle.changes.specs.FoundEntries.{end-bounds, entry-standing}
-use Rattle.changes.specs.Reached.{parted, block-unbroken}
-use Rattle.changes.specs.RemoveStores.{PlannedRemove, ran, removed-same, removed-anodes}
+use Rattle.changes.specs.Reached.{block-unbroken, block-data, parted}
+use Rattle.changes.specs.RemoveStores.{PlannedRemove, ran, end-good, removed-same, removed-anodes}
 use Rattle.anodes.specs.Loaded.{anodesFrom}
 use Rattle.tree.specs.Steps.{sumFrom}
-use Rattle.tree.proofs.Rules.{sumFrom-count}
-use Rattle.space.specs.Steps.{GoodAnodes}
-use Rattle.space.proofs.Many.{gave-few}
+use Rattle.space.specs.Steps.{moveMany}
 use Rattle.changed.specs.Leaves.{Leaves, Loaded, ReachedEntry}
 use Rattle.changed.specs.Laws.{leaves-refused, shows-kept, shows-ran, leaves-done}
-use Rattle.changed.specs.Chains.{loaded-size, loaded-good, entry-known, entry-not-1, entry-head}
+use Rattle.changed.specs.Chains.{image-good, entry-known, entry-not-1, copies-loaded, chain-counted, planned-change}
 
 module _ {img counts firsts nexts : List ℕ} (l : Loaded img counts firsts nexts) (e : Entered) (r : ReachedEntry img e) where
   abbrev s : Anodes
   s = anodesOf img
 
-  g : Good limit (exists img) (diskSize img) (lastReserved img) s (systemOwns img) (headIn img) (sideIn img)
-  g = accepted-whole img (diskSize img) limit (l .accepted) .good
-
-  -- the steps may be planned on copies of the tables
-  module _ (nc nf nn : List ℕ) (c : nc ≡ counts) (f : nf ≡ firsts) (n : nn ≡ nexts) (have : ℕ) (all : have ≡ sumFrom counts nexts 3444 (e .anode)) where
-    pub gives-ready : ((wrongSize img ≡ false) × GoodAnodes img (anodesFrom nc nf nn))
-        × (Head (anodesFrom nc nf nn .next) (anodesFrom nc nf nn .block) (e .anode) × (e .anode ≢ 1) × (have ≤ blockCount (anodesFrom nc nf nn) (e .anode)))
-    gives-ready = rw (c, f, n) ((loaded-size l, (headIn img, sideIn img, loaded-good l)), (entry-head l e r, entry-not-1 l e r, omega (arith, all ∙ sumFrom-count counts firsts nexts (e .anode))))
-
-    -- and the plan is that of the image
-    pub gives-made : (p : Plan) → p ≡ giveMany limit (exists img) (lastReserved img) have (anodesFrom nc nf nn) (e .anode) → giveMany limit (exists img) (lastReserved img) (blockCount s (e .anode)) s (e .anode) ≡ p
-    gives-made p made = sym (made ∙ rw (c, f, n, all ∙ sumFrom-count counts firsts nexts (e .anode), l .is-loaded))
+  -- the plan on copies of the tables is that of the image
+  pub gives-made : (nc nf nn : List ℕ) → nc ≡ counts → nf ≡ firsts → nn ≡ nexts → (have : ℕ) → have ≡ sumFrom counts nexts limit (e .anode) → (p : Plan) → p ≡ moveMany img false have (anodesFrom nc nf nn) (e .anode) →
+      giveMany limit (exists img) (lastReserved img) (blockCount s (e .anode)) s (e .anode) ≡ p
+  unfolding moveMany
+  gives-made nc nf nn c f n have all p made = sym (made ∙ rw (copies-loaded l nc nf nn c f n, chain-counted l (e .anode) have all))
 
   -- refused it leaves everything
   pub refused-leaves : (k : ℕ) → giveMany limit (exists img) (lastReserved img) (blockCount s (e .anode)) s (e .anode) ≡ refused k → (b a : List ℕ) → Leaves k img b a img b a (removed img s e)
@@ -60,7 +47,7 @@ module _ {img counts firsts nexts : List ℕ} (l : Loaded img counts firsts next
   refused-leaves k gives b a =
       let h = e .anode in
       let d = entry-known l e r .head in
-      let number : k ≡ 28 = gives-refused (blockCount s h) h (entry-not-1 l e r) k s (systemOwns img) (headIn img) (sideIn img) g d (omega (arith, blocks-count g h d)) gives in
+      let number : k ≡ 28 = gives-refused (blockCount s h) h (entry-not-1 l e r) k s (systemOwns img) (headIn img) (sideIn img) (image-good l) d (omega (arith, blocks-count (image-good l) h d)) gives in
       rw gives (leaves-refused k (omega (arith, number)) img b a)
 
   module _ (t : Anodes) (ys : List ℕ) (gives : giveMany limit (exists img) (lastReserved img) (blockCount s (e .anode)) s (e .anode) ≡ planned t ys) where
@@ -68,23 +55,15 @@ module _ {img counts firsts nexts : List ℕ} (l : Loaded img counts firsts next
     end = dropped limit (exists img) (lastReserved img) t (e .anode)
 
     p : PlannedRemove img e t ys
-    p = record { blocks = diskSize img; anodes = limit; accepted = l .accepted; home = r .0; reached = r .1; member = r .2; plan = gives }
+    p = planned-change l e r gives
 
     -- the chain can be dropped
     pub drops-ready : View limit (t .next) (t .block) × (Linked limit (t .next) (t .block) × (t .block (e .anode) ≢ 0))
     drops-ready = (ran p .good .view, (ran p .good .linked, still (e .anode) (entry-known l e r .from-6) (entry-known l e r .head) (ran p) .in-use))
 
-    end-good : Good limit (exists img) (diskSize img) (lastReserved img) end (systemOwns img) (without (onChain limit (exists img) (lastReserved img) t (e .anode)) (ran p .hd′))
-        (without (onChain limit (exists img) (lastReserved img) t (e .anode)) (ran p .sd′))
-    end-good = dropped-good (e .anode) (entry-known l e r .from-6) (entry-known l e r .head) (ran p)
-
     -- the links that show_heads asks for
     pub removed-links : (x : Anodes) → x ≡ end → View limit (x .next) (x .block) × Linked limit (x .next) (x .block)
-    removed-links x i = rw i (end-good .view, end-good .linked)
-
-    -- fewer blocks changed hands than the table of moved blocks holds
-    pub moved-few : length ys < 65535
-    moved-few = gave-few img s (headIn img, sideIn img, g) (e .anode) (entry-known l e r .head) (loaded-size l) (entry-not-1 l e r) (blockCount s (e .anode)) (omega arith) t ys gives
+    removed-links x i = rw i (end-good p .view, end-good p .linked)
 
     -- where the entry stands, also after the anodes are stored
     abbrev y : ℕ
@@ -102,8 +81,8 @@ module _ {img counts firsts nexts : List ℕ} (l : Loaded img counts firsts next
         let part = parted facts in
         let fine = block-unbroken facts in
         let place : e .place ≡ y * 512 + at = omega arith in
-        rw (kept .length-kept, kept .block-kept y (rw (facts .in-block) (facts .block-facts .is-data .unheld))) (
-          rw (facts .in-block) (facts .block-facts .is-data .inside),
+        rw (kept .length-kept, kept .block-kept y (block-data facts .unheld)) (
+          block-data facts .inside,
           entry-standing b y at e place (part .1) (part .0) 28 16 (part .2) fine (omega arith) (omega arith) .before,
           omega (arith, end-bounds b y 28 16 fine (omega arith) (omega arith) .1),
         )
@@ -116,4 +95,4 @@ module _ {img counts firsts nexts : List ℕ} (l : Loaded img counts firsts next
         let d = entry-known l e r .head in
         let is-end = removed-anodes p in
         rw gives (leaves-done img (removedImage img e t ys) (removed-same p) b a (setAll b ys 1) (anodeTable end ++ drop limit a)
-        (λ rest q. rw is-end (shows-kept img t end (dropped-owner (ran p .good) (e .anode) h6 (still (e .anode) h6 d (ran p)) (none-left (e .anode) h6 d (ran p))) (setAll b ys 1) rest (shows-ran img s t g (ran p) (entry-not-1 l e r) b rest q))) (rw is-end))
+        (λ rest q. rw is-end (shows-kept img t end (dropped-owner (ran p .good) (e .anode) h6 (still (e .anode) h6 d (ran p)) (none-left (e .anode) h6 d (ran p))) (setAll b ys 1) rest (shows-ran img s t (image-good l) (ran p) (entry-not-1 l e r) b rest q))) (rw is-end))

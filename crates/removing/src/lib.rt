@@ -18,7 +18,7 @@ use edits::take_out;
 use lookup::EntryAt;
 use space::copied;
 use space::drop_chain;
-use space::give_many;
+use space::move_many;
 use space::moves_count;
 use space::moves_number;
 use tree::chain_sum;
@@ -77,8 +77,9 @@ pub fn remove_entry(
     let mut new_firsts = copied(firsts);
     let mut new_nexts = copied(nexts);
     let mut moved = [0u16; 65535];
-    let plan = give_many(
+    let plan = move_many(
         image,
+        false,
         have,
         e.anode,
         &mut new_counts,

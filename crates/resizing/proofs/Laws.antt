@@ -1,62 +1,53 @@
 -- A resize by its plan: how much it asks for, and what it leaves of an accepted image and of its two tables.
 use Prim.Native.Nat.{ℕ, _+_, _-_, _<_, _≤_}
 use mathlib.Core.Path.{_≡_, sym, _∙_}
-use mathlib.Core.Logic.{_≢_, _⊎_, inl, inr}
-use mathlib.Core.Bool.{false, cond}
+use mathlib.Core.Logic.{_⊎_, inl, inr}
+use mathlib.Core.Bool.{true, false, cond}
 use mathlib.Core.List.{List, _++_}
 use native.Mathlib.Omega.{arith}
 use lib.Dec.{leb}
 use lib.ListN.{length, drop}
 use borrow.Author.Tests.{le-leb, lt-leb, lt-ltb, le-ltb}
-use Rattle.rules.specs.Anodes.{Anodes, limit, exists, anodesOf}
+use Rattle.rules.specs.Anodes.{Anodes, limit, anodesOf}
 use Rattle.rules.specs.Chains.{systemOwns, blockCount}
 use Rattle.rules.specs.Walk.{Entered, blocksFor}
-use Rattle.rules.specs.Accepted.{diskSize, wrongSize, lastReserved}
 use Rattle.rules.specs.Tables.{anodeTable}
-use Rattle.rules.specs.Space.{Plan, refused, planned, takeMany, giveMany}
+use Rattle.rules.specs.Space.{Plan, refused, planned}
 use Rattle.rules.specs.Format.{zeroBlock}
 use Rattle.rules.specs.Changes.{withBlocks, resizePlan, zeroTaken, resizedImage, resized}
 use Rattle.laws.specs.Tests.{less?}
 use Rattle.laws.specs.Links.{View, Linked}
-use Rattle.laws.specs.Heads.{Head}
 use Rattle.laws.specs.Whole.{blocks-count}
 use Rattle.laws.specs.Resize.{grow-ran, shrink-ran}
 use Rattle.laws.specs.OwnerTable.{setAll}
-use Rattle.changes.specs.Image.{headIn, sideIn, accepted-whole}
+use Rattle.changes.specs.Image.{headIn, sideIn}
 use Rattle.changes.specs.ResizePlan.{plan-refused, plan-longer}
-use Rattle.changes.specs.ResizeStores.{PlannedResize, w, steps, resized-same, resized-anodes}
+use Rattle.changes.specs.ResizeStores.{PlannedResize, steps, resized-same, resized-anodes}
 use Rattle.anodes.specs.Loaded.{anodesFrom}
 use Rattle.tree.specs.Steps.{sumFrom}
-use Rattle.tree.proofs.Rules.{sumFrom-count}
-use Rattle.space.specs.Steps.{GoodAnodes}
-use Rattle.space.proofs.Many.{count-small, gave-few}
+use Rattle.space.specs.Steps.{moveMany}
+use Rattle.space.proofs.Many.{count-small}
 use Rattle.changed.specs.Leaves.{Leaves, Loaded, ReachedEntry}
 use Rattle.changed.specs.Laws.{Shows, leaves-refused, shows-ran, leaves-done}
-use Rattle.changed.specs.Chains.{loaded-size, loaded-good, entry-known, entry-not-1, entry-head}
+use Rattle.changed.specs.Chains.{loaded-size, image-good, entry-known, entry-not-1, copies-loaded, chain-counted, planned-change, gave-few}
 
 module _ {img counts firsts nexts : List ℕ} (l : Loaded img counts firsts nexts) (e : Entered) (r : ReachedEntry img e) (size : ℕ) where
   abbrev s : Anodes
   s = anodesOf img
 
-  -- the steps may be planned on copies of the tables
-  module _ (nc nf nn : List ℕ) (c : nc ≡ counts) (f : nf ≡ firsts) (n : nn ≡ nexts) where
-    pub plan-ready : (have : ℕ) → have ≡ sumFrom counts nexts 3444 (e .anode) → ((wrongSize img ≡ false) × GoodAnodes img (anodesFrom nc nf nn))
-        × (Head (anodesFrom nc nf nn .next) (anodesFrom nc nf nn .block) (e .anode) × (e .anode ≢ 1) × (have ≡ blockCount (anodesFrom nc nf nn) (e .anode)))
-    plan-ready have q = rw (c, f, n) ((loaded-size l, (headIn img, sideIn img, loaded-good l)), (entry-head l e r, entry-not-1 l e r, q ∙ sumFrom-count counts firsts nexts (e .anode)))
-
-    -- and the plan is that of the image
-    pub plan-made : (want : ℕ) → want ≡ blocksFor size → (p : Plan) → p ≡ resizePlan img (anodesFrom nc nf nn) (e .anode) want → resizePlan img s (e .anode) (blocksFor size) ≡ p
-    plan-made want q p made = sym (made ∙ rw (c, f, n, q, l .is-loaded))
+  -- the plan on copies of the tables is that of the image
+  pub plan-made : (nc nf nn : List ℕ) → nc ≡ counts → nf ≡ firsts → nn ≡ nexts → (want : ℕ) → want ≡ blocksFor size → (p : Plan) → p ≡ resizePlan img (anodesFrom nc nf nn) (e .anode) want → resizePlan img s (e .anode) (blocksFor size) ≡ p
+  plan-made nc nf nn c f n want q p made = sym (made ∙ rw (copies-loaded l nc nf nn c f n, q))
 
   -- the head that the moved blocks come to, by what was counted
-  pub owner-is : (have want o : ℕ) → have ≡ sumFrom counts nexts 3444 (e .anode) → want ≡ blocksFor size → o ≡ cond (leb have want) (e .anode) 1 →
+  pub owner-is : (have want o : ℕ) → have ≡ sumFrom counts nexts limit (e .anode) → want ≡ blocksFor size → o ≡ cond (leb have want) (e .anode) 1 →
       o ≡ cond (leb (blockCount s (e .anode)) (blocksFor size)) (e .anode) 1
-  owner-is have want o i q is = is ∙ rw (i ∙ sumFrom-count counts firsts nexts (e .anode), l .is-loaded, q)
+  owner-is have want o i q is = is ∙ rw (chain-counted l (e .anode) have i, q)
 
   -- refused it leaves everything
   pub refused-leaves : (k : ℕ) → resizePlan img s (e .anode) (blocksFor size) ≡ refused k → (b a : List ℕ) → Leaves k img b a img b a (resized img s e size)
   unfolding resized
-  refused-leaves k plan b a = rw plan (leaves-refused k (late (plan-refused img (accepted-whole img (diskSize img) limit (l .accepted) .good) (e .anode) (entry-known l e r .head) (entry-not-1 l e r) (blocksFor size) k plan)) img b a)
+  refused-leaves k plan b a = rw plan (leaves-refused k (late (plan-refused img (image-good l) (e .anode) (entry-known l e r .head) (entry-not-1 l e r) (blocksFor size) k plan)) img b a)
     where
       late : (k ≡ 27) ⊎ (k ≡ 28) → 17 ≤ k
       late (inl i) = omega (arith, i)
@@ -64,7 +55,7 @@ module _ {img counts firsts nexts : List ℕ} (l : Loaded img counts firsts next
 
   module _ (file : e .dir ≡ false) (t : Anodes) (ys : List ℕ) (plan : resizePlan img s (e .anode) (blocksFor size) ≡ planned t ys) where
     p : PlannedResize img e size t ys
-    p = record { blocks = diskSize img; anodes = limit; accepted = l .accepted; home = r .0; reached = r .1; member = r .2; file = file; plan = plan }
+    p = planned-change l e r (record { file = file; steps = plan })
 
     -- the links that show_heads asks for
     pub resized-view : View limit (t .next) (t .block)
@@ -88,9 +79,8 @@ module _ {img counts firsts nexts : List ℕ} (l : Loaded img counts firsts next
     pub moved-few : length ys < 65535
     unfolding resizePlan
     moved-few = elim (less? (blocksFor size) (blockCount s (e .anode))) [
-      | inl m ↦ gave-few img s (headIn img, sideIn img, w p .good) (e .anode) (entry-known l e r .head) (loaded-size l) (entry-not-1 l e r) (blockCount s (e .anode) - blocksFor size) (omega arith) t ys
-          (rw (lt-leb (blockCount s (e .anode)) (blocksFor size) m) at plan)
-      | inr m ↦ omega (arith, asked-less, plan-longer img (w p .good) (e .anode) (entry-known l e r .head) (entry-not-1 l e r) (blocksFor size) t ys plan m .1)
+      | inl m ↦ gave-few l e r (blockCount s (e .anode) - blocksFor size) t ys (rw (lt-leb (blockCount s (e .anode)) (blocksFor size) m) at plan) (omega arith)
+      | inr m ↦ omega (arith, asked-less, plan-longer img (image-good l) (e .anode) (entry-known l e r .head) (entry-not-1 l e r) (blocksFor size) t ys plan m .1)
     ]
 
     -- the moved blocks are the file's where it has not shrunk, else the free list's
@@ -98,7 +88,7 @@ module _ {img counts firsts nexts : List ℕ} (l : Loaded img counts firsts next
     unfolding resizePlan
     owners-shown b rest q =
         let h = e .anode in
-        let g = w p .good in
+        let g = image-good l in
         let d = entry-known l e r .head in
         let h1 = entry-not-1 l e r in
         let have = blockCount s h in
@@ -119,12 +109,12 @@ module _ {img counts firsts nexts : List ℕ} (l : Loaded img counts firsts next
 -- ---- the plan by its two ways
 
 module _ (img : List ℕ) (s : Anodes) (h have want : ℕ) (is : have ≡ blockCount s h) where
-  pub plan-grows : have ≤ want → takeMany limit (exists img) (lastReserved img) false (want - have) s h ≡ resizePlan img s h want
-  unfolding resizePlan
+  pub plan-grows : have ≤ want → moveMany img true (want - have) s h ≡ resizePlan img s h want
+  unfolding resizePlan moveMany
   plan-grows l = rw (← is, le-leb have want l)
 
-  pub plan-shrinks : want < have → giveMany limit (exists img) (lastReserved img) (have - want) s h ≡ resizePlan img s h want
-  unfolding resizePlan
+  pub plan-shrinks : want < have → moveMany img false (have - want) s h ≡ resizePlan img s h want
+  unfolding resizePlan moveMany
   plan-shrinks l = rw (← is, lt-leb have want l)
 
 -- ---- the blocks that a growing file takes

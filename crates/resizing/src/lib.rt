@@ -27,18 +27,11 @@ use edits::zero_tail;
 use lookup::EntryAt;
 use space::Moves;
 use space::copied;
-use space::give_many;
+use space::move_many;
 use space::moves_count;
 use space::moves_number;
-use space::take_many;
+use tree::blocks_for;
 use tree::chain_sum;
-
-// The blocks that a file of this size asks for.
-fn blocks_for(size: u64) -> u64
-    ensures { λ r. ⌜ r ≡ blocksFor size ⌝ }
-{
-    size / 512 + (size % 512 + 511) / 512
-}
 
 // Takes or gives back blocks, one at a time, until the chain of `head`, which has `have` blocks, has `want`.
 fn plan_resize(
@@ -57,18 +50,18 @@ fn plan_resize(
     ensures { λ r. ⌜ manyPlan r (anodesFrom (now (counts .exit)) (now (firsts .exit)) (now (nexts .exit))) (now (moved .exit)) ≡ resizePlan (now (image .entry)) (anodesFrom (now (counts .entry)) (now (firsts .entry)) (now (nexts .entry))) (head .0) want ⌝ }
 {
     if have <= want {
-        return take_many(
-            image,
-            false,
-            want - have,
-            head,
-            counts,
-            firsts,
-            nexts,
-            moved,
-        );
+        return move_many(image, true, want - have, head, counts, firsts, nexts, moved);
     }
-    give_many(image, have - want, head, counts, firsts, nexts, moved)
+    move_many(
+        image,
+        false,
+        have - want,
+        head,
+        counts,
+        firsts,
+        nexts,
+        moved,
+    )
 }
 
 // Writes a planned resize into the image, and shows it in the two tables.

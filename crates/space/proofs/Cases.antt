@@ -4,6 +4,7 @@ use mathlib.Core.Path.{_≡_, refl}
 use mathlib.Core.Logic.{_≢_}
 use mathlib.Core.Bool.{Bool, true, false, cond, not}
 use mathlib.Core.List.{List, [], _∷_}
+use native.Mathlib.Omega.{arith}
 use lib.ListN.{getD}
 use borrow.Author.Tests.{lt-ltb, le-ltb, eq-eqb, ne-eqb}
 use Rattle.rules.specs.Anodes.{Anodes}
@@ -106,20 +107,15 @@ module _ (ex : ℕ → Bool) (last : ℕ) (c f n : List ℕ) where
     join-one e = rw (eq-eqb z 1 e)
 
     module _ (other : z ≢ 1) where
-      pub join-empty : getD c z 0 ≡ 0 → join 3444 ex last s z y ≡ planned (rewritten s z 1 y) (y ∷ [])
-      unfolding join joinFilling anodesFrom
+      pub join-start : getD c z 0 ≢ 0 → y + 1 ≡ getD f z 0 → join 3444 ex last s z y ≡ planned (rewritten s z (getD c z 0 + 1) y) (y ∷ [])
+      unfolding join joinFilling joinAfter joinBefore anodesFrom
+      join-start some e = rw (ne-eqb z 1 other, ne-eqb (getD c z 0) 0 some, ne-eqb (getD f z 0 + getD c z 0) y (λ q. omega arith), eq-eqb (y + 1) (getD f z 0) e)
+
+      -- else as a block is put behind the last anode of a chain
+      pub join-empty : getD c z 0 ≡ 0 → join 3444 ex last s z y ≡ put 3444 ex last false s z y
+      unfolding join joinFilling put anodesFrom
       join-empty e = rw (ne-eqb z 1 other, eq-eqb (getD c z 0) 0 e)
 
-      module _ (some : getD c z 0 ≢ 0) where
-        pub join-end : getD f z 0 + getD c z 0 ≡ y → join 3444 ex last s z y ≡ planned (rewritten s z (getD c z 0 + 1) (getD f z 0)) (y ∷ [])
-        unfolding join joinFilling joinAfter anodesFrom
-        join-end e = rw (ne-eqb z 1 other, ne-eqb (getD c z 0) 0 some, eq-eqb (getD f z 0 + getD c z 0) y e)
-
-        module _ (apart : getD f z 0 + getD c z 0 ≢ y) where
-          pub join-start : y + 1 ≡ getD f z 0 → join 3444 ex last s z y ≡ planned (rewritten s z (getD c z 0 + 1) y) (y ∷ [])
-          unfolding join joinFilling joinAfter joinBefore anodesFrom
-          join-start e = rw (ne-eqb z 1 other, ne-eqb (getD c z 0) 0 some, ne-eqb (getD f z 0 + getD c z 0) y apart, eq-eqb (y + 1) (getD f z 0) e)
-
-          pub join-apart : y + 1 ≢ getD f z 0 → join 3444 ex last s z y ≡ append 3444 ex last s z y
-          unfolding join joinFilling joinAfter joinBefore anodesFrom
-          join-apart e = rw (ne-eqb z 1 other, ne-eqb (getD c z 0) 0 some, ne-eqb (getD f z 0 + getD c z 0) y apart, ne-eqb (y + 1) (getD f z 0) e)
+      pub join-other : y + 1 ≢ getD f z 0 → join 3444 ex last s z y ≡ put 3444 ex last false s z y
+      unfolding join joinFilling joinAfter joinBefore put growOrAppend anodesFrom
+      join-other e = rw (ne-eqb z 1 other, ne-eqb (y + 1) (getD f z 0) e)

@@ -1,8 +1,8 @@
 -- Many one-block steps: what one of them leaves, and the run up to it.
-use Prim.Native.Nat.{ℕ, _+_, _*_, _≤_, _<_}
+use Prim.Native.Nat.{ℕ, _+_, _-_, _*_, _≤_, _<_}
 use mathlib.Core.Path.{_≡_, refl, sym, ap, _∙_}
 use mathlib.Core.Logic.{_≢_, inl, inr}
-use mathlib.Core.Bool.{Bool, false}
+use mathlib.Core.Bool.{Bool, true, false, cond, true≢false}
 use mathlib.Core.List.{List, [], _∷_, _++_, append-assoc, append-nil}
 use native.Mathlib.Omega.{arith}
 use native.Mathlib.Numerals.{add-one}
@@ -13,21 +13,21 @@ use Rattle.rules.specs.Counting.{oneAt}
 use Rattle.rules.specs.Anodes.{Anodes, exists}
 use Rattle.rules.specs.Chains.{systemOwns, blockCount}
 use Rattle.rules.specs.Accepted.{diskSize, wrongSize, lastReserved}
-use Rattle.rules.specs.Space.{Plan, refused, planned, takeBlock, giveBack, after, takeMany, giveMany}
+use Rattle.rules.specs.Space.{Plan, refused, planned, after, takeMany, giveMany}
 use Rattle.laws.specs.Acceptance.{size-bounds}
 use Rattle.laws.specs.Tests.{less?}
 use Rattle.laws.specs.Sums.{oneAt-cases, oneAt-same, oneAt-other, sum-mono, sum-member}
 use Rattle.laws.specs.Ownership.{total}
 use Rattle.laws.specs.Heads.{Head}
 use Rattle.laws.specs.Blocks.{blocks}
+use Rattle.laws.specs.Moves.{Moved}
 use Rattle.laws.specs.Take.{take-good}
 use Rattle.laws.specs.Give.{give-good}
 use Rattle.laws.specs.Frame.{moved-stays}
 use Rattle.laws.specs.Whole.{blocks-count}
-use Rattle.laws.specs.GivenBlocks.{gives-blocks}
 use Rattle.space.specs.declared.Moves.{Moves}
 use Rattle.space.specs.declared.Moves.the-variants.{Done, Stopped}
-use Rattle.space.specs.Steps.{manyPlan, movesNumber, movesCount, GoodAnodes}
+use Rattle.space.specs.Steps.{manyPlan, movesNumber, movesCount, moveBlock, moveMany, GoodAnodes}
 
 -- ---- what a step leaves
 
@@ -42,24 +42,12 @@ module _ (img : List ℕ) (s : Anodes) (good : GoodAnodes img s) (h : ℕ) (d : 
       let part = sum-mono (λ a. oneAt (good .0 a) h * s .count a) (s .count) 3444 (λ a l. elim (oneAt-cases (good .0 a) h) [ inl q ↦ rw (q .1) (omega arith) | inr q ↦ rw (q .1) (omega arith) ]) in
       elim (less? (blockCount s h) 65535) [ inl l ↦ l | inr l ↦ omega (arith, size-bounds img size .1, sum-member (systemOwns img) 0 (diskSize img) (omega arith)) ]
 
-  -- so a table of 65,535 numbers holds the blocks that were given back
-  pub gave-few : wrongSize img ≡ false → h ≢ 1 → (k : ℕ) → k ≤ blockCount s h → (t : Anodes) (ys : List ℕ) → giveMany 3444 (exists img) (lastReserved img) k s h ≡ planned t ys → length ys < 65535
-  gave-few size h1 k l t ys e = omega (arith, count-small size, gives-blocks k h h1 t ys s (systemOwns img) (good .0) (good .1) (good .2) d e .1)
-
-  module _ (h1 : h ≢ 1) (t : Anodes) (y : ℕ) where
-    pub took : (own : Bool) → takeBlock 3444 (exists img) (lastReserved img) own s h ≡ planned t (y ∷ []) → GoodAnodes img t × Head (t .next) (t .block) h × (blockCount t h ≡ blockCount s h + 1)
-    took own e =
-        let g = good .2 in
-        let w = take-good g h d h1 own t (y ∷ []) e in
-        let d′ = moved-stays g w h d in
-        ((w .hd′, w .sd′, w .good), d′, omega (arith, w .moved h, blocks-count g h d, blocks-count (w .good) h d′, oneAt-same h h refl, oneAt-other 1 h (λ i. h1 (sym i))))
-
-    pub gave : giveBack 3444 (exists img) (lastReserved img) s h ≡ planned t (y ∷ []) → GoodAnodes img t × Head (t .next) (t .block) h × (blockCount t h + 1 ≡ blockCount s h)
-    gave e =
-        let g = good .2 in
-        let w = give-good g h d h1 t (y ∷ []) e in
-        let d′ = moved-stays g w h d in
-        ((w .hd′, w .sd′, w .good), d′, omega (arith, w .moved h, blocks-count g h d, blocks-count (w .good) h d′, oneAt-same h h refl, oneAt-other 1 h (λ i. h1 (sym i))))
+  -- a step moves the block between the free list and the chain
+  stepped : h ≢ 1 → (taking : Bool) (t : Anodes) (y : ℕ) → moveBlock img taking s h ≡ planned t (y ∷ []) →
+      Moved 3444 (exists img) (diskSize img) (lastReserved img) s (systemOwns img) (good .0) (cond taking 1 h) (cond taking h 1) (y ∷ []) t
+  unfolding moveBlock
+  stepped h1 true t y e = take-good (good .2) h d h1 false t (y ∷ []) e
+  stepped h1 false t y e = give-good (good .2) h d h1 t (y ∷ []) e
 
 -- ---- the plan that is left
 
@@ -74,57 +62,86 @@ module _ (ex : ℕ → Bool) (last : ℕ) where
   after-both ys zs (refused j) = refl
   after-both ys zs (planned t xs) = ap (planned t) (sym (append-assoc ys zs xs))
 
-  module _ (k m : ℕ) (fuel : k ≡ m + 1) (s : Anodes) (h : ℕ) where
-    pub take-next : (own : Bool) (t : Anodes) (y : ℕ) → takeBlock 3444 ex last own s h ≡ planned t (y ∷ []) → takeMany 3444 ex last own k s h ≡ after 3444 ex last (y ∷ []) (takeMany 3444 ex last own m t h)
-    unfolding takeMany
-    take-next own t y e = rw (fuel, add-one m, e, takeMany)
+module _ (img : List ℕ) (s : Anodes) (h : ℕ) where
+  many-none : (taking : Bool) → moveMany img taking 0 s h ≡ planned s []
+  unfolding moveMany takeMany giveMany
+  many-none true = refl
+  many-none false = refl
 
-    pub take-stop : (own : Bool) (j : ℕ) → takeBlock 3444 ex last own s h ≡ refused j → takeMany 3444 ex last own k s h ≡ refused j
-    unfolding takeMany
-    take-stop own j e = rw (fuel, add-one m, e, takeMany)
+  module _ (k m : ℕ) (fuel : k ≡ m + 1) where
+    many-next : (taking : Bool) (t : Anodes) (y : ℕ) → moveBlock img taking s h ≡ planned t (y ∷ []) → moveMany img taking k s h ≡ after 3444 (exists img) (lastReserved img) (y ∷ []) (moveMany img taking m t h)
+    unfolding moveBlock moveMany takeMany giveMany
+    many-next true t y e = rw (fuel, add-one m, e, takeMany)
+    many-next false t y e = rw (fuel, add-one m, e, giveMany)
 
-    pub give-next : (t : Anodes) (y : ℕ) → giveBack 3444 ex last s h ≡ planned t (y ∷ []) → giveMany 3444 ex last k s h ≡ after 3444 ex last (y ∷ []) (giveMany 3444 ex last m t h)
-    unfolding giveMany
-    give-next t y e = rw (fuel, add-one m, e, giveMany)
+    many-stop : (taking : Bool) (j : ℕ) → moveBlock img taking s h ≡ refused j → moveMany img taking k s h ≡ refused j
+    unfolding moveBlock moveMany takeMany giveMany
+    many-stop true j e = rw (fuel, add-one m, e, takeMany)
+    many-stop false j e = rw (fuel, add-one m, e, giveMany)
 
-    pub give-stop : (j : ℕ) → giveBack 3444 ex last s h ≡ refused j → giveMany 3444 ex last k s h ≡ refused j
-    unfolding giveMany
-    give-stop j e = rw (fuel, add-one m, e, giveMany)
+-- ---- the run up to a step
 
-  pub take-none : (own : Bool) (s : Anodes) (h : ℕ) → takeMany 3444 ex last own 0 s h ≡ planned s []
-  unfolding takeMany
-  take-none own s h = refl
+-- the table of moved blocks has room: those taken are on the chain, and those to be given are, beside those that were
+unfoldable pub Room : Bool → ℕ → ℕ → ℕ → Type 0
+Room true left done count = done ≤ count
+Room false left done count = (left ≤ count) × (count + done ≤ 65535)
 
-  pub give-none : (s : Anodes) (h : ℕ) → giveMany 3444 ex last 0 s h ≡ planned s []
-  unfolding giveMany
-  give-none s h = refl
+room-first : (taking : Bool) (k count : ℕ) → count < 65535 → (taking ≡ false → k ≤ count) → Room taking k 0 count
+unfolding Room
+room-first true k count small fits = omega arith
+room-first false k count small fits = (fits refl, omega arith)
 
--- a run on the chain of h has come to s, has noted the blocks so far, and has the plan `rest` left of the `whole`
-pub record Run (img : List ℕ) (h : ℕ) (whole rest : Plan) (s : Anodes) (moved : List ℕ) (done : ℕ) : Type 0 where
+room-left : (taking : Bool) (left done count : ℕ) → count < 65535 → 0 < left → Room taking left done count → (done < 65535) × (taking ≡ false → 0 < count)
+unfolding Room
+room-left true left done count small some r = (omega arith, λ q. absurd (true≢false q))
+room-left false left done count small some r = (omega (arith, r .0, r .1), λ q. omega (arith, r .0))
+
+room-next : (taking : Bool) (left m done old new h : ℕ) → h ≢ 1 → left ≡ m + 1 → new + oneAt (cond taking 1 h) h ≡ old + oneAt (cond taking h 1) h → Room taking left done old → Room taking m (done + 1) new
+unfolding Room
+room-next true left m done old new h h1 fuel e r = omega (arith, e, r, oneAt-same h h refl, oneAt-other 1 h (λ i. h1 (sym i)))
+room-next false left m done old new h h1 fuel e r = let one = oneAt-same h h refl in let none = oneAt-other 1 h (λ i. h1 (sym i)) in (omega (arith, e, r .0, one, none), omega (arith, e, r .1, one, none))
+
+-- a run on the chain of h has come to s, has noted the blocks so far, and has `left` steps of the whole plan to go
+pub record Run (img : List ℕ) (taking : Bool) (h : ℕ) (whole : Plan) (left : ℕ) (s : Anodes) (moved : List ℕ) (done : ℕ) : Type 0 where
   pub good : GoodAnodes img s
   pub head : Head (s .next) (s .block) h
-  pub same : after 3444 (exists img) (lastReserved img) (take done moved) rest ≡ whole
+  pub room : Room taking left done (blockCount s h)
+  pub same : after 3444 (exists img) (lastReserved img) (take done moved) (moveMany img taking left s h) ≡ whole
 
-module _ (img : List ℕ) (h : ℕ) where
-  pub run-start : (whole : Plan) (s : Anodes) (moved : List ℕ) → GoodAnodes img s → Head (s .next) (s .block) h → Run img h whole whole s moved 0
-  run-start whole s moved good d = record { good = good; head = d; same = after-none (exists img) (lastReserved img) whole }
+module _ (img : List ℕ) (taking : Bool) (h : ℕ) (size : wrongSize img ≡ false) where
+  pub run-first : (k : ℕ) (s : Anodes) (moved : List ℕ) → GoodAnodes img s → Head (s .next) (s .block) h → (taking ≡ false → k ≤ blockCount s h) → Run img taking h (moveMany img taking k s h) k s moved 0
+  run-first k s moved good d fits = record {
+    good = good;
+    head = d;
+    room = room-first taking k (blockCount s h) (count-small img s good h d size) fits;
+    same = after-none (exists img) (lastReserved img) (moveMany img taking k s h);
+  }
 
-  module _ (whole rest : Plan) (s : Anodes) (moved : List ℕ) (done : ℕ) (run : Run img h whole rest s moved done) where
-    pub run-next : (t : Anodes) (y : ℕ) (left : Plan) → rest ≡ after 3444 (exists img) (lastReserved img) (y ∷ []) left → done < length moved → GoodAnodes img t → Head (t .next) (t .block) h →
-        Run img h whole left t (set moved done y) (done + 1)
-    run-next t y left e l good d = record {
-      good = good;
-      head = d;
-      same = rw (add-one done, take-suc-set moved done y l) (sym (after-both (exists img) (lastReserved img) (take done moved) (y ∷ []) left) ∙ rw (← e) (run .same));
-    }
-
-    pub run-stop : (j : ℕ) → rest ≡ refused j → refused j ≡ whole
+  module _ (whole : Plan) (left : ℕ) (s : Anodes) (moved : List ℕ) (done : ℕ) (run : Run img taking h whole left s moved done) where
+    pub run-done : left ≡ 0 → planned s (take done moved) ≡ whole
     unfolding after
-    run-stop j e = rw e at (run .same)
+    run-done e = ap (planned s) (sym (append-nil (take done moved))) ∙ rw (e, many-none img s h taking) at (run .same)
 
-    pub run-done : rest ≡ planned s [] → planned s (take done moved) ≡ whole
-    unfolding after
-    run-done e = ap (planned s) (sym (append-nil (take done moved))) ∙ rw e at (run .same)
+    module _ (some : 0 < left) where
+      pub run-left : (done < 65535) × (taking ≡ false → 0 < blockCount s h)
+      run-left = room-left taking left done (blockCount s h) (count-small img s (run .good) h (run .head) size) some (run .room)
+
+      pub run-stop : (j : ℕ) → moveBlock img taking s h ≡ refused j → refused j ≡ whole
+      unfolding after
+      run-stop j e = rw (many-stop img s h left (left - 1) (omega arith) taking j e) at (run .same)
+
+      pub run-next : h ≢ 1 → length moved ≡ 65535 → (t : Anodes) (y : ℕ) → moveBlock img taking s h ≡ planned t (y ∷ []) → Run img taking h whole (left - 1) t (set moved done y) (done + 1)
+      run-next h1 long t y e =
+          let w = stepped img s (run .good) h (run .head) h1 taking t y e in
+          let d = moved-stays (run .good .2) w h (run .head) in
+          let count : blockCount t h + oneAt (cond taking 1 h) h ≡ blockCount s h + oneAt (cond taking h 1) h = omega (arith, w .moved h, blocks-count (run .good .2) h (run .head), blocks-count (w .good) h d) in
+          record {
+            good = (w .hd′, w .sd′, w .good);
+            head = d;
+            room = room-next taking left (left - 1) done (blockCount s h) (blockCount t h) h h1 (omega arith) count (run .room);
+            same = rw (add-one done, take-suc-set moved done y (omega (arith, long, run-left .0)))
+                (sym (after-both (exists img) (lastReserved img) (take done moved) (y ∷ []) (moveMany img taking (left - 1) t h)) ∙ rw (← (many-next img s h left (left - 1) (omega arith) taking t y e)) (run .same));
+          }
 
 -- ---- the answer of a run
 

@@ -1,6 +1,6 @@
 -- What the steps on tables of anodes answer, in the terms of the rules, and the state that they start from.
 use Prim.Native.Nat.{ℕ, _-_}
-use mathlib.Core.Bool.{Bool, cond}
+use mathlib.Core.Bool.{Bool, false, cond}
 use mathlib.Core.List.{List, [], _∷_}
 use lib.Dec.{eqb}
 use lib.ListN.{take}
@@ -8,7 +8,7 @@ use Rattle.disk.specs.Refusals.{numberOf}
 use Rattle.rules.specs.Anodes.{Anodes, limit, exists}
 use Rattle.rules.specs.Chains.{systemOwns, side}
 use Rattle.rules.specs.Accepted.{diskSize, lastReserved}
-use Rattle.rules.specs.Space.{Plan, refused, planned, rewritten, unlinked, emptied, Found, nowhere, found, firstFull}
+use Rattle.rules.specs.Space.{Plan, refused, planned, rewritten, unlinked, emptied, Found, nowhere, found, firstFull, takeBlock, giveBack, takeMany, giveMany}
 use Rattle.laws.specs.Space.{Good}
 use Rattle.space.specs.declared.Step.{Step}
 use Rattle.space.specs.declared.Step.the-variants.{Moved, Refused}
@@ -41,6 +41,14 @@ movesNumber (Stopped r) = numberOf r
 abbrev pub movesCount : Moves → ℕ
 movesCount (Done n) = n
 movesCount (Stopped r) = 0
+
+-- a step of a resize or a removal: a block of data taken for the chain of h, or its last block given back
+unfoldable pub moveBlock : List ℕ → Bool → Anodes → ℕ → Plan
+moveBlock img taking s h = cond taking (takeBlock limit (exists img) (lastReserved img) false s h) (giveBack limit (exists img) (lastReserved img) s h)
+
+-- k of them, one at a time
+unfoldable pub moveMany : List ℕ → Bool → ℕ → Anodes → ℕ → Plan
+moveMany img taking k s h = cond taking (takeMany limit (exists img) (lastReserved img) false k s h) (giveMany limit (exists img) (lastReserved img) k s h)
 
 -- the anodes of a disk in good order: refusals 6 to 11 hold, with some table of heads and of sides
 abbrev pub GoodAnodes : List ℕ → Anodes → Type 0

@@ -10,11 +10,11 @@ ghost use Rattle.rules.specs.Counting.{lastOf};
 ghost use Rattle.rules.specs.Anodes.{exists};
 ghost use Rattle.rules.specs.Chains.{chainOf, cut, blockCount};
 ghost use Rattle.rules.specs.Accepted.{wrongSize, lastReserved};
-ghost use Rattle.rules.specs.Space.{rewritten, insertedAfter, unlinked, firstFull, lastFull, lowestFree, append, put, takeBlock, sideOf, join, giveBack, takeMany, giveMany, dropped};
+ghost use Rattle.rules.specs.Space.{rewritten, insertedAfter, unlinked, firstFull, lastFull, lowestFree, append, put, takeBlock, sideOf, join, giveBack, dropped};
 ghost use Rattle.laws.specs.Links.{View, Linked};
 ghost use Rattle.laws.specs.Heads.{Head};
 ghost use Rattle.anodes.specs.Loaded.{anodesFrom};
-ghost use Rattle.space.specs.Steps.{stepPlan, manyPlan, stoppedBy, movesNumber, movesCount, GoodAnodes, foundOf, freeExtent, withoutBlock};
+ghost use Rattle.space.specs.Steps.{stepPlan, manyPlan, stoppedBy, movesNumber, movesCount, moveBlock, moveMany, GoodAnodes, foundOf, freeExtent, withoutBlock};
 use disk::AnodeNo;
 use disk::BlockNo;
 use disk::Refusal;
@@ -321,20 +321,12 @@ fn join(
         return append(image, z, y, counts, firsts, nexts);
     }
     let count = entry(counts, z);
-    if count == 0 {
-        rewrite(counts, firsts, z, 1, y);
-        return Step::Moved(y);
-    }
     let first = entry(firsts, z);
-    if first as u32 + count as u32 == y.0 as u32 {
-        rewrite(counts, firsts, z, count + 1, BlockNo(first));
-        return Step::Moved(y);
-    }
-    if y.0 as u32 + 1 == first as u32 {
+    if count != 0 && y.0 as u32 + 1 == first as u32 {
         rewrite(counts, firsts, z, count + 1, y);
         return Step::Moved(y);
     }
-    append(image, z, y, counts, firsts, nexts)
+    put(image, false, z, y, counts, firsts, nexts)
 }
 
 // Gives back the last block of the chain of `head`.
@@ -403,39 +395,30 @@ pub fn copied(table: &[u16]) -> [u16; 3444]
     copy
 }
 
-// Takes `k` blocks for the chain of `head`, one at a time, and notes them in `moved`.
-pub fn take_many(
+// Takes a block of data for the chain of `head`, or gives back its last block.
+fn move_block(
     image: &[u8],
-    own: bool,
-    k: u64,
+    taking: bool,
     head: AnodeNo,
     counts: &mut [u16],
     firsts: &mut [u16],
     nexts: &mut [u16],
-    moved: &mut [u16],
-) -> Moves
-    requires { ⌜ (length (now counts) ≡ 3444) × (length (now firsts) ≡ 3444) × (length (now nexts) ≡ 3444) × (length (now moved) ≡ 65535) ⌝ }
+) -> Step
+    requires { ⌜ (length (now counts) ≡ 3444) × (length (now firsts) ≡ 3444) × (length (now nexts) ≡ 3444) ⌝ }
     requires { ⌜ (wrongSize (now image) ≡ false) × GoodAnodes (now image) (anodesFrom (now counts) (now firsts) (now nexts)) ⌝ }
-    requires { ⌜ Head (anodesFrom (now counts) (now firsts) (now nexts) .next) (anodesFrom (now counts) (now firsts) (now nexts) .block) (head .0) × (head .0 ≢ 1) ⌝ }
-    ensures { λ r. ⌜ manyPlan r (anodesFrom (now (counts .exit)) (now (firsts .exit)) (now (nexts .exit))) (now (moved .exit)) ≡ takeMany 3444 (exists (now (image .entry))) (lastReserved (now (image .entry))) own k (anodesFrom (now (counts .entry)) (now (firsts .entry)) (now (nexts .entry))) (head .0) ⌝ }
+    requires { ⌜ Head (anodesFrom (now counts) (now firsts) (now nexts) .next) (anodesFrom (now counts) (now firsts) (now nexts) .block) (head .0) × (head .0 ≢ 1) × (taking ≡ false → 0 < blockCount (anodesFrom (now counts) (now firsts) (now nexts)) (head .0)) ⌝ }
+    ensures { λ r. ⌜ stepPlan r (anodesFrom (now (counts .exit)) (now (firsts .exit)) (now (nexts .exit))) ≡ moveBlock (now (image .entry)) taking (anodesFrom (now (counts .entry)) (now (firsts .entry)) (now (nexts .entry))) (head .0) ⌝ }
 {
-    let mut left = k;
-    let mut done: usize = 0;
-    while 0 < left {
-        let step = take_block(image, own, head, counts, firsts, nexts);
-        let Step::Moved(y) = step else {
-            return stopped(step);
-        };
-        set_entry(moved, done, y.0);
-        done += 1;
-        left -= 1;
+    if taking {
+        return take_block(image, false, head, counts, firsts, nexts);
     }
-    Moves::Done(done)
+    give_back(image, head, counts, firsts, nexts)
 }
 
-// Gives back the last `k` blocks of the chain of `head`, one at a time, and notes them in `moved`.
-pub fn give_many(
+// Takes `k` blocks of data for the chain of `head`, or gives back its last `k`, one at a time, and notes them in `moved`.
+pub fn move_many(
     image: &[u8],
+    taking: bool,
     k: u64,
     head: AnodeNo,
     counts: &mut [u16],
@@ -445,13 +428,13 @@ pub fn give_many(
 ) -> Moves
     requires { ⌜ (length (now counts) ≡ 3444) × (length (now firsts) ≡ 3444) × (length (now nexts) ≡ 3444) × (length (now moved) ≡ 65535) ⌝ }
     requires { ⌜ (wrongSize (now image) ≡ false) × GoodAnodes (now image) (anodesFrom (now counts) (now firsts) (now nexts)) ⌝ }
-    requires { ⌜ Head (anodesFrom (now counts) (now firsts) (now nexts) .next) (anodesFrom (now counts) (now firsts) (now nexts) .block) (head .0) × (head .0 ≢ 1) × (k ≤ blockCount (anodesFrom (now counts) (now firsts) (now nexts)) (head .0)) ⌝ }
-    ensures { λ r. ⌜ manyPlan r (anodesFrom (now (counts .exit)) (now (firsts .exit)) (now (nexts .exit))) (now (moved .exit)) ≡ giveMany 3444 (exists (now (image .entry))) (lastReserved (now (image .entry))) k (anodesFrom (now (counts .entry)) (now (firsts .entry)) (now (nexts .entry))) (head .0) ⌝ }
+    requires { ⌜ Head (anodesFrom (now counts) (now firsts) (now nexts) .next) (anodesFrom (now counts) (now firsts) (now nexts) .block) (head .0) × (head .0 ≢ 1) × (taking ≡ false → k ≤ blockCount (anodesFrom (now counts) (now firsts) (now nexts)) (head .0)) ⌝ }
+    ensures { λ r. ⌜ manyPlan r (anodesFrom (now (counts .exit)) (now (firsts .exit)) (now (nexts .exit))) (now (moved .exit)) ≡ moveMany (now (image .entry)) taking k (anodesFrom (now (counts .entry)) (now (firsts .entry)) (now (nexts .entry))) (head .0) ⌝ }
 {
     let mut left = k;
     let mut done: usize = 0;
     while 0 < left {
-        let step = give_back(image, head, counts, firsts, nexts);
+        let step = move_block(image, taking, head, counts, firsts, nexts);
         let Step::Moved(y) = step else {
             return stopped(step);
         };

@@ -59,10 +59,10 @@ pub fn chain_sum(counts: &[u16], nexts: &[u16], a: AnodeNo) -> u32
 }
 
 // The blocks that a file of this size asks for.
-fn blocks_for(size: u32) -> u64
+pub fn blocks_for(size: u64) -> u64
     ensures { λ r. ⌜ r ≡ blocksFor size ⌝ }
 {
-    ((size as u64) + 511) / 512
+    size / 512 + (size % 512 + 511) / 512
 }
 
 // Whether an entry may name anode `a`.
@@ -144,7 +144,7 @@ fn enter(
     }
     match kind {
         Kind::File => {
-            if chain_sum(counts, nexts, a) as u64 != blocks_for(e.size) {
+            if chain_sum(counts, nexts, a) as u64 != blocks_for(e.size as u64) {
                 return Step::Fault(Refusal::FileSize);
             }
             set_entry(marks, i, 1);

@@ -1,11 +1,12 @@
 use mathlib.Core.Path.{_∙_}
+use native.Mathlib.Omega.{arith}
 use Rattle.rules.specs.Anodes.{exists}
 use Rattle.rules.specs.Accepted.{lastReserved}
 use Rattle.rules.specs.Changes.{removedImage}
 use Rattle.anodes.specs.Loaded.{anodesFrom}
 use Rattle.lookup.specs.Answers.{entered}
-use Rattle.changed.specs.Chains.{noted-all}
-use Rattle.removing.proofs.Laws.{drops-ready, removed-links, moved-few, stands, done-leaves}
+use Rattle.changed.specs.Chains.{gave-few, noted-all}
+use Rattle.removing.proofs.Laws.{drops-ready, removed-links, stands, done-leaves}
 use borrow.Author.Needs.{needs}
 use Rattle.removing.proofs.commit_remove.Statement.{statement}
 use Rattle.removing.proofs.commit_remove.Tie as tie
@@ -22,7 +23,9 @@ take-out-requires c κs =
     rw (c .before .before .before .store-anodes .ensures, c .before .before .before .before .before .before .before .before .before .before .before .before .before .before .drop-chain .ensures (exists img) (lastReserved img)) (stands (c .before .before .before .before .before .before .before .before .before .before .before .before .before .before .before .before .before .before .before .before .before .before .before .before .before .before .before .before .pre .0 .0) (entered (c .before .before .before .before .before .before .before .before .before .before .before .before .before .before .before .before .before .before .before .before .before .before .before .before .before .before .before .before .args .e)) (c .before .before .before .before .before .before .before .before .before .before .before .before .before .before .before .before .before .before .before .before .before .before .before .before .before .before .before .before .pre .0 .1) _ _ (c .before .before .before .before .before .before .before .before .before .before .before .before .before .before .before .before .before .before .before .before .before .before .before .before .before .before .before .before .pre .1 .1))
 
 set-owners-requires : tie.Need-set-owners-requires
-set-owners-requires c κs = noted-all _ _ (c .before .before .before .before .before .before .before .before .before .before .before .before .before .before .before .before .before .before .before .before .before .before .before .before .before .before .before .before .before .before .before .before .pre .1 .0 .2) (moved-few (c .before .before .before .before .before .before .before .before .before .before .before .before .before .before .before .before .before .before .before .before .before .before .before .before .before .before .before .before .before .before .before .before .pre .0 .0) (entered (c .before .before .before .before .before .before .before .before .before .before .before .before .before .before .before .before .before .before .before .before .before .before .before .before .before .before .before .before .before .before .before .before .args .e)) (c .before .before .before .before .before .before .before .before .before .before .before .before .before .before .before .before .before .before .before .before .before .before .before .before .before .before .before .before .before .before .before .before .pre .0 .1) _ _ (c .before .before .before .before .before .before .before .before .before .before .before .before .before .before .before .before .before .before .before .before .before .before .before .before .before .before .before .before .before .before .before .before .pre .1 .1))
+set-owners-requires c κs =
+    let pre = c .before .before .before .before .before .before .before .before .before .before .before .before .before .before .before .before .before .before .before .before .before .before .before .before .before .before .before .before .before .before .before .before .pre in
+    noted-all _ _ (pre .1 .0 .2) (gave-few (pre .0 .0) (entered (c .before .before .before .before .before .before .before .before .before .before .before .before .before .before .before .before .before .before .before .before .before .before .before .before .before .before .before .before .before .before .before .before .args .e)) (pre .0 .1) _ _ _ (pre .1 .1) (omega arith))
 
 show-heads-requires : tie.Need-show-heads-requires
 unfolding anodesFrom

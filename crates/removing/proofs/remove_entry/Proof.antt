@@ -1,8 +1,10 @@
 use mathlib.Core.Path.{sym, _∙_}
+use native.Mathlib.Nat.{le-of-eq}
 use Rattle.anodes.specs.Loaded.{anodesFrom}
 use Rattle.lookup.specs.Answers.{entered}
 use Rattle.space.proofs.Many.{moves-done, moves-stopped}
-use Rattle.removing.proofs.Laws.{gives-ready, gives-made, refused-leaves}
+use Rattle.changed.specs.Chains.{plan-ready}
+use Rattle.removing.proofs.Laws.{gives-made, refused-leaves}
 use borrow.Author.Needs.{needs}
 use Rattle.removing.proofs.remove_entry.Statement.{statement}
 use Rattle.removing.proofs.remove_entry.Tie as tie
@@ -22,20 +24,23 @@ copied-requires-2 c κs = search needs
 copied-requires-3 : tie.Need-copied-requires-3
 copied-requires-3 c κs = search needs
 
-slice-aggregate-give-many : tie.Need-slice-aggregate-give-many
-slice-aggregate-give-many c = search needs
+slice-aggregate-move-many : tie.Need-slice-aggregate-move-many
+slice-aggregate-move-many c = search needs
 
-slice-aggregate-give-many-2 : tie.Need-slice-aggregate-give-many-2
-slice-aggregate-give-many-2 c = search needs
+slice-aggregate-move-many-2 : tie.Need-slice-aggregate-move-many-2
+slice-aggregate-move-many-2 c = search needs
 
-slice-aggregate-give-many-3 : tie.Need-slice-aggregate-give-many-3
-slice-aggregate-give-many-3 c = search needs
+slice-aggregate-move-many-3 : tie.Need-slice-aggregate-move-many-3
+slice-aggregate-move-many-3 c = search needs
 
-slice-aggregate-give-many-4 : tie.Need-slice-aggregate-give-many-4
-slice-aggregate-give-many-4 c = search needs
+slice-aggregate-move-many-4 : tie.Need-slice-aggregate-move-many-4
+slice-aggregate-move-many-4 c = search needs
 
-give-many-requires : tie.Need-give-many-requires
-give-many-requires c κs = ((search needs, search needs, search needs, search needs), gives-ready (c .before .before .before .before .before .before .before .before .before .before .before .before .before .before .before .pre .0 .0) (entered (c .before .before .before .before .before .before .before .before .before .before .before .before .before .before .before .args .e)) (c .before .before .before .before .before .before .before .before .before .before .before .before .before .before .before .pre .0 .1) _ _ _ (c .before .before .before .before .before .before .before .copied .ensures) (c .before .before .before .before .before .before .copied2 .ensures) (c .before .before .before .before .before .copied3 .ensures) _ (c .before .before .before .before .before .before .before .before .chain-sum .ensures))
+move-many-requires : tie.Need-move-many-requires
+move-many-requires c κs =
+    let pre = c .before .before .before .before .before .before .before .before .before .before .before .before .before .before .before .pre in
+    let w = plan-ready (pre .0 .0) (entered (c .before .before .before .before .before .before .before .before .before .before .before .before .before .before .before .args .e)) (pre .0 .1) _ _ _ (c .before .before .before .before .before .before .before .copied .ensures) (c .before .before .before .before .before .before .copied2 .ensures) (c .before .before .before .before .before .copied3 .ensures) _ (c .before .before .before .before .before .before .before .before .chain-sum .ensures) in
+    ((search needs, search needs, search needs, search needs), (w .0, (w .1 .0, w .1 .1, λ q. le-of-eq (w .1 .2))))
 
 moves-number-requires : tie.Need-moves-number-requires
 moves-number-requires c κs = search needs
@@ -58,9 +63,9 @@ moves-count-requires c κs = search needs
 commit-remove-requires : tie.Need-commit-remove-requires
 commit-remove-requires c κs =
     let pre = c .before .before .before .before .before .before .before .before .before .before .before .before .before .before .before .before .before .before .before .before .before .before .before .before .before .before .before .before .before .before .pre in
-    let p = c .before .before .before .before .before .before .before .before .before .before .before .before .before .before .give-many in
+    let p = c .before .before .before .before .before .before .before .before .before .before .before .before .before .before .move-many in
     let made = gives-made (pre .0 .0) (entered (c .before .before .before .before .before .before .before .before .before .before .before .before .before .before .before .before .before .before .before .before .before .before .before .before .before .before .before .before .before .before .args .e)) (pre .0 .1) _ _ _ (c .before .before .before .before .before .before .before .before .before .before .before .before .before .before .before .before .before .before .before .before .before .before .copied .ensures) (c .before .before .before .before .before .before .before .before .before .before .before .before .before .before .before .before .before .before .before .before .before .copied2 .ensures) (c .before .before .before .before .before .before .before .before .before .before .before .before .before .before .before .before .before .before .before .before .copied3 .ensures) _ (c .before .before .before .before .before .before .before .before .before .before .before .before .before .before .before .before .before .before .before .before .before .before .before .chain-sum .ensures) _ (p .ensures) in
-    (pre .0, ((pre .1, search needs, search needs), rw (c .moves-count .ensures) (made ∙ moves-done _ (p .last .1 .1 .1 .1 .1 .1 .0) (p .result) (sym (c .before .before .before .before .before .before .before .before .before .moves-number .ensures) ∙ c .before .before .before .before .before .before .before .before .if1 .taken))))
+    (pre .0, ((pre .1, search needs, search needs), rw (c .moves-count .ensures) (made ∙ moves-done _ (p .last .1 .1 .1 .1 .1 .1 .1 .0) (p .result) (sym (c .before .before .before .before .before .before .before .before .before .moves-number .ensures) ∙ c .before .before .before .before .before .before .before .before .if1 .taken))))
 
 same-length : tie.Need-same-length
 same-length c = search needs
@@ -81,8 +86,8 @@ returns-2 : tie.Need-returns-2
 returns-2 c =
     let pre = c .before .before .before .before .before .before .before .before .before .before .before .before .before .before .before .before .before .before .before .before .before .before .pre in
     let e = entered (c .before .before .before .before .before .before .before .before .before .before .before .before .before .before .before .before .before .before .before .before .before .before .args .e) in
-    let p = c .before .before .before .before .before .before .give-many in
-    let q = p .last .1 .1 .1 in
+    let p = c .before .before .before .before .before .before .move-many in
+    let q = p .last .1 .1 .1 .1 in
     let made = gives-made (pre .0 .0) e (pre .0 .1) _ _ _ (c .before .before .before .before .before .before .before .before .before .before .before .before .before .before .copied .ensures) (c .before .before .before .before .before .before .before .before .before .before .before .before .before .copied2 .ensures) (c .before .before .before .before .before .before .before .before .before .before .before .before .copied3 .ensures) _ (c .before .before .before .before .before .before .before .before .before .before .before .before .before .before .before .chain-sum .ensures) _ (p .ensures) in
     let is = c .before .moves-number .ensures in
     rw is (refused-leaves (pre .0 .0) e (pre .0 .1) _ (made ∙ moves-stopped (anodesFrom (q .0) (q .1 .0) (q .1 .1 .0)) (q .1 .1 .1 .0) (p .result) (λ z. c .if1 .left (is ∙ z))) _ _)
@@ -96,11 +101,11 @@ remove-entry-spec =
     copied-requires
     copied-requires-2
     copied-requires-3
-    slice-aggregate-give-many
-    slice-aggregate-give-many-2
-    slice-aggregate-give-many-3
-    slice-aggregate-give-many-4
-    give-many-requires
+    slice-aggregate-move-many
+    slice-aggregate-move-many-2
+    slice-aggregate-move-many-3
+    slice-aggregate-move-many-4
+    move-many-requires
     moves-number-requires
     slice-aggregate-commit-remove
     slice-aggregate-commit-remove-2

@@ -2,7 +2,8 @@ use mathlib.Core.Path.{sym, _∙_}
 use Rattle.anodes.specs.Loaded.{anodesFrom}
 use Rattle.lookup.specs.Answers.{entered}
 use Rattle.space.proofs.Many.{moves-done, moves-stopped}
-use Rattle.resizing.proofs.Laws.{plan-ready, plan-made, owner-is, refused-leaves}
+use Rattle.changed.specs.Chains.{plan-ready}
+use Rattle.resizing.proofs.Laws.{plan-made, owner-is, refused-leaves}
 use borrow.Author.Needs.{needs}
 use Rattle.resizing.proofs.resize_entry.Statement.{statement}
 use Rattle.resizing.proofs.resize_entry.Tie as tie
@@ -40,7 +41,7 @@ slice-aggregate-plan-resize-4 c = search needs
 plan-resize-requires : tie.Need-plan-resize-requires
 plan-resize-requires c κs =
     let pre = c .before .before .before .before .before .before .before .before .before .before .before .before .before .before .before .before .pre in
-    ((search needs, search needs, search needs, search needs), plan-ready (pre .0 .0) (entered (c .before .before .before .before .before .before .before .before .before .before .before .before .before .before .before .before .args .e)) (pre .0 .1) (c .before .before .before .before .before .before .before .before .before .before .before .before .before .before .before .before .args .size) _ _ _ (c .before .before .before .before .before .before .before .copied .ensures) (c .before .before .before .before .before .before .copied2 .ensures) (c .before .before .before .before .before .copied3 .ensures) _ (c .before .before .before .before .before .before .before .before .before .chain-sum .ensures))
+    ((search needs, search needs, search needs, search needs), plan-ready (pre .0 .0) (entered (c .before .before .before .before .before .before .before .before .before .before .before .before .before .before .before .before .args .e)) (pre .0 .1) _ _ _ (c .before .before .before .before .before .before .before .copied .ensures) (c .before .before .before .before .before .before .copied2 .ensures) (c .before .before .before .before .before .copied3 .ensures) _ (c .before .before .before .before .before .before .before .before .before .chain-sum .ensures))
 
 moves-number-requires : tie.Need-moves-number-requires
 moves-number-requires c κs = search needs

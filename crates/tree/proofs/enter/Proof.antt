@@ -36,6 +36,9 @@ chain-sum-requires c κs = search needs
 cast-if3 : tie.Need-cast-if3
 cast-if3 c = search needs
 
+cast-blocks-for : tie.Need-cast-blocks-for
+cast-blocks-for c = search needs
+
 blocks-for-requires : tie.Need-blocks-for-requires
 blocks-for-requires c κs = search needs
 
@@ -44,19 +47,19 @@ same-length-2 c = search needs
 
 returns-3 : tie.Need-returns-3
 returns-3 c =
-    let head = sym (c .before .before .before .before .before .before .before .before .before .head-at .ensures) ∙ not-false _ (c .before .before .before .before .before .before .before .before .if1 .left) in
-    let new = sym (c .before .before .before .before .before .before .entry .ensures) ∙ c .before .before .before .before .before .if2 .left in
-    λ place. (sym (enter-size _ _ _ _ _ _ _ place _ _ _ head new (c .before .before .before .enum-told .given .1) (λ z. c .if3 .taken (c .before .before .chain-sum .ensures ∙ z ∙ sym (c .before .blocks-for .ensures)))), search needs)
+    let head = sym (c .before .before .before .before .before .before .before .before .before .before .head-at .ensures) ∙ not-false _ (c .before .before .before .before .before .before .before .before .before .if1 .left) in
+    let new = sym (c .before .before .before .before .before .before .before .entry .ensures) ∙ c .before .before .before .before .before .before .if2 .left in
+    λ place. (sym (enter-size _ _ _ _ _ _ _ place _ _ _ head new (c .before .before .before .before .enum-told .given .1) (λ z. c .if3 .taken (c .before .before .before .chain-sum .ensures ∙ z ∙ sym (c .before .blocks-for .ensures)))), search needs)
 
 set-entry-requires : tie.Need-set-entry-requires
 set-entry-requires c κs = search needs
 
 with-file-requires : tie.Need-with-file-requires
 with-file-requires c κs =
-    let x = c .before .before .before .before .before .before .before .before .before .before .before .before .before .before .before .before .before .before .before .before .before .before .args in
-    let head = sym (c .before .before .before .before .before .before .before .before .before .before .before .before .before .head-at .ensures) ∙ not-false _ (c .before .before .before .before .before .before .before .before .before .before .before .before .if1 .left) in
-    let new = sym (c .before .before .before .before .before .before .before .before .before .before .entry .ensures) ∙ c .before .before .before .before .before .before .before .before .before .if2 .left in
-    let room = marked-room (x .heads .now) (x .marks .now) (x .e .anode .0) (x .t .last + x .t .files) head new (c .before .before .before .before .before .before .before .before .before .before .before .before .before .before .before .before .before .before .before .before .before .before .pre .0) (c .before .before .before .before .before .before .before .before .before .before .before .before .before .before .before .before .before .before .before .before .before .before .pre .3) in
+    let x = c .before .before .before .before .before .before .before .before .before .before .before .before .before .before .before .before .before .before .before .before .before .before .before .args in
+    let head = sym (c .before .before .before .before .before .before .before .before .before .before .before .before .before .before .head-at .ensures) ∙ not-false _ (c .before .before .before .before .before .before .before .before .before .before .before .before .before .if1 .left) in
+    let new = sym (c .before .before .before .before .before .before .before .before .before .before .before .entry .ensures) ∙ c .before .before .before .before .before .before .before .before .before .before .if2 .left in
+    let room = marked-room (x .heads .now) (x .marks .now) (x .e .anode .0) (x .t .last + x .t .files) head new (c .before .before .before .before .before .before .before .before .before .before .before .before .before .before .before .before .before .before .before .before .before .before .before .pre .0) (c .before .before .before .before .before .before .before .before .before .before .before .before .before .before .before .before .before .before .before .before .before .before .before .pre .3) in
     omega arith
 
 enum-told-2 : tie.Need-enum-told-2
@@ -84,13 +87,13 @@ same-length-3 c = search needs
 
 returns-4 : tie.Need-returns-4
 returns-4 c =
-    let x = c .before .before .before .before .before .before .before .before .before .before .before .before .before .before .before .before .before .before .before .before .before .before .before .args in
-    let head = sym (c .before .before .before .before .before .before .before .before .before .before .before .before .before .before .head-at .ensures) ∙ not-false _ (c .before .before .before .before .before .before .before .before .before .before .before .before .before .if1 .left) in
-    let new = sym (c .before .before .before .before .before .before .before .before .before .before .before .entry .ensures) ∙ c .before .before .before .before .before .before .before .before .before .before .if2 .left in
-    let size = sym (c .before .before .before .before .before .before .before .chain-sum .ensures) ∙ c .before .before .before .before .before .if3 .left ∙ c .before .before .before .before .before .before .blocks-for .ensures in
-    let room = marked-room (x .heads .now) (x .marks .now) (x .e .anode .0) (x .t .last + x .t .files) head new (c .before .before .before .before .before .before .before .before .before .before .before .before .before .before .before .before .before .before .before .before .before .before .before .pre .0) (c .before .before .before .before .before .before .before .before .before .before .before .before .before .before .before .before .before .before .before .before .before .before .before .pre .3) in
+    let x = c .before .before .before .before .before .before .before .before .before .before .before .before .before .before .before .before .before .before .before .before .before .before .before .before .args in
+    let head = sym (c .before .before .before .before .before .before .before .before .before .before .before .before .before .before .before .head-at .ensures) ∙ not-false _ (c .before .before .before .before .before .before .before .before .before .before .before .before .before .before .if1 .left) in
+    let new = sym (c .before .before .before .before .before .before .before .before .before .before .before .before .entry .ensures) ∙ c .before .before .before .before .before .before .before .before .before .before .before .if2 .left in
+    let size = sym (c .before .before .before .before .before .before .before .before .chain-sum .ensures) ∙ c .before .before .before .before .before .if3 .left ∙ c .before .before .before .before .before .before .blocks-for .ensures in
+    let room = marked-room (x .heads .now) (x .marks .now) (x .e .anode .0) (x .t .last + x .t .files) head new (c .before .before .before .before .before .before .before .before .before .before .before .before .before .before .before .before .before .before .before .before .before .before .before .before .pre .0) (c .before .before .before .before .before .before .before .before .before .before .before .before .before .before .before .before .before .before .before .before .before .before .before .before .pre .3) in
     rw (c .with-file .ensures, c .before .before .before .set-entry .ensures)
-    (λ place. (sym (enter-file _ _ _ _ _ _ _ place _ _ _ head new (c .before .before .before .before .before .before .before .before .enum-told .given .1) size), omega arith))
+    (λ place. (sym (enter-file _ _ _ _ _ _ _ place _ _ _ head new (c .before .before .before .before .before .before .before .before .before .enum-told .given .1) size), omega arith))
 
 same-length-4 : tie.Need-same-length-4
 same-length-4 c = search needs
@@ -124,6 +127,7 @@ enter-spec =
     enum-told
     chain-sum-requires
     cast-if3
+    cast-blocks-for
     blocks-for-requires
     same-length-2
     returns-3

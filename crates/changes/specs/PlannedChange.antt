@@ -1,0 +1,60 @@
+-- A change of an entry of an accepted image with its plan, as a resize and a removal have it: what is known of the entry, of its chain and of its block.
+use Prim.Native.Nat.{ℕ, _/_, _<_}
+use mathlib.Core.Path.{_≡_, sym, ap, _∙_}
+use mathlib.Core.Logic.{_≢_}
+use mathlib.Core.Bool.{false}
+use mathlib.Core.List.{List}
+use native.Mathlib.Omega.{arith}
+use Rattle.rules.specs.Counting.{times}
+use Rattle.rules.specs.Anodes.{Anodes, limit, anodesOf}
+use Rattle.rules.specs.Chains.{chainOf, blocksOf}
+use Rattle.rules.specs.Walk.{Entered, reachedDirs}
+use Rattle.rules.specs.Accepted.{checkAnswer}
+use Rattle.rules.specs.Lookup.{noDirectory, entriesOf}
+use Rattle.laws.specs.Heads.{Head}
+use Rattle.frames.specs.DisjointBlocks.{chains-apart}
+use Rattle.changes.specs.Image.{WholeImage, headIn, sideIn, accepted-whole}
+use Rattle.changes.specs.Members.{Member}
+use Rattle.changes.specs.Reached.{EntryFacts, block-on, reached-head, dir-block, entry-facts}
+use Rattle.changes.specs.SingleBlocks.{single-apart}
+
+-- Plans: what is known of the plan
+pub record PlannedChange (img : List ℕ) (e : Entered) (Plans : Type 0) : Type 0 where
+  pub blocks : ℕ
+  pub anodes : ℕ
+  pub accepted : checkAnswer img blocks anodes ≡ 0
+  -- the directory that has the entry
+  pub home : ℕ
+  pub reached : noDirectory img (anodesOf img) home ≡ false
+  pub member : Member e (entriesOf img (anodesOf img) home)
+  pub plan : Plans
+
+module _ {img : List ℕ} {e : Entered} {Plans : Type 0} (p : PlannedChange img e Plans) where
+  abbrev s : Anodes
+  s = anodesOf img
+
+  pub w : WholeImage img s (headIn img) (sideIn img) (reachedDirs img s)
+  w = accepted-whole img (p .blocks) (p .anodes) (p .accepted)
+
+  -- what is known of the entry
+  abbrev pub facts : EntryFacts img (p .home) e
+  facts = entry-facts img (p .blocks) (p .anodes) (p .accepted) (p .home) (p .reached) e (p .member)
+
+  pub not-1 : e .anode ≢ 1
+  not-1 i = omega (arith, i, facts .from-6)
+
+  pub home-head : Head (s .next) (s .block) (p .home)
+  home-head = reached-head img (p .blocks) (p .anodes) (p .accepted) (p .home) (p .reached)
+
+  -- the block that the entry stands in is of its own directory's chain alone
+  pub off-chain : (m : ℕ) → Head (s .next) (s .block) m → m ≢ p .home → (z : ℕ) → 0 < times z (blocksOf s m) → z ≢ e .place / 512
+  off-chain m d apart z q i =
+      omega (arith, chains-apart (w .good) m (p .home) d home-head apart z q, rw (← (i ∙ facts .in-block)) at (block-on s (p .home) (facts .a₀) (facts .member-chain) (facts .block-facts .one)))
+
+  -- and no other anode's that has one block
+  pub off-anode : (a : ℕ) → s .count a ≡ 1 → a ≢ facts .a₀ → s .block a ≢ e .place / 512
+  off-anode a one n i = single-apart (w .good) a one (facts .a₀) (facts .block-facts .one) n (i ∙ facts .in-block)
+
+  -- nor is its anode on another directory's chain
+  pub not-a₀ : (k : ℕ) → noDirectory img s k ≡ false → k ≢ p .home → (a : ℕ) → Member a (chainOf (s .next) limit k) → a ≢ facts .a₀
+  not-a₀ k r apart a on i = apart (sym (dir-block img (p .blocks) (p .anodes) (p .accepted) k r a on .on-chain) ∙ ap (headIn img) i ∙ facts .block-facts .on-chain)
