@@ -1,5 +1,5 @@
-// Changes what a name stands for in an accepted image: first the refusals 20 to 26, then the change.
-ghost use mathlib.Core.Bool.{cond, false, _||_};
+// Changes what a name stands for in an accepted image: first the refusals, then the change.
+ghost use mathlib.Core.Bool.{_||_};
 ghost use mathlib.Core.List.{List};
 ghost use mathlib.Core.Path.{_≡_};
 ghost use Prim.Native.Nat.{ℕ, _≤_};
@@ -7,27 +7,25 @@ ghost use lib.Dec.{eqb};
 ghost use lib.ListN.{length};
 ghost use Rattle.directory.specs.Entries.{isDir};
 ghost use Rattle.rules.specs.Anodes.{anodesOf};
-ghost use Rattle.rules.specs.Lookup.{entryNamed, entriesOf, isThere, nth};
+ghost use Rattle.rules.specs.Lookup.{entryNamed};
 ghost use Rattle.rules.specs.Changes.{left, written, resized, removed};
 ghost use Rattle.rules.specs.Calls.{spanAnswer, resizeAnswer, removeAnswer, makeAnswer, wrongEntry, changeNamed, madeAfter};
-ghost use Rattle.anodes.specs.Loaded.{anodesFrom};
 ghost use Rattle.find.specs.Open.{Open};
 ghost use Rattle.changed.specs.Leaves.{Leaves};
 use directory::Kind;
-use directory::is_directory;
 use directory::name_ok;
 use disk::AnodeNo;
 use disk::Refusal;
 use disk::number;
 use find::Search;
-use find::find_named;
+use find::find_file;
+use find::find_removable;
+use find::find_span;
 use lookup::Lookup;
 use lookup::entry_named;
 use lookup::is_reached;
 use lookup::parent_of;
 use making::make_entry;
-use reader::is_empty;
-use reading::past_end;
 use removing::remove_entry;
 use resizing::resize_entry;
 use writes::write_along;
@@ -49,18 +47,23 @@ pub fn write_named(
     requires { ⌜ ((parents : List ℕ) × Open (now image) (now counts) (now firsts) (now nexts) (now queue) parents (now heads) dirs) ⌝ }
     ensures { λ r. ⌜ left r (now (image .exit)) ≡ changeNamed (spanAnswer (now (image .entry)) (anodesOf (now (image .entry))) (head .0) (now (name .entry)) offset (length (now (bytes .entry)))) (now (image .entry)) (entryNamed (now (image .entry)) (anodesOf (now (image .entry))) (head .0) (now (name .entry))) (λ e. left 0 (written (now (image .entry)) (anodesOf (now (image .entry))) e offset (now (bytes .entry)))) ⌝ }
 {
-    let found = find_named(image, firsts, nexts, queue, heads, dirs, head, name);
+    let len = bytes.len();
+    let found = find_span(
+        image,
+        firsts,
+        nexts,
+        queue,
+        heads,
+        dirs,
+        head,
+        name,
+        offset,
+        len,
+    );
     let e = match found {
         Search::Found(e) => e,
         Search::Refused(r) => return number(r),
     };
-    let kind = e.kind;
-    if is_directory(kind) {
-        return number(Refusal::IsDirectory);
-    }
-    if past_end(e.size, offset, bytes.len()) {
-        return number(Refusal::PastEnd);
-    }
     write_along(image, counts, firsts, nexts, e.anode, offset, bytes);
     0
 }
@@ -82,26 +85,12 @@ pub fn resize_named(
     requires { ⌜ ((parents : List ℕ) × Open (now image) (now counts) (now firsts) (now nexts) (now queue) parents (now heads) dirs) × (3444 ≤ length (now heads)) ⌝ }
     ensures { λ r. ⌜ Leaves r (now (image .entry)) (now (blocks .entry)) (now (heads .entry)) (now (image .exit)) (now (blocks .exit)) (now (heads .exit)) (changeNamed (resizeAnswer (now (image .entry)) (anodesOf (now (image .entry))) (head .0) (now (name .entry))) (now (image .entry)) (entryNamed (now (image .entry)) (anodesOf (now (image .entry))) (head .0) (now (name .entry))) (λ e. resized (now (image .entry)) (anodesOf (now (image .entry))) e size)) ⌝ }
 {
-    let found = find_named(image, firsts, nexts, queue, heads, dirs, head, name);
+    let found = find_file(image, firsts, nexts, queue, heads, dirs, head, name);
     let e = match found {
         Search::Found(e) => e,
         Search::Refused(r) => return number(r),
     };
-    let kind = e.kind;
-    if is_directory(kind) {
-        return number(Refusal::IsDirectory);
-    }
     resize_entry(image, blocks, heads, counts, firsts, nexts, e, size)
-}
-
-// Whether an entry is that of a directory with entries.
-fn is_full(image: &[u8], firsts: &[u16], nexts: &[u16], kind: Kind, anode: AnodeNo) -> bool
-    ensures { λ r. ⌜ ((c : List ℕ) → r ≡ cond (isDir kind) (isThere (nth (entriesOf (now (image .entry)) (anodesFrom c (now (firsts .entry)) (now (nexts .entry))) (anode .0)) 0)) false) ⌝ }
-{
-    if !is_directory(kind) {
-        return false;
-    }
-    !is_empty(image, firsts, nexts, anode)
 }
 
 // Removes a file or an empty directory; 21, 22, 25, then 28.
@@ -120,15 +109,11 @@ pub fn remove_named(
     requires { ⌜ ((parents : List ℕ) × Open (now image) (now counts) (now firsts) (now nexts) (now queue) parents (now heads) dirs) × (3444 ≤ length (now heads)) ⌝ }
     ensures { λ r. ⌜ Leaves r (now (image .entry)) (now (blocks .entry)) (now (heads .entry)) (now (image .exit)) (now (blocks .exit)) (now (heads .exit)) (changeNamed (removeAnswer (now (image .entry)) (anodesOf (now (image .entry))) (head .0) (now (name .entry))) (now (image .entry)) (entryNamed (now (image .entry)) (anodesOf (now (image .entry))) (head .0) (now (name .entry))) (λ e. removed (now (image .entry)) (anodesOf (now (image .entry))) e)) ⌝ }
 {
-    let found = find_named(image, firsts, nexts, queue, heads, dirs, head, name);
+    let found = find_removable(image, firsts, nexts, queue, heads, dirs, head, name);
     let e = match found {
         Search::Found(e) => e,
         Search::Refused(r) => return number(r),
     };
-    let kind = e.kind;
-    if is_full(image, firsts, nexts, kind, e.anode) {
-        return number(Refusal::NotEmpty);
-    }
     remove_entry(image, blocks, heads, counts, firsts, nexts, e)
 }
 
