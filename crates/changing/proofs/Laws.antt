@@ -2,16 +2,20 @@
 use Prim.Native.Nat.{ℕ, zero, suc, _≤_}
 use mathlib.Core.Path.{_≡_, refl, sym, ap, _∙_}
 use mathlib.Core.Logic.{inl, inr}
-use mathlib.Core.Bool.{true, false, not, _||_}
+use mathlib.Core.Bool.{Bool, true, false, cond, not, _||_}
 use mathlib.Core.List.{List}
 use mathlib.Core.Option.{Option, none, some}
 use native.Mathlib.Omega.{arith}
 use lib.Dec.{eqb, leb, ltb}
 use lib.ListN.{length}
-use borrow.Author.Tests.{le-leb, lt-leb, le-ltb, lt-ltb, not-false}
+use borrow.Author.Tests.{le-leb, lt-leb, le-ltb, lt-ltb, ne-eqb, not-false}
 use Rattle.disk.specs.declared.Refusal.{Refusal}
 use Rattle.disk.specs.Refusals.{numberOf}
-use Rattle.directory.specs.Entries.{goodName, goodComment}
+use Rattle.directory.specs.declared.Kind.{Kind}
+use Rattle.directory.specs.declared.Kind.the-variants.{File, Directory}
+use Rattle.directory.specs.declared.KindRead.{KindRead}
+use Rattle.directory.specs.declared.KindRead.the-variants.{Is, Neither}
+use Rattle.directory.specs.Entries.{isDir, kindRead, goodName, goodComment}
 use Rattle.rules.specs.Anodes.{Anodes, limit, anodesOf}
 use Rattle.rules.specs.Chains.{blocksOf}
 use Rattle.rules.specs.Walk.{Entered}
@@ -20,7 +24,7 @@ use Rattle.rules.specs.Lookup.{noDirectory, entriesOf, entryNamed}
 use Rattle.rules.specs.Changes.{Left, left, NewEntry, made, written}
 use Rattle.rules.specs.Calls.{spanAnswer, makeAnswer, wrongEntry, changeNamed, madeAfter}
 use Rattle.counting.specs.Laws.{neither}
-use Rattle.laws.specs.Tests.{less?}
+use Rattle.laws.specs.Tests.{same?, less?}
 use Rattle.frames.specs.DisjointBlocks.{chain-block, chain-once}
 use Rattle.changes.specs.Answers.{Late}
 use Rattle.changes.specs.Members.{Member}
@@ -90,28 +94,54 @@ module _ (img : List ℕ) (h : ℕ) (name : List ℕ) (offset : ℕ) (bytes : Li
 
 -- ---- make
 
-pub wrong-type : (type : ℕ) (name comment : List ℕ) → (eqb type 253 || eqb type 2) ≡ false → wrongEntry type name comment ≡ true
-unfolding wrongEntry
-wrong-type type name comment a = rw a
+-- whether a type byte was read, and as a directory's
+abbrev isRead : KindRead → Bool
+isRead (Is k) = true
+isRead Neither = false
 
-pub wrong-name : (type : ℕ) (name comment : List ℕ) → (eqb type 253 || eqb type 2) ≡ true → goodName name ≡ false → wrongEntry type name comment ≡ true
-unfolding wrongEntry
-wrong-name type name comment a b = rw (a, b)
+abbrev dirRead : KindRead → Bool
+dirRead (Is k) = isDir k
+dirRead Neither = false
 
-pub wrong-comment : (type : ℕ) (name comment : List ℕ) → (eqb type 253 || eqb type 2) ≡ true → goodName name ≡ true → wrongEntry type name comment ≡ not (goodComment comment)
+type-read : (type : ℕ) → isRead (kindRead type) ≡ (eqb type 253 || eqb type 2)
+unfolding kindRead
+type-read type = go (eqb type 253) (eqb type 2)
+  where
+    go : (a b : Bool) → isRead (cond a (Is File) (cond b (Is Directory) Neither)) ≡ (a || b)
+    go true b = refl
+    go false true = refl
+    go false false = refl
+
+dir-read : (type : ℕ) → dirRead (kindRead type) ≡ eqb type 2
+unfolding kindRead
+dir-read type = elim (same? type 253) [ inl e ↦ rw e | inr n ↦ rw (ne-eqb type 253 n) (go (eqb type 2)) ]
+  where
+    go : (b : Bool) → dirRead (cond b (Is Directory) Neither) ≡ b
+    go true = refl
+    go false = refl
+
+-- a byte that is no type's is refused, and of another the name and the comment are looked at
+pub wrong-type : (type : ℕ) (name comment : List ℕ) → kindRead type ≡ Neither → wrongEntry type name comment ≡ true
 unfolding wrongEntry
-wrong-comment type name comment a b = rw (a, b)
+wrong-type type name comment e = rw (sym (type-read type) ∙ ap isRead e)
+
+module _ (type : ℕ) (k : Kind) (e : kindRead type ≡ Is k) where
+  pub right-type : (name comment : List ℕ) → wrongEntry type name comment ≡ (not (goodName name) || not (goodComment comment))
+  unfolding wrongEntry
+  right-type name comment = rw (sym (type-read type) ∙ ap isRead e)
+
+  pub made-kind : isDir k ≡ eqb type 2
+  made-kind = ap dirRead (sym e) ∙ dir-read type
+
+-- a name and a comment that are right
+pub right-entry : (name comment : List ℕ) → (not (goodName name) || not (goodComment comment)) ≡ false → (goodName name ≡ true) × (goodComment comment ≡ true)
+right-entry name comment e =
+    let n = neither (not (goodName name)) (not (goodComment comment)) e in
+    (not-false (goodName name) (n .0), not-false (goodComment comment) (n .1))
 
 -- the length test, either way round
 pub long-comment : (n : ℕ) → not (leb n 79) ≡ ltb 79 n
 long-comment n = elim (less? 79 n) [ inl l ↦ rw (lt-leb n 79 l, lt-ltb 79 n l) | inr l ↦ rw (le-leb n 79 l, le-ltb 79 n l) ]
-
--- an entry that is right
-pub right-entry : (type : ℕ) (name comment : List ℕ) → wrongEntry type name comment ≡ false → (goodName name ≡ true) × (goodComment comment ≡ true)
-unfolding wrongEntry
-right-entry type name comment e =
-    let n = neither (not (goodName name)) (not (goodComment comment)) (neither (not (eqb type 253 || eqb type 2)) (not (goodName name) || not (goodComment comment)) e .1) in
-    (not-false (goodName name) (n .0), not-false (goodComment comment) (n .1))
 
 module _ (img : List ℕ) (s : Anodes) (h type : ℕ) (name comment : List ℕ) where
   pub make-wrong : wrongEntry type name comment ≡ true → makeAnswer img s h type name comment ≡ 20

@@ -1,18 +1,19 @@
 // Changes what a name stands for in an accepted image: first the refusals, then the change.
-ghost use mathlib.Core.Bool.{_||_};
+ghost use mathlib.Core.Bool.{not, _||_};
 ghost use mathlib.Core.List.{List};
 ghost use mathlib.Core.Path.{_≡_};
 ghost use Prim.Native.Nat.{ℕ, _≤_};
 ghost use lib.Dec.{eqb};
 ghost use lib.ListN.{length};
-ghost use Rattle.directory.specs.Entries.{isDir};
+ghost use Rattle.directory.specs.Entries.{goodName, goodComment};
 ghost use Rattle.rules.specs.Anodes.{anodesOf};
 ghost use Rattle.rules.specs.Lookup.{entryNamed};
 ghost use Rattle.rules.specs.Changes.{left, written, resized, removed};
-ghost use Rattle.rules.specs.Calls.{spanAnswer, resizeAnswer, removeAnswer, makeAnswer, wrongEntry, changeNamed, madeAfter};
+ghost use Rattle.rules.specs.Calls.{spanAnswer, resizeAnswer, removeAnswer, makeAnswer, changeNamed, madeAfter};
 ghost use Rattle.find.specs.Open.{Open};
 ghost use Rattle.changed.specs.Leaves.{Leaves};
-use directory::Kind;
+use directory::KindRead;
+use directory::kind_of;
 use directory::name_ok;
 use disk::AnodeNo;
 use disk::Refusal;
@@ -117,37 +118,14 @@ pub fn remove_named(
     remove_entry(image, blocks, heads, counts, firsts, nexts, e)
 }
 
-// Whether a type is a file's or a directory's.
-fn is_type(kind: u8) -> bool
-    ensures { λ r. ⌜ r ≡ (eqb kind 253 || eqb kind 2) ⌝ }
+// 20: name or comment against the entry rules.
+fn wrong_entry(name: &[u8], comment: &[u8]) -> bool
+    ensures { λ r. ⌜ r ≡ (not (goodName (now (name .entry))) || not (goodComment (now (comment .entry)))) ⌝ }
 {
-    if kind == 253 {
-        return true;
-    }
-    kind == 2
-}
-
-// 20: type, name or comment against the entry rules.
-fn wrong_entry(kind: u8, name: &[u8], comment: &[u8]) -> bool
-    ensures { λ r. ⌜ r ≡ wrongEntry kind (now (name .entry)) (now (comment .entry)) ⌝ }
-{
-    if !is_type(kind) {
-        return true;
-    }
     if !name_ok(name) {
         return true;
     }
     79 < comment.len()
-}
-
-// The kind of an entry of type 253 or 2.
-fn kind_made(kind: u8) -> Kind
-    ensures { λ r. ⌜ isDir r ≡ eqb kind 2 ⌝ }
-{
-    if kind == 2 {
-        return Kind::Directory;
-    }
-    Kind::File
 }
 
 // Makes a file or a directory; 20, 21, 23, then 27 and 28.
@@ -173,7 +151,11 @@ pub fn make_named(
     requires { ⌜ Open (now image) (now counts) (now firsts) (now nexts) (now queue) (now parents) (now heads) dirs × (3444 ≤ length (now heads)) ⌝ }
     ensures { λ r. ⌜ Leaves r (now (image .entry)) (now (blocks .entry)) (now (heads .entry)) (now (image .exit)) (now (blocks .exit)) (now (heads .exit)) (madeAfter (makeAnswer (now (image .entry)) (anodesOf (now (image .entry))) (head .0) kind (now (name .entry)) (now (comment .entry))) (now (image .entry)) (head .0) (record { dir = eqb kind 2; name = now (name .entry); comment = now (comment .entry); day = day; minute = minute; tick = tick; protection = protection })) ⌝ }
 {
-    if wrong_entry(kind, name, comment) {
+    let read = kind_of(kind);
+    let KindRead::Is(k) = read else {
+        return number(Refusal::BadArgument);
+    };
+    if wrong_entry(name, comment) {
         return number(Refusal::BadArgument);
     }
     if !is_reached(heads, queue, dirs, head) {
@@ -193,7 +175,7 @@ pub fn make_named(
         nexts,
         head,
         parent,
-        kind_made(kind),
+        k,
         name,
         comment,
         day,
