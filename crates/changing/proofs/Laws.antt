@@ -1,6 +1,6 @@
 -- What the changes by name answer and leave, from what the search found.
 use Prim.Native.Nat.{ℕ, zero, suc, _≤_}
-use mathlib.Core.Path.{_≡_, sym, ap, _∙_}
+use mathlib.Core.Path.{_≡_, refl, sym, ap, _∙_}
 use mathlib.Core.Logic.{inl, inr}
 use mathlib.Core.Bool.{Bool, true, false, cond, not, _||_}
 use mathlib.Core.List.{List}
@@ -8,19 +8,25 @@ use mathlib.Core.Option.{Option, none, some}
 use native.Mathlib.Omega.{arith}
 use lib.Dec.{eqb, leb, ltb}
 use lib.ListN.{length}
-use borrow.Author.Tests.{le-leb, lt-leb, le-ltb, lt-ltb, not-false}
-use Rattle.directory.specs.Entries.{goodName, goodComment}
-use Rattle.rules.specs.Counting.{_if_else_}
+use borrow.Author.Tests.{le-leb, lt-leb, le-ltb, lt-ltb, ne-eqb, not-false}
+use Rattle.disk.specs.declared.Refusal.{Refusal}
+use Rattle.disk.specs.Refusals.{numberOf}
+use Rattle.directory.specs.declared.Kind.{Kind}
+use Rattle.directory.specs.declared.Kind.the-variants.{File, Directory}
+use Rattle.directory.specs.declared.KindRead.{KindRead}
+use Rattle.directory.specs.declared.KindRead.the-variants.{Is, Neither}
+use Rattle.directory.specs.Entries.{isDir, kindRead, goodName, goodComment}
 use Rattle.rules.specs.Anodes.{Anodes, limit, anodesOf}
 use Rattle.rules.specs.Chains.{blocksOf}
 use Rattle.rules.specs.Walk.{Entered}
 use Rattle.rules.specs.Accepted.{diskSize}
-use Rattle.rules.specs.Lookup.{noDirectory, entriesOf, entryNamed, isThere, nth, notEmpty, fullDir}
-use Rattle.rules.specs.Changes.{Left, left, NewEntry, made, resized, written, removed}
-use Rattle.rules.specs.Calls.{spanAnswer, resizeAnswer, removeAnswer, makeAnswer, wrongEntry, changeNamed, madeAfter}
+use Rattle.rules.specs.Lookup.{noDirectory, entriesOf, entryNamed}
+use Rattle.rules.specs.Changes.{Left, left, NewEntry, made, written}
+use Rattle.rules.specs.Calls.{spanAnswer, makeAnswer, wrongEntry, changeNamed, madeAfter}
 use Rattle.counting.specs.Laws.{neither}
-use Rattle.laws.specs.Tests.{less?}
+use Rattle.laws.specs.Tests.{same?, less?}
 use Rattle.frames.specs.DisjointBlocks.{chain-block, chain-once}
+use Rattle.changes.specs.Answers.{Late}
 use Rattle.changes.specs.Members.{Member}
 use Rattle.changes.specs.Image.{accepted-whole}
 use Rattle.changes.specs.Reached.{entry-facts}
@@ -29,17 +35,9 @@ use Rattle.changed.specs.Laws.{leaves-refused}
 use Rattle.lookup.specs.declared.Lookup.{Lookup}
 use Rattle.lookup.specs.declared.Lookup.the-variants.{Missing}
 use Rattle.lookup.specs.Answers.{entryOf}
-use Rattle.anodes.specs.Loaded.{anodesFrom}
 use Rattle.writes.specs.Written.{InsideOnce}
-use Rattle.find.specs.Found.{searchNumber}
 use Rattle.find.specs.Open.{Open}
-use Rattle.reading.proofs.Laws.{search-first, read-searched}
-
--- a refused search answers 21 or 22
-search-late : (missing : Bool) (o : Option Entered) (k : ℕ) → 1 ≤ k → searchNumber missing o ≡ k → 17 ≤ k
-search-late true o k l e = omega (arith, e)
-search-late false none k l e = omega (arith, e)
-search-late false (some x) k l e = absurd (omega arith)
+use Rattle.find.proofs.Laws.{refused-some}
 
 -- a lookup that found nothing
 pub search-none : (e : Option Entered) (r : Lookup) → entryOf r ≡ e → r ≡ Missing → e ≡ none
@@ -48,11 +46,6 @@ search-none e r found is = sym found ∙ ap entryOf is
 module _ {img counts firsts nexts queue parents heads : List ℕ} {dirs : ℕ} (o : Open img counts firsts nexts queue parents heads dirs) where
   pub loaded-of : Loaded img counts firsts nexts
   loaded-of = record { accepted = o .accepted; is-loaded = o .loaded; counts-long = o .counts-long; firsts-long = o .firsts-long; nexts-long = o .nexts-long }
-
-  -- the test of 25, by the blocks and nexts alone
-  pub full-by : (e : Entered) (r : Bool) → ((c : List ℕ) → r ≡ cond (e .dir) (isThere (nth (entriesOf img (anodesFrom c firsts nexts) (e .anode)) 0)) false) → fullDir img (anodesOf img) (some e) ≡ r
-  unfolding notEmpty
-  full-by e r same = sym (same counts ∙ ap (λ (s : Anodes). cond (e .dir) (isThere (nth (entriesOf img s (e .anode)) 0)) false) (o .loaded))
 
   -- the blocks of the chain that an entry names are inside the image, each once
   pub chain-inside : (h : ℕ) → noDirectory img (anodesOf img) h ≡ false → (e : Entered) → Member e (entriesOf img (anodesOf img) h) → InsideOnce img (blocksOf (anodesOf img) (e .anode))
@@ -63,10 +56,16 @@ module _ {img counts firsts nexts queue parents heads : List ℕ} {dirs : ℕ} (
 
 -- ---- a change of a named entry
 
+-- a refusal of a call's own table comes after the damage numbers
+pub late-some : (n k : ℕ) → Late n → n ≡ k → 1 ≤ k → 17 ≤ k
+late-some n k (inl z) e l = absurd (omega (arith, z, e, l))
+late-some n k (inr z) e l = omega (arith, z, e)
+
 module _ (img : List ℕ) (o : Option Entered) (f : Entered → Left) where
-  named-refused : (n k : ℕ) → 1 ≤ k → n ≡ k → changeNamed n img o f ≡ left k img
-  named-refused zero k l e = absurd (omega arith)
-  named-refused (suc n) k l e = ap (λ (m : ℕ). left m img) e
+  -- a number that is not 0 leaves the image
+  pub named-refused : (k : ℕ) → 1 ≤ k → changeNamed k img o f ≡ left k img
+  named-refused zero l = absurd (omega arith)
+  named-refused (suc k) l = refl
 
   named-done : (n : ℕ) (x : Entered) → n ≡ 0 → o ≡ some x → changeNamed n img o f ≡ f x
   named-done n x e is = rw (e, is)
@@ -74,87 +73,75 @@ module _ (img : List ℕ) (o : Option Entered) (f : Entered → Left) where
   pub leaves-named : (n : ℕ) (x : Entered) → n ≡ 0 → o ≡ some x → (r : ℕ) (b a img′ b′ a′ : List ℕ) → Leaves r img b a img′ b′ a′ (f x) → Leaves r img b a img′ b′ a′ (changeNamed n img o f)
   leaves-named n x e is r b a img′ b′ a′ l = rw (named-done n x e is) l
 
-  pub leaves-unchanged : (n k : ℕ) → 17 ≤ k → n ≡ k → (b a : List ℕ) → Leaves k img b a img b a (changeNamed n img o f)
-  leaves-unchanged n k l e b a = rw (named-refused n k (omega arith) e) (leaves-refused k l img b a)
-
--- ---- what each call answers before its change
-
-module _ (img : List ℕ) (s : Anodes) (h : ℕ) (name : List ℕ) where
-  resize-searched : (k : ℕ) → 1 ≤ k → searchNumber (noDirectory img s h) (entryNamed img s h name) ≡ k → resizeAnswer img s h name ≡ k
-  unfolding resizeAnswer
-  resize-searched k l e = search-first (noDirectory img s h) (entryNamed img s h name) _ k l e
-
-  remove-searched : (k : ℕ) → 1 ≤ k → searchNumber (noDirectory img s h) (entryNamed img s h name) ≡ k → removeAnswer img s h name ≡ k
-  unfolding removeAnswer
-  remove-searched k l e = search-first (noDirectory img s h) (entryNamed img s h name) _ k l e
-
-  module _ (x : Entered) (reached : noDirectory img s h ≡ false) (found : entryNamed img s h name ≡ some x) where
-    pub resize-directory : x .dir ≡ true → resizeAnswer img s h name ≡ 24
-    unfolding resizeAnswer
-    resize-directory d = rw (reached, found) (ap (λ (b : Bool). 24 if b else 0) d)
-
-    pub resize-file : x .dir ≡ false → resizeAnswer img s h name ≡ 0
-    unfolding resizeAnswer
-    resize-file d = rw (reached, found) (ap (λ (b : Bool). 24 if b else 0) d)
-
-    pub remove-full : fullDir img s (some x) ≡ true → removeAnswer img s h name ≡ 25
-    unfolding removeAnswer
-    remove-full d = rw (reached, found) (ap (λ (b : Bool). 25 if b else 0) d)
-
-    pub remove-whole : fullDir img s (some x) ≡ false → removeAnswer img s h name ≡ 0
-    unfolding removeAnswer
-    remove-whole d = rw (reached, found) (ap (λ (b : Bool). 25 if b else 0) d)
-
--- ---- write
+  -- and the tables that show it
+  pub leaves-unchanged : (n : ℕ) → Late n → (r : Refusal) (k : ℕ) → k ≡ numberOf r → n ≡ numberOf r → (b a : List ℕ) → Leaves k img b a img b a (changeNamed n img o f)
+  leaves-unchanged n late r k number is b a =
+      let e : n ≡ k = is ∙ sym number in
+      let some = refused-some r k number in
+      rw (e, named-refused k some) (leaves-refused k (late-some n k late e some) img b a)
 
 module _ (img : List ℕ) (h : ℕ) (name : List ℕ) (offset : ℕ) (bytes : List ℕ) where
   abbrev wrote : Left
   wrote = changeNamed (spanAnswer img (anodesOf img) h name offset (length bytes)) img (entryNamed img (anodesOf img) h name) (λ e. left 0 (written img (anodesOf img) e offset bytes))
 
-  pub write-refused : (k : ℕ) → 1 ≤ k → spanAnswer img (anodesOf img) h name offset (length bytes) ≡ k → left k img ≡ wrote
-  write-refused k l e = sym (named-refused img (entryNamed img (anodesOf img) h name) (λ e. left 0 (written img (anodesOf img) e offset bytes)) (spanAnswer img (anodesOf img) h name offset (length bytes)) k l e)
-
-  pub write-unfound : (k : ℕ) → 1 ≤ k → searchNumber (noDirectory img (anodesOf img) h) (entryNamed img (anodesOf img) h name) ≡ k → left k img ≡ wrote
-  write-unfound k l e = write-refused k l (sym (read-searched img (anodesOf img) h name offset bytes k l e .0))
+  pub write-refused : (r : Refusal) (k : ℕ) → k ≡ numberOf r → spanAnswer img (anodesOf img) h name offset (length bytes) ≡ numberOf r → left k img ≡ wrote
+  write-refused r k number is =
+      let e : spanAnswer img (anodesOf img) h name offset (length bytes) ≡ k = is ∙ sym number in
+      rw e (sym (named-refused img (entryNamed img (anodesOf img) h name) (λ e. left 0 (written img (anodesOf img) e offset bytes)) k (refused-some r k number)))
 
   pub write-done : (x : Entered) → spanAnswer img (anodesOf img) h name offset (length bytes) ≡ 0 → entryNamed img (anodesOf img) h name ≡ some x → (j : List ℕ) → j ≡ written img (anodesOf img) x offset bytes → left 0 j ≡ wrote
   write-done x e is j same = ap (left 0) same ∙ sym (named-done img (entryNamed img (anodesOf img) h name) (λ e. left 0 (written img (anodesOf img) e offset bytes)) (spanAnswer img (anodesOf img) h name offset (length bytes)) x e is)
 
--- ---- a search that found nothing
-
-module _ (img : List ℕ) (h : ℕ) (name : List ℕ) (k : ℕ) (some-number : 1 ≤ k) (unfound : searchNumber (noDirectory img (anodesOf img) h) (entryNamed img (anodesOf img) h name) ≡ k) (b a : List ℕ) where
-  pub unfound-resize : (size : ℕ) → Leaves k img b a img b a (changeNamed (resizeAnswer img (anodesOf img) h name) img (entryNamed img (anodesOf img) h name) (λ e. resized img (anodesOf img) e size))
-  unfound-resize size = leaves-unchanged img (entryNamed img (anodesOf img) h name) (λ e. resized img (anodesOf img) e size) (resizeAnswer img (anodesOf img) h name) k
-      (search-late (noDirectory img (anodesOf img) h) (entryNamed img (anodesOf img) h name) k some-number unfound) (resize-searched img (anodesOf img) h name k some-number unfound) b a
-
-  pub unfound-remove : Leaves k img b a img b a (changeNamed (removeAnswer img (anodesOf img) h name) img (entryNamed img (anodesOf img) h name) (λ e. removed img (anodesOf img) e))
-  unfound-remove = leaves-unchanged img (entryNamed img (anodesOf img) h name) (λ e. removed img (anodesOf img) e) (removeAnswer img (anodesOf img) h name) k
-      (search-late (noDirectory img (anodesOf img) h) (entryNamed img (anodesOf img) h name) k some-number unfound) (remove-searched img (anodesOf img) h name k some-number unfound) b a
-
 -- ---- make
 
-pub wrong-type : (type : ℕ) (name comment : List ℕ) → (eqb type 253 || eqb type 2) ≡ false → wrongEntry type name comment ≡ true
-unfolding wrongEntry
-wrong-type type name comment a = rw a
+-- whether a type byte was read, and as a directory's
+abbrev isRead : KindRead → Bool
+isRead (Is k) = true
+isRead Neither = false
 
-pub wrong-name : (type : ℕ) (name comment : List ℕ) → (eqb type 253 || eqb type 2) ≡ true → goodName name ≡ false → wrongEntry type name comment ≡ true
-unfolding wrongEntry
-wrong-name type name comment a b = rw (a, b)
+abbrev dirRead : KindRead → Bool
+dirRead (Is k) = isDir k
+dirRead Neither = false
 
-pub wrong-comment : (type : ℕ) (name comment : List ℕ) → (eqb type 253 || eqb type 2) ≡ true → goodName name ≡ true → wrongEntry type name comment ≡ not (goodComment comment)
+type-read : (type : ℕ) → isRead (kindRead type) ≡ (eqb type 253 || eqb type 2)
+unfolding kindRead
+type-read type = go (eqb type 253) (eqb type 2)
+  where
+    go : (a b : Bool) → isRead (cond a (Is File) (cond b (Is Directory) Neither)) ≡ (a || b)
+    go true b = refl
+    go false true = refl
+    go false false = refl
+
+dir-read : (type : ℕ) → dirRead (kindRead type) ≡ eqb type 2
+unfolding kindRead
+dir-read type = elim (same? type 253) [ inl e ↦ rw e | inr n ↦ rw (ne-eqb type 253 n) (go (eqb type 2)) ]
+  where
+    go : (b : Bool) → dirRead (cond b (Is Directory) Neither) ≡ b
+    go true = refl
+    go false = refl
+
+-- a byte that is no type's is refused, and of another the name and the comment are looked at
+pub wrong-type : (type : ℕ) (name comment : List ℕ) → kindRead type ≡ Neither → wrongEntry type name comment ≡ true
 unfolding wrongEntry
-wrong-comment type name comment a b = rw (a, b)
+wrong-type type name comment e = rw (sym (type-read type) ∙ ap isRead e)
+
+module _ (type : ℕ) (k : Kind) (e : kindRead type ≡ Is k) where
+  pub right-type : (name comment : List ℕ) → wrongEntry type name comment ≡ (not (goodName name) || not (goodComment comment))
+  unfolding wrongEntry
+  right-type name comment = rw (sym (type-read type) ∙ ap isRead e)
+
+  pub made-kind : isDir k ≡ eqb type 2
+  made-kind = ap dirRead (sym e) ∙ dir-read type
+
+-- a name and a comment that are right
+pub right-entry : (name comment : List ℕ) → (not (goodName name) || not (goodComment comment)) ≡ false → (goodName name ≡ true) × (goodComment comment ≡ true)
+right-entry name comment e =
+    let n = neither (not (goodName name)) (not (goodComment comment)) e in
+    (not-false (goodName name) (n .0), not-false (goodComment comment) (n .1))
 
 -- the length test, either way round
 pub long-comment : (n : ℕ) → not (leb n 79) ≡ ltb 79 n
 long-comment n = elim (less? 79 n) [ inl l ↦ rw (lt-leb n 79 l, lt-ltb 79 n l) | inr l ↦ rw (le-leb n 79 l, le-ltb 79 n l) ]
-
--- an entry that is right
-pub right-entry : (type : ℕ) (name comment : List ℕ) → wrongEntry type name comment ≡ false → (goodName name ≡ true) × (goodComment comment ≡ true)
-unfolding wrongEntry
-right-entry type name comment e =
-    let n = neither (not (goodName name)) (not (goodComment comment)) (neither (not (eqb type 253 || eqb type 2)) (not (goodName name) || not (goodComment comment)) e .1) in
-    (not-false (goodName name) (n .0), not-false (goodComment comment) (n .1))
 
 module _ (img : List ℕ) (s : Anodes) (h type : ℕ) (name comment : List ℕ) where
   pub make-wrong : wrongEntry type name comment ≡ true → makeAnswer img s h type name comment ≡ 20
@@ -175,12 +162,12 @@ module _ (img : List ℕ) (s : Anodes) (h type : ℕ) (name comment : List ℕ) 
     make-fine e found = rw (right, e, found)
 
 module _ (img : List ℕ) (h : ℕ) (new : NewEntry) where
-  made-refused : (n k : ℕ) → 1 ≤ k → n ≡ k → madeAfter n img h new ≡ left k img
-  made-refused zero k l e = absurd (omega arith)
-  made-refused (suc n) k l e = ap (λ (m : ℕ). left m img) e
+  pub made-refused : (k : ℕ) → 1 ≤ k → madeAfter k img h new ≡ left k img
+  made-refused zero l = absurd (omega arith)
+  made-refused (suc k) l = refl
 
   pub leaves-unmade : (n k : ℕ) → 17 ≤ k → n ≡ k → (b a : List ℕ) → Leaves k img b a img b a (madeAfter n img h new)
-  leaves-unmade n k l e b a = rw (made-refused n k (omega arith) e) (leaves-refused k l img b a)
+  leaves-unmade n k l e b a = rw (e, made-refused k (omega arith)) (leaves-refused k l img b a)
 
   pub leaves-made : (n : ℕ) → n ≡ 0 → (other : NewEntry) → other ≡ new → (r : ℕ) (b a img′ b′ a′ : List ℕ) → Leaves r img b a img′ b′ a′ (made img (anodesOf img) h other) → Leaves r img b a img′ b′ a′ (madeAfter n img h new)
   leaves-made n e other same r b a img′ b′ a′ l = rw (e, ← same) l

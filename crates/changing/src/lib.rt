@@ -1,33 +1,32 @@
-// Changes what a name stands for in an accepted image: first the refusals 20 to 26, then the change.
-ghost use mathlib.Core.Bool.{cond, false, _||_};
+// Changes what a name stands for in an accepted image: first the refusals, then the change.
+ghost use mathlib.Core.Bool.{not, _||_};
 ghost use mathlib.Core.List.{List};
 ghost use mathlib.Core.Path.{_≡_};
 ghost use Prim.Native.Nat.{ℕ, _≤_};
 ghost use lib.Dec.{eqb};
 ghost use lib.ListN.{length};
-ghost use Rattle.directory.specs.Entries.{isDir};
+ghost use Rattle.directory.specs.Entries.{goodName, goodComment};
 ghost use Rattle.rules.specs.Anodes.{anodesOf};
-ghost use Rattle.rules.specs.Lookup.{entryNamed, entriesOf, isThere, nth};
+ghost use Rattle.rules.specs.Lookup.{entryNamed};
 ghost use Rattle.rules.specs.Changes.{left, written, resized, removed};
-ghost use Rattle.rules.specs.Calls.{spanAnswer, resizeAnswer, removeAnswer, makeAnswer, wrongEntry, changeNamed, madeAfter};
-ghost use Rattle.anodes.specs.Loaded.{anodesFrom};
+ghost use Rattle.rules.specs.Calls.{spanAnswer, resizeAnswer, removeAnswer, makeAnswer, changeNamed, madeAfter};
 ghost use Rattle.find.specs.Open.{Open};
 ghost use Rattle.changed.specs.Leaves.{Leaves};
-use directory::Kind;
-use directory::is_directory;
+use directory::KindRead;
+use directory::kind_of;
 use directory::name_ok;
 use disk::AnodeNo;
 use disk::Refusal;
 use disk::number;
 use find::Search;
-use find::find_named;
+use find::find_file;
+use find::find_removable;
+use find::find_span;
 use lookup::Lookup;
 use lookup::entry_named;
 use lookup::is_reached;
 use lookup::parent_of;
 use making::make_entry;
-use reader::is_empty;
-use reading::past_end;
 use removing::remove_entry;
 use resizing::resize_entry;
 use writes::write_along;
@@ -49,18 +48,23 @@ pub fn write_named(
     requires { ⌜ ((parents : List ℕ) × Open (now image) (now counts) (now firsts) (now nexts) (now queue) parents (now heads) dirs) ⌝ }
     ensures { λ r. ⌜ left r (now (image .exit)) ≡ changeNamed (spanAnswer (now (image .entry)) (anodesOf (now (image .entry))) (head .0) (now (name .entry)) offset (length (now (bytes .entry)))) (now (image .entry)) (entryNamed (now (image .entry)) (anodesOf (now (image .entry))) (head .0) (now (name .entry))) (λ e. left 0 (written (now (image .entry)) (anodesOf (now (image .entry))) e offset (now (bytes .entry)))) ⌝ }
 {
-    let found = find_named(image, firsts, nexts, queue, heads, dirs, head, name);
+    let len = bytes.len();
+    let found = find_span(
+        image,
+        firsts,
+        nexts,
+        queue,
+        heads,
+        dirs,
+        head,
+        name,
+        offset,
+        len,
+    );
     let e = match found {
         Search::Found(e) => e,
         Search::Refused(r) => return number(r),
     };
-    let kind = e.kind;
-    if is_directory(kind) {
-        return number(Refusal::IsDirectory);
-    }
-    if past_end(e.size, offset, bytes.len()) {
-        return number(Refusal::PastEnd);
-    }
     write_along(image, counts, firsts, nexts, e.anode, offset, bytes);
     0
 }
@@ -82,26 +86,12 @@ pub fn resize_named(
     requires { ⌜ ((parents : List ℕ) × Open (now image) (now counts) (now firsts) (now nexts) (now queue) parents (now heads) dirs) × (3444 ≤ length (now heads)) ⌝ }
     ensures { λ r. ⌜ Leaves r (now (image .entry)) (now (blocks .entry)) (now (heads .entry)) (now (image .exit)) (now (blocks .exit)) (now (heads .exit)) (changeNamed (resizeAnswer (now (image .entry)) (anodesOf (now (image .entry))) (head .0) (now (name .entry))) (now (image .entry)) (entryNamed (now (image .entry)) (anodesOf (now (image .entry))) (head .0) (now (name .entry))) (λ e. resized (now (image .entry)) (anodesOf (now (image .entry))) e size)) ⌝ }
 {
-    let found = find_named(image, firsts, nexts, queue, heads, dirs, head, name);
+    let found = find_file(image, firsts, nexts, queue, heads, dirs, head, name);
     let e = match found {
         Search::Found(e) => e,
         Search::Refused(r) => return number(r),
     };
-    let kind = e.kind;
-    if is_directory(kind) {
-        return number(Refusal::IsDirectory);
-    }
     resize_entry(image, blocks, heads, counts, firsts, nexts, e, size)
-}
-
-// Whether an entry is that of a directory with entries.
-fn is_full(image: &[u8], firsts: &[u16], nexts: &[u16], kind: Kind, anode: AnodeNo) -> bool
-    ensures { λ r. ⌜ ((c : List ℕ) → r ≡ cond (isDir kind) (isThere (nth (entriesOf (now (image .entry)) (anodesFrom c (now (firsts .entry)) (now (nexts .entry))) (anode .0)) 0)) false) ⌝ }
-{
-    if !is_directory(kind) {
-        return false;
-    }
-    !is_empty(image, firsts, nexts, anode)
 }
 
 // Removes a file or an empty directory; 21, 22, 25, then 28.
@@ -120,49 +110,22 @@ pub fn remove_named(
     requires { ⌜ ((parents : List ℕ) × Open (now image) (now counts) (now firsts) (now nexts) (now queue) parents (now heads) dirs) × (3444 ≤ length (now heads)) ⌝ }
     ensures { λ r. ⌜ Leaves r (now (image .entry)) (now (blocks .entry)) (now (heads .entry)) (now (image .exit)) (now (blocks .exit)) (now (heads .exit)) (changeNamed (removeAnswer (now (image .entry)) (anodesOf (now (image .entry))) (head .0) (now (name .entry))) (now (image .entry)) (entryNamed (now (image .entry)) (anodesOf (now (image .entry))) (head .0) (now (name .entry))) (λ e. removed (now (image .entry)) (anodesOf (now (image .entry))) e)) ⌝ }
 {
-    let found = find_named(image, firsts, nexts, queue, heads, dirs, head, name);
+    let found = find_removable(image, firsts, nexts, queue, heads, dirs, head, name);
     let e = match found {
         Search::Found(e) => e,
         Search::Refused(r) => return number(r),
     };
-    let kind = e.kind;
-    if is_full(image, firsts, nexts, kind, e.anode) {
-        return number(Refusal::NotEmpty);
-    }
     remove_entry(image, blocks, heads, counts, firsts, nexts, e)
 }
 
-// Whether a type is a file's or a directory's.
-fn is_type(kind: u8) -> bool
-    ensures { λ r. ⌜ r ≡ (eqb kind 253 || eqb kind 2) ⌝ }
+// 20: name or comment against the entry rules.
+fn wrong_entry(name: &[u8], comment: &[u8]) -> bool
+    ensures { λ r. ⌜ r ≡ (not (goodName (now (name .entry))) || not (goodComment (now (comment .entry)))) ⌝ }
 {
-    if kind == 253 {
-        return true;
-    }
-    kind == 2
-}
-
-// 20: type, name or comment against the entry rules.
-fn wrong_entry(kind: u8, name: &[u8], comment: &[u8]) -> bool
-    ensures { λ r. ⌜ r ≡ wrongEntry kind (now (name .entry)) (now (comment .entry)) ⌝ }
-{
-    if !is_type(kind) {
-        return true;
-    }
     if !name_ok(name) {
         return true;
     }
     79 < comment.len()
-}
-
-// The kind of an entry of type 253 or 2.
-fn kind_made(kind: u8) -> Kind
-    ensures { λ r. ⌜ isDir r ≡ eqb kind 2 ⌝ }
-{
-    if kind == 2 {
-        return Kind::Directory;
-    }
-    Kind::File
 }
 
 // Makes a file or a directory; 20, 21, 23, then 27 and 28.
@@ -188,7 +151,11 @@ pub fn make_named(
     requires { ⌜ Open (now image) (now counts) (now firsts) (now nexts) (now queue) (now parents) (now heads) dirs × (3444 ≤ length (now heads)) ⌝ }
     ensures { λ r. ⌜ Leaves r (now (image .entry)) (now (blocks .entry)) (now (heads .entry)) (now (image .exit)) (now (blocks .exit)) (now (heads .exit)) (madeAfter (makeAnswer (now (image .entry)) (anodesOf (now (image .entry))) (head .0) kind (now (name .entry)) (now (comment .entry))) (now (image .entry)) (head .0) (record { dir = eqb kind 2; name = now (name .entry); comment = now (comment .entry); day = day; minute = minute; tick = tick; protection = protection })) ⌝ }
 {
-    if wrong_entry(kind, name, comment) {
+    let read = kind_of(kind);
+    let KindRead::Is(k) = read else {
+        return number(Refusal::BadArgument);
+    };
+    if wrong_entry(name, comment) {
         return number(Refusal::BadArgument);
     }
     if !is_reached(heads, queue, dirs, head) {
@@ -208,7 +175,7 @@ pub fn make_named(
         nexts,
         head,
         parent,
-        kind_made(kind),
+        k,
         name,
         comment,
         day,

@@ -1,10 +1,19 @@
-// Finds an entry, by its name or by its place, in a directory of an accepted image.
-ghost use mathlib.Core.Bool.{false};
+// Finds an entry, by its name or by its place, in a directory of an accepted image, and tries the refusals 21 to 26 of the call that asks for it.
+ghost use mathlib.Core.Bool.{cond, false};
+ghost use mathlib.Core.List.{List};
+ghost use mathlib.Core.Path.{_≡_};
+ghost use Prim.Native.Nat.{ℕ, _+_};
+ghost use lib.Dec.{ltb};
+ghost use Rattle.directory.specs.Entries.{isDir};
 ghost use Rattle.rules.specs.Anodes.{anodesOf};
-ghost use Rattle.rules.specs.Lookup.{noDirectory, entryNamed, entriesOf, nth};
+ghost use Rattle.rules.specs.Lookup.{noDirectory, entryNamed, entriesOf, isThere, nth};
+ghost use Rattle.rules.specs.Calls.{spanAnswer, resizeAnswer, removeAnswer, listAnswer};
+ghost use Rattle.anodes.specs.Loaded.{anodesFrom};
 ghost use Rattle.lookup.specs.Answers.{entryOf};
 ghost use Rattle.find.specs.Open.{OpenFor};
-ghost use Rattle.find.specs.Found.{Finds};
+ghost use Rattle.find.specs.Found.{Finds, searchNumber};
+use directory::Kind;
+use directory::is_directory;
 use disk::AnodeNo;
 use disk::Refusal;
 use lookup::EntryAt;
@@ -12,6 +21,7 @@ use lookup::Lookup;
 use lookup::entry_named;
 use lookup::is_reached;
 use lookup::nth_entry;
+use reader::is_empty;
 
 // What a search answers.
 pub enum Search {
@@ -21,7 +31,7 @@ pub enum Search {
 
 // The answer of a search in a reached directory: the entry that was found, or 22.
 fn answer_of(found: Lookup) -> Search
-    ensures { λ r. ⌜ Finds r false (entryOf found) ⌝ }
+    ensures { λ r. ⌜ Finds r (searchNumber false (entryOf found)) (entryOf found) ⌝ }
 {
     match found {
         Lookup::Found(e) => Search::Found(e),
@@ -29,8 +39,8 @@ fn answer_of(found: Lookup) -> Search
     }
 }
 
-// The first entry with that name in the directory that `head` heads; 21, then 22.
-pub fn find_named(
+// The first entry with that name in the directory that `head` heads; 21, 22.
+fn find_named(
     image: &[u8],
     firsts: &[u16],
     nexts: &[u16],
@@ -41,7 +51,7 @@ pub fn find_named(
     name: &[u8],
 ) -> Search
     requires { ⌜ OpenFor (now image) (now firsts) (now nexts) (now queue) (now heads) dirs ⌝ }
-    ensures { λ r. ⌜ Finds r (noDirectory (now (image .entry)) (anodesOf (now (image .entry))) (head .0)) (entryNamed (now (image .entry)) (anodesOf (now (image .entry))) (head .0) (now (name .entry))) ⌝ }
+    ensures { λ r. ⌜ Finds r (searchNumber (noDirectory (now (image .entry)) (anodesOf (now (image .entry))) (head .0)) (entryNamed (now (image .entry)) (anodesOf (now (image .entry))) (head .0) (now (name .entry)))) (entryNamed (now (image .entry)) (anodesOf (now (image .entry))) (head .0) (now (name .entry))) ⌝ }
 {
     if !is_reached(heads, queue, dirs, head) {
         return Search::Refused(Refusal::NoDirectory);
@@ -50,7 +60,7 @@ pub fn find_named(
     answer_of(found)
 }
 
-// The n-th entry, from 0, of the directory that `head` heads; 21, then 22.
+// The n-th entry, from 0, of the directory that `head` heads; 21, 22.
 pub fn find_nth(
     image: &[u8],
     firsts: &[u16],
@@ -62,11 +72,111 @@ pub fn find_nth(
     n: u64,
 ) -> Search
     requires { ⌜ OpenFor (now image) (now firsts) (now nexts) (now queue) (now heads) dirs ⌝ }
-    ensures { λ r. ⌜ Finds r (noDirectory (now (image .entry)) (anodesOf (now (image .entry))) (head .0)) (nth (entriesOf (now (image .entry)) (anodesOf (now (image .entry))) (head .0)) n) ⌝ }
+    ensures { λ r. ⌜ Finds r (listAnswer (now (image .entry)) (anodesOf (now (image .entry))) (head .0) n) (nth (entriesOf (now (image .entry)) (anodesOf (now (image .entry))) (head .0)) n) ⌝ }
 {
     if !is_reached(heads, queue, dirs, head) {
         return Search::Refused(Refusal::NoDirectory);
     }
     let found = nth_entry(image, firsts, nexts, head, n);
     answer_of(found)
+}
+
+// The entry of a file; 21, 22, 24.
+pub fn find_file(
+    image: &[u8],
+    firsts: &[u16],
+    nexts: &[u16],
+    queue: &[u16],
+    heads: &[u16],
+    dirs: u16,
+    head: AnodeNo,
+    name: &[u8],
+) -> Search
+    requires { ⌜ OpenFor (now image) (now firsts) (now nexts) (now queue) (now heads) dirs ⌝ }
+    ensures { λ r. ⌜ Finds r (resizeAnswer (now (image .entry)) (anodesOf (now (image .entry))) (head .0) (now (name .entry))) (entryNamed (now (image .entry)) (anodesOf (now (image .entry))) (head .0) (now (name .entry))) ⌝ }
+{
+    let found = find_named(image, firsts, nexts, queue, heads, dirs, head, name);
+    let e = match found {
+        Search::Found(e) => e,
+        Search::Refused(r) => return Search::Refused(r),
+    };
+    let kind = e.kind;
+    if is_directory(kind) {
+        return Search::Refused(Refusal::IsDirectory);
+    }
+    Search::Found(e)
+}
+
+// Whether offset + length is above the size; the sum is not wrapped.
+fn past_end(size: u32, offset: u64, len: usize) -> bool
+    ensures { λ r. ⌜ r ≡ ltb size (offset + len) ⌝ }
+{
+    let end = size as u64;
+    if end < len as u64 {
+        return true;
+    }
+    end - (len as u64) < offset
+}
+
+// The entry of a file with `len` bytes from the offset on; 21, 22, 24, 26.
+pub fn find_span(
+    image: &[u8],
+    firsts: &[u16],
+    nexts: &[u16],
+    queue: &[u16],
+    heads: &[u16],
+    dirs: u16,
+    head: AnodeNo,
+    name: &[u8],
+    offset: u64,
+    len: usize,
+) -> Search
+    requires { ⌜ OpenFor (now image) (now firsts) (now nexts) (now queue) (now heads) dirs ⌝ }
+    ensures { λ r. ⌜ Finds r (spanAnswer (now (image .entry)) (anodesOf (now (image .entry))) (head .0) (now (name .entry)) offset len) (entryNamed (now (image .entry)) (anodesOf (now (image .entry))) (head .0) (now (name .entry))) ⌝ }
+{
+    let found = find_file(image, firsts, nexts, queue, heads, dirs, head, name);
+    let e = match found {
+        Search::Found(e) => e,
+        Search::Refused(r) => return Search::Refused(r),
+    };
+    if past_end(e.size, offset, len) {
+        return Search::Refused(Refusal::PastEnd);
+    }
+    Search::Found(e)
+}
+
+// Whether an entry is that of a directory with entries.
+fn is_full(image: &[u8], firsts: &[u16], nexts: &[u16], kind: Kind, anode: AnodeNo) -> bool
+    ensures { λ r. ⌜ ((c : List ℕ) → r ≡ cond (isDir kind) (isThere (nth (entriesOf (now (image .entry)) (anodesFrom c (now (firsts .entry)) (now (nexts .entry))) (anode .0)) 0)) false) ⌝ }
+{
+    if !is_directory(kind) {
+        return false;
+    }
+    !is_empty(image, firsts, nexts, anode)
+}
+
+// The entry of a file or of an empty directory; 21, 22, 25.
+pub fn find_removable(
+    image: &[u8],
+    firsts: &[u16],
+    nexts: &[u16],
+    queue: &[u16],
+    heads: &[u16],
+    dirs: u16,
+    head: AnodeNo,
+    name: &[u8],
+) -> Search
+    requires { ⌜ OpenFor (now image) (now firsts) (now nexts) (now queue) (now heads) dirs ⌝ }
+    ensures { λ r. ⌜ Finds r (removeAnswer (now (image .entry)) (anodesOf (now (image .entry))) (head .0) (now (name .entry))) (entryNamed (now (image .entry)) (anodesOf (now (image .entry))) (head .0) (now (name .entry))) ⌝ }
+{
+    let found = find_named(image, firsts, nexts, queue, heads, dirs, head, name);
+    let e = match found {
+        Search::Found(e) => e,
+        Search::Refused(r) => return Search::Refused(r),
+    };
+    let kind = e.kind;
+    if is_full(image, firsts, nexts, kind, e.anode) {
+        return Search::Refused(Refusal::NotEmpty);
+    }
+    Search::Found(e)
 }

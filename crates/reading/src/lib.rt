@@ -1,17 +1,14 @@
 // Reads a file and lists an entry in an accepted image.
 ghost use mathlib.Core.List.{List};
 ghost use mathlib.Core.Path.{_≡_};
-ghost use Prim.Native.Nat.{ℕ, _+_, _*_, _<_};
+ghost use Prim.Native.Nat.{ℕ, _*_, _<_};
 ghost use lib.ListN.{length};
-ghost use lib.Dec.{ltb};
 ghost use Rattle.rules.specs.Anodes.{anodesOf};
 ghost use Rattle.rules.specs.Lookup.{entryNamed, entriesOf, nameAt, nth};
 ghost use Rattle.rules.specs.Calls.{spanAnswer, bytesRead, listAnswer, fieldsAt, fieldsListed, nameListed};
 ghost use Rattle.find.specs.Open.{Open, OpenFor};
-use directory::is_directory;
 use disk::AnodeNo;
 use disk::BlockNo;
-use disk::Refusal;
 use disk::block_part;
 use disk::number;
 use endian::part;
@@ -19,20 +16,9 @@ use endian::read8;
 use endian::read16;
 use endian::read32;
 use find::Search;
-use find::find_named;
 use find::find_nth;
+use find::find_span;
 use lookup::copy_out;
-
-// Whether offset + length is above the size; the sum is not wrapped.
-pub fn past_end(size: u32, offset: u64, len: usize) -> bool
-    ensures { λ r. ⌜ r ≡ ltb size (offset + len) ⌝ }
-{
-    let end = size as u64;
-    if end < len as u64 {
-        return true;
-    }
-    end - (len as u64) < offset
-}
 
 // Fills the buffer with the file's bytes from the offset on; 21, 22, 24, 26.
 pub fn read_named(
@@ -52,18 +38,23 @@ pub fn read_named(
     ensures answer { λ r. ⌜ r ≡ spanAnswer (now (image .entry)) (anodesOf (now (image .entry))) (head .0) (now (name .entry)) offset (length (now (out .entry))) ⌝ }
     ensures output { λ r. ⌜ now (out .exit) ≡ bytesRead r (now (image .entry)) (anodesOf (now (image .entry))) (entryNamed (now (image .entry)) (anodesOf (now (image .entry))) (head .0) (now (name .entry))) offset (now (out .entry)) ⌝ }
 {
-    let found = find_named(image, firsts, nexts, queue, heads, dirs, head, name);
+    let len = out.len();
+    let found = find_span(
+        image,
+        firsts,
+        nexts,
+        queue,
+        heads,
+        dirs,
+        head,
+        name,
+        offset,
+        len,
+    );
     let e = match found {
         Search::Found(e) => e,
         Search::Refused(r) => return number(r),
     };
-    let kind = e.kind;
-    if is_directory(kind) {
-        return number(Refusal::IsDirectory);
-    }
-    if past_end(e.size, offset, out.len()) {
-        return number(Refusal::PastEnd);
-    }
     copy_out(image, counts, firsts, nexts, e.anode, offset, out);
     0
 }

@@ -1,5 +1,5 @@
+use Rattle.find.proofs.Laws.{search-found, search-there}
 use mathlib.Core.Path.{refl}
-use Rattle.find.proofs.Laws.{search-found}
 use borrow.Author.Needs.{needs}
 use Rattle.find.proofs.answer_of.Statement.{statement}
 use Rattle.find.proofs.answer_of.Tie as tie
@@ -11,7 +11,7 @@ enum-told : tie.Need-enum-told
 enum-told c = search needs
 
 returns : tie.Need-returns
-returns c = (refl, search-found _ _ _ refl (c .before .found .given .1))
+returns c = let e = search-found _ _ _ refl (c .before .found .given .1) in (search-there _ _ e, e)
 
 returns-2 : tie.Need-returns-2
 returns-2 c = search needs

@@ -1,7 +1,7 @@
 use mathlib.Core.Path.{_∙_}
 use Rattle.rules.specs.Lookup.{entriesOf, nth}
 use Rattle.rules.specs.Anodes.{Anodes}
-use Rattle.find.proofs.Laws.{reached-queued, own-heads, open-unbroken, by-image}
+use Rattle.find.proofs.Laws.{reached-queued, own-heads, open-unbroken, search-answered, list-search}
 use borrow.Author.Needs.{needs}
 use Rattle.find.proofs.find_nth.Statement.{statement}
 use Rattle.find.proofs.find_nth.Tie as tie
@@ -10,7 +10,7 @@ is-reached-requires : tie.Need-is-reached-requires
 is-reached-requires c κs = own-heads (c .before .before .before .before .before .pre .2)
 
 returns : tie.Need-returns
-returns c = let r = c .before .is-reached in rw (reached-queued (c .before .before .before .before .before .before .before .pre .2) (c .before .before .before .before .before .before .before .args .head .0) (r .result) (r .ensures) ∙ c .if1 .taken)
+returns c = let r = c .before .is-reached in rw (list-search _ _ _ _, reached-queued (c .before .before .before .before .before .before .before .pre .2) (c .before .before .before .before .before .before .before .args .head .0) (r .result) (r .ensures) ∙ c .if1 .taken)
 
 nth-entry-requires : tie.Need-nth-entry-requires
 nth-entry-requires c κs = let r = c .before .is-reached in open-unbroken (c .before .before .before .before .before .before .before .pre .2) _ (reached-queued (c .before .before .before .before .before .before .before .pre .2) _ (r .result) (r .ensures) ∙ c .if1 .left)
@@ -23,11 +23,8 @@ returns-2 c =
     let o = c .before .before .before .before .before .before .before .before .before .pre .2 in
     let a = c .before .before .before .before .before .before .before .before .before .args in
     let r = c .before .before .before .is-reached in
-    rw (
-      reached-queued o (a .head .0) (r .result) (r .ensures) ∙ c .before .before .if1 .left,
-      ← by-image o (λ (s : Anodes). nth (entriesOf (a .image .now) s (a .head .0)) (a .n)) _ (c .before .nth-entry .ensures),
-    )
-    (c .answer-of .ensures)
+    let l = c .before .nth-entry in
+    rw (list-search _ _ _ _) (search-answered o _ (reached-queued o (a .head .0) (r .result) (r .ensures) ∙ c .before .before .if1 .left) (λ (s : Anodes). nth (entriesOf (a .image .now) s (a .head .0)) (a .n)) (l .result) (l .ensures) (c .answer-of .result) (c .answer-of .ensures))
 
 pub find-nth-spec : {M : Type 1} → statement M
 find-nth-spec = tie.close (tie.spec is-reached-requires returns nth-entry-requires answer-of-requires returns-2)

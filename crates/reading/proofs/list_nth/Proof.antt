@@ -1,8 +1,7 @@
+use Rattle.find.proofs.Laws.{refused-some, list-reached}
 use mathlib.Core.Path.{sym, _∙_}
-use native.Mathlib.Omega.{arith}
-use Rattle.disk.proofs.Laws.{number-some}
 use Rattle.changes.specs.Reached.{nth-member}
-use Rattle.reading.proofs.Laws.{place-low, list-found, list-refused}
+use Rattle.reading.proofs.Laws.{place-low, fields-refused, name-refused}
 use borrow.Author.Needs.{needs}
 use Rattle.reading.proofs.list_nth.Statement.{statement}
 use Rattle.reading.proofs.list_nth.Tie as tie
@@ -16,12 +15,12 @@ enum-known-found c = search needs
 put-fields-requires : tie.Need-put-fields-requires
 put-fields-requires c κs =
     let f = rw (c .before .before .found .given .1) at (c .before .before .before .before .find-nth .ensures) in
-    place-low (c .before .before .before .before .before .before .before .before .before .before .pre .2) _ (f .0) _ (nth-member _ _ _ (f .1))
+    place-low (c .before .before .before .before .before .before .before .before .before .before .pre .2) _ (list-reached _ _ _ _ (f .0)) _ (nth-member _ _ _ (f .1))
 
 name-part-requires : tie.Need-name-part-requires
 name-part-requires c κs =
     let f = rw (c .before .before .before .found .given .1) at (c .before .before .before .before .before .find-nth .ensures) in
-    place-low (c .before .before .before .before .before .before .before .before .before .before .before .pre .2) _ (f .0) _ (nth-member _ _ _ (f .1))
+    place-low (c .before .before .before .before .before .before .before .before .before .before .before .pre .2) _ (list-reached _ _ _ _ (f .0)) _ (nth-member _ _ _ (f .1))
 
 enum-known-found-2 : tie.Need-enum-known-found-2
 enum-known-found-2 c = search needs
@@ -41,13 +40,14 @@ part-result-end c = search needs
 returns : tie.Need-returns
 returns c =
     let f = rw (c .before .before .before .before .found .given .1) at (c .before .before .before .before .before .before .find-nth .ensures) in
-    list-found _ _ _ _ _ _ _ (f .0) (f .1) (c .before .put-fields .ensures) (c .name-part .ensures)
+    (sym (f .0), (rw (f .1) (c .before .put-fields .ensures), rw (f .1) (c .name-part .ensures)))
 
 returns-2 : tie.Need-returns-2
 returns-2 c =
     let r = c .before .before .before .before .found2 .given in
     let n = c .before .before .number .ensures in
-    list-refused _ _ _ _ _ (omega (arith, n, number-some (r .0 .0))) (rw (r .1) at (c .before .before .before .before .before .before .find-nth .ensures) ∙ sym n)
+    let some = refused-some (r .0 .0) _ n in
+    (n ∙ sym (rw (r .1) at (c .before .before .before .before .before .before .find-nth .ensures)), (sym (fields-refused _ _ _ some), sym (name-refused _ _ _ some)))
 
 pub list-nth-spec : {M : Type 1} → statement M
 list-nth-spec =

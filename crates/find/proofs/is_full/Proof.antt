@@ -1,8 +1,8 @@
 use mathlib.Core.Path.{sym, _∙_}
 use borrow.Author.Tests.{not-true, not-false}
 use borrow.Author.Needs.{needs}
-use Rattle.changing.proofs.is_full.Statement.{statement}
-use Rattle.changing.proofs.is_full.Tie as tie
+use Rattle.find.proofs.is_full.Statement.{statement}
+use Rattle.find.proofs.is_full.Tie as tie
 
 is-directory-requires : tie.Need-is-directory-requires
 is-directory-requires c κs = search needs

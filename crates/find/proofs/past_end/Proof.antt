@@ -5,8 +5,8 @@ use native.Mathlib.Omega.{arith}
 use borrow.Author.Tests.{lt-ltb, le-ltb}
 use Rattle.endian.proofs.Laws.{le-or-lt}
 use borrow.Author.Needs.{needs}
-use Rattle.reading.proofs.past_end.Statement.{statement}
-use Rattle.reading.proofs.past_end.Tie as tie
+use Rattle.find.proofs.past_end.Statement.{statement}
+use Rattle.find.proofs.past_end.Tie as tie
 
 returns : tie.Need-returns
 returns c = let a = c .before .args in sym (lt-ltb (a .size) (a .offset + a .len) (omega (arith, c .if1 .taken)))
