@@ -8,7 +8,7 @@ use native.Mathlib.Nat.{le-of-eq}
 use lib.ListN.{length, getD, set, take, drop, length-set}
 use lib.Seq.{getD-set-same, getD-take, getD-drop, length-take-le, take-all, ext-getD, sets-eq}
 use Rattle.endian.specs.Bytes.{be16, put16, put32, stored}
-use Rattle.endian.proofs.Laws.{le-or-lt, eq-or-ne, length-put16, length-put32, length-stored, be32-halves, be16-put16-same, be16-put16-other, be32-put32-same, be16-set-other, getD-put16-other, stored-out, stored-take, be16-stored-before, be16-stored-after, getD-stored-before, getD-stored-after, getD-stored-in}
+use Rattle.endian.proofs.Laws.{le-or-lt, eq-or-ne, length-put16, length-put32, length-stored, be32-halves, be16-put16-same, be16-put16-other, be32-put32-same, be16-set-other, getD-put16-other, stored-out, stored-take, be16-stored-other, getD-stored-other, getD-stored-before, getD-stored-in}
 use Rattle.disk.specs.Blocks.{blockOf, withBlock}
 use Rattle.disk.specs.Root.{rootIn, putRoot, slotIn, slotOf}
 use Rattle.disk.specs.AnodeBlocks.{anodeHeadIn, putAnodeHead, anodeIn, putAnode, anodeOf, setAnode}
@@ -101,7 +101,7 @@ module _ (b : List ℕ) (r : Root) (name : List ℕ) where
   be16-dated k h =
       be16-put16-other _ 54 (r .last .0) k (λ j m e. omega arith)
       ∙ be16-put16-other named 52 (r .first .0) k (λ j m e. omega arith)
-      ∙ be16-stored-before (set dated 20 (r .name)) 21 name k (omega arith)
+      ∙ be16-stored-other (set dated 20 (r .name)) 21 name k (λ j m e. omega arith)
       ∙ be16-set-other dated 20 (r .name) k (omega arith) (omega arith)
 
   be16-typed : (k : ℕ) → k < 11 → be16 dated k ≡ be16 (put32 b 0 (r .signature)) k
@@ -157,7 +157,7 @@ module _ (b : List ℕ) (r : Root) (name : List ℕ) where
   be16-putRoot-after k short h =
       be16-put16-other _ 54 (r .last .0) k (λ j m e. omega arith)
       ∙ be16-put16-other named 52 (r .first .0) k (λ j m e. omega arith)
-      ∙ be16-stored-after (set dated 20 (r .name)) 21 name k (omega arith)
+      ∙ be16-stored-other (set dated 20 (r .name)) 21 name k (λ j m e. omega arith)
       ∙ be16-set-other dated 20 (r .name) k (omega arith) (omega arith)
       ∙ be16-put16-other _ 18 (r .protection) k (λ j m e. omega arith)
       ∙ be16-put16-other _ 16 (r .tick) k (λ j m e. omega arith)
@@ -248,11 +248,7 @@ module _ (img : List ℕ) (b : ℕ) (new : List ℕ) (enough : length (blockOf i
       let m = length-blockOf-min img b in
       let f = length-fit in
       blockOf-bytes img (withBlock img b new) d length-withBlock
-      (λ i h. rw withBlock-fit
-      (⊎-elim
-      (λ p. getD-stored-before img (b * 512) fit (d * 512 + i) (omega arith))
-      (λ p. getD-stored-after img (b * 512) fit (d * 512 + i) (omega arith))
-      (le-or-lt d b)))
+      (λ i h. rw withBlock-fit (getD-stored-other img (b * 512) fit (d * 512 + i) (λ j u e. omega arith)))
 
 pub blockOf-withBlock-same : (img : List ℕ) (b : ℕ) (new : List ℕ) → length new ≡ length (blockOf img b) → blockOf (withBlock img b new) b ≡ new
 blockOf-withBlock-same img b new same =

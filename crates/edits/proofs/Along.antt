@@ -13,6 +13,7 @@ use Rattle.rules.specs.Chains.{chainOf, run, blocksOf}
 use Rattle.rules.specs.Changes.{endFrom, entriesEnd, firstRoom}
 use Rattle.laws.specs.Sums.{oneAt-same}
 use Rattle.laws.specs.Bags.{times-cons}
+use Rattle.laws.specs.Chains.{chain-none, chain-zero, chain-step}
 use Rattle.anodes.specs.Along.{blocksAlong, along-step}
 use Rattle.anodes.specs.Loaded.{anodesFrom}
 
@@ -83,18 +84,17 @@ single-blocks block count (x ∷ l) one =
 
 module _ (img : List ℕ) (len : ℕ) (firsts nexts : List ℕ) where
   pub room-none : (k a : ℕ) → k ≡ 0 → none ≡ firstRoom img len (firstsAlong firsts nexts k a)
-  unfolding firstsAlong chainOf firstRoom
-  room-none k a e = rw e
+  unfolding firstsAlong firstRoom
+  room-none k a e = rw (e, chain-none (λ x. getD nexts x 0) a)
 
-  pub room-end : (k m a : ℕ) → k ≡ m + 1 → a ≡ 0 → none ≡ firstRoom img len (firstsAlong firsts nexts k a)
-  unfolding firstsAlong chainOf firstRoom
-  room-end k m a fuel z = rw (fuel, add-one m, z)
+  pub room-end : (k a : ℕ) → a ≡ 0 → none ≡ firstRoom img len (firstsAlong firsts nexts k a)
+  unfolding firstsAlong firstRoom
+  room-end k a z = rw (z, chain-zero (λ x. getD nexts x 0) k)
 
   pub room-step : (k m a y : ℕ) → k ≡ m + 1 → (a ≡ 0 → ⊥) → y ≡ getD firsts a 0
       → firstRoom img len (y ∷ firstsAlong firsts nexts m (getD nexts a 0)) ≡ firstRoom img len (firstsAlong firsts nexts k a)
-  unfolding firstsAlong chainOf
-  room-step k m zero y fuel n is = absurd (n refl)
-  room-step k m (suc a) y fuel n is = rw (fuel, add-one m, is)
+  unfolding firstsAlong
+  room-step k m a y fuel n is = rw (chain-step (λ x. getD nexts x 0) k m a fuel n, is)
 
   pub room-whole : (counts : List ℕ) (h : ℕ) → ((a : ℕ) → 0 < times a (chainOf (λ x. getD nexts x 0) 3444 h) → getD counts a 0 ≡ 1)
       → firstRoom img len (firstsAlong firsts nexts 3444 h) ≡ firstRoom img len (blocksOf (anodesFrom counts firsts nexts) h)

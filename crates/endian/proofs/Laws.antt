@@ -131,15 +131,18 @@ stored-take l at [] (suc k) h = refl
 stored-take l at (v ∷ s) (suc k) h =
     rw (stored-cons l at v (take k s), stored-cons l at v s) (stored-take (set l at v) (at + 1) s k (simp length-set (omega arith)))
 
+-- a byte that is none of the run's
+pub getD-stored-other : (l : List ℕ) (at : ℕ) (s : List ℕ) (i : ℕ) → ((j : ℕ) → j < length s → i ≡ at + j → ⊥) → getD (stored l at s) i 0 ≡ getD l i 0
+getD-stored-other l at [] i n = rw (stored-none l at)
+getD-stored-other l at (v ∷ s) i n =
+    rw (stored-cons l at v s)
+    (getD-stored-other (set l at v) (at + 1) s i (λ j m e. n (j + 1) (omega arith) (omega arith)) ∙ getD-set-other l at i v 0 (λ e. n 0 (omega arith) (omega arith)))
+
 pub getD-stored-before : (l : List ℕ) (at : ℕ) (s : List ℕ) (i : ℕ) → i < at → getD (stored l at s) i 0 ≡ getD l i 0
-getD-stored-before l at [] i h = rw (stored-none l at)
-getD-stored-before l at (v ∷ s) i h =
-    rw (stored-cons l at v s) (getD-stored-before (set l at v) (at + 1) s i (omega arith) ∙ getD-set-other l at i v 0 (omega arith))
+getD-stored-before l at s i h = getD-stored-other l at s i (λ j m e. omega arith)
 
 pub getD-stored-after : (l : List ℕ) (at : ℕ) (s : List ℕ) (i : ℕ) → at + length s ≤ i → getD (stored l at s) i 0 ≡ getD l i 0
-getD-stored-after l at [] i h = rw (stored-none l at)
-getD-stored-after l at (v ∷ s) i h =
-    rw (stored-cons l at v s) (getD-stored-after (set l at v) (at + 1) s i (omega arith) ∙ getD-set-other l at i v 0 (omega arith))
+getD-stored-after l at s i h = getD-stored-other l at s i (λ j m e. omega arith)
 
 -- byte `k` of the run, where the list is long enough
 pub getD-stored-in : (l : List ℕ) (at : ℕ) (s : List ℕ) (i k : ℕ) → i ≡ at + k → k < length s → i < length l
@@ -151,13 +154,12 @@ getD-stored-in l at (v ∷ s) i zero e h g =
 getD-stored-in l at (v ∷ s) i (suc k) e h g =
     rw (stored-cons l at v s) (getD-stored-in (set l at v) (at + 1) s i k (omega arith) (omega arith) (simp length-set g))
 
-pub be16-stored-before : (l : List ℕ) (at : ℕ) (s : List ℕ) (k : ℕ) → k + 1 < at → be16 (stored l at s) k ≡ be16 l k
-be16-stored-before l at s k h =
-    be16-bytes (stored l at s) l k k (getD-stored-before l at s k (omega arith)) (getD-stored-before l at s (k + 1) h)
-
-pub be16-stored-after : (l : List ℕ) (at : ℕ) (s : List ℕ) (k : ℕ) → at + length s ≤ k → be16 (stored l at s) k ≡ be16 l k
-be16-stored-after l at s k h =
-    be16-bytes (stored l at s) l k k (getD-stored-after l at s k h) (getD-stored-after l at s (k + 1) (omega arith))
+-- a number with no byte of the run
+pub be16-stored-other : (l : List ℕ) (at : ℕ) (s : List ℕ) (k : ℕ) → ((j : ℕ) → j < length s + 1 → k + 1 ≡ at + j → ⊥) → be16 (stored l at s) k ≡ be16 l k
+be16-stored-other l at s k n =
+    be16-bytes (stored l at s) l k k
+    (getD-stored-other l at s k (λ j m e. n (j + 1) (omega arith) (omega arith)))
+    (getD-stored-other l at s (k + 1) (λ j m e. n j (omega arith) e))
 
 -- zeros are a run like any other
 pub cleared-stored : (l : List ℕ) (at n : ℕ) → cleared l at n ≡ stored l at (replicate n 0)

@@ -23,7 +23,7 @@ loop-holds c = refl
 returns : tie.Need-returns Inv-loop μ-loop
 returns c =
     let l = c .before .before .loop in
-    λ counts one. room-end _ _ _ _ _ (l .fuel - 1) _ (omega arith) (c .if1 .taken) ∙ l .inv ∙ room-whole _ _ _ _ counts _ one
+    λ counts one. room-end _ _ _ _ (l .fuel) _ (c .if1 .taken) ∙ l .inv ∙ room-whole _ _ _ _ counts _ one
 
 entry-requires : tie.Need-entry-requires Inv-loop μ-loop
 entry-requires c κs = search needs
