@@ -1,34 +1,28 @@
 -- The outcome of each change, from the check's and from what the change by name leaves.
-use Prim.Native.Nat.{ℕ, zero, suc, _≤_}
-use mathlib.Core.Path.{_≡_, refl}
+use Prim.Native.Nat.{ℕ}
+use mathlib.Core.Path.{_≡_}
 use mathlib.Core.List.{List, []}
 use mathlib.Core.Option.{Option}
-use native.Mathlib.Omega.{arith}
 use lib.Dec.{eqb}
 use lib.ListN.{length}
 use Rattle.disk.specs.declared.Refusal.{Refusal}
 use Rattle.disk.specs.Refusals.{numberOf}
+use Rattle.rules.specs.Counting.{firstOf}
 use Rattle.rules.specs.Anodes.{anodesOf}
 use Rattle.rules.specs.Walk.{Entered}
+use Rattle.rules.specs.Accepted.{checkAnswer}
 use Rattle.rules.specs.Lookup.{entryNamed}
 use Rattle.rules.specs.Changes.{Left, left, NewEntry, resized, written, removed}
-use Rattle.rules.specs.Calls.{outcomeOf, checkOutcome, spanAnswer, readAnswer, resizeAnswer, removeAnswer, makeAnswer, changeNamed, madeAfter, makeOutcome, resizeOutcome, writeOutcome, removeOutcome}
+use Rattle.rules.specs.Calls.{outcomeOf, settled, checkOutcome, spanAnswer, readAnswer, resizeAnswer, removeAnswer, makeAnswer, changeNamed, madeAfter, makeOutcome, resizeOutcome, writeOutcome, removeOutcome}
 use Rattle.fsck.specs.declared.Tally.{Tally}
 use Rattle.fsck.specs.declared.Checked.{Checked}
 use Rattle.fsck.specs.declared.Checked.the-variants.{Accepted, Refused}
 use Rattle.fsck.specs.Answers.{checkedNumber}
-use Rattle.disk.proofs.Laws.{number-some}
 use Rattle.changed.specs.Leaves.{Leaves}
+use Rattle.find.proofs.Laws.{refused-some}
+use Rattle.changing.proofs.Laws.{named-refused, made-refused}
 use Rattle.calls.proofs.Opened.{accepted-answer, change-refused, change-answered}
 use Rattle.calls.proofs.Written.{leaves-written}
-
-named-some : (k : ℕ) → 1 ≤ k → (img : List ℕ) (o : Option Entered) (f : Entered → Left) → changeNamed k img o f ≡ left k img
-named-some zero l img o f = absurd (omega arith)
-named-some (suc k) l img o f = refl
-
-made-some : (k : ℕ) → 1 ≤ k → (img : List ℕ) (h : ℕ) (new : NewEntry) → madeAfter k img h new ≡ left k img
-made-some zero l img h new = absurd (omega arith)
-made-some (suc k) l img h new = refl
 
 abbrev newOf : ℕ → List ℕ → List ℕ → ℕ → ℕ → ℕ → ℕ → NewEntry
 newOf type name comment day minute tick protection = record { dir = eqb type 2; name = name; comment = comment; day = day; minute = minute; tick = tick; protection = protection }
@@ -37,28 +31,26 @@ module _ (img b₀ a₀ b a : List ℕ) (x : Checked) (e : outcomeOf (checkedNum
   -- ---- the check refused
 
   module _ (r : Refusal) (is : x ≡ Refused r) (k : ℕ) (n : k ≡ numberOf r) where
-    some : 1 ≤ k
-    some = omega (arith, n, number-some r)
+    -- a change by name
+    change-named : (m : ℕ) (o : Option Entered) (f : Entered → Left) → outcomeOf k img b a [] [] ≡ settled (changeNamed (firstOf (checkAnswer img (length b₀) (length a₀)) m) img o f) b₀ a₀ [] []
+    change-named m o f = change-refused img b₀ a₀ b a x e r is k n m (λ l. changeNamed l img o f) (named-refused img o f k (refused-some r k n))
 
     pub write-refused : (h : ℕ) (name : List ℕ) (offset : ℕ) (bytes : List ℕ) → outcomeOf k img b a [] [] ≡ writeOutcome img b₀ a₀ h name offset bytes
     unfolding writeOutcome readAnswer
-    write-refused h name offset bytes = change-refused img b₀ a₀ b a x e r is k n (spanAnswer img (anodesOf img) h name offset (length bytes))
-        (λ m. changeNamed m img (entryNamed img (anodesOf img) h name) (λ y. left 0 (written img (anodesOf img) y offset bytes))) (named-some k some img (entryNamed img (anodesOf img) h name) (λ y. left 0 (written img (anodesOf img) y offset bytes)))
+    write-refused h name offset bytes = change-named (spanAnswer img (anodesOf img) h name offset (length bytes)) (entryNamed img (anodesOf img) h name) (λ y. left 0 (written img (anodesOf img) y offset bytes))
 
     pub resize-refused : (h : ℕ) (name : List ℕ) (size : ℕ) → outcomeOf k img b a [] [] ≡ resizeOutcome img b₀ a₀ h name size
     unfolding resizeOutcome
-    resize-refused h name size = change-refused img b₀ a₀ b a x e r is k n (resizeAnswer img (anodesOf img) h name)
-        (λ m. changeNamed m img (entryNamed img (anodesOf img) h name) (λ y. resized img (anodesOf img) y size)) (named-some k some img (entryNamed img (anodesOf img) h name) (λ y. resized img (anodesOf img) y size))
+    resize-refused h name size = change-named (resizeAnswer img (anodesOf img) h name) (entryNamed img (anodesOf img) h name) (λ y. resized img (anodesOf img) y size)
 
     pub remove-refused : (h : ℕ) (name : List ℕ) → outcomeOf k img b a [] [] ≡ removeOutcome img b₀ a₀ h name
     unfolding removeOutcome
-    remove-refused h name = change-refused img b₀ a₀ b a x e r is k n (removeAnswer img (anodesOf img) h name)
-        (λ m. changeNamed m img (entryNamed img (anodesOf img) h name) (λ y. removed img (anodesOf img) y)) (named-some k some img (entryNamed img (anodesOf img) h name) (λ y. removed img (anodesOf img) y))
+    remove-refused h name = change-named (removeAnswer img (anodesOf img) h name) (entryNamed img (anodesOf img) h name) (λ y. removed img (anodesOf img) y)
 
     pub make-refused : (h type : ℕ) (name comment : List ℕ) (day minute tick protection : ℕ) → outcomeOf k img b a [] [] ≡ makeOutcome img b₀ a₀ h type name comment day minute tick protection
     unfolding makeOutcome
     make-refused h type name comment day minute tick protection = change-refused img b₀ a₀ b a x e r is k n (makeAnswer img (anodesOf img) h type name comment)
-        (λ m. madeAfter m img h (newOf type name comment day minute tick protection)) (made-some k some img h (newOf type name comment day minute tick protection))
+        (λ m. madeAfter m img h (newOf type name comment day minute tick protection)) (made-refused img h (newOf type name comment day minute tick protection) k (refused-some r k n))
 
   -- ---- the check accepted
 

@@ -1,11 +1,9 @@
 -- An image that the check accepted, and the outcome of the calls that read it.
-use Prim.Native.Nat.{ℕ, zero, suc, _≤_}
-use mathlib.Core.Path.{_≡_, refl, sym, ap, _∙_}
+use Prim.Native.Nat.{ℕ, _≤_}
+use mathlib.Core.Path.{_≡_, sym, ap, _∙_}
 use mathlib.Core.Logic.{inl, inr}
 use mathlib.Core.List.{List, []}
-use mathlib.Core.Option.{Option}
 use native.Mathlib.Nat.{zero-add}
-use native.Mathlib.Omega.{arith}
 use lib.Dec.{ltb}
 use borrow.Author.Tests.{ltb-false}
 use lib.ListN.{length, getD, drop, replicate, List·getD-append}
@@ -14,7 +12,6 @@ use Rattle.disk.specs.Refusals.{numberOf}
 use Rattle.disk.proofs.Laws.{getD-listed, length-listed}
 use Rattle.rules.specs.Counting.{firstOf}
 use Rattle.rules.specs.Anodes.{limit, anodesOf}
-use Rattle.rules.specs.Walk.{Entered}
 use Rattle.rules.specs.Accepted.{diskSize, shortTables, checkAnswer}
 use Rattle.rules.specs.Changes.{Left, left}
 use Rattle.rules.specs.Tables.{anodeEntry, anodeTable, blockTable, tableLeft, blocksLeft, anodesLeft}
@@ -24,23 +21,14 @@ use Rattle.fsck.specs.declared.Tally.{Tally}
 use Rattle.fsck.specs.declared.Checked.{Checked}
 use Rattle.fsck.specs.declared.Checked.the-variants.{Accepted, Refused}
 use Rattle.fsck.specs.Answers.{checkedNumber, Opened}
-use Rattle.disk.proofs.Laws.{number-some}
 use Rattle.counting.specs.Laws.{neither}
 use Rattle.laws.specs.Acceptance.{passed-of}
 use Rattle.changes.specs.Answers.{Late, own-tables, span-late, list-late}
 use Rattle.changed.specs.Leaves.{Leaves}
 use Rattle.changed.specs.Laws.{late-table}
 use Rattle.find.specs.Open.{Open}
-
--- a number after the check's 0, and the check's own where it refuses
-first-zero : (a b : ℕ) → a ≡ 0 → firstOf a b ≡ b
-unfolding firstOf
-first-zero a b e = rw e
-
-first-some : (a b k : ℕ) → a ≡ k → 1 ≤ k → firstOf a b ≡ k
-unfolding firstOf
-first-some zero b k e l = absurd (omega arith)
-first-some (suc a) b k e l = e
+use Rattle.find.proofs.Laws.{first-zero, first-some, refused-some}
+use Rattle.reading.proofs.Laws.{bytes-refused, fields-refused, name-refused}
 
 -- the tables that 0 shows are those of every late answer
 late-tables : (k : ℕ) → Late k → (range : ℕ) (shown old : List ℕ) → tableLeft k range shown old ≡ tableLeft 0 range shown old
@@ -67,7 +55,7 @@ module _ (img b₀ a₀ b a : List ℕ) (x : Checked) (e : outcomeOf (checkedNum
     answers-k = answer-is ∙ ap checkedNumber is ∙ sym n
 
     some : 1 ≤ k
-    some = omega (arith, n, number-some r)
+    some = refused-some r k n
 
     blocks-k : b ≡ blocksLeft k img b₀
     blocks-k = blocks-are ∙ ap (λ (m : ℕ). blocksLeft m img b₀) (ap checkedNumber is ∙ sym n)
@@ -75,24 +63,12 @@ module _ (img b₀ a₀ b a : List ℕ) (x : Checked) (e : outcomeOf (checkedNum
     anodes-k : a ≡ anodesLeft k img a₀
     anodes-k = anodes-are ∙ ap (λ (m : ℕ). anodesLeft m img a₀) (ap checkedNumber is ∙ sym n)
 
-    bytes-some : (m : ℕ) → 1 ≤ m → (o : Option Entered) (offset : ℕ) (out : List ℕ) → bytesRead m img (anodesOf img) o offset out ≡ out
-    bytes-some zero l o offset out = absurd (omega arith)
-    bytes-some (suc m) l o offset out = refl
-
-    fields-some : (m : ℕ) → 1 ≤ m → (o : Option Entered) → fieldsListed m img o ≡ replicate 11 0
-    fields-some zero l o = absurd (omega arith)
-    fields-some (suc m) l o = refl
-
-    name-some : (m : ℕ) → 1 ≤ m → (o : Option Entered) → nameListed m img o ≡ []
-    name-some zero l o = absurd (omega arith)
-    name-some (suc m) l o = refl
-
     pub read-refused : (h : ℕ) (name : List ℕ) (offset : ℕ) (out : List ℕ) → outcomeOf k img b a out [] ≡ readOutcome img b₀ a₀ h name offset out
     unfolding readOutcome readAnswer settled
     read-refused h name offset out =
         rw (
           first-some (checkAnswer img (length b₀) (length a₀)) (spanAnswer img (anodesOf img) h name offset (length out)) k answers-k some,
-          bytes-some k some (entryNamed img (anodesOf img) h name) offset out,
+          bytes-refused img (entryNamed img (anodesOf img) h name) k some (anodesOf img) offset out,
           ← blocks-k,
           ← anodes-k,
         )
@@ -102,8 +78,8 @@ module _ (img b₀ a₀ b a : List ℕ) (x : Checked) (e : outcomeOf (checkedNum
     list-refused h n =
         rw (
           first-some (checkAnswer img (length b₀) (length a₀)) (listAnswer img (anodesOf img) h n) k answers-k some,
-          fields-some k some (nth (entriesOf img (anodesOf img) h) n),
-          name-some k some (nth (entriesOf img (anodesOf img) h) n),
+          fields-refused img (nth (entriesOf img (anodesOf img) h) n) k some,
+          name-refused img (nth (entriesOf img (anodesOf img) h) n) k some,
           ← blocks-k,
           ← anodes-k,
         )

@@ -1,8 +1,6 @@
 -- A write leaves the tables that showed the image, since it changes no anode.
 use Prim.Native.Nat.{ℕ, zero, suc, _≤_}
 use mathlib.Core.Path.{_≡_, refl, sym, ap, _∙_}
-use mathlib.Core.Logic.{inl, inr}
-use mathlib.Core.Bool.{false, not}
 use mathlib.Core.List.{List, _++_}
 use mathlib.Core.Option.{Option, none, some}
 use native.Mathlib.Omega.{arith}
@@ -12,14 +10,15 @@ use Rattle.rules.specs.Anodes.{limit, anodesOf}
 use Rattle.rules.specs.Walk.{Entered}
 use Rattle.rules.specs.Accepted.{diskSize, checkAnswer}
 use Rattle.rules.specs.Tables.{anodeEntry, anodeTable, tableLeft, anodesLeft}
-use Rattle.rules.specs.Lookup.{noDirectory, entryNamed, isThere, namesDir}
+use Rattle.rules.specs.Lookup.{entryNamed}
 use Rattle.rules.specs.Changes.{Left, left, written}
 use Rattle.rules.specs.Calls.{spanAnswer, changeNamed}
-use Rattle.laws.specs.Acceptance.{if-zero}
 use Rattle.changes.specs.Answers.{span-late}
 use Rattle.changes.specs.Reached.{named-member}
 use Rattle.changes.specs.Write.{written-same, written-anodes}
 use Rattle.changed.specs.Leaves.{Leaves}
+use Rattle.find.proofs.Laws.{file-found, span-found}
+use Rattle.changing.proofs.Laws.{late-some}
 use Rattle.changed.specs.Laws.{leaves-refused, leaves-done, drop-front}
 
 module _ (img : List ℕ) (accepted : checkAnswer img (diskSize img) limit ≡ 0) (h : ℕ) (name : List ℕ) (offset : ℕ) (bytes : List ℕ) where
@@ -41,23 +40,17 @@ module _ (img : List ℕ) (accepted : checkAnswer img (diskSize img) limit ≡ 0
     unwritten k l e = rw (ap (λ (x : Left). x .answer) e, ap (λ (x : Left). x .image) e) (leaves-refused k l img b a)
 
     wrote : (x : Entered) → spanAnswer img (anodesOf img) h name offset (length bytes) ≡ 0 → entryNamed img (anodesOf img) h name ≡ some x → left r j ≡ made x → Leaves r img b a j b a (made x)
-    unfolding made spanAnswer
+    unfolding made
     wrote x z is e =
-        let reached = if-zero 21 (noDirectory img (anodesOf img) h) _ (omega arith) z in
-        let there = if-zero 22 (not (isThere (entryNamed img (anodesOf img) h name))) _ (omega arith) (reached .1) in
-        let file = if-zero 24 (namesDir (entryNamed img (anodesOf img) h name)) _ (omega arith) (there .1) in
+        let f = file-found img (anodesOf img) h name x is (span-found img (anodesOf img) h name x is offset (length bytes) z .0) in
         let m = named-member img (anodesOf img) h name x is in
-        let d : x .dir ≡ false = rw is at (file .0) in
-        let same = written-anodes img (diskSize img) limit accepted h (reached .0) x m d offset bytes in
+        let same = written-anodes img (diskSize img) limit accepted h (f .0) x m (f .1) offset bytes in
         rw (ap (λ (l : Left). l .answer) e, ap (λ (l : Left). l .image) e)
-        (λ b₀ a₀ p q. leaves-done img (written img (anodesOf img) x offset bytes) (written-same img (diskSize img) limit accepted h (reached .0) x m d offset bytes) b a b a
+        (λ b₀ a₀ p q. leaves-done img (written img (anodesOf img) x offset bytes) (written-same img (diskSize img) limit accepted h (f .0) x m (f .1) offset bytes) b a b a
         (λ t s. rw same s) (shown-heads (written img (anodesOf img) x offset bytes) a a₀ same q) b₀ a₀ p q)
 
     by-answer : (n : ℕ) (o : Option Entered) → spanAnswer img (anodesOf img) h name offset (length bytes) ≡ n → entryNamed img (anodesOf img) h name ≡ o → left r j ≡ changeNamed n img o made → Leaves r img b a j b a (changeNamed n img o made)
-    by-answer (suc n) o z is e = unwritten (suc n) (late (suc n) z (omega arith)) e
-      where
-        late : (k : ℕ) → spanAnswer img (anodesOf img) h name offset (length bytes) ≡ k → 1 ≤ k → 17 ≤ k
-        late k z l = elim (span-late img (anodesOf img) h name offset (length bytes)) [ inl y ↦ absurd (omega (arith, y, z, l)) | inr y ↦ omega (arith, y, z) ]
+    by-answer (suc n) o z is e = unwritten (suc n) (late-some _ (suc n) (span-late img (anodesOf img) h name offset (length bytes)) z (omega arith)) e
     by-answer zero none z is e = unwritten 22 (omega arith) e
     by-answer zero (some x) z is e = wrote x z is e
 

@@ -35,7 +35,7 @@ use Rattle.changed.specs.Laws.{leaves-refused}
 use Rattle.lookup.specs.declared.Lookup.{Lookup}
 use Rattle.lookup.specs.declared.Lookup.the-variants.{Missing}
 use Rattle.lookup.specs.Answers.{entryOf}
-use Rattle.writes.specs.Written.{InsideOnce}
+use Rattle.contents.specs.Written.{InsideOnce}
 use Rattle.find.specs.Open.{Open}
 use Rattle.find.proofs.Laws.{refused-some}
 

@@ -12,6 +12,7 @@ ghost use Rattle.rules.specs.Changes.{left, written, resized, removed};
 ghost use Rattle.rules.specs.Calls.{spanAnswer, resizeAnswer, removeAnswer, makeAnswer, changeNamed, madeAfter};
 ghost use Rattle.find.specs.Open.{Open};
 ghost use Rattle.changed.specs.Leaves.{Leaves};
+use contents::write_along;
 use directory::KindRead;
 use directory::kind_of;
 use directory::name_ok;
@@ -29,7 +30,6 @@ use lookup::parent_of;
 use making::make_entry;
 use removing::remove_entry;
 use resizing::resize_entry;
-use writes::write_along;
 
 // Replaces bytes of a file from the offset on; 21, 22, 24, 26.
 pub fn write_named(

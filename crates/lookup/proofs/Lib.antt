@@ -1,4 +1,3 @@
--- Laws of the lookups, of the copy and of the queue.
+-- Laws of the lookups and of the queue.
 pub mod Laws
-pub mod Copying
 pub mod Queue

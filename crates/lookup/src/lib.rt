@@ -1,20 +1,17 @@
-// Looks up the entries of a directory in an accepted image, and the bytes of a chain.
+// Looks up the entries of a directory in an accepted image.
 ghost use mathlib.Core.Bool.{not};
 ghost use mathlib.Core.List.{List, [], _++_, map};
 ghost use mathlib.Core.Path.{_≡_};
 ghost use Prim.Native.Nat.{ℕ, _+_, _*_, _<_, _≤_};
 ghost use lib.Dec.{eqb};
-ghost use lib.ListN.{length, getD, take, drop};
+ghost use lib.ListN.{getD};
 ghost use Rattle.directory.specs.Entries.{nameIn};
-ghost use Rattle.disk.specs.Blocks.{blockOf};
-ghost use Rattle.rules.specs.Counting.{times, gather, sameBytes};
-ghost use Rattle.rules.specs.Chains.{run};
+ghost use Rattle.rules.specs.Counting.{times, sameBytes};
 ghost use Rattle.rules.specs.Walk.{Entered, entriesIn};
 ghost use Rattle.rules.specs.Changes.{parentOf};
-ghost use Rattle.rules.specs.Lookup.{firstNamed, entryNamed, entriesOf, nth, bytesOf};
+ghost use Rattle.rules.specs.Lookup.{firstNamed, entryNamed, entriesOf, nth};
 ghost use Rattle.anodes.specs.Loaded.{anodesFrom};
 ghost use Rattle.lookup.specs.Answers.{entered, entryOf, orElse, onlyIf, placed, Unbroken, orRest};
-ghost use Rattle.lookup.specs.Copied.{filled, Copied};
 ghost use Rattle.lookup.specs.Queued.{placeOf};
 ghost use Rattle.tree.specs.Steps.{queueOf};
 use directory::Entry;
@@ -46,12 +43,6 @@ pub enum Lookup {
 enum Passed {
     Found(EntryAt),
     Left(u64),
-}
-
-// How many bytes are still to be skipped, and how many were copied.
-struct Cursor {
-    skip: u64,
-    done: usize,
 }
 
 // Where `head` first stands among the first `dirs` numbers of the queue; `dirs` if it does not.
@@ -254,93 +245,4 @@ pub fn nth_entry(image: &[u8], firsts: &[u16], nexts: &[u16], head: AnodeNo, n: 
         fuel -= 1;
     }
     Lookup::Missing
-}
-
-// Copies bytes into the buffer from `done` on, as many as it has room for, and gives the place after them.
-fn copy_bytes(source: &[u8], out: &mut [u8], done: usize) -> usize
-    ensures { λ r. ⌜ ((rest : List ℕ) → filled (now (out .exit)) r rest ≡ filled (now (out .entry)) done (now (source .entry) ++ rest)) ⌝ }
-{
-    let mut at = done;
-    let mut j = 0;
-    while j < source.len() {
-        if out.len() <= at {
-            return at;
-        }
-        out[at] = source[j];
-        at += 1;
-        j += 1;
-    }
-    at
-}
-
-// Copies what block `b` has behind the bytes to be skipped.
-fn copy_block(image: &[u8], b: usize, out: &mut [u8], c: Cursor) -> Cursor
-    requires { ⌜ b ≤ 131070 ⌝ }
-    ensures { λ r. ⌜ Copied c (now (out .entry)) (blockOf (now (image .entry)) b) r (now (out .exit)) ⌝ }
-{
-    let block = part(image, b * 512, 512);
-    let len = block.len();
-    if len as u64 <= c.skip {
-        return Cursor {
-            skip: c.skip - (len as u64),
-            done: c.done,
-        };
-    }
-    let from = c.skip as usize;
-    Cursor {
-        skip: 0,
-        done: copy_bytes(&block[from..len], out, c.done),
-    }
-}
-
-// Copies the `count` blocks from `first` upward, until the buffer is full.
-fn copy_run(image: &[u8], first: u16, count: u16, out: &mut [u8], c: Cursor) -> Cursor
-    ensures { λ r. ⌜ Copied c (now (out .entry)) (gather (blockOf (now (image .entry))) (run first count)) r (now (out .exit)) ⌝ }
-{
-    let mut cursor = c;
-    let mut b = first as usize;
-    let mut left = count;
-    while left > 0 {
-        if out.len() <= cursor.done {
-            return cursor;
-        }
-        let after = copy_block(image, b, out, cursor);
-        cursor = after;
-        b += 1;
-        left -= 1;
-    }
-    cursor
-}
-
-// Copies the bytes of a chain's blocks, from `offset` on, into the lent buffer.
-pub fn copy_out(
-    image: &[u8],
-    counts: &[u16],
-    firsts: &[u16],
-    nexts: &[u16],
-    head: AnodeNo,
-    offset: u64,
-    out: &mut [u8],
-)
-    requires { ⌜ offset + length (now out) ≤ length (bytesOf (now image) (anodesFrom (now counts) (now firsts) (now nexts)) (head .0)) ⌝ }
-    ensures { λ _. ⌜ now (out .exit) ≡ take (length (now (out .entry))) (drop offset (bytesOf (now (image .entry)) (anodesFrom (now (counts .entry)) (now (firsts .entry)) (now (nexts .entry))) (head .0))) ⌝ }
-{
-    let mut cursor = Cursor {
-        skip: offset,
-        done: 0,
-    };
-    let mut at = head.0 as usize;
-    let mut fuel: usize = 3444;
-    while fuel > 0 {
-        if at == 0 {
-            return;
-        }
-        if out.len() <= cursor.done {
-            return;
-        }
-        let after = copy_run(image, entry(firsts, at), entry(counts, at), out, cursor);
-        cursor = after;
-        at = entry(nexts, at) as usize;
-        fuel -= 1;
-    }
 }

@@ -12,10 +12,11 @@ use Rattle.directory.proofs.Laws.{found-at}
 use Rattle.rules.specs.Anodes.{anodesOf}
 use Rattle.rules.specs.Walk.{Entered}
 use Rattle.rules.specs.Accepted.{checkAnswer}
-use Rattle.rules.specs.Lookup.{noDirectory, entriesOf, nameAt, nth}
+use Rattle.rules.specs.Lookup.{entriesOf, nameAt, nth}
 use Rattle.rules.specs.Calls.{Outcome, outcomeOf, settled, fieldList, fieldsAt, fieldsListed, nameListed, listAnswer, listAnswered, listOutcome}
-use Rattle.laws.specs.Acceptance.{if-zero, firstOf-zero}
+use Rattle.laws.specs.Acceptance.{firstOf-zero}
 use Rattle.changes.specs.Reached.{entry-facts, nth-member}
+use Rattle.find.proofs.Laws.{list-reached}
 use Rattle.reading.proofs.Laws.{take-within}
 use Rattle.pfs.specs.Listed.{nameGiven}
 
@@ -31,10 +32,9 @@ named-part img place l =
 module _ (img b₀ a₀ : List ℕ) (h n : ℕ) where
   -- of the entry that is listed
   found-name : checkAnswer img (length b₀) (length a₀) ≡ 0 → listAnswer img (anodesOf img) h n ≡ 0 → (x : Entered) → nth (entriesOf img (anodesOf img) h) n ≡ some x → nameAt img (x .place) ≡ nameGiven img (fieldsAt img (x .place))
-  unfolding listAnswer nameGiven fieldsAt fieldList entryIn entryLength
+  unfolding nameGiven fieldsAt fieldList entryIn entryLength
   found-name accepted listed x is =
-      let r = if-zero 21 (noDirectory img (anodesOf img) h) _ (omega arith) listed .0 in
-      let f = entry-facts img (length b₀) (length a₀) accepted h r x (nth-member _ n x is) in
+      let f = entry-facts img (length b₀) (length a₀) accepted h (list-reached img (anodesOf img) h n listed) x (nth-member _ n x is) in
       let w = found-at (blockOf img (x .place / 512)) (x .place % 512) (f .entry) (f .stands) in
       named-part img (x .place) (omega (arith, w .exact, w .room))
 

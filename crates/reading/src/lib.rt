@@ -7,6 +7,7 @@ ghost use Rattle.rules.specs.Anodes.{anodesOf};
 ghost use Rattle.rules.specs.Lookup.{entryNamed, entriesOf, nameAt, nth};
 ghost use Rattle.rules.specs.Calls.{spanAnswer, bytesRead, listAnswer, fieldsAt, fieldsListed, nameListed};
 ghost use Rattle.find.specs.Open.{Open, OpenFor};
+use contents::copy_out;
 use disk::AnodeNo;
 use disk::BlockNo;
 use disk::block_part;
@@ -18,7 +19,6 @@ use endian::read32;
 use find::Search;
 use find::find_nth;
 use find::find_span;
-use lookup::copy_out;
 
 // Fills the buffer with the file's bytes from the offset on; 21, 22, 24, 26.
 pub fn read_named(

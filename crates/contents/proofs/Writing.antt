@@ -22,7 +22,7 @@ use Rattle.laws.specs.Chains.{Inside}
 use Rattle.laws.specs.Sums.{oneAt-same}
 use Rattle.laws.specs.Bags.{times-cons, times-append}
 use Rattle.anodes.specs.Along.{blocksAlong, along-step, run-step}
-use Rattle.writes.specs.Written.{writtenOver, InsideOnce}
+use Rattle.contents.specs.Written.{writtenOver, InsideOnce}
 
 -- ---- a store over two lists
 

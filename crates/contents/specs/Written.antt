@@ -6,7 +6,7 @@ use lib.ListN.{length, drop}
 use Rattle.endian.specs.Bytes.{stored}
 use Rattle.disk.specs.Blocks.{blockOf, withBlock}
 use Rattle.rules.specs.Counting.{times}
-use Rattle.writes.specs.declared.Cursor.{Cursor}
+use Rattle.contents.specs.declared.Cursor.{Cursor}
 
 -- block by block: each stores what falls into it, and the next goes on with the rest of the offset and of the bytes
 unfoldable pub writtenOver : List ℕ → List ℕ → ℕ → List ℕ → List ℕ

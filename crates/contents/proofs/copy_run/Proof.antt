@@ -6,11 +6,11 @@ use lib.ListN.{length, drop}
 use Rattle.disk.specs.Blocks.{blockOf}
 use Rattle.rules.specs.Counting.{gather}
 use Rattle.rules.specs.Chains.{run}
-use Rattle.lookup.specs.Copied.{filled}
-use Rattle.lookup.proofs.Copying.{filled-any, run-bytes-none, run-bytes-step}
+use Rattle.contents.specs.Copied.{filled}
+use Rattle.contents.proofs.Copying.{filled-any, run-bytes-none, run-bytes-step}
 use borrow.Author.Needs.{needs}
-use Rattle.lookup.proofs.copy_run.Statement.{statement}
-use Rattle.lookup.proofs.copy_run.Tie as tie
+use Rattle.contents.proofs.copy_run.Statement.{statement}
+use Rattle.contents.proofs.copy_run.Tie as tie
 
 abbrev Inv-loop : tie.InvT-loop
 Inv-loop image first count out₀ cursor₀ b₀ left₀ out cursor b left =

@@ -2,11 +2,11 @@ use mathlib.Core.Path.{_≡_, refl, _∙_}
 use mathlib.Core.List.{List, _++_}
 use Prim.Native.Nat.{ℕ, _-_}
 use lib.ListN.{length, drop, length-set}
-use Rattle.lookup.specs.Copied.{filled}
-use Rattle.lookup.proofs.Copying.{filled-any, filled-byte, filled-done}
+use Rattle.contents.specs.Copied.{filled}
+use Rattle.contents.proofs.Copying.{filled-any, filled-byte, filled-done}
 use borrow.Author.Needs.{needs}
-use Rattle.lookup.proofs.copy_bytes.Statement.{statement}
-use Rattle.lookup.proofs.copy_bytes.Tie as tie
+use Rattle.contents.proofs.copy_bytes.Statement.{statement}
+use Rattle.contents.proofs.copy_bytes.Tie as tie
 
 abbrev Inv-loop : tie.InvT-loop
 Inv-loop source out₀ done at₀ j₀ out at j =

@@ -1,7 +1,7 @@
-use Rattle.writes.proofs.Laws.{over-skipped, over-stored}
+use Rattle.contents.proofs.Writing.{over-skipped, over-stored}
 use borrow.Author.Needs.{needs}
-use Rattle.writes.proofs.write_block.Statement.{statement}
-use Rattle.writes.proofs.write_block.Tie as tie
+use Rattle.contents.proofs.write_block.Statement.{statement}
+use Rattle.contents.proofs.write_block.Tie as tie
 
 returns : tie.Need-returns
 returns c = λ rest. over-skipped _ _ (c .before .before .before .before .before .pre .0) rest _ _ (c .before .if1 .taken)

@@ -7,11 +7,11 @@ use Rattle.rules.specs.Changes.{written}
 use Rattle.anodes.specs.Loaded.{anodesFrom}
 use Rattle.anodes.specs.Along.{blocksAlong, along-whole, along-none, along-end, along-step}
 use Rattle.laws.specs.Chains.{Inside}
-use Rattle.writes.specs.Written.{writtenOver}
-use Rattle.writes.proofs.Laws.{over-empty, over-done, over-written, along-inside}
+use Rattle.contents.specs.Written.{writtenOver}
+use Rattle.contents.proofs.Writing.{over-empty, over-done, over-written, along-inside}
 use borrow.Author.Needs.{needs}
-use Rattle.writes.proofs.write_along.Statement.{statement}
-use Rattle.writes.proofs.write_along.Tie as tie
+use Rattle.contents.proofs.write_along.Statement.{statement}
+use Rattle.contents.proofs.write_along.Tie as tie
 
 abbrev Inv-loop : tie.InvT-loop
 Inv-loop image₀ counts firsts nexts offset bytes cursor₀ at₀ fuel₀ image cursor at fuel =

@@ -3,7 +3,7 @@ use Prim.Native.Nat.{ℕ}
 use mathlib.Core.Path.{_≡_}
 use mathlib.Core.List.{List, _++_}
 use lib.ListN.{length, take, drop}
-use Rattle.lookup.specs.declared.Cursor.{Cursor}
+use Rattle.contents.specs.declared.Cursor.{Cursor}
 
 -- the buffer whose first `done` bytes stand, with the source's after them as far as there is room
 unfoldable pub filled : List ℕ → ℕ → List ℕ → List ℕ

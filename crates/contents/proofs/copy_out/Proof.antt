@@ -7,11 +7,11 @@ use Rattle.rules.specs.Counting.{gather}
 use Rattle.rules.specs.Lookup.{bytesOf}
 use Rattle.anodes.specs.Loaded.{anodesFrom}
 use Rattle.anodes.specs.Along.{blocksAlong, along-whole, along-none, along-end}
-use Rattle.lookup.specs.Copied.{filled}
-use Rattle.lookup.proofs.Copying.{part-length, filled-start, filled-full, filled-end, bytes-step}
+use Rattle.contents.specs.Copied.{filled}
+use Rattle.contents.proofs.Copying.{part-length, filled-start, filled-full, filled-end, bytes-step}
 use borrow.Author.Needs.{needs}
-use Rattle.lookup.proofs.copy_out.Statement.{statement}
-use Rattle.lookup.proofs.copy_out.Tie as tie
+use Rattle.contents.proofs.copy_out.Statement.{statement}
+use Rattle.contents.proofs.copy_out.Tie as tie
 
 abbrev Inv-loop : tie.InvT-loop
 Inv-loop image counts firsts nexts offset out₀ cursor₀ at₀ fuel₀ out cursor at fuel =

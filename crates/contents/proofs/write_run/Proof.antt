@@ -6,11 +6,11 @@ use lib.ListN.{length, drop}
 use Rattle.rules.specs.Chains.{run}
 use Rattle.anodes.specs.Along.{run-none, run-step}
 use Rattle.laws.specs.Chains.{Inside}
-use Rattle.writes.specs.Written.{writtenOver}
-use Rattle.writes.proofs.Laws.{over-done, first-inside, rest-inside}
+use Rattle.contents.specs.Written.{writtenOver}
+use Rattle.contents.proofs.Writing.{over-done, first-inside, rest-inside}
 use borrow.Author.Needs.{needs}
-use Rattle.writes.proofs.write_run.Statement.{statement}
-use Rattle.writes.proofs.write_run.Tie as tie
+use Rattle.contents.proofs.write_run.Statement.{statement}
+use Rattle.contents.proofs.write_run.Tie as tie
 
 abbrev Inv-loop : tie.InvT-loop
 Inv-loop image₀ first count bytes cursor₀ b₀ left₀ image cursor b left =

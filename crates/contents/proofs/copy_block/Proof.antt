@@ -1,8 +1,8 @@
 use Rattle.disk.specs.Blocks.{blockOf}
-use Rattle.lookup.proofs.Copying.{block-skipped, block-behind}
+use Rattle.contents.proofs.Copying.{block-skipped, block-behind}
 use borrow.Author.Needs.{needs}
-use Rattle.lookup.proofs.copy_block.Statement.{statement}
-use Rattle.lookup.proofs.copy_block.Tie as tie
+use Rattle.contents.proofs.copy_block.Statement.{statement}
+use Rattle.contents.proofs.copy_block.Tie as tie
 
 mul-part : tie.Need-mul-part
 mul-part c = search needs
@@ -10,8 +10,8 @@ mul-part c = search needs
 part-requires : tie.Need-part-requires
 part-requires c κs = search needs
 
-sub-t12 : tie.Need-sub-t12
-sub-t12 c = search needs
+sub-t13 : tie.Need-sub-t13
+sub-t13 c = search needs
 
 returns : tie.Need-returns
 unfolding blockOf
@@ -42,7 +42,7 @@ copy-block-spec =
     (tie.spec
     mul-part
     part-requires
-    sub-t12
+    sub-t13
     returns
     sub-copy-bytes
     part-copy-bytes-start

@@ -11,7 +11,7 @@ use Rattle.rules.specs.Counting.{gather}
 use Rattle.rules.specs.Chains.{run}
 use Rattle.anodes.specs.Along.{blocksAlong, along-step, run-none, run-step}
 use Rattle.laws.specs.ChainBlocks.{gather-append}
-use Rattle.lookup.specs.Copied.{filled}
+use Rattle.contents.specs.Copied.{filled}
 
 -- ---- lists
 

@@ -1,0 +1,3 @@
+-- Laws of the copy and of the write.
+pub mod Copying
+pub mod Writing

@@ -1,2 +1,0 @@
--- Laws of the write along a chain.
-pub mod Laws

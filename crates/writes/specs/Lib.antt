@@ -1,2 +1,0 @@
--- What a write along a chain leaves.
-pub mod Written
