@@ -35,9 +35,9 @@ module _ {img counts firsts nexts : List ℕ} (l : Loaded img counts firsts next
   pub loaded-good : Good limit (exists img) (diskSize img) (lastReserved img) (anodesFrom counts firsts nexts) (systemOwns img) (headIn img) (sideIn img)
   loaded-good = rw (l .is-loaded) image-good
 
-  -- copies of the tables have the image's anodes
-  pub copies-loaded : (nc nf nn : List ℕ) → nc ≡ counts → nf ≡ firsts → nn ≡ nexts → anodesFrom nc nf nn ≡ anodesOf img
-  copies-loaded nc nf nn c f n = rw (c, f, n) (l .is-loaded)
+  -- the steps may be planned on copies of the tables
+  pub loaded-copies : (nc nf nn : List ℕ) → nc ≡ counts → nf ≡ firsts → nn ≡ nexts → Loaded img nc nf nn
+  loaded-copies nc nf nn c f n = rw (c, f, n) l
 
   -- the blocks of a chain, as they are counted in the tables
   pub chain-counted : (h have : ℕ) → have ≡ sumFrom counts nexts limit h → have ≡ blockCount (anodesOf img) h
@@ -55,10 +55,10 @@ module _ {img counts firsts nexts : List ℕ} (l : Loaded img counts firsts next
     pub entry-not-1 : e .anode ≢ 1
     entry-not-1 i = omega (arith, i, entry-known .from-6)
 
-    -- steps on it may be planned on copies of the tables, with the count that was read off them
+    -- what the steps on it ask of the copies, and the count that was read off the tables
     pub plan-ready : (nc nf nn : List ℕ) → nc ≡ counts → nf ≡ firsts → nn ≡ nexts → (have : ℕ) → have ≡ sumFrom counts nexts limit (e .anode) → ((wrongSize img ≡ false) × GoodAnodes img (anodesFrom nc nf nn))
         × (Head (anodesFrom nc nf nn .next) (anodesFrom nc nf nn .block) (e .anode) × (e .anode ≢ 1) × (have ≡ blockCount (anodesFrom nc nf nn) (e .anode)))
-    plan-ready nc nf nn c f n have all = rw (copies-loaded nc nf nn c f n) ((loaded-size, (headIn img, sideIn img, image-good)), (entry-known .head, entry-not-1, chain-counted (e .anode) have all))
+    plan-ready nc nf nn c f n have all = rw (loaded-copies nc nf nn c f n .is-loaded) ((loaded-size, (headIn img, sideIn img, image-good)), (entry-known .head, entry-not-1, chain-counted (e .anode) have all))
 
     -- fewer blocks can be given back than a table of 65,535 numbers holds
     pub gave-few : (k : ℕ) (t : Anodes) (ys : List ℕ) → giveMany limit (exists img) (lastReserved img) k (anodesOf img) (e .anode) ≡ planned t ys → k ≤ blockCount (anodesOf img) (e .anode) → length ys < 65535

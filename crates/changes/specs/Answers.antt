@@ -11,7 +11,7 @@ use Rattle.rules.specs.Anodes.{Anodes, limit}
 use Rattle.rules.specs.Accepted.{diskSize, shortTables, checkAnswer}
 use Rattle.rules.specs.Lookup.{noDirectory, entryNamed, isThere, namesDir, fullDir, pastEnd, nth, entriesOf}
 use Rattle.rules.specs.Calls.{spanAnswer, resizeAnswer, removeAnswer, makeAnswer, wrongEntry, listAnswer}
-use Rattle.laws.specs.Acceptance.{Passed, passed-of, passed-accepted}
+use Rattle.laws.specs.Acceptance.{passed-of}
 
 -- 0, or a number after the damage numbers
 abbrev pub Late : ℕ → Type 0
@@ -19,40 +19,23 @@ Late n = (n ≡ 0) ⊎ (17 ≤ n)
 
 -- the check of an accepted image lent other tables
 module _ (img : List ℕ) where
-  with-tables : {blocks anodes : ℕ} → Passed img blocks anodes → (long many : ℕ) → shortTables img long many ≡ false → Passed img long many
-  with-tables p long many e = record {
-    size-right = p .size-right;
-    tables-long = e;
-    type-right = p .type-right;
-    root-right = p .root-right;
-    slots-right = p .slots-right;
-    fixed-right = p .fixed-right;
-    in-range = p .in-range;
-    links-right = p .links-right;
-    free-right = p .free-right;
-    none-twice = p .none-twice;
-    all-owned = p .all-owned;
-    walked = p .walked;
-    all-named = p .all-named;
-  }
+  with-tables : (blocks anodes : ℕ) → checkAnswer img blocks anodes ≡ 0 → (long many : ℕ) → shortTables img long many ≡ false → checkAnswer img long many ≡ 0
+  unfolding checkAnswer
+  with-tables blocks anodes e long many q = let p = passed-of img blocks anodes e in rw (p .size-right, q) (rw (p .size-right, p .tables-long) at e)
 
   -- tables as long as 2 asks
   pub own-tables : (blocks anodes : ℕ) → checkAnswer img blocks anodes ≡ 0 → checkAnswer img (diskSize img) limit ≡ 0
   unfolding shortTables
-  own-tables blocks anodes e = passed-accepted img (diskSize img) limit (with-tables (passed-of img blocks anodes e) (diskSize img) limit
-      (rw (le-ltb (diskSize img) (diskSize img) (omega arith))))
+  own-tables blocks anodes e = with-tables blocks anodes e (diskSize img) limit (rw (le-ltb (diskSize img) (diskSize img) (omega arith)))
 
   -- 0, or 2 where a table is short
   pub any-tables : checkAnswer img (diskSize img) limit ≡ 0 → (blocks anodes : ℕ) → (checkAnswer img blocks anodes ≡ 0) ⊎ (checkAnswer img blocks anodes ≡ 2)
   unfolding checkAnswer
   any-tables e blocks anodes = go (shortTables img blocks anodes) refl
     where
-      p : Passed img (diskSize img) limit
-      p = passed-of img (diskSize img) limit e
-
       go : (t : Bool) → shortTables img blocks anodes ≡ t → (checkAnswer img blocks anodes ≡ 0) ⊎ (checkAnswer img blocks anodes ≡ 2)
-      go true q = inr (rw (p .size-right, q))
-      go false q = inl (passed-accepted img blocks anodes (with-tables p blocks anodes q))
+      go true q = inr (rw (passed-of img (diskSize img) limit e .size-right, q))
+      go false q = inl (with-tables (diskSize img) limit e blocks anodes q)
 
 -- a row of a table of such refusals
 if-late : (n : ℕ) (t : Bool) (rest : ℕ) → 17 ≤ n → Late rest → Late (n if t else rest)

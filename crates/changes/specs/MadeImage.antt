@@ -107,15 +107,11 @@ module _ {img : List ℕ} {blocks anodes h : ℕ} {new : NewEntry} {f : ℕ} {ro
   pub plan : MadePlan s (headIn img) f h (new .dir) ys zs t
   plan = made-plan img w f (m .from-6) (m .there) (m .below) (m .fresh) h once (new .dir) (m .between) ys (m .own) room t zs (m .parent)
 
-  pub hd : ℕ → ℕ
-  hd = made-good img w f (m .from-6) (m .there) (m .below) (m .fresh) h once (new .dir) (m .between) ys (m .own) room t zs (m .parent) .0
+  pub state : (hd′ : ℕ → ℕ) × (sd′ : ℕ → ℕ) × Good limit (exists img) (diskSize img) (lastReserved img) t (systemOwns img) hd′ sd′
+  state = made-good img w f (m .from-6) (m .there) (m .below) (m .fresh) h once (new .dir) (m .between) ys (m .own) room t zs (m .parent)
 
-  pub sd : ℕ → ℕ
-  sd = made-good img w f (m .from-6) (m .there) (m .below) (m .fresh) h once (new .dir) (m .between) ys (m .own) room t zs (m .parent) .1
-
-  pub good : Good limit (exists img) (diskSize img) (lastReserved img) t (systemOwns img) hd sd
-  unfolding hd sd
-  good = made-good img w f (m .from-6) (m .there) (m .below) (m .fresh) h once (new .dir) (m .between) ys (m .own) room t zs (m .parent) .2
+  pub good : Good limit (exists img) (diskSize img) (lastReserved img) t (systemOwns img) (state .0) (state .1)
+  good = state .2
 
   -- ---- the new blocks
 

@@ -2,7 +2,7 @@
 use Prim.Native.Nat.{ℕ, zero, suc, _+_, _*_, _≤_, _<_}
 use mathlib.Core.Path.{_≡_, refl, sym, ap, ap₂, _∙_}
 use mathlib.Core.Logic.{_≢_, _⊎_, inl, inr}
-use mathlib.Core.List.{List, [], _∷_, _++_}
+use mathlib.Core.List.{List, [], _∷_, _++_, map, map-id}
 use native.Mathlib.Omega.{arith}
 use Rattle.rules.specs.Counting.{sumList, times, gather, oneAt}
 use Rattle.laws.specs.Tests.{less?}
@@ -62,6 +62,13 @@ pub gather-congr {ℓ κ} : {X : Type ℓ} {Y : Type κ} (f g : X → List Y) (l
 unfolding gather
 gather-congr f g [] e = refl
 gather-congr f g (x ∷ l) e = ap₂ _++_ (e x (member-first x l)) (gather-congr f g l (λ y m. e y (member-later y x l m)))
+
+pub map-members {ℓ} : {X : Type ℓ} (f g : X → X) (l : List X) → ((x : X) → Member x l → f x ≡ g x) → map f l ≡ map g l
+map-members f g [] e = refl
+map-members f g (x ∷ l) e = ap₂ _∷_ (e x (member-first x l)) (map-members f g l (λ y m. e y (member-later y x l m)))
+
+pub map-kept {ℓ} : {X : Type ℓ} (f : X → X) (l : List X) → ((x : X) → Member x l → f x ≡ x) → map f l ≡ l
+map-kept f l e = map-members f (λ x. x) l e ∙ map-id l
 
 pub member-times : (x : ℕ) (l : List ℕ) → Member x l → 0 < times x l
 unfolding times

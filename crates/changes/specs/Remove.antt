@@ -107,17 +107,20 @@ module _ (img : List ℕ) (blocks anodes : ℕ) (accepted : checkAnswer img bloc
   -- ---- the answers
 
   -- a removal is refused with 28 alone
-  pub remove-cases : let s = anodesOf img in (removed img s e ≡ left 28 img)
+  pub remove-refused : (k : ℕ) → giveMany limit (exists img) (lastReserved img) (blockCount (anodesOf img) (e .anode)) (anodesOf img) (e .anode) ≡ refused k → k ≡ 28
+  remove-refused k q =
+      let g = accepted-whole img blocks anodes accepted .good in
+      gives-refused (blockCount (anodesOf img) (e .anode)) (e .anode) (λ i. omega (arith, i, its-facts .from-6)) k (anodesOf img) (systemOwns img) (headIn img) (sideIn img) g (its-facts .head)
+      (omega (arith, blocks-count g (e .anode) (its-facts .head))) q
+
+  remove-cases : let s = anodesOf img in (removed img s e ≡ left 28 img)
       ⊎ ((t : Anodes) × (ys : List ℕ) × (giveMany limit (exists img) (lastReserved img) (blockCount s (e .anode)) s (e .anode) ≡ planned t ys) × (removed img s e ≡ left 0 (removedImage img e t ys)))
   unfolding removed
   remove-cases = go (giveMany limit (exists img) (lastReserved img) (blockCount (anodesOf img) (e .anode)) (anodesOf img) (e .anode)) refl
     where
       go : (p : Plan) → giveMany limit (exists img) (lastReserved img) (blockCount (anodesOf img) (e .anode)) (anodesOf img) (e .anode) ≡ p →
           (leftBy p img (removedImage img e) ≡ left 28 img) ⊎ ((t : Anodes) × (ys : List ℕ) × (p ≡ planned t ys) × (leftBy p img (removedImage img e) ≡ left 0 (removedImage img e t ys)))
-      go (refused k) q =
-          let g = accepted-whole img blocks anodes accepted .good in
-          inl (ap (λ (n : ℕ). left n img) (gives-refused (blockCount (anodesOf img) (e .anode)) (e .anode) (λ i. omega (arith, i, its-facts .from-6)) k (anodesOf img) (systemOwns img) (headIn img) (sideIn img) g (its-facts .head)
-          (omega (arith, blocks-count g (e .anode) (its-facts .head))) q))
+      go (refused k) q = inl (ap (λ (n : ℕ). left n img) (remove-refused k q))
       go (planned t ys) q = inr (t, ys, refl, refl)
 
   -- what a removal leaves of an accepted image is accepted, where a directory that goes is empty

@@ -3,7 +3,7 @@ use Prim.Native.Nat.{ℕ, _+_, _-_, _*_, _/_, _%_, _<_}
 use mathlib.Core.Path.{_≡_, refl, sym, ap, ap₂, _∙_}
 use mathlib.Core.Logic.{_≢_, inl, inr}
 use mathlib.Core.Bool.{Bool, true, false, cond}
-use mathlib.Core.List.{List, [], _∷_, _++_, map, append-assoc, map-append, map-id}
+use mathlib.Core.List.{List, _∷_, _++_, map, append-assoc, map-append}
 use native.Mathlib.Omega.{arith}
 use lib.Dec.{eqb}
 use borrow.Author.Tests.{eq-eqb, ne-eqb}
@@ -18,7 +18,7 @@ use Rattle.rules.specs.Lookup.{entriesOf, notEmpty}
 use Rattle.rules.specs.Changes.{entriesEnd, gapClosed, removedImage}
 use Rattle.laws.specs.ChainBlocks.{gather-append, stands-once}
 use Rattle.frames.specs.Kept.{entriesIn-kept}
-use Rattle.changes.specs.Members.{Member, no-member, member-first, member-later, member-append, member-gather, member-times, gather-congr}
+use Rattle.changes.specs.Members.{Member, no-member, member-append, member-gather, member-times, gather-congr, map-members, map-kept}
 use Rattle.changes.specs.Reached.{block-whole, block-unbroken, parted, reached-from-5, dir-block, place-in, not-file}
 use Rattle.changes.specs.Gap.{lowered, bytes-earlier, bytes-later}
 use Rattle.changes.specs.EntryBytes.{entryBytes, bytes-at, with-length}
@@ -49,10 +49,6 @@ module _ {ℓ} {X : Type ℓ} (x z : X) (l m all : List X) (parted : all ≡ l +
 
   member-back : Member x m → Member x all
   member-back (us, vs, i) = (l ++ (z ∷ us), vs, parted ∙ rw i (sym (append-assoc l (z ∷ us) (x ∷ vs))))
-
-map-members : (φ ψ : Entered → Entered) (l : List Entered) → ((f : Entered) → Member f l → φ f ≡ ψ f) → map φ l ≡ map ψ l
-map-members φ ψ [] e = refl
-map-members φ ψ (f ∷ l) e = ap₂ _∷_ (e f (member-first f l)) (map-members φ ψ l (λ g m. e g (member-later g f l m)))
 
 module _ {img : List ℕ} {e : Entered} {t : Anodes} {ys : List ℕ} (p : PlannedRemove img e t ys) where
   abbrev s : Anodes
@@ -175,7 +171,7 @@ module _ {img : List ℕ} {e : Entered} {t : Anodes} {ys : List ℕ} (p : Planne
   all-moved =
       map-append (movedUp img e) later (gather old back)
       ∙ ap₂ _++_ (map-members (movedUp img e) (lowered len) later (λ f m. is-moved f (same-behind f m .0)))
-      (map-members (movedUp img e) (λ f. f) (gather old back) (λ f m. not-moved f (along back in-back f m .0)) ∙ map-id (gather old back))
+      (map-kept (movedUp img e) (gather old back) (λ f m. not-moved f (along back in-back f m .0)))
 
   module _ (empty : e .dir ≡ true → notEmpty img s e ≡ false) where
     -- a directory that goes is not the one that had its entry

@@ -1,9 +1,9 @@
 -- A file of an accepted image resized: the image is accepted again, and of its directories the entry's size alone has changed.
 use Prim.Native.Nat.{ℕ, _/_, _%_}
-use mathlib.Core.Path.{_≡_, refl, sym, ap, _∙_}
+use mathlib.Core.Path.{_≡_, refl, sym, ap, ap₂, _∙_}
 use mathlib.Core.Logic.{_≢_, _⊎_, inl, inr}
 use mathlib.Core.Bool.{Bool, true, false, cond}
-use mathlib.Core.List.{List, [], _∷_, _++_, map}
+use mathlib.Core.List.{List, _∷_, _++_, map, map-append}
 use native.Mathlib.Omega.{arith}
 use lib.Dec.{eqb}
 use borrow.Author.Tests.{eq-eqb, ne-eqb}
@@ -21,7 +21,7 @@ use Rattle.laws.specs.ChainBlocks.{shift-chain}
 use Rattle.laws.specs.Whole.{Whole}
 use Rattle.laws.specs.Resize as Laws
 use Rattle.changes.specs.Image.{accepted-whole, whole-accepted}
-use Rattle.changes.specs.Members.{Member, member-first, member-later, gather-congr}
+use Rattle.changes.specs.Members.{Member, gather-congr, map-kept}
 use Rattle.changes.specs.Reached.{entry-facts}
 use Rattle.changes.specs.NamedOnce.{only-here, only-this}
 use Rattle.changes.specs.SameItems.{whole-same}
@@ -54,14 +54,13 @@ resized-fields h new x = go (eqb (x .anode) h)
 
 -- entries that do not name h stay
 others-stay : (h new : ℕ) (l : List Entered) → ((x : Entered) → Member x l → x .anode ≢ h) → map (resizedEntry h new) l ≡ l
-others-stay h new [] n = refl
-others-stay h new (x ∷ l) n = rw (resized-other h new x (n x (member-first x l)), others-stay h new l (λ y m. n y (member-later y x l m)))
+others-stay h new l n = map-kept (resizedEntry h new) l (λ x m. resized-other h new x (n x m))
 
 pub one-resized : (h new : ℕ) (before : List Entered) (e : Entered) (after : List Entered) → e .anode ≡ h → ((x : Entered) → Member x before ⊎ Member x after → x .anode ≢ h) →
     map (resizedEntry h new) (before ++ (e ∷ after)) ≡ before ++ (sized new e ∷ after)
-one-resized h new [] e after i n = rw (resized-it h new e i, others-stay h new after (λ x m. n x (inr m)))
-one-resized h new (x ∷ before) e after i n =
-    rw (resized-other h new x (n x (inl (member-first x before))), one-resized h new before e after i (λ y m. n y (elim m [ inl q ↦ inl (member-later y x before q) | inr q ↦ inr q ])))
+one-resized h new before e after i n =
+    map-append (resizedEntry h new) before (e ∷ after)
+    ∙ ap₂ _++_ (others-stay h new before (λ x m. n x (inl m))) (ap₂ _∷_ (resized-it h new e i) (others-stay h new after (λ x m. n x (inr m))))
 
 -- ---- the directories
 

@@ -2,9 +2,10 @@
 use Prim.Native.Nat.{ℕ, _+_, _-_, _≤_, _<_}
 use mathlib.Core.Path.{_≡_, refl, sym, ap, _∙_}
 use mathlib.Core.Logic.{_≢_, _⊎_, inl, inr}
-use mathlib.Core.Bool.{false}
+use mathlib.Core.Bool.{false, cond}
 use mathlib.Core.List.{List, [], _∷_, _++_, append-nil, reverse}
 use native.Mathlib.Omega.{arith}
+use lib.Dec.{leb}
 use lib.ListN.{length}
 use borrow.Author.Tests.{le-leb, lt-leb}
 use Rattle.rules.specs.Counting.{times}
@@ -34,6 +35,7 @@ pub record Resizing (img : List ℕ) (s : Anodes) (hd : ℕ → ℕ) (h size : �
   pub to : ℕ
   pub apart : from ≢ to
   pub from-is : (from ≡ 1) ⊎ (from ≡ h)
+  pub to-is : to ≡ cond (leb (blockCount s h) size) h 1
   pub ran : Ran limit (exists img) (diskSize img) (lastReserved img) s (systemOwns img) hd from to h size ys t
 
 module _ (img : List ℕ) {s : Anodes} {hd sd : ℕ → ℕ} (g : Good limit (exists img) (diskSize img) (lastReserved img) s (systemOwns img) hd sd)
@@ -46,6 +48,7 @@ module _ (img : List ℕ) {s : Anodes} {hd sd : ℕ → ℕ} (g : Good limit (ex
       to = 1;
       apart = h1;
       from-is = inr refl;
+      to-is = rw (lt-leb (blockCount s h) size l);
       ran = shrink-ran (blockCount s h - size) h h1 t ys s (systemOwns img) hd sd size (omega (arith, blocks-count g h d)) g d (rw (lt-leb (blockCount s h) size l) at plan);
     }
     | inr l ↦ (let fits : blocks limit hd (s .count) h + (size - blockCount s h) ≡ size = omega (arith, blocks-count g h d) in
@@ -54,6 +57,7 @@ module _ (img : List ℕ) {s : Anodes} {hd sd : ℕ → ℕ} (g : Good limit (ex
           to = h;
           apart = λ e. h1 (sym e);
           from-is = inl refl;
+          to-is = rw (le-leb (blockCount s h) size l);
           ran = rw fits at (grow-ran (size - blockCount s h) h h1 false t ys s (systemOwns img) hd sd g d (rw (le-leb (blockCount s h) size l) at plan));
         })
   ]

@@ -41,10 +41,6 @@ module _ {img counts firsts nexts : List ℕ} (l : Loaded img counts firsts next
   pub begun-is : (f : ℕ) (s : Anodes) → s ≡ rewritten (anodesFrom counts firsts nexts) f 0 65535 → s ≡ rewritten (anodesOf img) f 0 65535
   begun-is f s e = e ∙ ap (λ (u : Anodes). rewritten u f 0 65535) (l .is-loaded)
 
-  -- the steps may be planned on copies of the tables
-  pub loaded-copies : (nc nf nn : List ℕ) → nc ≡ counts → nf ≡ firsts → nn ≡ nexts → Loaded img nc nf nn
-  loaded-copies nc nf nn c f n = rw (c, f, n) l
-
   module _ (h : ℕ) (reached : noDirectory img (anodesOf img) h ≡ false) where
     pub lowest-fresh : (f : ℕ) → lowestFree limit (exists img) (lastReserved img) (anodesOf img) ≡ f → f < limit → Fresh img h f
     lowest-fresh f e below = record { accepted = l .accepted; reached = reached; lowest = e; below = below }

@@ -8,28 +8,27 @@ use native.Mathlib.Omega.{arith}
 use lib.ListN.{length, getD, drop}
 use Rattle.disk.specs.Blocks.{blockOf}
 use Rattle.rules.specs.Anodes.{Anodes, limit, exists, anodesOf, withAnodes}
-use Rattle.rules.specs.Chains.{systemOwns, blockCount}
+use Rattle.rules.specs.Chains.{blockCount}
 use Rattle.rules.specs.Walk.{Entered, entriesIn}
 use Rattle.rules.specs.Accepted.{diskSize, lastReserved}
 use Rattle.rules.specs.Tables.{anodeTable}
 use Rattle.rules.specs.Space.{Plan, refused, planned, giveMany, dropped}
 use Rattle.rules.specs.Changes.{entriesEnd, removedImage, removed}
 use Rattle.laws.specs.Links.{View, Linked}
-use Rattle.laws.specs.Whole.{blocks-count}
 use Rattle.laws.specs.Remove.{still, none-left}
-use Rattle.laws.specs.RefusedSteps.{gives-refused}
 use Rattle.laws.specs.OwnerTable.{dropped-owner, setAll}
 use Rattle.frames.specs.StoredAnodes.{withAnodes-stored}
-use Rattle.changes.specs.Image.{headIn, sideIn, accepted-slots}
+use Rattle.changes.specs.Image.{accepted-slots}
 use Rattle.changes.specs.FoundEntries.{end-bounds, entry-standing}
 use Rattle.changes.specs.Reached.{block-unbroken, block-data, parted}
+use Rattle.changes.specs.Remove.{remove-refused}
 use Rattle.changes.specs.RemoveStores.{PlannedRemove, ran, end-good, removed-same, removed-anodes}
 use Rattle.anodes.specs.Loaded.{anodesFrom}
 use Rattle.tree.specs.Steps.{sumFrom}
 use Rattle.space.specs.Steps.{moveMany}
 use Rattle.changed.specs.Leaves.{Leaves, Loaded, ReachedEntry}
 use Rattle.changed.specs.Laws.{leaves-refused, shows-kept, shows-ran, leaves-done}
-use Rattle.changed.specs.Chains.{image-good, entry-known, entry-not-1, copies-loaded, chain-counted, planned-change}
+use Rattle.changed.specs.Chains.{image-good, entry-known, entry-not-1, loaded-copies, chain-counted, planned-change}
 
 module _ {img counts firsts nexts : List ℕ} (l : Loaded img counts firsts nexts) (e : Entered) (r : ReachedEntry img e) where
   abbrev s : Anodes
@@ -39,16 +38,12 @@ module _ {img counts firsts nexts : List ℕ} (l : Loaded img counts firsts next
   pub gives-made : (nc nf nn : List ℕ) → nc ≡ counts → nf ≡ firsts → nn ≡ nexts → (have : ℕ) → have ≡ sumFrom counts nexts limit (e .anode) → (p : Plan) → p ≡ moveMany img false have (anodesFrom nc nf nn) (e .anode) →
       giveMany limit (exists img) (lastReserved img) (blockCount s (e .anode)) s (e .anode) ≡ p
   unfolding moveMany
-  gives-made nc nf nn c f n have all p made = sym (made ∙ rw (copies-loaded l nc nf nn c f n, chain-counted l (e .anode) have all))
+  gives-made nc nf nn c f n have all p made = sym (made ∙ rw (loaded-copies l nc nf nn c f n .is-loaded, chain-counted l (e .anode) have all))
 
   -- refused it leaves everything
   pub refused-leaves : (k : ℕ) → giveMany limit (exists img) (lastReserved img) (blockCount s (e .anode)) s (e .anode) ≡ refused k → (b a : List ℕ) → Leaves k img b a img b a (removed img s e)
   unfolding removed
-  refused-leaves k gives b a =
-      let h = e .anode in
-      let d = entry-known l e r .head in
-      let number : k ≡ 28 = gives-refused (blockCount s h) h (entry-not-1 l e r) k s (systemOwns img) (headIn img) (sideIn img) (image-good l) d (omega (arith, blocks-count (image-good l) h d)) gives in
-      rw gives (leaves-refused k (omega (arith, number)) img b a)
+  refused-leaves k gives b a = rw gives (leaves-refused k (omega (arith, remove-refused img (diskSize img) limit (l .accepted) (r .0) (r .1) e (r .2) k gives)) img b a)
 
   module _ (t : Anodes) (ys : List ℕ) (gives : giveMany limit (exists img) (lastReserved img) (blockCount s (e .anode)) s (e .anode) ≡ planned t ys) where
     abbrev end : Anodes

@@ -9,7 +9,7 @@ use lib.Dec.{leb}
 use lib.ListN.{length, drop}
 use borrow.Author.Tests.{le-leb, lt-leb, lt-ltb, le-ltb}
 use Rattle.rules.specs.Anodes.{Anodes, limit, anodesOf}
-use Rattle.rules.specs.Chains.{systemOwns, blockCount}
+use Rattle.rules.specs.Chains.{blockCount}
 use Rattle.rules.specs.Walk.{Entered, blocksFor}
 use Rattle.rules.specs.Tables.{anodeTable}
 use Rattle.rules.specs.Space.{Plan, refused, planned}
@@ -18,9 +18,7 @@ use Rattle.rules.specs.Changes.{withBlocks, resizePlan, zeroTaken, resizedImage
 use Rattle.laws.specs.Tests.{less?}
 use Rattle.laws.specs.Links.{View, Linked}
 use Rattle.laws.specs.Whole.{blocks-count}
-use Rattle.laws.specs.Resize.{grow-ran, shrink-ran}
 use Rattle.laws.specs.OwnerTable.{setAll}
-use Rattle.changes.specs.Image.{headIn, sideIn}
 use Rattle.changes.specs.ResizePlan.{plan-refused, plan-longer}
 use Rattle.changes.specs.ResizeStores.{PlannedResize, steps, resized-same, resized-anodes}
 use Rattle.anodes.specs.Loaded.{anodesFrom}
@@ -29,7 +27,7 @@ use Rattle.space.specs.Steps.{moveMany}
 use Rattle.space.proofs.Many.{count-small}
 use Rattle.changed.specs.Leaves.{Leaves, Loaded, ReachedEntry}
 use Rattle.changed.specs.Laws.{Shows, leaves-refused, shows-ran, leaves-done}
-use Rattle.changed.specs.Chains.{loaded-size, image-good, entry-known, entry-not-1, copies-loaded, chain-counted, planned-change, gave-few}
+use Rattle.changed.specs.Chains.{loaded-size, image-good, entry-known, entry-not-1, loaded-copies, chain-counted, planned-change, gave-few}
 
 module _ {img counts firsts nexts : List ℕ} (l : Loaded img counts firsts nexts) (e : Entered) (r : ReachedEntry img e) (size : ℕ) where
   abbrev s : Anodes
@@ -37,7 +35,7 @@ module _ {img counts firsts nexts : List ℕ} (l : Loaded img counts firsts next
 
   -- the plan on copies of the tables is that of the image
   pub plan-made : (nc nf nn : List ℕ) → nc ≡ counts → nf ≡ firsts → nn ≡ nexts → (want : ℕ) → want ≡ blocksFor size → (p : Plan) → p ≡ resizePlan img (anodesFrom nc nf nn) (e .anode) want → resizePlan img s (e .anode) (blocksFor size) ≡ p
-  plan-made nc nf nn c f n want q p made = sym (made ∙ rw (copies-loaded l nc nf nn c f n, q))
+  plan-made nc nf nn c f n want q p made = sym (made ∙ rw (loaded-copies l nc nf nn c f n .is-loaded, q))
 
   -- the head that the moved blocks come to, by what was counted
   pub owner-is : (have want o : ℕ) → have ≡ sumFrom counts nexts limit (e .anode) → want ≡ blocksFor size → o ≡ cond (leb have want) (e .anode) 1 →
@@ -85,18 +83,7 @@ module _ {img counts firsts nexts : List ℕ} (l : Loaded img counts firsts next
 
     -- the moved blocks are the file's where it has not shrunk, else the free list's
     owners-shown : (b rest : List ℕ) → Shows img s b rest → Shows img t (setAll b ys (cond (leb (blockCount s (e .anode)) (blocksFor size)) (e .anode) 1)) rest
-    unfolding resizePlan
-    owners-shown b rest q =
-        let h = e .anode in
-        let g = image-good l in
-        let d = entry-known l e r .head in
-        let h1 = entry-not-1 l e r in
-        let have = blockCount s h in
-        let want = blocksFor size in
-        elim (less? want have) [
-          | inl m ↦ rw (lt-leb have want m) (shows-ran img s t g (shrink-ran (have - want) h h1 t ys s (systemOwns img) (headIn img) (sideIn img) want (omega (arith, blocks-count g h d)) g d (rw (lt-leb have want m) at plan)) h1 b rest q)
-          | inr m ↦ rw (le-leb have want m) (shows-ran img s t g (grow-ran (want - have) h h1 false t ys s (systemOwns img) (headIn img) (sideIn img) g d (rw (le-leb have want m) at plan)) (λ i. h1 (sym i)) b rest q)
-        ]
+    owners-shown b rest q = rw (← (steps p .to-is)) (shows-ran img s t (image-good l) (steps p .ran) (steps p .apart) b rest q)
 
     -- what it leaves of the image and the tables
     pub done-leaves : (o : ℕ) → o ≡ cond (leb (blockCount s (e .anode)) (blocksFor size)) (e .anode) 1 → (b a : List ℕ) →

@@ -4,7 +4,8 @@ use borrow.Author.Tests.{leb-true}
 use Rattle.directory.specs.Entries.{goodComment}
 use Rattle.directory.proofs.Laws.{goodName-length}
 use Rattle.edits.specs.Entries.{newEntry}
-use Rattle.making.proofs.Done.{loaded-copies, stopped}
+use Rattle.changed.specs.Chains.{loaded-copies}
+use Rattle.making.proofs.Done.{stopped}
 use borrow.Author.Needs.{needs}
 use Rattle.making.proofs.make_entry.Statement.{statement}
 use Rattle.making.proofs.make_entry.Tie as tie
