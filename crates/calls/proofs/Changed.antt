@@ -32,20 +32,20 @@ module _ (img b₀ a₀ b a : List ℕ) (x : Checked) (e : outcomeOf (checkedNum
 
   module _ (r : Refusal) (is : x ≡ Refused r) (k : ℕ) (n : k ≡ numberOf r) where
     -- a change by name
-    change-named : (m : ℕ) (o : Option Entered) (f : Entered → Left) → outcomeOf k img b a [] [] ≡ settled (changeNamed (firstOf (checkAnswer img (length b₀) (length a₀)) m) img o f) b₀ a₀ [] []
-    change-named m o f = change-refused img b₀ a₀ b a x e r is k n m (λ l. changeNamed l img o f) (named-refused img o f k (refused-some r k n))
+    named-not-made : (m : ℕ) (o : Option Entered) (f : Entered → Left) → outcomeOf k img b a [] [] ≡ settled (changeNamed (firstOf (checkAnswer img (length b₀) (length a₀)) m) img o f) b₀ a₀ [] []
+    named-not-made m o f = change-refused img b₀ a₀ b a x e r is k n m (λ l. changeNamed l img o f) (named-refused img o f k (refused-some r k n))
 
     pub write-refused : (h : ℕ) (name : List ℕ) (offset : ℕ) (bytes : List ℕ) → outcomeOf k img b a [] [] ≡ writeOutcome img b₀ a₀ h name offset bytes
     unfolding writeOutcome readAnswer
-    write-refused h name offset bytes = change-named (spanAnswer img (anodesOf img) h name offset (length bytes)) (entryNamed img (anodesOf img) h name) (λ y. left 0 (written img (anodesOf img) y offset bytes))
+    write-refused h name offset bytes = named-not-made (spanAnswer img (anodesOf img) h name offset (length bytes)) (entryNamed img (anodesOf img) h name) (λ y. left 0 (written img (anodesOf img) y offset bytes))
 
     pub resize-refused : (h : ℕ) (name : List ℕ) (size : ℕ) → outcomeOf k img b a [] [] ≡ resizeOutcome img b₀ a₀ h name size
     unfolding resizeOutcome
-    resize-refused h name size = change-named (resizeAnswer img (anodesOf img) h name) (entryNamed img (anodesOf img) h name) (λ y. resized img (anodesOf img) y size)
+    resize-refused h name size = named-not-made (resizeAnswer img (anodesOf img) h name) (entryNamed img (anodesOf img) h name) (λ y. resized img (anodesOf img) y size)
 
     pub remove-refused : (h : ℕ) (name : List ℕ) → outcomeOf k img b a [] [] ≡ removeOutcome img b₀ a₀ h name
     unfolding removeOutcome
-    remove-refused h name = change-named (removeAnswer img (anodesOf img) h name) (entryNamed img (anodesOf img) h name) (λ y. removed img (anodesOf img) y)
+    remove-refused h name = named-not-made (removeAnswer img (anodesOf img) h name) (entryNamed img (anodesOf img) h name) (λ y. removed img (anodesOf img) y)
 
     pub make-refused : (h type : ℕ) (name comment : List ℕ) (day minute tick protection : ℕ) → outcomeOf k img b a [] [] ≡ makeOutcome img b₀ a₀ h type name comment day minute tick protection
     unfolding makeOutcome
@@ -55,17 +55,19 @@ module _ (img b₀ a₀ b a : List ℕ) (x : Checked) (e : outcomeOf (checkedNum
   -- ---- the check accepted
 
   module _ (t : Tally) (is : x ≡ Accepted t) (r : ℕ) (img′ b′ a′ : List ℕ) where
+    -- a change by name
+    named-answered : (m : ℕ) (o : Option Entered) (f : Entered → Left) → Leaves r img b a img′ b′ a′ (changeNamed m img o f) → outcomeOf r img′ b′ a′ [] [] ≡ settled (changeNamed (firstOf (checkAnswer img (length b₀) (length a₀)) m) img o f) b₀ a₀ [] []
+    named-answered m o f l = change-answered img b₀ a₀ b a x e t is m (λ k. changeNamed k img o f) r img′ b′ a′ l
+
     pub resize-answered : (h : ℕ) (name : List ℕ) (size : ℕ) →
         Leaves r img b a img′ b′ a′ (changeNamed (resizeAnswer img (anodesOf img) h name) img (entryNamed img (anodesOf img) h name) (λ y. resized img (anodesOf img) y size)) → outcomeOf r img′ b′ a′ [] [] ≡ resizeOutcome img b₀ a₀ h name size
     unfolding resizeOutcome
-    resize-answered h name size l = change-answered img b₀ a₀ b a x e t is (resizeAnswer img (anodesOf img) h name)
-        (λ m. changeNamed m img (entryNamed img (anodesOf img) h name) (λ y. resized img (anodesOf img) y size)) r img′ b′ a′ l
+    resize-answered h name size l = named-answered (resizeAnswer img (anodesOf img) h name) (entryNamed img (anodesOf img) h name) (λ y. resized img (anodesOf img) y size) l
 
     pub remove-answered : (h : ℕ) (name : List ℕ) →
         Leaves r img b a img′ b′ a′ (changeNamed (removeAnswer img (anodesOf img) h name) img (entryNamed img (anodesOf img) h name) (λ y. removed img (anodesOf img) y)) → outcomeOf r img′ b′ a′ [] [] ≡ removeOutcome img b₀ a₀ h name
     unfolding removeOutcome
-    remove-answered h name l = change-answered img b₀ a₀ b a x e t is (removeAnswer img (anodesOf img) h name)
-        (λ m. changeNamed m img (entryNamed img (anodesOf img) h name) (λ y. removed img (anodesOf img) y)) r img′ b′ a′ l
+    remove-answered h name l = named-answered (removeAnswer img (anodesOf img) h name) (entryNamed img (anodesOf img) h name) (λ y. removed img (anodesOf img) y) l
 
     pub make-answered : (h type : ℕ) (name comment : List ℕ) (day minute tick protection : ℕ) →
         Leaves r img b a img′ b′ a′ (madeAfter (makeAnswer img (anodesOf img) h type name comment) img h (newOf type name comment day minute tick protection)) →
@@ -74,11 +76,11 @@ module _ (img b₀ a₀ b a : List ℕ) (x : Checked) (e : outcomeOf (checkedNum
     make-answered h type name comment day minute tick protection l = change-answered img b₀ a₀ b a x e t is (makeAnswer img (anodesOf img) h type name comment)
         (λ m. madeAfter m img h (newOf type name comment day minute tick protection)) r img′ b′ a′ l
 
-    -- a write leaves both tables
-    pub write-answered : (h : ℕ) (name : List ℕ) (offset : ℕ) (bytes : List ℕ) →
-        left r img′ ≡ changeNamed (spanAnswer img (anodesOf img) h name offset (length bytes)) img (entryNamed img (anodesOf img) h name) (λ y. left 0 (written img (anodesOf img) y offset bytes)) →
-        outcomeOf r img′ b a [] [] ≡ writeOutcome img b₀ a₀ h name offset bytes
-    unfolding writeOutcome readAnswer
-    write-answered h name offset bytes l = change-answered img b₀ a₀ b a x e t is (spanAnswer img (anodesOf img) h name offset (length bytes))
-        (λ m. changeNamed m img (entryNamed img (anodesOf img) h name) (λ y. left 0 (written img (anodesOf img) y offset bytes))) r img′ b a
-        (leaves-written img (accepted-answer img b₀ a₀ b a x e t is) h name offset bytes r img′ b a l)
+  -- a write leaves both tables
+  pub write-answered : (t : Tally) → x ≡ Accepted t → (r : ℕ) (img′ : List ℕ) (h : ℕ) (name : List ℕ) (offset : ℕ) (bytes : List ℕ) →
+      left r img′ ≡ changeNamed (spanAnswer img (anodesOf img) h name offset (length bytes)) img (entryNamed img (anodesOf img) h name) (λ y. left 0 (written img (anodesOf img) y offset bytes)) →
+      outcomeOf r img′ b a [] [] ≡ writeOutcome img b₀ a₀ h name offset bytes
+  unfolding writeOutcome readAnswer
+  write-answered t is r img′ h name offset bytes l =
+      named-answered t is r img′ b a (spanAnswer img (anodesOf img) h name offset (length bytes)) (entryNamed img (anodesOf img) h name) (λ y. left 0 (written img (anodesOf img) y offset bytes))
+      (leaves-written img (accepted-answer img b₀ a₀ b a x e t is) h name offset bytes r img′ b a l)

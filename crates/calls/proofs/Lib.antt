@@ -1,5 +1,4 @@
 -- Laws of the calls' outcomes.
-pub mod Laws
 pub mod Opened
 pub mod Written
 pub mod Changed

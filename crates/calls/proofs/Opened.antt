@@ -1,9 +1,10 @@
--- An image that the check accepted, and the outcome of the calls that read it.
-use Prim.Native.Nat.{ℕ, _≤_}
-use mathlib.Core.Path.{_≡_, sym, ap, _∙_}
+-- The outcome of the calls that read an image, from the check's; what the check loaded of an image that it accepted.
+use Prim.Native.Nat.{ℕ, zero, suc, _≤_}
+use mathlib.Core.Path.{_≡_, refl, sym, ap, _∙_}
 use mathlib.Core.Logic.{inl, inr}
-use mathlib.Core.List.{List, []}
+use mathlib.Core.List.{List, [], _∷_}
 use native.Mathlib.Nat.{zero-add}
+use native.Mathlib.Omega.{arith}
 use lib.Dec.{ltb}
 use borrow.Author.Tests.{ltb-false}
 use lib.ListN.{length, getD, drop, replicate, List·getD-append}
@@ -16,11 +17,11 @@ use Rattle.rules.specs.Accepted.{diskSize, shortTables, checkAnswer}
 use Rattle.rules.specs.Changes.{Left, left}
 use Rattle.rules.specs.Tables.{anodeEntry, anodeTable, blockTable, tableLeft, blocksLeft, anodesLeft}
 use Rattle.rules.specs.Lookup.{entryNamed, entriesOf, nth}
-use Rattle.rules.specs.Calls.{Outcome, outcomeOf, settled, checkOutcome, spanAnswer, bytesRead, readAnswer, readOutcome, listAnswer, listAnswered, fieldsListed, nameListed, listOutcome}
+use Rattle.rules.specs.Calls.{Outcome, outcomeOf, settled, checkOutcome, summaryOf, summaryAfter, summaryOutcome, spanAnswer, bytesRead, readAnswer, readOutcome, listAnswer, listAnswered, fieldsListed, nameListed, listOutcome}
 use Rattle.fsck.specs.declared.Tally.{Tally}
 use Rattle.fsck.specs.declared.Checked.{Checked}
 use Rattle.fsck.specs.declared.Checked.the-variants.{Accepted, Refused}
-use Rattle.fsck.specs.Answers.{checkedNumber, Opened}
+use Rattle.fsck.specs.Answers.{checkedNumber, Tallied, Opened}
 use Rattle.counting.specs.Laws.{neither}
 use Rattle.laws.specs.Acceptance.{passed-of}
 use Rattle.changes.specs.Answers.{Late, own-tables, span-late, list-late}
@@ -29,6 +30,11 @@ use Rattle.changed.specs.Laws.{late-table}
 use Rattle.find.specs.Open.{Open}
 use Rattle.find.proofs.Laws.{first-zero, first-some, refused-some}
 use Rattle.reading.proofs.Laws.{bytes-refused, fields-refused, name-refused}
+
+after-refused : (k : ℕ) (img : List ℕ) → 1 ≤ k → summaryAfter k img ≡ replicate 4 0
+unfolding summaryAfter
+after-refused zero img some = absurd (omega arith)
+after-refused (suc k) img some = refl
 
 -- the tables that 0 shows are those of every late answer
 late-tables : (k : ℕ) → Late k → (range : ℕ) (shown old : List ℕ) → tableLeft k range shown old ≡ tableLeft 0 range shown old
@@ -63,31 +69,41 @@ module _ (img b₀ a₀ b a : List ℕ) (x : Checked) (e : outcomeOf (checkedNum
     anodes-k : a ≡ anodesLeft k img a₀
     anodes-k = anodes-are ∙ ap (λ (m : ℕ). anodesLeft m img a₀) (ap checkedNumber is ∙ sym n)
 
+    -- a refused call leaves the image and the tables as the check does
+    settled-k : (output name : List ℕ) → outcomeOf k img b a output name ≡ settled (left k img) b₀ a₀ output name
+    unfolding settled
+    settled-k output name = rw (← blocks-k, ← anodes-k)
+
+    pub check-refused : outcomeOf k img b a [] [] ≡ checkOutcome img b₀ a₀
+    unfolding checkOutcome
+    check-refused = rw answers-k (settled-k [] [])
+
+    pub summary-refused : outcomeOf k img b a (replicate 4 0) [] ≡ summaryOutcome img b₀ a₀
+    unfolding summaryOutcome
+    summary-refused = rw (answers-k, after-refused k img some) (settled-k (replicate 4 0) [])
+
     pub read-refused : (h : ℕ) (name : List ℕ) (offset : ℕ) (out : List ℕ) → outcomeOf k img b a out [] ≡ readOutcome img b₀ a₀ h name offset out
-    unfolding readOutcome readAnswer settled
+    unfolding readOutcome readAnswer
     read-refused h name offset out =
         rw (
           first-some (checkAnswer img (length b₀) (length a₀)) (spanAnswer img (anodesOf img) h name offset (length out)) k answers-k some,
           bytes-refused img (entryNamed img (anodesOf img) h name) k some (anodesOf img) offset out,
-          ← blocks-k,
-          ← anodes-k,
         )
+        (settled-k out [])
 
     pub list-refused : (h n : ℕ) → outcomeOf k img b a (replicate 11 0) [] ≡ listOutcome img b₀ a₀ h n
-    unfolding listOutcome listAnswered settled
+    unfolding listOutcome listAnswered
     list-refused h n =
         rw (
           first-some (checkAnswer img (length b₀) (length a₀)) (listAnswer img (anodesOf img) h n) k answers-k some,
           fields-refused img (nth (entriesOf img (anodesOf img) h) n) k some,
           name-refused img (nth (entriesOf img (anodesOf img) h) n) k some,
-          ← blocks-k,
-          ← anodes-k,
         )
+        (settled-k (replicate 11 0) [])
 
     -- a change is not made
     pub change-refused : (n : ℕ) (f : ℕ → Left) → f k ≡ left k img → outcomeOf k img b a [] [] ≡ settled (f (firstOf (checkAnswer img (length b₀) (length a₀)) n)) b₀ a₀ [] []
-    unfolding settled
-    change-refused n f e = rw (first-some (checkAnswer img (length b₀) (length a₀)) n k answers-k some, e, ← blocks-k, ← anodes-k)
+    change-refused n f e = rw (first-some (checkAnswer img (length b₀) (length a₀)) n k answers-k some, e) (settled-k [] [])
 
   -- ---- accepted
 
@@ -112,6 +128,21 @@ module _ (img b₀ a₀ b a : List ℕ) (x : Checked) (e : outcomeOf (checkedNum
     unfolding anodesLeft
     anodes-late k l = late-tables k l limit (anodeTable (anodesOf img)) a₀ ∙ sym accepted-anodes
 
+    -- an answered call that leaves the image leaves the tables too
+    settled-late : (k : ℕ) → Late k → (output name : List ℕ) → outcomeOf k img b a output name ≡ settled (left k img) b₀ a₀ output name
+    unfolding settled
+    settled-late k l output name = rw (blocks-late k l, anodes-late k l)
+
+    pub check-accepted : outcomeOf 0 img b a [] [] ≡ checkOutcome img b₀ a₀
+    unfolding checkOutcome
+    check-accepted = rw answers-0 (settled-late 0 (inl refl) [] [])
+
+    pub summary-accepted : Tallied x img (anodesOf img) → (n : ℕ) → n ≡ diskSize img → outcomeOf 0 img b a (n ∷ t .free ∷ t .files ∷ t .dirs ∷ []) [] ≡ summaryOutcome img b₀ a₀
+    unfolding summaryOutcome summaryAfter summaryOf
+    summary-accepted told n size =
+        let v = rw is at told in
+        rw (answers-0, ← size, ← (v .0), ← (v .1), ← (v .2)) (settled-late 0 (inl refl) (n ∷ t .free ∷ t .files ∷ t .dirs ∷ []) [])
+
     -- what the check loaded and filled
     pub opened : (counts firsts nexts queue parents : List ℕ) → Opened x img counts firsts nexts queue parents → Open img counts firsts nexts queue parents a (t .dirs)
     unfolding anodesLeft tableLeft anodeTable
@@ -133,17 +164,17 @@ module _ (img b₀ a₀ b a : List ℕ) (x : Checked) (e : outcomeOf (checkedNum
 
     pub read-answered : (h : ℕ) (name : List ℕ) (offset : ℕ) (out out′ : List ℕ) (k : ℕ) → k ≡ spanAnswer img (anodesOf img) h name offset (length out) →
         out′ ≡ bytesRead k img (anodesOf img) (entryNamed img (anodesOf img) h name) offset out → outcomeOf k img b a out′ [] ≡ readOutcome img b₀ a₀ h name offset out
-    unfolding readOutcome readAnswer settled
+    unfolding readOutcome readAnswer
     read-answered h name offset out out′ k span bytes =
-        let l : Late k = rw span (span-late img (anodesOf img) h name offset (length out)) in
-        rw (first-zero (checkAnswer img (length b₀) (length a₀)) (spanAnswer img (anodesOf img) h name offset (length out)) answers-0, ← span, blocks-late k l, anodes-late k l, bytes)
+        rw (first-zero (checkAnswer img (length b₀) (length a₀)) (spanAnswer img (anodesOf img) h name offset (length out)) answers-0, ← span, ← bytes)
+        (settled-late k (rw span (span-late img (anodesOf img) h name offset (length out))) out′ [])
 
     pub list-answered : (h n : ℕ) (fields name : List ℕ) (k : ℕ) → k ≡ listAnswer img (anodesOf img) h n → fields ≡ fieldsListed k img (nth (entriesOf img (anodesOf img) h) n) →
         name ≡ nameListed k img (nth (entriesOf img (anodesOf img) h) n) → outcomeOf k img b a fields name ≡ listOutcome img b₀ a₀ h n
-    unfolding listOutcome listAnswered settled
+    unfolding listOutcome listAnswered
     list-answered h n fields name k is-k f m =
-        let l : Late k = rw is-k (list-late img (anodesOf img) h n) in
-        rw (first-zero (checkAnswer img (length b₀) (length a₀)) (listAnswer img (anodesOf img) h n) answers-0, ← is-k, blocks-late k l, anodes-late k l, f, m)
+        rw (first-zero (checkAnswer img (length b₀) (length a₀)) (listAnswer img (anodesOf img) h n) answers-0, ← is-k, ← f, ← m)
+        (settled-late k (rw is-k (list-late img (anodesOf img) h n)) fields name)
 
     -- a change by name, as it leaves the image and the tables
     pub change-answered : (n : ℕ) (f : ℕ → Left) (r : ℕ) (img′ b′ a′ : List ℕ) → Leaves r img b a img′ b′ a′ (f n) → outcomeOf r img′ b′ a′ [] [] ≡ settled (f (firstOf (checkAnswer img (length b₀) (length a₀)) n)) b₀ a₀ [] []

@@ -5,6 +5,7 @@ use mathlib.Core.List.{List, _++_}
 use mathlib.Core.Option.{Option, none, some}
 use native.Mathlib.Omega.{arith}
 use lib.ListN.{length, drop}
+use lib.Seq.{drop-append-seam}
 use Rattle.disk.proofs.Laws.{length-listed}
 use Rattle.rules.specs.Anodes.{limit, anodesOf}
 use Rattle.rules.specs.Walk.{Entered}
@@ -19,7 +20,7 @@ use Rattle.changes.specs.Write.{written-same, written-anodes}
 use Rattle.changed.specs.Leaves.{Leaves}
 use Rattle.find.proofs.Laws.{file-found, span-found}
 use Rattle.changing.proofs.Laws.{late-some}
-use Rattle.changed.specs.Laws.{leaves-refused, leaves-done, drop-front}
+use Rattle.changed.specs.Laws.{leaves-refused, leaves-done}
 
 module _ (img : List ℕ) (accepted : checkAnswer img (diskSize img) limit ≡ 0) (h : ℕ) (name : List ℕ) (offset : ℕ) (bytes : List ℕ) where
   made : Entered → Left
@@ -32,7 +33,7 @@ module _ (img : List ℕ) (accepted : checkAnswer img (diskSize img) limit ≡ 0
       let past : drop limit a ≡ drop limit a₀ =
       ap (drop limit) q
       ∙ ap (λ (n : ℕ). drop n (anodeTable (anodesOf img) ++ drop limit a₀)) (sym (length-listed (anodeEntry (anodesOf img)) 0 limit))
-      ∙ drop-front (anodeTable (anodesOf img)) (drop limit a₀) in
+      ∙ drop-append-seam (anodeTable (anodesOf img)) (drop limit a₀) in
       rw (same, past) q
 
   module _ (r : ℕ) (j b a : List ℕ) where

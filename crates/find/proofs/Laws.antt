@@ -151,7 +151,7 @@ module _ (img : List ℕ) (s : Anodes) (h : ℕ) where
     full-row =
         row-first 21 (noDirectory img s h) _ _ _ (omega arith) (row-first 22 (not (isThere found)) 0 _ _ (omega arith) refl)
 
-    -- the directory of a found file is reached, and the file is none
+    -- a found file is no directory, and its own directory is reached
     pub file-found : (x : Entered) → found ≡ some x → resizeAnswer img s h name ≡ 0 → (noDirectory img s h ≡ false) × (x .dir ≡ false)
     file-found x is e =
         let z = both-passed (searchNumber (noDirectory img s h) found) (resizeAnswer img s h name) 24 (namesDir found) file-row (omega arith) e in

@@ -13,7 +13,7 @@ use Rattle.rules.specs.Lookup.{noDirectory, entriesOf, bytesOf, contents}
 use Rattle.rules.specs.Calls.{bytesRead, fieldsListed, nameListed}
 use Rattle.laws.specs.Acceptance.{passed-of, size-bounds}
 use Rattle.changes.specs.Members.{Member}
-use Rattle.changes.specs.Reached.{EntryFacts, entry-facts}
+use Rattle.changes.specs.Reached.{entry-facts}
 use Rattle.changes.specs.Read.{bytes-long}
 use Rattle.find.specs.Open.{Open}
 
@@ -27,12 +27,11 @@ take-within (suc size) (suc offset) (suc len) (x ∷ l) e = take-within size off
 
 module _ {img counts firsts nexts queue parents heads : List ℕ} {dirs : ℕ} (o : Open img counts firsts nexts queue parents heads dirs)
     (h : ℕ) (reached : noDirectory img (anodesOf img) h ≡ false) (e : Entered) (member : Member e (entriesOf img (anodesOf img) h)) where
-  facts : EntryFacts img h e
-  facts = entry-facts img (diskSize img) limit (o .accepted) h reached e member
-
   -- an entry stands on the disk
   pub place-low : e .place < 65536 * 512
-  place-low = omega (arith, facts .in-block, facts .block-facts .is-data .below, size-bounds img (passed-of img (diskSize img) limit (o .accepted) .size-right) .1)
+  place-low =
+      let f = entry-facts img (diskSize img) limit (o .accepted) h reached e member in
+      omega (arith, f .in-block, f .block-facts .is-data .below, size-bounds img (passed-of img (diskSize img) limit (o .accepted) .size-right) .1)
 
   -- a file's blocks hold its bytes
   pub file-long : e .dir ≡ false → e .size ≤ length (bytesOf img (anodesOf img) (e .anode))

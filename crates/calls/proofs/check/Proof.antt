@@ -1,4 +1,4 @@
-use Rattle.calls.proofs.Laws.{check-accepted, check-refused}
+use Rattle.calls.proofs.Opened.{check-accepted, check-refused}
 use borrow.Author.Needs.{needs}
 use Rattle.calls.proofs.check.Statement.{statement}
 use Rattle.calls.proofs.check.Tie as tie

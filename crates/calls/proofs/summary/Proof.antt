@@ -1,6 +1,6 @@
 use native.Mathlib.Omega.{arith}
 use Rattle.fsck.proofs.Laws.{outcome-size}
-use Rattle.calls.proofs.Laws.{summary-accepted, summary-refused}
+use Rattle.calls.proofs.Opened.{summary-accepted, summary-refused}
 use borrow.Author.Needs.{needs}
 use Rattle.calls.proofs.summary.Statement.{statement}
 use Rattle.calls.proofs.summary.Tie as tie
