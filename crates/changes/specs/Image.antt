@@ -1,5 +1,5 @@
 -- From the check's answer to the whole accepted state, and back for an image that has the same root block and anode block heads.
-use Prim.Native.Nat.{ℕ, zero, suc, _≤_, _<_}
+use Prim.Native.Nat.{ℕ, zero, suc, _+_, _≤_, _<_}
 use mathlib.Core.Path.{_≡_, refl, sym, ap, _∙_}
 use mathlib.Core.Logic.{_≢_, inl, inr}
 use mathlib.Core.Bool.{Bool, false, _&&_}
@@ -232,20 +232,24 @@ module _ (img j : List ℕ) (blocks anodes : ℕ) (e : checkAnswer img blocks an
 
 -- ---- reached directories
 
--- no two directories of an accepted state have one head
-headed-once : {ex : ℕ → Bool} {n last : ℕ} {s : Anodes} {system hd sd : ℕ → ℕ} {entries : ℕ → List Entered} {marked : Dir → ℕ → Bool} {dirs : List Dir}
-    → Whole ex n last s system hd sd entries marked dirs → (h : ℕ) → headed h dirs ≤ 1
-unfolding headed
-headed-once {s = s} {entries = entries} {marked = marked} {dirs = dirs} w h =
-    let items = itemsBy entries marked s in
-    let named = list-mono (below items (λ d. oneAt (d .head) h)) (namedIn items h) dirs (subs-named items h) in
-    elim (oneAt-cases 5 h) [
-      | inr c ↦ omega (arith, w .tree .exact (λ d. oneAt (d .head) h), named, w .tree .once h, c .1)
-      | inl c ↦ elim (less? 0 (sumList (namedIn items h) dirs)) [
-        | inl p ↦ absurd (omega (arith, named-heads w h p .0, c .0))
-        | inr p ↦ omega (arith, w .tree .exact (λ d. oneAt (d .head) h), named, c .1)
-      ]
+module _ {ex : ℕ → Bool} {n last : ℕ} {s : Anodes} {system hd sd : ℕ → ℕ} {entries : ℕ → List Entered} {marked : Dir → ℕ → Bool} {dirs : List Dir}
+    (w : Whole ex n last s system hd sd entries marked dirs) (h : ℕ) where
+  -- a directory of an accepted state is the root's or named
+  pub headed-named : headed h dirs ≤ oneAt 5 h + sumList (namedIn (itemsBy entries marked s) h) dirs
+  unfolding headed
+  headed-named =
+      let items = itemsBy entries marked s in
+      omega (arith, w .tree .exact (λ d. oneAt (d .head) h), list-mono (below items (λ d. oneAt (d .head) h)) (namedIn items h) dirs (subs-named items h))
+
+  -- no two of them have one head
+  headed-once : headed h dirs ≤ 1
+  headed-once = elim (oneAt-cases 5 h) [
+    | inr c ↦ omega (arith, headed-named, w .tree .once h, c .1)
+    | inl c ↦ elim (less? 0 (sumList (namedIn (itemsBy entries marked s) h) dirs)) [
+      | inl p ↦ absurd (omega (arith, named-heads w h p .0, c .0))
+      | inr p ↦ omega (arith, headed-named, c .1)
     ]
+  ]
 
 module _ (img : List ℕ) (s : Anodes) (h : ℕ) where
   headed-times : times h (map (λ d. d .head) (reachedDirs img s)) ≡ headed h (reachedDirs img s)

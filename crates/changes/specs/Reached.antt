@@ -22,17 +22,17 @@ use Rattle.rules.specs.Accepted.{checkAnswer}
 use Rattle.rules.specs.Lookup.{noDirectory, entriesOf, isNamed, firstNamed, entryNamed, nth}
 use Rattle.laws.specs.Tests.{T-true, none-or}
 use Rattle.laws.specs.Sums.{oneAt-cases, oneAt-same}
-use Rattle.laws.specs.Bags.{list-nil, list-cons, list-one, list-mono, gather-sum, map-sum}
+use Rattle.laws.specs.Bags.{list-nil, list-cons, list-one, gather-sum, map-sum}
 use Rattle.laws.specs.Heads.{Head}
 use Rattle.laws.specs.Space.{on-chain}
 use Rattle.laws.specs.Each.{each-zero}
-use Rattle.laws.specs.Items.{wrong, below, namedIn, faults, subs-named}
+use Rattle.laws.specs.Items.{wrong, namedIn, faults}
 use Rattle.laws.specs.TreeChanges.{headed}
 use Rattle.laws.specs.Totals.{file-size}
 use Rattle.laws.specs.Entries.{broken-wrong, item-fine, item-anode, item-dir, items-sum, itemsAt-cases}
 use Rattle.laws.specs.Whole.{Whole, counts-head, not-dir, dir-heads, named-heads}
 use Rattle.frames.specs.DisjointBlocks.{DataBlock, chain-block}
-use Rattle.changes.specs.Image.{WholeImage, headIn, sideIn, accepted-whole, headed-reached, reached-some}
+use Rattle.changes.specs.Image.{WholeImage, headIn, sideIn, accepted-whole, headed-named, headed-reached, reached-some}
 use Rattle.changes.specs.FoundEntries.{enteredAt}
 use Rattle.changes.specs.Members.{Member, no-member, member-first, member-later, member-cons, member-each, member-sum, member-gather, member-times}
 
@@ -96,20 +96,7 @@ module _ {ex : ℕ → Bool} {n last : ℕ} {s : Anodes} {system hd sd : ℕ →
 
   -- its head is the root's or is named
   head-from-5 : (h : ℕ) → 0 < headed h dirs → 5 ≤ h
-  unfolding headed
-  head-from-5 h reached = elim (oneAt-cases 5 h) [
-    | inl c ↦ omega (arith, c .0)
-    | inr c ↦ omega (
-      arith,
-      named-heads w h (omega (
-        arith,
-        reached,
-        w .tree .exact (λ d. oneAt (d .head) h),
-        list-mono (below items (λ d. oneAt (d .head) h)) (namedIn items h) dirs (subs-named items h),
-        c .1,
-      )) .0,
-    )
-  ]
+  head-from-5 h reached = elim (oneAt-cases 5 h) [ inl c ↦ omega (arith, c .0) | inr c ↦ omega (arith, named-heads w h (omega (arith, reached, headed-named w h, c .1)) .0) ]
 
   module _ (d : Dir) (in-tree : Member d dirs) where
     dir-is-head : Head (s .next) (s .block) (d .head)

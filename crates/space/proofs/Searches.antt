@@ -2,8 +2,8 @@
 use Prim.Native.Nat.{ℕ, zero, suc, _+_, _/_, _≤_, _<_}
 use mathlib.Core.Path.{_≡_, refl, sym, _∙_}
 use mathlib.Core.Logic.{_≢_, inl, inr}
-use mathlib.Core.Bool.{true, false, not, _&&_}
-use mathlib.Core.List.{List, [], _∷_}
+use mathlib.Core.Bool.{Bool, true, false, not, _&&_}
+use mathlib.Core.List.{List, _∷_}
 use native.Mathlib.Omega.{arith}
 use lib.Dec.{T, eqb}
 use lib.ListN.{getD}
@@ -14,7 +14,7 @@ use Rattle.rules.specs.Anodes.{exists}
 use Rattle.rules.specs.Chains.{chainOf}
 use Rattle.rules.specs.Space.{Found, nowhere, found, firstFull, lastFull, free, lowestFree}
 use Rattle.laws.specs.Chains.{chain-none, chain-zero, chain-step}
-use Rattle.laws.specs.Tests.{less?, same?}
+use Rattle.laws.specs.Tests.{less?}
 use Rattle.laws.specs.Sums.{least-cases}
 use Rattle.laws.specs.ImageAnodes.{slot-exists, slot-missing}
 use Rattle.anodes.specs.Loaded.{anodesFrom}
@@ -28,44 +28,46 @@ exists-by-slot img a zero e = sym (slot-missing img a (sym e))
 exists-by-slot img a (suc s) e = rw (ne-eqb (suc s) 0 (λ z. omega arith)) (sym (slot-exists img a (suc s) (sym e) (λ z. omega arith)))
 
 module _ (img firsts c n : List ℕ) (last : ℕ) where
-  free-from-6 : (a : ℕ) → 6 ≤ a → (eqb (getD firsts a 0) 0 && exists img a) ≡ free 3444 (exists img) last (anodesFrom c firsts n) a
+  abbrev isFree : ℕ → Bool
+  isFree = free 3444 (exists img) last (anodesFrom c firsts n)
+
+  free-from-6 : (a : ℕ) → 6 ≤ a → (eqb (getD firsts a 0) 0 && exists img a) ≡ isFree a
   unfolding free anodesFrom
   free-from-6 a l = rw (le-leb 6 a l)
 
-  none-below-6 : (a : ℕ) → a < 6 → free 3444 (exists img) last (anodesFrom c firsts n) a ≡ false
+  none-below-6 : (a : ℕ) → a < 6 → isFree a ≡ false
   unfolding free anodesFrom
   none-below-6 a l = rw (lt-leb 6 a l)
 
   -- none of the anodes from 6 to a is free
   module _ (a : ℕ) (up : a ≤ 3444) (none : (j : ℕ) → 6 ≤ j → j < a → (eqb (getD firsts j 0) 0 && exists img j) ≡ false) where
-    none-below : (j : ℕ) → j < a → T (free 3444 (exists img) last (anodesFrom c firsts n) j) → ⊥
+    none-below : (j : ℕ) → j < a → T (isFree j) → ⊥
     none-below j l t = elim (less? j 6) [
       | inl q ↦ rw (none-below-6 j q) at t
       | inr q ↦ rw (sym (free-from-6 j q) ∙ none j q l) at t
     ]
 
+    -- so the lowest is not below a
+    not-below : a ≤ lowestFree 3444 (exists img) last (anodesFrom c firsts n)
+    unfolding lowestFree
+    not-below = elim (least-cases isFree 3444) [
+      | inl d ↦ elim (less? (least isFree 3444) a) [ inl q ↦ absurd (none-below (least isFree 3444) q (d .1)) | inr q ↦ q ]
+      | inr d ↦ omega (arith, up, d .0)
+    ]
+
     pub lowest-hit : 6 ≤ a → a < 3444 → (eqb (getD firsts a 0) 0 && exists img a) ≡ true → a ≡ lowestFree 3444 (exists img) last (anodesFrom c firsts n)
     unfolding lowestFree
-    lowest-hit l k h = elim (least-cases (free 3444 (exists img) last (anodesFrom c firsts n)) 3444) [
-      | inl d ↦ elim (less? (least (free 3444 (exists img) last (anodesFrom c firsts n)) 3444) a) [
-        | inl q ↦ absurd (none-below (least (free 3444 (exists img) last (anodesFrom c firsts n)) 3444) q (d .1))
-        | inr q ↦ elim (same? a (least (free 3444 (exists img) last (anodesFrom c firsts n)) 3444)) [
-          | inl e ↦ e
-          | inr e ↦ absurd (d .2 a (omega arith) here)
-        ]
-      ]
+    lowest-hit l k h = elim (least-cases isFree 3444) [
+      | inl d ↦ elim (less? a (least isFree 3444)) [ inl q ↦ absurd (d .2 a q here) | inr q ↦ omega (arith, q, not-below) ]
       | inr d ↦ absurd (d .1 a k here)
     ]
       where
-        here : T (free 3444 (exists img) last (anodesFrom c firsts n) a)
+        here : T (isFree a)
         here = rw (sym (free-from-6 a l) ∙ h) tt
 
     pub lowest-none : a ≡ 3444 → 3444 ≡ lowestFree 3444 (exists img) last (anodesFrom c firsts n)
     unfolding lowestFree
-    lowest-none e = elim (least-cases (free 3444 (exists img) last (anodesFrom c firsts n)) 3444) [
-      | inl d ↦ absurd (none-below (least (free 3444 (exists img) last (anodesFrom c firsts n)) 3444) (omega (arith, d .0, e)) (d .1))
-      | inr d ↦ sym (d .0)
-    ]
+    lowest-none e = elim (least-cases isFree 3444) [ inl d ↦ omega (arith, d .0, e, not-below) | inr d ↦ sym (d .0) ]
 
 -- ---- the first anode with a block
 
@@ -79,16 +81,14 @@ module _ (count : ℕ → ℕ) where
   full-stop p a zero l e h = absurd (h refl)
   full-stop p a (suc c) l e h = rw (e, firstFull)
 
-  full-nil : (p : ℕ) → firstFull count p [] ≡ nowhere
-  unfolding firstFull
-  full-nil p = refl
-
   module _ (next : ℕ → ℕ) where
     pub first-none : (p a : ℕ) → firstFull count p (chainOf next 0 a) ≡ nowhere
-    first-none p a = rw (chain-none next a) (full-nil p)
+    unfolding firstFull
+    first-none p a = rw (chain-none next a)
 
     pub first-zero : (k p : ℕ) → firstFull count p (chainOf next k 0) ≡ nowhere
-    first-zero k p = rw (chain-zero next k) (full-nil p)
+    unfolding firstFull
+    first-zero k p = rw (chain-zero next k)
 
     module _ (k m p a : ℕ) (fuel : k ≡ m + 1) (some : a ≢ 0) where
       pub first-hit : count a ≢ 0 → firstFull count p (chainOf next k a) ≡ found p a
@@ -104,15 +104,7 @@ unfolding firstFound
 or-nowhere nowhere = refl
 or-nowhere (found p x) = refl
 
-nowhere-or : (f : Found) → firstFound nowhere f ≡ f
-unfolding firstFound
-nowhere-or f = refl
-
 module _ (count : ℕ → ℕ) where
-  last-nil : (p : ℕ) → lastFull count p [] ≡ nowhere
-  unfolding lastFull
-  last-nil p = refl
-
   last-skip : (p a : ℕ) (l : List ℕ) → count a ≡ 0 → lastFull count p (a ∷ l) ≡ lastFull count a l
   unfolding lastFull
   last-skip p a l e = go (lastFull count a l) refl where
@@ -130,10 +122,12 @@ module _ (count : ℕ → ℕ) where
 
   module _ (next : ℕ → ℕ) where
     pub last-none : (p a : ℕ) (b : Found) → firstFound (lastFull count p (chainOf next 0 a)) b ≡ b
-    last-none p a b = rw (chain-none next a, last-nil p) (nowhere-or b)
+    unfolding lastFull firstFound
+    last-none p a b = rw (chain-none next a)
 
     pub last-zero : (k p : ℕ) (b : Found) → firstFound (lastFull count p (chainOf next k 0)) b ≡ b
-    last-zero k p b = rw (chain-zero next k, last-nil p) (nowhere-or b)
+    unfolding lastFull firstFound
+    last-zero k p b = rw (chain-zero next k)
 
     module _ (k m p a : ℕ) (b : Found) (fuel : k ≡ m + 1) (some : a ≢ 0) where
       pub last-hit : count a ≢ 0 → firstFound (lastFull count p (chainOf next k a)) b ≡ firstFound (lastFull count a (chainOf next m (next a))) (found p a)

@@ -28,7 +28,7 @@ use Rattle.space.specs.Steps.{GoodAnodes, firstFound, freeExtent}
 -- ---- which extent
 
 -- a take by what the search finds
-abbrev takeAt : (ℕ → Bool) → ℕ → Bool → Anodes → ℕ → Found → Plan
+abbrev pub takeAt : (ℕ → Bool) → ℕ → Bool → Anodes → ℕ → Found → Plan
 takeAt ex last own s h nowhere = refused 27
 takeAt ex last own s h (found p x) = takeFrom 3444 ex last own s h p x
 
@@ -40,16 +40,13 @@ module _ (ex : ℕ → Bool) (last : ℕ) (s : Anodes) (h : ℕ) where
   either-side own nowhere (found p x) = refl
   either-side own (found p x) b = refl
 
-  take-at : (own : Bool) → takeBlock 3444 ex last own s h ≡ takeAt ex last own s h (freeExtent own s)
+  by-extent : (own : Bool) → takeBlock 3444 ex last own s h ≡ takeAt ex last own s h (freeExtent own s)
   unfolding takeBlock takeSide freeExtent
-  take-at true = either-side true (firstFull (s .count) 0 (side 3444 s 2)) (firstFull (s .count) 0 (side 3444 s 1))
-  take-at false = either-side false (firstFull (s .count) 0 (side 3444 s 1)) (firstFull (s .count) 0 (side 3444 s 2))
+  by-extent true = either-side true (firstFull (s .count) 0 (side 3444 s 2)) (firstFull (s .count) 0 (side 3444 s 1))
+  by-extent false = either-side false (firstFull (s .count) 0 (side 3444 s 1)) (firstFull (s .count) 0 (side 3444 s 2))
 
-  pub take-nowhere : (own : Bool) → freeExtent own s ≡ nowhere → takeBlock 3444 ex last own s h ≡ refused 27
-  take-nowhere own e = take-at own ∙ ap (takeAt ex last own s h) e
-
-  take-found : (own : Bool) (p x : ℕ) → freeExtent own s ≡ found p x → takeBlock 3444 ex last own s h ≡ takeFrom 3444 ex last own s h p x
-  take-found own p x e = take-at own ∙ ap (takeAt ex last own s h) e
+  pub take-at : (own : Bool) (f : Found) → freeExtent own s ≡ f → takeBlock 3444 ex last own s h ≡ takeAt ex last own s h f
+  take-at own f e = by-extent own ∙ ap (takeAt ex last own s h) e
 
 one-found : (a b : Found) (p x : ℕ) → firstFound a b ≡ found p x → (a ≡ found p x) ⊎ (b ≡ found p x)
 unfolding firstFound
@@ -135,4 +132,4 @@ module _ (img : List ℕ) (s : Anodes) (good : GoodAnodes img s) where
 
       pub taken-from : (y : ℕ) → y ≡ s .block x → put 3444 (exists img) (lastReserved img) own (anodesFrom c f n) z y ≡ takeBlock 3444 (exists img) (lastReserved img) own s h
       unfolding takeFrom
-      taken-from y b = rw (b, is-end, left, last-before-two (out .good) h (d .pos) h1 (out .heads-kept h d)) (sym (take-found (exists img) (lastReserved img) s h own p x e))
+      taken-from y b = rw (b, is-end, left, last-before-two (out .good) h (d .pos) h1 (out .heads-kept h d)) (sym (take-at (exists img) (lastReserved img) s h own (found p x) e))

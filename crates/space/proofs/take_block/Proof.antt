@@ -7,7 +7,7 @@ use Rattle.rules.specs.Space.{nowhere, found}
 use Rattle.anodes.specs.Loaded.{anodesFrom}
 use Rattle.space.specs.Steps.{foundOf, freeExtent}
 use Rattle.space.proofs.Cases.{first-out}
-use Rattle.space.proofs.Taking.{take-nowhere, cut-goes, found-at, full-fits, side-found, chain-end, taken-from}
+use Rattle.space.proofs.Taking.{take-at, cut-goes, found-at, full-fits, side-found, chain-end, taken-from}
 use borrow.Author.Needs.{needs}
 use Rattle.space.proofs.take_block.Statement.{statement}
 use Rattle.space.proofs.take_block.Tie as tie
@@ -32,7 +32,7 @@ returns c =
     let a = c .before .before .before .before .before .before .before .before .before .args in
     let s = anodesFrom (a .counts .now) (a .firsts .now) (a .nexts .now) in
     let e : freeExtent (a .own) s ≡ nowhere = sym (c .before .before .free-extent .ensures (a .firsts .now)) ∙ ap foundOf (c .enum-told .given .1) in
-    sym (take-nowhere _ _ s _ _ e)
+    sym (take-at _ _ s _ _ nowhere e)
 
 entry-requires : tie.Need-entry-requires
 entry-requires c κs = search needs
