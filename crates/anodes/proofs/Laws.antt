@@ -9,7 +9,7 @@ use lib.ListN.{length, getD, set, take, drop, replicate, length-replicate, List�
 use lib.Seq.{getD-set-same, getD-set-other, getD-take, getD-append-add, length-take-le}
 use borrow.Rule.Slice.PartMut.{putMid}
 use borrow.Author.Tests.{eq-eqb, ne-eqb}
-use Rattle.endian.proofs.Laws.{le-or-lt, eq-or-ne, getD-zeros}
+use Rattle.endian.proofs.Laws.{less?, same?, getD-zeros}
 use Rattle.disk.specs.declared.Anode.{Anode}
 use Rattle.disk.specs.Root.{slotOf}
 use Rattle.disk.specs.Blocks.{blockOf}
@@ -44,7 +44,7 @@ seen-fields img a x y at is =
     ⊎-elim
     (λ e. rw (is, at, eq-eqb (anodeOf img a .block .0) 0 (rw at at e)) (refl, sym (rw at at e), refl))
     (λ n. rw (is, at, ne-eqb (anodeOf img a .block .0) 0 (rw at at n)) (refl, refl, refl))
-    (eq-or-ne (y .block .0) 0)
+    (same? (y .block .0) 0)
 
 -- a missing anode is seen as (0, 0, 0)
 seen-high : (img : List ℕ) (a : ℕ) → 3444 ≤ a → asSeen (anodeOf img a) ≡ anodeMade 0 0 0
@@ -63,7 +63,7 @@ missing-fields img s a e l h =
 held-more : (f : ℕ → ℕ) (l : List ℕ) (k v : ℕ) → k < length l → ((a : ℕ) → a < k → getD l a 0 ≡ f a) → v ≡ f k
     → (a : ℕ) → a < k + 1 → getD (set l k v) a 0 ≡ f a
 held-more f l k v room held is a h =
-    ⊎-elim (λ e. rw e (getD-set-same l k v 0 room ∙ is)) (λ n. getD-set-other l k a v 0 n ∙ held a (omega arith)) (eq-or-ne a k)
+    ⊎-elim (λ e. rw e (getD-set-same l k v 0 room ∙ is)) (λ n. getD-set-other l k a v 0 n ∙ held a (omega arith)) (same? a k)
 
 module _ (s : Anodes) (c b n : List ℕ) where
   pub loaded-none : LoadedBelow s c b n 0
@@ -92,14 +92,14 @@ held-zeroed f l new k e end room is held out a h =
     let d = drop 82 (take (e - k) (drop k l)) in
     let r = drop (e - k) (drop k l) in
     ⊎-elim
+    (λ p. List·getD-append (take k l) (new ++ r) 0 a (omega arith) ∙ getD-take k l a 0 p ∙ held a p)
     (λ p.
     let w : a - k < length (replicate {A = ℕ} 82 0) = omega arith in
     let q : a ≡ length (take k l) + (a - k) = omega arith in
     ap (λ (i : ℕ). getD (putMid k (e - k) l new) i 0) q
     ∙ getD-append-add (take k l) (new ++ r) (a - k) 0
     ∙ rw (is, append-assoc (replicate 82 0) d r) (List·getD-append (replicate 82 0) (d ++ r) 0 (a - k) w ∙ getD-zeros 82 (a - k) ∙ out a p h))
-    (λ p. List·getD-append (take k l) (new ++ r) 0 a (omega arith) ∙ getD-take k l a 0 p ∙ held a p)
-    (le-or-lt k a)
+    (less? a k)
 
 -- the tables with the anodes of a slot that holds 0
 pub loaded-missing : (img c b n c' b' n' : List ℕ) (s e : ℕ) → slotOf img s ≡ 0 → LoadedBelow (anodesOf img) c b n (s * 82)
@@ -119,7 +119,7 @@ same-anodes s t p q r = λ i. record { count = λ a. p a i; block = λ a. q a i;
 held-all : (f : ℕ → ℕ) (l : List ℕ) → length l ≡ 3444 → ((a : ℕ) → a < 3444 → getD l a 0 ≡ f a) → ((a : ℕ) → 3444 ≤ a → f a ≡ 0)
     → (a : ℕ) → getD l a 0 ≡ f a
 held-all f l e held out a =
-    ⊎-elim (λ h. List·getD-eq-default l 0 (rw e h) ∙ sym (out a h)) (λ h. held a h) (le-or-lt 3444 a)
+    ⊎-elim (λ h. held a h) (λ h. List·getD-eq-default l 0 (rw e h) ∙ sym (out a h)) (less? a 3444)
 
 pub loaded-all : (img : List ℕ) (c b n : List ℕ) → length c ≡ 3444 → length b ≡ 3444 → length n ≡ 3444
     → LoadedBelow (anodesOf img) c b n 3444 → anodesFrom c b n ≡ anodesOf img

@@ -9,7 +9,7 @@ use lib.ListN.{length, getD, take, drop, length-take, length-drop, drop-of-lengt
 use lib.Seq.{take-all}
 use borrow.Author.Tests.{le-ltb, lt-ltb, eq-eqb, ne-eqb}
 use borrow.Rule.Slice.PartMut.{putMid, post-is}
-use Rattle.endian.proofs.Laws.{le-or-lt, length-put16}
+use Rattle.endian.proofs.Laws.{less?, length-put16}
 use Rattle.disk.specs.declared.Refusal.{Refusal}
 use Rattle.disk.specs.declared.Refusal.the-variants.{ImageSize, TableSize, DiskType, RootBlock, AnodeBlock, FixedAnode, AnodeRange, ChainLinks, FreeList, TwoOwners, NoOwner, DirectoryBlock, EntryAnode, NamedTwice, FileSize, UnnamedChain, BadArgument, NoDirectory, NotFound, AlreadyThere, IsDirectory, NotEmpty, PastEnd, NoFreeBlock, NoFreeAnode}
 use Rattle.disk.specs.Refusals.{numberOf}
@@ -47,17 +47,17 @@ module _ (img : List ℕ) (b e : ℕ) (end : e ≡ min (b * 512 + 512) (length i
     part-block =
         let l = length-drop (b * 512) img in
         ⊎-elim
-        (λ w. let n : e - b * 512 ≡ 512 = omega arith in rw n)
         (λ s. take-all (e - b * 512) (drop (b * 512) img) (omega arith) ∙ sym (take-all 512 (drop (b * 512) img) (omega arith)))
-        (le-or-lt (b * 512 + 512) (length img))
+        (λ w. let n : e - b * 512 ≡ 512 = omega arith in rw n)
+        (less? (length img) (b * 512 + 512))
 
     -- the bytes after it
     pub after-block : drop e img ≡ drop (b * 512 + 512) img
     after-block =
         ⊎-elim
-        (λ w. let n : e ≡ b * 512 + 512 = omega arith in rw n)
         (λ s. drop-of-length-le img {i = e} (omega arith) ∙ sym (drop-of-length-le img {i = b * 512 + 512} (omega arith)))
-        (le-or-lt (b * 512 + 512) (length img))
+        (λ w. let n : e ≡ b * 512 + 512 = omega arith in rw n)
+        (less? (length img) (b * 512 + 512))
 
     -- the part that was lent and is back
     pub block-back : (new : List ℕ) → length new ≡ length (blockOf img b) → putMid (b * 512) (e - b * 512) img new ≡ withBlock img b new
@@ -112,9 +112,9 @@ pub anodeSlots-at : (img : List ℕ) (s : ℕ) → getD (anodeSlots img) s [] �
 unfolding anodeSlots
 anodeSlots-at img s =
     ⊎-elim
-    (λ h. getD-listed-out (λ s. anodesIn img (slotOf img s)) 0 42 s [] h ∙ rw (slotOf-high img s h) (sym (anodesIn-none img)))
     (λ h. getD-listed (λ s. anodesIn img (slotOf img s)) 0 42 s [] h ∙ rw (zero-add s))
-    (le-or-lt 42 s)
+    (λ h. getD-listed-out (λ s. anodesIn img (slotOf img s)) 0 42 s [] h ∙ rw (slotOf-high img s h) (sym (anodesIn-none img)))
+    (less? s 42)
 
 anodeOf-slot : (img : List ℕ) (a s : ℕ) → slotOf img (a / 82) ≡ s → anodeOf img a ≡ getD (anodesIn img s) (a % 82) (anodeMade 0 0 0)
 unfolding anodeOf anodeAt

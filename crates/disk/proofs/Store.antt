@@ -8,7 +8,7 @@ use native.Mathlib.Nat.{le-of-eq}
 use lib.ListN.{length, getD, set, take, drop, length-set}
 use lib.Seq.{getD-set-same, getD-take, getD-drop, length-take-le, take-all, ext-getD, sets-eq}
 use Rattle.endian.specs.Bytes.{be16, put16, put32, stored}
-use Rattle.endian.proofs.Laws.{le-or-lt, eq-or-ne, length-put16, length-put32, length-stored, be32-halves, be16-put16-same, be16-put16-other, be32-put32-same, be16-set-other, getD-put16-other, stored-out, stored-take, be16-stored-other, getD-stored-other, getD-stored-before, getD-stored-in}
+use Rattle.endian.proofs.Laws.{less?, same?, length-put16, length-put32, length-stored, be32-halves, be16-put16-same, be16-put16-other, be32-put32-same, be16-set-other, getD-put16-other, stored-out, stored-take, be16-stored-other, getD-stored-other, getD-stored-before, getD-stored-in}
 use Rattle.disk.specs.Blocks.{blockOf, withBlock}
 use Rattle.disk.specs.Root.{rootIn, putRoot, slotIn, slotOf}
 use Rattle.disk.specs.AnodeBlocks.{anodeHeadIn, putAnodeHead, anodeIn, putAnode, anodeOf, setAnode}
@@ -231,14 +231,14 @@ module _ (img : List ℕ) (b : ℕ) (new : List ℕ) (enough : length (blockOf i
 
   withBlock-fit : withBlock img b new ≡ stored img (b * 512) fit
   withBlock-fit =
-      ⊎-elim (λ o. withBlock-out img b new o ∙ sym (stored-out img (b * 512) fit o)) withBlock-in (le-or-lt (length img) (b * 512))
+      ⊎-elim withBlock-in (λ o. withBlock-out img b new o ∙ sym (stored-out img (b * 512) fit o)) (less? (b * 512) (length img))
 
   -- a block stored is a run of bytes stored from its start on
   pub withBlock-stored : length new ≤ 512 → withBlock img b new ≡ stored img (b * 512) new
   withBlock-stored most = withBlock-fit ∙ ⊎-elim
-      (λ e. rw (take-all (length (blockOf img b)) new (omega arith)))
       (λ t. stored-take img (b * 512) new (length (blockOf img b)) (omega (arith, length-blockOf-min img b)))
-      (le-or-lt (length new) (length (blockOf img b)))
+      (λ e. rw (take-all (length (blockOf img b)) new (omega arith)))
+      (less? (length (blockOf img b)) (length new))
 
   pub length-withBlock : length (withBlock img b new) ≡ length img
   length-withBlock = rw withBlock-fit (length-stored img (b * 512) fit)
@@ -284,9 +284,9 @@ module _ (img : List ℕ) (s v : ℕ) where
   pub slotOf-put16-other : (t : ℕ) → (t ≡ s → ⊥) → slotOf (withBlock img 2 (put16 (blockOf img 2) (96 + 2 * s) v)) t ≡ slotOf img t
   slotOf-put16-other t n =
       ⊎-elim
-      (λ h. slotOf-high _ t h ∙ sym (slotOf-high img t h))
       (λ h. slotOf-withBlock-root img _ t kept h ∙ slotIn-put16-other (blockOf img 2) s v t n ∙ sym (slotOf-there img t h))
-      (le-or-lt 42 t)
+      (λ h. slotOf-high _ t h ∙ sym (slotOf-high img t h))
+      (less? t 42)
 
 -- ---- an anode of an image
 
@@ -297,7 +297,7 @@ anodeOf-same img j a s p q same =
     ⊎-elim
     (λ z. anodeOf-missing j a (q ∙ z) ∙ sym (anodeOf-missing img a (p ∙ z)))
     (λ n. anodeOf-there j a s q n ∙ rw (same n) (sym (anodeOf-there img a s p n)))
-    (eq-or-ne s 0)
+    (same? s 0)
 
 -- a store in a block that is not the root and not the anode's
 pub anodeOf-withBlock-other : (img : List ℕ) (b : ℕ) (new : List ℕ) (a : ℕ) → length (blockOf img b) ≤ length new → (b ≡ 2 → ⊥)
@@ -317,7 +317,7 @@ module _ (img : List ℕ) (a : ℕ) (x : Anode) where
       ⊎-elim
       (λ z. rw (setAnode-missing img a x z))
       (λ n. rw (setAnode-there img a s x refl n) (length-withBlock img s _ (le-of-eq (sym (whole s)))))
-      (eq-or-ne s 0)
+      (same? s 0)
 
   pub blockOf-setAnode-same : (s : ℕ) → slotOf img (a / 82) ≡ s → (s ≡ 0 → ⊥) → blockOf (setAnode img a x) s ≡ putAnode (blockOf img s) (a % 82) x
   blockOf-setAnode-same s slot some = rw (setAnode-there img a s x slot some) (blockOf-withBlock-same img s _ (whole s))
@@ -328,7 +328,7 @@ module _ (img : List ℕ) (a : ℕ) (x : Anode) where
       ⊎-elim
       (λ z. rw (setAnode-missing img a x z))
       (λ n. rw (setAnode-there img a s x refl n) (blockOf-withBlock-other img s _ (le-of-eq (sym (whole s))) d (λ e. m (sym e))))
-      (eq-or-ne s 0)
+      (same? s 0)
 
   -- an anode's block is not the root
   module _ (root : slotOf img (a / 82) ≡ 2 → ⊥) where
@@ -359,5 +359,5 @@ module _ (img : List ℕ) (a : ℕ) (x : Anode) where
         ∙ rw (blockOf-setAnode-same s refl some) (anodeIn-putAnode-other (blockOf img s) (a % 82) x (b % 82) (omega arith))
         ∙ sym (anodeOf-there img b s e some))
         (λ m. anodeOf-same img (setAnode img a x) b t refl (slotOf-setAnode (b / 82)) (λ k. blockOf-setAnode-other t (λ e. m (sym e))))
-        (eq-or-ne t s))
-        (eq-or-ne s 0)
+        (same? t s))
+        (same? s 0)

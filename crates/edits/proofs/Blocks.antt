@@ -12,7 +12,7 @@ use lib.Seq.{drop-cons, getD-take, getD-drop, length-take-le, take-take, set-out
 use lib.Dec.{eqb, ltb}
 use borrow.Author.Tests.{lt-ltb, le-ltb, eq-eqb, ne-eqb, not-true, not-false}
 use Rattle.endian.specs.Bytes.{put16, cleared}
-use Rattle.endian.proofs.Laws.{le-or-lt, cleared-stored, cleared-front}
+use Rattle.endian.proofs.Laws.{less?, cleared-stored, cleared-front}
 use Rattle.disk.specs.Blocks.{blockOf, withBlock}
 use Rattle.disk.specs.declared.Anode.{Anode}
 use Rattle.disk.specs.AnodeBlocks.{anodeMade, setAnode}
@@ -39,9 +39,9 @@ withBlock-take img b new = rw (take-take (length (blockOf img b)) (length (block
 take-set : (k : ℕ) (l : List ℕ) (i v : ℕ) → take k (set l i v) ≡ set (take k l) i v
 take-set k l i v =
     ⊎-elim
-    (λ h. take-set-le k l i v h ∙ sym (set-out (take k l) i v (omega (arith, length-take k l))))
     (λ h. take-set-lt k l i v h)
-    (le-or-lt k i)
+    (λ h. take-set-le k l i v h ∙ sym (set-out (take k l) i v (omega (arith, length-take k l))))
+    (less? i k)
 
 take-put16 : (k : ℕ) (l : List ℕ) (at v : ℕ) → take k (put16 l at v) ≡ put16 (take k l) at v
 unfolding put16

@@ -3,9 +3,9 @@ use mathlib.Core.Path.{_≡_, refl, sym, _∙_}
 use Prim.Native.Nat.{ℕ, zero, suc, _+_, _/_, _%_, _-_, _<_, _≤_}
 use mathlib.Core.List.{List, [], _∷_, append-nil}
 use mathlib.Core.Bool.{Bool, true, false}
-use mathlib.Core.Logic.{_⊎_, inl, inr, ⊎-elim}
-use lib.Dec.{leb, eqb}
-use borrow.Author.Tests.{leb-true, leb-false, eqb-true, eqb-false}
+use mathlib.Core.Logic.{_≢_, _⊎_, inl, inr, ⊎-elim}
+use lib.Dec.{ltb, eqb}
+use borrow.Author.Tests.{ltb-true, ltb-false, eqb-true, eqb-false}
 use native.Mathlib.Omega.{arith}
 use native.Mathlib.Numerals.{add-one}
 use native.Mathlib.Nat.{not-suc-le-zero}
@@ -20,11 +20,11 @@ by-test : {A B : Type 0} (t : Bool) → (t ≡ true → A) → (t ≡ false → 
 by-test true f g = inl (f refl)
 by-test false f g = inr (g refl)
 
-pub le-or-lt : (a b : ℕ) → (a ≤ b) ⊎ (b < a)
-le-or-lt a b = by-test (leb a b) (leb-true a b) (leb-false a b)
+pub less? : (a b : ℕ) → (a < b) ⊎ (b ≤ a)
+less? a b = by-test (ltb a b) (ltb-true a b) (ltb-false a b)
 
-pub eq-or-ne : (a b : ℕ) → (a ≡ b) ⊎ (a ≡ b → ⊥)
-eq-or-ne a b = by-test (eqb a b) (eqb-true a b) (eqb-false a b)
+pub same? : (a b : ℕ) → (a ≡ b) ⊎ (a ≢ b)
+same? a b = by-test (eqb a b) (eqb-true a b) (eqb-false a b)
 
 -- ---- numbers
 
@@ -180,9 +180,9 @@ cleared-step l at n m e =
 pub getD-zeros : (n i : ℕ) → getD {A = ℕ} (replicate n 0) i 0 ≡ 0
 getD-zeros n i =
     ⊎-elim
-    (λ h. List·getD-eq-default (replicate n 0) 0 (rw (length-replicate {A = ℕ} n 0) h))
     (λ h. getD-replicate {A = ℕ} n i 0 0 h)
-    (le-or-lt n i)
+    (λ h. List·getD-eq-default (replicate n 0) 0 (rw (length-replicate {A = ℕ} n 0) h))
+    (less? i n)
 
 -- zeros from the front to the end
 pub cleared-front : (l : List ℕ) (n : ℕ) → length l ≤ n → cleared l 0 n ≡ take (length l) (replicate n 0)
@@ -211,6 +211,6 @@ pub getD-cleared-in : (l : List ℕ) (at n i : ℕ) → at ≤ i → i < at + n 
 getD-cleared-in l at n i h g =
     let e = length-replicate {A = ℕ} n 0 in
     ⊎-elim
-    (λ o. List·getD-eq-default (cleared l at n) 0 (rw (length-cleared l at n) o))
     (λ t. rw (cleared-stored l at n) (getD-stored-in l at (replicate n 0) i (i - at) (omega arith) (omega arith) t ∙ getD-replicate {A = ℕ} n (i - at) 0 0 (omega arith)))
-    (le-or-lt (length l) i)
+    (λ o. List·getD-eq-default (cleared l at n) 0 (rw (length-cleared l at n) o))
+    (less? i (length l))

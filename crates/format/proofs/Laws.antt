@@ -13,7 +13,7 @@ use lib.Dec.{eqb, leb, ltb}
 use borrow.Rule.Slice.PartMut.{putMid}
 use borrow.Author.Tests.{ltb-false, leb-false, eqb-true, eqb-false, not-false, ne-eqb, eq-eqb}
 use Rattle.endian.specs.Bytes.{be16, put16, put32, cleared}
-use Rattle.endian.proofs.Laws.{le-or-lt, eq-or-ne, length-put16, length-put32, cleared-front, getD-zeros}
+use Rattle.endian.proofs.Laws.{less?, same?, length-put16, length-put32, cleared-front, getD-zeros}
 use Rattle.disk.specs.Blocks.{blockOf, withBlock}
 use Rattle.disk.specs.Root.{pfs0, rootIn, putRoot, slotIn, slotOf}
 use Rattle.disk.specs.AnodeBlocks.{anodeMade, anodeIn, putAnode, anodeOf}
@@ -226,7 +226,7 @@ module _ (n last k : ℕ) where
 
   -- what holds of both holds of every anode block
   pub anodeBlock-both : (P : List ℕ → Type 0) (s : ℕ) → P (firstAnodes (emptyAnodeBlock s) n last k) → P (emptyAnodeBlock s) → P (anodeBlock n last k s)
-  anodeBlock-both P s p q = ⊎-elim (λ e. rw (anodeBlock-first s e) p) (λ h. rw (anodeBlock-later s h) q) (eq-or-ne s 0)
+  anodeBlock-both P s p q = ⊎-elim (λ e. rw (anodeBlock-first s e) p) (λ h. rw (anodeBlock-later s h) q) (same? s 0)
 
   length-anodeBlock : (s : ℕ) → length (anodeBlock n last k s) ≡ 512
   length-anodeBlock s =
@@ -464,10 +464,10 @@ module _ (img : List ℕ) (last k : ℕ) (name : List ℕ) (day minute tick prot
     pub slotOf-formatted-none : (s : ℕ) → k ≤ s → slotOf disk s ≡ 0
     slotOf-formatted-none s h =
         ⊎-elim
-        (λ g. slotOf-high _ s g)
         (λ g. slotOf-there _ s g
         ∙ rw blockOf-formatted-root (slotIn-rootBlock-none last k name day minute tick protection s h (args .short)))
-        (le-or-lt 42 s)
+        (λ g. slotOf-high _ s g)
+        (less? s 42)
 
     -- ---- the anodes
 
@@ -503,12 +503,12 @@ module _ (img : List ℕ) (last k : ℕ) (name : List ℕ) (day minute tick prot
         → anodeOf disk a ≡ anodeMade 0 0 0
     anodeOf-formatted-other a n0 n1 n2 n5 n6 =
         ⊎-elim
-        (λ h. anodeOf-missing _ a (slotOf-formatted-none (a / 82) h))
         (λ h. ⊎-elim
         (λ e. anodeOf-formatted-first a (omega arith)
         ∙ first-other (diskSize img) last k (emptyAnodeBlock 0) long a n0 n1 n2 n5 n6
         ∙ anodeIn-emptyAnodeBlock 0 a)
         (λ g. anodeOf-formatted-there a h
         ∙ rw (anodeBlock-later (diskSize img) last k (a / 82) g) (anodeIn-emptyAnodeBlock (a / 82) (a % 82)))
-        (eq-or-ne (a / 82) 0))
-        (le-or-lt k (a / 82))
+        (same? (a / 82) 0))
+        (λ h. anodeOf-missing _ a (slotOf-formatted-none (a / 82) h))
+        (less? (a / 82) k)

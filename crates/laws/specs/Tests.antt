@@ -1,19 +1,13 @@
 -- Cases on numbers, and what Boolean tests say.
-use Prim.Native.Nat.{ℕ, zero, suc, _≤_, _<_}
+use Prim.Native.Nat.{ℕ, zero, suc, _<_}
 use mathlib.Core.Path.{_≡_, refl}
 use mathlib.Core.Logic.{_≢_, _⊎_, inl, inr}
 use mathlib.Core.Bool.{Bool, true, false, cond, not, _&&_, _||_}
 use native.Mathlib.Omega.{arith}
-use native.Mathlib.Decide.{ℕ-discrete, decLt}
 use lib.Dec.{T, eqb, eqb-refl}
 use borrow.Author.Tests.{eq-eqb, ne-eqb}
 use Rattle.rules.specs.Counting.{_if_else_, anyBelow}
-
-pub same? : (a b : ℕ) → (a ≡ b) ⊎ (a ≢ b)
-same? a b = elim (ℕ-discrete a b) [ yes e ↦ inl e | no e ↦ inr e ]
-
-pub less? : (a b : ℕ) → (a < b) ⊎ (b ≤ a)
-less? a b = elim (decLt a b) [ yes e ↦ inl e | no e ↦ inr (omega arith) ]
+pub use Rattle.endian.proofs.Laws.{same?, less?}
 
 pub cond-cases {ℓ} : {A : Type ℓ} (t : Bool) (x y : A) → (T t × (cond t x y ≡ x)) ⊎ ((T t → ⊥) × (cond t x y ≡ y))
 cond-cases true x y = inl (tt, refl)

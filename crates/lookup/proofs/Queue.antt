@@ -10,7 +10,7 @@ use native.Mathlib.Omega.{arith}
 use lib.Dec.{eqb, ltb}
 use lib.ListN.{getD}
 use borrow.Author.Tests.{eq-eqb, ne-eqb, lt-ltb, le-ltb}
-use Rattle.endian.proofs.Laws.{le-or-lt, eq-or-ne}
+use Rattle.endian.proofs.Laws.{less?, same?}
 use Rattle.rules.specs.Counting.{times}
 use Rattle.rules.specs.Changes.{parentOf}
 use Rattle.laws.specs.Sums.{oneAt-same, oneAt-other}
@@ -34,7 +34,7 @@ module _ (queue : List ℕ) (h : ℕ) where
   -- h stands at the place that is found
   place-at : (i n : ℕ) → placeOf queue h i n < i + n → getD queue (placeOf queue h i n) 0 ≡ h
   place-at i zero l = absurd (omega (arith, place-none i 0 refl))
-  place-at i (suc n) l = elim (eq-or-ne (getD queue i 0) h) [
+  place-at i (suc n) l = elim (same? (getD queue i 0) h) [
     | inl is ↦ rw (place-hit i (suc n) n refl is) is
     | inr is ↦ rw (place-pass i (suc n) n refl is) (place-at (i + 1) n (omega (arith, l, place-pass i (suc n) n refl is)))
   ]
@@ -42,19 +42,19 @@ module _ (queue : List ℕ) (h : ℕ) where
   -- a place is found for a number that is queued
   pub place-found : (i n j : ℕ) → i ≤ j → j < i + n → getD queue j 0 ≡ h → placeOf queue h i n < i + n
   place-found i zero j a b e = absurd (omega arith)
-  place-found i (suc n) j a b e = elim (eq-or-ne (getD queue i 0) h) [
+  place-found i (suc n) j a b e = elim (same? (getD queue i 0) h) [
     | inl is ↦ omega (arith, place-hit i (suc n) n refl is)
     | inr is ↦ omega (arith, place-pass i (suc n) n refl is, place-found (i + 1) n j (after is) (omega arith) e)
   ]
     where
       after : (getD queue i 0 ≡ h → ⊥) → i + 1 ≤ j
-      after is = elim (eq-or-ne i j) [ inl q ↦ absurd (is (ap (λ (x : ℕ). getD queue x 0) q ∙ e)) | inr q ↦ omega (arith, a, q) ]
+      after is = elim (same? i j) [ inl q ↦ absurd (is (ap (λ (x : ℕ). getD queue x 0) q ∙ e)) | inr q ↦ omega (arith, a, q) ]
 
   -- none is found for a number that is not its own head in the table, where all queued ones are
   pub place-out : (heads : List ℕ) (n : ℕ) → ((i : ℕ) → i < n → getD heads (getD queue i 0) 0 ≡ getD queue i 0) → (getD heads h 0 ≡ h → ⊥) → n ≤ placeOf queue h 0 n
-  place-out heads n own is = elim (le-or-lt n (placeOf queue h 0 n)) [
-    | inl l ↦ l
-    | inr l ↦ (let at = place-at 0 n (omega (arith, l)) in absurd (is (ap (λ (x : ℕ). getD heads x 0) (sym at) ∙ own (placeOf queue h 0 n) l ∙ at)))
+  place-out heads n own is = elim (less? (placeOf queue h 0 n) n) [
+    | inl l ↦ (let at = place-at 0 n (omega (arith, l)) in absurd (is (ap (λ (x : ℕ). getD heads x 0) (sym at) ∙ own (placeOf queue h 0 n) l ∙ at)))
+    | inr l ↦ l
   ]
 
   module _ (parents : List ℕ) where
@@ -65,7 +65,7 @@ module _ (queue : List ℕ) (h : ℕ) where
         let rest = times h (map (λ d. d .head) (dirsFrom queue parents (suc i) n)) in
         let behind : i + suc n ≡ suc i + n = omega arith in
         let none : 0 + rest ≡ rest = omega arith in
-        elim (eq-or-ne (getD queue i 0) h) [
+        elim (same? (getD queue i 0) h) [
           | inl is ↦ rw (place-hit i (suc n) n refl is, lt-ltb i (i + suc n) (omega arith), times-cons h (getD queue i 0) (map (λ d. d .head) (dirsFrom queue parents (suc i) n)), oneAt-same (getD queue i 0) h is, ne-eqb (1 + rest) 0 (λ z. omega arith))
           | inr is ↦ rw (place-pass i (suc n) n refl is, add-one i, behind, times-cons h (getD queue i 0) (map (λ d. d .head) (dirsFrom queue parents (suc i) n)), oneAt-other (getD queue i 0) h is, none) (times-from (suc i) n)
         ]
@@ -80,7 +80,7 @@ module _ (queue : List ℕ) (h : ℕ) where
     parent-from i zero = rw (place-none i 0 refl, le-ltb i (i + 0) (omega arith))
     parent-from i (suc n) =
         let behind : i + suc n ≡ suc i + n = omega arith in
-        elim (eq-or-ne (getD queue i 0) h) [
+        elim (same? (getD queue i 0) h) [
           | inl is ↦ rw (place-hit i (suc n) n refl is, lt-ltb i (i + suc n) (omega arith), eq-eqb (getD queue i 0) h is)
           | inr is ↦ rw (place-pass i (suc n) n refl is, add-one i, behind, ne-eqb (getD queue i 0) h is) (parent-from (suc i) n)
         ]

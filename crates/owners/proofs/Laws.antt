@@ -11,7 +11,7 @@ use lib.Dec.{eqb}
 use lib.ListN.{length, getD, set, drop, length-drop}
 use lib.Seq.{getD-set-same, getD-set-other, getD-drop, ext-getD}
 use borrow.Author.Tests.{eqb-true, eq-eqb, ne-eqb}
-use Rattle.endian.proofs.Laws.{eq-or-ne}
+use Rattle.endian.proofs.Laws.{same?}
 use Rattle.rules.specs.Counting.{anyBelow}
 use Rattle.rules.specs.Chains.{covers}
 use Rattle.counting.specs.Laws.{anyBelow-none, anyBelow-hit}
@@ -31,16 +31,16 @@ summed-none t first = record { none = λ e. record { each = λ x l m. absurd (om
 pub summed-more : (sum : ℕ) (t : List ℕ) (first i : ℕ) → first ≤ i → Summed sum t first i → Summed (sum + getD t i 0) t first (i + 1)
 summed-more sum t first i from s = record {
   none = λ z. record {
-    each = λ x l m. ⊎-elim (λ e. rw e (omega arith)) (λ n. s .none (omega arith) .each x l (omega arith)) (eq-or-ne x i);
+    each = λ x l m. ⊎-elim (λ e. rw e (omega arith)) (λ n. s .none (omega arith) .each x l (omega arith)) (same? x i);
   };
   some = λ n. ⊎-elim
       (λ e. record { block = i; from = from; below = omega arith; taken = λ z. n (omega arith) })
       (λ m. let hit = s .some m in record { block = hit .block; from = hit .from; below = omega (arith, hit .below); taken = hit .taken })
-      (eq-or-ne sum 0);
+      (same? sum 0);
 }
 
 pub summed-tested : (sum : ℕ) (t : List ℕ) (first end : ℕ) → Summed sum t first end → RunTested (not (eqb sum 0)) t first end
-summed-tested sum t first end s = elim (eq-or-ne sum 0) [
+summed-tested sum t first end s = elim (same? sum 0) [
   | inl e ↦ rw (eq-eqb sum 0 e) (s .none e)
   | inr n ↦ rw (ne-eqb sum 0 n) (s .some n)
 ]
@@ -50,7 +50,7 @@ stored-none t first mark = record { each = λ x l m. absurd (omega arith) }
 
 pub stored-more : (t : List ℕ) (first i mark : ℕ) → RunStored t first i mark → i < length t → RunStored (set t i mark) first (i + 1) mark
 stored-more t first i mark run room = record {
-  each = λ x l m. ⊎-elim (λ e. rw e (getD-set-same t i mark 0 room)) (λ n. getD-set-other t i x mark 0 n ∙ run .each x l (omega arith)) (eq-or-ne x i);
+  each = λ x l m. ⊎-elim (λ e. rw e (getD-set-same t i mark 0 room)) (λ n. getD-set-other t i x mark 0 n ∙ run .each x l (omega arith)) (same? x i);
 }
 
 pub run-filled : (old t : List ℕ) (first end mark : ℕ) → RunFree old first end → RunStored t first end mark → RunFilled old t first end mark

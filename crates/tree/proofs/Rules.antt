@@ -9,7 +9,7 @@ use lib.Dec.{eqb}
 use lib.ListN.{length, getD, set, replicate, length-set, length-replicate, List·getD-eq-default}
 use lib.Seq.{getD-set-same, getD-set-other}
 use borrow.Author.Tests.{eq-eqb, ne-eqb, le-leb, lt-leb, le-ltb, lt-ltb, eqb-true, eqb-false}
-use Rattle.endian.proofs.Laws.{le-or-lt, eq-or-ne, getD-zeros}
+use Rattle.endian.proofs.Laws.{less?, same?, getD-zeros}
 use Rattle.disk.specs.Refusals.{numberOf}
 use Rattle.rules.specs.Counting.{_if_else_, firstOf, anyBelow, oneAt, sumList, times, gather}
 use Rattle.rules.specs.Anodes.{Anodes, limit}
@@ -60,7 +60,7 @@ agree-more marks a named whole room h x lo hi =
     (λ n. let same = getD-set-other marks a x 1 0 n in
     let less : times x (a ∷ named) ≡ times x named = times-cons x a named ∙ rw (oneAt-other a x (λ q. n (sym q))) (omega arith) in
     (λ z. less ∙ h x lo hi .0 (sym same ∙ z), λ m. rw less (h x lo hi .1 (λ z. m (same ∙ z)))))
-    (eq-or-ne x a)
+    (same? x a)
 
 -- ---- the items of one directory
 
@@ -222,7 +222,7 @@ unfolding heads
 heads-none next block a e = rw (eq-eqb (block a) 0 e, and-false)
 
 eqb-both : (a b c d : ℕ) → (a ≡ b → c ≡ d) → (c ≡ d → a ≡ b) → eqb a b ≡ eqb c d
-eqb-both a b c d f g = ⊎-elim (λ e. eq-eqb a b e ∙ sym (eq-eqb c d (f e))) (λ n. ne-eqb a b n ∙ sym (ne-eqb c d (λ e. n (g e)))) (eq-or-ne a b)
+eqb-both a b c d f g = ⊎-elim (λ e. eq-eqb a b e ∙ sym (eq-eqb c d (f e))) (λ n. ne-eqb a b n ∙ sym (ne-eqb c d (λ e. n (g e)))) (same? a b)
 
 module _ (t : List ℕ) (s : Anodes) (table : HeadTable t s) where
   -- in the table's range, the heads are those of the rules
@@ -234,12 +234,12 @@ module _ (t : List ℕ) (s : Anodes) (table : HeadTable t s) where
     unfolding wrongAnode headAt
     head-same a =
         ⊎-elim
-        (λ lo. ⊎-elim
-        (λ hi. rw (le-leb 6 a lo, le-ltb a limit hi, heads-none (s .next) (s .block) a (past a hi)))
-        (λ hi. rw (le-leb 6 a lo, lt-ltb a limit hi, head-test a lo hi))
-        (le-or-lt limit a))
         (λ lo. rw (lt-leb 6 a lo))
-        (le-or-lt 6 a)
+        (λ lo. ⊎-elim
+        (λ hi. rw (le-leb 6 a lo, lt-ltb a limit hi, head-test a lo hi))
+        (λ hi. rw (le-leb 6 a lo, le-ltb a limit hi, heads-none (s .next) (s .block) a (past a hi)))
+        (less? a limit))
+        (less? a 6)
 
 -- what the walk's answer, and the marks and the queue behind it, say of the rules
 abbrev Says : List ℕ → Anodes → List ℕ → TreeRead → List ℕ → List ℕ → List ℕ → Type 0
@@ -314,15 +314,15 @@ module _ (counts nexts t : List ℕ) (s : Anodes) (table : HeadTable t s) (past 
       unfolding unnamedChain unnamed unnamedAt
       unnamed-same x hi =
           ⊎-elim
+          (λ lo. rw (lt-leb 6 x lo))
           (λ lo. rw (
             le-leb 6 x lo,
             head-test t s table x lo hi,
             eqb-both (naming img s x) 0 (getD m x 0) 0
-                (λ z. ⊎-elim (λ e. e) (λ n. absurd (omega (arith, naming-agrees x lo hi .1 n))) (eq-or-ne (getD m x 0) 0))
+                (λ z. ⊎-elim (λ e. e) (λ n. absurd (omega (arith, naming-agrees x lo hi .1 n))) (same? (getD m x 0) 0))
                 (naming-agrees x lo hi .0),
           ))
-          (λ lo. rw (lt-leb 6 x lo))
-          (le-or-lt 6 x)
+          (less? x 6)
 
       tree-ended : (b : Bool) → anyBelow (unnamedAt t m) limit ≡ b → treeFault img s ≡ 16 if b else 0
       unfolding treeFault firstOf
