@@ -42,37 +42,36 @@ late-tables k (inl e) range shown old = ap (λ (n : ℕ). tableLeft n range show
 late-tables k (inr l) range shown old = late-table k l range shown old
 
 module _ (img b₀ a₀ b a : List ℕ) (x : Checked) (e : outcomeOf (checkedNumber x) img b a [] [] ≡ checkOutcome img b₀ a₀) where
-  answer-is : checkAnswer img (length b₀) (length a₀) ≡ checkedNumber x
-  unfolding checkOutcome settled
-  answer-is = ap (λ (o : Outcome). o .answer) (sym e)
+  -- what the check's own outcome says
+  module _ (k : ℕ) (is-k : checkedNumber x ≡ k) where
+    answers : checkAnswer img (length b₀) (length a₀) ≡ k
+    unfolding checkOutcome settled
+    answers = ap (λ (o : Outcome). o .answer) (sym e) ∙ is-k
 
-  blocks-are : b ≡ blocksLeft (checkedNumber x) img b₀
-  unfolding checkOutcome settled
-  blocks-are = ap (λ (o : Outcome). o .blocks) e ∙ ap (λ (n : ℕ). blocksLeft n img b₀) answer-is
+    blocks-left : b ≡ blocksLeft k img b₀
+    unfolding checkOutcome settled
+    blocks-left = ap (λ (o : Outcome). o .blocks) e ∙ ap (λ (n : ℕ). blocksLeft n img b₀) answers
 
-  anodes-are : a ≡ anodesLeft (checkedNumber x) img a₀
-  unfolding checkOutcome settled
-  anodes-are = ap (λ (o : Outcome). o .anodes) e ∙ ap (λ (n : ℕ). anodesLeft n img a₀) answer-is
+    anodes-left : a ≡ anodesLeft k img a₀
+    unfolding checkOutcome settled
+    anodes-left = ap (λ (o : Outcome). o .anodes) e ∙ ap (λ (n : ℕ). anodesLeft n img a₀) answers
 
   -- ---- refused
 
   module _ (r : Refusal) (is : x ≡ Refused r) (k : ℕ) (n : k ≡ numberOf r) where
+    number-k : checkedNumber x ≡ k
+    number-k = ap checkedNumber is ∙ sym n
+
     answers-k : checkAnswer img (length b₀) (length a₀) ≡ k
-    answers-k = answer-is ∙ ap checkedNumber is ∙ sym n
+    answers-k = answers k number-k
 
     some : 1 ≤ k
     some = refused-some r k n
 
-    blocks-k : b ≡ blocksLeft k img b₀
-    blocks-k = blocks-are ∙ ap (λ (m : ℕ). blocksLeft m img b₀) (ap checkedNumber is ∙ sym n)
-
-    anodes-k : a ≡ anodesLeft k img a₀
-    anodes-k = anodes-are ∙ ap (λ (m : ℕ). anodesLeft m img a₀) (ap checkedNumber is ∙ sym n)
-
     -- a refused call leaves the image and the tables as the check does
     settled-k : (output name : List ℕ) → outcomeOf k img b a output name ≡ settled (left k img) b₀ a₀ output name
     unfolding settled
-    settled-k output name = rw (← blocks-k, ← anodes-k)
+    settled-k output name = rw (← blocks-left k number-k, ← anodes-left k number-k)
 
     pub check-refused : outcomeOf k img b a [] [] ≡ checkOutcome img b₀ a₀
     unfolding checkOutcome
@@ -108,25 +107,22 @@ module _ (img b₀ a₀ b a : List ℕ) (x : Checked) (e : outcomeOf (checkedNum
   -- ---- accepted
 
   module _ (t : Tally) (is : x ≡ Accepted t) where
+    number-0 : checkedNumber x ≡ 0
+    number-0 = ap checkedNumber is
+
     answers-0 : checkAnswer img (length b₀) (length a₀) ≡ 0
-    answers-0 = answer-is ∙ ap checkedNumber is
-
-    pub accepted-blocks : b ≡ blocksLeft 0 img b₀
-    accepted-blocks = blocks-are ∙ ap (λ (m : ℕ). blocksLeft m img b₀) (ap checkedNumber is)
-
-    pub accepted-anodes : a ≡ anodesLeft 0 img a₀
-    accepted-anodes = anodes-are ∙ ap (λ (m : ℕ). anodesLeft m img a₀) (ap checkedNumber is)
+    answers-0 = answers 0 number-0
 
     pub accepted-answer : checkAnswer img (diskSize img) limit ≡ 0
     accepted-answer = own-tables img (length b₀) (length a₀) answers-0
 
     blocks-late : (k : ℕ) → Late k → blocksLeft k img b₀ ≡ b
     unfolding blocksLeft
-    blocks-late k l = late-tables k l (diskSize img) (blockTable img (anodesOf img)) b₀ ∙ sym accepted-blocks
+    blocks-late k l = late-tables k l (diskSize img) (blockTable img (anodesOf img)) b₀ ∙ sym (blocks-left 0 number-0)
 
     anodes-late : (k : ℕ) → Late k → anodesLeft k img a₀ ≡ a
     unfolding anodesLeft
-    anodes-late k l = late-tables k l limit (anodeTable (anodesOf img)) a₀ ∙ sym accepted-anodes
+    anodes-late k l = late-tables k l limit (anodeTable (anodesOf img)) a₀ ∙ sym (anodes-left 0 number-0)
 
     -- an answered call that leaves the image leaves the tables too
     settled-late : (k : ℕ) → Late k → (output name : List ℕ) → outcomeOf k img b a output name ≡ settled (left k img) b₀ a₀ output name
@@ -152,7 +148,7 @@ module _ (img b₀ a₀ b a : List ℕ) (x : Checked) (e : outcomeOf (checkedNum
           accepted = accepted-answer;
           loaded = o .0;
           queued = o .1;
-          shown = λ i l. ap (λ (z : List ℕ). getD z i 0) accepted-anodes
+          shown = λ i l. ap (λ (z : List ℕ). getD z i 0) (anodes-left 0 number-0)
               ∙ List·getD-append (anodeTable (anodesOf img)) (drop limit a₀) 0 i (rw (length-listed (anodeEntry (anodesOf img)) 0 limit) l)
               ∙ getD-listed (anodeEntry (anodesOf img)) 0 limit i 0 l ∙ ap (anodeEntry (anodesOf img)) (zero-add i);
           counts-long = o .2 .0;
@@ -179,7 +175,7 @@ module _ (img b₀ a₀ b a : List ℕ) (x : Checked) (e : outcomeOf (checkedNum
     -- a change by name, as it leaves the image and the tables
     pub change-answered : (n : ℕ) (f : ℕ → Left) (r : ℕ) (img′ b′ a′ : List ℕ) → Leaves r img b a img′ b′ a′ (f n) → outcomeOf r img′ b′ a′ [] [] ≡ settled (f (firstOf (checkAnswer img (length b₀) (length a₀)) n)) b₀ a₀ [] []
     change-answered n f r img′ b′ a′ l =
-        l b₀ a₀ accepted-blocks accepted-anodes ∙ ap (λ (m : ℕ). settled (f m) b₀ a₀ [] []) (sym (first-zero (checkAnswer img (length b₀) (length a₀)) n answers-0))
+        l b₀ a₀ (blocks-left 0 number-0) (anodes-left 0 number-0) ∙ ap (λ (m : ℕ). settled (f m) b₀ a₀ [] []) (sym (first-zero (checkAnswer img (length b₀) (length a₀)) n answers-0))
 
     -- the anode table is as long as 2 asks
     pub heads-long : length a ≡ length a₀ → limit ≤ length a

@@ -102,18 +102,21 @@ refused-some r k e = omega (arith, e, number-some r)
 pub refused-before : (a b c : ℕ) → c ≡ firstOf a b → (r : Refusal) → a ≡ numberOf r → c ≡ numberOf r
 refused-before a b c is r e = is ∙ first-some a b (numberOf r) e (number-some r)
 
--- what it passed, the row behind it refuses or passes
-module _ (a c n : ℕ) (t : Bool) (is : c ≡ firstOf a (n if t else 0)) where
-  pub refused-now : a ≡ 0 → t ≡ true → c ≡ n
-  refused-now e h = is ∙ first-zero a (n if t else 0) e ∙ ap (λ (b : Bool). n if b else 0) h
+-- what it passed, the row behind it refuses or passes by the test of the entry that was found
+module _ (test : Option Entered → Bool) (o : Option Entered) (x : Entered) (found : o ≡ some x) (a c n : ℕ) (is : c ≡ firstOf a (n if test o else 0)) (passed : a ≡ 0) (r : Bool) (tested : test (some x) ≡ r) where
+  row : c ≡ (n if r else 0)
+  row = is ∙ first-zero a (n if test o else 0) passed ∙ ap (λ (b : Bool). n if b else 0) (ap test found ∙ tested)
 
-  pub passed-now : a ≡ 0 → t ≡ false → c ≡ 0
-  passed-now e h = is ∙ first-zero a (n if t else 0) e ∙ ap (λ (b : Bool). n if b else 0) h
+  pub refused-now : r ≡ true → c ≡ n
+  refused-now e = row ∙ ap (λ (b : Bool). n if b else 0) e
 
-  both-passed : 1 ≤ n → c ≡ 0 → (a ≡ 0) × (t ≡ false)
-  both-passed l e =
-      let z = firstOf-zero a (n if t else 0) (sym is ∙ e) in
-      (z .0, if-zero n t 0 (omega arith) (z .1) .0)
+  pub passed-now : r ≡ false → c ≡ 0
+  passed-now e = row ∙ ap (λ (b : Bool). n if b else 0) e
+
+both-passed : (a c n : ℕ) (t : Bool) → c ≡ firstOf a (n if t else 0) → 1 ≤ n → c ≡ 0 → (a ≡ 0) × (t ≡ false)
+both-passed a c n t is l e =
+    let z = firstOf-zero a (n if t else 0) (sym is ∙ e) in
+    (z .0, if-zero n t 0 (omega arith) (z .1) .0)
 
 search-reached : (missing : Bool) (o : Option Entered) → searchNumber missing o ≡ 0 → missing ≡ false
 search-reached missing o e = if-zero 21 missing (22 if not (isThere o) else 0) (omega arith) e .0

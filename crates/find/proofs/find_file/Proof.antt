@@ -1,6 +1,6 @@
 use Rattle.find.proofs.Laws.{file-row, refused-before, refused-now, passed-now}
 use Rattle.rules.specs.Lookup.{namesDir}
-use mathlib.Core.Path.{sym, ap, _∙_}
+use mathlib.Core.Path.{sym}
 use borrow.Author.Needs.{needs}
 use Rattle.find.proofs.find_file.Statement.{statement}
 use Rattle.find.proofs.find_file.Tie as tie
@@ -23,12 +23,12 @@ is-directory-requires c κs = search needs
 returns-2 : tie.Need-returns-2
 returns-2 c =
     let f = rw (c .before .before .before .found .given .1) at (c .before .before .before .before .before .find-named .ensures) in
-    refused-now _ _ _ _ (file-row _ _ _ _) (f .0) (ap namesDir (f .1) ∙ sym (c .before .is-directory .ensures) ∙ c .if1 .taken)
+    refused-now namesDir _ _ (f .1) _ _ _ (file-row _ _ _ _) (f .0) _ (sym (c .before .is-directory .ensures)) (c .if1 .taken)
 
 returns-3 : tie.Need-returns-3
 returns-3 c =
     let f = rw (c .before .before .before .found .given .1) at (c .before .before .before .before .before .find-named .ensures) in
-    (passed-now _ _ _ _ (file-row _ _ _ _) (f .0) (ap namesDir (f .1) ∙ sym (c .before .is-directory .ensures) ∙ c .if1 .left), f .1)
+    (passed-now namesDir _ _ (f .1) _ _ _ (file-row _ _ _ _) (f .0) _ (sym (c .before .is-directory .ensures)) (c .if1 .left), f .1)
 
 pub find-file-spec : {M : Type 1} → statement M
 find-file-spec =

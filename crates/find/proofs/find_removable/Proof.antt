@@ -2,7 +2,6 @@ use Rattle.find.proofs.Laws.{full-by, full-row, refused-before, refused
 use Rattle.rules.specs.Anodes.{anodesOf}
 use Rattle.rules.specs.Lookup.{fullDir}
 use Rattle.lookup.specs.Answers.{entered}
-use mathlib.Core.Path.{ap, _∙_}
 use borrow.Author.Needs.{needs}
 use Rattle.find.proofs.find_removable.Statement.{statement}
 use Rattle.find.proofs.find_removable.Tie as tie
@@ -26,13 +25,13 @@ returns-2 : tie.Need-returns-2
 returns-2 c =
     let f = rw (c .before .before .before .found .given .1) at (c .before .before .before .before .before .find-named .ensures) in
     let i = c .before .before .before .before .before .before .before .before .before .before .before .before .args .image .now in
-    refused-now _ _ _ _ (full-row _ _ _ _) (f .0) (ap (fullDir i (anodesOf i)) (f .1) ∙ full-by (c .before .before .before .before .before .before .before .before .before .before .before .before .pre .2) (entered (c .before .before .before .found .given .0 .0)) _ (c .before .is-full .ensures) ∙ c .if1 .taken)
+    refused-now (fullDir i (anodesOf i)) _ _ (f .1) _ _ _ (full-row _ _ _ _) (f .0) _ (full-by (c .before .before .before .before .before .before .before .before .before .before .before .before .pre .2) (entered (c .before .before .before .found .given .0 .0)) _ (c .before .is-full .ensures)) (c .if1 .taken)
 
 returns-3 : tie.Need-returns-3
 returns-3 c =
     let f = rw (c .before .before .before .found .given .1) at (c .before .before .before .before .before .find-named .ensures) in
     let i = c .before .before .before .before .before .before .before .before .before .before .before .before .args .image .now in
-    (passed-now _ _ _ _ (full-row _ _ _ _) (f .0) (ap (fullDir i (anodesOf i)) (f .1) ∙ full-by (c .before .before .before .before .before .before .before .before .before .before .before .before .pre .2) (entered (c .before .before .before .found .given .0 .0)) _ (c .before .is-full .ensures) ∙ c .if1 .left), f .1)
+    (passed-now (fullDir i (anodesOf i)) _ _ (f .1) _ _ _ (full-row _ _ _ _) (f .0) _ (full-by (c .before .before .before .before .before .before .before .before .before .before .before .before .pre .2) (entered (c .before .before .before .found .given .0 .0)) _ (c .before .is-full .ensures)) (c .if1 .left), f .1)
 
 pub find-removable-spec : {M : Type 1} → statement M
 find-removable-spec =

@@ -1,8 +1,6 @@
 use Rattle.find.proofs.Laws.{span-row, refused-before, refused-now, passed-now}
-use Rattle.rules.specs.Walk.{Entered}
 use Rattle.rules.specs.Lookup.{pastEnd}
-use mathlib.Core.Option.{Option}
-use mathlib.Core.Path.{sym, ap, _∙_}
+use mathlib.Core.Path.{sym}
 use borrow.Author.Needs.{needs}
 use Rattle.find.proofs.find_span.Statement.{statement}
 use Rattle.find.proofs.find_span.Tie as tie
@@ -26,13 +24,13 @@ returns-2 : tie.Need-returns-2
 returns-2 c =
     let f = rw (c .before .before .before .found .given .1) at (c .before .before .before .before .before .find-file .ensures) in
     let a = c .before .before .before .before .before .before .before .before .before .before .before .before .args in
-    refused-now _ _ _ _ (span-row _ _ _ _ _ _) (f .0) (ap (λ (o : Option Entered). pastEnd o (a .offset) (a .len)) (f .1) ∙ sym (c .before .past-end .ensures) ∙ c .if1 .taken)
+    refused-now (λ o. pastEnd o (a .offset) (a .len)) _ _ (f .1) _ _ _ (span-row _ _ _ _ _ _) (f .0) _ (sym (c .before .past-end .ensures)) (c .if1 .taken)
 
 returns-3 : tie.Need-returns-3
 returns-3 c =
     let f = rw (c .before .before .before .found .given .1) at (c .before .before .before .before .before .find-file .ensures) in
     let a = c .before .before .before .before .before .before .before .before .before .before .before .before .args in
-    (passed-now _ _ _ _ (span-row _ _ _ _ _ _) (f .0) (ap (λ (o : Option Entered). pastEnd o (a .offset) (a .len)) (f .1) ∙ sym (c .before .past-end .ensures) ∙ c .if1 .left), f .1)
+    (passed-now (λ o. pastEnd o (a .offset) (a .len)) _ _ (f .1) _ _ _ (span-row _ _ _ _ _ _) (f .0) _ (sym (c .before .past-end .ensures)) (c .if1 .left), f .1)
 
 pub find-span-spec : {M : Type 1} → statement M
 find-span-spec =
