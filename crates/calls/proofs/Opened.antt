@@ -3,14 +3,12 @@ use Prim.Native.Nat.{ℕ, zero, suc, _≤_}
 use mathlib.Core.Path.{_≡_, refl, sym, ap, _∙_}
 use mathlib.Core.Logic.{inl, inr}
 use mathlib.Core.List.{List, [], _∷_}
-use native.Mathlib.Nat.{zero-add}
 use native.Mathlib.Omega.{arith}
 use lib.Dec.{ltb}
 use borrow.Author.Tests.{ltb-false}
-use lib.ListN.{length, getD, drop, replicate, List·getD-append}
+use lib.ListN.{length, getD, drop, replicate}
 use Rattle.disk.specs.declared.Refusal.{Refusal}
 use Rattle.disk.specs.Refusals.{numberOf}
-use Rattle.disk.proofs.Laws.{getD-listed, length-listed}
 use Rattle.rules.specs.Counting.{firstOf}
 use Rattle.rules.specs.Anodes.{limit, anodesOf}
 use Rattle.rules.specs.Accepted.{diskSize, shortTables, checkAnswer}
@@ -23,12 +21,13 @@ use Rattle.fsck.specs.declared.Checked.{Checked}
 use Rattle.fsck.specs.declared.Checked.the-variants.{Accepted, Refused}
 use Rattle.fsck.specs.Answers.{checkedNumber, Tallied, Opened}
 use Rattle.counting.specs.Laws.{neither}
-use Rattle.laws.specs.Acceptance.{passed-of}
+use Rattle.laws.specs.Acceptance.{passed-of, firstOf-some, firstOf-none}
+use Rattle.laws.specs.OwnerTable.{table-entry}
 use Rattle.changes.specs.Answers.{Late, own-tables, span-late, list-late}
 use Rattle.changed.specs.Leaves.{Leaves}
 use Rattle.changed.specs.Laws.{late-table}
 use Rattle.find.specs.Open.{Open}
-use Rattle.find.proofs.Laws.{first-zero, first-some, refused-some}
+use Rattle.find.proofs.Laws.{refused-some}
 use Rattle.reading.proofs.Laws.{bytes-refused, fields-refused, name-refused}
 
 after-refused : (k : ℕ) (img : List ℕ) → 1 ≤ k → summaryAfter k img ≡ replicate 4 0
@@ -85,7 +84,7 @@ module _ (img b₀ a₀ b a : List ℕ) (x : Checked) (e : outcomeOf (checkedNum
     unfolding readOutcome readAnswer
     read-refused h name offset out =
         rw (
-          first-some (checkAnswer img (length b₀) (length a₀)) (spanAnswer img (anodesOf img) h name offset (length out)) k answers-k some,
+          firstOf-some (checkAnswer img (length b₀) (length a₀)) (spanAnswer img (anodesOf img) h name offset (length out)) k answers-k some,
           bytes-refused img (entryNamed img (anodesOf img) h name) k some (anodesOf img) offset out,
         )
         (settled-k out [])
@@ -94,7 +93,7 @@ module _ (img b₀ a₀ b a : List ℕ) (x : Checked) (e : outcomeOf (checkedNum
     unfolding listOutcome listAnswered
     list-refused h n =
         rw (
-          first-some (checkAnswer img (length b₀) (length a₀)) (listAnswer img (anodesOf img) h n) k answers-k some,
+          firstOf-some (checkAnswer img (length b₀) (length a₀)) (listAnswer img (anodesOf img) h n) k answers-k some,
           fields-refused img (nth (entriesOf img (anodesOf img) h) n) k some,
           name-refused img (nth (entriesOf img (anodesOf img) h) n) k some,
         )
@@ -102,7 +101,7 @@ module _ (img b₀ a₀ b a : List ℕ) (x : Checked) (e : outcomeOf (checkedNum
 
     -- a change is not made
     pub change-refused : (n : ℕ) (f : ℕ → Left) → f k ≡ left k img → outcomeOf k img b a [] [] ≡ settled (f (firstOf (checkAnswer img (length b₀) (length a₀)) n)) b₀ a₀ [] []
-    change-refused n f e = rw (first-some (checkAnswer img (length b₀) (length a₀)) n k answers-k some, e) (settled-k [] [])
+    change-refused n f e = rw (firstOf-some (checkAnswer img (length b₀) (length a₀)) n k answers-k some, e) (settled-k [] [])
 
   -- ---- accepted
 
@@ -149,33 +148,30 @@ module _ (img b₀ a₀ b a : List ℕ) (x : Checked) (e : outcomeOf (checkedNum
           loaded = o .0;
           queued = o .1;
           shown = λ i l. ap (λ (z : List ℕ). getD z i 0) (anodes-left 0 number-0)
-              ∙ List·getD-append (anodeTable (anodesOf img)) (drop limit a₀) 0 i (rw (length-listed (anodeEntry (anodesOf img)) 0 limit) l)
-              ∙ getD-listed (anodeEntry (anodesOf img)) 0 limit i 0 l ∙ ap (anodeEntry (anodesOf img)) (zero-add i);
+              ∙ table-entry (anodeEntry (anodesOf img)) limit (drop limit a₀) i l;
           counts-long = o .2 .0;
           firsts-long = o .2 .1;
           nexts-long = o .2 .2;
-          queue-long = o .2 .3;
-          parents-long = o .2 .4;
         }
 
     pub read-answered : (h : ℕ) (name : List ℕ) (offset : ℕ) (out out′ : List ℕ) (k : ℕ) → k ≡ spanAnswer img (anodesOf img) h name offset (length out) →
         out′ ≡ bytesRead k img (anodesOf img) (entryNamed img (anodesOf img) h name) offset out → outcomeOf k img b a out′ [] ≡ readOutcome img b₀ a₀ h name offset out
     unfolding readOutcome readAnswer
     read-answered h name offset out out′ k span bytes =
-        rw (first-zero (checkAnswer img (length b₀) (length a₀)) (spanAnswer img (anodesOf img) h name offset (length out)) answers-0, ← span, ← bytes)
+        rw (firstOf-none (checkAnswer img (length b₀) (length a₀)) (spanAnswer img (anodesOf img) h name offset (length out)) answers-0, ← span, ← bytes)
         (settled-late k (rw span (span-late img (anodesOf img) h name offset (length out))) out′ [])
 
     pub list-answered : (h n : ℕ) (fields name : List ℕ) (k : ℕ) → k ≡ listAnswer img (anodesOf img) h n → fields ≡ fieldsListed k img (nth (entriesOf img (anodesOf img) h) n) →
         name ≡ nameListed k img (nth (entriesOf img (anodesOf img) h) n) → outcomeOf k img b a fields name ≡ listOutcome img b₀ a₀ h n
     unfolding listOutcome listAnswered
     list-answered h n fields name k is-k f m =
-        rw (first-zero (checkAnswer img (length b₀) (length a₀)) (listAnswer img (anodesOf img) h n) answers-0, ← is-k, ← f, ← m)
+        rw (firstOf-none (checkAnswer img (length b₀) (length a₀)) (listAnswer img (anodesOf img) h n) answers-0, ← is-k, ← f, ← m)
         (settled-late k (rw is-k (list-late img (anodesOf img) h n)) fields name)
 
     -- a change by name, as it leaves the image and the tables
     pub change-answered : (n : ℕ) (f : ℕ → Left) (r : ℕ) (img′ b′ a′ : List ℕ) → Leaves r img b a img′ b′ a′ (f n) → outcomeOf r img′ b′ a′ [] [] ≡ settled (f (firstOf (checkAnswer img (length b₀) (length a₀)) n)) b₀ a₀ [] []
     change-answered n f r img′ b′ a′ l =
-        l b₀ a₀ (blocks-left 0 number-0) (anodes-left 0 number-0) ∙ ap (λ (m : ℕ). settled (f m) b₀ a₀ [] []) (sym (first-zero (checkAnswer img (length b₀) (length a₀)) n answers-0))
+        l b₀ a₀ (blocks-left 0 number-0) (anodes-left 0 number-0) ∙ ap (λ (m : ℕ). settled (f m) b₀ a₀ [] []) (sym (firstOf-none (checkAnswer img (length b₀) (length a₀)) n answers-0))
 
     -- the anode table is as long as 2 asks
     pub heads-long : length a ≡ length a₀ → limit ≤ length a

@@ -1,12 +1,10 @@
 -- A write leaves the tables that showed the image, since it changes no anode.
 use Prim.Native.Nat.{ℕ, zero, suc, _≤_}
-use mathlib.Core.Path.{_≡_, refl, sym, ap, _∙_}
+use mathlib.Core.Path.{_≡_, refl, ap, _∙_}
 use mathlib.Core.List.{List, _++_}
 use mathlib.Core.Option.{Option, none, some}
 use native.Mathlib.Omega.{arith}
 use lib.ListN.{length, drop}
-use lib.Seq.{drop-append-seam}
-use Rattle.disk.proofs.Laws.{length-listed}
 use Rattle.rules.specs.Anodes.{limit, anodesOf}
 use Rattle.rules.specs.Walk.{Entered}
 use Rattle.rules.specs.Accepted.{diskSize, checkAnswer}
@@ -14,11 +12,11 @@ use Rattle.rules.specs.Tables.{anodeEntry, anodeTable, tableLeft, anodesLeft}
 use Rattle.rules.specs.Lookup.{entryNamed}
 use Rattle.rules.specs.Changes.{Left, left, written}
 use Rattle.rules.specs.Calls.{spanAnswer, changeNamed}
-use Rattle.changes.specs.Answers.{span-late}
+use Rattle.changes.specs.Answers.{span-late, file-found, span-found}
+use Rattle.laws.specs.OwnerTable.{table-past}
 use Rattle.changes.specs.Reached.{named-member}
 use Rattle.changes.specs.Write.{written-same, written-anodes}
 use Rattle.changed.specs.Leaves.{Leaves}
-use Rattle.find.proofs.Laws.{file-found, span-found}
 use Rattle.changing.proofs.Laws.{late-some}
 use Rattle.changed.specs.Laws.{leaves-refused, leaves-done}
 
@@ -30,10 +28,7 @@ module _ (img : List ℕ) (accepted : checkAnswer img (diskSize img) limit ≡ 0
   shown-heads : (j a a₀ : List ℕ) → anodesOf j ≡ anodesOf img → a ≡ anodesLeft 0 img a₀ → a ≡ anodeTable (anodesOf j) ++ drop limit a
   unfolding anodesLeft tableLeft anodeTable
   shown-heads j a a₀ same q =
-      let past : drop limit a ≡ drop limit a₀ =
-      ap (drop limit) q
-      ∙ ap (λ (n : ℕ). drop n (anodeTable (anodesOf img) ++ drop limit a₀)) (sym (length-listed (anodeEntry (anodesOf img)) 0 limit))
-      ∙ drop-append-seam (anodeTable (anodesOf img)) (drop limit a₀) in
+      let past : drop limit a ≡ drop limit a₀ = ap (drop limit) q ∙ table-past (anodeEntry (anodesOf img)) limit (drop limit a₀) in
       rw (same, past) q
 
   module _ (r : ℕ) (j b a : List ℕ) where

@@ -5,8 +5,7 @@ use mathlib.Core.Logic.{_≢_}
 use mathlib.Core.Bool.{Bool}
 use mathlib.Core.List.{List, _++_}
 use native.Mathlib.Omega.{arith}
-use lib.ListN.{length, drop}
-use lib.Seq.{drop-at}
+use lib.ListN.{drop}
 use borrow.Author.Tests.{le-leb, lt-leb}
 use Rattle.disk.proofs.Laws.{length-listed}
 use Rattle.rules.specs.Anodes.{Anodes, limit, anodesOf}
@@ -17,7 +16,7 @@ use Rattle.rules.specs.Changes.{left}
 use Rattle.rules.specs.Calls.{settled}
 use Rattle.laws.specs.Space.{Good}
 use Rattle.laws.specs.Resize.{Ran}
-use Rattle.laws.specs.OwnerTable.{ran-data, setAll, setAll-front, kept-table, ran-table}
+use Rattle.laws.specs.OwnerTable.{ran-data, setAll, setAll-front, kept-table, ran-table, table-past}
 use Rattle.frames.specs.Kept.{diskSize-kept, systemOwns-kept}
 use Rattle.changes.specs.Image.{SameDisk}
 use Rattle.changed.specs.Leaves.{Leaves}
@@ -51,15 +50,11 @@ shows-ran img s t g {to = to} {ys = ys} ran apart b r p =
 pub shows-kept : (img : List ℕ) (s t : Anodes) → ((x : ℕ) → ownerHead t x ≡ ownerHead s x) → (b r : List ℕ) → Shows img s b r → Shows img t b r
 shows-kept img s t same b r p = p ∙ ap (λ (l : List ℕ). l ++ r) (sym (kept-table img img refl refl s t same))
 
--- what stands behind a list
-pub drop-front : (l r : List ℕ) → drop (length l) (l ++ r) ≡ r
-drop-front l r = drop-at l r (length l) refl
-
 -- a done change leaves the tables of the new image
 pub leaves-done : (img j : List ℕ) → SameDisk img j → (b a b′ a′ : List ℕ) → ((r : List ℕ) → Shows img (anodesOf img) b r → Shows img (anodesOf j) b′ r)
     → a′ ≡ anodeTable (anodesOf j) ++ drop limit a → Leaves 0 img b a j b′ a′ (left 0 j)
 unfolding settled blocksLeft anodesLeft tableLeft anodeTable
 leaves-done img j d b a b′ a′ shown heads b₀ a₀ p q =
     let size = diskSize-kept (d .kept) in
-    let past : drop limit a ≡ drop limit a₀ = ap (drop limit) q ∙ drop-at (anodeTable (anodesOf img)) (drop limit a₀) limit (length-listed (anodeEntry (anodesOf img)) 0 limit) in
+    let past : drop limit a ≡ drop limit a₀ = ap (drop limit) q ∙ table-past (anodeEntry (anodesOf img)) limit (drop limit a₀) in
     rw (shown (drop (diskSize img) b₀) p, heads, past, size, kept-table img j size (systemOwns-kept (d .kept) refl) (anodesOf j) (anodesOf j) (λ x. refl))

@@ -1,17 +1,19 @@
--- What the check answers for an accepted image lent other tables, and that each call's own refusals come after the damage numbers.
-use Prim.Native.Nat.{ℕ, _≤_}
-use mathlib.Core.Path.{_≡_, refl}
+-- What the check answers for an accepted image lent other tables; each call's own refusals, row by row, what a 0 says, and that they come after the damage numbers.
+use Prim.Native.Nat.{ℕ, zero, suc, _+_, _≤_}
+use mathlib.Core.Path.{_≡_, refl, sym, _∙_}
 use mathlib.Core.Logic.{_⊎_, inl, inr}
 use mathlib.Core.Bool.{Bool, true, false, not}
 use mathlib.Core.List.{List}
+use mathlib.Core.Option.{Option, some}
 use native.Mathlib.Omega.{arith}
-use borrow.Author.Tests.{le-ltb}
-use Rattle.rules.specs.Counting.{_if_else_}
+use borrow.Author.Tests.{le-ltb, ltb-false}
+use Rattle.rules.specs.Counting.{_if_else_, firstOf}
 use Rattle.rules.specs.Anodes.{Anodes, limit}
+use Rattle.rules.specs.Walk.{Entered}
 use Rattle.rules.specs.Accepted.{diskSize, shortTables, checkAnswer}
 use Rattle.rules.specs.Lookup.{noDirectory, entryNamed, isThere, namesDir, fullDir, pastEnd, nth, entriesOf}
 use Rattle.rules.specs.Calls.{spanAnswer, resizeAnswer, removeAnswer, makeAnswer, wrongEntry, listAnswer}
-use Rattle.laws.specs.Acceptance.{passed-of}
+use Rattle.laws.specs.Acceptance.{if-zero, firstOf-zero, firstOf-some, passed-of}
 
 -- 0, or a number after the damage numbers
 abbrev pub Late : ℕ → Type 0
@@ -37,7 +39,77 @@ module _ (img : List ℕ) where
       go true q = inr (rw (passed-of img (diskSize img) limit e .size-right, q))
       go false q = inl (with-tables (diskSize img) limit e blocks anodes q)
 
--- a row of a table of such refusals
+-- ---- a table of refusals is a shorter one with a row behind it
+
+-- 21 where the directory is none, 22 where there is no entry
+abbrev pub searchNumber : Bool → Option Entered → ℕ
+searchNumber missing o = 21 if missing else 22 if not (isThere o) else 0
+
+row-first : (n : ℕ) (t : Bool) (a b c : ℕ) → 1 ≤ n → c ≡ firstOf a b → (n if t else c) ≡ firstOf (n if t else a) b
+row-first n true a b c l e = sym (firstOf-some n b n refl l)
+row-first n false a b c l e = e
+
+both-passed : (a c n : ℕ) (t : Bool) → c ≡ firstOf a (n if t else 0) → 1 ≤ n → c ≡ 0 → (a ≡ 0) × (t ≡ false)
+both-passed a c n t is l e =
+    let z = firstOf-zero a (n if t else 0) (sym is ∙ e) in
+    (z .0, if-zero n t 0 (omega arith) (z .1) .0)
+
+search-reached : (missing : Bool) (o : Option Entered) → searchNumber missing o ≡ 0 → missing ≡ false
+search-reached missing o e = if-zero 21 missing (22 if not (isThere o) else 0) (omega arith) e .0
+
+module _ (img : List ℕ) (s : Anodes) (h : ℕ) where
+  -- a list is a search
+  pub list-search : (n : ℕ) → listAnswer img s h n ≡ searchNumber (noDirectory img s h) (nth (entriesOf img s h) n)
+  unfolding listAnswer
+  list-search n = refl
+
+  -- the directory of a listed entry is reached
+  pub list-reached : (n : ℕ) → listAnswer img s h n ≡ 0 → noDirectory img s h ≡ false
+  list-reached n e = search-reached (noDirectory img s h) (nth (entriesOf img s h) n) (sym (list-search n) ∙ e)
+
+  module _ (name : List ℕ) where
+    abbrev found : Option Entered
+    found = entryNamed img s h name
+
+    -- 24 behind 21 and 22
+    pub file-row : resizeAnswer img s h name ≡ firstOf (searchNumber (noDirectory img s h) found) (24 if namesDir found else 0)
+    unfolding resizeAnswer firstOf
+    file-row =
+        row-first 21 (noDirectory img s h) _ _ _ (omega arith) (row-first 22 (not (isThere found)) 0 _ _ (omega arith) refl)
+
+    -- 26 behind those of a file
+    pub span-row : (offset len : ℕ) → spanAnswer img s h name offset len ≡ firstOf (resizeAnswer img s h name) (26 if pastEnd found offset len else 0)
+    unfolding spanAnswer resizeAnswer firstOf
+    span-row offset len =
+        row-first 21 (noDirectory img s h) _ _ _ (omega arith)
+        (row-first 22 (not (isThere found)) _ _ _ (omega arith) (row-first 24 (namesDir found) 0 _ _ (omega arith) refl))
+
+    -- 25 behind 21 and 22
+    pub full-row : removeAnswer img s h name ≡ firstOf (searchNumber (noDirectory img s h) found) (25 if fullDir img s found else 0)
+    unfolding removeAnswer firstOf
+    full-row =
+        row-first 21 (noDirectory img s h) _ _ _ (omega arith) (row-first 22 (not (isThere found)) 0 _ _ (omega arith) refl)
+
+    -- a found file is no directory, and its own directory is reached
+    pub file-found : (x : Entered) → found ≡ some x → resizeAnswer img s h name ≡ 0 → (noDirectory img s h ≡ false) × (x .dir ≡ false)
+    file-found x is e =
+        let z = both-passed (searchNumber (noDirectory img s h) found) (resizeAnswer img s h name) 24 (namesDir found) file-row (omega arith) e in
+        (search-reached (noDirectory img s h) found (z .0), rw is at (z .1))
+
+    -- a found span is a file's, and ends within its size
+    pub span-found : (x : Entered) → found ≡ some x → (offset len : ℕ) → spanAnswer img s h name offset len ≡ 0 → (resizeAnswer img s h name ≡ 0) × (offset + len ≤ x .size)
+    span-found x is offset len e =
+        let z = both-passed (resizeAnswer img s h name) (spanAnswer img s h name offset len) 26 (pastEnd found offset len) (span-row offset len) (omega arith) e in
+        (z .0, ltb-false (x .size) (offset + len) (rw is at (z .1)))
+
+    -- an entry that may go is no full directory's, and its own directory is reached
+    pub removable-found : (x : Entered) → found ≡ some x → removeAnswer img s h name ≡ 0 → (noDirectory img s h ≡ false) × (fullDir img s (some x) ≡ false)
+    removable-found x is e =
+        let z = both-passed (searchNumber (noDirectory img s h) found) (removeAnswer img s h name) 25 (fullDir img s found) full-row (omega arith) e in
+        (search-reached (noDirectory img s h) found (z .0), rw is at (z .1))
+
+-- ---- each call's own refusals come after the damage numbers
+
 if-late : (n : ℕ) (t : Bool) (rest : ℕ) → 17 ≤ n → Late rest → Late (n if t else rest)
 if-late n true rest l h = inr l
 if-late n false rest l h = h
@@ -45,34 +117,32 @@ if-late n false rest l h = h
 none-late : Late 0
 none-late = inl refl
 
-module _ (img : List ℕ) (s : Anodes) (h : ℕ) where
-  pub span-late : (name : List ℕ) (offset len : ℕ) → Late (spanAnswer img s h name offset len)
-  unfolding spanAnswer
-  span-late name offset len =
-      if-late 21 (noDirectory img s h) _ (omega arith)
-      (if-late 22 (not (isThere (entryNamed img s h name))) _ (omega arith)
-      (if-late 24 (namesDir (entryNamed img s h name)) _ (omega arith)
-      (if-late 26 (pastEnd (entryNamed img s h name) offset len) 0 (omega arith) none-late)))
+-- a table with a late row behind it
+behind-late : (a c n : ℕ) (t : Bool) → c ≡ firstOf a (n if t else 0) → 17 ≤ n → Late a → Late c
+unfolding firstOf
+behind-late zero c n t is l h = rw is (if-late n t 0 l none-late)
+behind-late (suc a) c n t is l h = rw is h
 
+search-late : (missing : Bool) (o : Option Entered) → Late (searchNumber missing o)
+search-late missing o = if-late 21 missing _ (omega arith) (if-late 22 (not (isThere o)) 0 (omega arith) none-late)
+
+module _ (img : List ℕ) (s : Anodes) (h : ℕ) where
   pub list-late : (n : ℕ) → Late (listAnswer img s h n)
-  unfolding listAnswer
-  list-late n =
-      if-late 21 (noDirectory img s h) _ (omega arith)
-      (if-late 22 (not (isThere (nth (entriesOf img s h) n))) 0 (omega arith) none-late)
+  list-late n = rw (list-search img s h n) (search-late (noDirectory img s h) (nth (entriesOf img s h) n))
 
   pub resize-late : (name : List ℕ) → Late (resizeAnswer img s h name)
-  unfolding resizeAnswer
   resize-late name =
-      if-late 21 (noDirectory img s h) _ (omega arith)
-      (if-late 22 (not (isThere (entryNamed img s h name))) _ (omega arith)
-      (if-late 24 (namesDir (entryNamed img s h name)) 0 (omega arith) none-late))
+      behind-late (searchNumber (noDirectory img s h) (entryNamed img s h name)) (resizeAnswer img s h name) 24 (namesDir (entryNamed img s h name)) (file-row img s h name) (omega arith)
+      (search-late (noDirectory img s h) (entryNamed img s h name))
+
+  pub span-late : (name : List ℕ) (offset len : ℕ) → Late (spanAnswer img s h name offset len)
+  span-late name offset len =
+      behind-late (resizeAnswer img s h name) (spanAnswer img s h name offset len) 26 (pastEnd (entryNamed img s h name) offset len) (span-row img s h name offset len) (omega arith) (resize-late name)
 
   pub remove-late : (name : List ℕ) → Late (removeAnswer img s h name)
-  unfolding removeAnswer
   remove-late name =
-      if-late 21 (noDirectory img s h) _ (omega arith)
-      (if-late 22 (not (isThere (entryNamed img s h name))) _ (omega arith)
-      (if-late 25 (fullDir img s (entryNamed img s h name)) 0 (omega arith) none-late))
+      behind-late (searchNumber (noDirectory img s h) (entryNamed img s h name)) (removeAnswer img s h name) 25 (fullDir img s (entryNamed img s h name)) (full-row img s h name) (omega arith)
+      (search-late (noDirectory img s h) (entryNamed img s h name))
 
   pub make-late : (type : ℕ) (name comment : List ℕ) → Late (makeAnswer img s h type name comment)
   unfolding makeAnswer

@@ -1,5 +1,5 @@
 -- What an open image says of its reached directories, and what a search answers.
-use Prim.Native.Nat.{ℕ, zero, suc, _+_, _≤_, _<_}
+use Prim.Native.Nat.{ℕ, _≤_, _<_}
 use mathlib.Core.Path.{_≡_, refl, sym, ap, _∙_}
 use mathlib.Core.Bool.{Bool, true, false, cond, not}
 use mathlib.Core.List.{List, [], map}
@@ -7,7 +7,7 @@ use mathlib.Core.Option.{Option, some}
 use native.Mathlib.Omega.{arith}
 use lib.Dec.{eqb, ltb}
 use lib.ListN.{getD}
-use borrow.Author.Tests.{lt-ltb, ltb-false}
+use borrow.Author.Tests.{lt-ltb}
 use Rattle.disk.specs.declared.Refusal.{Refusal}
 use Rattle.disk.specs.Refusals.{numberOf}
 use Rattle.disk.proofs.Laws.{number-some}
@@ -15,12 +15,12 @@ use Rattle.rules.specs.Counting.{_if_else_, firstOf, times, anyIn}
 use Rattle.rules.specs.Anodes.{Anodes, limit, anodesOf}
 use Rattle.rules.specs.Walk.{Entered, Dir}
 use Rattle.rules.specs.Accepted.{diskSize}
-use Rattle.rules.specs.Lookup.{noDirectory, entriesOf, entryNamed, nth, isThere, namesDir, notEmpty, fullDir, pastEnd}
-use Rattle.rules.specs.Calls.{spanAnswer, resizeAnswer, removeAnswer, listAnswer}
+use Rattle.rules.specs.Lookup.{noDirectory, entriesOf, nth, isThere, notEmpty, fullDir}
 use Rattle.anodes.specs.Loaded.{anodesFrom}
 use Rattle.tree.specs.Steps.{queueOf}
-use Rattle.laws.specs.Acceptance.{if-zero, firstOf-zero}
+use Rattle.laws.specs.Acceptance.{firstOf-some, firstOf-none}
 use Rattle.laws.specs.OwnerTable.{anodeEntry-is}
+use Rattle.changes.specs.Answers.{searchNumber}
 use Rattle.changes.specs.Image.{accepted-whole}
 use Rattle.changes.specs.Reached.{reached-head, reached-unbroken}
 use Rattle.lookup.specs.declared.EntryAt.{EntryAt}
@@ -31,7 +31,7 @@ use Rattle.lookup.specs.Queued.{placeOf}
 use Rattle.lookup.proofs.Queue.{place-found, place-times}
 use Rattle.find.specs.Open.{Open}
 use Rattle.find.specs.declared.Search.{Search}
-use Rattle.find.specs.Found.{searchNumber, Finds}
+use Rattle.find.specs.Found.{Finds}
 
 module _ {img counts firsts nexts queue parents heads : List ℕ} {dirs : ℕ} (o : Open img counts firsts nexts queue parents heads dirs) where
   -- the test of 21 is the search in the queue
@@ -80,93 +80,21 @@ search-there o x is = rw is
 
 -- ---- a table of refusals with one row more
 
--- the first number where it refuses, and the second after a 0
-pub first-zero : (a b : ℕ) → a ≡ 0 → firstOf a b ≡ b
-unfolding firstOf
-first-zero a b e = rw e
-
-pub first-some : (a b k : ℕ) → a ≡ k → 1 ≤ k → firstOf a b ≡ k
-unfolding firstOf
-first-some zero b k e l = absurd (omega arith)
-first-some (suc a) b k e l = e
-
-row-first : (n : ℕ) (t : Bool) (a b c : ℕ) → 1 ≤ n → c ≡ firstOf a b → (n if t else c) ≡ firstOf (n if t else a) b
-row-first n true a b c l e = sym (first-some n b n refl l)
-row-first n false a b c l e = e
-
 -- the number of a refusal is not 0
 pub refused-some : (r : Refusal) (k : ℕ) → k ≡ numberOf r → 1 ≤ k
 refused-some r k e = omega (arith, e, number-some r)
 
 -- what the table refused stays refused
 pub refused-before : (a b c : ℕ) → c ≡ firstOf a b → (r : Refusal) → a ≡ numberOf r → c ≡ numberOf r
-refused-before a b c is r e = is ∙ first-some a b (numberOf r) e (number-some r)
+refused-before a b c is r e = is ∙ firstOf-some a b (numberOf r) e (number-some r)
 
 -- what it passed, the row behind it refuses or passes by the test of the entry that was found
 module _ (test : Option Entered → Bool) (o : Option Entered) (x : Entered) (found : o ≡ some x) (a c n : ℕ) (is : c ≡ firstOf a (n if test o else 0)) (passed : a ≡ 0) (r : Bool) (tested : test (some x) ≡ r) where
   row : c ≡ (n if r else 0)
-  row = is ∙ first-zero a (n if test o else 0) passed ∙ ap (λ (b : Bool). n if b else 0) (ap test found ∙ tested)
+  row = is ∙ firstOf-none a (n if test o else 0) passed ∙ ap (λ (b : Bool). n if b else 0) (ap test found ∙ tested)
 
   pub refused-now : r ≡ true → c ≡ n
   refused-now e = row ∙ ap (λ (b : Bool). n if b else 0) e
 
   pub passed-now : r ≡ false → c ≡ 0
   passed-now e = row ∙ ap (λ (b : Bool). n if b else 0) e
-
-both-passed : (a c n : ℕ) (t : Bool) → c ≡ firstOf a (n if t else 0) → 1 ≤ n → c ≡ 0 → (a ≡ 0) × (t ≡ false)
-both-passed a c n t is l e =
-    let z = firstOf-zero a (n if t else 0) (sym is ∙ e) in
-    (z .0, if-zero n t 0 (omega arith) (z .1) .0)
-
-search-reached : (missing : Bool) (o : Option Entered) → searchNumber missing o ≡ 0 → missing ≡ false
-search-reached missing o e = if-zero 21 missing (22 if not (isThere o) else 0) (omega arith) e .0
-
-module _ (img : List ℕ) (s : Anodes) (h : ℕ) where
-  -- a list is a search
-  pub list-search : (n : ℕ) → listAnswer img s h n ≡ searchNumber (noDirectory img s h) (nth (entriesOf img s h) n)
-  unfolding listAnswer
-  list-search n = refl
-
-  -- the directory of a listed entry is reached
-  pub list-reached : (n : ℕ) → listAnswer img s h n ≡ 0 → noDirectory img s h ≡ false
-  list-reached n e = search-reached (noDirectory img s h) (nth (entriesOf img s h) n) (sym (list-search n) ∙ e)
-
-  module _ (name : List ℕ) where
-    abbrev found : Option Entered
-    found = entryNamed img s h name
-
-    -- 24 behind 21 and 22
-    pub file-row : resizeAnswer img s h name ≡ firstOf (searchNumber (noDirectory img s h) found) (24 if namesDir found else 0)
-    unfolding resizeAnswer firstOf
-    file-row =
-        row-first 21 (noDirectory img s h) _ _ _ (omega arith) (row-first 22 (not (isThere found)) 0 _ _ (omega arith) refl)
-
-    -- 26 behind those of a file
-    pub span-row : (offset len : ℕ) → spanAnswer img s h name offset len ≡ firstOf (resizeAnswer img s h name) (26 if pastEnd found offset len else 0)
-    unfolding spanAnswer resizeAnswer firstOf
-    span-row offset len =
-        row-first 21 (noDirectory img s h) _ _ _ (omega arith)
-        (row-first 22 (not (isThere found)) _ _ _ (omega arith) (row-first 24 (namesDir found) 0 _ _ (omega arith) refl))
-
-    -- 25 behind 21 and 22
-    pub full-row : removeAnswer img s h name ≡ firstOf (searchNumber (noDirectory img s h) found) (25 if fullDir img s found else 0)
-    unfolding removeAnswer firstOf
-    full-row =
-        row-first 21 (noDirectory img s h) _ _ _ (omega arith) (row-first 22 (not (isThere found)) 0 _ _ (omega arith) refl)
-
-    -- a found file is no directory, and its own directory is reached
-    pub file-found : (x : Entered) → found ≡ some x → resizeAnswer img s h name ≡ 0 → (noDirectory img s h ≡ false) × (x .dir ≡ false)
-    file-found x is e =
-        let z = both-passed (searchNumber (noDirectory img s h) found) (resizeAnswer img s h name) 24 (namesDir found) file-row (omega arith) e in
-        (search-reached (noDirectory img s h) found (z .0), rw is at (z .1))
-
-    -- a found span is a file's, and ends within its size
-    pub span-found : (x : Entered) → found ≡ some x → (offset len : ℕ) → spanAnswer img s h name offset len ≡ 0 → (resizeAnswer img s h name ≡ 0) × (offset + len ≤ x .size)
-    span-found x is offset len e =
-        let z = both-passed (resizeAnswer img s h name) (spanAnswer img s h name offset len) 26 (pastEnd found offset len) (span-row offset len) (omega arith) e in
-        (z .0, ltb-false (x .size) (offset + len) (rw is at (z .1)))
-
-    -- the directory of an entry that may go is reached
-    pub removable-reached : removeAnswer img s h name ≡ 0 → noDirectory img s h ≡ false
-    removable-reached e =
-        search-reached (noDirectory img s h) found (both-passed (searchNumber (noDirectory img s h) found) (removeAnswer img s h name) 25 (fullDir img s found) full-row (omega arith) e .0)

@@ -1,19 +1,12 @@
 -- The answer of a search: the entry, or the number of its refusal.
 use Prim.Native.Nat.{ℕ}
 use mathlib.Core.Path.{_≡_}
-use mathlib.Core.Bool.{Bool, not}
 use mathlib.Core.Option.{Option, some}
 use Rattle.disk.specs.Refusals.{numberOf}
-use Rattle.rules.specs.Counting.{_if_else_}
 use Rattle.rules.specs.Walk.{Entered}
-use Rattle.rules.specs.Lookup.{isThere}
 use Rattle.lookup.specs.Answers.{entered}
 use Rattle.find.specs.declared.Search.{Search}
 use Rattle.find.specs.declared.Search.the-variants.{Found, Refused}
-
--- 21 where the directory is none, 22 where there is no entry
-abbrev pub searchNumber : Bool → Option Entered → ℕ
-searchNumber missing o = 21 if missing else 22 if not (isThere o) else 0
 
 -- r is what a search answers: the entry where its table of refusals gives 0, else the refusal of the number that the table gives
 abbrev pub Finds : Search → ℕ → Option Entered → Type 0

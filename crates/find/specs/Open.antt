@@ -19,8 +19,6 @@ pub record Open (img counts firsts nexts queue parents heads : List ℕ) (dirs :
   pub counts-long : length counts ≡ limit
   pub firsts-long : length firsts ≡ limit
   pub nexts-long : length nexts ≡ limit
-  pub queue-long : length queue ≡ limit
-  pub parents-long : length parents ≡ limit
 
 -- where the counts and the parents are not lent on
 abbrev pub OpenFor : List ℕ → List ℕ → List ℕ → List ℕ → List ℕ → ℕ → Type 0

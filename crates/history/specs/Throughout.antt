@@ -14,7 +14,7 @@ use Rattle.rules.specs.Counting.{_if_else_, firstOf}
 use Rattle.rules.specs.Anodes.{Anodes, limit, anodesOf}
 use Rattle.rules.specs.Walk.{Entered}
 use Rattle.rules.specs.Accepted.{diskSize, wrongSize, checkAnswer}
-use Rattle.rules.specs.Lookup.{noDirectory, entryNamed, isThere, namesDir, notEmpty, fullDir}
+use Rattle.rules.specs.Lookup.{noDirectory, entryNamed, notEmpty}
 use Rattle.rules.specs.Format.{wrongFormat, formatAnswer, formatted}
 use Rattle.rules.specs.Changes.{Left, left, NewEntry, resized, made, written, removed}
 use Rattle.rules.specs.Calls.{checkedFirst, settled, checkOutcome, summaryOutcome, formatOutcome, formatLeft, readAnswer, readOutcome, spanAnswer, listAnswered, listOutcome, makeOutcome, makeAnswer, madeAfter, wrongEntry, resizeOutcome, resizeAnswer, writeOutcome, removeOutcome, removeAnswer, changeNamed}
@@ -22,7 +22,7 @@ use Rattle.rules.specs.History.{Call, check, summary, format, read, list, make,
 use Rattle.counting.specs.Laws.{neither}
 use Rattle.laws.specs.Acceptance.{if-zero, firstOf-zero}
 use Rattle.format_laws.specs.Accepted.{formatted-accepted}
-use Rattle.changes.specs.Answers.{Late, own-tables, any-tables, span-late, list-late, resize-late, remove-late, make-late}
+use Rattle.changes.specs.Answers.{Late, own-tables, any-tables, span-late, list-late, resize-late, remove-late, make-late, file-found, span-found, removable-found}
 use Rattle.changes.specs.Reached.{named-member}
 use Rattle.changes.specs.Write.{write-accepted}
 use Rattle.changes.specs.Resize.{resize-accepted, resize-answers}
@@ -97,53 +97,42 @@ module _ (img : List ℕ) (ok : checkAnswer img (diskSize img) limit ≡ 0) wher
   named-kept zero h none f k = stays 22 (λ d. omega (arith, d .1))
   named-kept zero h (some e) f k = k refl e refl
 
-  -- a change of a named entry that is not refused: past 21 and 22 comes its own row
-  named-zero : (first h : ℕ) (name : List ℕ) (rest : ℕ) → firstOf first (21 if noDirectory img s h else 22 if not (isThere (entryNamed img s h name)) else rest) ≡ 0 → (noDirectory img s h ≡ false) × (rest ≡ 0)
-  named-zero first h name rest z =
-      let c = firstOf-zero first (21 if noDirectory img s h else 22 if not (isThere (entryNamed img s h name)) else rest) z in
-      let r = if-zero 21 (noDirectory img s h) _ (omega arith) (c .1) in
-      (r .0, if-zero 22 (not (isThere (entryNamed img s h name))) _ (omega arith) (r .1) .1)
-
   write-kept : (blocks anodes : List ℕ) (h : ℕ) (name : List ℕ) (offset : ℕ) (bytes : List ℕ) →
       let l = changeNamed (readAnswer img blocks anodes h name offset (length bytes)) img (entryNamed img s h name) (λ e. left 0 (written img s e offset bytes)) in Kept (l .answer) (l .image)
-  unfolding readAnswer spanAnswer
+  unfolding readAnswer
   write-kept blocks anodes h name offset bytes =
       named-kept (readAnswer img blocks anodes h name offset (length bytes)) (read-kept blocks anodes h name offset (length bytes) .harmless) (entryNamed img s h name) (λ e. left 0 (written img s e offset bytes))
       (λ z e q.
-      let r = named-zero (checkAnswer img (length blocks) (length anodes)) h name _ z in
-      let f = if-zero 24 (namesDir (entryNamed img s h name)) _ (omega arith) (r .1) in
+      let c = firstOf-zero (checkAnswer img (length blocks) (length anodes)) (spanAnswer img s h name offset (length bytes)) z in
+      let f = file-found img s h name e q (span-found img s h name e q offset (length bytes) (c .1) .0) in
       record {
-        accepted = own-tables _ (diskSize img) limit (write-accepted img (diskSize img) limit ok h (r .0) e (named-member img s h name e q) (rw q at (f .0)) offset bytes);
+        accepted = own-tables _ (diskSize img) limit (write-accepted img (diskSize img) limit ok h (f .0) e (named-member img s h name e q) (f .1) offset bytes);
         harmless = λ d. omega (arith, d .0);
       })
 
   resize-kept : (blocks anodes : List ℕ) (h : ℕ) (name : List ℕ) (new : ℕ) →
       let l = changeNamed (checkedFirst img blocks anodes (resizeAnswer img s h name)) img (entryNamed img s h name) (λ e. resized img s e new) in Kept (l .answer) (l .image)
-  unfolding resizeAnswer
   resize-kept blocks anodes h name new =
       named-kept (checkedFirst img blocks anodes (resizeAnswer img s h name)) (answers (length blocks) (length anodes) _ (resize-late img s h name)) (entryNamed img s h name) (λ e. resized img s e new)
       (λ z e q.
-      let r = named-zero (checkAnswer img (length blocks) (length anodes)) h name _ z in
-      let f = if-zero 24 (namesDir (entryNamed img s h name)) _ (omega arith) (r .1) in
+      let f = file-found img s h name e q (firstOf-zero (checkAnswer img (length blocks) (length anodes)) (resizeAnswer img s h name) z .1) in
       let m = named-member img s h name e q in
       record {
-        accepted = own-tables _ (diskSize img) limit (resize-accepted img (diskSize img) limit ok h (r .0) e m (rw q at (f .0)) new);
-        harmless = steps-harmless _ (resize-answers img (diskSize img) limit ok h (r .0) e m new);
+        accepted = own-tables _ (diskSize img) limit (resize-accepted img (diskSize img) limit ok h (f .0) e m (f .1) new);
+        harmless = steps-harmless _ (resize-answers img (diskSize img) limit ok h (f .0) e m new);
       })
 
   remove-kept : (blocks anodes : List ℕ) (h : ℕ) (name : List ℕ) →
       let l = changeNamed (checkedFirst img blocks anodes (removeAnswer img s h name)) img (entryNamed img s h name) (λ e. removed img s e) in Kept (l .answer) (l .image)
-  unfolding removeAnswer notEmpty
+  unfolding notEmpty
   remove-kept blocks anodes h name =
       named-kept (checkedFirst img blocks anodes (removeAnswer img s h name)) (answers (length blocks) (length anodes) _ (remove-late img s h name)) (entryNamed img s h name) (λ e. removed img s e)
       (λ z e q.
-      let r = named-zero (checkAnswer img (length blocks) (length anodes)) h name _ z in
-      let f = if-zero 25 (fullDir img s (entryNamed img s h name)) _ (omega arith) (r .1) in
+      let f = removable-found img s h name e q (firstOf-zero (checkAnswer img (length blocks) (length anodes)) (removeAnswer img s h name) z .1) in
       let m = named-member img s h name e q in
-      let full : fullDir img s (some e) ≡ false = rw q at (f .0) in
       record {
-        accepted = own-tables _ (diskSize img) limit (remove-accepted img (diskSize img) limit ok h (r .0) e m (λ d. rw d at full));
-        harmless = steps-harmless _ (elim (remove-answers img (diskSize img) limit ok h (r .0) e m) [ inl z ↦ inl z | inr k ↦ inr (inr k) ]);
+        accepted = own-tables _ (diskSize img) limit (remove-accepted img (diskSize img) limit ok h (f .0) e m (λ d. rw d at (f .1)));
+        harmless = steps-harmless _ (elim (remove-answers img (diskSize img) limit ok h (f .0) e m) [ inl z ↦ inl z | inr k ↦ inr (inr k) ]);
       })
 
   made-kept : (n h : ℕ) → Harmless n → (new : NewEntry) → (n ≡ 0 → Kept (made img s h new .answer) (made img s h new .image)) →

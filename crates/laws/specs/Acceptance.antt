@@ -50,10 +50,10 @@ unfolding firstOf
 firstOf-zero zero b e = (refl, e)
 firstOf-zero (suc a) b e = absurd (omega arith)
 
-pub firstOf-some : (a b : ℕ) → 1 ≤ a → firstOf a b ≡ a
+pub firstOf-some : (a b k : ℕ) → a ≡ k → 1 ≤ k → firstOf a b ≡ k
 unfolding firstOf
-firstOf-some zero b l = absurd (omega arith)
-firstOf-some (suc a) b l = refl
+firstOf-some zero b k e l = absurd (omega arith)
+firstOf-some (suc a) b k e l = e
 
 pub firstOf-none : (a b : ℕ) → a ≡ 0 → firstOf a b ≡ b
 unfolding firstOf

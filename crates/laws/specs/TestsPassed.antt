@@ -77,8 +77,7 @@ module _ (s : Anodes) (fixed : wrongFixed s ≡ false) where
       let used = neither (eqb (s .block 2) 0) (eqb (s .block 5) 0) (rest .1) in
       let zeros = and-both (eqb (s .count 0) 0) _ (not-false _ (all .0)) in
       let more = and-both (eqb (s .block 0) 65535) (eqb (s .next 0) 0) (zeros .1) in
-      let ones = and-both (eqb (s .count 1) 0) (eqb (s .block 1) 65535) (not-false _ (rest .0)) in
-      (
+      let ones = and-both (eqb (s .count 1) 0) (eqb (s .block 1) 65535) (not-false _ (rest .0)) in (
         record {
           count-0 = eqb-true _ _ (zeros .0);
           block-0 = eqb-true _ _ (more .0);

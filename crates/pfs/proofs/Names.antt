@@ -16,7 +16,7 @@ use Rattle.rules.specs.Lookup.{entriesOf, nameAt, nth}
 use Rattle.rules.specs.Calls.{Outcome, outcomeOf, settled, fieldList, fieldsAt, fieldsListed, nameListed, listAnswer, listAnswered, listOutcome}
 use Rattle.laws.specs.Acceptance.{firstOf-zero}
 use Rattle.changes.specs.Reached.{entry-facts, nth-member}
-use Rattle.find.proofs.Laws.{list-reached}
+use Rattle.changes.specs.Answers.{list-reached}
 use Rattle.reading.proofs.Laws.{take-within}
 use Rattle.pfs.specs.Listed.{nameGiven}
 

@@ -283,7 +283,7 @@ module _ (counts nexts t : List ℕ) (s : Anodes) (table : HeadTable t s) (past 
     tree-halted r e = go (walkOf img s) refl (rw e at run-match) where
       go : (w : Walk) → walkOf img s ≡ w → WalkMatch (itemsOf img s) 0 [] [] (halted r) w
           → firstOf (faultIn (walkOf img s)) (16 if anyBelow (unnamedChain img s) limit else 0) ≡ r
-      go (fault m) w h = rw (w, ← h .0) (firstOf-some r _ (h .1))
+      go (fault m) w h = rw (w, ← h .0) (firstOf-some r _ r refl (h .1))
       go (done ds) w h = absurd h
 
     module _ (m : List ℕ) (f : ℕ) (all : List Dir) (e : runFrom (itemsWith (itemIn counts nexts t) img s) limit (root ∷ []) marks 0 [] ≡ ended m f all) where

@@ -1,6 +1,5 @@
 use Rattle.changing.proofs.Laws.{leaves-unchanged, leaves-named, loaded-of}
-use Rattle.find.proofs.Laws.{file-found}
-use Rattle.changes.specs.Answers.{resize-late}
+use Rattle.changes.specs.Answers.{resize-late, file-found}
 use Rattle.changes.specs.Reached.{named-member}
 use borrow.Author.Needs.{needs}
 use Rattle.changing.proofs.resize_named.Statement.{statement}

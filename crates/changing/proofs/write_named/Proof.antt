@@ -1,5 +1,5 @@
 use Rattle.changing.proofs.Laws.{chain-inside, write-refused, write-done}
-use Rattle.find.proofs.Laws.{file-found, span-found}
+use Rattle.changes.specs.Answers.{file-found, span-found}
 use Rattle.changes.specs.Reached.{named-member}
 use Rattle.lookup.specs.Answers.{entered}
 use Rattle.rules.specs.Changes.{written}

@@ -1,7 +1,8 @@
 use mathlib.Core.Path.{_∙_}
 use Rattle.rules.specs.Lookup.{entriesOf, nth}
 use Rattle.rules.specs.Anodes.{Anodes}
-use Rattle.find.proofs.Laws.{reached-queued, own-heads, open-unbroken, search-answered, list-search}
+use Rattle.changes.specs.Answers.{list-search}
+use Rattle.find.proofs.Laws.{reached-queued, own-heads, open-unbroken, search-answered}
 use borrow.Author.Needs.{needs}
 use Rattle.find.proofs.find_nth.Statement.{statement}
 use Rattle.find.proofs.find_nth.Tie as tie

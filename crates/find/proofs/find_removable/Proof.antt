@@ -1,4 +1,5 @@
-use Rattle.find.proofs.Laws.{full-by, full-row, refused-before, refused-now, passed-now}
+use Rattle.changes.specs.Answers.{full-row}
+use Rattle.find.proofs.Laws.{full-by, refused-before, refused-now, passed-now}
 use Rattle.rules.specs.Anodes.{anodesOf}
 use Rattle.rules.specs.Lookup.{fullDir}
 use Rattle.lookup.specs.Answers.{entered}

@@ -1,4 +1,5 @@
-use Rattle.find.proofs.Laws.{span-row, refused-before, refused-now, passed-now}
+use Rattle.changes.specs.Answers.{span-row}
+use Rattle.find.proofs.Laws.{refused-before, refused-now, passed-now}
 use Rattle.rules.specs.Lookup.{pastEnd}
 use mathlib.Core.Path.{sym}
 use borrow.Author.Needs.{needs}

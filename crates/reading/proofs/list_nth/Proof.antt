@@ -1,4 +1,5 @@
-use Rattle.find.proofs.Laws.{refused-some, list-reached}
+use Rattle.changes.specs.Answers.{list-reached}
+use Rattle.find.proofs.Laws.{refused-some}
 use mathlib.Core.Path.{sym, _∙_}
 use Rattle.changes.specs.Reached.{nth-member}
 use Rattle.reading.proofs.Laws.{place-low, fields-refused, name-refused}

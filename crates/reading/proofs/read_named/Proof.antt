@@ -1,5 +1,6 @@
 use Rattle.reading.proofs.Laws.{file-long, bytes-refused, bytes-done}
-use Rattle.find.proofs.Laws.{refused-some, file-found, span-found}
+use Rattle.changes.specs.Answers.{file-found, span-found}
+use Rattle.find.proofs.Laws.{refused-some}
 use Rattle.changes.specs.Reached.{named-member}
 use native.Mathlib.Omega.{arith}
 use mathlib.Core.Path.{sym, _∙_}
