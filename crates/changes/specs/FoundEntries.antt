@@ -17,12 +17,13 @@ use Rattle.directory.specs.declared.Entry.{Entry}
 use Rattle.directory.specs.declared.Kind.{Kind}
 use Rattle.directory.specs.declared.Walked.{Walked}
 use Rattle.directory.specs.declared.Walked.the-variants.{Found, End, Fault}
-use Rattle.directory.specs.Entries.{directoryHeadIn, kindRead, goodName, entryLength, nameLength, commentLength, nameIn, entryShaped, entryIn, walkedKind, walkedAt, isDir}
+use Rattle.directory.specs.Entries.{directoryHeadIn, kindRead, goodName, entryLength, nameLength, commentLength, nameIn, entryShaped, entryIn, walkedKind, walkedAt}
 use Rattle.directory.proofs.Laws.{FoundAt, found-at, end-at}
 use Rattle.rules.specs.Counting.{anyIn}
 use Rattle.rules.specs.Walk.{Entered, withRest, entriesFrom}
 use Rattle.rules.specs.Changes.{endFrom}
 use Rattle.changes.specs.Members.{no-member}
+pub use Rattle.laws.specs.Entries.{enteredAt, entries-more, entries-end}
 
 -- parts of two lists of bytes that agree byte for byte
 pub part-same : (l m : List ℕ) (k j n : ℕ) → k + n ≤ length l → j + n ≤ length m → ((i : ℕ) → i < n → getD l (k + i) 0 ≡ getD m (j + i) 0) → take n (drop k l) ≡ take n (drop j m)
@@ -95,19 +96,7 @@ module _ (b b′ : List ℕ) (at at′ : ℕ) (whole : length b ≡ 512) (whole�
 
 -- ---- the entries from a place on
 
--- an entry that is found there, as the walk has it
-abbrev pub enteredAt : Entry → ℕ → Entered
-enteredAt x place = record { broken = false; dir = isDir (x .kind); anode = x .anode .0; size = x .size; place = place }
-
 module _ (b : List ℕ) (y m at : ℕ) where
-  pub found-more : (x : Entry) → walkedAt b at ≡ Found x → entriesFrom (suc m) b y at ≡ enteredAt x (y * 512 + at) ∷ entriesFrom m b y (at + getD b at 0)
-  unfolding entriesFrom
-  found-more x e = rw e
-
-  pub found-none : walkedAt b at ≡ End → entriesFrom (suc m) b y at ≡ []
-  unfolding entriesFrom
-  found-none e = rw e
-
   -- where none is broken, the end mark or an entry stands there
   pub unbroken-cases : anyIn (λ e. e .broken) (entriesFrom (suc m) b y at) ≡ false →
       (walkedAt b at ≡ End) ⊎ ((x : Entry) × (walkedAt b at ≡ Found x) × (anyIn (λ e. e .broken) (entriesFrom m b y (at + getD b at 0)) ≡ false))
@@ -149,8 +138,8 @@ pub record FirstFound (b : List ℕ) (y m at : ℕ) (e : Entered) (behind : List
 
 pub first-found : (b : List ℕ) (y m at : ℕ) (e : Entered) (l : List Entered) → entriesFrom (suc m) b y at ≡ e ∷ l → anyIn (λ f. f .broken) (entriesFrom (suc m) b y at) ≡ false → FirstFound b y m at e l
 first-found b y m at e l i u = elim (unbroken-cases b y m at u) [
-  | inl o ↦ absurd (cons≢nil (sym i ∙ found-none b y m at o))
-  | inr o ↦ (let c = sym (found-more b y m at (o .0) (o .1)) ∙ i in record { entry = o .0; walked = o .1; is = head-eq-of-cons-eq c; rest = tail-eq-of-cons-eq c; unbroken = o .2 })
+  | inl o ↦ absurd (cons≢nil (sym i ∙ entries-end b y (suc m) at o))
+  | inr o ↦ (let c = sym (entries-more b y m at (o .0) (o .1)) ∙ i in record { entry = o .0; walked = o .1; is = head-eq-of-cons-eq c; rest = tail-eq-of-cons-eq c; unbroken = o .2 })
 ]
 
 -- by its place

@@ -14,7 +14,7 @@ use Rattle.directory.proofs.Laws.{found-at}
 use Rattle.rules.specs.Counting.{anyIn}
 use Rattle.rules.specs.Walk.{Entered, entriesFrom}
 use Rattle.rules.specs.Changes.{endFrom, entriesEnd, gapClosed}
-use Rattle.changes.specs.FoundEntries.{part-same, head-same, walked-same, Standing, entry-standing, found-more, found-none, unbroken-cases, end-more, end-here, end-bounds, first-found, first-here, place-after, place-order}
+use Rattle.changes.specs.FoundEntries.{part-same, head-same, walked-same, Standing, entry-standing, entries-more, entries-end, unbroken-cases, end-more, end-here, end-bounds, first-found, first-here, place-after, place-order}
 use Rattle.changes.specs.Members.{Member}
 
 -- the same entry, so many bytes earlier
@@ -41,15 +41,15 @@ module _ (b b′ : List ℕ) (y at len end : ℕ) (whole : length b ≡ 512) (wh
       let first : getD b′ p 0 ≡ getD b (p + len) 0 = behind p l (omega (arith, within, g .long)) in
       let place : y * 512 + p ≡ y * 512 + (p + len) - len = omega arith in
       let swap : p + getD b (p + len) 0 + len ≡ p + len + getD b (p + len) 0 = omega arith in
-      found-more b′ y (suc m) p x (walked-same b b′ (p + len) p whole whole′ g (omega (arith, g .room)) same ∙ q)
-      ∙ rw (first, rest, swap, found-more b y m (p + len) x q, place)
+      entries-more b′ y (suc m) p x (walked-same b b′ (p + len) p whole whole′ g (omega (arith, g .room)) same ∙ q)
+      ∙ rw (first, rest, swap, entries-more b y m (p + len) x q, place)
 
   moved : (k p : ℕ) → at ≤ p → anyIn (λ e. e .broken) (entriesFrom k b y (p + len)) ≡ false → p + len ≤ 510 → 520 ≤ p + len + 18 * k → endFrom k b (p + len) ≡ end →
       entriesFrom (suc k) b′ y p ≡ map (lowered len) (entriesFrom k b y (p + len))
   moved zero p l u r f e = absurd (omega (arith, r, f))
   moved (suc m) p l u r f e = elim (unbroken-cases b y m (p + len) u) [
     | inl q ↦ (let z : end ≡ p + len = sym e ∙ end-here b y m (p + len) q in
-        found-none b′ y (suc m) p (ends p (zeros p (omega arith) (omega arith))) ∙ ap (map (lowered len)) (sym (found-none b y m (p + len) q)))
+        entries-end b′ y (suc (suc m)) p (ends p (zeros p (omega arith) (omega arith))) ∙ ap (map (lowered len)) (sym (entries-end b y (suc m) (p + len) q)))
     | inr q ↦ (let g = found-at b (p + len) (q .0) (q .1) in
         let n : p + len + getD b (p + len) 0 ≡ p + getD b (p + len) 0 + len = omega arith in
         let unbroken = rw n at (q .2) in
@@ -76,7 +76,7 @@ module _ (b b′ : List ℕ) (y at len end : ℕ) (whole : length b ≡ 512) (wh
         let g = found-at b p (o .entry) (o .walked) in
         let before : p + getD b p 0 ≤ at = omega (arith, place, place-after b y zs e ys m (p + getD b p 0) (o .rest) (o .unbroken)) in
         let same : getD b′ p 0 ≡ getD b p 0 = front p (omega (arith, before, g .long)) in
-        found-more b′ y m p (o .entry) (walked-same b b′ p p whole whole′ g (g .room) (λ i l. front (p + i) (omega arith)) ∙ o .walked)
+        entries-more b′ y m p (o .entry) (walked-same b b′ p p whole whole′ g (g .room) (λ i l. front (p + i) (omega arith)) ∙ o .walked)
         ∙ rw (same, o .is, closed zs m (p + getD b p 0) (o .rest) (o .unbroken) (g .room) (omega (arith, f, g .long)) (sym (end-more b y m p (o .entry) (o .walked)) ∙ q))
 
 -- ---- the bytes of the block

@@ -23,12 +23,7 @@ use Rattle.rules.specs.Format.{zeroBlock}
 use Rattle.rules.specs.Changes.{endFrom, entriesEnd, firstRoom, newDirectoryBlock}
 use Rattle.laws.specs.Sums.{oneAt-same}
 use Rattle.laws.specs.Bags.{times-cons}
-use Rattle.changes.specs.FoundEntries.{head-same, walked-same, enteredAt, found-more, found-none, unbroken-cases, end-more, end-here, end-bounds}
-
-none-from : (k : ℕ) (b : List ℕ) (y at : ℕ) → walkedAt b at ≡ End → entriesFrom k b y at ≡ []
-unfolding entriesFrom
-none-from zero b y at z = refl
-none-from (suc k) b y at z = found-none b y k at z
+use Rattle.changes.specs.FoundEntries.{head-same, walked-same, enteredAt, entries-more, entries-end, unbroken-cases, end-more, end-here, end-bounds}
 
 -- ---- an entry at the end mark's place
 
@@ -48,8 +43,8 @@ module _ (b : List ℕ) (y end : ℕ) (e : Entry) (name comment : List ℕ) (who
 
   put-here : (k : ℕ) → entriesFrom (suc k) b′ y end ≡ enteredAt e (y * 512 + end) ∷ []
   put-here k =
-      found-more b′ y k end e found
-      ∙ ap (λ (l : List Entered). enteredAt e (y * 512 + end) ∷ l) (none-from k b′ y (end + getD b′ end 0) (rw first (walkedAt-putEntry-end b end e name comment)))
+      entries-more b′ y k end e found
+      ∙ ap (λ (l : List Entered). enteredAt e (y * 512 + end) ∷ l) (entries-end b′ y k (end + getD b′ end 0) (rw first (walkedAt-putEntry-end b end e name comment)))
 
   put-behind : (k at : ℕ) → at ≤ 510 → 520 ≤ at + 18 * k → anyIn (λ j. j .broken) (entriesFrom k b y at) ≡ false → endFrom k b at ≡ end →
       entriesFrom k b′ y at ≡ entriesFrom k b y at ++ (enteredAt e (y * 512 + end) ∷ [])
@@ -62,7 +57,7 @@ module _ (b : List ℕ) (y end : ℕ) (e : Entry) (name comment : List ℕ) (who
           entriesFrom (suc k) b′ y at ≡ entriesFrom (suc k) b y at ++ (enteredAt e (y * 512 + end) ∷ [])
       go (inl z) rec =
           let here : at ≡ end = sym (end-here b y k at z) ∙ q in
-          rw (found-none b y k at z, here) (put-here k)
+          rw (entries-end b y (suc k) at z, here) (put-here k)
       go (inr (x, w, r)) rec =
           let f = found-at b at x w in
           let further : endFrom k b (at + getD b at 0) ≡ end = sym (end-more b y k at x w) ∙ q in
@@ -71,9 +66,9 @@ module _ (b : List ℕ) (y end : ℕ) (e : Entry) (name comment : List ℕ) (who
           let same : (i : ℕ) → i < getD b at 0 → getD b′ (at + i) 0 ≡ getD b (at + i) 0 = λ i h. getD-putEntry-before b end e name comment (at + i) (omega arith) in
           let w′ = walked-same b b′ at at whole (length-putEntry b end e name comment ∙ whole) f (f .room) same ∙ w in
           let next : at + getD b′ at 0 ≡ at + getD b at 0 = ap (λ (i : ℕ). at + i) (getD-putEntry-before b end e name comment at (omega (arith, f .long))) in
-          found-more b′ y k at x w′
+          entries-more b′ y k at x w′
           ∙ ap (λ (l : List Entered). enteredAt x (y * 512 + at) ∷ l) (ap (entriesFrom k b′ y) next ∙ rec (at + getD b at 0) (f .room) fuel r further)
-          ∙ sym (ap (λ (l : List Entered). l ++ (enteredAt e (y * 512 + end) ∷ [])) (found-more b y k at x w))
+          ∙ sym (ap (λ (l : List Entered). l ++ (enteredAt e (y * 512 + end) ∷ [])) (entries-more b y k at x w))
 
 -- a block's entries, with one more behind the last
 pub entries-put : (b : List ℕ) (y : ℕ) (e : Entry) (name comment : List ℕ) → length b ≡ 512 → entriesEnd b + entryLength (e .name) (e .comment) ≤ 510 →
@@ -122,7 +117,7 @@ unfolding walkedAt
 new-end owner parent = rw (new-zero owner parent)
 
 pub entries-new : (owner parent y : ℕ) → entriesFrom 28 (newDirectoryBlock owner parent) y 16 ≡ []
-entries-new owner parent y = found-none (newDirectoryBlock owner parent) y 27 16 (new-end owner parent)
+entries-new owner parent y = entries-end (newDirectoryBlock owner parent) y 28 16 (new-end owner parent)
 
 pub end-new : (owner parent : ℕ) → entriesEnd (newDirectoryBlock owner parent) ≡ 16
 unfolding entriesEnd

@@ -22,7 +22,7 @@ use Rattle.directory.proofs.Laws.{found-at, end-at}
 use Rattle.rules.specs.Counting.{anyIn}
 use Rattle.rules.specs.Walk.{Entered, entriesFrom}
 use Rattle.changes.specs.Members.{no-member}
-use Rattle.changes.specs.FoundEntries.{head-same, walked-same, enteredAt, found-more, found-none, unbroken-cases, first-found, first-here, place-after}
+use Rattle.changes.specs.FoundEntries.{head-same, walked-same, enteredAt, entries-more, entries-end, unbroken-cases, first-found, first-here, place-after}
 
 -- the same entry with another size
 abbrev pub sized : ℕ → Entered → Entered
@@ -123,10 +123,10 @@ entries-later : (b b′ : List ℕ) (y : ℕ) → length b ≡ 512 → length b�
 unfolding walkedAt
 entries-later b b′ y whole whole′ zero at same u = unfold entriesFrom in refl
 entries-later b b′ y whole whole′ (suc m) at same u = elim (unbroken-cases b y m at u) [
-  | inl o ↦ found-none b′ y m at (rw (same at (omega arith) ∙ end-at b at o)) ∙ sym (found-none b y m at o)
+  | inl o ↦ entries-end b′ y (suc m) at (rw (same at (omega arith) ∙ end-at b at o)) ∙ sym (entries-end b y (suc m) at o)
   | inr o ↦ (let g = found-at b at (o .0) (o .1) in
-      found-more b′ y m at (o .0) (walked-same b b′ at at whole whole′ g (g .room) (λ i l. same (at + i) (omega arith)) ∙ o .1)
-      ∙ rw (same at (omega arith), entries-later b b′ y whole whole′ m (at + getD b at 0) (λ i l. same i (omega arith)) (o .2)) (sym (found-more b y m at (o .0) (o .1))))
+      entries-more b′ y m at (o .0) (walked-same b b′ at at whole whole′ g (g .room) (λ i l. same (at + i) (omega arith)) ∙ o .1)
+      ∙ rw (same at (omega arith), entries-later b b′ y whole whole′ m (at + getD b at 0) (λ i l. same i (omega arith)) (o .2)) (sym (entries-more b y m at (o .0) (o .1))))
 ]
 
 module _ (b : List ℕ) (y at new : ℕ) (whole : length b ≡ 512) (e : Entered) (ys : List Entered) (place : e .place ≡ y * 512 + at) where
@@ -143,7 +143,7 @@ module _ (b : List ℕ) (y at new : ℕ) (whole : length b ≡ 512) (e : Entered
       let x = ap (walkedAt b) (sym here) ∙ o .walked in
       let g = found-at b at (o .entry) x in
       ap (entriesFrom (suc m) (b′ b at new whole) y) here
-      ∙ found-more (b′ b at new whole) y m at (withNew new (o .entry)) (walked-new b at new whole (omega (arith, g .long, g .room)) ∙ ap (onFound new) x)
+      ∙ entries-more (b′ b at new whole) y m at (withNew new (o .entry)) (walked-new b at new whole (omega (arith, g .long, g .room)) ∙ ap (onFound new) x)
       ∙ rw (
         others b at new whole at (inl (omega arith)),
         entries-later b (b′ b at new whole) y whole whole′ m (at + getD b at 0) (λ i l. others b at new whole i (inr (omega (arith, l, g .long)))) (rw here at (o .unbroken)),
@@ -153,6 +153,6 @@ module _ (b : List ℕ) (y at new : ℕ) (whole : length b ≡ 512) (e : Entered
       let o = first-found b y m p z (zs ++ (e ∷ ys)) i u in
       let g = found-at b p (o .entry) (o .walked) in
       let before : p + getD b p 0 ≤ at = omega (arith, place, place-after b y zs e ys m (p + getD b p 0) (o .rest) (o .unbroken)) in
-      found-more (b′ b at new whole) y m p (o .entry)
+      entries-more (b′ b at new whole) y m p (o .entry)
       (walked-same b (b′ b at new whole) p p whole whole′ g (g .room) (λ i l. others b at new whole (p + i) (inl (omega arith))) ∙ o .walked)
       ∙ rw (others b at new whole p (inl (omega (arith, before, g .long))), o .is, entries-sized zs m (p + getD b p 0) (o .rest) (o .unbroken))

@@ -17,7 +17,6 @@ use Rattle.endian.proofs.Laws.{less?, same?, length-put16, length-put32, cleare
 use Rattle.disk.specs.Blocks.{blockOf, withBlock}
 use Rattle.disk.specs.Root.{pfs0, rootIn, putRoot, slotIn, slotOf}
 use Rattle.disk.specs.AnodeBlocks.{anodeMade, anodeIn, putAnode, anodeOf}
-use Rattle.disk.specs.declared.Root.{Root}
 use Rattle.disk.proofs.Laws.{length-blockOf, length-blockOf-min, part-block, block-back, length-putAnode, slotOf-high, slotOf-there, anodeOf-missing, anodeOf-there}
 use Rattle.disk.proofs.Store.{anodeIn-putAnode-same, anodeIn-putAnode-other, length-putAnodeHead, anodeIn-putAnodeHead, length-putRoot, rootIn-putRoot, slotIn-putRoot, slotIn-put16-same, slotIn-put16-other, rootIn-put16-slot, getD-blockOf, length-withBlock, blockOf-withBlock-same, blockOf-withBlock-other}
 use Rattle.directory.specs.declared.DirectoryHead.{DirectoryHead}
@@ -25,7 +24,7 @@ use Rattle.directory.specs.Entries.{directoryMark, putDirectoryHead}
 use Rattle.directory.proofs.Laws.{length-putDirectoryHead}
 use Rattle.counting.specs.Laws.{neither}
 use Rattle.rules.specs.Accepted.{diskSize, wrongSize}
-use Rattle.rules.specs.Format.{wrongFormat, zeroBlock, withSlots, rootBlock, lowerAnode, upperAnode, listHead, firstAnodes, emptyAnodeBlock, anodeBlock, withAnodeBlocks, rootDirectory, formatted}
+use Rattle.rules.specs.Format.{wrongFormat, zeroBlock, withSlots, rootBlock, lowerAnode, upperAnode, listHead, firstAnodes, emptyAnodeBlock, anodeBlock, withAnodeBlocks, rootDirectory, formatted, rootMade}
 
 -- ---- arguments that are taken
 
@@ -158,19 +157,6 @@ unfolding withSlots
 slotIn-withSlots-none b zero t h = refl
 slotIn-withSlots-none b (suc s) t h =
     slotIn-put16-other (withSlots b s) s (3 + s) t (omega arith) ∙ slotIn-withSlots-none b s t (omega arith)
-
--- the root's fields
-abbrev pub rootMade : ℕ → List ℕ → ℕ → ℕ → ℕ → ℕ → Root
-rootMade last name day minute tick protection = record {
-  signature = pfs0;
-  day = day;
-  minute = minute;
-  tick = tick;
-  protection = protection;
-  name = length name;
-  first = record { 0 = 0 };
-  last = record { 0 = last };
-}
 
 module _ (last k : ℕ) (name : List ℕ) (day minute tick protection : ℕ) where
   -- the root block before its slots

@@ -13,9 +13,9 @@ use Rattle.directory.proofs.Laws.{getD-putDirectoryHead-after, directoryHeadIn-
 use Rattle.rules.specs.Counting.{gather}
 use Rattle.rules.specs.Anodes.{Anodes}
 use Rattle.rules.specs.Accepted.{diskSize, wrongSize}
-use Rattle.rules.specs.Walk.{Dir, root, Item, entriesFrom, entriesIn, isBlockOf, itemsBy, itemsOf, scan, done, visited, walk, walkOf}
+use Rattle.rules.specs.Walk.{Dir, root, Item, entriesIn, isBlockOf, itemsBy, itemsOf, scan, done, visited, walk, walkOf}
 use Rattle.rules.specs.Format.{wrongFormat, zeroBlock, rootDirectory, formatted}
-use Rattle.laws.specs.Entries.{itemsAt-whole}
+use Rattle.laws.specs.Entries.{entries-end, itemsAt-whole}
 use Rattle.format.proofs.Laws.{rootHead, blockOf-formatted-directory}
 use Rattle.format_laws.specs.Anodes.{Laid}
 use Rattle.format_laws.specs.Links.{root-is}
@@ -31,11 +31,6 @@ unfolding walkedAt rootDirectory
 ends-root =
     let first : getD rootDirectory 16 0 ≡ 0 = getD-putDirectoryHead-after zeroBlock rootHead 16 (omega arith) ∙ getD-replicate {A = ℕ} 512 16 0 0 (omega arith) in
     rw (eq-eqb (getD rootDirectory 16 0) 0 first)
-
--- where the end mark stands first there is no entry
-entries-end : (f : ℕ) (b : List ℕ) (y at : ℕ) → walkedAt b at ≡ End → entriesFrom (suc f) b y at ≡ []
-unfolding entriesFrom
-entries-end f b y at e = rw e
 
 -- ---- a walk from a directory with no item
 
@@ -55,7 +50,7 @@ module _ (img : List ℕ) (last k : ℕ) (name : List ℕ) (day minute tick prot
 
   no-entries : entriesIn disk (3 + k) ≡ []
   unfolding entriesIn
-  no-entries = entries-end 27 (blockOf disk (3 + k)) (3 + k) 16 (rw (blockOf-formatted-directory img last k name day minute tick protection size good) ends-root)
+  no-entries = entries-end (blockOf disk (3 + k)) (3 + k) 28 16 (rw (blockOf-formatted-directory img last k name day minute tick protection size good) ends-root)
 
   marked : isBlockOf disk root (3 + k) ≡ true
   unfolding isBlockOf

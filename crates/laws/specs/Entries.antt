@@ -1,22 +1,43 @@
--- The items that the entries of directory blocks give in a state of the anodes.
-use Prim.Native.Nat.{ℕ, _≤_, _<_}
+-- The entries of a directory block, and the items that they give in a state of the anodes.
+use Prim.Native.Nat.{ℕ, zero, suc, _+_, _*_, _≤_, _<_}
 use mathlib.Core.Path.{_≡_, refl, sym, ap, _∙_}
 use mathlib.Core.Logic.{_≢_, _⊎_, inl, inr}
 use mathlib.Core.Bool.{Bool, true, false, cond, _&&_}
 use mathlib.Core.List.{List, [], _∷_, map}
 use native.Mathlib.Omega.{arith}
+use lib.ListN.{getD}
 use lib.Dec.{T, eqb, leb, eqb→eq, leb→le}
 use borrow.Author.Tests.{le-leb, eq-eqb}
+use Rattle.directory.specs.declared.Entry.{Entry}
+use Rattle.directory.specs.declared.Walked.the-variants.{Found, End}
+use Rattle.directory.specs.Entries.{isDir, walkedAt}
 use Rattle.rules.specs.Counting.{sumList, times}
 use Rattle.rules.specs.Anodes.{limit, Anodes}
 use Rattle.rules.specs.Chains.{chainOf, heads, blockCount}
-use Rattle.rules.specs.Walk.{Dir, Entered, Item, blocksFor, wrongAnode, wrongFileSize, itemOf, broken, itemsAt, itemsBy}
+use Rattle.rules.specs.Walk.{Dir, Entered, entriesFrom, Item, blocksFor, wrongAnode, wrongFileSize, itemOf, broken, itemsAt, itemsBy}
 use Rattle.laws.specs.Tests.{cond-cases, T-true, both}
 use Rattle.laws.specs.Bags.{list-one, list-mono, list-congr, list-congr-where, list-zero, gather-sum, map-sum, none-at}
 use Rattle.laws.specs.Space.{Alike}
 use Rattle.laws.specs.Frame.{kept-sum-where}
 use Rattle.laws.specs.Items.{wrong, weighItem}
 use Rattle.laws.specs.TreeChanges.{AlikeItems}
+
+-- ---- the entries of a block, from a place on
+
+-- an entry that stands at a place, as the walk has it
+abbrev pub enteredAt : Entry → ℕ → Entered
+enteredAt x place = record { broken = false; dir = isDir (x .kind); anode = x .anode .0; size = x .size; place = place }
+
+pub entries-more : (b : List ℕ) (y m at : ℕ) (x : Entry) → walkedAt b at ≡ Found x → entriesFrom (suc m) b y at ≡ enteredAt x (y * 512 + at) ∷ entriesFrom m b y (at + getD b at 0)
+unfolding entriesFrom
+entries-more b y m at x e = rw e
+
+pub entries-end : (b : List ℕ) (y k at : ℕ) → walkedAt b at ≡ End → entriesFrom k b y at ≡ []
+unfolding entriesFrom
+entries-end b y zero at e = refl
+entries-end b y (suc k) at e = rw e
+
+-- ---- weights
 
 -- a weight of an entry, its place aside
 abbrev pub weighEntry : (Bool → Bool → ℕ → ℕ → ℕ) → Entered → ℕ

@@ -6,6 +6,7 @@ use lib.ListN.{length, replicate}
 use lib.Dec.{eqb, leb, ltb}
 use Rattle.endian.specs.Bytes.{put16, put32}
 use Rattle.disk.specs.declared.Anode.{Anode}
+use Rattle.disk.specs.declared.Root.{Root}
 use Rattle.disk.specs.Blocks.{withBlock}
 use Rattle.disk.specs.Root.{pfs0, putRoot}
 use Rattle.disk.specs.AnodeBlocks.{anodeMark, anodeMade, putAnodeHead, putAnode}
@@ -39,23 +40,22 @@ unfoldable pub withSlots : List ℕ → ℕ → List ℕ
 withSlots b zero = b
 withSlots b (suc s) = put16 (withSlots b s) (96 + 2 * s) (3 + s)
 
--- the root block: disk type, stamps, protection, name, first reserved 0, last reserved L, slots
+-- the root's fields: disk type, stamps, protection, the name's length, first reserved 0, last reserved L
+abbrev pub rootMade : ℕ → List ℕ → ℕ → ℕ → ℕ → ℕ → Root
+rootMade last name day minute tick protection = record {
+  signature = pfs0;
+  day = day;
+  minute = minute;
+  tick = tick;
+  protection = protection;
+  name = length name;
+  first = record { 0 = 0 };
+  last = record { 0 = last };
+}
+
+-- the root block: these fields, the name, and the slots
 unfoldable pub rootBlock : ℕ → ℕ → List ℕ → ℕ → ℕ → ℕ → ℕ → List ℕ
-rootBlock last k name day minute tick protection =
-    withSlots
-    (putRoot zeroBlock
-    (record {
-      signature = pfs0;
-      day = day;
-      minute = minute;
-      tick = tick;
-      protection = protection;
-      name = length name;
-      first = record { 0 = 0 };
-      last = record { 0 = last };
-    })
-    name)
-    k
+rootBlock last k name day minute tick protection = withSlots (putRoot zeroBlock (rootMade last name day minute tick protection) name) k
 
 -- free blocks up to L go in anode 2 (if none, (0, 65535, 0))
 unfoldable pub lowerAnode : ℕ → ℕ → Anode

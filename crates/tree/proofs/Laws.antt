@@ -15,12 +15,13 @@ use Rattle.disk.specs.Blocks.{blockOf}
 use Rattle.directory.specs.declared.Kind.{Kind}
 use Rattle.directory.specs.declared.Kind.the-variants.{File, Directory}
 use Rattle.directory.specs.declared.Entry.{Entry}
-use Rattle.directory.specs.declared.Walked.the-variants.{Found, End, Fault}
+use Rattle.directory.specs.declared.Walked.the-variants.{Found, Fault}
 use Rattle.directory.specs.Entries.{walkedAt}
 use Rattle.rules.specs.Counting.{sumList, gather}
 use Rattle.rules.specs.Anodes.{Anodes, limit}
 use Rattle.rules.specs.Chains.{chainOf}
 use Rattle.rules.specs.Walk.{Dir, Entered, Item, entriesFrom, entriesIn, isBlockOf, blocksFor}
+use Rattle.laws.specs.Entries.{entries-more}
 use Rattle.laws.specs.Chains.{chain-none, chain-zero, chain-step}
 use Rattle.laws.specs.Bags.{list-nil, list-cons}
 use Rattle.tree.specs.Steps.{dirMade, sumFrom, headAt, enteredAt, itemIn, Progress, stopped, going, refuse, enterItem, onward, enterAll, itemsFor, itemsAlong, halted, ended, afterDir, runFrom, dirsFrom, queueOf, marked}
@@ -169,18 +170,14 @@ unfolding entriesFrom
 entries-none block y k at e = rw e
 
 module _ (block : List ℕ) (y k m at : ℕ) (fuel : k ≡ m + 1) where
-  pub entries-end : walkedAt block at ≡ End → entriesFrom k block y at ≡ []
-  unfolding entriesFrom
-  entries-end e = rw (fuel, add-one m, e)
-
   pub entries-fault : (r : Refusal) → walkedAt block at ≡ Fault r → entriesFrom k block y at ≡ record { broken = true; dir = false; anode = 0; size = 0; place = y * 512 + at } ∷ []
   unfolding entriesFrom
   entries-fault r e = rw (fuel, add-one m, e)
 
   pub entries-step : (e : Entry) → walkedAt block at ≡ Found e
       → entriesFrom k block y at ≡ enteredAt (e .kind) (e .anode .0) (e .size) (y * 512 + at) ∷ entriesFrom m block y (at + getD block at 0)
-  unfolding entriesFrom enteredAt
-  entries-step e w = rw (fuel, add-one m, w)
+  unfolding enteredAt
+  entries-step e w = rw (fuel, add-one m) (entries-more block y m at e w)
 
 pub enter-none : (head : ℕ) (is : List Item) (queue : List Dir) (marks : List ℕ) (files : ℕ) → is ≡ [] → enterAll head is queue marks files ≡ going queue marks files
 unfolding enterAll

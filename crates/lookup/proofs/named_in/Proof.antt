@@ -4,7 +4,8 @@ use native.Mathlib.Omega.{arith}
 use Rattle.rules.specs.Walk.{entriesFrom, entriesIn}
 use Rattle.rules.specs.Lookup.{firstNamed}
 use Rattle.lookup.specs.Answers.{entryOf, orElse, Unbroken}
-use Rattle.tree.proofs.Laws.{block-whole, entries-none, entries-end}
+use Rattle.laws.specs.Entries.{entries-end}
+use Rattle.tree.proofs.Laws.{block-whole, entries-none}
 use Rattle.lookup.proofs.Laws.{unbroken-no-fault, unbroken-rest, named-passed, named-ended}
 use borrow.Author.Needs.{needs}
 use Rattle.lookup.proofs.named_in.Statement.{statement}
@@ -39,7 +40,7 @@ enum-told c = search needs
 returns : tie.Need-returns Inv-loop μ-loop
 returns c =
     let l = c .before .before .before .before .loop in
-    sym (named-ended _ _ _ (entryOf (l .found)) (entries-end _ _ _ (l .fuel - 1) _ (omega arith) (sym (c .before .before .entry-at .ensures) ∙ c .enum-told .given .1))) ∙ l .inv .2
+    sym (named-ended _ _ _ (entryOf (l .found)) (entries-end _ _ _ _ (sym (c .before .before .entry-at .ensures) ∙ c .enum-told .given .1))) ∙ l .inv .2
 
 enum-told-2 : tie.Need-enum-told-2 Inv-loop μ-loop
 enum-told-2 c = search needs

@@ -5,7 +5,8 @@ use native.Mathlib.Omega.{arith}
 use Rattle.rules.specs.Walk.{Entered, entriesFrom, entriesIn}
 use Rattle.rules.specs.Lookup.{nth}
 use Rattle.lookup.specs.Answers.{Unbroken}
-use Rattle.tree.proofs.Laws.{block-whole, entries-none, entries-end}
+use Rattle.laws.specs.Entries.{entries-end}
+use Rattle.tree.proofs.Laws.{block-whole, entries-none}
 use Rattle.lookup.proofs.Laws.{unbroken-no-fault, unbroken-rest, nth-none, nth-here, nth-behind}
 use borrow.Author.Needs.{needs}
 use Rattle.lookup.proofs.nth_in.Statement.{statement}
@@ -40,7 +41,7 @@ enum-told c = search needs
 returns : tie.Need-returns Inv-loop μ-loop
 returns c =
     let l = c .before .before .before .before .loop in
-    λ rest. sym (nth-none _ rest _ (entries-end _ _ _ (l .fuel - 1) _ (omega arith) (sym (c .before .before .entry-at .ensures) ∙ c .enum-told .given .1))) ∙ l .inv .2 rest
+    λ rest. sym (nth-none _ rest _ (entries-end _ _ _ _ (sym (c .before .before .entry-at .ensures) ∙ c .enum-told .given .1))) ∙ l .inv .2 rest
 
 enum-told-2 : tie.Need-enum-told-2 Inv-loop μ-loop
 enum-told-2 c = search needs

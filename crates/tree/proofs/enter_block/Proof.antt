@@ -4,7 +4,8 @@ use Prim.Native.Nat.{ℕ, _+_, _-_, _*_, _≤_}
 use native.Mathlib.Omega.{arith}
 use Rattle.rules.specs.Walk.{entriesFrom}
 use Rattle.tree.specs.Steps.{itemIn, entering, Room}
-use Rattle.tree.proofs.Laws.{block-whole, entries-none, entries-end, enter-none, block-broken, block-stop, block-step}
+use Rattle.laws.specs.Entries.{entries-end}
+use Rattle.tree.proofs.Laws.{block-whole, entries-none, enter-none, block-broken, block-stop, block-step}
 use borrow.Author.Needs.{needs}
 use Rattle.tree.proofs.enter_block.Statement.{statement}
 use Rattle.tree.proofs.enter_block.Tie as tie
@@ -47,7 +48,7 @@ returns c =
     let l = c .before .before .before .before .loop in
     let y = c .before .before .before .before .before .before .before .before .before .before .before .before .before .args .b .0 in
     let i = rw (block-whole _ _ _ (c .before .before .before .before .before .block-part .ensures)) at (l .inv .2 y) in
-    (sym (enter-none _ _ _ _ _ (ap (map _) (entries-end _ y _ (l .fuel - 1) _ (omega arith) (sym (c .before .before .entry-at .ensures) ∙ c .enum-told .given .1)))) ∙ i, l .inv .0 .3)
+    (sym (enter-none _ _ _ _ _ (ap (map _) (entries-end _ y _ _ (sym (c .before .before .entry-at .ensures) ∙ c .enum-told .given .1)))) ∙ i, l .inv .0 .3)
 
 enum-told-2 : tie.Need-enum-told-2 Inv-loop μ-loop
 enum-told-2 c = search needs
