@@ -23,7 +23,6 @@ use Rattle.rules.specs.Chains.{chainOf}
 use Rattle.rules.specs.Walk.{Entered, entriesFrom, entriesIn}
 use Rattle.rules.specs.Lookup.{nameAt, isNamed, firstNamed, entryNamed, entriesOf, nth}
 use Rattle.anodes.specs.Loaded.{anodesFrom}
-use Rattle.tree.specs.Steps.{enteredAt}
 use Rattle.tree.proofs.Laws.{gathered-step, entries-fault, entries-step}
 use Rattle.lookup.specs.Answers.{placed, entered, orElse, onlyIf, Unbroken}
 
@@ -81,7 +80,6 @@ module _ (block : List ℕ) (y k m at : ℕ) (fuel : k ≡ m + 1) where
 
   module _ (e : Entry) (is : walkedAt block at ≡ Found e) where
     one-more : entriesFrom k block y at ≡ entered (placed e (y * 512 + at)) ∷ entriesFrom m block y (at + getD block at 0)
-    unfolding enteredAt
     one-more = entries-step block y k m at fuel e is
 
     pub unbroken-rest : Unbroken (entriesFrom k block y at) → Unbroken (entriesFrom m block y (at + getD block at 0))

@@ -12,7 +12,6 @@ use lib.Seq.{take-all, take-add, take-append-le, drop-append-le, getD-set-same, 
 use borrow.Author.Tests.{eq-eqb, ne-eqb, leb-true, ltb-true}
 use Rattle.disk.specs.declared.Refusal.{Refusal}
 use Rattle.disk.specs.Blocks.{blockOf}
-use Rattle.directory.specs.declared.Kind.{Kind}
 use Rattle.directory.specs.declared.Kind.the-variants.{File, Directory}
 use Rattle.directory.specs.declared.Entry.{Entry}
 use Rattle.directory.specs.declared.Walked.the-variants.{Found, Fault}
@@ -21,10 +20,10 @@ use Rattle.rules.specs.Counting.{sumList, gather}
 use Rattle.rules.specs.Anodes.{Anodes, limit}
 use Rattle.rules.specs.Chains.{chainOf}
 use Rattle.rules.specs.Walk.{Dir, Entered, Item, entriesFrom, entriesIn, isBlockOf, blocksFor}
-use Rattle.laws.specs.Entries.{entries-more}
+use Rattle.laws.specs.Entries.{enteredAt, entries-more}
 use Rattle.laws.specs.Chains.{chain-none, chain-zero, chain-step}
 use Rattle.laws.specs.Bags.{list-nil, list-cons}
-use Rattle.tree.specs.Steps.{dirMade, sumFrom, headAt, enteredAt, itemIn, Progress, stopped, going, refuse, enterItem, onward, enterAll, itemsFor, itemsAlong, halted, ended, afterDir, runFrom, dirsFrom, queueOf, marked}
+use Rattle.tree.specs.Steps.{dirMade, sumFrom, headAt, itemIn, Progress, stopped, going, refuse, enterItem, onward, enterAll, itemsFor, itemsAlong, halted, ended, afterDir, runFrom, dirsFrom, queueOf, marked}
 
 -- ---- what a chain of at most k anodes gives, from anode a on
 
@@ -134,30 +133,30 @@ length-queue queue parents n = length-dirs queue parents 0 n
 
 -- ---- one entry
 
-module _ (counts nexts heads : List ℕ) (head : ℕ) (kind : Kind) (a size place : ℕ) (queue : List Dir) (marks : List ℕ) (files : ℕ) where
-  pub enter-no-head : headAt heads a ≡ false → enterItem head (itemIn counts nexts heads (enteredAt kind a size place)) queue marks files ≡ stopped 13
-  unfolding enterItem itemIn enteredAt
+module _ (counts nexts heads : List ℕ) (head : ℕ) (e : Entry) (place : ℕ) (queue : List Dir) (marks : List ℕ) (files : ℕ) where
+  pub enter-no-head : headAt heads (e .anode .0) ≡ false → enterItem head (itemIn counts nexts heads (enteredAt e place)) queue marks files ≡ stopped 13
+  unfolding enterItem itemIn
   enter-no-head h = rw h
 
-  pub enter-twice : headAt heads a ≡ true → (getD marks a 0 ≡ 0 → ⊥)
-      → enterItem head (itemIn counts nexts heads (enteredAt kind a size place)) queue marks files ≡ stopped 14
-  unfolding enterItem itemIn enteredAt
-  enter-twice h n = rw (h, ne-eqb (getD marks a 0) 0 n)
+  pub enter-twice : headAt heads (e .anode .0) ≡ true → (getD marks (e .anode .0) 0 ≡ 0 → ⊥)
+      → enterItem head (itemIn counts nexts heads (enteredAt e place)) queue marks files ≡ stopped 14
+  unfolding enterItem itemIn
+  enter-twice h n = rw (h, ne-eqb (getD marks (e .anode .0) 0) 0 n)
 
-  pub enter-size : headAt heads a ≡ true → getD marks a 0 ≡ 0 → kind ≡ File → (sumFrom counts nexts limit a ≡ blocksFor size → ⊥)
-      → enterItem head (itemIn counts nexts heads (enteredAt kind a size place)) queue marks files ≡ stopped 15
-  unfolding enterItem itemIn enteredAt
-  enter-size h m k n = rw (h, eq-eqb (getD marks a 0) 0 m, k, ne-eqb (sumFrom counts nexts limit a) (blocksFor size) n)
+  pub enter-size : headAt heads (e .anode .0) ≡ true → getD marks (e .anode .0) 0 ≡ 0 → e .kind ≡ File → (sumFrom counts nexts limit (e .anode .0) ≡ blocksFor (e .size) → ⊥)
+      → enterItem head (itemIn counts nexts heads (enteredAt e place)) queue marks files ≡ stopped 15
+  unfolding enterItem itemIn
+  enter-size h m k n = rw (h, eq-eqb (getD marks (e .anode .0) 0) 0 m, k, ne-eqb (sumFrom counts nexts limit (e .anode .0)) (blocksFor (e .size)) n)
 
-  pub enter-file : headAt heads a ≡ true → getD marks a 0 ≡ 0 → kind ≡ File → sumFrom counts nexts limit a ≡ blocksFor size
-      → enterItem head (itemIn counts nexts heads (enteredAt kind a size place)) queue marks files ≡ going queue (set marks a 1) (files + 1)
-  unfolding enterItem itemIn enteredAt
-  enter-file h m k n = rw (h, eq-eqb (getD marks a 0) 0 m, k, eq-eqb (sumFrom counts nexts limit a) (blocksFor size) n)
+  pub enter-file : headAt heads (e .anode .0) ≡ true → getD marks (e .anode .0) 0 ≡ 0 → e .kind ≡ File → sumFrom counts nexts limit (e .anode .0) ≡ blocksFor (e .size)
+      → enterItem head (itemIn counts nexts heads (enteredAt e place)) queue marks files ≡ going queue (set marks (e .anode .0) 1) (files + 1)
+  unfolding enterItem itemIn
+  enter-file h m k n = rw (h, eq-eqb (getD marks (e .anode .0) 0) 0 m, k, eq-eqb (sumFrom counts nexts limit (e .anode .0)) (blocksFor (e .size)) n)
 
-  pub enter-dir : headAt heads a ≡ true → getD marks a 0 ≡ 0 → kind ≡ Directory
-      → enterItem head (itemIn counts nexts heads (enteredAt kind a size place)) queue marks files ≡ going (queue ++ (dirMade a head ∷ [])) (set marks a 1) files
-  unfolding enterItem itemIn enteredAt
-  enter-dir h m k = rw (h, eq-eqb (getD marks a 0) 0 m, k)
+  pub enter-dir : headAt heads (e .anode .0) ≡ true → getD marks (e .anode .0) 0 ≡ 0 → e .kind ≡ Directory
+      → enterItem head (itemIn counts nexts heads (enteredAt e place)) queue marks files ≡ going (queue ++ (dirMade (e .anode .0) head ∷ [])) (set marks (e .anode .0) 1) files
+  unfolding enterItem itemIn
+  enter-dir h m k = rw (h, eq-eqb (getD marks (e .anode .0) 0) 0 m, k)
 
 -- ---- the entries of a block, from a place on
 
@@ -175,8 +174,7 @@ module _ (block : List ℕ) (y k m at : ℕ) (fuel : k ≡ m + 1) where
   entries-fault r e = rw (fuel, add-one m, e)
 
   pub entries-step : (e : Entry) → walkedAt block at ≡ Found e
-      → entriesFrom k block y at ≡ enteredAt (e .kind) (e .anode .0) (e .size) (y * 512 + at) ∷ entriesFrom m block y (at + getD block at 0)
-  unfolding enteredAt
+      → entriesFrom k block y at ≡ enteredAt e (y * 512 + at) ∷ entriesFrom m block y (at + getD block at 0)
   entries-step e w = rw (fuel, add-one m) (entries-more block y m at e w)
 
 pub enter-none : (head : ℕ) (is : List Item) (queue : List Dir) (marks : List ℕ) (files : ℕ) → is ≡ [] → enterAll head is queue marks files ≡ going queue marks files
@@ -184,13 +182,13 @@ unfolding enterAll
 enter-none head is queue marks files e = rw e
 
 module _ (item : Entered → Item) (head y : ℕ) (block : List ℕ) (k m at : ℕ) (queue : List Dir) (marks : List ℕ) (files : ℕ) (fuel : k ≡ m + 1) (e : Entry) (w : walkedAt block at ≡ Found e) where
-  pub block-stop : (n : ℕ) → enterItem head (item (enteredAt (e .kind) (e .anode .0) (e .size) (y * 512 + at))) queue marks files ≡ stopped n
+  pub block-stop : (n : ℕ) → enterItem head (item (enteredAt e (y * 512 + at))) queue marks files ≡ stopped n
       → enterAll head (map item (entriesFrom k block y at)) queue marks files ≡ stopped n
   unfolding enterAll
   block-stop n h = rw (entries-step block y k m at fuel e w, h)
 
   pub block-step : (q : List Dir) (l : List ℕ) (f : ℕ)
-      → enterItem head (item (enteredAt (e .kind) (e .anode .0) (e .size) (y * 512 + at))) queue marks files ≡ going q l f
+      → enterItem head (item (enteredAt e (y * 512 + at))) queue marks files ≡ going q l f
       → enterAll head (map item (entriesFrom k block y at)) queue marks files ≡ enterAll head (map item (entriesFrom m block y (at + getD block at 0))) q l f
   unfolding enterAll
   block-step q l f h = rw (entries-step block y k m at fuel e w, h)

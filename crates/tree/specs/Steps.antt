@@ -5,9 +5,7 @@ use mathlib.Core.Bool.{Bool, false, cond, _&&_}
 use mathlib.Core.List.{List, [], _∷_, _++_, map}
 use lib.ListN.{length, getD, set}
 use lib.Dec.{eqb, leb, ltb}
-use Rattle.directory.specs.Entries.{isDir}
 use Rattle.disk.specs.Refusals.{numberOf}
-use Rattle.directory.specs.declared.Kind.{Kind}
 use Rattle.rules.specs.Counting.{sumList, gather}
 use Rattle.rules.specs.Anodes.{Anodes, limit}
 use Rattle.rules.specs.Chains.{chainOf}
@@ -29,10 +27,6 @@ sumFrom counts nexts k a = sumList (λ x. getD counts x 0) (chainOf (λ x. getD 
 -- an anode that an entry may name: from 6 up, and its own head in the table of heads
 unfoldable pub headAt : List ℕ → ℕ → Bool
 headAt heads a = cond (leb 6 a) (cond (ltb a limit) (eqb (getD heads a 0) a) false) false
-
--- an entry that keeps the entry rules
-unfoldable pub enteredAt : Kind → ℕ → ℕ → ℕ → Entered
-enteredAt kind a size place = record { broken = false; dir = isDir kind; anode = a; size = size; place = place }
 
 -- an entry under the eyes of the walk, by the tables
 unfoldable pub itemIn : List ℕ → List ℕ → List ℕ → Entered → Item

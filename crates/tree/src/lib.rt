@@ -6,9 +6,10 @@ ghost use lib.ListN.{length};
 ghost use Rattle.rules.specs.Accepted.{treeFault};
 ghost use Rattle.rules.specs.Counting.{anyBelow};
 ghost use Rattle.rules.specs.Walk.{blocksFor, isBlockOf, entriesIn};
+ghost use Rattle.laws.specs.Entries.{enteredAt};
 ghost use Rattle.anodes.specs.Loaded.{anodesFrom};
 ghost use Rattle.tree.specs.Tree.{treeNumber, Counts, Queued, HeadTable};
-ghost use Rattle.tree.specs.Steps.{dirMade, sumFrom, headAt, enteredAt, itemIn, enterItem, itemsFor, itemsWith, queueOf, entering, Leaves, runFrom, conclusion, tallyMade, Room, unnamedAt};
+ghost use Rattle.tree.specs.Steps.{dirMade, sumFrom, headAt, itemIn, enterItem, itemsFor, itemsWith, queueOf, entering, Leaves, runFrom, conclusion, tallyMade, Room, unnamedAt};
 use directory::Entry;
 use directory::Kind;
 use directory::Walked;
@@ -131,7 +132,7 @@ fn enter(
     t: Tally,
 ) -> Step
     requires { ⌜ Room t (now marks) (now queue) (now parents) ⌝ }
-    ensures { λ r. ⌜ ((place : ℕ) → Leaves r (now (marks .exit)) (now (queue .exit)) (now (parents .exit)) (enterItem (head .0) (itemIn (now (counts .entry)) (now (nexts .entry)) (now (heads .entry)) (enteredAt (e .kind) (e .anode .0) (e .size) place)) (queueOf (now (queue .entry)) (now (parents .entry)) (t .last)) (now (marks .entry)) (t .files))) ⌝ }
+    ensures { λ r. ⌜ ((place : ℕ) → Leaves r (now (marks .exit)) (now (queue .exit)) (now (parents .exit)) (enterItem (head .0) (itemIn (now (counts .entry)) (now (nexts .entry)) (now (heads .entry)) (enteredAt e place)) (queueOf (now (queue .entry)) (now (parents .entry)) (t .last)) (now (marks .entry)) (t .files))) ⌝ }
 {
     let a = e.anode;
     let kind = e.kind;

@@ -14,7 +14,7 @@ head-at-requires : tie.Need-head-at-requires
 head-at-requires c κs = search needs
 
 returns : tie.Need-returns
-returns c = λ place. (sym (enter-no-head _ _ _ _ _ _ _ place _ _ _ (sym (c .before .head-at .ensures) ∙ not-true _ (c .if1 .taken))), search needs)
+returns c = λ place. (sym (enter-no-head _ _ _ _ (c .before .before .before .before .before .before .before .before .before .before .args .e) place _ _ _ (sym (c .before .head-at .ensures) ∙ not-true _ (c .if1 .taken))), search needs)
 
 entry-requires : tie.Need-entry-requires
 entry-requires c κs = search needs
@@ -25,7 +25,7 @@ same-length c = search needs
 returns-2 : tie.Need-returns-2
 returns-2 c =
     let head = sym (c .before .before .before .before .head-at .ensures) ∙ not-false _ (c .before .before .before .if1 .left) in
-    λ place. (sym (enter-twice _ _ _ _ _ _ _ place _ _ _ head (λ z. c .if2 .taken (c .before .entry .ensures ∙ z))), search needs)
+    λ place. (sym (enter-twice _ _ _ _ (c .before .before .before .before .before .before .before .before .before .before .before .before .before .args .e) place _ _ _ head (λ z. c .if2 .taken (c .before .entry .ensures ∙ z))), search needs)
 
 enum-told : tie.Need-enum-told
 enum-told c = search needs
@@ -49,7 +49,7 @@ returns-3 : tie.Need-returns-3
 returns-3 c =
     let head = sym (c .before .before .before .before .before .before .before .before .before .before .head-at .ensures) ∙ not-false _ (c .before .before .before .before .before .before .before .before .before .if1 .left) in
     let new = sym (c .before .before .before .before .before .before .before .entry .ensures) ∙ c .before .before .before .before .before .before .if2 .left in
-    λ place. (sym (enter-size _ _ _ _ _ _ _ place _ _ _ head new (c .before .before .before .before .enum-told .given .1) (λ z. c .if3 .taken (c .before .before .before .chain-sum .ensures ∙ z ∙ sym (c .before .blocks-for .ensures)))), search needs)
+    λ place. (sym (enter-size _ _ _ _ (c .before .before .before .before .before .before .before .before .before .before .before .before .before .before .before .before .before .before .before .args .e) place _ _ _ head new (c .before .before .before .before .enum-told .given .1) (λ z. c .if3 .taken (c .before .before .before .chain-sum .ensures ∙ z ∙ sym (c .before .blocks-for .ensures)))), search needs)
 
 set-entry-requires : tie.Need-set-entry-requires
 set-entry-requires c κs = search needs
@@ -93,7 +93,7 @@ returns-4 c =
     let size = sym (c .before .before .before .before .before .before .before .before .chain-sum .ensures) ∙ c .before .before .before .before .before .if3 .left ∙ c .before .before .before .before .before .before .blocks-for .ensures in
     let room = marked-room (x .heads .now) (x .marks .now) (x .e .anode .0) (x .t .last + x .t .files) head new (c .before .before .before .before .before .before .before .before .before .before .before .before .before .before .before .before .before .before .before .before .before .before .before .before .pre .0) (c .before .before .before .before .before .before .before .before .before .before .before .before .before .before .before .before .before .before .before .before .before .before .before .before .pre .3) in
     rw (c .with-file .ensures, c .before .before .before .set-entry .ensures)
-    (λ place. (sym (enter-file _ _ _ _ _ _ _ place _ _ _ head new (c .before .before .before .before .before .before .before .before .before .enum-told .given .1) size), omega arith))
+    (λ place. (sym (enter-file _ _ _ _ (x .e) place _ _ _ head new (c .before .before .before .before .before .before .before .before .before .enum-told .given .1) size), omega arith))
 
 same-length-4 : tie.Need-same-length-4
 same-length-4 c = search needs
@@ -112,7 +112,7 @@ returns-5 c =
     let room = marked-room (x .heads .now) (x .marks .now) (x .e .anode .0) (x .t .last + x .t .files) head new (c .before .before .before .before .before .before .before .before .before .before .before .before .before .before .before .before .before .before .before .before .before .before .before .before .before .before .before .before .pre .0) (c .before .before .before .before .before .before .before .before .before .before .before .before .before .before .before .before .before .before .before .before .before .before .before .before .before .before .before .before .pre .3) in
     let push = queue-push (x .queue .now) (x .parents .now) (x .t .last) (x .e .anode .0) (x .head .0) (omega arith) (omega arith) in
     rw (c .with-directory .ensures, c .before .before .before .before .before .before .before .before .before .before .before .set-entry2 .ensures, c .before .before .before .before .before .before .before .set-entry3 .ensures, c .before .before .before .set-entry4 .ensures)
-    (λ place. (rw push (sym (enter-dir _ _ _ _ _ _ _ place _ _ _ head new (c .before .before .before .before .before .before .before .before .before .before .before .before .before .enum-told2 .given .1))), omega arith))
+    (λ place. (rw push (sym (enter-dir _ _ _ _ (x .e) place _ _ _ head new (c .before .before .before .before .before .before .before .before .before .before .before .before .before .enum-told2 .given .1))), omega arith))
 
 pub enter-spec : {M : Type 1} → statement M
 enter-spec =
