@@ -17,10 +17,8 @@ use Rattle.rules.specs.Counting.{oneAt, times, anyIn}
 use Rattle.rules.specs.Anodes.{Anodes, limit, exists, anodesOf, withAnodes}
 use Rattle.rules.specs.Chains.{chainOf, run, blocksOf, systemOwns}
 use Rattle.rules.specs.Walk.{Dir, Entered, entriesFrom, entriesIn, isBlockOf, reachedDirs}
-use Rattle.rules.specs.Accepted.{diskSize, lastReserved, checkAnswer}
-use Rattle.rules.specs.Lookup.{noDirectory}
-use Rattle.rules.specs.Space.{planned, rewritten}
-use Rattle.rules.specs.Changes.{withBlocks, entriesEnd, firstRoom, ownBlock, parentBlock, newDirectoryBlock, parentOf, entryPlace, NewEntry, entryOf, madeImage}
+use Rattle.rules.specs.Accepted.{diskSize, lastReserved}
+use Rattle.rules.specs.Changes.{withBlocks, entriesEnd, noRoom, newDirectoryBlock, parentOf, entryPlace, NewEntry, entryOf, madeImage}
 use Rattle.laws.specs.Tests.{eq→eqb, and, or-right}
 use Rattle.laws.specs.Sums.{oneAt-cases, oneAt-same}
 use Rattle.laws.specs.Bags.{list-cons, times-nil, times-cons, times-append}
@@ -39,7 +37,7 @@ use Rattle.changes.specs.Members.{Member, none-in, no-member, member-con
 use Rattle.changes.specs.Reached.{DirBlock, reached-from-5, dir-block}
 use Rattle.changes.specs.SingleBlocks.{single-apart, single-data}
 use Rattle.changes.specs.NewEntry.{entries-put, head-put, length-new, entries-new, end-new, head-new, room-found}
-use Rattle.changes.specs.MakePlan.{MadePlan, made-plan, made-good, made-orphan, parent-took}
+use Rattle.changes.specs.MakePlan.{Fresh, fresh-free, MakeSteps, MadePlan, made-plan, made-good, made-orphan, parent-took}
 
 -- what stands among the numbers that g gives for a list
 times-map : (g : ℕ → ℕ) (l : List ℕ) (y : ℕ) → 0 < times y (map g l) → (a : ℕ) × (0 < times a l) × (y ≡ g a)
@@ -76,20 +74,12 @@ parents-right h (d ∷ l) e = elim (oneAt-cases (d .head) h) [
   )
 ]
 
--- a make that is planned: f is the fresh head, ys its own block, zs the block that the parent h takes where it has no room
+-- a make that is planned
 pub record Making (img : List ℕ) (blocks anodes h : ℕ) (new : NewEntry) (f : ℕ) (room : Option ℕ) (ys : List ℕ) (t : Anodes) (zs : List ℕ) : Type 0 where
-  pub accepted : checkAnswer img blocks anodes ≡ 0
-  pub reached : noDirectory img (anodesOf img) h ≡ false
+  pub fresh : Fresh img blocks anodes h f
+  pub steps : MakeSteps img (new .dir) (entryLength (length (new .name)) (length (new .comment))) h f room ys t zs
   pub named : goodName (new .name) ≡ true
   pub commented : goodComment (new .comment) ≡ true
-  pub from-6 : 6 ≤ f
-  pub there : T (exists img f)
-  pub below : f < limit
-  pub fresh : anodesOf img .block f ≡ 0
-  pub between : Anodes
-  pub own : ownBlock img (new .dir) (rewritten (anodesOf img) f 0 65535) f ≡ planned between ys
-  pub roomy : firstRoom img (entryLength (length (new .name)) (length (new .comment))) (blocksOf (anodesOf img) h) ≡ room
-  pub parent : parentBlock img room between h ≡ planned t zs
 
 module _ {img : List ℕ} {blocks anodes h : ℕ} {new : NewEntry} {f : ℕ} {room : Option ℕ} {ys : List ℕ} {t : Anodes} {zs : List ℕ} (m : Making img blocks anodes h new f room ys t zs) where
   abbrev s : Anodes
@@ -98,17 +88,20 @@ module _ {img : List ℕ} {blocks anodes h : ℕ} {new : NewEntry} {f : ℕ} {ro
   abbrev dirs : List Dir
   dirs = reachedDirs img s
 
+  pub spare : (6 ≤ f) × (anodesOf img .block f ≡ 0) × T (exists img f)
+  spare = fresh-free (m .fresh)
+
   pub w : WholeImage img s (headIn img) (sideIn img) dirs
-  w = accepted-whole img blocks anodes (m .accepted)
+  w = accepted-whole img blocks anodes (m .fresh .accepted)
 
   pub once : headed h dirs ≡ 1
-  once = reached-headed img blocks anodes (m .accepted) h (m .reached)
+  once = reached-headed img blocks anodes (m .fresh .accepted) h (m .fresh .reached)
 
   pub plan : MadePlan s (headIn img) f h (new .dir) ys zs t
-  plan = made-plan img w f (m .from-6) (m .there) (m .below) (m .fresh) h once (new .dir) (m .between) ys (m .own) room t zs (m .parent)
+  plan = made-plan img w f (spare .0) (spare .2) (m .fresh .below) (spare .1) h once (new .dir) (m .steps .between) ys (m .steps .own) (noRoom room) t zs (m .steps .parent)
 
   pub state : (hd′ : ℕ → ℕ) × (sd′ : ℕ → ℕ) × Good limit (exists img) (diskSize img) (lastReserved img) t (systemOwns img) hd′ sd′
-  state = made-good img w f (m .from-6) (m .there) (m .below) (m .fresh) h once (new .dir) (m .between) ys (m .own) room t zs (m .parent)
+  state = made-good img w f (spare .0) (spare .2) (m .fresh .below) (spare .1) h once (new .dir) (m .steps .between) ys (m .steps .own) (noRoom room) t zs (m .steps .parent)
 
   pub good : Good limit (exists img) (diskSize img) (lastReserved img) t (systemOwns img) (state .0) (state .1)
   good = state .2
@@ -134,14 +127,14 @@ module _ {img : List ℕ} {blocks anodes h : ℕ} {new : NewEntry} {f : ℕ} {ro
   parent-data : (y : ℕ) → 0 < times y zs → DataBlock img y
   parent-data y p = let q = parent-block y p in rw (q .2) (single-data img good (q .0) (plan .ones (q .0) (q .1)))
 
-  -- they are no block of a directory that was (m .there), and not each other's
+  -- they are no block of a directory that was there, and not each other's
   old-apart : (a : ℕ) → s .count a ≡ 1 → headIn img a ≢ 1 → (times (s .block a) ys ≡ 0) × (times (s .block a) zs ≡ 0)
   old-apart a one q =
       let u : s .block a ≢ 0 = λ z. omega (arith, one, w .good .free-none a z) in
       let k = plan .kept a u q in
       let now : t .count a ≡ 1 = k .0 ∙ one in (
         none-in (s .block a) ys (λ p. let o = own-block (s .block a) p in
-            single-apart good a now f (o .0) (λ i. u (ap (s .block) i ∙ m .fresh)) (k .1 ∙ o .1)),
+            single-apart good a now f (o .0) (λ i. u (ap (s .block) i ∙ spare .1)) (k .1 ∙ o .1)),
         none-in (s .block a) zs (λ p. let o = parent-block (s .block a) p in
             single-apart good a now (o .0) (plan .ones (o .0) (o .1)) (λ i. plan .apart (o .0) (o .1) .1 (rw (← i) u) (rw (← i) q)) (k .1 ∙ o .2)),
       )
@@ -171,19 +164,19 @@ module _ {img : List ℕ} {blocks anodes h : ℕ} {new : NewEntry} {f : ℕ} {ro
   parent-kept = withBlocks-kept headed-own zs (newDirectoryBlock h (parentOf dirs h)) (omega (arith, length-new h (parentOf dirs h)))
 
   own-same : SameDisk img headed-own
-  own-same = same-then (stored-same img blocks anodes (m .accepted) t) own-kept (not-among ys own-data)
+  own-same = same-then (stored-same img blocks anodes (m .fresh .accepted) t) own-kept (not-among ys own-data)
 
   before-same : SameDisk img before
   before-same = same-then own-same parent-kept (not-among zs parent-data)
 
   before-anodes : anodesOf before ≡ t
   before-anodes =
-      anodes-then own-same parent-kept (not-among zs parent-data) ∙ anodes-then (stored-same img blocks anodes (m .accepted) t) own-kept (not-among ys own-data)
-      ∙ stored-anodes img blocks anodes (m .accepted) t good
+      anodes-then own-same parent-kept (not-among zs parent-data) ∙ anodes-then (stored-same img blocks anodes (m .fresh .accepted) t) own-kept (not-among ys own-data)
+      ∙ stored-anodes img blocks anodes (m .fresh .accepted) t good
 
   -- a data block that is not new is the one that was
   pub kept-block : (y : ℕ) → DataBlock img y → times y ys ≡ 0 → times y zs ≡ 0 → blockOf before y ≡ blockOf img y
-  kept-block y d o p = parent-kept .block-kept y p ∙ own-kept .block-kept y o ∙ stored-kept img blocks anodes (m .accepted) t .block-kept y (d .unheld)
+  kept-block y d o p = parent-kept .block-kept y p ∙ own-kept .block-kept y o ∙ stored-kept img blocks anodes (m .fresh .accepted) t .block-kept y (d .unheld)
 
   pub old-block : (a : ℕ) → s .count a ≡ 1 → headIn img a ≢ 1 → blockOf before (s .block a) ≡ blockOf img (s .block a)
   old-block a one q = let o = old-apart a one q in kept-block (s .block a) (single-data img (w .good) a one) (o .0) (o .1)
@@ -193,7 +186,7 @@ module _ {img : List ℕ} {blocks anodes h : ℕ} {new : NewEntry} {f : ℕ} {ro
 
   pub own-new : (y : ℕ) → 0 < times y ys → blockOf before y ≡ newDirectoryBlock f h
   own-new y p = parent-kept .block-kept y (new-apart y p)
-      ∙ blockOf-withBlocks base ys (newDirectoryBlock f h) y (length-new f h) p (rw (stored-same img blocks anodes (m .accepted) t .kept .length-kept) (own-data y p .inside))
+      ∙ blockOf-withBlocks base ys (newDirectoryBlock f h) y (length-new f h) p (rw (stored-same img blocks anodes (m .fresh .accepted) t .kept .length-kept) (own-data y p .inside))
 
   pub parent-new : (y : ℕ) → 0 < times y zs → blockOf before y ≡ newDirectoryBlock h (parentOf dirs h)
   parent-new y p = blockOf-withBlocks headed-own zs (newDirectoryBlock h (parentOf dirs h)) y (length-new h (parentOf dirs h)) p
@@ -207,7 +200,7 @@ module _ {img : List ℕ} {blocks anodes h : ℕ} {new : NewEntry} {f : ℕ} {ro
 
   pub orphan : (hd′ : ℕ → ℕ) × (sd′ : ℕ → ℕ) × Orphaned (exists img) (diskSize img) (lastReserved img) f t (systemOwns img) hd′ sd′ (entriesIn before) (isBlockOf before) dirs
   unfolding entriesIn
-  orphan = made-orphan img w f (m .from-6) (m .there) (m .below) (m .fresh) h once (new .dir) (m .between) ys (m .own) room t zs (m .parent) (entriesIn before) (isBlockOf before) cont
+  orphan = made-orphan img w f (spare .0) (spare .2) (m .fresh .below) (spare .1) h once (new .dir) (m .steps .between) ys (m .steps .own) (noRoom room) t zs (m .steps .parent) (entriesIn before) (isBlockOf before) cont
       (λ y e. rw (parent-new y (first-in y zs e)) (entries-new h (parentOf dirs h) y))
       (λ y e. each-map (λ d. d .head ≡ h → d .parent ≡ parentOf dirs h) (λ d. d .head ≡ h → T (isBlockOf before d y)) dirs
       (λ d p q. new-marked before y h (parentOf dirs h) (parent-new y (first-in y zs e)) d q (p q)) (parents-right h dirs once))
@@ -227,21 +220,21 @@ module _ {img : List ℕ} {blocks anodes h : ℕ} {new : NewEntry} {f : ℕ} {ro
     pub unbroken : anyIn (λ e. e .broken) (entriesIn before (t .block anode)) ≡ false
 
   not-1 : h ≢ 1
-  not-1 e = omega (arith, e, reached-from-5 img blocks anodes (m .accepted) h (m .reached))
+  not-1 e = omega (arith, e, reached-from-5 img blocks anodes (m .fresh .accepted) h (m .fresh .reached))
 
   -- a block of the directory is that of one of its anodes
   block-anode : (y : ℕ) → 0 < times y (blocksOf s h) → (a : ℕ) × Member a (chainOf (s .next) limit h) × DirBlock img h a × (y ≡ s .block a)
   unfolding blocksOf run
   block-anode y p =
       let q = member-gather (λ a. run (s .block a) (s .count a)) (chainOf (s .next) limit h) y (times-member y (blocksOf s h) p) in
-      let b = dir-block img blocks anodes (m .accepted) h (m .reached) (q .0) (q .1) in
+      let b = dir-block img blocks anodes (m .fresh .accepted) h (m .fresh .reached) (q .0) (q .1) in
       let only : Member y (s .block (q .0) ∷ []) = rw (b .one) at (q .2) in
       (q .0, q .1, b, elim (member-cons y (s .block (q .0)) [] only) [ inl e ↦ e | inr e ↦ absurd (no-member y e) ])
 
   in-old : (place : ℕ) → room ≡ some place → Spot
   unfolding entriesIn
   in-old place e =
-      let found = room-found img len (blocksOf s h) place (m .roomy ∙ e) in
+      let found = room-found img len (blocksOf s h) place (m .steps .roomy ∙ e) in
       let b = block-anode (found .0) (found .1) in
       let a = b .0 in
       let one = b .2 .one in
@@ -260,7 +253,7 @@ module _ {img : List ℕ} {blocks anodes h : ℕ} {new : NewEntry} {f : ℕ} {ro
   in-new : room ≡ none → Spot
   unfolding entriesIn entryLength anyIn goodComment
   in-new e =
-      let took = parent-took img w f (m .from-6) (m .there) (m .below) (m .fresh) h once (new .dir) (m .between) ys (m .own) t zs (rw e at (m .parent)) in
+      let took = parent-took img w f (spare .0) (spare .2) (m .fresh .below) (spare .1) h once (new .dir) (m .steps .between) ys (m .steps .own) t zs (rw e at (m .steps .parent)) in
       let p = first-in (took .0) zs (took .1) in
       let b = parent-block (took .0) p in
       let block : blockOf before (t .block (b .0)) ≡ newDirectoryBlock h (parentOf dirs h) = ap (blockOf before) (sym (b .2)) ∙ parent-new (took .0) p in

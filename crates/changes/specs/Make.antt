@@ -4,9 +4,8 @@ use mathlib.Core.Path.{_≡_, refl, sym, ap, _∙_, subst}
 use mathlib.Core.Logic.{_≢_, _⊎_, inl, inr}
 use mathlib.Core.Bool.{Bool, true, false, cond}
 use mathlib.Core.List.{List, [], _∷_}
-use mathlib.Core.Option.{Option, none, some}
+use mathlib.Core.Option.{Option}
 use native.Mathlib.Omega.{arith}
-use lib.Dec.{T}
 use lib.ListN.{length}
 use borrow.Author.Tests.{lt-ltb, le-ltb}
 use Rattle.disk.specs.Blocks.{blockOf}
@@ -18,12 +17,11 @@ use Rattle.rules.specs.Chains.{blocksOf, blockCount, systemOwns}
 use Rattle.rules.specs.Walk.{Dir, Entered, entriesIn, isBlockOf, blocksFor, itemsBy, reachedDirs}
 use Rattle.rules.specs.Accepted.{diskSize, lastReserved, checkAnswer}
 use Rattle.rules.specs.Lookup.{noDirectory}
-use Rattle.rules.specs.Space.{Plan, refused, planned, rewritten, free, lowestFree}
-use Rattle.rules.specs.Changes.{firstRoom, ownBlock, parentBlock, newDirectoryBlock, entryPlace, NewEntry, entryOf, madeImage, Left, left, leftBy, madeIn, madeWith, made}
-use Rattle.laws.specs.Tests.{same?}
-use Rattle.laws.specs.Sums.{oneAt-cases, oneAt-same, least-cases}
+use Rattle.rules.specs.Space.{Plan, refused, planned, rewritten, lowestFree}
+use Rattle.rules.specs.Changes.{firstRoom, noRoom, neededBlock, newDirectoryBlock, entryPlace, NewEntry, entryOf, madeImage, Left, left, leftBy, madeIn, madeWith, made}
+use Rattle.laws.specs.Tests.{same?, less?}
+use Rattle.laws.specs.Sums.{oneAt-cases, oneAt-same}
 use Rattle.laws.specs.Bags.{list-cons, list-append, list-one}
-use Rattle.laws.specs.Arriving.{free-is}
 use Rattle.laws.specs.Refusals.{planned≢refused}
 use Rattle.laws.specs.RefusedSteps.{take-refused}
 use Rattle.laws.specs.Entries.{weighEntry, itemsAt-whole}
@@ -33,7 +31,7 @@ use Rattle.changes.specs.Image.{reached-sum, whole-accepted}
 use Rattle.changes.specs.FoundEntries.{enteredAt}
 use Rattle.changes.specs.Reached.{reached-head}
 use Rattle.changes.specs.NewEntry.{entries-new}
-use Rattle.changes.specs.MadeImage.{Making, new-marked, first-in, once, plan, before, own-new, orphan, spot, made-same, made-anodes, entries-made, marks-made, entry-other, its-head, other-entries}
+use Rattle.changes.specs.MadeImage.{Making, spare, new-marked, first-in, once, plan, before, own-new, orphan, spot, made-same, made-anodes, entries-made, marks-made, entry-other, its-head, other-entries}
 
 module _ {img : List ℕ} {blocks anodes h : ℕ} {new : NewEntry} {f : ℕ} {room : Option ℕ} {ys : List ℕ} {t : Anodes} {zs : List ℕ} (m : Making img blocks anodes h new f room ys t zs) where
   abbrev s : Anodes
@@ -67,8 +65,8 @@ module _ {img : List ℕ} {blocks anodes h : ℕ} {new : NewEntry} {f : ℕ} {ro
 
   -- which is not the new chain's
   not-spot : f ≢ spot m .anode
-  not-spot e = reached-head img blocks anodes (m .accepted) h (m .reached) .in-use
-      (ap (s .block) (sym (its-head m) ∙ ap (orphan m .0) (sym e) ∙ orphan m .2 .good .heads .at-head f (orphan m .2 .head)) ∙ m .fresh)
+  not-spot e = reached-head img blocks anodes (m .fresh .accepted) h (m .fresh .reached) .in-use
+      (ap (s .block) (sym (its-head m) ∙ ap (orphan m .0) (sym e) ∙ orphan m .2 .good .heads .at-head f (orphan m .2 .head)) ∙ spare m .1)
 
   -- the new directory has no entry
   own-empty : new .dir ≡ true → itemsBy (entriesIn j) (isBlockOf j) t (record { head = f; parent = h }) ≡ []
@@ -102,9 +100,9 @@ module _ {img : List ℕ} {blocks anodes h : ℕ} {new : NewEntry} {f : ℕ} {ro
       is-dir false = refl
 
       go : (b : Bool) → new .dir ≡ b → Whole (exists img) (diskSize img) (lastReserved img) t (systemOwns img) (orphan m .0) (orphan m .1) (entriesIn j) (isBlockOf j) (grown b)
-      go true d = enter-directory entered (orphan m .2) (m .from-6) refl (inl (is-dir (new .dir) ∙ d)) (spot m .anode) h (once m) (its-head m) (entriesIn j) (isBlockOf j)
+      go true d = enter-directory entered (orphan m .2) (spare m .0) refl (inl (is-dir (new .dir) ∙ d)) (spot m .anode) h (once m) (its-head m) (entriesIn j) (isBlockOf j)
           (λ a i q v. gained a i v) (λ a i q c. same-marks a i c) (is-dir (new .dir) ∙ d) (own-empty d)
-      go false d = enter-file entered (orphan m .2) (m .from-6) refl (inr (none-yet d)) (spot m .anode) h (once m) (its-head m) (entriesIn j) (isBlockOf j)
+      go false d = enter-file entered (orphan m .2) (spare m .0) refl (inr (none-yet d)) (spot m .anode) h (once m) (its-head m) (entriesIn j) (isBlockOf j)
           (λ a i q v. gained a i v) (λ a i q c. same-marks a i c) (is-dir (new .dir) ∙ d)
 
   image-whole : Whole (exists img) (diskSize img) (lastReserved img) (anodesOf j) (systemOwns img) (orphan m .0) (orphan m .1) (entriesIn j) (isBlockOf j) (grown (new .dir))
@@ -112,18 +110,24 @@ module _ {img : List ℕ} {blocks anodes h : ℕ} {new : NewEntry} {f : ℕ} {ro
       (sym (made-anodes m)) made-whole
 
   pub image-accepted : checkAnswer (madeImage img (anodesOf img) h new f room ys t zs) blocks anodes ≡ 0
-  image-accepted = whole-accepted img j blocks anodes (m .accepted) (made-same m) image-whole
+  image-accepted = whole-accepted img j blocks anodes (m .fresh .accepted) (made-same m) image-whole
 
   -- the directories that were reached are, and the new one
   pub made-dirs : (weight : Dir → ℕ) → sumList weight (reachedDirs (madeImage img (anodesOf img) h new f room ys t zs) (anodesOf (madeImage img (anodesOf img) h new f room ys t zs)))
       ≡ sumList weight (reachedDirs img (anodesOf img)) + cond (new .dir) (weight (record { head = f; parent = h })) 0
-  made-dirs weight = reached-sum img j blocks anodes (m .accepted) (made-same m) image-whole weight ∙ go (new .dir)
+  made-dirs weight = reached-sum img j blocks anodes (m .fresh .accepted) (made-same m) image-whole weight ∙ go (new .dir)
     where
       go : (b : Bool) → sumList weight (grown b) ≡ sumList weight dirs + cond b (weight (record { head = f; parent = h })) 0
       go true = omega (arith, list-cons weight (record { head = f; parent = h }) dirs)
       go false = omega arith
 
 -- ---- every way that a make can end
+
+-- the step for a directory block is refused with 27 or 28
+pub needed-refused : (img : List ℕ) (needed : Bool) (s : Anodes) (h n : ℕ) → neededBlock img needed s h ≡ refused n → (n ≡ 27) ⊎ (n ≡ 28)
+unfolding neededBlock
+needed-refused img true s h n e = take-refused limit (exists img) (lastReserved img) true s h n e
+needed-refused img false s h n e = absurd (planned≢refused s [] n e)
 
 module _ (img : List ℕ) (s : Anodes) (h : ℕ) (new : NewEntry) where
   abbrev first : ℕ
@@ -132,62 +136,43 @@ module _ (img : List ℕ) (s : Anodes) (h : ℕ) (new : NewEntry) where
   abbrev space : Option ℕ
   space = firstRoom img (entryLength (length (new .name)) (length (new .comment))) (blocksOf s h)
 
-  own-refused : (dir : Bool) (n : ℕ) → ownBlock img dir (rewritten s first 0 65535) first ≡ refused n → (n ≡ 27) ⊎ (n ≡ 28)
-  unfolding ownBlock
-  own-refused true n e = take-refused limit (exists img) (lastReserved img) true (rewritten s first 0 65535) first n e
-  own-refused false n e = absurd (planned≢refused (rewritten s first 0 65535) [] n e)
-
-  parent-refused : (o : Option ℕ) (r : Anodes) (n : ℕ) → parentBlock img o r h ≡ refused n → (n ≡ 27) ⊎ (n ≡ 28)
-  unfolding parentBlock
-  parent-refused none r n e = take-refused limit (exists img) (lastReserved img) true r h n e
-  parent-refused (some place) r n e = absurd (planned≢refused r [] n e)
-
   -- refused with 27 or 28, or done by steps that are
   module _ (P : Left → Type 0) (full : P (left 27 img)) (no-anode : P (left 28 img))
-      (done : lowestFree limit (exists img) (lastReserved img) s < limit → T (free limit (exists img) (lastReserved img) s (lowestFree limit (exists img) (lastReserved img) s)) → (r : Anodes) (ys : List ℕ) →
-      ownBlock img (new .dir) (rewritten s (lowestFree limit (exists img) (lastReserved img) s) 0 65535) (lowestFree limit (exists img) (lastReserved img) s) ≡ planned r ys → (t : Anodes) (zs : List ℕ) →
-      parentBlock img (firstRoom img (entryLength (length (new .name)) (length (new .comment))) (blocksOf s h)) r h ≡ planned t zs →
+      (done : lowestFree limit (exists img) (lastReserved img) s < limit → (r : Anodes) (ys : List ℕ) →
+      neededBlock img (new .dir) (rewritten s (lowestFree limit (exists img) (lastReserved img) s) 0 65535) (lowestFree limit (exists img) (lastReserved img) s) ≡ planned r ys → (t : Anodes) (zs : List ℕ) →
+      neededBlock img (noRoom (firstRoom img (entryLength (length (new .name)) (length (new .comment))) (blocksOf s h))) r h ≡ planned t zs →
       P (left 0 (madeImage img s h new (lowestFree limit (exists img) (lastReserved img) s) (firstRoom img (entryLength (length (new .name)) (length (new .comment))) (blocksOf s h)) ys t zs))) where
     refused-with : (n : ℕ) → (n ≡ 27) ⊎ (n ≡ 28) → P (left n img)
     refused-with n (inl e) = rw e full
     refused-with n (inr e) = rw e no-anode
 
     pub made-cases : P (made img s h new)
-    unfolding made madeWith lowestFree
-    made-cases = elim (least-cases (free limit (exists img) (lastReserved img) s) limit) [
-      | inr d ↦ rw (le-ltb first limit (omega (arith, d .0))) no-anode
-      | inl d ↦ rw (lt-ltb first limit (d .0)) (owning (ownBlock img (new .dir) (rewritten s first 0 65535) first) refl (d .0) (d .1))
+    unfolding made madeWith
+    made-cases = elim (less? first limit) [
+      | inr l ↦ rw (le-ltb first limit l) no-anode
+      | inl l ↦ rw (lt-ltb first limit l) (owning (neededBlock img (new .dir) (rewritten s first 0 65535) first) refl l)
     ]
       where
-        owning : (p : Plan) → ownBlock img (new .dir) (rewritten s first 0 65535) first ≡ p → first < limit → T (free limit (exists img) (lastReserved img) s first) → P (madeIn p img s h new first space)
-        owning (refused n) e l x = refused-with n (own-refused (new .dir) n e)
-        owning (planned r ys) e l x = taking (parentBlock img space r h) refl
+        owning : (p : Plan) → neededBlock img (new .dir) (rewritten s first 0 65535) first ≡ p → first < limit → P (madeIn p img s h new first space)
+        owning (refused n) e l = refused-with n (needed-refused img (new .dir) (rewritten s first 0 65535) first n e)
+        owning (planned r ys) e l = taking (neededBlock img (noRoom space) r h) refl
           where
-            taking : (p : Plan) → parentBlock img space r h ≡ p → P (leftBy p img (madeImage img s h new first space ys))
-            taking (refused n) q = refused-with n (parent-refused space r n q)
-            taking (planned t zs) q = done l x r ys e t zs q
+            taking : (p : Plan) → neededBlock img (noRoom space) r h ≡ p → P (leftBy p img (madeImage img s h new first space ys))
+            taking (refused n) q = refused-with n (needed-refused img (noRoom space) r h n q)
+            taking (planned t zs) q = done l r ys e t zs q
 
   -- it answers 0, 27 or 28
   pub made-answer : (made img s h new .answer ≡ 0) ⊎ ((made img s h new .answer ≡ 27) ⊎ (made img s h new .answer ≡ 28))
-  made-answer = made-cases (λ o. (o .answer ≡ 0) ⊎ ((o .answer ≡ 27) ⊎ (o .answer ≡ 28))) (inr (inl refl)) (inr (inr refl)) (λ l x r ys e t zs q. inl refl)
+  made-answer = made-cases (λ o. (o .answer ≡ 0) ⊎ ((o .answer ≡ 27) ⊎ (o .answer ≡ 28))) (inr (inl refl)) (inr (inr refl)) (λ l r ys e t zs q. inl refl)
 
 -- what a make leaves of an accepted image is accepted
 pub make-accepted : (img : List ℕ) (blocks anodes : ℕ) → checkAnswer img blocks anodes ≡ 0 → (h : ℕ) → noDirectory img (anodesOf img) h ≡ false → (new : NewEntry) → goodName (new .name) ≡ true →
     goodComment (new .comment) ≡ true → checkAnswer (made img (anodesOf img) h new .image) blocks anodes ≡ 0
 make-accepted img blocks anodes accepted h reached new named commented =
     made-cases img (anodesOf img) h new (λ o. checkAnswer (o .image) blocks anodes ≡ 0) accepted accepted
-    (λ l x r ys e t zs q. let i = free-is limit (exists img) (lastReserved img) (anodesOf img) _ x in
-    image-accepted (record {
-      accepted = accepted;
-      reached = reached;
+    (λ l r ys e t zs q. image-accepted (record {
+      fresh = record { accepted = accepted; reached = reached; lowest = refl; below = l };
+      steps = record { between = r; own = e; roomy = refl; parent = q };
       named = named;
       commented = commented;
-      from-6 = i .0;
-      there = i .2;
-      below = l;
-      fresh = i .1;
-      between = r;
-      own = e;
-      roomy = refl;
-      parent = q;
     }))

@@ -36,7 +36,7 @@ use Rattle.changes.specs.Members.{Member, none-in, member-first, member-
 use Rattle.changes.specs.Reached.{block-on, reached-from-5, reached-head, dir-block, entry-facts, not-file}
 use Rattle.changes.specs.EntryBytes.{entryBytes, bytes-at, with-length}
 use Rattle.changes.specs.NewEntry.{entries-new, comment-put}
-use Rattle.changes.specs.MadeImage.{Making, w, plan, own-block, parent-block, before, kept-block, parent-new, cont, old-block, orphan, spot, inside-before, spot-data, in-block, at-end, entry-kept, entry-block, entry-other, made-anodes, entries-made, other-entries, its-head}
+use Rattle.changes.specs.MadeImage.{Making, spare, w, plan, own-block, parent-block, before, kept-block, parent-new, cont, old-block, orphan, spot, inside-before, spot-data, in-block, at-end, entry-kept, entry-block, entry-other, made-anodes, entries-made, other-entries, its-head}
 use Rattle.changes.specs.Make.{made-dirs}
 
 -- a list with one more element somewhere in it
@@ -94,13 +94,13 @@ module _ {img : List ℕ} {blocks anodes h : ℕ} {new : NewEntry} {f : ℕ} {ro
   -- an anode of a directory that was reached
   module _ (k : ℕ) (r : noDirectory img s k ≡ false) (a : ℕ) (on : Member a (chainOf (s .next) limit k)) where
     one : s .count a ≡ 1
-    one = dir-block img blocks anodes (m .accepted) k r a on .one
+    one = dir-block img blocks anodes (m .fresh .accepted) k r a on .one
 
     head-not-1 : headIn img a ≢ 1
-    head-not-1 q = omega (arith, reached-from-5 img blocks anodes (m .accepted) k r, dir-block img blocks anodes (m .accepted) k r a on .on-chain, q)
+    head-not-1 q = omega (arith, reached-from-5 img blocks anodes (m .fresh .accepted) k r, dir-block img blocks anodes (m .fresh .accepted) k r a on .on-chain, q)
 
     same-place : (t .count a ≡ s .count a) × (t .block a ≡ s .block a)
-    same-place = plan m .kept a (dir-block img blocks anodes (m .accepted) k r a on .in-use) head-not-1
+    same-place = plan m .kept a (dir-block img blocks anodes (m .fresh .accepted) k r a on .in-use) head-not-1
 
     before-same : entriesIn (before m) (t .block a) ≡ entriesIn img (s .block a)
     before-same = ap (entriesIn (before m)) (same-place .1) ∙ cont m a one head-not-1 .0
@@ -108,7 +108,7 @@ module _ {img : List ℕ} {blocks anodes h : ℕ} {new : NewEntry} {f : ℕ} {ro
   -- ---- the entries of other directories
 
   head-now : (k : ℕ) → noDirectory img s k ≡ false → Head (t .next) (t .block) k
-  head-now k r = dir-head (orphan m .2) k (reached-headed img blocks anodes (m .accepted) k r)
+  head-now k r = dir-head (orphan m .2) k (reached-headed img blocks anodes (m .fresh .accepted) k r)
 
   -- every other directory has the entries that it had
   pub entries-kept : (k : ℕ) → noDirectory img (anodesOf img) k ≡ false → k ≢ h →
@@ -120,7 +120,7 @@ module _ {img : List ℕ} {blocks anodes h : ℕ} {new : NewEntry} {f : ℕ} {ro
       other-entries m a (same-place k r a on .0 ∙ one k r a on) (not-spot a on) ∙ before-same k r a on))
     where
       same : chainOf (t .next) limit k ≡ chainOf (s .next) limit k
-      same = plan m .others k (reached-head img blocks anodes (m .accepted) k r) (λ q. omega (arith, q, reached-from-5 img blocks anodes (m .accepted) k r)) kh
+      same = plan m .others k (reached-head img blocks anodes (m .fresh .accepted) k r) (λ q. omega (arith, q, reached-from-5 img blocks anodes (m .fresh .accepted) k r)) kh
 
       not-spot : (a : ℕ) → Member a (chainOf (s .next) limit k) → a ≢ spot m .anode
       not-spot a on e = kh (sym (on-chain (orphan m .2 .good) k (head-now k r) a (rw same (member-times a (chainOf (s .next) limit k) on)) .0) ∙ ap (orphan m .0) e ∙ its-head m)
@@ -136,7 +136,7 @@ module _ {img : List ℕ} {blocks anodes h : ℕ} {new : NewEntry} {f : ℕ} {ro
   -- each anode of it has one block
   ones : (a : ℕ) → 0 < times a (chainOf (t .next) limit h) → t .count a ≡ 1
   ones a p = elim (less? 0 (times a (chainOf (s .next) limit h))) [
-    | inl q ↦ (let on = times-member a (chainOf (s .next) limit h) q in same-place h (m .reached) a on .0 ∙ one h (m .reached) a on)
+    | inl q ↦ (let on = times-member a (chainOf (s .next) limit h) q in same-place h (m .fresh .reached) a on .0 ∙ one h (m .fresh .reached) a on)
     | inr q ↦ plan m .ones a (omega (arith, p, q, ap (times a) (plan m .chain), times-append a (chainOf (s .next) limit h) (plan m .new)))
   ]
 
@@ -152,7 +152,7 @@ module _ {img : List ℕ} {blocks anodes h : ℕ} {new : NewEntry} {f : ℕ} {ro
   before-all =
       ap (gather was) (plan m .chain) ∙ gather-append was (chainOf (s .next) limit h) (plan m .new)
       ∙ ap₂ (λ (k l : List Entered). k ++ l)
-      (gather-congr was (λ a. entriesIn img (s .block a)) (chainOf (s .next) limit h) (λ a on. before-same h (m .reached) a on))
+      (gather-congr was (λ a. entriesIn img (s .block a)) (chainOf (s .next) limit h) (λ a on. before-same h (m .fresh .reached) a on))
       (gather-none was (plan m .new) new-none)
       ∙ append-nil (gather (λ a. entriesIn img (s .block a)) (chainOf (s .next) limit h))
 
@@ -173,7 +173,7 @@ module _ {img : List ℕ} {blocks anodes h : ℕ} {new : NewEntry} {f : ℕ} {ro
       go : Member (spot m .anode) (chainOf (t .next) limit h) → EntryAdded (enteredAt (entryOf new f) (entryPlace room zs)) (entriesOf img s h) (entriesOf j (anodesOf j) h)
       go (front, back, parted) =
           let a = spot m .anode in
-          let once = stands-once (orphan m .2 .good) h (head-now h (m .reached)) a front back parted in
+          let once = stands-once (orphan m .2 .good) h (head-now h (m .fresh .reached)) a front back parted in
           let all : (x : ℕ) → times x (chainOf (t .next) limit h) ≡ times x front + (oneAt a x + times x back) = λ x.
           ap (times x) parted ∙ times-append x front (a ∷ back) ∙ ap (λ (n : ℕ). times x front + n) (times-cons x a back) in
           record {
@@ -219,7 +219,7 @@ module _ {img : List ℕ} {blocks anodes h : ℕ} {new : NewEntry} {f : ℕ} {ro
     now-head = plan m .stays k d
 
     not-f : k ≢ f
-    not-f e = d .in-use (ap (s .block) e ∙ m .fresh)
+    not-f e = d .in-use (ap (s .block) e ∙ spare m .1)
 
     -- its blocks are none of the new ones, and not the one that has the entry
     apart-f : (y : ℕ) → 0 < times y (blocksOf t k) → 0 < times y ys → ⊥
@@ -234,7 +234,7 @@ module _ {img : List ℕ} {blocks anodes h : ℕ} {new : NewEntry} {f : ℕ} {ro
     apart-h : (a : ℕ) → 0 < times a (chainOf (t .next) limit h) → 0 < times (t .block a) (blocksOf t k) → ⊥
     apart-h a on p = omega (
       arith,
-      chains-apart (orphan m .2 .good) k h now-head (head-now h (m .reached)) kh (t .block a) p,
+      chains-apart (orphan m .2 .good) k h now-head (head-now h (m .fresh .reached)) kh (t .block a) p,
       block-on t h a (times-member a (chainOf (t .next) limit h) on) (ones a on),
     )
 
@@ -254,8 +254,8 @@ module _ {img : List ℕ} {blocks anodes h : ℕ} {new : NewEntry} {f : ℕ} {ro
       contents (madeImage img (anodesOf img) h new f room ys t zs) (anodesOf (madeImage img (anodesOf img) h new f room ys t zs)) e ≡ contents img (anodesOf img) e
   unfolding contents
   contents-kept k r e on file =
-      let g = entry-facts img blocks anodes (m .accepted) k r e on in
-      rw (made-anodes m) (ap (take (e .size)) (bytes-same (e .anode) (g .head) (λ q. omega (arith, q, g .from-6)) (λ q. not-file img blocks anodes (m .accepted) h (m .reached) k e g file (sym q))))
+      let g = entry-facts img blocks anodes (m .fresh .accepted) k r e on in
+      rw (made-anodes m) (ap (take (e .size)) (bytes-same (e .anode) (g .head) (λ q. omega (arith, q, g .from-6)) (λ q. not-file img blocks anodes (m .fresh .accepted) h (m .fresh .reached) k e g file (sym q))))
 
   -- ---- the bytes of entries
 
@@ -272,7 +272,7 @@ module _ {img : List ℕ} {blocks anodes h : ℕ} {new : NewEntry} {f : ℕ} {ro
       entryBytes (madeImage img (anodesOf img) h new f room ys t zs) (e .place) ≡ entryBytes img (e .place)
   unfolding entriesIn
   bytes-kept k r e on =
-      let g = entry-facts img blocks anodes (m .accepted) k r e on in
+      let g = entry-facts img blocks anodes (m .fresh .accepted) k r e on in
       let a = g .a₀ in
       let kept = same-place k r a (g .member-chain) in
       let old = old-block m a (one k r a (g .member-chain)) (head-not-1 k r a (g .member-chain)) in

@@ -4,22 +4,23 @@ use mathlib.Core.Path.{_≡_, refl, sym, ap, _∙_, subst}
 use mathlib.Core.Logic.{_≢_, inl, inr}
 use mathlib.Core.Bool.{Bool, true, false, cond}
 use mathlib.Core.List.{List, [], _∷_, _++_, map, append-nil}
-use mathlib.Core.Option.{Option, none, some}
+use mathlib.Core.Option.{Option}
 use native.Mathlib.Omega.{arith}
 use lib.Dec.{T}
 use Rattle.rules.specs.Counting.{times, changed}
-use Rattle.rules.specs.Anodes.{Anodes, limit, exists}
-use Rattle.rules.specs.Chains.{chainOf, systemOwns}
+use Rattle.rules.specs.Anodes.{Anodes, limit, exists, anodesOf}
+use Rattle.rules.specs.Chains.{chainOf, blocksOf, systemOwns}
 use Rattle.rules.specs.Walk.{Dir, Entered}
-use Rattle.rules.specs.Accepted.{diskSize, lastReserved}
-use Rattle.rules.specs.Space.{planned, rewritten}
-use Rattle.rules.specs.Changes.{ownBlock, parentBlock}
+use Rattle.rules.specs.Accepted.{diskSize, lastReserved, checkAnswer}
+use Rattle.rules.specs.Lookup.{noDirectory}
+use Rattle.rules.specs.Space.{planned, rewritten, free, lowestFree}
+use Rattle.rules.specs.Changes.{firstRoom, noRoom, neededBlock}
 use Rattle.laws.specs.Tests.{same?}
-use Rattle.laws.specs.Sums.{oneAt-cases, oneAt-same, oneAt-other, oneAt-le, changed-same, changed-other}
+use Rattle.laws.specs.Sums.{oneAt-cases, oneAt-same, oneAt-other, oneAt-le, changed-same, changed-other, least-cases}
 use Rattle.laws.specs.Bags.{times-nil, times-cons, times-append}
 use Rattle.laws.specs.Heads.{Head, head-of-is, times-on-chain}
 use Rattle.laws.specs.Space.{Good}
-use Rattle.laws.specs.Arriving.{planned-same}
+use Rattle.laws.specs.Arriving.{free-is, planned-same}
 use Rattle.laws.specs.Take.{take-good}
 use Rattle.laws.specs.Frame.{Shift, kept-chain, take-shift}
 use Rattle.laws.specs.Each.{Each}
@@ -29,6 +30,28 @@ use Rattle.laws.specs.OwnBlock.{own-filled}
 use Rattle.laws.specs.Orphan.{Orphaned, not-dir, orphan-changed}
 use Rattle.laws.specs.DirectoryTakes.{find-headed, dir-head, dir-not-1, dir-taken, directory-takes}
 use Rattle.laws.specs.Make.{fresh-chain, fresh-orphan}
+
+-- h heads a reached directory of an accepted image, and f is the lowest free anode
+pub record Fresh (img : List ℕ) (blocks anodes h f : ℕ) : Type 0 where
+  pub accepted : checkAnswer img blocks anodes ≡ 0
+  pub reached : noDirectory img (anodesOf img) h ≡ false
+  pub lowest : lowestFree limit (exists img) (lastReserved img) (anodesOf img) ≡ f
+  pub below : f < limit
+
+-- the lowest free anode is free
+pub fresh-free : {img : List ℕ} {blocks anodes h f : ℕ} → Fresh img blocks anodes h f → (6 ≤ f) × (anodesOf img .block f ≡ 0) × T (exists img f)
+unfolding lowestFree
+fresh-free {img} {f = f} x = free-is limit (exists img) (lastReserved img) (anodesOf img) f (elim (least-cases (free limit (exists img) (lastReserved img) (anodesOf img)) limit) [
+  | inl i ↦ subst (λ (a : ℕ). T (free limit (exists img) (lastReserved img) (anodesOf img) a)) (x .lowest) (i .1)
+  | inr i ↦ absurd (omega (arith, i .0, x .lowest, x .below))
+])
+
+-- the steps of a make that is planned: f is the fresh head, ys its own block, zs the block that the parent h takes where it has no room
+pub record MakeSteps (img : List ℕ) (dir : Bool) (len h f : ℕ) (room : Option ℕ) (ys : List ℕ) (t : Anodes) (zs : List ℕ) : Type 0 where
+  pub between : Anodes
+  pub own : neededBlock img dir (rewritten (anodesOf img) f 0 65535) f ≡ planned between ys
+  pub roomy : firstRoom img len (blocksOf (anodesOf img) h) ≡ room
+  pub parent : neededBlock img (noRoom room) between h ≡ planned t zs
 
 -- what the steps of a make leave from s to t, where f is the fresh head and h the parent's, ys the own block and zs the parent's new one
 pub record MadePlan (s : Anodes) (hd : ℕ → ℕ) (f h : ℕ) (dir : Bool) (ys zs : List ℕ) (t : Anodes) : Type 0 where
@@ -89,8 +112,8 @@ module _ (img : List ℕ) {s : Anodes} {hd sd : ℕ → ℕ} {entries : ℕ → 
     blocks = refl;
   }
 
-  own-step : (dir : Bool) (t : Anodes) (ys : List ℕ) → ownBlock img dir begun f ≡ planned t ys → OwnStep dir t ys
-  unfolding ownBlock
+  own-step : (dir : Bool) (t : Anodes) (ys : List ℕ) → neededBlock img dir begun f ≡ planned t ys → OwnStep dir t ys
+  unfolding neededBlock
   own-step true t ys e =
       let m = take-good (orphan .good) f (orphan .head) (λ q. omega (arith, f6, q)) true t ys e in
       let q = own-filled (orphan .good) f (orphan .head) (λ q. omega (arith, f6, q)) (own-none .chain) (own-none .count) t ys e in
@@ -99,7 +122,7 @@ module _ (img : List ℕ) {s : Anodes} {hd sd : ℕ → ℕ} {entries : ℕ → 
 
   -- ---- the parent's block
 
-  module _ (h : ℕ) (reached : headed h dirs ≡ 1) (dir : Bool) (r : Anodes) (ys : List ℕ) (own : ownBlock img dir (rewritten s f 0 65535) f ≡ planned r ys) where
+  module _ (h : ℕ) (reached : headed h dirs ≡ 1) (dir : Bool) (r : Anodes) (ys : List ℕ) (own : neededBlock img dir (rewritten s f 0 65535) f ≡ planned r ys) where
     abbrev step : OwnStep dir r ys
     step = own-step dir r ys own
 
@@ -140,10 +163,10 @@ module _ (img : List ℕ) {s : Anodes} {hd sd : ℕ → ℕ} {entries : ℕ → 
       others = λ m d m1 mh. refl;
     }
 
-    parent-step : (room : Option ℕ) (t : Anodes) (zs : List ℕ) → parentBlock img room r h ≡ planned t zs → ParentStep t zs
-    unfolding parentBlock
-    parent-step (some place) t zs e = let q = planned-same r t [] zs e in subst (ParentStep t) (sym (q .1)) (subst (λ (x : Anodes). ParentStep x []) (q .0) parent-none)
-    parent-step none t zs e =
+    parent-step : (needed : Bool) (t : Anodes) (zs : List ℕ) → neededBlock img needed r h ≡ planned t zs → ParentStep t zs
+    unfolding neededBlock
+    parent-step false t zs e = let q = planned-same r t [] zs e in subst (ParentStep t) (sym (q .1)) (subst (λ (x : Anodes). ParentStep x []) (q .0) parent-none)
+    parent-step true t zs e =
         let x = dir-taken o h reached t zs e in
         let m = take-good (o .good) h (dir-head o h reached) (dir-not-1 o h reached) true t zs e in
         let sh = take-shift (o .good) m in
@@ -183,13 +206,13 @@ module _ (img : List ℕ) {s : Anodes} {hd sd : ℕ → ℕ} {entries : ℕ → 
 
     -- nothing names the new chain yet
     parent-orphan : (entries′ : ℕ → List Entered) (marked′ : Dir → ℕ → Bool) → Orphaned (exists img) (diskSize img) (lastReserved img) f r (systemOwns img) (step .hd′) (step .sd′) entries′ marked′ dirs →
-        (room : Option ℕ) (t : Anodes) (zs : List ℕ) → parentBlock img room r h ≡ planned t zs → ((y : ℕ) → zs ≡ y ∷ [] → entries′ y ≡ []) →
+        (needed : Bool) (t : Anodes) (zs : List ℕ) → neededBlock img needed r h ≡ planned t zs → ((y : ℕ) → zs ≡ y ∷ [] → entries′ y ≡ []) →
         ((y : ℕ) → zs ≡ y ∷ [] → Each (λ d. d .head ≡ h → T (marked′ d y)) dirs) →
         (hd′ : ℕ → ℕ) × (sd′ : ℕ → ℕ) × Orphaned (exists img) (diskSize img) (lastReserved img) f t (systemOwns img) hd′ sd′ entries′ marked′ dirs
-    unfolding parentBlock
-    parent-orphan entries′ marked′ p (some place) t zs e empty its = let q = planned-same r t [] zs e in
+    unfolding neededBlock
+    parent-orphan entries′ marked′ p false t zs e empty its = let q = planned-same r t [] zs e in
         (step .hd′, step .sd′, subst (λ (x : Anodes). Orphaned (exists img) (diskSize img) (lastReserved img) f x (systemOwns img) (step .hd′) (step .sd′) entries′ marked′ dirs) (q .0) p)
-    parent-orphan entries′ marked′ p none t zs e empty its = (_, _, directory-takes p h reached t zs e empty its)
+    parent-orphan entries′ marked′ p true t zs e empty its = (_, _, directory-takes p h reached t zs e empty its)
 
     -- ---- both
 
@@ -227,10 +250,10 @@ module _ (img : List ℕ) {s : Anodes} {hd sd : ℕ → ℕ} {entries : ℕ → 
         let x = step .shift .apart a used not-1 not-f in
         (x .same-count ∙ changed-other (s .count) f 0 a af, x .same-block ∙ b, step .shift .same-hd a used not-1 not-f ∙ k)
 
-    pub made-plan : (room : Option ℕ) (t : Anodes) (zs : List ℕ) → parentBlock img room r h ≡ planned t zs → MadePlan s hd f h dir ys zs t
+    pub made-plan : (needed : Bool) (t : Anodes) (zs : List ℕ) → neededBlock img needed r h ≡ planned t zs → MadePlan s hd f h dir ys zs t
     unfolding rewritten
-    made-plan room t zs e =
-        let p = parent-step room t zs e in
+    made-plan needed t zs e =
+        let p = parent-step needed t zs e in
         let mine = p .kept f (own-head .in-use) (λ q. omega (arith, f6, step .good .heads .at-head f own-head, q)) in
         record {
           own-chain = p .others f own-head (λ q. omega (arith, f6, q)) (λ q. not-own (sym q)) ∙ step .chain;
@@ -250,18 +273,18 @@ module _ (img : List ℕ) {s : Anodes} {hd sd : ℕ → ℕ} {entries : ℕ → 
               p .others m (step .shift .stays m d′) m1 mh ∙ own-kept m d′ m1 (λ i. d .in-use (ap (s .block) i ∙ fresh));
         }
 
-    pub made-good : (room : Option ℕ) (t : Anodes) (zs : List ℕ) → parentBlock img room r h ≡ planned t zs →
+    pub made-good : (needed : Bool) (t : Anodes) (zs : List ℕ) → neededBlock img needed r h ≡ planned t zs →
         (hd′ : ℕ → ℕ) × (sd′ : ℕ → ℕ) × Good limit (exists img) (diskSize img) (lastReserved img) t (systemOwns img) hd′ sd′
-    made-good room t zs e = let p = parent-step room t zs e in (p .heads-now, p .sides-now, p .good)
+    made-good needed t zs e = let p = parent-step needed t zs e in (p .heads-now, p .sides-now, p .good)
 
     -- the chain of f is not named yet, with any entries and marks that agree with the old in the blocks of directories
-    pub made-orphan : (room : Option ℕ) (t : Anodes) (zs : List ℕ) → parentBlock img room r h ≡ planned t zs → (entries′ : ℕ → List Entered) (marked′ : Dir → ℕ → Bool)
+    pub made-orphan : (needed : Bool) (t : Anodes) (zs : List ℕ) → neededBlock img needed r h ≡ planned t zs → (entries′ : ℕ → List Entered) (marked′ : Dir → ℕ → Bool)
         (cont : (a : ℕ) → s .count a ≡ 1 → hd a ≢ 1 → (entries′ (s .block a) ≡ entries (s .block a)) × ((d : Dir) → marked′ d (s .block a) ≡ marked d (s .block a))) →
         ((y : ℕ) → zs ≡ y ∷ [] → entries′ y ≡ []) → ((y : ℕ) → zs ≡ y ∷ [] → Each (λ d. d .head ≡ h → T (marked′ d y)) dirs) →
         (hd′ : ℕ → ℕ) × (sd′ : ℕ → ℕ) × Orphaned (exists img) (diskSize img) (lastReserved img) f t (systemOwns img) hd′ sd′ entries′ marked′ dirs
-    made-orphan room t zs e entries′ marked′ cont empty its = parent-orphan entries′ marked′ (owned entries′ marked′ cont) room t zs e empty its
+    made-orphan needed t zs e entries′ marked′ cont empty its = parent-orphan entries′ marked′ (owned entries′ marked′ cont) needed t zs e empty its
 
     -- a parent with no room has taken a block
-    pub parent-took : (t : Anodes) (zs : List ℕ) → parentBlock img none r h ≡ planned t zs → (y : ℕ) × (zs ≡ y ∷ [])
-    unfolding parentBlock
+    pub parent-took : (t : Anodes) (zs : List ℕ) → neededBlock img true r h ≡ planned t zs → (y : ℕ) × (zs ≡ y ∷ [])
+    unfolding neededBlock
     parent-took t zs e = let x = dir-taken o h reached t zs e in (x .0, x .1)

@@ -86,7 +86,7 @@ module _ {img : List ℕ} {e : Entered} {t : Anodes} {ys : List ℕ} (p : Planne
         go (x ∷ l) q = absurd (true≢false q)
 
     -- the state that is left is whole, and every other directory is still in it
-    pub left-whole : let dead = onChain limit (exists img) (lastReserved img) t (e .anode) in (dirs : List Dir)
+    pub left-whole : let dead = onChain limit t (e .anode) in (dirs : List Dir)
         × Whole (exists img) (diskSize img) (lastReserved img) (anodesOf j) (systemOwns img) (without dead (Stores.ran p .hd′)) (without dead (Stores.ran p .sd′)) (entriesIn j) (isBlockOf j) dirs
         × ((x : ℕ) → x ≢ e .anode → headed x dirs ≡ headed x (reachedDirs img s))
     unfolding entriesOf

@@ -8,10 +8,9 @@ use native.Mathlib.Omega.{arith}
 use lib.ListN.{take}
 use Rattle.disk.specs.Blocks.{blockOf}
 use Rattle.rules.specs.Counting.{oneAt, times, gather}
-use Rattle.rules.specs.Anodes.{Anodes, limit, exists, anodesOf}
+use Rattle.rules.specs.Anodes.{Anodes, limit, anodesOf}
 use Rattle.rules.specs.Chains.{chainOf, blocksOf}
 use Rattle.rules.specs.Walk.{Entered, entriesIn, reachedDirs}
-use Rattle.rules.specs.Accepted.{lastReserved}
 use Rattle.rules.specs.Lookup.{noDirectory, entriesOf, notEmpty, bytesOf, contents}
 use Rattle.rules.specs.Space.{dropped}
 use Rattle.rules.specs.Changes.{removedImage}
@@ -39,7 +38,7 @@ module _ {img : List ℕ} {e : Entered} {t : Anodes} {ys : List ℕ} (p : Planne
   j = removedImage img e t ys
 
   abbrev end : Anodes
-  end = dropped limit (exists img) (lastReserved img) t (e .anode)
+  end = dropped limit t (e .anode)
 
   abbrev y : ℕ
   y = e .place / 512

@@ -67,7 +67,7 @@ module _ {img : List ℕ} {e : Entered} {t : Anodes} {ys : List ℕ} (p : Planne
   -- ---- its stores, one after the other
 
   abbrev end : Anodes
-  end = dropped limit (exists img) (lastReserved img) t (e .anode)
+  end = dropped limit t (e .anode)
 
   abbrev stored : List ℕ
   stored = withAnodes img end
@@ -79,8 +79,8 @@ module _ {img : List ℕ} {e : Entered} {t : Anodes} {ys : List ℕ} (p : Planne
   ran = shrink-ran (blockCount s (e .anode)) (e .anode) (not-1 p) t ys s (systemOwns img) (headIn img) (sideIn img) 0 (omega (arith, blocks-count (w p .good) (e .anode) (facts p .head))) (w p .good) (facts p .head)
       (p .plan)
 
-  pub end-good : let dead = onChain limit (exists img) (lastReserved img) t (e .anode) in
-      Good limit (exists img) (diskSize img) (lastReserved img) (dropped limit (exists img) (lastReserved img) t (e .anode)) (systemOwns img) (without dead (ran .hd′)) (without dead (ran .sd′))
+  pub end-good : let dead = onChain limit t (e .anode) in
+      Good limit (exists img) (diskSize img) (lastReserved img) (dropped limit t (e .anode)) (systemOwns img) (without dead (ran .hd′)) (without dead (ran .sd′))
   end-good = dropped-good (e .anode) (facts p .from-6) (facts p .head) ran
 
   same-block : blockOf stored y ≡ b
@@ -104,7 +104,7 @@ module _ {img : List ℕ} {e : Entered} {t : Anodes} {ys : List ℕ} (p : Planne
   pub removed-same : SameDisk img (removedImage img e t ys)
   removed-same = same-then (stored-same img (p .blocks) (p .anodes) (p .accepted) end) kept-last (not-one (block-data (facts p)))
 
-  pub removed-anodes : anodesOf (removedImage img e t ys) ≡ dropped limit (exists img) (lastReserved img) t (e .anode)
+  pub removed-anodes : anodesOf (removedImage img e t ys) ≡ dropped limit t (e .anode)
   removed-anodes =
       anodes-then (stored-same img (p .blocks) (p .anodes) (p .accepted) end) kept-last (not-one (block-data (facts p)))
       ∙ stored-anodes img (p .blocks) (p .anodes) (p .accepted) end end-good

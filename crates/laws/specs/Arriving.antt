@@ -2,16 +2,16 @@
 use Prim.Native.Nat.{ℕ, suc, _+_, _*_, _≤_, _<_}
 use mathlib.Core.Path.{_≡_, refl, sym, ap, _∙_}
 use mathlib.Core.Logic.{_≢_, _⊎_, inl, inr}
-use mathlib.Core.Bool.{Bool, true, false, not, _&&_}
+use mathlib.Core.Bool.{Bool, true, false, cond, _&&_}
 use mathlib.Core.List.{List, [], _∷_}
 use native.Mathlib.Omega.{arith}
 use native.Mathlib.Numerals.{add-one}
-use lib.Dec.{T, eqb, leb, ltb, eqb→eq, leb→le, ltb→lt, lt→ltb, T-not}
+use lib.Dec.{T, eqb, leb, ltb, eqb→eq, leb→le, ltb→lt, lt→ltb}
 use Rattle.rules.specs.Counting.{oneAt, least, changed}
 use Rattle.rules.specs.Anodes.{Anodes}
 use Rattle.rules.specs.Chains.{covers}
-use Rattle.rules.specs.Space.{refused, planned, rewritten, insertedAfter, free, lowestFree, append, growOrAppend, put, joinBefore, joinAfter, joinFilling, join}
-use Rattle.laws.specs.Tests.{cond-cases, T-false, eq→eqb, both}
+use Rattle.rules.specs.Space.{refused, planned, rewritten, insertedAfter, fillOr, growOr, growBeforeOr, free, lowestFree, append, put, join}
+use Rattle.laws.specs.Tests.{cond-cases, eq→eqb, both}
 use Rattle.laws.specs.Sums.{changed-other, least-cases}
 use Rattle.laws.specs.Ownership.{covers-none, covers-end, covers-front, hand}
 use Rattle.laws.specs.LinkChanges.{Which, first, second, third, insertAfter, insertAfter-cases}
@@ -58,30 +58,32 @@ module _ (A : ℕ) (ex : ℕ → Bool) (last : ℕ) where
       ((s .count z ≡ 0) × (put A ex last own s z y ≡ planned (rewritten s z 1 y) (y ∷ [])))
       ((s .count z ≢ 0) × (own ≡ false) × (s .block z + s .count z ≡ y) × (put A ex last own s z y ≡ planned (rewritten s z (s .count z + 1) (s .block z)) (y ∷ [])))
       ((s .count z ≢ 0) × ((own ≡ true) ⊎ (s .block z + s .count z ≢ y)) × (put A ex last own s z y ≡ append A ex last s z y))
-  unfolding put growOrAppend
-  put-cases own s z y = elim (cond-cases (eqb (s .count z) 0) (planned (rewritten s z 1 y) (y ∷ [])) (growOrAppend A ex last own s z y)) [
+  unfolding put fillOr growOr
+  put-cases own s z y = elim (cond-cases (eqb (s .count z) 0) (planned (rewritten s z 1 y) (y ∷ [])) (cond own (append A ex last s z y) (growOr s z y (append A ex last s z y)))) [
     | inl c ↦ first (eqb→eq (s .count z) 0 (c .0), c .1)
-    | inr c ↦ (let c0 : s .count z ≢ 0 = λ q. c .0 (eq→eqb (s .count z) 0 q) in
-        elim (cond-cases (not own && eqb (s .block z + s .count z) y) (planned (rewritten s z (s .count z + 1) (s .block z)) (y ∷ [])) (append A ex last s z y)) [
-          | inl d ↦ (let b = both (not own) (eqb (s .block z + s .count z) y) (d .0) in second (c0, T-false own (T-not own (b .0)), eqb→eq (s .block z + s .count z) y (b .1), c .1 ∙ d .1))
-          | inr d ↦ third (c0, apart own (d .0), c .1 ∙ d .1)
-        ])
+    | inr c ↦ behind-it own (λ q. c .0 (eq→eqb (s .count z) 0 q)) (c .1)
   ]
     where
-      apart : (b : Bool) → (T (not b && eqb (s .block z + s .count z) y) → ⊥) → (b ≡ true) ⊎ (s .block z + s .count z ≢ y)
-      apart true h = inl refl
-      apart false h = inr (λ q. h (eq→eqb (s .block z + s .count z) y q))
+      behind-it : (b : Bool) → s .count z ≢ 0 → put A ex last own s z y ≡ cond b (append A ex last s z y) (growOr s z y (append A ex last s z y)) → Which
+          ((s .count z ≡ 0) × (put A ex last own s z y ≡ planned (rewritten s z 1 y) (y ∷ [])))
+          ((s .count z ≢ 0) × (b ≡ false) × (s .block z + s .count z ≡ y) × (put A ex last own s z y ≡ planned (rewritten s z (s .count z + 1) (s .block z)) (y ∷ [])))
+          ((s .count z ≢ 0) × ((b ≡ true) ⊎ (s .block z + s .count z ≢ y)) × (put A ex last own s z y ≡ append A ex last s z y))
+      behind-it true c0 e = third (c0, inl refl, e)
+      behind-it false c0 e = elim (cond-cases (eqb (s .block z + s .count z) y) (planned (rewritten s z (s .count z + 1) (s .block z)) (y ∷ [])) (append A ex last s z y)) [
+        | inl d ↦ second (c0, refl, eqb→eq (s .block z + s .count z) y (d .0), e ∙ d .1)
+        | inr d ↦ third (c0, inr (λ q. d .0 (eq→eqb (s .block z + s .count z) y q)), e ∙ d .1)
+      ]
 
   -- which of these a join is
   pub join-cases : (s : Anodes) (z y : ℕ) → Joins A ex last s z y
-  unfolding join joinFilling joinAfter joinBefore
-  join-cases s z y = elim (cond-cases (eqb z 1) (append A ex last s z y) (joinFilling A ex last s z y)) [
+  unfolding join fillOr growOr growBeforeOr
+  join-cases s z y = elim (cond-cases (eqb z 1) (append A ex last s z y) (fillOr s z y (growOr s z y (growBeforeOr s z y (append A ex last s z y))))) [
     | inl c ↦ behind (inl (eqb→eq z 1 (c .0)), c .1)
     | inr c ↦ (let z1 : z ≢ 1 = λ q. c .0 (eq→eqb z 1 q) in
-        elim (cond-cases (eqb (s .count z) 0) (planned (rewritten s z 1 y) (y ∷ [])) (joinAfter A ex last s z y)) [
+        elim (cond-cases (eqb (s .count z) 0) (planned (rewritten s z 1 y) (y ∷ [])) (growOr s z y (growBeforeOr s z y (append A ex last s z y)))) [
           | inl d ↦ fills (z1, eqb→eq (s .count z) 0 (d .0), c .1 ∙ d .1)
           | inr d ↦ (let c0 : s .count z ≢ 0 = λ q. d .0 (eq→eqb (s .count z) 0 q) in
-              elim (cond-cases (eqb (s .block z + s .count z) y) (planned (rewritten s z (s .count z + 1) (s .block z)) (y ∷ [])) (joinBefore A ex last s z y)) [
+              elim (cond-cases (eqb (s .block z + s .count z) y) (planned (rewritten s z (s .count z + 1) (s .block z)) (y ∷ [])) (growBeforeOr s z y (append A ex last s z y))) [
                 | inl f ↦ ends (z1, c0, eqb→eq (s .block z + s .count z) y (f .0), c .1 ∙ d .1 ∙ f .1)
                 | inr f ↦ elim (cond-cases (eqb (y + 1) (s .block z)) (planned (rewritten s z (s .count z + 1) y) (y ∷ [])) (append A ex last s z y)) [
                   | inl i ↦ starts (z1, c0, eqb→eq (y + 1) (s .block z) (i .0), c .1 ∙ d .1 ∙ f .1 ∙ i .1)

@@ -86,21 +86,21 @@ module _ {ex : ℕ → Bool} {n last : ℕ} {s : Anodes} {system hd sd : ℕ →
 
   -- the chain of h, with no block, dropped
   module _ (h : ℕ) (h6 : 6 ≤ h) (d : Head (s .next) (s .block) h) (none : (a : ℕ) → hd a ≡ h → s .count a ≡ 0) (m : ℕ) (c : Head (s .next) (s .block) m) (mh : m ≢ h) where
-    alive : (a : ℕ) → hd a ≡ m → T (onChain limit ex last s h a) → ⊥
+    alive : (a : ℕ) → hd a ≡ m → T (onChain limit s h a) → ⊥
     alive a e t = mh (sym e ∙ dead-head g h h6 d none a t)
 
     -- leaves every other chain
-    dropped-chain : chainOf (dropped limit ex last s h .next) limit m ≡ chainOf (s .next) limit m
+    dropped-chain : chainOf (dropped limit s h .next) limit m ≡ chainOf (s .next) limit m
     unfolding dropped without
     dropped-chain = chain-the (drop-good g h h6 d none .view) (drop-good g h h6 d none .linked) m (chainOf (s .next) limit m)
-        (λ q. rw (T-false (onChain limit ex last s h m) (alive m (g .heads .at-head m c))) (c .in-use))
-        (drop-apart (g .view) (g .linked) (onChain limit ex last s h) (dead-along g h h6 d none) m 0 (chainOf (s .next) limit m) (the-chain (g .view) (g .linked) m (λ q. c .in-use))
+        (λ q. rw (T-false (onChain limit s h m) (alive m (g .heads .at-head m c))) (c .in-use))
+        (drop-apart (g .view) (g .linked) (onChain limit s h) (dead-along g h h6 d none) m 0 (chainOf (s .next) limit m) (the-chain (g .view) (g .linked) m (λ q. c .in-use))
         (λ a p. alive a (on-chain g m c a p .0)))
 
     -- and the blocks of it
-    pub dropped-others : blocksOf (dropped limit ex last s h) m ≡ blocksOf s m
+    pub dropped-others : blocksOf (dropped limit s h) m ≡ blocksOf s m
     unfolding dropped extent
-    dropped-others = kept-blocks s (dropped limit ex last s h) m dropped-chain (λ a p. rw (T-false (onChain limit ex last s h a) (alive a (on-chain g m c a p .0))))
+    dropped-others = kept-blocks s (dropped limit s h) m dropped-chain (λ a p. rw (T-false (onChain limit s h a) (alive a (on-chain g m c a p .0))))
 
 -- ---- an anode x of the chain of m
 

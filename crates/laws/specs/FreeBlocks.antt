@@ -6,12 +6,11 @@ use mathlib.Core.Bool.{Bool}
 use mathlib.Core.List.{List, [], _∷_, _++_, append-nil, append-assoc}
 use native.Mathlib.Omega.{arith}
 use native.Mathlib.Numerals.{add-one}
-use borrow.Author.Tests.{eq-eqb, ne-eqb}
 use Rattle.rules.specs.Counting.{oneAt, times, gather, lastOf}
 use Rattle.rules.specs.Anodes.{Anodes, limit}
 use Rattle.rules.specs.Chains.{chainOf, run, blocksOf, cut, side}
-use Rattle.rules.specs.Space.{planned, rewritten, insertedAfter, unlinked, emptied, lowestFree, append, withoutFirst, takeBlock, withoutLast, sideOf, join, release, giveBack}
-use Rattle.laws.specs.Tests.{same?}
+use Rattle.rules.specs.Space.{planned, rewritten, insertedAfter, unlinked, withoutFirst, withoutLast, sideOf, lowestFree, append, takeBlock, join, release, giveBack}
+use Rattle.laws.specs.LinkChanges.{first, second, third}
 use Rattle.laws.specs.Sums.{oneAt-cases, oneAt-same, changed-same, changed-other}
 use Rattle.laws.specs.Bags.{times-nil, times-cons, times-append}
 use Rattle.laws.specs.Links.{the-chain, seg-used}
@@ -19,7 +18,7 @@ use Rattle.laws.specs.Heads.{Head, times-on-chain}
 use Rattle.laws.specs.Space.{Alike, Good, head-1, on-chain}
 use Rattle.laws.specs.Searches.{FoundIn}
 use Rattle.laws.specs.Moves.{headed-used}
-use Rattle.laws.specs.Leaving.{full-0, full-1}
+use Rattle.laws.specs.Leaving.{full-0, full-1, withoutBlock-cases}
 use Rattle.laws.specs.Arriving.{fills, ends, starts, behind, free-is, append-cases, join-cases, refused≢planned, planned-same}
 use Rattle.laws.specs.Take.{free-head, free-after, take-steps, take-placed}
 use Rattle.laws.specs.Give.{side-last-head, give-steps, give-placed}
@@ -133,14 +132,12 @@ module _ {ex : ℕ → Bool} {n last : ℕ} {s : Anodes} {system hd sd : ℕ →
 
   -- the first block of x, found first on a side
   withoutFirst-less : (m : ℕ) (o : (m ≡ 1) ⊎ (m ≡ 2)) (p x : ℕ) → FoundIn (s .count) (cut (s .next)) m (side limit s m) 0 p x →
-      OneMore (s .block x) (blocksOf (withoutFirst limit ex last s p x) 1) (blocksOf s 1)
-  unfolding withoutFirst emptied extent run
-  withoutFirst-less m o p x f = elim (same? (s .count x) 1) [
-    | inr i ↦ rw (ne-eqb (s .count x) 1 i) (rewritten-less g x free (s .block x) (s .count x - 1) (s .block x + 1) ([], run (s .block x + 1) (s .count x - 1), refl, shorter))
-    | inl i ↦ rw (eq-eqb (s .count x) 1 i) (elim (same? x 2) [
-      | inl j ↦ rw (eq-eqb x 2 j) (rewritten-less g x free (s .block x) 0 65535 (only i))
-      | inr j ↦ rw (ne-eqb x 2 j) (unlinked-less g x free (s .block x) p (free-after g m o p x f j) (full-0 g x (f .full)) (full-1 g x (f .full)) (only i))
-    ])
+      OneMore (s .block x) (blocksOf (withoutFirst s p x) 1) (blocksOf s 1)
+  unfolding withoutFirst extent run
+  withoutFirst-less m o p x f = elim (withoutBlock-cases s 2 p x (s .block x + 1)) [
+    | first c ↦ rw (c .1) (rewritten-less g x free (s .block x) (s .count x - 1) (s .block x + 1) ([], run (s .block x + 1) (s .count x - 1), refl, shorter))
+    | second c ↦ rw (c .2) (rewritten-less g x free (s .block x) 0 65535 (only (c .0)))
+    | third c ↦ rw (c .2) (unlinked-less g x free (s .block x) p (free-after g m o p x f (c .1)) (full-0 g x (f .full)) (full-1 g x (f .full)) (only (c .0)))
   ]
     where
       free : hd x ≡ 1
@@ -191,7 +188,7 @@ module _ {ex : ℕ → Bool} {n last : ℕ} {s : Anodes} {system hd sd : ℕ →
   give-free t ys e =
       let k = give-steps g h d h1 t ys e in
       let w = give-placed g h d h1 t ys e in
-      let r = withoutLast limit ex last s h (k .p) (k .x) in
+      let r = withoutLast s h (k .p) (k .x) in
       let y = s .block (k .x) + (s .count (k .x) - 1) in
-      let m = join-more (k .out .good) y (k .some) (lastOf (sideOf limit ex last y) (side limit r (sideOf limit ex last y))) (side-last-head system y (k .out .good) (k .some) (k .inside)) t ys (k .joins) in
+      let m = join-more (k .out .good) y (k .some) (lastOf (sideOf last y) (side limit r (sideOf last y))) (side-last-head system y (k .out .good) (k .some) (k .inside)) t ys (k .joins) in
       (y, w .1, rw (free-kept g (k .out .good) (λ a v j. k .out .apart a (λ q. h1 (sym q ∙ j)))) at m)

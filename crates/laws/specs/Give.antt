@@ -5,13 +5,12 @@ use mathlib.Core.Logic.{_≢_, _⊎_, inl, inr}
 use mathlib.Core.Bool.{Bool}
 use mathlib.Core.List.{List, [], _∷_}
 use native.Mathlib.Omega.{arith}
-use lib.Dec.{ltb, ltb→lt, lt→ltb}
-use borrow.Author.Tests.{eq-eqb, ne-eqb}
+use borrow.Author.Tests.{lt-ltb, le-ltb}
 use Rattle.rules.specs.Counting.{lastOf}
 use Rattle.rules.specs.Anodes.{Anodes}
 use Rattle.rules.specs.Chains.{chainOf, side}
-use Rattle.rules.specs.Space.{refused, planned, rewritten, emptied, Found, nowhere, found, lastFull, withoutLast, sideOf, join, release, giveFrom, giveBack}
-use Rattle.laws.specs.Tests.{same?, less?, cond-cases}
+use Rattle.rules.specs.Space.{refused, planned, rewritten, withoutLast, Found, nowhere, found, lastFull, sideOf, join, release, giveFrom, giveBack}
+use Rattle.laws.specs.Tests.{less?}
 use Rattle.laws.specs.Ownership.{hand}
 use Rattle.laws.specs.Links.{the-chain}
 use Rattle.laws.specs.Heads.{Head}
@@ -19,7 +18,7 @@ use Rattle.laws.specs.Space.{Good, on-chain}
 use Rattle.laws.specs.Sides.{head-of-1, side-head, side-start, side-sd}
 use Rattle.laws.specs.Searches.{FoundIn, lastFull-found, last-on}
 use Rattle.laws.specs.Moves.{InHand, Placed, Moved, moved-by}
-use Rattle.laws.specs.Leaving.{only-gone, last-gone, full-used, full-inside, full-6, shrunk, unlinked-out}
+use Rattle.laws.specs.Leaving.{last-gone, full-used, full-inside, withoutBlock-out}
 use Rattle.laws.specs.Arriving.{fills, ends, starts, behind, join-cases, refused≢planned, filled, grown, grown-before, placed-by, append-placed}
 
 -- ---- out of the giver's chain
@@ -36,42 +35,34 @@ module _ {A : ℕ} {ex : ℕ → Bool} {n last : ℕ} {s : Anodes} {system hd sd
   not-2 : x ≢ 2
   not-2 e = h1 (sym on-h ∙ ap hd e ∙ g .two-on)
 
-  pub withoutLast-out : InHand A ex n last s system hd h (s .block x + (s .count x - 1)) (withoutLast A ex last s h p x)
-  unfolding withoutLast emptied
-  withoutLast-out = rw on-h at out
-    where
-      first-too : s .count x ≡ 1 → s .block x + (s .count x - 1) ≡ s .block x
-      first-too e = omega arith
-
-      out : InHand A ex n last s system hd (hd x) (s .block x + (s .count x - 1)) (withoutLast A ex last s h p x)
-      out = elim (same? (s .count x) 1) [
-        | inr q ↦ rw (ne-eqb (s .count x) 1 q) (shrunk g x (f .full) (s .count x - 1) (s .block x) (s .block x + (s .count x - 1)) (omega (arith, f .full)) (full-used g x (f .full))
-            (λ w. last-gone (s .count x) (s .block x) w (f .full)) (λ l. (omega arith, omega arith)))
-        | inl q ↦ rw (first-too q, eq-eqb (s .count x) 1 q) (elim (same? x h) [
-          | inl e ↦ rw (eq-eqb x h e) (shrunk g x (f .full) 0 65535 (s .block x) q (omega arith) (λ w. only-gone (s .count x) (s .block x) w 65535 q) (λ l. absurd (omega arith)))
-          | inr e ↦ rw (ne-eqb x h e) (unlinked-out g x (f .full) q p (after-p e) (full-6 g x (f .full) p (after-p e) not-2))
-        ])
-      ]
+  pub withoutLast-out : InHand A ex n last s system hd h (s .block x + (s .count x - 1)) (withoutLast s h p x)
+  unfolding withoutLast
+  withoutLast-out = rw on-h at
+      (withoutBlock-out g x (f .full) h p (s .block x) (s .block x + (s .count x - 1)) (full-used g x (f .full)) (omega arith, omega arith) (λ w. last-gone (s .count x) (s .block x) w (f .full)) (λ e. omega arith) (λ e. (after-p e, not-2)))
 
 -- ---- into the free list
 
-sideOf-cases : (A : ℕ) (ex : ℕ → Bool) (last y : ℕ) → ((last < y) × (sideOf A ex last y ≡ 1)) ⊎ ((y ≤ last) × (sideOf A ex last y ≡ 2))
+pub side-above : (last y : ℕ) → last < y → sideOf last y ≡ 1
 unfolding sideOf
-sideOf-cases A ex last y = elim (cond-cases {A = ℕ} (ltb last y) 1 2) [
-  | inl c ↦ inl (ltb→lt last y (c .0), c .1)
-  | inr c ↦ elim (less? last y) [ inl l ↦ absurd (c .0 (lt→ltb last y l)) | inr l ↦ inr (l, c .1) ]
-]
+side-above last y h = rw (lt-ltb last y h)
+
+pub side-up-to : (last y : ℕ) → y ≤ last → sideOf last y ≡ 2
+unfolding sideOf
+side-up-to last y h = rw (le-ltb last y h)
+
+pub sideOf-cases : (last y : ℕ) → ((last < y) × (sideOf last y ≡ 1)) ⊎ ((y ≤ last) × (sideOf last y ≡ 2))
+sideOf-cases last y = elim (less? last y) [ inl l ↦ inl (l, side-above last y l) | inr l ↦ inr (l, side-up-to last y l) ]
 
 module _ {A : ℕ} {ex : ℕ → Bool} {n last : ℕ} {s : Anodes} (system : ℕ → ℕ) {hd sd : ℕ → ℕ} (y : ℕ) (g : Good A ex n last s (hand system y) hd sd) (y0 : y ≢ 0) (yn : y < n) where
   m : ℕ
-  m = sideOf A ex last y
+  m = sideOf last y
 
   end : ℕ
-  end = lastOf (sideOf A ex last y) (side A s (sideOf A ex last y))
+  end = lastOf (sideOf last y) (side A s (sideOf last y))
 
   one-side : (m ≡ 1) ⊎ (m ≡ 2)
   unfolding m
-  one-side = elim (sideOf-cases A ex last y) [ inl c ↦ inl (c .1) | inr c ↦ inr (c .1) ]
+  one-side = elim (sideOf-cases last y) [ inl c ↦ inl (c .1) | inr c ↦ inr (c .1) ]
 
   end-side : sd end ≡ m
   unfolding m end
@@ -94,11 +85,11 @@ module _ {A : ℕ} {ex : ℕ → Bool} {n last : ℕ} {s : Anodes} (system : ℕ
 
   high : sd end ≡ 1 → last < y
   unfolding m
-  high q = elim (sideOf-cases A ex last y) [ inl c ↦ c .0 | inr c ↦ absurd (omega (arith, q, end-side, c .1)) ]
+  high q = elim (sideOf-cases last y) [ inl c ↦ c .0 | inr c ↦ absurd (omega (arith, q, end-side, c .1)) ]
 
   low : sd end ≡ 2 → y ≤ last
   unfolding m
-  low q = elim (sideOf-cases A ex last y) [ inl c ↦ absurd (omega (arith, q, end-side, c .1)) | inr c ↦ c .0 ]
+  low q = elim (sideOf-cases last y) [ inl c ↦ absurd (omega (arith, q, end-side, c .1)) | inr c ↦ c .0 ]
 
   join-placed : (t : Anodes) (ys : List ℕ) → join A ex last s end y ≡ planned t ys → Placed A ex n last s system hd (hd end) y t × (ys ≡ y ∷ [])
   join-placed t ys e = elim (join-cases A ex last s end y) [
@@ -112,7 +103,7 @@ module _ {A : ℕ} {ex : ℕ → Bool} {n last : ℕ} {s : Anodes} (system : ℕ
       by r e w = placed-by system y g y0 yn end e0 u high low r t ys e w
 
   -- the last anode of the block's side is on the free list
-  pub side-last-head : hd (lastOf (sideOf A ex last y) (side A s (sideOf A ex last y))) ≡ 1
+  pub side-last-head : hd (lastOf (sideOf last y) (side A s (sideOf last y))) ≡ 1
   unfolding end
   side-last-head = e-head
 
@@ -129,8 +120,8 @@ pub record Gives (A : ℕ) (ex : ℕ → Bool) (n last : ℕ) (s : Anodes) (syst
   pub is-last : lastFull (s .count) 0 (chainOf (s .next) A h) ≡ found p x
   pub some : s .block x + (s .count x - 1) ≢ 0
   pub inside : s .block x + (s .count x - 1) < n
-  pub out : InHand A ex n last s system hd h (s .block x + (s .count x - 1)) (withoutLast A ex last s h p x)
-  pub joins : release A ex last (withoutLast A ex last s h p x) (s .block x + (s .count x - 1)) ≡ planned t ys
+  pub out : InHand A ex n last s system hd h (s .block x + (s .count x - 1)) (withoutLast s h p x)
+  pub joins : release A ex last (withoutLast s h p x) (s .block x + (s .count x - 1)) ≡ planned t ys
 
 module _ {A : ℕ} {ex : ℕ → Bool} {n last : ℕ} {s : Anodes} {system hd sd : ℕ → ℕ} (g : Good A ex n last s system hd sd) (h : ℕ) (d : Head (s .next) (s .block) h) where
   -- what the search for the last block finds stands on the chain
@@ -159,7 +150,7 @@ module _ {A : ℕ} {ex : ℕ → Bool} {n last : ℕ} {s : Anodes} {system hd sd
             }
 
     -- the block in hand has come to the free list
-    pub give-placed : Placed A ex n last (withoutLast A ex last s h (give-steps .p) (give-steps .x)) system (give-steps .out .hd′) 1 (s .block (give-steps .x) + (s .count (give-steps .x) - 1)) t
+    pub give-placed : Placed A ex n last (withoutLast s h (give-steps .p) (give-steps .x)) system (give-steps .out .hd′) 1 (s .block (give-steps .x) + (s .count (give-steps .x) - 1)) t
         × (ys ≡ (s .block (give-steps .x) + (s .count (give-steps .x) - 1)) ∷ [])
     give-placed = let k = give-steps in release-placed system (s .block (k .x) + (s .count (k .x) - 1)) (k .out .good) (k .some) (k .inside) t ys (k .joins)
 

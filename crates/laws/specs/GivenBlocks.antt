@@ -6,48 +6,25 @@ use mathlib.Core.Bool.{Bool}
 use mathlib.Core.List.{List, [], _∷_, _++_, reverse, append-nil, append-assoc, reverse-cons}
 use native.Mathlib.Omega.{arith}
 use lib.ListN.{length}
-use borrow.Author.Tests.{eq-eqb, ne-eqb}
 use Rattle.rules.specs.Counting.{sumList, times, gather, lastOf}
 use Rattle.rules.specs.Anodes.{Anodes, limit}
 use Rattle.rules.specs.Chains.{chainOf, run, blocksOf}
-use Rattle.rules.specs.Space.{planned, rewritten, unlinked, emptied, Found, nowhere, found, lastFull, withoutLast, giveBack, giveMany}
-use Rattle.laws.specs.Tests.{same?}
+use Rattle.rules.specs.Space.{planned, rewritten, unlinked, withoutLast, found, lastFull, giveBack, giveMany}
 use Rattle.laws.specs.Sums.{changed-same, changed-other}
 use Rattle.laws.specs.Bags.{list-cons}
 use Rattle.laws.specs.Segments.{Seg, Chain, seg-split}
 use Rattle.laws.specs.Links.{the-chain, chain-the}
-use Rattle.laws.specs.LinkChanges.{unlink, unlink-view, unlink-linked, unlink-after}
+use Rattle.laws.specs.LinkChanges.{first, second, third, unlink, unlink-view, unlink-linked, unlink-after}
 use Rattle.laws.specs.Heads.{Head}
 use Rattle.laws.specs.Space.{Good}
-use Rattle.laws.specs.Searches.{FoundIn, nowhere≢found}
+use Rattle.laws.specs.Searches.{FoundIn, lastFull-split}
 use Rattle.laws.specs.Moves.{Placed, self-headed, hand-stays}
-use Rattle.laws.specs.Leaving.{full-0}
-use Rattle.laws.specs.Arriving.{planned-same}
+use Rattle.laws.specs.Leaving.{full-0, withoutBlock-cases}
 use Rattle.laws.specs.Give.{given-found, give-steps, give-placed, give-good}
 use Rattle.laws.specs.Frame.{shift-of, moved-stays}
-use Rattle.laws.specs.Resize.{step-done}
-use Rattle.laws.specs.RefusedSteps.{lastFull-none}
+use Rattle.laws.specs.Repeated.{repeated-none, repeated-done}
 use Rattle.laws.specs.ChainBlocks.{gather-append, extent, blocksOf-extents, shift-blocks, gather-off, gather-skip, stands-once}
 use Rattle.laws.specs.TakenBlocks.{run-end, last-split}
-
--- a walk around its last anode with a block: no anode behind it has one
-lastFull-split : (count : ℕ → ℕ) (p : ℕ) (l : List ℕ) (q x : ℕ) → lastFull count p l ≡ found q x →
-    (pre : List ℕ) × (post : List ℕ) × (l ≡ pre ++ (x ∷ post)) × (sumList count post ≡ 0)
-unfolding lastFull
-lastFull-split count p [] q x e = absurd (nowhere≢found q x e)
-lastFull-split count p (b ∷ l) q x e = go (lastFull count b l) refl e (lastFull-split count b l q x)
-  where
-    go : (c : Found) → lastFull count b l ≡ c → elim c [ nowhere ↦ elim (count b) [ zero ↦ nowhere | suc k ↦ found p b ] | found q y ↦ found q y ] ≡ found q x →
-        (lastFull count b l ≡ found q x → (pre : List ℕ) × (post : List ℕ) × (l ≡ pre ++ (x ∷ post)) × (sumList count post ≡ 0)) →
-        (pre : List ℕ) × (post : List ℕ) × (b ∷ l ≡ pre ++ (x ∷ post)) × (sumList count post ≡ 0)
-    go (found q′ y) f e r = let t = r (f ∙ e) in (b ∷ t .0, t .1, ap (λ (k : List ℕ). b ∷ k) (t .2), t .3)
-    go nowhere f e r = here (count b) e
-      where
-        here : (k : ℕ) → elim k [ zero ↦ nowhere | suc j ↦ found p b ] ≡ found q x → (pre : List ℕ) × (post : List ℕ) × (b ∷ l ≡ pre ++ (x ∷ post)) × (sumList count post ≡ 0)
-        here zero e = absurd (nowhere≢found q x e)
-        here (suc k) e =
-            let bx : b ≡ x = cc in
-            ([], l, rw bx, lastFull-none count b l f)
 
 -- anodes with no block have no blocks
 gather-none : (s : Anodes) (l : List ℕ) → sumList (s .count) l ≡ 0 → gather (extent s) l ≡ []
@@ -142,14 +119,12 @@ module _ {ex : ℕ → Bool} {n last : ℕ} {s : Anodes} {system hd sd : ℕ →
       (gather-skip (extent r) (split .0) (split .1) x none
       ∙ sym (blocksOf-extents r h ∙ ap (gather (extent r)) (unlinked-chain g h d x (split .0) (split .1) (split .2) q before (full-0 g x (is-found .full)) xh)))
 
-  withoutLast-blocks : blocksOf s h ≡ blocksOf (withoutLast limit ex last s h q x) h ++ ((s .block x + (s .count x - 1)) ∷ [])
-  unfolding withoutLast emptied y run
-  withoutLast-blocks = elim (same? (s .count x) 1) [
-    | inr c ↦ rw (ne-eqb (s .count x) 1 c) (rewritten-blocks (s .count x - 1) (s .block x) refl refl)
-    | inl c ↦ rw (eq-eqb (s .count x) 1 c) (elim (same? x h) [
-      | inl i ↦ rw (eq-eqb x h i) (rewritten-blocks 0 65535 (omega arith) refl)
-      | inr i ↦ rw (ne-eqb x h i) (unlinked-blocks i c)
-    ])
+  withoutLast-blocks : blocksOf s h ≡ blocksOf (withoutLast s h q x) h ++ ((s .block x + (s .count x - 1)) ∷ [])
+  unfolding withoutLast y run
+  withoutLast-blocks = elim (withoutBlock-cases s h q x (s .block x)) [
+    | first c ↦ rw (c .1) (rewritten-blocks (s .count x - 1) (s .block x) refl refl)
+    | second c ↦ rw (c .2) (rewritten-blocks 0 65535 (omega (arith, c .0)) refl)
+    | third c ↦ rw (c .2) (unlinked-blocks (c .1) (c .0))
   ]
 
 -- ---- the whole
@@ -173,9 +148,9 @@ module _ {ex : ℕ → Bool} {n last : ℕ} {s : Anodes} {system hd sd : ℕ →
 pub gives-blocks : {ex : ℕ → Bool} {n last : ℕ} (k h : ℕ) → h ≢ 1 → (t : Anodes) (zs : List ℕ) (s : Anodes) (system hd sd : ℕ → ℕ) → Good limit ex n last s system hd sd →
     Head (s .next) (s .block) h → giveMany limit ex last k s h ≡ planned t zs → (blocksOf s h ≡ blocksOf t h ++ reverse zs) × (length zs ≡ k)
 unfolding giveMany
-gives-blocks zero h h1 t zs s system hd sd g d e = let q = planned-same s t [] zs e in rw (← (q .0), q .1) (sym (append-nil (blocksOf s h)), refl)
+gives-blocks zero h h1 t zs s system hd sd g d e = let q = repeated-none (λ s. giveBack _ _ _ s h) s t zs e in rw (← (q .0), q .1) (sym (append-nil (blocksOf s h)), refl)
 gives-blocks {ex} {n} {last} (suc k) h h1 t zs s system hd sd g d e =
-    let (r, ys, xs, q, f, z) = step-done limit ex last (giveBack limit ex last s h) (λ r. giveMany limit ex last k r h) t zs e in
+    let (r, ys, xs, q, f, z) = repeated-done (λ s. giveBack limit ex last s h) k s t zs e in
     let w = give-good g h d h1 r ys q in
     let b = gives-blocks k h h1 t xs r system (w .hd′) (w .sd′) (w .good) (moved-stays g w h d) f in
     let all : zs ≡ w .block ∷ xs = z ∙ ap (λ (l : List ℕ). l ++ xs) (w .handed) in (

@@ -2,16 +2,18 @@
 use Prim.Native.Nat.{ℕ, zero, suc, _+_, _-_, _*_, _≤_, _<_}
 use mathlib.Core.Path.{_≡_, refl, sym, ap, _∙_}
 use mathlib.Core.Logic.{_≢_, inl, inr}
+use borrow.Author.Tests.{eq-eqb, ne-eqb}
 use mathlib.Core.Bool.{Bool}
 use native.Mathlib.Omega.{arith}
 use native.Mathlib.Numerals.{add-one}
 use Rattle.rules.specs.Counting.{oneAt, changed}
 use Rattle.rules.specs.Anodes.{Anodes}
 use Rattle.rules.specs.Chains.{covers}
-use Rattle.rules.specs.Space.{rewritten, unlinked}
+use Rattle.rules.specs.Space.{rewritten, unlinked, emptied, withoutBlock}
+use Rattle.laws.specs.Tests.{same?}
 use Rattle.laws.specs.Sums.{changed-same, changed-other, changed-twice}
 use Rattle.laws.specs.Ownership.{covers-none, covers-end, covers-front, hand}
-use Rattle.laws.specs.LinkChanges.{first, second, third, unlink, unlink-cases}
+use Rattle.laws.specs.LinkChanges.{Which, first, second, third, unlink, unlink-cases}
 use Rattle.laws.specs.HeadChanges.{unlink-head-was, rewrite-head-was}
 use Rattle.laws.specs.Blocks.{blocks, blocks-rewrite, blocks-fresh}
 use Rattle.laws.specs.Held.{held, held-rewrite, held-fresh}
@@ -22,7 +24,7 @@ from-6 : (x : ℕ) → x ≢ 0 → x ≢ 1 → x ≢ 2 → x ≢ 3 → x ≢ 4 �
 from-6 x a b c d e f = omega arith
 
 -- the only block of an extent goes
-pub only-gone : (c b x b′ : ℕ) → c ≡ 1 → covers c b x ≡ oneAt b x + covers 0 b′ x
+only-gone : (c b x b′ : ℕ) → c ≡ 1 → covers c b x ≡ oneAt b x + covers 0 b′ x
 only-gone c b x b′ e = rw e (omega (arith, covers-front 0 b x, covers-none (suc b) x, covers-none b′ x))
 
 -- one more, less one
@@ -54,7 +56,7 @@ module _ {A : ℕ} {ex : ℕ → Bool} {n last : ℕ} {s : Anodes} {system hd sd
   full-1 e = omega (arith, full, ap (s .count) e, g .fixed .count-1)
 
   -- one that is another's next, and not 2, is from 6 up
-  pub full-6 : (p : ℕ) → s .next p ≡ x → x ≢ 2 → 6 ≤ x
+  full-6 : (p : ℕ) → s .next p ≡ x → x ≢ 2 → 6 ≤ x
   full-6 p e x2 = from-6 x full-0 full-1 x2 (λ q. g .first 3 (inr (inl refl)) p (e ∙ q)) (λ q. g .first 4 (inr (inr (inl refl))) p (e ∙ q)) (λ q. g .first 5 (inr (inr (inr refl))) p (e ∙ q))
 
   -- x becomes (c, b), within its old extent, and has lost the block y
@@ -75,7 +77,7 @@ module _ {A : ℕ} {ex : ℕ → Bool} {n last : ℕ} {s : Anodes} {system hd sd
     shrunk-lost : (h w : ℕ) → held A hd (changed (s .count) x c) (changed (s .block) x b) h w + oneAt (hd x) h * oneAt y w ≡ held A hd (s .count) (s .block) h w
     shrunk-lost h w = omega (arith, held-rewrite A hd (s .count) (s .block) x c b (g .view .below x full-used) h w, ap (λ (i : ℕ). oneAt (hd x) h * i) (left w))
 
-    pub shrunk : InHand A ex n last s system hd (hd x) y (rewritten s x c b)
+    shrunk : InHand A ex n last s system hd (hd x) y (rewritten s x c b)
     unfolding rewritten
     shrunk = record {
       hd′ = hd;
@@ -91,7 +93,7 @@ module _ {A : ℕ} {ex : ℕ → Bool} {n last : ℕ} {s : Anodes} {system hd sd
 
   -- x, with one block and after p, is unlinked
   module _ (one : s .count x ≡ 1) (p : ℕ) (px : s .next p ≡ x) (x6 : 6 ≤ x) where
-    pub unlinked-out : InHand A ex n last s system hd (hd x) (s .block x) (unlinked s p x)
+    unlinked-out : InHand A ex n last s system hd (hd x) (s .block x) (unlinked s p x)
     unfolding unlinked rewritten unlink
     unlinked-out = record {
       hd′ = changed hd x 0;
@@ -129,3 +131,38 @@ module _ {A : ℕ} {ex : ℕ → Bool} {n last : ℕ} {s : Anodes} {system hd sd
             = rw (changed-twice (s .count) x 0 0, changed-twice (s .block) x 65535 0) at
             (held-fresh A hd (changed (s .count) x 0) (changed (s .block) x 65535) x 0 0 0 (g .view .below x full-used) (changed-same (s .count) x 0) h w) in
             omega (arith, r, ap (λ (i : ℕ). oneAt 0 h * i) (covers-none 0 w))
+
+-- ---- an anode x with a block less
+
+module _ (s : Anodes) (kept p x b : ℕ) where
+  pub block-shrunk : s .count x ≢ 1 → withoutBlock s kept p x b ≡ rewritten s x (s .count x - 1) b
+  unfolding withoutBlock
+  block-shrunk i = rw (ne-eqb (s .count x) 1 i)
+
+  pub block-emptied : s .count x ≡ 1 → x ≡ kept → withoutBlock s kept p x b ≡ rewritten s x 0 65535
+  unfolding withoutBlock emptied
+  block-emptied i j = rw (eq-eqb (s .count x) 1 i, eq-eqb x kept j)
+
+  pub block-unlinked : s .count x ≡ 1 → x ≢ kept → withoutBlock s kept p x b ≡ unlinked s p x
+  unfolding withoutBlock
+  block-unlinked i j = rw (eq-eqb (s .count x) 1 i, ne-eqb x kept j)
+
+  -- it has others, or it is emptied and kept, or it is unlinked and zeroed
+  pub withoutBlock-cases : Which
+      ((s .count x ≢ 1) × (withoutBlock s kept p x b ≡ rewritten s x (s .count x - 1) b))
+      ((s .count x ≡ 1) × (x ≡ kept) × (withoutBlock s kept p x b ≡ rewritten s x 0 65535))
+      ((s .count x ≡ 1) × (x ≢ kept) × (withoutBlock s kept p x b ≡ unlinked s p x))
+  withoutBlock-cases = elim (same? (s .count x) 1) [
+    | inr i ↦ first (i, block-shrunk i)
+    | inl i ↦ elim (same? x kept) [ inl j ↦ second (i, j, block-emptied i j) | inr j ↦ third (i, j, block-unlinked i j) ]
+  ]
+
+module _ {A : ℕ} {ex : ℕ → Bool} {n last : ℕ} {s : Anodes} {system hd sd : ℕ → ℕ} (g : Good A ex n last s system hd sd) (x : ℕ) (full : 0 < s .count x) where
+  -- x, after p unless it is kept, has lost the block y, and its first block is then b
+  pub withoutBlock-out : (kept p b y : ℕ) → b ≢ 0 → (s .block x ≤ b) × (b ≤ s .block x + 1) → ((w : ℕ) → covers (s .count x) (s .block x) w ≡ oneAt y w + covers (s .count x - 1) b w) →
+      (s .count x ≡ 1 → y ≡ s .block x) → (x ≢ kept → (s .next p ≡ x) × (x ≢ 2)) → InHand A ex n last s system hd (hd x) y (withoutBlock s kept p x b)
+  withoutBlock-out kept p b y b0 near left only after = elim (withoutBlock-cases s kept p x b) [
+    | first c ↦ rw (c .1) (shrunk g x full (s .count x - 1) b y (omega (arith, full)) b0 left (λ l. (near .0, omega (arith, near .1, full))))
+    | second c ↦ rw (c .2) (shrunk g x full 0 65535 y (c .0) (omega arith) (λ w. rw (only (c .0)) (only-gone (s .count x) (s .block x) w 65535 (c .0))) (λ l. absurd (omega arith)))
+    | third c ↦ (let p-x = after (c .1) in rw (c .2, only (c .0)) (unlinked-out g x full (c .0) p (p-x .0) (full-6 g x full p (p-x .0) (p-x .1))))
+  ]

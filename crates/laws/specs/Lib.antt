@@ -24,6 +24,7 @@ pub mod Arriving
 pub mod Take
 pub mod Give
 pub mod Refusals
+pub mod Repeated
 pub mod Frame
 pub mod Each
 pub mod Items
@@ -34,7 +35,7 @@ pub mod Totals
 pub mod Entries
 pub mod Whole
 pub mod Resize
-pub mod FirstFree
+pub mod FreeExtent
 pub mod RefusedSteps
 pub mod ChainBlocks
 pub mod TakenBlocks

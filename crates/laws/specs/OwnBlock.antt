@@ -9,7 +9,7 @@ use lib.Dec.{T}
 use Rattle.rules.specs.Counting.{times, lastOf}
 use Rattle.rules.specs.Anodes.{Anodes}
 use Rattle.rules.specs.Chains.{chainOf}
-use Rattle.rules.specs.Space.{planned, rewritten, insertedAfter, free, lowestFree, append, growOrAppend, put, takeBlock}
+use Rattle.rules.specs.Space.{planned, rewritten, insertedAfter, free, lowestFree, fillOr, append, put, takeBlock}
 use Rattle.laws.specs.Sums.{oneAt-same, changed-same, changed-other}
 use Rattle.laws.specs.Bags.{times-cons}
 use Rattle.laws.specs.Segments.{seg-zero}
@@ -60,7 +60,7 @@ module _ {A : ℕ} {ex : ℕ → Bool} {n last : ℕ} {s : Anodes} {system hd sd
 
     put-filled : chainOf (s .next) A h ≡ h ∷ [] → s .count h ≡ 0 → (t : Anodes) (ys : List ℕ) → put A ex last true r (lastOf h (chainOf (r .next) A h)) y ≡ planned t ys →
         (ys ≡ y ∷ []) × Filled A t h y
-    unfolding put rewritten lastOf
+    unfolding put fillOr rewritten lastOf
     put-filled alone none t ys e =
         let c : chainOf (r .next) A h ≡ h ∷ [] = hand-chain ∙ alone in
         let empty : r .count h ≡ 0 = on-h h (rw alone (omega (arith, times-cons h h [], oneAt-same h h refl))) .same-count ∙ none in
@@ -100,7 +100,7 @@ module _ {A : ℕ} {ex : ℕ → Bool} {n last : ℕ} {s : Anodes} {system hd sd
 
     put-behind : y ≢ 0 → ((a : ℕ) → 0 < times a (chainOf (s .next) A h) → s .count a ≡ 1) → (t : Anodes) (ys : List ℕ) → put A ex last true r (lastOf h (chainOf (r .next) A h)) y ≡ planned t ys →
         (ys ≡ y ∷ []) × Appended A s t h y
-    unfolding put growOrAppend
+    unfolding put fillOr
     put-behind y0 ones t ys e =
         let z = lastOf h (chainOf (s .next) A h) in
         let full : r .count z ≡ 1 = on-h z end-on .same-count ∙ ones z end-on in

@@ -166,10 +166,10 @@ module _ {ex : ℕ → Bool} {n last : ℕ} {s : Anodes} {system hd sd : ℕ →
       (λ m. omega (arith, held-fresh limit hd (s .count) (s .block) f f 0 65535 fA (g .free-none f fresh) m x, ap (λ (k : ℕ). oneAt f m * k) (covers-none 65535 x)))
 
   -- a chain with no block dropped
-  pub dropped-owner : (h : ℕ) → 6 ≤ h → (d : Head (s .next) (s .block) h) → (none : (a : ℕ) → hd a ≡ h → s .count a ≡ 0) → (x : ℕ) → ownerHead (dropped limit ex last s h) x ≡ ownerHead s x
+  pub dropped-owner : (h : ℕ) → 6 ≤ h → (d : Head (s .next) (s .block) h) → (none : (a : ℕ) → hd a ≡ h → s .count a ≡ 0) → (x : ℕ) → ownerHead (dropped limit s h) x ≡ ownerHead s x
   unfolding dropped without
   dropped-owner h h6 d none x = same-owner g (drop-good g h h6 d none) x
-      (held-dropped limit hd (s .count) (s .block) (onChain limit ex last s h) (λ a t. none a (dead-head g h h6 d none a t)) x)
+      (held-dropped limit hd (s .count) (s .block) (onChain limit s h) (λ a t. none a (dead-head g h h6 d none a t)) x)
 
 -- ---- the block table
 

@@ -6,10 +6,10 @@ use mathlib.Core.Bool.{Bool}
 use mathlib.Core.List.{List, [], _∷_}
 use native.Mathlib.Omega.{arith}
 use lib.Dec.{T}
-use Rattle.rules.specs.Counting.{oneAt, times, lastOf}
+use Rattle.rules.specs.Counting.{oneAt, lastOf}
 use Rattle.rules.specs.Anodes.{Anodes}
 use Rattle.rules.specs.Chains.{chainOf, cut, side}
-use Rattle.rules.specs.Space.{refused, planned, rewritten, insertedAfter, Found, nowhere, found, firstFull, free, lowestFree, append, put, withoutFirst, takeFrom, takeBlock}
+use Rattle.rules.specs.Space.{refused, planned, rewritten, insertedAfter, Found, nowhere, found, firstFull, free, lowestFree, append, put, withoutFirst, freeExtent, takeFrom, takeBlock}
 use Rattle.laws.specs.Tests.{same?}
 use Rattle.laws.specs.Sums.{oneAt-cases, sum-zero}
 use Rattle.laws.specs.LinkChanges.{first, second, third}
@@ -19,7 +19,7 @@ use Rattle.laws.specs.Cut.{cut-other, cut-view, cut-linked}
 use Rattle.laws.specs.Space.{Good}
 use Rattle.laws.specs.Sides.{side-head}
 use Rattle.laws.specs.Searches.{firstFull-none}
-use Rattle.laws.specs.FirstFree.{firstFree, firstFree-nowhere, take-found}
+use Rattle.laws.specs.FreeExtent.{extent-nowhere, take-found}
 use Rattle.laws.specs.Arriving.{append-cases, put-cases, refused≢planned}
 
 pub refused-same : (j k : ℕ) → refused j ≡ refused k → j ≡ k
@@ -56,36 +56,30 @@ module _ {A : ℕ} {ex : ℕ → Bool} {n last : ℕ} {s : Anodes} {system hd sd
       d = head-of-is (cut-view (g .view)) (cut-linked (g .linked)) sd (g .sides) a a0 u
 
   -- no anode of either side has a block: the free chain has none
-  no-block : firstFull (s .count) 0 (side A s 1) ≡ nowhere → firstFull (s .count) 0 (side A s 2) ≡ nowhere → blocks A hd (s .count) 1 ≡ 0
+  no-block : ((m : ℕ) → (m ≡ 1) ⊎ (m ≡ 2) → firstFull (s .count) 0 (side A s m) ≡ nowhere) → blocks A hd (s .count) 1 ≡ 0
   unfolding blocks side
-  no-block e f = sum-zero (λ a. oneAt (hd a) 1 * s .count a) A (λ a l. elim (oneAt-cases (hd a) 1) [
+  no-block e = sum-zero (λ a. oneAt (hd a) 1 * s .count a) A (λ a l. elim (oneAt-cases (hd a) 1) [
     | inr c ↦ rw (c .1) (omega arith)
     | inl c ↦ rw (empty a (c .0)) (omega arith)
   ])
     where
-      on : (a m : ℕ) → a ≢ 0 → s .block a ≢ 0 → sd a ≡ m → 0 < times a (side A s m)
-      on a m a0 u q = rw (← q) (omega (arith, on-own (cut-view (g .view)) (cut-linked (g .linked)) sd (g .sides) a a0 u))
-
       empty : (a : ℕ) → hd a ≡ 1 → s .count a ≡ 0
       empty a q = elim (same? a 0) [
         | inl i ↦ ap (s .count) i ∙ g .fixed .count-0
         | inr i ↦ elim (same? (s .block a) 0) [
           | inl u ↦ g .free-none a u
-          | inr u ↦ elim (on-side a i u q) [
-            | inl j ↦ firstFull-none (s .count) 0 (side A s 1) e a (on a 1 i u j)
-            | inr j ↦ firstFull-none (s .count) 0 (side A s 2) f a (on a 2 i u j)
-          ]
+          | inr u ↦ firstFull-none (s .count) 0 (side A s (sd a)) (e (sd a) (on-side a i u q)) a (omega (arith, on-own (cut-view (g .view)) (cut-linked (g .linked)) sd (g .sides) a i u))
         ]
       ]
 
   -- 27 only where no free block is left
   pub take-27 : (own : Bool) (h : ℕ) → takeBlock A ex last own s h ≡ refused 27 → blocks A hd (s .count) 1 ≡ 0
   unfolding takeFrom
-  take-27 own h e = go (firstFree A own s) refl
+  take-27 own h e = go (freeExtent A own s) refl
     where
-      go : (c : Found) → firstFree A own s ≡ c → blocks A hd (s .count) 1 ≡ 0
-      go nowhere q = let n = firstFree-nowhere A own s q in no-block (n .0) (n .1)
+      go : (c : Found) → freeExtent A own s ≡ c → blocks A hd (s .count) 1 ≡ 0
+      go nowhere q = no-block (extent-nowhere A own s q)
       go (found p x) q = absurd (omega (
         arith,
-        put-refused A ex last own (withoutFirst A ex last s p x) (lastOf h (chainOf (withoutFirst A ex last s p x .next) A h)) (s .block x) 27 (sym (take-found A own s ex last h p x q) ∙ e) .0,
+        put-refused A ex last own (withoutFirst s p x) (lastOf h (chainOf (withoutFirst s p x .next) A h)) (s .block x) 27 (sym (take-found A own s ex last h p x q) ∙ e) .0,
       ))

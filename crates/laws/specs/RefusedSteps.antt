@@ -1,43 +1,28 @@
 -- When steps are refused, and with which number: a take with 27 or 28, a give of a block that is there only with 28.
-use Prim.Native.Nat.{ℕ, zero, suc, _+_, _-_, _≤_, _<_}
+use Prim.Native.Nat.{ℕ, _+_, _-_, _≤_, _<_}
 use mathlib.Core.Path.{_≡_, refl, sym, _∙_}
 use mathlib.Core.Logic.{_≢_, _⊎_, inl, inr, _↔_}
 use mathlib.Core.Bool.{Bool, true, true≢false}
-use mathlib.Core.List.{List, [], _∷_, _++_}
+use mathlib.Core.List.{[], _∷_}
 use native.Mathlib.Omega.{arith}
 use lib.Dec.{T}
-use Rattle.rules.specs.Counting.{sumList, lastOf}
+use Rattle.rules.specs.Counting.{lastOf}
 use Rattle.rules.specs.Anodes.{Anodes}
 use Rattle.rules.specs.Chains.{chainOf, side}
-use Rattle.rules.specs.Space.{Plan, refused, planned, rewritten, Found, nowhere, found, lastFull, free, lowestFree, append, put, withoutFirst, takeFrom, takeBlock, withoutLast, sideOf, join, release, giveFrom, giveBack, after, takeMany, giveMany}
+use Rattle.rules.specs.Space.{refused, rewritten, withoutFirst, withoutLast, Found, nowhere, found, lastFull, freeExtent, sideOf, free, lowestFree, append, put, takeFrom, takeBlock, join, release, giveFrom, giveBack, takeMany, giveMany}
 use Rattle.laws.specs.Sums.{oneAt-same, oneAt-other}
-use Rattle.laws.specs.Bags.{list-nil, list-cons}
 use Rattle.laws.specs.LinkChanges.{first, second, third}
 use Rattle.laws.specs.Heads.{Head}
 use Rattle.laws.specs.Blocks.{blocks, blocks-chain}
 use Rattle.laws.specs.Space.{Good}
-use Rattle.laws.specs.Searches.{nowhere≢found}
+use Rattle.laws.specs.Searches.{lastFull-none}
 use Rattle.laws.specs.Arriving.{fills, ends, starts, behind, append-cases, put-cases, join-cases}
 use Rattle.laws.specs.Take.{withoutFirst-out}
 use Rattle.laws.specs.Refusals.{refused-same, planned≢refused, append-refused, put-refused, take-27}
+use Rattle.laws.specs.Repeated.{repeated-refused}
 use Rattle.laws.specs.Give.{give-good}
 use Rattle.laws.specs.Frame.{moved-stays}
-use Rattle.laws.specs.FirstFree.{firstFree, firstFree-found, take-nowhere, take-found}
-
--- a walk on which no last anode with a block is found has no block
-pub lastFull-none : (count : ℕ → ℕ) (p : ℕ) (l : List ℕ) → lastFull count p l ≡ nowhere → sumList count l ≡ 0
-unfolding lastFull
-lastFull-none count p [] e = list-nil count
-lastFull-none count p (b ∷ l) e = go (lastFull count b l) refl e (lastFull-none count b l)
-  where
-    go : (c : Found) → lastFull count b l ≡ c → elim c [ nowhere ↦ elim (count b) [ zero ↦ nowhere | suc k ↦ found p b ] | found q y ↦ found q y ] ≡ nowhere →
-        (lastFull count b l ≡ nowhere → sumList count l ≡ 0) → sumList count (b ∷ l) ≡ 0
-    go (found q y) f e r = absurd (nowhere≢found q y (sym e))
-    go nowhere f e r = here (count b) refl e
-      where
-        here : (k : ℕ) → count b ≡ k → elim k [ zero ↦ nowhere | suc j ↦ found p b ] ≡ nowhere → sumList count (b ∷ l) ≡ 0
-        here zero c e = omega (arith, list-cons count b l, r f)
-        here (suc k) c e = absurd (nowhere≢found p b (sym e))
+use Rattle.laws.specs.FreeExtent.{extent-found, take-nowhere, take-found}
 
 -- the taker's last anode z cannot have block y: it has blocks, and directory blocks (own) get an anode of their own or y is not its end
 abbrev pub NeedsAnode : Bool → Anodes → ℕ → ℕ → Type 0
@@ -52,31 +37,20 @@ abbrev pub NoneFree : ℕ → (ℕ → Bool) → ℕ → Anodes → Type 0
 NoneFree A ex last s = (a : ℕ) → a < A → T (free A ex last s a) → ⊥
 
 module _ (A : ℕ) (ex : ℕ → Bool) (last : ℕ) where
-  after-refused : (ys : List ℕ) (p : Plan) (k : ℕ) → after A ex last ys p ≡ refused k → p ≡ refused k
-  unfolding after
-  after-refused ys (refused j) k e = e
-  after-refused ys (planned t zs) k e = absurd (planned≢refused t (ys ++ zs) k e)
-
   -- ---- take
 
   pub take-refused : (own : Bool) (s : Anodes) (h k : ℕ) → takeBlock A ex last own s h ≡ refused k → (k ≡ 27) ⊎ (k ≡ 28)
   unfolding takeFrom
-  take-refused own s h k e = go (firstFree A own s) refl
+  take-refused own s h k e = go (freeExtent A own s) refl
     where
-      go : (c : Found) → firstFree A own s ≡ c → (k ≡ 27) ⊎ (k ≡ 28)
+      go : (c : Found) → freeExtent A own s ≡ c → (k ≡ 27) ⊎ (k ≡ 28)
       go nowhere q = inl (refused-same k 27 (sym e ∙ take-nowhere A own s ex last h q))
-      go (found p x) q = inr (put-refused A ex last own (withoutFirst A ex last s p x) (lastOf h (chainOf (withoutFirst A ex last s p x .next) A h)) (s .block x) k
+      go (found p x) q = inr (put-refused A ex last own (withoutFirst s p x) (lastOf h (chainOf (withoutFirst s p x .next) A h)) (s .block x) k
           (sym (take-found A own s ex last h p x q) ∙ e) .0)
 
   pub takes-refused : (own : Bool) (i : ℕ) (s : Anodes) (h k : ℕ) → takeMany A ex last own i s h ≡ refused k → (k ≡ 27) ⊎ (k ≡ 28)
   unfolding takeMany
-  takes-refused own zero s h k e = absurd (planned≢refused s [] k e)
-  takes-refused own (suc i) s h k e = go (takeBlock A ex last own s h) refl e (takes-refused own i)
-    where
-      go : (p : Plan) → takeBlock A ex last own s h ≡ p → elim p [ refused j ↦ refused j | planned t ys ↦ after A ex last ys (takeMany A ex last own i t h) ] ≡ refused k →
-          ((s : Anodes) (h k : ℕ) → takeMany A ex last own i s h ≡ refused k → (k ≡ 27) ⊎ (k ≡ 28)) → (k ≡ 27) ⊎ (k ≡ 28)
-      go (refused j) q e rec = take-refused own s h k (q ∙ e)
-      go (planned t ys) q e rec = rec t h k (after-refused ys (takeMany A ex last own i t h) k e)
+  takes-refused own i s h k e = let (j, r, at, q) = repeated-refused (λ s. takeBlock A ex last own s h) (λ i s. Unit {0}) (λ i s t ys at q. tt) i s k tt e in take-refused own r h k q
 
   -- ---- give
 
@@ -104,24 +78,21 @@ module _ {A : ℕ} {ex : ℕ → Bool} {n last : ℕ} where
   unfolding giveBack giveFrom release
   give-refused {s} g h d some k e =
       let f = last-block g h d some in
-      let r = withoutLast A ex last s h (f .0) (f .1) in
+      let r = withoutLast s h (f .0) (f .1) in
       let y = s .block (f .1) + (s .count (f .1) - 1) in
-      join-refused A ex last r (lastOf (sideOf A ex last y) (side A r (sideOf A ex last y))) y k (rw (f .2, giveBack) at e) .0
+      join-refused A ex last r (lastOf (sideOf last y) (side A r (sideOf last y))) y k (rw (f .2, giveBack) at e) .0
 
   -- as many as it has
   pub gives-refused : (i h : ℕ) → h ≢ 1 → (k : ℕ) (s : Anodes) (system hd sd : ℕ → ℕ) → Good A ex n last s system hd sd → Head (s .next) (s .block) h → i ≤ blocks A hd (s .count) h →
       giveMany A ex last i s h ≡ refused k → k ≡ 28
   unfolding giveMany
-  gives-refused zero h h1 k s system hd sd g d some e = absurd (planned≢refused s [] k e)
-  gives-refused (suc i) h h1 k s system hd sd g d some e = go (giveBack A ex last s h) refl e (gives-refused i h h1 k)
-    where
-      go : (p : Plan) → giveBack A ex last s h ≡ p → elim p [ refused j ↦ refused j | planned t ys ↦ after A ex last ys (giveMany A ex last i t h) ] ≡ refused k →
-          ((s : Anodes) (system hd sd : ℕ → ℕ) → Good A ex n last s system hd sd → Head (s .next) (s .block) h → i ≤ blocks A hd (s .count) h → giveMany A ex last i s h ≡ refused k → k ≡ 28) → k ≡ 28
-      go (refused j) q e rec = give-refused g h d (omega arith) k (q ∙ e)
-      go (planned t ys) q e rec =
-          let w = give-good g h d h1 t ys q in
-          rec t system (w .hd′) (w .sd′) (w .good) (moved-stays g w h d) (omega (arith, some, w .moved h, oneAt-same h h refl, oneAt-other 1 h (λ j. h1 (sym j))))
-          (after-refused A ex last ys (giveMany A ex last i t h) k e)
+  gives-refused i h h1 k s system hd sd g d some e =
+      let (j, r, (hd, sd, g, d, some), q) = repeated-refused (λ s. giveBack A ex last s h)
+      (λ i s. (hd : ℕ → ℕ) × (sd : ℕ → ℕ) × Good A ex n last s system hd sd × Head (s .next) (s .block) h × (i ≤ blocks A hd (s .count) h))
+      (λ i s t ys (hd, sd, g, d, some) q. let w = give-good g h d h1 t ys q in
+      (w .hd′, w .sd′, w .good, moved-stays g w h d, omega (arith, some, w .moved h, oneAt-same h h refl, oneAt-other 1 h (λ j. h1 (sym j)))))
+      i s k (hd, sd, g, d, some) e in
+      give-refused g h d (omega arith) k q
 
 -- ---- exactly when
 
@@ -156,26 +127,26 @@ module _ (A : ℕ) (ex : ℕ → Bool) (last : ℕ) (s : Anodes) (z y : ℕ) whe
 
 module _ (A : ℕ) (ex : ℕ → Bool) (last : ℕ) (s : Anodes) (h p x : ℕ) where
   -- with a free block there, x after p the first extent that has one, a take is refused with 28 exactly if an anode is needed and none is free, the one just emptied counted
-  pub take-28-exactly : (own : Bool) → firstFree A own s ≡ found p x →
+  pub take-28-exactly : (own : Bool) → freeExtent A own s ≡ found p x →
       (takeBlock A ex last own s h ≡ refused 28)
-      ↔ (NeedsAnode own (withoutFirst A ex last s p x) (lastOf h (chainOf (withoutFirst A ex last s p x .next) A h)) (s .block x) × NoneFree A ex last (withoutFirst A ex last s p x))
+      ↔ (NeedsAnode own (withoutFirst s p x) (lastOf h (chainOf (withoutFirst s p x .next) A h)) (s .block x) × NoneFree A ex last (withoutFirst s p x))
   unfolding takeFrom
   take-28-exactly own e =
-      let b = put-28 A ex last (withoutFirst A ex last s p x) (lastOf h (chainOf (withoutFirst A ex last s p x .next) A h)) (s .block x) own in
+      let b = put-28 A ex last (withoutFirst s p x) (lastOf h (chainOf (withoutFirst s p x .next) A h)) (s .block x) own in
       (λ q. b .0 (sym (take-found A own s ex last h p x e) ∙ q), λ n. take-found A own s ex last h p x e ∙ b .1 n)
 
   -- a give of the last block y of x, after p the last extent that has one, exactly if y can join the last anode of its side in no way and none is free, the one just emptied counted
   pub give-28-exactly : (y z : ℕ) → lastFull (s .count) 0 (chainOf (s .next) A h) ≡ found p x → y ≡ s .block x + (s .count x - 1) →
-      z ≡ lastOf (sideOf A ex last y) (side A (withoutLast A ex last s h p x) (sideOf A ex last y)) →
-      (giveBack A ex last s h ≡ refused 28) ↔ (JoinsNone (withoutLast A ex last s h p x) z y × NoneFree A ex last (withoutLast A ex last s h p x))
+      z ≡ lastOf (sideOf last y) (side A (withoutLast s h p x) (sideOf last y)) →
+      (giveBack A ex last s h ≡ refused 28) ↔ (JoinsNone (withoutLast s h p x) z y × NoneFree A ex last (withoutLast s h p x))
   unfolding giveBack giveFrom release
-  give-28-exactly y z e f i = rw (e, giveBack, ← f, ← i) (join-28 A ex last (withoutLast A ex last s h p x) z y)
+  give-28-exactly y z e f i = rw (e, giveBack, ← f, ← i) (join-28 A ex last (withoutLast s h p x) z y)
 
 module _ {A : ℕ} {ex : ℕ → Bool} {n last : ℕ} {s : Anodes} {system hd sd : ℕ → ℕ} (g : Good A ex n last s system hd sd) where
   -- a take is refused with 27 exactly if no free block is left
   pub take-27-exactly : (own : Bool) (h : ℕ) → (takeBlock A ex last own s h ≡ refused 27) ↔ (blocks A hd (s .count) 1 ≡ 0)
-  take-27-exactly own h = (take-27 g own h, λ z. go (firstFree A own s) refl z)
+  take-27-exactly own h = (take-27 g own h, λ z. go (freeExtent A own s) refl z)
     where
-      go : (c : Found) → firstFree A own s ≡ c → blocks A hd (s .count) 1 ≡ 0 → takeBlock A ex last own s h ≡ refused 27
+      go : (c : Found) → freeExtent A own s ≡ c → blocks A hd (s .count) 1 ≡ 0 → takeBlock A ex last own s h ≡ refused 27
       go nowhere e z = take-nowhere A own s ex last h e
-      go (found p x) e z = let f = firstFree-found A own s g p x e in absurd (omega (arith, z, withoutFirst-out g (f .0) (f .1) p x (f .2) .fewer 1, oneAt-same 1 1 refl))
+      go (found p x) e z = let f = extent-found A own s g p x e in absurd (omega (arith, z, withoutFirst-out g (f .0) (f .1) p x (f .2) .fewer 1, oneAt-same 1 1 refl))

@@ -61,10 +61,10 @@ module _ {ex : ℕ → Bool} {n last : ℕ} {s : Anodes} {system hd : ℕ → �
   hd′ = ran .hd′
 
   abbrev left : Anodes
-  left = dropped limit ex last t h
+  left = dropped limit t h
 
   abbrev dead : ℕ → Bool
-  dead = onChain limit ex last t h
+  dead = onChain limit t h
 
   pub still : Head (t .next) (t .block) h
   still = ran .shift .stays h d
@@ -223,12 +223,12 @@ module _ {ex : ℕ → Bool} {n last : ℕ} {s : Anodes} {system hd sd : ℕ →
   module _ {ys : List ℕ} {t : Anodes} (ran : Ran limit ex n last s system hd h 1 h 0 ys t) (marked′ : Dir → ℕ → Bool)
       (same-marks : (a : ℕ) → s .count a ≡ 1 → hd a ≢ 1 → (d : Dir) → marked′ d (s .block a) ≡ marked d (s .block a)) where
     abbrev end : Anodes
-    end = dropped limit ex last t h
+    end = dropped limit t h
 
     abbrev items′ : Dir → List Item
     items′ = itemsBy entries′ marked′ end
 
-    good : Good limit ex n last end system (without (onChain limit ex last t h) (ran .hd′)) (without (onChain limit ex last t h) (ran .sd′))
+    good : Good limit ex n last end system (without (onChain limit t h) (ran .hd′)) (without (onChain limit t h) (ran .sd′))
     good = dropped-good h (head-h .0) (head-h .2) ran
 
     gone : Gone s hd end h
@@ -271,7 +271,7 @@ module _ {ex : ℕ → Bool} {n last : ℕ} {s : Anodes} {system hd sd : ℕ →
 
     -- the directories that are left are those that were, but for one with the head h
     pub removed : (dirs′ : List Dir)
-        × Whole ex n last (dropped limit ex last t h) system (without (onChain limit ex last t h) (ran .hd′)) (without (onChain limit ex last t h) (ran .sd′)) entries′ marked′ dirs′
+        × Whole ex n last (dropped limit t h) system (without (onChain limit t h) (ran .hd′)) (without (onChain limit t h) (ran .sd′)) entries′ marked′ dirs′
         × ((x : ℕ) → x ≢ h → headed x dirs′ ≡ headed x dirs)
     removed = (
       rest .dirs′,

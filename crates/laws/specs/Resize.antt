@@ -8,7 +8,7 @@ use native.Mathlib.Omega.{arith}
 use Rattle.rules.specs.Counting.{oneAt, sumList, times}
 use Rattle.rules.specs.Anodes.{limit, Anodes}
 use Rattle.rules.specs.Walk.{Dir, Entered, blocksFor, itemsBy}
-use Rattle.rules.specs.Space.{Plan, refused, planned, takeBlock, giveBack, after, takeMany, giveMany}
+use Rattle.rules.specs.Space.{Plan, planned, repeated, takeBlock, giveBack, takeMany, giveMany}
 use Rattle.laws.specs.Sums.{oneAt-same, oneAt-other}
 use Rattle.laws.specs.Bags.{times-nil, times-cons}
 use Rattle.laws.specs.Heads.{Head}
@@ -16,7 +16,7 @@ use Rattle.laws.specs.Blocks.{blocks}
 use Rattle.laws.specs.Held.{held}
 use Rattle.laws.specs.Space.{Good}
 use Rattle.laws.specs.Moves.{Moved}
-use Rattle.laws.specs.Arriving.{refused≢planned, planned-same}
+use Rattle.laws.specs.Repeated.{repeated-none, repeated-done}
 use Rattle.laws.specs.Take.{take-good}
 use Rattle.laws.specs.Give.{give-good}
 use Rattle.laws.specs.Frame.{Shift, moved-stays, take-shift, give-shift, shift-trans}
@@ -32,19 +32,6 @@ module _ (A : ℕ) (ex : ℕ → Bool) (n last : ℕ) where
     pub shift : Shift s hd t hd′ h
     pub has : blocks A hd′ (t .count) h ≡ size
     pub passed : (m y : ℕ) → held A hd′ (t .count) (t .block) m y + oneAt from m * times y ys ≡ held A hd (s .count) (s .block) m y + oneAt to m * times y ys
-
--- a plan behind blocks that changed hands before
-after-planned : (A : ℕ) (ex : ℕ → Bool) (last : ℕ) (ys : List ℕ) (p : Plan) (t : Anodes) (zs : List ℕ) → after A ex last ys p ≡ planned t zs → (xs : List ℕ) × (p ≡ planned t xs) × (zs ≡ ys ++ xs)
-unfolding after
-after-planned A ex last ys (refused k) t zs e = absurd (refused≢planned k t zs e)
-after-planned A ex last ys (planned r xs) t zs e = let q = planned-same r t (ys ++ xs) zs e in (xs, rw (q .0), q .1)
-
--- a step and the rest, both done
-pub step-done : (A : ℕ) (ex : ℕ → Bool) (last : ℕ) (step : Plan) (rest : Anodes → Plan) (t : Anodes) (zs : List ℕ) →
-    elim step [ refused i ↦ refused i | planned r ys ↦ after A ex last ys (rest r) ] ≡ planned t zs →
-    (r : Anodes) × (ys : List ℕ) × (xs : List ℕ) × (step ≡ planned r ys) × (rest r ≡ planned t xs) × (zs ≡ ys ++ xs)
-step-done A ex last (refused i) rest t zs e = absurd (refused≢planned i t zs e)
-step-done A ex last (planned r ys) rest t zs e = let f = after-planned A ex last ys (rest r) t zs e in (r, ys, f .0, refl, f .1, f .2)
 
 module _ {A : ℕ} {ex : ℕ → Bool} {n last : ℕ} where
   -- no step at all
@@ -73,35 +60,37 @@ module _ {A : ℕ} {ex : ℕ → Bool} {n last : ℕ} where
       all : (y : ℕ) → times y zs ≡ oneAt (w .block) y + times y xs
       all y = ap (times y) (e ∙ ap (λ (l : List ℕ). l ++ xs) (w .handed)) ∙ times-cons y (w .block) xs
 
+  -- steps one after the other, each of which moves a block of the chain of h; `Left`: what so many steps left say of its blocks
+  steps-ran : (from to h : ℕ) (system : ℕ → ℕ) (step : Anodes → Plan) →
+      ((s : Anodes) (hd sd : ℕ → ℕ) → Good A ex n last s system hd sd → Head (s .next) (s .block) h → (t : Anodes) (ys : List ℕ) → step s ≡ planned t ys →
+      (w : Moved A ex n last s system hd from to ys t) × Shift s hd t (w .hd′) h) →
+      (size : ℕ) (Left : ℕ → ℕ → Type 0) → ((b : ℕ) → Left 0 b → b ≡ size) → ((k b b′ : ℕ) → b′ + oneAt from h ≡ b + oneAt to h → Left (suc k) b → Left k b′) →
+      (k : ℕ) (t : Anodes) (zs : List ℕ) (s : Anodes) (hd sd : ℕ → ℕ) → Good A ex n last s system hd sd → Head (s .next) (s .block) h → Left k (blocks A hd (s .count) h) →
+      repeated step k s ≡ planned t zs → Ran A ex n last s system hd from to h size zs t
+  steps-ran from to h system step each size Left done less zero t zs s hd sd g d left e =
+      let q = repeated-none step s t zs e in rw (← (q .0), q .1) (rw (done (blocks A hd (s .count) h) left) at (ran-none g from to h))
+  steps-ran from to h system step each size Left done less (suc k) t zs s hd sd g d left e =
+      let (r, ys, xs, q, f, z) = repeated-done step k s t zs e in
+      let (w, shift) = each s hd sd g d r ys q in
+      ran-after w shift (steps-ran from to h system step each size Left done less k t xs r (w .hd′) (w .sd′) (w .good) (moved-stays g w h d) (less k (blocks A hd (s .count) h) (blocks A (w .hd′) (r .count) h) (w .moved h) left) f) z
+
   -- k takes that are done
   pub grow-ran : (k h : ℕ) → h ≢ 1 → (own : Bool) (t : Anodes) (zs : List ℕ) (s : Anodes) (system hd sd : ℕ → ℕ) → Good A ex n last s system hd sd → Head (s .next) (s .block) h →
       takeMany A ex last own k s h ≡ planned t zs → Ran A ex n last s system hd 1 h h (blocks A hd (s .count) h + k) zs t
   unfolding takeMany
-  grow-ran zero h h1 own t zs s system hd sd g d e =
-      let q = planned-same s t [] zs e in rw (← (q .0), q .1) (rw plus at (ran-none g 1 h h))
-    where
-      plus : blocks A hd (s .count) h ≡ blocks A hd (s .count) h + 0
-      plus = omega arith
-  grow-ran (suc k) h h1 own t zs s system hd sd g d e =
-      let (r, ys, xs, q, f, z) = step-done A ex last (takeBlock A ex last own s h) (λ r. takeMany A ex last own k r h) t zs e in
-      let w = take-good g h d h1 own r ys q in
-      let more : blocks A (w .hd′) (r .count) h + k ≡ blocks A hd (s .count) h + suc k = omega (arith, w .moved h, oneAt-same h h refl, oneAt-other 1 h (λ i. h1 (sym i))) in
-      ran-after w (take-shift g w) (rw more at (grow-ran k h h1 own t xs r system (w .hd′) (w .sd′) (w .good) (moved-stays g w h d) f)) z
+  grow-ran k h h1 own t zs s system hd sd g d e =
+      steps-ran 1 h h system (λ s. takeBlock A ex last own s h) (λ s hd sd g d t ys q. let w = take-good g h d h1 own t ys q in (w, take-shift g w))
+      (blocks A hd (s .count) h + k) (λ i b. b + i ≡ blocks A hd (s .count) h + k) (λ b l. omega arith)
+      (λ i b b′ m l. omega (arith, m, l, oneAt-same h h refl, oneAt-other 1 h (λ q. h1 (sym q)))) k t zs s hd sd g d refl e
 
   -- k gives that are done
   pub shrink-ran : (k h : ℕ) → h ≢ 1 → (t : Anodes) (zs : List ℕ) (s : Anodes) (system hd sd : ℕ → ℕ) (size : ℕ) → blocks A hd (s .count) h ≡ size + k → Good A ex n last s system hd sd →
       Head (s .next) (s .block) h → giveMany A ex last k s h ≡ planned t zs → Ran A ex n last s system hd h 1 h size zs t
   unfolding giveMany
-  shrink-ran zero h h1 t zs s system hd sd size b g d e =
-      let q = planned-same s t [] zs e in rw (← (q .0), q .1) (rw plus at (ran-none g h 1 h))
-    where
-      plus : blocks A hd (s .count) h ≡ size
-      plus = omega arith
-  shrink-ran (suc k) h h1 t zs s system hd sd size b g d e =
-      let (r, ys, xs, q, f, z) = step-done A ex last (giveBack A ex last s h) (λ r. giveMany A ex last k r h) t zs e in
-      let w = give-good g h d h1 r ys q in
-      ran-after w (give-shift g w)
-      (shrink-ran k h h1 t xs r system (w .hd′) (w .sd′) size (omega (arith, b, w .moved h, oneAt-same h h refl, oneAt-other 1 h (λ i. h1 (sym i)))) (w .good) (moved-stays g w h d) f) z
+  shrink-ran k h h1 t zs s system hd sd size b g d e =
+      steps-ran h 1 h system (λ s. giveBack A ex last s h) (λ s hd sd g d t ys q. let w = give-good g h d h1 t ys q in (w, give-shift g w))
+      size (λ i b. b ≡ size + i) (λ b l. omega arith)
+      (λ i b b′ m l. omega (arith, m, l, oneAt-same h h refl, oneAt-other 1 h (λ q. h1 (sym q)))) k t zs s hd sd g d b e
 
 -- a file resized leaves an accepted state: after the steps its chain has as many blocks as its entry's new size asks for
 pub resized : {ex : ℕ → Bool} {n last : ℕ} {s : Anodes} {system hd sd : ℕ → ℕ} {entries : ℕ → List Entered} {marked : Dir → ℕ → Bool} {dirs : List Dir} →

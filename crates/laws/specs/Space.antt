@@ -229,7 +229,7 @@ module _ {A : ℕ} {ex : ℕ → Bool} {n last : ℕ} {s : Anodes} {system hd sd
   -- the chain of the head h, from 6 up and with no block, is dropped
   module _ (h : ℕ) (h6 : 6 ≤ h) (d : Head (s .next) (s .block) h) (none : (a : ℕ) → hd a ≡ h → s .count a ≡ 0) where
     abbrev dead : ℕ → Bool
-    dead = onChain A ex last s h
+    dead = onChain A s h
 
     pub dead-head : (a : ℕ) → T (dead a) → hd a ≡ h
     unfolding onChain
@@ -244,7 +244,7 @@ module _ {A : ℕ} {ex : ℕ → Bool} {n last : ℕ} {s : Anodes} {system hd sd
         (λ t. head-dead a (sym (g .heads .along a n) ∙ dead-head (s .next a) t))
         (λ t. head-dead (s .next a) (g .heads .along a n ∙ dead-head a t))
 
-    pub drop-good : Good A ex n last (dropped A ex last s h) system (without dead hd) (without dead sd)
+    pub drop-good : Good A ex n last (dropped A s h) system (without dead hd) (without dead sd)
     unfolding dropped without
     drop-good = record {
       view = drop-view (g .view) (g .linked) dead dead-along;

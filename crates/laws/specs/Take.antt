@@ -1,16 +1,14 @@
 -- A take that is done leaves a good state, and one block has gone from the free list to the taker's chain.
-use Prim.Native.Nat.{ℕ, _+_, _-_, _≤_, _<_}
+use Prim.Native.Nat.{ℕ, _+_, _≤_, _<_}
 use mathlib.Core.Path.{_≡_, refl, sym, ap, _∙_}
 use mathlib.Core.Logic.{_≢_, _⊎_, inl, inr}
 use mathlib.Core.Bool.{Bool}
 use mathlib.Core.List.{List, [], _∷_}
 use native.Mathlib.Omega.{arith}
-use borrow.Author.Tests.{eq-eqb, ne-eqb}
 use Rattle.rules.specs.Counting.{lastOf}
 use Rattle.rules.specs.Anodes.{Anodes}
 use Rattle.rules.specs.Chains.{chainOf, cut, side}
-use Rattle.rules.specs.Space.{planned, rewritten, emptied, Found, nowhere, found, put, withoutFirst, takeFrom, takeBlock}
-use Rattle.laws.specs.Tests.{same?}
+use Rattle.rules.specs.Space.{planned, rewritten, Found, nowhere, found, withoutFirst, freeExtent, put, takeFrom, takeBlock}
 use Rattle.laws.specs.Ownership.{hand}
 use Rattle.laws.specs.Links.{the-chain}
 use Rattle.laws.specs.LinkChanges.{first, second, third}
@@ -20,8 +18,8 @@ use Rattle.laws.specs.Space.{Good}
 use Rattle.laws.specs.Sides.{head-of-1, side-head, not-free, side-sd}
 use Rattle.laws.specs.Searches.{FoundIn, last-on}
 use Rattle.laws.specs.Moves.{InHand, Placed, Moved, headed-used, moved-by}
-use Rattle.laws.specs.Leaving.{only-gone, first-gone, full-used, full-inside, full-0, full-1, full-6, shrunk, unlinked-out}
-use Rattle.laws.specs.FirstFree.{firstFree, firstFree-found, take-nowhere, take-found}
+use Rattle.laws.specs.Leaving.{first-gone, full-used, full-inside, full-0, full-1, withoutBlock-out}
+use Rattle.laws.specs.FreeExtent.{extent-found, take-nowhere, take-found}
 use Rattle.laws.specs.Arriving.{put-cases, refused≢planned, filled, grown, placed-by, append-placed}
 
 -- the last anode of a chain has its head
@@ -45,19 +43,10 @@ module _ {A : ℕ} {ex : ℕ → Bool} {n last : ℕ} {s : Anodes} {system hd sd
       | inr c ↦ elim (cut-cases (s .next) p) [ inl d ↦ absurd (full-0 g x (f .full) (sym c ∙ d .1)) | inr d ↦ sym (d .1) ∙ c ]
     ]
 
-    pub withoutFirst-out : InHand A ex n last s system hd 1 (s .block x) (withoutFirst A ex last s p x)
-    unfolding withoutFirst emptied
-    withoutFirst-out = rw free-head at out
-      where
-        out : InHand A ex n last s system hd (hd x) (s .block x) (withoutFirst A ex last s p x)
-        out = elim (same? (s .count x) 1) [
-          | inr h ↦ rw (ne-eqb (s .count x) 1 h) (shrunk g x (f .full) (s .count x - 1) (s .block x + 1) (s .block x) (omega (arith, f .full)) (omega arith)
-              (λ w. first-gone (s .count x) (s .block x) w (f .full)) (λ l. (omega arith, omega arith)))
-          | inl h ↦ rw (eq-eqb (s .count x) 1 h) (elim (same? x 2) [
-            | inl e ↦ rw (eq-eqb x 2 e) (shrunk g x (f .full) 0 65535 (s .block x) h (omega arith) (λ w. only-gone (s .count x) (s .block x) w 65535 h) (λ l. absurd (omega arith)))
-            | inr e ↦ rw (ne-eqb x 2 e) (unlinked-out g x (f .full) h p (free-after e) (full-6 g x (f .full) p (free-after e) e))
-          ])
-        ]
+    pub withoutFirst-out : InHand A ex n last s system hd 1 (s .block x) (withoutFirst s p x)
+    unfolding withoutFirst
+    withoutFirst-out = rw free-head at
+        (withoutBlock-out g x (f .full) 2 p (s .block x + 1) (s .block x) (omega arith) (omega arith, omega arith) (λ w. first-gone (s .count x) (s .block x) w (f .full)) (λ e. refl) (λ e. (free-after e, e)))
 
 -- ---- into the taker's chain
 
@@ -109,19 +98,19 @@ pub record Takes (A : ℕ) (ex : ℕ → Bool) (n last : ℕ) (s : Anodes) (syst
   pub on : FoundIn (s .count) (cut (s .next)) m (side A s m) 0 p x
   pub some : s .block x ≢ 0
   pub inside : s .block x < n
-  pub out : InHand A ex n last s system hd 1 (s .block x) (withoutFirst A ex last s p x)
-  pub puts : put A ex last own (withoutFirst A ex last s p x) (lastOf h (chainOf (withoutFirst A ex last s p x .next) A h)) (s .block x) ≡ planned t ys
+  pub out : InHand A ex n last s system hd 1 (s .block x) (withoutFirst s p x)
+  pub puts : put A ex last own (withoutFirst s p x) (lastOf h (chainOf (withoutFirst s p x .next) A h)) (s .block x) ≡ planned t ys
 
 module _ {A : ℕ} {ex : ℕ → Bool} {n last : ℕ} {s : Anodes} {system hd sd : ℕ → ℕ} (g : Good A ex n last s system hd sd) (h : ℕ) where
   -- a take that is done has made these steps
   pub take-steps : (own : Bool) (t : Anodes) (ys : List ℕ) → takeBlock A ex last own s h ≡ planned t ys → Takes A ex n last s system hd own h t ys
   unfolding takeFrom
-  take-steps own t ys e = go (firstFree A own s) refl
+  take-steps own t ys e = go (freeExtent A own s) refl
     where
-      go : (c : Found) → firstFree A own s ≡ c → Takes A ex n last s system hd own h t ys
+      go : (c : Found) → freeExtent A own s ≡ c → Takes A ex n last s system hd own h t ys
       go nowhere q = absurd (refused≢planned 27 t ys (sym (take-nowhere A own s ex last h q) ∙ e))
       go (found p x) q =
-          let (m, o, f) = firstFree-found A own s g p x q in
+          let (m, o, f) = extent-found A own s g p x q in
           let u = full-used g x (f .full) in
           record {
             m = m;
@@ -137,7 +126,7 @@ module _ {A : ℕ} {ex : ℕ → Bool} {n last : ℕ} {s : Anodes} {system hd sd
 
   -- the block in hand has come to the chain of h
   pub take-placed : Head (s .next) (s .block) h → h ≢ 1 → {own : Bool} {t : Anodes} {ys : List ℕ} → (k : Takes A ex n last s system hd own h t ys) →
-      Placed A ex n last (withoutFirst A ex last s (k .p) (k .x)) system (k .out .hd′) h (s .block (k .x)) t × (ys ≡ s .block (k .x) ∷ [])
+      Placed A ex n last (withoutFirst s (k .p) (k .x)) system (k .out .hd′) h (s .block (k .x)) t × (ys ≡ s .block (k .x) ∷ [])
   take-placed d h1 {own} {t} {ys} k = put-placed system (s .block (k .x)) (k .out .good) (k .some) (k .inside) h (d .pos) h1 (k .out .heads-kept h d) own t ys (k .puts)
 
   -- a take moves one block from the free list to the chain of h

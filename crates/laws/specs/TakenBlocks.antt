@@ -21,7 +21,7 @@ use Rattle.laws.specs.Moves.{InHand, headed-used, hand-stays}
 use Rattle.laws.specs.Arriving.{free-is, append-cases, put-cases, refused≢planned, planned-same}
 use Rattle.laws.specs.Take.{last-head, take-steps, take-good}
 use Rattle.laws.specs.Frame.{shift-of, moved-stays}
-use Rattle.laws.specs.Resize.{step-done}
+use Rattle.laws.specs.Repeated.{repeated-none, repeated-done}
 use Rattle.laws.specs.ChainBlocks.{gather-append, extent, blocksOf-extents, shift-blocks, gather-off, stands-once, inserted-chain}
 
 -- one block more at the end of an extent
@@ -135,9 +135,9 @@ module _ {ex : ℕ → Bool} {n last : ℕ} {s : Anodes} {system hd sd : ℕ →
 pub takes-blocks : {ex : ℕ → Bool} {n last : ℕ} (k h : ℕ) → h ≢ 1 → (own : Bool) (t : Anodes) (zs : List ℕ) (s : Anodes) (system hd sd : ℕ → ℕ) → Good limit ex n last s system hd sd →
     Head (s .next) (s .block) h → takeMany limit ex last own k s h ≡ planned t zs → (blocksOf t h ≡ blocksOf s h ++ zs) × (length zs ≡ k)
 unfolding takeMany
-takes-blocks zero h h1 own t zs s system hd sd g d e = let q = planned-same s t [] zs e in rw (← (q .0), q .1) (sym (append-nil (blocksOf s h)), refl)
+takes-blocks zero h h1 own t zs s system hd sd g d e = let q = repeated-none (λ s. takeBlock _ _ _ own s h) s t zs e in rw (← (q .0), q .1) (sym (append-nil (blocksOf s h)), refl)
 takes-blocks {ex} {n} {last} (suc k) h h1 own t zs s system hd sd g d e =
-    let (r, ys, xs, q, f, z) = step-done limit ex last (takeBlock limit ex last own s h) (λ r. takeMany limit ex last own k r h) t zs e in
+    let (r, ys, xs, q, f, z) = repeated-done (λ s. takeBlock limit ex last own s h) k s t zs e in
     let w = take-good g h d h1 own r ys q in
     let b = takes-blocks k h h1 own t xs r system (w .hd′) (w .sd′) (w .good) (moved-stays g w h d) f in (
       b .0 ∙ ap (λ (l : List ℕ). l ++ xs) (take-blocks g h d h1 own r ys q) ∙ append-assoc (blocksOf s h) ys xs ∙ ap (λ (l : List ℕ). blocksOf s h ++ l) (sym z),

@@ -18,21 +18,21 @@ use Rattle.rules.specs.Accepted.{diskSize, lastReserved}
 use Rattle.rules.specs.Lookup.{noDirectory}
 use Rattle.rules.specs.Space.{rewritten, lowestFree}
 use Rattle.rules.specs.Tables.{anodeTable}
-use Rattle.rules.specs.Changes.{firstRoom, parentBlock, entryPlace, NewEntry, madeImage, madeWith, made}
+use Rattle.rules.specs.Changes.{firstRoom, noRoom, neededBlock, entryPlace, NewEntry, madeImage, madeWith, made}
 use Rattle.laws.specs.Bags.{times-nil}
 use Rattle.laws.specs.Links.{View, Linked}
 use Rattle.laws.specs.OwnerTable.{setAll, fresh-owner}
 use Rattle.anodes.specs.Loaded.{anodesFrom}
 use Rattle.changes.specs.Members.{times-member}
 use Rattle.changes.specs.Reached.{dir-block}
-use Rattle.changes.specs.MakePlan.{parent-took}
+use Rattle.changes.specs.MakePlan.{Fresh, parent-took}
 use Rattle.changes.specs.MadeImage.{Making, first-in, good, made-same, made-anodes}
 use Rattle.changed.specs.Leaves.{Leaves, Loaded}
 use Rattle.changed.specs.Laws.{Shows, shows-kept, leaves-refused, leaves-done}
 use Rattle.making.specs.declared.MakePlan.{MakePlan}
 use Rattle.making.specs.declared.Planned.the-variants.{Stopped}
-use Rattle.making.specs.Steps.{Fresh, someBlock, noRoom, Plans, PlanOf}
-use Rattle.making.proofs.Steps.{no-block, one-block, parent-own, step-shows, free-f, whole, once, first-ready, next-ready}
+use Rattle.making.specs.Steps.{someBlock, Plans, PlanOf}
+use Rattle.making.proofs.Steps.{no-block, one-block, step-shows, free-f, whole, once, first-ready, next-ready}
 
 module _ {img counts firsts nexts : List ℕ} (l : Loaded img counts firsts nexts) where
   pub lowest-is : (f : ℕ) → ((c n : List ℕ) (last : ℕ) → f ≡ lowestFree 3444 (exists img) last (anodesFrom c firsts n)) → lowestFree limit (exists img) (lastReserved img) (anodesOf img) ≡ f
@@ -42,7 +42,7 @@ module _ {img counts firsts nexts : List ℕ} (l : Loaded img counts firsts next
   begun-is f s e = e ∙ ap (λ (u : Anodes). rewritten u f 0 65535) (l .is-loaded)
 
   module _ (h : ℕ) (reached : noDirectory img (anodesOf img) h ≡ false) where
-    pub lowest-fresh : (f : ℕ) → lowestFree limit (exists img) (lastReserved img) (anodesOf img) ≡ f → f < limit → Fresh img h f
+    pub lowest-fresh : (f : ℕ) → lowestFree limit (exists img) (lastReserved img) (anodesOf img) ≡ f → f < limit → Fresh img (diskSize img) limit h f
     lowest-fresh f e below = record { accepted = l .accepted; reached = reached; lowest = e; below = below }
 
     -- each anode of the directory has one block
@@ -83,24 +83,11 @@ module _ (img : List ℕ) (h : ℕ) (new : NewEntry) (m : MakePlan) (t : Anodes)
   abbrev zs : List ℕ
   zs = someBlock (m .parents .0)
 
-  x : Fresh img h f
-  x = p .is-fresh
+  x : Fresh img (diskSize img) limit h f
+  x = p .fresh
 
   making : Making img (diskSize img) limit h new f (p .room) ys t zs
-  making = record {
-    accepted = x .accepted;
-    reached = x .reached;
-    named = named;
-    commented = commented;
-    from-6 = free-f x .0;
-    there = free-f x .2;
-    below = x .below;
-    fresh = free-f x .1;
-    between = p .between;
-    own = p .own;
-    roomy = sym (p .found);
-    parent = p .parents;
-  }
+  making = record { fresh = p .fresh; steps = p .steps; named = named; commented = commented }
 
   -- show_heads asks it of the new anodes
   pub new-view : View limit (t .next) (t .block) × Linked limit (t .next) (t .block)
@@ -111,9 +98,9 @@ module _ (img : List ℕ) (h : ℕ) (new : NewEntry) (m : MakePlan) (t : Anodes)
   shown b r q =
       let u = rewritten (anodesOf img) f 0 65535 in
       let one = first-ready x u refl in
-      let two = next-ready x u refl (new .dir) (m .own) (p .between) (sym (p .own)) in
-      step-shows img (two .0 .1 .2) h (two .1 .0) (two .1 .1) (noRoom (p .room)) t zs (sym (parent-own img (p .room) (p .between) h) ∙ p .parents) (setAll b ys f) r
-      (step-shows img (one .0 .1 .2) f (one .1 .0) (one .1 .1) (new .dir) (p .between) ys (p .own) b r
+      let two = next-ready x u refl (new .dir) (m .own) (p .steps .between) (sym (p .steps .own)) in
+      step-shows img (two .0 .1 .2) h (two .1 .0) (two .1 .1) (noRoom (p .room)) t zs (p .steps .parent) (setAll b ys f) r
+      (step-shows img (one .0 .1 .2) f (one .1 .0) (one .1 .1) (new .dir) (p .steps .between) ys (p .steps .own) b r
       (shows-kept img (anodesOf img) u (fresh-owner (whole x .good) f (free-f x .0) (free-f x .2) (x .below) (free-f x .1)) b r q))
 
   -- with no room the parent has a new block
@@ -123,13 +110,13 @@ module _ (img : List ℕ) (h : ℕ) (new : NewEntry) (m : MakePlan) (t : Anodes)
       go : (o : Option ℕ) → p .room ≡ o → entryPlace o (m .parents .0 ∷ []) ≡ entryPlace o zs
       go (some place) e = refl
       go none e =
-          let q = parent-took img (whole x) f (free-f x .0) (free-f x .2) (x .below) (free-f x .1) h (once x) (new .dir) (p .between) ys (p .own) t zs (ap (λ (o : Option ℕ). parentBlock img o (p .between) h) (sym e) ∙ p .parents) in
+          let q = parent-took img (whole x) f (free-f x .0) (free-f x .2) (x .below) (free-f x .1) h (once x) (new .dir) (p .steps .between) ys (p .steps .own) t zs (ap (λ (o : Option ℕ). neededBlock img (noRoom o) (p .steps .between) h) (sym e) ∙ p .steps .parent) in
           ap (entryPlace none) (sym (one-block (m .parents .0) (λ z. omega (arith, first-in (q .0) [] (sym (no-block (m .parents .0) z) ∙ q .1), times-nil (q .0)))))
 
   -- what it leaves of the image and the tables
   pub done-leaves : (b a : List ℕ) →
       Leaves 0 img b a (madeImage img (anodesOf img) h new f (p .room) ys t zs) (setAll (setAll b ys f) zs h) (anodeTable t ++ drop limit a) (made img (anodesOf img) h new)
   unfolding made madeWith
-  done-leaves b a = rw (x .lowest, lt-ltb f limit (x .below), sym (p .found), p .own, p .parents)
+  done-leaves b a = rw (x .lowest, lt-ltb f limit (x .below), p .steps .roomy, p .steps .own, p .steps .parent)
       (leaves-done img (madeImage img (anodesOf img) h new f (p .room) ys t zs) (made-same making) b a (setAll (setAll b ys f) zs h) (anodeTable t ++ drop limit a)
       (λ r q. rw (made-anodes making) (shown b r q)) (rw (made-anodes making)))

@@ -1,31 +1,23 @@
 -- What the steps of a make start from and what they answer, in the terms of the rules.
-use Prim.Native.Nat.{ℕ, _≤_, _<_}
+use Prim.Native.Nat.{ℕ, _≤_}
 use mathlib.Core.Path.{_≡_}
-use mathlib.Core.Bool.{Bool, true, false, cond}
+use mathlib.Core.Bool.{Bool, cond}
 use mathlib.Core.List.{List, [], _∷_}
-use mathlib.Core.Option.{Option, none, some}
+use mathlib.Core.Option.{Option}
 use lib.Dec.{eqb}
 use lib.ListN.{length}
 use Rattle.disk.specs.Refusals.{numberOf}
 use Rattle.directory.specs.Entries.{entryLength}
-use Rattle.rules.specs.Anodes.{Anodes, limit, exists, anodesOf}
-use Rattle.rules.specs.Chains.{blocksOf}
-use Rattle.rules.specs.Accepted.{diskSize, lastReserved, checkAnswer}
-use Rattle.rules.specs.Lookup.{noDirectory}
-use Rattle.rules.specs.Space.{Plan, refused, planned, rewritten, lowestFree}
-use Rattle.rules.specs.Changes.{firstRoom, ownBlock, parentBlock, entryPlace, NewEntry, left, made}
+use Rattle.rules.specs.Anodes.{Anodes, limit, anodesOf}
+use Rattle.rules.specs.Accepted.{diskSize}
+use Rattle.rules.specs.Space.{Plan, refused, planned}
+use Rattle.rules.specs.Changes.{entryPlace, NewEntry, left, made}
+use Rattle.changes.specs.MakePlan.{Fresh, MakeSteps}
 use Rattle.space.specs.declared.Step.{Step}
 use Rattle.space.specs.declared.Step.the-variants.{Moved, Refused}
 use Rattle.making.specs.declared.MakePlan.{MakePlan}
 use Rattle.making.specs.declared.Planned.{Planned}
 use Rattle.making.specs.declared.Planned.the-variants.{Make, Stopped}
-
--- h heads a reached directory of an accepted image, and f is the lowest free anode
-pub record Fresh (img : List ℕ) (h f : ℕ) : Type 0 where
-  pub accepted : checkAnswer img (diskSize img) limit ≡ 0
-  pub reached : noDirectory img (anodesOf img) h ≡ false
-  pub lowest : lowestFree limit (exists img) (lastReserved img) (anodesOf img) ≡ f
-  pub below : f < limit
 
 -- the blocks of a step that may need none: block 0 is the system's, and stands for none
 unfoldable pub someBlock : ℕ → List ℕ
@@ -36,19 +28,11 @@ abbrev pub neededPlan : Step → Anodes → Plan
 neededPlan (Moved y) t = planned t (someBlock (y .0))
 neededPlan (Refused r) t = refused (numberOf r)
 
--- whether a directory has no room
-abbrev pub noRoom : Option ℕ → Bool
-noRoom none = true
-noRoom (some place) = false
-
 -- m plans a make in the directory of h, of a directory or a file whose entry has len bytes, and leaves the anodes t
 pub record Plans (img : List ℕ) (dir : Bool) (len h : ℕ) (m : MakePlan) (t : Anodes) : Type 0 where
-  pub is-fresh : Fresh img h (m .fresh .0)
+  pub fresh : Fresh img (diskSize img) limit h (m .fresh .0)
   pub room : Option ℕ
-  pub found : room ≡ firstRoom img len (blocksOf (anodesOf img) h)
-  pub between : Anodes
-  pub own : ownBlock img dir (rewritten (anodesOf img) (m .fresh .0) 0 65535) (m .fresh .0) ≡ planned between (someBlock (m .own .0))
-  pub parents : parentBlock img room between h ≡ planned t (someBlock (m .parents .0))
+  pub steps : MakeSteps img dir len h (m .fresh .0) room (someBlock (m .own .0)) t (someBlock (m .parents .0))
   pub place : m .place ≡ entryPlace room (m .parents .0 ∷ [])
 
 -- what the planning of a make answers: the plan, or a refusal of the whole make

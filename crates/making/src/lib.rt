@@ -6,20 +6,21 @@ ghost use mathlib.Core.Path.{_≡_};
 ghost use Prim.Native.Nat.{ℕ, _≤_};
 ghost use lib.ListN.{length};
 ghost use Rattle.directory.specs.Entries.{goodName, goodComment, isDir, entryLength};
-ghost use Rattle.rules.specs.Anodes.{anodesOf};
+ghost use Rattle.rules.specs.Anodes.{limit, anodesOf};
 ghost use Rattle.rules.specs.Chains.{blocksOf};
 ghost use Rattle.rules.specs.Walk.{reachedDirs};
-ghost use Rattle.rules.specs.Accepted.{wrongSize};
+ghost use Rattle.rules.specs.Accepted.{diskSize, wrongSize};
 ghost use Rattle.rules.specs.Lookup.{noDirectory};
 ghost use Rattle.rules.specs.Space.{rewritten};
-ghost use Rattle.rules.specs.Changes.{withBlocks, firstRoom, ownBlock, newDirectoryBlock, parentOf, entryPlace, made};
+ghost use Rattle.rules.specs.Changes.{withBlocks, firstRoom, noRoom, neededBlock, newDirectoryBlock, parentOf, entryPlace, made};
 ghost use Rattle.laws.specs.Heads.{Head};
 ghost use Rattle.laws.specs.OwnerTable.{setAll};
 ghost use Rattle.anodes.specs.Loaded.{anodesFrom};
 ghost use Rattle.changed.specs.Leaves.{Leaves, Loaded};
+ghost use Rattle.changes.specs.MakePlan.{Fresh};
 ghost use Rattle.edits.specs.Entries.{newEntry, roomOf};
 ghost use Rattle.space.specs.Steps.{GoodAnodes};
-ghost use Rattle.making.specs.Steps.{Fresh, someBlock, neededPlan, noRoom, Plans, PlanOf};
+ghost use Rattle.making.specs.Steps.{someBlock, neededPlan, Plans, PlanOf};
 use chains::show_heads;
 use directory::Kind;
 use directory::entry_len;
@@ -75,7 +76,7 @@ fn take_needed(
     requires { ⌜ (length (now counts) ≡ 3444) × (length (now firsts) ≡ 3444) × (length (now nexts) ≡ 3444) ⌝ }
     requires { ⌜ (wrongSize (now image) ≡ false) × GoodAnodes (now image) (anodesFrom (now counts) (now firsts) (now nexts)) ⌝ }
     requires { ⌜ Head (anodesFrom (now counts) (now firsts) (now nexts) .next) (anodesFrom (now counts) (now firsts) (now nexts) .block) (head .0) × (head .0 ≢ 1) ⌝ }
-    ensures { λ r. ⌜ neededPlan r (anodesFrom (now (counts .exit)) (now (firsts .exit)) (now (nexts .exit))) ≡ ownBlock (now (image .entry)) needed (anodesFrom (now (counts .entry)) (now (firsts .entry)) (now (nexts .entry))) (head .0) ⌝ }
+    ensures { λ r. ⌜ neededPlan r (anodesFrom (now (counts .exit)) (now (firsts .exit)) (now (nexts .exit))) ≡ neededBlock (now (image .entry)) needed (anodesFrom (now (counts .entry)) (now (firsts .entry)) (now (nexts .entry))) (head .0) ⌝ }
 {
     if needed {
         return take_block(image, true, head, counts, firsts, nexts);
@@ -105,7 +106,7 @@ fn take_blocks(
     nexts: &mut [u16],
 ) -> Planned
     requires { ⌜ (length (now counts) ≡ 3444) × (length (now firsts) ≡ 3444) × (length (now nexts) ≡ 3444) ⌝ }
-    requires { ⌜ Fresh (now image) (head .0) (fresh .0) × (anodesFrom (now counts) (now firsts) (now nexts) ≡ rewritten (anodesOf (now image)) (fresh .0) 0 65535) ⌝ }
+    requires { ⌜ Fresh (now image) (diskSize (now image)) limit (head .0) (fresh .0) × (anodesFrom (now counts) (now firsts) (now nexts) ≡ rewritten (anodesOf (now image)) (fresh .0) 0 65535) ⌝ }
     ensures { λ r. ⌜ ((len : ℕ) → roomOf room ≡ firstRoom (now (image .entry)) len (blocksOf (anodesOf (now (image .entry))) (head .0)) → PlanOf r (now (image .entry)) (isDir kind) len (head .0) (anodesFrom (now (counts .exit)) (now (firsts .exit)) (now (nexts .exit)))) ⌝ }
 {
     let first = take_needed(image, is_directory(kind), fresh, counts, firsts, nexts);

@@ -25,7 +25,7 @@ use Rattle.changes.specs.Remove.{remove-refused}
 use Rattle.changes.specs.RemoveStores.{PlannedRemove, ran, end-good, removed-same, removed-anodes}
 use Rattle.anodes.specs.Loaded.{anodesFrom}
 use Rattle.tree.specs.Steps.{sumFrom}
-use Rattle.space.specs.Steps.{moveMany}
+use Rattle.space.specs.Steps.{moveBlock, moveMany}
 use Rattle.changed.specs.Leaves.{Leaves, Loaded, ReachedEntry}
 use Rattle.changed.specs.Laws.{leaves-refused, shows-kept, shows-ran, leaves-done}
 use Rattle.changed.specs.Chains.{image-good, entry-known, entry-not-1, loaded-copies, chain-counted, planned-change}
@@ -37,7 +37,7 @@ module _ {img counts firsts nexts : List ℕ} (l : Loaded img counts firsts next
   -- the plan on copies of the tables is that of the image
   pub gives-made : (nc nf nn : List ℕ) → nc ≡ counts → nf ≡ firsts → nn ≡ nexts → (have : ℕ) → have ≡ sumFrom counts nexts limit (e .anode) → (p : Plan) → p ≡ moveMany img false have (anodesFrom nc nf nn) (e .anode) →
       giveMany limit (exists img) (lastReserved img) (blockCount s (e .anode)) s (e .anode) ≡ p
-  unfolding moveMany
+  unfolding moveMany moveBlock giveMany
   gives-made nc nf nn c f n have all p made = sym (made ∙ rw (loaded-copies l nc nf nn c f n .is-loaded, chain-counted l (e .anode) have all))
 
   -- refused it leaves everything
@@ -47,7 +47,7 @@ module _ {img counts firsts nexts : List ℕ} (l : Loaded img counts firsts next
 
   module _ (t : Anodes) (ys : List ℕ) (gives : giveMany limit (exists img) (lastReserved img) (blockCount s (e .anode)) s (e .anode) ≡ planned t ys) where
     abbrev end : Anodes
-    end = dropped limit (exists img) (lastReserved img) t (e .anode)
+    end = dropped limit t (e .anode)
 
     p : PlannedRemove img e t ys
     p = planned-change l e r gives

@@ -12,7 +12,7 @@ use Rattle.rules.specs.Anodes.{Anodes, limit, anodesOf}
 use Rattle.rules.specs.Chains.{blockCount}
 use Rattle.rules.specs.Walk.{Entered, blocksFor}
 use Rattle.rules.specs.Tables.{anodeTable}
-use Rattle.rules.specs.Space.{Plan, refused, planned}
+use Rattle.rules.specs.Space.{Plan, refused, planned, takeMany, giveMany}
 use Rattle.rules.specs.Format.{zeroBlock}
 use Rattle.rules.specs.Changes.{withBlocks, resizePlan, zeroTaken, resizedImage, resized}
 use Rattle.laws.specs.Tests.{less?}
@@ -23,7 +23,7 @@ use Rattle.changes.specs.ResizePlan.{plan-refused, plan-longer}
 use Rattle.changes.specs.ResizeStores.{PlannedResize, steps, resized-same, resized-anodes}
 use Rattle.anodes.specs.Loaded.{anodesFrom}
 use Rattle.tree.specs.Steps.{sumFrom}
-use Rattle.space.specs.Steps.{moveMany}
+use Rattle.space.specs.Steps.{moveBlock, moveMany}
 use Rattle.space.proofs.Many.{count-small}
 use Rattle.changed.specs.Leaves.{Leaves, Loaded, ReachedEntry}
 use Rattle.changed.specs.Laws.{Shows, leaves-refused, shows-ran, leaves-done}
@@ -97,11 +97,11 @@ module _ {img counts firsts nexts : List ℕ} (l : Loaded img counts firsts next
 
 module _ (img : List ℕ) (s : Anodes) (h have want : ℕ) (is : have ≡ blockCount s h) where
   pub plan-grows : have ≤ want → moveMany img true (want - have) s h ≡ resizePlan img s h want
-  unfolding resizePlan moveMany
+  unfolding resizePlan moveMany moveBlock takeMany giveMany
   plan-grows l = rw (← is, le-leb have want l)
 
   pub plan-shrinks : want < have → moveMany img false (have - want) s h ≡ resizePlan img s h want
-  unfolding resizePlan moveMany
+  unfolding resizePlan moveMany moveBlock takeMany giveMany
   plan-shrinks l = rw (← is, lt-leb have want l)
 
 -- ---- the blocks that a growing file takes

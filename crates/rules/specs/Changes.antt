@@ -91,15 +91,15 @@ firstRoom img len [] = none
 firstRoom img len (y ∷ ys) =
     elim (leb (entriesEnd (blockOf img y) + len) 510) [ true ↦ some (y * 512 + entriesEnd (blockOf img y)) | false ↦ firstRoom img len ys ]
 
--- a directory then takes one block into its head
-unfoldable pub ownBlock : List ℕ → Bool → Anodes → ℕ → Plan
-ownBlock img true s f = Space.takeBlock limit (exists img) (lastReserved img) true s f
-ownBlock img false s f = planned s []
+-- whether no block of the parent has room
+abbrev pub noRoom : Option ℕ → Bool
+noRoom none = true
+noRoom (some place) = false
 
--- else the parent takes one
-unfoldable pub parentBlock : List ℕ → Option ℕ → Anodes → ℕ → Plan
-parentBlock img none s h = Space.takeBlock limit (exists img) (lastReserved img) true s h
-parentBlock img (some place) s h = planned s []
+-- a new directory takes one block into its head, and the parent takes one where it has no room
+unfoldable pub neededBlock : List ℕ → Bool → Anodes → ℕ → Plan
+neededBlock img true s h = Space.takeBlock limit (exists img) (lastReserved img) true s h
+neededBlock img false s h = planned s []
 
 -- new directory blocks are zeroed, then headed
 unfoldable pub newDirectoryBlock : ℕ → ℕ → List ℕ
@@ -154,12 +154,12 @@ madeImage img s h new f room ys t zs =
 -- the parent's step, after the new directory's
 abbrev pub madeIn : Plan → List ℕ → Anodes → ℕ → NewEntry → ℕ → Option ℕ → Left
 madeIn (refused n) img s h new f room = left n img
-madeIn (planned t ys) img s h new f room = leftBy (parentBlock img room t h) img (madeImage img s h new f room ys)
+madeIn (planned t ys) img s h new f room = leftBy (neededBlock img (noRoom room) t h) img (madeImage img s h new f room ys)
 
 -- the lowest free anode from 6 up as head, (0, 65535, 0); 28 if none
 unfoldable pub madeWith : List ℕ → Anodes → ℕ → NewEntry → ℕ → Left
 madeWith img s h new f =
-    madeIn (ownBlock img (new .dir) (rewritten s f 0 65535) f) img s h new f
+    madeIn (neededBlock img (new .dir) (rewritten s f 0 65535) f) img s h new f
     (firstRoom img (entryLength (length (new .name)) (length (new .comment))) (blocksOf s h))
 
 -- Make: 28 if there is no free anode, else its steps with the lowest one
@@ -192,7 +192,7 @@ withoutEntry img place = inBlock img (place / 512) (λ b. gapClosed b (place % 5
 
 -- gives back all blocks, last first, zeroes the anodes still in its chain
 unfoldable pub removedImage : List ℕ → Entered → Anodes → List ℕ → List ℕ
-removedImage img e t ys = withoutEntry (withAnodes img (Space.dropped limit (exists img) (lastReserved img) t (e .anode))) (e .place)
+removedImage img e t ys = withoutEntry (withAnodes img (Space.dropped limit t (e .anode))) (e .place)
 
 -- Remove: refused by its first step that fails, else that image
 unfoldable pub removed : List ℕ → Anodes → Entered → Left

@@ -1,6 +1,6 @@
 -- 01, "The changes", Take a block and Give back a block: steps on the anodes alone. A step that is refused answers 27 or 28.
 use Prim.Native.Nat.{ℕ, zero, suc, _+_, _-_}
-use mathlib.Core.Bool.{Bool, true, false, cond, not, _&&_}
+use mathlib.Core.Bool.{Bool, cond, _&&_}
 use mathlib.Core.List.{List, [], _∷_, _++_}
 use lib.Dec.{eqb, leb, ltb}
 use Rattle.rules.specs.Counting.{least, times, lastOf, changed}
@@ -36,20 +36,71 @@ unlinked s p a = record {
 unfoldable pub emptied : Anodes → ℕ → Anodes
 emptied s a = rewritten s a 0 65535
 
+-- anode x, after p, with a block less, its first block then b: emptied, `kept` becomes (0, 65535, next), any other is unlinked and zeroed
+unfoldable pub withoutBlock : Anodes → ℕ → ℕ → ℕ → ℕ → Anodes
+withoutBlock s kept p x b = cond (eqb (s .count x) 1) (cond (eqb x kept) (emptied s x) (unlinked s p x)) (rewritten s x (s .count x - 1) b)
+
+-- anode x of the free list, after p, without its first block: an emptied one from 6 up is unlinked and zeroed, an emptied 2 becomes (0, 65535, next)
+unfoldable pub withoutFirst : Anodes → ℕ → ℕ → Anodes
+withoutFirst s p x = withoutBlock s 2 p x (s .block x + 1)
+
+-- anode x of h's chain, after p, without its last block: an emptied one becomes (0, 65535, next) at the head, elsewhere it is unlinked and zeroed
+unfoldable pub withoutLast : Anodes → ℕ → ℕ → ℕ → Anodes
+withoutLast s h p x = withoutBlock s h p x (s .block x)
+
 -- an anode with a block, and the one before it, of a list
 pub data Found : Type 0 where
   nowhere : Found
   found : ℕ → ℕ → Found
 
--- the first that has one; p stands before the list
+-- anode a, after p, if it has a block
+unfoldable pub fullAt : (ℕ → ℕ) → ℕ → ℕ → Found
+fullAt count p a = elim (count a) [ zero ↦ nowhere | suc c ↦ found p a ]
+
+-- the first of two searches that finds one
+unfoldable pub firstFound : Found → Found → Found
+firstFound nowhere b = b
+firstFound (found p x) b = found p x
+
+-- the first anode of a list that has a block; p stands before the list
 unfoldable pub firstFull : (ℕ → ℕ) → ℕ → List ℕ → Found
 firstFull count p [] = nowhere
-firstFull count p (a ∷ l) = elim (count a) [ zero ↦ firstFull count a l | suc c ↦ found p a ]
+firstFull count p (a ∷ l) = firstFound (fullAt count p a) (firstFull count a l)
 
 -- the last that has one
 unfoldable pub lastFull : (ℕ → ℕ) → ℕ → List ℕ → Found
 lastFull count p [] = nowhere
-lastFull count p (a ∷ l) = elim (lastFull count a l) [ nowhere ↦ elim (count a) [ zero ↦ nowhere | suc c ↦ found p a ] | found q x ↦ found q x ]
+lastFull count p (a ∷ l) = firstFound (lastFull count a l) (fullAt count p a)
+
+-- the first non-empty extent of the free list: data looks above last reserved first, directories (own) up to it first, then the other side
+unfoldable pub freeExtent : ℕ → Bool → Anodes → Found
+freeExtent A own s = firstFound (firstFull (s .count) 0 (side A s (cond own 2 1))) (firstFull (s .count) 0 (side A s (cond own 1 2)))
+
+-- the side of a block: that of anode 1 above last reserved, else that of anode 2
+unfoldable pub sideOf : ℕ → ℕ → ℕ
+sideOf last y = cond (ltb last y) 1 2
+
+-- block y comes to anode z: an empty z becomes (1, y, next)
+unfoldable pub fillOr : Anodes → ℕ → ℕ → Plan → Plan
+fillOr s z y other = cond (eqb (s .count z) 0) (planned (rewritten s z 1 y) (y ∷ [])) other
+
+-- z grows if y is its end
+unfoldable pub growOr : Anodes → ℕ → ℕ → Plan → Plan
+growOr s z y other = cond (eqb (s .block z + s .count z) y) (planned (rewritten s z (s .count z + 1) (s .block z)) (y ∷ [])) other
+
+-- z grows if y comes before its start
+unfoldable pub growBeforeOr : Anodes → ℕ → ℕ → Plan → Plan
+growBeforeOr s z y other = cond (eqb (y + 1) (s .block z)) (planned (rewritten s z (s .count z + 1) y) (y ∷ [])) other
+
+-- blocks that changed hands before, in front of those of a plan
+unfoldable pub after : List ℕ → Plan → Plan
+after ys (refused n) = refused n
+after ys (planned t zs) = planned t (ys ++ zs)
+
+-- k steps, one block at a time; refused if any step is
+unfoldable pub repeated : (Anodes → Plan) → ℕ → Anodes → Plan
+repeated step zero s = planned s []
+repeated step (suc k) s = elim (step s) [ refused n ↦ refused n | planned t ys ↦ after ys (repeated step k t) ]
 
 -- A: how many anodes there may be; ex: those that exist; last: last reserved
 module _ (A : ℕ) (ex : ℕ → Bool) (last : ℕ) where
@@ -65,61 +116,25 @@ module _ (A : ℕ) (ex : ℕ → Bool) (last : ℕ) where
   unfoldable pub append : Anodes → ℕ → ℕ → Plan
   append s z y = cond (ltb (lowestFree s) A) (planned (insertedAfter s z (lowestFree s) 1 y) (y ∷ [])) (refused 28)
 
-  -- the taker's last anode grows if the block is its end
-  unfoldable pub growOrAppend : Bool → Anodes → ℕ → ℕ → Plan
-  growOrAppend own s z y =
-      cond (not own && eqb (s .block z + s .count z) y) (planned (rewritten s z (s .count z + 1) (s .block z)) (y ∷ [])) (append s z y)
-
-  -- if its count is 0 it becomes (1, block, 0); `own`: directory blocks get an anode of their own
+  -- block y to the taker's last anode z: an empty one is filled, one grows if the block is its end, else an anode is appended; directory blocks (own) get an anode of their own
   unfoldable pub put : Bool → Anodes → ℕ → ℕ → Plan
-  put own s z y = cond (eqb (s .count z) 0) (planned (rewritten s z 1 y) (y ∷ [])) (growOrAppend own s z y)
-
-  -- anode x of the free list, after p, without its first block: an emptied one from 6 up is unlinked and zeroed, an emptied 2 becomes (0, 65535, next)
-  unfoldable pub withoutFirst : Anodes → ℕ → ℕ → Anodes
-  withoutFirst s p x =
-      cond (eqb (s .count x) 1) (cond (eqb x 2) (emptied s x) (unlinked s p x)) (rewritten s x (s .count x - 1) (s .block x + 1))
+  put own s z y = fillOr s z y (cond own (append s z y) (growOr s z y (append s z y)))
 
   -- the first block of x goes to the chain of h
   unfoldable pub takeFrom : Bool → Anodes → ℕ → ℕ → ℕ → Plan
   takeFrom own s h p x = put own (withoutFirst s p x) (lastOf h (chainOf (withoutFirst s p x .next) A h)) (s .block x)
 
-  -- from the first non-empty extent of one side of the free list, else as `other` says
-  unfoldable pub takeSide : Bool → Anodes → ℕ → ℕ → Plan → Plan
-  takeSide own s h m other = elim (firstFull (s .count) 0 (side A s m)) [ nowhere ↦ other | found p x ↦ takeFrom own s h p x ]
-
-  -- TAKE A BLOCK into h's chain: data looks above last reserved first, directories (own) up to it first, then the other side; 27 if no free block is left
+  -- TAKE A BLOCK into h's chain: the first block of the first non-empty extent; 27 if no free block is left
   unfoldable pub takeBlock : Bool → Anodes → ℕ → Plan
-  takeBlock true s h = takeSide true s h 2 (takeSide true s h 1 (refused 27))
-  takeBlock false s h = takeSide false s h 1 (takeSide false s h 2 (refused 27))
+  takeBlock own s h = elim (freeExtent A own s) [ nowhere ↦ refused 27 | found p x ↦ takeFrom own s h p x ]
 
-  -- anode x of h's chain, after p, without its last block: an emptied one becomes (0, 65535, next) at the head, elsewhere it is unlinked and zeroed
-  unfoldable pub withoutLast : Anodes → ℕ → ℕ → ℕ → Anodes
-  withoutLast s h p x =
-      cond (eqb (s .count x) 1) (cond (eqb x h) (emptied s x) (unlinked s p x)) (rewritten s x (s .count x - 1) (s .block x))
-
-  -- the side of a block: that of anode 1 above last reserved, else that of anode 2
-  unfoldable pub sideOf : ℕ → ℕ
-  sideOf y = cond (ltb last y) 1 2
-
-  -- the block joins the last anode of its side: before its start
-  unfoldable pub joinBefore : Anodes → ℕ → ℕ → Plan
-  joinBefore s z y = cond (eqb (y + 1) (s .block z)) (planned (rewritten s z (s .count z + 1) y) (y ∷ [])) (append s z y)
-
-  -- or after its end
-  unfoldable pub joinAfter : Anodes → ℕ → ℕ → Plan
-  joinAfter s z y = cond (eqb (s .block z + s .count z) y) (planned (rewritten s z (s .count z + 1) (s .block z)) (y ∷ [])) (joinBefore s z y)
-
-  -- or by filling an empty one
-  unfoldable pub joinFilling : Anodes → ℕ → ℕ → Plan
-  joinFilling s z y = cond (eqb (s .count z) 0) (planned (rewritten s z 1 y) (y ∷ [])) (joinAfter s z y)
-
-  -- unless that is anode 1
+  -- block y joins the last anode z of its side, unless that is anode 1: by filling an empty one, after its end, or before its start; otherwise it goes in an anode behind it
   unfoldable pub join : Anodes → ℕ → ℕ → Plan
-  join s z y = cond (eqb z 1) (append s z y) (joinFilling s z y)
+  join s z y = cond (eqb z 1) (append s z y) (fillOr s z y (growOr s z y (growBeforeOr s z y (append s z y))))
 
   -- block y, now nobody's, joins its side
   unfoldable pub release : Anodes → ℕ → Plan
-  release s y = join s (lastOf (sideOf y) (side A s (sideOf y))) y
+  release s y = join s (lastOf (sideOf last y) (side A s (sideOf last y))) y
 
   -- the last block of anode x goes back
   unfoldable pub giveFrom : Anodes → ℕ → ℕ → ℕ → Plan
@@ -129,29 +144,22 @@ module _ (A : ℕ) (ex : ℕ → Bool) (last : ℕ) where
   unfoldable pub giveBack : Anodes → ℕ → Plan
   giveBack s h = elim (lastFull (s .count) 0 (chainOf (s .next) A h)) [ nowhere ↦ refused 0 | found p x ↦ giveFrom s h p x ]
 
-  -- blocks that changed hands before, in front of those of a plan
-  unfoldable pub after : List ℕ → Plan → Plan
-  after ys (refused n) = refused n
-  after ys (planned t zs) = planned t (ys ++ zs)
-
-  -- k takes, one block at a time; refused if any step is
+  -- k takes
   unfoldable pub takeMany : Bool → ℕ → Anodes → ℕ → Plan
-  takeMany own zero s h = planned s []
-  takeMany own (suc k) s h = elim (takeBlock own s h) [ refused n ↦ refused n | planned t ys ↦ after ys (takeMany own k t h) ]
+  takeMany own k s h = repeated (λ t. takeBlock own t h) k s
 
-  -- k gives, one block at a time; refused if any step is
+  -- k gives
   unfoldable pub giveMany : ℕ → Anodes → ℕ → Plan
-  giveMany zero s h = planned s []
-  giveMany (suc k) s h = elim (giveBack s h) [ refused n ↦ refused n | planned t ys ↦ after ys (giveMany k t h) ]
+  giveMany k s h = repeated (λ t. giveBack t h) k s
 
-  -- anode a is in h's chain
-  unfoldable pub onChain : Anodes → ℕ → ℕ → Bool
-  onChain s h a = leb 1 (times a (chainOf (s .next) A h))
+-- anode a is in h's chain
+unfoldable pub onChain : ℕ → Anodes → ℕ → ℕ → Bool
+onChain A s h a = leb 1 (times a (chainOf (s .next) A h))
 
-  -- the anodes of h's chain zeroed
-  unfoldable pub dropped : Anodes → ℕ → Anodes
-  dropped s h = record {
-    count = λ a. cond (onChain s h a) 0 (s .count a);
-    block = λ a. cond (onChain s h a) 0 (s .block a);
-    next = λ a. cond (onChain s h a) 0 (s .next a);
-  }
+-- the anodes of h's chain zeroed
+unfoldable pub dropped : ℕ → Anodes → ℕ → Anodes
+dropped A s h = record {
+  count = λ a. cond (onChain A s h a) 0 (s .count a);
+  block = λ a. cond (onChain A s h a) 0 (s .block a);
+  next = λ a. cond (onChain A s h a) 0 (s .next a);
+}

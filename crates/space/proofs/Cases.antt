@@ -1,5 +1,5 @@
 -- The one-block steps, by the tests of the code, on the anodes in three tables. Assumes nothing.
-use Prim.Native.Nat.{ℕ, _+_, _-_, _≤_, _<_}
+use Prim.Native.Nat.{ℕ, _+_, _≤_, _<_}
 use mathlib.Core.Path.{_≡_, refl}
 use mathlib.Core.Logic.{_≢_}
 use mathlib.Core.Bool.{Bool, true, false, cond, not}
@@ -9,19 +9,18 @@ use lib.ListN.{getD}
 use borrow.Author.Tests.{lt-ltb, le-ltb, eq-eqb, ne-eqb}
 use Rattle.rules.specs.Anodes.{Anodes}
 use Rattle.rules.specs.Chains.{chainOf, cut, side}
-use Rattle.rules.specs.Space.{refused, planned, rewritten, insertedAfter, unlinked, emptied, nowhere, found, firstFull, lowestFree, append, growOrAppend, put, withoutFirst, withoutLast, sideOf, joinBefore, joinAfter, joinFilling, join}
+use Rattle.rules.specs.Space.{refused, planned, rewritten, insertedAfter, withoutBlock, withoutFirst, withoutLast, nowhere, found, firstFound, firstFull, freeExtent, fillOr, growOr, growBeforeOr, lowestFree, append, put, join}
 use Rattle.anodes.specs.Loaded.{anodesFrom}
-use Rattle.space.specs.Steps.{firstFound, freeExtent, withoutBlock}
 
 -- ---- the extent that a block is taken from
 
 module _ (own : Bool) (c f n : List ℕ) (m : ℕ) (near : m ≡ cond own 2 1) where
-  pub near-found : (p x : ℕ) → firstFull (λ a. getD c a 0) 0 (chainOf (cut (λ a. getD n a 0)) 3444 m) ≡ found p x → freeExtent own (anodesFrom c f n) ≡ found p x
+  pub near-found : (p x : ℕ) → firstFull (λ a. getD c a 0) 0 (chainOf (cut (λ a. getD n a 0)) 3444 m) ≡ found p x → freeExtent 3444 own (anodesFrom c f n) ≡ found p x
   unfolding freeExtent firstFound side anodesFrom
   near-found p x e = rw (← near, e)
 
   pub near-empty : (k : ℕ) → k ≡ cond (not own) 2 1 → firstFull (λ a. getD c a 0) 0 (chainOf (cut (λ a. getD n a 0)) 3444 m) ≡ nowhere →
-      freeExtent own (anodesFrom c f n) ≡ firstFull (λ a. getD c a 0) 0 (chainOf (cut (λ a. getD n a 0)) 3444 k)
+      freeExtent 3444 own (anodesFrom c f n) ≡ firstFull (λ a. getD c a 0) 0 (chainOf (cut (λ a. getD n a 0)) 3444 k)
   unfolding freeExtent firstFound side anodesFrom
   near-empty k far e = rw (← near, e, far, other own)
     where
@@ -29,41 +28,16 @@ module _ (own : Bool) (c f n : List ℕ) (m : ℕ) (near : m ≡ cond own 2 1) w
       other true = refl
       other false = refl
 
--- ---- the side of a block
-
-module _ (ex : ℕ → Bool) (last : ℕ) where
-  pub side-above : (y : ℕ) → last < y → sideOf 3444 ex last y ≡ 1
-  unfolding sideOf
-  side-above y h = rw (lt-ltb last y h)
-
-  pub side-up-to : (y : ℕ) → y ≤ last → sideOf 3444 ex last y ≡ 2
-  unfolding sideOf
-  side-up-to y h = rw (le-ltb last y h)
-
 -- ---- a block out of anode x
 
-module _ (c f n : List ℕ) (kept p x b : ℕ) where
-  pub block-shrunk : getD c x 0 ≢ 1 → withoutBlock (anodesFrom c f n) kept p x b ≡ rewritten (anodesFrom c f n) x (getD c x 0 - 1) b
-  unfolding withoutBlock anodesFrom
-  block-shrunk e = rw (ne-eqb (getD c x 0) 1 e)
-
-  module _ (one : getD c x 0 ≡ 1) where
-    pub block-emptied : x ≡ kept → withoutBlock (anodesFrom c f n) kept p x b ≡ rewritten (anodesFrom c f n) x 0 65535
-    unfolding withoutBlock emptied anodesFrom
-    block-emptied e = rw (eq-eqb (getD c x 0) 1 one, eq-eqb x kept e)
-
-    pub block-unlinked : x ≢ kept → withoutBlock (anodesFrom c f n) kept p x b ≡ unlinked (anodesFrom c f n) p x
-    unfolding withoutBlock anodesFrom
-    block-unlinked e = rw (eq-eqb (getD c x 0) 1 one, ne-eqb x kept e)
-
 -- the first of the free list, where anode 2 is kept, and the last of a chain, where its head is
-module _ (ex : ℕ → Bool) (last : ℕ) (s : Anodes) (p x b : ℕ) where
-  pub first-out : b ≡ s .block x + 1 → withoutBlock s 2 p x b ≡ withoutFirst 3444 ex last s p x
-  unfolding withoutBlock withoutFirst
+module _ (s : Anodes) (p x b : ℕ) where
+  pub first-out : b ≡ s .block x + 1 → withoutBlock s 2 p x b ≡ withoutFirst s p x
+  unfolding withoutFirst
   first-out e = rw e
 
-  pub last-out : (h : ℕ) → b ≡ s .block x → withoutBlock s h p x b ≡ withoutLast 3444 ex last s h p x
-  unfolding withoutBlock withoutLast
+  pub last-out : (h : ℕ) → b ≡ s .block x → withoutBlock s h p x b ≡ withoutLast s h p x
+  unfolding withoutLast
   last-out h e = rw e
 
 module _ (ex : ℕ → Bool) (last : ℕ) (c f n : List ℕ) where
@@ -82,20 +56,20 @@ module _ (ex : ℕ → Bool) (last : ℕ) (c f n : List ℕ) where
     append-some a e h = rw (← e, lt-ltb a 3444 h)
 
     pub put-empty : (own : Bool) → getD c z 0 ≡ 0 → put 3444 ex last own s z y ≡ planned (rewritten s z 1 y) (y ∷ [])
-    unfolding put anodesFrom
+    unfolding put fillOr anodesFrom
     put-empty own e = rw (eq-eqb (getD c z 0) 0 e)
 
     module _ (some : getD c z 0 ≢ 0) where
       pub put-grown : (own : Bool) → own ≡ false → getD f z 0 + getD c z 0 ≡ y → put 3444 ex last own s z y ≡ planned (rewritten s z (getD c z 0 + 1) (getD f z 0)) (y ∷ [])
-      unfolding put growOrAppend anodesFrom
+      unfolding put fillOr growOr anodesFrom
       put-grown own o e = rw (o, ne-eqb (getD c z 0) 0 some, eq-eqb (getD f z 0 + getD c z 0) y e)
 
       pub put-own : (own : Bool) → own ≡ true → put 3444 ex last own s z y ≡ append 3444 ex last s z y
-      unfolding put growOrAppend anodesFrom
+      unfolding put fillOr growOr anodesFrom
       put-own own o = rw (o, ne-eqb (getD c z 0) 0 some)
 
       pub put-apart : (own : Bool) → getD f z 0 + getD c z 0 ≢ y → put 3444 ex last own s z y ≡ append 3444 ex last s z y
-      unfolding put growOrAppend anodesFrom
+      unfolding put fillOr growOr anodesFrom
       put-apart true e = rw (ne-eqb (getD c z 0) 0 some)
       put-apart false e = rw (ne-eqb (getD c z 0) 0 some, ne-eqb (getD f z 0 + getD c z 0) y e)
 
@@ -108,14 +82,14 @@ module _ (ex : ℕ → Bool) (last : ℕ) (c f n : List ℕ) where
 
     module _ (other : z ≢ 1) where
       pub join-start : getD c z 0 ≢ 0 → y + 1 ≡ getD f z 0 → join 3444 ex last s z y ≡ planned (rewritten s z (getD c z 0 + 1) y) (y ∷ [])
-      unfolding join joinFilling joinAfter joinBefore anodesFrom
+      unfolding join fillOr growOr growBeforeOr anodesFrom
       join-start some e = rw (ne-eqb z 1 other, ne-eqb (getD c z 0) 0 some, ne-eqb (getD f z 0 + getD c z 0) y (λ q. omega arith), eq-eqb (y + 1) (getD f z 0) e)
 
       -- else as a block is put behind the last anode of a chain
       pub join-empty : getD c z 0 ≡ 0 → join 3444 ex last s z y ≡ put 3444 ex last false s z y
-      unfolding join joinFilling put anodesFrom
+      unfolding join fillOr put anodesFrom
       join-empty e = rw (ne-eqb z 1 other, eq-eqb (getD c z 0) 0 e)
 
       pub join-other : y + 1 ≢ getD f z 0 → join 3444 ex last s z y ≡ put 3444 ex last false s z y
-      unfolding join joinFilling joinAfter joinBefore put growOrAppend anodesFrom
+      unfolding join fillOr growOr growBeforeOr put anodesFrom
       join-other e = rw (ne-eqb z 1 other, ne-eqb (y + 1) (getD f z 0) e)

@@ -2,7 +2,7 @@
 use Prim.Native.Nat.{ℕ, zero, suc, _+_, _≤_}
 use mathlib.Core.Path.{_≡_, refl, sym, ap, _∙_, fun-ext}
 use mathlib.Core.Logic.{_≢_, inl, inr}
-use mathlib.Core.Bool.{Bool, cond}
+use mathlib.Core.Bool.{cond}
 use mathlib.Core.List.{List, [], _∷_}
 use native.Mathlib.Omega.{arith}
 use native.Mathlib.Numerals.{add-one}
@@ -84,8 +84,8 @@ zeroed-on (suc k) s a (b ∷ l) c once short =
     more : zeroedOn l (zeroedAt s b) ≡ zeroedOn (b ∷ l) s
     more = λ i. record { count = without-more b l (s .count) i; block = without-more b l (s .block) i; next = without-more b l (s .next) i }
 
-pub zeroed-chain : (s : Anodes) → View 3444 (s .next) (s .block) → Linked 3444 (s .next) (s .block) → (h : ℕ) → s .block h ≢ 0 → (ex : ℕ → Bool) (last : ℕ) → zeroedFrom 3444 s h ≡ dropped 3444 ex last s h
+pub zeroed-chain : (s : Anodes) → View 3444 (s .next) (s .block) → Linked 3444 (s .next) (s .block) → (h : ℕ) → s .block h ≢ 0 → zeroedFrom 3444 s h ≡ dropped 3444 s h
 unfolding dropped onChain
-zeroed-chain s v k h u ex last =
+zeroed-chain s v k h u =
     let c = the-chain v k h (λ q. u) in
     zeroed-on 3444 s h (chainOf (s .next) 3444 h) c (λ x. seg-once v k h 0 (chainOf (s .next) 3444 h) x (λ q. u) c) (seg-short v k h 0 (chainOf (s .next) 3444 h) (λ q. u) c)

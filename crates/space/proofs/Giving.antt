@@ -12,18 +12,16 @@ use Rattle.rules.specs.Chains.{chainOf, cut, systemOwns, side, blockCount}
 use Rattle.rules.specs.Accepted.{diskSize, wrongSize, lastReserved}
 use Rattle.rules.specs.Space.{nowhere, found, lastFull, withoutLast, sideOf, join, release, giveFrom, giveBack}
 use Rattle.laws.specs.Acceptance.{size-bounds}
-use Rattle.laws.specs.Tests.{less?}
 use Rattle.laws.specs.Links.{the-chain}
 use Rattle.laws.specs.Heads.{Head}
 use Rattle.laws.specs.Space.{Good}
 use Rattle.laws.specs.Sides.{side-start, side-sd}
 use Rattle.laws.specs.Searches.{FoundIn, lastFull-found, last-on}
 use Rattle.laws.specs.Moves.{InHand}
-use Rattle.laws.specs.Give.{withoutLast-out}
+use Rattle.laws.specs.Give.{sideOf-cases, withoutLast-out}
 use Rattle.anodes.specs.Loaded.{anodesFrom}
-use Rattle.laws.specs.RefusedSteps.{lastFull-none}
+use Rattle.laws.specs.Searches.{lastFull-none}
 use Rattle.space.specs.Steps.{GoodAnodes}
-use Rattle.space.proofs.Cases.{side-above, side-up-to}
 use Rattle.space.proofs.Taking.{used-below}
 
 -- ---- which extent
@@ -41,8 +39,8 @@ module _ {A : ℕ} {ex : ℕ → Bool} {n last : ℕ} {s : Anodes} {system hd sd
     | inr c ↦ side-start g m o .pos (sym (side-sd g m o (lastOf m (side A s m)) c) ∙ g .sides .off (lastOf m (side A s m)) q)
   ]
 
-one-side : (ex : ℕ → Bool) (last y : ℕ) → (sideOf 3444 ex last y ≡ 1) ⊎ (sideOf 3444 ex last y ≡ 2)
-one-side ex last y = elim (less? last y) [ inl l ↦ inl (side-above ex last y l) | inr l ↦ inr (side-up-to ex last y l) ]
+one-side : (last y : ℕ) → (sideOf last y ≡ 1) ⊎ (sideOf last y ≡ 2)
+one-side last y = elim (sideOf-cases last y) [ inl c ↦ inl (c .1) | inr c ↦ inr (c .1) ]
 
 -- ---- the sums fit
 
@@ -51,12 +49,12 @@ module _ (img : List ℕ) (s : Anodes) (good : GoodAnodes img s) (h : ℕ) (d : 
   last-found = let g = good .2 in lastFull-found (s .count) (s .next) h 0 0 (chainOf (s .next) 3444 h) (the-chain (g .view) (g .linked) h (λ q. d .in-use)) p x e
 
   -- once its last block y is out, in other tables, the end z of that block's side
-  module _ (size : wrongSize img ≡ false) (h1 : h ≢ 1) (c f n : List ℕ) (left : anodesFrom c f n ≡ withoutLast 3444 (exists img) (lastReserved img) s h p x)
-      (y m z : ℕ) (block : y ≡ s .block x + (s .count x - 1)) (start : m ≡ sideOf 3444 (exists img) (lastReserved img) y) (end : z ≡ lastOf m (chainOf (cut (λ a. getD n a 0)) 3444 m)) where
-    out : InHand 3444 (exists img) (diskSize img) (lastReserved img) s (systemOwns img) (good .0) h (s .block x + (s .count x - 1)) (withoutLast 3444 (exists img) (lastReserved img) s h p x)
+  module _ (size : wrongSize img ≡ false) (h1 : h ≢ 1) (c f n : List ℕ) (left : anodesFrom c f n ≡ withoutLast s h p x)
+      (y m z : ℕ) (block : y ≡ s .block x + (s .count x - 1)) (start : m ≡ sideOf (lastReserved img) y) (end : z ≡ lastOf m (chainOf (cut (λ a. getD n a 0)) 3444 m)) where
+    out : InHand 3444 (exists img) (diskSize img) (lastReserved img) s (systemOwns img) (good .0) h (s .block x + (s .count x - 1)) (withoutLast s h p x)
     out = withoutLast-out (good .2) h d h1 p x last-found
 
-    is-end : z ≡ lastOf m (side 3444 (withoutLast 3444 (exists img) (lastReserved img) s h p x) m)
+    is-end : z ≡ lastOf m (side 3444 (withoutLast s h p x) m)
     unfolding side anodesFrom
     is-end = end ∙ ap (λ (t : Anodes). lastOf m (chainOf (cut (t .next)) 3444 m)) left
 
@@ -66,7 +64,7 @@ module _ (img : List ℕ) (s : Anodes) (good : GoodAnodes img s) (h : ℕ) (d : 
     side-end =
         let b = ap (λ (t : Anodes). t .block z) left in
         let k = ap (λ (t : Anodes). t .count z) left in
-        let used : getD f z 0 ≢ 0 = λ q. end-of-side (out .good) m (rw start (one-side (exists img) (lastReserved img) y)) (rw (← is-end) (sym b ∙ q)) in
+        let used : getD f z 0 ≢ 0 = λ q. end-of-side (out .good) m (rw start (one-side (lastReserved img) y)) (rw (← is-end) (sym b ∙ q)) in
         let below = used-below (out .good .view) c f n left z used in
         (below, used, λ l. rw (b, k) (omega (arith, size-bounds img size .1, out .good .own .fits z below (rw k at l))))
 

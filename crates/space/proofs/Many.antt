@@ -3,7 +3,7 @@ use Prim.Native.Nat.{ℕ, _+_, _-_, _*_, _≤_, _<_}
 use mathlib.Core.Path.{_≡_, refl, sym, ap, _∙_}
 use mathlib.Core.Logic.{_≢_, inl, inr}
 use mathlib.Core.Bool.{Bool, true, false, cond, true≢false}
-use mathlib.Core.List.{List, [], _∷_, _++_, append-assoc, append-nil}
+use mathlib.Core.List.{List, [], _∷_, append-nil}
 use native.Mathlib.Omega.{arith}
 use native.Mathlib.Numerals.{add-one}
 use lib.ListN.{length, set, take}
@@ -13,7 +13,7 @@ use Rattle.rules.specs.Counting.{oneAt}
 use Rattle.rules.specs.Anodes.{Anodes, exists}
 use Rattle.rules.specs.Chains.{systemOwns, blockCount}
 use Rattle.rules.specs.Accepted.{diskSize, wrongSize, lastReserved}
-use Rattle.rules.specs.Space.{Plan, refused, planned, after, takeMany, giveMany}
+use Rattle.rules.specs.Space.{Plan, refused, planned, after}
 use Rattle.laws.specs.Acceptance.{size-bounds}
 use Rattle.laws.specs.Tests.{less?}
 use Rattle.laws.specs.Sums.{oneAt-cases, oneAt-same, oneAt-other, sum-mono, sum-member}
@@ -24,6 +24,7 @@ use Rattle.laws.specs.Moves.{Moved}
 use Rattle.laws.specs.Take.{take-good}
 use Rattle.laws.specs.Give.{give-good}
 use Rattle.laws.specs.Frame.{moved-stays}
+use Rattle.laws.specs.Repeated.{after-none, after-both, repeated-zero, repeated-next, repeated-stop}
 use Rattle.laws.specs.Whole.{blocks-count}
 use Rattle.space.specs.declared.Moves.{Moves}
 use Rattle.space.specs.declared.Moves.the-variants.{Done, Stopped}
@@ -48,36 +49,6 @@ module _ (img : List ℕ) (s : Anodes) (good : GoodAnodes img s) (h : ℕ) (d : 
   unfolding moveBlock
   stepped h1 true t y e = take-good (good .2) h d h1 false t (y ∷ []) e
   stepped h1 false t y e = give-good (good .2) h d h1 t (y ∷ []) e
-
--- ---- the plan that is left
-
-module _ (ex : ℕ → Bool) (last : ℕ) where
-  after-none : (p : Plan) → after 3444 ex last [] p ≡ p
-  unfolding after
-  after-none (refused j) = refl
-  after-none (planned t ys) = refl
-
-  after-both : (ys zs : List ℕ) (p : Plan) → after 3444 ex last ys (after 3444 ex last zs p) ≡ after 3444 ex last (ys ++ zs) p
-  unfolding after
-  after-both ys zs (refused j) = refl
-  after-both ys zs (planned t xs) = ap (planned t) (sym (append-assoc ys zs xs))
-
-module _ (img : List ℕ) (s : Anodes) (h : ℕ) where
-  many-none : (taking : Bool) → moveMany img taking 0 s h ≡ planned s []
-  unfolding moveMany takeMany giveMany
-  many-none true = refl
-  many-none false = refl
-
-  module _ (k m : ℕ) (fuel : k ≡ m + 1) where
-    many-next : (taking : Bool) (t : Anodes) (y : ℕ) → moveBlock img taking s h ≡ planned t (y ∷ []) → moveMany img taking k s h ≡ after 3444 (exists img) (lastReserved img) (y ∷ []) (moveMany img taking m t h)
-    unfolding moveBlock moveMany takeMany giveMany
-    many-next true t y e = rw (fuel, add-one m, e, takeMany)
-    many-next false t y e = rw (fuel, add-one m, e, giveMany)
-
-    many-stop : (taking : Bool) (j : ℕ) → moveBlock img taking s h ≡ refused j → moveMany img taking k s h ≡ refused j
-    unfolding moveBlock moveMany takeMany giveMany
-    many-stop true j e = rw (fuel, add-one m, e, takeMany)
-    many-stop false j e = rw (fuel, add-one m, e, giveMany)
 
 -- ---- the run up to a step
 
@@ -106,7 +77,7 @@ pub record Run (img : List ℕ) (taking : Bool) (h : ℕ) (whole : Plan) (left :
   pub good : GoodAnodes img s
   pub head : Head (s .next) (s .block) h
   pub room : Room taking left done (blockCount s h)
-  pub same : after 3444 (exists img) (lastReserved img) (take done moved) (moveMany img taking left s h) ≡ whole
+  pub same : after (take done moved) (moveMany img taking left s h) ≡ whole
 
 module _ (img : List ℕ) (taking : Bool) (h : ℕ) (size : wrongSize img ≡ false) where
   pub run-first : (k : ℕ) (s : Anodes) (moved : List ℕ) → GoodAnodes img s → Head (s .next) (s .block) h → (taking ≡ false → k ≤ blockCount s h) → Run img taking h (moveMany img taking k s h) k s moved 0
@@ -114,23 +85,24 @@ module _ (img : List ℕ) (taking : Bool) (h : ℕ) (size : wrongSize img ≡ fa
     good = good;
     head = d;
     room = room-first taking k (blockCount s h) (count-small img s good h d size) fits;
-    same = after-none (exists img) (lastReserved img) (moveMany img taking k s h);
+    same = after-none (moveMany img taking k s h);
   }
 
   module _ (whole : Plan) (left : ℕ) (s : Anodes) (moved : List ℕ) (done : ℕ) (run : Run img taking h whole left s moved done) where
     pub run-done : left ≡ 0 → planned s (take done moved) ≡ whole
-    unfolding after
-    run-done e = ap (planned s) (sym (append-nil (take done moved))) ∙ rw (e, many-none img s h taking) at (run .same)
+    unfolding after moveMany
+    run-done e = ap (planned s) (sym (append-nil (take done moved))) ∙ rw (e, repeated-zero (λ t. moveBlock img taking t h) s) at (run .same)
 
     module _ (some : 0 < left) where
       pub run-left : (done < 65535) × (taking ≡ false → 0 < blockCount s h)
       run-left = room-left taking left done (blockCount s h) (count-small img s (run .good) h (run .head) size) some (run .room)
 
       pub run-stop : (j : ℕ) → moveBlock img taking s h ≡ refused j → refused j ≡ whole
-      unfolding after
-      run-stop j e = rw (many-stop img s h left (left - 1) (omega arith) taking j e) at (run .same)
+      unfolding after moveMany
+      run-stop j e = rw (repeated-stop (λ t. moveBlock img taking t h) left (left - 1) (omega arith) s j e) at (run .same)
 
       pub run-next : h ≢ 1 → length moved ≡ 65535 → (t : Anodes) (y : ℕ) → moveBlock img taking s h ≡ planned t (y ∷ []) → Run img taking h whole (left - 1) t (set moved done y) (done + 1)
+      unfolding moveMany
       run-next h1 long t y e =
           let w = stepped img s (run .good) h (run .head) h1 taking t y e in
           let d = moved-stays (run .good .2) w h (run .head) in
@@ -140,7 +112,7 @@ module _ (img : List ℕ) (taking : Bool) (h : ℕ) (size : wrongSize img ≡ fa
             head = d;
             room = room-next taking left (left - 1) done (blockCount s h) (blockCount t h) h h1 (omega arith) count (run .room);
             same = rw (add-one done, take-suc-set moved done y (omega (arith, long, run-left .0)))
-                (sym (after-both (exists img) (lastReserved img) (take done moved) (y ∷ []) (moveMany img taking (left - 1) t h)) ∙ rw (← (many-next img s h left (left - 1) (omega arith) taking t y e)) (run .same));
+                (sym (after-both (take done moved) (y ∷ []) (moveMany img taking (left - 1) t h)) ∙ rw (← (repeated-next (λ t. moveBlock img taking t h) left (left - 1) (omega arith) s t (y ∷ []) e)) (run .same));
           }
 
 -- ---- the answer of a run

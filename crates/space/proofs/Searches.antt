@@ -3,7 +3,7 @@ use Prim.Native.Nat.{ℕ, zero, suc, _+_, _/_, _≤_, _<_}
 use mathlib.Core.Path.{_≡_, refl, sym, _∙_}
 use mathlib.Core.Logic.{_≢_, inl, inr}
 use mathlib.Core.Bool.{Bool, true, false, not, _&&_}
-use mathlib.Core.List.{List, _∷_}
+use mathlib.Core.List.{List}
 use native.Mathlib.Omega.{arith}
 use lib.Dec.{T, eqb}
 use lib.ListN.{getD}
@@ -12,13 +12,13 @@ use Rattle.disk.specs.Root.{slotOf}
 use Rattle.rules.specs.Counting.{least, lastOf}
 use Rattle.rules.specs.Anodes.{exists}
 use Rattle.rules.specs.Chains.{chainOf}
-use Rattle.rules.specs.Space.{Found, nowhere, found, firstFull, lastFull, free, lowestFree}
+use Rattle.rules.specs.Space.{Found, nowhere, found, firstFound, firstFull, lastFull, free, lowestFree}
 use Rattle.laws.specs.Chains.{chain-none, chain-zero, chain-step}
 use Rattle.laws.specs.Tests.{less?}
 use Rattle.laws.specs.Sums.{least-cases}
+use Rattle.laws.specs.Searches.{full-at, none-at}
 use Rattle.laws.specs.ImageAnodes.{slot-exists, slot-missing}
 use Rattle.anodes.specs.Loaded.{anodesFrom}
-use Rattle.space.specs.Steps.{firstFound}
 
 -- ---- free anodes
 
@@ -71,31 +71,23 @@ module _ (img firsts c n : List ℕ) (last : ℕ) where
 
 -- ---- the first anode with a block
 
-module _ (count : ℕ → ℕ) where
-  full-skip : (p a : ℕ) (l : List ℕ) → count a ≡ 0 → firstFull count p (a ∷ l) ≡ firstFull count a l
+module _ (count next : ℕ → ℕ) where
+  pub first-none : (p a : ℕ) → firstFull count p (chainOf next 0 a) ≡ nowhere
   unfolding firstFull
-  full-skip p a l e = rw (e, firstFull)
+  first-none p a = rw (chain-none next a)
 
-  full-stop : (p a c : ℕ) (l : List ℕ) → count a ≡ c → c ≢ 0 → firstFull count p (a ∷ l) ≡ found p a
+  pub first-zero : (k p : ℕ) → firstFull count p (chainOf next k 0) ≡ nowhere
   unfolding firstFull
-  full-stop p a zero l e h = absurd (h refl)
-  full-stop p a (suc c) l e h = rw (e, firstFull)
+  first-zero k p = rw (chain-zero next k)
 
-  module _ (next : ℕ → ℕ) where
-    pub first-none : (p a : ℕ) → firstFull count p (chainOf next 0 a) ≡ nowhere
-    unfolding firstFull
-    first-none p a = rw (chain-none next a)
+  module _ (k m p a : ℕ) (fuel : k ≡ m + 1) (some : a ≢ 0) where
+    pub first-hit : count a ≢ 0 → firstFull count p (chainOf next k a) ≡ found p a
+    unfolding firstFull firstFound
+    first-hit h = rw (chain-step next k m a fuel some, full-at count p a (count a) refl h)
 
-    pub first-zero : (k p : ℕ) → firstFull count p (chainOf next k 0) ≡ nowhere
-    unfolding firstFull
-    first-zero k p = rw (chain-zero next k)
-
-    module _ (k m p a : ℕ) (fuel : k ≡ m + 1) (some : a ≢ 0) where
-      pub first-hit : count a ≢ 0 → firstFull count p (chainOf next k a) ≡ found p a
-      first-hit h = rw (chain-step next k m a fuel some) (full-stop p a (count a) (chainOf next m (next a)) refl h)
-
-      pub first-step : count a ≡ 0 → firstFull count p (chainOf next k a) ≡ firstFull count a (chainOf next m (next a))
-      first-step h = rw (chain-step next k m a fuel some) (full-skip p a (chainOf next m (next a)) h)
+    pub first-step : count a ≡ 0 → firstFull count p (chainOf next k a) ≡ firstFull count a (chainOf next m (next a))
+    unfolding firstFull firstFound
+    first-step h = rw (chain-step next k m a fuel some, none-at count p a h)
 
 -- ---- the last anode with a block
 
@@ -104,37 +96,28 @@ unfolding firstFound
 or-nowhere nowhere = refl
 or-nowhere (found p x) = refl
 
-module _ (count : ℕ → ℕ) where
-  last-skip : (p a : ℕ) (l : List ℕ) → count a ≡ 0 → lastFull count p (a ∷ l) ≡ lastFull count a l
-  unfolding lastFull
-  last-skip p a l e = go (lastFull count a l) refl where
-    go : (f : Found) → lastFull count a l ≡ f → lastFull count p (a ∷ l) ≡ f
-    go nowhere q = rw (q, e)
-    go (found y x) q = rw q
+or-assoc : (f g h : Found) → firstFound (firstFound f g) h ≡ firstFound f (firstFound g h)
+unfolding firstFound
+or-assoc nowhere g h = refl
+or-assoc (found p x) g h = refl
 
-  last-here : (p a c : ℕ) (l : List ℕ) (b : Found) → count a ≡ c → c ≢ 0 → firstFound (lastFull count p (a ∷ l)) b ≡ firstFound (lastFull count a l) (found p a)
+module _ (count next : ℕ → ℕ) where
+  pub last-none : (p a : ℕ) (b : Found) → firstFound (lastFull count p (chainOf next 0 a)) b ≡ b
   unfolding lastFull firstFound
-  last-here p a zero l b e h = absurd (h refl)
-  last-here p a (suc c) l b e h = go (lastFull count a l) refl where
-    go : (f : Found) → lastFull count a l ≡ f → firstFound (lastFull count p (a ∷ l)) b ≡ firstFound (lastFull count a l) (found p a)
-    go nowhere q = rw (q, e)
-    go (found y x) q = rw q
+  last-none p a b = rw (chain-none next a)
 
-  module _ (next : ℕ → ℕ) where
-    pub last-none : (p a : ℕ) (b : Found) → firstFound (lastFull count p (chainOf next 0 a)) b ≡ b
+  pub last-zero : (k p : ℕ) (b : Found) → firstFound (lastFull count p (chainOf next k 0)) b ≡ b
+  unfolding lastFull firstFound
+  last-zero k p b = rw (chain-zero next k)
+
+  module _ (k m p a : ℕ) (b : Found) (fuel : k ≡ m + 1) (some : a ≢ 0) where
+    pub last-hit : count a ≢ 0 → firstFound (lastFull count p (chainOf next k a)) b ≡ firstFound (lastFull count a (chainOf next m (next a))) (found p a)
     unfolding lastFull firstFound
-    last-none p a b = rw (chain-none next a)
+    last-hit h = rw (chain-step next k m a fuel some, full-at count p a (count a) refl h) (or-assoc (lastFull count a (chainOf next m (next a))) (found p a) b)
 
-    pub last-zero : (k p : ℕ) (b : Found) → firstFound (lastFull count p (chainOf next k 0)) b ≡ b
+    pub last-step : count a ≡ 0 → firstFound (lastFull count p (chainOf next k a)) b ≡ firstFound (lastFull count a (chainOf next m (next a))) b
     unfolding lastFull firstFound
-    last-zero k p b = rw (chain-zero next k)
-
-    module _ (k m p a : ℕ) (b : Found) (fuel : k ≡ m + 1) (some : a ≢ 0) where
-      pub last-hit : count a ≢ 0 → firstFound (lastFull count p (chainOf next k a)) b ≡ firstFound (lastFull count a (chainOf next m (next a))) (found p a)
-      last-hit h = rw (chain-step next k m a fuel some) (last-here p a (count a) (chainOf next m (next a)) b refl h)
-
-      pub last-step : count a ≡ 0 → firstFound (lastFull count p (chainOf next k a)) b ≡ firstFound (lastFull count a (chainOf next m (next a))) b
-      last-step h = rw (chain-step next k m a fuel some, last-skip p a (chainOf next m (next a)) h)
+    last-step h = rw (chain-step next k m a fuel some, none-at count p a h) (or-assoc (lastFull count a (chainOf next m (next a))) nowhere b)
 
 -- ---- the last anode
 

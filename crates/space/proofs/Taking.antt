@@ -1,8 +1,8 @@
 -- What a take meets in a good state: where its anodes are, and that its sums fit.
 use Prim.Native.Nat.{ℕ, _+_, _≤_, _<_}
-use mathlib.Core.Path.{_≡_, refl, sym, ap, _∙_}
+use mathlib.Core.Path.{_≡_, sym, ap, _∙_}
 use mathlib.Core.Logic.{_≢_, _⊎_, inl, inr}
-use mathlib.Core.Bool.{Bool, true, false}
+use mathlib.Core.Bool.{Bool, false}
 use mathlib.Core.List.{List}
 use native.Mathlib.Omega.{arith}
 use lib.ListN.{getD}
@@ -10,53 +10,20 @@ use Rattle.rules.specs.Counting.{times, lastOf}
 use Rattle.rules.specs.Anodes.{Anodes, exists}
 use Rattle.rules.specs.Chains.{chainOf, cut, systemOwns, side}
 use Rattle.rules.specs.Accepted.{diskSize, wrongSize, lastReserved}
-use Rattle.rules.specs.Space.{Plan, refused, Found, nowhere, found, firstFull, put, withoutFirst, takeFrom, takeSide, takeBlock}
+use Rattle.rules.specs.Space.{found, withoutFirst, freeExtent, put, takeFrom, takeBlock}
 use Rattle.laws.specs.Acceptance.{size-bounds}
 use Rattle.laws.specs.Segments.{Chain, seg-keep}
 use Rattle.laws.specs.Links.{View, the-chain, chain-the, next-below}
 use Rattle.laws.specs.Heads.{Head, seg-head}
 use Rattle.laws.specs.Cut.{cut-cases, cut-other, cut-view, cut-linked}
 use Rattle.laws.specs.Space.{Good}
-use Rattle.laws.specs.Sides.{side-chain}
-use Rattle.laws.specs.Searches.{FoundIn, firstFull-found}
+use Rattle.laws.specs.Searches.{FoundIn}
 use Rattle.laws.specs.Moves.{InHand, headed-used}
+use Rattle.laws.specs.FreeExtent.{extent-found, take-found}
 use Rattle.laws.specs.Leaving.{full-used, full-0}
 use Rattle.laws.specs.Take.{last-head, withoutFirst-out}
 use Rattle.anodes.specs.Loaded.{anodesFrom}
-use Rattle.space.specs.Steps.{GoodAnodes, firstFound, freeExtent}
-
--- ---- which extent
-
--- a take by what the search finds
-abbrev pub takeAt : (ℕ → Bool) → ℕ → Bool → Anodes → ℕ → Found → Plan
-takeAt ex last own s h nowhere = refused 27
-takeAt ex last own s h (found p x) = takeFrom 3444 ex last own s h p x
-
-module _ (ex : ℕ → Bool) (last : ℕ) (s : Anodes) (h : ℕ) where
-  either-side : (own : Bool) (a b : Found) →
-      elim a [ nowhere ↦ elim b [ nowhere ↦ refused 27 | found p x ↦ takeFrom 3444 ex last own s h p x ] | found p x ↦ takeFrom 3444 ex last own s h p x ] ≡ takeAt ex last own s h (firstFound a b)
-  unfolding firstFound
-  either-side own nowhere nowhere = refl
-  either-side own nowhere (found p x) = refl
-  either-side own (found p x) b = refl
-
-  by-extent : (own : Bool) → takeBlock 3444 ex last own s h ≡ takeAt ex last own s h (freeExtent own s)
-  unfolding takeBlock takeSide freeExtent
-  by-extent true = either-side true (firstFull (s .count) 0 (side 3444 s 2)) (firstFull (s .count) 0 (side 3444 s 1))
-  by-extent false = either-side false (firstFull (s .count) 0 (side 3444 s 1)) (firstFull (s .count) 0 (side 3444 s 2))
-
-  pub take-at : (own : Bool) (f : Found) → freeExtent own s ≡ f → takeBlock 3444 ex last own s h ≡ takeAt ex last own s h f
-  take-at own f e = by-extent own ∙ ap (takeAt ex last own s h) e
-
-one-found : (a b : Found) (p x : ℕ) → firstFound a b ≡ found p x → (a ≡ found p x) ⊎ (b ≡ found p x)
-unfolding firstFound
-one-found nowhere b p x e = inr e
-one-found (found q y) b p x e = inl e
-
-found-side : (own : Bool) (s : Anodes) (p x : ℕ) → freeExtent own s ≡ found p x → (m : ℕ) × ((m ≡ 1) ⊎ (m ≡ 2)) × (firstFull (s .count) 0 (side 3444 s m) ≡ found p x)
-unfolding freeExtent
-found-side true s p x e = elim (one-found (firstFull (s .count) 0 (side 3444 s 2)) (firstFull (s .count) 0 (side 3444 s 1)) p x e) [ inl q ↦ (2, inr refl, q) | inr q ↦ (1, inl refl, q) ]
-found-side false s p x e = elim (one-found (firstFull (s .count) 0 (side 3444 s 1)) (firstFull (s .count) 0 (side 3444 s 2)) p x e) [ inl q ↦ (1, inl refl, q) | inr q ↦ (2, inr refl, q) ]
+use Rattle.space.specs.Steps.{GoodAnodes}
 
 -- ---- the chain of a head other than 1
 
@@ -109,17 +76,17 @@ module _ (img : List ℕ) (s : Anodes) (good : GoodAnodes img s) where
   full-fits size x f = let g = good .2 in omega (arith, size-bounds img size .1, g .own .fits x (g .view .below x (full-used g x f)) f)
 
   -- the extent that a take finds
-  module _ (own : Bool) (p x : ℕ) (e : freeExtent own s ≡ found p x) where
+  module _ (own : Bool) (p x : ℕ) (e : freeExtent 3444 own s ≡ found p x) where
     pub side-found : (m : ℕ) × ((m ≡ 1) ⊎ (m ≡ 2)) × FoundIn (s .count) (cut (s .next)) m (side 3444 s m) 0 p x
-    side-found = let w = found-side own s p x e in (w .0, w .1, firstFull-found (s .count) (cut (s .next)) (w .0) 0 0 (side 3444 s (w .0)) (side-chain (good .2) (w .0) (w .1)) p x (w .2))
+    side-found = extent-found 3444 own s (good .2) p x e
 
     -- once its first block is out, in other tables, the end z of the taker's chain
-    module _ (h : ℕ) (d : Head (s .next) (s .block) h) (h1 : h ≢ 1) (c f n : List ℕ) (left : anodesFrom c f n ≡ withoutFirst 3444 (exists img) (lastReserved img) s p x)
+    module _ (h : ℕ) (d : Head (s .next) (s .block) h) (h1 : h ≢ 1) (c f n : List ℕ) (left : anodesFrom c f n ≡ withoutFirst s p x)
         (z : ℕ) (end : z ≡ lastOf h (chainOf (cut (λ a. getD n a 0)) 3444 h)) where
-      out : InHand 3444 (exists img) (diskSize img) (lastReserved img) s (systemOwns img) (good .0) 1 (s .block x) (withoutFirst 3444 (exists img) (lastReserved img) s p x)
+      out : InHand 3444 (exists img) (diskSize img) (lastReserved img) s (systemOwns img) (good .0) 1 (s .block x) (withoutFirst s p x)
       out = withoutFirst-out (good .2) (side-found .0) (side-found .1) p x (side-found .2)
 
-      is-end : z ≡ lastOf h (chainOf (cut (withoutFirst 3444 (exists img) (lastReserved img) s p x .next)) 3444 h)
+      is-end : z ≡ lastOf h (chainOf (cut (withoutFirst s p x .next)) 3444 h)
       unfolding anodesFrom
       is-end = end ∙ ap (λ (t : Anodes). lastOf h (chainOf (cut (t .next)) 3444 h)) left
 
@@ -132,4 +99,4 @@ module _ (img : List ℕ) (s : Anodes) (good : GoodAnodes img s) where
 
       pub taken-from : (y : ℕ) → y ≡ s .block x → put 3444 (exists img) (lastReserved img) own (anodesFrom c f n) z y ≡ takeBlock 3444 (exists img) (lastReserved img) own s h
       unfolding takeFrom
-      taken-from y b = rw (b, is-end, left, last-before-two (out .good) h (d .pos) h1 (out .heads-kept h d)) (sym (take-at (exists img) (lastReserved img) s h own (found p x) e))
+      taken-from y b = rw (b, is-end, left, last-before-two (out .good) h (d .pos) h1 (out .heads-kept h d)) (sym (take-found 3444 own s (exists img) (lastReserved img) h p x e))

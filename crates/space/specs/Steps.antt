@@ -1,14 +1,13 @@
 -- What the steps on tables of anodes answer, in the terms of the rules, and the state that they start from.
-use Prim.Native.Nat.{ℕ, _-_}
+use Prim.Native.Nat.{ℕ}
 use mathlib.Core.Bool.{Bool, false, cond}
 use mathlib.Core.List.{List, [], _∷_}
-use lib.Dec.{eqb}
 use lib.ListN.{take}
 use Rattle.disk.specs.Refusals.{numberOf}
 use Rattle.rules.specs.Anodes.{Anodes, limit, exists}
-use Rattle.rules.specs.Chains.{systemOwns, side}
+use Rattle.rules.specs.Chains.{systemOwns}
 use Rattle.rules.specs.Accepted.{diskSize, lastReserved}
-use Rattle.rules.specs.Space.{Plan, refused, planned, rewritten, unlinked, emptied, Found, nowhere, found, firstFull, takeBlock, giveBack, takeMany, giveMany}
+use Rattle.rules.specs.Space.{Plan, refused, planned, Found, nowhere, found, repeated, takeBlock, giveBack}
 use Rattle.laws.specs.Space.{Good}
 use Rattle.space.specs.declared.Step.{Step}
 use Rattle.space.specs.declared.Step.the-variants.{Moved, Refused}
@@ -48,7 +47,7 @@ moveBlock img taking s h = cond taking (takeBlock limit (exists img) (lastReserv
 
 -- k of them, one at a time
 unfoldable pub moveMany : List ℕ → Bool → ℕ → Anodes → ℕ → Plan
-moveMany img taking k s h = cond taking (takeMany limit (exists img) (lastReserved img) false k s h) (giveMany limit (exists img) (lastReserved img) k s h)
+moveMany img taking k s h = repeated (λ t. moveBlock img taking t h) k s
 
 -- the anodes of a disk in good order: refusals 6 to 11 hold, with some table of heads and of sides
 abbrev pub GoodAnodes : List ℕ → Anodes → Type 0
@@ -58,16 +57,3 @@ GoodAnodes img s = (hd : ℕ → ℕ) × (sd : ℕ → ℕ) × Good limit (exist
 abbrev pub foundOf : Extent → Found
 foundOf Nowhere = nowhere
 foundOf (At p x) = found p x
-
--- the first of two searches that finds one
-unfoldable pub firstFound : Found → Found → Found
-firstFound nowhere b = b
-firstFound (found p x) b = found p x
-
--- the extent that a take takes from: data looks from 1 first, directories (own) from 2
-unfoldable pub freeExtent : Bool → Anodes → Found
-freeExtent own s = firstFound (firstFull (s .count) 0 (side limit s (cond own 2 1))) (firstFull (s .count) 0 (side limit s (cond own 1 2)))
-
--- anode x, after p, with a block less, its first block then b: emptied, it stays where it is the one that is kept, else it is unlinked and zeroed
-unfoldable pub withoutBlock : Anodes → ℕ → ℕ → ℕ → ℕ → Anodes
-withoutBlock s kept p x b = cond (eqb (s .count x) 1) (cond (eqb x kept) (emptied s x) (unlinked s p x)) (rewritten s x (s .count x - 1) b)

@@ -1,5 +1,5 @@
 // Takes and gives back blocks one at a time, on the anodes in three lent tables. What a refused step leaves in the tables is free.
-ghost use mathlib.Core.Bool.{Bool, false, cond, _&&_};
+ghost use mathlib.Core.Bool.{false, cond, _&&_};
 ghost use mathlib.Core.List.{List};
 ghost use mathlib.Core.Logic.{_≢_};
 ghost use mathlib.Core.Path.{_≡_};
@@ -10,11 +10,11 @@ ghost use Rattle.rules.specs.Counting.{lastOf};
 ghost use Rattle.rules.specs.Anodes.{exists};
 ghost use Rattle.rules.specs.Chains.{chainOf, cut, blockCount};
 ghost use Rattle.rules.specs.Accepted.{wrongSize, lastReserved};
-ghost use Rattle.rules.specs.Space.{rewritten, insertedAfter, unlinked, firstFull, lastFull, lowestFree, append, put, takeBlock, sideOf, join, giveBack, dropped};
+ghost use Rattle.rules.specs.Space.{rewritten, insertedAfter, unlinked, withoutBlock, firstFull, lastFull, freeExtent, sideOf, lowestFree, append, put, takeBlock, join, giveBack, dropped};
 ghost use Rattle.laws.specs.Links.{View, Linked};
 ghost use Rattle.laws.specs.Heads.{Head};
 ghost use Rattle.anodes.specs.Loaded.{anodesFrom};
-ghost use Rattle.space.specs.Steps.{stepPlan, manyPlan, stoppedBy, movesNumber, movesCount, moveBlock, moveMany, GoodAnodes, foundOf, freeExtent, withoutBlock};
+ghost use Rattle.space.specs.Steps.{stepPlan, manyPlan, stoppedBy, movesNumber, movesCount, moveBlock, moveMany, GoodAnodes, foundOf};
 use disk::AnodeNo;
 use disk::BlockNo;
 use disk::Refusal;
@@ -110,7 +110,7 @@ fn near_side(own: bool) -> usize
 
 // The extent that a block is taken from: the first on the near side of the free list, else on the other.
 fn free_extent(own: bool, counts: &[u16], nexts: &[u16]) -> Extent
-    ensures { λ r. ⌜ ((f : List ℕ) → foundOf r ≡ freeExtent own (anodesFrom (now (counts .entry)) f (now (nexts .entry)))) ⌝ }
+    ensures { λ r. ⌜ ((f : List ℕ) → foundOf r ≡ freeExtent 3444 own (anodesFrom (now (counts .entry)) f (now (nexts .entry)))) ⌝ }
 {
     let found = first_full(counts, nexts, near_side(own));
     if let Extent::At(_, _) = found {
@@ -295,7 +295,7 @@ pub fn take_block(
 
 // The anode where the side of block `y` starts: 1 above last reserved, else 2.
 fn side_of(image: &[u8], y: BlockNo) -> usize
-    ensures { λ r. ⌜ r ≡ sideOf 3444 (exists (now (image .entry))) (lastReserved (now (image .entry))) (y .0) ⌝ }
+    ensures { λ r. ⌜ r ≡ sideOf (lastReserved (now (image .entry))) (y .0) ⌝ }
 {
     let root = root_in(block_part(image, BlockNo(2)));
     if root.last.0 < y.0 {
@@ -449,7 +449,7 @@ pub fn move_many(
 pub fn drop_chain(head: AnodeNo, counts: &mut [u16], firsts: &mut [u16], nexts: &mut [u16])
     requires { ⌜ View 3444 (anodesFrom (now counts) (now firsts) (now nexts) .next) (anodesFrom (now counts) (now firsts) (now nexts) .block) ⌝ }
     requires { ⌜ Linked 3444 (anodesFrom (now counts) (now firsts) (now nexts) .next) (anodesFrom (now counts) (now firsts) (now nexts) .block) × (anodesFrom (now counts) (now firsts) (now nexts) .block (head .0) ≢ 0) ⌝ }
-    ensures { λ _. ⌜ ((ex : ℕ → Bool) (last : ℕ) → anodesFrom (now (counts .exit)) (now (firsts .exit)) (now (nexts .exit)) ≡ dropped 3444 ex last (anodesFrom (now (counts .entry)) (now (firsts .entry)) (now (nexts .entry))) (head .0)) ⌝ }
+    ensures { λ _. ⌜ anodesFrom (now (counts .exit)) (now (firsts .exit)) (now (nexts .exit)) ≡ dropped 3444 (anodesFrom (now (counts .entry)) (now (firsts .entry)) (now (nexts .entry))) (head .0) ⌝ }
 {
     let mut at = head.0 as usize;
     let mut fuel: usize = 3444;

@@ -95,7 +95,7 @@ join-requires c κs =
     let at = c .before .before .before .before .before .before .before .before .before .before .before .before .before .before .before .before .before .before .before .before .before .found .given in
     let e : lastFull (s .count) 0 (chainOf (s .next) 3444 (a .head .0)) ≡ found (at .0 .0) (at .0 .1 .0) = sym (c .before .before .before .before .before .before .before .before .before .before .before .before .before .before .before .before .before .before .before .before .before .before .before .last-full .ensures) ∙ ap foundOf (at .1) in
     let w = c .before .before .before .before .before .before .before .before .before .before .before .before .without-block in
-    let left = w .ensures ∙ last-out _ _ s _ _ _ _ (c .before .before .before .before .before .before .before .before .before .before .before .before .before .before .before .before .before .before .entry .ensures) in
+    let left = w .ensures ∙ last-out s _ _ _ _ (c .before .before .before .before .before .before .before .before .before .before .before .before .before .before .before .before .before .before .entry .ensures) in
     let y : c .before .before .before .before .before .before .before .before .before .before .before .before .before .before .before .before .before .before .entry .result + (c .before .before .before .before .before .before .before .before .before .before .before .before .before .before .before .before .entry2 .result - 1) ≡ s .block (at .0 .1 .0) + (s .count (at .0 .1 .0) - 1) = rw (c .before .before .before .before .before .before .before .before .before .before .before .before .before .before .before .before .before .before .entry .ensures, c .before .before .before .before .before .before .before .before .before .before .before .before .before .before .before .before .entry2 .ensures) in
     let end = side-end _ s (pre .1 .0 .1) _ (h .0) _ _ e (pre .1 .0 .0) (h .1) (w .last .0) (w .last .1 .0) (w .last .1 .1 .0) left _ _ _ y (c .before .before .before .before .side-of .ensures) (c .before .before .before .last-anode .ensures) in
     ((end .0, w .kept .0 ∙ pre .0 .0, w .kept .1 .0 ∙ pre .0 .1, w .kept .1 .1 .0 ∙ pre .0 .2), (end .1, end .2))
@@ -119,7 +119,7 @@ returns-2 c =
     let at = c .before .before .before .before .before .before .before .before .before .before .before .before .before .before .before .before .before .before .before .before .before .before .before .before .before .before .before .before .found .given in
     let e : lastFull (s .count) 0 (chainOf (s .next) 3444 (a .head .0)) ≡ found (at .0 .0) (at .0 .1 .0) = sym (c .before .before .before .before .before .before .before .before .before .before .before .before .before .before .before .before .before .before .before .before .before .before .before .before .before .before .before .before .before .before .last-full .ensures) ∙ ap foundOf (at .1) in
     let w = c .before .before .before .before .before .before .before .before .before .before .before .before .before .before .before .before .before .before .before .without-block in
-    let left = w .ensures ∙ last-out _ _ s _ _ _ _ (c .before .before .before .before .before .before .before .before .before .before .before .before .before .before .before .before .before .before .before .before .before .before .before .before .before .entry .ensures) in
+    let left = w .ensures ∙ last-out s _ _ _ _ (c .before .before .before .before .before .before .before .before .before .before .before .before .before .before .before .before .before .before .before .before .before .before .before .before .before .entry .ensures) in
     let y : c .before .before .before .before .before .before .before .before .before .before .before .before .before .before .before .before .before .before .before .before .before .before .before .before .before .entry .result + (c .before .before .before .before .before .before .before .before .before .before .before .before .before .before .before .before .before .before .before .before .before .before .before .entry2 .result - 1) ≡ s .block (at .0 .1 .0) + (s .count (at .0 .1 .0) - 1) = rw (c .before .before .before .before .before .before .before .before .before .before .before .before .before .before .before .before .before .before .before .before .before .before .before .before .before .entry .ensures, c .before .before .before .before .before .before .before .before .before .before .before .before .before .before .before .before .before .before .before .before .before .before .before .entry2 .ensures) in
     c .before .before .before .before .before .before .join .ensures (lastReserved (a .image .now)) ∙ given-back _ s (pre .1 .0 .1) _ (h .0) _ _ e (pre .1 .0 .0) (h .1) (w .last .0) (w .last .1 .0) (w .last .1 .1 .0) left _ _ _ y (c .before .before .before .before .before .before .before .before .before .before .before .side-of .ensures) (c .before .before .before .before .before .before .before .before .before .before .last-anode .ensures)
 

@@ -5,8 +5,8 @@ use native.Mathlib.Omega.{arith}
 use lib.ListN.{getD}
 use borrow.Author.Needs.{needs}
 use Rattle.rules.specs.Chains.{chainOf}
-use Rattle.rules.specs.Space.{lastFull}
-use Rattle.space.specs.Steps.{foundOf, firstFound}
+use Rattle.rules.specs.Space.{firstFound, lastFull}
+use Rattle.space.specs.Steps.{foundOf}
 use Rattle.space.proofs.Searches.{or-nowhere, last-none, last-zero, last-hit, last-step}
 use Rattle.space.proofs.last_full.Statement.{statement}
 use Rattle.space.proofs.last_full.Tie as tie

@@ -2,7 +2,7 @@ use mathlib.Core.Path.{_≡_, sym, ap, _∙_}
 use Rattle.disk.specs.declared.Root.{Root}
 use Rattle.disk.specs.Root.{rootIn}
 use Rattle.rules.specs.Accepted.{lastReserved}
-use Rattle.space.proofs.Cases.{side-above, side-up-to}
+use Rattle.laws.specs.Give.{side-above, side-up-to}
 use borrow.Author.Needs.{needs}
 use Rattle.space.proofs.side_of.Statement.{statement}
 use Rattle.space.proofs.side_of.Tie as tie
@@ -14,10 +14,10 @@ root-in-requires : tie.Need-root-in-requires
 root-in-requires c κs = search needs
 
 returns : tie.Need-returns
-returns c = let e : c .before .before .before .root-in .result .last .0 ≡ lastReserved (c .before .before .before .before .before .before .args .image .now) = unfold lastReserved in ap (λ (r : Root). r .last .0) (c .before .before .before .root-in .ensures ∙ ap rootIn (c .before .before .before .before .block-part .ensures)) in sym (side-above _ _ _ (rw e at (c .if1 .taken)))
+returns c = let e : c .before .before .before .root-in .result .last .0 ≡ lastReserved (c .before .before .before .before .before .before .args .image .now) = unfold lastReserved in ap (λ (r : Root). r .last .0) (c .before .before .before .root-in .ensures ∙ ap rootIn (c .before .before .before .before .block-part .ensures)) in sym (side-above _ _ (rw e at (c .if1 .taken)))
 
 returns-2 : tie.Need-returns-2
-returns-2 c = let e : c .before .before .before .root-in .result .last .0 ≡ lastReserved (c .before .before .before .before .before .before .args .image .now) = unfold lastReserved in ap (λ (r : Root). r .last .0) (c .before .before .before .root-in .ensures ∙ ap rootIn (c .before .before .before .before .block-part .ensures)) in sym (side-up-to _ _ _ (rw e at (c .if1 .left)))
+returns-2 c = let e : c .before .before .before .root-in .result .last .0 ≡ lastReserved (c .before .before .before .before .before .before .args .image .now) = unfold lastReserved in ap (λ (r : Root). r .last .0) (c .before .before .before .root-in .ensures ∙ ap rootIn (c .before .before .before .before .block-part .ensures)) in sym (side-up-to _ _ (rw e at (c .if1 .left)))
 
 pub side-of-spec : {M : Type 1} → statement M
 side-of-spec = tie.close (tie.spec block-part-requires root-in-requires returns returns-2)

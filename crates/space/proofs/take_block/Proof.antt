@@ -3,11 +3,12 @@ use mathlib.Core.Path.{_≡_, sym, ap, _∙_}
 use native.Mathlib.Omega.{arith}
 use Rattle.rules.specs.Chains.{cut}
 use Rattle.rules.specs.Accepted.{lastReserved}
-use Rattle.rules.specs.Space.{nowhere, found}
+use Rattle.rules.specs.Space.{nowhere, found, freeExtent}
 use Rattle.anodes.specs.Loaded.{anodesFrom}
-use Rattle.space.specs.Steps.{foundOf, freeExtent}
+use Rattle.space.specs.Steps.{foundOf}
+use Rattle.laws.specs.FreeExtent.{take-nowhere}
 use Rattle.space.proofs.Cases.{first-out}
-use Rattle.space.proofs.Taking.{take-at, cut-goes, found-at, full-fits, side-found, chain-end, taken-from}
+use Rattle.space.proofs.Taking.{cut-goes, found-at, full-fits, side-found, chain-end, taken-from}
 use borrow.Author.Needs.{needs}
 use Rattle.space.proofs.take_block.Statement.{statement}
 use Rattle.space.proofs.take_block.Tie as tie
@@ -31,8 +32,8 @@ returns : tie.Need-returns
 returns c =
     let a = c .before .before .before .before .before .before .before .before .before .args in
     let s = anodesFrom (a .counts .now) (a .firsts .now) (a .nexts .now) in
-    let e : freeExtent (a .own) s ≡ nowhere = sym (c .before .before .free-extent .ensures (a .firsts .now)) ∙ ap foundOf (c .enum-told .given .1) in
-    sym (take-at _ _ s _ _ nowhere e)
+    let e : freeExtent 3444 (a .own) s ≡ nowhere = sym (c .before .before .free-extent .ensures (a .firsts .now)) ∙ ap foundOf (c .enum-told .given .1) in
+    sym (take-nowhere 3444 (a .own) s _ _ _ e)
 
 entry-requires : tie.Need-entry-requires
 entry-requires c κs = search needs
@@ -45,7 +46,7 @@ add-t17 c =
     let s = anodesFrom (a .counts .now) (a .firsts .now) (a .nexts .now) in
     let good = pre .1 .0 .1 in
     let at = c .before .before .before .before .before .before .before .found .given in
-    let e : freeExtent (a .own) s ≡ found (at .0 .0) (at .0 .1 .0) = sym (c .before .before .before .before .before .before .before .before .before .free-extent .ensures (a .firsts .now)) ∙ ap foundOf (at .1) in
+    let e : freeExtent 3444 (a .own) s ≡ found (at .0 .0) (at .0 .1 .0) = sym (c .before .before .before .before .before .before .before .before .before .free-extent .ensures (a .firsts .now)) ∙ ap foundOf (at .1) in
     let full = side-found _ s good _ _ _ e .2 .full in
     record { fits = omega (arith, c .before .before .before .before .entry .ensures, full, full-fits _ s good (pre .1 .0 .0) _ full) }
 
@@ -57,7 +58,7 @@ without-block-requires c κs =
     let s = anodesFrom (a .counts .now) (a .firsts .now) (a .nexts .now) in
     let good = pre .1 .0 .1 in
     let at = c .before .before .before .before .before .before .before .found .given in
-    let e : freeExtent (a .own) s ≡ found (at .0 .0) (at .0 .1 .0) = sym (c .before .before .before .before .before .before .before .before .before .free-extent .ensures (a .firsts .now)) ∙ ap foundOf (at .1) in
+    let e : freeExtent 3444 (a .own) s ≡ found (at .0 .0) (at .0 .1 .0) = sym (c .before .before .before .before .before .before .before .before .before .free-extent .ensures (a .firsts .now)) ∙ ap foundOf (at .1) in
     let w = found-at (good .2) (cut (s .next)) (cut-goes (s .next)) _ _ (side-found _ s good _ _ _ e .2) in
     (w .0, w .1, search needs, search needs, search needs, w .2)
 
@@ -75,9 +76,9 @@ put-requires c κs =
     let s = anodesFrom (a .counts .now) (a .firsts .now) (a .nexts .now) in
     let h = pre .1 .1 in
     let at = c .before .before .before .before .before .before .before .before .before .before .before .before .before .before .before .before .before .before .before .before .found .given in
-    let e : freeExtent (a .own) s ≡ found (at .0 .0) (at .0 .1 .0) = sym (c .before .before .before .before .before .before .before .before .before .before .before .before .before .before .before .before .before .before .before .before .before .before .free-extent .ensures (a .firsts .now)) ∙ ap foundOf (at .1) in
+    let e : freeExtent 3444 (a .own) s ≡ found (at .0 .0) (at .0 .1 .0) = sym (c .before .before .before .before .before .before .before .before .before .before .before .before .before .before .before .before .before .before .before .before .before .before .free-extent .ensures (a .firsts .now)) ∙ ap foundOf (at .1) in
     let w = c .before .before .before .before .before .before .before .before .before .before .before .before .without-block in
-    let left = w .ensures ∙ first-out _ _ s _ _ _ (ap (λ (b : ℕ). b + 1) (c .before .before .before .before .before .before .before .before .before .before .before .before .before .before .before .before .before .entry .ensures)) in
+    let left = w .ensures ∙ first-out s _ _ _ (ap (λ (b : ℕ). b + 1) (c .before .before .before .before .before .before .before .before .before .before .before .before .before .before .before .before .before .entry .ensures)) in
     let end = chain-end _ s (pre .1 .0 .1) _ _ _ e _ (h .0) (h .1) (w .last .0) (w .last .1 .0) (w .last .1 .1 .0) left _ (c .before .before .before .last-anode .ensures) in
     (end .0, w .kept .0 ∙ pre .0 .0, w .kept .1 .0 ∙ pre .0 .1, w .kept .1 .1 .0 ∙ pre .0 .2, end .1)
 
@@ -98,9 +99,9 @@ returns-2 c =
     let s = anodesFrom (a .counts .now) (a .firsts .now) (a .nexts .now) in
     let h = pre .1 .1 in
     let at = c .before .before .before .before .before .before .before .before .before .before .before .before .before .before .before .before .before .before .before .before .before .before .before .before .before .before .before .found .given in
-    let e : freeExtent (a .own) s ≡ found (at .0 .0) (at .0 .1 .0) = sym (c .before .before .before .before .before .before .before .before .before .before .before .before .before .before .before .before .before .before .before .before .before .before .before .before .before .before .before .before .before .free-extent .ensures (a .firsts .now)) ∙ ap foundOf (at .1) in
+    let e : freeExtent 3444 (a .own) s ≡ found (at .0 .0) (at .0 .1 .0) = sym (c .before .before .before .before .before .before .before .before .before .before .before .before .before .before .before .before .before .before .before .before .before .before .before .before .before .before .before .before .before .free-extent .ensures (a .firsts .now)) ∙ ap foundOf (at .1) in
     let w = c .before .before .before .before .before .before .before .before .before .before .before .before .before .before .before .before .before .before .before .without-block in
-    let left = w .ensures ∙ first-out _ _ s _ _ _ (ap (λ (b : ℕ). b + 1) (c .before .before .before .before .before .before .before .before .before .before .before .before .before .before .before .before .before .before .before .before .before .before .before .before .entry .ensures)) in
+    let left = w .ensures ∙ first-out s _ _ _ (ap (λ (b : ℕ). b + 1) (c .before .before .before .before .before .before .before .before .before .before .before .before .before .before .before .before .before .before .before .before .before .before .before .before .entry .ensures)) in
     c .before .before .before .before .before .before .put .ensures (lastReserved (a .image .now))
     ∙ taken-from _ s (pre .1 .0 .1) _ _ _ e _ (h .0) (h .1) (w .last .0) (w .last .1 .0) (w .last .1 .1 .0) left _ (c .before .before .before .before .before .before .before .before .before .before .last-anode .ensures) _ (c .before .before .before .before .before .before .before .before .before .before .before .before .before .before .before .before .before .before .before .before .before .before .before .before .entry .ensures)
 

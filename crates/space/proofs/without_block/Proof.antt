@@ -1,5 +1,6 @@
 use mathlib.Core.Path.{sym, _∙_}
-use Rattle.space.proofs.Cases.{block-shrunk, block-emptied, block-unlinked}
+use Rattle.laws.specs.Leaving.{block-shrunk, block-emptied, block-unlinked}
+use Rattle.anodes.specs.Loaded.{anodesFrom}
 use borrow.Author.Needs.{needs}
 use Rattle.space.proofs.without_block.Statement.{statement}
 use Rattle.space.proofs.without_block.Tie as tie
@@ -20,7 +21,11 @@ same-length-2 : tie.Need-same-length-2
 same-length-2 c = search needs
 
 returns : tie.Need-returns
-returns c = c .before .before .before .before .rewrite .ensures _ ∙ rw (c .before .before .before .before .before .before .before .before .entry .ensures) (sym (block-shrunk _ _ _ _ _ _ _ (rw (c .before .before .before .before .before .before .before .before .entry .ensures) at (c .before .before .before .before .before .before .before .if1 .taken))))
+unfolding anodesFrom
+returns c =
+    let a = c .before .before .before .before .before .before .before .before .before .before .before .before .before .args in
+    let s = anodesFrom (a .counts .now) (a .firsts .now) (a .nexts .now) in
+    c .before .before .before .before .rewrite .ensures (a .nexts .now) ∙ rw (c .before .before .before .before .before .before .before .before .entry .ensures) (sym (block-shrunk s (a .kept) (a .p) (a .x) (a .first .0) (rw (c .before .before .before .before .before .before .before .before .entry .ensures) at (c .before .before .before .before .before .before .before .if1 .taken))))
 
 rewrite-requires-2 : tie.Need-rewrite-requires-2
 rewrite-requires-2 c κs = search needs
@@ -32,7 +37,11 @@ same-length-4 : tie.Need-same-length-4
 same-length-4 c = search needs
 
 returns-2 : tie.Need-returns-2
-returns-2 c = c .before .before .before .before .rewrite2 .ensures _ ∙ sym (block-emptied _ _ _ _ _ _ _ (sym (c .before .before .before .before .before .before .before .before .before .entry .ensures) ∙ c .before .before .before .before .before .before .before .before .if1 .left) (c .before .before .before .before .before .before .before .if2 .taken))
+unfolding anodesFrom
+returns-2 c =
+    let a = c .before .before .before .before .before .before .before .before .before .before .before .before .before .before .args in
+    let s = anodesFrom (a .counts .now) (a .firsts .now) (a .nexts .now) in
+    c .before .before .before .before .rewrite2 .ensures (a .nexts .now) ∙ sym (block-emptied s (a .kept) (a .p) (a .x) (a .first .0) (sym (c .before .before .before .before .before .before .before .before .before .entry .ensures) ∙ c .before .before .before .before .before .before .before .before .if1 .left) (c .before .before .before .before .before .before .before .if2 .taken))
 
 unlink-requires : tie.Need-unlink-requires
 unlink-requires c κs = search needs
@@ -47,7 +56,11 @@ same-length-7 : tie.Need-same-length-7
 same-length-7 c = search needs
 
 returns-3 : tie.Need-returns-3
-returns-3 c = c .before .before .before .before .before .before .unlink .ensures ∙ sym (block-unlinked _ _ _ _ _ _ _ (sym (c .before .before .before .before .before .before .before .before .before .before .before .before .entry .ensures) ∙ c .before .before .before .before .before .before .before .before .before .before .before .if1 .left) (c .before .before .before .before .before .before .before .before .before .before .if2 .left))
+unfolding anodesFrom
+returns-3 c =
+    let a = c .before .before .before .before .before .before .before .before .before .before .before .before .before .before .before .before .before .args in
+    let s = anodesFrom (a .counts .now) (a .firsts .now) (a .nexts .now) in
+    c .before .before .before .before .before .before .unlink .ensures ∙ sym (block-unlinked s (a .kept) (a .p) (a .x) (a .first .0) (sym (c .before .before .before .before .before .before .before .before .before .before .before .before .entry .ensures) ∙ c .before .before .before .before .before .before .before .before .before .before .before .if1 .left) (c .before .before .before .before .before .before .before .before .before .before .if2 .left))
 
 pub without-block-spec : {M : Type 1} → statement M
 without-block-spec =
