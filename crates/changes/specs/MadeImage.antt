@@ -18,7 +18,8 @@ use Rattle.rules.specs.Anodes.{Anodes, limit, exists, anodesOf, withAnodes}
 use Rattle.rules.specs.Chains.{chainOf, run, blocksOf, systemOwns}
 use Rattle.rules.specs.Walk.{Dir, Entered, entriesFrom, entriesIn, isBlockOf, reachedDirs}
 use Rattle.rules.specs.Accepted.{diskSize, lastReserved}
-use Rattle.rules.specs.Changes.{withBlocks, entriesEnd, noRoom, newDirectoryBlock, parentOf, entryPlace, NewEntry, entryOf, madeImage}
+use Rattle.rules.specs.Format.{newDirectoryBlock}
+use Rattle.rules.specs.Changes.{withBlocks, entriesEnd, noRoom, parentOf, entryPlace, NewEntry, entryOf, madeImage}
 use Rattle.laws.specs.Tests.{eq→eqb, and, or-right}
 use Rattle.laws.specs.Sums.{oneAt-cases, oneAt-same}
 use Rattle.laws.specs.Bags.{list-cons, times-nil, times-cons, times-append}

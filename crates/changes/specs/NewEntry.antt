@@ -19,8 +19,8 @@ use Rattle.directory.specs.Entries.{directoryMark, directoryHeadIn, goodName, e
 use Rattle.directory.proofs.Laws.{length-putDirectoryHead, getD-putDirectoryHead-after, directoryHeadIn-putDirectoryHead, length-putEntry, getD-putEntry-before, walkedAt-putEntry-end, entryIn-putEntry, walkedAt-putEntry, found-at}
 use Rattle.rules.specs.Counting.{times, anyIn}
 use Rattle.rules.specs.Walk.{Entered, entriesFrom}
-use Rattle.rules.specs.Format.{zeroBlock}
-use Rattle.rules.specs.Changes.{endFrom, entriesEnd, firstRoom, newDirectoryBlock}
+use Rattle.rules.specs.Format.{zeroBlock, newDirectoryBlock}
+use Rattle.rules.specs.Changes.{endFrom, entriesEnd, firstRoom}
 use Rattle.laws.specs.Sums.{oneAt-same}
 use Rattle.laws.specs.Bags.{times-cons}
 use Rattle.changes.specs.FoundEntries.{head-same, walked-same, enteredAt, entries-more, entries-end, unbroken-cases, end-more, end-here, end-bounds}

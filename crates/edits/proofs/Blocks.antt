@@ -24,8 +24,8 @@ use Rattle.directory.specs.Entries.{directoryMark, putDirectoryHead, isDir}
 use Rattle.rules.specs.Anodes.{Anodes, sameAnode, storeChanged}
 use Rattle.rules.specs.Chains.{blocksOf}
 use Rattle.rules.specs.Walk.{Entered}
-use Rattle.rules.specs.Format.{zeroBlock}
-use Rattle.rules.specs.Changes.{inBlock, withBlocks, zeroTail, newDirectoryBlock}
+use Rattle.rules.specs.Format.{zeroBlock, newDirectoryBlock}
+use Rattle.rules.specs.Changes.{inBlock, withBlocks, zeroTail}
 use Rattle.laws.specs.OwnerTable.{setAll}
 use Rattle.anodes.specs.Loaded.{anodesFrom}
 

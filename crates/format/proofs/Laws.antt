@@ -24,7 +24,7 @@ use Rattle.directory.specs.Entries.{directoryMark, putDirectoryHead}
 use Rattle.directory.proofs.Laws.{length-putDirectoryHead}
 use Rattle.counting.specs.Laws.{neither}
 use Rattle.rules.specs.Accepted.{diskSize, wrongSize}
-use Rattle.rules.specs.Format.{wrongFormat, zeroBlock, withSlots, rootBlock, lowerAnode, upperAnode, listHead, firstAnodes, emptyAnodeBlock, anodeBlock, withAnodeBlocks, rootDirectory, formatted, rootMade}
+use Rattle.rules.specs.Format.{wrongFormat, zeroBlock, withSlots, rootBlock, lowerAnode, upperAnode, listHead, firstAnodes, emptyAnodeBlock, anodeBlock, withAnodeBlocks, newDirectoryBlock, formatted, rootMade}
 
 -- ---- arguments that are taken
 
@@ -343,8 +343,8 @@ root-lent img z h e =
 abbrev pub rootHead : DirectoryHead
 rootHead = record { mark = directoryMark; owner = record { 0 = 5 }; parent = record { 0 = 0 } }
 
-length-rootDirectory : length rootDirectory ≡ 512
-unfolding rootDirectory
+length-rootDirectory : length (newDirectoryBlock 5 0) ≡ 512
+unfolding newDirectoryBlock
 length-rootDirectory = length-putDirectoryHead zeroBlock rootHead ∙ length-zeroBlock
 
 module _ (img : List ℕ) (last k : ℕ) (name : List ℕ) (day minute tick protection : ℕ) where
@@ -366,7 +366,7 @@ module _ (img : List ℕ) (last k : ℕ) (name : List ℕ) (day minute tick prot
   abbrev disk : List ℕ
   disk = formatted img last k name day minute tick protection
 
-  disk-based : disk ≡ withBlock based (3 + k) rootDirectory
+  disk-based : disk ≡ withBlock based (3 + k) (newDirectoryBlock 5 0)
   unfolding formatted
   disk-based = refl
 
@@ -377,7 +377,7 @@ module _ (img : List ℕ) (last k : ℕ) (name : List ℕ) (day minute tick prot
   length-based = length-withAnodeBlocks (diskSize img) last k rooted k ∙ length-rooted
 
   pub length-formatted : length disk ≡ length img
-  length-formatted = rw disk-based (length-stored based (3 + k) rootDirectory length-rootDirectory ∙ length-based)
+  length-formatted = rw disk-based (length-stored based (3 + k) (newDirectoryBlock 5 0) length-rootDirectory ∙ length-based)
 
   module _ (size : wrongSize img ≡ false) (good : wrongFormat img last k name ≡ false) where
     -- handed to `omega`
@@ -407,19 +407,19 @@ module _ (img : List ℕ) (last k : ℕ) (name : List ℕ) (day minute tick prot
     pub directory-stored : (i j new : List ℕ) (n : ℕ) → i ≡ rooted → n ≡ diskSize img → j ≡ withAnodeBlocks i n last k k
         → new ≡ putDirectoryHead (take ((3 + k) * 512 + 512 - (3 + k) * 512) (drop ((3 + k) * 512) j)) rootHead
         → putMid ((3 + k) * 512) ((3 + k) * 512 + 512 - (3 + k) * 512) j new ≡ disk
-    unfolding rootDirectory
+    unfolding newDirectoryBlock
     directory-stored i j new n r d a is =
         let e : j ≡ based = a ∙ rw (r, d) in
         let m = ap length e ∙ length-based in
         let blank = ap (λ (l : List ℕ). blockOf l (3 + k)) e ∙ blockOf-based (3 + k) (omega arith) (omega (arith, args)) in
         block-over j (3 + k) (λ (l : List ℕ). putDirectoryHead l rootHead) new (omega (arith, args)) blank length-rootDirectory is
-        ∙ ap (λ (l : List ℕ). withBlock l (3 + k) rootDirectory) e
+        ∙ ap (λ (l : List ℕ). withBlock l (3 + k) (newDirectoryBlock 5 0)) e
         ∙ sym disk-based
 
     -- ---- the blocks
 
     blockOf-formatted-other : (b : ℕ) → (b ≡ 3 + k → ⊥) → blockOf disk b ≡ blockOf based b
-    blockOf-formatted-other b h = rw disk-based (blockOf-other based (3 + k) rootDirectory length-rootDirectory b h)
+    blockOf-formatted-other b h = rw disk-based (blockOf-other based (3 + k) (newDirectoryBlock 5 0) length-rootDirectory b h)
 
     pub blockOf-formatted-root : blockOf disk 2 ≡ root
     blockOf-formatted-root =
@@ -433,10 +433,10 @@ module _ (img : List ℕ) (last k : ℕ) (name : List ℕ) (day minute tick prot
         let m = length-rooted in
         blockOf-formatted-other (3 + s) (omega arith) ∙ blockOf-withAnodeBlocks-same (diskSize img) last k rooted k s h (omega (arith, args))
 
-    pub blockOf-formatted-directory : blockOf disk (3 + k) ≡ rootDirectory
+    pub blockOf-formatted-directory : blockOf disk (3 + k) ≡ (newDirectoryBlock 5 0)
     blockOf-formatted-directory =
         let m = length-based in
-        rw disk-based (blockOf-same based (3 + k) (omega (arith, args)) rootDirectory length-rootDirectory)
+        rw disk-based (blockOf-same based (3 + k) (omega (arith, args)) (newDirectoryBlock 5 0) length-rootDirectory)
 
     -- ---- the root's fields and the slots
 

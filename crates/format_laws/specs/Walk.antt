@@ -14,7 +14,7 @@ use Rattle.rules.specs.Counting.{gather}
 use Rattle.rules.specs.Anodes.{Anodes}
 use Rattle.rules.specs.Accepted.{diskSize, wrongSize}
 use Rattle.rules.specs.Walk.{Dir, root, Item, entriesIn, isBlockOf, itemsBy, itemsOf, scan, done, visited, walk, walkOf}
-use Rattle.rules.specs.Format.{wrongFormat, zeroBlock, rootDirectory, formatted}
+use Rattle.rules.specs.Format.{wrongFormat, zeroBlock, newDirectoryBlock, formatted}
 use Rattle.laws.specs.Entries.{entries-end, itemsAt-whole}
 use Rattle.format.proofs.Laws.{rootHead, blockOf-formatted-directory}
 use Rattle.format_laws.specs.Anodes.{Laid}
@@ -22,15 +22,15 @@ use Rattle.format_laws.specs.Links.{root-is}
 
 -- ---- the root directory's block
 
-head-root : directoryHeadIn rootDirectory ≡ rootHead
-unfolding rootDirectory
+head-root : directoryHeadIn (newDirectoryBlock 5 0) ≡ rootHead
+unfolding newDirectoryBlock
 head-root = directoryHeadIn-putDirectoryHead zeroBlock rootHead (omega (arith, length-replicate {A = ℕ} 512 0))
 
-ends-root : walkedAt rootDirectory 16 ≡ End
-unfolding walkedAt rootDirectory
+ends-root : walkedAt (newDirectoryBlock 5 0) 16 ≡ End
+unfolding walkedAt newDirectoryBlock
 ends-root =
-    let first : getD rootDirectory 16 0 ≡ 0 = getD-putDirectoryHead-after zeroBlock rootHead 16 (omega arith) ∙ getD-replicate {A = ℕ} 512 16 0 0 (omega arith) in
-    rw (eq-eqb (getD rootDirectory 16 0) 0 first)
+    let first : getD (newDirectoryBlock 5 0) 16 0 ≡ 0 = getD-putDirectoryHead-after zeroBlock rootHead 16 (omega arith) ∙ getD-replicate {A = ℕ} 512 16 0 0 (omega arith) in
+    rw (eq-eqb (getD (newDirectoryBlock 5 0) 16 0) 0 first)
 
 -- ---- a walk from a directory with no item
 

@@ -77,7 +77,7 @@ wrongLink s a = ltb 1 (preds limit (s .next) a) || not (eqb (followed (s .next) 
 unfoldable pub wrongAt : Anodes → ℕ → Bool
 wrongAt s a = not (eqb a 0) && (not (eqb (s .block a) 0) && wrongLink s a)
 
--- 8: or 1, 3, 4 or 5 has a predecessor
+-- 8: a has a predecessor
 unfoldable pub hasPred : Anodes → ℕ → Bool
 hasPred s a = ltb 0 (preds limit (s .next) a)
 
@@ -85,11 +85,11 @@ hasPred s a = ltb 0 (preds limit (s .next) a)
 unfoldable pub wrongLinks : Anodes → Bool
 wrongLinks s = anyBelow (wrongAt s) limit || (hasPred s 1 || (hasPred s 3 || (hasPred s 4 || hasPred s 5)))
 
--- 9: after 1 and before 2 only free blocks above last reserved, from 2 on only such up to last reserved
+-- 9: an extent that does not lie above last reserved, as those after 1 and before 2 must
 unfoldable pub notAbove : Anodes → ℕ → ℕ → Bool
 notAbove s last a = ltb 0 (s .count a) && leb (s .block a) last
 
--- 9: the other side: an extent that reaches above last reserved
+-- 9: an extent that reaches above last reserved, as none from 2 on may
 unfoldable pub notUpTo : Anodes → ℕ → ℕ → Bool
 notUpTo s last a = ltb 0 (s .count a) && ltb (last + 1) (s .block a + s .count a)
 
@@ -100,7 +100,7 @@ wrongFreeList s last =
     || (anyIn (notAbove s last) (side limit s 1)
     || anyIn (notUpTo s last) (chainOf (s .next) limit 2))
 
--- 10: a block has two owners; 11: a block has no owner
+-- 10, 11: how many owners a block has in an image
 unfoldable pub ownersOf : List ℕ → Anodes → ℕ → ℕ
 ownersOf img s = owners limit (s .count) (s .block) (systemOwns img)
 
@@ -112,11 +112,11 @@ twoOwners img s = anyBelow (λ x. ltb 1 (ownersOf img s x)) (diskSize img)
 unfoldable pub noOwner : List ℕ → Anodes → Bool
 noOwner img s = anyBelow (λ x. eqb (ownersOf img s x) 0) (diskSize img)
 
--- 16: a chain from 6 up that no reached entry names
+-- 16: no reached entry names x
 unfoldable pub unnamed : List ℕ → Anodes → ℕ → Bool
 unnamed img s x = eqb (naming img s x) 0
 
--- 16: x is from 6 up, heads a chain, and no reached entry names it
+-- 16: a chain from 6 up that no reached entry names
 unfoldable pub unnamedChain : List ℕ → Anodes → ℕ → Bool
 unnamedChain img s x = leb 6 x && (eqb (heads limit (s .next) (s .block) x) 1 && unnamed img s x)
 

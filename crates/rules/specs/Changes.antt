@@ -9,7 +9,7 @@ use Rattle.endian.specs.Bytes.{put32, stored, cleared}
 use Rattle.disk.specs.Blocks.{blockOf, withBlock}
 use Rattle.directory.specs.declared.Entry.{Entry}
 use Rattle.directory.specs.declared.Kind.the-variants.{File, Directory}
-use Rattle.directory.specs.Entries.{directoryMark, putDirectoryHead, entryLength, putEntry}
+use Rattle.directory.specs.Entries.{entryLength, putEntry}
 use Rattle.rules.specs.Anodes.{Anodes, limit, exists, withAnodes}
 use Rattle.rules.specs.Chains.{blocksOf, blockCount}
 use Rattle.rules.specs.Walk.{Dir, Entered, blocksFor, reachedDirs}
@@ -17,7 +17,7 @@ use Rattle.rules.specs.Accepted.{lastReserved}
 use Rattle.rules.specs.Lookup.{bytesOf}
 use Rattle.rules.specs.Space as Space
 use Rattle.rules.specs.Space.{Plan, refused, planned, rewritten}
-use Rattle.rules.specs.Format.{zeroBlock}
+use Rattle.rules.specs.Format.{zeroBlock, newDirectoryBlock}
 
 -- what a change answers, and the image that it leaves
 pub record Left : Type 0 where
@@ -101,10 +101,6 @@ unfoldable pub neededBlock : List ℕ → Bool → Anodes → ℕ → Plan
 neededBlock img true s h = Space.takeBlock limit (exists img) (lastReserved img) true s h
 neededBlock img false s h = planned s []
 
--- new directory blocks are zeroed, then headed
-unfoldable pub newDirectoryBlock : ℕ → ℕ → List ℕ
-newDirectoryBlock owner parent = putDirectoryHead zeroBlock (record { mark = directoryMark; owner = record { 0 = owner }; parent = record { 0 = parent } })
-
 -- the head of a reached directory's parent; the root's is 0
 unfoldable pub parentOf : List Dir → ℕ → ℕ
 parentOf [] h = 0
@@ -140,7 +136,7 @@ entryOf new f = record {
   comment = length (new .comment);
 }
 
--- the image with the entry, after its blocks f's own (ys) and the parent's (zs) are headed
+-- the image with the entry, after its blocks, f's own (ys) and the parent's (zs), are zeroed, then headed
 unfoldable pub madeImage : List ℕ → Anodes → ℕ → NewEntry → ℕ → Option ℕ → List ℕ → Anodes → List ℕ → List ℕ
 madeImage img s h new f room ys t zs =
     inBlock

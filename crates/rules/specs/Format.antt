@@ -95,11 +95,11 @@ unfoldable pub withAnodeBlocks : List ℕ → ℕ → ℕ → ℕ → ℕ → Li
 withAnodeBlocks img n last k zero = img
 withAnodeBlocks img n last k (suc s) = withBlock (withAnodeBlocks img n last k s) (3 + s) (anodeBlock n last k s)
 
--- the root directory, parent 0
-unfoldable pub rootDirectory : List ℕ
-rootDirectory = putDirectoryHead zeroBlock (record { mark = directoryMark; owner = record { 0 = 5 }; parent = record { 0 = 0 } })
+-- a directory block with no entry: zeroed, then headed
+unfoldable pub newDirectoryBlock : ℕ → ℕ → List ℕ
+newDirectoryBlock owner parent = putDirectoryHead zeroBlock (record { mark = directoryMark; owner = record { 0 = owner }; parent = record { 0 = parent } })
 
--- everything is zero but: disk type in blocks 0 and 2; the root; anode blocks from 3; the root directory in block 3 + k
+-- everything is zero but: disk type in blocks 0 and 2; the root; anode blocks from 3; the root directory in block 3 + k, parent 0
 unfoldable pub formatted : List ℕ → ℕ → ℕ → List ℕ → ℕ → ℕ → ℕ → ℕ → List ℕ
 formatted img last k name day minute tick protection =
     withBlock
@@ -109,4 +109,4 @@ formatted img last k name day minute tick protection =
     0 (put32 zeroBlock 0 pfs0))
     2 (rootBlock last k name day minute tick protection))
     (diskSize img) last k k)
-    (3 + k) rootDirectory
+    (3 + k) (newDirectoryBlock 5 0)

@@ -43,15 +43,18 @@ nth [] n = none
 nth (e ∷ es) zero = some e
 nth (e ∷ es) (suc n) = nth es n
 
+-- f of an entry that is there, else x
+abbrev pub ofEntry {ℓ} : {X : Type ℓ} → Option Entered → (Entered → X) → X → X
+ofEntry none f x = x
+ofEntry (some e) f x = f e
+
 -- 22 and 23: name or place not there, already there
 abbrev pub isThere : Option Entered → Bool
-isThere none = false
-isThere (some e) = true
+isThere o = ofEntry o (λ e. true) false
 
 -- 24: a directory where a file is needed
 abbrev pub namesDir : Option Entered → Bool
-namesDir none = false
-namesDir (some e) = e .dir
+namesDir o = ofEntry o (λ e. e .dir) false
 
 -- 25: directory not empty
 unfoldable pub notEmpty : List ℕ → Anodes → Entered → Bool
@@ -59,13 +62,11 @@ notEmpty img s e = isThere (nth (entriesOf img s (e .anode)) 0)
 
 -- 25: the entry is there, is a directory's, and that is not empty
 abbrev pub fullDir : List ℕ → Anodes → Option Entered → Bool
-fullDir img s none = false
-fullDir img s (some e) = cond (e .dir) (notEmpty img s e) false
+fullDir img s o = ofEntry o (λ e. cond (e .dir) (notEmpty img s e) false) false
 
 -- 26: offset + length above size; the sum is a whole number
 abbrev pub pastEnd : Option Entered → ℕ → ℕ → Bool
-pastEnd none offset len = false
-pastEnd (some e) offset len = ltb (e .size) (offset + len)
+pastEnd o offset len = ofEntry o (λ e. ltb (e .size) (offset + len)) false
 
 -- the bytes of a chain's blocks, in chain order
 unfoldable pub bytesOf : List ℕ → Anodes → ℕ → List ℕ

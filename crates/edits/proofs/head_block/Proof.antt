@@ -4,7 +4,7 @@ use mathlib.Core.List.{List}
 use Prim.Native.Nat.{ℕ}
 use lib.ListN.{length, take}
 use Rattle.disk.proofs.Laws.{withBlock-none, block-changed}
-use Rattle.rules.specs.Changes.{newDirectoryBlock}
+use Rattle.rules.specs.Format.{newDirectoryBlock}
 use Rattle.edits.proofs.Blocks.{withBlock-take, withBlocks-one}
 use borrow.Author.Needs.{needs}
 use Rattle.edits.proofs.head_block.Statement.{statement}
