@@ -16,8 +16,8 @@ use Rattle.rules.specs.Chains.{heads, headOf, cut, systemOwns}
 use Rattle.rules.specs.Walk.{Dir, Entered, Item, root, entriesIn, isBlockOf, itemsBy, itemsOf, Scanned, faulty, fine, faultOf, scan, subDirs, Walk, fault, done, visited, walk, walkOf, faultIn, dirsIn, reached, reachedDirs, naming}
 use Rattle.rules.specs.Accepted.{diskSize, lastReserved, wrongSlots, ownersOf, twoOwners, noOwner, unnamed, unnamedChain, checkAnswer}
 use Rattle.rules.specs.Lookup.{noDirectory}
-use Rattle.counting.specs.Laws.{anyBelow-all}
-use Rattle.laws.specs.Tests.{less?, none-and}
+use Rattle.counting.specs.Laws.{none-and, anyBelow-all}
+use Rattle.laws.specs.Tests.{less?}
 use Rattle.laws.specs.Sums.{oneAt-cases}
 use Rattle.laws.specs.Bags.{list-mono, map-sum}
 use Rattle.laws.specs.Items.{below, namedIn, subs-named}

@@ -11,8 +11,7 @@ use Rattle.rules.specs.Chains.{systemOwns, blockCount}
 use Rattle.rules.specs.Walk.{root, reached, reachedDirs, faultIn}
 use Rattle.rules.specs.Accepted.{diskSize, wrongSize, ownersOf, twoOwners, noOwner, unnamedChain, checkAnswer}
 use Rattle.rules.specs.Format.{wrongFormat, formatted}
-use Rattle.counting.specs.Laws.{anyBelow-all}
-use Rattle.laws.specs.Tests.{none-and}
+use Rattle.counting.specs.Laws.{none-and, anyBelow-all}
 use Rattle.laws.specs.Acceptance.{Passed, passed-accepted, Tested, passes-tested}
 use Rattle.format.proofs.Laws.{Taken, taken}
 use Rattle.format_laws.specs.Anodes.{Laid, laid}

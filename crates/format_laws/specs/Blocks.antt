@@ -17,8 +17,8 @@ use Rattle.disk.proofs.Store.{anodeHeadIn-putAnode, anodeHeadIn-putAnodeHead}
 use Rattle.rules.specs.Anodes.{limit}
 use Rattle.rules.specs.Accepted.{diskSize, wrongSize, shortTables, wrongType, lastReserved, wrongRoot, wrongSlot, wrongSlots}
 use Rattle.rules.specs.Format.{wrongFormat, zeroBlock, firstAnodes, emptyAnodeBlock, anodeBlock, formatted}
-use Rattle.counting.specs.Laws.{anyBelow-all}
-use Rattle.laws.specs.Tests.{less?, none-or, none-and, same}
+use Rattle.counting.specs.Laws.{none-or, none-and, anyBelow-all}
+use Rattle.laws.specs.Tests.{less?, same}
 use Rattle.format.proofs.Laws.{Taken, taken, anodeBlock-both, length-formatted, rootIn-formatted, slotOf-formatted-some, slotOf-formatted-none, blockOf-formatted-anodes}
 
 -- the head of anode block s

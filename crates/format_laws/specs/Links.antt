@@ -11,7 +11,7 @@ use borrow.Author.Tests.{eqb-false, not-true, ne-eqb}
 use Rattle.rules.specs.Counting.{oneAt, sumList, times}
 use Rattle.rules.specs.Anodes.{Anodes, limit}
 use Rattle.rules.specs.Chains.{chainOf, followed, preds, heads, blockCount, cut, side}
-use Rattle.laws.specs.Tests.{none-and}
+use Rattle.counting.specs.Laws.{none-and}
 use Rattle.laws.specs.Sums.{oneAt-cases, oneAt-same, oneAt-other, oneAt-le, sum-member, sum-le-one}
 use Rattle.laws.specs.Bags.{times-nil, times-cons}
 use Rattle.laws.specs.Segments.{Chain, followed-zero, chain-is, chain-ends}

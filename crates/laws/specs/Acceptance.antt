@@ -13,10 +13,10 @@ use Rattle.rules.specs.Anodes.{Anodes, limit, anodesOf}
 use Rattle.rules.specs.Chains.{chainOf, followed, preds, owners, side}
 use Rattle.rules.specs.Walk.{walkOf, faultIn}
 use Rattle.rules.specs.Accepted.{diskSize, wrongSize, shortTables, wrongType, lastReserved, wrongRoot, wrongSlots, wrongFixed, outOfRange, wrongLink, wrongAt, hasPred, wrongLinks, notAbove, notUpTo, wrongFreeList, twoOwners, noOwner, unnamedChain, treeFault, damageIn, checkAnswer}
-use Rattle.counting.specs.Laws.{neither, anyBelow-each, anyBelow-all}
+use Rattle.counting.specs.Laws.{neither, none-or, and-none, none-and, anyBelow-each, anyBelow-all}
 use Rattle.laws.specs.Sums.{oneAt-cases, oneAt-same}
 use Rattle.laws.specs.Bags.{times-nil, times-cons}
-use Rattle.laws.specs.Tests.{and-none, none-and, none-or, same}
+use Rattle.laws.specs.Tests.{same}
 use Rattle.laws.specs.TestsPassed.{fixed-anodes, extent-inside, tested-checked}
 use Rattle.laws.specs.Space.{FixedHead}
 use Rattle.laws.specs.Passes.{Reading, Passes}

@@ -12,8 +12,8 @@ use Rattle.rules.specs.Anodes.{Anodes, limit, exists, anodesOf}
 use Rattle.rules.specs.Chains.{followed, heads, headOf, systemOwns, cut}
 use Rattle.rules.specs.Walk.{Dir, Item, Walk, fault, done, walkOf, faultIn, dirsIn, itemsOf, reached, reachedDirs, naming, root}
 use Rattle.rules.specs.Accepted.{diskSize, lastReserved, ownersOf, twoOwners, noOwner, unnamed, unnamedChain, checkAnswer}
-use Rattle.counting.specs.Laws.{anyBelow-each}
-use Rattle.laws.specs.Tests.{same?, and-none}
+use Rattle.counting.specs.Laws.{and-none, anyBelow-each}
+use Rattle.laws.specs.Tests.{same?}
 use Rattle.laws.specs.Bags.{times-nil, list-congr, gather-sum}
 use Rattle.laws.specs.Heads.{Head}
 use Rattle.laws.specs.Space.{Good}

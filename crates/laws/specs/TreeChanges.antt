@@ -7,7 +7,7 @@ use mathlib.Core.List.{List, [], _∷_, _++_}
 use native.Mathlib.Omega.{arith}
 use Rattle.rules.specs.Counting.{oneAt, sumList, times, changed}
 use Rattle.rules.specs.Walk.{Dir, Item}
-use Rattle.laws.specs.Sums.{oneAt-cases, oneAt-same, oneAt-other, oneBelow, oneBelow-cases, oneBelow-suc, changed-same, changed-other}
+use Rattle.laws.specs.Sums.{oneAt-cases, oneAt-same, oneAt-other, oneBelow, oneBelow-none, oneBelow-suc, changed-same, changed-other}
 use Rattle.laws.specs.Bags.{list-nil, list-cons, list-append, list-add, list-mono, list-congr-where, list-zero}
 use Rattle.laws.specs.Each.{Each, each-map, each-both, each-right, list-congr-each, list-mono-each, each-zero}
 use Rattle.laws.specs.Items.{wrong, weighItem, names, names-sum, giving, subs, below, namedIn, faults, below-items, subs-named}
@@ -16,9 +16,6 @@ use Rattle.laws.specs.Trees.{not-lower, lowering, Tree}
 not-lower-is : (height : ℕ → ℕ) (m : ℕ) (e : Dir) → not-lower height m e ≡ oneBelow m (suc (height (e .head)))
 unfolding not-lower
 not-lower-is height m e = refl
-
-never : (a : ℕ) → oneBelow a 0 ≡ 0
-never a = elim (oneBelow-cases a 0) [ inl c ↦ absurd (omega arith) | inr c ↦ c .1 ]
 
 -- an item of a file gives no directory, one of a directory gives that
 giving-file : (w : Dir → ℕ) (h : ℕ) (i : Item) → i .dir ≡ false → giving w h i ≡ 0
@@ -151,7 +148,7 @@ module _ (items items′ : Dir → List Item) (h : ℕ) (i : Item) where
                 ht-other d (omega arith),
                 changed-same (λ x. suc (t .height x)) (i .anode) 0,
                 oneBelow-suc (t .height (d .head)) 0,
-                never (t .height (d .head)),
+                oneBelow-none (t .height (d .head)),
               ) (omega arith)
 
               shifted : (c : Dir) → here c ≡ 0 → not-lower ht (ht (d .head)) c ≡ not-lower (t .height) (t .height (d .head)) c

@@ -8,7 +8,7 @@ use lib.ListN.{length}
 use Rattle.rules.specs.Counting.{oneAt, sumBelow, sumList, times, changed}
 use Rattle.rules.specs.Walk.{Dir, Item, done, walk}
 use Rattle.laws.specs.Tests.{less?}
-use Rattle.laws.specs.Sums.{oneAt-cases, oneAt-same, oneBelow, oneBelow-cases, oneBelow-suc, changed-same, changed-other, sum-congr, sum-mono, sum-const, sum-add, sum-oneAt}
+use Rattle.laws.specs.Sums.{oneAt-cases, oneAt-same, oneBelow, oneBelow-cases, oneBelow-none, oneBelow-suc, changed-same, changed-other, sum-congr, sum-mono, sum-const, sum-add, sum-oneAt}
 use Rattle.laws.specs.Bags.{list-nil, list-cons, list-append, list-one, list-add, list-mono, list-mono-where, list-congr-where, list-zero, list-length, list-swap, times-nil, sum-by-times}
 use Rattle.laws.specs.Items.{names, subs, below, namedIn, faults, subs-named, subs-few}
 use Rattle.laws.specs.Walks.{namedAfter, times-namedAfter, Order, walk-found, walk-through, order-sum}
@@ -133,10 +133,7 @@ module _ (items : Dir → List Item) where
 
       deep-zero : (k : ℕ) → sumList (deep k) dirs ≡ 0
       unfolding deep level
-      deep-zero zero = list-zero (deep 0) dirs (λ d. rw (none d) (omega arith))
-        where
-          none : (d : Dir) → oneBelow (t .height (d .head)) 0 ≡ 0
-          none d = elim (oneBelow-cases (t .height (d .head)) 0) [ inl c ↦ absurd (omega arith) | inr c ↦ c .1 ]
+      deep-zero zero = list-zero (deep 0) dirs (λ d. rw (oneBelow-none (t .height (d .head))) (omega arith))
       deep-zero (suc k) =
           omega (arith, deep-zero k, t .exact (deep k), list-mono-where (lowering (t .height)) (deep (suc k)) (below items (deep k)) dirs (t .lower) step)
         where
