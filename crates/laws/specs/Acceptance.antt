@@ -14,8 +14,8 @@ use Rattle.rules.specs.Chains.{chainOf, followed, preds, owners, side}
 use Rattle.rules.specs.Walk.{walkOf, faultIn}
 use Rattle.rules.specs.Accepted.{diskSize, wrongSize, shortTables, wrongType, lastReserved, wrongRoot, wrongSlots, wrongFixed, outOfRange, wrongLink, wrongAt, hasPred, wrongLinks, notAbove, notUpTo, wrongFreeList, twoOwners, noOwner, unnamedChain, treeFault, damageIn, checkAnswer}
 use Rattle.counting.specs.Laws.{neither, none-or, and-none, none-and, anyBelow-each, anyBelow-all}
-use Rattle.laws.specs.Sums.{oneAt-cases, oneAt-same}
-use Rattle.laws.specs.Bags.{times-nil, times-cons}
+use Rattle.laws.specs.Sums.{oneAt-cases}
+use Rattle.laws.specs.Bags.{times-nil, times-cons, times-here, times-later}
 use Rattle.laws.specs.Tests.{same}
 use Rattle.laws.specs.TestsPassed.{fixed-anodes, extent-inside, tested-checked}
 use Rattle.laws.specs.Space.{FixedHead}
@@ -36,7 +36,7 @@ pub none-in : (test : ℕ → Bool) (l : List ℕ) → ((x : ℕ) → 0 < times 
 unfolding anyIn
 none-in test [] f = refl
 none-in test (y ∷ l) f =
-    none-or (test y) (anyIn test l) (f y (omega (arith, times-cons y y l, oneAt-same y y refl))) (none-in test l (λ x p. f x (omega (arith, p, times-cons x y l))))
+    none-or (test y) (anyIn test l) (f y (times-here y l)) (none-in test l (λ x p. f x (times-later x y l p)))
 
 -- ---- the table
 

@@ -12,11 +12,11 @@ use Rattle.rules.specs.Chains.{chainOf}
 use Rattle.rules.specs.Walk.{Dir, Entered, Item, itemOf, itemsAt, itemsBy}
 use Rattle.rules.specs.Space.{planned, takeBlock}
 use Rattle.laws.specs.Sums.{oneAt-cases}
-use Rattle.laws.specs.Bags.{list-nil, list-cons, list-append, list-one, list-zero}
+use Rattle.laws.specs.Bags.{list-nil, list-cons, list-append, list-one, list-zero, kept-sum-where}
 use Rattle.laws.specs.Heads.{Head}
 use Rattle.laws.specs.Moves.{Moved}
 use Rattle.laws.specs.Take.{take-good}
-use Rattle.laws.specs.Frame.{kept-sum-where, take-shift}
+use Rattle.laws.specs.Frame.{take-shift}
 use Rattle.laws.specs.OwnBlock.{Appended, own-appended}
 use Rattle.laws.specs.Each.{Each, each-both, each-zero}
 use Rattle.laws.specs.Items.{wrong, faults}

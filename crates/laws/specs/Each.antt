@@ -9,6 +9,10 @@ abbrev pub Each {ℓ} : {X : Type ℓ} → (X → Type 0) → List X → Type 0
 Each P [] = Unit {0}
 Each P (x ∷ l) = P x × Each P l
 
+pub each-all {ℓ} : {X : Type ℓ} (P : X → Type 0) → ((x : X) → P x) → (l : List X) → Each P l
+each-all P h [] = tt
+each-all P h (x ∷ l) = (h x, each-all P h l)
+
 pub each-map {ℓ} : {X : Type ℓ} (P Q : X → Type 0) (l : List X) → ((x : X) → P x → Q x) → Each P l → Each Q l
 each-map P Q [] f e = tt
 each-map P Q (x ∷ l) f e = (f x (e .0), each-map P Q l f (e .1))

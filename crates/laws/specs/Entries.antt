@@ -16,9 +16,8 @@ use Rattle.rules.specs.Anodes.{limit, Anodes}
 use Rattle.rules.specs.Chains.{chainOf, heads, blockCount}
 use Rattle.rules.specs.Walk.{Dir, Entered, entriesFrom, Item, blocksFor, wrongAnode, wrongFileSize, itemOf, broken, itemsAt, itemsBy}
 use Rattle.laws.specs.Tests.{cond-cases, T-true, both}
-use Rattle.laws.specs.Bags.{list-one, list-mono, list-congr, list-congr-where, list-zero, gather-sum, map-sum, none-at}
+use Rattle.laws.specs.Bags.{list-one, list-mono, list-congr, list-congr-where, list-zero, gather-sum, map-sum, none-at, kept-sum-where}
 use Rattle.laws.specs.Space.{Alike}
-use Rattle.laws.specs.Frame.{kept-sum-where}
 use Rattle.laws.specs.Items.{wrong, weighItem}
 use Rattle.laws.specs.TreeChanges.{AlikeItems}
 

@@ -1,37 +1,20 @@
 -- What a change for the chain of one head leaves alone: every other chain is the same list of anodes, with the same blocks.
-use Prim.Native.Nat.{ℕ, _+_, _<_}
-use mathlib.Core.Path.{_≡_, refl, sym, ap, _∙_}
+use Prim.Native.Nat.{ℕ, _<_}
+use mathlib.Core.Path.{_≡_, sym, ap, _∙_}
 use mathlib.Core.Logic.{_≢_, inl, inr}
 use mathlib.Core.Bool.{Bool}
-use mathlib.Core.List.{List, [], _∷_}
+use mathlib.Core.List.{List}
 use native.Mathlib.Omega.{arith}
 use Rattle.rules.specs.Counting.{sumList, times}
 use Rattle.rules.specs.Anodes.{limit, Anodes}
 use Rattle.rules.specs.Chains.{chainOf, blockCount}
 use Rattle.laws.specs.Tests.{same?}
-use Rattle.laws.specs.Sums.{oneAt-same}
-use Rattle.laws.specs.Bags.{list-nil, list-cons, list-zero, times-cons}
+use Rattle.laws.specs.Bags.{kept-sum}
 use Rattle.laws.specs.Segments.{seg-keep}
 use Rattle.laws.specs.Links.{the-chain, chain-the}
 use Rattle.laws.specs.Heads.{Head, head-of-is, on-own, seg-head}
 use Rattle.laws.specs.Space.{Alike, alike-trans, Good, on-chain}
 use Rattle.laws.specs.Moves.{Moved, self-headed}
-
--- a sum over a list at whose members two weights agree, at least where a guard that has no weight on the list is 0
-pub kept-sum-where : (g f f′ : ℕ → ℕ) (l : List ℕ) → sumList g l ≡ 0 → ((a : ℕ) → 0 < times a l → g a ≡ 0 → f′ a ≡ f a) → sumList f′ l ≡ sumList f l
-kept-sum-where g f f′ [] z e = list-nil f′ ∙ sym (list-nil f)
-kept-sum-where g f f′ (x ∷ l) z e =
-    let zx : g x + sumList g l ≡ 0 = sym (list-cons g x l) ∙ z in
-    omega (
-      arith,
-      list-cons f′ x l,
-      list-cons f x l,
-      e x (omega (arith, times-cons x x l, oneAt-same x x refl)) (omega arith),
-      kept-sum-where g f f′ l (omega arith) (λ a c. e a (omega (arith, c, times-cons a x l))),
-    )
-
-pub kept-sum : (f f′ : ℕ → ℕ) (l : List ℕ) → ((a : ℕ) → 0 < times a l → f′ a ≡ f a) → sumList f′ l ≡ sumList f l
-kept-sum f f′ l e = kept-sum-where (λ a. 0) f f′ l (list-zero {X = ℕ} (λ a. 0) l (λ a. refl)) (λ a p z. e a p)
 
 -- a chain of the same anodes with the same counts has as many blocks
 pub kept-count : (s t : Anodes) (m : ℕ) → chainOf (t .next) limit m ≡ chainOf (s .next) limit m → ((a : ℕ) → 0 < times a (chainOf (s .next) limit m) → t .count a ≡ s .count a) → blockCount t m ≡ blockCount s m

@@ -1,6 +1,7 @@
 -- Theorems about the rules.
 pub mod Tests
 pub mod Sums
+pub mod Each
 pub mod Bags
 pub mod Ownership
 pub mod Segments
@@ -25,7 +26,6 @@ pub mod Take
 pub mod Give
 pub mod Refusals
 pub mod Frame
-pub mod Each
 pub mod Items
 pub mod Walks
 pub mod Trees

@@ -13,12 +13,12 @@ use Rattle.rules.specs.Walk.{Dir, root, Entered, Item, blocksFor, itemOf, broke
 use Rattle.rules.specs.Space.{rewritten}
 use Rattle.laws.specs.Tests.{same?, less?}
 use Rattle.laws.specs.Sums.{oneAt-same, changed-same, changed-other}
-use Rattle.laws.specs.Bags.{list-cons, list-add, list-scale}
+use Rattle.laws.specs.Bags.{list-cons, list-add, list-scale, kept-sum}
 use Rattle.laws.specs.Links.{chain-the}
 use Rattle.laws.specs.Heads.{Head}
 use Rattle.laws.specs.LinkChanges.{used-not-free, fresh-no-next}
 use Rattle.laws.specs.Space.{Alike, Good, head-good, on-chain}
-use Rattle.laws.specs.Frame.{kept-sum, kept-count}
+use Rattle.laws.specs.Frame.{kept-count}
 use Rattle.laws.specs.Each.{Each, each-map, each-both, each-zero}
 use Rattle.laws.specs.Items.{wrong, weighItem, namedIn, faults}
 use Rattle.laws.specs.TreeChanges.{headed, Gain, sum-named, add-file, add-dir, AlikeItems, alike-named, alike-tree}

@@ -1,6 +1,6 @@
 -- A block taken into an anode of its own: a chain with no block fills its head, one with a block in every anode gets one more anode behind its last.
 use Prim.Native.Nat.{ℕ, _≤_, _<_}
-use mathlib.Core.Path.{_≡_, refl, sym, ap, _∙_}
+use mathlib.Core.Path.{_≡_, sym, ap, _∙_}
 use mathlib.Core.Logic.{_≢_, inl, inr}
 use mathlib.Core.Bool.{Bool, true}
 use mathlib.Core.List.{List, [], _∷_, _++_, append-assoc}
@@ -11,7 +11,7 @@ use Rattle.rules.specs.Anodes.{Anodes}
 use Rattle.rules.specs.Chains.{chainOf}
 use Rattle.rules.specs.Space.{planned, rewritten, insertedAfter, free, lowestFree, append, growOrAppend, put, takeBlock}
 use Rattle.laws.specs.Sums.{oneAt-same, changed-same, changed-other}
-use Rattle.laws.specs.Bags.{times-cons}
+use Rattle.laws.specs.Bags.{times-here}
 use Rattle.laws.specs.Segments.{seg-zero}
 use Rattle.laws.specs.Links.{the-chain}
 use Rattle.laws.specs.Heads.{Head, times-on-chain}
@@ -63,7 +63,7 @@ module _ {A : ℕ} {ex : ℕ → Bool} {n last : ℕ} {s : Anodes} {system hd sd
     unfolding put rewritten lastOf
     put-filled alone none t ys e =
         let c : chainOf (r .next) A h ≡ h ∷ [] = hand-chain ∙ alone in
-        let empty : r .count h ≡ 0 = on-h h (rw alone (omega (arith, times-cons h h [], oneAt-same h h refl))) .same-count ∙ none in
+        let empty : r .count h ≡ 0 = on-h h (rw alone (times-here h [])) .same-count ∙ none in
         let p : planned (rewritten r h 1 y) (y ∷ []) ≡ planned t ys = rw (c, empty) at e in
         let q = planned-same (rewritten r h 1 y) t (y ∷ []) ys p in
         let filled : Filled A (rewritten r h 1 y) h y = record { chain = c; one = changed-same (r .count) h 1; at = changed-same (r .block) h y } in

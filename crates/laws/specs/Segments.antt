@@ -7,8 +7,8 @@ use native.Mathlib.Omega.{arith}
 use lib.ListN.{length}
 use Rattle.rules.specs.Counting.{times}
 use Rattle.rules.specs.Chains.{chainOf, followed}
-use Rattle.laws.specs.Sums.{oneAt-same, oneAt-other}
-use Rattle.laws.specs.Bags.{times-nil, times-cons}
+use Rattle.laws.specs.Sums.{oneAt-other}
+use Rattle.laws.specs.Bags.{times-nil, times-cons, times-here, times-later}
 
 -- from a, following next, the anodes of l are met, none of them 0, and then z
 
@@ -69,7 +69,7 @@ seg-split next a z (b ∷ l) m c = let r = seg-split next (next b) z l m (c .2) 
 pub seg-keep : (next next′ : ℕ → ℕ) (a z : ℕ) (l : List ℕ) → ((x : ℕ) → 0 < times x l → next′ x ≡ next x) → Seg next a l z → Seg next′ a l z
 seg-keep next next′ a z [] h c = c
 seg-keep next next′ a z (b ∷ l) h c =
-    (c .0, c .1, rw (h b (omega (arith, times-cons b b l, oneAt-same b b refl))) (seg-keep next next′ (next b) z l (λ x p. h x (omega (arith, times-cons x b l))) (c .2)))
+    (c .0, c .1, rw (h b (times-here b l)) (seg-keep next next′ (next b) z l (λ x p. h x (times-later x b l p)) (c .2)))
 
 -- 0 stands in no walk
 pub seg-zero : (next : ℕ → ℕ) (a z : ℕ) (l : List ℕ) → Seg next a l z → times 0 l ≡ 0
