@@ -10,9 +10,9 @@ use lib.ListN.{length}
 use borrow.Author.Tests.{ltb-true, ltb-false, leb-false, eqb-false, not-true, lt-ltb, le-ltb, lt-leb, eq-eqb, ne-eqb}
 use Rattle.rules.specs.Counting.{_if_else_, firstOf, anyBelow, anyIn, times}
 use Rattle.rules.specs.Anodes.{Anodes, limit, anodesOf}
-use Rattle.rules.specs.Chains.{chainOf, followed, preds, owners, side}
+use Rattle.rules.specs.Chains.{chainOf, followed, preds, owners, side, systemOwns}
 use Rattle.rules.specs.Walk.{walkOf, faultIn}
-use Rattle.rules.specs.Accepted.{diskSize, wrongSize, shortTables, wrongType, lastReserved, wrongRoot, wrongSlots, wrongFixed, outOfRange, wrongLink, wrongAt, hasPred, wrongLinks, notAbove, notUpTo, wrongFreeList, twoOwners, noOwner, unnamedChain, treeFault, damageIn, checkAnswer}
+use Rattle.rules.specs.Accepted.{diskSize, wrongSize, shortTables, wrongType, lastReserved, wrongRoot, wrongSlots, wrongFixed, outOfRange, wrongLink, wrongAt, hasPred, wrongLinks, notAbove, notUpTo, wrongFreeList, ownersOf, twoOwners, noOwner, unnamedChain, treeFault, damageIn, checkAnswer}
 use Rattle.counting.specs.Laws.{neither, none-or, and-none, none-and, anyBelow-each, anyBelow-all}
 use Rattle.laws.specs.Sums.{oneAt-cases}
 use Rattle.laws.specs.Bags.{times-nil, times-cons, times-here, times-later}
@@ -67,6 +67,15 @@ size-bounds img right =
     let ends = neither (ltb (diskSize img) 5) (ltb 65535 (diskSize img)) (size .1) in
     (ltb-false (diskSize img) 5 (ends .0), ltb-false 65535 (diskSize img) (ends .1))
 
+-- the tests 6 to 11, as they are computed
+pub record Tested (s : Anodes) (n last : ℕ) (system : ℕ → ℕ) : Type 0 where
+  pub fixed-right : wrongFixed s ≡ false
+  pub in-range : anyBelow (outOfRange s n) limit ≡ false
+  pub links-right : wrongLinks s ≡ false
+  pub free-right : wrongFreeList s last ≡ false
+  pub none-twice : anyBelow (λ x. ltb 1 (owners limit (s .count) (s .block) system x)) n ≡ false
+  pub all-owned : anyBelow (λ x. eqb (owners limit (s .count) (s .block) system x) 0) n ≡ false
+
 -- no test of the table holds
 pub record Passed (img : List ℕ) (blocks anodes : ℕ) : Type 0 where
   pub size-right : wrongSize img ≡ false
@@ -74,18 +83,13 @@ pub record Passed (img : List ℕ) (blocks anodes : ℕ) : Type 0 where
   pub type-right : wrongType img ≡ false
   pub root-right : wrongRoot img ≡ false
   pub slots-right : wrongSlots img ≡ false
-  pub fixed-right : wrongFixed (anodesOf img) ≡ false
-  pub in-range : anyBelow (outOfRange (anodesOf img) (diskSize img)) limit ≡ false
-  pub links-right : wrongLinks (anodesOf img) ≡ false
-  pub free-right : wrongFreeList (anodesOf img) (lastReserved img) ≡ false
-  pub none-twice : twoOwners img (anodesOf img) ≡ false
-  pub all-owned : noOwner img (anodesOf img) ≡ false
+  pub tested : Tested (anodesOf img) (diskSize img) (lastReserved img) (systemOwns img)
   pub walked : faultIn (walkOf img (anodesOf img)) ≡ 0
   pub all-named : anyBelow (unnamedChain img (anodesOf img)) limit ≡ false
 
 -- where the check answers 0, no test holds
 pub passed-of : (img : List ℕ) (blocks anodes : ℕ) → checkAnswer img blocks anodes ≡ 0 → Passed img blocks anodes
-unfolding checkAnswer damageIn treeFault
+unfolding checkAnswer damageIn treeFault twoOwners noOwner ownersOf
 passed-of img blocks anodes e =
     let r1 = if-zero 1 (wrongSize img) _ (omega arith) e in
     let r2 = if-zero 2 (shortTables img blocks anodes) _ (omega arith) (r1 .1) in
@@ -106,49 +110,38 @@ passed-of img blocks anodes e =
       type-right = r3 .0;
       root-right = r4 .0;
       slots-right = r5 .0;
-      fixed-right = r6 .0;
-      in-range = r7 .0;
-      links-right = r8 .0;
-      free-right = r9 .0;
-      none-twice = r10 .0;
-      all-owned = r11 .0;
+      tested = record { fixed-right = r6 .0; in-range = r7 .0; links-right = r8 .0; free-right = r9 .0; none-twice = r10 .0; all-owned = r11 .0 };
       walked = r12 .0;
       all-named = r16 .0;
     }
 
 -- where no test holds, the check answers 0
 pub passed-accepted : (img : List ℕ) (blocks anodes : ℕ) → Passed img blocks anodes → checkAnswer img blocks anodes ≡ 0
-unfolding checkAnswer damageIn treeFault
+unfolding checkAnswer damageIn treeFault twoOwners noOwner ownersOf
 passed-accepted img blocks anodes p =
-    rw (p .size-right, p .tables-long, p .type-right, p .root-right, p .slots-right, p .fixed-right, p .in-range, p .links-right, p .free-right, p .none-twice, p .all-owned, p .all-named)
+    let t = p .tested in
+    rw (p .size-right, p .tables-long, p .type-right, p .root-right, p .slots-right, t .fixed-right, t .in-range, t .links-right, t .free-right, t .none-twice, t .all-owned, p .all-named)
     (firstOf-none (faultIn (walkOf img (anodesOf img))) 0 (p .walked))
 
 -- ---- 6 to 11
 
 module _ (s : Anodes) (n last : ℕ) (system : ℕ → ℕ) (ex : ℕ → Bool) where
-  -- the tests as they are computed
-  pub record Tested : Type 0 where
-    pub fixed-right : wrongFixed s ≡ false
-    pub in-range : anyBelow (outOfRange s n) limit ≡ false
-    pub links-right : wrongLinks s ≡ false
-    pub free-right : wrongFreeList s last ≡ false
-    pub none-twice : anyBelow (λ x. ltb 1 (owners limit (s .count) (s .block) system x)) n ≡ false
-    pub all-owned : anyBelow (λ x. eqb (owners limit (s .count) (s .block) system x) 0) n ≡ false
-
   -- where no test holds, the same is true in numbers, and what is proved of accepted images stands on that form
-  pub tested-passes : Reading limit ex n last s → Tested → Passes limit ex n last s system
+  pub tested-passes : Reading limit ex n last s → Tested s n last system → Passes limit ex n last s system
   unfolding wrongLinks hasPred wrongFreeList notAbove notUpTo
   tested-passes r t = record {
     fixed = fixed-anodes s (t .fixed-right) .0;
     next-0 = fixed-anodes s (t .fixed-right) .1;
-    fits = extent-inside s (t .fixed-right) n (t .in-range);
     links = tested-checked s (t .fixed-right) r n (t .in-range) (t .links-right);
     first = first;
     two-on = positive _ (eqb-false _ 0 (w .0));
     high = λ a p c. leb-false _ last (and-none _ _ (in-none (notAbove s last) (side limit s 1) (w1 .0) a p) (lt-ltb 0 _ c));
     low = λ a p c. omega (arith, ltb-false (last + 1) _ (and-none _ _ (in-none (notUpTo s last) (chainOf (s .next) limit 2) (w1 .1) a p) (lt-ltb 0 _ c)));
-    not-two = λ x l. ltb-false 1 _ (anyBelow-each (λ x. ltb 1 (owners limit (s .count) (s .block) system x)) x n l (t .none-twice));
-    not-none = λ x l. positive _ (eqb-false _ 0 (anyBelow-each (λ x. eqb (owners limit (s .count) (s .block) system x) 0) x n l (t .all-owned)));
+    own = record {
+      not-two = λ x l. ltb-false 1 _ (anyBelow-each (λ x. ltb 1 (owners limit (s .count) (s .block) system x)) x n l (t .none-twice));
+      not-none = λ x l. positive _ (eqb-false _ 0 (anyBelow-each (λ x. eqb (owners limit (s .count) (s .block) system x) 0) x n l (t .all-owned)));
+      fits = extent-inside s (t .fixed-right) n (t .in-range);
+    };
   }
     where
       positive : (k : ℕ) → k ≢ 0 → 1 ≤ k
@@ -179,7 +172,7 @@ module _ (s : Anodes) (n last : ℕ) (system : ℕ → ℕ) (ex : ℕ → Bool) 
       w1 = neither _ _ (w .1)
 
   -- and where it is true in numbers, no test holds
-  pub passes-tested : Passes limit ex n last s system → Tested
+  pub passes-tested : Passes limit ex n last s system → Tested s n last system
   unfolding wrongFixed outOfRange wrongLinks wrongAt wrongLink hasPred wrongFreeList notAbove notUpTo
   passes-tested p = record {
     fixed-right = rw (eq-eqb (s .count 0) 0 (p .fixed .count-0), eq-eqb (s .block 0) 65535 (p .fixed .block-0), eq-eqb (s .next 0) 0 (p .next-0), eq-eqb (s .count 1) 0 (p .fixed .count-1), eq-eqb (s .block 1) 65535 (p .fixed .block-1), ne-eqb (s .block 2) 0 (p .fixed .block-2), ne-eqb (s .block 5) 0 (p .fixed .block-5));
@@ -188,8 +181,8 @@ module _ (s : Anodes) (n last : ℕ) (system : ℕ → ℕ) (ex : ℕ → Bool) 
         (none-or _ _ (le-ltb 0 _ (none 1 (inl refl))) (none-or _ _ (le-ltb 0 _ (none 3 (inr (inl refl)))) (none-or _ _ (le-ltb 0 _ (none 4 (inr (inr (inl refl))))) (le-ltb 0 _ (none 5 (inr (inr (inr refl))))))));
     free-right = none-or _ _ (ne-eqb (times 2 (chainOf (s .next) limit 1)) 0 (λ e. omega (arith, e, p .two-on)))
         (none-or _ _ (none-in (notAbove s last) (side limit s 1) above) (none-in (notUpTo s last) (chainOf (s .next) limit 2) up-to));
-    none-twice = anyBelow-all (λ x. ltb 1 (owners limit (s .count) (s .block) system x)) n (λ x l. le-ltb 1 _ (p .not-two x l));
-    all-owned = anyBelow-all (λ x. eqb (owners limit (s .count) (s .block) system x) 0) n (λ x l. ne-eqb (owners limit (s .count) (s .block) system x) 0 (λ e. omega (arith, e, p .not-none x l)));
+    none-twice = anyBelow-all (λ x. ltb 1 (owners limit (s .count) (s .block) system x)) n (λ x l. le-ltb 1 _ (p .own .not-two x l));
+    all-owned = anyBelow-all (λ x. eqb (owners limit (s .count) (s .block) system x) 0) n (λ x l. ne-eqb (owners limit (s .count) (s .block) system x) 0 (λ e. omega (arith, e, p .own .not-none x l)));
   }
     where
       none : (m : ℕ) → FixedHead m → preds limit (s .next) m ≤ 0
@@ -199,7 +192,7 @@ module _ (s : Anodes) (n last : ℕ) (system : ℕ → ℕ) (ex : ℕ → Bool) 
       range a l =
           none-and (not (eqb a 0)) (ltb 0 (s .count a) && ltb n (s .block a + s .count a) || not (eqb (s .next a) 0) && eqb (s .block (s .next a)) 0) (λ e.
           none-or (ltb 0 (s .count a) && ltb n (s .block a + s .count a)) (not (eqb (s .next a) 0) && eqb (s .block (s .next a)) 0)
-          (none-and (ltb 0 (s .count a)) (ltb n (s .block a + s .count a)) (λ c. le-ltb n (s .block a + s .count a) (p .fits a l (ltb-true 0 (s .count a) c))))
+          (none-and (ltb 0 (s .count a)) (ltb n (s .block a + s .count a)) (λ c. le-ltb n (s .block a + s .count a) (p .own .fits a l (ltb-true 0 (s .count a) c))))
           (none-and (not (eqb (s .next a) 0)) (eqb (s .block (s .next a)) 0) (λ c. ne-eqb (s .block (s .next a)) 0 (p .links .closed a l (eqb-false (s .next a) 0 (not-true (eqb (s .next a) 0) c))))))
 
       link : (a : ℕ) → a < limit → wrongAt s a ≡ false

@@ -18,11 +18,12 @@ use Rattle.laws.specs.Moves.{Moved}
 use Rattle.laws.specs.Take.{take-good}
 use Rattle.laws.specs.Frame.{take-shift}
 use Rattle.laws.specs.OwnBlock.{Appended, own-appended}
-use Rattle.laws.specs.Each.{Each, each-both, each-zero}
+use Rattle.laws.specs.Each.{Each, each-both, each-pair, each-zero}
 use Rattle.laws.specs.Items.{wrong, faults}
 use Rattle.laws.specs.TreeChanges.{headed, AlikeItems}
 use Rattle.laws.specs.Totals.{file-size}
 use Rattle.laws.specs.Entries.{broken-wrong, items-sum, itemsAt-whole, anodes-fine, at-alike}
+use Rattle.laws.specs.Whole.{DirHead, tree-heads}
 use Rattle.laws.specs.Orphan.{Orphaned, amiss, still-fine, none-amiss, orphan-shift, dir-no-file}
 
 -- one of the directories has the head h
@@ -42,10 +43,9 @@ module _ {ex : ℕ → Bool} {n last f : ℕ} {s : Anodes} {system hd sd : ℕ �
   no-file : sumList (λ d. sumList (file-size (λ x. oneAt x h)) (items d)) dirs ≡ 0
   no-file = dir-no-file o h reached
 
-  the-dir : (d : Dir) × (d .head ≡ h) × ((Head (s .next) (s .block) (d .head) × (d .head ≢ 1)) × (faults items d ≡ 0))
-  the-dir = find-headed (λ d. (Head (s .next) (s .block) (d .head) × (d .head ≢ 1)) × (faults items d ≡ 0)) h dirs
-      (each-both (λ d. Head (s .next) (s .block) (d .head) × (d .head ≢ 1)) (λ d. faults items d ≡ 0) (λ d. (Head (s .next) (s .block) (d .head) × (d .head ≢ 1)) × (faults items d ≡ 0)) dirs
-      (λ d a b. (a, b)) (o .dir-heads) (each-zero (faults items) dirs (o .tree .faultless))) (omega (arith, reached))
+  the-dir : (d : Dir) × (d .head ≡ h) × (DirHead s d × (faults items d ≡ 0))
+  the-dir = find-headed (λ d. DirHead s d × (faults items d ≡ 0)) h dirs
+      (each-pair (DirHead s) (λ d. faults items d ≡ 0) dirs (tree-heads (o .good) entries marked (o .tree)) (each-zero (faults items) dirs (o .tree .faultless))) (omega (arith, reached))
 
   pub dir-head : Head (s .next) (s .block) h
   dir-head = rw (the-dir .1) at (the-dir .2 .0 .0)

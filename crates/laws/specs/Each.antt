@@ -21,6 +21,9 @@ pub each-both {ℓ} : {X : Type ℓ} (P Q R : X → Type 0) (l : List X) → ((x
 each-both P Q R [] f p q = tt
 each-both P Q R (x ∷ l) f p q = (f x (p .0) (q .0), each-both P Q R l f (p .1) (q .1))
 
+pub each-pair {ℓ} : {X : Type ℓ} (P Q : X → Type 0) (l : List X) → Each P l → Each Q l → Each (λ x. P x × Q x) l
+each-pair P Q l p q = each-both P Q (λ x. P x × Q x) l (λ x a b. (a, b)) p q
+
 -- of each element that f gives
 pub each-given {ℓ κ} : {X : Type ℓ} {Y : Type κ} (P : Y → Type 0) (f : X → Y) → ((x : X) → P (f x)) → (l : List X) → Each P (map f l)
 each-given P f h [] = tt

@@ -20,6 +20,10 @@ pub record Head (next block : ℕ → ℕ) (a : ℕ) : Type 0 where
   pub in-use : block a ≢ 0
   pub no-pred : (p : ℕ) → next p ≢ a
 
+-- whatever the other blocks, where its own is still in use
+pub head-while : {next block block′ : ℕ → ℕ} {a : ℕ} → Head next block a → block′ a ≢ 0 → Head next block′ a
+head-while d u = record { pos = d .pos; in-use = u; no-pred = d .no-pred }
+
 -- a table of heads, by local rules: they settle it (`heads-one`), and `headOf` obeys them
 pub record Heads (next block hd : ℕ → ℕ) : Type 0 where
   pub off : (a : ℕ) → block a ≡ 0 → hd a ≡ 0

@@ -15,15 +15,15 @@ use Rattle.laws.specs.Tests.{same?, less?}
 use Rattle.laws.specs.Sums.{oneAt-same, changed-same, changed-other}
 use Rattle.laws.specs.Bags.{list-cons, list-add, list-scale, kept-sum}
 use Rattle.laws.specs.Links.{chain-the}
-use Rattle.laws.specs.Heads.{Head}
+use Rattle.laws.specs.Heads.{Head, head-while}
 use Rattle.laws.specs.LinkChanges.{used-not-free, fresh-no-next}
 use Rattle.laws.specs.Space.{Alike, Good, head-good, on-chain}
 use Rattle.laws.specs.Frame.{kept-count}
-use Rattle.laws.specs.Each.{Each, each-map, each-both, each-zero}
+use Rattle.laws.specs.Each.{Each, each-both, each-zero}
 use Rattle.laws.specs.Items.{wrong, weighItem, namedIn, faults}
 use Rattle.laws.specs.TreeChanges.{headed, Gain, sum-named, add-file, add-dir, AlikeItems, alike-named, alike-tree}
 use Rattle.laws.specs.Entries.{weighEntry, broken-wrong, item-fine, fine-item, item-anode, asEntry, weigh-item, entries-sum, items-sum, anodes-fine, itemsAt-whole, items-alike}
-use Rattle.laws.specs.Whole.{Whole, head-counts, counts-head, on-dir, dir-heads, named-heads}
+use Rattle.laws.specs.Whole.{DirHead, Whole, head-counts, counts-head, on-dir, tree-heads, dir-heads, named-heads}
 use Rattle.laws.specs.Orphan.{Orphaned}
 
 -- two sums over a list that differ at one member
@@ -38,7 +38,7 @@ module _ {ex : ℕ → Bool} {n last : ℕ} {s : Anodes} {system hd sd : ℕ →
     (less more : ℕ → List Entered) (marked marked′ : Dir → ℕ → Bool)
     (cont : (a : ℕ) → s .count a ≡ 1 → hd a ≢ 1 → (v : Bool → Bool → ℕ → ℕ → ℕ) →
     sumList (weighEntry v) (more (s .block a)) ≡ sumList (weighEntry v) (less (s .block a)) + oneAt a a₀ * weighEntry v e) where
-  pub entry-gain : (d : Dir) → Head (s .next) (s .block) (d .head) × (d .head ≢ 1) →
+  pub entry-gain : (d : Dir) → DirHead s d →
       ((a : ℕ) → 0 < times a (chainOf (s .next) limit (d .head)) → hd a ≢ 1 → (s .count a ≡ 1) × T (marked d (s .block a)) × T (marked′ d (s .block a))) →
       Gain (itemsBy less marked s) (itemsBy more marked′ s) h₀ (itemOf s e) d
   entry-gain d p whole u =
@@ -77,11 +77,11 @@ module _ {ex : ℕ → Bool} {n last : ℕ} {s : Anodes} {system hd sd : ℕ →
 
   stays : (m : ℕ) → Head (s .next) (s .block) m → Head (made .next) (made .block) m
   unfolding rewritten
-  stays m d = record { pos = d .pos; in-use = rw (like-a m (d .in-use) .same-block) (d .in-use); no-pred = d .no-pred }
+  stays m d = head-while d (rw (like-a m (d .in-use) .same-block) (d .in-use))
 
   was : (m : ℕ) → m ≢ f → Head (made .next) (made .block) m → Head (s .next) (s .block) m
   unfolding rewritten
-  was m q d = record { pos = d .pos; in-use = rw (changed-other (s .block) f 65535 m q) at (d .in-use); no-pred = d .no-pred }
+  was m q d = head-while d (rw (changed-other (s .block) f 65535 m q) at (d .in-use))
 
   head-f : Head (made .next) (made .block) f
   unfolding rewritten
@@ -109,14 +109,14 @@ module _ {ex : ℕ → Bool} {n last : ℕ} {s : Anodes} {system hd sd : ℕ →
     abbrev items′ : Dir → List Item
     items′ = itemsBy entries′ marked′ made
 
-    one : (d : Dir) → Head (s .next) (s .block) (d .head) × (d .head ≢ 1) → faults items d ≡ 0 → AlikeItems items items′ d
+    one : (d : Dir) → DirHead s d → faults items d ≡ 0 → AlikeItems items items′ d
     unfolding rewritten
     one d p z = items-alike s made (λ j. j) wrong (λ q. omega (arith, q, broken-wrong)) (λ j q. (refl, refl, still-fine j q)) entries entries′ marked marked′ d refl
         (λ a k. like-a a (on-chain (w .good) (d .head) (p .0) a k .1))
         (λ a k i. let c = cont a i (λ q. p .1 (sym (on-chain (w .good) (d .head) (p .0) a k .0) ∙ q)) in (c .0 ∙ sym (map-id (entries (s .block a))), c .1 d)) z
 
     alikes : Each (AlikeItems items items′) dirs
-    alikes = each-both (λ d. Head (s .next) (s .block) (d .head) × (d .head ≢ 1)) (λ d. faults items d ≡ 0) (AlikeItems items items′) dirs one (dir-heads w) (each-zero (faults items) dirs (w .tree .faultless))
+    alikes = each-both (DirHead s) (λ d. faults items d ≡ 0) (AlikeItems items items′) dirs one (dir-heads w) (each-zero (faults items) dirs (w .tree .faultless))
 
     unnamed : sumList (namedIn items f) dirs ≡ 0
     unnamed = elim (less? 0 (sumList (namedIn items f) dirs)) [ inl p ↦ absurd (named-heads w f p .2 .in-use fresh) | inr p ↦ omega arith ]
@@ -125,7 +125,6 @@ module _ {ex : ℕ → Bool} {n last : ℕ} {s : Anodes} {system hd sd : ℕ →
     fresh-orphan = record {
       good = good;
       tree = alike-tree items items′ root dirs alikes (w .tree);
-      dir-heads = each-map (λ d. Head (s .next) (s .block) (d .head) × (d .head ≢ 1)) (λ d. Head (made .next) (made .block) (d .head) × (d .head ≢ 1)) dirs (λ d p. (stays (d .head) (p .0), p .1)) (dir-heads w);
       head = head-f;
       not-named = alike-named items items′ dirs alikes f ∙ unnamed;
       all-named = λ x l q d. omega (arith, alike-named items items′ dirs alikes x, w .all-named x l (was x q d));
@@ -149,13 +148,13 @@ module _ {ex : ℕ → Bool} {n last : ℕ} {s : Anodes} {system hd sd : ℕ →
   new-fine : wrong (itemOf s e) ≡ 0
   new-fine = fine-item s e in-rules from-6 (head-counts (o .good) (e .anode) (o .head)) sized
 
-  gain : (d : Dir) → Head (s .next) (s .block) (d .head) × (d .head ≢ 1) → faults before d ≡ 0 → Gain before after h₀ (itemOf s e) d
+  gain : (d : Dir) → DirHead s d → faults before d ≡ 0 → Gain before after h₀ (itemOf s e) d
   gain d p z = entry-gain (o .good) e a₀ h₀ at₀ entries entries′ marked marked′ cont d p
       (λ a k q. let c = anodes-fine entries marked s d z a k in (c .0, c .1, rw (same-marks a (c .0) q d) (c .1)))
 
   gains : Each (Gain before after h₀ (itemOf s e)) dirs
-  gains = each-both (λ d. Head (s .next) (s .block) (d .head) × (d .head ≢ 1)) (λ d. faults before d ≡ 0) (Gain before after h₀ (itemOf s e)) dirs
-      gain (o .dir-heads) (each-zero (faults before) dirs (o .tree .faultless))
+  gains = each-both (DirHead s) (λ d. faults before d ≡ 0) (Gain before after h₀ (itemOf s e)) dirs
+      gain (tree-heads (o .good) entries marked (o .tree)) (each-zero (faults before) dirs (o .tree .faultless))
 
   -- each head is named then
   named : (x : ℕ) → 6 ≤ x → Head (s .next) (s .block) x → 1 ≤ sumList (namedIn after x) dirs

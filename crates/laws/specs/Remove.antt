@@ -12,19 +12,19 @@ use Rattle.rules.specs.Walk.{Dir, root, Entered, Item, itemOf, itemsAt, itemsBy
 use Rattle.rules.specs.Space.{onChain, dropped}
 use Rattle.laws.specs.Tests.{same?, less?}
 use Rattle.laws.specs.Sums.{oneAt-same, oneAt-other, sum-none}
-use Rattle.laws.specs.Bags.{list-nil, list-cons, list-append, list-add, list-mono}
+use Rattle.laws.specs.Bags.{list-nil, list-cons, list-append, list-add}
 use Rattle.laws.specs.Heads.{Head}
 use Rattle.laws.specs.Blocks.{blocks}
 use Rattle.laws.specs.LinkChanges.{without, without-cases, without-other}
 use Rattle.laws.specs.HeadChanges.{drop-head-was}
 use Rattle.laws.specs.Space.{Alike, alike-trans, Good, on-chain, dead-head, head-dead, dead-along, drop-good}
 use Rattle.laws.specs.Frame.{kept-count, apart-alike, apart-chain}
-use Rattle.laws.specs.Each.{Each, each-both, each-right, each-zero}
-use Rattle.laws.specs.Items.{wrong, names-sum, below, namedIn, faults, subs-named}
+use Rattle.laws.specs.Each.{Each, each-both, each-pair, each-right, each-zero}
+use Rattle.laws.specs.Items.{wrong, names-sum, namedIn, faults}
 use Rattle.laws.specs.Trees.{Tree}
-use Rattle.laws.specs.TreeChanges.{headed, none-headed, Gain, sum-named, dir-there, remove-file, remove-dir, AlikeItems, alike-named, alike-tree}
+use Rattle.laws.specs.TreeChanges.{headed, tree-unnamed, Gain, sum-named, dir-there, remove-file, remove-dir, AlikeItems, alike-named, alike-tree}
 use Rattle.laws.specs.Entries.{weighEntry, broken-wrong, item-fine, fine-item, item-anode, item-dir, items-sum, itemsAt-fine, anodes-fine, items-alike}
-use Rattle.laws.specs.Whole.{Whole, head-counts, counts-head, dir-heads, named-heads}
+use Rattle.laws.specs.Whole.{DirHead, Whole, head-counts, counts-head, dir-heads, named-heads}
 use Rattle.laws.specs.Make.{entry-gain}
 use Rattle.laws.specs.Resize.{Ran}
 
@@ -125,11 +125,11 @@ module _ {ex : ℕ → Bool} {n last : ℕ} {s : Anodes} {system hd sd : ℕ →
   abbrev between : Dir → List Item
   between = itemsBy entries′ marked s
 
-  gain : (d : Dir) → Head (s .next) (s .block) (d .head) × (d .head ≢ 1) → faults items d ≡ 0 → Gain between items h₀ (itemOf s e) d
+  gain : (d : Dir) → DirHead s d → faults items d ≡ 0 → Gain between items h₀ (itemOf s e) d
   gain d p z = entry-gain (w .good) e a₀ h₀ at₀ entries′ entries marked marked cont d p (λ a k q. let c = anodes-fine entries marked s d z a k in (c .0, c .1, c .1))
 
   gains : Each (Gain between items h₀ (itemOf s e)) dirs
-  gains = each-both (λ d. Head (s .next) (s .block) (d .head) × (d .head ≢ 1)) (λ d. faults items d ≡ 0) (Gain between items h₀ (itemOf s e)) dirs
+  gains = each-both (DirHead s) (λ d. faults items d ≡ 0) (Gain between items h₀ (itemOf s e)) dirs
       gain (dir-heads w) (each-zero (faults items) dirs (w .tree .faultless))
 
   named-less : (x : ℕ) → sumList (namedIn items x) dirs ≡ sumList (namedIn between x) dirs + oneAt h x
@@ -210,13 +210,7 @@ module _ {ex : ℕ → Bool} {n last : ℕ} {s : Anodes} {system hd sd : ℕ →
   unnamed = omega (arith, rest .names h, named-less h, w .tree .once h, oneAt-same h h refl)
 
   not-h : Each (λ d. d .head ≢ h) (rest .dirs′)
-  not-h = none-headed h (rest .dirs′) (omega (
-    arith,
-    rest .tree .exact (λ d. oneAt (d .head) h),
-    oneAt-other 5 h (λ q. omega (arith, q, head-h .0)),
-    unnamed,
-    list-mono (below between (λ c. oneAt (c .head) h)) (namedIn between h) (rest .dirs′) (λ d. subs-named between h d),
-  ))
+  not-h = tree-unnamed between root (rest .dirs′) (rest .tree) h (λ q. omega (arith, q, head-h .0)) unnamed
 
   -- ---- the chain goes, which nothing names
 
@@ -254,20 +248,18 @@ module _ {ex : ℕ → Bool} {n last : ℕ} {s : Anodes} {system hd sd : ℕ →
               ]),
         )
 
-    one : (d : Dir) → Head (s .next) (s .block) (d .head) × (d .head ≢ 1) → (faults between d ≡ 0) × (d .head ≢ h) × (namedIn between h d ≡ 0) → AlikeItems between items′ d
+    one : (d : Dir) → DirHead s d → (faults between d ≡ 0) × ((d .head ≢ h) × (namedIn between h d ≡ 0)) → AlikeItems between items′ d
     unfolding guard
     one d p q = items-alike s end (λ j. j) guard (λ z. omega (arith, z, broken-wrong)) like entries′ entries′ marked marked′ d
-        (gone-chain (w .good) good h gone (d .head) (p .1) (q .1) (p .0)) (gone-alike (w .good) good h gone (d .head) (p .1) (q .1) (p .0))
+        (gone-chain (w .good) good h gone (d .head) (p .1) (q .1 .0) (p .0)) (gone-alike (w .good) good h gone (d .head) (p .1) (q .1 .0) (p .0))
         (λ a k c. (sym (map-id (entries′ (s .block a))), same-marks a c (λ i. p .1 (sym (on-chain (w .good) (d .head) (p .0) a k .0) ∙ i)) d))
-        (list-add wrong (λ i. oneAt (i .anode) h) (between d) ∙ omega (arith, q .0, q .2, names-sum h (between d)))
+        (list-add wrong (λ i. oneAt (i .anode) h) (between d) ∙ omega (arith, q .0, q .1 .1, names-sum h (between d)))
 
     alikes : Each (AlikeItems between items′) (rest .dirs′)
-    alikes = each-both (λ d. Head (s .next) (s .block) (d .head) × (d .head ≢ 1)) (λ d. (faults between d ≡ 0) × (d .head ≢ h) × (namedIn between h d ≡ 0)) (AlikeItems between items′) (rest .dirs′)
-        one (rest .each (λ d. Head (s .next) (s .block) (d .head) × (d .head ≢ 1)) (dir-heads w))
-        (each-both (λ d. faults between d ≡ 0) (λ d. (d .head ≢ h) × (namedIn between h d ≡ 0)) (λ d. (faults between d ≡ 0) × (d .head ≢ h) × (namedIn between h d ≡ 0)) (rest .dirs′)
-        (λ d a b. (a, b .0, b .1)) (each-zero (faults between) (rest .dirs′) (rest .tree .faultless))
-        (each-both (λ d. d .head ≢ h) (λ d. namedIn between h d ≡ 0) (λ d. (d .head ≢ h) × (namedIn between h d ≡ 0)) (rest .dirs′) (λ d a b. (a, b)) not-h
-        (each-zero (namedIn between h) (rest .dirs′) unnamed)))
+    alikes = each-both (DirHead s) (λ d. (faults between d ≡ 0) × ((d .head ≢ h) × (namedIn between h d ≡ 0))) (AlikeItems between items′) (rest .dirs′)
+        one (rest .each (DirHead s) (dir-heads w))
+        (each-pair (λ d. faults between d ≡ 0) (λ d. (d .head ≢ h) × (namedIn between h d ≡ 0)) (rest .dirs′) (each-zero (faults between) (rest .dirs′) (rest .tree .faultless))
+        (each-pair (λ d. d .head ≢ h) (λ d. namedIn between h d ≡ 0) (rest .dirs′) not-h (each-zero (namedIn between h) (rest .dirs′) unnamed)))
 
     -- the directories that are left are those that were, but for one with the head h
     pub removed : (dirs′ : List Dir)

@@ -35,6 +35,16 @@ headed h l = sumList (λ d. oneAt (d .head) h) l
 pub none-headed : (h : ℕ) (l : List Dir) → sumList (λ d. oneAt (d .head) h) l ≡ 0 → Each (λ d. d .head ≢ h) l
 none-headed h l z = each-map (λ d. oneAt (d .head) h ≡ 0) (λ d. d .head ≢ h) l (λ d y e. omega (arith, y, oneAt-same (d .head) h e)) (each-zero (λ d. oneAt (d .head) h) l z)
 
+-- what nothing names is no directory of the tree, but for the top one
+pub tree-unnamed : (items : Dir → List Item) (top : Dir) (dirs : List Dir) → Tree items top dirs → (h : ℕ) → top .head ≢ h → sumList (namedIn items h) dirs ≡ 0 → Each (λ d. d .head ≢ h) dirs
+tree-unnamed items top dirs t h other z = none-headed h dirs (omega (
+  arith,
+  t .exact (λ d. oneAt (d .head) h),
+  oneAt-other (top .head) h other,
+  list-mono (below items (λ d. oneAt (d .head) h)) (namedIn items h) dirs (subs-named items h),
+  z,
+))
+
 list-gain : (w u : Dir → ℕ) (h c : ℕ) (l : List Dir) → Each (λ d. u d ≡ w d + oneAt (d .head) h * c) l → sumList u l ≡ sumList w l + headed h l * c
 unfolding sumList headed
 list-gain w u h c [] e = omega arith

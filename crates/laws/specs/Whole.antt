@@ -21,7 +21,7 @@ use Rattle.laws.specs.Space.{Good, head-5}
 use Rattle.laws.specs.Owners.{hd-below}
 use Rattle.laws.specs.Frame.{Shift, on-other}
 use Rattle.laws.specs.ChainBlocks.{shift-alike, shift-chain, shift-count}
-use Rattle.laws.specs.Each.{Each, each-map, each-both, each-zero}
+use Rattle.laws.specs.Each.{Each, each-map, each-both, each-pair, each-zero}
 use Rattle.laws.specs.Items.{wrong, names-sum, giving, giving-le, below, namedIn, faults, below-items}
 use Rattle.laws.specs.Trees.{Tree}
 use Rattle.laws.specs.TreeChanges.{none-headed, AlikeItems, alike-named, alike-tree}
@@ -80,6 +80,10 @@ named-le entries marked s x k d = omega (
   items-mono entries marked s d (λ i. oneAt (i .anode) x) wrong (named-item s x k) (omega (arith, broken-wrong, oneAt-le 0 x)),
 )
 
+-- a directory is the chain of a head other than 1
+abbrev pub DirHead : Anodes → Dir → Type 0
+DirHead s d = Head (s .next) (s .block) (d .head) × (d .head ≢ 1)
+
 module _ (ex : ℕ → Bool) (n last : ℕ) where
   pub record Whole (s : Anodes) (system hd sd : ℕ → ℕ) (entries : ℕ → List Entered) (marked : Dir → ℕ → Bool) (dirs : List Dir) : Type 0 where
     pub good : Good limit ex n last s system hd sd
@@ -118,28 +122,35 @@ module _ {ex : ℕ → Bool} {n last : ℕ} {s : Anodes} {system hd sd : ℕ →
     | inr q ↦ oneAt-other (hd a) m (λ i. q .0 (sym i ∙ e)) ∙ sym (q .1)
   ]
 
+module _ {ex : ℕ → Bool} {n last : ℕ} {s : Anodes} {system hd sd : ℕ → ℕ} (g : Good limit ex n last s system hd sd)
+    (entries : ℕ → List Entered) (marked : Dir → ℕ → Bool) {dirs : List Dir} (t : Tree (itemsBy entries marked s) root dirs) where
+  abbrev given : Dir → List Item
+  given = itemsBy entries marked s
+
+  all-even : sumList (odd s) dirs ≡ 0
+  all-even = omega (
+    arith,
+    t .exact (odd s),
+    odd-none s root (omega arith) (head-counts g 5 (head-5 g)),
+    list-mono (below given (odd s)) (faults given) dirs (λ d. under d),
+    t .faultless,
+  )
+    where
+      under : (d : Dir) → below given (odd s) d ≤ faults given d
+      under d = omega (arith, below-items given (odd s) d, items-mono entries marked s d (giving (odd s) (d .head)) wrong (odd-item s (d .head)) (omega arith))
+
+  -- every directory of the tree is the chain of a head other than 1
+  pub tree-heads : Each (DirHead s) dirs
+  tree-heads = each-map (λ d. odd s d ≡ 0) (DirHead s) dirs
+      (λ d z. let e = none-odd s d z in (counts-head g (d .head) (e .1), λ q. omega (arith, e .0, q))) (each-zero (odd s) dirs all-even)
+
 module _ {ex : ℕ → Bool} {n last : ℕ} {s : Anodes} {system hd sd : ℕ → ℕ} {entries : ℕ → List Entered} {marked : Dir → ℕ → Bool} {dirs : List Dir}
     (w : Whole ex n last s system hd sd entries marked dirs) where
   items : Dir → List Item
   items = itemsBy entries marked s
 
-  all-even : sumList (odd s) dirs ≡ 0
-  unfolding items
-  all-even = omega (
-    arith,
-    w .tree .exact (odd s),
-    odd-none s root (omega arith) (head-counts (w .good) 5 (head-5 (w .good))),
-    list-mono (below items (odd s)) (faults items) dirs (λ d. under d),
-    w .tree .faultless,
-  )
-    where
-      under : (d : Dir) → below items (odd s) d ≤ faults items d
-      under d = omega (arith, below-items items (odd s) d, items-mono entries marked s d (giving (odd s) (d .head)) wrong (odd-item s (d .head)) (omega arith))
-
-  -- every directory of the tree is the chain of a head other than 1
-  pub dir-heads : Each (λ d. Head (s .next) (s .block) (d .head) × (d .head ≢ 1)) dirs
-  dir-heads = each-map (λ d. odd s d ≡ 0) (λ d. Head (s .next) (s .block) (d .head) × (d .head ≢ 1)) dirs
-      (λ d z. let e = none-odd s d z in (counts-head (w .good) (d .head) (e .1), λ q. omega (arith, e .0, q))) (each-zero (odd s) dirs all-even)
+  pub dir-heads : Each (DirHead s) dirs
+  dir-heads = tree-heads (w .good) entries marked (w .tree)
 
   -- what is named is a head from 6 up
   pub named-heads : (x : ℕ) → 0 < sumList (namedIn (itemsBy entries marked s) x) dirs → (6 ≤ x) × (x < limit) × Head (s .next) (s .block) x
@@ -203,11 +214,11 @@ module _ {ex : ℕ → Bool} {n last : ℕ} {s : Anodes} {system hd sd : ℕ →
                   (rw (keeps e .2) (head-counts g′ (e .anode) (sh .stays (e .anode) d))) (size e d (f .1) (f .3)),
             )
 
-        one : (d : Dir) → Head (s .next) (s .block) (d .head) × (d .head ≢ 1) → (d .head ≢ h) × (faults items d ≡ 0) → AlikeItems items items′ d
+        one : (d : Dir) → DirHead s d → (d .head ≢ h) × (faults items d ≡ 0) → AlikeItems items items′ d
         one d p q = items-alike s t φ wrong (λ z. omega (arith, z, broken-wrong)) like entries entries′ marked marked′ d
             (shift-chain (w .good) g′ sh (d .head) (p .0) (p .1) (q .0)) (shift-alike (w .good) g′ sh (d .head) (p .0) (p .1) (q .0))
             (λ a k i. let o = on-other (w .good) (d .head) (p .0) (p .1) (q .0) a k in let e = cont a i (o .1) (o .2) in (e .0, e .1 d)) (q .1)
 
         alikes : Each (AlikeItems items items′) dirs
-        alikes = each-both (λ d. Head (s .next) (s .block) (d .head) × (d .head ≢ 1)) (λ d. (d .head ≢ h) × (faults items d ≡ 0)) (AlikeItems items items′) dirs one dir-heads
-            (each-both (λ d. d .head ≢ h) (λ d. faults items d ≡ 0) (λ d. (d .head ≢ h) × (faults items d ≡ 0)) dirs (λ d a b. (a, b)) not-dir (each-zero (faults items) dirs (w .tree .faultless)))
+        alikes = each-both (DirHead s) (λ d. (d .head ≢ h) × (faults items d ≡ 0)) (AlikeItems items items′) dirs one dir-heads
+            (each-pair (λ d. d .head ≢ h) (λ d. faults items d ≡ 0) dirs not-dir (each-zero (faults items) dirs (w .tree .faultless)))
