@@ -379,11 +379,7 @@ module _ (img : List ℕ) (last k : ℕ) (name : List ℕ) (day minute tick prot
   pub length-formatted : length disk ≡ length img
   length-formatted = rw disk-based (length-stored based (3 + k) rootDirectory length-rootDirectory ∙ length-based)
 
-  module _ (size : wrongSize img ≡ false) (good : wrongFormat img last k name ≡ false) where
-    -- handed to `omega`
-    args : Taken img last k name
-    args = taken img last k name size good
-
+  module _ (args : Taken img last k name) where
     -- block 2 when it is back
     pub root-stored : (i new : List ℕ) → i ≡ started (length img) → new ≡ root → putMid 1024 512 i new ≡ rooted
     root-stored i new e is =

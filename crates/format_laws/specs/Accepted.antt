@@ -32,11 +32,11 @@ module _ (img : List ℕ) (last k : ℕ) (name : List ℕ) (day minute tick prot
   args = taken img last k name size good
 
   anodes-laid : Laid s (diskSize img) last k
-  anodes-laid = laid img last k name day minute tick protection size good
+  anodes-laid = laid img last k name day minute tick protection args
 
   tested : Tested s (diskSize img) last (systemOwns disk)
   tested = passes-tested s (diskSize img) last (systemOwns disk) (exists disk)
-      (laid-passes anodes-laid (args .room) (args .there) (systemOwns disk) (system-owns img last k name day minute tick protection size good) (exists disk))
+      (laid-passes anodes-laid (args .room) (args .there) (systemOwns disk) (system-owns img last k name day minute tick protection args) (exists disk))
 
   named : (x : ℕ) → x < limit → unnamedChain disk s x ≡ false
   unfolding unnamedChain
@@ -44,13 +44,13 @@ module _ (img : List ℕ) (last k : ℕ) (name : List ℕ) (day minute tick prot
 
   passed : (blocks anodes : ℕ) → diskSize img ≤ blocks → limit ≤ anodes → Passed disk blocks anodes
   passed blocks anodes b a = record {
-    size-right = size-right img last k name day minute tick protection size good;
-    tables-long = tables-long img last k name day minute tick protection size good blocks anodes b a;
-    type-right = type-right img last k name day minute tick protection size good;
-    root-right = root-right img last k name day minute tick protection size good;
-    slots-right = slots-right img last k name day minute tick protection size good;
-    tested = rw (disk-size img last k name day minute tick protection, last-is img last k name day minute tick protection size good) tested;
-    walked = ap faultIn (walked img last k name day minute tick protection size good s anodes-laid);
+    size-right = size-right img last k name day minute tick protection size;
+    tables-long = tables-long img last k name day minute tick protection blocks anodes b a;
+    type-right = type-right img last k name day minute tick protection args;
+    root-right = root-right img last k name day minute tick protection args;
+    slots-right = slots-right img last k name day minute tick protection args;
+    tested = rw (disk-size img last k name day minute tick protection, last-is img last k name day minute tick protection args) tested;
+    walked = ap faultIn (walked img last k name day minute tick protection args s anodes-laid);
     all-named = anyBelow-all (unnamedChain disk s) limit named;
   }
 
@@ -67,9 +67,9 @@ module _ (img : List ℕ) (last k : ℕ) (name : List ℕ) (day minute tick prot
   -- the root directory alone
   pub formatted-dirs : reachedDirs disk s ≡ root ∷ []
   unfolding reachedDirs
-  formatted-dirs = rw (walked img last k name day minute tick protection size good s anodes-laid)
+  formatted-dirs = rw (walked img last k name day minute tick protection args s anodes-laid)
 
   -- no file and no other directory
   pub formatted-items : reached disk s ≡ []
   unfolding reached gather
-  formatted-items = rw (formatted-dirs, no-items img last k name day minute tick protection size good s anodes-laid)
+  formatted-items = rw (formatted-dirs, no-items img last k name day minute tick protection args s anodes-laid)

@@ -2,19 +2,17 @@
 use Prim.Native.Nat.{ℕ, _+_, _-_, _≤_, _<_}
 use mathlib.Core.Path.{_≡_, refl, sym, _∙_}
 use mathlib.Core.Logic.{_≢_, inl, inr}
-use mathlib.Core.Bool.{false}
 use mathlib.Core.List.{List}
 use native.Mathlib.Omega.{arith}
 use borrow.Author.Tests.{lt-ltb, le-ltb, ne-eqb}
 use Rattle.rules.specs.Counting.{oneAt, sumBelow, changed}
 use Rattle.rules.specs.Anodes.{Anodes, limit}
 use Rattle.rules.specs.Chains.{covers, holds, systemOwns, owners}
-use Rattle.rules.specs.Accepted.{wrongSize}
-use Rattle.rules.specs.Format.{wrongFormat, formatted}
+use Rattle.rules.specs.Format.{formatted}
 use Rattle.laws.specs.Tests.{less?}
 use Rattle.laws.specs.Sums.{oneAt-same, oneAt-other, changed-cases, changed-same, changed-other, sum-zero, sum-single, sum-update}
 use Rattle.laws.specs.Ownership.{covers-in, covers-under, covers-over, covers-none}
-use Rattle.format.proofs.Laws.{Taken, taken, slotOf-formatted-some, slotOf-formatted-none}
+use Rattle.format.proofs.Laws.{Taken, slotOf-formatted-some, slotOf-formatted-none}
 use Rattle.format_laws.specs.Anodes.{Which, is-0, is-1, is-2, is-5, is-6, free, Owns, Laid}
 use Rattle.format_laws.specs.Links.{count-1}
 
@@ -85,24 +83,20 @@ module _ {s : Anodes} {n last k : ℕ} (m : Laid s n last k) where
 
 -- ---- the system's blocks
 
-module _ (img : List ℕ) (last k : ℕ) (name : List ℕ) (day minute tick protection : ℕ) (size : wrongSize img ≡ false) (good : wrongFormat img last k name ≡ false) where
+module _ (img : List ℕ) (last k : ℕ) (name : List ℕ) (day minute tick protection : ℕ) (args : Taken img last k name) where
   abbrev disk : List ℕ
   disk = formatted img last k name day minute tick protection
-
-  -- handed to `omega`
-  args : Taken img last k name
-  args = taken img last k name size good
 
   -- slot s holds block 3 + s where it is below k, else none
   holds-some : (x s : ℕ) → s < k → holds disk x s ≡ oneAt (3 + s) x
   unfolding holds
-  holds-some x s h = rw (slotOf-formatted-some img last k name day minute tick protection size good s h, ne-eqb (3 + s) 0 (omega arith))
+  holds-some x s h = rw (slotOf-formatted-some img last k name day minute tick protection args s h, ne-eqb (3 + s) 0 (omega arith))
 
   holds-none : (x s : ℕ) → (s < k → 3 + s ≢ x) → holds disk x s ≡ 0
   unfolding holds
   holds-none x s o = elim (less? s k) [
     | inl h ↦ holds-some x s h ∙ oneAt-other (3 + s) x (o h)
-    | inr h ↦ rw (slotOf-formatted-none img last k name day minute tick protection size good s h)
+    | inr h ↦ rw (slotOf-formatted-none img last k name day minute tick protection args s h)
   ]
 
   slots-hold : (x : ℕ) → 3 ≤ x → sumBelow (holds disk x) 42 ≡ covers (3 + k) 0 x
