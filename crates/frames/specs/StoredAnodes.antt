@@ -20,12 +20,11 @@ use Rattle.laws.specs.Space.{Alike, alike-trans}
 use Rattle.laws.specs.Passes.{Reading}
 use Rattle.laws.specs.ImageAnodes.{block-at, count-at, next-at, reading-of, slot-missing}
 use Rattle.laws.specs.TestsPassed.{right-slot, one-slot}
-use Rattle.frames.specs.Kept.{Unheld, Kept, kept-all, kept-both, slotOf-kept, unheld-kept, wrongSlots-heads}
+use Rattle.frames.specs.Kept.{Unheld, HeadsKept, kept-all, kept-both, slotOf-kept, unheld-kept, wrongSlots-heads}
 
 -- j has the length of img, the blocks that no slot holds, and the heads of the anode blocks
-pub record AnodesStored (img j : List ℕ) : Type 0 where
-  pub kept : Kept (Unheld img) img j
-  pub heads-kept : (s : ℕ) → slotOf img s ≢ 0 → anodeHeadIn (blockOf j (slotOf img s)) ≡ anodeHeadIn (blockOf img (slotOf img s))
+abbrev pub AnodesStored : List ℕ → List ℕ → Type 0
+AnodesStored img j = HeadsKept (Unheld img) img j
 
 -- no slot holds the root block
 pub root-unheld : (img : List ℕ) → wrongSlots img ≡ false → Unheld img 2

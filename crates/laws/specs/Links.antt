@@ -36,6 +36,12 @@ pub preds-none : (A : ℕ) (next : ℕ → ℕ) (a : ℕ) → ((p : ℕ) → nex
 unfolding preds
 preds-none A next a h = sum-zero (λ p. oneAt (next p) a) A (λ p l. oneAt-other (next p) a (h p))
 
+-- and the next of at most one has at most one
+pub preds-one : (A : ℕ) (next : ℕ → ℕ) (x : ℕ) → ((p q : ℕ) → next p ≡ x → next q ≡ x → p ≡ q) → preds A next x ≤ 1
+unfolding preds
+preds-one A next x one =
+    sum-le-one (λ p. oneAt (next p) x) A (λ p. oneAt-le (next p) x) (λ p q i j a b. one p q (oneAt-some (next p) x a) (oneAt-some (next q) x b))
+
 module _ {A : ℕ} {next block : ℕ → ℕ} (v : View A next block) where
   -- only an anode in use has a next
   pub used : (a : ℕ) → next a ≢ 0 → block a ≢ 0
@@ -144,16 +150,11 @@ module _ {A : ℕ} {next block : ℕ → ℕ} (v : View A next block) where
     chain-the a l u c = chain-is next A a l c (seg-short a 0 l u c)
 
     pub checked : Checked A next block
-    unfolding preds
     checked = record {
       closed = λ a l. k .closed a;
-      one-pred = one-pred;
+      one-pred = λ x h u. preds-one A next x (λ p q a b. k .uniq p q (λ z. h (sym a ∙ z)) (a ∙ sym b));
       ends = ends;
     }
       where
         ends : (a : ℕ) → block a ≢ 0 → followed next A a ≡ 0
         ends a u = let c = the-chain a (λ q. u) in chain-ends next A a (chainOf next A a) (v .zero-end) c (seg-short a 0 (chainOf next A a) (λ q. u) c)
-
-        one-pred : (x : ℕ) → x ≢ 0 → block x ≢ 0 → preds A next x ≤ 1
-        one-pred x h u = sum-le-one (λ p. oneAt (next p) x) A (λ i. oneAt-le (next i) x)
-            (λ i j li lj p q. k .uniq i j (λ z. h (sym (oneAt-some (next i) x p) ∙ z)) (oneAt-some (next i) x p ∙ sym (oneAt-some (next j) x q)))
