@@ -1,6 +1,6 @@
 -- Sums over a list, and how often a number stands in one.
 use Prim.Native.Nat.{ℕ, _+_, _*_, _≤_, _<_}
-use mathlib.Core.Path.{_≡_, refl, sym}
+use mathlib.Core.Path.{_≡_, refl, sym, _∙_}
 use mathlib.Core.Logic.{inl, inr}
 use mathlib.Core.List.{List, [], _∷_, _++_, map}
 use native.Mathlib.Omega.{arith}
@@ -23,6 +23,10 @@ module _ {ℓ} {X : Type ℓ} where
   unfolding sumList
   list-append w [] m = omega arith
   list-append w (x ∷ l) m = omega (arith, list-append w l m)
+
+  -- a list with x in it, and without it
+  pub list-without : (w : X → ℕ) (l : List X) (x : X) (m : List X) → sumList w (l ++ (x ∷ m)) ≡ sumList w (l ++ m) + w x
+  list-without w l x m = omega (arith, list-append w l (x ∷ m), list-append w l m, list-cons w x m)
 
   pub list-one : (w : X → ℕ) (x : X) → sumList w (x ∷ []) ≡ w x
   unfolding sumList
@@ -55,6 +59,10 @@ module _ {ℓ} {X : Type ℓ} where
   unfolding sumList
   list-scale w c [] = omega arith
   list-scale w c (x ∷ l) = omega (arith, list-scale w c l)
+
+  -- a weight that is another and c for each unit of a third
+  pub list-gain : (w u g : X → ℕ) (c : ℕ) (l : List X) → Each (λ x. u x ≡ w x + g x * c) l → sumList u l ≡ sumList w l + sumList g l * c
+  list-gain w u g c l e = list-congr-each u (λ x. w x + g x * c) l e ∙ omega (arith, list-add w (λ x. g x * c) l, list-scale g c l)
 
   pub list-length : (l : List X) → sumList (λ x. 1) l ≡ length l
   unfolding sumList

@@ -1,19 +1,19 @@
 -- A file or a directory made: a fresh head that nothing names, and an entry for it in a block of a reached directory.
 use Prim.Native.Nat.{ℕ, _+_, _*_, _≤_, _<_}
 use mathlib.Core.Path.{_≡_, refl, sym, ap, _∙_}
-use mathlib.Core.Logic.{_≢_, _⊎_, inl, inr}
+use mathlib.Core.Logic.{_≢_, inl, inr}
 use mathlib.Core.Bool.{Bool, true, false}
 use mathlib.Core.List.{List, [], _∷_, map-id}
 use native.Mathlib.Omega.{arith}
 use lib.Dec.{T}
 use Rattle.rules.specs.Counting.{oneAt, sumList, times, changed}
 use Rattle.rules.specs.Anodes.{limit, Anodes}
-use Rattle.rules.specs.Chains.{chainOf, blockCount}
-use Rattle.rules.specs.Walk.{Dir, root, Entered, Item, blocksFor, itemOf, broken, itemsAt, itemsBy}
+use Rattle.rules.specs.Chains.{chainOf}
+use Rattle.rules.specs.Walk.{Dir, root, Entered, Item, itemOf, broken, itemsAt, itemsBy}
 use Rattle.rules.specs.Space.{rewritten}
 use Rattle.laws.specs.Tests.{same?, less?}
 use Rattle.laws.specs.Sums.{oneAt-same, changed-same, changed-other}
-use Rattle.laws.specs.Bags.{list-cons, list-add, list-scale, kept-sum}
+use Rattle.laws.specs.Bags.{list-cons, list-gain, each-in}
 use Rattle.laws.specs.Links.{chain-the}
 use Rattle.laws.specs.Heads.{Head, head-while}
 use Rattle.laws.specs.LinkChanges.{used-not-free, fresh-no-next}
@@ -22,28 +22,27 @@ use Rattle.laws.specs.Frame.{kept-count}
 use Rattle.laws.specs.Each.{Each, each-both, each-zero}
 use Rattle.laws.specs.Items.{wrong, weighItem, namedIn, faults}
 use Rattle.laws.specs.TreeChanges.{headed, Gain, sum-named, add-file, add-dir, AlikeItems, alike-named, alike-tree}
-use Rattle.laws.specs.Entries.{weighEntry, broken-wrong, item-fine, fine-item, item-anode, asEntry, weigh-item, entries-sum, items-sum, anodes-fine, itemsAt-whole, items-alike}
+use Rattle.laws.specs.Entries.{weighEntry, broken-wrong, Sized, item-fine, fine-item, item-anode, asEntry, weigh-item, entries-sum, items-sum, anodes-fine, itemsAt-whole, items-alike}
 use Rattle.laws.specs.Whole.{DirHead, Whole, head-counts, counts-head, on-dir, tree-heads, dir-heads, named-heads}
 use Rattle.laws.specs.Orphan.{Orphaned}
 
--- two sums over a list that differ at one member
-one-more : (f f′ : ℕ → ℕ) (a₀ k : ℕ) (l : List ℕ) → ((a : ℕ) → 0 < times a l → f′ a ≡ f a + oneAt a a₀ * k) → sumList f′ l ≡ sumList f l + times a₀ l * k
-unfolding times
-one-more f f′ a₀ k l e =
-    kept-sum (λ a. f a + oneAt a a₀ * k) f′ l e
-    ∙ omega (arith, list-add f (λ a. oneAt a a₀ * k) l, list-scale (λ a. oneAt a a₀) k l)
+-- of two tables of entries, `more` has e more in the block of the anode a₀, and the same in the blocks of the other anodes of chains but 1's
+abbrev pub EntryMore : Anodes → (ℕ → ℕ) → Entered → ℕ → (ℕ → List Entered) → (ℕ → List Entered) → Type 0
+EntryMore s hd e a₀ less more = (a : ℕ) → s .count a ≡ 1 → hd a ≢ 1 → (v : Bool → Bool → ℕ → ℕ → ℕ) →
+    sumList (weighEntry v) (more (s .block a)) ≡ sumList (weighEntry v) (less (s .block a)) + oneAt a a₀ * weighEntry v e
 
--- of two tables of entries, `more` has e more in the block of the anode a₀ of the directory h₀: that directory gains the item of e
+-- the directory h₀ of that anode gains the item of e
 module _ {ex : ℕ → Bool} {n last : ℕ} {s : Anodes} {system hd sd : ℕ → ℕ} (g : Good limit ex n last s system hd sd) (e : Entered) (a₀ h₀ : ℕ) (at₀ : hd a₀ ≡ h₀)
     (less more : ℕ → List Entered) (marked marked′ : Dir → ℕ → Bool)
-    (cont : (a : ℕ) → s .count a ≡ 1 → hd a ≢ 1 → (v : Bool → Bool → ℕ → ℕ → ℕ) →
-    sumList (weighEntry v) (more (s .block a)) ≡ sumList (weighEntry v) (less (s .block a)) + oneAt a a₀ * weighEntry v e) where
+    (cont : EntryMore s hd e a₀ less more) where
   pub entry-gain : (d : Dir) → DirHead s d →
       ((a : ℕ) → 0 < times a (chainOf (s .next) limit (d .head)) → hd a ≢ 1 → (s .count a ≡ 1) × T (marked d (s .block a)) × T (marked′ d (s .block a))) →
       Gain (itemsBy less marked s) (itemsBy more marked′ s) h₀ (itemOf s e) d
+  unfolding times
   entry-gain d p whole u =
       items-sum more marked′ s d (weighItem u)
-      ∙ one-more (λ a. sumList (weighItem u) (itemsAt less marked s d a)) (λ a. sumList (weighItem u) (itemsAt more marked′ s d a)) a₀ (weighItem u (itemOf s e)) (chainOf (s .next) limit (d .head)) at-a
+      ∙ list-gain (λ a. sumList (weighItem u) (itemsAt less marked s d a)) (λ a. sumList (weighItem u) (itemsAt more marked′ s d a)) (λ a. oneAt a a₀) (weighItem u (itemOf s e)) (chainOf (s .next) limit (d .head))
+      (each-in (λ a. sumList (weighItem u) (itemsAt more marked′ s d a) ≡ sumList (weighItem u) (itemsAt less marked s d a) + oneAt a a₀ * weighItem u (itemOf s e)) (chainOf (s .next) limit (d .head)) at-a)
       ∙ omega (arith, items-sum less marked s d (weighItem u), ap (λ (k : ℕ). k * weighItem u (itemOf s e)) (on-dir g a₀ h₀ at₀ (d .head) (p .0)))
     where
       -- one anode of the directory
@@ -134,10 +133,9 @@ module _ {ex : ℕ → Bool} {n last : ℕ} {s : Anodes} {system hd sd : ℕ →
 
 module _ {ex : ℕ → Bool} {n last : ℕ} {s : Anodes} {system hd sd : ℕ → ℕ} {entries : ℕ → List Entered} {marked : Dir → ℕ → Bool} {dirs : List Dir}
     (e : Entered) (o : Orphaned ex n last (e .anode) s system hd sd entries marked dirs) (from-6 : 6 ≤ e .anode) (in-rules : e .broken ≡ false)
-    (sized : (e .dir ≡ true) ⊎ (blockCount s (e .anode) ≡ blocksFor (e .size)))
+    (sized : Sized s e)
     (a₀ h₀ : ℕ) (reached : headed h₀ dirs ≡ 1) (at₀ : hd a₀ ≡ h₀) (entries′ : ℕ → List Entered) (marked′ : Dir → ℕ → Bool)
-    (cont : (a : ℕ) → s .count a ≡ 1 → hd a ≢ 1 → (v : Bool → Bool → ℕ → ℕ → ℕ) →
-    sumList (weighEntry v) (entries′ (s .block a)) ≡ sumList (weighEntry v) (entries (s .block a)) + oneAt a a₀ * weighEntry v e)
+    (cont : EntryMore s hd e a₀ entries entries′)
     (same-marks : (a : ℕ) → s .count a ≡ 1 → hd a ≢ 1 → (d : Dir) → marked′ d (s .block a) ≡ marked d (s .block a)) where
   abbrev before : Dir → List Item
   before = itemsBy entries marked s

@@ -1,14 +1,13 @@
 -- An accepted state but for one chain that no entry names: what stands between the steps of a make, or of a remove.
 use Prim.Native.Nat.{ℕ, _+_, _≤_}
 use mathlib.Core.Path.{_≡_, refl, sym, ap, _∙_}
-use mathlib.Core.Logic.{_≢_, _⊎_, inl, inr}
+use mathlib.Core.Logic.{_≢_, inl, inr}
 use mathlib.Core.Bool.{Bool, true, false, cond}
 use mathlib.Core.List.{List, map-id}
 use native.Mathlib.Omega.{arith}
 use Rattle.rules.specs.Counting.{oneAt, sumList}
 use Rattle.rules.specs.Anodes.{limit, Anodes}
-use Rattle.rules.specs.Chains.{blockCount}
-use Rattle.rules.specs.Walk.{Dir, root, Entered, Item, blocksFor, itemOf, broken, itemsBy}
+use Rattle.rules.specs.Walk.{Dir, root, Entered, Item, itemOf, broken, itemsBy}
 use Rattle.laws.specs.Tests.{same?}
 use Rattle.laws.specs.Sums.{oneAt-cases, oneAt-same}
 use Rattle.laws.specs.Bags.{list-add, list-mono, list-congr}
@@ -21,7 +20,7 @@ use Rattle.laws.specs.Items.{wrong, namedIn, faults}
 use Rattle.laws.specs.Trees.{Tree}
 use Rattle.laws.specs.TreeChanges.{headed, tree-unnamed, AlikeItems, alike-named, alike-tree}
 use Rattle.laws.specs.Totals.{file-size, named-by-kind}
-use Rattle.laws.specs.Entries.{broken-wrong, item-fine, fine-item, item-anode, item-dir, items-alike}
+use Rattle.laws.specs.Entries.{broken-wrong, Sized, item-fine, fine-item, item-anode, item-dir, items-alike}
 use Rattle.laws.specs.Whole.{named-le, DirHead, head-counts, counts-head, tree-heads}
 
 -- what is wrong with an item, and 1 for a file's that names h
@@ -52,8 +51,7 @@ module _ {ex : ℕ → Bool} {n last f : ℕ} {s : Anodes} {system hd sd : ℕ �
       let d = counts-head (o .good) (e .anode) (q .2) in
       fine-item t e (q .0) (q .1) (head-counts g′ (e .anode) (sh .stays (e .anode) d)) (size d (q .1) (q .3) (e .dir) refl)
     where
-      size : Head (s .next) (s .block) (e .anode) → 6 ≤ e .anode → (e .dir ≡ true) ⊎ (blockCount s (e .anode) ≡ blocksFor (e .size)) → (b : Bool) → e .dir ≡ b →
-          (e .dir ≡ true) ⊎ (blockCount t (e .anode) ≡ blocksFor (e .size))
+      size : Head (s .next) (s .block) (e .anode) → 6 ≤ e .anode → Sized s e → (b : Bool) → e .dir ≡ b → Sized t e
       size d l (inl q) b i = inl q
       size d l (inr q) true i = inl i
       size d l (inr q) false i = inr (shift-count (o .good) g′ sh (e .anode) d (omega arith) not-h ∙ q)

@@ -12,7 +12,7 @@ use Rattle.rules.specs.Walk.{Dir, root, Entered, Item, itemOf, itemsAt, itemsBy
 use Rattle.rules.specs.Space.{onChain, dropped}
 use Rattle.laws.specs.Tests.{same?, less?}
 use Rattle.laws.specs.Sums.{oneAt-same, oneAt-other, sum-none}
-use Rattle.laws.specs.Bags.{list-nil, list-cons, list-append, list-add}
+use Rattle.laws.specs.Bags.{list-nil, list-cons, list-without, list-add}
 use Rattle.laws.specs.Heads.{Head}
 use Rattle.laws.specs.Blocks.{blocks}
 use Rattle.laws.specs.LinkChanges.{without, without-cases, without-other}
@@ -23,9 +23,9 @@ use Rattle.laws.specs.Each.{Each, each-both, each-pair, each-right, each
 use Rattle.laws.specs.Items.{wrong, names-sum, namedIn, faults}
 use Rattle.laws.specs.Trees.{Tree}
 use Rattle.laws.specs.TreeChanges.{headed, tree-unnamed, Gain, sum-named, dir-there, remove-file, remove-dir, AlikeItems, alike-named, alike-tree}
-use Rattle.laws.specs.Entries.{weighEntry, broken-wrong, item-fine, fine-item, item-anode, item-dir, items-sum, itemsAt-fine, anodes-fine, items-alike}
+use Rattle.laws.specs.Entries.{broken-wrong, item-fine, fine-item, item-anode, item-dir, items-sum, itemsAt-fine, anodes-fine, items-alike}
 use Rattle.laws.specs.Whole.{DirHead, Whole, head-counts, counts-head, dir-heads, named-heads}
-use Rattle.laws.specs.Make.{entry-gain}
+use Rattle.laws.specs.Make.{EntryMore, entry-gain}
 use Rattle.laws.specs.Resize.{Ran}
 
 each-less : (P : Dir → Type 0) (l₁ : List Dir) (d : Dir) (l₂ : List Dir) → Each P (l₁ ++ (d ∷ l₂)) → Each P (l₁ ++ l₂)
@@ -116,8 +116,7 @@ module _ {ex : ℕ → Bool} {n last : ℕ} {s t : Anodes} {system hd sd hd′ s
 module _ {ex : ℕ → Bool} {n last : ℕ} {s : Anodes} {system hd sd : ℕ → ℕ} {entries : ℕ → List Entered} {marked : Dir → ℕ → Bool} {dirs : List Dir}
     (w : Whole ex n last s system hd sd entries marked dirs) (e : Entered) (h : ℕ) (names-h : e .anode ≡ h)
     (a₀ h₀ : ℕ) (reached : headed h₀ dirs ≡ 1) (at₀ : hd a₀ ≡ h₀) (entries′ : ℕ → List Entered)
-    (cont : (a : ℕ) → s .count a ≡ 1 → hd a ≢ 1 → (v : Bool → Bool → ℕ → ℕ → ℕ) →
-    sumList (weighEntry v) (entries (s .block a)) ≡ sumList (weighEntry v) (entries′ (s .block a)) + oneAt a a₀ * weighEntry v e)
+    (cont : EntryMore s hd e a₀ entries′ entries)
     (empty : e .dir ≡ true → gather (λ a. entries (s .block a)) (chainOf (s .next) limit h) ≡ []) where
   abbrev items : Dir → List Item
   items = itemsBy entries marked s
@@ -188,7 +187,7 @@ module _ {ex : ℕ → Bool} {n last : ℕ} {s : Anodes} {system hd sd : ℕ →
           (each-right (λ d. faults items d ≡ 0) l₁ (c ∷ l₂) (subst (Each (λ d. faults items d ≡ 0)) parted (each-zero (faults items) dirs (w .tree .faultless))) .0) (rw is-h (empty isdir))
 
       split : (f : Dir → ℕ) → sumList f dirs ≡ sumList f (l₁ ++ l₂) + f c
-      split f = ap (sumList f) parted ∙ omega (arith, list-append f l₁ (c ∷ l₂), list-append f l₁ l₂, list-cons f c l₂)
+      split f = ap (sumList f) parted ∙ list-without f l₁ c l₂
 
       gone-named : (x : ℕ) → namedIn between x c ≡ 0
       gone-named x = omega (

@@ -8,7 +8,7 @@ use native.Mathlib.Omega.{arith}
 use Rattle.rules.specs.Counting.{oneAt, sumList, times, changed}
 use Rattle.rules.specs.Walk.{Dir, Item}
 use Rattle.laws.specs.Sums.{oneAt-cases, oneAt-same, oneAt-other, oneBelow, oneBelow-none, oneBelow-suc, changed-same, changed-other}
-use Rattle.laws.specs.Bags.{list-nil, list-cons, list-append, list-add, list-mono, list-congr-where, list-zero}
+use Rattle.laws.specs.Bags.{list-nil, list-cons, list-without, list-add, list-gain, list-mono, list-congr-where, list-zero}
 use Rattle.laws.specs.Each.{Each, each-map, each-both, each-right, list-congr-each, list-mono-each, each-zero}
 use Rattle.laws.specs.Items.{wrong, weighItem, names, names-sum, giving, subs, below, namedIn, faults, below-items, subs-named}
 use Rattle.laws.specs.Trees.{not-lower, lowering, Tree}
@@ -45,11 +45,6 @@ tree-unnamed items top dirs t h other z = none-headed h dirs (omega (
   z,
 ))
 
-list-gain : (w u : Dir → ℕ) (h c : ℕ) (l : List Dir) → Each (λ d. u d ≡ w d + oneAt (d .head) h * c) l → sumList u l ≡ sumList w l + headed h l * c
-unfolding sumList headed
-list-gain w u h c [] e = omega arith
-list-gain w u h c (d ∷ l) e = omega (arith, list-gain w u h c l (e .1), e .0)
-
 -- under items′ the directory d has what it had, places aside, and i too if its head is h
 abbrev pub Gain : (Dir → List Item) → (Dir → List Item) → ℕ → Item → Dir → Type 0
 Gain items items′ h i d = (w : ℕ → Bool → ℕ → ℕ) → sumList (weighItem w) (items′ d) ≡ sumList (weighItem w) (items d) + oneAt (d .head) h * weighItem w i
@@ -71,9 +66,10 @@ module _ (items items′ : Dir → List Item) (h : ℕ) (i : Item) where
   module _ (dirs : List Dir) (once : headed h dirs ≡ 1) (gains : Each (Gain items items′ h i) dirs) where
     -- a weight that the item adds in the directory with the head h
     sum-gain : (w u : Dir → ℕ) (c : ℕ) → ((d : Dir) → Gain items items′ h i d → u d ≡ w d + oneAt (d .head) h * c) → sumList u dirs ≡ sumList w dirs + c
+    unfolding headed
     sum-gain w u c at = omega (
       arith,
-      list-gain w u h c dirs (each-map (Gain items items′ h i) (λ d. u d ≡ w d + oneAt (d .head) h * c) dirs at gains),
+      list-gain w u (λ d. oneAt (d .head) h) c dirs (each-map (Gain items items′ h i) (λ d. u d ≡ w d + oneAt (d .head) h * c) dirs at gains),
       ap (λ (n : ℕ). n * c) once,
     )
 
@@ -238,7 +234,7 @@ module _ (items items′ : Dir → List Item) (h : ℕ) (i : Item) (top : Dir) w
       dirs = l₁ ++ (e ∷ l₂)
 
       split : (w : Dir → ℕ) → sumList w dirs ≡ sumList w (l₁ ++ l₂) + w e
-      split w = omega (arith, list-append w l₁ (e ∷ l₂), list-append w l₁ l₂, list-cons w e l₂)
+      split w = list-without w l₁ e l₂
 
       below-e : (w : Dir → ℕ) → below items′ w e ≡ 0
       below-e w = omega (arith, less-below w e (each-right (Gain items′ items h i) l₁ (e ∷ l₂) gains .0), nothing-below items w e empty)

@@ -2,7 +2,7 @@
 use Prim.Native.Nat.{ℕ, _+_, _*_, _≤_, _<_}
 use mathlib.Core.Path.{_≡_, refl, sym, ap, _∙_}
 use mathlib.Core.Logic.{_≢_, _⊎_, inl, inr}
-use mathlib.Core.Bool.{Bool, true, cond, _&&_}
+use mathlib.Core.Bool.{Bool, cond, _&&_}
 use mathlib.Core.List.{List, map}
 use native.Mathlib.Omega.{arith}
 use lib.Dec.{eqb, leb, eqb→eq, leb→le}
@@ -26,7 +26,7 @@ use Rattle.laws.specs.Items.{wrong, names-sum, giving, giving-le, below,
 use Rattle.laws.specs.Trees.{Tree}
 use Rattle.laws.specs.TreeChanges.{none-headed, AlikeItems, alike-named, alike-tree}
 use Rattle.laws.specs.Totals.{file-size, named-by-kind, filesOf, dirsOf, tree-total}
-use Rattle.laws.specs.Entries.{broken-wrong, item-fine, fine-item, item-anode, items-mono, items-alike}
+use Rattle.laws.specs.Entries.{broken-wrong, Sized, item-fine, fine-item, item-anode, items-mono, items-alike}
 
 -- 1 for a directory whose head is below 5 or heads no chain
 unfoldable odd : Anodes → Dir → ℕ
@@ -84,12 +84,15 @@ named-le entries marked s x k d = omega (
 abbrev pub DirHead : Anodes → Dir → Type 0
 DirHead s d = Head (s .next) (s .block) (d .head) × (d .head ≢ 1)
 
+-- 16: every head from 6 up is named in these directories
+abbrev pub AllNamed : Anodes → (ℕ → List Entered) → (Dir → ℕ → Bool) → List Dir → Type 0
+AllNamed s entries marked dirs = (x : ℕ) → 6 ≤ x → Head (s .next) (s .block) x → 1 ≤ sumList (namedIn (itemsBy entries marked s) x) dirs
+
 module _ (ex : ℕ → Bool) (n last : ℕ) where
   pub record Whole (s : Anodes) (system hd sd : ℕ → ℕ) (entries : ℕ → List Entered) (marked : Dir → ℕ → Bool) (dirs : List Dir) : Type 0 where
     pub good : Good limit ex n last s system hd sd
     pub tree : Tree (itemsBy entries marked s) root dirs
-    -- 16
-    pub all-named : (x : ℕ) → 6 ≤ x → Head (s .next) (s .block) x → 1 ≤ sumList (namedIn (itemsBy entries marked s) x) dirs
+    pub all-named : AllNamed s entries marked dirs
 
 -- a head, counted and said
 module _ {ex : ℕ → Bool} {n last : ℕ} {s : Anodes} {system hd sd : ℕ → ℕ} (g : Good limit ex n last s system hd sd) where
@@ -196,8 +199,7 @@ module _ {ex : ℕ → Bool} {n last : ℕ} {s : Anodes} {system hd sd : ℕ →
         items′ : Dir → List Item
         items′ = itemsBy entries′ marked′ t
 
-        size : (e : Entered) → Head (s .next) (s .block) (e .anode) → 6 ≤ e .anode → (e .dir ≡ true) ⊎ (blockCount s (e .anode) ≡ blocksFor (e .size)) →
-            (φ e .dir ≡ true) ⊎ (blockCount t (φ e .anode) ≡ blocksFor (φ e .size))
+        size : (e : Entered) → Head (s .next) (s .block) (e .anode) → 6 ≤ e .anode → Sized s e → Sized t (φ e)
         size e d l (inl q) = inl (keeps e .1 ∙ q)
         size e d l (inr q) = elim (same? (e .anode) h) [
           | inl i ↦ inr (ap (blockCount t) (keeps e .2 ∙ i) ∙ mine e i)
