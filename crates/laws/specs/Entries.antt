@@ -52,6 +52,11 @@ broken-wrong = refl
 abbrev pub Sized : Anodes → Entered → Type 0
 Sized s e = (e .dir ≡ true) ⊎ (blockCount s (e .anode) ≡ blocksFor (e .size))
 
+-- and where its chain has as many blocks, it still has
+pub sized-still : (s t : Anodes) (e : Entered) → blockCount t (e .anode) ≡ blockCount s (e .anode) → Sized s e → Sized t e
+sized-still s t e c (inl q) = inl q
+sized-still s t e c (inr q) = inr (c ∙ q)
+
 module _ (s : Anodes) where
   right-anode : (a : ℕ) → wrongAnode s a ≡ 0 → (6 ≤ a) × (heads limit (s .next) (s .block) a ≡ 1)
   unfolding wrongAnode

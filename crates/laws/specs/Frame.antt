@@ -52,9 +52,6 @@ module _ {A : ℕ} {ex : ℕ → Bool} {n last : ℕ} {s : Anodes} {system hd sd
 
   module _ {t : Anodes} {system′ hd′ sd′ : ℕ → ℕ} (g′ : Good A ex n last t system′ hd′ sd′) (h : ℕ)
       (stays : (m : ℕ) → Head (s .next) (s .block) m → Head (t .next) (t .block) m) (no-new : (m : ℕ) → Head (t .next) (t .block) m → Head (s .next) (s .block) m) (apart : (a : ℕ) → s .block a ≢ 0 → hd a ≢ 1 → hd a ≢ h → Alike s t a) where
-    pub kept-chain : (m : ℕ) → Head (s .next) (s .block) m → m ≢ 1 → m ≢ h → chainOf (t .next) A m ≡ chainOf (s .next) A m
-    kept-chain m d m1 mh = apart-chain apart m d m1 mh g′ (stays m d)
-
     pub shift-of : Shift s hd t hd′ h
     shift-of = record { stays = stays; no-new = no-new; apart = apart; same-hd = same }
       where
@@ -63,7 +60,7 @@ module _ {A : ℕ} {ex : ℕ → Bool} {n last : ℕ} {s : Anodes} {system hd sd
             let d = head-of-is (g .view) (g .linked) hd (g .heads) a a0 u in
             let d′ = stays (hd a) d in
             seg-head (g′ .view) (g′ .linked) hd′ (g′ .heads) (hd a) 0 (chainOf (t .next) A (hd a)) (the-chain (g′ .view) (g′ .linked) (hd a) (λ z. d′ .in-use)) a
-            (rw (kept-chain (hd a) d q i) (omega (arith, on-own (g .view) (g .linked) hd (g .heads) a a0 u)))
+            (rw (apart-chain apart (hd a) d q i g′ d′) (omega (arith, on-own (g .view) (g .linked) hd (g .heads) a a0 u)))
             ∙ g′ .heads .at-head (hd a) d′
 
         same : (a : ℕ) → s .block a ≢ 0 → hd a ≢ 1 → hd a ≢ h → hd′ a ≡ hd a

@@ -22,8 +22,8 @@ use Rattle.laws.specs.Frame.{kept-count}
 use Rattle.laws.specs.Each.{Each, each-both, each-zero}
 use Rattle.laws.specs.Items.{wrong, weighItem, namedIn, faults}
 use Rattle.laws.specs.TreeChanges.{headed, Gain, sum-named, add-file, add-dir, AlikeItems, alike-named, alike-tree}
-use Rattle.laws.specs.Entries.{weighEntry, broken-wrong, Sized, item-fine, fine-item, item-anode, asEntry, weigh-item, entries-sum, items-sum, anodes-fine, itemsAt-whole, items-alike}
-use Rattle.laws.specs.Whole.{DirHead, Whole, head-counts, counts-head, on-dir, tree-heads, dir-heads, named-heads}
+use Rattle.laws.specs.Entries.{weighEntry, broken-wrong, Sized, sized-still, fine-item, item-anode, asEntry, weigh-item, entries-sum, items-sum, anodes-fine, itemsAt-whole, items-alike}
+use Rattle.laws.specs.Whole.{DirHead, Whole, head-counts, fine-still, on-dir, tree-heads, dir-heads, named-heads}
 use Rattle.laws.specs.Orphan.{Orphaned}
 
 -- of two tables of entries, `more` has e more in the block of the anode a₀, and the same in the blocks of the other anodes of chains but 1's
@@ -89,11 +89,8 @@ module _ {ex : ℕ → Bool} {n last : ℕ} {s : Anodes} {system hd sd : ℕ →
   -- an entry with nothing wrong stays so
   still-fine : (e : Entered) → wrong (itemOf s e) ≡ 0 → wrong (itemOf made e) ≡ 0
   unfolding rewritten
-  still-fine e z =
-      let q = item-fine s e z in
-      let d = counts-head (w .good) (e .anode) (q .2) in
-      fine-item made e (q .0) (q .1) (head-counts good (e .anode) (stays (e .anode) d))
-      (elim (q .3) [ inl i ↦ inl i | inr i ↦ inr (kept-count s made (e .anode) refl (λ a k. like-a a (on-chain (w .good) (e .anode) d a k .1) .same-count) ∙ i) ])
+  still-fine e z = fine-still (w .good) good e e refl refl z
+      (λ l d q. (stays (e .anode) d, sized-still s made e (kept-count s made (e .anode) refl (λ a k. like-a a (on-chain (w .good) (e .anode) d a k .1) .same-count)) q))
 
   -- the new chain is its head alone, with no block
   pub fresh-chain : chainOf (rewritten s f 0 65535 .next) limit f ≡ f ∷ []

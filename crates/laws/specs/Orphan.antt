@@ -20,8 +20,8 @@ use Rattle.laws.specs.Items.{wrong, namedIn, faults}
 use Rattle.laws.specs.Trees.{Tree}
 use Rattle.laws.specs.TreeChanges.{headed, tree-unnamed, AlikeItems, alike-named, alike-tree}
 use Rattle.laws.specs.Totals.{file-size, named-by-kind}
-use Rattle.laws.specs.Entries.{broken-wrong, Sized, item-fine, fine-item, item-anode, item-dir, items-alike}
-use Rattle.laws.specs.Whole.{named-le, DirHead, head-counts, counts-head, tree-heads}
+use Rattle.laws.specs.Entries.{broken-wrong, Sized, sized-still, item-anode, item-dir, items-alike}
+use Rattle.laws.specs.Whole.{named-le, DirHead, fine-still, tree-heads}
 
 -- what is wrong with an item, and 1 for a file's that names h
 abbrev pub amiss : ℕ → Item → ℕ
@@ -46,15 +46,11 @@ module _ {ex : ℕ → Bool} {n last f : ℕ} {s : Anodes} {system hd sd : ℕ �
 
   -- an entry with nothing wrong stays so
   pub still-fine : (e : Entered) → amiss h (itemOf s e) ≡ 0 → wrong (itemOf t e) ≡ 0
-  still-fine e z =
-      let q = item-fine s e (omega arith) in
-      let d = counts-head (o .good) (e .anode) (q .2) in
-      fine-item t e (q .0) (q .1) (head-counts g′ (e .anode) (sh .stays (e .anode) d)) (size d (q .1) (q .3) (e .dir) refl)
+  still-fine e z = fine-still (o .good) g′ e e refl refl (omega arith) (λ l d q. (sh .stays (e .anode) d, size l d q (e .dir) refl))
     where
-      size : Head (s .next) (s .block) (e .anode) → 6 ≤ e .anode → Sized s e → (b : Bool) → e .dir ≡ b → Sized t e
-      size d l (inl q) b i = inl q
-      size d l (inr q) true i = inl i
-      size d l (inr q) false i = inr (shift-count (o .good) g′ sh (e .anode) d (omega arith) not-h ∙ q)
+      size : 6 ≤ e .anode → Head (s .next) (s .block) (e .anode) → Sized s e → (b : Bool) → e .dir ≡ b → Sized t e
+      size l d q true i = inl i
+      size l d q false i = sized-still s t e (shift-count (o .good) g′ sh (e .anode) d (omega arith) not-h) q
         where
           not-h : e .anode ≢ h
           not-h j = omega (arith, z, ap (λ (c : Bool). cond c 0 (oneAt ((itemOf s e) .anode) h)) (item-dir s e ∙ i), oneAt-same ((itemOf s e) .anode) h (item-anode s e ∙ j))

@@ -23,8 +23,8 @@ use Rattle.laws.specs.Each.{Each, each-both, each-pair, each-right, each
 use Rattle.laws.specs.Items.{wrong, names-sum, namedIn, faults}
 use Rattle.laws.specs.Trees.{Tree}
 use Rattle.laws.specs.TreeChanges.{headed, tree-unnamed, Gain, sum-named, dir-there, remove-file, remove-dir, AlikeItems, alike-named, alike-tree}
-use Rattle.laws.specs.Entries.{broken-wrong, item-fine, fine-item, item-anode, item-dir, items-sum, itemsAt-fine, anodes-fine, items-alike}
-use Rattle.laws.specs.Whole.{DirHead, Whole, head-counts, counts-head, dir-heads, named-heads}
+use Rattle.laws.specs.Entries.{broken-wrong, sized-still, item-anode, item-dir, items-sum, itemsAt-fine, anodes-fine, items-alike}
+use Rattle.laws.specs.Whole.{DirHead, Whole, fine-still, dir-heads, named-heads}
 use Rattle.laws.specs.Make.{EntryMore, entry-gain}
 use Rattle.laws.specs.Resize.{Ran}
 
@@ -233,19 +233,17 @@ module _ {ex : ℕ → Bool} {n last : ℕ} {s : Anodes} {system hd sd : ℕ →
 
     like : (j : Entered) → guard (itemOf s j) ≡ 0 → (j .dir ≡ j .dir) × (j .anode ≡ j .anode) × (wrong (itemOf end j) ≡ 0)
     unfolding guard
-    like j z =
-        let f = item-fine s j (omega arith) in
-        let jh : j .anode ≢ h = λ q. omega (arith, z, oneAt-same ((itemOf s j) .anode) h (item-anode s j ∙ q)) in
-        let j1 : j .anode ≢ 1 = λ q. omega (arith, q, f .1) in
-        let d = counts-head (w .good) (j .anode) (f .2) in (
-          refl,
-          refl,
-          fine-item end j (f .0) (f .1) (head-counts good (j .anode) (gone .stays (j .anode) jh d))
-              (elim (f .3) [
-                | inl q ↦ inl q
-                | inr q ↦ inr (kept-count s end (j .anode) (gone-chain (w .good) good h gone (j .anode) j1 jh d) (λ a k. gone-alike (w .good) good h gone (j .anode) j1 jh d a k .same-count) ∙ q)
-              ]),
-        )
+    like j z = (
+      refl,
+      refl,
+      fine-still (w .good) good j j refl refl (omega arith) (λ l d q. (let j1 : j .anode ≢ 1 = λ i. omega (arith, i, l) in (
+        gone .stays (j .anode) jh d,
+        sized-still s end j (kept-count s end (j .anode) (gone-chain (w .good) good h gone (j .anode) j1 jh d) (λ a k. gone-alike (w .good) good h gone (j .anode) j1 jh d a k .same-count)) q,
+      ))),
+    )
+      where
+        jh : j .anode ≢ h
+        jh i = omega (arith, z, oneAt-same ((itemOf s j) .anode) h (item-anode s j ∙ i))
 
     one : (d : Dir) → DirHead s d → (faults between d ≡ 0) × ((d .head ≢ h) × (namedIn between h d ≡ 0)) → AlikeItems between items′ d
     unfolding guard

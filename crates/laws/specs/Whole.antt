@@ -125,6 +125,15 @@ module _ {ex : ℕ → Bool} {n last : ℕ} {s : Anodes} {system hd sd : ℕ →
     | inr q ↦ oneAt-other (hd a) m (λ i. q .0 (sym i ∙ e)) ∙ sym (q .1)
   ]
 
+-- an entry with nothing wrong stays so in another state, its size aside, where the head that it names stays one and its size is right there
+pub fine-still : {ex : ℕ → Bool} {n last : ℕ} {s t : Anodes} {system hd sd hd′ sd′ : ℕ → ℕ} → Good limit ex n last s system hd sd → Good limit ex n last t system hd′ sd′ →
+    (e e′ : Entered) → e′ .broken ≡ e .broken → e′ .anode ≡ e .anode → wrong (itemOf s e) ≡ 0 →
+    (6 ≤ e .anode → Head (s .next) (s .block) (e .anode) → Sized s e → Head (t .next) (t .block) (e .anode) × Sized t e′) → wrong (itemOf t e′) ≡ 0
+fine-still {s = s} {t = t} g g′ e e′ b a z keep =
+    let f = item-fine s e z in
+    let k = keep (f .1) (counts-head g (e .anode) (f .2)) (f .3) in
+    fine-item t e′ (b ∙ f .0) (rw a (f .1)) (rw a (head-counts g′ (e .anode) (k .0))) (k .1)
+
 module _ {ex : ℕ → Bool} {n last : ℕ} {s : Anodes} {system hd sd : ℕ → ℕ} (g : Good limit ex n last s system hd sd)
     (entries : ℕ → List Entered) (marked : Dir → ℕ → Bool) {dirs : List Dir} (t : Tree (itemsBy entries marked s) root dirs) where
   abbrev given : Dir → List Item
@@ -199,22 +208,15 @@ module _ {ex : ℕ → Bool} {n last : ℕ} {s : Anodes} {system hd sd : ℕ →
         items′ : Dir → List Item
         items′ = itemsBy entries′ marked′ t
 
-        size : (e : Entered) → Head (s .next) (s .block) (e .anode) → 6 ≤ e .anode → Sized s e → Sized t (φ e)
-        size e d l (inl q) = inl (keeps e .1 ∙ q)
-        size e d l (inr q) = elim (same? (e .anode) h) [
+        size : (e : Entered) → 6 ≤ e .anode → Head (s .next) (s .block) (e .anode) → Sized s e → Sized t (φ e)
+        size e l d (inl q) = inl (keeps e .1 ∙ q)
+        size e l d (inr q) = elim (same? (e .anode) h) [
           | inl i ↦ inr (ap (blockCount t) (keeps e .2 ∙ i) ∙ mine e i)
           | inr i ↦ inr (ap (blockCount t) (keeps e .2) ∙ shift-count (w .good) g′ sh (e .anode) d (omega arith) i ∙ q ∙ ap blocksFor (sym (other e i)))
         ]
 
         like : (e : Entered) → wrong (itemOf s e) ≡ 0 → (φ e .dir ≡ e .dir) × (φ e .anode ≡ e .anode) × (wrong (itemOf t (φ e)) ≡ 0)
-        like e z =
-            let f = item-fine s e z in
-            let d = counts-head (w .good) (e .anode) (f .2) in (
-              keeps e .1,
-              keeps e .2,
-              fine-item t (φ e) (keeps e .0 ∙ f .0) (rw (keeps e .2) (f .1))
-                  (rw (keeps e .2) (head-counts g′ (e .anode) (sh .stays (e .anode) d))) (size e d (f .1) (f .3)),
-            )
+        like e z = (keeps e .1, keeps e .2, fine-still (w .good) g′ e (φ e) (keeps e .0) (keeps e .2) z (λ l d q. (sh .stays (e .anode) d, size e l d q)))
 
         one : (d : Dir) → DirHead s d → (d .head ≢ h) × (faults items d ≡ 0) → AlikeItems items items′ d
         one d p q = items-alike s t φ wrong (λ z. omega (arith, z, broken-wrong)) like entries entries′ marked marked′ d
