@@ -19,7 +19,8 @@ use Rattle.rules.specs.Accepted.{diskSize, wrongSize, shortTables, wrongType, l
 use Rattle.rules.specs.Format.{zeroBlock, firstAnodes, emptyAnodeBlock, anodeBlock, formatted}
 use Rattle.counting.specs.Laws.{none-or, none-and, anyBelow-all}
 use Rattle.laws.specs.Tests.{less?, same}
-use Rattle.format.proofs.Laws.{Taken, anodeBlock-both, length-formatted, rootIn-formatted, slotOf-formatted-some, slotOf-formatted-none, blockOf-formatted-anodes}
+use Rattle.format.proofs.Parts.{anodeBlock-both}
+use Rattle.format.proofs.Laws.{Taken, length-formatted, rootIn-formatted, slotOf-formatted-some, slotOf-formatted-none, blockOf-formatted-anodes}
 
 -- the head of anode block s
 abbrev headMade : ℕ → AnodeHead
