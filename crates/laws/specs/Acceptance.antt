@@ -1,6 +1,6 @@
 -- The check's table: its answer is 0 exactly if every test fails, and what the tests 6 to 11 say in numbers.
 use Prim.Native.Nat.{ℕ, zero, suc, _+_, _%_, _≤_, _<_}
-use mathlib.Core.Path.{_≡_, refl, sym}
+use mathlib.Core.Path.{_≡_, refl}
 use mathlib.Core.Logic.{_≢_, inl, inr}
 use mathlib.Core.Bool.{Bool, true, false, not, _&&_, _||_}
 use mathlib.Core.List.{List, [], _∷_}
@@ -14,8 +14,8 @@ use Rattle.rules.specs.Chains.{chainOf, followed, preds, owners, side, systemOw
 use Rattle.rules.specs.Walk.{walkOf, faultIn}
 use Rattle.rules.specs.Accepted.{diskSize, wrongSize, shortTables, wrongType, lastReserved, wrongRoot, wrongSlots, wrongFixed, outOfRange, wrongLink, wrongAt, hasPred, wrongLinks, notAbove, notUpTo, wrongFreeList, ownersOf, twoOwners, noOwner, unnamedChain, treeFault, damageIn, checkAnswer}
 use Rattle.counting.specs.Laws.{neither, none-or, and-none, none-and, anyBelow-each, anyBelow-all}
-use Rattle.laws.specs.Sums.{oneAt-cases}
-use Rattle.laws.specs.Bags.{times-nil, times-cons, times-here, times-later}
+use Rattle.laws.specs.Each.{Each}
+use Rattle.laws.specs.Bags.{times-here, times-later, each-at}
 use Rattle.laws.specs.Tests.{same}
 use Rattle.laws.specs.TestsPassed.{fixed-anodes, extent-inside, tested-checked}
 use Rattle.laws.specs.Space.{FixedHead}
@@ -24,13 +24,11 @@ use Rattle.laws.specs.Passes.{Reading, Passes}
 -- no number of a list passes
 pub in-none : (test : ℕ → Bool) (l : List ℕ) → anyIn test l ≡ false → (x : ℕ) → 0 < times x l → test x ≡ false
 unfolding anyIn
-in-none test [] e x p = absurd (omega (arith, p, times-nil x))
-in-none test (y ∷ l) e x p =
-    let o = neither (test y) (anyIn test l) e in
-    elim (oneAt-cases y x) [
-      | inl q ↦ rw (sym (q .0)) (o .0)
-      | inr q ↦ in-none test l (o .1) x (omega (arith, p, times-cons x y l, q .1))
-    ]
+in-none test l e = each-at (λ x. test x ≡ false) l (each l e)
+  where
+    each : (l : List ℕ) → anyIn test l ≡ false → Each (λ x. test x ≡ false) l
+    each [] e = tt
+    each (y ∷ l) e = let o = neither (test y) (anyIn test l) e in (o .0, each l (o .1))
 
 pub none-in : (test : ℕ → Bool) (l : List ℕ) → ((x : ℕ) → 0 < times x l → test x ≡ false) → anyIn test l ≡ false
 unfolding anyIn

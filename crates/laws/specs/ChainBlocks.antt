@@ -16,7 +16,7 @@ use Rattle.laws.specs.Bags.{times-cons, times-append, gather-kept}
 use Rattle.laws.specs.LinkChanges.{without, drop-apart, insertAfter, insert-view, insert-linked, insert-after}
 use Rattle.laws.specs.Segments.{Chain}
 use Rattle.laws.specs.Links.{the-chain, chain-the, seg-once}
-use Rattle.laws.specs.Heads.{Head}
+use Rattle.laws.specs.Heads.{Head, head-chain}
 use Rattle.laws.specs.Space.{Alike, Good, on-chain, dead-head, dead-along, drop-good}
 use Rattle.laws.specs.Frame.{kept-count, Shift, apart-alike, apart-chain}
 
@@ -100,7 +100,7 @@ module _ {ex : ℕ → Bool} {n last : ℕ} {s : Anodes} {system hd sd : ℕ →
 module _ {A : ℕ} {ex : ℕ → Bool} {n last : ℕ} {s : Anodes} {system hd sd : ℕ → ℕ} (g : Good A ex n last s system hd sd) (m : ℕ) (d : Head (s .next) (s .block) m) (x : ℕ) (pre post : List ℕ)
     (split : chainOf (s .next) A m ≡ pre ++ (x ∷ post)) where
   chain : Chain (s .next) m (pre ++ (x ∷ post))
-  chain = rw split at (the-chain (g .view) (g .linked) m (λ q. d .in-use))
+  chain = rw split at (head-chain (g .view) (g .linked) m d)
 
   -- x stands in the chain once
   pub stands-once : (times x pre ≡ 0) × (times x post ≡ 0)

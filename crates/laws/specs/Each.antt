@@ -42,6 +42,10 @@ pub each-right {ℓ} : {X : Type ℓ} (P : X → Type 0) (l m : List X) → Each
 each-right P [] m e = e
 each-right P (x ∷ l) m e = each-right P l m (e .1)
 
+pub each-less {ℓ} : {X : Type ℓ} (P : X → Type 0) (l : List X) (x : X) (m : List X) → Each P (l ++ (x ∷ m)) → Each P (l ++ m)
+each-less P [] x m e = e .1
+each-less P (y ∷ l) x m e = (e .0, each-less P l x m (e .1))
+
 pub list-congr-each {ℓ} : {X : Type ℓ} (w u : X → ℕ) (l : List X) → Each (λ x. w x ≡ u x) l → sumList w l ≡ sumList u l
 unfolding sumList
 list-congr-each w u [] e = refl

@@ -11,8 +11,8 @@ use Rattle.rules.specs.Chains.{chainOf, blockCount}
 use Rattle.laws.specs.Tests.{same?}
 use Rattle.laws.specs.Bags.{kept-sum}
 use Rattle.laws.specs.Segments.{seg-keep}
-use Rattle.laws.specs.Links.{the-chain, chain-the}
-use Rattle.laws.specs.Heads.{Head, head-of-is, on-own, seg-head}
+use Rattle.laws.specs.Links.{chain-the}
+use Rattle.laws.specs.Heads.{Head, head-chain, head-of-is, on-own, seg-head}
 use Rattle.laws.specs.Space.{Alike, alike-trans, Good, on-chain}
 use Rattle.laws.specs.Moves.{Moved, self-headed}
 
@@ -34,7 +34,7 @@ module _ {A : ℕ} {ex : ℕ → Bool} {n last : ℕ} {s : Anodes} {system hd sd
       ((a : ℕ) → 0 < times a (chainOf (s .next) A m) → Alike s t a) → chainOf (t .next) A m ≡ chainOf (s .next) A m
   chain-kept {t} g′ m d d′ h =
       chain-the (g′ .view) (g′ .linked) m (chainOf (s .next) A m) (λ q. d′ .in-use)
-      (seg-keep (s .next) (t .next) m 0 (chainOf (s .next) A m) (λ x p. h x p .same-next) (the-chain (g .view) (g .linked) m (λ q. d .in-use)))
+      (seg-keep (s .next) (t .next) m 0 (chainOf (s .next) A m) (λ x p. h x p .same-next) (head-chain (g .view) (g .linked) m d))
 
   -- what stands on the chain of a head other than 1 and h is in use, and 1 and h are not its head
   pub on-other : (m : ℕ) → Head (s .next) (s .block) m → {h : ℕ} → m ≢ 1 → m ≢ h → (a : ℕ) → 0 < times a (chainOf (s .next) A m) → (s .block a ≢ 0) × (hd a ≢ 1) × (hd a ≢ h)
@@ -59,7 +59,7 @@ module _ {A : ℕ} {ex : ℕ → Bool} {n last : ℕ} {s : Anodes} {system hd sd
         pos a u a0 q i =
             let d = head-of-is (g .view) (g .linked) hd (g .heads) a a0 u in
             let d′ = stays (hd a) d in
-            seg-head (g′ .view) (g′ .linked) hd′ (g′ .heads) (hd a) 0 (chainOf (t .next) A (hd a)) (the-chain (g′ .view) (g′ .linked) (hd a) (λ z. d′ .in-use)) a
+            seg-head (g′ .view) (g′ .linked) hd′ (g′ .heads) (hd a) 0 (chainOf (t .next) A (hd a)) (head-chain (g′ .view) (g′ .linked) (hd a) d′) a
             (rw (apart-chain apart (hd a) d q i g′ d′) (omega (arith, on-own (g .view) (g .linked) hd (g .heads) a a0 u)))
             ∙ g′ .heads .at-head (hd a) d′
 

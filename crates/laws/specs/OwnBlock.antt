@@ -13,8 +13,7 @@ use Rattle.rules.specs.Space.{planned, rewritten, insertedAfter, free, lowestFr
 use Rattle.laws.specs.Sums.{oneAt-same, changed-same, changed-other}
 use Rattle.laws.specs.Bags.{times-here}
 use Rattle.laws.specs.Segments.{seg-zero}
-use Rattle.laws.specs.Links.{the-chain}
-use Rattle.laws.specs.Heads.{Head, times-on-chain}
+use Rattle.laws.specs.Heads.{Head, head-chain, times-on-chain}
 use Rattle.laws.specs.Space.{Alike, Good, on-chain}
 use Rattle.laws.specs.Searches.{last-on}
 use Rattle.laws.specs.Moves.{InHand, hand-stays}
@@ -56,7 +55,7 @@ module _ {A : ℕ} {ex : ℕ → Bool} {n last : ℕ} {s : Anodes} {system hd sd
     ]
 
     split : (m : List ℕ) × (chainOf (s .next) A h ≡ m ++ (lastOf h (chainOf (s .next) A h) ∷ []))
-    split = chain-end (s .next) h (chainOf (s .next) A h) (d .pos) (the-chain (g .view) (g .linked) h (λ q. d .in-use))
+    split = chain-end (s .next) h (chainOf (s .next) A h) (d .pos) (head-chain (g .view) (g .linked) h d)
 
     put-filled : chainOf (s .next) A h ≡ h ∷ [] → s .count h ≡ 0 → (t : Anodes) (ys : List ℕ) → put A ex last true r (lastOf h (chainOf (r .next) A h)) y ≡ planned t ys →
         (ys ≡ y ∷ []) × Filled A t h y
@@ -84,7 +83,7 @@ module _ {A : ℕ} {ex : ℕ → Bool} {n last : ℕ} {s : Anodes} {system hd sd
       not-f a p e = used a p (ap (r .block) e ∙ fresh .1)
 
       end-0 : end ≢ 0
-      end-0 e = omega (arith, end-on, ap (λ (a : ℕ). times a (chainOf (s .next) A h)) e, seg-zero (s .next) h 0 (chainOf (s .next) A h) (the-chain (g .view) (g .linked) h (λ q. d .in-use)))
+      end-0 e = omega (arith, end-on, ap (λ (a : ℕ). times a (chainOf (s .next) A h)) e, seg-zero (s .next) h 0 (chainOf (s .next) A h) (head-chain (g .view) (g .linked) h d))
 
       put-appended : Appended A s (insertedAfter r end f 1 y) h y
       unfolding insertedAfter

@@ -19,7 +19,7 @@ use Rattle.laws.specs.LinkChanges.{without, without-cases, without-other
 use Rattle.laws.specs.HeadChanges.{drop-head-was}
 use Rattle.laws.specs.Space.{Alike, alike-trans, Good, on-chain, dead-head, head-dead, dead-along, drop-good}
 use Rattle.laws.specs.Frame.{kept-count, apart-alike, apart-chain}
-use Rattle.laws.specs.Each.{Each, each-both, each-pair, each-right, each-zero}
+use Rattle.laws.specs.Each.{Each, each-both, each-pair, each-right, each-less, each-zero}
 use Rattle.laws.specs.Items.{wrong, names-sum, namedIn, faults}
 use Rattle.laws.specs.Trees.{Tree}
 use Rattle.laws.specs.TreeChanges.{headed, tree-unnamed, Gain, sum-named, dir-there, remove-file, remove-dir, AlikeItems, alike-named, alike-tree}
@@ -27,10 +27,6 @@ use Rattle.laws.specs.Entries.{broken-wrong, sized-still, item-anode, it
 use Rattle.laws.specs.Whole.{DirHead, Whole, fine-still, dir-heads, named-heads}
 use Rattle.laws.specs.Make.{EntryMore, entry-gain}
 use Rattle.laws.specs.Resize.{Ran}
-
-each-less : (P : Dir → Type 0) (l₁ : List Dir) (d : Dir) (l₂ : List Dir) → Each P (l₁ ++ (d ∷ l₂)) → Each P (l₁ ++ l₂)
-each-less P [] d l₂ e = e .1
-each-less P (c ∷ l₁) d l₂ e = (e .0, each-less P l₁ d l₂ (e .1))
 
 -- a directory with nothing wrong and no entry has no item
 no-items : (entries : ℕ → List Entered) (marked : Dir → ℕ → Bool) (s : Anodes) (d : Dir) → sumList wrong (itemsBy entries marked s d) ≡ 0 →
