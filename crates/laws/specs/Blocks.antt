@@ -2,7 +2,6 @@
 use Prim.Native.Nat.{ℕ, _+_, _*_, _<_}
 use mathlib.Core.Path.{_≡_, refl, sym, _∙_}
 use mathlib.Core.Logic.{_≢_, inl, inr}
-use mathlib.Core.Bool.{not}
 use native.Mathlib.Omega.{arith}
 use Rattle.rules.specs.Counting.{oneAt, sumBelow, sumList, changed}
 use Rattle.rules.specs.Chains.{chainOf}
@@ -11,7 +10,7 @@ use Rattle.laws.specs.Sums.{oneAt-other, changed-same, changed-other, su
 use Rattle.laws.specs.Links.{View, Linked}
 use Rattle.laws.specs.Heads.{Head, Heads, head-of-is, chain-sum}
 
--- the blocks that the table gives the head h; and so any other weight of the anodes in place of `count`
+-- the blocks that the table hd gives the head h: the sum of `count` over its anodes
 unfoldable pub blocks : ℕ → (ℕ → ℕ) → (ℕ → ℕ) → ℕ → ℕ
 blocks A hd count h = sumBelow (λ a. oneAt (hd a) h * count a) A
 
@@ -48,11 +47,11 @@ module _ {A : ℕ} {next block : ℕ → ℕ} (v : View A next block) (k : Linke
   -- what is no head has no blocks
   pub blocks-none : (h : ℕ) → (Head next block h → ⊥) → blocks A hd count h ≡ 0
   unfolding blocks
-  blocks-none h not = sum-zero (λ a. oneAt (hd a) h * count a) A (λ a l. elim (same? a 0) [
+  blocks-none h none = sum-zero (λ a. oneAt (hd a) h * count a) A (λ a l. elim (same? a 0) [
     | inl e ↦ rw (e, zero-none) (omega arith)
     | inr e ↦ elim (same? (block a) 0) [
       | inl u ↦ rw (free-none a u) (omega arith)
-      | inr u ↦ rw (oneAt-other (hd a) h (λ q. not (rw q at (head-of-is v k hd t a e u)))) (omega arith)
+      | inr u ↦ rw (oneAt-other (hd a) h (λ q. none (rw q at (head-of-is v k hd t a e u)))) (omega arith)
     ]
   ])
 

@@ -75,7 +75,7 @@ module _ {A : ℕ} {ex : ℕ → Bool} {n last : ℕ} {s : Anodes} {system hd sd
 
   -- x becomes (c, b)
   module _ (x c b : ℕ) where
-    -- what is so of the extents of the side m stays so, where it is so of (c, b) if x is of that side then
+    -- what holds of every extent of the side m still does, if it holds of (c, b) where x is on that side
     side-kept : (P : ℕ → ℕ → Type 0) (m : ℕ) → ((a : ℕ) → sd a ≡ m → P (s .count a) (s .block a)) → (sd′ : ℕ → ℕ) → ((a : ℕ) → a ≢ x → sd′ a ≡ sd a) → (sd′ x ≡ m → P c b) →
         (a : ℕ) → sd′ a ≡ m → P (changed (s .count) x c a) (changed (s .block) x b a)
     side-kept P m was sd′ same at-x a q = elim (same? a x) [

@@ -158,7 +158,7 @@ module _ {ex : ℕ → Bool} {n last : ℕ} {s : Anodes} {system hd sd : ℕ →
 
 module _ {ex : ℕ → Bool} {n last : ℕ} {s : Anodes} {system hd sd : ℕ → ℕ} {entries : ℕ → List Entered} {marked : Dir → ℕ → Bool} {dirs : List Dir}
     (w : Whole ex n last s system hd sd entries marked dirs) where
-  items : Dir → List Item
+  abbrev items : Dir → List Item
   items = itemsBy entries marked s
 
   pub dir-heads : Each (DirHead s) dirs
@@ -183,11 +183,9 @@ module _ {ex : ℕ → Bool} {n last : ℕ} {s : Anodes} {system hd sd : ℕ →
   -- h is a file's: some reached entry of a file names it
   module _ (h : ℕ) (file : 1 ≤ sumList (λ d. sumList (file-size (λ x. oneAt x h)) (itemsBy entries marked s d)) dirs) where
     pub file-head : (6 ≤ h) × (h < limit) × Head (s .next) (s .block) h
-    unfolding items
     file-head = named-heads h (omega (arith, named-by-kind items h dirs, file))
 
     pub not-dir : Each (λ d. d .head ≢ h) dirs
-    unfolding items
     not-dir = none-headed h dirs (omega (arith, w .tree .exact (λ d. oneAt (d .head) h), oneAt-other 5 h (λ e. omega (arith, e, file-head .0)), w .tree .once h, file, named-by-kind items h dirs))
 
     -- a file's chain is changed, by takes or gives, its entry's size with it, and nothing else of the directories
@@ -198,7 +196,6 @@ module _ {ex : ℕ → Bool} {n last : ℕ} {s : Anodes} {system hd sd : ℕ →
         ((e : Entered) → e .anode ≡ h → blockCount t h ≡ blocksFor (φ e .size)) →
         ((a : ℕ) → s .count a ≡ 1 → hd a ≢ 1 → hd a ≢ h → (entries′ (s .block a) ≡ map φ (entries (s .block a))) × ((d : Dir) → marked′ d (s .block a) ≡ marked d (s .block a))) →
         Whole ex n last t system hd′ sd′ entries′ marked′ dirs
-    unfolding items
     change-file {t} {hd′} {sd′} g′ sh φ entries′ marked′ keeps other mine cont = record {
       good = g′;
       tree = alike-tree items items′ root dirs alikes (w .tree);
