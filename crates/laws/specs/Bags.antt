@@ -1,6 +1,6 @@
 -- Sums over a list, and how often a number stands in one.
 use Prim.Native.Nat.{ℕ, _+_, _*_, _≤_, _<_}
-use mathlib.Core.Path.{_≡_, refl, sym, _∙_}
+use mathlib.Core.Path.{_≡_, refl, sym, ap, _∙_}
 use mathlib.Core.Logic.{inl, inr}
 use mathlib.Core.List.{List, [], _∷_, _++_, map}
 use native.Mathlib.Omega.{arith}
@@ -31,6 +31,14 @@ module _ {ℓ} {X : Type ℓ} where
   pub list-one : (w : X → ℕ) (x : X) → sumList w (x ∷ []) ≡ w x
   unfolding sumList
   list-one w x = omega arith
+
+  -- a sum above 0 has a term above 0: the list parted there
+  pub list-some : (w : X → ℕ) (l : List X) → 0 < sumList w l → (x : X) × (before : List X) × (after : List X) × (l ≡ before ++ (x ∷ after)) × (0 < w x)
+  list-some w [] p = absurd (omega (arith, p, list-nil w))
+  list-some w (x ∷ l) p = elim (less? 0 (w x)) [
+    | inl q ↦ (x, [], l, refl, q)
+    | inr q ↦ (let r = list-some w l (omega (arith, p, list-cons w x l)) in (r .0, x ∷ r .1, r .2, ap (λ (m : List X). x ∷ m) (r .3), r .4))
+  ]
 
   pub list-add : (w u : X → ℕ) (l : List X) → sumList (λ x. w x + u x) l ≡ sumList w l + sumList u l
   unfolding sumList

@@ -1,14 +1,14 @@
 -- The tree when a directory gains or loses an item, or its items change their faults alone.
 use Prim.Native.Nat.{ℕ, suc, _+_, _*_, _≤_, _<_}
 use mathlib.Core.Path.{_≡_, refl, sym, ap, _∙_}
-use mathlib.Core.Logic.{_≢_, _⊎_, inl, inr}
+use mathlib.Core.Logic.{_≢_, inl, inr}
 use mathlib.Core.Bool.{Bool, true, false, cond}
 use mathlib.Core.List.{List, [], _∷_, _++_}
 use native.Mathlib.Omega.{arith}
 use Rattle.rules.specs.Counting.{oneAt, sumList, times, changed}
 use Rattle.rules.specs.Walk.{Dir, Item}
-use Rattle.laws.specs.Sums.{oneAt-cases, oneAt-same, oneAt-other, oneBelow, oneBelow-none, oneBelow-suc, changed-same, changed-other}
-use Rattle.laws.specs.Bags.{list-nil, list-cons, list-without, list-add, list-gain, list-mono, list-congr-where, list-zero}
+use Rattle.laws.specs.Sums.{oneAt-cases, oneAt-same, oneAt-some, oneAt-other, oneBelow, oneBelow-none, oneBelow-suc, changed-same, changed-other}
+use Rattle.laws.specs.Bags.{list-nil, list-cons, list-without, list-some, list-add, list-gain, list-mono, list-congr-where, list-zero}
 use Rattle.laws.specs.Each.{Each, each-map, each-both, each-right, list-congr-each, list-mono-each, each-zero}
 use Rattle.laws.specs.Items.{wrong, weighItem, names, names-sum, giving, subs, below, namedIn, faults, below-items, subs-named}
 use Rattle.laws.specs.Trees.{not-lower, lowering, Tree}
@@ -166,23 +166,16 @@ module _ (items items′ : Dir → List Item) (h : ℕ) (i : Item) where
 -- a member of a list, and the list parted there
 pub find-dir : (x p : ℕ) (l : List Dir) → 0 < sumList (λ d. oneAt (d .head) x * oneAt (d .parent) p) l →
     (l₁ : List Dir) × (l₂ : List Dir) × (l ≡ l₁ ++ (record { head = x; parent = p } ∷ l₂))
-find-dir x p [] h = absurd (omega (arith, list-nil {X = Dir} (λ d. oneAt (d .head) x * oneAt (d .parent) p)))
-find-dir x p (d ∷ l) h = go (oneAt-cases (d .head) x) (oneAt-cases (d .parent) p) (find-dir x p l)
+find-dir x p l h =
+    let r = list-some (λ d. oneAt (d .head) x * oneAt (d .parent) p) l h in
+    let is = both (r .0) (r .4) in
+    (r .1, r .2, r .3 ∙ ap (λ (e : Dir). r .1 ++ (e ∷ r .2)) (λ j. record { head = is .0 j; parent = is .1 j }))
   where
-    tail : oneAt (d .head) x * oneAt (d .parent) p ≡ 0 → 0 < sumList (λ d. oneAt (d .head) x * oneAt (d .parent) p) l
-    tail z = omega (arith, list-cons {X = Dir} (λ d. oneAt (d .head) x * oneAt (d .parent) p) d l)
-
-    later : (l₁ : List Dir) × (l₂ : List Dir) × (l ≡ l₁ ++ (record { head = x; parent = p } ∷ l₂)) →
-        (l₁ : List Dir) × (l₂ : List Dir) × (d ∷ l ≡ l₁ ++ (record { head = x; parent = p } ∷ l₂))
-    later s = (d ∷ s .0, s .1, ap (λ (m : List Dir). d ∷ m) (s .2))
-
-    go : ((d .head ≡ x) × (oneAt (d .head) x ≡ 1)) ⊎ ((d .head ≢ x) × (oneAt (d .head) x ≡ 0)) →
-        ((d .parent ≡ p) × (oneAt (d .parent) p ≡ 1)) ⊎ ((d .parent ≢ p) × (oneAt (d .parent) p ≡ 0)) →
-        (0 < sumList (λ d. oneAt (d .head) x * oneAt (d .parent) p) l → (l₁ : List Dir) × (l₂ : List Dir) × (l ≡ l₁ ++ (record { head = x; parent = p } ∷ l₂))) →
-        (l₁ : List Dir) × (l₂ : List Dir) × (d ∷ l ≡ l₁ ++ (record { head = x; parent = p } ∷ l₂))
-    go (inl a) (inl b) r = ([], l, ap (λ (e : Dir). e ∷ l) (λ j. record { head = a .0 j; parent = b .0 j }))
-    go (inl a) (inr b) r = later (r (tail (rw (b .1) (omega arith))))
-    go (inr a) b r = later (r (tail (rw (a .1) (omega arith))))
+    both : (d : Dir) → 0 < oneAt (d .head) x * oneAt (d .parent) p → (d .head ≡ x) × (d .parent ≡ p)
+    both d q = elim (oneAt-cases (d .head) x) [
+      | inl a ↦ (a .0, oneAt-some (d .parent) p (omega (arith, rw (a .1) at q)))
+      | inr a ↦ absurd (omega (arith, rw (a .1) at q))
+    ]
 
 module _ (items items′ : Dir → List Item) (h : ℕ) (i : Item) (top : Dir) where
   -- what the item names is in the tree
