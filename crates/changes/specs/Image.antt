@@ -14,10 +14,10 @@ use Rattle.rules.specs.Counting.{oneAt, sumList, times}
 use Rattle.rules.specs.Anodes.{Anodes, limit, exists, anodesOf, withAnodes}
 use Rattle.rules.specs.Chains.{heads, headOf, cut, systemOwns}
 use Rattle.rules.specs.Walk.{Dir, Entered, Item, root, entriesIn, isBlockOf, itemsBy, itemsOf, Scanned, faulty, fine, faultOf, scan, subDirs, Walk, fault, done, visited, walk, walkOf, faultIn, dirsIn, reached, reachedDirs, naming}
-use Rattle.rules.specs.Accepted.{diskSize, lastReserved, wrongSlots, ownersOf, twoOwners, noOwner, unnamed, unnamedChain, checkAnswer}
+use Rattle.rules.specs.Accepted.{diskSize, lastReserved, wrongSlots, unnamed, unnamedChain, checkAnswer}
 use Rattle.rules.specs.Lookup.{noDirectory}
-use Rattle.counting.specs.Laws.{anyBelow-all}
-use Rattle.laws.specs.Tests.{less?, none-and}
+use Rattle.counting.specs.Laws.{none-and, anyBelow-all}
+use Rattle.laws.specs.Tests.{less?}
 use Rattle.laws.specs.Sums.{oneAt-cases}
 use Rattle.laws.specs.Bags.{list-mono, map-sum}
 use Rattle.laws.specs.Items.{below, namedIn, subs-named}
@@ -206,12 +206,11 @@ module _ (img j : List ℕ) (blocks anodes : ℕ) (e : checkAnswer img blocks an
         found .1 .all-named x (leb-true 6 x p) (counts-head (w .good) x (eqb-true _ _ q)),
       ))))
 
-  tested : Tested (anodesOf j) (diskSize img) (lastReserved img) (systemOwns img) (exists img)
+  tested : Tested (anodesOf j) (diskSize img) (lastReserved img) (systemOwns img)
   tested = passes-tested (anodesOf j) (diskSize img) (lastReserved img) (systemOwns img) (exists img) (found .1 .passes)
 
   -- an image of the same disk with a whole state is accepted
   pub whole-accepted : checkAnswer j blocks anodes ≡ 0
-  unfolding twoOwners noOwner ownersOf
   whole-accepted =
       let p = passed-of img blocks anodes e in
       passed-accepted j blocks anodes (record {
@@ -220,12 +219,7 @@ module _ (img j : List ℕ) (blocks anodes : ℕ) (e : checkAnswer img blocks an
         type-right = wrongType-kept (d .kept) refl ∙ p .type-right;
         root-right = wrongRoot-kept (d .kept) refl ∙ p .root-right;
         slots-right = wrongSlots-heads (d .kept) refl (d .heads-kept) ∙ p .slots-right;
-        fixed-right = tested .fixed-right;
-        in-range = rw (diskSize-kept (d .kept)) (tested .in-range);
-        links-right = tested .links-right;
-        free-right = rw (lastReserved-kept (d .kept) refl) (tested .free-right);
-        none-twice = rw (diskSize-kept (d .kept), systemOwns-kept (d .kept) refl) (tested .none-twice);
-        all-owned = rw (diskSize-kept (d .kept), systemOwns-kept (d .kept) refl) (tested .all-owned);
+        tested = rw (diskSize-kept (d .kept), lastReserved-kept (d .kept) refl, systemOwns-kept (d .kept) refl) tested;
         walked = ap faultIn walk-found;
         all-named = anyBelow-all (unnamedChain j (anodesOf j)) limit none-unnamed;
       })

@@ -22,7 +22,8 @@ use Rattle.laws.specs.Heads.{Head, head-of-is, times-on-chain}
 use Rattle.laws.specs.Space.{Good}
 use Rattle.laws.specs.Arriving.{free-is, planned-same}
 use Rattle.laws.specs.Take.{take-good}
-use Rattle.laws.specs.Frame.{Shift, kept-chain, take-shift}
+use Rattle.laws.specs.Frame.{Shift, take-shift}
+use Rattle.laws.specs.ChainBlocks.{shift-chain}
 use Rattle.laws.specs.Each.{Each}
 use Rattle.laws.specs.TreeChanges.{headed}
 use Rattle.laws.specs.Whole.{Whole}
@@ -201,7 +202,7 @@ module _ (img : List ℕ) {s : Anodes} {hd sd : ℕ → ℕ} {entries : ℕ → 
             | inr i ↦ (let l = sh .apart a u q i in (l .same-count, l .same-block))
           ];
           stays = sh .stays;
-          others = λ k d k1 kh. kept-chain (o .good) (m .good) h (sh .stays) (sh .no-new) (sh .apart) k d k1 kh;
+          others = λ k d k1 kh. shift-chain (o .good) (m .good) sh k d k1 kh;
         }
 
     -- nothing names the new chain yet
@@ -228,7 +229,7 @@ module _ (img : List ℕ) {s : Anodes} {hd sd : ℕ → ℕ} {entries : ℕ → 
 
     own-kept : (m : ℕ) → Head (begun .next) (begun .block) m → m ≢ 1 → m ≢ f → chainOf (r .next) limit m ≡ chainOf (s .next) limit m
     unfolding rewritten
-    own-kept m d m1 mf = kept-chain (orphan .good) (step .good) f (step .shift .stays) (step .shift .no-new) (step .shift .apart) m d m1 mf
+    own-kept m d m1 mf = shift-chain (orphan .good) (step .good) (step .shift) m d m1 mf
 
     -- the head of an anode in use is not the fresh one
     head-used : (a : ℕ) → s .block a ≢ 0 → hd a ≢ f

@@ -20,7 +20,8 @@ use Rattle.rules.specs.Chains.{chainOf, heads, run, blocksOf, blockCount}
 use Rattle.rules.specs.Walk.{Dir, Entered, Item, withRest, entriesFrom, entriesIn, isBlockOf, blocksFor, itemOf, broken, itemsAt, itemsBy, reachedDirs}
 use Rattle.rules.specs.Accepted.{checkAnswer}
 use Rattle.rules.specs.Lookup.{noDirectory, entriesOf, isNamed, firstNamed, entryNamed, nth}
-use Rattle.laws.specs.Tests.{T-true, none-or}
+use Rattle.counting.specs.Laws.{none-or}
+use Rattle.laws.specs.Tests.{T-true}
 use Rattle.laws.specs.Sums.{oneAt-cases, oneAt-same}
 use Rattle.laws.specs.Bags.{list-nil, list-cons, list-one, gather-sum, map-sum}
 use Rattle.laws.specs.Heads.{Head}

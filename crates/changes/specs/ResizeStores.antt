@@ -2,7 +2,7 @@
 use Prim.Native.Nat.{ℕ, zero, suc, _+_, _-_, _/_, _%_, _<_}
 use mathlib.Core.Path.{_≡_, refl, sym, ap, _∙_}
 use mathlib.Core.Logic.{_≢_}
-use mathlib.Core.Bool.{Bool, true, false, cond, not, _&&_}
+use mathlib.Core.Bool.{Bool, true, false, cond, not, _&&_, and-eq-true-iff}
 use mathlib.Core.List.{List, [], _∷_}
 use native.Mathlib.Omega.{arith}
 use native.Mathlib.Nat.{le-of-eq}
@@ -19,7 +19,6 @@ use Rattle.rules.specs.Walk.{Dir, Entered, blocksFor, reachedDirs}
 use Rattle.rules.specs.Space.{planned}
 use Rattle.rules.specs.Format.{zeroBlock}
 use Rattle.rules.specs.Changes.{inBlock, withBlocks, resizePlan, zeroTail, withSize, zeroTaken, resizedImage}
-use Rattle.laws.specs.Tests.{and-both}
 use Rattle.laws.specs.Bags.{list-congr, list-length, gather-sum}
 use Rattle.laws.specs.Heads.{Head}
 use Rattle.laws.specs.Whole.{dir-heads}
@@ -116,7 +115,7 @@ module _ {img : List ℕ} {e : Entered} {new : ℕ} {t : Anodes} {ys : List ℕ}
 
       go : (c : Bool) → (ltb (e .size) new && not (eqb (e .size % 512) 0)) ≡ c → Kept (λ y. times y chain ≡ 0) zeroed (cond c (inBlock zeroed last clear) zeroed)
       go true q =
-          let n = eqb-false (e .size % 512) 0 (not-true (eqb (e .size % 512) 0) (and-both (ltb (e .size) new) (not (eqb (e .size % 512) 0)) q .1)) in
+          let n = eqb-false (e .size % 512) 0 (not-true (eqb (e .size % 512) 0) (and-eq-true-iff (ltb (e .size) new) (not (eqb (e .size % 512) 0)) .0 q .1)) in
           let k = inBlock-kept zeroed last clear (length-cleared (blockOf zeroed last) (e .size % 512) (512 - e .size % 512)) in
           record { length-kept = k .length-kept; block-kept = λ y z. k .block-kept y (λ i. omega (arith, rw i at z, member-times last chain (tail-in n))) }
       go false q = kept-all zeroed

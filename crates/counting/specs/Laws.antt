@@ -1,6 +1,6 @@
--- Laws of the rules' sums and searches over the numbers below a bound. Assumes nothing.
+-- Laws of the rules' tests, and of their searches and sums over the numbers below a bound. Assumes nothing.
 use mathlib.Core.Path.{_≡_, refl, sym, _∙_}
-use mathlib.Core.Bool.{Bool, true, false, _||_, or-true, true≢false}
+use mathlib.Core.Bool.{Bool, true, false, _&&_, _||_, or-true, true≢false}
 use mathlib.Core.Logic.{⊎-elim}
 use Prim.Native.Nat.{ℕ, zero, suc, _+_, _<_, _≤_}
 use native.Mathlib.Omega.{arith}
@@ -8,9 +8,22 @@ use native.Mathlib.Nat.{not-suc-le-zero, eq-or-lt-of-le, le-of-suc-le-suc}
 use native.Mathlib.Numerals.{add-one}
 use Rattle.rules.specs.Counting.{sumBelow, anyBelow}
 
+-- ---- tests that fail
+
 pub neither : (a b : Bool) → (a || b) ≡ false → (a ≡ false) × (b ≡ false)
 neither true b e = absurd (true≢false e)
 neither false b e = (refl, e)
+
+pub none-or : (a b : Bool) → a ≡ false → b ≡ false → (a || b) ≡ false
+none-or a b p q = rw (p, q)
+
+-- a conjunction that fails, given its first part
+pub and-none : (a b : Bool) → (a && b) ≡ false → a ≡ true → b ≡ false
+and-none a b e t = rw t at e
+
+pub none-and : (a b : Bool) → (a ≡ true → b ≡ false) → (a && b) ≡ false
+none-and true b f = f refl
+none-and false b f = refl
 
 -- ---- some number passes
 

@@ -9,10 +9,9 @@ use Rattle.rules.specs.Counting.{gather}
 use Rattle.rules.specs.Anodes.{Anodes, limit, exists, anodesOf}
 use Rattle.rules.specs.Chains.{systemOwns, blockCount}
 use Rattle.rules.specs.Walk.{root, reached, reachedDirs, faultIn}
-use Rattle.rules.specs.Accepted.{diskSize, wrongSize, ownersOf, twoOwners, noOwner, unnamedChain, checkAnswer}
+use Rattle.rules.specs.Accepted.{diskSize, wrongSize, unnamedChain, checkAnswer}
 use Rattle.rules.specs.Format.{wrongFormat, formatted}
-use Rattle.counting.specs.Laws.{anyBelow-all}
-use Rattle.laws.specs.Tests.{none-and}
+use Rattle.counting.specs.Laws.{none-and, anyBelow-all}
 use Rattle.laws.specs.Acceptance.{Passed, passed-accepted, Tested, passes-tested}
 use Rattle.format.proofs.Laws.{Taken, taken}
 use Rattle.format_laws.specs.Anodes.{Laid, laid}
@@ -33,31 +32,25 @@ module _ (img : List ℕ) (last k : ℕ) (name : List ℕ) (day minute tick prot
   args = taken img last k name size good
 
   anodes-laid : Laid s (diskSize img) last k
-  anodes-laid = laid img last k name day minute tick protection size good
+  anodes-laid = laid img last k name day minute tick protection args
 
-  tested : Tested s (diskSize img) last (systemOwns disk) (exists disk)
+  tested : Tested s (diskSize img) last (systemOwns disk)
   tested = passes-tested s (diskSize img) last (systemOwns disk) (exists disk)
-      (laid-passes anodes-laid (args .room) (args .there) (systemOwns disk) (system-owns img last k name day minute tick protection size good) (exists disk))
+      (laid-passes anodes-laid (args .room) (args .there) (systemOwns disk) (system-owns img last k name day minute tick protection args) (exists disk))
 
   named : (x : ℕ) → x < limit → unnamedChain disk s x ≡ false
   unfolding unnamedChain
   named x l = none-and (leb 6 x) _ (λ h. rw (no-head anodes-laid x (leb-true 6 x h)))
 
   passed : (blocks anodes : ℕ) → diskSize img ≤ blocks → limit ≤ anodes → Passed disk blocks anodes
-  unfolding twoOwners noOwner ownersOf
   passed blocks anodes b a = record {
-    size-right = size-right img last k name day minute tick protection size good;
-    tables-long = tables-long img last k name day minute tick protection size good blocks anodes b a;
-    type-right = type-right img last k name day minute tick protection size good;
-    root-right = root-right img last k name day minute tick protection size good;
-    slots-right = slots-right img last k name day minute tick protection size good;
-    fixed-right = tested .fixed-right;
-    in-range = rw (disk-size img last k name day minute tick protection) (tested .in-range);
-    links-right = tested .links-right;
-    free-right = rw (last-is img last k name day minute tick protection size good) (tested .free-right);
-    none-twice = rw (disk-size img last k name day minute tick protection) (tested .none-twice);
-    all-owned = rw (disk-size img last k name day minute tick protection) (tested .all-owned);
-    walked = ap faultIn (walked img last k name day minute tick protection size good s anodes-laid);
+    size-right = size-right img last k name day minute tick protection size;
+    tables-long = tables-long img last k name day minute tick protection blocks anodes b a;
+    type-right = type-right img last k name day minute tick protection args;
+    root-right = root-right img last k name day minute tick protection args;
+    slots-right = slots-right img last k name day minute tick protection args;
+    tested = rw (disk-size img last k name day minute tick protection, last-is img last k name day minute tick protection args) tested;
+    walked = ap faultIn (walked img last k name day minute tick protection args s anodes-laid);
     all-named = anyBelow-all (unnamedChain disk s) limit named;
   }
 
@@ -74,9 +67,9 @@ module _ (img : List ℕ) (last k : ℕ) (name : List ℕ) (day minute tick prot
   -- the root directory alone
   pub formatted-dirs : reachedDirs disk s ≡ root ∷ []
   unfolding reachedDirs
-  formatted-dirs = rw (walked img last k name day minute tick protection size good s anodes-laid)
+  formatted-dirs = rw (walked img last k name day minute tick protection args s anodes-laid)
 
   -- no file and no other directory
   pub formatted-items : reached disk s ≡ []
   unfolding reached gather
-  formatted-items = rw (formatted-dirs, no-items img last k name day minute tick protection size good s anodes-laid)
+  formatted-items = rw (formatted-dirs, no-items img last k name day minute tick protection args s anodes-laid)

@@ -2,18 +2,17 @@
 use Prim.Native.Nat.{ℕ, _+_, _-_, _<_}
 use mathlib.Core.Path.{_≡_, ap, _∙_}
 use mathlib.Core.Logic.{_≢_, _⊎_, inl, inr}
-use mathlib.Core.Bool.{false}
 use mathlib.Core.List.{List}
 use native.Mathlib.Omega.{arith}
 use borrow.Author.Tests.{eq-eqb, ne-eqb}
 use Rattle.disk.specs.declared.Anode.{Anode}
 use Rattle.disk.specs.AnodeBlocks.{anodeMade, anodeOf}
 use Rattle.rules.specs.Anodes.{Anodes, anodesOf}
-use Rattle.rules.specs.Accepted.{diskSize, wrongSize}
-use Rattle.rules.specs.Format.{wrongFormat, lowerAnode, upperAnode, listHead, formatted}
+use Rattle.rules.specs.Accepted.{diskSize}
+use Rattle.rules.specs.Format.{lowerAnode, upperAnode, listHead, formatted}
 use Rattle.laws.specs.Tests.{same?}
 use Rattle.laws.specs.ImageAnodes.{block-at, count-at, next-at, reading-of}
-use Rattle.format.proofs.Laws.{anodeOf-formatted-0, anodeOf-formatted-1, anodeOf-formatted-2, anodeOf-formatted-5, anodeOf-formatted-6, anodeOf-formatted-other}
+use Rattle.format.proofs.Laws.{Taken, anodeOf-formatted-0, anodeOf-formatted-1, anodeOf-formatted-2, anodeOf-formatted-5, anodeOf-formatted-6, anodeOf-formatted-other}
 
 -- the three fields of an anode
 pub record At (s : Anodes) (a c b m : ℕ) : Type 0 where
@@ -66,7 +65,7 @@ module _ (img : List ℕ) (a : ℕ) where
       let r = reading-of img 0 0 in
       record { count = r .free-count a is; block = is; next = r .free-next a is }
 
-module _ (img : List ℕ) (last k : ℕ) (name : List ℕ) (day minute tick protection : ℕ) (size : wrongSize img ≡ false) (good : wrongFormat img last k name ≡ false) where
+module _ (img : List ℕ) (last k : ℕ) (name : List ℕ) (day minute tick protection : ℕ) (args : Taken img last k name) where
   abbrev disk : List ℕ
   disk = formatted img last k name day minute tick protection
 
@@ -74,7 +73,7 @@ module _ (img : List ℕ) (last k : ℕ) (name : List ℕ) (day minute tick prot
   lower : (At (anodesOf disk) 2 0 65535 0 × (last ≡ 3 + k)) ⊎ At (anodesOf disk) 2 (last - (3 + k)) (4 + k) 0
   unfolding lowerAnode
   lower =
-      let e = anodeOf-formatted-2 img last k name day minute tick protection size good in
+      let e = anodeOf-formatted-2 img last k name day minute tick protection args in
       elim (same? last (3 + k)) [
         | inl q ↦ inl (at-used disk 2 0 65535 0 (e ∙ rw (eq-eqb last (3 + k) q)) (omega arith), q)
         | inr q ↦ inr (at-used disk 2 (last - (3 + k)) (4 + k) 0 (e ∙ rw (ne-eqb last (3 + k) q)) (omega arith))
@@ -85,8 +84,8 @@ module _ (img : List ℕ) (last k : ℕ) (name : List ℕ) (day minute tick prot
       ⊎ (At (anodesOf disk) 1 0 65535 6 × At (anodesOf disk) 6 (diskSize img - (last + 1)) (last + 1) 2)
   unfolding upperAnode listHead
   upper =
-      let e = anodeOf-formatted-1 img last k name day minute tick protection size good in
-      let f = anodeOf-formatted-6 img last k name day minute tick protection size good in
+      let e = anodeOf-formatted-1 img last k name day minute tick protection args in
+      let f = anodeOf-formatted-6 img last k name day minute tick protection args in
       elim (same? (last + 1) (diskSize img)) [
         | inl q ↦ inl (
           at-used disk 1 0 65535 2 (e ∙ rw (eq-eqb (last + 1) (diskSize img) q)) (omega arith),
@@ -110,7 +109,7 @@ module _ (img : List ℕ) (last k : ℕ) (name : List ℕ) (day minute tick prot
           | inl e ↦ rw e is-5
           | inr n5 ↦ elim (same? a 6) [
             | inl e ↦ rw e is-6
-            | inr n6 ↦ free a (at-free disk a (anodeOf-formatted-other img last k name day minute tick protection size good a n0 n1 n2 n5 n6))
+            | inr n6 ↦ free a (at-free disk a (anodeOf-formatted-other img last k name day minute tick protection args a n0 n1 n2 n5 n6))
           ]
         ]
       ]
@@ -119,14 +118,14 @@ module _ (img : List ℕ) (last k : ℕ) (name : List ℕ) (day minute tick prot
 
   pub laid : Laid (anodesOf disk) (diskSize img) last k
   laid = record {
-    at-0 = at-used disk 0 0 65535 0 (anodeOf-formatted-0 img last k name day minute tick protection size good) (omega arith);
+    at-0 = at-used disk 0 0 65535 0 (anodeOf-formatted-0 img last k name day minute tick protection args) (omega arith);
     owns-2 = elim lower [
       | inl e ↦ record { count = omega (arith, e .0 .count, e .1); start = λ p. absurd (omega (arith, e .1)) }
       | inr e ↦ record { count = e .count; start = λ p. e .block }
     ];
     block-2 = elim lower [ inl e ↦ rw (e .0 .block) (omega arith) | inr e ↦ rw (e .block) (omega arith) ];
     next-2 = elim lower [ inl e ↦ e .0 .next | inr e ↦ e .next ];
-    at-5 = at-used disk 5 1 (3 + k) 0 (anodeOf-formatted-5 img last k name day minute tick protection size good) (omega arith);
+    at-5 = at-used disk 5 1 (3 + k) 0 (anodeOf-formatted-5 img last k name day minute tick protection args) (omega arith);
     owns-6 = elim upper [
       | inl e ↦ record { count = omega (arith, e .1 .count, e .2); start = λ p. absurd (omega (arith, e .2)) }
       | inr e ↦ record { count = e .1 .count; start = λ p. e .1 .block }

@@ -16,10 +16,11 @@ use Rattle.disk.specs.declared.AnodeHead.{AnodeHead}
 use Rattle.disk.proofs.Store.{anodeHeadIn-putAnode, anodeHeadIn-putAnodeHead}
 use Rattle.rules.specs.Anodes.{limit}
 use Rattle.rules.specs.Accepted.{diskSize, wrongSize, shortTables, wrongType, lastReserved, wrongRoot, wrongSlot, wrongSlots}
-use Rattle.rules.specs.Format.{wrongFormat, zeroBlock, firstAnodes, emptyAnodeBlock, anodeBlock, formatted}
-use Rattle.counting.specs.Laws.{anyBelow-all}
-use Rattle.laws.specs.Tests.{less?, none-or, none-and, same}
-use Rattle.format.proofs.Laws.{Taken, taken, anodeBlock-both, length-formatted, rootIn-formatted, slotOf-formatted-some, slotOf-formatted-none, blockOf-formatted-anodes}
+use Rattle.rules.specs.Format.{zeroBlock, firstAnodes, emptyAnodeBlock, anodeBlock, formatted}
+use Rattle.counting.specs.Laws.{none-or, none-and, anyBelow-all}
+use Rattle.laws.specs.Tests.{less?, same}
+use Rattle.format.proofs.Parts.{anodeBlock-both}
+use Rattle.format.proofs.Laws.{Taken, length-formatted, rootIn-formatted, slotOf-formatted-some, slotOf-formatted-none, blockOf-formatted-anodes}
 
 -- the head of anode block s
 abbrev headMade : ℕ → AnodeHead
@@ -44,30 +45,26 @@ module _ (img : List ℕ) (last k : ℕ) (name : List ℕ) (day minute tick prot
   unfolding diskSize
   disk-size = rw (length-formatted img last k name day minute tick protection)
 
-  module _ (size : wrongSize img ≡ false) (good : wrongFormat img last k name ≡ false) where
-    -- handed to `omega`
-    args : Taken img last k name
-    args = taken img last k name size good
+  pub size-right : wrongSize img ≡ false → wrongSize disk ≡ false
+  unfolding wrongSize diskSize
+  size-right size = rw (length-formatted img last k name day minute tick protection) size
 
-    pub size-right : wrongSize disk ≡ false
-    unfolding wrongSize diskSize
-    size-right = rw (length-formatted img last k name day minute tick protection) size
+  pub tables-long : (blocks anodes : ℕ) → diskSize img ≤ blocks → limit ≤ anodes → shortTables disk blocks anodes ≡ false
+  unfolding shortTables
+  tables-long blocks anodes b a = none-or _ _ (le-ltb blocks (diskSize disk) (rw disk-size b)) (le-ltb anodes limit a)
 
-    pub tables-long : (blocks anodes : ℕ) → diskSize img ≤ blocks → limit ≤ anodes → shortTables disk blocks anodes ≡ false
-    unfolding shortTables
-    tables-long blocks anodes b a = none-or _ _ (le-ltb blocks (diskSize disk) (rw disk-size b)) (le-ltb anodes limit a)
-
+  module _ (args : Taken img last k name) where
     pub type-right : wrongType disk ≡ false
     unfolding wrongType
-    type-right = rw (rootIn-formatted img last k name day minute tick protection size good)
+    type-right = rw (rootIn-formatted img last k name day minute tick protection args)
 
     pub last-is : lastReserved disk ≡ last
     unfolding lastReserved
-    last-is = ap (λ (r : Root). r .last .0) (rootIn-formatted img last k name day minute tick protection size good)
+    last-is = ap (λ (r : Root). r .last .0) (rootIn-formatted img last k name day minute tick protection args)
 
     pub root-right : wrongRoot disk ≡ false
     unfolding wrongRoot
-    root-right = rw (rootIn-formatted img last k name day minute tick protection size good, last-is, disk-size)
+    root-right = rw (rootIn-formatted img last k name day minute tick protection args, last-is, disk-size)
         (none-or _ _ (le-ltb last 2 (omega (arith, args))) (none-or _ _ (lt-leb (diskSize img) last (args .there))
         (none-or _ _ (ne-eqb (length name) 0 (omega (arith, args))) (le-ltb 31 (length name) (args .short)))))
 
@@ -75,16 +72,16 @@ module _ (img : List ℕ) (last k : ℕ) (name : List ℕ) (day minute tick prot
     unfolding wrongSlot
     slot-right s l = elim (less? s k) [
       | inl h ↦ (let head : anodeHeadIn (blockOf disk (3 + s)) ≡ headMade s
-          = ap anodeHeadIn (blockOf-formatted-anodes img last k name day minute tick protection size good s h) ∙ head-block (diskSize img) last k s in
-          rw (slotOf-formatted-some img last k name day minute tick protection size good s h)
+          = ap anodeHeadIn (blockOf-formatted-anodes img last k name day minute tick protection args s h) ∙ head-block (diskSize img) last k s in
+          rw (slotOf-formatted-some img last k name day minute tick protection args s h)
           (none-and (not (eqb (3 + s) 0)) _ (λ e. none-or _ _ (le-ltb (3 + s) 3 (omega arith))
           (none-or _ _ (lt-leb (diskSize disk) (3 + s) (omega (arith, args, disk-size)))
           (none-or _ _ (same _ anodeMark (ap (λ (a : AnodeHead). a .mark) head)) (same _ s (ap (λ (a : AnodeHead). a .sequence) head)))))))
-      | inr h ↦ rw (slotOf-formatted-none img last k name day minute tick protection size good s h)
+      | inr h ↦ rw (slotOf-formatted-none img last k name day minute tick protection args s h)
     ]
 
     pub slots-right : wrongSlots disk ≡ false
     unfolding wrongSlots
     slots-right =
-        let first : slotOf disk 0 ≡ 3 = slotOf-formatted-some img last k name day minute tick protection size good 0 (omega (arith, args)) in
+        let first : slotOf disk 0 ≡ 3 = slotOf-formatted-some img last k name day minute tick protection args 0 (omega (arith, args)) in
         none-or _ _ (ne-eqb (slotOf disk 0) 0 (λ z. omega arith)) (anyBelow-all (wrongSlot disk) 42 slot-right)

@@ -11,11 +11,11 @@ use borrow.Author.Tests.{eqb-false, not-true, ne-eqb}
 use Rattle.rules.specs.Counting.{oneAt, sumList, times}
 use Rattle.rules.specs.Anodes.{Anodes, limit}
 use Rattle.rules.specs.Chains.{chainOf, followed, preds, heads, blockCount, cut, side}
-use Rattle.laws.specs.Tests.{none-and}
-use Rattle.laws.specs.Sums.{oneAt-cases, oneAt-same, oneAt-other, oneAt-le, sum-member, sum-le-one}
+use Rattle.counting.specs.Laws.{none-and}
+use Rattle.laws.specs.Sums.{oneAt-same, oneAt-other, sum-member}
 use Rattle.laws.specs.Bags.{times-nil, times-cons}
 use Rattle.laws.specs.Segments.{Chain, followed-zero, chain-is, chain-ends}
-use Rattle.laws.specs.Links.{preds-none}
+use Rattle.laws.specs.Links.{preds-none, preds-one}
 use Rattle.format_laws.specs.Anodes.{Which, is-0, is-1, is-2, is-5, is-6, free, Linking, plain, over, Laid}
 
 module _ {s : Anodes} {n last k : ℕ} (m : Laid s n last k) where
@@ -55,12 +55,7 @@ module _ {s : Anodes} {n last k : ℕ} (m : Laid s n last k) where
   closed a h = elim (links-to a h) [ inl e ↦ rw e (m .block-2) | inr e ↦ rw (e .0) (e .1) ]
 
   pub one-pred : (x : ℕ) → x ≢ 0 → preds limit (s .next) x ≤ 1
-  unfolding preds
-  one-pred x x0 = sum-le-one (λ p. oneAt (s .next p) x) limit (λ p. oneAt-le (s .next p) x)
-      (λ p q i j a b. one-before p q (λ z. x0 (sym (is p a) ∙ z)) (is p a ∙ sym (is q b)))
-    where
-      is : (p : ℕ) → 0 < oneAt (s .next p) x → s .next p ≡ x
-      is p h = elim (oneAt-cases (s .next p) x) [ inl e ↦ e .0 | inr e ↦ absurd (omega arith) ]
+  one-pred x x0 = preds-one limit (s .next) x (λ p q a b. one-before p q (λ z. x0 (sym a ∙ z)) (a ∙ sym b))
 
   pub no-pred : (x : ℕ) → x ≢ 0 → x ≢ 2 → x ≢ 6 → preds limit (s .next) x ≡ 0
   no-pred x x0 x2 x6 = preds-none limit (s .next) x (λ p e. elim (links-to p (λ z. x0 (sym e ∙ z))) [

@@ -2,31 +2,19 @@
 use Prim.Native.Nat.{ℕ, _+_, _-_, _≤_, _<_}
 use mathlib.Core.Path.{_≡_, refl, sym, _∙_}
 use mathlib.Core.Logic.{_≢_, inl, inr}
-use mathlib.Core.Bool.{false}
 use mathlib.Core.List.{List}
 use native.Mathlib.Omega.{arith}
 use borrow.Author.Tests.{lt-ltb, le-ltb, ne-eqb}
 use Rattle.rules.specs.Counting.{oneAt, sumBelow, changed}
 use Rattle.rules.specs.Anodes.{Anodes, limit}
 use Rattle.rules.specs.Chains.{covers, holds, systemOwns, owners}
-use Rattle.rules.specs.Accepted.{wrongSize}
-use Rattle.rules.specs.Format.{wrongFormat, formatted}
+use Rattle.rules.specs.Format.{formatted}
 use Rattle.laws.specs.Tests.{less?}
 use Rattle.laws.specs.Sums.{oneAt-same, oneAt-other, changed-cases, changed-same, changed-other, sum-zero, sum-single, sum-update}
-use Rattle.laws.specs.Ownership.{covers-in, covers-under, covers-over, covers-none}
-use Rattle.format.proofs.Laws.{Taken, taken, slotOf-formatted-some, slotOf-formatted-none}
+use Rattle.laws.specs.Ownership.{covers-in, covers-over, covers-none, covers-join}
+use Rattle.format.proofs.Laws.{Taken, slotOf-formatted-some, slotOf-formatted-none}
 use Rattle.format_laws.specs.Anodes.{Which, is-0, is-1, is-2, is-5, is-6, free, Owns, Laid}
 use Rattle.format_laws.specs.Links.{count-1}
-
--- the first c blocks, and the d behind them
-covers-join : (c d e x : ℕ) → e ≡ c + d → covers c 0 x + covers d c x ≡ covers e 0 x
-covers-join c d e x q = elim (less? x c) [
-  | inl h ↦ omega (arith, covers-in c 0 x (omega arith) (omega arith), covers-under d c x h, covers-in e 0 x (omega arith) (omega arith))
-  | inr h ↦ elim (less? x e) [
-    | inl g ↦ omega (arith, covers-over c 0 x (omega arith), covers-in d c x h (omega arith), covers-in e 0 x (omega arith) (omega arith))
-    | inr g ↦ omega (arith, covers-over c 0 x (omega arith), covers-over d c x (omega arith), covers-over e 0 x (omega arith))
-  ]
-]
 
 -- a sum where all but three vanish
 sum-three : (f : ℕ → ℕ) (i j l n : ℕ) → i < n → j < n → l < n → i ≢ j → i ≢ l → j ≢ l → ((a : ℕ) → a ≢ i → a ≢ j → a ≢ l → f a ≡ 0) → sumBelow f n ≡ f i + f j + f l
@@ -77,32 +65,28 @@ module _ {s : Anodes} {n last k : ℕ} (m : Laid s n last k) where
     owned 2 (last - (3 + k)) (4 + k) x (m .owns-2),
     owned 5 1 (3 + k) x (record { count = m .at-5 .count; start = λ p. m .at-5 .block }),
     owned 6 (n - (last + 1)) (last + 1) x (m .owns-6),
-    covers-join (3 + k) 1 (4 + k) x (omega arith),
-    covers-join (4 + k) (last - (3 + k)) (last + 1) x (omega arith),
-    covers-join (last + 1) (n - (last + 1)) n x (omega arith),
+    covers-join (3 + k) 1 0 (4 + k) (3 + k) x (omega arith) (omega arith),
+    covers-join (4 + k) (last - (3 + k)) 0 (last + 1) (4 + k) x (omega arith) (omega arith),
+    covers-join (last + 1) (n - (last + 1)) 0 n (last + 1) x (omega arith) (omega arith),
     covers-in n 0 x (omega arith) (omega arith),
   )
 
 -- ---- the system's blocks
 
-module _ (img : List ℕ) (last k : ℕ) (name : List ℕ) (day minute tick protection : ℕ) (size : wrongSize img ≡ false) (good : wrongFormat img last k name ≡ false) where
+module _ (img : List ℕ) (last k : ℕ) (name : List ℕ) (day minute tick protection : ℕ) (args : Taken img last k name) where
   abbrev disk : List ℕ
   disk = formatted img last k name day minute tick protection
-
-  -- handed to `omega`
-  args : Taken img last k name
-  args = taken img last k name size good
 
   -- slot s holds block 3 + s where it is below k, else none
   holds-some : (x s : ℕ) → s < k → holds disk x s ≡ oneAt (3 + s) x
   unfolding holds
-  holds-some x s h = rw (slotOf-formatted-some img last k name day minute tick protection size good s h, ne-eqb (3 + s) 0 (omega arith))
+  holds-some x s h = rw (slotOf-formatted-some img last k name day minute tick protection args s h, ne-eqb (3 + s) 0 (omega arith))
 
   holds-none : (x s : ℕ) → (s < k → 3 + s ≢ x) → holds disk x s ≡ 0
   unfolding holds
   holds-none x s o = elim (less? s k) [
     | inl h ↦ holds-some x s h ∙ oneAt-other (3 + s) x (o h)
-    | inr h ↦ rw (slotOf-formatted-none img last k name day minute tick protection size good s h)
+    | inr h ↦ rw (slotOf-formatted-none img last k name day minute tick protection args s h)
   ]
 
   slots-hold : (x : ℕ) → 3 ≤ x → sumBelow (holds disk x) 42 ≡ covers (3 + k) 0 x

@@ -32,14 +32,16 @@ module _ {s : Anodes} {n last k : ℕ} (m : Laid s n last k) (room : 3 + k ≤ l
       block-5 = λ z. omega (arith, z, m .at-5 .block);
     };
     next-0 = m .at-0 .next;
-    fits = λ a l. fits a (m .which a);
     links = record { closed = λ a l. closed m a; one-pred = λ x x0 u. one-pred m x x0; ends = λ a. ends m a (m .which a) (m .linking) };
     first = first;
     two-on = two-on m;
     high = λ a. high m a (m .which a);
     low = λ a. low m room a (m .which a);
-    not-two = λ x l. omega (arith, one-owner m system x (sys x) room there l);
-    not-none = λ x l. omega (arith, one-owner m system x (sys x) room there l);
+    own = record {
+      not-two = λ x l. omega (arith, one-owner m system x (sys x) room there l);
+      not-none = λ x l. omega (arith, one-owner m system x (sys x) room there l);
+      fits = λ a l. fits a (m .which a);
+    };
   }
     where
       first : (h : ℕ) → FixedHead h → preds limit (s .next) h ≡ 0

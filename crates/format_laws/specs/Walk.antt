@@ -1,7 +1,7 @@
 -- The walk over a formatted image: the root directory alone, with no entry.
 use Prim.Native.Nat.{ℕ, zero, suc, _+_}
 use mathlib.Core.Path.{_≡_, refl, _∙_}
-use mathlib.Core.Bool.{true, false}
+use mathlib.Core.Bool.{true}
 use mathlib.Core.List.{List, [], _∷_}
 use native.Mathlib.Omega.{arith}
 use lib.ListN.{getD, length-replicate, getD-replicate}
@@ -12,11 +12,11 @@ use Rattle.directory.specs.Entries.{directoryHeadIn, walkedAt}
 use Rattle.directory.proofs.Laws.{getD-putDirectoryHead-after, directoryHeadIn-putDirectoryHead}
 use Rattle.rules.specs.Counting.{gather}
 use Rattle.rules.specs.Anodes.{Anodes}
-use Rattle.rules.specs.Accepted.{diskSize, wrongSize}
+use Rattle.rules.specs.Accepted.{diskSize}
 use Rattle.rules.specs.Walk.{Dir, root, Item, entriesIn, isBlockOf, itemsBy, itemsOf, scan, done, visited, walk, walkOf}
-use Rattle.rules.specs.Format.{wrongFormat, zeroBlock, newDirectoryBlock, formatted}
+use Rattle.rules.specs.Format.{zeroBlock, newDirectoryBlock, formatted}
 use Rattle.laws.specs.Entries.{entries-end, itemsAt-whole}
-use Rattle.format.proofs.Laws.{rootHead, blockOf-formatted-directory}
+use Rattle.format.proofs.Laws.{Taken, rootHead, blockOf-formatted-directory}
 use Rattle.format_laws.specs.Anodes.{Laid}
 use Rattle.format_laws.specs.Links.{root-is}
 
@@ -44,17 +44,17 @@ module _ (items : Dir → List Item) where
   unfolding walk scan visited
   walk-alone k d none = rw (none, walk, walk-empty k)
 
-module _ (img : List ℕ) (last k : ℕ) (name : List ℕ) (day minute tick protection : ℕ) (size : wrongSize img ≡ false) (good : wrongFormat img last k name ≡ false) where
+module _ (img : List ℕ) (last k : ℕ) (name : List ℕ) (day minute tick protection : ℕ) (args : Taken img last k name) where
   abbrev disk : List ℕ
   disk = formatted img last k name day minute tick protection
 
   no-entries : entriesIn disk (3 + k) ≡ []
   unfolding entriesIn
-  no-entries = entries-end (blockOf disk (3 + k)) (3 + k) 28 16 (rw (blockOf-formatted-directory img last k name day minute tick protection size good) ends-root)
+  no-entries = entries-end (blockOf disk (3 + k)) (3 + k) 28 16 (rw (blockOf-formatted-directory img last k name day minute tick protection args) ends-root)
 
   marked : isBlockOf disk root (3 + k) ≡ true
   unfolding isBlockOf
-  marked = rw (blockOf-formatted-directory img last k name day minute tick protection size good, head-root)
+  marked = rw (blockOf-formatted-directory img last k name day minute tick protection args, head-root)
 
   module _ (s : Anodes) (m : Laid s (diskSize img) last k) where
     pub no-items : itemsOf disk s root ≡ []

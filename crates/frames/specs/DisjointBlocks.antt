@@ -6,19 +6,20 @@ use mathlib.Core.Bool.{Bool}
 use mathlib.Core.List.{List}
 use native.Mathlib.Omega.{arith}
 use lib.ListN.{length}
-use borrow.Author.Tests.{lt-ltb, le-ltb, ne-eqb}
+use borrow.Author.Tests.{le-ltb, ne-eqb}
 use Rattle.disk.specs.Root.{slotOf}
-use Rattle.rules.specs.Counting.{oneAt, sumBelow, times}
+use Rattle.rules.specs.Counting.{oneAt, times}
 use Rattle.rules.specs.Anodes.{Anodes, limit}
-use Rattle.rules.specs.Chains.{owners, holds, systemOwns, blocksOf}
+use Rattle.rules.specs.Chains.{holds, systemOwns, blocksOf}
 use Rattle.rules.specs.Accepted.{diskSize}
 use Rattle.laws.specs.Tests.{less?}
 use Rattle.laws.specs.Sums.{oneAt-same, oneAt-other, sum-zero, sum-single, sum-member, sum-members}
 use Rattle.laws.specs.Heads.{Head}
 use Rattle.laws.specs.Held.{held}
 use Rattle.laws.specs.Space.{Good}
-use Rattle.laws.specs.Owners.{held-all, hd-below}
+use Rattle.laws.specs.Owners.{total-held}
 use Rattle.laws.specs.Whole.{blocks-sum}
+use Rattle.laws.specs.OwnerTable.{not-system}
 use Rattle.laws.specs.TestsPassed.{slot-low}
 use Rattle.frames.specs.Kept.{Unheld}
 
@@ -26,11 +27,6 @@ module _ {ex : ℕ → Bool} {n last : ℕ} {s : Anodes} {system hd sd : ℕ →
   -- how often block y is held under the head h
   abbrev heldBy : ℕ → ℕ → ℕ
   heldBy h y = held limit hd (s .count) (s .block) h y
-
-  -- no block is held twice
-  held-le : (y : ℕ) → y < n → system y + sumBelow (λ h. heldBy h y) limit ≤ 1
-  unfolding owners
-  held-le y l = omega (arith, held-all limit hd (s .count) (s .block) (hd-below g) y, g .own .not-two y l)
 
   module _ (h : ℕ) (d : Head (s .next) (s .block) h) (y : ℕ) where
     pub times-held : y < n → times y (blocksOf s h) ≡ heldBy h y
@@ -48,14 +44,14 @@ module _ {ex : ℕ → Bool} {n last : ℕ} {s : Anodes} {system hd sd : ℕ →
     ]
 
     one-holder : y < n → system y + times y (blocksOf s h) ≤ 1
-    one-holder l = omega (arith, times-held l, held-le y l, sum-member (λ m. heldBy m y) h limit (g .view .below h (d .in-use)))
+    one-holder l = omega (arith, times-held l, total-held g y l, sum-member (λ m. heldBy m y) h limit (g .view .below h (d .in-use)))
 
     -- a block stands in a chain at most once
     pub chain-once : times y (blocksOf s h) ≤ 1
     chain-once = elim (less? 0 (times y (blocksOf s h))) [ inl p ↦ omega (arith, one-holder (chain-below p)) | inr p ↦ omega arith ]
 
-    not-system : 0 < times y (blocksOf s h) → system y ≡ 0
-    not-system p = omega (arith, one-holder (chain-below p))
+    chain-data : 0 < times y (blocksOf s h) → system y ≡ 0
+    chain-data p = omega (arith, one-holder (chain-below p))
 
   -- a block of one chain is no block of another
   pub chains-apart : (h k : ℕ) → Head (s .next) (s .block) h → Head (s .next) (s .block) k → h ≢ k → (y : ℕ) → 0 < times y (blocksOf s h) → times y (blocksOf s k) ≡ 0
@@ -66,7 +62,7 @@ module _ {ex : ℕ → Bool} {n last : ℕ} {s : Anodes} {system hd sd : ℕ →
         p,
         times-held h d y l,
         times-held k e y l,
-        held-le y l,
+        total-held g y l,
         sum-members (λ m. heldBy m y) h k limit (g .view .below h (d .in-use)) (g .view .below k (e .in-use)) o,
       )
 
@@ -75,10 +71,9 @@ module _ {ex : ℕ → Bool} {n last : ℕ} {s : Anodes} {system hd sd : ℕ →
 -- what the system does not own is from 3 up, and no slot holds it
 system-none : (img : List ℕ) (y : ℕ) → systemOwns img y ≡ 0 → (3 ≤ y) × Unheld img y
 unfolding systemOwns holds
-system-none img y z = elim (less? y 3) [
-  | inl l ↦ absurd (omega (arith, rw (lt-ltb y 3 l) at z))
-  | inr l ↦ (l, λ s u e. omega (arith, rw (le-ltb y 3 l) at z, sum-member (holds img y) s 42 (slot-low img s u), held-one s u e))
-]
+system-none img y z =
+    let l = not-system img y z in
+    (l, λ s u e. omega (arith, rw (le-ltb y 3 l) at z, sum-member (holds img y) s 42 (slot-low img s u), held-one s u e))
   where
     held-one : (s : ℕ) → slotOf img s ≢ 0 → slotOf img s ≡ y → holds img y s ≡ 1
     held-one s u e = rw (ne-eqb (slotOf img s) 0 u) (oneAt-same (slotOf img s) y e)
@@ -96,5 +91,5 @@ pub chain-block : {ex : ℕ → Bool} {last : ℕ} {s : Anodes} {hd sd : ℕ →
 unfolding diskSize
 chain-block img g h d y p =
     let below = chain-below g h d y p in
-    let o = system-none img y (not-system g h d y p) in
+    let o = system-none img y (chain-data g h d y p) in
     record { above = o .0; below = below; inside = omega arith; unheld = o .1 }

@@ -26,6 +26,11 @@ pub record Kept (on : ℕ → Type 0) (img j : List ℕ) : Type 0 where
   pub length-kept : length j ≡ length img
   pub block-kept : (d : ℕ) → on d → blockOf j d ≡ blockOf img d
 
+-- and the heads of its anode blocks
+pub record HeadsKept (on : ℕ → Type 0) (img j : List ℕ) : Type 0 where
+  pub kept : Kept on img j
+  pub heads-kept : (s : ℕ) → slotOf img s ≢ 0 → anodeHeadIn (blockOf j (slotOf img s)) ≡ anodeHeadIn (blockOf img (slotOf img s))
+
 pub kept-all : {on : ℕ → Type 0} (img : List ℕ) → Kept on img img
 kept-all img = record { length-kept = refl; block-kept = λ d o. refl }
 

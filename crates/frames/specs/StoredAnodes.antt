@@ -2,7 +2,7 @@
 use Prim.Native.Nat.{ℕ, zero, suc, _/_, _≤_, _<_}
 use mathlib.Core.Path.{_≡_, refl, sym, ap, _∙_, fun-ext}
 use mathlib.Core.Logic.{_≢_, inl, inr}
-use mathlib.Core.Bool.{Bool, true, false, cond}
+use mathlib.Core.Bool.{Bool, true, false, cond, and-eq-true-iff}
 use mathlib.Core.List.{List}
 use native.Mathlib.Omega.{arith}
 use lib.Dec.{eqb}
@@ -15,17 +15,16 @@ use Rattle.disk.proofs.Laws.{slotOf-high, anodeOf-missing, setAnode-missing}
 use Rattle.disk.proofs.Store.{anodeHeadIn-putAnode, length-setAnode, blockOf-setAnode-same, blockOf-setAnode-other, anodeOf-setAnode-same, anodeOf-setAnode-other}
 use Rattle.rules.specs.Anodes.{Anodes, limit, exists, inUse, fieldsOf, anodesOf, sameAnode, storeChanged, withAnodes}
 use Rattle.rules.specs.Accepted.{wrongSlots}
-use Rattle.laws.specs.Tests.{same?, less?, and-both}
+use Rattle.laws.specs.Tests.{same?, less?}
 use Rattle.laws.specs.Space.{Alike, alike-trans}
 use Rattle.laws.specs.Passes.{Reading}
 use Rattle.laws.specs.ImageAnodes.{block-at, count-at, next-at, reading-of, slot-missing}
 use Rattle.laws.specs.TestsPassed.{right-slot, one-slot}
-use Rattle.frames.specs.Kept.{Unheld, Kept, kept-all, kept-both, slotOf-kept, unheld-kept, wrongSlots-heads}
+use Rattle.frames.specs.Kept.{Unheld, HeadsKept, kept-all, kept-both, slotOf-kept, unheld-kept, wrongSlots-heads}
 
 -- j has the length of img, the blocks that no slot holds, and the heads of the anode blocks
-pub record AnodesStored (img j : List ℕ) : Type 0 where
-  pub kept : Kept (Unheld img) img j
-  pub heads-kept : (s : ℕ) → slotOf img s ≢ 0 → anodeHeadIn (blockOf j (slotOf img s)) ≡ anodeHeadIn (blockOf img (slotOf img s))
+abbrev pub AnodesStored : List ℕ → List ℕ → Type 0
+AnodesStored img j = HeadsKept (Unheld img) img j
 
 -- no slot holds the root block
 pub root-unheld : (img : List ℕ) → wrongSlots img ≡ false → Unheld img 2
@@ -78,8 +77,8 @@ alike-read img j a e = record {
 alike-same : (s t : Anodes) (a : ℕ) → sameAnode s t a ≡ true → Alike t s a
 unfolding sameAnode
 alike-same s t a e =
-    let c = and-both (eqb (s .count a) (t .count a)) _ e in
-    let b = and-both (eqb (s .block a) (t .block a)) (eqb (s .next a) (t .next a)) (c .1) in
+    let c = and-eq-true-iff (eqb (s .count a) (t .count a)) _ .0 e in
+    let b = and-eq-true-iff (eqb (s .block a) (t .block a)) (eqb (s .next a) (t .next a)) .0 (c .1) in
     record { same-count = eqb-true _ _ (c .0); same-block = eqb-true _ _ (b .0); same-next = eqb-true _ _ (b .1) }
 
 -- anode a of t, as it is stored

@@ -22,7 +22,7 @@ use Rattle.rules.specs.Changes.{withBlocks, spread, written}
 use Rattle.laws.specs.Chains.{Inside}
 use Rattle.laws.specs.Tests.{less?}
 use Rattle.laws.specs.Sums.{oneAt-cases, oneAt-same}
-use Rattle.laws.specs.Bags.{times-nil, times-cons}
+use Rattle.laws.specs.Bags.{times-nil, times-cons, times-here, times-later, gather-kept}
 use Rattle.laws.specs.Heads.{Head}
 use Rattle.laws.specs.Space.{Good}
 use Rattle.frames.specs.Kept.{Kept}
@@ -31,23 +31,11 @@ use Rattle.frames.specs.DisjointBlocks.{chain-once, chains-apart, chain-
 
 -- ---- the bytes of some blocks
 
--- the first of a list stands in it, and so does each of the rest
-first-in : (y : ℕ) (ys : List ℕ) → 0 < times y (y ∷ ys)
-first-in y ys = omega (arith, times-cons y y ys, oneAt-same y y refl)
-
-rest-in : (y z : ℕ) (ys : List ℕ) → 0 < times z ys → 0 < times z (y ∷ ys)
-rest-in y z ys p = omega (arith, times-cons z y ys)
-
-gather-kept : {on : ℕ → Type 0} {img j : List ℕ} → Kept on img j → (ys : List ℕ) → ((y : ℕ) → 0 < times y ys → on y) → gather (blockOf j) ys ≡ gather (blockOf img) ys
-unfolding gather
-gather-kept k [] o = refl
-gather-kept k (y ∷ ys) o = ap₂ _++_ (k .block-kept y (o y (first-in y ys))) (gather-kept k ys (λ z p. o z (rest-in y z ys p)))
-
 pub length-gather : (img ys : List ℕ) → Inside img ys → length (gather (blockOf img) ys) ≡ length ys * 512
 unfolding gather
 length-gather img [] i = refl
 length-gather img (y ∷ ys) i =
-    omega (arith, length-append (blockOf img y) (gather (blockOf img) ys), length-blockOf img y (i y (first-in y ys)), length-gather img ys (λ z p. i z (rest-in y z ys p)))
+    omega (arith, length-append (blockOf img y) (gather (blockOf img) ys), length-blockOf img y (i y (times-here y ys)), length-gather img ys (λ z p. i z (times-later z y ys p)))
 
 pub blockOf-withBlocks : (img ys new : List ℕ) (y : ℕ) → length new ≡ 512 → 0 < times y ys → y * 512 + 512 ≤ length img → blockOf (withBlocks img ys new) y ≡ new
 unfolding withBlocks
@@ -67,20 +55,20 @@ pub gather-spread : (img ys bytes : List ℕ) → length bytes ≡ length ys * 5
 unfolding gather spread
 gather-spread img [] bytes long i once = sym (drop-of-length-le bytes {i = 0} (omega arith))
 gather-spread img (y ∷ ys) bytes long i once =
-    let part : length (take 512 bytes) ≡ length (blockOf img y) = length-take 512 bytes ∙ omega (arith, long, length-blockOf img y (i y (first-in y ys))) in
+    let part : length (take 512 bytes) ≡ length (blockOf img y) = length-take 512 bytes ∙ omega (arith, long, length-blockOf img y (i y (times-here y ys))) in
     let rest : length (drop 512 bytes) ≡ length ys * 512 = length-drop 512 bytes ∙ omega arith in
     ap₂ _++_
     (spread-kept (withBlock img y (take 512 bytes)) ys (drop 512 bytes) (le-of-eq (sym rest)) .block-kept y (omega (arith, once y, times-cons y y ys, oneAt-same y y refl))
     ∙ blockOf-withBlock-same img y (take 512 bytes) part)
     (gather-spread (withBlock img y (take 512 bytes)) ys (drop 512 bytes) rest
-    (λ z p. rw (length-withBlock img y (take 512 bytes) (le-of-eq (sym part))) (i z (rest-in y z ys p))) (λ z. omega (arith, once z, times-cons z y ys)))
+    (λ z p. rw (length-withBlock img y (take 512 bytes) (le-of-eq (sym part))) (i z (times-later z y ys p))) (λ z. omega (arith, once z, times-cons z y ys)))
     ∙ take-append-drop 512 bytes
 
 -- ---- the bytes of a chain
 
 pub bytesOf-kept : {on : ℕ → Type 0} {img j : List ℕ} → Kept on img j → (s : Anodes) (h : ℕ) → ((y : ℕ) → 0 < times y (blocksOf s h) → on y) → bytesOf j s h ≡ bytesOf img s h
 unfolding bytesOf
-bytesOf-kept k s h o = gather-kept k (blocksOf s h) o
+bytesOf-kept {img = img} {j = j} k s h o = gather-kept (blockOf img) (blockOf j) (blocksOf s h) (λ y p. k .block-kept y (o y p))
 
 module _ {ex : ℕ → Bool} {last : ℕ} {s : Anodes} {hd sd : ℕ → ℕ} (img : List ℕ) (g : Good limit ex (diskSize img) last s (systemOwns img) hd sd)
     (e : Entered) (d : Head (s .next) (s .block) (e .anode)) (offset : ℕ) (bytes : List ℕ) where

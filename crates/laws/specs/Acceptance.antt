@@ -1,6 +1,6 @@
 -- The check's table: its answer is 0 exactly if every test fails, and what the tests 6 to 11 say in numbers.
 use Prim.Native.Nat.{ℕ, zero, suc, _+_, _%_, _≤_, _<_}
-use mathlib.Core.Path.{_≡_, refl, sym}
+use mathlib.Core.Path.{_≡_, refl}
 use mathlib.Core.Logic.{_≢_, inl, inr}
 use mathlib.Core.Bool.{Bool, true, false, not, _&&_, _||_}
 use mathlib.Core.List.{List, [], _∷_}
@@ -10,13 +10,13 @@ use lib.ListN.{length}
 use borrow.Author.Tests.{ltb-true, ltb-false, leb-false, eqb-false, not-true, lt-ltb, le-ltb, lt-leb, eq-eqb, ne-eqb}
 use Rattle.rules.specs.Counting.{_if_else_, firstOf, anyBelow, anyIn, times}
 use Rattle.rules.specs.Anodes.{Anodes, limit, anodesOf}
-use Rattle.rules.specs.Chains.{chainOf, followed, preds, owners, side}
+use Rattle.rules.specs.Chains.{chainOf, followed, preds, owners, side, systemOwns}
 use Rattle.rules.specs.Walk.{walkOf, faultIn}
-use Rattle.rules.specs.Accepted.{diskSize, wrongSize, shortTables, wrongType, lastReserved, wrongRoot, wrongSlots, wrongFixed, outOfRange, wrongLink, wrongAt, hasPred, wrongLinks, notAbove, notUpTo, wrongFreeList, twoOwners, noOwner, unnamedChain, treeFault, damageIn, checkAnswer}
-use Rattle.counting.specs.Laws.{neither, anyBelow-each, anyBelow-all}
-use Rattle.laws.specs.Sums.{oneAt-cases, oneAt-same}
-use Rattle.laws.specs.Bags.{times-nil, times-cons}
-use Rattle.laws.specs.Tests.{and-none, none-and, none-or, same}
+use Rattle.rules.specs.Accepted.{diskSize, wrongSize, shortTables, wrongType, lastReserved, wrongRoot, wrongSlots, wrongFixed, outOfRange, wrongLink, wrongAt, hasPred, wrongLinks, notAbove, notUpTo, wrongFreeList, ownersOf, twoOwners, noOwner, unnamedChain, treeFault, damageIn, checkAnswer}
+use Rattle.counting.specs.Laws.{neither, none-or, and-none, none-and, anyBelow-each, anyBelow-all}
+use Rattle.laws.specs.Each.{Each}
+use Rattle.laws.specs.Bags.{times-here, times-later, each-at}
+use Rattle.laws.specs.Tests.{same}
 use Rattle.laws.specs.TestsPassed.{fixed-anodes, extent-inside, tested-checked}
 use Rattle.laws.specs.Space.{FixedHead}
 use Rattle.laws.specs.Passes.{Reading, Passes}
@@ -24,19 +24,115 @@ use Rattle.laws.specs.Passes.{Reading, Passes}
 -- no number of a list passes
 pub in-none : (test : ℕ → Bool) (l : List ℕ) → anyIn test l ≡ false → (x : ℕ) → 0 < times x l → test x ≡ false
 unfolding anyIn
-in-none test [] e x p = absurd (omega (arith, p, times-nil x))
-in-none test (y ∷ l) e x p =
-    let o = neither (test y) (anyIn test l) e in
-    elim (oneAt-cases y x) [
-      | inl q ↦ rw (sym (q .0)) (o .0)
-      | inr q ↦ in-none test l (o .1) x (omega (arith, p, times-cons x y l, q .1))
-    ]
+in-none test l e = each-at (λ x. test x ≡ false) l (each l e)
+  where
+    each : (l : List ℕ) → anyIn test l ≡ false → Each (λ x. test x ≡ false) l
+    each [] e = tt
+    each (y ∷ l) e = let o = neither (test y) (anyIn test l) e in (o .0, each l (o .1))
 
 pub none-in : (test : ℕ → Bool) (l : List ℕ) → ((x : ℕ) → 0 < times x l → test x ≡ false) → anyIn test l ≡ false
 unfolding anyIn
 none-in test [] f = refl
 none-in test (y ∷ l) f =
-    none-or (test y) (anyIn test l) (f y (omega (arith, times-cons y y l, oneAt-same y y refl))) (none-in test l (λ x p. f x (omega (arith, p, times-cons x y l))))
+    none-or (test y) (anyIn test l) (f y (times-here y l)) (none-in test l (λ x p. f x (times-later x y l p)))
+
+-- ---- 6 to 11
+
+module _ (s : Anodes) (n last : ℕ) (system : ℕ → ℕ) where
+  -- the tests as they are computed
+  pub record Tested : Type 0 where
+    pub fixed-right : wrongFixed s ≡ false
+    pub in-range : anyBelow (outOfRange s n) limit ≡ false
+    pub links-right : wrongLinks s ≡ false
+    pub free-right : wrongFreeList s last ≡ false
+    pub none-twice : anyBelow (λ x. ltb 1 (owners limit (s .count) (s .block) system x)) n ≡ false
+    pub all-owned : anyBelow (λ x. eqb (owners limit (s .count) (s .block) system x) 0) n ≡ false
+
+  module _ (ex : ℕ → Bool) where
+    -- where no test holds, the same is true in numbers, and what is proved of accepted images stands on that form
+    pub tested-passes : Reading limit ex n last s → Tested → Passes limit ex n last s system
+    unfolding wrongLinks hasPred wrongFreeList notAbove notUpTo
+    tested-passes r t = record {
+      fixed = fixed-anodes s (t .fixed-right) .0;
+      next-0 = fixed-anodes s (t .fixed-right) .1;
+      links = tested-checked s (t .fixed-right) r n (t .in-range) (t .links-right);
+      first = first;
+      two-on = positive _ (eqb-false _ 0 (w .0));
+      high = λ a p c. leb-false _ last (and-none _ _ (in-none (notAbove s last) (side limit s 1) (w1 .0) a p) (lt-ltb 0 _ c));
+      low = λ a p c. omega (arith, ltb-false (last + 1) _ (and-none _ _ (in-none (notUpTo s last) (chainOf (s .next) limit 2) (w1 .1) a p) (lt-ltb 0 _ c)));
+      own = record {
+        not-two = λ x l. ltb-false 1 _ (anyBelow-each (λ x. ltb 1 (owners limit (s .count) (s .block) system x)) x n l (t .none-twice));
+        not-none = λ x l. positive _ (eqb-false _ 0 (anyBelow-each (λ x. eqb (owners limit (s .count) (s .block) system x) 0) x n l (t .all-owned)));
+        fits = extent-inside s (t .fixed-right) n (t .in-range);
+      };
+    }
+      where
+        positive : (k : ℕ) → k ≢ 0 → 1 ≤ k
+        positive k p = omega arith
+
+        p1 : (hasPred s 1 ≡ false) × ((hasPred s 3 || (hasPred s 4 || hasPred s 5)) ≡ false)
+        p1 = neither _ _ (neither (anyBelow (wrongAt s) limit) _ (t .links-right) .1)
+
+        p3 : (hasPred s 3 ≡ false) × ((hasPred s 4 || hasPred s 5) ≡ false)
+        p3 = neither _ _ (p1 .1)
+
+        p4 : (hasPred s 4 ≡ false) × (hasPred s 5 ≡ false)
+        p4 = neither _ _ (p3 .1)
+
+        none-before : (a : ℕ) → hasPred s a ≡ false → preds limit (s .next) a ≡ 0
+        none-before a e = omega (arith, ltb-false 0 (preds limit (s .next) a) e)
+
+        first : (m : ℕ) → FixedHead m → preds limit (s .next) m ≡ 0
+        first m (inl e) = rw e (none-before 1 (p1 .0))
+        first m (inr (inl e)) = rw e (none-before 3 (p3 .0))
+        first m (inr (inr (inl e))) = rw e (none-before 4 (p4 .0))
+        first m (inr (inr (inr e))) = rw e (none-before 5 (p4 .1))
+
+        w : (eqb (times 2 (chainOf (s .next) limit 1)) 0 ≡ false) × ((anyIn (notAbove s last) (side limit s 1) || anyIn (notUpTo s last) (chainOf (s .next) limit 2)) ≡ false)
+        w = neither _ _ (t .free-right)
+
+        w1 : (anyIn (notAbove s last) (side limit s 1) ≡ false) × (anyIn (notUpTo s last) (chainOf (s .next) limit 2) ≡ false)
+        w1 = neither _ _ (w .1)
+
+    -- and where it is true in numbers, no test holds
+    pub passes-tested : Passes limit ex n last s system → Tested
+    unfolding wrongFixed outOfRange wrongLinks wrongAt wrongLink hasPred wrongFreeList notAbove notUpTo
+    passes-tested p = record {
+      fixed-right = rw (eq-eqb (s .count 0) 0 (p .fixed .count-0), eq-eqb (s .block 0) 65535 (p .fixed .block-0), eq-eqb (s .next 0) 0 (p .next-0), eq-eqb (s .count 1) 0 (p .fixed .count-1), eq-eqb (s .block 1) 65535 (p .fixed .block-1), ne-eqb (s .block 2) 0 (p .fixed .block-2), ne-eqb (s .block 5) 0 (p .fixed .block-5));
+      in-range = anyBelow-all (outOfRange s n) limit range;
+      links-right = none-or _ _ (anyBelow-all (wrongAt s) limit link)
+          (none-or _ _ (le-ltb 0 _ (none 1 (inl refl))) (none-or _ _ (le-ltb 0 _ (none 3 (inr (inl refl)))) (none-or _ _ (le-ltb 0 _ (none 4 (inr (inr (inl refl))))) (le-ltb 0 _ (none 5 (inr (inr (inr refl))))))));
+      free-right = none-or _ _ (ne-eqb (times 2 (chainOf (s .next) limit 1)) 0 (λ e. omega (arith, e, p .two-on)))
+          (none-or _ _ (none-in (notAbove s last) (side limit s 1) above) (none-in (notUpTo s last) (chainOf (s .next) limit 2) up-to));
+      none-twice = anyBelow-all (λ x. ltb 1 (owners limit (s .count) (s .block) system x)) n (λ x l. le-ltb 1 _ (p .own .not-two x l));
+      all-owned = anyBelow-all (λ x. eqb (owners limit (s .count) (s .block) system x) 0) n (λ x l. ne-eqb (owners limit (s .count) (s .block) system x) 0 (λ e. omega (arith, e, p .own .not-none x l)));
+    }
+      where
+        none : (m : ℕ) → FixedHead m → preds limit (s .next) m ≤ 0
+        none m f = omega (arith, p .first m f)
+
+        range : (a : ℕ) → a < limit → outOfRange s n a ≡ false
+        range a l =
+            none-and (not (eqb a 0)) (ltb 0 (s .count a) && ltb n (s .block a + s .count a) || not (eqb (s .next a) 0) && eqb (s .block (s .next a)) 0) (λ e.
+            none-or (ltb 0 (s .count a) && ltb n (s .block a + s .count a)) (not (eqb (s .next a) 0) && eqb (s .block (s .next a)) 0)
+            (none-and (ltb 0 (s .count a)) (ltb n (s .block a + s .count a)) (λ c. le-ltb n (s .block a + s .count a) (p .own .fits a l (ltb-true 0 (s .count a) c))))
+            (none-and (not (eqb (s .next a) 0)) (eqb (s .block (s .next a)) 0) (λ c. ne-eqb (s .block (s .next a)) 0 (p .links .closed a l (eqb-false (s .next a) 0 (not-true (eqb (s .next a) 0) c))))))
+
+        link : (a : ℕ) → a < limit → wrongAt s a ≡ false
+        link a l =
+            none-and (not (eqb a 0)) (not (eqb (s .block a) 0) && wrongLink s a) (λ e.
+            none-and (not (eqb (s .block a) 0)) (wrongLink s a) (λ u.
+            none-or (ltb 1 (preds limit (s .next) a)) (not (eqb (followed (s .next) limit a) 0))
+            (le-ltb 1 (preds limit (s .next) a) (p .links .one-pred a (eqb-false a 0 (not-true (eqb a 0) e)) (eqb-false (s .block a) 0 (not-true (eqb (s .block a) 0) u))))
+            (same (followed (s .next) limit a) 0 (p .links .ends a (eqb-false (s .block a) 0 (not-true (eqb (s .block a) 0) u))))))
+
+        above : (a : ℕ) → 0 < times a (side limit s 1) → notAbove s last a ≡ false
+        above a q = none-and (ltb 0 (s .count a)) (leb (s .block a) last) (λ c. lt-leb (s .block a) last (p .high a q (ltb-true 0 (s .count a) c)))
+
+        up-to : (a : ℕ) → 0 < times a (chainOf (s .next) limit 2) → notUpTo s last a ≡ false
+        up-to a q =
+            none-and (ltb 0 (s .count a)) (ltb (last + 1) (s .block a + s .count a)) (λ c.
+            le-ltb (last + 1) (s .block a + s .count a) (omega (arith, p .low a q (ltb-true 0 (s .count a) c))))
 
 -- ---- the table
 
@@ -74,18 +170,13 @@ pub record Passed (img : List ℕ) (blocks anodes : ℕ) : Type 0 where
   pub type-right : wrongType img ≡ false
   pub root-right : wrongRoot img ≡ false
   pub slots-right : wrongSlots img ≡ false
-  pub fixed-right : wrongFixed (anodesOf img) ≡ false
-  pub in-range : anyBelow (outOfRange (anodesOf img) (diskSize img)) limit ≡ false
-  pub links-right : wrongLinks (anodesOf img) ≡ false
-  pub free-right : wrongFreeList (anodesOf img) (lastReserved img) ≡ false
-  pub none-twice : twoOwners img (anodesOf img) ≡ false
-  pub all-owned : noOwner img (anodesOf img) ≡ false
+  pub tested : Tested (anodesOf img) (diskSize img) (lastReserved img) (systemOwns img)
   pub walked : faultIn (walkOf img (anodesOf img)) ≡ 0
   pub all-named : anyBelow (unnamedChain img (anodesOf img)) limit ≡ false
 
 -- where the check answers 0, no test holds
 pub passed-of : (img : List ℕ) (blocks anodes : ℕ) → checkAnswer img blocks anodes ≡ 0 → Passed img blocks anodes
-unfolding checkAnswer damageIn treeFault
+unfolding checkAnswer damageIn treeFault twoOwners noOwner ownersOf
 passed-of img blocks anodes e =
     let r1 = if-zero 1 (wrongSize img) _ (omega arith) e in
     let r2 = if-zero 2 (shortTables img blocks anodes) _ (omega arith) (r1 .1) in
@@ -106,114 +197,15 @@ passed-of img blocks anodes e =
       type-right = r3 .0;
       root-right = r4 .0;
       slots-right = r5 .0;
-      fixed-right = r6 .0;
-      in-range = r7 .0;
-      links-right = r8 .0;
-      free-right = r9 .0;
-      none-twice = r10 .0;
-      all-owned = r11 .0;
+      tested = record { fixed-right = r6 .0; in-range = r7 .0; links-right = r8 .0; free-right = r9 .0; none-twice = r10 .0; all-owned = r11 .0 };
       walked = r12 .0;
       all-named = r16 .0;
     }
 
 -- where no test holds, the check answers 0
 pub passed-accepted : (img : List ℕ) (blocks anodes : ℕ) → Passed img blocks anodes → checkAnswer img blocks anodes ≡ 0
-unfolding checkAnswer damageIn treeFault
+unfolding checkAnswer damageIn treeFault twoOwners noOwner ownersOf
 passed-accepted img blocks anodes p =
-    rw (p .size-right, p .tables-long, p .type-right, p .root-right, p .slots-right, p .fixed-right, p .in-range, p .links-right, p .free-right, p .none-twice, p .all-owned, p .all-named)
+    let t = p .tested in
+    rw (p .size-right, p .tables-long, p .type-right, p .root-right, p .slots-right, t .fixed-right, t .in-range, t .links-right, t .free-right, t .none-twice, t .all-owned, p .all-named)
     (firstOf-none (faultIn (walkOf img (anodesOf img))) 0 (p .walked))
-
--- ---- 6 to 11
-
-module _ (s : Anodes) (n last : ℕ) (system : ℕ → ℕ) (ex : ℕ → Bool) where
-  -- the tests as they are computed
-  pub record Tested : Type 0 where
-    pub fixed-right : wrongFixed s ≡ false
-    pub in-range : anyBelow (outOfRange s n) limit ≡ false
-    pub links-right : wrongLinks s ≡ false
-    pub free-right : wrongFreeList s last ≡ false
-    pub none-twice : anyBelow (λ x. ltb 1 (owners limit (s .count) (s .block) system x)) n ≡ false
-    pub all-owned : anyBelow (λ x. eqb (owners limit (s .count) (s .block) system x) 0) n ≡ false
-
-  -- where no test holds, the same is true in numbers, and what is proved of accepted images stands on that form
-  pub tested-passes : Reading limit ex n last s → Tested → Passes limit ex n last s system
-  unfolding wrongLinks hasPred wrongFreeList notAbove notUpTo
-  tested-passes r t = record {
-    fixed = fixed-anodes s (t .fixed-right) .0;
-    next-0 = fixed-anodes s (t .fixed-right) .1;
-    fits = extent-inside s (t .fixed-right) n (t .in-range);
-    links = tested-checked s (t .fixed-right) r n (t .in-range) (t .links-right);
-    first = first;
-    two-on = positive _ (eqb-false _ 0 (w .0));
-    high = λ a p c. leb-false _ last (and-none _ _ (in-none (notAbove s last) (side limit s 1) (w1 .0) a p) (lt-ltb 0 _ c));
-    low = λ a p c. omega (arith, ltb-false (last + 1) _ (and-none _ _ (in-none (notUpTo s last) (chainOf (s .next) limit 2) (w1 .1) a p) (lt-ltb 0 _ c)));
-    not-two = λ x l. ltb-false 1 _ (anyBelow-each (λ x. ltb 1 (owners limit (s .count) (s .block) system x)) x n l (t .none-twice));
-    not-none = λ x l. positive _ (eqb-false _ 0 (anyBelow-each (λ x. eqb (owners limit (s .count) (s .block) system x) 0) x n l (t .all-owned)));
-  }
-    where
-      positive : (k : ℕ) → k ≢ 0 → 1 ≤ k
-      positive k p = omega arith
-
-      p1 : (hasPred s 1 ≡ false) × ((hasPred s 3 || (hasPred s 4 || hasPred s 5)) ≡ false)
-      p1 = neither _ _ (neither (anyBelow (wrongAt s) limit) _ (t .links-right) .1)
-
-      p3 : (hasPred s 3 ≡ false) × ((hasPred s 4 || hasPred s 5) ≡ false)
-      p3 = neither _ _ (p1 .1)
-
-      p4 : (hasPred s 4 ≡ false) × (hasPred s 5 ≡ false)
-      p4 = neither _ _ (p3 .1)
-
-      none-before : (a : ℕ) → hasPred s a ≡ false → preds limit (s .next) a ≡ 0
-      none-before a e = omega (arith, ltb-false 0 (preds limit (s .next) a) e)
-
-      first : (m : ℕ) → FixedHead m → preds limit (s .next) m ≡ 0
-      first m (inl e) = rw e (none-before 1 (p1 .0))
-      first m (inr (inl e)) = rw e (none-before 3 (p3 .0))
-      first m (inr (inr (inl e))) = rw e (none-before 4 (p4 .0))
-      first m (inr (inr (inr e))) = rw e (none-before 5 (p4 .1))
-
-      w : (eqb (times 2 (chainOf (s .next) limit 1)) 0 ≡ false) × ((anyIn (notAbove s last) (side limit s 1) || anyIn (notUpTo s last) (chainOf (s .next) limit 2)) ≡ false)
-      w = neither _ _ (t .free-right)
-
-      w1 : (anyIn (notAbove s last) (side limit s 1) ≡ false) × (anyIn (notUpTo s last) (chainOf (s .next) limit 2) ≡ false)
-      w1 = neither _ _ (w .1)
-
-  -- and where it is true in numbers, no test holds
-  pub passes-tested : Passes limit ex n last s system → Tested
-  unfolding wrongFixed outOfRange wrongLinks wrongAt wrongLink hasPred wrongFreeList notAbove notUpTo
-  passes-tested p = record {
-    fixed-right = rw (eq-eqb (s .count 0) 0 (p .fixed .count-0), eq-eqb (s .block 0) 65535 (p .fixed .block-0), eq-eqb (s .next 0) 0 (p .next-0), eq-eqb (s .count 1) 0 (p .fixed .count-1), eq-eqb (s .block 1) 65535 (p .fixed .block-1), ne-eqb (s .block 2) 0 (p .fixed .block-2), ne-eqb (s .block 5) 0 (p .fixed .block-5));
-    in-range = anyBelow-all (outOfRange s n) limit range;
-    links-right = none-or _ _ (anyBelow-all (wrongAt s) limit link)
-        (none-or _ _ (le-ltb 0 _ (none 1 (inl refl))) (none-or _ _ (le-ltb 0 _ (none 3 (inr (inl refl)))) (none-or _ _ (le-ltb 0 _ (none 4 (inr (inr (inl refl))))) (le-ltb 0 _ (none 5 (inr (inr (inr refl))))))));
-    free-right = none-or _ _ (ne-eqb (times 2 (chainOf (s .next) limit 1)) 0 (λ e. omega (arith, e, p .two-on)))
-        (none-or _ _ (none-in (notAbove s last) (side limit s 1) above) (none-in (notUpTo s last) (chainOf (s .next) limit 2) up-to));
-    none-twice = anyBelow-all (λ x. ltb 1 (owners limit (s .count) (s .block) system x)) n (λ x l. le-ltb 1 _ (p .not-two x l));
-    all-owned = anyBelow-all (λ x. eqb (owners limit (s .count) (s .block) system x) 0) n (λ x l. ne-eqb (owners limit (s .count) (s .block) system x) 0 (λ e. omega (arith, e, p .not-none x l)));
-  }
-    where
-      none : (m : ℕ) → FixedHead m → preds limit (s .next) m ≤ 0
-      none m f = omega (arith, p .first m f)
-
-      range : (a : ℕ) → a < limit → outOfRange s n a ≡ false
-      range a l =
-          none-and (not (eqb a 0)) (ltb 0 (s .count a) && ltb n (s .block a + s .count a) || not (eqb (s .next a) 0) && eqb (s .block (s .next a)) 0) (λ e.
-          none-or (ltb 0 (s .count a) && ltb n (s .block a + s .count a)) (not (eqb (s .next a) 0) && eqb (s .block (s .next a)) 0)
-          (none-and (ltb 0 (s .count a)) (ltb n (s .block a + s .count a)) (λ c. le-ltb n (s .block a + s .count a) (p .fits a l (ltb-true 0 (s .count a) c))))
-          (none-and (not (eqb (s .next a) 0)) (eqb (s .block (s .next a)) 0) (λ c. ne-eqb (s .block (s .next a)) 0 (p .links .closed a l (eqb-false (s .next a) 0 (not-true (eqb (s .next a) 0) c))))))
-
-      link : (a : ℕ) → a < limit → wrongAt s a ≡ false
-      link a l =
-          none-and (not (eqb a 0)) (not (eqb (s .block a) 0) && wrongLink s a) (λ e.
-          none-and (not (eqb (s .block a) 0)) (wrongLink s a) (λ u.
-          none-or (ltb 1 (preds limit (s .next) a)) (not (eqb (followed (s .next) limit a) 0))
-          (le-ltb 1 (preds limit (s .next) a) (p .links .one-pred a (eqb-false a 0 (not-true (eqb a 0) e)) (eqb-false (s .block a) 0 (not-true (eqb (s .block a) 0) u))))
-          (same (followed (s .next) limit a) 0 (p .links .ends a (eqb-false (s .block a) 0 (not-true (eqb (s .block a) 0) u))))))
-
-      above : (a : ℕ) → 0 < times a (side limit s 1) → notAbove s last a ≡ false
-      above a q = none-and (ltb 0 (s .count a)) (leb (s .block a) last) (λ c. lt-leb (s .block a) last (p .high a q (ltb-true 0 (s .count a) c)))
-
-      up-to : (a : ℕ) → 0 < times a (chainOf (s .next) limit 2) → notUpTo s last a ≡ false
-      up-to a q =
-          none-and (ltb 0 (s .count a)) (ltb (last + 1) (s .block a + s .count a)) (λ c.
-          le-ltb (last + 1) (s .block a + s .count a) (omega (arith, p .low a q (ltb-true 0 (s .count a) c))))

@@ -1,20 +1,18 @@
 -- What the check computes, and the whole accepted state: each follows from the other.
-use Prim.Native.Nat.{ℕ, _≤_, _<_}
+use Prim.Native.Nat.{ℕ, _<_}
 use mathlib.Core.Path.{_≡_}
 use mathlib.Core.Logic.{_≢_, inl, inr}
 use mathlib.Core.Bool.{Bool}
 use mathlib.Core.List.{List, [], _∷_}
 use native.Mathlib.Omega.{arith}
-use Rattle.rules.specs.Counting.{sumList}
 use Rattle.rules.specs.Anodes.{limit, Anodes}
 use Rattle.rules.specs.Chains.{headOf, cut}
 use Rattle.rules.specs.Walk.{Dir, root, Entered, itemsBy, done, walk}
-use Rattle.laws.specs.Heads.{Head}
 use Rattle.laws.specs.Space.{Good}
 use Rattle.laws.specs.Passes.{Reading, Passes, good-of, passes-of}
 use Rattle.laws.specs.Items.{namedIn, faults}
 use Rattle.laws.specs.Trees.{tree-one, walk-tree, tree-walk}
-use Rattle.laws.specs.Whole.{named-le, Whole, names-head}
+use Rattle.laws.specs.Whole.{named-le, AllNamed, Whole, names-head}
 
 -- 6 to 11 pass, the walk from the root meets no fault, and every head from 6 up is named
 module _ (ex : ℕ → Bool) (n last : ℕ) where
@@ -22,7 +20,7 @@ module _ (ex : ℕ → Bool) (n last : ℕ) where
     pub reading : Reading limit ex n last s
     pub passes : Passes limit ex n last s system
     pub walked : walk (itemsBy entries marked s) limit (root ∷ []) [] ≡ done dirs
-    pub all-named : (x : ℕ) → 6 ≤ x → Head (s .next) (s .block) x → 1 ≤ sumList (namedIn (itemsBy entries marked s) x) dirs
+    pub all-named : AllNamed s entries marked dirs
 
 -- what a directory with no fault names is below the limit, and not the root
 named-range : {ex : ℕ → Bool} {n last : ℕ} {s : Anodes} {system hd sd : ℕ → ℕ} → Good limit ex n last s system hd sd → (entries : ℕ → List Entered) (marked : Dir → ℕ → Bool) (d : Dir) (x : ℕ) →

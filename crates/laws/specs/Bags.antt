@@ -1,12 +1,13 @@
 -- Sums over a list, and how often a number stands in one.
 use Prim.Native.Nat.{ℕ, _+_, _*_, _≤_, _<_}
-use mathlib.Core.Path.{_≡_, refl, sym}
+use mathlib.Core.Path.{_≡_, refl, sym, ap, _∙_}
 use mathlib.Core.Logic.{inl, inr}
 use mathlib.Core.List.{List, [], _∷_, _++_, map}
 use native.Mathlib.Omega.{arith}
 use lib.ListN.{length}
 use Rattle.rules.specs.Counting.{oneAt, sumBelow, sumList, times, gather}
 use Rattle.laws.specs.Tests.{less?}
+use Rattle.laws.specs.Each.{Each, each-all, each-map, each-zero, list-congr-each, list-mono-each}
 use Rattle.laws.specs.Sums.{oneAt-cases, oneAt-same, sum-congr, sum-mono, sum-const, sum-zero, sum-add, sum-pick}
 
 module _ {ℓ} {X : Type ℓ} where
@@ -23,9 +24,21 @@ module _ {ℓ} {X : Type ℓ} where
   list-append w [] m = omega arith
   list-append w (x ∷ l) m = omega (arith, list-append w l m)
 
+  -- a list with x in it, and without it
+  pub list-without : (w : X → ℕ) (l : List X) (x : X) (m : List X) → sumList w (l ++ (x ∷ m)) ≡ sumList w (l ++ m) + w x
+  list-without w l x m = omega (arith, list-append w l (x ∷ m), list-append w l m, list-cons w x m)
+
   pub list-one : (w : X → ℕ) (x : X) → sumList w (x ∷ []) ≡ w x
   unfolding sumList
   list-one w x = omega arith
+
+  -- a sum above 0 has a term above 0: the list parted there
+  pub list-some : (w : X → ℕ) (l : List X) → 0 < sumList w l → (x : X) × (before : List X) × (after : List X) × (l ≡ before ++ (x ∷ after)) × (0 < w x)
+  list-some w [] p = absurd (omega (arith, p, list-nil w))
+  list-some w (x ∷ l) p = elim (less? 0 (w x)) [
+    | inl q ↦ (x, [], l, refl, q)
+    | inr q ↦ (let r = list-some w l (omega (arith, p, list-cons w x l)) in (r .0, x ∷ r .1, r .2, ap (λ (m : List X). x ∷ m) (r .3), r .4))
+  ]
 
   pub list-add : (w u : X → ℕ) (l : List X) → sumList (λ x. w x + u x) l ≡ sumList w l + sumList u l
   unfolding sumList
@@ -33,25 +46,17 @@ module _ {ℓ} {X : Type ℓ} where
   list-add w u (x ∷ l) = omega (arith, list-add w u l)
 
   pub list-mono : (w u : X → ℕ) (l : List X) → ((x : X) → w x ≤ u x) → sumList w l ≤ sumList u l
-  unfolding sumList
-  list-mono w u [] h = omega arith
-  list-mono w u (x ∷ l) h = omega (arith, list-mono w u l h, h x)
+  list-mono w u l h = list-mono-each w u l (each-all (λ x. w x ≤ u x) h l)
 
   pub list-congr : (w u : X → ℕ) (l : List X) → ((x : X) → w x ≡ u x) → sumList w l ≡ sumList u l
-  unfolding sumList
-  list-congr w u [] h = refl
-  list-congr w u (x ∷ l) h = omega (arith, list-congr w u l h, h x)
+  list-congr w u l h = list-congr-each w u l (each-all (λ x. w x ≡ u x) h l)
 
   -- where a guard has no weight on the list, what holds where the guard is 0 may be used
   pub list-mono-where : (g w u : X → ℕ) (l : List X) → sumList g l ≡ 0 → ((x : X) → g x ≡ 0 → w x ≤ u x) → sumList w l ≤ sumList u l
-  unfolding sumList
-  list-mono-where g w u [] z h = omega arith
-  list-mono-where g w u (x ∷ l) z h = omega (arith, list-mono-where g w u l (omega arith) h, h x (omega arith))
+  list-mono-where g w u l z h = list-mono-each w u l (each-map (λ x. g x ≡ 0) (λ x. w x ≤ u x) l h (each-zero g l z))
 
   pub list-congr-where : (g w u : X → ℕ) (l : List X) → sumList g l ≡ 0 → ((x : X) → g x ≡ 0 → w x ≡ u x) → sumList w l ≡ sumList u l
-  unfolding sumList
-  list-congr-where g w u [] z h = omega arith
-  list-congr-where g w u (x ∷ l) z h = omega (arith, list-congr-where g w u l (omega arith) h, h x (omega arith))
+  list-congr-where g w u l z h = list-congr-each w u l (each-map (λ x. g x ≡ 0) (λ x. w x ≡ u x) l h (each-zero g l z))
 
   pub list-zero : (w : X → ℕ) (l : List X) → ((x : X) → w x ≡ 0) → sumList w l ≡ 0
   unfolding sumList
@@ -62,6 +67,10 @@ module _ {ℓ} {X : Type ℓ} where
   unfolding sumList
   list-scale w c [] = omega arith
   list-scale w c (x ∷ l) = omega (arith, list-scale w c l)
+
+  -- a weight that is another and c for each unit of a third
+  pub list-gain : (w u g : X → ℕ) (c : ℕ) (l : List X) → Each (λ x. u x ≡ w x + g x * c) l → sumList u l ≡ sumList w l + sumList g l * c
+  list-gain w u g c l e = list-congr-each u (λ x. w x + g x * c) l e ∙ omega (arith, list-add w (λ x. g x * c) l, list-scale g c l)
 
   pub list-length : (l : List X) → sumList (λ x. 1) l ≡ length l
   unfolding sumList
@@ -98,13 +107,41 @@ pub times-append : (x : ℕ) (l m : List ℕ) → times x (l ++ m) ≡ times x l
 unfolding times
 times-append x l m = list-append (λ z. oneAt z x) l m
 
+-- the first number of a list stands in it, and so does each of the rest
+pub times-here : (x : ℕ) (l : List ℕ) → 0 < times x (x ∷ l)
+times-here x l = omega (arith, times-cons x x l, oneAt-same x x refl)
+
+pub times-later : (x y : ℕ) (l : List ℕ) → 0 < times x l → 0 < times x (y ∷ l)
+times-later x y l p = omega (arith, p, times-cons x y l)
+
+-- what holds of each number that stands in a list
+pub each-in : (P : ℕ → Type 0) (l : List ℕ) → ((x : ℕ) → 0 < times x l → P x) → Each P l
+each-in P [] h = tt
+each-in P (x ∷ l) h = (h x (times-here x l), each-in P l (λ y p. h y (times-later y x l p)))
+
+pub each-at : (P : ℕ → Type 0) (l : List ℕ) → Each P l → (a : ℕ) → 0 < times a l → P a
+each-at P [] e a p = absurd (omega (arith, p, times-nil a))
+each-at P (x ∷ l) e a p = elim (oneAt-cases x a) [
+  | inl c ↦ rw (← (c .0)) (e .0)
+  | inr c ↦ each-at P l (e .1) a (omega (arith, p, c .1, times-cons a x l))
+]
+
 -- a weight that is none on a list is none at a member
 pub none-at : (g : ℕ → ℕ) (l : List ℕ) → sumList g l ≡ 0 → (a : ℕ) → 0 < times a l → g a ≡ 0
-none-at g [] z a p = absurd (omega (arith, p, times-nil a))
-none-at g (x ∷ l) z a p = elim (oneAt-cases x a) [
-  | inl c ↦ rw (← (c .0)) (omega (arith, z, list-cons g x l))
-  | inr c ↦ none-at g l (omega (arith, z, list-cons g x l)) a (omega (arith, p, c .1, times-cons a x l))
-]
+none-at g l z = each-at (λ a. g a ≡ 0) l (each-zero g l z)
+
+-- two weights that agree at the numbers of a list, at least where a guard that has no weight on the list is 0
+pub kept-sum-where : (g f f′ : ℕ → ℕ) (l : List ℕ) → sumList g l ≡ 0 → ((a : ℕ) → 0 < times a l → g a ≡ 0 → f′ a ≡ f a) → sumList f′ l ≡ sumList f l
+kept-sum-where g f f′ l z e = list-congr-each f′ f l (each-in (λ a. f′ a ≡ f a) l (λ a p. e a p (none-at g l z a p)))
+
+pub kept-sum : (f f′ : ℕ → ℕ) (l : List ℕ) → ((a : ℕ) → 0 < times a l → f′ a ≡ f a) → sumList f′ l ≡ sumList f l
+kept-sum f f′ l e = list-congr-each f′ f l (each-in (λ a. f′ a ≡ f a) l e)
+
+-- two functions that agree on the numbers of a list
+pub gather-kept {ℓ} : {Y : Type ℓ} (f f′ : ℕ → List Y) (l : List ℕ) → ((a : ℕ) → 0 < times a l → f′ a ≡ f a) → gather f′ l ≡ gather f l
+unfolding gather
+gather-kept f f′ [] h = refl
+gather-kept f f′ (x ∷ l) h = rw (h x (times-here x l), gather-kept f f′ l (λ a p. h a (times-later a x l p)))
 
 -- a weight's sum over a list of numbers below k, by how often each number stands there
 pub sum-by-times : (w : ℕ → ℕ) (l : List ℕ) (k : ℕ) → ((x : ℕ) → k ≤ x → times x l ≡ 0) → sumList w l ≡ sumBelow (λ x. times x l * w x) k
@@ -112,7 +149,7 @@ unfolding sumList
 sum-by-times w [] k h = sym (sum-zero (λ x. times x [] * w x) k (λ i l. rw times-nil (omega arith)))
 sum-by-times w (y ∷ l) k h = elim (less? y k) [
   | inl b ↦ omega (arith, sum-by-times w l k rest, sum-add (λ x. oneAt y x * w x) (λ x. times x l * w x) k, sum-pick w y k b, split)
-  | inr b ↦ absurd (omega (arith, h y b, times-cons y y l, oneAt-same y y refl))
+  | inr b ↦ absurd (omega (arith, h y b, times-here y l))
 ]
   where
     rest : (x : ℕ) → k ≤ x → times x l ≡ 0

@@ -1,8 +1,7 @@
 -- How many blocks the chain of each head has, and what a change of one anode does to that.
 use Prim.Native.Nat.{ℕ, _+_, _*_, _<_}
-use mathlib.Core.Path.{_≡_, sym, ap, _∙_}
-use mathlib.Core.Logic.{inl, inr}
-use mathlib.Core.Bool.{not}
+use mathlib.Core.Path.{_≡_, refl, sym, _∙_}
+use mathlib.Core.Logic.{_≢_, inl, inr}
 use native.Mathlib.Omega.{arith}
 use Rattle.rules.specs.Counting.{oneAt, sumBelow, sumList, changed}
 use Rattle.rules.specs.Chains.{chainOf}
@@ -11,7 +10,7 @@ use Rattle.laws.specs.Sums.{oneAt-other, changed-same, changed-other, su
 use Rattle.laws.specs.Links.{View, Linked}
 use Rattle.laws.specs.Heads.{Head, Heads, head-of-is, chain-sum}
 
--- the blocks that the table gives the head h
+-- the blocks that the table hd gives the head h: the sum of `count` over its anodes
 unfoldable pub blocks : ℕ → (ℕ → ℕ) → (ℕ → ℕ) → ℕ → ℕ
 blocks A hd count h = sumBelow (λ a. oneAt (hd a) h * count a) A
 
@@ -22,33 +21,24 @@ blocks-all A hd count low =
     sum-swap (λ h a. oneAt (hd a) h * count a) A A
     ∙ sum-congr (λ a. sumBelow (λ h. oneAt (hd a) h * count a) A) count A (λ a l. sum-at (hd a) (count a) A (low a))
 
+-- heads and counts that change at x alone
+pub blocks-changed : (A : ℕ) (hd count hd′ count′ : ℕ → ℕ) (x : ℕ) → x < A → ((a : ℕ) → a ≢ x → hd′ a ≡ hd a) → ((a : ℕ) → a ≢ x → count′ a ≡ count a) → (h : ℕ) →
+    blocks A hd′ count′ h + oneAt (hd x) h * count x ≡ blocks A hd count h + oneAt (hd′ x) h * count′ x
+unfolding blocks
+blocks-changed A hd count hd′ count′ x l same-hd same-count h =
+    sum-update (λ a. oneAt (hd a) h * count a) (λ a. oneAt (hd′ a) h * count′ a) x A l (λ j m e. rw (same-hd j e, same-count j e))
+
 module _ (A : ℕ) (hd count : ℕ → ℕ) where
   -- x keeps its head and has c blocks
   pub blocks-rewrite : (x c : ℕ) → x < A → (h : ℕ) → blocks A hd (changed count x c) h + oneAt (hd x) h * count x ≡ blocks A hd count h + oneAt (hd x) h * c
-  unfolding blocks
-  blocks-rewrite x c l h = omega (
-    arith,
-    sum-update (λ a. oneAt (hd a) h * count a) (λ a. oneAt (hd a) h * changed count x c a) x A l
-        (λ j m e. rw (changed-other count x c j e)),
-    ap (λ (y : ℕ). oneAt (hd x) h * y) (changed-same count x c),
-  )
+  blocks-rewrite x c l h = rw (changed-same count x c) at (blocks-changed A hd count hd (changed count x c) x l (λ a e. refl) (changed-other count x c) h)
 
   -- x, with no block, comes to the head m with c blocks (a fresh anode)
   pub blocks-fresh : (x m c : ℕ) → x < A → count x ≡ 0 → (h : ℕ) → blocks A (changed hd x m) (changed count x c) h ≡ blocks A hd count h + oneAt m h * c
-  unfolding blocks
   blocks-fresh x m c l z h = omega (
     arith,
-    sum-update (λ a. oneAt (hd a) h * count a) (λ a. oneAt (changed hd x m a) h * changed count x c a) x A l
-        (λ j k e. rw (changed-other count x c j e, changed-other hd x m j e)),
-    at-x,
-    was,
+    rw (changed-same count x c, changed-same hd x m, z) at (blocks-changed A hd count (changed hd x m) (changed count x c) x l (changed-other hd x m) (changed-other count x c) h),
   )
-    where
-      at-x : oneAt (changed hd x m x) h * changed count x c x ≡ oneAt m h * c
-      at-x = rw (changed-same count x c, changed-same hd x m)
-
-      was : oneAt (hd x) h * count x ≡ 0
-      was = rw z (omega arith)
 
 -- ---- heads and chains
 
@@ -57,11 +47,11 @@ module _ {A : ℕ} {next block : ℕ → ℕ} (v : View A next block) (k : Linke
   -- what is no head has no blocks
   pub blocks-none : (h : ℕ) → (Head next block h → ⊥) → blocks A hd count h ≡ 0
   unfolding blocks
-  blocks-none h not = sum-zero (λ a. oneAt (hd a) h * count a) A (λ a l. elim (same? a 0) [
+  blocks-none h none = sum-zero (λ a. oneAt (hd a) h * count a) A (λ a l. elim (same? a 0) [
     | inl e ↦ rw (e, zero-none) (omega arith)
     | inr e ↦ elim (same? (block a) 0) [
       | inl u ↦ rw (free-none a u) (omega arith)
-      | inr u ↦ rw (oneAt-other (hd a) h (λ q. not (rw q at (head-of-is v k hd t a e u)))) (omega arith)
+      | inr u ↦ rw (oneAt-other (hd a) h (λ q. none (rw q at (head-of-is v k hd t a e u)))) (omega arith)
     ]
   ])
 

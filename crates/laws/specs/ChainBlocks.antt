@@ -12,11 +12,11 @@ use Rattle.rules.specs.Chains.{chainOf, run, blocksOf, blockCount}
 use Rattle.rules.specs.Space.{rewritten, onChain, dropped, insertedAfter}
 use Rattle.laws.specs.Tests.{T-false}
 use Rattle.laws.specs.Sums.{oneAt-same, changed-other, changed-pos}
-use Rattle.laws.specs.Bags.{times-cons, times-append}
+use Rattle.laws.specs.Bags.{times-cons, times-append, gather-kept}
 use Rattle.laws.specs.LinkChanges.{without, drop-apart, insertAfter, insert-view, insert-linked, insert-after}
 use Rattle.laws.specs.Segments.{Chain}
 use Rattle.laws.specs.Links.{the-chain, chain-the, seg-once}
-use Rattle.laws.specs.Heads.{Head}
+use Rattle.laws.specs.Heads.{Head, head-chain}
 use Rattle.laws.specs.Space.{Alike, Good, on-chain, dead-head, dead-along, drop-good}
 use Rattle.laws.specs.Frame.{kept-count, Shift, apart-alike, apart-chain}
 
@@ -24,13 +24,6 @@ pub gather-append {ℓ κ} : {X : Type ℓ} {Y : Type κ} (f : X → List Y) (l 
 unfolding gather
 gather-append f [] m = refl
 gather-append {Y = Y} f (x ∷ l) m = ap (λ (k : List Y). f x ++ k) (gather-append f l m) ∙ sym (append-assoc (f x) (gather f l) (gather f m))
-
--- two functions that agree on the members of a list
-gather-kept : (f f′ : ℕ → List ℕ) (l : List ℕ) → ((a : ℕ) → 0 < times a l → f′ a ≡ f a) → gather f′ l ≡ gather f l
-unfolding gather
-gather-kept f f′ [] h = refl
-gather-kept f f′ (x ∷ l) h =
-    rw (h x (omega (arith, times-cons x x l, oneAt-same x x refl)), gather-kept f f′ l (λ a p. h a (omega (arith, p, times-cons a x l))))
 
 -- two functions that agree but at x, over a list without x
 pub gather-off : (f f′ : ℕ → List ℕ) (x : ℕ) → ((a : ℕ) → a ≢ x → f′ a ≡ f a) → (l : List ℕ) → times x l ≡ 0 → gather f′ l ≡ gather f l
@@ -107,7 +100,7 @@ module _ {ex : ℕ → Bool} {n last : ℕ} {s : Anodes} {system hd sd : ℕ →
 module _ {A : ℕ} {ex : ℕ → Bool} {n last : ℕ} {s : Anodes} {system hd sd : ℕ → ℕ} (g : Good A ex n last s system hd sd) (m : ℕ) (d : Head (s .next) (s .block) m) (x : ℕ) (pre post : List ℕ)
     (split : chainOf (s .next) A m ≡ pre ++ (x ∷ post)) where
   chain : Chain (s .next) m (pre ++ (x ∷ post))
-  chain = rw split at (the-chain (g .view) (g .linked) m (λ q. d .in-use))
+  chain = rw split at (head-chain (g .view) (g .linked) m d)
 
   -- x stands in the chain once
   pub stands-once : (times x pre ≡ 0) × (times x post ≡ 0)

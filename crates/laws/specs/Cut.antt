@@ -4,10 +4,10 @@ use mathlib.Core.Path.{_≡_, refl, sym, ap, _∙_, fun-ext}
 use mathlib.Core.Logic.{_≢_, _⊎_, inl, inr}
 use mathlib.Core.Bool.{Bool, true, false, cond}
 use native.Mathlib.Omega.{arith}
-use lib.Dec.{eqb, eqb→eq}
+use lib.Dec.{eqb}
 use Rattle.rules.specs.Counting.{changed}
 use Rattle.rules.specs.Chains.{cut}
-use Rattle.laws.specs.Tests.{same?, cond-cases}
+use Rattle.laws.specs.Tests.{same?, eqb-cases}
 use Rattle.laws.specs.Sums.{changed-same, changed-other}
 use Rattle.laws.specs.Links.{View, Linked}
 use Rattle.laws.specs.Heads.{Head}
@@ -15,10 +15,7 @@ use Rattle.laws.specs.LinkChanges.{insertAfter, unlink, without}
 
 pub cut-cases : (next : ℕ → ℕ) (a : ℕ) → ((next a ≡ 2) × (cut next a ≡ 0)) ⊎ ((next a ≢ 2) × (cut next a ≡ next a))
 unfolding cut
-cut-cases next a = elim (cond-cases {A = ℕ} (eqb (next a) 2) 0 (next a)) [
-  | inl h ↦ inl (eqb→eq (next a) 2 (h .0), h .1)
-  | inr h ↦ inr (λ e. h .0 (rw e tt), h .1)
-]
+cut-cases next a = eqb-cases (next a) 2 0 (next a)
 
 pub cut-two : (next : ℕ → ℕ) (a : ℕ) → next a ≡ 2 → cut next a ≡ 0
 cut-two next a e = elim (cut-cases next a) [ inl c ↦ c .1 | inr c ↦ absurd (c .0 e) ]

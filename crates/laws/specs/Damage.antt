@@ -34,9 +34,6 @@ if-number n false a b rest l m q = q
 abbrev Told : Item → Type 0
 Told i = NoneOr 12 15 (i .early) × NoneOr 12 15 (i .late)
 
-abbrev AllTold : List Item → Type 0
-AllTold = Each Told
-
 told-entry : (s : Anodes) (e : Entered) → Told (itemOf s e)
 unfolding itemOf wrongAnode wrongFileSize
 told-entry s e = (
@@ -44,11 +41,11 @@ told-entry s e = (
   either-number (e .dir) 12 15 0 _ (inl refl) (either-number (eqb (blockCount s (e .anode)) (blocksFor (e .size))) 12 15 0 15 (inl refl) (inr (omega arith, omega arith))),
 )
 
-told-at : (t : Bool) (s : Anodes) (es : List Entered) → AllTold (cond t (map (itemOf s) es) (broken ∷ []))
+told-at : (t : Bool) (s : Anodes) (es : List Entered) → Each Told (cond t (map (itemOf s) es) (broken ∷ []))
 told-at true s es = each-given Told (itemOf s) (told-entry s) es
 told-at false s es = ((inr (omega arith, omega arith), inl refl), tt)
 
-told-items : (img : List ℕ) (s : Anodes) (d : Dir) → AllTold (itemsOf img s d)
+told-items : (img : List ℕ) (s : Anodes) (d : Dir) → Each Told (itemsOf img s d)
 unfolding itemsOf itemsBy itemsAt
 told-items img s d = each-gather Told (itemsAt (entriesIn img) (isBlockOf img) s d) (λ a. told-at (eqb (s .count a) 1 && isBlockOf img d (s .block a)) s (entriesIn img (s .block a))) (chainOf (s .next) limit (d .head))
 
@@ -56,12 +53,16 @@ fault-told : (i : Item) (named : List ℕ) → Told i → NoneOr 12 15 (faultOf 
 unfolding faultOf
 fault-told i named p = first-number 12 15 (i .early) _ (p .0) (if-number 14 (leb 1 (times (i .anode) named)) 12 15 (i .late) (omega arith) (omega arith) (p .1))
 
--- a fault that a scan or a walk answers
+-- a fault that a scan answers, and one that a walk answers
 abbrev Faulty : Scanned → Type 0
 Faulty (faulty n) = (12 ≤ n) × (n ≤ 15)
 Faulty (fine q l) = Unit {0}
 
-scan-told : (d : Dir) (is : List Item) (q : List Dir) (named : List ℕ) → AllTold is → Faulty (scan d is q named)
+abbrev pub Faulted : Walk → Type 0
+Faulted (fault n) = (12 ≤ n) × (n ≤ 15)
+Faulted (done ds) = Unit {0}
+
+scan-told : (d : Dir) (is : List Item) (q : List Dir) (named : List ℕ) → Each Told is → Faulty (scan d is q named)
 unfolding scan
 scan-told d [] q named p = tt
 scan-told d (i ∷ is) q named p = go (faultOf i named) (fault-told i named (p .0)) (scan-told d is (q ++ subDirs d i) (i .anode ∷ named) (p .1))
@@ -71,27 +72,34 @@ scan-told d (i ∷ is) q named p = go (faultOf i named) (fault-told i named (p .
     go (suc m) (inl z) rest = absurd (omega arith)
     go (suc m) (inr r) rest = r
 
-visited-told : (d : Dir) (w : Walk) → NoneOr 12 15 (faultIn w) → NoneOr 12 15 (faultIn (visited d w))
+visited-told : (d : Dir) (w : Walk) → Faulted w → Faulted (visited d w)
 unfolding visited
 visited-told d (fault n) p = p
-visited-told d (done ds) p = inl refl
+visited-told d (done ds) p = tt
 
-walk-told : (items : Dir → List Item) → ((d : Dir) → AllTold (items d)) → (k : ℕ) (q : List Dir) (named : List ℕ) → NoneOr 12 15 (faultIn (walk items k q named))
+walk-told : (items : Dir → List Item) → ((d : Dir) → Each Told (items d)) → (k : ℕ) (q : List Dir) (named : List ℕ) → Faulted (walk items k q named)
 unfolding walk
-walk-told items p zero [] named = inl refl
-walk-told items p zero (d ∷ q) named = inr (omega arith, omega arith)
-walk-told items p (suc k) [] named = inl refl
+walk-told items p zero [] named = tt
+walk-told items p zero (d ∷ q) named = (omega arith, omega arith)
+walk-told items p (suc k) [] named = tt
 walk-told items p (suc k) (d ∷ q) named = go (scan d (items d) q named) (scan-told d (items d) q named (p d)) (walk-told items p k)
   where
-    go : (c : Scanned) → Faulty c → ((q : List Dir) (l : List ℕ) → NoneOr 12 15 (faultIn (walk items k q l)))
-        → NoneOr 12 15 (faultIn (elim c [ faulty n ↦ fault n | fine q l ↦ visited d (walk items k q l) ]))
-    go (faulty n) r rest = inr r
+    go : (c : Scanned) → Faulty c → ((q : List Dir) (l : List ℕ) → Faulted (walk items k q l)) → Faulted (elim c [ faulty n ↦ fault n | fine q l ↦ visited d (walk items k q l) ])
+    go (faulty n) r rest = r
     go (fine q l) r rest = visited-told d (walk items k q l) (rest q l)
 
--- the walk answers 0, or a fault from 12 to 15
-pub walk-range : (img : List ℕ) (s : Anodes) → NoneOr 12 15 (faultIn (walkOf img s))
+-- the walk is done, or has a fault from 12 to 15
+pub walk-faulted : (img : List ℕ) (s : Anodes) → Faulted (walkOf img s)
 unfolding walkOf
-walk-range img s = walk-told (itemsOf img s) (told-items img s) limit (root ∷ []) []
+walk-faulted img s = walk-told (itemsOf img s) (told-items img s) limit (root ∷ []) []
+
+-- so it answers 0, or one of these
+pub walk-range : (img : List ℕ) (s : Anodes) → NoneOr 12 15 (faultIn (walkOf img s))
+walk-range img s = go (walkOf img s) (walk-faulted img s)
+  where
+    go : (w : Walk) → Faulted w → NoneOr 12 15 (faultIn w)
+    go (fault n) p = inr p
+    go (done ds) p = inl refl
 
 -- a range within a wider one
 wider : (a b c d n : ℕ) → c ≤ a → b ≤ d → NoneOr a b n → NoneOr c d n

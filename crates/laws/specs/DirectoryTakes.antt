@@ -1,7 +1,7 @@
 -- A reached directory takes a block with no entries into an anode of its own.
 use Prim.Native.Nat.{ℕ, _<_}
 use mathlib.Core.Path.{_≡_, refl, sym, ap, _∙_}
-use mathlib.Core.Logic.{_≢_, inl, inr}
+use mathlib.Core.Logic.{_≢_}
 use mathlib.Core.Bool.{Bool, true}
 use mathlib.Core.List.{List, [], _∷_, map, map-id}
 use native.Mathlib.Omega.{arith}
@@ -11,28 +11,25 @@ use Rattle.rules.specs.Anodes.{limit, Anodes}
 use Rattle.rules.specs.Chains.{chainOf}
 use Rattle.rules.specs.Walk.{Dir, Entered, Item, itemOf, itemsAt, itemsBy}
 use Rattle.rules.specs.Space.{planned, takeBlock}
-use Rattle.laws.specs.Sums.{oneAt-cases}
-use Rattle.laws.specs.Bags.{list-nil, list-cons, list-append, list-one, list-zero}
+use Rattle.laws.specs.Sums.{oneAt-some}
+use Rattle.laws.specs.Bags.{list-nil, list-append, list-some, list-one, list-zero, kept-sum-where}
 use Rattle.laws.specs.Heads.{Head}
 use Rattle.laws.specs.Moves.{Moved}
 use Rattle.laws.specs.Take.{take-good}
-use Rattle.laws.specs.Frame.{kept-sum-where, take-shift}
+use Rattle.laws.specs.Frame.{take-shift}
 use Rattle.laws.specs.OwnBlock.{Appended, own-appended}
-use Rattle.laws.specs.Each.{Each, each-both, each-zero}
+use Rattle.laws.specs.Each.{Each, each-both, each-pair, each-right, each-zero}
 use Rattle.laws.specs.Items.{wrong, faults}
 use Rattle.laws.specs.TreeChanges.{headed, AlikeItems}
 use Rattle.laws.specs.Totals.{file-size}
 use Rattle.laws.specs.Entries.{broken-wrong, items-sum, itemsAt-whole, anodes-fine, at-alike}
+use Rattle.laws.specs.Whole.{DirHead, tree-heads}
 use Rattle.laws.specs.Orphan.{Orphaned, amiss, still-fine, none-amiss, orphan-shift, dir-no-file}
 
 -- one of the directories has the head h
 pub find-headed : (P : Dir → Type 0) (h : ℕ) (l : List Dir) → Each P l → 0 < headed h l → (d : Dir) × (d .head ≡ h) × P d
 unfolding headed
-find-headed P h [] e p = absurd (omega (arith, p, list-nil {X = Dir} (λ d. oneAt (d .head) h)))
-find-headed P h (d ∷ l) e p = elim (oneAt-cases (d .head) h) [
-  | inl c ↦ (d, c .0, e .0)
-  | inr c ↦ find-headed P h l (e .1) (omega (arith, p, c .1, list-cons {X = Dir} (λ d. oneAt (d .head) h) d l))
-]
+find-headed P h l e p = let r = list-some (λ d. oneAt (d .head) h) l p in (r .0, oneAt-some (r .0 .head) h (r .4), each-right P (r .1) (r .0 ∷ r .2) (rw (r .3) at e) .0)
 
 module _ {ex : ℕ → Bool} {n last f : ℕ} {s : Anodes} {system hd sd : ℕ → ℕ} {entries : ℕ → List Entered} {marked : Dir → ℕ → Bool} {dirs : List Dir}
     (o : Orphaned ex n last f s system hd sd entries marked dirs) (h : ℕ) (reached : headed h dirs ≡ 1) where
@@ -42,10 +39,9 @@ module _ {ex : ℕ → Bool} {n last f : ℕ} {s : Anodes} {system hd sd : ℕ �
   no-file : sumList (λ d. sumList (file-size (λ x. oneAt x h)) (items d)) dirs ≡ 0
   no-file = dir-no-file o h reached
 
-  the-dir : (d : Dir) × (d .head ≡ h) × ((Head (s .next) (s .block) (d .head) × (d .head ≢ 1)) × (faults items d ≡ 0))
-  the-dir = find-headed (λ d. (Head (s .next) (s .block) (d .head) × (d .head ≢ 1)) × (faults items d ≡ 0)) h dirs
-      (each-both (λ d. Head (s .next) (s .block) (d .head) × (d .head ≢ 1)) (λ d. faults items d ≡ 0) (λ d. (Head (s .next) (s .block) (d .head) × (d .head ≢ 1)) × (faults items d ≡ 0)) dirs
-      (λ d a b. (a, b)) (o .dir-heads) (each-zero (faults items) dirs (o .tree .faultless))) (omega (arith, reached))
+  the-dir : (d : Dir) × (d .head ≡ h) × (DirHead s d × (faults items d ≡ 0))
+  the-dir = find-headed (λ d. DirHead s d × (faults items d ≡ 0)) h dirs
+      (each-pair (DirHead s) (λ d. faults items d ≡ 0) dirs (tree-heads (o .good) entries marked (o .tree)) (each-zero (faults items) dirs (o .tree .faultless))) (omega (arith, reached))
 
   pub dir-head : Head (s .next) (s .block) h
   dir-head = rw (the-dir .1) at (the-dir .2 .0 .0)

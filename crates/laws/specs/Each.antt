@@ -9,6 +9,10 @@ abbrev pub Each {ℓ} : {X : Type ℓ} → (X → Type 0) → List X → Type 0
 Each P [] = Unit {0}
 Each P (x ∷ l) = P x × Each P l
 
+pub each-all {ℓ} : {X : Type ℓ} (P : X → Type 0) → ((x : X) → P x) → (l : List X) → Each P l
+each-all P h [] = tt
+each-all P h (x ∷ l) = (h x, each-all P h l)
+
 pub each-map {ℓ} : {X : Type ℓ} (P Q : X → Type 0) (l : List X) → ((x : X) → P x → Q x) → Each P l → Each Q l
 each-map P Q [] f e = tt
 each-map P Q (x ∷ l) f e = (f x (e .0), each-map P Q l f (e .1))
@@ -16,6 +20,9 @@ each-map P Q (x ∷ l) f e = (f x (e .0), each-map P Q l f (e .1))
 pub each-both {ℓ} : {X : Type ℓ} (P Q R : X → Type 0) (l : List X) → ((x : X) → P x → Q x → R x) → Each P l → Each Q l → Each R l
 each-both P Q R [] f p q = tt
 each-both P Q R (x ∷ l) f p q = (f x (p .0) (q .0), each-both P Q R l f (p .1) (q .1))
+
+pub each-pair {ℓ} : {X : Type ℓ} (P Q : X → Type 0) (l : List X) → Each P l → Each Q l → Each (λ x. P x × Q x) l
+each-pair P Q l p q = each-both P Q (λ x. P x × Q x) l (λ x a b. (a, b)) p q
 
 -- of each element that f gives
 pub each-given {ℓ κ} : {X : Type ℓ} {Y : Type κ} (P : Y → Type 0) (f : X → Y) → ((x : X) → P (f x)) → (l : List X) → Each P (map f l)
@@ -34,6 +41,10 @@ each-gather P f h (x ∷ l) = each-append P (f x) (gather f l) (h x) (each-gathe
 pub each-right {ℓ} : {X : Type ℓ} (P : X → Type 0) (l m : List X) → Each P (l ++ m) → Each P m
 each-right P [] m e = e
 each-right P (x ∷ l) m e = each-right P l m (e .1)
+
+pub each-less {ℓ} : {X : Type ℓ} (P : X → Type 0) (l : List X) (x : X) (m : List X) → Each P (l ++ (x ∷ m)) → Each P (l ++ m)
+each-less P [] x m e = e .1
+each-less P (y ∷ l) x m e = (e .0, each-less P l x m (e .1))
 
 pub list-congr-each {ℓ} : {X : Type ℓ} (w u : X → ℕ) (l : List X) → Each (λ x. w x ≡ u x) l → sumList w l ≡ sumList u l
 unfolding sumList

@@ -16,9 +16,8 @@ use Rattle.rules.specs.Anodes.{limit, Anodes}
 use Rattle.rules.specs.Chains.{chainOf, heads, blockCount}
 use Rattle.rules.specs.Walk.{Dir, Entered, entriesFrom, Item, blocksFor, wrongAnode, wrongFileSize, itemOf, broken, itemsAt, itemsBy}
 use Rattle.laws.specs.Tests.{cond-cases, T-true, both}
-use Rattle.laws.specs.Bags.{list-one, list-mono, list-congr, list-congr-where, list-zero, gather-sum, map-sum, none-at}
+use Rattle.laws.specs.Bags.{list-one, list-mono, list-congr, list-congr-where, list-zero, gather-sum, map-sum, none-at, kept-sum-where}
 use Rattle.laws.specs.Space.{Alike}
-use Rattle.laws.specs.Frame.{kept-sum-where}
 use Rattle.laws.specs.Items.{wrong, weighItem}
 use Rattle.laws.specs.TreeChanges.{AlikeItems}
 
@@ -49,6 +48,15 @@ broken-wrong = refl
 
 -- ---- an entry with nothing wrong
 
+-- a file has the blocks of its size
+abbrev pub Sized : Anodes → Entered → Type 0
+Sized s e = (e .dir ≡ true) ⊎ (blockCount s (e .anode) ≡ blocksFor (e .size))
+
+-- and where its chain has as many blocks, it still has
+pub sized-still : (s t : Anodes) (e : Entered) → blockCount t (e .anode) ≡ blockCount s (e .anode) → Sized s e → Sized t e
+sized-still s t e c (inl q) = inl q
+sized-still s t e c (inr q) = inr (c ∙ q)
+
 module _ (s : Anodes) where
   right-anode : (a : ℕ) → wrongAnode s a ≡ 0 → (6 ≤ a) × (heads limit (s .next) (s .block) a ≡ 1)
   unfolding wrongAnode
@@ -61,7 +69,7 @@ module _ (s : Anodes) where
   unfolding wrongAnode
   anode-right a l e = rw (le-leb 6 a l, eq-eqb (heads limit (s .next) (s .block) a) 1 e)
 
-  right-size : (e : Entered) → wrongFileSize s e ≡ 0 → (e .dir ≡ true) ⊎ (blockCount s (e .anode) ≡ blocksFor (e .size))
+  right-size : (e : Entered) → wrongFileSize s e ≡ 0 → Sized s e
   unfolding wrongFileSize
   right-size e z = go (e .dir) z
     where
@@ -72,7 +80,7 @@ module _ (s : Anodes) where
         | inr q ↦ absurd (omega (arith, z, q .1))
       ]
 
-  size-right : (e : Entered) → (e .dir ≡ true) ⊎ (blockCount s (e .anode) ≡ blocksFor (e .size)) → wrongFileSize s e ≡ 0
+  size-right : (e : Entered) → Sized s e → wrongFileSize s e ≡ 0
   unfolding wrongFileSize
   size-right e (inl q) = rw q
   size-right e (inr q) = rw (eq-eqb (blockCount s (e .anode)) (blocksFor (e .size)) q) (go (e .dir))
@@ -83,17 +91,18 @@ module _ (s : Anodes) where
 
   -- what it is for an entry to have nothing wrong: it keeps the entry rules, names a head from 6 up, and a file has the blocks of its size
   pub item-fine : (e : Entered) → wrong (itemOf s e) ≡ 0 →
-      (e .broken ≡ false) × (6 ≤ e .anode) × (heads limit (s .next) (s .block) (e .anode) ≡ 1) × ((e .dir ≡ true) ⊎ (blockCount s (e .anode) ≡ blocksFor (e .size)))
+      (e .broken ≡ false) × (6 ≤ e .anode) × (heads limit (s .next) (s .block) (e .anode) ≡ 1) × Sized s e
   unfolding wrong itemOf
-  item-fine e z = go (e .broken) refl (omega arith)
+  item-fine e z =
+      let whole = unbroken (e .broken) (wrongAnode s (e .anode)) (omega arith) in
+      let named = right-anode (e .anode) (whole .1) in
+      (whole .0, named .0, named .1, right-size e (omega arith))
     where
-      go : (b : Bool) → e .broken ≡ b → cond b 12 (wrongAnode s (e .anode)) ≡ 0 →
-          (e .broken ≡ false) × (6 ≤ e .anode) × (heads limit (s .next) (s .block) (e .anode) ≡ 1) × ((e .dir ≡ true) ⊎ (blockCount s (e .anode) ≡ blocksFor (e .size)))
-      go true q y = absurd (omega (arith, y))
-      go false q y = let a = right-anode (e .anode) y in (q, a .0, a .1, right-size e (omega arith))
+      unbroken : (b : Bool) (n : ℕ) → cond b 12 n ≡ 0 → (b ≡ false) × (n ≡ 0)
+      unbroken true n y = absurd (omega arith)
+      unbroken false n y = (refl, y)
 
-  pub fine-item : (e : Entered) → e .broken ≡ false → 6 ≤ e .anode → heads limit (s .next) (s .block) (e .anode) ≡ 1 →
-      (e .dir ≡ true) ⊎ (blockCount s (e .anode) ≡ blocksFor (e .size)) → wrong (itemOf s e) ≡ 0
+  pub fine-item : (e : Entered) → e .broken ≡ false → 6 ≤ e .anode → heads limit (s .next) (s .block) (e .anode) ≡ 1 → Sized s e → wrong (itemOf s e) ≡ 0
   unfolding wrong itemOf
   fine-item e b l h z = omega (arith, ap (λ (q : Bool). cond q 12 (wrongAnode s (e .anode))) b, anode-right (e .anode) l h, size-right e z)
 
@@ -123,9 +132,12 @@ module _ (entries : ℕ → List Entered) (marked : Dir → ℕ → Bool) (s : A
   unfolding itemsBy
   items-sum w = gather-sum (itemsAt entries marked s d) w (chainOf (s .next) limit (d .head))
 
-  -- one anode of a directory is broken, or gives the items of its block
-  pub itemsAt-cases : (a : ℕ) →
-      ((s .count a ≡ 1) × T (marked d (s .block a)) × (itemsAt entries marked s d a ≡ map (itemOf s) (entries (s .block a)))) ⊎ (itemsAt entries marked s d a ≡ broken ∷ [])
+  -- an anode of the directory gives the items of its block
+  abbrev Gives : ℕ → Type 0
+  Gives a = (s .count a ≡ 1) × T (marked d (s .block a)) × (itemsAt entries marked s d a ≡ map (itemOf s) (entries (s .block a)))
+
+  -- or is broken
+  pub itemsAt-cases : (a : ℕ) → Gives a ⊎ (itemsAt entries marked s d a ≡ broken ∷ [])
   unfolding itemsAt
   itemsAt-cases a = elim (cond-cases (eqb (s .count a) 1 && marked d (s .block a)) (map (itemOf s) (entries (s .block a))) (broken ∷ [])) [
     | inl q ↦ (let b = both (eqb (s .count a) 1) (marked d (s .block a)) (q .0) in inl (eqb→eq (s .count a) 1 (b .0), b .1, q .1))
@@ -133,13 +145,11 @@ module _ (entries : ℕ → List Entered) (marked : Dir → ℕ → Bool) (s : A
   ]
 
   -- where nothing is wrong, or a broken item at least has a weight and there is none, it gives the items of its block
-  pub itemsAt-fine : (guard : Item → ℕ) → guard broken ≢ 0 → (a : ℕ) → sumList guard (itemsAt entries marked s d a) ≡ 0 →
-      (s .count a ≡ 1) × T (marked d (s .block a)) × (itemsAt entries marked s d a ≡ map (itemOf s) (entries (s .block a)))
+  pub itemsAt-fine : (guard : Item → ℕ) → guard broken ≢ 0 → (a : ℕ) → sumList guard (itemsAt entries marked s d a) ≡ 0 → Gives a
   itemsAt-fine guard some a z = elim (itemsAt-cases a) [ inl q ↦ q | inr q ↦ absurd (some (sym (list-one guard broken) ∙ ap (sumList guard) (sym q) ∙ z)) ]
 
   -- and so does each anode of a directory with nothing wrong
-  pub anodes-fine : sumList wrong (itemsBy entries marked s d) ≡ 0 → (a : ℕ) → 0 < times a (chainOf (s .next) limit (d .head)) →
-      (s .count a ≡ 1) × T (marked d (s .block a)) × (itemsAt entries marked s d a ≡ map (itemOf s) (entries (s .block a)))
+  pub anodes-fine : sumList wrong (itemsBy entries marked s d) ≡ 0 → (a : ℕ) → 0 < times a (chainOf (s .next) limit (d .head)) → Gives a
   anodes-fine z a p = itemsAt-fine wrong (λ q. omega (arith, q, broken-wrong)) a
       (none-at (λ a. sumList wrong (itemsAt entries marked s d a)) (chainOf (s .next) limit (d .head)) (sym (items-sum wrong) ∙ z) a p)
 

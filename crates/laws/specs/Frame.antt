@@ -1,37 +1,20 @@
 -- What a change for the chain of one head leaves alone: every other chain is the same list of anodes, with the same blocks.
-use Prim.Native.Nat.{ℕ, _+_, _<_}
-use mathlib.Core.Path.{_≡_, refl, sym, ap, _∙_}
+use Prim.Native.Nat.{ℕ, _<_}
+use mathlib.Core.Path.{_≡_, sym, ap, _∙_}
 use mathlib.Core.Logic.{_≢_, inl, inr}
 use mathlib.Core.Bool.{Bool}
-use mathlib.Core.List.{List, [], _∷_}
+use mathlib.Core.List.{List}
 use native.Mathlib.Omega.{arith}
 use Rattle.rules.specs.Counting.{sumList, times}
 use Rattle.rules.specs.Anodes.{limit, Anodes}
 use Rattle.rules.specs.Chains.{chainOf, blockCount}
 use Rattle.laws.specs.Tests.{same?}
-use Rattle.laws.specs.Sums.{oneAt-same}
-use Rattle.laws.specs.Bags.{list-nil, list-cons, list-zero, times-cons}
+use Rattle.laws.specs.Bags.{kept-sum}
 use Rattle.laws.specs.Segments.{seg-keep}
-use Rattle.laws.specs.Links.{the-chain, chain-the}
-use Rattle.laws.specs.Heads.{Head, head-of-is, on-own, seg-head}
+use Rattle.laws.specs.Links.{chain-the}
+use Rattle.laws.specs.Heads.{Head, head-chain, head-of-is, on-own, seg-head}
 use Rattle.laws.specs.Space.{Alike, alike-trans, Good, on-chain}
 use Rattle.laws.specs.Moves.{Moved, self-headed}
-
--- a sum over a list at whose members two weights agree, at least where a guard that has no weight on the list is 0
-pub kept-sum-where : (g f f′ : ℕ → ℕ) (l : List ℕ) → sumList g l ≡ 0 → ((a : ℕ) → 0 < times a l → g a ≡ 0 → f′ a ≡ f a) → sumList f′ l ≡ sumList f l
-kept-sum-where g f f′ [] z e = list-nil f′ ∙ sym (list-nil f)
-kept-sum-where g f f′ (x ∷ l) z e =
-    let zx : g x + sumList g l ≡ 0 = sym (list-cons g x l) ∙ z in
-    omega (
-      arith,
-      list-cons f′ x l,
-      list-cons f x l,
-      e x (omega (arith, times-cons x x l, oneAt-same x x refl)) (omega arith),
-      kept-sum-where g f f′ l (omega arith) (λ a c. e a (omega (arith, c, times-cons a x l))),
-    )
-
-pub kept-sum : (f f′ : ℕ → ℕ) (l : List ℕ) → ((a : ℕ) → 0 < times a l → f′ a ≡ f a) → sumList f′ l ≡ sumList f l
-kept-sum f f′ l e = kept-sum-where (λ a. 0) f f′ l (list-zero {X = ℕ} (λ a. 0) l (λ a. refl)) (λ a p z. e a p)
 
 -- a chain of the same anodes with the same counts has as many blocks
 pub kept-count : (s t : Anodes) (m : ℕ) → chainOf (t .next) limit m ≡ chainOf (s .next) limit m → ((a : ℕ) → 0 < times a (chainOf (s .next) limit m) → t .count a ≡ s .count a) → blockCount t m ≡ blockCount s m
@@ -51,7 +34,7 @@ module _ {A : ℕ} {ex : ℕ → Bool} {n last : ℕ} {s : Anodes} {system hd sd
       ((a : ℕ) → 0 < times a (chainOf (s .next) A m) → Alike s t a) → chainOf (t .next) A m ≡ chainOf (s .next) A m
   chain-kept {t} g′ m d d′ h =
       chain-the (g′ .view) (g′ .linked) m (chainOf (s .next) A m) (λ q. d′ .in-use)
-      (seg-keep (s .next) (t .next) m 0 (chainOf (s .next) A m) (λ x p. h x p .same-next) (the-chain (g .view) (g .linked) m (λ q. d .in-use)))
+      (seg-keep (s .next) (t .next) m 0 (chainOf (s .next) A m) (λ x p. h x p .same-next) (head-chain (g .view) (g .linked) m d))
 
   -- what stands on the chain of a head other than 1 and h is in use, and 1 and h are not its head
   pub on-other : (m : ℕ) → Head (s .next) (s .block) m → {h : ℕ} → m ≢ 1 → m ≢ h → (a : ℕ) → 0 < times a (chainOf (s .next) A m) → (s .block a ≢ 0) × (hd a ≢ 1) × (hd a ≢ h)
@@ -69,9 +52,6 @@ module _ {A : ℕ} {ex : ℕ → Bool} {n last : ℕ} {s : Anodes} {system hd sd
 
   module _ {t : Anodes} {system′ hd′ sd′ : ℕ → ℕ} (g′ : Good A ex n last t system′ hd′ sd′) (h : ℕ)
       (stays : (m : ℕ) → Head (s .next) (s .block) m → Head (t .next) (t .block) m) (no-new : (m : ℕ) → Head (t .next) (t .block) m → Head (s .next) (s .block) m) (apart : (a : ℕ) → s .block a ≢ 0 → hd a ≢ 1 → hd a ≢ h → Alike s t a) where
-    pub kept-chain : (m : ℕ) → Head (s .next) (s .block) m → m ≢ 1 → m ≢ h → chainOf (t .next) A m ≡ chainOf (s .next) A m
-    kept-chain m d m1 mh = apart-chain apart m d m1 mh g′ (stays m d)
-
     pub shift-of : Shift s hd t hd′ h
     shift-of = record { stays = stays; no-new = no-new; apart = apart; same-hd = same }
       where
@@ -79,8 +59,8 @@ module _ {A : ℕ} {ex : ℕ → Bool} {n last : ℕ} {s : Anodes} {system hd sd
         pos a u a0 q i =
             let d = head-of-is (g .view) (g .linked) hd (g .heads) a a0 u in
             let d′ = stays (hd a) d in
-            seg-head (g′ .view) (g′ .linked) hd′ (g′ .heads) (hd a) 0 (chainOf (t .next) A (hd a)) (the-chain (g′ .view) (g′ .linked) (hd a) (λ z. d′ .in-use)) a
-            (rw (kept-chain (hd a) d q i) (omega (arith, on-own (g .view) (g .linked) hd (g .heads) a a0 u)))
+            seg-head (g′ .view) (g′ .linked) hd′ (g′ .heads) (hd a) 0 (chainOf (t .next) A (hd a)) (head-chain (g′ .view) (g′ .linked) (hd a) d′) a
+            (rw (apart-chain apart (hd a) d q i g′ d′) (omega (arith, on-own (g .view) (g .linked) hd (g .heads) a a0 u)))
             ∙ g′ .heads .at-head (hd a) d′
 
         same : (a : ℕ) → s .block a ≢ 0 → hd a ≢ 1 → hd a ≢ h → hd′ a ≡ hd a

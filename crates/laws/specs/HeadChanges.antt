@@ -8,7 +8,7 @@ use lib.Dec.{T}
 use Rattle.rules.specs.Counting.{changed}
 use Rattle.laws.specs.Sums.{changed-cases, changed-same, changed-other}
 use Rattle.laws.specs.Links.{View, Linked}
-use Rattle.laws.specs.Heads.{Head, Heads}
+use Rattle.laws.specs.Heads.{Head, head-while, Heads}
 use Rattle.laws.specs.LinkChanges.{first, second, third, insertAfter, insertAfter-cases, unlink, unlink-cases, without, without-cases, without-other, used-not-free, fresh-no-next, next-there, unlink-used, pred-other, same-use, use-same}
 
 module _ {A : ℕ} {next block : ℕ → ℕ} (v : View A next block) (k : Linked A next block) (hd : ℕ → ℕ) (t : Heads next block hd) where
@@ -84,7 +84,7 @@ module _ {A : ℕ} {next block : ℕ → ℕ} (v : View A next block) (k : Linke
       along = λ a h. changed-other hd f f (next a) (λ q. k .closed a h (ap block q ∙ fresh)) ∙ t .along a h ∙ sym (changed-other hd f f a (λ q. h (ap next q ∙ v .free-end f fresh)));
       at-head = λ a d. elim (changed-cases hd f f a) [
         | inl e ↦ e .1 ∙ sym (e .0)
-        | inr e ↦ e .1 ∙ t .at-head a (record { pos = d .pos; in-use = rw (changed-other block f b a (e .0)) at (d .in-use); no-pred = d .no-pred })
+        | inr e ↦ e .1 ∙ t .at-head a (head-while d (rw (changed-other block f b a (e .0)) at (d .in-use)))
       ];
     }
 
@@ -116,13 +116,13 @@ module _ {A : ℕ} {next block : ℕ → ℕ} (v : View A next block) (k : Linke
     }
 
 module _ (block : ℕ → ℕ) (x b : ℕ) (u : block x ≢ 0) (b0 : b ≢ 0) where
+  pub rewrite-head-was : (next : ℕ → ℕ) (a : ℕ) → Head next (changed block x b) a → Head next block a
+  rewrite-head-was next a d = head-while d (λ z. d .in-use (use-same block x b u b0 a z))
+
   pub rewrite-heads : {next hd : ℕ → ℕ} → Heads next block hd → Heads next (changed block x b) hd
-  rewrite-heads t = record {
+  rewrite-heads {next} t = record {
     off = λ a h. t .off a (same-use block x b u b0 a h);
     off-zero = t .off-zero;
     along = t .along;
-    at-head = λ a d. t .at-head a (record { pos = d .pos; in-use = λ z. d .in-use (use-same block x b u b0 a z); no-pred = d .no-pred });
+    at-head = λ a d. t .at-head a (rewrite-head-was next a d);
   }
-
-  pub rewrite-head-was : (next : ℕ → ℕ) (a : ℕ) → Head next (changed block x b) a → Head next block a
-  rewrite-head-was next a d = record { pos = d .pos; in-use = λ z. d .in-use (use-same block x b u b0 a z); no-pred = d .no-pred }

@@ -20,6 +20,10 @@ pub record Head (next block : ℕ → ℕ) (a : ℕ) : Type 0 where
   pub in-use : block a ≢ 0
   pub no-pred : (p : ℕ) → next p ≢ a
 
+-- whatever the other blocks, where its own is still in use
+pub head-while : {next block block′ : ℕ → ℕ} {a : ℕ} → Head next block a → block′ a ≢ 0 → Head next block′ a
+head-while d u = record { pos = d .pos; in-use = u; no-pred = d .no-pred }
+
 -- a table of heads, by local rules: they settle it (`heads-one`), and `headOf` obeys them
 pub record Heads (next block hd : ℕ → ℕ) : Type 0 where
   pub off : (a : ℕ) → block a ≡ 0 → hd a ≡ 0
@@ -50,6 +54,10 @@ module _ {A : ℕ} {next block : ℕ → ℕ} (v : View A next block) (k : Linke
               let np : next (s .0) ≢ 0 = λ z. h (sym (s .1) ∙ z) in
               let below = k .falls (s .0) (next-pos v (s .0) np) (used v (s .0) np) in
               rw (s .1) at (step (s .0) np (rest (s .0) (next-pos v (s .0) np) (used v (s .0) np) (omega (arith, below, ap (k .rank) (s .1)))))
+
+  -- the chain of a head
+  pub head-chain : (h : ℕ) → Head next block h → Chain next h (chainOf next A h)
+  head-chain h d = the-chain v k h (λ q. d .in-use)
 
   -- the rules settle the table
   pub heads-one : (hd hd′ : ℕ → ℕ) → Heads next block hd → Heads next block hd′ → (a : ℕ) → hd a ≡ hd′ a
@@ -109,20 +117,20 @@ module _ {A : ℕ} {next block : ℕ → ℕ} (v : View A next block) (k : Linke
   unfolding headOf
   headOf-heads = record {
     off = λ a z. sum-zero (term a) A (λ h l. elim (heads-cases h) [
-      | inl s ↦ vanish a h (seg-used v k h 0 (chainOf next A h) a (λ q. s .0 .in-use) (the-chain v k h (λ q. s .0 .in-use)) z)
+      | inl s ↦ vanish a h (seg-used v k h 0 (chainOf next A h) a (λ q. s .0 .in-use) (head-chain h (s .0)) z)
       | inr s ↦ none a h (s .1)
     ]);
     off-zero = sum-zero (term 0) A (λ h l. elim (heads-cases h) [
-      | inl s ↦ vanish 0 h (seg-zero next h 0 (chainOf next A h) (the-chain v k h (λ q. s .0 .in-use)))
+      | inl s ↦ vanish 0 h (seg-zero next h 0 (chainOf next A h) (head-chain h (s .0)))
       | inr s ↦ none 0 h (s .1)
     ]);
     along = λ a n. sum-congr (term (next a)) (term a) A (λ h l. elim (heads-cases h) [
-      | inl s ↦ ap (λ (c : ℕ). heads A next block h * (c * h)) (times-next h (chainOf next A h) (the-chain v k h (λ q. s .0 .in-use)) a n
+      | inl s ↦ ap (λ (c : ℕ). heads A next block h * (c * h)) (times-next h (chainOf next A h) (head-chain h (s .0)) a n
           ∙ rw (oneAt-other h (next a) (λ e. s .0 .no-pred a (sym e))) (omega arith))
       | inr s ↦ none (next a) h (s .1) ∙ sym (none a h (s .1))
     ]);
     at-head = λ a d. sum-single (term a) a A (head-below a d) (λ h l ne. elim (heads-cases h) [
-      | inl s ↦ vanish a h (times-head h (chainOf next A h) (the-chain v k h (λ q. s .0 .in-use)) a d ∙ oneAt-other h a ne)
+      | inl s ↦ vanish a h (times-head h (chainOf next A h) (head-chain h (s .0)) a d ∙ oneAt-other h a ne)
       | inr s ↦ none a h (s .1)
     ]) ∙ own a d;
   }
@@ -138,7 +146,7 @@ module _ {A : ℕ} {next block : ℕ → ℕ} (v : View A next block) (k : Linke
 
       own : (a : ℕ) → Head next block a → term a a ≡ a
       own a d = elim (heads-cases a) [
-        | inl s ↦ rw (s .1, times-head a (chainOf next A a) (the-chain v k a (λ q. d .in-use)) a d, oneAt-same a a refl) (omega arith)
+        | inl s ↦ rw (s .1, times-head a (chainOf next A a) (head-chain a d) a d, oneAt-same a a refl) (omega arith)
         | inr s ↦ absurd (s .0 d)
       ]
 
@@ -150,13 +158,13 @@ module _ {A : ℕ} {next block : ℕ → ℕ} (v : View A next block) (k : Linke
 
     pub on-own : (a : ℕ) → a ≢ 0 → block a ≢ 0 → times a (chainOf next A (hd a)) ≡ 1
     on-own = chain-ind (λ a. times a (chainOf next A (hd a)) ≡ 1)
-        (λ a d. rw (t .at-head a d) (times-head a (chainOf next A a) (the-chain v k a (λ q. d .in-use)) a d ∙ oneAt-same a a refl))
+        (λ a d. rw (t .at-head a d) (times-head a (chainOf next A a) (head-chain a d) a d ∙ oneAt-same a a refl))
         (λ a n q. rw (t .along a n) (step a n q))
       where
         step : (a : ℕ) → next a ≢ 0 → times a (chainOf next A (hd a)) ≡ 1 → times (next a) (chainOf next A (hd a)) ≡ 1
         step a n q =
             let d = head-of-is a (next-pos v a n) (used v a n) in
-            omega (arith, times-next (hd a) (chainOf next A (hd a)) (the-chain v k (hd a) (λ z. d .in-use)) a n, oneAt-other (hd a) (next a) (λ e. d .no-pred a (sym e)))
+            omega (arith, times-next (hd a) (chainOf next A (hd a)) (head-chain (hd a) d) a n, oneAt-other (hd a) (next a) (λ e. d .no-pred a (sym e)))
 
     -- what stands on one walk has one head
     pub seg-head : (h z : ℕ) (l : List ℕ) → Seg next h l z → (x : ℕ) → 0 < times x l → hd x ≡ hd h
@@ -179,7 +187,7 @@ module _ {A : ℕ} {next block : ℕ → ℕ} (v : View A next block) (k : Linke
     times-on-chain h d a = elim (oneAt-cases (hd a) h) [
       | inl e ↦ rw (e .1, ← (e .0)) (on-own a (λ z. d .pos (sym (e .0) ∙ ap hd z ∙ t .off-zero)) (λ z. d .pos (sym (e .0) ∙ t .off a z)))
       | inr e ↦ rw (e .1) (elim (less? 0 (times a (chainOf next A h))) [
-        | inl p ↦ absurd (e .0 (seg-head h 0 (chainOf next A h) (the-chain v k h (λ q. d .in-use)) a p ∙ t .at-head h d))
+        | inl p ↦ absurd (e .0 (seg-head h 0 (chainOf next A h) (head-chain h d) a p ∙ t .at-head h d))
         | inr p ↦ omega arith
       ])
     ]
@@ -187,5 +195,5 @@ module _ {A : ℕ} {next block : ℕ → ℕ} (v : View A next block) (k : Linke
     -- a sum over a chain, and over the anodes that the table gives its head
     pub chain-sum : (c : ℕ → ℕ) (h : ℕ) → Head next block h → sumList c (chainOf next A h) ≡ sumBelow (λ a. oneAt (hd a) h * c a) A
     chain-sum c h d =
-        sum-by-times c (chainOf next A h) A (λ x l. seg-used v k h 0 (chainOf next A h) x (λ q. d .in-use) (the-chain v k h (λ q. d .in-use)) (above-free v x l))
+        sum-by-times c (chainOf next A h) A (λ x l. seg-used v k h 0 (chainOf next A h) x (λ q. d .in-use) (head-chain h d) (above-free v x l))
         ∙ sum-congr (λ a. times a (chainOf next A h) * c a) (λ a. oneAt (hd a) h * c a) A (λ a l. ap (λ (y : ℕ). y * c a) (times-on-chain h d a))

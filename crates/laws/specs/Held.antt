@@ -1,35 +1,33 @@
 -- Which blocks the chain of each head has.
 use Prim.Native.Nat.{ℕ, zero, suc, _+_, _*_, _≤_, _<_}
-use mathlib.Core.Path.{_≡_, sym, ap, _∙_}
-use mathlib.Core.Logic.{inl, inr}
+use mathlib.Core.Path.{_≡_, refl, sym, ap, _∙_}
+use mathlib.Core.Logic.{_≢_, inl, inr}
 use native.Mathlib.Omega.{arith}
 use Rattle.rules.specs.Counting.{oneAt, sumBelow, sumList, gather, changed}
 use Rattle.rules.specs.Chains.{chainOf, covers, run}
 use Rattle.laws.specs.Tests.{less?}
-use Rattle.laws.specs.Sums.{changed-same, changed-other, sum-congr, sum-zero, sum-add, sum-scale, sum-swap, sum-update, sum-pick}
+use Rattle.laws.specs.Sums.{changed-same, changed-other, sum-congr, sum-zero, sum-add, sum-scale, sum-swap, sum-pick}
 use Rattle.laws.specs.Bags.{gather-sum}
 use Rattle.laws.specs.Ownership.{covers-none, covers-front}
 use Rattle.laws.specs.Links.{View, Linked}
 use Rattle.laws.specs.Heads.{Head, Heads, chain-sum}
+use Rattle.laws.specs.Blocks.{blocks, blocks-changed, blocks-all}
 
 -- how often the anodes that the table gives the head m cover the block y
 unfoldable pub held : ℕ → (ℕ → ℕ) → (ℕ → ℕ) → (ℕ → ℕ) → ℕ → ℕ → ℕ
-held A hd count block m y = sumBelow (λ a. oneAt (hd a) m * covers (count a) (block a) y) A
+held A hd count block m y = blocks A hd (λ a. covers (count a) (block a) y) m
 
 module _ (A : ℕ) (hd count block : ℕ → ℕ) where
+  -- where x becomes (c, b), what another anode covers is the same
+  covers-other : (x c b y a : ℕ) → a ≢ x → covers (changed count x c a) (changed block x b a) y ≡ covers (count a) (block a) y
+  covers-other x c b y a e = rw (changed-other count x c a e, changed-other block x b a e)
+
   -- x keeps its head and becomes (c, b)
   pub held-rewrite : (x c b : ℕ) → x < A → (m y : ℕ) →
       held A hd (changed count x c) (changed block x b) m y + oneAt (hd x) m * covers (count x) (block x) y ≡ held A hd count block m y + oneAt (hd x) m * covers c b y
   unfolding held
-  held-rewrite x c b l m y = omega (
-    arith,
-    sum-update (λ a. oneAt (hd a) m * covers (count a) (block a) y) (λ a. oneAt (hd a) m * covers (changed count x c a) (changed block x b a) y) x A l
-        (λ j k e. rw (changed-other count x c j e, changed-other block x b j e)),
-    at-x,
-  )
-    where
-      at-x : oneAt (hd x) m * covers (changed count x c x) (changed block x b x) y ≡ oneAt (hd x) m * covers c b y
-      at-x = rw (changed-same count x c, changed-same block x b)
+  held-rewrite x c b l m y = rw (changed-same count x c, changed-same block x b) at
+      (blocks-changed A hd (λ a. covers (count a) (block a) y) hd (λ a. covers (changed count x c a) (changed block x b a) y) x l (λ a e. refl) (covers-other x c b y) m)
 
   -- x, with no block, comes to the head h as (c, b)
   pub held-fresh : (x h c b : ℕ) → x < A → count x ≡ 0 → (m y : ℕ) →
@@ -37,17 +35,14 @@ module _ (A : ℕ) (hd count block : ℕ → ℕ) where
   unfolding held
   held-fresh x h c b l z m y = omega (
     arith,
-    sum-update (λ a. oneAt (hd a) m * covers (count a) (block a) y) (λ a. oneAt (changed hd x h a) m * covers (changed count x c a) (changed block x b a) y) x A l
-        (λ j k e. rw (changed-other count x c j e, changed-other block x b j e, changed-other hd x h j e)),
-    at-x,
-    was,
+    rw (changed-same count x c, changed-same block x b, changed-same hd x h, z, covers-none (block x) y) at
+        (blocks-changed A hd (λ a. covers (count a) (block a) y) (changed hd x h) (λ a. covers (changed count x c a) (changed block x b a) y) x l (changed-other hd x h) (covers-other x c b y) m),
   )
-    where
-      at-x : oneAt (changed hd x h x) m * covers (changed count x c x) (changed block x b x) y ≡ oneAt h m * covers c b y
-      at-x = rw (changed-same count x c, changed-same block x b, changed-same hd x h)
 
-      was : oneAt (hd x) m * covers (count x) (block x) y ≡ 0
-      was = rw (z, covers-none (block x) y) (omega arith)
+  -- each block is covered as often as it is held
+  pub held-all : ((a : ℕ) → hd a < A) → (y : ℕ) → sumBelow (λ m. held A hd count block m y) A ≡ sumBelow (λ a. covers (count a) (block a) y) A
+  unfolding held
+  held-all low y = blocks-all A hd (λ a. covers (count a) (block a) y) low
 
 -- ---- the blocks of a chain in its order
 
@@ -75,7 +70,7 @@ module _ {A : ℕ} {next block : ℕ → ℕ} (v : View A next block) (k : Linke
 
   -- a sum over the blocks of a chain, in its order, is one over all blocks
   pub chain-blocks : (f : ℕ → ℕ) (h : ℕ) → Head next block h → sumList f (gather (λ a. run (block a) (count a)) (chainOf next A h)) ≡ sumBelow (λ y. held A hd count block h y * f y) n
-  unfolding held
+  unfolding held blocks
   chain-blocks f h d =
       gather-sum (λ a. run (block a) (count a)) f (chainOf next A h)
       ∙ chain-sum v k hd t (λ a. sumList f (run (block a) (count a))) h d

@@ -6,8 +6,9 @@ use mathlib.Core.Bool.{true, false}
 use mathlib.Core.List.{List}
 use native.Mathlib.Omega.{arith}
 use borrow.Author.Tests.{le-ltb, lt-ltb, eq-eqb, ne-eqb}
+use Rattle.disk.specs.Blocks.{blockOf}
 use Rattle.disk.specs.Root.{slotOf}
-use Rattle.disk.specs.AnodeBlocks.{anodesIn, anodeSlots, anodeAt, anodeOf}
+use Rattle.disk.specs.AnodeBlocks.{anodeIn, anodesIn, anodeSlots, anodeAt, anodeOf}
 use Rattle.disk.proofs.Laws.{slotOf-high, anodeOf-missing, anodeSlots-at, length-listed}
 use Rattle.rules.specs.Anodes.{limit, fieldsOf, existsIn, exists, inUse, anodesOf}
 use Rattle.laws.specs.Tests.{less?}
@@ -34,7 +35,7 @@ module _ (img : List ℕ) where
   pub slot-exists : (a s : ℕ) → slotOf img (a / 82) ≡ s → s ≢ 0 → exists img a ≡ true
   unfolding exists existsIn anodesIn
   slot-exists a zero e n = absurd (n refl)
-  slot-exists a (suc s) e n = lt-ltb (a % 82) _ (rw (anodeSlots-at img (a / 82), e) (rw (length-listed (Rattle.disk.specs.AnodeBlocks.anodeIn (Rattle.disk.specs.Blocks.blockOf img (suc s))) 0 82) (omega arith)))
+  slot-exists a (suc s) e n = lt-ltb (a % 82) _ (rw (anodeSlots-at img (a / 82), e) (rw (length-listed (anodeIn (blockOf img (suc s))) 0 82) (omega arith)))
 
   -- a slot that holds 0 has no anode
   pub slot-missing : (a : ℕ) → slotOf img (a / 82) ≡ 0 → exists img a ≡ false

@@ -1,6 +1,7 @@
 -- Theorems about the rules.
 pub mod Tests
 pub mod Sums
+pub mod Each
 pub mod Bags
 pub mod Ownership
 pub mod Segments
@@ -26,7 +27,6 @@ pub mod Give
 pub mod Refusals
 pub mod Repeated
 pub mod Frame
-pub mod Each
 pub mod Items
 pub mod Walks
 pub mod Trees

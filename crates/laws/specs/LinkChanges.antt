@@ -1,5 +1,5 @@
 -- The changes of links: a fresh anode inserted after another, one unlinked, a fresh head, whole chains dropped.
-use Prim.Native.Nat.{ℕ, suc, _+_, _*_, _<_}
+use Prim.Native.Nat.{ℕ, suc, _+_, _*_, _≤_, _<_}
 use mathlib.Core.Path.{_≡_, refl, sym, ap, _∙_}
 use mathlib.Core.Logic.{_≢_, _⊎_, inl, inr}
 use mathlib.Core.Bool.{Bool, cond}
@@ -13,6 +13,7 @@ use Rattle.laws.specs.Bags.{times-cons, times-append}
 use Rattle.laws.specs.Segments.{Seg, Chain, seg-append, seg-split, seg-keep}
 use Rattle.laws.specs.Links.{View, Linked, used, next-pos, seg-once, seg-used}
 
+-- one of three
 pub data Which (P Q R : Type 0) : Type 0 where
   first : P → Which P Q R
   second : Q → Which P Q R
@@ -244,20 +245,13 @@ module _ {A : ℕ} {next block : ℕ → ℕ} (v : View A next block) (k : Linke
 
     pub unlink-after : (a : ℕ) (l m : List ℕ) → (a ≢ 0 → block a ≢ 0) → Chain next a (l ++ (p ∷ (x ∷ m))) → Chain (unlink next p x) a (l ++ (p ∷ m))
     unlink-after a l m u c =
-        let cp : times p (l ++ (p ∷ (x ∷ m))) ≡ times p l + (1 + (oneAt x p + times p m)) = parts p in
-        let cx : times x (l ++ (p ∷ (x ∷ m))) ≡ times x l + (oneAt p x + (1 + times x m)) = parts′ x in
-        let op = seg-once v k a 0 (l ++ (p ∷ (x ∷ m))) p u c in
-        let ox = seg-once v k a 0 (l ++ (p ∷ (x ∷ m))) x u c in
         let s = seg-split next a 0 l (p ∷ (x ∷ m)) c in
         seg-append (unlink next p x) a (s .0) 0 l (p ∷ m)
-        (unlink-apart a (s .0) l (s .1) (omega arith) (omega arith))
-        (s .2 .0, s .2 .1, rw un-p (unlink-apart (next x) 0 m (s .2 .2 .2) (omega arith) (omega arith)))
+        (unlink-apart a (s .0) l (s .1) (omega (arith, once p, oneAt-same p p refl)) (omega (arith, once x, oneAt-same x x refl)))
+        (s .2 .0, s .2 .1, rw un-p (unlink-apart (next x) 0 m (s .2 .2 .2) (omega (arith, once p, oneAt-same p p refl)) (omega (arith, once x, oneAt-same x x refl))))
       where
-        parts : (y : ℕ) → times p (l ++ (p ∷ (x ∷ m))) ≡ times p l + (1 + (oneAt x p + times p m))
-        parts y = omega (arith, times-append p l (p ∷ (x ∷ m)), times-cons p p (x ∷ m), times-cons p x m, oneAt-same p p refl)
-
-        parts′ : (y : ℕ) → times x (l ++ (p ∷ (x ∷ m))) ≡ times x l + (oneAt p x + (1 + times x m))
-        parts′ y = omega (arith, times-append x l (p ∷ (x ∷ m)), times-cons x p (x ∷ m), times-cons x x m, oneAt-same x x refl)
+        once : (y : ℕ) → times y l + (oneAt p y + (oneAt x y + times y m)) ≤ 1
+        once y = omega (arith, seg-once v k a 0 (l ++ (p ∷ (x ∷ m))) y u c, times-append y l (p ∷ (x ∷ m)), times-cons y p (x ∷ m), times-cons y x m)
 
   -- ---- a fresh anode is a chain of its own: no next changes
 

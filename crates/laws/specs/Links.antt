@@ -10,7 +10,7 @@ use Rattle.rules.specs.Chains.{chainOf, followed, preds}
 use Rattle.laws.specs.Tests.{same?, less?}
 use Rattle.laws.specs.Sums.{oneAt-cases, oneAt-same, oneAt-some, oneAt-other, oneAt-le, sum-zero, sum-member, sum-members, sum-le-one}
 use Rattle.laws.specs.Bags.{times-nil, times-cons, pigeonhole}
-use Rattle.laws.specs.Segments.{Seg, Chain, followed-zero, chainOf-is, chain-is, chain-ends, chain-one}
+use Rattle.laws.specs.Segments.{Seg, Chain, followed-zero, chainOf-is, chain-is, chain-ends, chain-one, seg-avoids}
 
 -- the view of an image: what reading gives, whatever the image
 pub record View (A : ℕ) (next block : ℕ → ℕ) : Type 0 where
@@ -35,6 +35,12 @@ pub record Linked (A : ℕ) (next block : ℕ → ℕ) : Type 0 where
 pub preds-none : (A : ℕ) (next : ℕ → ℕ) (a : ℕ) → ((p : ℕ) → next p ≢ a) → preds A next a ≡ 0
 unfolding preds
 preds-none A next a h = sum-zero (λ p. oneAt (next p) a) A (λ p l. oneAt-other (next p) a (h p))
+
+-- and the next of at most one has at most one
+pub preds-one : (A : ℕ) (next : ℕ → ℕ) (x : ℕ) → ((p q : ℕ) → next p ≡ x → next q ≡ x → p ≡ q) → preds A next x ≤ 1
+unfolding preds
+preds-one A next x one =
+    sum-le-one (λ p. oneAt (next p) x) A (λ p. oneAt-le (next p) x) (λ p q i j a b. one p q (oneAt-some (next p) x a) (oneAt-some (next q) x b))
 
 module _ {A : ℕ} {next block : ℕ → ℕ} (v : View A next block) where
   -- only an anode in use has a next
@@ -103,16 +109,8 @@ module _ {A : ℕ} {next block : ℕ → ℕ} (v : View A next block) where
 
     -- in a walk no rank is above the first, and so none stands there twice
     pub seg-rank : (a z : ℕ) (l : List ℕ) (x : ℕ) → (a ≢ 0 → block a ≢ 0) → Seg next a l z → k .rank a < k .rank x → times x l ≡ 0
-    seg-rank a z [] x u c h = times-nil x
-    seg-rank a z (b ∷ l) x u c h =
-        let eb : k .rank a ≡ k .rank b = ap (k .rank) (c .0) in
-        let nb : block b ≢ 0 = rw (c .0) at u (c .1) in
-        omega (
-          arith,
-          times-cons x b l,
-          oneAt-other b x (λ e. omega (arith, ap (k .rank) e)),
-          seg-rank (next b) z l x (k .closed b) (c .2) (omega (arith, k .falls b (c .1) nb)),
-        )
+    seg-rank a z l x u c h = seg-avoids next x (λ b. (b ≢ 0 → block b ≢ 0) × (k .rank b < k .rank x))
+        (λ b b0 p. (λ e. omega (arith, p .1, ap (k .rank) e), (k .closed b, omega (arith, p .1, k .falls b b0 (p .0 b0))))) a z l (u, h) c
 
     pub seg-once : (a z : ℕ) (l : List ℕ) (x : ℕ) → (a ≢ 0 → block a ≢ 0) → Seg next a l z → times x l ≤ 1
     seg-once a z [] x u c = omega (arith, times-nil x)
@@ -125,10 +123,7 @@ module _ {A : ℕ} {next block : ℕ → ℕ} (v : View A next block) where
 
     -- what stands in a walk is in use
     pub seg-used : (a z : ℕ) (l : List ℕ) (x : ℕ) → (a ≢ 0 → block a ≢ 0) → Seg next a l z → block x ≡ 0 → times x l ≡ 0
-    seg-used a z [] x u c h = times-nil x
-    seg-used a z (b ∷ l) x u c h =
-        let nb : block b ≢ 0 = rw (c .0) at u (c .1) in
-        omega (arith, times-cons x b l, oneAt-other b x (λ e. nb (ap block e ∙ h)), seg-used (next b) z l x (k .closed b) (c .2) h)
+    seg-used a z l x u c h = seg-avoids next x (λ b. b ≢ 0 → block b ≢ 0) (λ b b0 p. (λ e. p b0 (ap block e ∙ h), k .closed b)) a z l u c
 
     pub seg-short : (a z : ℕ) (l : List ℕ) → (a ≢ 0 → block a ≢ 0) → Seg next a l z → length l ≤ A
     seg-short a z l u c = pigeonhole l A (λ x h. seg-used a z l x u c (above-free x h)) (λ x. seg-once a z l x u c)
@@ -144,16 +139,11 @@ module _ {A : ℕ} {next block : ℕ → ℕ} (v : View A next block) where
     chain-the a l u c = chain-is next A a l c (seg-short a 0 l u c)
 
     pub checked : Checked A next block
-    unfolding preds
     checked = record {
       closed = λ a l. k .closed a;
-      one-pred = one-pred;
+      one-pred = λ x h u. preds-one A next x (λ p q a b. k .uniq p q (λ z. h (sym a ∙ z)) (a ∙ sym b));
       ends = ends;
     }
       where
         ends : (a : ℕ) → block a ≢ 0 → followed next A a ≡ 0
         ends a u = let c = the-chain a (λ q. u) in chain-ends next A a (chainOf next A a) (v .zero-end) c (seg-short a 0 (chainOf next A a) (λ q. u) c)
-
-        one-pred : (x : ℕ) → x ≢ 0 → block x ≢ 0 → preds A next x ≤ 1
-        one-pred x h u = sum-le-one (λ p. oneAt (next p) x) A (λ i. oneAt-le (next i) x)
-            (λ i j li lj p q. k .uniq i j (λ z. h (sym (oneAt-some (next i) x p) ∙ z)) (oneAt-some (next i) x p ∙ sym (oneAt-some (next j) x q)))

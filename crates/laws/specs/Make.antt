@@ -1,49 +1,48 @@
 -- A file or a directory made: a fresh head that nothing names, and an entry for it in a block of a reached directory.
 use Prim.Native.Nat.{ℕ, _+_, _*_, _≤_, _<_}
 use mathlib.Core.Path.{_≡_, refl, sym, ap, _∙_}
-use mathlib.Core.Logic.{_≢_, _⊎_, inl, inr}
+use mathlib.Core.Logic.{_≢_, inl, inr}
 use mathlib.Core.Bool.{Bool, true, false}
 use mathlib.Core.List.{List, [], _∷_, map-id}
 use native.Mathlib.Omega.{arith}
 use lib.Dec.{T}
 use Rattle.rules.specs.Counting.{oneAt, sumList, times, changed}
 use Rattle.rules.specs.Anodes.{limit, Anodes}
-use Rattle.rules.specs.Chains.{chainOf, blockCount}
-use Rattle.rules.specs.Walk.{Dir, root, Entered, Item, blocksFor, itemOf, broken, itemsAt, itemsBy}
+use Rattle.rules.specs.Chains.{chainOf}
+use Rattle.rules.specs.Walk.{Dir, root, Entered, Item, itemOf, broken, itemsAt, itemsBy}
 use Rattle.rules.specs.Space.{rewritten}
 use Rattle.laws.specs.Tests.{same?, less?}
 use Rattle.laws.specs.Sums.{oneAt-same, changed-same, changed-other}
-use Rattle.laws.specs.Bags.{list-cons, list-add, list-scale}
+use Rattle.laws.specs.Bags.{list-cons, list-gain, each-in}
 use Rattle.laws.specs.Links.{chain-the}
-use Rattle.laws.specs.Heads.{Head}
+use Rattle.laws.specs.Heads.{Head, head-while}
 use Rattle.laws.specs.LinkChanges.{used-not-free, fresh-no-next}
 use Rattle.laws.specs.Space.{Alike, Good, head-good, on-chain}
-use Rattle.laws.specs.Frame.{kept-sum, kept-count}
-use Rattle.laws.specs.Each.{Each, each-map, each-both, each-zero}
+use Rattle.laws.specs.Frame.{kept-count}
+use Rattle.laws.specs.Each.{Each, each-both, each-zero}
 use Rattle.laws.specs.Items.{wrong, weighItem, namedIn, faults}
 use Rattle.laws.specs.TreeChanges.{headed, Gain, sum-named, add-file, add-dir, AlikeItems, alike-named, alike-tree}
-use Rattle.laws.specs.Entries.{weighEntry, broken-wrong, item-fine, fine-item, item-anode, asEntry, weigh-item, entries-sum, items-sum, anodes-fine, itemsAt-whole, items-alike}
-use Rattle.laws.specs.Whole.{Whole, head-counts, counts-head, on-dir, dir-heads, named-heads}
+use Rattle.laws.specs.Entries.{weighEntry, broken-wrong, Sized, sized-still, fine-item, item-anode, asEntry, weigh-item, entries-sum, items-sum, anodes-fine, itemsAt-whole, items-alike}
+use Rattle.laws.specs.Whole.{DirHead, Whole, head-counts, fine-still, on-dir, tree-heads, dir-heads, named-heads}
 use Rattle.laws.specs.Orphan.{Orphaned}
 
--- two sums over a list that differ at one member
-one-more : (f f′ : ℕ → ℕ) (a₀ k : ℕ) (l : List ℕ) → ((a : ℕ) → 0 < times a l → f′ a ≡ f a + oneAt a a₀ * k) → sumList f′ l ≡ sumList f l + times a₀ l * k
-unfolding times
-one-more f f′ a₀ k l e =
-    kept-sum (λ a. f a + oneAt a a₀ * k) f′ l e
-    ∙ omega (arith, list-add f (λ a. oneAt a a₀ * k) l, list-scale (λ a. oneAt a a₀) k l)
+-- of two tables of entries, `more` has e more in the block of the anode a₀, and the same in the blocks of the other anodes of chains but 1's
+abbrev pub EntryMore : Anodes → (ℕ → ℕ) → Entered → ℕ → (ℕ → List Entered) → (ℕ → List Entered) → Type 0
+EntryMore s hd e a₀ less more = (a : ℕ) → s .count a ≡ 1 → hd a ≢ 1 → (v : Bool → Bool → ℕ → ℕ → ℕ) →
+    sumList (weighEntry v) (more (s .block a)) ≡ sumList (weighEntry v) (less (s .block a)) + oneAt a a₀ * weighEntry v e
 
--- of two tables of entries, `more` has e more in the block of the anode a₀ of the directory h₀: that directory gains the item of e
+-- the directory h₀ of that anode gains the item of e
 module _ {ex : ℕ → Bool} {n last : ℕ} {s : Anodes} {system hd sd : ℕ → ℕ} (g : Good limit ex n last s system hd sd) (e : Entered) (a₀ h₀ : ℕ) (at₀ : hd a₀ ≡ h₀)
     (less more : ℕ → List Entered) (marked marked′ : Dir → ℕ → Bool)
-    (cont : (a : ℕ) → s .count a ≡ 1 → hd a ≢ 1 → (v : Bool → Bool → ℕ → ℕ → ℕ) →
-    sumList (weighEntry v) (more (s .block a)) ≡ sumList (weighEntry v) (less (s .block a)) + oneAt a a₀ * weighEntry v e) where
-  pub entry-gain : (d : Dir) → Head (s .next) (s .block) (d .head) × (d .head ≢ 1) →
+    (cont : EntryMore s hd e a₀ less more) where
+  pub entry-gain : (d : Dir) → DirHead s d →
       ((a : ℕ) → 0 < times a (chainOf (s .next) limit (d .head)) → hd a ≢ 1 → (s .count a ≡ 1) × T (marked d (s .block a)) × T (marked′ d (s .block a))) →
       Gain (itemsBy less marked s) (itemsBy more marked′ s) h₀ (itemOf s e) d
+  unfolding times
   entry-gain d p whole u =
       items-sum more marked′ s d (weighItem u)
-      ∙ one-more (λ a. sumList (weighItem u) (itemsAt less marked s d a)) (λ a. sumList (weighItem u) (itemsAt more marked′ s d a)) a₀ (weighItem u (itemOf s e)) (chainOf (s .next) limit (d .head)) at-a
+      ∙ list-gain (λ a. sumList (weighItem u) (itemsAt less marked s d a)) (λ a. sumList (weighItem u) (itemsAt more marked′ s d a)) (λ a. oneAt a a₀) (weighItem u (itemOf s e)) (chainOf (s .next) limit (d .head))
+      (each-in (λ a. sumList (weighItem u) (itemsAt more marked′ s d a) ≡ sumList (weighItem u) (itemsAt less marked s d a) + oneAt a a₀ * weighItem u (itemOf s e)) (chainOf (s .next) limit (d .head)) at-a)
       ∙ omega (arith, items-sum less marked s d (weighItem u), ap (λ (k : ℕ). k * weighItem u (itemOf s e)) (on-dir g a₀ h₀ at₀ (d .head) (p .0)))
     where
       -- one anode of the directory
@@ -77,11 +76,11 @@ module _ {ex : ℕ → Bool} {n last : ℕ} {s : Anodes} {system hd sd : ℕ →
 
   stays : (m : ℕ) → Head (s .next) (s .block) m → Head (made .next) (made .block) m
   unfolding rewritten
-  stays m d = record { pos = d .pos; in-use = rw (like-a m (d .in-use) .same-block) (d .in-use); no-pred = d .no-pred }
+  stays m d = head-while d (rw (like-a m (d .in-use) .same-block) (d .in-use))
 
   was : (m : ℕ) → m ≢ f → Head (made .next) (made .block) m → Head (s .next) (s .block) m
   unfolding rewritten
-  was m q d = record { pos = d .pos; in-use = rw (changed-other (s .block) f 65535 m q) at (d .in-use); no-pred = d .no-pred }
+  was m q d = head-while d (rw (changed-other (s .block) f 65535 m q) at (d .in-use))
 
   head-f : Head (made .next) (made .block) f
   unfolding rewritten
@@ -90,11 +89,8 @@ module _ {ex : ℕ → Bool} {n last : ℕ} {s : Anodes} {system hd sd : ℕ →
   -- an entry with nothing wrong stays so
   still-fine : (e : Entered) → wrong (itemOf s e) ≡ 0 → wrong (itemOf made e) ≡ 0
   unfolding rewritten
-  still-fine e z =
-      let q = item-fine s e z in
-      let d = counts-head (w .good) (e .anode) (q .2) in
-      fine-item made e (q .0) (q .1) (head-counts good (e .anode) (stays (e .anode) d))
-      (elim (q .3) [ inl i ↦ inl i | inr i ↦ inr (kept-count s made (e .anode) refl (λ a k. like-a a (on-chain (w .good) (e .anode) d a k .1) .same-count) ∙ i) ])
+  still-fine e z = fine-still (w .good) good e e refl refl z
+      (λ l d q. (stays (e .anode) d, sized-still s made e (kept-count s made (e .anode) refl (λ a k. like-a a (on-chain (w .good) (e .anode) d a k .1) .same-count)) q))
 
   -- the new chain is its head alone, with no block
   pub fresh-chain : chainOf (rewritten s f 0 65535 .next) limit f ≡ f ∷ []
@@ -109,14 +105,14 @@ module _ {ex : ℕ → Bool} {n last : ℕ} {s : Anodes} {system hd sd : ℕ →
     abbrev items′ : Dir → List Item
     items′ = itemsBy entries′ marked′ made
 
-    one : (d : Dir) → Head (s .next) (s .block) (d .head) × (d .head ≢ 1) → faults items d ≡ 0 → AlikeItems items items′ d
+    one : (d : Dir) → DirHead s d → faults items d ≡ 0 → AlikeItems items items′ d
     unfolding rewritten
     one d p z = items-alike s made (λ j. j) wrong (λ q. omega (arith, q, broken-wrong)) (λ j q. (refl, refl, still-fine j q)) entries entries′ marked marked′ d refl
         (λ a k. like-a a (on-chain (w .good) (d .head) (p .0) a k .1))
         (λ a k i. let c = cont a i (λ q. p .1 (sym (on-chain (w .good) (d .head) (p .0) a k .0) ∙ q)) in (c .0 ∙ sym (map-id (entries (s .block a))), c .1 d)) z
 
     alikes : Each (AlikeItems items items′) dirs
-    alikes = each-both (λ d. Head (s .next) (s .block) (d .head) × (d .head ≢ 1)) (λ d. faults items d ≡ 0) (AlikeItems items items′) dirs one (dir-heads w) (each-zero (faults items) dirs (w .tree .faultless))
+    alikes = each-both (DirHead s) (λ d. faults items d ≡ 0) (AlikeItems items items′) dirs one (dir-heads w) (each-zero (faults items) dirs (w .tree .faultless))
 
     unnamed : sumList (namedIn items f) dirs ≡ 0
     unnamed = elim (less? 0 (sumList (namedIn items f) dirs)) [ inl p ↦ absurd (named-heads w f p .2 .in-use fresh) | inr p ↦ omega arith ]
@@ -125,7 +121,6 @@ module _ {ex : ℕ → Bool} {n last : ℕ} {s : Anodes} {system hd sd : ℕ →
     fresh-orphan = record {
       good = good;
       tree = alike-tree items items′ root dirs alikes (w .tree);
-      dir-heads = each-map (λ d. Head (s .next) (s .block) (d .head) × (d .head ≢ 1)) (λ d. Head (made .next) (made .block) (d .head) × (d .head ≢ 1)) dirs (λ d p. (stays (d .head) (p .0), p .1)) (dir-heads w);
       head = head-f;
       not-named = alike-named items items′ dirs alikes f ∙ unnamed;
       all-named = λ x l q d. omega (arith, alike-named items items′ dirs alikes x, w .all-named x l (was x q d));
@@ -135,10 +130,9 @@ module _ {ex : ℕ → Bool} {n last : ℕ} {s : Anodes} {system hd sd : ℕ →
 
 module _ {ex : ℕ → Bool} {n last : ℕ} {s : Anodes} {system hd sd : ℕ → ℕ} {entries : ℕ → List Entered} {marked : Dir → ℕ → Bool} {dirs : List Dir}
     (e : Entered) (o : Orphaned ex n last (e .anode) s system hd sd entries marked dirs) (from-6 : 6 ≤ e .anode) (in-rules : e .broken ≡ false)
-    (sized : (e .dir ≡ true) ⊎ (blockCount s (e .anode) ≡ blocksFor (e .size)))
+    (sized : Sized s e)
     (a₀ h₀ : ℕ) (reached : headed h₀ dirs ≡ 1) (at₀ : hd a₀ ≡ h₀) (entries′ : ℕ → List Entered) (marked′ : Dir → ℕ → Bool)
-    (cont : (a : ℕ) → s .count a ≡ 1 → hd a ≢ 1 → (v : Bool → Bool → ℕ → ℕ → ℕ) →
-    sumList (weighEntry v) (entries′ (s .block a)) ≡ sumList (weighEntry v) (entries (s .block a)) + oneAt a a₀ * weighEntry v e)
+    (cont : EntryMore s hd e a₀ entries entries′)
     (same-marks : (a : ℕ) → s .count a ≡ 1 → hd a ≢ 1 → (d : Dir) → marked′ d (s .block a) ≡ marked d (s .block a)) where
   abbrev before : Dir → List Item
   before = itemsBy entries marked s
@@ -149,13 +143,13 @@ module _ {ex : ℕ → Bool} {n last : ℕ} {s : Anodes} {system hd sd : ℕ →
   new-fine : wrong (itemOf s e) ≡ 0
   new-fine = fine-item s e in-rules from-6 (head-counts (o .good) (e .anode) (o .head)) sized
 
-  gain : (d : Dir) → Head (s .next) (s .block) (d .head) × (d .head ≢ 1) → faults before d ≡ 0 → Gain before after h₀ (itemOf s e) d
+  gain : (d : Dir) → DirHead s d → faults before d ≡ 0 → Gain before after h₀ (itemOf s e) d
   gain d p z = entry-gain (o .good) e a₀ h₀ at₀ entries entries′ marked marked′ cont d p
       (λ a k q. let c = anodes-fine entries marked s d z a k in (c .0, c .1, rw (same-marks a (c .0) q d) (c .1)))
 
   gains : Each (Gain before after h₀ (itemOf s e)) dirs
-  gains = each-both (λ d. Head (s .next) (s .block) (d .head) × (d .head ≢ 1)) (λ d. faults before d ≡ 0) (Gain before after h₀ (itemOf s e)) dirs
-      gain (o .dir-heads) (each-zero (faults before) dirs (o .tree .faultless))
+  gains = each-both (DirHead s) (λ d. faults before d ≡ 0) (Gain before after h₀ (itemOf s e)) dirs
+      gain (tree-heads (o .good) entries marked (o .tree)) (each-zero (faults before) dirs (o .tree .faultless))
 
   -- each head is named then
   named : (x : ℕ) → 6 ≤ x → Head (s .next) (s .block) x → 1 ≤ sumList (namedIn after x) dirs

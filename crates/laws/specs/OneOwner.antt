@@ -1,7 +1,7 @@
 -- In every accepted image every block has one owner, every chain ends, and every chain in use is named once, by the system or by an entry reached from the root directory.
 use Prim.Native.Nat.{ℕ, _≤_, _<_}
 use mathlib.Core.Path.{_≡_, refl, sym, ap, _∙_}
-use mathlib.Core.Logic.{_≢_, _⊎_, inl, inr}
+use mathlib.Core.Logic.{_≢_, inl, inr}
 use mathlib.Core.Bool.{_&&_}
 use mathlib.Core.List.{List, [], _∷_, map}
 use native.Mathlib.Omega.{arith}
@@ -11,17 +11,17 @@ use Rattle.rules.specs.Counting.{oneAt, times, sumList, gather}
 use Rattle.rules.specs.Anodes.{Anodes, limit, exists, anodesOf}
 use Rattle.rules.specs.Chains.{followed, heads, headOf, systemOwns, cut}
 use Rattle.rules.specs.Walk.{Dir, Item, Walk, fault, done, walkOf, faultIn, dirsIn, itemsOf, reached, reachedDirs, naming, root}
-use Rattle.rules.specs.Accepted.{diskSize, lastReserved, ownersOf, twoOwners, noOwner, unnamed, unnamedChain, checkAnswer}
-use Rattle.counting.specs.Laws.{anyBelow-each}
-use Rattle.laws.specs.Tests.{same?, and-none}
+use Rattle.rules.specs.Accepted.{diskSize, lastReserved, ownersOf, unnamed, unnamedChain, checkAnswer}
+use Rattle.counting.specs.Laws.{and-none, anyBelow-each}
+use Rattle.laws.specs.Tests.{same?}
 use Rattle.laws.specs.Bags.{times-nil, list-congr, gather-sum}
 use Rattle.laws.specs.Heads.{Head}
-use Rattle.laws.specs.Space.{Good}
+use Rattle.laws.specs.Space.{FixedHead, Good}
 use Rattle.laws.specs.Passes.{Passes, good-of}
 use Rattle.laws.specs.Items.{names-sum, namedIn}
 use Rattle.laws.specs.Walks.{walk-found}
 use Rattle.laws.specs.Whole.{counts-head}
-use Rattle.laws.specs.Acceptance.{Passed, passed-of, Tested, tested-passes}
+use Rattle.laws.specs.Acceptance.{Passed, passed-of, tested-passes}
 use Rattle.laws.specs.ImageAnodes.{reading-of}
 
 -- every block of the image has one owner, every chain ends, and every chain in use is named once
@@ -30,7 +30,7 @@ pub record OneOwner (img : List ℕ) : Type 0 where
   pub ends : (a : ℕ) → anodesOf img .block a ≢ 0 → followed (anodesOf img .next) limit a ≡ 0
   -- from 6 up a head is named by exactly one reached entry; below, it is the head of a chain of the system's
   pub named-once : (h : ℕ) → heads limit (anodesOf img .next) (anodesOf img .block) h ≡ 1 → 6 ≤ h → naming img (anodesOf img) h ≡ 1
-  pub systems : (h : ℕ) → heads limit (anodesOf img .next) (anodesOf img .block) h ≡ 1 → h < 6 → (h ≡ 1) ⊎ ((h ≡ 3) ⊎ ((h ≡ 4) ⊎ (h ≡ 5)))
+  pub systems : (h : ℕ) → heads limit (anodesOf img .next) (anodesOf img .block) h ≡ 1 → h < 6 → FixedHead h
 
 -- the anodes that the items of some directories name
 pub naming-sum : (items : Dir → List Item) (x : ℕ) (dirs : List Dir) → times x (map (λ i. i .anode) (gather items dirs)) ≡ sumList (namedIn items x) dirs
@@ -42,19 +42,8 @@ module _ (img : List ℕ) (blocks anodes : ℕ) (p : Passed img blocks anodes) w
   abbrev s : Anodes
   s = anodesOf img
 
-  tested : Tested s (diskSize img) (lastReserved img) (systemOwns img) (exists img)
-  unfolding twoOwners noOwner ownersOf
-  tested = record {
-    fixed-right = p .fixed-right;
-    in-range = p .in-range;
-    links-right = p .links-right;
-    free-right = p .free-right;
-    none-twice = p .none-twice;
-    all-owned = p .all-owned;
-  }
-
   pub passes : Passes limit (exists img) (diskSize img) (lastReserved img) s (systemOwns img)
-  passes = tested-passes s (diskSize img) (lastReserved img) (systemOwns img) (exists img) (reading-of img (diskSize img) (lastReserved img)) tested
+  passes = tested-passes s (diskSize img) (lastReserved img) (systemOwns img) (exists img) (reading-of img (diskSize img) (lastReserved img)) (p .tested)
 
   pub good : Good limit (exists img) (diskSize img) (lastReserved img) s (systemOwns img) (headOf limit (s .next) (s .block)) (headOf limit (cut (s .next)) (s .block))
   good = good-of (reading-of img (diskSize img) (lastReserved img)) passes
@@ -81,7 +70,7 @@ module _ (img : List ℕ) (blocks anodes : ℕ) (p : Passed img blocks anodes) w
   not-two : (h : ℕ) → Head (s .next) (s .block) h → h ≢ 2
   not-two h d e = omega (arith, good .two-on, good .heads .at-head h d, ap (headOf limit (s .next) (s .block)) e)
 
-  below-6 : (h : ℕ) → h ≢ 0 → h ≢ 2 → h < 6 → (h ≡ 1) ⊎ ((h ≡ 3) ⊎ ((h ≡ 4) ⊎ (h ≡ 5)))
+  below-6 : (h : ℕ) → h ≢ 0 → h ≢ 2 → h < 6 → FixedHead h
   below-6 h a b l = elim (same? h 1) [
     | inl e ↦ inl e
     | inr e1 ↦ elim (same? h 3) [
@@ -93,7 +82,7 @@ module _ (img : List ℕ) (blocks anodes : ℕ) (p : Passed img blocks anodes) w
   pub one-owner-of : OneOwner img
   unfolding ownersOf
   one-owner-of = record {
-    one-owner = λ x l. omega (arith, passes .not-two x l, passes .not-none x l);
+    one-owner = λ x l. omega (arith, passes .own .not-two x l, passes .own .not-none x l);
     ends = passes .links .ends;
     named-once = λ h e l. omega (arith, once h, named h e l);
     systems = λ h e l. below-6 h (counts-head good h e .pos) (not-two h (counts-head good h e)) l;

@@ -1,28 +1,27 @@
 -- An accepted state but for one chain that no entry names: what stands between the steps of a make, or of a remove.
 use Prim.Native.Nat.{ℕ, _+_, _≤_}
 use mathlib.Core.Path.{_≡_, refl, sym, ap, _∙_}
-use mathlib.Core.Logic.{_≢_, _⊎_, inl, inr}
+use mathlib.Core.Logic.{_≢_, inl, inr}
 use mathlib.Core.Bool.{Bool, true, false, cond}
 use mathlib.Core.List.{List, map-id}
 use native.Mathlib.Omega.{arith}
 use Rattle.rules.specs.Counting.{oneAt, sumList}
 use Rattle.rules.specs.Anodes.{limit, Anodes}
-use Rattle.rules.specs.Chains.{blockCount}
-use Rattle.rules.specs.Walk.{Dir, root, Entered, Item, blocksFor, itemOf, broken, itemsBy}
+use Rattle.rules.specs.Walk.{Dir, root, Entered, Item, itemOf, broken, itemsBy}
 use Rattle.laws.specs.Tests.{same?}
-use Rattle.laws.specs.Sums.{oneAt-cases, oneAt-same, oneAt-other}
+use Rattle.laws.specs.Sums.{oneAt-cases, oneAt-same}
 use Rattle.laws.specs.Bags.{list-add, list-mono, list-congr}
 use Rattle.laws.specs.Heads.{Head}
 use Rattle.laws.specs.Space.{Good}
 use Rattle.laws.specs.Frame.{Shift}
 use Rattle.laws.specs.ChainBlocks.{shift-alike, shift-chain, shift-count}
-use Rattle.laws.specs.Each.{Each, each-map, each-both, each-zero}
+use Rattle.laws.specs.Each.{Each, each-map, each-both, each-pair, each-zero}
 use Rattle.laws.specs.Items.{wrong, namedIn, faults}
 use Rattle.laws.specs.Trees.{Tree}
-use Rattle.laws.specs.TreeChanges.{headed, none-headed, AlikeItems, alike-named, alike-tree}
+use Rattle.laws.specs.TreeChanges.{headed, tree-unnamed, AlikeItems, alike-named, alike-tree}
 use Rattle.laws.specs.Totals.{file-size, named-by-kind}
-use Rattle.laws.specs.Entries.{broken-wrong, item-fine, fine-item, item-anode, item-dir, items-alike}
-use Rattle.laws.specs.Whole.{named-le, head-counts, counts-head}
+use Rattle.laws.specs.Entries.{broken-wrong, Sized, sized-still, item-anode, item-dir, items-alike}
+use Rattle.laws.specs.Whole.{named-le, DirHead, fine-still, tree-heads}
 
 -- what is wrong with an item, and 1 for a file's that names h
 abbrev pub amiss : ℕ → Item → ℕ
@@ -33,7 +32,6 @@ module _ (ex : ℕ → Bool) (n last : ℕ) where
   pub record Orphaned (f : ℕ) (s : Anodes) (system hd sd : ℕ → ℕ) (entries : ℕ → List Entered) (marked : Dir → ℕ → Bool) (dirs : List Dir) : Type 0 where
     pub good : Good limit ex n last s system hd sd
     pub tree : Tree (itemsBy entries marked s) root dirs
-    pub dir-heads : Each (λ d. Head (s .next) (s .block) (d .head) × (d .head ≢ 1)) dirs
     pub head : Head (s .next) (s .block) f
     pub not-named : sumList (namedIn (itemsBy entries marked s) f) dirs ≡ 0
     pub all-named : (x : ℕ) → 6 ≤ x → x ≢ f → Head (s .next) (s .block) x → 1 ≤ sumList (namedIn (itemsBy entries marked s) x) dirs
@@ -48,16 +46,11 @@ module _ {ex : ℕ → Bool} {n last f : ℕ} {s : Anodes} {system hd sd : ℕ �
 
   -- an entry with nothing wrong stays so
   pub still-fine : (e : Entered) → amiss h (itemOf s e) ≡ 0 → wrong (itemOf t e) ≡ 0
-  still-fine e z =
-      let q = item-fine s e (omega arith) in
-      let d = counts-head (o .good) (e .anode) (q .2) in
-      fine-item t e (q .0) (q .1) (head-counts g′ (e .anode) (sh .stays (e .anode) d)) (size d (q .1) (q .3) (e .dir) refl)
+  still-fine e z = fine-still (o .good) g′ e e refl refl (omega arith) (λ l d q. (sh .stays (e .anode) d, size l d q (e .dir) refl))
     where
-      size : Head (s .next) (s .block) (e .anode) → 6 ≤ e .anode → (e .dir ≡ true) ⊎ (blockCount s (e .anode) ≡ blocksFor (e .size)) → (b : Bool) → e .dir ≡ b →
-          (e .dir ≡ true) ⊎ (blockCount t (e .anode) ≡ blocksFor (e .size))
-      size d l (inl q) b i = inl q
-      size d l (inr q) true i = inl i
-      size d l (inr q) false i = inr (shift-count (o .good) g′ sh (e .anode) d (omega arith) not-h ∙ q)
+      size : 6 ≤ e .anode → Head (s .next) (s .block) (e .anode) → Sized s e → (b : Bool) → e .dir ≡ b → Sized t e
+      size l d q true i = inl i
+      size l d q false i = sized-still s t e (shift-count (o .good) g′ sh (e .anode) d (omega arith) not-h) q
         where
           not-h : e .anode ≢ h
           not-h j = omega (arith, z, ap (λ (c : Bool). cond c 0 (oneAt ((itemOf s e) .anode) h)) (item-dir s e ∙ i), oneAt-same ((itemOf s e) .anode) h (item-anode s e ∙ j))
@@ -71,7 +64,7 @@ module _ {ex : ℕ → Bool} {n last f : ℕ} {s : Anodes} {system hd sd : ℕ �
   items′ = itemsBy entries marked t
 
   module _ (own : Each (λ d. d .head ≡ h → AlikeItems (itemsBy entries marked s) (itemsBy entries marked t) d) dirs) where
-    one : (d : Dir) → Head (s .next) (s .block) (d .head) × (d .head ≢ 1) → (d .head ≡ h → AlikeItems items items′ d) × (sumList (amiss h) (items d) ≡ 0) → AlikeItems items items′ d
+    one : (d : Dir) → DirHead s d → (d .head ≡ h → AlikeItems items items′ d) × (sumList (amiss h) (items d) ≡ 0) → AlikeItems items items′ d
     one d p q = elim (same? (d .head) h) [
       | inl e ↦ q .0 e
       | inr e ↦ items-alike s t (λ j. j) (amiss h) amiss-broken (λ j z. (refl, refl, still-fine j z)) entries entries marked marked d
@@ -83,15 +76,13 @@ module _ {ex : ℕ → Bool} {n last f : ℕ} {s : Anodes} {system hd sd : ℕ �
         amiss-broken z = omega (arith, z, broken-wrong)
 
     alikes : Each (AlikeItems items items′) dirs
-    alikes = each-both (λ d. Head (s .next) (s .block) (d .head) × (d .head ≢ 1)) (λ d. (d .head ≡ h → AlikeItems items items′ d) × (sumList (amiss h) (items d) ≡ 0)) (AlikeItems items items′) dirs one (o .dir-heads)
-        (each-both (λ d. d .head ≡ h → AlikeItems items items′ d) (λ d. sumList (amiss h) (items d) ≡ 0) (λ d. (d .head ≡ h → AlikeItems items items′ d) × (sumList (amiss h) (items d) ≡ 0)) dirs (λ d a b. (a, b)) own
-        none-amiss)
+    alikes = each-both (DirHead s) (λ d. (d .head ≡ h → AlikeItems items items′ d) × (sumList (amiss h) (items d) ≡ 0)) (AlikeItems items items′) dirs one (tree-heads (o .good) entries marked (o .tree))
+        (each-pair (λ d. d .head ≡ h → AlikeItems items items′ d) (λ d. sumList (amiss h) (items d) ≡ 0) dirs own none-amiss)
 
     pub orphan-shift : Orphaned ex n last f t system hd′ sd′ entries marked dirs
     orphan-shift = record {
       good = g′;
       tree = alike-tree items items′ root dirs alikes (o .tree);
-      dir-heads = each-map (λ d. Head (s .next) (s .block) (d .head) × (d .head ≢ 1)) (λ d. Head (t .next) (t .block) (d .head) × (d .head ≢ 1)) dirs (λ d p. (sh .stays (d .head) (p .0), p .1)) (o .dir-heads);
       head = sh .stays f (o .head);
       not-named = alike-named items items′ dirs alikes f ∙ o .not-named;
       all-named = λ x l q d. omega (arith, alike-named items items′ dirs alikes x, o .all-named x l q (sh .no-new x d));
@@ -104,7 +95,7 @@ module _ {ex : ℕ → Bool} {n last f : ℕ} {s : Anodes} {system hd sd : ℕ �
 
   -- the chain that nothing names is no directory's of the tree
   pub not-dir : 6 ≤ f → Each (λ d. d .head ≢ f) dirs
-  not-dir f6 = none-headed f dirs (omega (arith, o .tree .exact (λ d. oneAt (d .head) f), oneAt-other 5 f (λ e. omega (arith, e, f6)), named-by-kind given f dirs, o .not-named))
+  not-dir f6 = tree-unnamed given root dirs (o .tree) f (omega arith) (o .not-named)
 
   -- the chain that nothing names takes or gives
   pub orphan-changed : 6 ≤ f → {t : Anodes} {hd′ sd′ : ℕ → ℕ} → Good limit ex n last t system hd′ sd′ → Shift s hd t hd′ f → Orphaned ex n last f t system hd′ sd′ entries marked dirs

@@ -1,6 +1,6 @@
 -- A block taken into an anode of its own: a chain with no block fills its head, one with a block in every anode gets one more anode behind its last.
 use Prim.Native.Nat.{ℕ, _≤_, _<_}
-use mathlib.Core.Path.{_≡_, refl, sym, ap, _∙_}
+use mathlib.Core.Path.{_≡_, sym, ap, _∙_}
 use mathlib.Core.Logic.{_≢_, inl, inr}
 use mathlib.Core.Bool.{Bool, true}
 use mathlib.Core.List.{List, [], _∷_, _++_, append-assoc}
@@ -11,10 +11,9 @@ use Rattle.rules.specs.Anodes.{Anodes}
 use Rattle.rules.specs.Chains.{chainOf}
 use Rattle.rules.specs.Space.{planned, rewritten, insertedAfter, free, lowestFree, fillOr, append, put, takeBlock}
 use Rattle.laws.specs.Sums.{oneAt-same, changed-same, changed-other}
-use Rattle.laws.specs.Bags.{times-cons}
+use Rattle.laws.specs.Bags.{times-here}
 use Rattle.laws.specs.Segments.{seg-zero}
-use Rattle.laws.specs.Links.{the-chain}
-use Rattle.laws.specs.Heads.{Head, times-on-chain}
+use Rattle.laws.specs.Heads.{Head, head-chain, times-on-chain}
 use Rattle.laws.specs.Space.{Alike, Good, on-chain}
 use Rattle.laws.specs.Searches.{last-on}
 use Rattle.laws.specs.Moves.{InHand, hand-stays}
@@ -56,14 +55,14 @@ module _ {A : ℕ} {ex : ℕ → Bool} {n last : ℕ} {s : Anodes} {system hd sd
     ]
 
     split : (m : List ℕ) × (chainOf (s .next) A h ≡ m ++ (lastOf h (chainOf (s .next) A h) ∷ []))
-    split = chain-end (s .next) h (chainOf (s .next) A h) (d .pos) (the-chain (g .view) (g .linked) h (λ q. d .in-use))
+    split = chain-end (s .next) h (chainOf (s .next) A h) (d .pos) (head-chain (g .view) (g .linked) h d)
 
     put-filled : chainOf (s .next) A h ≡ h ∷ [] → s .count h ≡ 0 → (t : Anodes) (ys : List ℕ) → put A ex last true r (lastOf h (chainOf (r .next) A h)) y ≡ planned t ys →
         (ys ≡ y ∷ []) × Filled A t h y
     unfolding put fillOr rewritten lastOf
     put-filled alone none t ys e =
         let c : chainOf (r .next) A h ≡ h ∷ [] = hand-chain ∙ alone in
-        let empty : r .count h ≡ 0 = on-h h (rw alone (omega (arith, times-cons h h [], oneAt-same h h refl))) .same-count ∙ none in
+        let empty : r .count h ≡ 0 = on-h h (rw alone (times-here h [])) .same-count ∙ none in
         let p : planned (rewritten r h 1 y) (y ∷ []) ≡ planned t ys = rw (c, empty) at e in
         let q = planned-same (rewritten r h 1 y) t (y ∷ []) ys p in
         let filled : Filled A (rewritten r h 1 y) h y = record { chain = c; one = changed-same (r .count) h 1; at = changed-same (r .block) h y } in
@@ -84,7 +83,7 @@ module _ {A : ℕ} {ex : ℕ → Bool} {n last : ℕ} {s : Anodes} {system hd sd
       not-f a p e = used a p (ap (r .block) e ∙ fresh .1)
 
       end-0 : end ≢ 0
-      end-0 e = omega (arith, end-on, ap (λ (a : ℕ). times a (chainOf (s .next) A h)) e, seg-zero (s .next) h 0 (chainOf (s .next) A h) (the-chain (g .view) (g .linked) h (λ q. d .in-use)))
+      end-0 e = omega (arith, end-on, ap (λ (a : ℕ). times a (chainOf (s .next) A h)) e, seg-zero (s .next) h 0 (chainOf (s .next) A h) (head-chain (g .view) (g .linked) h d))
 
       put-appended : Appended A s (insertedAfter r end f 1 y) h y
       unfolding insertedAfter

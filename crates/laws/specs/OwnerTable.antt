@@ -20,10 +20,11 @@ use Rattle.rules.specs.Space.{rewritten, onChain, dropped}
 use Rattle.rules.specs.Tables.{chainHead, anodeEntry, anodeTable, headWhere, ownerHead, blockEntry, blockTable}
 use Rattle.laws.specs.Tests.{same?, less?}
 use Rattle.laws.specs.Sums.{oneAt-cases, oneAt-same, oneAt-other, sum-congr, sum-scale, sum-swap, sum-member, sum-some, sum-single, sum-pick}
-use Rattle.laws.specs.Bags.{times-nil, times-cons}
+use Rattle.laws.specs.Bags.{times-nil, times-cons, times-here, times-later}
 use Rattle.laws.specs.Ownership.{covers-cases, covers-none}
 use Rattle.laws.specs.LinkChanges.{without, without-cases, without-other}
 use Rattle.laws.specs.Heads.{Head, heads-one, headOf-heads}
+use Rattle.laws.specs.Blocks.{blocks}
 use Rattle.laws.specs.Held.{held, held-fresh}
 use Rattle.laws.specs.Space.{Good, head-good, dead-head, drop-good}
 use Rattle.laws.specs.Owners.{hd-below, holder, owner}
@@ -82,7 +83,7 @@ module _ {ex : ℕ → Bool} {n last : ℕ} {s : Anodes} {system hd sd : ℕ →
 
   -- a block's entry, summed over the heads that hold it
   owner-sum : (x : ℕ) → ownerHead s x ≡ sumBelow (λ m. held limit hd (s .count) (s .block) m x * m) limit
-  unfolding ownerHead held
+  unfolding ownerHead held blocks
   owner-sum x =
       sum-congr (headWhere s x) (λ a. sumBelow (λ m. oneAt (hd a) m * (covers (s .count a) (s .block a) x * m)) limit) limit
       (λ a l. headWhere-is x a ∙ sym (sum-pick (λ m. covers (s .count a) (s .block a) x * m) (hd a) limit (hd-below g a)))
@@ -97,7 +98,7 @@ module _ {ex : ℕ → Bool} {n last : ℕ} {s : Anodes} {system hd sd : ℕ →
 
   -- a block that a head holds is on the disk, not the system's, and that head's
   pub held-data : (m x : ℕ) → 0 < held limit hd (s .count) (s .block) m x → (x < n) × (system x ≡ 0)
-  unfolding held owners
+  unfolding held blocks owners
   held-data m x p =
       let q = sum-some (λ a. oneAt (hd a) m * covers (s .count a) (s .block a) x) limit p in
       at (q .0) (q .1) (q .2)
@@ -123,7 +124,7 @@ module _ {ex : ℕ → Bool} {n last : ℕ} {s : Anodes} {system hd sd : ℕ →
 -- anodes with no block dropped
 held-dropped : (A : ℕ) (hd count block : ℕ → ℕ) (dead : ℕ → Bool) → ((a : ℕ) → T (dead a) → count a ≡ 0) → (x m : ℕ) →
     held A (without dead hd) (without dead count) (without dead block) m x ≡ held A hd count block m x
-unfolding held
+unfolding held blocks
 held-dropped A hd count block dead none x m =
     sum-congr (λ a. oneAt (without dead hd a) m * covers (without dead count a) (without dead block a) x) (λ a. oneAt (hd a) m * covers (count a) (block a) x) A (λ a l. same a)
   where
@@ -187,9 +188,9 @@ getD-setAll : (l ys : List ℕ) (v x : ℕ) → x < length l → getD (setAll l 
 unfolding setAll
 getD-setAll l [] v x p = rw (times-nil x)
 getD-setAll l (y ∷ ys) v x p = getD-setAll (set l y v) ys v x (rw (length-set l y v) p) ∙ elim (less? 0 (times x ys)) [
-  | inl q ↦ rw (le-leb 1 (times x ys) q, le-leb 1 (times x (y ∷ ys)) (omega (arith, q, times-cons x y ys)))
+  | inl q ↦ rw (le-leb 1 (times x ys) q, le-leb 1 (times x (y ∷ ys)) (times-later x y ys q))
   | inr q ↦ rw (lt-leb 1 (times x ys) (omega arith)) (elim (oneAt-cases y x) [
-    | inl e ↦ rw (e .0, le-leb 1 (times x (x ∷ ys)) (omega (arith, times-cons x x ys, oneAt-same x x refl))) (getD-set-same l x v 0 p)
+    | inl e ↦ rw (e .0, le-leb 1 (times x (x ∷ ys)) (times-here x ys)) (getD-set-same l x v 0 p)
     | inr e ↦ rw (lt-leb 1 (times x (y ∷ ys)) (omega (arith, times-cons x y ys, e .1))) (getD-set-other l y x v 0 (λ i. e .0 (sym i)))
   ])
 ]
@@ -199,11 +200,11 @@ pub setAll-front : (l r ys : List ℕ) (v : ℕ) → ((y : ℕ) → 0 < times y 
 unfolding setAll
 setAll-front l r [] v below = refl
 setAll-front l r (y ∷ ys) v below =
-    rw (set-append-left l r y v (below y (omega (arith, times-cons y y ys, oneAt-same y y refl))))
-    (setAll-front (set l y v) r ys v (λ x p. rw (length-set l y v) (below x (omega (arith, p, times-cons x y ys)))))
+    rw (set-append-left l r y v (below y (times-here y ys)))
+    (setAll-front (set l y v) r ys v (λ x p. rw (length-set l y v) (below x (times-later x y ys p))))
 
 -- blocks 0 to 2 are the system's
-not-system : (img : List ℕ) (x : ℕ) → systemOwns img x ≡ 0 → 3 ≤ x
+pub not-system : (img : List ℕ) (x : ℕ) → systemOwns img x ≡ 0 → 3 ≤ x
 unfolding systemOwns
 not-system img x z = elim (less? x 3) [ inl l ↦ absurd (omega (arith, rw (lt-ltb x 3 l) at z)) | inr l ↦ l ]
 

@@ -8,17 +8,12 @@ use Rattle.rules.specs.Counting.{oneAt, sumBelow}
 use Rattle.rules.specs.Anodes.{Anodes}
 use Rattle.rules.specs.Chains.{covers, owners}
 use Rattle.laws.specs.Tests.{same?}
-use Rattle.laws.specs.Sums.{oneAt-cases, sum-congr, sum-swap, sum-some, sum-one, sum-at}
+use Rattle.laws.specs.Sums.{oneAt-cases, sum-some, sum-one}
 use Rattle.laws.specs.Ownership.{covers-none}
 use Rattle.laws.specs.Heads.{Head, head-of-is}
-use Rattle.laws.specs.Held.{held}
+use Rattle.laws.specs.Blocks.{blocks}
+use Rattle.laws.specs.Held.{held, held-all}
 use Rattle.laws.specs.Space.{Good}
-
-pub held-all : (A : ℕ) (hd count block : ℕ → ℕ) → ((a : ℕ) → hd a < A) → (y : ℕ) → sumBelow (λ m. held A hd count block m y) A ≡ sumBelow (λ a. covers (count a) (block a) y) A
-unfolding held
-held-all A hd count block low y =
-    sum-swap (λ m a. oneAt (hd a) m * covers (count a) (block a) y) A A
-    ∙ sum-congr (λ a. sumBelow (λ m. oneAt (hd a) m * covers (count a) (block a) y) A) (λ a. covers (count a) (block a) y) A (λ a l. sum-at (hd a) (covers (count a) (block a) y) A (low a))
 
 module _ {A : ℕ} {ex : ℕ → Bool} {n last : ℕ} {s : Anodes} {system hd sd : ℕ → ℕ} (g : Good A ex n last s system hd sd) where
   pub hd-below : (a : ℕ) → hd a < A
@@ -33,13 +28,14 @@ module _ {A : ℕ} {ex : ℕ → Bool} {n last : ℕ} {s : Anodes} {system hd sd
       some : 0 < A
       some = omega (arith, g .view .below 5 (g .fixed .block-5))
 
-  total-held : (y : ℕ) → y < n → system y + sumBelow (λ m. held A hd (s .count) (s .block) m y) A ≡ 1
+  -- a block of the disk is the system's, or one head holds it
+  pub total-held : (y : ℕ) → y < n → system y + sumBelow (λ m. held A hd (s .count) (s .block) m y) A ≡ 1
   unfolding owners
   total-held y l = omega (arith, held-all A hd (s .count) (s .block) hd-below y, g .own .not-two y l, g .own .not-none y l)
 
   -- who holds a block is a head
   pub holder : (m y : ℕ) → 0 < held A hd (s .count) (s .block) m y → Head (s .next) (s .block) m
-  unfolding held
+  unfolding held blocks
   holder m y p =
       let q = sum-some (λ a. oneAt (hd a) m * covers (s .count a) (s .block a) y) A p in
       at (q .0) (q .2)

@@ -1,6 +1,6 @@
 -- Who owns a block: what an extent covers, and that each block has one owner, which a move of blocks keeps.
 use Prim.Native.Nat.{ℕ, zero, suc, _+_, _≤_, _<_}
-use mathlib.Core.Path.{_≡_}
+use mathlib.Core.Path.{_≡_, refl, sym, _∙_}
 use mathlib.Core.Logic.{_≢_, _⊎_, inl, inr}
 use mathlib.Core.Bool.{_&&_}
 use native.Mathlib.Omega.{arith}
@@ -29,31 +29,31 @@ covers-over c b x l = elim (covers-cases c b x) [ inl h ↦ absurd (omega arith)
 pub covers-none : (b x : ℕ) → covers 0 b x ≡ 0
 covers-none b x = elim (covers-cases 0 b x) [ inl h ↦ absurd (omega arith) | inr h ↦ h .1 ]
 
--- at its end: one more
-pub covers-end : (c b x : ℕ) → covers (suc c) b x ≡ covers c b x + oneAt (b + c) x
-covers-end c b x = elim (oneAt-cases (b + c) x) [
-  | inl e ↦ omega (arith, covers-in (suc c) b x (omega arith) (omega arith), covers-over c b x (omega arith))
-  | inr e ↦ elim (less? x (b + c)) [
-    | inl l ↦ elim (less? x b) [
-      | inl m ↦ omega (arith, covers-under (suc c) b x m, covers-under c b x m)
-      | inr m ↦ omega (arith, covers-in (suc c) b x m (omega arith), covers-in c b x m l)
+pub covers-one : (b x : ℕ) → covers 1 b x ≡ oneAt b x
+covers-one b x = elim (oneAt-cases b x) [
+  | inl e ↦ covers-in 1 b x (omega arith) (omega arith) ∙ sym (e .1)
+  | inr e ↦ elim (covers-cases 1 b x) [ inl c ↦ absurd (e .0 (omega arith)) | inr c ↦ c .1 ∙ sym (e .1) ]
+]
+
+-- c blocks from b on, and the d behind them
+pub covers-join : (c d b e f x : ℕ) → f ≡ b + c → e ≡ c + d → covers c b x + covers d f x ≡ covers e b x
+covers-join c d b e f x next all = elim (less? x b) [
+  | inl m ↦ omega (arith, covers-under c b x m, covers-under d f x (omega arith), covers-under e b x m)
+  | inr m ↦ elim (less? x f) [
+    | inl l ↦ omega (arith, covers-in c b x m (omega arith), covers-under d f x l, covers-in e b x m (omega arith))
+    | inr l ↦ elim (less? x (f + d)) [
+      | inl h ↦ omega (arith, covers-over c b x (omega arith), covers-in d f x l h, covers-in e b x m (omega arith))
+      | inr h ↦ omega (arith, covers-over c b x (omega arith), covers-over d f x h, covers-over e b x (omega arith))
     ]
-    | inr l ↦ omega (arith, covers-over (suc c) b x (omega arith), covers-over c b x l)
   ]
 ]
 
--- at its front: one more
+-- one more at its end, and at its front
+pub covers-end : (c b x : ℕ) → covers (suc c) b x ≡ covers c b x + oneAt (b + c) x
+covers-end c b x = omega (arith, covers-join c 1 b (suc c) (b + c) x refl (omega arith), covers-one (b + c) x)
+
 pub covers-front : (c b x : ℕ) → covers (suc c) b x ≡ oneAt b x + covers c (suc b) x
-covers-front c b x = elim (oneAt-cases b x) [
-  | inl e ↦ omega (arith, covers-in (suc c) b x (omega arith) (omega arith), covers-under c (suc b) x (omega arith))
-  | inr e ↦ elim (less? x (b + suc c)) [
-    | inl l ↦ elim (less? x b) [
-      | inl m ↦ omega (arith, covers-under (suc c) b x m, covers-under c (suc b) x (omega arith))
-      | inr m ↦ omega (arith, covers-in (suc c) b x m l, covers-in c (suc b) x (omega arith) (omega arith))
-    ]
-    | inr l ↦ omega (arith, covers-over (suc c) b x l, covers-over c (suc b) x (omega arith))
-  ]
-]
+covers-front c b x = omega (arith, covers-join 1 c b (suc c) (suc b) x (omega arith) (omega arith), covers-one b x)
 
 -- how many it covers
 pub covers-sum : (c b n : ℕ) → b + c ≤ n → sumBelow (covers c b) n ≡ c

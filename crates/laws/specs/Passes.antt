@@ -7,9 +7,9 @@ use native.Mathlib.Omega.{arith}
 use lib.Dec.{T}
 use Rattle.rules.specs.Counting.{times}
 use Rattle.rules.specs.Anodes.{Anodes}
-use Rattle.rules.specs.Chains.{chainOf, preds, headOf, owners, cut, side}
-use Rattle.rules.specs.Space.{after}
+use Rattle.rules.specs.Chains.{chainOf, preds, headOf, cut, side}
 use Rattle.laws.specs.Sums.{oneAt-cases, oneAt-same}
+use Rattle.laws.specs.Ownership.{EachOnce}
 use Rattle.laws.specs.Segments.{seg-keep}
 use Rattle.laws.specs.Links.{View, Checked, Linked, preds-none, used, next-pos, no-preds, linked, seg-rank, the-chain, chain-the, checked}
 use Rattle.laws.specs.Heads.{Head, headOf-heads, times-on-chain}
@@ -29,8 +29,6 @@ module _ (A : ℕ) (ex : ℕ → Bool) (n last : ℕ) where
     -- 6
     pub fixed : FixedAnodes s
     pub next-0 : s .next 0 ≡ 0
-    -- 7
-    pub fits : (a : ℕ) → a < A → 0 < s .count a → s .block a + s .count a ≤ n
     -- 7 and 8
     pub links : Checked A (s .next) (s .block)
     -- 8
@@ -39,9 +37,8 @@ module _ (A : ℕ) (ex : ℕ → Bool) (n last : ℕ) where
     pub two-on : 0 < times 2 (chainOf (s .next) A 1)
     pub high : (a : ℕ) → 0 < times a (side A s 1) → 0 < s .count a → last < s .block a
     pub low : (a : ℕ) → 0 < times a (chainOf (s .next) A 2) → 0 < s .count a → s .block a + s .count a ≤ suc last
-    -- 10, 11
-    pub not-two : (x : ℕ) → x < n → owners A (s .count) (s .block) system x ≤ 1
-    pub not-none : (x : ℕ) → x < n → 1 ≤ owners A (s .count) (s .block) system x
+    -- 7, 10 and 11
+    pub own : EachOnce A (s .count) (s .block) system n
 
 -- from 2 on the cut links are the links
 pub from-two : {A : ℕ} {next block : ℕ → ℕ} → View A next block → Linked A next block → block 2 ≢ 0 → chainOf (cut next) A 2 ≡ chainOf next A 2
@@ -63,7 +60,7 @@ module _ {A : ℕ} {ex : ℕ → Bool} {n last : ℕ} {s : Anodes} {system : ℕ
     linked = k;
     exist = r .exist;
     free-none = r .free-count;
-    own = record { not-two = c .not-two; not-none = c .not-none; fits = c .fits };
+    own = c .own;
     fixed = c .fixed;
     first = λ m f. no-preds v m (fixed-pos m f) (c .first m f);
     heads = headOf-heads v k;
@@ -105,13 +102,11 @@ module _ {A : ℕ} {ex : ℕ → Bool} {n last : ℕ} {s : Anodes} {system : ℕ
     record {
       fixed = g .fixed;
       next-0 = g .view .zero-end;
-      fits = g .own .fits;
       links = checked (g .view) (g .linked);
       first = λ m f. preds-none A (s .next) m (g .first m f);
       two-on = omega (arith, times-on-chain (g .view) (g .linked) hd (g .heads) 1 (head-1 g) 2, oneAt-same (hd 2) 1 (g .two-on));
       high = λ a q. g .high a (side-sd g 1 (inl refl) a q);
       low = λ a q. g .low a (side-sd g 2 (inr refl) a (rw (from-two (g .view) (g .linked) (g .fixed .block-2)) q));
-      not-two = g .own .not-two;
-      not-none = g .own .not-none;
+      own = g .own;
     },
   )

@@ -12,25 +12,21 @@ use Rattle.rules.specs.Walk.{Dir, root, Entered, Item, itemOf, itemsAt, itemsBy
 use Rattle.rules.specs.Space.{onChain, dropped}
 use Rattle.laws.specs.Tests.{same?, less?}
 use Rattle.laws.specs.Sums.{oneAt-same, oneAt-other, sum-none}
-use Rattle.laws.specs.Bags.{list-nil, list-cons, list-append, list-add, list-mono}
+use Rattle.laws.specs.Bags.{list-nil, list-cons, list-without, list-add}
 use Rattle.laws.specs.Heads.{Head}
 use Rattle.laws.specs.Blocks.{blocks}
 use Rattle.laws.specs.LinkChanges.{without, without-cases, without-other}
 use Rattle.laws.specs.HeadChanges.{drop-head-was}
 use Rattle.laws.specs.Space.{Alike, alike-trans, Good, on-chain, dead-head, head-dead, dead-along, drop-good}
 use Rattle.laws.specs.Frame.{kept-count, apart-alike, apart-chain}
-use Rattle.laws.specs.Each.{Each, each-both, each-right, each-zero}
-use Rattle.laws.specs.Items.{wrong, names-sum, below, namedIn, faults, subs-named}
+use Rattle.laws.specs.Each.{Each, each-both, each-pair, each-right, each-less, each-zero}
+use Rattle.laws.specs.Items.{wrong, names-sum, namedIn, faults}
 use Rattle.laws.specs.Trees.{Tree}
-use Rattle.laws.specs.TreeChanges.{headed, none-headed, Gain, sum-named, dir-there, remove-file, remove-dir, AlikeItems, alike-named, alike-tree}
-use Rattle.laws.specs.Entries.{weighEntry, broken-wrong, item-fine, fine-item, item-anode, item-dir, items-sum, itemsAt-fine, anodes-fine, items-alike}
-use Rattle.laws.specs.Whole.{Whole, head-counts, counts-head, dir-heads, named-heads}
-use Rattle.laws.specs.Make.{entry-gain}
+use Rattle.laws.specs.TreeChanges.{headed, tree-unnamed, Gain, sum-named, dir-there, remove-file, remove-dir, AlikeItems, alike-named, alike-tree}
+use Rattle.laws.specs.Entries.{broken-wrong, sized-still, item-anode, item-dir, items-sum, itemsAt-fine, anodes-fine, items-alike}
+use Rattle.laws.specs.Whole.{DirHead, Whole, fine-still, dir-heads, named-heads}
+use Rattle.laws.specs.Make.{EntryMore, entry-gain}
 use Rattle.laws.specs.Resize.{Ran}
-
-each-less : (P : Dir → Type 0) (l₁ : List Dir) (d : Dir) (l₂ : List Dir) → Each P (l₁ ++ (d ∷ l₂)) → Each P (l₁ ++ l₂)
-each-less P [] d l₂ e = e .1
-each-less P (c ∷ l₁) d l₂ e = (e .0, each-less P l₁ d l₂ (e .1))
 
 -- a directory with nothing wrong and no entry has no item
 no-items : (entries : ℕ → List Entered) (marked : Dir → ℕ → Bool) (s : Anodes) (d : Dir) → sumList wrong (itemsBy entries marked s d) ≡ 0 →
@@ -116,8 +112,7 @@ module _ {ex : ℕ → Bool} {n last : ℕ} {s t : Anodes} {system hd sd hd′ s
 module _ {ex : ℕ → Bool} {n last : ℕ} {s : Anodes} {system hd sd : ℕ → ℕ} {entries : ℕ → List Entered} {marked : Dir → ℕ → Bool} {dirs : List Dir}
     (w : Whole ex n last s system hd sd entries marked dirs) (e : Entered) (h : ℕ) (names-h : e .anode ≡ h)
     (a₀ h₀ : ℕ) (reached : headed h₀ dirs ≡ 1) (at₀ : hd a₀ ≡ h₀) (entries′ : ℕ → List Entered)
-    (cont : (a : ℕ) → s .count a ≡ 1 → hd a ≢ 1 → (v : Bool → Bool → ℕ → ℕ → ℕ) →
-    sumList (weighEntry v) (entries (s .block a)) ≡ sumList (weighEntry v) (entries′ (s .block a)) + oneAt a a₀ * weighEntry v e)
+    (cont : EntryMore s hd e a₀ entries′ entries)
     (empty : e .dir ≡ true → gather (λ a. entries (s .block a)) (chainOf (s .next) limit h) ≡ []) where
   abbrev items : Dir → List Item
   items = itemsBy entries marked s
@@ -125,11 +120,11 @@ module _ {ex : ℕ → Bool} {n last : ℕ} {s : Anodes} {system hd sd : ℕ →
   abbrev between : Dir → List Item
   between = itemsBy entries′ marked s
 
-  gain : (d : Dir) → Head (s .next) (s .block) (d .head) × (d .head ≢ 1) → faults items d ≡ 0 → Gain between items h₀ (itemOf s e) d
+  gain : (d : Dir) → DirHead s d → faults items d ≡ 0 → Gain between items h₀ (itemOf s e) d
   gain d p z = entry-gain (w .good) e a₀ h₀ at₀ entries′ entries marked marked cont d p (λ a k q. let c = anodes-fine entries marked s d z a k in (c .0, c .1, c .1))
 
   gains : Each (Gain between items h₀ (itemOf s e)) dirs
-  gains = each-both (λ d. Head (s .next) (s .block) (d .head) × (d .head ≢ 1)) (λ d. faults items d ≡ 0) (Gain between items h₀ (itemOf s e)) dirs
+  gains = each-both (DirHead s) (λ d. faults items d ≡ 0) (Gain between items h₀ (itemOf s e)) dirs
       gain (dir-heads w) (each-zero (faults items) dirs (w .tree .faultless))
 
   named-less : (x : ℕ) → sumList (namedIn items x) dirs ≡ sumList (namedIn between x) dirs + oneAt h x
@@ -188,7 +183,7 @@ module _ {ex : ℕ → Bool} {n last : ℕ} {s : Anodes} {system hd sd : ℕ →
           (each-right (λ d. faults items d ≡ 0) l₁ (c ∷ l₂) (subst (Each (λ d. faults items d ≡ 0)) parted (each-zero (faults items) dirs (w .tree .faultless))) .0) (rw is-h (empty isdir))
 
       split : (f : Dir → ℕ) → sumList f dirs ≡ sumList f (l₁ ++ l₂) + f c
-      split f = ap (sumList f) parted ∙ omega (arith, list-append f l₁ (c ∷ l₂), list-append f l₁ l₂, list-cons f c l₂)
+      split f = ap (sumList f) parted ∙ list-without f l₁ c l₂
 
       gone-named : (x : ℕ) → namedIn between x c ≡ 0
       gone-named x = omega (
@@ -210,13 +205,7 @@ module _ {ex : ℕ → Bool} {n last : ℕ} {s : Anodes} {system hd sd : ℕ →
   unnamed = omega (arith, rest .names h, named-less h, w .tree .once h, oneAt-same h h refl)
 
   not-h : Each (λ d. d .head ≢ h) (rest .dirs′)
-  not-h = none-headed h (rest .dirs′) (omega (
-    arith,
-    rest .tree .exact (λ d. oneAt (d .head) h),
-    oneAt-other 5 h (λ q. omega (arith, q, head-h .0)),
-    unnamed,
-    list-mono (below between (λ c. oneAt (c .head) h)) (namedIn between h) (rest .dirs′) (λ d. subs-named between h d),
-  ))
+  not-h = tree-unnamed between root (rest .dirs′) (rest .tree) h (λ q. omega (arith, q, head-h .0)) unnamed
 
   -- ---- the chain goes, which nothing names
 
@@ -240,34 +229,30 @@ module _ {ex : ℕ → Bool} {n last : ℕ} {s : Anodes} {system hd sd : ℕ →
 
     like : (j : Entered) → guard (itemOf s j) ≡ 0 → (j .dir ≡ j .dir) × (j .anode ≡ j .anode) × (wrong (itemOf end j) ≡ 0)
     unfolding guard
-    like j z =
-        let f = item-fine s j (omega arith) in
-        let jh : j .anode ≢ h = λ q. omega (arith, z, oneAt-same ((itemOf s j) .anode) h (item-anode s j ∙ q)) in
-        let j1 : j .anode ≢ 1 = λ q. omega (arith, q, f .1) in
-        let d = counts-head (w .good) (j .anode) (f .2) in (
-          refl,
-          refl,
-          fine-item end j (f .0) (f .1) (head-counts good (j .anode) (gone .stays (j .anode) jh d))
-              (elim (f .3) [
-                | inl q ↦ inl q
-                | inr q ↦ inr (kept-count s end (j .anode) (gone-chain (w .good) good h gone (j .anode) j1 jh d) (λ a k. gone-alike (w .good) good h gone (j .anode) j1 jh d a k .same-count) ∙ q)
-              ]),
-        )
+    like j z = (
+      refl,
+      refl,
+      fine-still (w .good) good j j refl refl (omega arith) (λ l d q. (let j1 : j .anode ≢ 1 = λ i. omega (arith, i, l) in (
+        gone .stays (j .anode) jh d,
+        sized-still s end j (kept-count s end (j .anode) (gone-chain (w .good) good h gone (j .anode) j1 jh d) (λ a k. gone-alike (w .good) good h gone (j .anode) j1 jh d a k .same-count)) q,
+      ))),
+    )
+      where
+        jh : j .anode ≢ h
+        jh i = omega (arith, z, oneAt-same ((itemOf s j) .anode) h (item-anode s j ∙ i))
 
-    one : (d : Dir) → Head (s .next) (s .block) (d .head) × (d .head ≢ 1) → (faults between d ≡ 0) × (d .head ≢ h) × (namedIn between h d ≡ 0) → AlikeItems between items′ d
+    one : (d : Dir) → DirHead s d → (faults between d ≡ 0) × ((d .head ≢ h) × (namedIn between h d ≡ 0)) → AlikeItems between items′ d
     unfolding guard
     one d p q = items-alike s end (λ j. j) guard (λ z. omega (arith, z, broken-wrong)) like entries′ entries′ marked marked′ d
-        (gone-chain (w .good) good h gone (d .head) (p .1) (q .1) (p .0)) (gone-alike (w .good) good h gone (d .head) (p .1) (q .1) (p .0))
+        (gone-chain (w .good) good h gone (d .head) (p .1) (q .1 .0) (p .0)) (gone-alike (w .good) good h gone (d .head) (p .1) (q .1 .0) (p .0))
         (λ a k c. (sym (map-id (entries′ (s .block a))), same-marks a c (λ i. p .1 (sym (on-chain (w .good) (d .head) (p .0) a k .0) ∙ i)) d))
-        (list-add wrong (λ i. oneAt (i .anode) h) (between d) ∙ omega (arith, q .0, q .2, names-sum h (between d)))
+        (list-add wrong (λ i. oneAt (i .anode) h) (between d) ∙ omega (arith, q .0, q .1 .1, names-sum h (between d)))
 
     alikes : Each (AlikeItems between items′) (rest .dirs′)
-    alikes = each-both (λ d. Head (s .next) (s .block) (d .head) × (d .head ≢ 1)) (λ d. (faults between d ≡ 0) × (d .head ≢ h) × (namedIn between h d ≡ 0)) (AlikeItems between items′) (rest .dirs′)
-        one (rest .each (λ d. Head (s .next) (s .block) (d .head) × (d .head ≢ 1)) (dir-heads w))
-        (each-both (λ d. faults between d ≡ 0) (λ d. (d .head ≢ h) × (namedIn between h d ≡ 0)) (λ d. (faults between d ≡ 0) × (d .head ≢ h) × (namedIn between h d ≡ 0)) (rest .dirs′)
-        (λ d a b. (a, b .0, b .1)) (each-zero (faults between) (rest .dirs′) (rest .tree .faultless))
-        (each-both (λ d. d .head ≢ h) (λ d. namedIn between h d ≡ 0) (λ d. (d .head ≢ h) × (namedIn between h d ≡ 0)) (rest .dirs′) (λ d a b. (a, b)) not-h
-        (each-zero (namedIn between h) (rest .dirs′) unnamed)))
+    alikes = each-both (DirHead s) (λ d. (faults between d ≡ 0) × ((d .head ≢ h) × (namedIn between h d ≡ 0))) (AlikeItems between items′) (rest .dirs′)
+        one (rest .each (DirHead s) (dir-heads w))
+        (each-pair (λ d. faults between d ≡ 0) (λ d. (d .head ≢ h) × (namedIn between h d ≡ 0)) (rest .dirs′) (each-zero (faults between) (rest .dirs′) (rest .tree .faultless))
+        (each-pair (λ d. d .head ≢ h) (λ d. namedIn between h d ≡ 0) (rest .dirs′) not-h (each-zero (namedIn between h) (rest .dirs′) unnamed)))
 
     -- the directories that are left are those that were, but for one with the head h
     pub removed : (dirs′ : List Dir)

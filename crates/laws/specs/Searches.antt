@@ -7,8 +7,8 @@ use native.Mathlib.Omega.{arith}
 use Rattle.rules.specs.Counting.{sumList, times, lastOf}
 use Rattle.rules.specs.Space.{Found, nowhere, found, fullAt, firstFound, firstFull, lastFull}
 use Rattle.laws.specs.Tests.{same?}
-use Rattle.laws.specs.Sums.{oneAt-cases, oneAt-same}
-use Rattle.laws.specs.Bags.{list-nil, list-cons, times-nil, times-cons}
+use Rattle.laws.specs.Sums.{oneAt-cases}
+use Rattle.laws.specs.Bags.{list-nil, list-cons, times-nil, times-cons, times-here, times-later}
 use Rattle.laws.specs.Segments.{Seg}
 
 -- x has a block and stands on the walk l from a; q is before it, or p where x is a itself
@@ -58,13 +58,13 @@ module _ (count next : ℕ → ℕ) (a p b : ℕ) (l : List ℕ) (q x : ℕ) whe
   found-here : a ≡ b → fullAt count p b ≡ found q x → FoundIn count next a (b ∷ l) p q x
   found-here ab e =
       let (full, pq, bx) = found-at count p b q x e in
-      record { full = rw (← bx) full; on = omega (arith, times-cons x b l, oneAt-same b x bx); before = inl (sym bx ∙ sym ab, sym pq) }
+      record { full = rw (← bx) full; on = rw (← bx) (times-here b l); before = inl (sym bx ∙ sym ab, sym pq) }
 
   -- or on the rest of it
   found-later : FoundIn count next (next b) l b q x → FoundIn count next a (b ∷ l) p q x
   found-later f = record {
     full = f .full;
-    on = omega (arith, f .on, times-cons x b l);
+    on = times-later x b l (f .on);
     before = inr (elim (f .before) [ inl d ↦ ap next (d .1) ∙ sym (d .0) | inr d ↦ d ]);
   }
 
@@ -121,6 +121,6 @@ pub last-on : (p : ℕ) (l : List ℕ) → (lastOf p l ≡ p) ⊎ (0 < times (la
 unfolding lastOf
 last-on p [] = inl refl
 last-on p (x ∷ l) = inr (elim (last-on x l) [
-  | inl e ↦ omega (arith, times-cons (lastOf x l) x l, oneAt-same x (lastOf x l) (sym e))
-  | inr e ↦ omega (arith, times-cons (lastOf x l) x l)
+  | inl e ↦ rw e (times-here x l)
+  | inr e ↦ times-later (lastOf x l) x l e
 ])

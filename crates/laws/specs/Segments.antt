@@ -1,14 +1,14 @@
 -- Walks along next, and the chains that they find.
 use Prim.Native.Nat.{ℕ, zero, suc, _+_, _≤_, _<_}
-use mathlib.Core.Path.{_≡_, refl, sym, _∙_}
+use mathlib.Core.Path.{_≡_, refl, sym, _∙_, subst}
 use mathlib.Core.Logic.{_≢_}
 use mathlib.Core.List.{List, [], _∷_, _++_}
 use native.Mathlib.Omega.{arith}
 use lib.ListN.{length}
 use Rattle.rules.specs.Counting.{times}
 use Rattle.rules.specs.Chains.{chainOf, followed}
-use Rattle.laws.specs.Sums.{oneAt-same, oneAt-other}
-use Rattle.laws.specs.Bags.{times-nil, times-cons}
+use Rattle.laws.specs.Sums.{oneAt-other}
+use Rattle.laws.specs.Bags.{times-nil, times-cons, times-here, times-later}
 
 -- from a, following next, the anodes of l are met, none of them 0, and then z
 
@@ -69,9 +69,15 @@ seg-split next a z (b ∷ l) m c = let r = seg-split next (next b) z l m (c .2) 
 pub seg-keep : (next next′ : ℕ → ℕ) (a z : ℕ) (l : List ℕ) → ((x : ℕ) → 0 < times x l → next′ x ≡ next x) → Seg next a l z → Seg next′ a l z
 seg-keep next next′ a z [] h c = c
 seg-keep next next′ a z (b ∷ l) h c =
-    (c .0, c .1, rw (h b (omega (arith, times-cons b b l, oneAt-same b b refl))) (seg-keep next next′ (next b) z l (λ x p. h x (omega (arith, times-cons x b l))) (c .2)))
+    (c .0, c .1, rw (h b (times-here b l)) (seg-keep next next′ (next b) z l (λ x p. h x (times-later x b l p)) (c .2)))
+
+-- x is not met on a walk along which something stays so that is not so of x
+pub seg-avoids : (next : ℕ → ℕ) (x : ℕ) (P : ℕ → Type 0) → ((b : ℕ) → b ≢ 0 → P b → (b ≢ x) × P (next b)) → (a z : ℕ) (l : List ℕ) → P a → Seg next a l z → times x l ≡ 0
+seg-avoids next x P step a z [] p c = times-nil x
+seg-avoids next x P step a z (b ∷ l) p c =
+    let q = step b (c .1) (subst P (c .0) p) in
+    omega (arith, times-cons x b l, oneAt-other b x (q .0), seg-avoids next x P step (next b) z l (q .1) (c .2))
 
 -- 0 stands in no walk
 pub seg-zero : (next : ℕ → ℕ) (a z : ℕ) (l : List ℕ) → Seg next a l z → times 0 l ≡ 0
-seg-zero next a z [] c = times-nil 0
-seg-zero next a z (b ∷ l) c = omega (arith, times-cons 0 b l, oneAt-other b 0 (c .1), seg-zero next (next b) z l (c .2))
+seg-zero next a z l c = seg-avoids next 0 (λ b. Unit {0}) (λ b b0 p. (b0, tt)) a z l tt c

@@ -7,8 +7,8 @@ use Rattle.rules.specs.Counting.{times}
 use Rattle.rules.specs.Anodes.{Anodes}
 use Rattle.rules.specs.Chains.{cut, side}
 use Rattle.laws.specs.Segments.{Chain}
-use Rattle.laws.specs.Links.{View, Linked, the-chain}
-use Rattle.laws.specs.Heads.{Head, chain-ind, seg-head}
+use Rattle.laws.specs.Links.{View, Linked}
+use Rattle.laws.specs.Heads.{Head, chain-ind, head-chain, seg-head}
 use Rattle.laws.specs.Cut.{cut-cases, cut-view, cut-linked, cut-head, cut-head-2}
 use Rattle.laws.specs.Space.{Good, head-1}
 
@@ -42,10 +42,10 @@ module _ {A : ℕ} {ex : ℕ → Bool} {n last : ℕ} {s : Anodes} {system hd sd
 
   pub side-chain : (m : ℕ) → (m ≡ 1) ⊎ (m ≡ 2) → Chain (cut (s .next)) m (side A s m)
   unfolding side
-  side-chain m o = the-chain cv ck m (λ q. side-start m o .in-use)
+  side-chain m o = head-chain cv ck m (side-start m o)
 
   pub side-sd : (m : ℕ) → (m ≡ 1) ⊎ (m ≡ 2) → (x : ℕ) → 0 < times x (side A s m) → sd x ≡ m
   unfolding side
   side-sd m o x c =
       let d = side-start m o in
-      seg-head cv ck sd (g .sides) m 0 (side A s m) (the-chain cv ck m (λ q. d .in-use)) x c ∙ g .sides .at-head m d
+      seg-head cv ck sd (g .sides) m 0 (side A s m) (head-chain cv ck m d) x c ∙ g .sides .at-head m d

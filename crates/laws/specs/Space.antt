@@ -73,6 +73,38 @@ module _ {A : ℕ} {ex : ℕ → Bool} {n last : ℕ} {s : Anodes} {system hd sd
   pub head-5 : Head (s .next) (s .block) 5
   head-5 = record { pos = omega arith; in-use = g .fixed .block-5; no-pred = g .first 5 (inr (inr (inr refl))) }
 
+  -- x becomes (c, b)
+  module _ (x c b : ℕ) where
+    -- what holds of every extent of the side m still does, if it holds of (c, b) where x is on that side
+    side-kept : (P : ℕ → ℕ → Type 0) (m : ℕ) → ((a : ℕ) → sd a ≡ m → P (s .count a) (s .block a)) → (sd′ : ℕ → ℕ) → ((a : ℕ) → a ≢ x → sd′ a ≡ sd a) → (sd′ x ≡ m → P c b) →
+        (a : ℕ) → sd′ a ≡ m → P (changed (s .count) x c a) (changed (s .block) x b a)
+    side-kept P m was sd′ same at-x a q = elim (same? a x) [
+      | inl e ↦ rw (e, changed-same (s .count) x c, changed-same (s .block) x b) (at-x (ap sd′ (sym e) ∙ q))
+      | inr e ↦ rw (changed-other (s .count) x c a e, changed-other (s .block) x b a e) (was a (sym (same a e) ∙ q))
+    ]
+
+    -- above last reserved, and up to it
+    high-kept : (sd′ : ℕ → ℕ) → ((a : ℕ) → a ≢ x → sd′ a ≡ sd a) → (sd′ x ≡ 1 → 0 < c → last < b) → (a : ℕ) → sd′ a ≡ 1 → 0 < changed (s .count) x c a → last < changed (s .block) x b a
+    high-kept = side-kept (λ c b. 0 < c → last < b) 1 (g .high)
+
+    low-kept : (sd′ : ℕ → ℕ) → ((a : ℕ) → a ≢ x → sd′ a ≡ sd a) → (sd′ x ≡ 2 → 0 < c → b + c ≤ suc last) → (a : ℕ) → sd′ a ≡ 2 → 0 < changed (s .count) x c a → changed (s .block) x b a + changed (s .count) x c a ≤ suc last
+    low-kept = side-kept (λ c b. 0 < c → b + c ≤ suc last) 2 (g .low)
+
+    -- where x is neither 0 nor 1, and 2 and 5 stay in use, what is fixed of the anodes stays
+    fixed-kept : (next : ℕ → ℕ) → x ≢ 0 → x ≢ 1 → ((a : ℕ) → a < 6 → s .block a ≢ 0 → changed (s .block) x b a ≢ 0) → FixedAnodes (record { count = changed (s .count) x c; block = changed (s .block) x b; next = next })
+    fixed-kept next x0 x1 used = record {
+      count-0 = changed-other (s .count) x c 0 (λ q. x0 (sym q)) ∙ g .fixed .count-0;
+      block-0 = changed-other (s .block) x b 0 (λ q. x0 (sym q)) ∙ g .fixed .block-0;
+      count-1 = changed-other (s .count) x c 1 (λ q. x1 (sym q)) ∙ g .fixed .count-1;
+      block-1 = changed-other (s .block) x b 1 (λ q. x1 (sym q)) ∙ g .fixed .block-1;
+      block-2 = used 2 (omega arith) (g .fixed .block-2);
+      block-5 = used 5 (omega arith) (g .fixed .block-5);
+    }
+
+    -- and so where x is from 6 up
+    low-fixed : (next : ℕ → ℕ) → 6 ≤ x → FixedAnodes (record { count = changed (s .count) x c; block = changed (s .block) x b; next = next })
+    low-fixed next x6 = fixed-kept next (omega arith) (omega arith) (λ a l u. rw (changed-other (s .block) x b a (omega arith)) u)
+
   -- an anode in use, neither 0 nor 1, is rewritten to (c, b)
   module _ (x c b : ℕ) (system′ : ℕ → ℕ) (u : s .block x ≢ 0) (b0 : b ≢ 0) (x0 : x ≢ 0) (x1 : x ≢ 1)
       (moved : (y : ℕ) → system y + covers (s .count x) (s .block x) y ≡ system′ y + covers c b y) (fits : 0 < c → b + c ≤ n)
@@ -88,52 +120,13 @@ module _ {A : ℕ} {ex : ℕ → Bool} {n last : ℕ} {s : Anodes} {system hd sd
         | inr e ↦ e .1 ∙ g .free-none a (same-use (s .block) x b u b0 a h)
       ];
       own = move A (s .count) (s .block) system n x (g .view .below x u) c b system′ moved fits (g .own);
-      fixed = record {
-        count-0 = changed-other (s .count) x c 0 (λ q. x0 (sym q)) ∙ g .fixed .count-0;
-        block-0 = changed-other (s .block) x b 0 (λ q. x0 (sym q)) ∙ g .fixed .block-0;
-        count-1 = changed-other (s .count) x c 1 (λ q. x1 (sym q)) ∙ g .fixed .count-1;
-        block-1 = changed-other (s .block) x b 1 (λ q. x1 (sym q)) ∙ g .fixed .block-1;
-        block-2 = λ z. g .fixed .block-2 (same-use (s .block) x b u b0 2 z);
-        block-5 = λ z. g .fixed .block-5 (same-use (s .block) x b u b0 5 z);
-      };
+      fixed = fixed-kept x c b (s .next) x0 x1 (λ a l h z. h (same-use (s .block) x b u b0 a z));
       first = g .first;
       heads = rewrite-heads (s .block) x b u b0 (g .heads);
       two-on = g .two-on;
       sides = rewrite-heads (s .block) x b u b0 (g .sides);
-      high = λ a q. elim (same? a x) [
-        | inl e ↦ rw (e, changed-same (s .count) x c, changed-same (s .block) x b) (is-high (ap sd (sym e) ∙ q))
-        | inr e ↦ rw (changed-other (s .count) x c a e, changed-other (s .block) x b a e) (g .high a q)
-      ];
-      low = λ a q. elim (same? a x) [
-        | inl e ↦ rw (e, changed-same (s .count) x c, changed-same (s .block) x b) (is-low (ap sd (sym e) ∙ q))
-        | inr e ↦ rw (changed-other (s .count) x c a e, changed-other (s .block) x b a e) (g .low a q)
-      ];
-    }
-
-  -- x becomes (c, b), and its side v
-  module _ (x c b : ℕ) where
-    -- above last reserved, and up to it, where x is
-    high-kept : (v : ℕ) → (v ≡ 1 → 0 < c → last < b) → (a : ℕ) → changed sd x v a ≡ 1 → 0 < changed (s .count) x c a → last < changed (s .block) x b a
-    high-kept v at-x a q = elim (changed-cases sd x v a) [
-      | inl e ↦ rw (e .0, changed-same (s .count) x c, changed-same (s .block) x b) (at-x (sym (e .1) ∙ q))
-      | inr e ↦ rw (changed-other (s .count) x c a (e .0), changed-other (s .block) x b a (e .0)) (g .high a (sym (e .1) ∙ q))
-    ]
-
-    low-kept : (v : ℕ) → (v ≡ 2 → 0 < c → b + c ≤ suc last) → (a : ℕ) → changed sd x v a ≡ 2 → 0 < changed (s .count) x c a → changed (s .block) x b a + changed (s .count) x c a ≤ suc last
-    low-kept v at-x a q = elim (changed-cases sd x v a) [
-      | inl e ↦ rw (e .0, changed-same (s .count) x c, changed-same (s .block) x b) (at-x (sym (e .1) ∙ q))
-      | inr e ↦ rw (changed-other (s .count) x c a (e .0), changed-other (s .block) x b a (e .0)) (g .low a (sym (e .1) ∙ q))
-    ]
-
-    -- where x is from 6 up, what is fixed of the anodes below stays
-    fixed-kept : (next : ℕ → ℕ) → 6 ≤ x → FixedAnodes (record { count = changed (s .count) x c; block = changed (s .block) x b; next = next })
-    fixed-kept next x6 = record {
-      count-0 = changed-other (s .count) x c 0 (omega arith) ∙ g .fixed .count-0;
-      block-0 = changed-other (s .block) x b 0 (omega arith) ∙ g .fixed .block-0;
-      count-1 = changed-other (s .count) x c 1 (omega arith) ∙ g .fixed .count-1;
-      block-1 = changed-other (s .block) x b 1 (omega arith) ∙ g .fixed .block-1;
-      block-2 = rw (changed-other (s .block) x b 2 (omega arith)) (g .fixed .block-2);
-      block-5 = rw (changed-other (s .block) x b 5 (omega arith)) (g .fixed .block-5);
+      high = high-kept x c b sd (λ a e. refl) is-high;
+      low = low-kept x c b sd (λ a e. refl) is-low;
     }
 
   -- x, with no block and from 6 up, is unlinked after p and zeroed
@@ -150,13 +143,13 @@ module _ {A : ℕ} {ex : ℕ → Bool} {n last : ℕ} {s : Anodes} {system hd sd
       free-none = λ a h. elim (changed-cases (s .count) x 0 a) [ inl e ↦ e .1 | inr e ↦ e .1 ∙ g .free-none a (sym (changed-other (s .block) x 0 a (e .0)) ∙ h) ];
       own = move A (s .count) (s .block) system n x (g .view .below x ux) 0 0 system
           (λ y. rw none (omega (arith, covers-none (s .block x) y, covers-none 0 y))) (λ q. absurd (omega arith)) (g .own);
-      fixed = fixed-kept x 0 0 _ x6;
+      fixed = low-fixed x 0 0 _ x6;
       first = λ m f. first-of m (fixed-pos m f) (g .first m f);
       heads = unlink-heads (g .view) (g .linked) hd (g .heads) p x x0 px;
       two-on = changed-other hd x 0 2 (omega arith) ∙ g .two-on;
       sides = rw (cut-unlink (s .next) p x) at (unlink-heads (cut-view (g .view)) (cut-linked (g .linked)) sd (g .sides) p x x0 (cut-other (s .next) p (λ q. omega (arith, px, q)) ∙ px));
-      high = high-kept x 0 0 0 (λ q. absurd (omega (arith, q)));
-      low = low-kept x 0 0 0 (λ q. absurd (omega (arith, q)));
+      high = high-kept x 0 0 (changed sd x 0) (changed-other sd x 0) (λ q p. absurd (omega arith));
+      low = low-kept x 0 0 (changed sd x 0) (changed-other sd x 0) (λ q p. absurd (omega arith));
     }
       where
         ux : s .block x ≢ 0
@@ -184,13 +177,13 @@ module _ {A : ℕ} {ex : ℕ → Bool} {n last : ℕ} {s : Anodes} {system hd sd
       exist = λ a h. elim (changed-cases (s .block) f b a) [ inl e ↦ rw (e .0) there | inr e ↦ g .exist a (rw (e .1) at h) ];
       free-none = λ a h. elim (changed-cases (s .block) f b a) [ inl e ↦ absurd (b0 (sym (e .1) ∙ h)) | inr e ↦ changed-other (s .count) f c a (e .0) ∙ g .free-none a (sym (e .1) ∙ h) ];
       own = move A (s .count) (s .block) system n f fA c b system′ (λ y. rw (g .free-none f fresh) (omega (arith, covers-none (s .block f) y, moved y))) fits (g .own);
-      fixed = fixed-kept f c b _ f6;
+      fixed = low-fixed f c b _ f6;
       first = λ m i. first-of m (fixed-low m i .1) (g .first m i);
       heads = insert-heads (g .view) (g .linked) hd (g .heads) p f b p0 up f0 fresh fA b0;
       two-on = changed-other hd f (hd p) 2 (omega arith) ∙ g .two-on;
       sides = rw (cut-insertAfter (s .next) p f (omega arith)) at (insert-heads (cut-view (g .view)) (cut-linked (g .linked)) sd (g .sides) p f b p0 up f0 fresh fA b0);
-      high = high-kept f c b (sd p) is-high;
-      low = low-kept f c b (sd p) is-low;
+      high = high-kept f c b (changed sd f (sd p)) (changed-other sd f (sd p)) (λ q. is-high (sym (changed-same sd f (sd p)) ∙ q));
+      low = low-kept f c b (changed sd f (sd p)) (changed-other sd f (sd p)) (λ q. is-low (sym (changed-same sd f (sd p)) ∙ q));
     }
       where
         first-of : (m : ℕ) → m < 6 → ((q : ℕ) → s .next q ≢ m) → (q : ℕ) → insertAfter (s .next) p f q ≢ m
@@ -210,13 +203,13 @@ module _ {A : ℕ} {ex : ℕ → Bool} {n last : ℕ} {s : Anodes} {system hd sd
       exist = λ a h. elim (changed-cases (s .block) f b a) [ inl e ↦ rw (e .0) there | inr e ↦ g .exist a (rw (e .1) at h) ];
       free-none = λ a h. elim (changed-cases (s .count) f 0 a) [ inl e ↦ e .1 | inr e ↦ e .1 ∙ g .free-none a (sym (changed-other (s .block) f b a (e .0)) ∙ h) ];
       own = move A (s .count) (s .block) system n f fA 0 b system (λ y. rw (g .free-none f fresh) (omega (arith, covers-none (s .block f) y, covers-none b y))) (λ q. absurd (omega arith)) (g .own);
-      fixed = fixed-kept f 0 b _ f6;
+      fixed = low-fixed f 0 b _ f6;
       first = g .first;
       heads = fresh-heads (g .view) (g .linked) hd (g .heads) f b (omega arith) fresh fA b0;
       two-on = changed-other hd f f 2 (omega arith) ∙ g .two-on;
       sides = fresh-heads (cut-view (g .view)) (cut-linked (g .linked)) sd (g .sides) f b (omega arith) fresh fA b0;
-      high = high-kept f 0 b f (λ q. absurd (omega (arith, q, f6)));
-      low = low-kept f 0 b f (λ q. absurd (omega (arith, q, f6)));
+      high = high-kept f 0 b (changed sd f f) (changed-other sd f f) (λ q p. absurd (omega arith));
+      low = low-kept f 0 b (changed sd f f) (changed-other sd f f) (λ q p. absurd (omega arith));
     }
 
   -- what stands on the chain of a head has it for head and is in use

@@ -4,14 +4,13 @@ use mathlib.Core.Path.{_≡_, refl, sym, _∙_, fun-ext}
 use mathlib.Core.Logic.{_≢_, _⊎_, inl, inr}
 use mathlib.Core.Bool.{Bool, cond}
 use native.Mathlib.Omega.{arith}
-use lib.Dec.{T, eqb, ltb, eqb→eq, leb→le, le→leb}
+use lib.Dec.{T, ltb, leb→le, le→leb}
 use Rattle.rules.specs.Counting.{oneAt, sumBelow, least, changed}
-use Rattle.laws.specs.Tests.{same?, less?, cond-cases, eq→eqb}
+use Rattle.laws.specs.Tests.{same?, less?, cond-cases, eqb-cases}
 
 pub oneAt-cases : (a b : ℕ) → ((a ≡ b) × (oneAt a b ≡ 1)) ⊎ ((a ≢ b) × (oneAt a b ≡ 0))
 unfolding oneAt
-oneAt-cases a b =
-    elim (cond-cases {A = ℕ} (eqb a b) 1 0) [ inl h ↦ inl (eqb→eq a b (h .0), h .1) | inr h ↦ inr (λ e. h .0 (eq→eqb a b e), h .1) ]
+oneAt-cases a b = eqb-cases {A = ℕ} a b 1 0
 
 pub oneAt-same : (a b : ℕ) → a ≡ b → oneAt a b ≡ 1
 oneAt-same a b e = elim (oneAt-cases a b) [ inl h ↦ h .1 | inr h ↦ absurd (h .0 e) ]
@@ -37,6 +36,9 @@ oneBelow-cases a b = elim (cond-cases {A = ℕ} (ltb a b) 1 0) [
   | inr h ↦ elim (less? a b) [ inl l ↦ absurd (h .0 (le→leb (suc a) b l)) | inr l ↦ inr (l, h .1) ]
 ]
 
+pub oneBelow-none : (a : ℕ) → oneBelow a 0 ≡ 0
+oneBelow-none a = elim (oneBelow-cases a 0) [ inl h ↦ absurd (omega arith) | inr h ↦ h .1 ]
+
 pub oneBelow-suc : (a b : ℕ) → oneBelow (suc a) (suc b) ≡ oneBelow a b
 oneBelow-suc a b = elim (oneBelow-cases a b) [
   | inl h ↦ elim (oneBelow-cases (suc a) (suc b)) [ inl g ↦ g .1 ∙ sym (h .1) | inr g ↦ absurd (omega arith) ]
@@ -47,8 +49,7 @@ oneBelow-suc a b = elim (oneBelow-cases a b) [
 
 pub changed-cases : (f : ℕ → ℕ) (i x j : ℕ) → ((j ≡ i) × (changed f i x j ≡ x)) ⊎ ((j ≢ i) × (changed f i x j ≡ f j))
 unfolding changed
-changed-cases f i x j =
-    elim (cond-cases (eqb j i) x (f j)) [ inl h ↦ inl (eqb→eq j i (h .0), h .1) | inr h ↦ inr (λ e. h .0 (eq→eqb j i e), h .1) ]
+changed-cases f i x j = eqb-cases j i x (f j)
 
 pub changed-same : (f : ℕ → ℕ) (i x : ℕ) → changed f i x i ≡ x
 changed-same f i x = elim (changed-cases f i x i) [ inl h ↦ h .1 | inr h ↦ absurd (h .0 refl) ]
@@ -65,6 +66,7 @@ changed-twice f i x y = fun-ext (λ j. elim (changed-cases (changed f i x) i y j
   | inr c ↦ c .1 ∙ changed-other f i x j (c .0) ∙ sym (changed-other f i y j (c .0))
 ])
 
+-- the least number that passes, where one does
 pub least-cases : (t : ℕ → Bool) (k : ℕ) → ((least t k < k) × T (t (least t k)) × ((i : ℕ) → i < least t k → T (t i) → ⊥)) ⊎ ((least t k ≡ k) × ((i : ℕ) → i < k → T (t i) → ⊥))
 unfolding least
 least-cases t zero = inr (refl, λ i l. absurd (omega arith))
@@ -156,14 +158,13 @@ sum-one f k e =
     let s = sum-some f k (omega arith) in
     (s .0, s .1, omega (arith, sum-member f (s .0) k (s .1)), λ j l ne. omega (arith, sum-members f (s .0) j k (s .1) l (λ q. ne (sym q))))
 
-pub sum-oneAt : (x k : ℕ) → x < k → sumBelow (oneAt x) k ≡ 1
-sum-oneAt x k l =
-    omega (arith, sum-update (λ i. 0) (oneAt x) x k l (λ j m e. sym (oneAt-other x j (λ q. e (sym q)))), oneAt-same x x refl, sum-zero (λ i. 0) k (λ i m. refl))
-
 -- a sum where all but i vanish
 pub sum-single : (f : ℕ → ℕ) (i k : ℕ) → i < k → ((j : ℕ) → j < k → j ≢ i → f j ≡ 0) → sumBelow f k ≡ f i
 sum-single f i k l h =
     omega (arith, sum-update (λ j. 0) f i k l (λ j m e. sym (h j m e)), sum-zero (λ j. 0) k (λ j m. refl))
+
+pub sum-oneAt : (x k : ℕ) → x < k → sumBelow (oneAt x) k ≡ 1
+sum-oneAt x k l = sum-single (oneAt x) x k l (λ j m e. oneAt-other x j (λ q. e (sym q))) ∙ oneAt-same x x refl
 
 -- terms of at most 1, and at most one of them above 0
 pub sum-le-one : (f : ℕ → ℕ) (k : ℕ) → ((i : ℕ) → f i ≤ 1) → ((i j : ℕ) → i < k → j < k → 0 < f i → 0 < f j → i ≡ j) → sumBelow f k ≤ 1

@@ -4,18 +4,15 @@ use mathlib.Core.Path.{_≡_, refl}
 use mathlib.Core.Logic.{_≢_, _⊎_, inl, inr}
 use mathlib.Core.Bool.{Bool, true, false, cond, not, _&&_, _||_}
 use native.Mathlib.Omega.{arith}
-use lib.Dec.{T, eqb, eqb-refl}
+use lib.Dec.{T, eqb, eqb-refl, eqb→eq}
 use borrow.Author.Tests.{eq-eqb, ne-eqb}
-use Rattle.rules.specs.Counting.{_if_else_, anyBelow}
+use Rattle.rules.specs.Counting.{anyBelow}
+use Rattle.counting.specs.Laws.{anyBelow-hit}
 pub use Rattle.endian.proofs.Laws.{same?, less?}
 
 pub cond-cases {ℓ} : {A : Type ℓ} (t : Bool) (x y : A) → (T t × (cond t x y ≡ x)) ⊎ ((T t → ⊥) × (cond t x y ≡ y))
 cond-cases true x y = inl (tt, refl)
 cond-cases false x y = inr ((λ h. h), refl)
-
-pub if-cases : (n : ℕ) (t : Bool) (r : ℕ) → (T t × ((n if t else r) ≡ n)) ⊎ ((T t → ⊥) × ((n if t else r) ≡ r))
-if-cases n true r = inl (tt, refl)
-if-cases n false r = inr ((λ h. h), refl)
 
 pub T-true : (t : Bool) → T t → t ≡ true
 T-true true h = refl
@@ -32,6 +29,10 @@ T-same false t f g = rw (T-false t g)
 pub eq→eqb : (a b : ℕ) → a ≡ b → T (eqb a b)
 eq→eqb a b e = rw (← e) (eqb-refl a)
 
+-- a choice by whether two numbers are the same
+pub eqb-cases {ℓ} : {A : Type ℓ} (a b : ℕ) (x y : A) → ((a ≡ b) × (cond (eqb a b) x y ≡ x)) ⊎ ((a ≢ b) × (cond (eqb a b) x y ≡ y))
+eqb-cases a b x y = elim (cond-cases (eqb a b) x y) [ inl h ↦ inl (eqb→eq a b (h .0), h .1) | inr h ↦ inr (λ e. h .0 (eq→eqb a b e), h .1) ]
+
 pub both : (a b : Bool) → T (a && b) → T a × T b
 both true b h = (tt, h)
 both false b h = absurd h
@@ -43,10 +44,6 @@ and false b p q = p
 pub either : (a b : Bool) → T (a || b) → T a ⊎ T b
 either true b h = inl tt
 either false b h = inr h
-
-pub or-left : (a b : Bool) → T a → T (a || b)
-or-left true b h = tt
-or-left false b h = absurd h
 
 pub or-right : (a b : Bool) → T b → T (a || b)
 or-right true b h = tt
@@ -61,32 +58,8 @@ any-some t (suc k) h = go (any-some t k) (either (anyBelow t k) (t k) h)
     go r (inl h) = let s = r h in (s .0, omega arith, s .2)
     go r (inr h) = (k, omega arith, h)
 
-pub some-any : (t : ℕ → Bool) (k : ℕ) (i : ℕ) → i < k → T (t i) → T (anyBelow t k)
-unfolding anyBelow
-some-any t zero i l h = absurd (omega arith)
-some-any t (suc k) i l h = go (some-any t k i) (same? i k)
-  where
-    go : (i < k → T (t i) → T (anyBelow t k)) → (i ≡ k) ⊎ (i ≢ k) → T (anyBelow t k || t k)
-    go r (inl e) = or-right (anyBelow t k) (t k) (rw e at h)
-    go r (inr e) = or-left (anyBelow t k) (t k) (r (omega arith) h)
-
--- ---- tests that fail
-
-pub none-or : (a b : Bool) → a ≡ false → b ≡ false → (a || b) ≡ false
-none-or a b p q = rw (p, q)
-
--- a conjunction that fails, given its first part
-pub and-none : (a b : Bool) → (a && b) ≡ false → a ≡ true → b ≡ false
-and-none a b e t = rw t at e
-
-pub none-and : (a b : Bool) → (a ≡ true → b ≡ false) → (a && b) ≡ false
-none-and true b f = f refl
-none-and false b f = refl
-
--- a conjunction that holds
-pub and-both : (a b : Bool) → (a && b) ≡ true → (a ≡ true) × (b ≡ true)
-and-both true b e = (refl, e)
-and-both false b e = absurd (let z : _≡_ {A = ℕ} 0 1 = cc in omega arith)
+pub some-any : (t : ℕ → Bool) (k i : ℕ) → i < k → T (t i) → T (anyBelow t k)
+some-any t k i l h = rw (anyBelow-hit t i k l (T-true (t i) h)) tt
 
 -- a number that is another, and one that is the same
 pub other : (a b : ℕ) → a ≢ b → not (eqb a b) ≡ true

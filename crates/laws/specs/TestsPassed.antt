@@ -2,7 +2,7 @@
 use Prim.Native.Nat.{ℕ, _+_, _*_, _≤_, _<_}
 use mathlib.Core.Path.{_≡_, sym, ap, _∙_}
 use mathlib.Core.Logic.{_≢_, inl, inr}
-use mathlib.Core.Bool.{Bool, false, not, _&&_, _||_}
+use mathlib.Core.Bool.{Bool, false, not, _&&_, _||_, and-eq-true-iff}
 use mathlib.Core.List.{List}
 use native.Mathlib.Omega.{arith}
 use lib.Dec.{eqb, ltb, leb}
@@ -16,8 +16,8 @@ use Rattle.rules.specs.Counting.{anyBelow}
 use Rattle.rules.specs.Anodes.{Anodes, limit}
 use Rattle.rules.specs.Chains.{preds, followed}
 use Rattle.rules.specs.Accepted.{diskSize, wrongSlot, wrongSlots, wrongFixed, outOfRange, wrongLink, wrongAt, wrongLinks}
-use Rattle.counting.specs.Laws.{neither, anyBelow-each}
-use Rattle.laws.specs.Tests.{same?, less?, and-none, and-both, other}
+use Rattle.counting.specs.Laws.{neither, and-none, anyBelow-each}
+use Rattle.laws.specs.Tests.{same?, less?, other}
 use Rattle.laws.specs.Segments.{followed-zero}
 use Rattle.laws.specs.Links.{View, Checked}
 use Rattle.laws.specs.Space.{FixedAnodes}
@@ -75,9 +75,9 @@ module _ (s : Anodes) (fixed : wrongFixed s ≡ false) where
       let all = neither zero (one || free) fixed in
       let rest = neither one free (all .1) in
       let used = neither (eqb (s .block 2) 0) (eqb (s .block 5) 0) (rest .1) in
-      let zeros = and-both (eqb (s .count 0) 0) _ (not-false _ (all .0)) in
-      let more = and-both (eqb (s .block 0) 65535) (eqb (s .next 0) 0) (zeros .1) in
-      let ones = and-both (eqb (s .count 1) 0) (eqb (s .block 1) 65535) (not-false _ (rest .0)) in (
+      let zeros = and-eq-true-iff (eqb (s .count 0) 0) _ .0 (not-false _ (all .0)) in
+      let more = and-eq-true-iff (eqb (s .block 0) 65535) (eqb (s .next 0) 0) .0 (zeros .1) in
+      let ones = and-eq-true-iff (eqb (s .count 1) 0) (eqb (s .block 1) 65535) .0 (not-false _ (rest .0)) in (
         record {
           count-0 = eqb-true _ _ (zeros .0);
           block-0 = eqb-true _ _ (more .0);

@@ -67,10 +67,14 @@ module _ {A : ℕ} {next block : ℕ → ℕ} (v : View A next block) (k : Linke
   abbrev namings : ℕ → ℕ
   namings x = sumList (namedIn items x) dirs
 
+  -- a head's blocks, as often as it is named, and those of 1, 3, 4 and 5
+  abbrev by-name : ℕ → ℕ
+  by-name x = namings x * f x + (oneAt 1 x * f 1 + oneAt 3 x * f 3 + oneAt 4 x * f 4 + oneAt 5 x * f 5)
+
   low-unnamed : (x : ℕ) → x < 6 → namings x ≡ 0
   low-unnamed x l = elim (less? 0 (namings x)) [ inl p ↦ absurd (omega (arith, names-heads x p .0)) | inr p ↦ omega arith ]
 
-  high : (x : ℕ) → 6 ≤ x → f x ≡ namings x * f x + (oneAt 1 x * f 1 + oneAt 3 x * f 3 + oneAt 4 x * f 4 + oneAt 5 x * f 5)
+  high : (x : ℕ) → 6 ≤ x → f x ≡ by-name x
   unfolding f
   high x l = rw (oneAt-other 1 x (omega arith), oneAt-other 3 x (omega arith), oneAt-other 4 x (omega arith), oneAt-other 5 x (omega arith))
       (elim (less? 0 (namings x)) [
@@ -82,7 +86,7 @@ module _ {A : ℕ} {next block : ℕ → ℕ} (v : View A next block) (k : Linke
       once x p = omega (arith, tree .once x)
 
   -- every head but 1, 3, 4 and 5 is named once
-  each : (x : ℕ) → f x ≡ namings x * f x + (oneAt 1 x * f 1 + oneAt 3 x * f 3 + oneAt 4 x * f 4 + oneAt 5 x * f 5)
+  each : (x : ℕ) → f x ≡ by-name x
   unfolding oneAt f
   each zero = rw (low-unnamed 0 (omega arith), blocks-none v k hd t count free-none zero-none 0 (λ d. d .pos refl)) (omega arith)
   each (suc zero) = rw (low-unnamed 1 (omega arith)) (omega arith)
@@ -95,7 +99,7 @@ module _ {A : ℕ} {next block : ℕ → ℕ} (v : View A next block) (k : Linke
   total-named : sumBelow f A ≡ sumBelow (λ x. namings x * f x) A + (f 1 + f 3 + f 4 + f 5)
   unfolding f
   total-named =
-      sum-congr f (λ x. namings x * f x + (oneAt 1 x * f 1 + oneAt 3 x * f 3 + oneAt 4 x * f 4 + oneAt 5 x * f 5)) A (λ x l. each x)
+      sum-congr f by-name A (λ x l. each x)
       ∙ omega (
         arith,
         sum-add (λ x. namings x * f x) (λ x. oneAt 1 x * f 1 + oneAt 3 x * f 3 + oneAt 4 x * f 4 + oneAt 5 x * f 5) A,

@@ -1,14 +1,14 @@
 -- The tree when a directory gains or loses an item, or its items change their faults alone.
 use Prim.Native.Nat.{ℕ, suc, _+_, _*_, _≤_, _<_}
 use mathlib.Core.Path.{_≡_, refl, sym, ap, _∙_}
-use mathlib.Core.Logic.{_≢_, _⊎_, inl, inr}
+use mathlib.Core.Logic.{_≢_, inl, inr}
 use mathlib.Core.Bool.{Bool, true, false, cond}
 use mathlib.Core.List.{List, [], _∷_, _++_}
 use native.Mathlib.Omega.{arith}
 use Rattle.rules.specs.Counting.{oneAt, sumList, times, changed}
 use Rattle.rules.specs.Walk.{Dir, Item}
-use Rattle.laws.specs.Sums.{oneAt-cases, oneAt-same, oneAt-other, oneBelow, oneBelow-cases, oneBelow-suc, changed-same, changed-other}
-use Rattle.laws.specs.Bags.{list-nil, list-cons, list-append, list-add, list-mono, list-congr-where, list-zero}
+use Rattle.laws.specs.Sums.{oneAt-cases, oneAt-same, oneAt-some, oneAt-other, oneBelow, oneBelow-none, oneBelow-suc, changed-same, changed-other}
+use Rattle.laws.specs.Bags.{list-nil, list-cons, list-without, list-some, list-add, list-gain, list-mono, list-congr-where, list-zero}
 use Rattle.laws.specs.Each.{Each, each-map, each-both, each-right, list-congr-each, list-mono-each, each-zero}
 use Rattle.laws.specs.Items.{wrong, weighItem, names, names-sum, giving, subs, below, namedIn, faults, below-items, subs-named}
 use Rattle.laws.specs.Trees.{not-lower, lowering, Tree}
@@ -16,9 +16,6 @@ use Rattle.laws.specs.Trees.{not-lower, lowering, Tree}
 not-lower-is : (height : ℕ → ℕ) (m : ℕ) (e : Dir) → not-lower height m e ≡ oneBelow m (suc (height (e .head)))
 unfolding not-lower
 not-lower-is height m e = refl
-
-never : (a : ℕ) → oneBelow a 0 ≡ 0
-never a = elim (oneBelow-cases a 0) [ inl c ↦ absurd (omega arith) | inr c ↦ c .1 ]
 
 -- an item of a file gives no directory, one of a directory gives that
 giving-file : (w : Dir → ℕ) (h : ℕ) (i : Item) → i .dir ≡ false → giving w h i ≡ 0
@@ -38,10 +35,15 @@ headed h l = sumList (λ d. oneAt (d .head) h) l
 pub none-headed : (h : ℕ) (l : List Dir) → sumList (λ d. oneAt (d .head) h) l ≡ 0 → Each (λ d. d .head ≢ h) l
 none-headed h l z = each-map (λ d. oneAt (d .head) h ≡ 0) (λ d. d .head ≢ h) l (λ d y e. omega (arith, y, oneAt-same (d .head) h e)) (each-zero (λ d. oneAt (d .head) h) l z)
 
-list-gain : (w u : Dir → ℕ) (h c : ℕ) (l : List Dir) → Each (λ d. u d ≡ w d + oneAt (d .head) h * c) l → sumList u l ≡ sumList w l + headed h l * c
-unfolding sumList headed
-list-gain w u h c [] e = omega arith
-list-gain w u h c (d ∷ l) e = omega (arith, list-gain w u h c l (e .1), e .0)
+-- what nothing names is no directory of the tree, but for the top one
+pub tree-unnamed : (items : Dir → List Item) (top : Dir) (dirs : List Dir) → Tree items top dirs → (h : ℕ) → top .head ≢ h → sumList (namedIn items h) dirs ≡ 0 → Each (λ d. d .head ≢ h) dirs
+tree-unnamed items top dirs t h other z = none-headed h dirs (omega (
+  arith,
+  t .exact (λ d. oneAt (d .head) h),
+  oneAt-other (top .head) h other,
+  list-mono (below items (λ d. oneAt (d .head) h)) (namedIn items h) dirs (subs-named items h),
+  z,
+))
 
 -- under items′ the directory d has what it had, places aside, and i too if its head is h
 abbrev pub Gain : (Dir → List Item) → (Dir → List Item) → ℕ → Item → Dir → Type 0
@@ -64,9 +66,10 @@ module _ (items items′ : Dir → List Item) (h : ℕ) (i : Item) where
   module _ (dirs : List Dir) (once : headed h dirs ≡ 1) (gains : Each (Gain items items′ h i) dirs) where
     -- a weight that the item adds in the directory with the head h
     sum-gain : (w u : Dir → ℕ) (c : ℕ) → ((d : Dir) → Gain items items′ h i d → u d ≡ w d + oneAt (d .head) h * c) → sumList u dirs ≡ sumList w dirs + c
+    unfolding headed
     sum-gain w u c at = omega (
       arith,
-      list-gain w u h c dirs (each-map (Gain items items′ h i) (λ d. u d ≡ w d + oneAt (d .head) h * c) dirs at gains),
+      list-gain w u (λ d. oneAt (d .head) h) c dirs (each-map (Gain items items′ h i) (λ d. u d ≡ w d + oneAt (d .head) h * c) dirs at gains),
       ap (λ (n : ℕ). n * c) once,
     )
 
@@ -151,7 +154,7 @@ module _ (items items′ : Dir → List Item) (h : ℕ) (i : Item) where
                 ht-other d (omega arith),
                 changed-same (λ x. suc (t .height x)) (i .anode) 0,
                 oneBelow-suc (t .height (d .head)) 0,
-                never (t .height (d .head)),
+                oneBelow-none (t .height (d .head)),
               ) (omega arith)
 
               shifted : (c : Dir) → here c ≡ 0 → not-lower ht (ht (d .head)) c ≡ not-lower (t .height) (t .height (d .head)) c
@@ -163,23 +166,16 @@ module _ (items items′ : Dir → List Item) (h : ℕ) (i : Item) where
 -- a member of a list, and the list parted there
 pub find-dir : (x p : ℕ) (l : List Dir) → 0 < sumList (λ d. oneAt (d .head) x * oneAt (d .parent) p) l →
     (l₁ : List Dir) × (l₂ : List Dir) × (l ≡ l₁ ++ (record { head = x; parent = p } ∷ l₂))
-find-dir x p [] h = absurd (omega (arith, list-nil {X = Dir} (λ d. oneAt (d .head) x * oneAt (d .parent) p)))
-find-dir x p (d ∷ l) h = go (oneAt-cases (d .head) x) (oneAt-cases (d .parent) p) (find-dir x p l)
+find-dir x p l h =
+    let r = list-some (λ d. oneAt (d .head) x * oneAt (d .parent) p) l h in
+    let is = both (r .0) (r .4) in
+    (r .1, r .2, r .3 ∙ ap (λ (e : Dir). r .1 ++ (e ∷ r .2)) (λ j. record { head = is .0 j; parent = is .1 j }))
   where
-    tail : oneAt (d .head) x * oneAt (d .parent) p ≡ 0 → 0 < sumList (λ d. oneAt (d .head) x * oneAt (d .parent) p) l
-    tail z = omega (arith, list-cons {X = Dir} (λ d. oneAt (d .head) x * oneAt (d .parent) p) d l)
-
-    later : (l₁ : List Dir) × (l₂ : List Dir) × (l ≡ l₁ ++ (record { head = x; parent = p } ∷ l₂)) →
-        (l₁ : List Dir) × (l₂ : List Dir) × (d ∷ l ≡ l₁ ++ (record { head = x; parent = p } ∷ l₂))
-    later s = (d ∷ s .0, s .1, ap (λ (m : List Dir). d ∷ m) (s .2))
-
-    go : ((d .head ≡ x) × (oneAt (d .head) x ≡ 1)) ⊎ ((d .head ≢ x) × (oneAt (d .head) x ≡ 0)) →
-        ((d .parent ≡ p) × (oneAt (d .parent) p ≡ 1)) ⊎ ((d .parent ≢ p) × (oneAt (d .parent) p ≡ 0)) →
-        (0 < sumList (λ d. oneAt (d .head) x * oneAt (d .parent) p) l → (l₁ : List Dir) × (l₂ : List Dir) × (l ≡ l₁ ++ (record { head = x; parent = p } ∷ l₂))) →
-        (l₁ : List Dir) × (l₂ : List Dir) × (d ∷ l ≡ l₁ ++ (record { head = x; parent = p } ∷ l₂))
-    go (inl a) (inl b) r = ([], l, ap (λ (e : Dir). e ∷ l) (λ j. record { head = a .0 j; parent = b .0 j }))
-    go (inl a) (inr b) r = later (r (tail (rw (b .1) (omega arith))))
-    go (inr a) b r = later (r (tail (rw (a .1) (omega arith))))
+    both : (d : Dir) → 0 < oneAt (d .head) x * oneAt (d .parent) p → (d .head ≡ x) × (d .parent ≡ p)
+    both d q = elim (oneAt-cases (d .head) x) [
+      | inl a ↦ (a .0, oneAt-some (d .parent) p (omega (arith, rw (a .1) at q)))
+      | inr a ↦ absurd (omega (arith, rw (a .1) at q))
+    ]
 
 module _ (items items′ : Dir → List Item) (h : ℕ) (i : Item) (top : Dir) where
   -- what the item names is in the tree
@@ -231,7 +227,7 @@ module _ (items items′ : Dir → List Item) (h : ℕ) (i : Item) (top : Dir) w
       dirs = l₁ ++ (e ∷ l₂)
 
       split : (w : Dir → ℕ) → sumList w dirs ≡ sumList w (l₁ ++ l₂) + w e
-      split w = omega (arith, list-append w l₁ (e ∷ l₂), list-append w l₁ l₂, list-cons w e l₂)
+      split w = list-without w l₁ e l₂
 
       below-e : (w : Dir → ℕ) → below items′ w e ≡ 0
       below-e w = omega (arith, less-below w e (each-right (Gain items′ items h i) l₁ (e ∷ l₂) gains .0), nothing-below items w e empty)

@@ -8,7 +8,7 @@ use lib.ListN.{length}
 use Rattle.rules.specs.Counting.{oneAt, sumBelow, sumList, times, changed}
 use Rattle.rules.specs.Walk.{Dir, Item, done, walk}
 use Rattle.laws.specs.Tests.{less?}
-use Rattle.laws.specs.Sums.{oneAt-cases, oneAt-same, oneBelow, oneBelow-cases, oneBelow-suc, changed-same, changed-other, sum-congr, sum-mono, sum-const, sum-add, sum-oneAt}
+use Rattle.laws.specs.Sums.{oneAt-cases, oneAt-same, oneBelow, oneBelow-cases, oneBelow-none, oneBelow-suc, changed-same, changed-other, sum-congr, sum-mono, sum-const, sum-add, sum-oneAt}
 use Rattle.laws.specs.Bags.{list-nil, list-cons, list-append, list-one, list-add, list-mono, list-mono-where, list-congr-where, list-zero, list-length, list-swap, times-nil, sum-by-times}
 use Rattle.laws.specs.Items.{names, subs, below, namedIn, faults, subs-named, subs-few}
 use Rattle.laws.specs.Walks.{namedAfter, times-namedAfter, Order, walk-found, walk-through, order-sum}
@@ -81,9 +81,12 @@ module _ (items : Dir → List Item) where
           kept old m x e g y = rw (changed-other old (d .head) m (x .head) (away x g), changed-other old (d .head) m (e .head) (away e y))
 
   module _ (top : Dir) where
+    -- the directories are the top one and what they name, each as often as it is named
+    abbrev pub Exact : List Dir → Type 0
+    Exact dirs = (w : Dir → ℕ) → sumList w dirs ≡ w top + sumList (below items w) dirs
+
     pub record Tree (dirs : List Dir) : Type 0 where
-      -- the directories are the top one and what they name, each as often as it is named
-      pub exact : (w : Dir → ℕ) → sumList w dirs ≡ w top + sumList (below items w) dirs
+      pub exact : Exact dirs
       pub faultless : sumList (faults items) dirs ≡ 0
       pub once : (x : ℕ) → sumList (namedIn items x) dirs ≤ 1
       -- what a directory names is lower than it
@@ -120,7 +123,7 @@ module _ (items : Dir → List Item) where
     level (suc k) w d = below items (level k w) d
 
     -- the levels one after another
-    pub levels : (dirs : List Dir) → ((w : Dir → ℕ) → sumList w dirs ≡ w top + sumList (below items w) dirs) → (w : Dir → ℕ) (k : ℕ) →
+    pub levels : (dirs : List Dir) → Exact dirs → (w : Dir → ℕ) (k : ℕ) →
         sumList w dirs ≡ sumBelow (λ i. level i w top) k + sumList (level k w) dirs
     unfolding level sumBelow
     levels dirs e w zero = omega arith
@@ -133,10 +136,7 @@ module _ (items : Dir → List Item) where
 
       deep-zero : (k : ℕ) → sumList (deep k) dirs ≡ 0
       unfolding deep level
-      deep-zero zero = list-zero (deep 0) dirs (λ d. rw (none d) (omega arith))
-        where
-          none : (d : Dir) → oneBelow (t .height (d .head)) 0 ≡ 0
-          none d = elim (oneBelow-cases (t .height (d .head)) 0) [ inl c ↦ absurd (omega arith) | inr c ↦ c .1 ]
+      deep-zero zero = list-zero (deep 0) dirs (λ d. rw (oneBelow-none (t .height (d .head))) (omega arith))
       deep-zero (suc k) =
           omega (arith, deep-zero k, t .exact (deep k), list-mono-where (lowering (t .height)) (deep (suc k)) (below items (deep k)) dirs (t .lower) step)
         where
@@ -153,7 +153,7 @@ module _ (items : Dir → List Item) where
               ]
 
       -- so the levels of any other list that is the top one and what it names hold this one
-      pub tree-within : (others : List Dir) → ((w : Dir → ℕ) → sumList w others ≡ w top + sumList (below items w) others) → sumList w dirs ≤ sumList w others
+      pub tree-within : (others : List Dir) → Exact others → sumList w dirs ≤ sumList w others
       unfolding deep
       tree-within others e =
           let K : ℕ = sumList (λ d. t .height (d .head)) dirs in
@@ -186,7 +186,7 @@ module _ (items : Dir → List Item) where
           none d g (inr e) = elim (less? 0 (namedIn items x d)) [ inl p ↦ absurd (omega (arith, range d x g p .1)) | inr p ↦ p ]
 
       -- no two directories of the tree have one head
-      pub heads-once : (dirs : List Dir) → ((w : Dir → ℕ) → sumList w dirs ≡ w top + sumList (below items w) dirs) → sumList (faults items) dirs ≡ 0 → ((x : ℕ) → sumList (namedIn items x) dirs ≤ 1) →
+      pub heads-once : (dirs : List Dir) → Exact dirs → sumList (faults items) dirs ≡ 0 → ((x : ℕ) → sumList (namedIn items x) dirs ≤ 1) →
           (x : ℕ) → sumList (λ d. oneAt (d .head) x) dirs ≤ 1
       heads-once dirs e z o x = elim (oneAt-cases (top .head) x) [
         | inl c ↦ omega (arith, e (λ d. oneAt (d .head) x), list-mono (below items (λ d. oneAt (d .head) x)) (namedIn items x) dirs (λ d. subs-named items x d), top-unnamed dirs z x (inl (sym (c .0))))
@@ -197,7 +197,7 @@ module _ (items : Dir → List Item) where
       pub walk-tree : (k : ℕ) (Q : List Dir) → walk items k (top ∷ []) [] ≡ done Q → Tree Q
       walk-tree k Q e =
           let f = walk-found items k (top ∷ []) [] Q e in
-          let exact : (w : Dir → ℕ) → sumList w Q ≡ w top + sumList (below items w) Q = λ w. order-sum items Q (top ∷ []) (f .order) w ∙ ap (λ (n : ℕ). n + sumList (below items w) Q) (list-one w top) in
+          let exact : Exact Q = λ w. order-sum items Q (top ∷ []) (f .order) w ∙ ap (λ (n : ℕ). n + sumList (below items w) Q) (list-one w top) in
           let once : (x : ℕ) → sumList (namedIn items x) Q ≤ 1 = λ x. omega (arith, f .once x (omega (arith, times-nil x))) in
           let h = order-heights Q (top ∷ []) (f .order) (heads-once Q exact (f .faultless) once) in
           record { exact = exact; faultless = f .faultless; once = once; height = h .0; lower = h .1 }

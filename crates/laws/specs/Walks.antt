@@ -4,13 +4,13 @@ use mathlib.Core.Path.{_≡_, refl, sym, ap, _∙_}
 use mathlib.Core.Logic.{inl, inr}
 use mathlib.Core.List.{List, [], _∷_, _++_, append-assoc, append-nil}
 use native.Mathlib.Omega.{arith}
-use lib.Dec.{leb, leb→le, le→leb}
+use lib.Dec.{leb}
+use borrow.Author.Tests.{leb-false, lt-leb}
 use Rattle.rules.specs.Counting.{_if_else_, firstOf, sumList, times, gather}
 use Rattle.rules.specs.Walk.{Dir, Item, subDirs, faultOf, Scanned, faulty, fine, scan, Walk, fault, done, visited, walk}
-use Rattle.laws.specs.Tests.{less?, if-cases}
 use Rattle.laws.specs.Sums.{oneAt-cases, oneAt-same}
 use Rattle.laws.specs.Bags.{list-nil, list-cons, list-append, gather-sum, times-nil, times-cons}
-use Rattle.laws.specs.Acceptance.{firstOf-zero}
+use Rattle.laws.specs.Acceptance.{if-zero, firstOf-zero}
 use Rattle.laws.specs.Items.{wrong, names, subs, below, namedIn, faults}
 
 -- ---- one directory
@@ -24,19 +24,14 @@ pub fault-none : (i : Item) (s : List ℕ) → faultOf i s ≡ 0 → (wrong i �
 unfolding faultOf wrong
 fault-none i s h =
     let f = firstOf-zero (i .early) (14 if leb 1 (times (i .anode) s) else i .late) h in
-    elim (if-cases 14 (leb 1 (times (i .anode) s)) (i .late)) [
-      | inl c ↦ absurd (omega (arith, f .1, c .1))
-      | inr c ↦ (omega (arith, f .0, f .1, c .1), elim (less? 0 (times (i .anode) s)) [ inl p ↦ absurd (c .0 (le→leb 1 (times (i .anode) s) p)) | inr p ↦ omega arith ])
-    ]
+    let late = if-zero 14 (leb 1 (times (i .anode) s)) (i .late) (omega arith) (f .1) in
+    (omega (arith, f .0, late .1), omega (arith, leb-false 1 (times (i .anode) s) (late .0)))
 
 pub none-fault : (i : Item) (s : List ℕ) → wrong i ≡ 0 → times (i .anode) s ≡ 0 → faultOf i s ≡ 0
 unfolding faultOf firstOf wrong
 none-fault i s w c =
     let e : i .early ≡ 0 = omega arith in
-    rw e (elim (if-cases 14 (leb 1 (times (i .anode) s)) (i .late)) [
-      | inl d ↦ absurd (omega (arith, leb→le 1 (times (i .anode) s) (d .0)))
-      | inr d ↦ d .1 ∙ omega arith
-    ])
+    rw (e, lt-leb 1 (times (i .anode) s) (omega arith)) (omega arith)
 
 pub scan-next : (d : Dir) (i : Item) (is : List Item) (q : List Dir) (s : List ℕ) → faultOf i s ≡ 0 →
     scan d (i ∷ is) q s ≡ scan d is (q ++ subDirs d i) (i .anode ∷ s)

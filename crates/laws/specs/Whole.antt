@@ -2,7 +2,7 @@
 use Prim.Native.Nat.{ℕ, _+_, _*_, _≤_, _<_}
 use mathlib.Core.Path.{_≡_, refl, sym, ap, _∙_}
 use mathlib.Core.Logic.{_≢_, _⊎_, inl, inr}
-use mathlib.Core.Bool.{Bool, true, cond, _&&_}
+use mathlib.Core.Bool.{Bool, cond, _&&_}
 use mathlib.Core.List.{List, map}
 use native.Mathlib.Omega.{arith}
 use lib.Dec.{eqb, leb, eqb→eq, leb→le}
@@ -21,12 +21,12 @@ use Rattle.laws.specs.Space.{Good, head-5}
 use Rattle.laws.specs.Owners.{hd-below}
 use Rattle.laws.specs.Frame.{Shift, on-other}
 use Rattle.laws.specs.ChainBlocks.{shift-alike, shift-chain, shift-count}
-use Rattle.laws.specs.Each.{Each, each-map, each-both, each-zero}
+use Rattle.laws.specs.Each.{Each, each-map, each-both, each-pair, each-zero}
 use Rattle.laws.specs.Items.{wrong, names-sum, giving, giving-le, below, namedIn, faults, below-items}
 use Rattle.laws.specs.Trees.{Tree}
 use Rattle.laws.specs.TreeChanges.{none-headed, AlikeItems, alike-named, alike-tree}
 use Rattle.laws.specs.Totals.{file-size, named-by-kind, filesOf, dirsOf, tree-total}
-use Rattle.laws.specs.Entries.{broken-wrong, item-fine, fine-item, item-anode, items-mono, items-alike}
+use Rattle.laws.specs.Entries.{broken-wrong, Sized, item-fine, fine-item, item-anode, items-mono, items-alike}
 
 -- 1 for a directory whose head is below 5 or heads no chain
 unfoldable odd : Anodes → Dir → ℕ
@@ -80,12 +80,19 @@ named-le entries marked s x k d = omega (
   items-mono entries marked s d (λ i. oneAt (i .anode) x) wrong (named-item s x k) (omega (arith, broken-wrong, oneAt-le 0 x)),
 )
 
+-- a directory is the chain of a head other than 1
+abbrev pub DirHead : Anodes → Dir → Type 0
+DirHead s d = Head (s .next) (s .block) (d .head) × (d .head ≢ 1)
+
+-- 16: every head from 6 up is named in these directories
+abbrev pub AllNamed : Anodes → (ℕ → List Entered) → (Dir → ℕ → Bool) → List Dir → Type 0
+AllNamed s entries marked dirs = (x : ℕ) → 6 ≤ x → Head (s .next) (s .block) x → 1 ≤ sumList (namedIn (itemsBy entries marked s) x) dirs
+
 module _ (ex : ℕ → Bool) (n last : ℕ) where
   pub record Whole (s : Anodes) (system hd sd : ℕ → ℕ) (entries : ℕ → List Entered) (marked : Dir → ℕ → Bool) (dirs : List Dir) : Type 0 where
     pub good : Good limit ex n last s system hd sd
     pub tree : Tree (itemsBy entries marked s) root dirs
-    -- 16
-    pub all-named : (x : ℕ) → 6 ≤ x → Head (s .next) (s .block) x → 1 ≤ sumList (namedIn (itemsBy entries marked s) x) dirs
+    pub all-named : AllNamed s entries marked dirs
 
 -- a head, counted and said
 module _ {ex : ℕ → Bool} {n last : ℕ} {s : Anodes} {system hd sd : ℕ → ℕ} (g : Good limit ex n last s system hd sd) where
@@ -118,28 +125,44 @@ module _ {ex : ℕ → Bool} {n last : ℕ} {s : Anodes} {system hd sd : ℕ →
     | inr q ↦ oneAt-other (hd a) m (λ i. q .0 (sym i ∙ e)) ∙ sym (q .1)
   ]
 
-module _ {ex : ℕ → Bool} {n last : ℕ} {s : Anodes} {system hd sd : ℕ → ℕ} {entries : ℕ → List Entered} {marked : Dir → ℕ → Bool} {dirs : List Dir}
-    (w : Whole ex n last s system hd sd entries marked dirs) where
-  items : Dir → List Item
-  items = itemsBy entries marked s
+-- an entry with nothing wrong stays so in another state, its size aside, where the head that it names stays one and its size is right there
+pub fine-still : {ex : ℕ → Bool} {n last : ℕ} {s t : Anodes} {system hd sd hd′ sd′ : ℕ → ℕ} → Good limit ex n last s system hd sd → Good limit ex n last t system hd′ sd′ →
+    (e e′ : Entered) → e′ .broken ≡ e .broken → e′ .anode ≡ e .anode → wrong (itemOf s e) ≡ 0 →
+    (6 ≤ e .anode → Head (s .next) (s .block) (e .anode) → Sized s e → Head (t .next) (t .block) (e .anode) × Sized t e′) → wrong (itemOf t e′) ≡ 0
+fine-still {s = s} {t = t} g g′ e e′ b a z keep =
+    let f = item-fine s e z in
+    let k = keep (f .1) (counts-head g (e .anode) (f .2)) (f .3) in
+    fine-item t e′ (b ∙ f .0) (rw a (f .1)) (rw a (head-counts g′ (e .anode) (k .0))) (k .1)
+
+module _ {ex : ℕ → Bool} {n last : ℕ} {s : Anodes} {system hd sd : ℕ → ℕ} (g : Good limit ex n last s system hd sd)
+    (entries : ℕ → List Entered) (marked : Dir → ℕ → Bool) {dirs : List Dir} (t : Tree (itemsBy entries marked s) root dirs) where
+  abbrev given : Dir → List Item
+  given = itemsBy entries marked s
 
   all-even : sumList (odd s) dirs ≡ 0
-  unfolding items
   all-even = omega (
     arith,
-    w .tree .exact (odd s),
-    odd-none s root (omega arith) (head-counts (w .good) 5 (head-5 (w .good))),
-    list-mono (below items (odd s)) (faults items) dirs (λ d. under d),
-    w .tree .faultless,
+    t .exact (odd s),
+    odd-none s root (omega arith) (head-counts g 5 (head-5 g)),
+    list-mono (below given (odd s)) (faults given) dirs (λ d. under d),
+    t .faultless,
   )
     where
-      under : (d : Dir) → below items (odd s) d ≤ faults items d
-      under d = omega (arith, below-items items (odd s) d, items-mono entries marked s d (giving (odd s) (d .head)) wrong (odd-item s (d .head)) (omega arith))
+      under : (d : Dir) → below given (odd s) d ≤ faults given d
+      under d = omega (arith, below-items given (odd s) d, items-mono entries marked s d (giving (odd s) (d .head)) wrong (odd-item s (d .head)) (omega arith))
 
   -- every directory of the tree is the chain of a head other than 1
-  pub dir-heads : Each (λ d. Head (s .next) (s .block) (d .head) × (d .head ≢ 1)) dirs
-  dir-heads = each-map (λ d. odd s d ≡ 0) (λ d. Head (s .next) (s .block) (d .head) × (d .head ≢ 1)) dirs
-      (λ d z. let e = none-odd s d z in (counts-head (w .good) (d .head) (e .1), λ q. omega (arith, e .0, q))) (each-zero (odd s) dirs all-even)
+  pub tree-heads : Each (DirHead s) dirs
+  tree-heads = each-map (λ d. odd s d ≡ 0) (DirHead s) dirs
+      (λ d z. let e = none-odd s d z in (counts-head g (d .head) (e .1), λ q. omega (arith, e .0, q))) (each-zero (odd s) dirs all-even)
+
+module _ {ex : ℕ → Bool} {n last : ℕ} {s : Anodes} {system hd sd : ℕ → ℕ} {entries : ℕ → List Entered} {marked : Dir → ℕ → Bool} {dirs : List Dir}
+    (w : Whole ex n last s system hd sd entries marked dirs) where
+  abbrev items : Dir → List Item
+  items = itemsBy entries marked s
+
+  pub dir-heads : Each (DirHead s) dirs
+  dir-heads = tree-heads (w .good) entries marked (w .tree)
 
   -- what is named is a head from 6 up
   pub named-heads : (x : ℕ) → 0 < sumList (namedIn (itemsBy entries marked s) x) dirs → (6 ≤ x) × (x < limit) × Head (s .next) (s .block) x
@@ -160,11 +183,9 @@ module _ {ex : ℕ → Bool} {n last : ℕ} {s : Anodes} {system hd sd : ℕ →
   -- h is a file's: some reached entry of a file names it
   module _ (h : ℕ) (file : 1 ≤ sumList (λ d. sumList (file-size (λ x. oneAt x h)) (itemsBy entries marked s d)) dirs) where
     pub file-head : (6 ≤ h) × (h < limit) × Head (s .next) (s .block) h
-    unfolding items
     file-head = named-heads h (omega (arith, named-by-kind items h dirs, file))
 
     pub not-dir : Each (λ d. d .head ≢ h) dirs
-    unfolding items
     not-dir = none-headed h dirs (omega (arith, w .tree .exact (λ d. oneAt (d .head) h), oneAt-other 5 h (λ e. omega (arith, e, file-head .0)), w .tree .once h, file, named-by-kind items h dirs))
 
     -- a file's chain is changed, by takes or gives, its entry's size with it, and nothing else of the directories
@@ -175,7 +196,6 @@ module _ {ex : ℕ → Bool} {n last : ℕ} {s : Anodes} {system hd sd : ℕ →
         ((e : Entered) → e .anode ≡ h → blockCount t h ≡ blocksFor (φ e .size)) →
         ((a : ℕ) → s .count a ≡ 1 → hd a ≢ 1 → hd a ≢ h → (entries′ (s .block a) ≡ map φ (entries (s .block a))) × ((d : Dir) → marked′ d (s .block a) ≡ marked d (s .block a))) →
         Whole ex n last t system hd′ sd′ entries′ marked′ dirs
-    unfolding items
     change-file {t} {hd′} {sd′} g′ sh φ entries′ marked′ keeps other mine cont = record {
       good = g′;
       tree = alike-tree items items′ root dirs alikes (w .tree);
@@ -185,29 +205,21 @@ module _ {ex : ℕ → Bool} {n last : ℕ} {s : Anodes} {system hd sd : ℕ →
         items′ : Dir → List Item
         items′ = itemsBy entries′ marked′ t
 
-        size : (e : Entered) → Head (s .next) (s .block) (e .anode) → 6 ≤ e .anode → (e .dir ≡ true) ⊎ (blockCount s (e .anode) ≡ blocksFor (e .size)) →
-            (φ e .dir ≡ true) ⊎ (blockCount t (φ e .anode) ≡ blocksFor (φ e .size))
-        size e d l (inl q) = inl (keeps e .1 ∙ q)
-        size e d l (inr q) = elim (same? (e .anode) h) [
+        size : (e : Entered) → 6 ≤ e .anode → Head (s .next) (s .block) (e .anode) → Sized s e → Sized t (φ e)
+        size e l d (inl q) = inl (keeps e .1 ∙ q)
+        size e l d (inr q) = elim (same? (e .anode) h) [
           | inl i ↦ inr (ap (blockCount t) (keeps e .2 ∙ i) ∙ mine e i)
           | inr i ↦ inr (ap (blockCount t) (keeps e .2) ∙ shift-count (w .good) g′ sh (e .anode) d (omega arith) i ∙ q ∙ ap blocksFor (sym (other e i)))
         ]
 
         like : (e : Entered) → wrong (itemOf s e) ≡ 0 → (φ e .dir ≡ e .dir) × (φ e .anode ≡ e .anode) × (wrong (itemOf t (φ e)) ≡ 0)
-        like e z =
-            let f = item-fine s e z in
-            let d = counts-head (w .good) (e .anode) (f .2) in (
-              keeps e .1,
-              keeps e .2,
-              fine-item t (φ e) (keeps e .0 ∙ f .0) (rw (keeps e .2) (f .1))
-                  (rw (keeps e .2) (head-counts g′ (e .anode) (sh .stays (e .anode) d))) (size e d (f .1) (f .3)),
-            )
+        like e z = (keeps e .1, keeps e .2, fine-still (w .good) g′ e (φ e) (keeps e .0) (keeps e .2) z (λ l d q. (sh .stays (e .anode) d, size e l d q)))
 
-        one : (d : Dir) → Head (s .next) (s .block) (d .head) × (d .head ≢ 1) → (d .head ≢ h) × (faults items d ≡ 0) → AlikeItems items items′ d
+        one : (d : Dir) → DirHead s d → (d .head ≢ h) × (faults items d ≡ 0) → AlikeItems items items′ d
         one d p q = items-alike s t φ wrong (λ z. omega (arith, z, broken-wrong)) like entries entries′ marked marked′ d
             (shift-chain (w .good) g′ sh (d .head) (p .0) (p .1) (q .0)) (shift-alike (w .good) g′ sh (d .head) (p .0) (p .1) (q .0))
             (λ a k i. let o = on-other (w .good) (d .head) (p .0) (p .1) (q .0) a k in let e = cont a i (o .1) (o .2) in (e .0, e .1 d)) (q .1)
 
         alikes : Each (AlikeItems items items′) dirs
-        alikes = each-both (λ d. Head (s .next) (s .block) (d .head) × (d .head ≢ 1)) (λ d. (d .head ≢ h) × (faults items d ≡ 0)) (AlikeItems items items′) dirs one dir-heads
-            (each-both (λ d. d .head ≢ h) (λ d. faults items d ≡ 0) (λ d. (d .head ≢ h) × (faults items d ≡ 0)) dirs (λ d a b. (a, b)) not-dir (each-zero (faults items) dirs (w .tree .faultless)))
+        alikes = each-both (DirHead s) (λ d. (d .head ≢ h) × (faults items d ≡ 0)) (AlikeItems items items′) dirs one dir-heads
+            (each-pair (λ d. d .head ≢ h) (λ d. faults items d ≡ 0) dirs not-dir (each-zero (faults items) dirs (w .tree .faultless)))

@@ -40,8 +40,8 @@ put-anode-blocks-requires : tie.Need-put-anode-blocks-requires
 put-anode-blocks-requires c κs =
     let p = c .before .before .before .before .before .before .before .before .before .before .before .before .before .pre in
     let t = taken _ _ _ _ (p .0) (p .1) in
-    let e = root-stored _ _ _ _ _ _ _ _ (p .0) (p .1) _ _ (c .before .before .before .before .before .before .before .start-disk .ensures) (c .before .before .before .put-root-block .ensures) in
-    (t .room, omega arith, omega arith, anodes-blank _ _ _ _ _ _ _ _ (p .0) (p .1) _ e)
+    let e = root-stored _ _ _ _ _ _ _ _ t _ _ (c .before .before .before .before .before .before .before .start-disk .ensures) (c .before .before .before .put-root-block .ensures) in
+    (t .room, omega arith, omega arith, anodes-blank _ _ _ _ _ _ _ _ t _ e)
 
 add-from : tie.Need-add-from
 add-from c = search needs
@@ -72,8 +72,9 @@ same-length c = search needs
 returns : tie.Need-returns
 returns c =
     let p = c .before .before .before .before .before .before .before .before .before .before .before .before .before .before .before .before .before .before .before .before .pre in
-    let e = root-stored _ _ _ _ _ _ _ _ (p .0) (p .1) _ _ (c .before .before .before .before .before .before .before .before .before .before .before .before .before .before .start-disk .ensures) (c .before .before .before .before .before .before .before .before .before .before .put-root-block .ensures) in
-    directory-stored _ _ _ _ _ _ _ _ (p .0) (p .1) _ _ _ _ e (c .before .before .before .before .before .before .before .before .before .before .before .before .before .before .before .before .disk-size .ensures) (c .before .before .before .before .before .before .put-anode-blocks .ensures) (c .before .before .put-directory-head .ensures)
+    let t = taken _ _ _ _ (p .0) (p .1) in
+    let e = root-stored _ _ _ _ _ _ _ _ t _ _ (c .before .before .before .before .before .before .before .before .before .before .before .before .before .before .start-disk .ensures) (c .before .before .before .before .before .before .before .before .before .before .put-root-block .ensures) in
+    directory-stored _ _ _ _ _ _ _ _ t _ _ _ _ e (c .before .before .before .before .before .before .before .before .before .before .before .before .before .before .before .before .disk-size .ensures) (c .before .before .before .before .before .before .put-anode-blocks .ensures) (c .before .before .put-directory-head .ensures)
 
 pub make-spec : {M : Type 1} → statement M
 make-spec =

@@ -7,7 +7,7 @@ use lib.ListN.{length}
 use borrow.Author.Needs.{needs}
 use Rattle.disk.specs.Blocks.{blockOf}
 use Rattle.rules.specs.Format.{withAnodeBlocks}
-use Rattle.format.proofs.Laws.{block-lent, withAnodeBlocks-none, withAnodeBlocks-next, blockOf-withAnodeBlocks-other}
+use Rattle.format.proofs.Parts.{block-lent, withAnodeBlocks-none, withAnodeBlocks-next, blockOf-withAnodeBlocks-other}
 use Rattle.format.proofs.put_anode_blocks.Statement.{statement}
 use Rattle.format.proofs.put_anode_blocks.Tie as tie
 

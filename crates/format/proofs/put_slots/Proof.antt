@@ -5,7 +5,7 @@ use native.Mathlib.Omega.{arith}
 use lib.ListN.{length}
 use borrow.Author.Needs.{needs}
 use Rattle.rules.specs.Format.{withSlots}
-use Rattle.format.proofs.Laws.{withSlots-none, withSlots-more}
+use Rattle.format.proofs.Parts.{withSlots-none, withSlots-more}
 use Rattle.format.proofs.put_slots.Statement.{statement}
 use Rattle.format.proofs.put_slots.Tie as tie
 

@@ -1,6 +1,7 @@
 -- `start_disk` leaves zeros and the disk type.
 use mathlib.Core.Path.{_∙_}
-use Rattle.format.proofs.Laws.{all-cleared, start-stored}
+use Rattle.format.proofs.Parts.{all-cleared}
+use Rattle.format.proofs.Laws.{start-stored}
 use borrow.Author.Needs.{needs}
 use Rattle.format.proofs.start_disk.Statement.{statement}
 use Rattle.format.proofs.start_disk.Tie as tie
