@@ -14,6 +14,7 @@ use Rattle.rules.specs.Chains.{heads, headOf}
 use Rattle.rules.specs.Accepted.{wrongFixed}
 use Rattle.rules.specs.Tables.{chainHead, anodeEntry, anodeTable}
 use Rattle.laws.specs.Tests.{same?}
+use Rattle.laws.specs.Chains.{HeadTable}
 use Rattle.laws.specs.OwnerTable.{table-entry}
 use Rattle.laws.specs.Links.{View, Linked}
 use Rattle.laws.specs.Heads.{headOf-heads, heads-cases, head-of-is}
@@ -58,8 +59,7 @@ module _ (s : Anodes) (v : View limit (s .next) (s .block)) (k : Linked limit (s
   entry-some a h u = rw (entry-used a h u) (head-of-is v k (headOf limit (s .next) (s .block)) (headOf-heads v k) a h u .pos)
 
   -- from 6 up, the heads are the anodes that have themselves for an entry
-  pub head-table : (a : ℕ) → 6 ≤ a → a < limit
-      → (getD t a 0 ≡ a → heads limit (s .next) (s .block) a ≡ 1) × (heads limit (s .next) (s .block) a ≡ 1 → getD t a 0 ≡ a)
+  pub head-table : HeadTable t s
   head-table a six l = (λ e. is-head (same? (s .block a) 0) e, own)
     where
       some : a ≢ 0

@@ -25,7 +25,8 @@ use Rattle.laws.specs.OwnerTable.{table-past}
 use Rattle.laws.specs.Damage.{NoneOr, if-number, damage-range}
 use Rattle.chains.proofs.Laws.{zeroed}
 use Rattle.anodes.specs.Loaded.{anodesFrom}
-use Rattle.tree.specs.Tree.{treeNumber, Counts, Queued, HeadTable}
+use Rattle.laws.specs.Chains.{HeadTable}
+use Rattle.tree.specs.Tree.{treeNumber, Counts, Queued}
 use Rattle.tree.specs.Steps.{sumFrom, queueOf}
 use Rattle.tree.specs.declared.TreeRead.{TreeRead}
 use Rattle.tree.specs.declared.TreeRead.the-variants.{Counted, Fault}

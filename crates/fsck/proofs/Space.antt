@@ -25,7 +25,7 @@ use Rattle.chains.specs.Predecessors.{Closed}
 use Rattle.chains.proofs.Laws.{table-at, entry-some, head-table}
 use Rattle.owners.specs.Marks.{OwnersMarked}
 use Rattle.owners.proofs.Shown.{marked-no-owner, marked-table}
-use Rattle.tree.specs.Tree.{HeadTable}
+use Rattle.laws.specs.Chains.{HeadTable}
 use Rattle.fsck.specs.Answers.{Filled}
 
 module _ (img c b n : List ℕ) (e : anodesFrom c b n ≡ anodesOf img) where

@@ -20,6 +20,7 @@ use Rattle.rules.specs.Calls.{fileCount, dirCount}
 use Rattle.counting.specs.Laws.{anyBelow-same}
 use Rattle.laws.specs.Sums.{oneAt-same, oneAt-other}
 use Rattle.laws.specs.Bags.{list-append, times-nil, times-cons}
+use Rattle.laws.specs.Chains.{HeadTable}
 use Rattle.laws.specs.Each.{Each, each-given, each-gather}
 use Rattle.laws.specs.Items.{names-sum}
 use Rattle.laws.specs.Walks.{scan-next, scan-stops}
@@ -27,8 +28,7 @@ use Rattle.laws.specs.Acceptance.{firstOf-some}
 use Rattle.anodes.specs.Loaded.{anodesFrom}
 use Rattle.tree.specs.declared.TreeRead.{TreeRead}
 use Rattle.tree.specs.declared.TreeRead.the-variants.{Counted, Fault}
-use Rattle.tree.specs.Tree.{HeadTable}
-use Rattle.tree.specs.Steps.{sumFrom, headAt, itemIn, Progress, stopped, going, enterItem, enterAll, itemsFor, itemsAlong, itemsWith, Run, halted, ended, afterDir, runFrom, conclusion, dirsFrom, queueOf, unnamedAt, marked}
+use Rattle.tree.specs.Steps.{sumFrom, headAt, itemIn, Progress, stopped, going, enterItem, enterAll, itemsFor, itemsWith, Run, halted, ended, afterDir, runFrom, conclusion, dirsFrom, queueOf, unnamedAt, marked}
 use Rattle.tree.proofs.Laws.{head-range, marked-more, length-queue}
 
 -- ---- counts over a list of items
@@ -213,7 +213,7 @@ module _ (counts nexts heads : List ℕ) where
       go false = (λ e. absurd (omega arith), tt)
 
     range-items : (d : Dir) → Each InRange (itemsWith (itemIn counts nexts heads) img s d)
-    unfolding itemsWith itemsAlong
+    unfolding itemsWith
     range-items d = each-gather InRange (itemsFor (itemIn counts nexts heads) img s d) (range-for d) (chainOf (s .next) limit (d .head))
 
 -- an anode without a block heads no chain
@@ -262,7 +262,7 @@ module _ (counts nexts t : List ℕ) (s : Anodes) (table : HeadTable t s) (past 
   item-same e = rw (head-same t s table past (e .anode), sums (e .anode))
 
   items-same : (img : List ℕ) → itemsWith (itemIn counts nexts t) img s ≡ itemsOf img s
-  unfolding itemsWith itemsAlong itemsFor itemsOf itemsBy itemsAt
+  unfolding itemsWith itemsFor itemsOf itemsBy itemsAt
   items-same img = ap (λ (item : Entered → Item). itemsWith item img s) (fun-ext item-same)
 
   -- ---- what the walk answers
