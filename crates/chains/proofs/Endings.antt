@@ -17,6 +17,7 @@ use Rattle.laws.specs.Segments.{followed-zero}
 use Rattle.chains.specs.Predecessors.{Closed, PredTable}
 use Rattle.chains.specs.Storing.{storedAlong}
 use Rattle.chains.specs.Endings.{EndsBelow, unmarked, Endless, AllEnd, Ends}
+use Rattle.chains.proofs.Predecessors.{pred-is}
 use Rattle.chains.proofs.Storing.{entry-below, stored-length, stored-kept}
 
 -- ---- following next
@@ -68,7 +69,7 @@ module _ (t n : List ℕ) (w : PredTable t n) (first : getD n 0 0 ≡ 0) (limit 
       here = near (λ z. omega arith)
 
       further : getD t (suc a) 0 ≢ 0 → followed (λ x. getD n x 0) (j + 1 + 1) (getD t (suc a) 0) ≡ 0
-      further h = rw (add-one (j + 1), followed-one (λ x. getD n x 0) (j + 1) (getD t (suc a) 0), w .is-pred (suc a) h) here
+      further h = rw (add-one (j + 1), followed-one (λ x. getD n x 0) (j + 1) (getD t (suc a) 0), w .noted .is-pred (suc a) h) here
 
       new : (x : ℕ) → getD (set m (suc a) 1) x 0 ≢ 0 → followed (λ y. getD n y 0) limit x ≡ 0
       new x h = elim (same? x (suc a)) [
@@ -95,7 +96,7 @@ module _ (t n : List ℕ) (w : PredTable t n) (first : getD n 0 0 ≡ 0) (limit 
       leads = sym (followed-last (λ y. getD n y 0) j x) ∙ e
 
       is : getD t (suc a) 0 ≡ before
-      is = rw leads at (w .only before (λ z. omega (arith, sym leads ∙ z)))
+      is = pred-is t n w before (suc a) h leads
 
       before-some : before ≢ 0
       before-some z = omega (arith, sym leads ∙ ap (λ (y : ℕ). getD n y 0) z ∙ first)
