@@ -18,7 +18,6 @@ use Rattle.directory.specs.declared.Walked.the-variants.{Found, Fault}
 use Rattle.directory.specs.Entries.{walkedAt}
 use Rattle.rules.specs.Counting.{sumList}
 use Rattle.rules.specs.Anodes.{Anodes, limit}
-use Rattle.rules.specs.Chains.{chainOf}
 use Rattle.rules.specs.Walk.{Dir, Entered, Item, entriesFrom, entriesIn, isBlockOf, blocksFor}
 use Rattle.laws.specs.Entries.{enteredAt, entries-more}
 use Rattle.laws.specs.Chains.{chain-none, chain-zero, chain-step, gathered-step}
