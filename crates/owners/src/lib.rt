@@ -56,7 +56,7 @@ fn mark_run(blocks: &mut [u16], first: u16, count: u16, mark: u16) -> bool
     false
 }
 
-// Marks the system's blocks in a table of zeros: 65535 for blocks 0 to 2, 65534 for the anode blocks.
+// Marks the system's blocks in a table of zeros: 65535 for blocks 0 to 2, 65534 for the anode blocks; true if one is marked already.
 fn mark_system(image: &[u8], blocks: &mut [u16]) -> bool
     requires { ⌜ (wrongSize (now image) ≡ false) × (wrongSlots (now image) ≡ false) × (diskSize (now image) ≤ length (now blocks)) ⌝ }
     requires { ⌜ ((x : ℕ) → x < diskSize (now image) → getD (now blocks) x 0 ≡ 0) ⌝ }
