@@ -6,7 +6,7 @@ use mathlib.Core.List.{List, _++_, append-assoc}
 use native.Mathlib.Omega.{arith}
 use native.Mathlib.Nat.{not-suc-le-zero}
 use lib.ListN.{length, getD, set, take, drop, replicate, length-replicate, List·getD-append, List·getD-eq-default}
-use lib.Seq.{getD-set-same, getD-set-other, getD-take, getD-append-add, length-take-le}
+use lib.Seq.{getD-take, getD-append-add, length-take-le}
 use borrow.Rule.Slice.PartMut.{putMid}
 use borrow.Author.Tests.{eq-eqb, ne-eqb}
 use Rattle.endian.proofs.Laws.{less?, same?, getD-zeros}
@@ -16,6 +16,8 @@ use Rattle.disk.specs.Blocks.{blockOf}
 use Rattle.disk.specs.AnodeBlocks.{anodeMade, anodeIn, anodeOf}
 use Rattle.disk.proofs.Laws.{slotOf-high, anodeOf-missing, anodeOf-there}
 use Rattle.rules.specs.Anodes.{Anodes, fieldsOf, inUse, anodesOf}
+use Rattle.tables.specs.Held.{HeldBelow}
+use Rattle.tables.proofs.Laws.{held-more}
 use Rattle.anodes.specs.Loaded.{anodesFrom, asSeen, LoadedBelow}
 
 -- ---- the anodes of a slot
@@ -59,12 +61,6 @@ missing-fields img s a e l h =
 
 -- ---- the tables
 
--- a list that holds f below k, with one number more
-held-more : (f : ℕ → ℕ) (l : List ℕ) (k v : ℕ) → k < length l → ((a : ℕ) → a < k → getD l a 0 ≡ f a) → v ≡ f k
-    → (a : ℕ) → a < k + 1 → getD (set l k v) a 0 ≡ f a
-held-more f l k v room held is a h =
-    ⊎-elim (λ e. rw e (getD-set-same l k v 0 room ∙ is)) (λ n. getD-set-other l k a v 0 n ∙ held a (omega arith)) (same? a k)
-
 module _ (s : Anodes) (c b n : List ℕ) where
   pub loaded-none : LoadedBelow s c b n 0
   loaded-none = record { counts = λ a h. absurd (not-suc-le-zero h); blocks = λ a h. absurd (not-suc-le-zero h); nexts = λ a h. absurd (not-suc-le-zero h) }
@@ -84,8 +80,7 @@ zeroed l k e = replicate 82 0 ++ drop 82 (take (e - k) (drop k l))
 
 -- a list that holds f below k, where f is 0 from there to e, with that part back and zeroed
 held-zeroed : (f : ℕ → ℕ) (l new : List ℕ) (k e : ℕ) → e ≡ k + 82 → e ≤ length l → new ≡ zeroed l k e
-    → ((a : ℕ) → a < k → getD l a 0 ≡ f a) → ((a : ℕ) → k ≤ a → a < k + 82 → 0 ≡ f a)
-    → (a : ℕ) → a < k + 82 → getD (putMid k (e - k) l new) a 0 ≡ f a
+    → HeldBelow f l k → ((a : ℕ) → k ≤ a → a < k + 82 → 0 ≡ f a) → HeldBelow f (putMid k (e - k) l new) (k + 82)
 held-zeroed f l new k e end room is held out a h =
     let m : length (take k l) ≡ k = length-take-le k l (omega arith) in
     let z = length-replicate {A = ℕ} 82 0 in
@@ -116,7 +111,7 @@ same-anodes : (s t : Anodes) → ((a : ℕ) → s .count a ≡ t .count a) → (
 same-anodes s t p q r = λ i. record { count = λ a. p a i; block = λ a. q a i; next = λ a. r a i }
 
 -- a list that holds f below its length, where f is 0 from there on
-held-all : (f : ℕ → ℕ) (l : List ℕ) → length l ≡ 3444 → ((a : ℕ) → a < 3444 → getD l a 0 ≡ f a) → ((a : ℕ) → 3444 ≤ a → f a ≡ 0)
+held-all : (f : ℕ → ℕ) (l : List ℕ) → length l ≡ 3444 → HeldBelow f l 3444 → ((a : ℕ) → 3444 ≤ a → f a ≡ 0)
     → (a : ℕ) → getD l a 0 ≡ f a
 held-all f l e held out a =
     ⊎-elim (λ h. held a h) (λ h. List·getD-eq-default l 0 (rw e h) ∙ sym (out a h)) (less? a 3444)

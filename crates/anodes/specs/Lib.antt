@@ -1,3 +1,2 @@
 -- The anodes of an image in three lists.
 pub mod Loaded
-pub mod Along

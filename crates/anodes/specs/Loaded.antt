@@ -1,6 +1,5 @@
 -- The anodes that three lists of numbers hold: count, block and next by the anode's number; 0 past the end.
-use Prim.Native.Nat.{ℕ, _<_}
-use mathlib.Core.Path.{_≡_}
+use Prim.Native.Nat.{ℕ}
 use mathlib.Core.Bool.{cond}
 use mathlib.Core.List.{List}
 use lib.ListN.{getD}
@@ -8,6 +7,7 @@ use lib.Dec.{eqb}
 use Rattle.disk.specs.declared.Anode.{Anode}
 use Rattle.disk.specs.AnodeBlocks.{anodeMade}
 use Rattle.rules.specs.Anodes.{Anodes}
+use Rattle.tables.specs.Held.{HeldBelow}
 
 -- the anodes in three lists
 unfoldable pub anodesFrom : List ℕ → List ℕ → List ℕ → Anodes
@@ -19,6 +19,6 @@ asSeen x = cond (eqb (x .block .0) 0) (anodeMade 0 0 0) x
 
 -- the lists hold the anodes of s below k
 pub record LoadedBelow (s : Anodes) (c b n : List ℕ) (k : ℕ) : Type 0 where
-  pub counts : (a : ℕ) → a < k → getD c a 0 ≡ s .count a
-  pub blocks : (a : ℕ) → a < k → getD b a 0 ≡ s .block a
-  pub nexts : (a : ℕ) → a < k → getD n a 0 ≡ s .next a
+  pub counts : HeldBelow (s .count) c k
+  pub blocks : HeldBelow (s .block) b k
+  pub nexts : HeldBelow (s .next) n k

@@ -16,7 +16,8 @@ use Rattle.laws.specs.Tests.{same?, eq→eqb, both, and, any-some, some-any}
 use Rattle.laws.specs.Segments.{followed-zero}
 use Rattle.chains.specs.Predecessors.{Closed, PredTable}
 use Rattle.chains.specs.Storing.{storedAlong}
-use Rattle.chains.specs.Endings.{EndsBelow, unmarked, Endless, AllEnd, Ends}
+use Rattle.chains.specs.Endings.{EndingOnly, EndsBelow, unmarked, Endless, AllEnd, Ends}
+use Rattle.chains.proofs.Predecessors.{pred-is}
 use Rattle.chains.proofs.Storing.{entry-below, stored-length, stored-kept}
 
 -- ---- following next
@@ -53,11 +54,10 @@ module _ (next : ℕ → ℕ) where
 
 -- ---- marks, from an end back
 
-module _ (t n : List ℕ) (w : PredTable t n) (first : getD n 0 0 ≡ 0) (limit : ℕ) where
+module _ (t n : List ℕ) (w : PredTable t n) (first : getD n 0 0 ≡ 0) where
   -- what is marked has a chain that ends: after j steps, a is j + 1 steps from 0
-  back-ending : (k j : ℕ) (m : List ℕ) (a : ℕ) → j + k ≡ limit → (a ≢ 0 → followed (λ x. getD n x 0) (j + 1) a ≡ 0)
-      → ((x : ℕ) → getD m x 0 ≢ 0 → followed (λ y. getD n y 0) limit x ≡ 0)
-      → (x : ℕ) → getD (storedAlong k t m 1 a) x 0 ≢ 0 → followed (λ y. getD n y 0) limit x ≡ 0
+  back-ending : (k j : ℕ) (m : List ℕ) (a : ℕ) → j + k ≡ 3444 → (a ≢ 0 → followed (λ x. getD n x 0) (j + 1) a ≡ 0) → EndingOnly m n
+      → EndingOnly (storedAlong k t m 1 a) n
   unfolding storedAlong
   back-ending zero j m a e near old = old
   back-ending (suc k) j m zero e near old = old
@@ -68,11 +68,11 @@ module _ (t n : List ℕ) (w : PredTable t n) (first : getD n 0 0 ≡ 0) (limit 
       here = near (λ z. omega arith)
 
       further : getD t (suc a) 0 ≢ 0 → followed (λ x. getD n x 0) (j + 1 + 1) (getD t (suc a) 0) ≡ 0
-      further h = rw (add-one (j + 1), followed-one (λ x. getD n x 0) (j + 1) (getD t (suc a) 0), w .is-pred (suc a) h) here
+      further h = rw (add-one (j + 1), followed-one (λ x. getD n x 0) (j + 1) (getD t (suc a) 0), w .noted .is-pred (suc a) h) here
 
-      new : (x : ℕ) → getD (set m (suc a) 1) x 0 ≢ 0 → followed (λ y. getD n y 0) limit x ≡ 0
+      new : EndingOnly (set m (suc a) 1) n
       new x h = elim (same? x (suc a)) [
-        | inl q ↦ rw q (followed-more (λ y. getD n y 0) first (j + 1) limit (suc a) (omega arith) here)
+        | inl q ↦ rw q (followed-more (λ y. getD n y 0) first (j + 1) 3444 (suc a) (omega arith) here)
         | inr q ↦ old x (rw (getD-set-other m (suc a) x 1 0 q) at h)
       ]
 
@@ -95,7 +95,7 @@ module _ (t n : List ℕ) (w : PredTable t n) (first : getD n 0 0 ≡ 0) (limit 
       leads = sym (followed-last (λ y. getD n y 0) j x) ∙ e
 
       is : getD t (suc a) 0 ≡ before
-      is = rw leads at (w .only before (λ z. omega (arith, sym leads ∙ z)))
+      is = pred-is t n w before (suc a) h leads
 
       before-some : before ≢ 0
       before-some z = omega (arith, sym leads ∙ ap (λ (y : ℕ). getD n y 0) z ∙ first)
@@ -128,9 +128,9 @@ module _ (n b : List ℕ) where
     pub ends-more : (t : List ℕ) → PredTable t n → getD n 0 0 ≡ 0 → length n ≡ 3444 → a < 3444 → getD n a 0 ≡ 0 → EndsBelow (storedAlong 3444 t m 1 a) n b (a + 1)
     ends-more t p first whole l end = record {
       whole = stored-length t 1 3444 m a ∙ w .whole;
-      ending = back-ending t n p first 3444 3444 0 m a (omega arith) (λ h. followed-one (λ y. getD n y 0) 0 a ∙ followed-none (λ y. getD n y 0) (getD n a 0) ∙ end) (w .ending);
+      ending = back-ending t n p first 3444 0 m a (omega arith) (λ h. followed-one (λ y. getD n y 0) 0 a ∙ followed-none (λ y. getD n y 0) (getD n a 0) ∙ end) (w .ending);
       marked = λ e q some u z. elim (same? e a) [
-        | inl s ↦ (λ j x k f. back-marked t n p first 3444 3444 m a (whole ∙ sym (w .whole)) (rw s at some) (rw (w .whole) l) j x k (f ∙ s))
+        | inl s ↦ (λ j x k f. back-marked t n p first 3444 m a (whole ∙ sym (w .whole)) (rw s at some) (rw (w .whole) l) j x k (f ∙ s))
         | inr s ↦ (λ j x k f. stored-kept t 1 (λ z. omega arith) 3444 m a x (w .marked e (omega arith) some u z j x k f))
       ];
     }

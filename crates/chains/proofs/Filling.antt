@@ -17,7 +17,7 @@ use Rattle.laws.specs.Links.{View, Linked, next-below, checked}
 use Rattle.laws.specs.Heads.{Head, chain-ind, headOf-heads}
 use Rattle.chains.specs.Predecessors.{PredTable}
 use Rattle.chains.specs.Storing.{storedAlong}
-use Rattle.chains.specs.Filling.{FilledBelow}
+use Rattle.chains.specs.Filling.{HeadsOnly, FilledBelow}
 use Rattle.chains.proofs.Predecessors.{no-pred}
 use Rattle.chains.proofs.Storing.{stored-length, set-kept, stored-kept, stored-step}
 use Rattle.chains.proofs.Endings.{followed-none, followed-one}
@@ -42,12 +42,8 @@ module _ (n b : List ℕ) (v : View 3444 (λ a. getD n a 0) (λ a. getD b a 0)) 
         stored-rest f (set m (suc a) h) (getD n (suc a) 0) (on-next (suc a) (λ z. omega arith) on)
         ∙ drop-set-lt 3444 m (suc a) h (v .below (suc a) (on (λ z. omega arith) .0))
 
-    -- each entry that is not 0 is the head of its anode's chain
-    Right : List ℕ → Type 0
-    Right m = (x : ℕ) → x < 3444 → getD m x 0 ≢ 0 → getD m x 0 ≡ headOf 3444 (λ a. getD n a 0) (λ a. getD b a 0) x
-
-    stored-right : (f : ℕ) (m : List ℕ) (a : ℕ) → 3444 ≤ length m → onChain a → Right m → Right (storedAlong f n m h a)
-    unfolding storedAlong onChain Right
+    stored-right : (f : ℕ) (m : List ℕ) (a : ℕ) → 3444 ≤ length m → onChain a → HeadsOnly m n b → HeadsOnly (storedAlong f n m h a) n b
+    unfolding storedAlong onChain
     stored-right zero m a long on r = r
     stored-right (suc f) m zero long on r = r
     stored-right (suc f) m (suc a) long on r =
@@ -56,7 +52,7 @@ module _ (n b : List ℕ) (v : View 3444 (λ a. getD n a 0) (λ a. getD b a 0)) 
         here : (getD b (suc a) 0 ≢ 0) × (headOf 3444 (λ x. getD n x 0) (λ x. getD b x 0) (suc a) ≡ h)
         here = on (λ z. omega arith)
 
-        new : (x : ℕ) → x < 3444 → getD (set m (suc a) h) x 0 ≢ 0 → getD (set m (suc a) h) x 0 ≡ headOf 3444 (λ y. getD n y 0) (λ y. getD b y 0) x
+        new : HeadsOnly (set m (suc a) h) n b
         new x l g = elim (same? x (suc a)) [
           | inl q ↦ rw (q, getD-set-same m (suc a) h 0 (omega (arith, v .below (suc a) (here .0)))) (sym (here .1))
           | inr q ↦ rw (getD-set-other m (suc a) x h 0 q) (r x l (rw (getD-set-other m (suc a) x h 0 q) at g))
@@ -107,7 +103,6 @@ module _ (n b : List ℕ) (v : View 3444 (λ a. getD n a 0) (λ a. getD b a 0)) 
       fill-rest = stored-rest a (d .pos) 3444 m a on-head
 
       pub fill-more : FilledBelow (storedAlong 3444 n m a a) n b (a + 1)
-      unfolding Right
       fill-more = record {
         long = rw (stored-length n a 3444 m a) (w .long);
         right = stored-right a (d .pos) 3444 m a (w .long) on-head (w .right);

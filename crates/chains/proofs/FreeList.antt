@@ -3,7 +3,6 @@ use Prim.Native.Nat.{ℕ, _+_}
 use mathlib.Core.Path.{_≡_, refl, sym, _∙_}
 use mathlib.Core.Logic.{_≢_}
 use mathlib.Core.Bool.{Bool, true, false, _||_, or-true, or-assoc}
-use mathlib.Core.List.{List, [], _∷_}
 use native.Mathlib.Omega.{arith}
 use lib.Dec.{eqb}
 use borrow.Author.Tests.{ne-eqb}
@@ -16,50 +15,42 @@ use Rattle.laws.specs.Sums.{oneAt-same, oneAt-other}
 use Rattle.laws.specs.Bags.{times-nil, times-cons}
 use Rattle.chains.specs.FreeList.{wrongBefore}
 
-any-nil : (t : ℕ → Bool) → anyIn t [] ≡ false
-unfolding anyIn
-any-nil t = refl
-
-any-cons : (t : ℕ → Bool) (x : ℕ) (l : List ℕ) → anyIn t (x ∷ l) ≡ (t x || anyIn t l)
-unfolding anyIn
-any-cons t x l = refl
-
 -- ---- a test along a chain
 
 module _ (t : ℕ → Bool) (next : ℕ → ℕ) where
-  pub along-none : (a : ℕ) → anyIn t (chainOf next 0 a) ≡ false
-  along-none a = rw (chain-none next a, any-nil t)
+  pub any-none : (k a : ℕ) → k ≡ 0 → anyIn t (chainOf next k a) ≡ false
+  unfolding anyIn
+  any-none k a e = rw (e, chain-none next a)
 
-  pub along-zero : (k : ℕ) → anyIn t (chainOf next k 0) ≡ false
-  along-zero k = rw (chain-zero next k, any-nil t)
+  pub any-end : (k a : ℕ) → a ≡ 0 → anyIn t (chainOf next k a) ≡ false
+  unfolding anyIn
+  any-end k a e = rw (e, chain-zero next k)
 
-  pub along-hit : (k m a : ℕ) → k ≡ m + 1 → a ≢ 0 → t a ≡ true → anyIn t (chainOf next k a) ≡ true
-  along-hit k m a e h p = rw (chain-step next k m a e h, any-cons t a (chainOf next m (next a)), p)
-
-  pub along-step : (k m a : ℕ) → k ≡ m + 1 → a ≢ 0 → t a ≡ false → anyIn t (chainOf next k a) ≡ anyIn t (chainOf next m (next a))
-  along-step k m a e h p = rw (chain-step next k m a e h, any-cons t a (chainOf next m (next a)), p)
+  pub any-step : (k m a : ℕ) → k ≡ m + 1 → a ≢ 0 → (b : Bool) → t a ≡ b → anyIn t (chainOf next k a) ≡ (b || anyIn t (chainOf next m (next a)))
+  unfolding anyIn
+  any-step k m a e h b is = rw (chain-step next k m a e h, is)
 
 -- ---- before anode 2
 
 module _ (s : Anodes) (last : ℕ) where
-  pub before-none : (a : ℕ) → wrongBefore s last 0 a ≡ true
+  pub before-none : (k a : ℕ) → k ≡ 0 → wrongBefore s last k a ≡ true
   unfolding wrongBefore
-  before-none a = rw (chain-none (s .next) a, times-nil 2)
+  before-none k a e = rw (e, chain-none (s .next) a, times-nil 2)
 
-  pub before-zero : (k : ℕ) → wrongBefore s last k 0 ≡ true
+  pub before-end : (k a : ℕ) → a ≡ 0 → wrongBefore s last k a ≡ true
   unfolding wrongBefore
-  before-zero k = rw (chain-zero (s .next) k, times-nil 2)
+  before-end k a e = rw (e, chain-zero (s .next) k, times-nil 2)
 
-  pub before-two : (k m : ℕ) → k ≡ m + 1 → wrongBefore s last k 2 ≡ false
+  pub before-two : (k m a : ℕ) → k ≡ m + 1 → a ≡ 2 → wrongBefore s last k a ≡ false
   unfolding wrongBefore
-  before-two k m e =
+  before-two k m a e two =
       let n : oneAt 2 2 + times 2 (chainOf (s .next) m (s .next 2)) ≢ 0 = λ z. omega (arith, oneAt-same 2 2 refl) in
       rw (
+        two,
         chain-step (s .next) k m 2 e (λ z. omega arith),
         times-cons 2 2 (chainOf (s .next) m (s .next 2)),
         ne-eqb (oneAt 2 2 + times 2 (chainOf (s .next) m (s .next 2))) 0 n,
-        chain-zero (cut (s .next)) k,
-        any-nil (notAbove s last),
+        any-end (notAbove s last) (cut (s .next)) k 0 refl,
       )
 
   module _ (k m a : ℕ) (fuel : k ≡ m + 1) (some : a ≢ 0) (two : a ≢ 2) where
@@ -73,8 +64,7 @@ module _ (s : Anodes) (last : ℕ) where
           times-cons 2 a (chainOf (s .next) m (s .next a)),
           oneAt-other a 2 two,
           e,
-          chain-step (cut (s .next)) k m a fuel some,
-          any-cons (notAbove s last) a (chainOf (cut (s .next)) m (cut (s .next) a)),
+          any-step (notAbove s last) (cut (s .next)) k m a fuel some (notAbove s last a) refl,
         )
 
     pub before-hit : notAbove s last a ≡ true → wrongBefore s last k a ≡ true

@@ -1,19 +1,19 @@
 -- What a caller has once the tests find nothing, and what the table of heads says.
-use Prim.Native.Nat.{ℕ, _+_, _≤_, _<_}
+use Prim.Native.Nat.{ℕ, _+_, _<_}
 use mathlib.Core.Path.{_≡_, refl, sym, _∙_}
 use mathlib.Core.Logic.{_≢_, _⊎_, inl, inr}
 use mathlib.Core.Bool.{Bool, true, false, not, _&&_, _||_}
 use mathlib.Core.List.{List, _++_}
 use native.Mathlib.Omega.{arith}
-use lib.ListN.{getD, replicate, length-replicate, List·getD-append}
+use lib.ListN.{getD}
 use lib.Dec.{eqb}
 use borrow.Author.Tests.{eq-eqb, ne-eqb}
-use Rattle.endian.proofs.Laws.{getD-zeros}
 use Rattle.rules.specs.Anodes.{Anodes, limit}
 use Rattle.rules.specs.Chains.{heads, headOf}
 use Rattle.rules.specs.Accepted.{wrongFixed}
 use Rattle.rules.specs.Tables.{chainHead, anodeEntry, anodeTable}
 use Rattle.laws.specs.Tests.{same?}
+use Rattle.laws.specs.Chains.{HeadTable}
 use Rattle.laws.specs.OwnerTable.{table-entry}
 use Rattle.laws.specs.Links.{View, Linked}
 use Rattle.laws.specs.Heads.{headOf-heads, heads-cases, head-of-is}
@@ -32,10 +32,6 @@ fixed-tests s = parts (eqb (s .count 0) 0) (eqb (s .block 0) 65535) (eqb (s .nex
   parts false b c rest = refl
 
 -- ---- the table of heads
-
--- the table before it is filled
-pub zeroed : (k : ℕ) (rest : List ℕ) (a : ℕ) → a < k → getD (replicate k 0 ++ rest) a 0 ≡ 0
-zeroed k rest a l = List·getD-append (replicate k 0) rest 0 a (rw (length-replicate {A = ℕ} k 0) l) ∙ getD-zeros k a
 
 module _ (s : Anodes) (v : View limit (s .next) (s .block)) (k : Linked limit (s .next) (s .block)) (t rest : List ℕ) (is : t ≡ anodeTable s ++ rest) where
   pub table-at : (a : ℕ) → a < limit → getD t a 0 ≡ anodeEntry s a
@@ -58,8 +54,7 @@ module _ (s : Anodes) (v : View limit (s .next) (s .block)) (k : Linked limit (s
   entry-some a h u = rw (entry-used a h u) (head-of-is v k (headOf limit (s .next) (s .block)) (headOf-heads v k) a h u .pos)
 
   -- from 6 up, the heads are the anodes that have themselves for an entry
-  pub head-table : (a : ℕ) → 6 ≤ a → a < limit
-      → (getD t a 0 ≡ a → heads limit (s .next) (s .block) a ≡ 1) × (heads limit (s .next) (s .block) a ≡ 1 → getD t a 0 ≡ a)
+  pub head-table : HeadTable t s
   head-table a six l = (λ e. is-head (same? (s .block a) 0) e, own)
     where
       some : a ≢ 0

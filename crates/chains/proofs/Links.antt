@@ -5,7 +5,7 @@ use mathlib.Core.Logic.{_≢_, inl, inr}
 use mathlib.Core.Bool.{Bool, true, false, not, _&&_, _||_, or-true}
 use mathlib.Core.List.{List}
 use native.Mathlib.Omega.{arith}
-use lib.ListN.{length, getD}
+use lib.ListN.{getD}
 use lib.Dec.{T, eqb, ltb, ltb→lt, T-not}
 use borrow.Author.Tests.{lt-ltb, eq-eqb, ne-eqb}
 use Rattle.rules.specs.Counting.{anyBelow}
@@ -15,7 +15,7 @@ use Rattle.anodes.specs.Loaded.{anodesFrom}
 use Rattle.counting.specs.Laws.{anyBelow-hit}
 use Rattle.laws.specs.Tests.{same?, T-false, eq→eqb, both, either, any-some}
 use Rattle.laws.specs.Links.{View, Linked, checked}
-use Rattle.chains.specs.Predecessors.{Closed, PredTable, NotedBelow, Twice, Noted}
+use Rattle.chains.specs.Predecessors.{Closed, PredTable, NotedBelow, Twice, Noted, fixedNoted}
 use Rattle.chains.specs.Endings.{Endless, AllEnd, Ends}
 use Rattle.chains.proofs.Predecessors.{preds-none, preds-some, preds-one}
 
@@ -49,22 +49,20 @@ module _ (c b n : List ℕ) where
       let x = w .anode in
       links-at x (v .below x (w .in-use)) (rw (ne-eqb x 0 (w .some), ne-eqb (getD b x 0) 0 (w .in-use), ne-eqb (followed (λ a. getD n a 0) 3444 x) 0 (w .never), or-true))
 
-  module _ (t : List ℕ) (w : PredTable t n) (first : getD n 0 0 ≡ 0) (whole : length n ≡ 3444) where
+  module _ (t : List ℕ) (w : PredTable t n) (first : getD n 0 0 ≡ 0) where
     has-pred : (x : ℕ) → x ≢ 0 → hasPred (anodesFrom c b n) x ≡ not (eqb (getD t x 0) 0)
     unfolding hasPred anodesFrom
     has-pred x h = elim (same? (getD t x 0) 0) [
       | inl z ↦ rw (preds-none t n w first x h z, eq-eqb (getD t x 0) 0 z)
-      | inr z ↦ rw (lt-ltb 0 (preds 3444 (λ a. getD n a 0) x) (preds-some t n w whole x h z), ne-eqb (getD t x 0) 0 z)
+      | inr z ↦ rw (lt-ltb 0 (preds 3444 (λ a. getD n a 0) x) (preds-some t n w x z), ne-eqb (getD t x 0) 0 z)
     ]
 
     -- what is left once no anode has two predecessors
-    links-rest : wrongLinks (anodesFrom c b n)
-        ≡ (anyBelow (wrongAt (anodesFrom c b n)) 3444 || (not (eqb (getD t 1 0) 0) || (not (eqb (getD t 3 0) 0) || (not (eqb (getD t 4 0) 0) || not (eqb (getD t 5 0) 0)))))
+    links-rest : wrongLinks (anodesFrom c b n) ≡ (anyBelow (wrongAt (anodesFrom c b n)) 3444 || fixedNoted t)
     unfolding wrongLinks
     links-rest = rw (has-pred 1 (λ z. omega arith), has-pred 3 (λ z. omega arith), has-pred 4 (λ z. omega arith), has-pred 5 (λ z. omega arith))
 
-    pub links-fixed : true ≡ (not (eqb (getD t 1 0) 0) || (not (eqb (getD t 3 0) 0) || (not (eqb (getD t 4 0) 0) || not (eqb (getD t 5 0) 0))))
-        → wrongLinks (anodesFrom c b n) ≡ true
+    pub links-fixed : true ≡ fixedNoted t → wrongLinks (anodesFrom c b n) ≡ true
     links-fixed e = links-rest ∙ rw (← e, or-true)
 
     right-at : AllEnd n b → (a : ℕ) → T (wrongAt (anodesFrom c b n) a) → ⊥
@@ -79,13 +77,10 @@ module _ (c b n : List ℕ) where
           | inr l ↦ T-not (eqb (followed (λ x. getD n x 0) 3444 a) 0) l (eq→eqb (followed (λ x. getD n x 0) 3444 a) 0 (ends .ends a some used))
         ]
 
-    links-right : false ≡ (not (eqb (getD t 1 0) 0) || (not (eqb (getD t 3 0) 0) || (not (eqb (getD t 4 0) 0) || not (eqb (getD t 5 0) 0))))
-        → AllEnd n b → wrongLinks (anodesFrom c b n) ≡ false
+    links-right : false ≡ fixedNoted t → AllEnd n b → wrongLinks (anodesFrom c b n) ≡ false
     links-right e ends =
         links-rest ∙ rw (← e, T-false (anyBelow (wrongAt (anodesFrom c b n)) 3444) (λ h. let s = any-some (wrongAt (anodesFrom c b n)) 3444 h in right-at ends (s .0) (s .2)))
 
-    pub links-ends : View 3444 (λ a. getD n a 0) (λ a. getD b a 0)
-        → false ≡ (not (eqb (getD t 1 0) 0) || (not (eqb (getD t 3 0) 0) || (not (eqb (getD t 4 0) 0) || not (eqb (getD t 5 0) 0))))
-        → (r : Bool) → Ends r n b → wrongLinks (anodesFrom c b n) ≡ r
+    pub links-ends : View 3444 (λ a. getD n a 0) (λ a. getD b a 0) → false ≡ fixedNoted t → (r : Bool) → Ends r n b → wrongLinks (anodesFrom c b n) ≡ r
     links-ends v e true ends = links-endless v ends
     links-ends v e false ends = links-right e ends

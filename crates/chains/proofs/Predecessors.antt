@@ -66,15 +66,12 @@ module _ (t n : List ℕ) (a : ℕ) (w : NotedBelow t n a) where
 -- ---- the whole table
 
 pub table-of : (t n : List ℕ) → length n ≡ 3444 → NotedBelow t n 3444 → PredTable t n
-table-of t n whole w = record {
-  is-pred = w .is-pred;
-  only = λ p h. w .only p (rw whole at (entry-below n p h)) h;
-}
+table-of t n whole w = record { noted = w; below = λ p h. rw whole at (entry-below n p h) }
 
 module _ (t n : List ℕ) (w : PredTable t n) where
   -- a predecessor is the entry
-  pred-is : (p x : ℕ) → x ≢ 0 → getD n p 0 ≡ x → getD t x 0 ≡ p
-  pred-is p x h e = rw e at (w .only p (λ z. h (sym e ∙ z)))
+  pub pred-is : (p x : ℕ) → x ≢ 0 → getD n p 0 ≡ x → getD t x 0 ≡ p
+  pred-is p x h e = let q : getD n p 0 ≢ 0 = λ z. h (sym e ∙ z) in rw e at (w .noted .only p (w .below p q) q)
 
   pub no-pred : getD n 0 0 ≡ 0 → (x : ℕ) → x ≢ 0 → getD t x 0 ≡ 0 → (p : ℕ) → getD n p 0 ≢ x
   no-pred first x h z p e = h (sym e ∙ ap (λ (q : ℕ). getD n q 0) (sym (pred-is p x h e) ∙ z) ∙ first)
@@ -82,11 +79,9 @@ module _ (t n : List ℕ) (w : PredTable t n) where
   pub preds-none : getD n 0 0 ≡ 0 → (x : ℕ) → x ≢ 0 → getD t x 0 ≡ 0 → preds 3444 (λ a. getD n a 0) x ≡ 0
   preds-none first x h z = none-before 3444 (λ a. getD n a 0) x (no-pred first x h z)
 
-  pub preds-some : length n ≡ 3444 → (x : ℕ) → x ≢ 0 → getD t x 0 ≢ 0 → 0 < preds 3444 (λ a. getD n a 0) x
+  pub preds-some : (x : ℕ) → getD t x 0 ≢ 0 → 0 < preds 3444 (λ a. getD n a 0) x
   unfolding preds
-  preds-some whole x h z =
-      let l : getD t x 0 < 3444 = rw whole at (entry-below n (getD t x 0) (λ q. h (sym (w .is-pred x z) ∙ q))) in
-      omega (arith, sum-member (λ p. oneAt (getD n p 0) x) (getD t x 0) 3444 l, oneAt-same (getD n (getD t x 0) 0) x (w .is-pred x z))
+  preds-some x z = omega (arith, sum-member (λ p. oneAt (getD n p 0) x) (getD t x 0) 3444 (w .noted .earlier x z), oneAt-same (getD n (getD t x 0) 0) x (w .noted .is-pred x z))
 
   pub preds-one : (x : ℕ) → x ≢ 0 → preds 3444 (λ a. getD n a 0) x ≤ 1
   unfolding preds

@@ -14,14 +14,14 @@ pub entry-below : (l : List ℕ) (a : ℕ) → getD l a 0 ≢ 0 → a < length l
 entry-below l a h = elim (less? a (length l)) [ inl k ↦ k | inr k ↦ absurd (h (List·getD-eq-default l 0 k)) ]
 
 module _ (links : List ℕ) (v : ℕ) where
-  pub stored-none : (m : List ℕ) (a : ℕ) → storedAlong 0 links m v a ≡ m
+  pub stored-none : (k : ℕ) (m : List ℕ) (a : ℕ) → k ≡ 0 → storedAlong k links m v a ≡ m
   unfolding storedAlong
-  stored-none m a = refl
+  stored-none k m a e = rw e
 
-  pub stored-zero : (k : ℕ) (m : List ℕ) → storedAlong k links m v 0 ≡ m
+  pub stored-end : (k : ℕ) (m : List ℕ) (a : ℕ) → a ≡ 0 → storedAlong k links m v a ≡ m
   unfolding storedAlong
-  stored-zero zero m = refl
-  stored-zero (suc k) m = refl
+  stored-end zero m a e = refl
+  stored-end (suc k) m a e = rw e
 
   pub stored-step : (k j a : ℕ) (m : List ℕ) → k ≡ j + 1 → a ≢ 0 → storedAlong k links m v a ≡ storedAlong j links (set m a v) v (getD links a 0)
   unfolding storedAlong

@@ -8,10 +8,14 @@ use lib.ListN.{length, getD}
 use lib.Dec.{eqb}
 use Rattle.rules.specs.Chains.{followed}
 
+-- each marked anode's chain ends
+abbrev pub EndingOnly : List ℕ → List ℕ → Type 0
+EndingOnly marks nexts = (x : ℕ) → getD marks x 0 ≢ 0 → followed (λ a. getD nexts a 0) 3444 x ≡ 0
+
 -- the marks with the ends below k done: a marked anode's chain ends, and what comes to such an end is marked
 pub record EndsBelow (marks nexts firsts : List ℕ) (k : ℕ) : Type 0 where
   pub whole : length marks ≡ 3444
-  pub ending : (x : ℕ) → getD marks x 0 ≢ 0 → followed (λ a. getD nexts a 0) 3444 x ≡ 0
+  pub ending : EndingOnly marks nexts
   pub marked : (e : ℕ) → e < k → e ≢ 0 → getD firsts e 0 ≢ 0 → getD nexts e 0 ≡ 0
       → (j x : ℕ) → j < 3444 → followed (λ a. getD nexts a 0) j x ≡ e → getD marks x 0 ≢ 0
 

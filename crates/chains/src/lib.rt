@@ -1,5 +1,5 @@
 // Refusals 6 to 9 and the heads of chains, over the anodes in three lent tables.
-ghost use mathlib.Core.Bool.{_&&_, _||_, false, not};
+ghost use mathlib.Core.Bool.{_&&_, false, not};
 ghost use mathlib.Core.List.{List, _++_};
 ghost use mathlib.Core.Path.{_≡_};
 ghost use Prim.Native.Nat.{ℕ, _+_, _≤_, _<_};
@@ -11,7 +11,7 @@ ghost use Rattle.rules.specs.Accepted.{wrongFixed, outOfRange, wrongLinks, notU
 ghost use Rattle.rules.specs.Tables.{anodeTable};
 ghost use Rattle.laws.specs.Links.{View, Linked};
 ghost use Rattle.anodes.specs.Loaded.{anodesFrom};
-ghost use Rattle.chains.specs.Predecessors.{Closed, PredTable, NotedBelow, Noted};
+ghost use Rattle.chains.specs.Predecessors.{Closed, PredTable, NotedBelow, Noted, fixedNoted};
 ghost use Rattle.chains.specs.Storing.{storedAlong};
 ghost use Rattle.chains.specs.Endings.{EndsBelow, unmarked, Ends};
 ghost use Rattle.chains.specs.FreeList.{wrongBefore};
@@ -120,7 +120,7 @@ fn note_preds(nexts: &[u16], preds: &mut [u16]) -> bool
 
 // Anode 1, 3, 4 or 5 has a predecessor.
 fn fixed_has_pred(preds: &[u16]) -> bool
-    ensures { λ r. ⌜ r ≡ (not (eqb (getD (now (preds .entry)) 1 0) 0) || (not (eqb (getD (now (preds .entry)) 3 0) 0) || (not (eqb (getD (now (preds .entry)) 4 0) 0) || not (eqb (getD (now (preds .entry)) 5 0) 0)))) ⌝ }
+    ensures { λ r. ⌜ r ≡ fixedNoted (now (preds .entry)) ⌝ }
 {
     if entry(preds, 1) != 0 {
         return true;

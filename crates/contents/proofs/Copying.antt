@@ -8,9 +8,6 @@ use lib.ListN.{length, getD, set, take, drop, length-set, length-take, length-dr
 use lib.Seq.{drop-cons, take-append-le, drop-append-le, drop-append-add, take-all, take-suc-set, length-take-le}
 use Rattle.disk.specs.Blocks.{blockOf}
 use Rattle.rules.specs.Counting.{gather}
-use Rattle.rules.specs.Chains.{run}
-use Rattle.anodes.specs.Along.{blocksAlong, along-step, run-none, run-step}
-use Rattle.laws.specs.ChainBlocks.{gather-append}
 use Rattle.contents.specs.Copied.{filled}
 
 -- ---- lists
@@ -60,7 +57,7 @@ filled-end img out t done skip ys z e whole =
     let full : length out ≤ done = omega arith in
     rw (take-all done out full, take-all (length out) out (omega arith)) at f
 
--- ---- a block, and a run of blocks
+-- ---- a block
 
 pub block-skipped : (out block part rest : List ℕ) (done skip : ℕ) → part ≡ block → length part ≤ skip
     → filled out done (drop (skip - length part) rest) ≡ filled out done (drop skip (block ++ rest))
@@ -70,20 +67,3 @@ pub block-behind : (block rest : List ℕ) (skip : ℕ) → skip < length block
     → take (length block - skip) (drop skip block) ++ rest ≡ drop skip (block ++ rest)
 block-behind block rest skip h =
     rw (take-all (length block - skip) (drop skip block) (rw length-drop (omega arith)), drop-append-le skip block rest (omega arith))
-
-pub run-bytes-none : (img : List ℕ) (b n : ℕ) → n ≡ 0 → gather (blockOf img) (run b n) ≡ []
-unfolding gather
-run-bytes-none img b n e = rw (run-none b n e)
-
-pub run-bytes-step : (img rest : List ℕ) (b n m : ℕ) → n ≡ m + 1
-    → gather (blockOf img) (run b n) ++ rest ≡ blockOf img b ++ (gather (blockOf img) (run (b + 1) m) ++ rest)
-unfolding gather
-run-bytes-step img rest b n m e = rw (run-step b n m e) (append-assoc (blockOf img b) (gather (blockOf img) (run (b + 1) m)) rest)
-
--- ---- the blocks along a chain of at most k anodes, from anode a on
-
-pub bytes-step : (img counts firsts nexts : List ℕ) (k m a : ℕ) → k ≡ m + 1 → (a ≡ 0 → ⊥)
-    → gather (blockOf img) (blocksAlong counts firsts nexts k a)
-    ≡ gather (blockOf img) (run (getD firsts a 0) (getD counts a 0)) ++ gather (blockOf img) (blocksAlong counts firsts nexts m (getD nexts a 0))
-bytes-step img counts firsts nexts k m a fuel n =
-    rw (along-step counts firsts nexts k m a fuel n) (gather-append (blockOf img) (run (getD firsts a 0) (getD counts a 0)) (blocksAlong counts firsts nexts m (getD nexts a 0)))

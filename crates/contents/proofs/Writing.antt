@@ -4,7 +4,7 @@ use mathlib.Core.Path.{_≡_, refl, sym, ap, _∙_}
 use mathlib.Core.List.{List, [], _∷_, _++_}
 use native.Mathlib.Omega.{arith}
 use native.Mathlib.Nat.{le-of-eq}
-use lib.ListN.{length, getD, set, take, drop, take-append-drop, drop-of-length-le}
+use lib.ListN.{length, set, take, drop, take-append-drop, drop-of-length-le}
 use lib.Seq.{take-all, take-at, drop-at, drop-drop, drop-nil}
 use borrow.Rule.Slice.PartMut.{putMid}
 use Rattle.endian.specs.Bytes.{stored}
@@ -14,14 +14,14 @@ use Rattle.disk.proofs.Laws.{length-blockOf, part-block, block-back}
 use Rattle.disk.proofs.Store.{length-withBlock, blockOf-withBlock-other}
 use Rattle.rules.specs.Counting.{times, gather}
 use Rattle.rules.specs.Anodes.{Anodes}
-use Rattle.rules.specs.Chains.{run, blocksOf}
+use Rattle.rules.specs.Chains.{chainOf, run, blocksOf}
 use Rattle.rules.specs.Walk.{Entered}
 use Rattle.rules.specs.Lookup.{bytesOf}
 use Rattle.rules.specs.Changes.{spread, written}
-use Rattle.laws.specs.Chains.{Inside}
+use Rattle.laws.specs.Chains.{gathered-step, run-step, Inside}
+use Rattle.laws.specs.ChainBlocks.{extent}
 use Rattle.laws.specs.Sums.{oneAt-same}
 use Rattle.laws.specs.Bags.{times-cons, times-append}
-use Rattle.anodes.specs.Along.{blocksAlong, along-step, run-step}
 use Rattle.contents.specs.Written.{writtenOver, InsideOnce}
 
 -- ---- a store over two lists
@@ -122,22 +122,21 @@ pub over-written : (img : List ℕ) (s : Anodes) (h : ℕ) (e : Entered) (offset
 unfolding written bytesOf
 over-written img s h e offset bytes is i = rw is (over-spread img img (blocksOf s h) bytes offset refl i (λ y p. refl))
 
--- ---- a run of blocks
+-- ---- blocks that the image has whole
 
+inside-append : (img l n : List ℕ) → Inside img (l ++ n) → Inside img l × Inside img n
+inside-append img l n i = (λ y p. i y (omega (arith, p, times-append y l n)), λ y p. i y (omega (arith, p, times-append y l n)))
+
+-- the first block of a run, and those behind it
 module _ (img : List ℕ) (b n m : ℕ) (more : n ≡ m + 1) (i : Inside img (run b n)) where
   pub first-inside : b * 512 + 512 ≤ length img
   first-inside = (rw (run-step b n m more) at i) b (omega (arith, times-cons b b (run (b + 1) m), oneAt-same b b refl))
 
   pub rest-inside : Inside img (run (b + 1) m)
-  rest-inside y p = (rw (run-step b n m more) at i) y (omega (arith, p, times-cons y b (run (b + 1) m)))
+  rest-inside = inside-append img (b ∷ []) (run (b + 1) m) (rw (run-step b n m more) at i) .1
 
--- ---- the blocks along a chain
-
--- the anode's own blocks, and those of the anodes after it
-pub along-inside : (img counts firsts nexts : List ℕ) (k m a : ℕ) → k ≡ m + 1 → (a ≡ 0 → ⊥) → Inside img (blocksAlong counts firsts nexts k a)
-    → Inside img (run (getD firsts a 0) (getD counts a 0)) × Inside img (blocksAlong counts firsts nexts m (getD nexts a 0))
-along-inside img counts firsts nexts k m a fuel some i =
-    parts (run (getD firsts a 0) (getD counts a 0)) (blocksAlong counts firsts nexts m (getD nexts a 0)) (rw (along-step counts firsts nexts k m a fuel some) at i)
-  where
-    parts : (l n : List ℕ) → Inside img (l ++ n) → Inside img l × Inside img n
-    parts l n both = (λ y p. both y (omega (arith, p, times-append y l n)), λ y p. both y (omega (arith, p, times-append y l n)))
+-- an anode's own blocks, and those of the anodes behind it
+pub along-inside : (img : List ℕ) (s : Anodes) (k m a : ℕ) → k ≡ m + 1 → (a ≡ 0 → ⊥) → Inside img (gather (extent s) (chainOf (s .next) k a))
+    → Inside img (extent s a) × Inside img (gather (extent s) (chainOf (s .next) m (s .next a)))
+along-inside img s k m a fuel some i =
+    inside-append img (extent s a) (gather (extent s) (chainOf (s .next) m (s .next a))) (rw (gathered-step (extent s) (s .next) k m a fuel some) at i)

@@ -1,7 +1,7 @@
 -- The blocks along a chain, from an anode on: the i-th of them, and the first with room for an entry. Assumes nothing.
 use Prim.Native.Nat.{ℕ, zero, suc, _+_, _-_, _*_, _<_, _≤_}
 use mathlib.Core.Path.{_≡_, refl, sym, ap, _∙_}
-use mathlib.Core.List.{List, [], _∷_, _++_, map}
+use mathlib.Core.List.{List, [], _∷_, _++_}
 use mathlib.Core.Option.{none, some}
 use native.Mathlib.Numerals.{add-one}
 use native.Mathlib.Omega.{arith}
@@ -9,12 +9,13 @@ use lib.ListN.{getD}
 use borrow.Author.Tests.{le-leb, lt-leb, eq-eqb, ne-eqb}
 use Rattle.disk.specs.Blocks.{blockOf}
 use Rattle.rules.specs.Counting.{times, gather}
+use Rattle.rules.specs.Anodes.{Anodes}
 use Rattle.rules.specs.Chains.{chainOf, run, blocksOf}
 use Rattle.rules.specs.Changes.{endFrom, entriesEnd, firstRoom}
 use Rattle.laws.specs.Sums.{oneAt-same}
 use Rattle.laws.specs.Bags.{times-cons}
-use Rattle.laws.specs.Chains.{chain-none, chain-zero, chain-step}
-use Rattle.anodes.specs.Along.{blocksAlong, along-step}
+use Rattle.laws.specs.Chains.{gathered-step}
+use Rattle.laws.specs.ChainBlocks.{extent}
 use Rattle.anodes.specs.Loaded.{anodesFrom}
 
 -- ---- the i-th block
@@ -34,12 +35,14 @@ run-past b (suc c) (suc i) rest h = run-past (suc b) c i rest (omega arith) ∙ 
 pub nth-none : (l : List ℕ) (i : ℕ) → l ≡ [] → 0 ≡ getD l i 0
 nth-none l i e = rw e
 
-module _ (counts firsts nexts : List ℕ) (k m a : ℕ) (fuel : k ≡ m + 1) (some-anode : a ≡ 0 → ⊥) (i : ℕ) where
-  pub nth-here : i < getD counts a 0 → getD (blocksAlong counts firsts nexts k a) i 0 ≡ getD firsts a 0 + i
-  nth-here h = rw (along-step counts firsts nexts k m a fuel some-anode) (run-at (getD firsts a 0) (getD counts a 0) i (blocksAlong counts firsts nexts m (getD nexts a 0)) h)
+module _ (s : Anodes) (k m a : ℕ) (fuel : k ≡ m + 1) (some-anode : a ≡ 0 → ⊥) (i : ℕ) where
+  pub nth-here : i < s .count a → getD (gather (extent s) (chainOf (s .next) k a)) i 0 ≡ s .block a + i
+  unfolding extent
+  nth-here h = rw (gathered-step (extent s) (s .next) k m a fuel some-anode) (run-at (s .block a) (s .count a) i (gather (extent s) (chainOf (s .next) m (s .next a))) h)
 
-  pub nth-later : getD counts a 0 ≤ i → getD (blocksAlong counts firsts nexts k a) i 0 ≡ getD (blocksAlong counts firsts nexts m (getD nexts a 0)) (i - getD counts a 0) 0
-  nth-later h = rw (along-step counts firsts nexts k m a fuel some-anode) (run-past (getD firsts a 0) (getD counts a 0) i (blocksAlong counts firsts nexts m (getD nexts a 0)) h)
+  pub nth-later : s .count a ≤ i → getD (gather (extent s) (chainOf (s .next) k a)) i 0 ≡ getD (gather (extent s) (chainOf (s .next) m (s .next a))) (i - s .count a) 0
+  unfolding extent
+  nth-later h = rw (gathered-step (extent s) (s .next) k m a fuel some-anode) (run-past (s .block a) (s .count a) i (gather (extent s) (chainOf (s .next) m (s .next a))) h)
 
 -- ---- the end mark, from a place on
 
@@ -73,30 +76,27 @@ module _ (img : List ℕ) (len y : ℕ) (ys : List ℕ) where
 
 -- the first blocks of at most k anodes from a on
 unfoldable pub firstsAlong : List ℕ → List ℕ → ℕ → ℕ → List ℕ
-firstsAlong firsts nexts k a = map (λ x. getD firsts x 0) (chainOf (λ x. getD nexts x 0) k a)
+firstsAlong firsts nexts k a = gather (λ x. getD firsts x 0 ∷ []) (chainOf (λ x. getD nexts x 0) k a)
 
 -- of anodes with count 1 they are all blocks
-single-blocks : (block count : ℕ → ℕ) (l : List ℕ) → ((a : ℕ) → 0 < times a l → count a ≡ 1) → gather (λ a. run (block a) (count a)) l ≡ map block l
+single-blocks : (block count : ℕ → ℕ) (l : List ℕ) → ((a : ℕ) → 0 < times a l → count a ≡ 1) → gather (λ a. run (block a) (count a)) l ≡ gather (λ a. block a ∷ []) l
 unfolding gather run
 single-blocks block count [] one = refl
 single-blocks block count (x ∷ l) one =
     rw (one x (omega (arith, times-cons x x l, oneAt-same x x refl)), single-blocks block count l (λ a p. one a (omega (arith, p, times-cons a x l))))
 
-module _ (img : List ℕ) (len : ℕ) (firsts nexts : List ℕ) where
-  pub room-none : (k a : ℕ) → k ≡ 0 → none ≡ firstRoom img len (firstsAlong firsts nexts k a)
-  unfolding firstsAlong firstRoom
-  room-none k a e = rw (e, chain-none (λ x. getD nexts x 0) a)
+module _ (img : List ℕ) (len : ℕ) where
+  pub room-none : (ys : List ℕ) → ys ≡ [] → none ≡ firstRoom img len ys
+  unfolding firstRoom
+  room-none ys e = rw e
 
-  pub room-end : (k a : ℕ) → a ≡ 0 → none ≡ firstRoom img len (firstsAlong firsts nexts k a)
-  unfolding firstsAlong firstRoom
-  room-end k a z = rw (z, chain-zero (λ x. getD nexts x 0) k)
+  module _ (firsts nexts : List ℕ) where
+    pub room-step : (k m a y : ℕ) → k ≡ m + 1 → (a ≡ 0 → ⊥) → y ≡ getD firsts a 0
+        → firstRoom img len (y ∷ firstsAlong firsts nexts m (getD nexts a 0)) ≡ firstRoom img len (firstsAlong firsts nexts k a)
+    unfolding firstsAlong
+    room-step k m a y fuel n is = rw (gathered-step (λ x. getD firsts x 0 ∷ []) (λ x. getD nexts x 0) k m a fuel n, is)
 
-  pub room-step : (k m a y : ℕ) → k ≡ m + 1 → (a ≡ 0 → ⊥) → y ≡ getD firsts a 0
-      → firstRoom img len (y ∷ firstsAlong firsts nexts m (getD nexts a 0)) ≡ firstRoom img len (firstsAlong firsts nexts k a)
-  unfolding firstsAlong
-  room-step k m a y fuel n is = rw (chain-step (λ x. getD nexts x 0) k m a fuel n, is)
-
-  pub room-whole : (counts : List ℕ) (h : ℕ) → ((a : ℕ) → 0 < times a (chainOf (λ x. getD nexts x 0) 3444 h) → getD counts a 0 ≡ 1)
-      → firstRoom img len (firstsAlong firsts nexts 3444 h) ≡ firstRoom img len (blocksOf (anodesFrom counts firsts nexts) h)
-  unfolding blocksOf anodesFrom firstsAlong
-  room-whole counts h one = ap (firstRoom img len) (sym (single-blocks (λ x. getD firsts x 0) (λ x. getD counts x 0) (chainOf (λ x. getD nexts x 0) 3444 h) one))
+    pub room-whole : (counts : List ℕ) (h : ℕ) → ((a : ℕ) → 0 < times a (chainOf (λ x. getD nexts x 0) 3444 h) → getD counts a 0 ≡ 1)
+        → firstRoom img len (firstsAlong firsts nexts 3444 h) ≡ firstRoom img len (blocksOf (anodesFrom counts firsts nexts) h)
+    unfolding blocksOf anodesFrom firstsAlong
+    room-whole counts h one = ap (firstRoom img len) (sym (single-blocks (λ x. getD firsts x 0) (λ x. getD counts x 0) (chainOf (λ x. getD nexts x 0) 3444 h) one))

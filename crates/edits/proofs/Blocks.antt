@@ -4,7 +4,7 @@ use mathlib.Core.Path.{_≡_, refl, sym, _∙_}
 use mathlib.Core.Logic.{⊎-elim}
 use mathlib.Core.Bool.{Bool, true, false, cond, not, _&&_, and-false}
 use mathlib.Core.List.{List, [], _∷_}
-use native.Mathlib.Nat.{add-zero, add-suc, eq-or-lt-of-le}
+use native.Mathlib.Nat.{add-zero, add-suc}
 use native.Mathlib.Numerals.{add-one}
 use native.Mathlib.Omega.{arith}
 use lib.ListN.{length, getD, set, take, drop, length-replicate, drop-of-length-le, length-take}
@@ -27,6 +27,7 @@ use Rattle.rules.specs.Walk.{Entered}
 use Rattle.rules.specs.Format.{zeroBlock, newDirectoryBlock}
 use Rattle.rules.specs.Changes.{inBlock, withBlocks, zeroTail}
 use Rattle.laws.specs.OwnerTable.{setAll}
+use Rattle.tables.specs.Held.{HeldBelow}
 use Rattle.anodes.specs.Loaded.{anodesFrom}
 
 -- ---- a directory's new block, as far as the image has it
@@ -121,11 +122,8 @@ pub fields-same : (c f n c′ f′ n′ : List ℕ) (a : ℕ) → getD c a 0 ≡
 unfolding sameAnode anodesFrom
 fields-same c f n c′ f′ n′ a x y z = rw (eq-eqb (getD c a 0) (getD c′ a 0) x, eq-eqb (getD f a 0) (getD f′ a 0) y, eq-eqb (getD n a 0) (getD n′ a 0) z)
 
--- the numbers of a part of two tables are the same, one after the other
-pub same-next : (t u : List ℕ) (i : ℕ) → ((j : ℕ) → j < i → getD t j 0 ≡ getD u j 0) → getD t i 0 ≡ getD u i 0 → (j : ℕ) → j < i + 1 → getD t j 0 ≡ getD u j 0
-same-next t u i below e j h = let l : j ≤ i = omega arith in ⊎-elim (λ q. rw q e) (below j) (eq-or-lt-of-le l)
-
-pub part-same : (l m : List ℕ) (from n : ℕ) → ((j : ℕ) → j < n → getD (take n (drop from l)) j 0 ≡ getD (take n (drop from m)) j 0)
+-- two tables have the same numbers where their parts have
+pub part-same : (l m : List ℕ) (from n : ℕ) → HeldBelow (λ j. getD (take n (drop from m)) j 0) (take n (drop from l)) n
     → (a : ℕ) → from ≤ a → a < from + n → getD l a 0 ≡ getD m a 0
 part-same l m from n same a low high =
     let j : ℕ = a - from in

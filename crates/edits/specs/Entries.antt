@@ -14,15 +14,14 @@ abbrev pub newEntry : Kind → List ℕ → List ℕ → ℕ → ℕ → ℕ →
 newEntry kind name comment day minute tick protection =
     record { dir = isDir kind; name = name; comment = comment; day = day; minute = minute; tick = tick; protection = protection }
 
--- the place that a search for room answers, if any
-abbrev pub roomOf : Room → Option ℕ
-roomOf (At place) = some place
-roomOf Nowhere = none
-
 -- the room that was found, or what the blocks behind have
 abbrev pub orRest : Room → Option ℕ → Option ℕ
 orRest (At place) rest = some place
 orRest Nowhere rest = rest
+
+-- the place that a search for room answers, if any
+abbrev pub roomOf : Room → Option ℕ
+roomOf r = orRest r none
 
 -- the first k bytes from at + len on, moved to at
 unfoldable pub movedDown : List ℕ → ℕ → ℕ → ℕ → List ℕ

@@ -1,12 +1,11 @@
 -- The check's answer and the tables that it leaves, from the answers of its parts.
-use Prim.Native.Nat.{ℕ, _≤_, _<_}
+use Prim.Native.Nat.{ℕ, _≤_}
 use mathlib.Core.Path.{_≡_, refl, sym, ap, _∙_}
 use mathlib.Core.Logic.{inl, inr}
 use mathlib.Core.Bool.{true, false}
 use mathlib.Core.List.{List, [], _++_}
 use native.Mathlib.Omega.{arith}
-use lib.ListN.{length, getD, drop, replicate, length-replicate}
-use lib.Seq.{drop-at}
+use lib.ListN.{length, drop, replicate}
 use lib.Dec.{ltb}
 use borrow.Author.Tests.{le-leb, lt-leb, ltb-false}
 use Rattle.disk.specs.declared.Refusal.{Refusal}
@@ -14,19 +13,17 @@ use Rattle.disk.specs.Refusals.{numberOf}
 use Rattle.disk.proofs.Laws.{number-some}
 use Rattle.rules.specs.Counting.{_if_else_}
 use Rattle.rules.specs.Anodes.{Anodes, limit, anodesOf}
-use Rattle.rules.specs.Chains.{blockCount}
 use Rattle.rules.specs.Walk.{reachedDirs}
 use Rattle.rules.specs.Accepted.{diskSize, wrongSize, shortTables, wrongType, wrongRoot, wrongSlots, treeFault, damageIn, checkAnswer}
-use Rattle.rules.specs.Tables.{anodeEntry, blockEntry, blockTable, anodeTable, tableLeft, blocksLeft, anodesLeft}
+use Rattle.rules.specs.Tables.{blockTable, anodeTable, tableLeft, blocksLeft, anodesLeft}
 use Rattle.rules.specs.Calls.{Outcome, outcomeOf, settled, checkOutcome, fileCount, dirCount}
 use Rattle.counting.specs.Laws.{neither}
 use Rattle.laws.specs.Acceptance.{passed-of, size-bounds}
-use Rattle.laws.specs.OwnerTable.{table-past}
 use Rattle.laws.specs.Damage.{NoneOr, if-number, damage-range}
-use Rattle.chains.proofs.Laws.{zeroed}
-use Rattle.anodes.specs.Loaded.{anodesFrom}
-use Rattle.tree.specs.Tree.{treeNumber, Counts, Queued, HeadTable}
-use Rattle.tree.specs.Steps.{sumFrom, queueOf}
+use Rattle.tables.proofs.Laws.{zeroed-past}
+use Rattle.laws.specs.Chains.{HeadTable}
+use Rattle.tree.specs.Tree.{treeNumber, Counts, Queued}
+use Rattle.tree.specs.Steps.{queueOf}
 use Rattle.tree.specs.declared.TreeRead.{TreeRead}
 use Rattle.tree.specs.declared.TreeRead.the-variants.{Counted, Fault}
 use Rattle.fsck.specs.declared.Tally.{Tally}
@@ -35,6 +32,7 @@ use Rattle.fsck.specs.declared.Checked.the-variants.{Accepted, Refused}
 use Rattle.fsck.specs.declared.Test.{Test}
 use Rattle.fsck.specs.declared.Test.the-variants.{Passed, Failed}
 use Rattle.fsck.specs.Answers.{checkedNumber, Headed, HeaderTested, SpaceTested, Filled, Kept, TablesAfter, TablesLeft}
+use Rattle.fsck.proofs.Space.{blocks-past, heads-past}
 
 -- ---- 1 to 4
 
@@ -75,13 +73,9 @@ module _ (img : List ℕ) (b a : ℕ) where
 -- ---- 6 to 16
 
 module _ (img : List ℕ) (s : Anodes) where
-  -- a table that shows the image keeps what stands behind it
+  -- tables that show the image keep what stands behind it
   filled-kept : (b₀ a₀ b a : List ℕ) → Filled img s b₀ a₀ b a → Kept img b₀ a₀ b a
-  unfolding blockTable anodeTable
-  filled-kept b₀ a₀ b a f = record {
-    blocks-kept = ap (λ (l : List ℕ). drop (diskSize img) l) (f .blocks-shown) ∙ table-past (blockEntry img s) (diskSize img) (drop (diskSize img) b₀);
-    anodes-kept = ap (λ (l : List ℕ). drop limit l) (f .anodes-shown) ∙ table-past (anodeEntry s) limit (drop limit a₀);
-  }
+  filled-kept b₀ a₀ b a f = record { blocks-kept = blocks-past img s b b₀ (f .blocks-shown); anodes-kept = heads-past s a a₀ (f .anodes-shown) }
 
   module _ (b₀ a₀ b a : List ℕ) (t : Test) (e : SpaceTested t img s) (left : TablesAfter t img s b₀ a₀ b a) where
     pub all-failed : (r : Refusal) → t ≡ Failed r → (numberOf r ≡ damageIn img s) × Kept img b₀ a₀ b a
@@ -102,11 +96,6 @@ module _ (img : List ℕ) (s : Anodes) where
             → (0 ≡ damageIn img s) × ((files ≡ fileCount img s) × (dirs ≡ dirCount img s)) × Filled img s b₀ a₀ b a × (queueOf queue parents dirs ≡ reachedDirs img s)
         all-counted queue parents k q files dirs counted =
             (sym (rw counted at damaged), rw (counted, same) at k, (rw is at left) .0, rw (counted, same) at q)
-
--- the free blocks, as they are summed over the loaded anodes
-pub free-of : (c b n : List ℕ) (s : Anodes) → anodesFrom c b n ≡ s → sumFrom c n 3444 1 ≡ blockCount s 1
-unfolding sumFrom anodesFrom blockCount
-free-of c b n s e = rw (sym e)
 
 -- ---- 5
 
@@ -131,18 +120,10 @@ module _ (range : ℕ) (shown old : List ℕ) where
   unfolding tableLeft
   left-shown = refl
 
--- zeroed, filled without a change behind the range, and zeroed again
-again : (n : ℕ) (t₀ t₁ t₂ t₃ : List ℕ) → t₁ ≡ replicate n 0 ++ drop n t₀ → drop n t₂ ≡ drop n t₁ → t₃ ≡ replicate n 0 ++ drop n t₂ → t₃ ≡ replicate n 0 ++ drop n t₀
-again n t₀ t₁ t₂ t₃ z k e =
-    e ∙ ap (λ (l : List ℕ). replicate n 0 ++ l) (k ∙ ap (λ (l : List ℕ). drop n l) z ∙ drop-at (replicate n 0) (drop n t₀) n (length-replicate {A = ℕ} n 0))
-
--- zeroed and filled
-once : (n : ℕ) (t₀ t₁ shown t₂ : List ℕ) → t₁ ≡ replicate n 0 ++ drop n t₀ → t₂ ≡ shown ++ drop n t₁ → t₂ ≡ shown ++ drop n t₀
-once n t₀ t₁ shown t₂ z e =
-    e ∙ ap (λ (l : List ℕ). shown ++ l) (ap (λ (l : List ℕ). drop n l) z ∙ drop-at (replicate n 0) (drop n t₀) n (length-replicate {A = ℕ} n 0))
-
-pub zeros : (n k : ℕ) (t₀ t : List ℕ) → n ≡ k → t ≡ replicate n 0 ++ drop n t₀ → (x : ℕ) → x < k → getD t x 0 ≡ 0
-zeros n k t₀ t e z x l = rw z (zeroed n (drop n t₀) x (omega arith))
+-- zeroed, changed in its range alone, and shown
+once : (n : ℕ) (t₀ t₁ t₂ shown t₃ : List ℕ) → t₁ ≡ replicate n 0 ++ drop n t₀ → drop n t₂ ≡ drop n t₁ → t₃ ≡ shown ++ drop n t₂ → t₃ ≡ shown ++ drop n t₀
+once n t₀ t₁ t₂ shown t₃ z k e =
+    e ∙ ap (λ (l : List ℕ). shown ++ l) (k ∙ zeroed-past n t₀ t₁ z)
 
 -- ---- the outcome
 
@@ -181,8 +162,8 @@ module _ (img b₀ a₀ : List ℕ) where
         let f : Filled img (anodesOf img) b₁ a₁ b₂ a₂ = rw is at left in
         let z : 0 ≡ (5 if wrongSlots img else damageIn img (anodesOf img)) = rw is at e in
         rw is (outcome 0 b₂ a₂ (h .answered ∙ sym z)
-        (once (diskSize img) b₀ b₁ (blockTable img (anodesOf img)) b₂ (rw size at zb) (f .blocks-shown) ∙ sym (left-shown (diskSize img) (blockTable img (anodesOf img)) b₀))
-        (once limit a₀ a₁ (anodeTable (anodesOf img)) a₂ za (f .anodes-shown) ∙ sym (left-shown limit (anodeTable (anodesOf img)) a₀)))
+        (once (diskSize img) b₀ b₁ b₁ (blockTable img (anodesOf img)) b₂ (rw size at zb) refl (f .blocks-shown) ∙ sym (left-shown (diskSize img) (blockTable img (anodesOf img)) b₀))
+        (once limit a₀ a₁ a₁ (anodeTable (anodesOf img)) a₂ za refl (f .anodes-shown) ∙ sym (left-shown limit (anodeTable (anodesOf img)) a₀)))
 
     pub outcome-refused : (r : Refusal) → x ≡ Refused r → (b₃ a₃ : List ℕ) → b₃ ≡ replicate n 0 ++ drop n b₂ → a₃ ≡ replicate 3444 0 ++ drop 3444 a₂
         → outcomeOf (checkedNumber x) img b₃ a₃ [] [] ≡ checkOutcome img b₀ a₀
@@ -193,5 +174,5 @@ module _ (img b₀ a₀ : List ℕ) where
         let some = number-some r in
         let within : (5 ≤ numberOf r) × (numberOf r ≤ 16) = elim (late-range img) [ inl z ↦ absurd (omega arith) | inr l ↦ (omega (arith, l .0), omega (arith, l .1)) ] in
         rw is (outcome (numberOf r) b₃ a₃ (h .answered ∙ sym m)
-        (again (diskSize img) b₀ b₁ b₂ b₃ (rw size at zb) (k .blocks-kept) (rw size at wb) ∙ sym (left-zeroed (diskSize img) (blockTable img (anodesOf img)) b₀ (numberOf r) (within .0) (within .1)))
-        (again limit a₀ a₁ a₂ a₃ za (k .anodes-kept) wa ∙ sym (left-zeroed limit (anodeTable (anodesOf img)) a₀ (numberOf r) (within .0) (within .1))))
+        (once (diskSize img) b₀ b₁ b₂ (replicate (diskSize img) 0) b₃ (rw size at zb) (k .blocks-kept) (rw size at wb) ∙ sym (left-zeroed (diskSize img) (blockTable img (anodesOf img)) b₀ (numberOf r) (within .0) (within .1)))
+        (once limit a₀ a₁ a₂ (replicate limit 0) a₃ za (k .anodes-kept) wa ∙ sym (left-zeroed limit (anodeTable (anodesOf img)) a₀ (numberOf r) (within .0) (within .1))))

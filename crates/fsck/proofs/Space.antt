@@ -11,10 +11,11 @@ use borrow.Author.Tests.{ne-eqb}
 use Rattle.disk.specs.declared.Root.{Root}
 use Rattle.disk.specs.Blocks.{blockOf}
 use Rattle.disk.specs.Root.{rootIn}
+use Rattle.disk.specs.AnodeBlocks.{listed}
 use Rattle.rules.specs.Counting.{anyBelow}
 use Rattle.rules.specs.Anodes.{Anodes, limit, exists, anodesOf}
 use Rattle.rules.specs.Accepted.{diskSize, wrongFixed, outOfRange, wrongLinks, wrongFreeList, lastReserved, twoOwners, noOwner, treeFault, damageIn}
-use Rattle.rules.specs.Tables.{chainHead, anodeEntry, anodeTable}
+use Rattle.rules.specs.Tables.{chainHead, blockEntry, anodeEntry, blockTable, anodeTable}
 use Rattle.laws.specs.Links.{View, Linked, next-below, linked}
 use Rattle.laws.specs.Passes.{Reading}
 use Rattle.laws.specs.TestsPassed.{fixed-anodes, next-used, tested-view, tested-checked}
@@ -25,8 +26,23 @@ use Rattle.chains.specs.Predecessors.{Closed}
 use Rattle.chains.proofs.Laws.{table-at, entry-some, head-table}
 use Rattle.owners.specs.Marks.{OwnersMarked}
 use Rattle.owners.proofs.Shown.{marked-no-owner, marked-table}
-use Rattle.tree.specs.Tree.{HeadTable}
+use Rattle.laws.specs.Chains.{HeadTable}
 use Rattle.fsck.specs.Answers.{Filled}
+
+-- ---- a table that shows its range keeps what stands behind it
+
+past-kept : (f : ℕ → ℕ) (n : ℕ) (t t₀ : List ℕ) → t ≡ listed f 0 n ++ drop n t₀ → drop n t ≡ drop n t₀
+past-kept f n t t₀ is = ap (λ (l : List ℕ). drop n l) is ∙ table-past f n (drop n t₀)
+
+pub blocks-past : (img : List ℕ) (s : Anodes) (t t₀ : List ℕ) → t ≡ blockTable img s ++ drop (diskSize img) t₀ → drop (diskSize img) t ≡ drop (diskSize img) t₀
+unfolding blockTable
+blocks-past img s t t₀ = past-kept (blockEntry img s) (diskSize img) t t₀
+
+pub heads-past : (s : Anodes) (t t₀ : List ℕ) → t ≡ anodeTable s ++ drop limit t₀ → drop limit t ≡ drop limit t₀
+unfolding anodeTable
+heads-past s t t₀ = past-kept (anodeEntry s) limit t t₀
+
+-- ---- 6 to 11
 
 module _ (img c b n : List ℕ) (e : anodesFrom c b n ≡ anodesOf img) where
   reading : Reading limit (exists img) 0 0 (anodesFrom c b n)
@@ -80,10 +96,6 @@ module _ (img c b n : List ℕ) (e : anodesFrom c b n ≡ anodesOf img) where
 
         -- the table of heads
         module _ (t t₀ : List ℕ) (is : t ≡ anodeTable (anodesFrom c b n) ++ drop 3444 t₀) where
-          pub heads-kept : drop limit t ≡ drop limit t₀
-          unfolding anodeTable
-          heads-kept = ap (λ (l : List ℕ). drop limit l) is ∙ table-past (anodeEntry (anodesFrom c b n)) limit (drop limit t₀)
-
           pub heads-some : (a : ℕ) → a ≢ 0 → getD b a 0 ≢ 0 → getD t a 0 ≢ 0
           unfolding anodesFrom
           heads-some = entry-some (anodesFrom c b n) view links t (drop 3444 t₀) is

@@ -13,7 +13,7 @@ use Rattle.rules.specs.Accepted.{diskSize, wrongSize, wrongSlots, treeFault, da
 use Rattle.rules.specs.Tables.{blockTable, anodeTable}
 use Rattle.rules.specs.Calls.{fileCount, dirCount}
 use Rattle.anodes.specs.Loaded.{anodesFrom}
-use Rattle.tree.specs.Tree.{HeadTable}
+use Rattle.laws.specs.Chains.{HeadTable}
 use Rattle.tree.specs.Steps.{queueOf}
 use Rattle.fsck.specs.declared.Checked.{Checked}
 use Rattle.fsck.specs.declared.Checked.the-variants.{Accepted, Refused}

@@ -1,12 +1,13 @@
--- A chain followed step by step, and blocks that an image has whole.
+-- A chain and a run of blocks followed step by step, a table of the heads of chains, and blocks that an image has whole.
 use Prim.Native.Nat.{ℕ, zero, suc, _+_, _*_, _<_, _≤_}
 use mathlib.Core.Path.{_≡_, refl}
 use mathlib.Core.Logic.{_≢_}
-use mathlib.Core.List.{List, [], _∷_}
+use mathlib.Core.List.{List, [], _∷_, _++_}
 use native.Mathlib.Numerals.{add-one}
-use lib.ListN.{length}
-use Rattle.rules.specs.Counting.{times}
-use Rattle.rules.specs.Chains.{chainOf}
+use lib.ListN.{length, getD}
+use Rattle.rules.specs.Counting.{times, gather}
+use Rattle.rules.specs.Anodes.{Anodes, limit}
+use Rattle.rules.specs.Chains.{chainOf, heads, run}
 
 module _ (next : ℕ → ℕ) where
   pub chain-none : (a : ℕ) → chainOf next 0 a ≡ []
@@ -22,6 +23,35 @@ module _ (next : ℕ → ℕ) where
   unfolding chainOf
   chain-step k m zero e h = absurd (h refl)
   chain-step k m (suc a) e h = rw (e, add-one m)
+
+-- what a chain of at most k anodes from a on gives
+module _ {ℓ} {X : Type ℓ} (f : ℕ → List X) (next : ℕ → ℕ) where
+  pub gathered-none : (k a : ℕ) → k ≡ 0 → gather f (chainOf next k a) ≡ []
+  unfolding gather
+  gathered-none k a e = rw (e, chain-none next a)
+
+  pub gathered-end : (k a : ℕ) → a ≡ 0 → gather f (chainOf next k a) ≡ []
+  unfolding gather
+  gathered-end k a e = rw (e, chain-zero next k)
+
+  pub gathered-step : (k m a : ℕ) → k ≡ m + 1 → a ≢ 0 → gather f (chainOf next k a) ≡ f a ++ gather f (chainOf next m (next a))
+  unfolding gather
+  gathered-step k m a e n = rw (chain-step next k m a e n)
+
+-- a run of blocks begins with its first
+pub run-none : (b n : ℕ) → n ≡ 0 → run b n ≡ []
+unfolding run
+run-none b n e = rw e
+
+pub run-step : (b n m : ℕ) → n ≡ m + 1 → run b n ≡ b ∷ run (b + 1) m
+unfolding run
+run-step b n m e = rw (e, add-one m, add-one b)
+
+-- a table in which exactly the heads of chains stand for themselves, from 6 up
+abbrev pub HeadTable : List ℕ → Anodes → Type 0
+HeadTable t s =
+    (a : ℕ) → 6 ≤ a → a < limit
+    → (getD t a 0 ≡ a → heads limit (s .next) (s .block) a ≡ 1) × (heads limit (s .next) (s .block) a ≡ 1 → getD t a 0 ≡ a)
 
 -- the image has each of these blocks whole
 abbrev pub Inside : List ℕ → List ℕ → Type 0

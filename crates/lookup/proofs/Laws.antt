@@ -23,7 +23,8 @@ use Rattle.rules.specs.Chains.{chainOf}
 use Rattle.rules.specs.Walk.{Entered, entriesFrom, entriesIn}
 use Rattle.rules.specs.Lookup.{nameAt, isNamed, firstNamed, entryNamed, entriesOf, nth}
 use Rattle.anodes.specs.Loaded.{anodesFrom}
-use Rattle.tree.proofs.Laws.{gathered-step, entries-fault, entries-step}
+use Rattle.laws.specs.Chains.{gathered-step}
+use Rattle.tree.proofs.Laws.{entries-fault, entries-step}
 use Rattle.lookup.specs.Answers.{placed, entered, orElse, onlyIf, Unbroken}
 
 -- ---- bytes from `i` on
@@ -127,11 +128,6 @@ pub along-whole : (img firsts nexts c : List ℕ) (h : ℕ) → entriesOf img (a
 unfolding entriesOf anodesFrom entriesAlong
 along-whole img firsts nexts c h = refl
 
-along-step : (img firsts nexts : List ℕ) (k m a : ℕ) → k ≡ m + 1 → (a ≡ 0 → ⊥)
-    → entriesAlong img firsts nexts k a ≡ entriesIn img (getD firsts a 0) ++ entriesAlong img firsts nexts m (getD nexts a 0)
-unfolding entriesAlong
-along-step img firsts nexts k m a fuel n = gathered-step (λ x. entriesIn img (getD firsts x 0)) (λ x. getD nexts x 0) k m a fuel n
-
 unbroken-append : (xs ys : List Entered) → Unbroken (xs ++ ys) → Unbroken xs × Unbroken ys
 unfolding anyIn
 unbroken-append [] ys u = (refl, u)
@@ -148,19 +144,23 @@ first-append img name (e ∷ xs) ys =
     (sym (or-assoc (onlyIf (isNamed img name e) e) (firstNamed img name xs) (firstNamed img name ys)))
 
 module _ (img firsts nexts : List ℕ) (k m a : ℕ) (fuel : k ≡ m + 1) (some-anode : a ≡ 0 → ⊥) where
+  -- the entries of anode a's block, and those behind it
+  along : entriesAlong img firsts nexts k a ≡ entriesIn img (getD firsts a 0) ++ entriesAlong img firsts nexts m (getD nexts a 0)
+  unfolding entriesAlong
+  along = gathered-step (λ x. entriesIn img (getD firsts x 0)) (λ x. getD nexts x 0) k m a fuel some-anode
+
   pub unbroken-along : Unbroken (entriesAlong img firsts nexts k a)
       → Unbroken (entriesIn img (getD firsts a 0)) × Unbroken (entriesAlong img firsts nexts m (getD nexts a 0))
-  unbroken-along u = unbroken-append (entriesIn img (getD firsts a 0)) (entriesAlong img firsts nexts m (getD nexts a 0)) (rw (along-step img firsts nexts k m a fuel some-anode) at u)
+  unbroken-along u = unbroken-append (entriesIn img (getD firsts a 0)) (entriesAlong img firsts nexts m (getD nexts a 0)) (rw along at u)
 
   -- the first in the block of anode a, else the first behind it
   pub named-along : (name : List ℕ) (o : Option Entered) → o ≡ firstNamed img name (entriesIn img (getD firsts a 0))
       → orElse o (firstNamed img name (entriesAlong img firsts nexts m (getD nexts a 0))) ≡ firstNamed img name (entriesAlong img firsts nexts k a)
-  named-along name o h =
-      rw (along-step img firsts nexts k m a fuel some-anode, first-append img name (entriesIn img (getD firsts a 0)) (entriesAlong img firsts nexts m (getD nexts a 0)), h)
+  named-along name o h = rw (along, first-append img name (entriesIn img (getD firsts a 0)) (entriesAlong img firsts nexts m (getD nexts a 0)), h)
 
   pub nth-along : (n : ℕ) (o : Option Entered) → o ≡ nth (entriesIn img (getD firsts a 0) ++ entriesAlong img firsts nexts m (getD nexts a 0)) n
       → o ≡ nth (entriesAlong img firsts nexts k a) n
-  nth-along n o h = rw (along-step img firsts nexts k m a fuel some-anode) h
+  nth-along n o h = rw along h
 
 pub named-whole : (img firsts nexts c : List ℕ) (h : ℕ) (name : List ℕ) → entryNamed img (anodesFrom c firsts nexts) h name ≡ firstNamed img name (entriesAlong img firsts nexts limit h)
 unfolding entryNamed

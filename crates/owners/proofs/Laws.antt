@@ -16,17 +16,20 @@ use Rattle.rules.specs.Counting.{anyBelow}
 use Rattle.rules.specs.Chains.{covers}
 use Rattle.counting.specs.Laws.{anyBelow-none, anyBelow-hit}
 use Rattle.laws.specs.Ownership.{covers-cases, covers-in}
-use Rattle.owners.specs.Marks.{KeptOutside, RunFilled, RunHit, RunFree, RunStored, RunTested, Marked, OwnedTwice}
+use Rattle.owners.specs.Marks.{KeptOutside, RunFilled, RunHit, RunHolds, RunTested, Marked, OwnedTwice}
 
 -- ---- a run
 
+pub holds-none : (t : List ℕ) (first mark : ℕ) → RunHolds t first first mark
+holds-none t first mark = record { each = λ x l m. absurd (omega arith) }
+
 -- a sum of marks is 0 if no block of the run is marked, and only then
 pub record Summed (sum : ℕ) (t : List ℕ) (first end : ℕ) : Type 0 where
-  pub none : sum ≡ 0 → RunFree t first end
+  pub none : sum ≡ 0 → RunHolds t first end 0
   pub some : sum ≢ 0 → RunHit t first end
 
 pub summed-none : (t : List ℕ) (first : ℕ) → Summed 0 t first first
-summed-none t first = record { none = λ e. record { each = λ x l m. absurd (omega arith) }; some = λ n. absurd (n refl) }
+summed-none t first = record { none = λ e. holds-none t first 0; some = λ n. absurd (n refl) }
 
 pub summed-more : (sum : ℕ) (t : List ℕ) (first i : ℕ) → first ≤ i → Summed sum t first i → Summed (sum + getD t i 0) t first (i + 1)
 summed-more sum t first i from s = record {
@@ -45,16 +48,10 @@ summed-tested sum t first end s = elim (same? sum 0) [
   | inr n ↦ rw (ne-eqb sum 0 n) (s .some n)
 ]
 
-pub stored-none : (t : List ℕ) (first mark : ℕ) → RunStored t first first mark
-stored-none t first mark = record { each = λ x l m. absurd (omega arith) }
-
-pub stored-more : (t : List ℕ) (first i mark : ℕ) → RunStored t first i mark → i < length t → RunStored (set t i mark) first (i + 1) mark
-stored-more t first i mark run room = record {
+pub holds-more : (t : List ℕ) (first i mark : ℕ) → RunHolds t first i mark → i < length t → RunHolds (set t i mark) first (i + 1) mark
+holds-more t first i mark run room = record {
   each = λ x l m. ⊎-elim (λ e. rw e (getD-set-same t i mark 0 room)) (λ n. getD-set-other t i x mark 0 n ∙ run .each x l (omega arith)) (same? x i);
 }
-
-pub run-filled : (old t : List ℕ) (first end mark : ℕ) → RunFree old first end → RunStored t first end mark → RunFilled old t first end mark
-run-filled old t first end mark free stored = record { free = free .each; filled = stored .each }
 
 pub kept-none : (t : List ℕ) (first end : ℕ) → KeptOutside t t first end
 kept-none t first end = record { outside = λ x out. refl }
@@ -124,10 +121,10 @@ module _ (n : ℕ) (N E : ℕ → ℕ) (t : List ℕ) (m : Marked n N E t) (firs
       each : (x : ℕ) → x < n → (N′ x ≤ 1) × (getD t′ x 0 ≡ E′ x) × (eqb (getD t′ x 0) 0 ≡ eqb (N′ x) 0)
       each x l = elim (covers-cases count first x) [
         | inl c ↦ (
-            let e = run .filled x (c .0) (c .1) in
-            let z = marked-free n N E t m x l (run .free x (c .0) (c .1)) in
+            let e = run .1 .each x (c .0) (c .1) in
+            let z = marked-free n N E t m x l (run .0 .each x (c .0) (c .1)) in
             let o : N′ x ≡ 1 = omega (arith, owners x l, c .2) in
-            let v : E′ x ≡ mark = within x l (c .2) ∙ rw (sym (m .entries x l) ∙ run .free x (c .0) (c .1)) (zero-add mark) in
+            let v : E′ x ≡ mark = within x l (c .2) ∙ rw (sym (m .entries x l) ∙ run .0 .each x (c .0) (c .1)) (zero-add mark) in
             (omega arith, e ∙ sym v, rw (e, o, ne-eqb mark 0 (some (omega arith))))
             )
         | inr c ↦ (

@@ -1,12 +1,12 @@
 -- The owners and entries that are marked so far, slot by slot and anode by anode. Assumes nothing.
 use mathlib.Core.Path.{_≡_, refl, sym, _∙_}
 use mathlib.Core.Logic.{_≢_, inl, inr}
-use mathlib.Core.Bool.{true, false, cond}
-use mathlib.Core.List.{List}
+use mathlib.Core.Bool.{true, false}
+use mathlib.Core.List.{List, []}
 use Prim.Native.Nat.{ℕ, _+_, _*_, _<_, _≤_}
 use native.Mathlib.Omega.{arith}
 use native.Mathlib.Nat.{zero-add, add-zero}
-use lib.Dec.{eqb, ltb}
+use lib.Dec.{ltb}
 use lib.ListN.{getD}
 use borrow.Author.Tests.{lt-ltb, le-ltb, eq-eqb, ne-eqb}
 use Rattle.disk.specs.Root.{slotOf}
@@ -20,7 +20,7 @@ use Rattle.laws.specs.Tests.{same?, less?}
 use Rattle.laws.specs.Sums.{oneAt-same, oneAt-other, sum-zero, sum-none}
 use Rattle.laws.specs.Ownership.{covers-cases, covers-in, covers-under, covers-over}
 use Rattle.anodes.specs.Loaded.{anodesFrom}
-use Rattle.owners.specs.Marks.{KeptOutside, RunFilled, RunHit, Marked, OwnedTwice, systemEntry, headMark, ownerEntry}
+use Rattle.owners.specs.Marks.{KeptOutside, RunFilled, RunHit, Marked, OwnedTwice, entryOr, headMark, ownerEntry}
 use Rattle.owners.proofs.Laws.{marked-free, marked-same, marked-none, marked-run, marked-hit, owned-more}
 
 -- ---- what was checked before
@@ -74,8 +74,8 @@ system-owners img x once = elim (less? x 3) [
   | inr l ↦ omega (arith, systemOwns-high img x l, covers-over 3 0 x l)
 ]
 
-system-entry : (img : List ℕ) (x : ℕ) → systemBelow img 42 x ≤ 1 → systemEntry img x ≡ systemEntryBelow img 42 x
-unfolding systemBelow systemEntryBelow systemEntry
+system-entry : (img : List ℕ) (x : ℕ) → systemBelow img 42 x ≤ 1 → entryOr img 0 x ≡ systemEntryBelow img 42 x
+unfolding systemBelow systemEntryBelow entryOr
 system-entry img x once = elim (less? x 3) [
   | inl l ↦ rw (lt-ltb x 3 l) (omega (arith, covers-in 3 0 x (omega arith) l))
   | inr l ↦ elim (same? (systemOwns img x) 0) [
@@ -133,9 +133,9 @@ module _ (img : List ℕ) (n : ℕ) where
         ])
 
   -- all slots
-  pub system-done : (t : List ℕ) → Marked n (systemBelow img 42) (systemEntryBelow img 42) t → Marked n (systemOwns img) (systemEntry img) t
+  pub system-done : (t : List ℕ) → Marked n (systemBelow img 42) (systemEntryBelow img 42) t → Marked n (systemOwns img) (entryOr img 0) t
   system-done t m =
-      marked-same n (systemBelow img 42) (systemEntryBelow img 42) (systemOwns img) (systemEntry img) t m
+      marked-same n (systemBelow img 42) (systemEntryBelow img 42) (systemOwns img) (entryOr img 0) t m
       (λ x l. system-owners img x (m .once x l))
       (λ x l. system-entry img x (m .once x l))
 
@@ -147,21 +147,21 @@ coverOf c f x a = covers (getD c a 0) (getD f a 0) x
 
 -- what anode a marks block x with
 abbrev markOf : List ℕ → List ℕ → List ℕ → ℕ → ℕ → ℕ
-markOf c f h x a = cond (eqb (coverOf c f x a) 1) (getD h a 0) 0
+markOf c f h = headMark (anodesFrom c f []) h
 
 -- the owners of block x that are marked once the anodes below k are
 unfoldable pub ownersBelow : List ℕ → List ℕ → List ℕ → ℕ → ℕ → ℕ
-ownersBelow img c f k x = systemOwns img x + sumBelow (coverOf c f x) k
+ownersBelow img c f k = owners k (λ a. getD c a 0) (λ a. getD f a 0) (systemOwns img)
 
 -- and its entry then
 unfoldable pub entryBelow : List ℕ → List ℕ → List ℕ → List ℕ → ℕ → ℕ → ℕ
-entryBelow img c f h k x = systemEntry img x + sumBelow (markOf c f h x) k
+entryBelow img c f h k x = entryOr img 0 x + sumBelow (markOf c f h x) k
 
 module _ (img c f h : List ℕ) (n : ℕ) where
-  pub anode-first : (t : List ℕ) → Marked n (systemOwns img) (systemEntry img) t → Marked n (ownersBelow img c f 0) (entryBelow img c f h 0) t
-  unfolding ownersBelow entryBelow
+  pub anode-first : (t : List ℕ) → Marked n (systemOwns img) (entryOr img 0) t → Marked n (ownersBelow img c f 0) (entryBelow img c f h 0) t
+  unfolding ownersBelow owners entryBelow
   anode-first t m =
-      marked-same n (systemOwns img) (systemEntry img) (ownersBelow img c f 0) (entryBelow img c f h 0) t m
+      marked-same n (systemOwns img) (entryOr img 0) (ownersBelow img c f 0) (entryBelow img c f h 0) t m
       (λ x l. omega (arith, sumBelow-none (coverOf c f x)))
       (λ x l. omega (arith, sumBelow-none (markOf c f h x)))
 
@@ -170,7 +170,7 @@ module _ (img c f h : List ℕ) (n : ℕ) where
     pub anode-more : (t′ : List ℕ) → RunFilled t t′ (getD f a 0) (getD f a 0 + getD c a 0) (getD h a 0)
         → KeptOutside t t′ (getD f a 0) (getD f a 0 + getD c a 0) → (0 < getD c a 0 → getD h a 0 ≢ 0)
         → Marked n (ownersBelow img c f (a + 1)) (entryBelow img c f h (a + 1)) t′
-    unfolding ownersBelow entryBelow
+    unfolding ownersBelow owners entryBelow headMark anodesFrom
     anode-more t′ run kept some =
         marked-run n (ownersBelow img c f a) (entryBelow img c f h a) t m (getD f a 0) (getD c a 0)
         (ownersBelow img c f (a + 1)) (entryBelow img c f h (a + 1)) t′ (getD h a 0) run kept some
@@ -181,19 +181,19 @@ module _ (img c f h : List ℕ) (n : ℕ) where
     -- its mark is not 0: a run from block 0 finds that marked
     pub head-some : (t′ : List ℕ) → RunFilled t t′ (getD f a 0) (getD f a 0 + getD c a 0) (getD h a 0) → 0 < n → getD c 0 0 ≡ 0
         → (a ≢ 0 → getD f a 0 ≢ 0 → getD h a 0 ≢ 0) → 0 < getD c a 0 → getD h a 0 ≢ 0
-    unfolding ownersBelow
+    unfolding ownersBelow owners
     head-some t′ run size none heads some =
         heads (λ e. omega (arith, none, rw e at some))
         (λ e. omega (
           arith,
-          marked-free n (ownersBelow img c f a) (entryBelow img c f h a) t m 0 size (run .free 0 (omega arith) (omega arith)),
+          marked-free n (ownersBelow img c f a) (entryBelow img c f h a) t m 0 size (run .0 .each 0 (omega arith) (omega arith)),
           systemOwns-low img 0 (omega arith),
         ))
 
     -- one of them is marked already
     pub anode-hit : a < 3444 → RunHit t (getD f a 0) (getD f a 0 + getD c a 0) → (0 < getD c a 0 → getD f a 0 + getD c a 0 ≤ n)
         → OwnedTwice n (ownersBelow img c f 3444)
-    unfolding ownersBelow
+    unfolding ownersBelow owners
     anode-hit l hit within =
         owned-more n (λ x. ownersBelow img c f a x + covers (getD c a 0) (getD f a 0) x) (ownersBelow img c f 3444)
         (marked-hit n (ownersBelow img c f a) (entryBelow img c f h a) t m (getD f a 0) (getD c a 0) hit within)
@@ -209,7 +209,7 @@ module _ (img c f h : List ℕ) (n : ℕ) where
 module _ (img c f : List ℕ) where
   -- two owners of the system's are two owners
   pub system-twice : (n : ℕ) → OwnedTwice n (systemOwns img) → OwnedTwice n (ownersBelow img c f 3444)
-  unfolding ownersBelow
+  unfolding ownersBelow owners
   system-twice n o = owned-more n (systemOwns img) (ownersBelow img c f 3444) o (λ x l two. omega arith)
 
   pub two-owners : (nexts : List ℕ) → OwnedTwice (diskSize img) (ownersBelow img c f 3444) → twoOwners img (anodesFrom c f nexts) ≡ true
@@ -225,7 +225,7 @@ module _ (img c f : List ℕ) where
 
   -- with one owner at most, the sums of entries are what the contract says
   owner-entry : (h nexts : List ℕ) (x : ℕ) → ownersBelow img c f 3444 x ≤ 1 → ownerEntry img (anodesFrom c f nexts) h x ≡ entryBelow img c f h 3444 x
-  unfolding ownerEntry headMark systemEntry ownersBelow entryBelow anodesFrom
+  unfolding ownerEntry headMark entryOr ownersBelow owners entryBelow anodesFrom
   owner-entry h nexts x once = elim (same? (systemOwns img x) 0) [
     | inl z ↦ elim (less? x 3) [
       | inl l ↦ absurd (omega (arith, systemOwns-low img x l))

@@ -15,7 +15,7 @@ use Rattle.counting.specs.Laws.{anyBelow-same}
 use Rattle.laws.specs.Sums.{sum-congr}
 use Rattle.laws.specs.Ownership.{covers-cases}
 use Rattle.laws.specs.OwnerTable.{listed-is}
-use Rattle.owners.specs.Marks.{Marked, headMark, ownerEntry, OwnersMarked}
+use Rattle.owners.specs.Marks.{Marked, entryOr, headMark, ownerEntry, OwnersMarked}
 
 -- 11: an entry of 0 is a block with no owner
 pub marked-no-owner : (img : List ℕ) (s : Anodes) (E : ℕ → ℕ) (t : List ℕ) → Marked (diskSize img) (ownersOf img s) E t
@@ -32,7 +32,7 @@ module _ (img : List ℕ) (s : Anodes) (heads : List ℕ) (are : (a : ℕ) → a
   ]
 
   entry-is : (x : ℕ) → ownerEntry img s heads x ≡ blockEntry img s x
-  unfolding ownerEntry blockEntry ownerHead
+  unfolding ownerEntry entryOr blockEntry ownerHead
   entry-is x = rw (sum-congr (headMark s heads x) (headWhere s x) 3444 (mark-is x))
 
   -- with the heads of all chains, the table is the block table and what stands behind it

@@ -15,10 +15,9 @@ use Rattle.rules.specs.Accepted.{diskSize, ownersOf}
 pub record KeptOutside (old t : List ℕ) (first end : ℕ) : Type 0 where
   pub outside : (x : ℕ) → (first ≤ x → x < end → ⊥) → getD t x 0 ≡ getD old x 0
 
--- the blocks from `first` up to `end` were free and are marked
-pub record RunFilled (old t : List ℕ) (first end mark : ℕ) : Type 0 where
-  pub free : (x : ℕ) → first ≤ x → x < end → getD old x 0 ≡ 0
-  pub filled : (x : ℕ) → first ≤ x → x < end → getD t x 0 ≡ mark
+-- the blocks from `first` up to `end` hold the mark; free blocks hold 0
+pub record RunHolds (t : List ℕ) (first end mark : ℕ) : Type 0 where
+  pub each : (x : ℕ) → first ≤ x → x < end → getD t x 0 ≡ mark
 
 -- one of them was marked already
 pub record RunHit (old : List ℕ) (first end : ℕ) : Type 0 where
@@ -27,18 +26,14 @@ pub record RunHit (old : List ℕ) (first end : ℕ) : Type 0 where
   pub below : block < end
   pub taken : getD old block 0 ≢ 0
 
--- none of them was
-pub record RunFree (old : List ℕ) (first end : ℕ) : Type 0 where
-  pub each : (x : ℕ) → first ≤ x → x < end → getD old x 0 ≡ 0
-
 -- what the answer says of a run that is only looked at: true for a hit
 abbrev pub RunTested : Bool → List ℕ → ℕ → ℕ → Type 0
 RunTested true old first end = RunHit old first end
-RunTested false old first end = RunFree old first end
+RunTested false old first end = RunHolds old first end 0
 
--- the blocks from `first` up to `end` hold the mark
-pub record RunStored (t : List ℕ) (first end mark : ℕ) : Type 0 where
-  pub each : (x : ℕ) → first ≤ x → x < end → getD t x 0 ≡ mark
+-- they were free and are marked
+abbrev pub RunFilled : List ℕ → List ℕ → ℕ → ℕ → ℕ → Type 0
+RunFilled old t first end mark = RunHolds old first end 0 × RunHolds t first end mark
 
 -- what a run's answer says: true for a hit
 abbrev pub RunMarked : Bool → List ℕ → List ℕ → ℕ → ℕ → ℕ → Type 0
@@ -62,9 +57,9 @@ abbrev pub Answered : Bool → ℕ → (ℕ → ℕ) → (ℕ → ℕ) → List 
 Answered true n owners entry t = OwnedTwice n owners
 Answered false n owners entry t = Marked n owners entry t
 
--- the entry of a block that the system owns: 65535 for blocks 0 to 2, 65534 for an anode block
-unfoldable pub systemEntry : List ℕ → ℕ → ℕ
-systemEntry img x = cond (ltb x 3) 65535 (cond (eqb (systemOwns img x) 0) 0 65534)
+-- a block's entry: 65535 for blocks 0 to 2, 65534 for an anode block, else e
+unfoldable pub entryOr : List ℕ → ℕ → ℕ → ℕ
+entryOr img e x = cond (ltb x 3) 65535 (cond (eqb (systemOwns img x) 0) e 65534)
 
 -- the head that an anode's blocks are marked with, at block x
 unfoldable pub headMark : Anodes → List ℕ → ℕ → ℕ → ℕ
@@ -72,7 +67,7 @@ headMark s heads x a = cond (eqb (covers (s .count a) (s .block a) x) 1) (getD h
 
 -- a block's entry: the system's, else the head of the anode that covers it
 unfoldable pub ownerEntry : List ℕ → Anodes → List ℕ → ℕ → ℕ
-ownerEntry img s heads x = cond (ltb x 3) 65535 (cond (eqb (systemOwns img x) 0) (sumBelow (headMark s heads x) limit) 65534)
+ownerEntry img s heads x = entryOr img (sumBelow (headMark s heads x) limit) x
 
 -- the owners of all blocks are marked
 abbrev pub OwnersMarked : List ℕ → Anodes → List ℕ → List ℕ → Type 0

@@ -11,7 +11,7 @@ ghost use Rattle.rules.specs.Anodes.{limit};
 ghost use Rattle.rules.specs.Chains.{systemOwns};
 ghost use Rattle.rules.specs.Accepted.{diskSize, wrongSize, wrongSlots, wrongFixed, outOfRange, twoOwners};
 ghost use Rattle.anodes.specs.Loaded.{anodesFrom};
-ghost use Rattle.owners.specs.Marks.{KeptOutside, RunTested, RunStored, RunMarked, Answered, systemEntry, OwnersMarked};
+ghost use Rattle.owners.specs.Marks.{KeptOutside, RunTested, RunHolds, RunMarked, Answered, entryOr, OwnersMarked};
 use disk::slot_of;
 
 // One of the `count` blocks from `first` upward is marked: their marks add up to more than 0.
@@ -32,7 +32,7 @@ fn any_marked(blocks: &[u16], first: u16, count: u16) -> bool
 // Stores `mark` in the `count` blocks from `first` upward.
 fn fill_run(blocks: &mut [u16], first: u16, count: u16, mark: u16)
     requires { ⌜ (0 < count → first + count ≤ length (now blocks)) ⌝ }
-    ensures run { λ _. ⌜ RunStored (now (blocks .exit)) first (first + count) mark ⌝ }
+    ensures run { λ _. ⌜ RunHolds (now (blocks .exit)) first (first + count) mark ⌝ }
     ensures kept { λ _. ⌜ KeptOutside (now (blocks .entry)) (now (blocks .exit)) first (first + count) ⌝ }
 {
     let mut i = first as usize;
@@ -56,11 +56,11 @@ fn mark_run(blocks: &mut [u16], first: u16, count: u16, mark: u16) -> bool
     false
 }
 
-// Marks the system's blocks in a table of zeros: 65535 for blocks 0 to 2, 65534 for the anode blocks.
+// Marks the system's blocks in a table of zeros: 65535 for blocks 0 to 2, 65534 for the anode blocks; true if one is marked already.
 fn mark_system(image: &[u8], blocks: &mut [u16]) -> bool
     requires { ⌜ (wrongSize (now image) ≡ false) × (wrongSlots (now image) ≡ false) × (diskSize (now image) ≤ length (now blocks)) ⌝ }
     requires { ⌜ ((x : ℕ) → x < diskSize (now image) → getD (now blocks) x 0 ≡ 0) ⌝ }
-    ensures answer { λ r. ⌜ Answered r (diskSize (now (image .entry))) (systemOwns (now (image .entry))) (systemEntry (now (image .entry))) (now (blocks .exit)) ⌝ }
+    ensures answer { λ r. ⌜ Answered r (diskSize (now (image .entry))) (systemOwns (now (image .entry))) (entryOr (now (image .entry)) 0) (now (blocks .exit)) ⌝ }
     ensures kept { λ _. ⌜ drop (diskSize (now (image .entry))) (now (blocks .exit)) ≡ drop (diskSize (now (image .entry))) (now (blocks .entry)) ⌝ }
 {
     if mark_run(blocks, 0, 3, 65535) {

@@ -16,45 +16,27 @@ use Rattle.directory.specs.declared.Kind.the-variants.{File, Directory}
 use Rattle.directory.specs.declared.Entry.{Entry}
 use Rattle.directory.specs.declared.Walked.the-variants.{Found, Fault}
 use Rattle.directory.specs.Entries.{walkedAt}
-use Rattle.rules.specs.Counting.{sumList, gather}
+use Rattle.rules.specs.Counting.{sumList}
 use Rattle.rules.specs.Anodes.{Anodes, limit}
-use Rattle.rules.specs.Chains.{chainOf}
 use Rattle.rules.specs.Walk.{Dir, Entered, Item, entriesFrom, entriesIn, isBlockOf, blocksFor}
 use Rattle.laws.specs.Entries.{enteredAt, entries-more}
-use Rattle.laws.specs.Chains.{chain-none, chain-zero, chain-step}
-use Rattle.laws.specs.Bags.{list-nil, list-cons}
+use Rattle.laws.specs.Chains.{chain-none, chain-zero, chain-step, gathered-step}
 use Rattle.tree.specs.Steps.{dirMade, sumFrom, headAt, itemIn, Progress, stopped, going, refuse, enterItem, onward, enterAll, itemsFor, itemsAlong, halted, ended, afterDir, runFrom, dirsFrom, queueOf, marked}
-
--- ---- what a chain of at most k anodes gives, from anode a on
-
-module _ {X : Type 0} (f : ℕ → List X) (next : ℕ → ℕ) where
-  pub gathered-none : (k a : ℕ) → k ≡ 0 → gather f (chainOf next k a) ≡ []
-  unfolding gather
-  gathered-none k a e = rw (e, chain-none next a)
-
-  pub gathered-end : (k a : ℕ) → a ≡ 0 → gather f (chainOf next k a) ≡ []
-  unfolding gather
-  gathered-end k a e = rw (e, chain-zero next k)
-
-  pub gathered-step : (k m a : ℕ) → k ≡ m + 1 → (a ≡ 0 → ⊥) → gather f (chainOf next k a) ≡ f a ++ gather f (chainOf next m (next a))
-  unfolding gather
-  gathered-step k m a e n = rw (chain-step next k m a e n)
 
 -- ---- the sum along a chain
 
-pub sum-none : (counts nexts : List ℕ) (a : ℕ) → sumFrom counts nexts 0 a ≡ 0
-unfolding sumFrom
-sum-none counts nexts a = rw (chain-none (λ x. getD nexts x 0) a, list-nil (λ x. getD counts x 0))
+module _ (counts nexts : List ℕ) where
+  pub sum-none : (k a : ℕ) → k ≡ 0 → sumFrom counts nexts k a ≡ 0
+  unfolding sumFrom sumList
+  sum-none k a e = rw (e, chain-none (λ x. getD nexts x 0) a)
 
-pub sum-end : (counts nexts : List ℕ) (k a : ℕ) → a ≡ 0 → sumFrom counts nexts k a ≡ 0
-unfolding sumFrom
-sum-end counts nexts k a e = rw (e, chain-zero (λ x. getD nexts x 0) k, list-nil (λ x. getD counts x 0))
+  pub sum-end : (k a : ℕ) → a ≡ 0 → sumFrom counts nexts k a ≡ 0
+  unfolding sumFrom sumList
+  sum-end k a e = rw (e, chain-zero (λ x. getD nexts x 0) k)
 
-pub sum-step : (counts nexts : List ℕ) (k m a : ℕ) → k ≡ m + 1 → (a ≡ 0 → ⊥)
-    → sumFrom counts nexts k a ≡ getD counts a 0 + sumFrom counts nexts m (getD nexts a 0)
-unfolding sumFrom
-sum-step counts nexts k m a e n =
-    rw (chain-step (λ x. getD nexts x 0) k m a e n, list-cons (λ x. getD counts x 0) a (chainOf (λ x. getD nexts x 0) m (getD nexts a 0)))
+  pub sum-step : (k m a : ℕ) → k ≡ m + 1 → (a ≡ 0 → ⊥) → sumFrom counts nexts k a ≡ getD counts a 0 + sumFrom counts nexts m (getD nexts a 0)
+  unfolding sumFrom sumList
+  sum-step k m a e n = rw (chain-step (λ x. getD nexts x 0) k m a e n)
 
 -- ---- marks
 
@@ -229,19 +211,18 @@ module _ (item : Entered → Item) (img : List ℕ) (s : Anodes) (d : Dir) (a he
   unfolding itemsFor
   anode-block n h = rw (eq-eqb (s .count a) 1 n, h)
 
-along-items : (item : Entered → Item) (img : List ℕ) (s : Anodes) (d : Dir) (a k m : ℕ) → k ≡ m + 1 → (a ≡ 0 → ⊥)
-    → itemsAlong item img s d k a ≡ itemsFor item img s d a ++ itemsAlong item img s d m (s .next a)
-unfolding itemsAlong
-along-items item img s d a k m e n = gathered-step (itemsFor item img s d) (s .next) k m a e n
-
 module _ (item : Entered → Item) (img : List ℕ) (s : Anodes) (d : Dir) (a head : ℕ) (queue : List Dir) (marks : List ℕ) (files k m : ℕ) (fuel : k ≡ m + 1) (some : a ≡ 0 → ⊥) where
+  -- the items of anode a, and those behind it
+  along-items : enterAll head (itemsAlong item img s d k a) queue marks files ≡ onward (enterAll head (itemsFor item img s d a) queue marks files) (enterAll head (itemsAlong item img s d m (s .next a)))
+  along-items = rw (gathered-step (itemsFor item img s d) (s .next) k m a fuel some) (enter-append head (itemsFor item img s d a) (itemsAlong item img s d m (s .next a)) queue marks files)
+
   pub along-stop : (n : ℕ) → enterAll head (itemsFor item img s d a) queue marks files ≡ stopped n
       → enterAll head (itemsAlong item img s d k a) queue marks files ≡ stopped n
-  along-stop n h = rw (along-items item img s d a k m fuel some, enter-append head (itemsFor item img s d a) (itemsAlong item img s d m (s .next a)) queue marks files, h)
+  along-stop n h = along-items ∙ rw h
 
   pub along-step : (q : List Dir) (l : List ℕ) (f : ℕ) → enterAll head (itemsFor item img s d a) queue marks files ≡ going q l f
       → enterAll head (itemsAlong item img s d k a) queue marks files ≡ enterAll head (itemsAlong item img s d m (s .next a)) q l f
-  along-step q l f h = rw (along-items item img s d a k m fuel some, enter-append head (itemsFor item img s d a) (itemsAlong item img s d m (s .next a)) queue marks files, h)
+  along-step q l f h = along-items ∙ rw h
 
 -- ---- the queue without the directories taken from it, and those
 

@@ -74,7 +74,7 @@ itemsFor item img s d a =
     cond (eqb (s .count a) 1 && isBlockOf img d (s .block a)) (map item (entriesIn img (s .block a))) (broken ∷ [])
 
 -- what the chain of at most k anodes from a on gives
-unfoldable pub itemsAlong : (Entered → Item) → List ℕ → Anodes → Dir → ℕ → ℕ → List Item
+abbrev pub itemsAlong : (Entered → Item) → List ℕ → Anodes → Dir → ℕ → ℕ → List Item
 itemsAlong item img s d k a = gather (itemsFor item img s d) (chainOf (s .next) k a)
 
 -- what directory d gives

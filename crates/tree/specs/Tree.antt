@@ -1,11 +1,9 @@
--- The answer of the walk: the number and values of each case, the directories that it leaves in two tables, and the table of heads that it is lent.
-use Prim.Native.Nat.{ℕ, _≤_, _<_}
+-- The answer of the walk: the number and values of each case, and the directories that it leaves in two tables.
+use Prim.Native.Nat.{ℕ}
 use mathlib.Core.Path.{_≡_}
 use mathlib.Core.List.{List}
-use lib.ListN.{getD}
 use Rattle.disk.specs.Refusals.{numberOf}
-use Rattle.rules.specs.Anodes.{Anodes, limit}
-use Rattle.rules.specs.Chains.{heads}
+use Rattle.rules.specs.Anodes.{Anodes}
 use Rattle.rules.specs.Walk.{reachedDirs}
 use Rattle.rules.specs.Calls.{fileCount, dirCount}
 use Rattle.tree.specs.declared.TreeRead.{TreeRead}
@@ -26,9 +24,3 @@ Counts (Fault r) img s = Unit {0}
 abbrev pub Queued : TreeRead → List ℕ → Anodes → List ℕ → List ℕ → Type 0
 Queued (Counted files dirs) img s queue parents = queueOf queue parents dirs ≡ reachedDirs img s
 Queued (Fault r) img s queue parents = Unit {0}
-
--- a table in which exactly the heads of chains stand for themselves
-abbrev pub HeadTable : List ℕ → Anodes → Type 0
-HeadTable t s =
-    (a : ℕ) → 6 ≤ a → a < limit
-    → (getD t a 0 ≡ a → heads limit (s .next) (s .block) a ≡ 1) × (heads limit (s .next) (s .block) a ≡ 1 → getD t a 0 ≡ a)

@@ -1,13 +1,11 @@
 use Prim.Native.Nat.{ℕ}
 use mathlib.Core.Path.{ap, _∙_}
 use mathlib.Core.List.{List, _++_}
-use lib.ListN.{drop, replicate, length-replicate}
-use lib.Seq.{drop-at}
 use Rattle.rules.specs.Tables.{anodeTable}
+use Rattle.tables.proofs.Laws.{zeroed-below, zeroed-past}
 use Rattle.anodes.specs.Loaded.{anodesFrom}
 use Rattle.chains.proofs.Predecessors.{table-of}
 use Rattle.chains.proofs.Links.{next-in, noted-once}
-use Rattle.chains.proofs.Laws.{zeroed}
 use borrow.Author.Needs.{needs}
 use Rattle.chains.proofs.show_heads.Statement.{statement}
 use Rattle.chains.proofs.show_heads.Tie as tie
@@ -32,7 +30,7 @@ fill-heads-requires c κs =
     let g = c .before .before .before .before .before .before .before .before .before .before .before .before .args in
     let p = c .before .before .before .before .before .before .before .before .before .before .before .before .pre in
     let n = c .before .before .before .before .before .before .before .note-preds in
-    (search needs, λ a l. rw (c .before .before .before .before .zero-first .ensures) (zeroed 3444 (drop 3444 (g .heads .now)) a l), p .2, p .3, table-of _ _ (p .1) (noted-once (g .firsts .now) (g .nexts .now) (p .2) (p .3) (n .result) _ (n .ensures)))
+    (search needs, zeroed-below 3444 (g .heads .now) _ (c .before .before .before .before .zero-first .ensures), p .2, p .3, table-of _ _ (p .1) (noted-once (g .firsts .now) (g .nexts .now) (p .2) (p .3) (n .result) _ (n .ensures)))
 
 same-length : tie.Need-same-length
 same-length c = search needs
@@ -40,7 +38,7 @@ same-length c = search needs
 returns : tie.Need-returns
 returns c =
     let g = c .before .before .before .before .before .before .before .before .before .before .before .before .before .before .before .args in
-    λ k. c .before .before .fill-heads .ensures k ∙ ap (λ (l : List ℕ). anodeTable (anodesFrom k (g .firsts .now) (g .nexts .now)) ++ l) (ap (λ (l : List ℕ). drop 3444 l) (c .before .before .before .before .before .before .before .zero-first .ensures) ∙ drop-at (replicate 3444 0) (drop 3444 (g .heads .now)) 3444 (length-replicate {A = ℕ} 3444 0))
+    λ k. c .before .before .fill-heads .ensures k ∙ ap (λ (l : List ℕ). anodeTable (anodesFrom k (g .firsts .now) (g .nexts .now)) ++ l) (zeroed-past 3444 (g .heads .now) _ (c .before .before .before .before .before .before .before .zero-first .ensures))
 
 pub show-heads-spec : {M : Type 1} → statement M
 show-heads-spec =

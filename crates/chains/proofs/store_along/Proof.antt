@@ -4,7 +4,7 @@ use native.Mathlib.Omega.{arith}
 use lib.ListN.{length}
 use borrow.Author.Needs.{needs}
 use Rattle.chains.specs.Storing.{storedAlong}
-use Rattle.chains.proofs.Storing.{stored-none, stored-zero, stored-step}
+use Rattle.chains.proofs.Storing.{stored-none, stored-end, stored-step}
 use Rattle.chains.proofs.store_along.Statement.{statement}
 use Rattle.chains.proofs.store_along.Tie as tie
 
@@ -21,7 +21,7 @@ same-length : tie.Need-same-length Inv-loop μ-loop
 same-length c = search needs
 
 returns : tie.Need-returns Inv-loop μ-loop
-returns c = let l = c .before .before .loop in sym (stored-zero _ _ (l .fuel) _) ∙ rw (c .if1 .taken) at (l .inv .1)
+returns c = let l = c .before .before .loop in sym (stored-end _ _ (l .fuel) _ (l .at) (c .if1 .taken)) ∙ l .inv .1
 
 set-entry-requires : tie.Need-set-entry-requires Inv-loop μ-loop
 set-entry-requires c κs = search needs
@@ -47,7 +47,7 @@ same-length-2 : tie.Need-same-length-2 Inv-loop μ-loop
 same-length-2 c = search needs
 
 returns-2 : tie.Need-returns-2 Inv-loop μ-loop
-returns-2 c = let e : c .before .loop .fuel ≡ 0 = omega arith in sym (stored-none _ _ _ (c .before .loop .at)) ∙ rw e at (c .before .loop .inv .1)
+returns-2 c = let l = c .before .loop in sym (stored-none _ _ (l .fuel) _ (l .at) (omega arith)) ∙ l .inv .1
 
 pub store-along-spec : {M : Type 1} → statement M
 store-along-spec =

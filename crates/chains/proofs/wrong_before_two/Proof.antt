@@ -5,7 +5,7 @@ use borrow.Author.Needs.{needs}
 use Rattle.rules.specs.Accepted.{notAbove}
 use Rattle.anodes.specs.Loaded.{anodesFrom}
 use Rattle.chains.specs.FreeList.{wrongBefore}
-use Rattle.chains.proofs.FreeList.{before-none, before-zero, before-two, before-hit, before-step}
+use Rattle.chains.proofs.FreeList.{before-none, before-end, before-two, before-hit, before-step}
 use Rattle.chains.proofs.wrong_before_two.Statement.{statement}
 use Rattle.chains.proofs.wrong_before_two.Tie as tie
 
@@ -19,10 +19,10 @@ loop-holds : tie.Need-loop-holds Inv-loop μ-loop
 loop-holds c = search needs
 
 returns : tie.Need-returns Inv-loop μ-loop
-returns c = let l = c .before .before .loop in sym (before-two _ _ (l .fuel) (l .fuel - 1) (omega arith)) ∙ rw (c .if1 .taken) at (l .inv)
+returns c = let l = c .before .before .loop in sym (before-two _ _ (l .fuel) (l .fuel - 1) _ (omega arith) (c .if1 .taken)) ∙ l .inv
 
 returns-2 : tie.Need-returns-2 Inv-loop μ-loop
-returns-2 c = let l = c .before .before .before .loop in sym (before-zero _ _ (l .fuel)) ∙ rw (c .if2 .taken) at (l .inv)
+returns-2 c = let l = c .before .before .before .loop in sym (before-end _ _ (l .fuel) _ (c .if2 .taken)) ∙ l .inv
 
 entry-requires : tie.Need-entry-requires Inv-loop μ-loop
 entry-requires c κs = search needs
@@ -63,7 +63,7 @@ loop-again c =
     ∙ l .inv)
 
 returns-4 : tie.Need-returns-4 Inv-loop μ-loop
-returns-4 c = let e : c .before .loop .fuel ≡ 0 = omega arith in sym (before-none _ _ (c .before .loop .at)) ∙ rw e at (c .before .loop .inv)
+returns-4 c = let l = c .before .loop in sym (before-none _ _ (l .fuel) _ (omega arith)) ∙ l .inv
 
 pub wrong-before-two-spec : {M : Type 1} → statement M
 wrong-before-two-spec =

@@ -1,12 +1,13 @@
 use Prim.Native.Nat.{_-_}
 use mathlib.Core.Path.{_≡_, sym, _∙_}
+use mathlib.Core.Bool.{true, false}
 use native.Mathlib.Omega.{arith}
 use borrow.Author.Needs.{needs}
 use Rattle.rules.specs.Counting.{anyIn}
 use Rattle.rules.specs.Chains.{chainOf}
 use Rattle.rules.specs.Accepted.{notUpTo}
 use Rattle.anodes.specs.Loaded.{anodesFrom}
-use Rattle.chains.proofs.FreeList.{along-none, along-zero, along-hit, along-step}
+use Rattle.chains.proofs.FreeList.{any-none, any-end, any-step}
 use Rattle.chains.proofs.wrong_from_two.Statement.{statement}
 use Rattle.chains.proofs.wrong_from_two.Tie as tie
 
@@ -22,7 +23,7 @@ loop-holds : tie.Need-loop-holds Inv-loop μ-loop
 loop-holds c = search needs
 
 returns : tie.Need-returns Inv-loop μ-loop
-returns c = let l = c .before .before .loop in sym (along-zero _ _ (l .fuel)) ∙ rw (c .if1 .taken) at (l .inv)
+returns c = let l = c .before .before .loop in sym (any-end _ _ (l .fuel) _ (c .if1 .taken)) ∙ l .inv
 
 entry-requires : tie.Need-entry-requires Inv-loop μ-loop
 entry-requires c κs = search needs
@@ -40,7 +41,7 @@ returns-2 : tie.Need-returns-2 Inv-loop μ-loop
 unfolding notUpTo anodesFrom
 returns-2 c =
     let l = c .before .before .before .before .before .before .loop in
-    sym (along-hit _ _ (l .fuel) (l .fuel - 1) (l .at) (omega arith) (c .before .before .before .before .if1 .left)
+    sym (any-step _ _ (l .fuel) (l .fuel - 1) (l .at) (omega arith) (c .before .before .before .before .if1 .left) true
     (rw (← c .before .before .before .entry .ensures, ← c .before .before .entry2 .ensures) (sym (c .before .ends-past .ensures) ∙ c .if2 .taken)))
     ∙ l .inv
 
@@ -61,12 +62,12 @@ unfolding notUpTo anodesFrom
 loop-again c =
     let l = c .before .before .before .before .before .before .before .loop in
     rw (c .entry3 .ensures)
-    (sym (along-step _ _ (l .fuel) (l .fuel - 1) (l .at) (omega arith) (c .before .before .before .before .before .if1 .left)
+    (sym (any-step _ _ (l .fuel) (l .fuel - 1) (l .at) (omega arith) (c .before .before .before .before .before .if1 .left) false
     (rw (← c .before .before .before .before .entry .ensures, ← c .before .before .before .entry2 .ensures) (sym (c .before .before .ends-past .ensures) ∙ c .before .if2 .left)))
     ∙ l .inv)
 
 returns-3 : tie.Need-returns-3 Inv-loop μ-loop
-returns-3 c = let e : c .before .loop .fuel ≡ 0 = omega arith in sym (along-none _ _ (c .before .loop .at)) ∙ rw e at (c .before .loop .inv)
+returns-3 c = let l = c .before .loop in sym (any-none _ _ (l .fuel) _ (omega arith)) ∙ l .inv
 
 pub wrong-from-two-spec : {M : Type 1} → statement M
 wrong-from-two-spec =

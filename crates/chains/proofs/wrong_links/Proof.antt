@@ -27,7 +27,7 @@ returns-2 : tie.Need-returns-2
 returns-2 c =
     let p = c .before .before .before .before .before .before .before .before .before .before .before .pre in
     let w = table-of _ _ (p .2) (rw (c .before .before .before .if1 .left) at (c .before .before .before .before .before .before .note-preds .ensures)) in
-    (λ k. sym (links-fixed k _ _ _ w (p .3 .zero-end) (p .2) (sym (c .if2 .taken) ∙ c .before .fixed-has-pred .ensures)), λ e. w)
+    (λ k. sym (links-fixed k _ _ _ w (p .3 .zero-end) (sym (c .if2 .taken) ∙ c .before .fixed-has-pred .ensures)), λ e. w)
 
 some-endless-requires : tie.Need-some-endless-requires
 some-endless-requires c κs =
@@ -41,7 +41,7 @@ returns-3 : tie.Need-returns-3
 returns-3 c =
     let p = c .before .before .before .before .before .before .before .before .before .before .before .before .before .pre in
     let w = table-of _ _ (p .2) (rw (c .before .before .before .before .before .if1 .left) at (c .before .before .before .before .before .before .before .before .note-preds .ensures)) in
-    (λ k. sym (links-ends k _ _ _ w (p .3 .zero-end) (p .2) (p .3) (sym (c .before .before .if2 .left) ∙ c .before .before .before .fixed-has-pred .ensures) _ (c .some-endless .ensures)), λ e. w)
+    (λ k. sym (links-ends k _ _ _ w (p .3 .zero-end) (p .3) (sym (c .before .before .if2 .left) ∙ c .before .before .before .fixed-has-pred .ensures) _ (c .some-endless .ensures)), λ e. w)
 
 pub wrong-links-spec : {M : Type 1} → statement M
 wrong-links-spec =

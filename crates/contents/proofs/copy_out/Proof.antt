@@ -1,22 +1,26 @@
+use mathlib.Core.List.{_++_}
 use mathlib.Core.Path.{_≡_, refl, sym, _∙_}
 use Prim.Native.Nat.{_-_}
 use native.Mathlib.Omega.{arith}
 use lib.ListN.{length, getD, take, drop}
 use Rattle.disk.specs.Blocks.{blockOf}
 use Rattle.rules.specs.Counting.{gather}
+use Rattle.rules.specs.Chains.{chainOf, run}
 use Rattle.rules.specs.Lookup.{bytesOf}
 use Rattle.anodes.specs.Loaded.{anodesFrom}
-use Rattle.anodes.specs.Along.{blocksAlong, along-whole, along-none, along-end}
+use Rattle.laws.specs.Chains.{gathered-none, gathered-end, gathered-step}
+use Rattle.laws.specs.ChainBlocks.{gather-append, extent, blocksOf-extents}
 use Rattle.contents.specs.Copied.{filled}
-use Rattle.contents.proofs.Copying.{part-length, filled-start, filled-full, filled-end, bytes-step}
+use Rattle.contents.proofs.Copying.{part-length, filled-start, filled-full, filled-end}
 use borrow.Author.Needs.{needs}
 use Rattle.contents.proofs.copy_out.Statement.{statement}
 use Rattle.contents.proofs.copy_out.Tie as tie
 
 abbrev Inv-loop : tie.InvT-loop
 Inv-loop image counts firsts nexts offset out₀ cursor₀ at₀ fuel₀ out cursor at fuel =
+    let s = anodesFrom counts firsts nexts in
     (length out ≡ length out₀)
-    × (filled out (cursor .done) (drop (cursor .skip) (gather (blockOf image) (blocksAlong counts firsts nexts fuel at))) ≡ take (length out₀) (drop offset (bytesOf image (anodesFrom counts firsts nexts) at₀)))
+    × (filled out (cursor .done) (drop (cursor .skip) (gather (blockOf image) (gather (extent s) (chainOf (s .next) fuel at)))) ≡ take (length out₀) (drop offset (bytesOf image s at₀)))
 
 abbrev μ-loop : tie.MeasureT-loop
 μ-loop image counts firsts nexts offset out₀ cursor₀ at₀ fuel₀ out cursor at fuel = fuel
@@ -26,7 +30,7 @@ cast-at c = search needs
 
 loop-holds : tie.Need-loop-holds Inv-loop μ-loop
 unfolding bytesOf
-loop-holds c = (refl, rw (along-whole _ _ _ _) (filled-start _ _))
+loop-holds c = (refl, rw (blocksOf-extents _ _) (filled-start _ _))
 
 same-length : tie.Need-same-length Inv-loop μ-loop
 same-length c = search needs
@@ -34,9 +38,7 @@ same-length c = search needs
 returns : tie.Need-returns Inv-loop μ-loop
 returns c =
     let l = c .before .before .loop in
-    let a = c .before .before .before .before .before .before .before .before .before .args in
-    let none = along-end (a .counts .now) (a .firsts .now) (a .nexts .now) (l .fuel) (l .fuel - 1) (l .at) (omega arith) (c .if1 .taken) in
-    filled-end _ _ _ _ (l .cursor .skip) _ none (l .inv .1) (part-length _ _ _ (c .before .before .before .before .before .before .before .before .before .pre) ∙ sym (l .inv .0))
+    filled-end _ _ _ _ (l .cursor .skip) _ (gathered-end _ _ (l .fuel) _ (c .if1 .taken)) (l .inv .1) (part-length _ _ _ (c .before .before .before .before .before .before .before .before .before .pre) ∙ sym (l .inv .0))
 
 same-length-2 : tie.Need-same-length-2 Inv-loop μ-loop
 same-length-2 c = search needs
@@ -66,12 +68,15 @@ loop-less : tie.Need-loop-less Inv-loop μ-loop
 loop-less c = search needs
 
 loop-again : tie.Need-loop-again Inv-loop μ-loop
+unfolding anodesFrom extent
 loop-again c =
     let l = c .before .before .before .before .before .before .before .before .before .before .before .loop in
     let a = c .before .before .before .before .before .before .before .before .before .before .before .before .before .before .before .before .before .before .args in
-    let rest = gather (blockOf (a .image .now)) (blocksAlong (a .counts .now) (a .firsts .now) (a .nexts .now) (l .fuel - 1) (getD (a .nexts .now) (l .at) 0)) in
-    let step = bytes-step (a .image .now) (a .counts .now) (a .firsts .now) (a .nexts .now) (l .fuel) (l .fuel - 1) (l .at) (omega arith) (c .before .before .before .before .before .before .before .before .before .if1 .left) in
-    (search needs, rw (c .entry3 .ensures) ((rw (c .before .before .before .before .before .before .entry .ensures, c .before .before .before .before .before .entry2 .ensures, ← step) at (c .before .before .before .copy-run .ensures rest)) ∙ l .inv .1))
+    let s = anodesFrom (a .counts .now) (a .firsts .now) (a .nexts .now) in
+    let own = run (getD (a .firsts .now) (l .at) 0) (getD (a .counts .now) (l .at) 0) in
+    let rest = gather (extent s) (chainOf (s .next) (l .fuel - 1) (getD (a .nexts .now) (l .at) 0)) in
+    let step : gather (extent s) (chainOf (s .next) (l .fuel) (l .at)) ≡ own ++ rest = gathered-step (extent s) (s .next) (l .fuel) (l .fuel - 1) (l .at) (omega arith) (c .before .before .before .before .before .before .before .before .before .if1 .left) in
+    (search needs, rw (c .entry3 .ensures) ((rw (c .before .before .before .before .before .before .entry .ensures, c .before .before .before .before .before .entry2 .ensures, ← gather-append (blockOf (a .image .now)) own rest, ← step) at (c .before .before .before .copy-run .ensures (gather (blockOf (a .image .now)) rest))) ∙ l .inv .1))
 
 same-length-3 : tie.Need-same-length-3 Inv-loop μ-loop
 same-length-3 c = search needs
@@ -79,9 +84,7 @@ same-length-3 c = search needs
 returns-3 : tie.Need-returns-3 Inv-loop μ-loop
 returns-3 c =
     let l = c .before .loop in
-    let a = c .before .before .before .before .before .before .before .before .args in
-    let none = along-none (a .counts .now) (a .firsts .now) (a .nexts .now) (l .fuel) (l .at) (omega arith) in
-    filled-end _ _ _ _ (l .cursor .skip) _ none (l .inv .1) (part-length _ _ _ (c .before .before .before .before .before .before .before .before .pre) ∙ sym (l .inv .0))
+    filled-end _ _ _ _ (l .cursor .skip) _ (gathered-none _ _ (l .fuel) _ (omega arith)) (l .inv .1) (part-length _ _ _ (c .before .before .before .before .before .before .before .before .pre) ∙ sym (l .inv .0))
 
 pub copy-out-spec : {M : Type 1} → statement M
 copy-out-spec =

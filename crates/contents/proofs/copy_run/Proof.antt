@@ -1,5 +1,5 @@
 use mathlib.Core.Path.{_≡_, refl, _∙_}
-use mathlib.Core.List.{List, _++_}
+use mathlib.Core.List.{List, _++_, append-assoc}
 use Prim.Native.Nat.{ℕ, _+_, _-_, _≤_}
 use native.Mathlib.Omega.{arith}
 use lib.ListN.{length, drop}
@@ -7,7 +7,8 @@ use Rattle.disk.specs.Blocks.{blockOf}
 use Rattle.rules.specs.Counting.{gather}
 use Rattle.rules.specs.Chains.{run}
 use Rattle.contents.specs.Copied.{filled}
-use Rattle.contents.proofs.Copying.{filled-any, run-bytes-none, run-bytes-step}
+use Rattle.laws.specs.Chains.{run-none, run-step}
+use Rattle.contents.proofs.Copying.{filled-any}
 use borrow.Author.Needs.{needs}
 use Rattle.contents.proofs.copy_run.Statement.{statement}
 use Rattle.contents.proofs.copy_run.Tie as tie
@@ -43,21 +44,23 @@ loop-less : tie.Need-loop-less Inv-loop μ-loop
 loop-less c = search needs
 
 loop-again : tie.Need-loop-again Inv-loop μ-loop
+unfolding gather
 loop-again c =
     let l = c .before .before .before .before .before .before .before .loop in
     let img = c .before .before .before .before .before .before .before .before .before .before .args .image .now in (
       search needs,
       search needs,
-      λ rest. (rw (← run-bytes-step img rest (l .b) (l .left) (l .left - 1) (omega arith)) at (c .before .before .copy-block .ensures (gather (blockOf img) (run (l .b + 1) (l .left - 1)) ++ rest))) ∙ l .inv .2 rest,
+      λ rest. let behind = gather (blockOf img) (run (l .b + 1) (l .left - 1)) in c .before .before .copy-block .ensures (behind ++ rest) ∙ (rw (run-step (l .b) (l .left) (l .left - 1) (omega arith), append-assoc (blockOf img (l .b)) behind rest) at (l .inv .2 rest)),
     )
 
 same-length-2 : tie.Need-same-length-2 Inv-loop μ-loop
 same-length-2 c = search needs
 
 returns-2 : tie.Need-returns-2 Inv-loop μ-loop
+unfolding gather
 returns-2 c =
     let l = c .before .loop in
-    λ rest. rw (run-bytes-none (c .before .before .before .before .args .image .now) (l .b) (l .left) (omega arith)) at (l .inv .2 rest)
+    λ rest. rw (run-none (l .b) (l .left) (omega arith)) at (l .inv .2 rest)
 
 pub copy-run-spec : {M : Type 1} → statement M
 copy-run-spec =

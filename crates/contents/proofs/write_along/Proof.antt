@@ -2,11 +2,13 @@ use mathlib.Core.Path.{_≡_, refl, sym, _∙_}
 use Prim.Native.Nat.{_+_, _-_}
 use native.Mathlib.Omega.{arith}
 use lib.ListN.{length, getD, drop}
+use Rattle.rules.specs.Counting.{gather}
+use Rattle.rules.specs.Chains.{chainOf}
 use Rattle.rules.specs.Walk.{Entered}
 use Rattle.rules.specs.Changes.{written}
 use Rattle.anodes.specs.Loaded.{anodesFrom}
-use Rattle.anodes.specs.Along.{blocksAlong, along-whole, along-none, along-end, along-step}
-use Rattle.laws.specs.Chains.{Inside}
+use Rattle.laws.specs.Chains.{gathered-none, gathered-end, gathered-step, Inside}
+use Rattle.laws.specs.ChainBlocks.{extent, blocksOf-extents}
 use Rattle.contents.specs.Written.{writtenOver}
 use Rattle.contents.proofs.Writing.{over-empty, over-done, over-written, along-inside}
 use borrow.Author.Needs.{needs}
@@ -15,9 +17,10 @@ use Rattle.contents.proofs.write_along.Tie as tie
 
 abbrev Inv-loop : tie.InvT-loop
 Inv-loop image₀ counts firsts nexts offset bytes cursor₀ at₀ fuel₀ image cursor at fuel =
+    let s = anodesFrom counts firsts nexts in
     (length image ≡ length image₀)
-    × Inside image₀ (blocksAlong counts firsts nexts fuel at)
-    × ((e : Entered) → e .anode ≡ at₀ → writtenOver image (blocksAlong counts firsts nexts fuel at) (cursor .skip) (drop (cursor .done) bytes) ≡ written image₀ (anodesFrom counts firsts nexts) e offset bytes)
+    × Inside image₀ (gather (extent s) (chainOf (s .next) fuel at))
+    × ((e : Entered) → e .anode ≡ at₀ → writtenOver image (gather (extent s) (chainOf (s .next) fuel at)) (cursor .skip) (drop (cursor .done) bytes) ≡ written image₀ s e offset bytes)
 
 abbrev μ-loop : tie.MeasureT-loop
 μ-loop image₀ counts firsts nexts offset bytes cursor₀ at₀ fuel₀ image cursor at fuel = fuel
@@ -28,7 +31,7 @@ cast-at c = search needs
 loop-holds : tie.Need-loop-holds Inv-loop μ-loop
 loop-holds c =
     let a = c .before .before .before .before .before .before .args in
-    let whole = along-whole (a .counts .now) (a .firsts .now) (a .nexts .now) (a .head .0) in (
+    let whole = blocksOf-extents (anodesFrom (a .counts .now) (a .firsts .now) (a .nexts .now)) (a .head .0) in (
       refl,
       λ y p. c .before .before .before .before .before .before .pre y (rw whole p) .0,
       λ e is. rw (← whole) (over-written _ _ _ e _ _ is (c .before .before .before .before .before .before .pre)),
@@ -40,8 +43,7 @@ same-length c = search needs
 returns : tie.Need-returns Inv-loop μ-loop
 returns c =
     let l = c .before .before .loop in
-    let a = c .before .before .before .before .before .before .before .before .before .args in
-    λ e is. sym (over-empty _ _ _ _ (along-end (a .counts .now) (a .firsts .now) (a .nexts .now) (l .fuel) (l .fuel - 1) (l .at) (omega arith) (c .if1 .taken))) ∙ l .inv .2 e is
+    λ e is. sym (over-empty _ _ _ _ (gathered-end _ _ (l .fuel) _ (c .if1 .taken))) ∙ l .inv .2 e is
 
 same-length-2 : tie.Need-same-length-2 Inv-loop μ-loop
 same-length-2 c = search needs
@@ -56,10 +58,11 @@ entry-requires-2 : tie.Need-entry-requires-2 Inv-loop μ-loop
 entry-requires-2 c κs = search needs
 
 write-run-requires : tie.Need-write-run-requires Inv-loop μ-loop
+unfolding anodesFrom extent
 write-run-requires c κs =
     let l = c .before .before .before .before .before .before .before .loop in
     let a = c .before .before .before .before .before .before .before .before .before .before .before .before .before .before .args in
-    let i = along-inside (a .image .now) (a .counts .now) (a .firsts .now) (a .nexts .now) (l .fuel) (l .fuel - 1) (l .at) (omega arith) (c .before .before .before .before .before .if1 .left) (l .inv .1) in
+    let i = along-inside (a .image .now) (anodesFrom (a .counts .now) (a .firsts .now) (a .nexts .now)) (l .fuel) (l .fuel - 1) (l .at) (omega arith) (c .before .before .before .before .before .if1 .left) (l .inv .1) in
     rw (c .before .entry .ensures, c .entry2 .ensures, l .inv .0) (i .0)
 
 entry-requires-3 : tie.Need-entry-requires-3 Inv-loop μ-loop
@@ -75,14 +78,17 @@ loop-less : tie.Need-loop-less Inv-loop μ-loop
 loop-less c = search needs
 
 loop-again : tie.Need-loop-again Inv-loop μ-loop
+unfolding anodesFrom extent
 loop-again c =
     let l = c .before .before .before .before .before .before .before .before .before .before .before .loop in
     let a = c .before .before .before .before .before .before .before .before .before .before .before .before .before .before .before .before .before .before .args in
+    let s = anodesFrom (a .counts .now) (a .firsts .now) (a .nexts .now) in
     let more : l .fuel ≡ l .fuel - 1 + 1 = omega arith in
-    let rest = blocksAlong (a .counts .now) (a .firsts .now) (a .nexts .now) (l .fuel - 1) (getD (a .nexts .now) (l .at) 0) in
-    let step = along-step (a .counts .now) (a .firsts .now) (a .nexts .now) (l .fuel) (l .fuel - 1) (l .at) more (c .before .before .before .before .before .before .before .before .before .if1 .left) in (
+    let some = c .before .before .before .before .before .before .before .before .before .if1 .left in
+    let rest = gather (extent s) (chainOf (s .next) (l .fuel - 1) (getD (a .nexts .now) (l .at) 0)) in
+    let step = gathered-step (extent s) (s .next) (l .fuel) (l .fuel - 1) (l .at) more some in (
       search needs,
-      rw (c .entry3 .ensures) (along-inside (a .image .now) (a .counts .now) (a .firsts .now) (a .nexts .now) (l .fuel) (l .fuel - 1) (l .at) more (c .before .before .before .before .before .before .before .before .before .if1 .left) (l .inv .1) .1),
+      rw (c .entry3 .ensures) (along-inside (a .image .now) s (l .fuel) (l .fuel - 1) (l .at) more some (l .inv .1) .1),
       λ e is. rw (c .entry3 .ensures) ((rw (c .before .before .before .before .before .entry .ensures, c .before .before .before .before .entry2 .ensures, ← step) at (c .before .before .before .write-run .ensures rest)) ∙ l .inv .2 e is),
     )
 
@@ -92,8 +98,7 @@ same-length-3 c = search needs
 returns-3 : tie.Need-returns-3 Inv-loop μ-loop
 returns-3 c =
     let l = c .before .loop in
-    let a = c .before .before .before .before .before .before .before .before .args in
-    λ e is. sym (over-empty _ _ _ _ (along-none (a .counts .now) (a .firsts .now) (a .nexts .now) (l .fuel) (l .at) (omega arith))) ∙ l .inv .2 e is
+    λ e is. sym (over-empty _ _ _ _ (gathered-none _ _ (l .fuel) _ (omega arith))) ∙ l .inv .2 e is
 
 pub write-along-spec : {M : Type 1} → statement M
 write-along-spec =

@@ -4,8 +4,7 @@ use Prim.Native.Nat.{ℕ, _+_, _-_, _≤_}
 use native.Mathlib.Omega.{arith}
 use lib.ListN.{length, drop}
 use Rattle.rules.specs.Chains.{run}
-use Rattle.anodes.specs.Along.{run-none, run-step}
-use Rattle.laws.specs.Chains.{Inside}
+use Rattle.laws.specs.Chains.{run-none, run-step, Inside}
 use Rattle.contents.specs.Written.{writtenOver}
 use Rattle.contents.proofs.Writing.{over-done, first-inside, rest-inside}
 use borrow.Author.Needs.{needs}

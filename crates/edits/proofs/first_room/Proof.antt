@@ -3,7 +3,8 @@ use mathlib.Core.Path.{_≡_, refl, _∙_}
 use Prim.Native.Nat.{_-_}
 use native.Mathlib.Omega.{arith}
 use Rattle.rules.specs.Changes.{firstRoom}
-use Rattle.edits.proofs.Along.{firstsAlong, room-none, room-end, room-step, room-whole}
+use Rattle.laws.specs.Chains.{gathered-none, gathered-end}
+use Rattle.edits.proofs.Along.{firstsAlong, room-none, room-step, room-whole}
 use borrow.Author.Needs.{needs}
 use Rattle.edits.proofs.first_room.Statement.{statement}
 use Rattle.edits.proofs.first_room.Tie as tie
@@ -21,9 +22,10 @@ loop-holds : tie.Need-loop-holds Inv-loop μ-loop
 loop-holds c = refl
 
 returns : tie.Need-returns Inv-loop μ-loop
+unfolding firstsAlong
 returns c =
     let l = c .before .before .loop in
-    λ counts one. room-end _ _ _ _ (l .fuel) _ (c .if1 .taken) ∙ l .inv ∙ room-whole _ _ _ _ counts _ one
+    λ counts one. room-none _ _ _ (gathered-end _ _ (l .fuel) _ (c .if1 .taken)) ∙ l .inv ∙ room-whole _ _ _ _ counts _ one
 
 entry-requires : tie.Need-entry-requires Inv-loop μ-loop
 entry-requires c κs = search needs
@@ -66,9 +68,10 @@ loop-again c =
     rw (c .entry2 .ensures) (rw (g .1) at (c .before .before .before .room-in .ensures rest) ∙ room-step _ _ _ _ _ (l .fuel - 1) _ _ (omega arith) (c .before .before .before .before .before .if1 .left) (c .before .before .before .before .entry .ensures) ∙ l .inv)
 
 returns-3 : tie.Need-returns-3 Inv-loop μ-loop
+unfolding firstsAlong
 returns-3 c =
     let l = c .before .loop in
-    λ counts one. room-none _ _ _ _ (l .fuel) _ (omega arith) ∙ l .inv ∙ room-whole _ _ _ _ counts _ one
+    λ counts one. room-none _ _ _ (gathered-none _ _ (l .fuel) _ (omega arith)) ∙ l .inv ∙ room-whole _ _ _ _ counts _ one
 
 pub first-room-spec : {M : Type 1} → statement M
 first-room-spec =

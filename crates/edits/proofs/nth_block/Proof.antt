@@ -1,6 +1,10 @@
 use mathlib.Core.Path.{_≡_, refl, sym, _∙_}
 use Prim.Native.Nat.{_-_}
-use Rattle.anodes.specs.Along.{blocksAlong, along-whole, along-none, along-end}
+use Rattle.rules.specs.Counting.{gather}
+use Rattle.rules.specs.Chains.{chainOf}
+use Rattle.laws.specs.Chains.{gathered-none, gathered-end}
+use Rattle.laws.specs.ChainBlocks.{extent, blocksOf-extents}
+use Rattle.anodes.specs.Loaded.{anodesFrom}
 use Rattle.edits.proofs.Along.{nth-none, nth-here, nth-later}
 use borrow.Author.Needs.{needs}
 use native.Mathlib.Omega.{arith}
@@ -9,7 +13,9 @@ use Rattle.edits.proofs.nth_block.Statement.{statement}
 use Rattle.edits.proofs.nth_block.Tie as tie
 
 abbrev Inv-loop : tie.InvT-loop
-Inv-loop counts firsts nexts i left₀ at₀ fuel₀ left at fuel = getD (blocksAlong counts firsts nexts fuel at) left 0 ≡ getD (blocksAlong counts firsts nexts fuel₀ at₀) left₀ 0
+Inv-loop counts firsts nexts i left₀ at₀ fuel₀ left at fuel =
+    let s = anodesFrom counts firsts nexts in
+    getD (gather (extent s) (chainOf (s .next) fuel at)) left 0 ≡ getD (gather (extent s) (chainOf (s .next) fuel₀ at₀)) left₀ 0
 
 abbrev μ-loop : tie.MeasureT-loop
 μ-loop counts firsts nexts i left₀ at₀ fuel₀ left at fuel = fuel
@@ -23,7 +29,7 @@ loop-holds c = refl
 returns : tie.Need-returns Inv-loop μ-loop
 returns c =
     let l = c .before .before .loop in
-    rw (along-whole _ _ _ _) (nth-none _ (l .left) (along-end _ _ _ (l .fuel) (l .fuel - 1) (l .at) (omega arith) (c .if1 .taken)) ∙ l .inv)
+    rw (blocksOf-extents _ _) (nth-none _ (l .left) (gathered-end _ _ (l .fuel) _ (c .if1 .taken)) ∙ l .inv)
 
 entry-requires : tie.Need-entry-requires Inv-loop μ-loop
 entry-requires c κs = search needs
@@ -41,9 +47,10 @@ add-result : tie.Need-add-result Inv-loop μ-loop
 add-result c = omega (arith, c .before .before .before .before .before .before .before .before .before .before .pre (c .before .before .before .before .before .loop .at) (omega (arith, c .before .before .entry .ensures)), c .entry2 .ensures, c .before .before .entry .ensures)
 
 returns-2 : tie.Need-returns-2 Inv-loop μ-loop
+unfolding anodesFrom
 returns-2 c =
     let l = c .before .before .before .before .before .loop in
-    rw (along-whole _ _ _ _) (rw (c .entry2 .ensures) (sym (nth-here _ _ _ (l .fuel) (l .fuel - 1) (l .at) (omega arith) (c .before .before .before .if1 .left) (l .left) (omega (arith, c .before .before .entry .ensures)))) ∙ l .inv)
+    rw (blocksOf-extents _ _) (rw (c .entry2 .ensures) (sym (nth-here _ (l .fuel) (l .fuel - 1) (l .at) (omega arith) (c .before .before .before .if1 .left) (l .left) (omega (arith, c .before .before .entry .ensures)))) ∙ l .inv)
 
 cast-left : tie.Need-cast-left Inv-loop μ-loop
 cast-left c = search needs
@@ -64,14 +71,15 @@ loop-less : tie.Need-loop-less Inv-loop μ-loop
 loop-less c = search needs
 
 loop-again : tie.Need-loop-again Inv-loop μ-loop
+unfolding anodesFrom
 loop-again c =
     let l = c .before .before .before .before .before .loop in
-    rw (c .entry3 .ensures, c .before .before .entry .ensures) (sym (nth-later _ _ _ (l .fuel) (l .fuel - 1) (l .at) (omega arith) (c .before .before .before .if1 .left) (l .left) (omega (arith, c .before .before .entry .ensures)))) ∙ l .inv
+    rw (c .entry3 .ensures, c .before .before .entry .ensures) (sym (nth-later _ (l .fuel) (l .fuel - 1) (l .at) (omega arith) (c .before .before .before .if1 .left) (l .left) (omega (arith, c .before .before .entry .ensures)))) ∙ l .inv
 
 returns-3 : tie.Need-returns-3 Inv-loop μ-loop
 returns-3 c =
     let l = c .before .loop in
-    rw (along-whole _ _ _ _) (nth-none _ (l .left) (along-none _ _ _ (l .fuel) (l .at) (omega arith)) ∙ l .inv)
+    rw (blocksOf-extents _ _) (nth-none _ (l .left) (gathered-none _ _ (l .fuel) _ (omega arith)) ∙ l .inv)
 
 pub nth-block-spec : {M : Type 1} → statement M
 nth-block-spec =

@@ -1,4 +1,4 @@
-use Prim.Native.Nat.{ℕ, _+_, _-_, _<_, _≤_}
+use Prim.Native.Nat.{_+_, _-_, _≤_}
 use borrow.Author.Needs.{needs}
 use borrow.Author.Tests.{eqb-true}
 use mathlib.Core.Bool.{true≢false}
@@ -6,12 +6,14 @@ use mathlib.Core.Logic.{⊎-elim}
 use mathlib.Core.Path.{_≡_, sym, _∙_}
 use native.Mathlib.Omega.{arith}
 use lib.ListN.{getD, take, drop}
-use Rattle.edits.proofs.Blocks.{same-next, part-same}
+use Rattle.tables.specs.Held.{HeldBelow}
+use Rattle.tables.proofs.Laws.{held-next}
+use Rattle.edits.proofs.Blocks.{part-same}
 use Rattle.edits.proofs.same_numbers.Statement.{statement}
 use Rattle.edits.proofs.same_numbers.Tie as tie
 
 abbrev Inv-loop : tie.InvT-loop
-Inv-loop old new from end x y other₀ i₀ other i = (i ≤ 82) × (other ≡ 0 → (j : ℕ) → j < i → getD x j 0 ≡ getD y j 0)
+Inv-loop old new from end x y other₀ i₀ other i = (i ≤ 82) × (other ≡ 0 → HeldBelow (λ j. getD y j 0) x i)
 
 abbrev μ-loop : tie.MeasureT-loop
 μ-loop old new from end x y other₀ i₀ other i = 82 - i
@@ -77,7 +79,7 @@ loop-again c =
     let n = g .from + 82 - g .from in
     ⊎-elim
     (λ w. (search needs, λ e. absurd (omega arith)))
-    (λ w. (search needs, λ e. same-next (take n (drop (g .from) (g .old .now))) (take n (drop (g .from) (g .new .now))) (l .i) (l .inv .1 (sym (w .1) ∙ e)) (w .0 .left)))
+    (λ w. (search needs, λ e. held-next _ (take n (drop (g .from) (g .old .now))) (l .i) (l .inv .1 (sym (w .1) ∙ e)) (w .0 .left)))
     (c .if3 .came)
 
 returns-3 : tie.Need-returns-3 Inv-loop μ-loop

@@ -1,7 +1,7 @@
 use denote.Ref.{now}
-use mathlib.Core.Path.{refl}
 use native.Mathlib.Omega.{arith}
-use Rattle.fsck.proofs.Laws.{headed, zeros, outcome-header, outcome-accepted, outcome-refused}
+use Rattle.tables.proofs.Laws.{zeroed-below}
+use Rattle.fsck.proofs.Laws.{headed, outcome-header, outcome-accepted, outcome-refused}
 use borrow.Author.Needs.{needs}
 use Rattle.fsck.proofs.open_disk.Statement.{statement}
 use Rattle.fsck.proofs.open_disk.Tie as tie
@@ -32,7 +32,7 @@ examine-requires c κs =
     let h = headed _ _ _ _ (c .before .before .before .before .before .before .before .before .before .before .before .before .before .before .before .before .enum-told .given .1) (c .before .before .before .before .before .before .before .before .before .before .before .before .before .before .before .before .before .before .test-header .ensures) in
     let b = c .before .before .before .before .before .before .before .before .before .before .before .before .before .zero-first in
     let a = c .before .before .before .before .before .before .before .before .before .zero-first2 in
-    (c .before .before .before .before .before .before .before .before .before .before .before .before .before .before .before .before .before .before .before .before .before .before .before .before .before .before .before .pre, ((h .size-right, omega (arith, h .blocks-room, b .kept .0), omega (arith, h .anodes-room, a .kept .0)), (zeros _ _ _ _ (c .before .before .before .before .before .before .before .before .before .before .before .before .before .before .before .disk-size .ensures) (b .ensures), zeros _ _ (now (c .before .before .before .before .before .before .before .before .before .before .before .before .before .before .before .before .before .before .before .before .before .before .before .before .before .before .before .args .anodes)) _ refl (a .ensures))))
+    (c .before .before .before .before .before .before .before .before .before .before .before .before .before .before .before .before .before .before .before .before .before .before .before .before .before .before .before .pre, ((h .size-right, omega (arith, h .blocks-room, b .kept .0), omega (arith, h .anodes-room, a .kept .0)), (λ x l. zeroed-below (c .before .before .before .before .before .before .before .before .before .before .before .before .before .before .before .disk-size .result) _ _ (b .ensures) x (omega (arith, l, c .before .before .before .before .before .before .before .before .before .before .before .before .before .before .before .disk-size .ensures)), zeroed-below _ (now (c .before .before .before .before .before .before .before .before .before .before .before .before .before .before .before .before .before .before .before .before .before .before .before .before .before .before .before .args .anodes)) _ (a .ensures))))
 
 enum-told-2 : tie.Need-enum-told-2
 enum-told-2 c = search needs

@@ -5,7 +5,7 @@ use native.Mathlib.Omega.{arith}
 use Rattle.rules.specs.Lookup.{firstNamed}
 use Rattle.lookup.specs.Answers.{Unbroken}
 use Rattle.lookup.proofs.Laws.{entriesAlong, along-whole, unbroken-along, named-along, named-none, named-whole}
-use Rattle.tree.proofs.Laws.{gathered-none, gathered-end}
+use Rattle.laws.specs.Chains.{gathered-none, gathered-end}
 use borrow.Author.Needs.{needs}
 use Rattle.lookup.proofs.entry_named.Statement.{statement}
 use Rattle.lookup.proofs.entry_named.Tie as tie

@@ -1,6 +1,6 @@
 use borrow.Author.Needs.{needs}
-use Rattle.owners.proofs.Laws.{stored-none, stored-more, kept-none, kept-more}
-use Rattle.owners.specs.Marks.{KeptOutside, RunStored}
+use Rattle.owners.proofs.Laws.{holds-none, holds-more, kept-none, kept-more}
+use Rattle.owners.specs.Marks.{KeptOutside, RunHolds}
 use lib.ListN.{length, length-set}
 use native.Mathlib.Omega.{arith}
 use Prim.Native.Nat.{_+_, _-_, _<_, _≤_}
@@ -9,7 +9,7 @@ use Rattle.owners.proofs.fill_run.Statement.{statement}
 use Rattle.owners.proofs.fill_run.Tie as tie
 
 abbrev Inv-loop : tie.InvT-loop
-Inv-loop blocks₀ first count mark i₀ end blocks i = (first ≤ i) × (i ≤ first + count) × (length blocks ≡ length blocks₀) × RunStored blocks first i mark × KeptOutside blocks₀ blocks first i
+Inv-loop blocks₀ first count mark i₀ end blocks i = (first ≤ i) × (i ≤ first + count) × (length blocks ≡ length blocks₀) × RunHolds blocks first i mark × KeptOutside blocks₀ blocks first i
 
 abbrev μ-loop : tie.MeasureT-loop
 μ-loop blocks₀ first count mark i₀ end blocks i = first + count - i
@@ -18,7 +18,7 @@ add-end : tie.Need-add-end Inv-loop μ-loop
 add-end c = search needs
 
 loop-holds : tie.Need-loop-holds Inv-loop μ-loop
-loop-holds c = (search needs, search needs, search needs, stored-none _ _ _, kept-none _ _ _)
+loop-holds c = (search needs, search needs, search needs, holds-none _ _ _, kept-none _ _ _)
 
 mul-blocks : tie.Need-mul-blocks Inv-loop μ-loop
 mul-blocks c =
@@ -41,7 +41,7 @@ loop-again c =
     let l = c .before .loop in
     let h = c .before .before .pre (omega arith) in
     let room : l .i < length (l .blocks) = omega arith in
-    (search needs, search needs, simp length-set (search needs), stored-more _ _ (l .i) _ (l .inv .3) room, kept-more _ _ _ (l .i) (l .inv .4) (l .inv .0) _)
+    (search needs, search needs, simp length-set (search needs), holds-more _ _ (l .i) _ (l .inv .3) room, kept-more _ _ _ (l .i) (l .inv .4) (l .inv .0) _)
 
 same-length : tie.Need-same-length Inv-loop μ-loop
 same-length c = search needs

@@ -1,4 +1,4 @@
-use Rattle.owners.proofs.Laws.{run-filled, kept-none}
+use Rattle.owners.proofs.Laws.{kept-none}
 use borrow.Author.Needs.{needs}
 use Rattle.owners.proofs.mark_run.Statement.{statement}
 use Rattle.owners.proofs.mark_run.Tie as tie
@@ -19,7 +19,7 @@ same-length-2 : tie.Need-same-length-2
 same-length-2 c = search needs
 
 returns-2 : tie.Need-returns-2
-returns-2 c = (run-filled _ _ _ _ _ (rw (c .before .before .before .before .if1 .left) at (c .before .before .before .before .before .any-marked .ensures)) (c .before .before .fill-run .ensures .0), c .before .before .fill-run .ensures .1)
+returns-2 c = ((rw (c .before .before .before .before .if1 .left) at (c .before .before .before .before .before .any-marked .ensures), c .before .before .fill-run .ensures .0), c .before .before .fill-run .ensures .1)
 
 pub mark-run-spec : {M : Type 1} → statement M
 mark-run-spec =

@@ -4,7 +4,7 @@ use native.Mathlib.Omega.{arith}
 use Rattle.rules.specs.Lookup.{isThere, nth}
 use Rattle.lookup.proofs.Laws.{entriesAlong, along-whole, nth-empty}
 use Rattle.reader.proofs.Laws.{there-along, none-along}
-use Rattle.tree.proofs.Laws.{gathered-none, gathered-end}
+use Rattle.laws.specs.Chains.{gathered-none, gathered-end}
 use borrow.Author.Needs.{needs}
 use Rattle.reader.proofs.is_empty.Statement.{statement}
 use Rattle.reader.proofs.is_empty.Tie as tie

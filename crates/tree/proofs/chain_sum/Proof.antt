@@ -50,11 +50,7 @@ loop-again c =
     (rw (c .before .entry .ensures, c .entry2 .ensures) (omega arith), search needs)
 
 returns-2 : tie.Need-returns-2 Inv-loop μ-loop
-returns-2 c =
-    let e : c .before .loop .fuel ≡ 0 = omega arith in
-    let w = sum-none (c .before .before .before .before .before .args .counts .now) (c .before .before .before .before .before .args .nexts .now) (c .before .loop .at) in
-    let i = rw e at (c .before .loop .inv .0) in
-    omega arith
+returns-2 c = omega (arith, sum-none (c .before .before .before .before .before .args .counts .now) (c .before .before .before .before .before .args .nexts .now) (c .before .loop .fuel) (c .before .loop .at) (omega arith))
 
 pub chain-sum-spec : {M : Type 1} → statement M
 chain-sum-spec =

@@ -1,9 +1,10 @@
 use mathlib.Core.Path.{_≡_, sym, _∙_}
 use Prim.Native.Nat.{_-_}
 use native.Mathlib.Omega.{arith}
+use Rattle.laws.specs.Chains.{gathered-none, gathered-end}
 use Rattle.anodes.specs.Loaded.{anodesFrom}
 use Rattle.tree.specs.Steps.{dirMade, itemIn, itemsAlong, itemsWith, entering, Room}
-use Rattle.tree.proofs.Laws.{gathered-none, gathered-end, enter-none, along-stop, along-step}
+use Rattle.tree.proofs.Laws.{enter-none, along-stop, along-step}
 use borrow.Author.Needs.{needs}
 use Rattle.tree.proofs.enter_directory.Statement.{statement}
 use Rattle.tree.proofs.enter_directory.Tie as tie
@@ -32,7 +33,7 @@ same-length-3 : tie.Need-same-length-3 Inv-loop μ-loop
 same-length-3 c = search needs
 
 returns : tie.Need-returns Inv-loop μ-loop
-unfolding itemsWith itemsAlong
+unfolding itemsWith
 returns c =
     let l = c .before .before .loop in
     (sym (enter-none _ _ _ _ _ (gathered-end _ _ (l .fuel) _ (c .if1 .taken))) ∙ l .inv .1, l .inv .0 .3)
@@ -93,7 +94,7 @@ same-length-9 : tie.Need-same-length-9 Inv-loop μ-loop
 same-length-9 c = search needs
 
 returns-3 : tie.Need-returns-3 Inv-loop μ-loop
-unfolding itemsWith itemsAlong
+unfolding itemsWith
 returns-3 c =
     let l = c .before .loop in
     (sym (enter-none _ _ _ _ _ (gathered-none _ _ (l .fuel) _ (omega arith))) ∙ l .inv .1, l .inv .0 .3)

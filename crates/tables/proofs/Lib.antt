@@ -1,0 +1,2 @@
+-- Laws of the numbers that a table holds.
+pub mod Laws

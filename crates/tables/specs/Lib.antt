@@ -1,0 +1,2 @@
+-- What a table holds.
+pub mod Held
