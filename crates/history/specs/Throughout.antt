@@ -104,7 +104,7 @@ module _ (img : List ℕ) (ok : checkAnswer img (diskSize img) limit ≡ 0) wher
       named-kept (readAnswer img blocks anodes h name offset (length bytes)) (read-kept blocks anodes h name offset (length bytes) .harmless) (entryNamed img s h name) (λ e. left 0 (written img s e offset bytes))
       (λ z e q.
       let c = firstOf-zero (checkAnswer img (length blocks) (length anodes)) (spanAnswer img s h name offset (length bytes)) z in
-      let f = file-found img s h name e q (span-found img s h name e q offset (length bytes) (c .1) .0) in
+      let f = span-found img s h name e q offset (length bytes) (c .1) in
       record {
         accepted = own-tables _ (diskSize img) limit (write-accepted img (diskSize img) limit ok h (f .0) e (named-member img s h name e q) (f .1) offset bytes);
         harmless = λ d. omega (arith, d .0);
