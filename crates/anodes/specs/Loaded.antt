@@ -1,12 +1,14 @@
--- The anodes that three lists of numbers hold: count, block and next by the anode's number; 0 past the end.
+-- The anodes that three lists of numbers hold: count, block and next by the anode's number; 0 past the end. An accepted image whose anodes they are.
 use Prim.Native.Nat.{ℕ}
+use mathlib.Core.Path.{_≡_}
 use mathlib.Core.Bool.{cond}
 use mathlib.Core.List.{List}
-use lib.ListN.{getD}
+use lib.ListN.{length, getD}
 use lib.Dec.{eqb}
 use Rattle.disk.specs.declared.Anode.{Anode}
 use Rattle.disk.specs.AnodeBlocks.{anodeMade}
-use Rattle.rules.specs.Anodes.{Anodes}
+use Rattle.rules.specs.Anodes.{Anodes, limit, anodesOf}
+use Rattle.rules.specs.Accepted.{diskSize, checkAnswer}
 use Rattle.tables.specs.Held.{HeldBelow}
 
 -- the anodes in three lists
@@ -22,3 +24,11 @@ pub record LoadedBelow (s : Anodes) (c b n : List ℕ) (k : ℕ) : Type 0 where
   pub counts : HeldBelow (s .count) c k
   pub blocks : HeldBelow (s .block) b k
   pub nexts : HeldBelow (s .next) n k
+
+-- an accepted image whose anodes are loaded in three tables
+pub record Loaded (img counts firsts nexts : List ℕ) : Type 0 where
+  pub accepted : checkAnswer img (diskSize img) limit ≡ 0
+  pub is-loaded : anodesFrom counts firsts nexts ≡ anodesOf img
+  pub counts-long : length counts ≡ limit
+  pub firsts-long : length firsts ≡ limit
+  pub nexts-long : length nexts ≡ limit

@@ -21,8 +21,7 @@ use Rattle.fsck.specs.Answers.{checkedNumber}
 use Rattle.changed.specs.Leaves.{Leaves}
 use Rattle.find.proofs.Laws.{refused-some}
 use Rattle.changing.proofs.Laws.{named-refused, made-refused}
-use Rattle.calls.proofs.Opened.{accepted-answer, change-refused, change-answered}
-use Rattle.calls.proofs.Written.{leaves-written}
+use Rattle.calls.proofs.Opened.{change-refused, change-answered}
 
 abbrev newOf : ℕ → List ℕ → List ℕ → ℕ → ℕ → ℕ → ℕ → NewEntry
 newOf type name comment day minute tick protection = record { dir = eqb type 2; name = name; comment = comment; day = day; minute = minute; tick = tick; protection = protection }
@@ -59,6 +58,12 @@ module _ (img b₀ a₀ b a : List ℕ) (x : Checked) (e : outcomeOf (checkedNum
     named-answered : (m : ℕ) (o : Option Entered) (f : Entered → Left) → Leaves r img b a img′ b′ a′ (changeNamed m img o f) → outcomeOf r img′ b′ a′ [] [] ≡ settled (changeNamed (firstOf (checkAnswer img (length b₀) (length a₀)) m) img o f) b₀ a₀ [] []
     named-answered m o f l = change-answered img b₀ a₀ b a x e t is m (λ k. changeNamed k img o f) r img′ b′ a′ l
 
+    pub write-answered : (h : ℕ) (name : List ℕ) (offset : ℕ) (bytes : List ℕ) →
+        Leaves r img b a img′ b′ a′ (changeNamed (spanAnswer img (anodesOf img) h name offset (length bytes)) img (entryNamed img (anodesOf img) h name) (λ y. left 0 (written img (anodesOf img) y offset bytes))) →
+        outcomeOf r img′ b′ a′ [] [] ≡ writeOutcome img b₀ a₀ h name offset bytes
+    unfolding writeOutcome readAnswer
+    write-answered h name offset bytes l = named-answered (spanAnswer img (anodesOf img) h name offset (length bytes)) (entryNamed img (anodesOf img) h name) (λ y. left 0 (written img (anodesOf img) y offset bytes)) l
+
     pub resize-answered : (h : ℕ) (name : List ℕ) (size : ℕ) →
         Leaves r img b a img′ b′ a′ (changeNamed (resizeAnswer img (anodesOf img) h name) img (entryNamed img (anodesOf img) h name) (λ y. resized img (anodesOf img) y size)) → outcomeOf r img′ b′ a′ [] [] ≡ resizeOutcome img b₀ a₀ h name size
     unfolding resizeOutcome
@@ -75,12 +80,3 @@ module _ (img b₀ a₀ b a : List ℕ) (x : Checked) (e : outcomeOf (checkedNum
     unfolding makeOutcome
     make-answered h type name comment day minute tick protection l = change-answered img b₀ a₀ b a x e t is (makeAnswer img (anodesOf img) h type name comment)
         (λ m. madeAfter m img h (newOf type name comment day minute tick protection)) r img′ b′ a′ l
-
-  -- a write leaves both tables
-  pub write-answered : (t : Tally) → x ≡ Accepted t → (r : ℕ) (img′ : List ℕ) (h : ℕ) (name : List ℕ) (offset : ℕ) (bytes : List ℕ) →
-      left r img′ ≡ changeNamed (spanAnswer img (anodesOf img) h name offset (length bytes)) img (entryNamed img (anodesOf img) h name) (λ y. left 0 (written img (anodesOf img) y offset bytes)) →
-      outcomeOf r img′ b a [] [] ≡ writeOutcome img b₀ a₀ h name offset bytes
-  unfolding writeOutcome readAnswer
-  write-answered t is r img′ h name offset bytes l =
-      named-answered t is r img′ b a (spanAnswer img (anodesOf img) h name offset (length bytes)) (entryNamed img (anodesOf img) h name) (λ y. left 0 (written img (anodesOf img) y offset bytes))
-      (leaves-written img (accepted-answer img b₀ a₀ b a x e t is) h name offset bytes r img′ b a l)

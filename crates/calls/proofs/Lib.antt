@@ -1,4 +1,3 @@
 -- Laws of the calls' outcomes.
 pub mod Opened
-pub mod Written
 pub mod Changed

@@ -112,7 +112,7 @@ module _ (img b₀ a₀ b a : List ℕ) (x : Checked) (e : outcomeOf (checkedNum
     answers-0 : checkAnswer img (length b₀) (length a₀) ≡ 0
     answers-0 = answers 0 number-0
 
-    pub accepted-answer : checkAnswer img (diskSize img) limit ≡ 0
+    accepted-answer : checkAnswer img (diskSize img) limit ≡ 0
     accepted-answer = own-tables img (length b₀) (length a₀) answers-0
 
     blocks-late : (k : ℕ) → Late k → blocksLeft k img b₀ ≡ b
@@ -144,14 +144,10 @@ module _ (img b₀ a₀ b a : List ℕ) (x : Checked) (e : outcomeOf (checkedNum
     opened counts firsts nexts queue parents q =
         let o = rw is at q in
         record {
-          accepted = accepted-answer;
-          loaded = o .0;
+          loaded = record { accepted = accepted-answer; is-loaded = o .0; counts-long = o .2 .0; firsts-long = o .2 .1; nexts-long = o .2 .2 };
           queued = o .1;
           shown = λ i l. ap (λ (z : List ℕ). getD z i 0) (anodes-left 0 number-0)
               ∙ table-entry (anodeEntry (anodesOf img)) limit (drop limit a₀) i l;
-          counts-long = o .2 .0;
-          firsts-long = o .2 .1;
-          nexts-long = o .2 .2;
         }
 
     pub read-answered : (h : ℕ) (name : List ℕ) (offset : ℕ) (out out′ : List ℕ) (k : ℕ) → k ≡ spanAnswer img (anodesOf img) h name offset (length out) →

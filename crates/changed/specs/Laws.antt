@@ -58,3 +58,10 @@ leaves-done img j d b a b′ a′ shown heads b₀ a₀ p q =
     let size = diskSize-kept (d .kept) in
     let past : drop limit a ≡ drop limit a₀ = ap (drop limit) q ∙ table-past (anodeEntry (anodesOf img)) limit (drop limit a₀) in
     rw (shown (drop (diskSize img) b₀) p, heads, past, size, kept-table img j size (systemOwns-kept (d .kept) refl) (anodesOf j) (anodesOf j) (λ x. refl))
+
+-- a change that leaves the anodes leaves both tables
+pub leaves-same : (img j : List ℕ) → SameDisk img j → anodesOf j ≡ anodesOf img → (b a : List ℕ) → Leaves 0 img b a j b a (left 0 j)
+unfolding anodesLeft tableLeft anodeTable
+leaves-same img j d same b a b₀ a₀ p q =
+    let past : drop limit a ≡ drop limit a₀ = ap (drop limit) q ∙ table-past (anodeEntry (anodesOf img)) limit (drop limit a₀) in
+    leaves-done img j d b a b a (λ r shown. rw same shown) (rw (same, past) q) b₀ a₀ p q

@@ -3,29 +3,19 @@ use Prim.Native.Nat.{ℕ}
 use mathlib.Core.Path.{_≡_}
 use mathlib.Core.Bool.{false}
 use mathlib.Core.List.{List, []}
-use lib.ListN.{length}
-use Rattle.rules.specs.Anodes.{limit, anodesOf}
+use Rattle.rules.specs.Anodes.{anodesOf}
 use Rattle.rules.specs.Walk.{Entered}
-use Rattle.rules.specs.Accepted.{diskSize, checkAnswer}
 use Rattle.rules.specs.Tables.{blocksLeft, anodesLeft}
 use Rattle.rules.specs.Lookup.{noDirectory, entriesOf}
 use Rattle.rules.specs.Changes.{Left}
 use Rattle.rules.specs.Calls.{outcomeOf, settled}
-use Rattle.anodes.specs.Loaded.{anodesFrom}
 use Rattle.changes.specs.Members.{Member}
+pub use Rattle.anodes.specs.Loaded.{Loaded}
 
 -- a change answers r and leaves img′, b′ and a′ of an image and its two tables as l settles them, where the tables showed the image
 abbrev pub Leaves : ℕ → List ℕ → List ℕ → List ℕ → List ℕ → List ℕ → List ℕ → Left → Type 0
 Leaves r img b a img′ b′ a′ l =
     (b₀ a₀ : List ℕ) → b ≡ blocksLeft 0 img b₀ → a ≡ anodesLeft 0 img a₀ → outcomeOf r img′ b′ a′ [] [] ≡ settled l b₀ a₀ [] []
-
--- an accepted image whose anodes are loaded in three tables
-pub record Loaded (img counts firsts nexts : List ℕ) : Type 0 where
-  pub accepted : checkAnswer img (diskSize img) limit ≡ 0
-  pub is-loaded : anodesFrom counts firsts nexts ≡ anodesOf img
-  pub counts-long : length counts ≡ limit
-  pub firsts-long : length firsts ≡ limit
-  pub nexts-long : length nexts ≡ limit
 
 -- e is an entry of a reached directory
 abbrev pub ReachedEntry : List ℕ → Entered → Type 0

@@ -1,6 +1,6 @@
 -- What the check answers for an accepted image lent other tables; each call's own refusals, row by row, what a 0 says, and that they come after the damage numbers.
 use Prim.Native.Nat.{ℕ, zero, suc, _+_, _≤_}
-use mathlib.Core.Path.{_≡_, refl, sym, _∙_}
+use mathlib.Core.Path.{_≡_, refl, sym, ap, _∙_}
 use mathlib.Core.Logic.{_⊎_, inl, inr}
 use mathlib.Core.Bool.{Bool, true, false, not}
 use mathlib.Core.List.{List}
@@ -57,6 +57,11 @@ both-passed a c n t is l e =
 search-reached : (missing : Bool) (o : Option Entered) → searchNumber missing o ≡ 0 → missing ≡ false
 search-reached missing o e = if-zero 21 missing (22 if not (isThere o) else 0) (omega arith) e .0
 
+-- what stands behind 21 and 22
+behind-search : (missing : Bool) (o : Option Entered) (rest : ℕ) → (21 if missing else 22 if not (isThere o) else rest) ≡ firstOf (searchNumber missing o) rest
+unfolding firstOf
+behind-search missing o rest = row-first 21 missing _ _ _ (omega arith) (row-first 22 (not (isThere o)) 0 _ _ (omega arith) refl)
+
 module _ (img : List ℕ) (s : Anodes) (h : ℕ) where
   -- a list is a search
   pub list-search : (n : ℕ) → listAnswer img s h n ≡ searchNumber (noDirectory img s h) (nth (entriesOf img s h) n)
@@ -73,9 +78,8 @@ module _ (img : List ℕ) (s : Anodes) (h : ℕ) where
 
     -- 24 behind 21 and 22
     pub file-row : resizeAnswer img s h name ≡ firstOf (searchNumber (noDirectory img s h) found) (24 if namesDir found else 0)
-    unfolding resizeAnswer firstOf
-    file-row =
-        row-first 21 (noDirectory img s h) _ _ _ (omega arith) (row-first 22 (not (isThere found)) 0 _ _ (omega arith) refl)
+    unfolding resizeAnswer
+    file-row = behind-search (noDirectory img s h) found (24 if namesDir found else 0)
 
     -- 26 behind those of a file
     pub span-row : (offset len : ℕ) → spanAnswer img s h name offset len ≡ firstOf (resizeAnswer img s h name) (26 if pastEnd found offset len else 0)
@@ -86,27 +90,30 @@ module _ (img : List ℕ) (s : Anodes) (h : ℕ) where
 
     -- 25 behind 21 and 22
     pub full-row : removeAnswer img s h name ≡ firstOf (searchNumber (noDirectory img s h) found) (25 if fullDir img s found else 0)
-    unfolding removeAnswer firstOf
-    full-row =
-        row-first 21 (noDirectory img s h) _ _ _ (omega arith) (row-first 22 (not (isThere found)) 0 _ _ (omega arith) refl)
+    unfolding removeAnswer
+    full-row = behind-search (noDirectory img s h) found (25 if fullDir img s found else 0)
 
-    -- a found file is no directory, and its own directory is reached
-    pub file-found : (x : Entered) → found ≡ some x → resizeAnswer img s h name ≡ 0 → (noDirectory img s h ≡ false) × (x .dir ≡ false)
-    file-found x is e =
-        let z = both-passed (searchNumber (noDirectory img s h) found) (resizeAnswer img s h name) 24 (namesDir found) file-row (omega arith) e in
-        (search-reached (noDirectory img s h) found (z .0), rw is at (z .1))
+    -- a found entry that the row behind 21 and 22 passed: its own directory is reached
+    module _ (x : Entered) (is : found ≡ some x) where
+      row-found : (test : Option Entered → Bool) (n c : ℕ) → c ≡ firstOf (searchNumber (noDirectory img s h) found) (n if test found else 0) → 1 ≤ n → c ≡ 0 → (noDirectory img s h ≡ false) × (test (some x) ≡ false)
+      row-found test n c row l e =
+          let z = both-passed (searchNumber (noDirectory img s h) found) c n (test found) row l e in
+          (search-reached (noDirectory img s h) found (z .0), ap test (sym is) ∙ z .1)
 
-    -- a found span is a file's, and ends within its size
-    pub span-found : (x : Entered) → found ≡ some x → (offset len : ℕ) → spanAnswer img s h name offset len ≡ 0 → (resizeAnswer img s h name ≡ 0) × (offset + len ≤ x .size)
-    span-found x is offset len e =
-        let z = both-passed (resizeAnswer img s h name) (spanAnswer img s h name offset len) 26 (pastEnd found offset len) (span-row offset len) (omega arith) e in
-        (z .0, ltb-false (x .size) (offset + len) (rw is at (z .1)))
+      -- a file is no directory
+      pub file-found : resizeAnswer img s h name ≡ 0 → (noDirectory img s h ≡ false) × (x .dir ≡ false)
+      file-found e = row-found namesDir 24 (resizeAnswer img s h name) file-row (omega arith) e
 
-    -- an entry that may go is no full directory's, and its own directory is reached
-    pub removable-found : (x : Entered) → found ≡ some x → removeAnswer img s h name ≡ 0 → (noDirectory img s h ≡ false) × (fullDir img s (some x) ≡ false)
-    removable-found x is e =
-        let z = both-passed (searchNumber (noDirectory img s h) found) (removeAnswer img s h name) 25 (fullDir img s found) full-row (omega arith) e in
-        (search-reached (noDirectory img s h) found (z .0), rw is at (z .1))
+      -- a span is a file's, and ends within its size
+      pub span-found : (offset len : ℕ) → spanAnswer img s h name offset len ≡ 0 → (noDirectory img s h ≡ false) × (x .dir ≡ false) × (offset + len ≤ x .size)
+      span-found offset len e =
+          let z = both-passed (resizeAnswer img s h name) (spanAnswer img s h name offset len) 26 (pastEnd found offset len) (span-row offset len) (omega arith) e in
+          let f = file-found (z .0) in
+          (f .0, f .1, ltb-false (x .size) (offset + len) (rw is at (z .1)))
+
+      -- an entry that may go is no full directory's
+      pub removable-found : removeAnswer img s h name ≡ 0 → (noDirectory img s h ≡ false) × (fullDir img s (some x) ≡ false)
+      removable-found e = row-found (fullDir img s) 25 (removeAnswer img s h name) full-row (omega arith) e
 
 -- ---- each call's own refusals come after the damage numbers
 
@@ -131,18 +138,13 @@ module _ (img : List ℕ) (s : Anodes) (h : ℕ) where
   list-late n = rw (list-search img s h n) (search-late (noDirectory img s h) (nth (entriesOf img s h) n))
 
   pub resize-late : (name : List ℕ) → Late (resizeAnswer img s h name)
-  resize-late name =
-      behind-late (searchNumber (noDirectory img s h) (entryNamed img s h name)) (resizeAnswer img s h name) 24 (namesDir (entryNamed img s h name)) (file-row img s h name) (omega arith)
-      (search-late (noDirectory img s h) (entryNamed img s h name))
+  resize-late name = behind-late _ _ 24 (namesDir (entryNamed img s h name)) (file-row img s h name) (omega arith) (search-late (noDirectory img s h) (entryNamed img s h name))
 
   pub span-late : (name : List ℕ) (offset len : ℕ) → Late (spanAnswer img s h name offset len)
-  span-late name offset len =
-      behind-late (resizeAnswer img s h name) (spanAnswer img s h name offset len) 26 (pastEnd (entryNamed img s h name) offset len) (span-row img s h name offset len) (omega arith) (resize-late name)
+  span-late name offset len = behind-late _ _ 26 (pastEnd (entryNamed img s h name) offset len) (span-row img s h name offset len) (omega arith) (resize-late name)
 
   pub remove-late : (name : List ℕ) → Late (removeAnswer img s h name)
-  remove-late name =
-      behind-late (searchNumber (noDirectory img s h) (entryNamed img s h name)) (removeAnswer img s h name) 25 (fullDir img s (entryNamed img s h name)) (full-row img s h name) (omega arith)
-      (search-late (noDirectory img s h) (entryNamed img s h name))
+  remove-late name = behind-late _ _ 25 (fullDir img s (entryNamed img s h name)) (full-row img s h name) (omega arith) (search-late (noDirectory img s h) (entryNamed img s h name))
 
   pub make-late : (type : ℕ) (name comment : List ℕ) → Late (makeAnswer img s h type name comment)
   unfolding makeAnswer

@@ -21,8 +21,8 @@ use Rattle.directory.specs.Entries.{directoryHeadIn, kindRead, goodName, entryL
 use Rattle.directory.proofs.Laws.{FoundAt, found-at, end-at}
 use Rattle.rules.specs.Counting.{anyIn}
 use Rattle.rules.specs.Walk.{Entered, withRest, entriesFrom}
-use Rattle.rules.specs.Changes.{endFrom}
-use Rattle.changes.specs.Members.{no-member}
+use Rattle.rules.specs.Changes.{endFrom, entriesEnd}
+use Rattle.changes.specs.Members.{Member, no-member}
 pub use Rattle.laws.specs.Entries.{enteredAt, entries-more, entries-end}
 
 -- parts of two lists of bytes that agree byte for byte
@@ -128,30 +128,40 @@ end-bounds b y (suc m) at u l f = elim (unbroken-cases b y m at u) [
       rw (end-more b y m at (e .0) (e .1)) (omega (arith, r .0), r .1, r .2))
 ]
 
--- the first of the entries from a place on, found there
-pub record FirstFound (b : List ℕ) (y m at : ℕ) (e : Entered) (behind : List Entered) : Type 0 where
+-- an entry is found at its place in the block, and ends before the mark
+pub record Standing (b : List ℕ) (y at end : ℕ) (e : Entered) : Type 0 where
   pub entry : Entry
   pub walked : walkedAt b at ≡ Found entry
-  pub is : enteredAt entry (y * 512 + at) ≡ e
+  pub is : e ≡ enteredAt entry (y * 512 + at)
+  pub before : at + getD b at 0 ≤ end
+
+-- and before a later mark
+stands-before : {b : List ℕ} {y at end : ℕ} {e : Entered} → Standing b y at end e → (further : ℕ) → end ≤ further → Standing b y at further e
+stands-before s further l = record { entry = s .entry; walked = s .walked; is = s .is; before = omega (arith, s .before, l) }
+
+-- the first of the entries from a place on
+pub record FirstFound (b : List ℕ) (y m at : ℕ) (e : Entered) (behind : List Entered) : Type 0 where
+  pub stands : Standing b y at (at + getD b at 0) e
   pub rest : entriesFrom m b y (at + getD b at 0) ≡ behind
   pub unbroken : anyIn (λ f. f .broken) (entriesFrom m b y (at + getD b at 0)) ≡ false
 
 pub first-found : (b : List ℕ) (y m at : ℕ) (e : Entered) (l : List Entered) → entriesFrom (suc m) b y at ≡ e ∷ l → anyIn (λ f. f .broken) (entriesFrom (suc m) b y at) ≡ false → FirstFound b y m at e l
 first-found b y m at e l i u = elim (unbroken-cases b y m at u) [
   | inl o ↦ absurd (cons≢nil (sym i ∙ entries-end b y (suc m) at o))
-  | inr o ↦ (let c = sym (entries-more b y m at (o .0) (o .1)) ∙ i in record { entry = o .0; walked = o .1; is = head-eq-of-cons-eq c; rest = tail-eq-of-cons-eq c; unbroken = o .2 })
+  | inr o ↦ (let c = sym (entries-more b y m at (o .0) (o .1)) ∙ i in
+      record { stands = record { entry = o .0; walked = o .1; is = sym (head-eq-of-cons-eq c); before = omega arith }; rest = tail-eq-of-cons-eq c; unbroken = o .2 })
 ]
 
 -- by its place
 pub first-here : {b : List ℕ} {y m p : ℕ} {e : Entered} {l : List Entered} → FirstFound b y m p e l → (at : ℕ) → e .place ≡ y * 512 + at → p ≡ at
-first-here o at place = omega (arith, ap (λ (d : Entered). d .place) (o .is), place)
+first-here o at place = omega (arith, ap (λ (d : Entered). d .place) (o .stands .is), place)
 
 -- the places grow
 pub place-after : (b : List ℕ) (y : ℕ) (xs : List Entered) (e : Entered) (ys : List Entered) (k at : ℕ) → entriesFrom k b y at ≡ xs ++ (e ∷ ys) →
     anyIn (λ f. f .broken) (entriesFrom k b y at) ≡ false → y * 512 + at ≤ e .place
 unfolding entriesFrom
 place-after b y xs e ys zero at i u = absurd (no-member e (xs, ys, i))
-place-after b y [] e ys (suc m) at i u = omega (arith, ap (λ (d : Entered). d .place) (first-found b y m at e ys i u .is))
+place-after b y [] e ys (suc m) at i u = omega (arith, ap (λ (d : Entered). d .place) (first-found b y m at e ys i u .stands .is))
 place-after b y (x ∷ xs) e ys (suc m) at i u = let o = first-found b y m at x (xs ++ (e ∷ ys)) i u in omega (arith, place-after b y xs e ys m (at + getD b at 0) (o .rest) (o .unbroken))
 
 -- an entry ends before the next begins
@@ -167,35 +177,36 @@ place-order b y at f e place vs ys (x ∷ us) (suc m) p i u =
     let o = first-found b y m p x (us ++ (f ∷ (vs ++ (e ∷ ys)))) i u in
     place-order b y at f e place vs ys us m (p + getD b p 0) (o .rest) (o .unbroken)
 
--- an entry of the list is found at its place, before the end mark
-pub record Standing (b : List ℕ) (y at end : ℕ) (e : Entered) : Type 0 where
-  pub entry : Entry
-  pub walked : walkedAt b at ≡ Found entry
-  pub is : e ≡ enteredAt entry (y * 512 + at)
-  pub before : at + getD b at 0 ≤ end
-
-module _ (b : List ℕ) (y m p : ℕ) (x : Entry) (w : walkedAt b p ≡ Found x) (u : anyIn (λ f. f .broken) (entriesFrom m b y (p + getD b p 0)) ≡ false) (fuel : 520 ≤ p + 18 * suc m) where
-  standing-first : (e : Entered) → enteredAt x (y * 512 + p) ≡ e → Standing b y p (endFrom (suc m) b p) e
-  standing-first e i =
-      let g = found-at b p x w in
-      record {
-        entry = x;
-        walked = w;
-        is = sym i;
-        before = omega (arith, end-bounds b y m (p + getD b p 0) u (g .room) (omega (arith, fuel, g .long)) .0, end-more b y m p x w);
-      }
-
-  standing-later : (at : ℕ) (e : Entered) → Standing b y at (endFrom m b (p + getD b p 0)) e → Standing b y at (endFrom (suc m) b p) e
-  standing-later at e r = record { entry = r .entry; walked = r .walked; is = r .is; before = omega (arith, r .before, end-more b y m p x w) }
-
+-- an entry of the list stands at its place, before the end mark
 pub entry-standing : (b : List ℕ) (y at : ℕ) (e : Entered) → e .place ≡ y * 512 + at → (ys xs : List Entered) (k p : ℕ) → entriesFrom k b y p ≡ xs ++ (e ∷ ys) →
     anyIn (λ f. f .broken) (entriesFrom k b y p) ≡ false → p ≤ 510 → 520 ≤ p + 18 * k → Standing b y at (endFrom k b p) e
 entry-standing b y at e place ys xs zero p i u l f = absurd (omega (arith, l, f))
 entry-standing b y at e place ys [] (suc m) p i u l f =
     let o = first-found b y m p e ys i u in
-    let here = first-here o at place in
-    subst (λ (q : ℕ). Standing b y q (endFrom (suc m) b p) e) here (standing-first b y m p (o .entry) (o .walked) (o .unbroken) f e (o .is))
+    let s = o .stands in
+    let g = found-at b p (s .entry) (s .walked) in
+    subst (λ (q : ℕ). Standing b y q (endFrom (suc m) b p) e) (first-here o at place)
+    (stands-before s (endFrom (suc m) b p) (omega (arith, end-bounds b y m (p + getD b p 0) (o .unbroken) (g .room) (omega (arith, f, g .long)) .0, end-more b y m p (s .entry) (s .walked))))
 entry-standing b y at e place ys (z ∷ zs) (suc m) p i u l f =
     let o = first-found b y m p z (zs ++ (e ∷ ys)) i u in
-    let g = found-at b p (o .entry) (o .walked) in
-    standing-later b y m p (o .entry) (o .walked) (o .unbroken) f at e (entry-standing b y at e place ys zs m (p + getD b p 0) (o .rest) (o .unbroken) (g .room) (omega (arith, f, g .long)))
+    let s = o .stands in
+    let g = found-at b p (s .entry) (s .walked) in
+    stands-before (entry-standing b y at e place ys zs m (p + getD b p 0) (o .rest) (o .unbroken) (g .room) (omega (arith, f, g .long))) (endFrom (suc m) b p) (omega (arith, end-more b y m p (s .entry) (s .walked)))
+
+-- ---- an entry of a directory block whose entries keep the rules
+
+pub record BlockEntry (b : List ℕ) (y at : ℕ) (e : Entered) : Type 0 where
+  pub whole : length b ≡ 512
+  pub unbroken : anyIn (λ f. f .broken) (entriesFrom 28 b y 16) ≡ false
+  -- the entries before it, and those behind it
+  pub parted : Member e (entriesFrom 28 b y 16)
+  pub place : e .place ≡ y * 512 + at
+
+module _ {b : List ℕ} {y at : ℕ} {e : Entered} (u : BlockEntry b y at e) where
+  pub block-standing : Standing b y at (entriesEnd b) e
+  unfolding entriesEnd
+  block-standing = entry-standing b y at e (u .place) (u .parted .1) (u .parted .0) 28 16 (u .parted .2) (u .unbroken) (omega arith) (omega arith)
+
+  pub end-within : entriesEnd b ≤ 512
+  unfolding entriesEnd
+  end-within = omega (arith, end-bounds b y 28 16 (u .unbroken) (omega arith) (omega arith) .1)

@@ -14,7 +14,7 @@ use Rattle.directory.proofs.Laws.{found-at}
 use Rattle.rules.specs.Counting.{anyIn}
 use Rattle.rules.specs.Walk.{Entered, entriesFrom}
 use Rattle.rules.specs.Changes.{endFrom, entriesEnd, gapClosed}
-use Rattle.changes.specs.FoundEntries.{part-same, head-same, walked-same, Standing, entry-standing, entries-more, entries-end, unbroken-cases, end-more, end-here, end-bounds, first-found, first-here, place-after, place-order}
+use Rattle.changes.specs.FoundEntries.{part-same, head-same, walked-same, entry-standing, entries-more, entries-end, unbroken-cases, end-more, end-here, end-bounds, first-found, first-here, place-after, place-order, BlockEntry, block-standing, end-within}
 use Rattle.changes.specs.Members.{Member}
 
 -- the same entry, so many bytes earlier
@@ -66,18 +66,20 @@ module _ (b b′ : List ℕ) (y at len end : ℕ) (whole : length b ≡ 512) (wh
     closed xs zero p i u r f q = absurd (omega (arith, r, f))
     closed [] (suc m) p i u r f q =
         let o = first-found b y m p e ys i u in
-        let g = found-at b p (o .entry) (o .walked) in
+        let s = o .stands in
+        let g = found-at b p (s .entry) (s .walked) in
         let here = first-here o at place in
         let next : p + getD b p 0 ≡ at + len = rw here (ap (λ (n : ℕ). at + n) its-length) in
-        rw here (moved m at (omega arith) (rw next at (o .unbroken)) (omega (arith, g .room, next)) (omega (arith, f, g .long, next)) (rw next at (sym (end-more b y m p (o .entry) (o .walked)) ∙ q)))
+        rw here (moved m at (omega arith) (rw next at (o .unbroken)) (omega (arith, g .room, next)) (omega (arith, f, g .long, next)) (rw next at (sym (end-more b y m p (s .entry) (s .walked)) ∙ q)))
         ∙ ap (map (lowered len)) (rw next at (o .rest))
     closed (z ∷ zs) (suc m) p i u r f q =
         let o = first-found b y m p z (zs ++ (e ∷ ys)) i u in
-        let g = found-at b p (o .entry) (o .walked) in
+        let s = o .stands in
+        let g = found-at b p (s .entry) (s .walked) in
         let before : p + getD b p 0 ≤ at = omega (arith, place, place-after b y zs e ys m (p + getD b p 0) (o .rest) (o .unbroken)) in
         let same : getD b′ p 0 ≡ getD b p 0 = front p (omega (arith, before, g .long)) in
-        entries-more b′ y m p (o .entry) (walked-same b b′ p p whole whole′ g (g .room) (λ i l. front (p + i) (omega arith)) ∙ o .walked)
-        ∙ rw (same, o .is, closed zs m (p + getD b p 0) (o .rest) (o .unbroken) (g .room) (omega (arith, f, g .long)) (sym (end-more b y m p (o .entry) (o .walked)) ∙ q))
+        entries-more b′ y m p (s .entry) (walked-same b b′ p p whole whole′ g (g .room) (λ i l. front (p + i) (omega arith)) ∙ s .walked)
+        ∙ rw (same, ← (s .is), closed zs m (p + getD b p 0) (o .rest) (o .unbroken) (g .room) (omega (arith, f, g .long)) (sym (end-more b y m p (s .entry) (s .walked)) ∙ q))
 
 -- ---- the bytes of the block
 
@@ -148,52 +150,42 @@ module _ (b : List ℕ) (at len end : ℕ) (whole : length b ≡ 512) (fits : at
 
 -- ---- an entry of a directory block goes
 
-module _ (b : List ℕ) (y at : ℕ) (whole : length b ≡ 512) (xs : List Entered) (e : Entered) (ys : List Entered) (parted : entriesFrom 28 b y 16 ≡ xs ++ (e ∷ ys))
-    (unbroken : anyIn (λ f. f .broken) (entriesFrom 28 b y 16) ≡ false) (place : e .place ≡ y * 512 + at) where
-  standing : Standing b y at (entriesEnd b) e
-  unfolding entriesEnd
-  standing = entry-standing b y at e place ys xs 28 16 parted unbroken (omega arith) (omega arith)
-
-  end-within : entriesEnd b ≤ 510
-  unfolding entriesEnd
-  end-within = end-bounds b y 28 16 unbroken (omega arith) (omega arith) .1
-
+module _ {b : List ℕ} {y at : ℕ} {e : Entered} (u : BlockEntry b y at e) where
   from-16 : 16 ≤ at
-  from-16 = omega (arith, place, place-after b y xs e ys 28 16 parted unbroken)
+  from-16 = omega (arith, u .place, place-after b y (u .parted .0) e (u .parted .1) 28 16 (u .parted .2) (u .unbroken))
 
-  within : entriesEnd b ≤ 512
-  within = omega (arith, end-within)
-
-  abbrev b′ : List ℕ
-  b′ = gapClosed b at (getD b at 0) (entriesEnd b)
+  abbrev fits : at + getD b at 0 ≤ entriesEnd b
+  fits = block-standing u .before
 
   pub length-closed : length (gapClosed b at (getD b at 0) (entriesEnd b)) ≡ 512
-  length-closed = length-gapClosed b at (getD b at 0) (entriesEnd b) whole (standing .before) within
+  length-closed = length-gapClosed b at (getD b at 0) (entriesEnd b) (u .whole) fits (end-within u)
 
   pub head-closed : directoryHeadIn (gapClosed b at (getD b at 0) (entriesEnd b)) ≡ directoryHeadIn b
-  head-closed = gap-head b at (getD b at 0) (entriesEnd b) whole (standing .before) within from-16
+  head-closed = gap-head b at (getD b at 0) (entriesEnd b) (u .whole) fits (end-within u) from-16
 
   -- the entries that stay
-  pub entries-closed : entriesFrom 28 (gapClosed b at (getD b at 0) (entriesEnd b)) y 16 ≡ xs ++ map (lowered (getD b at 0)) ys
+  pub entries-closed : entriesFrom 28 (gapClosed b at (getD b at 0) (entriesEnd b)) y 16 ≡ u .parted .0 ++ map (lowered (getD b at 0)) (u .parted .1)
   unfolding entriesEnd
   entries-closed =
       let len = getD b at 0 in
       let end = entriesEnd b in
-      let fits = standing .before in
-      closed b b′ y at len end whole length-closed (gap-front b at len end whole fits within) (gap-behind b at len end whole fits within)
-      (gap-zeros b at len end whole fits within) (omega (arith, found-at b at (standing .entry) (standing .walked) .long)) e ys place refl xs 28 16 parted unbroken (omega arith) (omega arith) refl
+      let within = end-within u in
+      let s = block-standing u in
+      closed b (gapClosed b at len end) y at len end (u .whole) length-closed (gap-front b at len end (u .whole) fits within) (gap-behind b at len end (u .whole) fits within)
+      (gap-zeros b at len end (u .whole) fits within) (omega (arith, found-at b at (s .entry) (s .walked) .long)) e (u .parted .1) (u .place) refl (u .parted .0) 28 16 (u .parted .2) (u .unbroken) (omega arith) (omega arith) refl
 
   -- the bytes of an entry that stays
-  pub bytes-earlier : (f : Entered) → Member f xs → (k : ℕ) → f .place ≡ y * 512 + k → take (getD b k 0) (drop k (gapClosed b at (getD b at 0) (entriesEnd b))) ≡ take (getD b k 0) (drop k b)
+  pub bytes-earlier : (f : Entered) → Member f (u .parted .0) → (k : ℕ) → f .place ≡ y * 512 + k → take (getD b k 0) (drop k (gapClosed b at (getD b at 0) (entriesEnd b))) ≡ take (getD b k 0) (drop k b)
   bytes-earlier f (us, vs, i) k p =
-      let before = place-order b y k f e p vs ys us 28 16 (parted ∙ rw i (append-assoc us (f ∷ vs) (e ∷ ys))) unbroken in
-      bytes-before b at (getD b at 0) (entriesEnd b) whole (standing .before) within k (getD b k 0) (omega (arith, before, place))
+      let before = place-order b y k f e p vs (u .parted .1) us 28 16 (u .parted .2 ∙ rw i (append-assoc us (f ∷ vs) (e ∷ u .parted .1))) (u .unbroken) in
+      bytes-before b at (getD b at 0) (entriesEnd b) (u .whole) fits (end-within u) k (getD b k 0) (omega (arith, before, u .place))
 
-  pub bytes-later : (f : Entered) → Member f ys → (k : ℕ) → f .place ≡ y * 512 + k →
+  pub bytes-later : (f : Entered) → Member f (u .parted .1) → (k : ℕ) → f .place ≡ y * 512 + k →
       (at + getD b at 0 ≤ k) × (take (getD b k 0) (drop (k - getD b at 0) (gapClosed b at (getD b at 0) (entriesEnd b))) ≡ take (getD b k 0) (drop k b))
   unfolding entriesEnd
   bytes-later f (us, vs, i) k p =
-      let all : entriesFrom 28 b y 16 ≡ xs ++ (e ∷ (us ++ (f ∷ vs))) = parted ∙ rw i in
-      let behind : at + getD b at 0 ≤ k = omega (arith, p, place-order b y at e f place us vs xs 28 16 all unbroken) in
-      let f-stands = entry-standing b y k f p vs (xs ++ (e ∷ us)) 28 16 (all ∙ sym (append-assoc xs (e ∷ us) (f ∷ vs))) unbroken (omega arith) (omega arith) in
-      (behind, bytes-behind b at (getD b at 0) (entriesEnd b) whole (standing .before) within k (getD b k 0) behind (f-stands .before))
+      let xs = u .parted .0 in
+      let all : entriesFrom 28 b y 16 ≡ xs ++ (e ∷ (us ++ (f ∷ vs))) = u .parted .2 ∙ rw i in
+      let behind : at + getD b at 0 ≤ k = omega (arith, p, place-order b y at e f (u .place) us vs xs 28 16 all (u .unbroken)) in
+      let f-stands = entry-standing b y k f p vs (xs ++ (e ∷ us)) 28 16 (all ∙ sym (append-assoc xs (e ∷ us) (f ∷ vs))) (u .unbroken) (omega arith) (omega arith) in
+      (behind, bytes-behind b at (getD b at 0) (entriesEnd b) (u .whole) fits (end-within u) k (getD b k 0) behind (f-stands .before))

@@ -9,6 +9,7 @@ pub mod PlannedChange
 pub mod NamedOnce
 pub mod SameItems
 pub mod EntryBytes
+pub mod KeptChains
 pub mod Read
 pub mod Totals
 pub mod Write

@@ -139,20 +139,22 @@ module _ (b : List ℕ) (y at new : ℕ) (whole : length b ≡ 512) (e : Entered
   entries-sized xs zero p i u = absurd (no-member e (xs, ys, i))
   entries-sized [] (suc m) p i u =
       let o = first-found b y m p e ys i u in
+      let s = o .stands in
       let here = first-here o at place in
-      let x = ap (walkedAt b) (sym here) ∙ o .walked in
-      let g = found-at b at (o .entry) x in
+      let x = ap (walkedAt b) (sym here) ∙ s .walked in
+      let g = found-at b at (s .entry) x in
       ap (entriesFrom (suc m) (b′ b at new whole) y) here
-      ∙ entries-more (b′ b at new whole) y m at (withNew new (o .entry)) (walked-new b at new whole (omega (arith, g .long, g .room)) ∙ ap (onFound new) x)
+      ∙ entries-more (b′ b at new whole) y m at (withNew new (s .entry)) (walked-new b at new whole (omega (arith, g .long, g .room)) ∙ ap (onFound new) x)
       ∙ rw (
         others b at new whole at (inl (omega arith)),
         entries-later b (b′ b at new whole) y whole whole′ m (at + getD b at 0) (λ i l. others b at new whole i (inr (omega (arith, l, g .long)))) (rw here at (o .unbroken)),
       )
-      (ap₂ _∷_ (ap (λ (q : ℕ). sized new (enteredAt (o .entry) (y * 512 + q))) (sym here) ∙ ap (sized new) (o .is)) (rw here at (o .rest)))
+      (ap₂ _∷_ (ap (λ (q : ℕ). sized new (enteredAt (s .entry) (y * 512 + q))) (sym here) ∙ ap (sized new) (sym (s .is))) (rw here at (o .rest)))
   entries-sized (z ∷ zs) (suc m) p i u =
       let o = first-found b y m p z (zs ++ (e ∷ ys)) i u in
-      let g = found-at b p (o .entry) (o .walked) in
+      let s = o .stands in
+      let g = found-at b p (s .entry) (s .walked) in
       let before : p + getD b p 0 ≤ at = omega (arith, place, place-after b y zs e ys m (p + getD b p 0) (o .rest) (o .unbroken)) in
-      entries-more (b′ b at new whole) y m p (o .entry)
-      (walked-same b (b′ b at new whole) p p whole whole′ g (g .room) (λ i l. others b at new whole (p + i) (inl (omega arith))) ∙ o .walked)
-      ∙ rw (others b at new whole p (inl (omega (arith, before, g .long))), o .is, entries-sized zs m (p + getD b p 0) (o .rest) (o .unbroken))
+      entries-more (b′ b at new whole) y m p (s .entry)
+      (walked-same b (b′ b at new whole) p p whole whole′ g (g .room) (λ i l. others b at new whole (p + i) (inl (omega arith))) ∙ s .walked)
+      ∙ rw (others b at new whole p (inl (omega (arith, before, g .long))), ← (s .is), entries-sized zs m (p + getD b p 0) (o .rest) (o .unbroken))

@@ -1,22 +1,30 @@
 -- A change of an entry of an accepted image with its plan, as a resize and a removal have it: what is known of the entry, of its chain and of its block.
 use Prim.Native.Nat.{ℕ, _/_, _<_}
-use mathlib.Core.Path.{_≡_, sym, ap, _∙_}
+use mathlib.Core.Path.{_≡_, refl, _∙_}
 use mathlib.Core.Logic.{_≢_}
 use mathlib.Core.Bool.{false}
 use mathlib.Core.List.{List}
 use native.Mathlib.Omega.{arith}
 use Rattle.rules.specs.Counting.{times}
-use Rattle.rules.specs.Anodes.{Anodes, limit, anodesOf}
-use Rattle.rules.specs.Chains.{chainOf, blocksOf}
+use Rattle.rules.specs.Anodes.{Anodes, anodesOf}
+use Rattle.rules.specs.Chains.{blocksOf}
 use Rattle.rules.specs.Walk.{Entered, reachedDirs}
 use Rattle.rules.specs.Accepted.{checkAnswer}
 use Rattle.rules.specs.Lookup.{noDirectory, entriesOf}
+use Rattle.rules.specs.Space.{Plan, refused, planned}
+use Rattle.rules.specs.Changes.{Left, left, leftBy}
 use Rattle.laws.specs.Heads.{Head}
 use Rattle.frames.specs.DisjointBlocks.{chains-apart}
 use Rattle.changes.specs.Image.{WholeImage, headIn, sideIn, accepted-whole}
 use Rattle.changes.specs.Members.{Member}
-use Rattle.changes.specs.Reached.{EntryFacts, block-on, reached-head, dir-block, entry-facts}
+use Rattle.changes.specs.Reached.{EntryFacts, block-on, reached-head, entry-facts}
 use Rattle.changes.specs.SingleBlocks.{single-apart}
+
+-- what a change leaves, by the two ways that its plan can end
+pub left-cases : (P : Left → Type 0) (img : List ℕ) (f : Anodes → List ℕ → List ℕ) (plan : Plan) → ((k : ℕ) → plan ≡ refused k → P (left k img)) →
+    ((t : Anodes) (ys : List ℕ) → plan ≡ planned t ys → P (left 0 (f t ys))) → P (leftBy plan img f)
+left-cases P img f (refused k) stopped done = stopped k refl
+left-cases P img f (planned t ys) stopped done = done t ys refl
 
 -- Plans: what is known of the plan
 pub record PlannedChange (img : List ℕ) (e : Entered) (Plans : Type 0) : Type 0 where
@@ -54,7 +62,3 @@ module _ {img : List ℕ} {e : Entered} {Plans : Type 0} (p : PlannedChange img 
   -- and no other anode's that has one block
   pub off-anode : (a : ℕ) → s .count a ≡ 1 → a ≢ facts .a₀ → s .block a ≢ e .place / 512
   off-anode a one n i = single-apart (w .good) a one (facts .a₀) (facts .block-facts .one) n (i ∙ facts .in-block)
-
-  -- nor is its anode on another directory's chain
-  pub not-a₀ : (k : ℕ) → noDirectory img s k ≡ false → k ≢ p .home → (a : ℕ) → Member a (chainOf (s .next) limit k) → a ≢ facts .a₀
-  not-a₀ k r apart a on i = apart (sym (dir-block img (p .blocks) (p .anodes) (p .accepted) k r a on .on-chain) ∙ ap (headIn img) i ∙ facts .block-facts .on-chain)

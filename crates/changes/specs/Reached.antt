@@ -9,7 +9,6 @@ use native.Mathlib.Omega.{arith}
 use lib.ListN.{length, getD}
 use Rattle.disk.specs.Blocks.{blockOf}
 use Rattle.disk.proofs.Laws.{length-blockOf}
-use Rattle.directory.specs.declared.Entry.{Entry}
 use Rattle.directory.specs.declared.Walked.{Walked}
 use Rattle.directory.specs.declared.Walked.the-variants.{Found, End, Fault}
 use Rattle.directory.specs.Entries.{walkedAt}
@@ -34,7 +33,7 @@ use Rattle.laws.specs.Entries.{broken-wrong, item-fine, item-anode, item-dir, i
 use Rattle.laws.specs.Whole.{Whole, counts-head, not-dir, dir-heads, named-heads}
 use Rattle.frames.specs.DisjointBlocks.{DataBlock, chain-block}
 use Rattle.changes.specs.Image.{WholeImage, headIn, sideIn, accepted-whole, headed-named, headed-reached, reached-some}
-use Rattle.changes.specs.FoundEntries.{enteredAt}
+use Rattle.changes.specs.FoundEntries.{enteredAt, Standing, BlockEntry}
 use Rattle.changes.specs.Members.{Member, no-member, member-first, member-later, member-cons, member-each, member-sum, member-gather, member-times}
 
 -- ---- lookups
@@ -61,19 +60,17 @@ nth-member (x ∷ l) (suc n) e is = member-later e x l (nth-member l n e is)
 -- ---- where an entry stands
 
 -- an entry of a block that keeps the rules is found at its place
-entry-place : (k : ℕ) (b : List ℕ) (y at : ℕ) (e : Entered) → Member e (entriesFrom k b y at) → e .broken ≡ false →
-    (place : ℕ) × (x : Entry) × (at ≤ place) × (walkedAt b place ≡ Found x) × (e ≡ enteredAt x (y * 512 + place))
+entry-place : (k : ℕ) (b : List ℕ) (y at : ℕ) (e : Entered) → Member e (entriesFrom k b y at) → e .broken ≡ false → (place : ℕ) × (at ≤ place) × Standing b y place 510 e
 unfolding entriesFrom
 entry-place zero b y at e p u = absurd (no-member e p)
 entry-place (suc k) b y at e p u = go (walkedAt b at) refl p (entry-place k b y (at + getD b at 0) e)
   where
     go : (w : Walked) → walkedAt b at ≡ w → Member e (withRest w (y * 512 + at) (entriesFrom k b y (at + getD b at 0))) →
-        (Member e (entriesFrom k b y (at + getD b at 0)) → e .broken ≡ false →
-        (place : ℕ) × (x : Entry) × (at + getD b at 0 ≤ place) × (walkedAt b place ≡ Found x) × (e ≡ enteredAt x (y * 512 + place))) →
-        (place : ℕ) × (x : Entry) × (at ≤ place) × (walkedAt b place ≡ Found x) × (e ≡ enteredAt x (y * 512 + place))
+        (Member e (entriesFrom k b y (at + getD b at 0)) → e .broken ≡ false → (place : ℕ) × (at + getD b at 0 ≤ place) × Standing b y place 510 e) →
+        (place : ℕ) × (at ≤ place) × Standing b y place 510 e
     go (Found x) f q rest = elim (member-cons e (enteredAt x (y * 512 + at)) (entriesFrom k b y (at + getD b at 0)) q) [
-      | inl i ↦ (at, x, omega arith, f, i)
-      | inr i ↦ (let r = rest i u in (r .0, r .1, omega (arith, r .2), r .3, r .4))
+      | inl i ↦ (at, omega arith, record { entry = x; walked = f; is = i; before = found-at b at x f .room })
+      | inr i ↦ (let r = rest i u in (r .0, omega (arith, r .1), r .2))
     ]
     go End f q rest = absurd (no-member e q)
     go (Fault r) f q rest = elim (member-cons e (record { broken = true; dir = false; anode = 0; size = 0; place = y * 512 + at }) [] q) [
@@ -176,10 +173,7 @@ pub record EntryFacts (img : List ℕ) (h : ℕ) (e : Entered) : Type 0 where
   pub member : Member e (entriesIn img (anodesOf img .block a₀))
   pub in-block : e .place / 512 ≡ anodesOf img .block a₀
   pub from-16 : 16 ≤ e .place % 512
-  pub ends : e .place % 512 + getD (blockOf img (e .place / 512)) (e .place % 512) 0 ≤ 510
-  pub entry : Entry
-  pub stands : walkedAt (blockOf img (e .place / 512)) (e .place % 512) ≡ Found entry
-  pub is-entered : e ≡ enteredAt entry (e .place)
+  pub stands : Standing (blockOf img (e .place / 512)) (e .place / 512) (e .place % 512) 510 e
   -- it alone names its chain
   pub named : sumList (namedIn (itemsBy (entriesIn img) (isBlockOf img) (anodesOf img)) (e .anode)) (reachedDirs img (anodesOf img)) ≡ 1
   pub file : e .dir ≡ false →
@@ -187,18 +181,12 @@ pub record EntryFacts (img : List ℕ) (h : ℕ) (e : Entered) : Type 0 where
 
 -- the block that has it
 module _ {img : List ℕ} {h : ℕ} {e : Entered} (f : EntryFacts img h e) where
-  pub block-whole : length (blockOf img (e .place / 512)) ≡ 512
-  block-whole = rw (f .in-block) (f .block-facts .whole)
-
-  pub block-unbroken : anyIn (λ c. c .broken) (entriesIn img (e .place / 512)) ≡ false
-  block-unbroken = rw (f .in-block) (f .block-facts .unbroken)
-
   pub block-data : DataBlock img (e .place / 512)
   block-data = rw (f .in-block) (f .block-facts .is-data)
 
-  -- the entries before it, and those behind it
-  pub parted : Member e (entriesIn img (e .place / 512))
-  parted = rw (f .in-block) (f .member)
+  pub block-entry : BlockEntry (blockOf img (e .place / 512)) (e .place / 512) (e .place % 512) e
+  unfolding entriesIn
+  block-entry = record { whole = rw (f .in-block) (f .block-facts .whole); unbroken = rw (f .in-block) (f .block-facts .unbroken); parted = rw (f .in-block) (f .member); place = omega arith }
 
 -- a list whose members keep the entry rules
 none-broken : (l : List Entered) → ((e : Entered) → Member e l → e .broken ≡ false) → anyIn (λ e. e .broken) l ≡ false
@@ -233,6 +221,9 @@ module _ (img : List ℕ) (blocks anodes : ℕ) (accepted : checkAnswer img bloc
   pub reached-from-5 : 5 ≤ h
   reached-from-5 = head-from-5 w h some-dir
 
+  pub reached-not-1 : h ≢ 1
+  reached-not-1 q = omega (arith, q, reached-from-5)
+
   pub reached-head : Head (anodesOf img .next) (anodesOf img .block) h
   reached-head = rw (reached-dir .2) at (dir-is-head w (reached-dir .0) (reached-dir .1))
 
@@ -264,7 +255,7 @@ module _ (img : List ℕ) (blocks anodes : ℕ) (accepted : checkAnswer img bloc
   place-in a on e m =
       let y = anodesOf img .block a in
       let p = entry-place 28 (blockOf img y) y 16 e m (fine w (reached-dir .0) (reached-dir .1) a (rw (reached-dir .2) on) e m .0) in
-      (p .0, ap (λ (c : Entered). c .place) (p .4), found-at (blockOf img y) (p .0) (p .1) (p .3))
+      (p .0, ap (λ (c : Entered). c .place) (p .2 .is), found-at (blockOf img y) (p .0) (p .2 .entry) (p .2 .walked))
 
   module _ (e : Entered) (member : Member e (entriesOf img (anodesOf img) h)) where
     -- an entry of it
@@ -278,10 +269,9 @@ module _ (img : List ℕ) (blocks anodes : ℕ) (accepted : checkAnswer img bloc
         let f = fine w (reached-dir .0) (reached-dir .1) a c e (q .2) in
         let d = counts-head (w .good) (e .anode) (f .2) in
         let p = entry-place 28 (blockOf img (s .block a)) (s .block a) 16 e (q .2) (f .0) in
-        let room = found-at (blockOf img (s .block a)) (p .0) (p .1) (p .3) .room in
-        let place : e .place ≡ s .block a * 512 + p .0 = ap (λ (z : Entered). z .place) (p .4) in
-        let y : e .place / 512 ≡ s .block a = omega arith in
-        let at : e .place % 512 ≡ p .0 = omega arith in
+        let place : e .place ≡ s .block a * 512 + p .0 = ap (λ (z : Entered). z .place) (p .2 .is) in
+        let y : e .place / 512 ≡ s .block a = omega (arith, p .2 .before) in
+        let at : e .place % 512 ≡ p .0 = omega (arith, p .2 .before) in
         record {
           unbroken = f .0;
           from-6 = f .1;
@@ -293,11 +283,8 @@ module _ (img : List ℕ) (blocks anodes : ℕ) (accepted : checkAnswer img bloc
           block-facts = dir-block a (q .1);
           member = q .2;
           in-block = y;
-          from-16 = omega (arith, at, p .2);
-          ends = rw (y, at) room;
-          entry = p .1;
-          stands = rw (y, at) (p .3);
-          is-entered = p .4 ∙ ap (enteredAt (p .1)) (sym place);
+          from-16 = omega (arith, at, p .1);
+          stands = rw (y, at) (p .2);
           named = omega (arith, w .tree .once (e .anode), w .all-named (e .anode) (f .1) d);
           file = λ i. omega (arith, item-sum w (reached-dir .0) (reached-dir .1) a c e (q .2) (file-size (λ x. oneAt x (e .anode))), file-one i);
         }

@@ -13,8 +13,8 @@ use Rattle.rules.specs.Chains.{blockCount, systemOwns}
 use Rattle.rules.specs.Walk.{Dir, Entered, entriesIn, isBlockOf, reachedDirs}
 use Rattle.rules.specs.Accepted.{diskSize, lastReserved, checkAnswer}
 use Rattle.rules.specs.Lookup.{noDirectory, entriesOf, nth, isThere, notEmpty}
-use Rattle.rules.specs.Space.{Plan, refused, planned, giveMany, onChain}
-use Rattle.rules.specs.Changes.{Left, left, leftBy, removedImage, removed}
+use Rattle.rules.specs.Space.{Plan, refused, giveMany, onChain}
+use Rattle.rules.specs.Changes.{removedImage, removed}
 use Rattle.laws.specs.Tests.{same?}
 use Rattle.laws.specs.Sums.{oneAt-same, oneAt-other}
 use Rattle.laws.specs.Bags.{list-cons, list-append, map-sum}
@@ -27,11 +27,10 @@ use Rattle.laws.specs.Remove as Laws
 use Rattle.frames.specs.Kept.{entriesIn-kept, isBlockOf-kept}
 use Rattle.changes.specs.Image.{headIn, sideIn, accepted-whole, whole-accepted, reached-headed}
 use Rattle.changes.specs.Members.{Member}
-use Rattle.changes.specs.Reached.{EntryFacts, entry-facts}
-use Rattle.changes.specs.Reached as Reached
+use Rattle.changes.specs.Reached.{entry-facts}
 use Rattle.changes.specs.Gap.{lowered}
-use Rattle.changes.specs.PlannedChange.{w, facts}
-use Rattle.changes.specs.RemoveStores.{PlannedRemove, kept-data, entries-left, marks-left, apart}
+use Rattle.changes.specs.PlannedChange.{left-cases, w, facts}
+use Rattle.changes.specs.RemoveStores.{PlannedRemove, here, kept-data, entries-left, marks-left, apart}
 use Rattle.changes.specs.RemoveStores as Stores
 
 module _ {img : List ℕ} {e : Entered} {t : Anodes} {ys : List ℕ} (p : PlannedRemove img e t ys) where
@@ -44,23 +43,21 @@ module _ {img : List ℕ} {e : Entered} {t : Anodes} {ys : List ℕ} (p : Planne
   abbrev j : List ℕ
   j = removedImage img e t ys
 
-  abbrev parts : Member e (entriesIn img y)
-  parts = Reached.parted (facts p)
-
   in-y : (a : ℕ) → a ≡ facts p .a₀ → s .block a ≡ y
   in-y a q = ap (s .block) q ∙ sym (facts p .in-block)
 
   one-less : (v : Bool → Bool → ℕ → ℕ → ℕ) → sumList (weighEntry v) (entriesIn img y) ≡ sumList (weighEntry v) (entriesIn j y) + weighEntry v e
+  unfolding entriesIn
   one-less v =
       let low = lowered (getD (blockOf img y) (e .place % 512) 0) in
       omega (
         arith,
-        ap (sumList (weighEntry v)) (parts .2),
-        list-append (weighEntry v) (parts .0) (e ∷ parts .1),
-        list-cons (weighEntry v) e (parts .1),
+        ap (sumList (weighEntry v)) (here p .parted .2),
+        list-append (weighEntry v) (here p .parted .0) (e ∷ here p .parted .1),
+        list-cons (weighEntry v) e (here p .parted .1),
         ap (sumList (weighEntry v)) (entries-left p),
-        list-append (weighEntry v) (parts .0) (map low (parts .1)),
-        map-sum low (weighEntry v) (parts .1),
+        list-append (weighEntry v) (here p .parted .0) (map low (here p .parted .1)),
+        map-sum low (weighEntry v) (here p .parted .1),
       )
 
   cont : (a : ℕ) → s .count a ≡ 1 → headIn img a ≢ 1 → (v : Bool → Bool → ℕ → ℕ → ℕ) →
@@ -97,39 +94,26 @@ module _ {img : List ℕ} {e : Entered} {t : Anodes} {ys : List ℕ} (p : Planne
 
 module _ (img : List ℕ) (blocks anodes : ℕ) (accepted : checkAnswer img blocks anodes ≡ 0) (h : ℕ) (reached : noDirectory img (anodesOf img) h ≡ false)
     (e : Entered) (member : Member e (entriesOf img (anodesOf img) h)) where
-  abbrev its-facts : EntryFacts img h e
-  its-facts = entry-facts img blocks anodes accepted h reached e member
-
-  -- the removal with its plan
-  abbrev planned-remove : (t : Anodes) (ys : List ℕ) → giveMany limit (exists img) (lastReserved img) (blockCount (anodesOf img) (e .anode)) (anodesOf img) (e .anode) ≡ planned t ys → PlannedRemove img e t ys
-  planned-remove t ys gives = record { blocks = blocks; anodes = anodes; accepted = accepted; home = h; reached = reached; member = member; plan = gives }
-
   -- ---- the answers
 
   -- a removal is refused with 28 alone
   pub remove-refused : (k : ℕ) → giveMany limit (exists img) (lastReserved img) (blockCount (anodesOf img) (e .anode)) (anodesOf img) (e .anode) ≡ refused k → k ≡ 28
   remove-refused k q =
       let g = accepted-whole img blocks anodes accepted .good in
-      gives-refused (blockCount (anodesOf img) (e .anode)) (e .anode) (λ i. omega (arith, i, its-facts .from-6)) k (anodesOf img) (systemOwns img) (headIn img) (sideIn img) g (its-facts .head)
-      (omega (arith, blocks-count g (e .anode) (its-facts .head))) q
+      let f = entry-facts img blocks anodes accepted h reached e member in
+      gives-refused (blockCount (anodesOf img) (e .anode)) (e .anode) (λ i. omega (arith, i, f .from-6)) k (anodesOf img) (systemOwns img) (headIn img) (sideIn img) g (f .head)
+      (omega (arith, blocks-count g (e .anode) (f .head))) q
 
-  remove-cases : let s = anodesOf img in (removed img s e ≡ left 28 img)
-      ⊎ ((t : Anodes) × (ys : List ℕ) × (giveMany limit (exists img) (lastReserved img) (blockCount s (e .anode)) s (e .anode) ≡ planned t ys) × (removed img s e ≡ left 0 (removedImage img e t ys)))
-  unfolding removed
-  remove-cases = go (giveMany limit (exists img) (lastReserved img) (blockCount (anodesOf img) (e .anode)) (anodesOf img) (e .anode)) refl
-    where
-      go : (p : Plan) → giveMany limit (exists img) (lastReserved img) (blockCount (anodesOf img) (e .anode)) (anodesOf img) (e .anode) ≡ p →
-          (leftBy p img (removedImage img e) ≡ left 28 img) ⊎ ((t : Anodes) × (ys : List ℕ) × (p ≡ planned t ys) × (leftBy p img (removedImage img e) ≡ left 0 (removedImage img e t ys)))
-      go (refused k) q = inl (ap (λ (n : ℕ). left n img) (remove-refused k q))
-      go (planned t ys) q = inr (t, ys, refl, refl)
+  abbrev gives : Plan
+  gives = giveMany limit (exists img) (lastReserved img) (blockCount (anodesOf img) (e .anode)) (anodesOf img) (e .anode)
 
   -- what a removal leaves of an accepted image is accepted, where a directory that goes is empty
   pub remove-accepted : (e .dir ≡ true → notEmpty img (anodesOf img) e ≡ false) → checkAnswer (removed img (anodesOf img) e .image) blocks anodes ≡ 0
-  remove-accepted empty = elim remove-cases [
-    | inl q ↦ rw q accepted
-    | inr q ↦ rw (q .3) (planned-accepted (planned-remove (q .0) (q .1) (q .2)) empty)
-  ]
+  unfolding removed
+  remove-accepted empty = left-cases (λ l. checkAnswer (l .image) blocks anodes ≡ 0) img (removedImage img e) gives (λ k q. accepted)
+      (λ t ys q. planned-accepted (record { blocks = blocks; anodes = anodes; accepted = accepted; home = h; reached = reached; member = member; plan = q }) empty)
 
   -- it answers 0 or 28
   pub remove-answers : (removed img (anodesOf img) e .answer ≡ 0) ⊎ (removed img (anodesOf img) e .answer ≡ 28)
-  remove-answers = elim remove-cases [ inl q ↦ inr (ap (λ (l : Left). l .answer) q) | inr q ↦ inl (ap (λ (l : Left). l .answer) (q .3)) ]
+  unfolding removed
+  remove-answers = left-cases (λ l. (l .answer ≡ 0) ⊎ (l .answer ≡ 28)) img (removedImage img e) gives (λ k q. inr (remove-refused k q)) (λ t ys q. inl refl)

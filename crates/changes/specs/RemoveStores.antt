@@ -6,10 +6,9 @@ use mathlib.Core.List.{List, _++_, map}
 use native.Mathlib.Omega.{arith}
 use lib.ListN.{length, getD}
 use Rattle.disk.specs.Blocks.{blockOf}
-use Rattle.directory.specs.Entries.{directoryHeadIn}
 use Rattle.rules.specs.Anodes.{Anodes, limit, exists, anodesOf, withAnodes}
 use Rattle.rules.specs.Chains.{blockCount, systemOwns}
-use Rattle.rules.specs.Walk.{Dir, Entered, entriesFrom, entriesIn, isBlockOf}
+use Rattle.rules.specs.Walk.{Dir, Entered, entriesIn, isBlockOf}
 use Rattle.rules.specs.Accepted.{diskSize, lastReserved}
 use Rattle.rules.specs.Space.{planned, giveMany, onChain, dropped}
 use Rattle.rules.specs.Changes.{entriesEnd, gapClosed, withoutEntry, removedImage}
@@ -22,7 +21,8 @@ use Rattle.frames.specs.Kept.{Kept, kept-both}
 use Rattle.frames.specs.StoredBlocks.{inBlock-kept, blockOf-inBlock}
 use Rattle.frames.specs.DisjointBlocks.{DataBlock}
 use Rattle.changes.specs.Image.{headIn, sideIn, SameDisk, stored-kept, stored-same, stored-anodes, not-one, same-then, anodes-then}
-use Rattle.changes.specs.Reached.{block-whole, block-unbroken, block-data, parted}
+use Rattle.changes.specs.FoundEntries.{BlockEntry}
+use Rattle.changes.specs.Reached.{block-data, block-entry}
 use Rattle.changes.specs.SingleBlocks.{single-data}
 use Rattle.changes.specs.PlannedChange.{PlannedChange, w, facts, not-1, off-anode}
 use Rattle.changes.specs.Gap.{lowered, length-closed, head-closed, entries-closed}
@@ -52,17 +52,8 @@ module _ {img : List ℕ} {e : Entered} {t : Anodes} {ys : List ℕ} (p : Planne
   abbrev closed : List ℕ
   closed = gapClosed b at len (entriesEnd b)
 
-  length-block : length closed ≡ 512
-  unfolding entriesIn
-  length-block = length-closed b y at (block-whole (facts p)) (parted (facts p) .0) e (parted (facts p) .1) (parted (facts p) .2) (block-unbroken (facts p)) (omega arith)
-
-  head-block : directoryHeadIn closed ≡ directoryHeadIn b
-  unfolding entriesIn
-  head-block = head-closed b y at (block-whole (facts p)) (parted (facts p) .0) e (parted (facts p) .1) (parted (facts p) .2) (block-unbroken (facts p)) (omega arith)
-
-  entries-block : entriesFrom 28 closed y 16 ≡ parted (facts p) .0 ++ map (lowered len) (parted (facts p) .1)
-  unfolding entriesIn
-  entries-block = entries-closed b y at (block-whole (facts p)) (parted (facts p) .0) e (parted (facts p) .1) (parted (facts p) .2) (block-unbroken (facts p)) (omega arith)
+  abbrev pub here : BlockEntry b y at e
+  here = block-entry (facts p)
 
   -- ---- its stores, one after the other
 
@@ -91,7 +82,7 @@ module _ {img : List ℕ} {e : Entered} {t : Anodes} {ys : List ℕ} (p : Planne
 
   long : length (closer (blockOf stored y)) ≡ length (blockOf stored y)
   unfolding closer
-  long = rw same-block (length-block ∙ sym (block-whole (facts p)))
+  long = rw same-block (length-closed here ∙ sym (here .whole))
 
   kept-last : Kept (λ d. d ≢ y) stored j
   unfolding removedImage withoutEntry closer
@@ -114,13 +105,13 @@ module _ {img : List ℕ} {e : Entered} {t : Anodes} {ys : List ℕ} (p : Planne
   pub kept-data : Kept (λ d. DataBlock img d × (d ≢ y)) img j
   kept-data = kept-both (λ d o. o .0 .unheld) (λ d o. o .1) (stored-kept img (p .blocks) (p .anodes) (p .accepted) end) kept-last
 
-  pub entries-left : entriesIn j y ≡ parted (facts p) .0 ++ map (lowered len) (parted (facts p) .1)
+  pub entries-left : entriesIn j y ≡ here .parted .0 ++ map (lowered len) (here .parted .1)
   unfolding entriesIn
-  entries-left = rw block-left entries-block
+  entries-left = rw block-left (entries-closed here)
 
   pub marks-left : (d : Dir) → isBlockOf j d y ≡ isBlockOf img d y
   unfolding isBlockOf
-  marks-left d = rw (block-left, head-block)
+  marks-left d = rw (block-left, head-closed here)
 
   -- the block of another anode that has one
   pub apart : (a : ℕ) → s .count a ≡ 1 → a ≢ facts p .a₀ → DataBlock img (s .block a) × (s .block a ≢ y)

@@ -18,14 +18,16 @@ use Rattle.rules.specs.Lookup.{entriesOf, notEmpty}
 use Rattle.rules.specs.Changes.{entriesEnd, gapClosed, removedImage}
 use Rattle.laws.specs.ChainBlocks.{gather-append, stands-once}
 use Rattle.frames.specs.Kept.{entriesIn-kept}
+use Rattle.frames.specs.DisjointBlocks.{DataBlock}
 use Rattle.changes.specs.Members.{Member, no-member, member-append, member-gather, member-times, gather-congr, map-members, map-kept}
-use Rattle.changes.specs.Reached.{block-whole, block-unbroken, parted, reached-from-5, dir-block, place-in, not-file}
+use Rattle.changes.specs.Reached.{reached-not-1, dir-block, place-in, not-file}
 use Rattle.changes.specs.Gap.{lowered, bytes-earlier, bytes-later}
 use Rattle.changes.specs.EntryBytes.{entryBytes, bytes-at, with-length}
 use Rattle.changes.specs.PlannedChange.{w, facts, home-head}
-use Rattle.changes.specs.RemoveStores.{PlannedRemove, block-left, removed-anodes, kept-data, entries-left, apart}
+use Rattle.changes.specs.RemoveStores.{PlannedRemove, here, block-left, removed-anodes, kept-data, entries-left, apart}
 use Rattle.changes.specs.Remove.{no-entry}
-use Rattle.changes.specs.RemoveEffects.{entries-from, bytes-other}
+use Rattle.changes.specs.KeptChains.{entries-along}
+use Rattle.changes.specs.RemoveEffects.{others-same}
 
 -- an entry behind the removed one: in the same block it stands earlier by as many bytes as that had
 unfoldable pub movedUp : List ℕ → Entered → Entered → Entered
@@ -73,10 +75,10 @@ module _ {img : List ℕ} {e : Entered} {t : Anodes} {ys : List ℕ} (p : Planne
 
   -- its entries in the block before the entry, and behind it
   abbrev earlier : List Entered
-  earlier = parted (facts p) .0
+  earlier = here p .parted .0
 
   abbrev later : List Entered
-  later = parted (facts p) .1
+  later = here p .parted .1
 
   not-moved : (f : Entered) → f .place / 512 ≢ y → movedUp img e f ≡ f
   unfolding movedUp
@@ -94,19 +96,19 @@ module _ {img : List ℕ} {e : Entered} {t : Anodes} {ys : List ℕ} (p : Planne
   same-before : (f : Entered) → Member f earlier → entryBytes j (f .place) ≡ entryBytes img (f .place)
   unfolding entriesIn
   same-before f m =
-      let k = in-block f (member-front f e earlier later (entriesIn img y) (parted (facts p) .2) m) in
+      let k = in-block f (member-front f e earlier later (entriesIn img y) (here p .parted .2) m) in
       let l : k .0 < 512 = omega (arith, k .2 .room) in
       bytes-at j (f .place) y (k .0) (k .1) l
-      ∙ rw (block-left p) (with-length (gapClosed b at len (entriesEnd b)) b (k .0) (k .0) (omega (arith, k .2 .long)) (bytes-earlier b y at (block-whole (facts p)) earlier e later (parted (facts p) .2) (block-unbroken (facts p)) (omega arith) f m (k .0) (k .1)))
+      ∙ rw (block-left p) (with-length (gapClosed b at len (entriesEnd b)) b (k .0) (k .0) (omega (arith, k .2 .long)) (bytes-earlier (here p) f m (k .0) (k .1)))
       ∙ sym (bytes-at img (f .place) y (k .0) (k .1) l)
 
   -- one behind it keeps its bytes and stands earlier
   same-behind : (f : Entered) → Member f later → (f .place / 512 ≡ y) × (entryBytes j (lowered len f .place) ≡ entryBytes img (f .place))
   unfolding entriesIn
   same-behind f m =
-      let k = in-block f (member-back f e earlier later (entriesIn img y) (parted (facts p) .2) m) in
+      let k = in-block f (member-back f e earlier later (entriesIn img y) (here p .parted .2) m) in
       let l : k .0 < 512 = omega (arith, k .2 .room) in
-      let r = bytes-later b y at (block-whole (facts p)) earlier e later (parted (facts p) .2) (block-unbroken (facts p)) (omega arith) f m (k .0) (k .1) in (
+      let r = bytes-later (here p) f m (k .0) (k .1) in (
         omega (arith, k .1, l),
         bytes-at j (f .place - len) y (k .0 - len) (omega (arith, k .1, r .0)) (omega arith)
             ∙ rw (block-left p) (with-length (gapClosed b at len (entriesEnd b)) b (k .0 - len) (k .0) (omega (arith, k .2 .long)) (r .1))
@@ -140,15 +142,22 @@ module _ {img : List ℕ} {e : Entered} {t : Anodes} {ys : List ℕ} (p : Planne
   abbrev new : ℕ → List Entered
   new a = entriesIn j (s .block a)
 
+  other-anode : (a : ℕ) → Member a chain × (a ≢ facts p .a₀) → DataBlock img (s .block a) × (s .block a ≢ y)
+  other-anode a u = apart p a (dir-block img (p .blocks) (p .anodes) (p .accepted) (p .home) (p .reached) a (u .0) .one) (u .1)
+
   same-along : (l : List ℕ) → ((a : ℕ) → Member a l → Member a chain × (a ≢ facts p .a₀)) → gather new l ≡ gather old l
-  same-along l o = gather-congr new old l (λ a m. let u = o a m in entriesIn-kept (kept-data p) (s .block a) (apart p a (dir-block img (p .blocks) (p .anodes) (p .accepted) (p .home) (p .reached) a (u .0) .one) (u .1)))
+  same-along l o = gather-congr new old l (λ a m. entriesIn-kept (kept-data p) (s .block a) (other-anode a (o a m)))
 
   along : (l : List ℕ) → ((a : ℕ) → Member a l → Member a chain × (a ≢ facts p .a₀)) → (f : Entered) → Member f (gather old l) →
       (f .place / 512 ≢ y) × (entryBytes j (f .place) ≡ entryBytes img (f .place))
+  unfolding entryBytes
   along l o f m =
       let q = member-gather old l f m in
       let u = o (q .0) (q .1) in
-      bytes-other p (p .home) (p .reached) (q .0) (u .0) (u .1) f (q .2)
+      let i = place-in img (p .blocks) (p .anodes) (p .accepted) (p .home) (p .reached) (q .0) (u .0) f (q .2) in
+      let in-a : f .place / 512 ≡ s .block (q .0) = omega (arith, i .1, i .2 .room) in
+      let k = other-anode (q .0) u in
+      rw in-a (k .1, rw (kept-data p .block-kept (s .block (q .0)) k))
 
   abbrev were : List Entered
   were = gather old front ++ earlier
@@ -161,10 +170,10 @@ module _ {img : List ℕ} {e : Entered} {t : Anodes} {ys : List ℕ} (p : Planne
   joined l m = ap (λ (k : List Entered). gather old front ++ k) (append-assoc earlier l m) ∙ sym (append-assoc (gather old front) earlier (l ++ m))
 
   old-entries : entriesOf img s (p .home) ≡ were ++ (e ∷ behind)
-  unfolding entriesOf gather
+  unfolding entriesOf entriesIn gather
   old-entries =
       ap (gather old) (facts p .member-chain .2) ∙ gather-append old front (facts p .a₀ ∷ back)
-      ∙ ap (λ (k : List Entered). gather old front ++ (k ++ gather old back)) (ap (entriesIn img) (sym (facts p .in-block)) ∙ parted (facts p) .2)
+      ∙ ap (λ (k : List Entered). gather old front ++ (k ++ gather old back)) (ap (entriesIn img) (sym (facts p .in-block)) ∙ here p .parted .2)
       ∙ joined (e ∷ later) (gather old back)
 
   all-moved : map (movedUp img e) behind ≡ map (lowered len) later ++ gather old back
@@ -185,7 +194,7 @@ module _ {img : List ℕ} {e : Entered} {t : Anodes} {ys : List ℕ} (p : Planne
     new-entries : entriesOf j (anodesOf j) (p .home) ≡ were ++ map (movedUp img e) behind
     unfolding gather
     new-entries = rw (removed-anodes p, all-moved)
-        (entries-from p (p .home) (home-head p) (λ q. omega (arith, q, reached-from-5 img (p .blocks) (p .anodes) (p .accepted) (p .home) (p .reached))) not-itself
+        (entries-along (others-same p (p .home) (home-head p) (reached-not-1 img (p .blocks) (p .anodes) (p .accepted) (p .home) (p .reached)) not-itself) j
         ∙ ap (gather new) (facts p .member-chain .2) ∙ gather-append new front (facts p .a₀ ∷ back)
         ∙ rw (same-along front in-front, same-along back in-back, ← (facts p .in-block), entries-left p) (joined (map (lowered len) later) (gather old back)))
 

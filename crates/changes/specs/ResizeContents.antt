@@ -25,17 +25,18 @@ use Rattle.laws.specs.Tests.{same?}
 use Rattle.laws.specs.Sums.{oneAt-same}
 use Rattle.laws.specs.Bags.{times-cons, times-append}
 use Rattle.laws.specs.Whole.{blocks-count}
-use Rattle.laws.specs.ChainBlocks.{gather-append, shift-blocks}
+use Rattle.laws.specs.ChainBlocks.{gather-append}
 use Rattle.frames.specs.StoredBlocks.{inBlock-kept, blockOf-inBlock}
-use Rattle.frames.specs.StoredBytes.{length-gather, blockOf-withBlocks, bytesOf-kept}
-use Rattle.frames.specs.DisjointBlocks.{chain-once, chains-apart, chain-block}
+use Rattle.frames.specs.StoredBytes.{length-gather, blockOf-withBlocks}
+use Rattle.frames.specs.DisjointBlocks.{chain-once, chain-block}
 use Rattle.changes.specs.Members.{Member, member-first, member-later, member-times, gather-congr}
 use Rattle.changes.specs.Reached.{entry-facts, not-file}
+use Rattle.changes.specs.KeptChains.{contents-same}
 use Rattle.changes.specs.Read.{bytes-long, file-long}
 use Rattle.changes.specs.NewSize.{sized}
-use Rattle.changes.specs.ResizePlan.{handed-data, handed-apart, plan-longer, plan-shorter}
-use Rattle.changes.specs.PlannedChange.{w, facts, not-1, off-chain}
-use Rattle.changes.specs.ResizeStores.{PlannedResize, steps, stored, taken-kept, tail-in, tail-kept, size-kept, left-kept, home-alone, length-blocksOf}
+use Rattle.changes.specs.ResizePlan.{handed-data, plan-longer, plan-shorter}
+use Rattle.changes.specs.PlannedChange.{w, facts, not-1}
+use Rattle.changes.specs.ResizeStores.{PlannedResize, steps, stored, taken-kept, tail-in, tail-kept, size-kept, others-same, others-kept, home-alone, length-blocksOf}
 
 -- the rest of a block cleared
 cleared-rest : (b : List ℕ) (r : ℕ) → length b ≡ 512 → r ≤ 512 → cleared b r (512 - r) ≡ take r b ++ replicate (512 - r) 0
@@ -72,22 +73,11 @@ module _ {img : List ℕ} {e : Entered} {new : ℕ} {t : Anodes} {ys : List ℕ}
 
   -- every other file has the bytes that it had
   pub contents-resized-other : (k : ℕ) → noDirectory img s k ≡ false → (f : Entered) → Member f (entriesOf img s k) → f .dir ≡ false → f .anode ≢ e .anode → contents j t f ≡ contents img s f
-  unfolding contents bytesOf
   contents-resized-other k r f m file apart =
       let g = entry-facts img (p .blocks) (p .anodes) (p .accepted) k r f m in
       let not-1f : f .anode ≢ 1 = λ i. omega (arith, i, g .from-6) in
       let not-home = not-file img (p .blocks) (p .anodes) (p .accepted) (p .home) (p .reached) k f g file in
-      ap (λ (l : List ℕ). take (f .size) (gather (blockOf j) l)) (shift-blocks (w p .good) (steps p .ran .good) (steps p .ran .shift) (f .anode) (g .head) not-1f apart)
-      ∙ ap (take (f .size)) (bytesOf-kept (left-kept p) s (f .anode) (λ y q. (
-        chain-block img (w p .good) (f .anode) (g .head) y q .unheld,
-        (
-          (
-            handed-apart img (w p .good) (e .anode) (facts p .head) (not-1 p) (steps p) (f .anode) (g .head) not-1f apart y q,
-            chains-apart (w p .good) (f .anode) (e .anode) (g .head) (facts p .head) apart y q,
-          ),
-          off-chain p (f .anode) (g .head) (λ i. not-home (sym i)) y q,
-        ),
-      )))
+      contents-same img j f (others-same p (f .anode) (g .head) not-1f apart) (others-kept p (f .anode) (g .head) not-1f apart (λ i. not-home (sym i)))
 
   -- ---- the file
 

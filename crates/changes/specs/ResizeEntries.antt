@@ -14,7 +14,7 @@ use Rattle.directory.proofs.Laws.{found-at}
 use Rattle.rules.specs.Counting.{oneAt, gather}
 use Rattle.rules.specs.Anodes.{Anodes, limit, anodesOf}
 use Rattle.rules.specs.Chains.{chainOf}
-use Rattle.rules.specs.Walk.{Dir, Entered, entriesIn, reachedDirs}
+use Rattle.rules.specs.Walk.{Entered, entriesIn, reachedDirs}
 use Rattle.rules.specs.Lookup.{noDirectory, entriesOf}
 use Rattle.rules.specs.Changes.{resizedImage}
 use Rattle.laws.specs.Tests.{same?}
@@ -22,13 +22,14 @@ use Rattle.laws.specs.TreeChanges.{headed}
 use Rattle.changes.specs.Image.{headed-same, reached-sum}
 use Rattle.changes.specs.Members.{Member, member-cons, member-append, gather-congr}
 use Rattle.changes.specs.FoundEntries.{part-same, place-order}
-use Rattle.changes.specs.Reached.{EntryFacts, block-whole, block-unbroken, parted, reached-dir, entry-facts}
+use Rattle.changes.specs.Reached.{EntryFacts, block-entry, reached-dir, entry-facts}
+use Rattle.changes.specs.KeptChains.{entries-along, entries-same}
 use Rattle.changes.specs.NamedOnce.{only-home}
 use Rattle.changes.specs.EntryBytes.{entryBytes}
 use Rattle.changes.specs.NewSize.{sized, put32-others}
-use Rattle.changes.specs.PlannedChange.{facts, not-a₀}
-use Rattle.changes.specs.ResizeStores.{PlannedResize, steps, other-block, this-block, resized-same, resized-anodes}
-use Rattle.changes.specs.Resize.{resizedEntry, one-resized, same-chain, alike, other-entries, entries-left, still-whole}
+use Rattle.changes.specs.PlannedChange.{facts}
+use Rattle.changes.specs.ResizeStores.{PlannedResize, steps, dir-same, dir-kept, other-block, this-block, resized-same, resized-anodes}
+use Rattle.changes.specs.Resize.{resizedEntry, one-resized, entries-left, still-whole}
 
 map-gather : (φ : Entered → Entered) (f : ℕ → List Entered) (l : List ℕ) → map φ (gather f l) ≡ gather (λ a. map φ (f a)) l
 unfolding gather
@@ -69,30 +70,20 @@ module _ {img : List ℕ} {e : Entered} {new : ℕ} {t : Anodes} {ys : List ℕ}
   resized-reached k = headed-same img j s t k (rw (resized-anodes p) at
       (reached-sum img j (p .blocks) (p .anodes) (p .accepted) (resized-same p) {hd = steps p .ran .hd′} {sd = steps p .ran .sd′} {dirs = reachedDirs img s} (rw (resized-anodes p) (still-whole p)) (λ d. oneAt (d .head) k)))
 
+  -- the directory k
   module _ (k : ℕ) (reached : noDirectory img s k ≡ false) where
-    in-tree : (d : Dir) × Member d (reachedDirs img s) × (d .head ≡ k)
-    in-tree = reached-dir img (p .blocks) (p .anodes) (p .accepted) k reached
-
-    on-tree : (a : ℕ) → Member a (chainOf (s .next) limit k) → Member a (chainOf (s .next) limit (in-tree .0 .head))
-    on-tree a on = rw (in-tree .2) on
-
-    -- its entries, block by block
-    entries-along : (f : ℕ → List Entered) → ((a : ℕ) → Member a (chainOf (s .next) limit k) → entriesIn j (s .block a) ≡ f a) → entriesOf j t k ≡ gather f (chainOf (s .next) limit k)
-    unfolding entriesOf
-    entries-along f each =
-        ap (gather (λ a. entriesIn j (t .block a))) (rw (in-tree .2) at (same-chain p (in-tree .0) (in-tree .1)))
-        ∙ gather-congr (λ a. entriesIn j (t .block a)) f (chainOf (s .next) limit k) (λ a on. ap (entriesIn j) (alike p (in-tree .0) (in-tree .1) a (on-tree a on) .same-block) ∙ each a on)
-
     -- every other directory has the entries that it had
     pub entries-resized-other : k ≢ p .home → entriesOf j t k ≡ entriesOf img s k
-    unfolding entriesOf
-    entries-resized-other apart = entries-along (λ a. entriesIn img (s .block a)) (λ a on. other-entries p (in-tree .0) (in-tree .1) a (on-tree a on) (not-a₀ p k reached apart a on))
+    entries-resized-other apart = entries-same img (p .blocks) (p .anodes) (p .accepted) k reached j (dir-kept p k reached apart) (dir-same p k reached)
 
     all-entries : entriesOf j t k ≡ map (resizedEntry (e .anode) new) (entriesOf img s k)
     unfolding entriesOf
     all-entries =
-        entries-along (λ a. map (resizedEntry (e .anode) new) (entriesIn img (s .block a))) (λ a on. entries-left p (in-tree .0) (in-tree .1) a (on-tree a on))
-        ∙ sym (map-gather (resizedEntry (e .anode) new) (λ a. entriesIn img (s .block a)) (chainOf (s .next) limit k))
+        let d = reached-dir img (p .blocks) (p .anodes) (p .accepted) k reached in
+        let chain = chainOf (s .next) limit k in
+        entries-along (dir-same p k reached) j
+        ∙ gather-congr (λ a. entriesIn j (s .block a)) (λ a. map (resizedEntry (e .anode) new) (entriesIn img (s .block a))) chain (λ a on. entries-left p (d .0) (d .1) a (rw (d .2) on))
+        ∙ sym (map-gather (resizedEntry (e .anode) new) (λ a. entriesIn img (s .block a)) chain)
 
   -- its own has the entry with its new size
   pub entries-resized : (before behind : List Entered) → entriesOf img s (p .home) ≡ before ++ (e ∷ behind) → entriesOf j t (p .home) ≡ before ++ (sized new e ∷ behind)
@@ -110,10 +101,10 @@ module _ {img : List ℕ} {e : Entered} {new : ℕ} {t : Anodes} {ys : List ℕ}
 
   home-block : blockOf j y ≡ put32 (blockOf img y) (pos + 4) new
   home-block = rw (facts p .in-block)
-      (this-block p (facts p .block-facts .dir) (facts p .block-facts .reached) (facts p .a₀) (rw (facts p .block-facts .dir-head) (facts p .member-chain)) refl)
+      (this-block p (p .home) (p .reached) (facts p .a₀) (facts p .member-chain) refl)
 
   long : 18 ≤ getD (blockOf img y) pos 0
-  long = found-at (blockOf img y) pos (facts p .entry) (facts p .stands) .long
+  long = found-at (blockOf img y) pos (facts p .stands .entry) (facts p .stands .walked) .long
 
   -- of an entry that ends before the size, or starts behind it
   apart-bytes : (b : List ℕ) (at len pos : ℕ) → length b ≡ 512 → at + len ≤ 510 → (at + len ≤ pos) ⊎ (pos + 8 ≤ at) →
@@ -133,16 +124,17 @@ module _ {img : List ℕ} {e : Entered} {new : ℕ} {t : Anodes} {ys : List ℕ}
     unfolding entriesIn
     order i =
         let at = f .place % 512 in
-        let same : f .place / 512 ≡ y = g .in-block ∙ ap (s .block) i ∙ sym (facts p .in-block) in
-        let m = parted (facts p) in
-        let here : s .block (g .a₀) ≡ y = ap (s .block) i ∙ sym (facts p .in-block) in
-        let n : Member f (m .0 ++ (e ∷ m .1)) = rw (here, m .2) at (g .member) in
+        let its-own : s .block (g .a₀) ≡ y = ap (s .block) i ∙ sym (facts p .in-block) in
+        let same : f .place / 512 ≡ y = g .in-block ∙ its-own in
+        let here = block-entry (facts p) in
+        let m = here .parted in
+        let n : Member f (m .0 ++ (e ∷ m .1)) = rw (its-own, m .2) at (g .member) in
         elim (member-append f (m .0) (e ∷ m .1) n) [
           | inl q ↦ inl (omega (
             arith,
             same,
             place-order (blockOf img y) y at f e (omega arith) (q .1) (m .1) (q .0) 28 16
-                (m .2 ∙ ap (λ (l : List Entered). l ++ (e ∷ m .1)) (q .2) ∙ append-assoc (q .0) (f ∷ q .1) (e ∷ m .1)) (block-unbroken (facts p)),
+                (m .2 ∙ ap (λ (l : List Entered). l ++ (e ∷ m .1)) (q .2) ∙ append-assoc (q .0) (f ∷ q .1) (e ∷ m .1)) (here .unbroken),
           ))
           | inr q ↦ elim (member-cons f e (m .1) q) [
             | inl c ↦ absurd (apart (ap (λ (x : Entered). x .anode) c))
@@ -150,7 +142,7 @@ module _ {img : List ℕ} {e : Entered} {new : ℕ} {t : Anodes} {ys : List ℕ}
               arith,
               same,
               long,
-              place-order (blockOf img y) y pos e f (omega arith) (c .0) (c .1) (m .0) 28 16 (m .2 ∙ ap (λ (l : List Entered). m .0 ++ (e ∷ l)) (c .2)) (block-unbroken (facts p)),
+              place-order (blockOf img y) y pos e f (omega arith) (c .0) (c .1) (m .0) 28 16 (m .2 ∙ ap (λ (l : List Entered). m .0 ++ (e ∷ l)) (c .2)) (here .unbroken),
             ))
           ]
         ]
@@ -159,12 +151,12 @@ module _ {img : List ℕ} {e : Entered} {new : ℕ} {t : Anodes} {ys : List ℕ}
     pub bytes-resized-other : entryBytes j (f .place) ≡ entryBytes img (f .place)
     unfolding entryBytes
     bytes-resized-other = elim (same? (g .a₀) (facts p .a₀)) [
-      | inr n ↦ rw (g .in-block, other-block p (g .block-facts .dir) (g .block-facts .reached) (g .a₀) (rw (g .block-facts .dir-head) (g .member-chain)) n)
+      | inr n ↦ rw (g .in-block, other-block p k reached (g .a₀) (g .member-chain) n)
       | inl i ↦ (let same : f .place / 512 ≡ y = g .in-block ∙ ap (s .block) i ∙ sym (facts p .in-block) in
           let at = f .place % 512 in
           let o = order i in
           let first : getD (put32 (blockOf img y) (pos + 4) new) at 0 ≡ getD (blockOf img y) at 0 = put32-others (blockOf img y) (pos + 4) new at (elim o [ inl q ↦ inl (omega arith) | inr q ↦ inr (omega arith) ]) in
-          rw (same, home-block, first) (apart-bytes (blockOf img y) at (getD (blockOf img y) at 0) pos (block-whole (facts p)) (rw same at (g .ends)) o))
+          rw (same, home-block, first) (apart-bytes (blockOf img y) at (getD (blockOf img y) at 0) pos (block-entry (facts p) .whole) (rw same at (g .stands .before)) o))
     ]
 
   -- of the entry only the size changes

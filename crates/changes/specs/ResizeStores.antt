@@ -15,20 +15,22 @@ use Rattle.disk.specs.Blocks.{blockOf}
 use Rattle.rules.specs.Counting.{sumList, times, gather}
 use Rattle.rules.specs.Anodes.{Anodes, limit, anodesOf, withAnodes}
 use Rattle.rules.specs.Chains.{chainOf, run, blocksOf, blockCount}
-use Rattle.rules.specs.Walk.{Dir, Entered, blocksFor, reachedDirs}
+use Rattle.rules.specs.Walk.{Entered, blocksFor}
+use Rattle.rules.specs.Lookup.{noDirectory}
 use Rattle.rules.specs.Space.{planned}
 use Rattle.rules.specs.Format.{zeroBlock}
 use Rattle.rules.specs.Changes.{inBlock, withBlocks, resizePlan, zeroTail, withSize, zeroTaken, resizedImage}
 use Rattle.laws.specs.Bags.{list-congr, list-length, gather-sum}
 use Rattle.laws.specs.Heads.{Head}
-use Rattle.laws.specs.Whole.{dir-heads}
+use Rattle.laws.specs.ChainBlocks.{shift-alike, shift-chain}
 use Rattle.frames.specs.Kept.{Unheld, Kept, kept-all, kept-both}
 use Rattle.frames.specs.StoredBlocks.{inBlock-kept, blockOf-inBlock, withBlocks-kept}
 use Rattle.frames.specs.DisjointBlocks.{DataBlock, chains-apart, chain-block}
 use Rattle.changes.specs.Image.{headIn, SameDisk, stored-kept, stored-same, stored-anodes, not-one, not-among, same-then, anodes-then}
-use Rattle.changes.specs.Members.{Member, member-each, member-first, member-later, member-times}
-use Rattle.changes.specs.Reached.{DirBlock, member-reached, block-on, reached-head, dir-block, block-data, not-file}
-use Rattle.changes.specs.PlannedChange.{PlannedChange, w, facts, not-1, off-anode}
+use Rattle.changes.specs.Members.{Member, member-first, member-later, member-times}
+use Rattle.changes.specs.Reached.{DirBlock, block-on, reached-not-1, reached-head, dir-block, block-data, not-file}
+use Rattle.changes.specs.KeptChains.{SameChain, BlocksKept}
+use Rattle.changes.specs.PlannedChange.{PlannedChange, w, facts, not-1, off-chain, off-anode}
 use Rattle.changes.specs.ResizePlan.{Resizing, plan-runs, handed-data, handed-apart}
 
 -- a resize of a file of an accepted image, and the steps that were planned
@@ -66,9 +68,6 @@ module _ {img : List ℕ} {e : Entered} {new : ℕ} {t : Anodes} {ys : List ℕ}
 
   abbrev chain : List ℕ
   chain = blocksOf s (e .anode)
-
-  abbrev dirs : List Dir
-  dirs = reachedDirs img s
 
   pub steps : Resizing img s (headIn img) (e .anode) (blocksFor new) t ys
   steps = plan-runs img (w p .good) (e .anode) (facts p .head) (not-1 p) (blocksFor new) t ys (p .plan .steps)
@@ -157,30 +156,51 @@ module _ {img : List ℕ} {e : Entered} {new : ℕ} {t : Anodes} {ys : List ℕ}
   resized-anodes =
       anodes-then (stored-same img (p .blocks) (p .anodes) (p .accepted) t) stores-kept only-data ∙ stored-anodes img (p .blocks) (p .anodes) (p .accepted) t (steps .ran .good)
 
+  -- ---- other chains
+
+  module _ (m : ℕ) (head : Head (s .next) (s .block) m) (m1 : m ≢ 1) (other : m ≢ e .anode) where
+    -- each has its anodes
+    pub others-same : SameChain s t m
+    others-same = record {
+      same-anodes = shift-chain (w p .good) (steps .ran .good) (steps .ran .shift) m head m1 other;
+      same-extents = λ a q. let k = shift-alike (w p .good) (steps .ran .good) (steps .ran .shift) m head m1 other a q in (k .same-count, k .same-block);
+    }
+
+    alone : (y : ℕ) → 0 < times y (blocksOf s m) → Left-alone y
+    alone y q = (
+      handed-apart img (w p .good) (e .anode) (facts p .head) (not-1 p) steps m head m1 other y q,
+      chains-apart (w p .good) m (e .anode) head (facts p .head) other y q,
+    )
+
+    -- and the blocks of each but its own directory's are kept
+    pub others-kept : m ≢ p .home → BlocksKept img (resizedImage img s e new t ys) s m
+    others-kept o y q = left-kept .block-kept y (chain-block img (w p .good) m head y q .unheld, (alone y q, off-chain p m head o y q))
+
   -- ---- the blocks of the directories
 
-  module _ (d : Dir) (in-tree : Member d dirs) where
-    pub its-head : Head (s .next) (s .block) (d .head)
-    its-head = reached-head img (p .blocks) (p .anodes) (p .accepted) (d .head) (member-reached img s d in-tree)
+  module _ (k : ℕ) (reached : noDirectory img s k ≡ false) where
+    its-head : Head (s .next) (s .block) k
+    its-head = reached-head img (p .blocks) (p .anodes) (p .accepted) k reached
 
-    pub head-not-1 : d .head ≢ 1
-    head-not-1 = member-each (λ c. Head (s .next) (s .block) (c .head) × (c .head ≢ 1)) d dirs in-tree (dir-heads (w p)) .1
+    head-not-1 : k ≢ 1
+    head-not-1 = reached-not-1 img (p .blocks) (p .anodes) (p .accepted) k reached
 
-    pub head-not-file : d .head ≢ e .anode
-    head-not-file = not-file img (p .blocks) (p .anodes) (p .accepted) (d .head) (member-reached img s d in-tree) (p .home) e (facts p) (p .plan .file)
+    head-not-file : k ≢ e .anode
+    head-not-file = not-file img (p .blocks) (p .anodes) (p .accepted) k reached (p .home) e (facts p) (p .plan .file)
 
-    module _ (a : ℕ) (on : Member a (chainOf (s .next) limit (d .head))) where
-      pub its-block : DirBlock img (d .head) a
-      its-block = dir-block img (p .blocks) (p .anodes) (p .accepted) (d .head) (member-reached img s d in-tree) a on
+    -- its chain stays
+    pub dir-same : SameChain s t k
+    dir-same = others-same k its-head head-not-1 head-not-file
 
-      in-chain : 0 < times (s .block a) (blocksOf s (d .head))
-      in-chain = block-on s (d .head) a on (its-block .one)
+    pub dir-kept : k ≢ p .home → BlocksKept img (resizedImage img s e new t ys) s k
+    dir-kept = others-kept k its-head head-not-1 head-not-file
+
+    module _ (a : ℕ) (on : Member a (chainOf (s .next) limit k)) where
+      pub its-block : DirBlock img k a
+      its-block = dir-block img (p .blocks) (p .anodes) (p .accepted) k reached a on
 
       left-alone : Left-alone (s .block a)
-      left-alone = (
-        handed-apart img (w p .good) (e .anode) (facts p .head) (not-1 p) steps (d .head) its-head head-not-1 head-not-file (s .block a) in-chain,
-        chains-apart (w p .good) (d .head) (e .anode) its-head (facts p .head) head-not-file (s .block a) in-chain,
-      )
+      left-alone = alone k its-head head-not-1 head-not-file (s .block a) (block-on s k a on (its-block .one))
 
       -- up to the entry's new size it has the bytes that it had
       before-size : blockOf tailed (s .block a) ≡ blockOf img (s .block a)
@@ -199,4 +219,4 @@ module _ {img : List ℕ} {e : Entered} {new : ℕ} {t : Anodes} {ys : List ℕ}
 
   -- the block that has the entry
   pub home-alone : Left-alone (e .place / 512)
-  home-alone = rw (facts p .in-block) (left-alone (facts p .block-facts .dir) (facts p .block-facts .reached) (facts p .a₀) (rw (facts p .block-facts .dir-head) (facts p .member-chain)))
+  home-alone = rw (facts p .in-block) (left-alone (p .home) (p .reached) (facts p .a₀) (facts p .member-chain))

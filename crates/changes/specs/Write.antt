@@ -18,14 +18,15 @@ use Rattle.rules.specs.Lookup.{noDirectory, entriesOf, bytesOf, contents}
 use Rattle.rules.specs.Changes.{written}
 use Rattle.laws.specs.Tests.{less?}
 use Rattle.laws.specs.Whole.{Whole}
-use Rattle.frames.specs.Kept.{Kept, entriesIn-kept, isBlockOf-kept}
+use Rattle.frames.specs.Kept.{Kept}
 use Rattle.frames.specs.DisjointBlocks.{DataBlock, chains-apart, chain-block}
 use Rattle.frames.specs.StoredBytes.{written-kept, bytesOf-written, bytesOf-written-other}
 use Rattle.changes.specs.Image.{WholeImage, headIn, sideIn, accepted-whole, accepted-walk, SameDisk, same-own, not-among, same-then, anodes-then, whole-accepted}
 use Rattle.changes.specs.SameItems.{whole-same, walk-same}
 use Rattle.changes.specs.Members.{Member, gather-congr}
 use Rattle.changes.specs.EntryBytes.{entryBytes}
-use Rattle.changes.specs.Reached.{EntryFacts, member-reached, block-on, reached-head, dir-block, entry-facts, not-file}
+use Rattle.changes.specs.KeptChains.{BlocksKept, same-chain-own, block-same, entries-same, entry-bytes-same}
+use Rattle.changes.specs.Reached.{EntryFacts, member-reached, reached-head, entry-facts, not-file}
 
 -- ---- the file's bytes
 
@@ -76,30 +77,23 @@ module _ (img : List ℕ) (blocks anodes : ℕ) (accepted : checkAnswer img bloc
   written-anodes = anodes-then (same-own img) kept (not-among (blocksOf s (e .anode)) only-data)
 
   -- no block of a reached directory is written
-  dir-kept : (k : ℕ) → noDirectory img s k ≡ false → (a : ℕ) → Member a (chainOf (s .next) limit k) → times (s .block a) (blocksOf s (e .anode)) ≡ 0
-  dir-kept k r a on =
-      chains-apart (w .good) k (e .anode) (reached-head img blocks anodes accepted k r) (facts .head) (not-file img blocks anodes accepted k r h e facts file) (s .block a)
-      (block-on s k a on (dir-block img blocks anodes accepted k r a on .one))
+  dir-kept : (k : ℕ) → noDirectory img s k ≡ false → BlocksKept img j s k
+  dir-kept k r y q = kept .block-kept y (chains-apart (w .good) k (e .anode) (reached-head img blocks anodes accepted k r) (facts .head) (not-file img blocks anodes accepted k r h e facts file) y q)
 
   -- every directory has the entries that it had
   pub written-entries : (k : ℕ) → noDirectory img s k ≡ false → entriesOf j s k ≡ entriesOf img s k
-  unfolding entriesOf
-  written-entries k r =
-      gather-congr (λ a. entriesIn j (s .block a)) (λ a. entriesIn img (s .block a)) (chainOf (s .next) limit k) (λ a on. entriesIn-kept kept (s .block a) (dir-kept k r a on))
+  written-entries k r = entries-same img blocks anodes accepted k r j (dir-kept k r) (same-chain-own s k)
 
   -- the bytes of their entries too
   pub written-bytes : (k : ℕ) → noDirectory img s k ≡ false → (f : Entered) → Member f (entriesOf img s k) → entryBytes j (f .place) ≡ entryBytes img (f .place)
-  unfolding entryBytes
-  written-bytes k r f m =
-      let g = entry-facts img blocks anodes accepted k r f m in
-      rw (g .in-block, kept .block-kept (s .block (g .a₀)) (dir-kept k r (g .a₀) (g .member-chain)))
+  written-bytes k r = entry-bytes-same img blocks anodes accepted k r j (dir-kept k r)
 
   same-items : (d : Dir) → Member d (reachedDirs img s) → itemsBy (entriesIn j) (isBlockOf j) s d ≡ itemsBy (entriesIn img) (isBlockOf img) s d
-  unfolding itemsBy itemsAt
+  unfolding itemsBy itemsAt entriesIn isBlockOf
   same-items d m =
+      let r = member-reached img s d m in
       gather-congr (itemsAt (entriesIn j) (isBlockOf j) s d) (itemsAt (entriesIn img) (isBlockOf img) s d) (chainOf (s .next) limit (d .head)) (λ a on.
-      let o = dir-kept (d .head) (member-reached img s d m) a on in
-      rw (entriesIn-kept kept (s .block a) o, isBlockOf-kept kept d (s .block a) o))
+      rw (block-same img blocks anodes accepted (d .head) r j (dir-kept (d .head) r) a on))
 
   same-walk : walk (itemsBy (entriesIn j) (isBlockOf j) s) limit (root ∷ []) [] ≡ done (reachedDirs img s)
   unfolding walkOf itemsOf

@@ -7,7 +7,6 @@ use mathlib.Core.List.{List}
 use mathlib.Core.Option.{Option, none, some}
 use native.Mathlib.Omega.{arith}
 use lib.Dec.{eqb, leb, ltb}
-use lib.ListN.{length}
 use borrow.Author.Tests.{le-leb, lt-leb, le-ltb, lt-ltb, ne-eqb, not-false}
 use Rattle.disk.specs.declared.Refusal.{Refusal}
 use Rattle.disk.specs.Refusals.{numberOf}
@@ -19,10 +18,10 @@ use Rattle.directory.specs.Entries.{isDir, kindRead, goodName, goodComment}
 use Rattle.rules.specs.Anodes.{Anodes, limit, anodesOf}
 use Rattle.rules.specs.Chains.{blocksOf}
 use Rattle.rules.specs.Walk.{Entered}
-use Rattle.rules.specs.Accepted.{diskSize}
+use Rattle.rules.specs.Accepted.{diskSize, checkAnswer}
 use Rattle.rules.specs.Lookup.{noDirectory, entriesOf, entryNamed}
 use Rattle.rules.specs.Changes.{Left, left, NewEntry, made, written}
-use Rattle.rules.specs.Calls.{spanAnswer, makeAnswer, wrongEntry, changeNamed, madeAfter}
+use Rattle.rules.specs.Calls.{makeAnswer, wrongEntry, changeNamed, madeAfter}
 use Rattle.counting.specs.Laws.{neither}
 use Rattle.laws.specs.Tests.{same?, less?}
 use Rattle.frames.specs.DisjointBlocks.{chain-block, chain-once}
@@ -30,28 +29,19 @@ use Rattle.changes.specs.Answers.{Late}
 use Rattle.changes.specs.Members.{Member}
 use Rattle.changes.specs.Image.{accepted-whole}
 use Rattle.changes.specs.Reached.{entry-facts}
-use Rattle.changed.specs.Leaves.{Leaves, Loaded}
-use Rattle.changed.specs.Laws.{leaves-refused}
-use Rattle.lookup.specs.declared.Lookup.{Lookup}
-use Rattle.lookup.specs.declared.Lookup.the-variants.{Missing}
-use Rattle.lookup.specs.Answers.{entryOf}
+use Rattle.changes.specs.Write.{written-same, written-anodes}
+use Rattle.changed.specs.Leaves.{Leaves}
+use Rattle.changed.specs.Laws.{leaves-refused, leaves-same}
 use Rattle.contents.specs.Written.{InsideOnce}
 use Rattle.find.specs.Open.{Open}
 use Rattle.find.proofs.Laws.{refused-some}
 
--- a lookup that found nothing
-pub search-none : (e : Option Entered) (r : Lookup) → entryOf r ≡ e → r ≡ Missing → e ≡ none
-search-none e r found is = sym found ∙ ap entryOf is
-
 module _ {img counts firsts nexts queue parents heads : List ℕ} {dirs : ℕ} (o : Open img counts firsts nexts queue parents heads dirs) where
-  pub loaded-of : Loaded img counts firsts nexts
-  loaded-of = record { accepted = o .accepted; is-loaded = o .loaded; counts-long = o .counts-long; firsts-long = o .firsts-long; nexts-long = o .nexts-long }
-
   -- the blocks of the chain that an entry names are inside the image, each once
   pub chain-inside : (h : ℕ) → noDirectory img (anodesOf img) h ≡ false → (e : Entered) → Member e (entriesOf img (anodesOf img) h) → InsideOnce img (blocksOf (anodesOf img) (e .anode))
   chain-inside h r e m =
-      let w = accepted-whole img (diskSize img) limit (o .accepted) in
-      let d = entry-facts img (diskSize img) limit (o .accepted) h r e m .head in
+      let w = accepted-whole img (diskSize img) limit (o .loaded .accepted) in
+      let d = entry-facts img (diskSize img) limit (o .loaded .accepted) h r e m .head in
       λ y p. (chain-block img (w .good) (e .anode) d y p .inside, chain-once (w .good) (e .anode) d y)
 
 -- ---- a change of a named entry
@@ -80,17 +70,12 @@ module _ (img : List ℕ) (o : Option Entered) (f : Entered → Left) where
       let some = refused-some r k number in
       rw (e, named-refused k some) (leaves-refused k (late-some n k late e some) img b a)
 
-module _ (img : List ℕ) (h : ℕ) (name : List ℕ) (offset : ℕ) (bytes : List ℕ) where
-  abbrev wrote : Left
-  wrote = changeNamed (spanAnswer img (anodesOf img) h name offset (length bytes)) img (entryNamed img (anodesOf img) h name) (λ e. left 0 (written img (anodesOf img) e offset bytes))
-
-  pub write-refused : (r : Refusal) (k : ℕ) → k ≡ numberOf r → spanAnswer img (anodesOf img) h name offset (length bytes) ≡ numberOf r → left k img ≡ wrote
-  write-refused r k number is =
-      let e : spanAnswer img (anodesOf img) h name offset (length bytes) ≡ k = is ∙ sym number in
-      rw e (sym (named-refused img (entryNamed img (anodesOf img) h name) (λ e. left 0 (written img (anodesOf img) e offset bytes)) k (refused-some r k number)))
-
-  pub write-done : (x : Entered) → spanAnswer img (anodesOf img) h name offset (length bytes) ≡ 0 → entryNamed img (anodesOf img) h name ≡ some x → (j : List ℕ) → j ≡ written img (anodesOf img) x offset bytes → left 0 j ≡ wrote
-  write-done x e is j same = ap (left 0) same ∙ sym (named-done img (entryNamed img (anodesOf img) h name) (λ e. left 0 (written img (anodesOf img) e offset bytes)) (spanAnswer img (anodesOf img) h name offset (length bytes)) x e is)
+-- a write changes no anode, so it leaves both tables
+pub leaves-written : (img : List ℕ) → checkAnswer img (diskSize img) limit ≡ 0 → (h : ℕ) → noDirectory img (anodesOf img) h ≡ false → (e : Entered) → Member e (entriesOf img (anodesOf img) h) → e .dir ≡ false →
+    (offset : ℕ) (bytes j : List ℕ) → j ≡ written img (anodesOf img) e offset bytes → (b a : List ℕ) → Leaves 0 img b a j b a (left 0 (written img (anodesOf img) e offset bytes))
+leaves-written img accepted h reached e member file offset bytes j is b a = rw is
+    (leaves-same img (written img (anodesOf img) e offset bytes) (written-same img (diskSize img) limit accepted h reached e member file offset bytes)
+    (written-anodes img (diskSize img) limit accepted h reached e member file offset bytes) b a)
 
 -- ---- make
 

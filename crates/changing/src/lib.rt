@@ -46,7 +46,7 @@ pub fn write_named(
     bytes: &[u8],
 ) -> u32
     requires { ⌜ ((parents : List ℕ) × Open (now image) (now counts) (now firsts) (now nexts) (now queue) parents (now heads) dirs) ⌝ }
-    ensures { λ r. ⌜ left r (now (image .exit)) ≡ changeNamed (spanAnswer (now (image .entry)) (anodesOf (now (image .entry))) (head .0) (now (name .entry)) offset (length (now (bytes .entry)))) (now (image .entry)) (entryNamed (now (image .entry)) (anodesOf (now (image .entry))) (head .0) (now (name .entry))) (λ e. left 0 (written (now (image .entry)) (anodesOf (now (image .entry))) e offset (now (bytes .entry)))) ⌝ }
+    ensures { λ r. ⌜ ((b a : List ℕ) → Leaves r (now (image .entry)) b a (now (image .exit)) b a (changeNamed (spanAnswer (now (image .entry)) (anodesOf (now (image .entry))) (head .0) (now (name .entry)) offset (length (now (bytes .entry)))) (now (image .entry)) (entryNamed (now (image .entry)) (anodesOf (now (image .entry))) (head .0) (now (name .entry))) (λ e. left 0 (written (now (image .entry)) (anodesOf (now (image .entry))) e offset (now (bytes .entry)))))) ⌝ }
 {
     let len = bytes.len();
     let found = find_span(

@@ -23,10 +23,8 @@ use Rattle.laws.specs.OwnerTable.{anodeEntry-is}
 use Rattle.changes.specs.Answers.{searchNumber}
 use Rattle.changes.specs.Image.{accepted-whole}
 use Rattle.changes.specs.Reached.{reached-head, reached-unbroken}
-use Rattle.lookup.specs.declared.EntryAt.{EntryAt}
 use Rattle.lookup.specs.declared.Lookup.{Lookup}
-use Rattle.lookup.specs.declared.Lookup.the-variants.{Found}
-use Rattle.lookup.specs.Answers.{entered, entryOf}
+use Rattle.lookup.specs.Answers.{entryOf}
 use Rattle.lookup.specs.Queued.{placeOf}
 use Rattle.lookup.proofs.Queue.{place-found, place-times}
 use Rattle.find.specs.Open.{Open}
@@ -48,18 +46,18 @@ module _ {img counts firsts nexts queue parents heads : List ℕ} {dirs : ℕ} (
   -- a reached directory's head is its own head in the table that the check filled
   pub own-heads : (i : ℕ) → i < dirs → getD heads (getD queue i 0) 0 ≡ getD queue i 0
   own-heads i l =
-      let w = accepted-whole img (diskSize img) limit (o .accepted) in
-      let d = reached-head img (diskSize img) limit (o .accepted) (getD queue i 0) (queued-reached i l) in
+      let w = accepted-whole img (diskSize img) limit (o .loaded .accepted) in
+      let d = reached-head img (diskSize img) limit (o .loaded .accepted) (getD queue i 0) (queued-reached i l) in
       o .shown (getD queue i 0) (w .good .view .below (getD queue i 0) (d .in-use)) ∙ anodeEntry-is (w .good) (getD queue i 0) ∙ w .good .heads .at-head (getD queue i 0) d
 
   -- its entries are unbroken, by the blocks and nexts alone
   pub open-unbroken : (h : ℕ) → noDirectory img (anodesOf img) h ≡ false → anyIn (λ e. e .broken) (entriesOf img (anodesFrom [] firsts nexts) h) ≡ false
   unfolding entriesOf anodesFrom
-  open-unbroken h e = rw (← (o .loaded)) at (reached-unbroken img (diskSize img) limit (o .accepted) h e)
+  open-unbroken h e = rw (← (o .loaded .is-loaded)) at (reached-unbroken img (diskSize img) limit (o .loaded .accepted) h e)
 
   -- an entry that the tables give is the image's
   pub by-image : {X : Type 0} (f : Anodes → X) (x : X) → ((c : List ℕ) → x ≡ f (anodesFrom c firsts nexts)) → x ≡ f (anodesOf img)
-  by-image f x e = e counts ∙ ap f (o .loaded)
+  by-image f x e = e counts ∙ ap f (o .loaded .is-loaded)
 
   -- a search in a reached directory answers what the lookup found
   pub search-answered : (h : ℕ) → noDirectory img (anodesOf img) h ≡ false → (f : Anodes → Option Entered) (l : Lookup) → ((c : List ℕ) → entryOf l ≡ f (anodesFrom c firsts nexts)) → (r : Search) →
@@ -71,9 +69,9 @@ module _ {img counts firsts nexts queue parents heads : List ℕ} {dirs : ℕ} (
   unfolding notEmpty
   full-by e r same = sym (by-image (λ (s : Anodes). cond (e .dir) (isThere (nth (entriesOf img s (e .anode)) 0)) false) r same)
 
--- the entry that a lookup found is the one that is looked for
-pub search-found : (e : Option Entered) (r : Lookup) (x : EntryAt) → entryOf r ≡ e → r ≡ Found x → e ≡ some (entered x)
-search-found e r x found is = sym found ∙ ap entryOf is
+-- what a lookup found, an entry or none, is what is looked for
+pub search-is : (e : Option Entered) (r q : Lookup) → entryOf r ≡ e → r ≡ q → e ≡ entryOf q
+search-is e r q found is = sym found ∙ ap entryOf is
 
 pub search-there : (o : Option Entered) (x : Entered) → o ≡ some x → searchNumber false o ≡ 0
 search-there o x is = rw is

@@ -57,6 +57,10 @@ module _ (img : List ℕ) (ok : checkAnswer img (diskSize img) limit ≡ 0) wher
   stays : (n : ℕ) → Harmless n → Kept n img
   stays n h = record { accepted = ok; harmless = h }
 
+  -- or becomes j
+  becomes : (n : ℕ) (j : List ℕ) → checkAnswer j (diskSize img) limit ≡ 0 → Harmless n → Kept n j
+  becomes n j e h = record { accepted = own-tables j (diskSize img) limit e; harmless = h }
+
   answers : (blocks anodes b : ℕ) → Late b → Harmless (firstOf (checkAnswer img blocks anodes) b)
   unfolding firstOf
   answers blocks anodes b l = elim (any-tables img ok blocks anodes) [ inl e ↦ rw e (late-harmless b l) | inr e ↦ rw e (λ d. omega (arith, d .0)) ]
@@ -85,75 +89,65 @@ module _ (img : List ℕ) (ok : checkAnswer img (diskSize img) limit ≡ 0) wher
           let l = formatLeft (1 if a else 20 if b else 0) img new in Kept (l .answer) (l .image)
       go true b p q = stays 1 (λ d. omega (arith, d .0))
       go false true p q = stays 20 (λ d. omega (arith, d .1))
-      go false false p q = record {
-        accepted = own-tables new (diskSize img) limit (formatted-accepted img last k name day minute tick protection p q (diskSize img) limit (omega arith) (omega arith));
-        harmless = λ d. omega (arith, d .0);
-      }
+      go false false p q = becomes 0 new (formatted-accepted img last k name day minute tick protection p q (diskSize img) limit (omega arith) (omega arith)) (λ d. omega (arith, d .0))
 
-  -- a change of a named entry: refused by a number that is no damage, or made
-  named-kept : (n : ℕ) → Harmless n → (o : Option Entered) (f : Entered → Left) → (n ≡ 0 → (e : Entered) → o ≡ some e → Kept (f e .answer) (f e .image)) →
-      let l = changeNamed n img o f in Kept (l .answer) (l .image)
-  named-kept (suc n) h o f k = stays (suc n) h
-  named-kept zero h none f k = stays 22 (λ d. omega (arith, d .1))
-  named-kept zero h (some e) f k = k refl e refl
+  -- a change: refused by the check or by its own table, or made
+  change-kept : (blocks anodes : List ℕ) (m : ℕ) → Late m → (f : ℕ → Left) → ((k : ℕ) → f (suc k) ≡ left (suc k) img) → (m ≡ 0 → Kept (f 0 .answer) (f 0 .image)) →
+      let l = f (checkedFirst img blocks anodes m) in Kept (l .answer) (l .image)
+  change-kept blocks anodes m late f refused made = go (checkedFirst img blocks anodes m) refl
+    where
+      go : (n : ℕ) → checkedFirst img blocks anodes m ≡ n → Kept (f n .answer) (f n .image)
+      go zero e = made (firstOf-zero (checkAnswer img (length blocks) (length anodes)) m e .1)
+      go (suc n) e = rw (refused n) (stays (suc n) (rw e at (answers (length blocks) (length anodes) m late)))
+
+  -- of a named entry
+  named-kept : (blocks anodes : List ℕ) (m : ℕ) → Late m → (o : Option Entered) (f : Entered → Left) → (m ≡ 0 → (e : Entered) → o ≡ some e → Kept (f e .answer) (f e .image)) →
+      let l = changeNamed (checkedFirst img blocks anodes m) img o f in Kept (l .answer) (l .image)
+  named-kept blocks anodes m late o f made = change-kept blocks anodes m late (λ n. changeNamed n img o f) (λ k. refl) (λ z. found o (made z))
+    where
+      found : (o : Option Entered) → ((e : Entered) → o ≡ some e → Kept (f e .answer) (f e .image)) → let l = changeNamed 0 img o f in Kept (l .answer) (l .image)
+      found none k = stays 22 (λ d. omega (arith, d .1))
+      found (some e) k = k e refl
 
   write-kept : (blocks anodes : List ℕ) (h : ℕ) (name : List ℕ) (offset : ℕ) (bytes : List ℕ) →
       let l = changeNamed (readAnswer img blocks anodes h name offset (length bytes)) img (entryNamed img s h name) (λ e. left 0 (written img s e offset bytes)) in Kept (l .answer) (l .image)
   unfolding readAnswer
   write-kept blocks anodes h name offset bytes =
-      named-kept (readAnswer img blocks anodes h name offset (length bytes)) (read-kept blocks anodes h name offset (length bytes) .harmless) (entryNamed img s h name) (λ e. left 0 (written img s e offset bytes))
+      named-kept blocks anodes (spanAnswer img s h name offset (length bytes)) (span-late img s h name offset (length bytes)) (entryNamed img s h name) (λ e. left 0 (written img s e offset bytes))
       (λ z e q.
-      let c = firstOf-zero (checkAnswer img (length blocks) (length anodes)) (spanAnswer img s h name offset (length bytes)) z in
-      let f = file-found img s h name e q (span-found img s h name e q offset (length bytes) (c .1) .0) in
-      record {
-        accepted = own-tables _ (diskSize img) limit (write-accepted img (diskSize img) limit ok h (f .0) e (named-member img s h name e q) (f .1) offset bytes);
-        harmless = λ d. omega (arith, d .0);
-      })
+      let f = span-found img s h name e q offset (length bytes) z in
+      becomes 0 (written img s e offset bytes) (write-accepted img (diskSize img) limit ok h (f .0) e (named-member img s h name e q) (f .1) offset bytes) (λ d. omega (arith, d .0)))
 
   resize-kept : (blocks anodes : List ℕ) (h : ℕ) (name : List ℕ) (new : ℕ) →
       let l = changeNamed (checkedFirst img blocks anodes (resizeAnswer img s h name)) img (entryNamed img s h name) (λ e. resized img s e new) in Kept (l .answer) (l .image)
   resize-kept blocks anodes h name new =
-      named-kept (checkedFirst img blocks anodes (resizeAnswer img s h name)) (answers (length blocks) (length anodes) _ (resize-late img s h name)) (entryNamed img s h name) (λ e. resized img s e new)
+      named-kept blocks anodes (resizeAnswer img s h name) (resize-late img s h name) (entryNamed img s h name) (λ e. resized img s e new)
       (λ z e q.
-      let f = file-found img s h name e q (firstOf-zero (checkAnswer img (length blocks) (length anodes)) (resizeAnswer img s h name) z .1) in
+      let f = file-found img s h name e q z in
       let m = named-member img s h name e q in
-      record {
-        accepted = own-tables _ (diskSize img) limit (resize-accepted img (diskSize img) limit ok h (f .0) e m (f .1) new);
-        harmless = steps-harmless _ (resize-answers img (diskSize img) limit ok h (f .0) e m new);
-      })
+      becomes (resized img s e new .answer) (resized img s e new .image) (resize-accepted img (diskSize img) limit ok h (f .0) e m (f .1) new) (steps-harmless _ (resize-answers img (diskSize img) limit ok h (f .0) e m new)))
 
   remove-kept : (blocks anodes : List ℕ) (h : ℕ) (name : List ℕ) →
       let l = changeNamed (checkedFirst img blocks anodes (removeAnswer img s h name)) img (entryNamed img s h name) (λ e. removed img s e) in Kept (l .answer) (l .image)
   unfolding notEmpty
   remove-kept blocks anodes h name =
-      named-kept (checkedFirst img blocks anodes (removeAnswer img s h name)) (answers (length blocks) (length anodes) _ (remove-late img s h name)) (entryNamed img s h name) (λ e. removed img s e)
+      named-kept blocks anodes (removeAnswer img s h name) (remove-late img s h name) (entryNamed img s h name) (λ e. removed img s e)
       (λ z e q.
-      let f = removable-found img s h name e q (firstOf-zero (checkAnswer img (length blocks) (length anodes)) (removeAnswer img s h name) z .1) in
+      let f = removable-found img s h name e q z in
       let m = named-member img s h name e q in
-      record {
-        accepted = own-tables _ (diskSize img) limit (remove-accepted img (diskSize img) limit ok h (f .0) e m (λ d. rw d at (f .1)));
-        harmless = steps-harmless _ (elim (remove-answers img (diskSize img) limit ok h (f .0) e m) [ inl z ↦ inl z | inr k ↦ inr (inr k) ]);
-      })
-
-  made-kept : (n h : ℕ) → Harmless n → (new : NewEntry) → (n ≡ 0 → Kept (made img s h new .answer) (made img s h new .image)) →
-      let l = madeAfter n img h new in Kept (l .answer) (l .image)
-  made-kept zero h k new f = f refl
-  made-kept (suc n) h k new f = stays (suc n) k
+      becomes (removed img s e .answer) (removed img s e .image) (remove-accepted img (diskSize img) limit ok h (f .0) e m (λ d. rw d at (f .1)))
+      (steps-harmless _ (elim (remove-answers img (diskSize img) limit ok h (f .0) e m) [ inl z ↦ inl z | inr k ↦ inr (inr k) ])))
 
   make-kept : (blocks anodes : List ℕ) (h type : ℕ) (name comment : List ℕ) (new : NewEntry) → new .name ≡ name → new .comment ≡ comment →
       let l = madeAfter (checkedFirst img blocks anodes (makeAnswer img s h type name comment)) img h new in Kept (l .answer) (l .image)
   unfolding makeAnswer wrongEntry
   make-kept blocks anodes h type name comment new en ec =
-      made-kept (checkedFirst img blocks anodes (makeAnswer img s h type name comment)) h (answers (length blocks) (length anodes) _ (make-late img s h type name comment)) new
+      change-kept blocks anodes (makeAnswer img s h type name comment) (make-late img s h type name comment) (λ n. madeAfter n img h new) (λ k. refl)
       (λ z.
-      let c = firstOf-zero (checkAnswer img (length blocks) (length anodes)) (makeAnswer img s h type name comment) z in
-      let w = if-zero 20 (wrongEntry type name comment) _ (omega arith) (c .1) in
+      let w = if-zero 20 (wrongEntry type name comment) _ (omega arith) z in
       let r = if-zero 21 (noDirectory img s h) _ (omega arith) (w .1) in
       let n = neither (not (goodName name)) (not (goodComment comment)) (neither (not (eqb type 253 || eqb type 2)) (not (goodName name) || not (goodComment comment)) (w .0) .1) in
-      record {
-        accepted = own-tables _ (diskSize img) limit (make-accepted img (diskSize img) limit ok h (r .0) new (rw en (not-false _ (n .0))) (rw ec (not-false _ (n .1))));
-        harmless = steps-harmless _ (made-answer img s h new);
-      })
+      becomes (made img s h new .answer) (made img s h new .image) (make-accepted img (diskSize img) limit ok h (r .0) new (rw en (not-false _ (n .0))) (rw ec (not-false _ (n .1)))) (steps-harmless _ (made-answer img s h new)))
 
   -- every call leaves an accepted image and reports no damage
   call-kept : (c : Call) → Kept (outcome img c .answer) (outcome img c .image)

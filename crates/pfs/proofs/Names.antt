@@ -35,7 +35,7 @@ module _ (img b₀ a₀ : List ℕ) (h n : ℕ) where
   unfolding nameGiven fieldsAt fieldList entryIn entryLength
   found-name accepted listed x is =
       let f = entry-facts img (length b₀) (length a₀) accepted h (list-reached img (anodesOf img) h n listed) x (nth-member _ n x is) in
-      let w = found-at (blockOf img (x .place / 512)) (x .place % 512) (f .entry) (f .stands) in
+      let w = found-at (blockOf img (x .place / 512)) (x .place % 512) (f .stands .entry) (f .stands .walked) in
       named-part img (x .place) (omega (arith, w .exact, w .room))
 
   of-answer : (k : ℕ) → k ≡ listAnswered img b₀ a₀ h n → (o : Option Entered) → nth (entriesOf img (anodesOf img) h) n ≡ o → nameListed k img o ≡ nameGiven img (fieldsListed k img o)

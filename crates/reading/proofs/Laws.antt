@@ -30,13 +30,13 @@ module _ {img counts firsts nexts queue parents heads : List ℕ} {dirs : ℕ} (
   -- an entry stands on the disk
   pub place-low : e .place < 65536 * 512
   place-low =
-      let f = entry-facts img (diskSize img) limit (o .accepted) h reached e member in
-      omega (arith, f .in-block, f .block-facts .is-data .below, size-bounds img (passed-of img (diskSize img) limit (o .accepted) .size-right) .1)
+      let f = entry-facts img (diskSize img) limit (o .loaded .accepted) h reached e member in
+      omega (arith, f .in-block, f .block-facts .is-data .below, size-bounds img (passed-of img (diskSize img) limit (o .loaded .accepted) .size-right) .1)
 
   -- a file's blocks hold its bytes
   pub file-long : e .dir ≡ false → e .size ≤ length (bytesOf img (anodesOf img) (e .anode))
   unfolding blocksFor
-  file-long f = omega (arith, bytes-long img (diskSize img) limit (o .accepted) h reached e member f)
+  file-long f = omega (arith, bytes-long img (diskSize img) limit (o .loaded .accepted) h reached e member f)
 
 -- ---- a refused call
 

@@ -9,7 +9,7 @@ use lib.ListN.{length, getD, drop}
 use Rattle.disk.specs.Blocks.{blockOf}
 use Rattle.rules.specs.Anodes.{Anodes, limit, exists, anodesOf, withAnodes}
 use Rattle.rules.specs.Chains.{blockCount}
-use Rattle.rules.specs.Walk.{Entered, entriesIn}
+use Rattle.rules.specs.Walk.{Entered}
 use Rattle.rules.specs.Accepted.{diskSize, lastReserved}
 use Rattle.rules.specs.Tables.{anodeTable}
 use Rattle.rules.specs.Space.{Plan, refused, planned, giveMany, dropped}
@@ -19,8 +19,8 @@ use Rattle.laws.specs.Remove.{still, none-left}
 use Rattle.laws.specs.OwnerTable.{dropped-owner, setAll}
 use Rattle.frames.specs.StoredAnodes.{withAnodes-stored}
 use Rattle.changes.specs.Image.{accepted-slots}
-use Rattle.changes.specs.FoundEntries.{end-bounds, entry-standing}
-use Rattle.changes.specs.Reached.{block-unbroken, block-data, parted}
+use Rattle.changes.specs.FoundEntries.{block-standing, end-within}
+use Rattle.changes.specs.Reached.{block-data, block-entry}
 use Rattle.changes.specs.Remove.{remove-refused}
 use Rattle.changes.specs.RemoveStores.{PlannedRemove, ran, end-good, removed-same, removed-anodes}
 use Rattle.anodes.specs.Loaded.{anodesFrom}
@@ -68,19 +68,10 @@ module _ {img counts firsts nexts : List ℕ} (l : Loaded img counts firsts next
     at = e .place % 512
 
     pub stands : let i = withAnodes img end in (y * 512 + 512 ≤ length i) × (at + getD (blockOf i y) at 0 ≤ entriesEnd (blockOf i y)) × (entriesEnd (blockOf i y) ≤ 512)
-    unfolding entriesEnd entriesIn
     stands =
         let facts = entry-known l e r in
         let kept = withAnodes-stored img (accepted-slots img (diskSize img) limit (l .accepted)) end .kept in
-        let b = blockOf img y in
-        let part = parted facts in
-        let fine = block-unbroken facts in
-        let place : e .place ≡ y * 512 + at = omega arith in
-        rw (kept .length-kept, kept .block-kept y (block-data facts .unheld)) (
-          block-data facts .inside,
-          entry-standing b y at e place (part .1) (part .0) 28 16 (part .2) fine (omega arith) (omega arith) .before,
-          omega (arith, end-bounds b y 28 16 fine (omega arith) (omega arith) .1),
-        )
+        rw (kept .length-kept, kept .block-kept y (block-data facts .unheld)) (block-data facts .inside, block-standing (block-entry facts) .before, end-within (block-entry facts))
 
     -- what it leaves of the image and the tables
     pub done-leaves : (b a : List ℕ) → Leaves 0 img b a (removedImage img e t ys) (setAll b ys 1) (anodeTable end ++ drop limit a) (removed img s e)

@@ -59,7 +59,7 @@ same-length-3 : tie.Need-same-length-3
 same-length-3 c = search needs
 
 returns : tie.Need-returns
-returns c = write-answered _ _ _ _ _ _ (c .before .before .before .before .before .before .before .before .before .before .before .before .before .before .before .before .before .before .before .before .before .open-disk .ensures .0) _ (c .before .before .before .before .before .before .before .before .before .before .c .given .1) _ _ _ _ _ _ (c .before .before .write-named .ensures)
+returns c = write-answered _ _ _ _ _ _ (c .before .before .before .before .before .before .before .before .before .before .before .before .before .before .before .before .before .before .before .before .before .open-disk .ensures .0) _ (c .before .before .before .before .before .before .before .before .before .before .c .given .1) _ _ _ _ _ _ _ _ (c .before .before .write-named .ensures _ _)
 
 same-length-4 : tie.Need-same-length-4
 same-length-4 c = search needs

@@ -1,5 +1,5 @@
-use Rattle.changing.proofs.Laws.{leaves-unmade, leaves-made, loaded-of, wrong-type, right-type, made-kind, right-entry, search-none, make-wrong, make-nowhere, make-there, make-fine}
-use Rattle.find.proofs.Laws.{reached-queued, own-heads, open-unbroken, by-image, search-found}
+use Rattle.changing.proofs.Laws.{leaves-unmade, leaves-made, wrong-type, right-type, made-kind, right-entry, make-wrong, make-nowhere, make-there, make-fine}
+use Rattle.find.proofs.Laws.{reached-queued, own-heads, open-unbroken, by-image, search-is}
 use Rattle.rules.specs.Changes.{parentOf}
 use Rattle.rules.specs.Lookup.{entryNamed}
 use Rattle.rules.specs.Walk.{Dir}
@@ -79,7 +79,7 @@ returns-4 c =
     let reached = c .before .before .before .before .before .before .is-reached in
     let told = c .before .enum-told2 .given in
     rw (c .number4 .ensures) (leaves-unmade _ _ _ _ 23 (omega arith) (make-there _ _ _ _ _ _ (k ∙ sym (c .before .before .before .before .before .before .before .before .before .wrong-entry .ensures) ∙ c .before .before .before .before .before .before .before .before .if1 .left) _ (reached-queued o _ (reached .result) (reached .ensures) ∙ c .before .before .before .before .before .if2 .left)
-    (search-found _ _ (told .0 .0) (by-image o (λ (s : Anodes). entryNamed (a .image .now) s (a .head .0) (a .name .now)) _ (c .before .before .before .entry-named .ensures)) (told .1))) _ _)
+    (search-is _ _ _ (by-image o (λ (s : Anodes). entryNamed (a .image .now) s (a .head .0) (a .name .now)) _ (c .before .before .before .entry-named .ensures)) (told .1))) _ _)
 
 enum-told-3 : tie.Need-enum-told-3
 enum-told-3 c = search needs
@@ -93,7 +93,7 @@ make-entry-requires c κs =
     let a = c .before .before .before .before .before .before .before .before .before .before .before .before .before .before .before .before .before .before .before .before .before .before .before .before .before .before .before .args in
     let reached = c .before .before .before .before .before .before .before .before .before .is-reached in
     let g = right-entry _ _ (sym (c .before .before .before .before .before .before .before .before .before .before .before .before .wrong-entry .ensures) ∙ c .before .before .before .before .before .before .before .before .before .before .before .if1 .left) in
-    ((loaded-of (p .0), p .1), ((reached-queued (p .0) _ (reached .result) (reached .ensures) ∙ c .before .before .before .before .before .before .before .before .if2 .left, c .before .before .before .parent-of .ensures ∙ ap (λ (l : List Dir). parentOf l (a .head .0)) (p .0 .queued)), g))
+    ((p .0 .loaded, p .1), ((reached-queued (p .0) _ (reached .result) (reached .ensures) ∙ c .before .before .before .before .before .before .before .before .if2 .left, c .before .before .before .parent-of .ensures ∙ ap (λ (l : List Dir). parentOf l (a .head .0)) (p .0 .queued)), g))
 
 same-length-4 : tie.Need-same-length-4
 same-length-4 c = search needs
@@ -111,7 +111,7 @@ returns-5 c =
     let is = sym (c .before .before .before .before .before .before .before .before .before .before .before .before .before .before .before .before .before .before .before .before .before .before .before .kind-of .ensures) ∙ c .before .before .before .before .before .before .before .before .before .before .before .before .before .before .before .before .before .before .before .before .before .read .given .1 in
     let reached = c .before .before .before .before .before .before .before .before .before .before .before .before .before .before .before .before .is-reached in
     leaves-made _ _ _ _ (make-fine _ _ _ _ _ _ (right-type _ _ is _ _ ∙ sym (c .before .before .before .before .before .before .before .before .before .before .before .before .before .before .before .before .before .before .before .wrong-entry .ensures) ∙ c .before .before .before .before .before .before .before .before .before .before .before .before .before .before .before .before .before .before .if1 .left) (reached-queued o _ (reached .result) (reached .ensures) ∙ c .before .before .before .before .before .before .before .before .before .before .before .before .before .before .before .if2 .left)
-    (search-none _ _ (by-image o (λ (s : Anodes). entryNamed (a .image .now) s (a .head .0) (a .name .now)) _ (c .before .before .before .before .before .before .before .before .before .before .before .before .before .entry-named .ensures)) (c .before .before .before .before .before .before .before .before .before .before .before .enum-told3 .given .1)))
+    (search-is _ _ _ (by-image o (λ (s : Anodes). entryNamed (a .image .now) s (a .head .0) (a .name .now)) _ (c .before .before .before .before .before .before .before .before .before .before .before .before .before .entry-named .ensures)) (c .before .before .before .before .before .before .before .before .before .before .before .enum-told3 .given .1)))
     _ (ap (λ (d : Bool). record { dir = d; name = a .name .now; comment = a .comment .now; day = a .day; minute = a .minute; tick = a .tick; protection = a .protection }) (made-kind _ _ is))
     _ _ _ _ _ _ (c .before .before .before .before .before .before .make-entry .ensures)
 

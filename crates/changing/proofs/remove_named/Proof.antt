@@ -1,4 +1,4 @@
-use Rattle.changing.proofs.Laws.{leaves-unchanged, leaves-named, loaded-of}
+use Rattle.changing.proofs.Laws.{leaves-unchanged, leaves-named}
 use Rattle.changes.specs.Answers.{remove-late, removable-found}
 use Rattle.changes.specs.Reached.{named-member}
 use borrow.Author.Needs.{needs}
@@ -32,7 +32,7 @@ remove-entry-requires : tie.Need-remove-entry-requires
 remove-entry-requires c κs =
     let f = rw (c .before .before .before .before .found .given .1) at (c .before .before .before .before .before .before .find-removable .ensures) in
     let p = c .before .before .before .before .before .before .before .before .before .before .before .before .before .before .before .before .before .pre in
-    ((loaded-of (p .0 .1), (_, removable-found _ _ _ _ _ (f .1) (f .0) .0, named-member _ _ _ _ _ (f .1))), p .1)
+    ((p .0 .1 .loaded, (_, removable-found _ _ _ _ _ (f .1) (f .0) .0, named-member _ _ _ _ _ (f .1))), p .1)
 
 same-length-3 : tie.Need-same-length-3
 same-length-3 c = search needs

@@ -1,4 +1,4 @@
-use Rattle.changing.proofs.Laws.{leaves-unchanged, leaves-named, loaded-of}
+use Rattle.changing.proofs.Laws.{leaves-unchanged, leaves-named}
 use Rattle.changes.specs.Answers.{resize-late, file-found}
 use Rattle.changes.specs.Reached.{named-member}
 use borrow.Author.Needs.{needs}
@@ -33,7 +33,7 @@ resize-entry-requires c κs =
     let f = rw (c .before .before .before .before .found .given .1) at (c .before .before .before .before .before .before .find-file .ensures) in
     let p = c .before .before .before .before .before .before .before .before .before .before .before .before .before .before .before .before .before .pre in
     let d = file-found _ _ _ _ _ (f .1) (f .0) in
-    ((loaded-of (p .0 .1), (_, d .0, named-member _ _ _ _ _ (f .1))), (d .1, p .1))
+    ((p .0 .1 .loaded, (_, d .0, named-member _ _ _ _ _ (f .1))), (d .1, p .1))
 
 same-length-3 : tie.Need-same-length-3
 same-length-3 c = search needs

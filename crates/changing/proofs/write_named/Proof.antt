@@ -1,5 +1,5 @@
-use Rattle.changing.proofs.Laws.{chain-inside, write-refused, write-done}
-use Rattle.changes.specs.Answers.{file-found, span-found}
+use Rattle.changing.proofs.Laws.{chain-inside, leaves-unchanged, leaves-named, leaves-written}
+use Rattle.changes.specs.Answers.{span-late, span-found}
 use Rattle.changes.specs.Reached.{named-member}
 use Rattle.lookup.specs.Answers.{entered}
 use Rattle.rules.specs.Changes.{written}
@@ -26,15 +26,14 @@ same-length c = search needs
 
 returns : tie.Need-returns
 returns c =
-    let a = c .before .before .before .before .before .before .before .before .before .before .before .before .before .before .args in
     let r = c .before .before .found2 .given in
-    write-refused (a .image .now) (a .head .0) (a .name .now) (a .offset) (a .bytes .now) (r .0 .0) _ (c .number .ensures) (rw (r .1) at (c .before .before .before .before .find-span .ensures))
+    λ b a. leaves-unchanged _ _ _ _ (span-late _ _ _ _ _ _) (r .0 .0) _ (c .number .ensures) (rw (r .1) at (c .before .before .before .before .find-span .ensures)) b a
 
 write-along-requires : tie.Need-write-along-requires
 write-along-requires c κs =
     let f = rw (c .before .before .found .given .1) at (c .before .before .before .before .find-span .ensures) in
     let o = c .before .before .before .before .before .before .before .before .before .before .before .before .before .before .pre .1 in
-    rw (o .loaded) (chain-inside o _ (file-found _ _ _ _ _ (f .1) (span-found _ _ _ _ _ (f .1) _ _ (f .0) .0) .0) _ (named-member _ _ _ _ _ (f .1)))
+    rw (o .loaded .is-loaded) (chain-inside o _ (span-found _ _ _ _ _ (f .1) _ _ (f .0) .0) _ (named-member _ _ _ _ _ (f .1)))
 
 same-length-2 : tie.Need-same-length-2
 same-length-2 c = search needs
@@ -43,9 +42,11 @@ returns-2 : tie.Need-returns-2
 returns-2 c =
     let f = rw (c .before .before .before .before .before .found .given .1) at (c .before .before .before .before .before .before .before .find-span .ensures) in
     let a = c .before .before .before .before .before .before .before .before .before .before .before .before .before .before .before .before .before .args in
-    let e = c .before .before .before .before .before .found .given .0 .0 in
-    write-done (a .image .now) (a .head .0) (a .name .now) (a .offset) (a .bytes .now) (entered e) (f .0) (f .1) _
-    (c .before .before .write-along .ensures (entered e) refl ∙ ap (λ (s : Anodes). written (a .image .now) s (entered e) (a .offset) (a .bytes .now)) (c .before .before .before .before .before .before .before .before .before .before .before .before .before .before .before .before .before .pre .1 .loaded))
+    let l = c .before .before .before .before .before .before .before .before .before .before .before .before .before .before .before .before .before .pre .1 .loaded in
+    let e = entered (c .before .before .before .before .before .found .given .0 .0) in
+    let d = span-found _ _ _ _ _ (f .1) _ _ (f .0) in
+    let is = c .before .before .write-along .ensures e refl ∙ ap (λ (s : Anodes). written (a .image .now) s e (a .offset) (a .bytes .now)) (l .is-loaded) in
+    λ b h. leaves-named _ _ _ _ _ (f .0) (f .1) _ _ _ _ _ _ (leaves-written _ (l .accepted) _ (d .0) e (named-member _ _ _ _ _ (f .1)) (d .1) _ _ _ is b h)
 
 pub write-named-spec : {M : Type 1} → statement M
 write-named-spec =

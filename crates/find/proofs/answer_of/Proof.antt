@@ -1,4 +1,4 @@
-use Rattle.find.proofs.Laws.{search-found, search-there}
+use Rattle.find.proofs.Laws.{search-is, search-there}
 use mathlib.Core.Path.{refl}
 use borrow.Author.Needs.{needs}
 use Rattle.find.proofs.answer_of.Statement.{statement}
@@ -11,7 +11,7 @@ enum-told : tie.Need-enum-told
 enum-told c = search needs
 
 returns : tie.Need-returns
-returns c = let e = search-found _ _ _ refl (c .before .found .given .1) in (search-there _ _ e, e)
+returns c = let e = search-is _ _ _ refl (c .before .found .given .1) in (search-there _ _ e, e)
 
 returns-2 : tie.Need-returns-2
 returns-2 c = search needs

@@ -1,5 +1,5 @@
 use Rattle.reading.proofs.Laws.{file-long, bytes-refused, bytes-done}
-use Rattle.changes.specs.Answers.{file-found, span-found}
+use Rattle.changes.specs.Answers.{span-found}
 use Rattle.find.proofs.Laws.{refused-some}
 use Rattle.changes.specs.Reached.{named-member}
 use native.Mathlib.Omega.{arith}
@@ -31,8 +31,7 @@ copy-out-requires c κs =
     let f = rw (c .before .before .found .given .1) at (c .before .before .before .before .find-span .ensures) in
     let o = c .before .before .before .before .before .before .before .before .before .before .before .before .before .pre .1 in
     let s = span-found _ _ _ _ _ (f .1) _ _ (f .0) in
-    let d = file-found _ _ _ _ _ (f .1) (s .0) in
-    rw (o .loaded) (omega (arith, file-long o _ (d .0) _ (named-member _ _ _ _ _ (f .1)) (d .1), s .1))
+    rw (o .loaded .is-loaded) (omega (arith, file-long o _ (s .0) _ (named-member _ _ _ _ _ (f .1)) (s .1), s .2))
 
 same-length : tie.Need-same-length
 same-length c = search needs
@@ -40,7 +39,7 @@ same-length c = search needs
 returns-2 : tie.Need-returns-2
 returns-2 c =
     let f = rw (c .before .before .before .before .before .found .given .1) at (c .before .before .before .before .before .before .before .find-span .ensures) in
-    (sym (f .0), bytes-done _ _ _ _ (f .1) _ _ _ (span-found _ _ _ _ _ (f .1) _ _ (f .0) .1) (rw (c .before .before .before .before .before .before .before .before .before .before .before .before .before .before .before .before .pre .1 .loaded) at (c .before .before .copy-out .ensures)))
+    (sym (f .0), bytes-done _ _ _ _ (f .1) _ _ _ (span-found _ _ _ _ _ (f .1) _ _ (f .0) .2) (rw (c .before .before .before .before .before .before .before .before .before .before .before .before .before .before .before .before .pre .1 .loaded .is-loaded) at (c .before .before .copy-out .ensures)))
 
 pub read-named-spec : {M : Type 1} → statement M
 read-named-spec =
