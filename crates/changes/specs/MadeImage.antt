@@ -37,7 +37,8 @@ use Rattle.changes.specs.FoundEntries.{enteredAt, end-bounds}
 use Rattle.changes.specs.Members.{Member, none-in, no-member, member-cons, member-gather, member-times, times-member}
 use Rattle.changes.specs.Reached.{DirBlock, reached-from-5, dir-block}
 use Rattle.changes.specs.SingleBlocks.{single-apart, single-data}
-use Rattle.changes.specs.NewEntry.{entries-put, head-put, length-new, entries-new, end-new, head-new, room-found}
+use Rattle.laws.specs.NewDirectory.{length-new, entries-new, head-new}
+use Rattle.changes.specs.NewEntry.{entries-put, head-put, end-new, room-found}
 use Rattle.changes.specs.MakePlan.{Fresh, fresh-free, MakeSteps, MadePlan, made-plan, made-good, made-orphan, parent-took}
 
 -- what stands among the numbers that g gives for a list

@@ -31,7 +31,7 @@ use Rattle.laws.specs.Make.{enter-file, enter-directory}
 use Rattle.changes.specs.Image.{reached-sum, whole-accepted}
 use Rattle.changes.specs.FoundEntries.{enteredAt}
 use Rattle.changes.specs.Reached.{reached-head}
-use Rattle.changes.specs.NewEntry.{entries-new}
+use Rattle.laws.specs.NewDirectory.{entries-new}
 use Rattle.changes.specs.MadeImage.{Making, spare, new-marked, first-in, once, plan, before, own-new, orphan, spot, made-same, made-anodes, entries-made, marks-made, entry-other, its-head, other-entries}
 
 module _ {img : List ℕ} {blocks anodes h : ℕ} {new : NewEntry} {f : ℕ} {room : Option ℕ} {ys : List ℕ} {t : Anodes} {zs : List ℕ} (m : Making img blocks anodes h new f room ys t zs) where

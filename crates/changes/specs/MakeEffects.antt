@@ -35,7 +35,8 @@ use Rattle.changes.specs.FoundEntries.{part-same, enteredAt, entry-stand
 use Rattle.changes.specs.Members.{Member, none-in, member-first, member-times, times-member, gather-congr}
 use Rattle.changes.specs.Reached.{block-on, reached-from-5, reached-head, dir-block, entry-facts, not-file}
 use Rattle.changes.specs.EntryBytes.{entryBytes, bytes-at, with-length}
-use Rattle.changes.specs.NewEntry.{entries-new, comment-put}
+use Rattle.laws.specs.NewDirectory.{entries-new}
+use Rattle.changes.specs.NewEntry.{comment-put}
 use Rattle.changes.specs.MadeImage.{Making, spare, w, plan, own-block, parent-block, before, kept-block, parent-new, cont, old-block, orphan, spot, inside-before, spot-data, in-block, at-end, entry-kept, entry-block, entry-other, made-anodes, entries-made, other-entries, its-head}
 use Rattle.changes.specs.Make.{made-dirs}
 

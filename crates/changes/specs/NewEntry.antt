@@ -8,21 +8,22 @@ use mathlib.Core.Option.{some, Option·none-ne-some}
 use native.Mathlib.Omega.{arith}
 use borrow.Author.Tests.{leb-true}
 use lib.Dec.{leb}
-use lib.ListN.{length, getD, take, drop, length-set, length-drop, length-replicate, getD-replicate}
+use lib.ListN.{length, getD, take, drop, length-set, length-drop}
 use lib.Seq.{getD-take, getD-drop, length-take-le, ext-getD}
 use Rattle.endian.specs.Bytes.{stored, cleared}
 use Rattle.endian.proofs.Laws.{length-put16, length-put32, length-stored, length-cleared, getD-stored-in, getD-cleared-before}
 use Rattle.disk.specs.Blocks.{blockOf}
 use Rattle.directory.specs.declared.Entry.{Entry}
 use Rattle.directory.specs.declared.Walked.the-variants.{Found, End}
-use Rattle.directory.specs.Entries.{directoryMark, directoryHeadIn, goodName, entryLength, entryIn, walkedAt, putEntry}
-use Rattle.directory.proofs.Laws.{length-putDirectoryHead, getD-putDirectoryHead-after, directoryHeadIn-putDirectoryHead, length-putEntry, getD-putEntry-before, walkedAt-putEntry-end, entryIn-putEntry, walkedAt-putEntry, found-at}
+use Rattle.directory.specs.Entries.{directoryHeadIn, goodName, entryLength, entryIn, walkedAt, putEntry}
+use Rattle.directory.proofs.Laws.{length-putEntry, getD-putEntry-before, walkedAt-putEntry-end, entryIn-putEntry, walkedAt-putEntry, found-at}
 use Rattle.rules.specs.Counting.{times, anyIn}
 use Rattle.rules.specs.Walk.{Entered, entriesFrom}
-use Rattle.rules.specs.Format.{zeroBlock, newDirectoryBlock}
+use Rattle.rules.specs.Format.{newDirectoryBlock}
 use Rattle.rules.specs.Changes.{endFrom, entriesEnd, firstRoom}
 use Rattle.laws.specs.Sums.{oneAt-same}
 use Rattle.laws.specs.Bags.{times-cons}
+use Rattle.laws.specs.NewDirectory.{mark-new}
 use Rattle.changes.specs.FoundEntries.{head-same, walked-same, enteredAt, entries-more, entries-end, unbroken-cases, end-more, end-here, end-bounds}
 
 -- ---- an entry at the end mark's place
@@ -104,28 +105,9 @@ comment-put b at e name comment commented whole room =
 
 -- ---- a new directory block
 
-pub length-new : (owner parent : ℕ) → length (newDirectoryBlock owner parent) ≡ 512
-unfolding newDirectoryBlock
-length-new owner parent = length-putDirectoryHead zeroBlock _ ∙ length-replicate {A = ℕ} 512 0
-
-new-zero : (owner parent : ℕ) → getD (newDirectoryBlock owner parent) 16 0 ≡ 0
-unfolding newDirectoryBlock
-new-zero owner parent = getD-putDirectoryHead-after zeroBlock _ 16 (omega arith) ∙ getD-replicate {A = ℕ} 512 16 0 0 (omega arith)
-
-new-end : (owner parent : ℕ) → walkedAt (newDirectoryBlock owner parent) 16 ≡ End
-unfolding walkedAt
-new-end owner parent = rw (new-zero owner parent)
-
-pub entries-new : (owner parent y : ℕ) → entriesFrom 28 (newDirectoryBlock owner parent) y 16 ≡ []
-entries-new owner parent y = entries-end (newDirectoryBlock owner parent) y 28 16 (new-end owner parent)
-
 pub end-new : (owner parent : ℕ) → entriesEnd (newDirectoryBlock owner parent) ≡ 16
 unfolding entriesEnd
-end-new owner parent = end-here (newDirectoryBlock owner parent) 0 27 16 (new-end owner parent)
-
-pub head-new : (owner parent : ℕ) → directoryHeadIn (newDirectoryBlock owner parent) ≡ record { mark = directoryMark; owner = record { 0 = owner }; parent = record { 0 = parent } }
-unfolding newDirectoryBlock
-head-new owner parent = directoryHeadIn-putDirectoryHead zeroBlock _ (omega (arith, length-replicate {A = ℕ} 512 0))
+end-new owner parent = end-here (newDirectoryBlock owner parent) 0 27 16 (mark-new owner parent)
 
 -- ---- the first block with room
 

@@ -17,10 +17,10 @@ use Rattle.disk.specs.AnodeBlocks.{anodeMade, anodeIn, anodeOf}
 use Rattle.disk.proofs.Laws.{slotOf-high, slotOf-there, anodeOf-missing, anodeOf-there}
 use Rattle.directory.specs.declared.DirectoryHead.{DirectoryHead}
 use Rattle.directory.specs.Entries.{directoryMark, putDirectoryHead}
-use Rattle.directory.proofs.Laws.{length-putDirectoryHead}
 use Rattle.counting.specs.Laws.{neither}
 use Rattle.rules.specs.Accepted.{diskSize, wrongSize}
 use Rattle.rules.specs.Format.{wrongFormat, zeroBlock, rootBlock, lowerAnode, upperAnode, listHead, firstAnodes, emptyAnodeBlock, anodeBlock, withAnodeBlocks, newDirectoryBlock, formatted, rootMade}
+use Rattle.laws.specs.NewDirectory.{length-new}
 use Rattle.format.proofs.Parts.{length-zeroBlock, blockOf-zeros, length-stored, blockOf-other, blockOf-same, block-lent, block-stored, block-over, length-rootBlock, rootIn-rootBlock, slotIn-rootBlock-some, slotIn-rootBlock-none, anodeIn-emptyAnodeBlock, empty-long, anodeBlock-first, anodeBlock-later, first-0, first-1, first-2, first-5, first-6, first-other, length-withAnodeBlocks, blockOf-withAnodeBlocks-other, blockOf-withAnodeBlocks-same}
 
 -- ---- arguments that are taken
@@ -93,10 +93,6 @@ root-lent img z h e =
 abbrev pub rootHead : DirectoryHead
 rootHead = record { mark = directoryMark; owner = record { 0 = 5 }; parent = record { 0 = 0 } }
 
-length-rootDirectory : length (newDirectoryBlock 5 0) ≡ 512
-unfolding newDirectoryBlock
-length-rootDirectory = length-putDirectoryHead zeroBlock rootHead ∙ length-zeroBlock
-
 module _ (img : List ℕ) (last k : ℕ) (name : List ℕ) (day minute tick protection : ℕ) where
   abbrev root : List ℕ
   root = rootBlock last k name day minute tick protection
@@ -127,7 +123,7 @@ module _ (img : List ℕ) (last k : ℕ) (name : List ℕ) (day minute tick prot
   length-based = length-withAnodeBlocks (diskSize img) last k rooted k ∙ length-rooted
 
   pub length-formatted : length disk ≡ length img
-  length-formatted = rw disk-based (length-stored based (3 + k) (newDirectoryBlock 5 0) length-rootDirectory ∙ length-based)
+  length-formatted = rw disk-based (length-stored based (3 + k) (newDirectoryBlock 5 0) (length-new 5 0) ∙ length-based)
 
   module _ (args : Taken img last k name) where
     -- block 2 when it is back
@@ -158,14 +154,14 @@ module _ (img : List ℕ) (last k : ℕ) (name : List ℕ) (day minute tick prot
         let e : j ≡ based = a ∙ rw (r, d) in
         let m = ap length e ∙ length-based in
         let blank = ap (λ (l : List ℕ). blockOf l (3 + k)) e ∙ blockOf-based (3 + k) (omega arith) (omega (arith, args)) in
-        block-over j (3 + k) (λ (l : List ℕ). putDirectoryHead l rootHead) new (omega (arith, args)) blank length-rootDirectory is
+        block-over j (3 + k) (λ (l : List ℕ). putDirectoryHead l rootHead) new (omega (arith, args)) blank (length-new 5 0) is
         ∙ ap (λ (l : List ℕ). withBlock l (3 + k) (newDirectoryBlock 5 0)) e
         ∙ sym disk-based
 
     -- ---- the blocks
 
     blockOf-formatted-other : (b : ℕ) → (b ≡ 3 + k → ⊥) → blockOf disk b ≡ blockOf based b
-    blockOf-formatted-other b h = rw disk-based (blockOf-other based (3 + k) (newDirectoryBlock 5 0) length-rootDirectory b h)
+    blockOf-formatted-other b h = rw disk-based (blockOf-other based (3 + k) (newDirectoryBlock 5 0) (length-new 5 0) b h)
 
     pub blockOf-formatted-root : blockOf disk 2 ≡ root
     blockOf-formatted-root =
@@ -182,7 +178,7 @@ module _ (img : List ℕ) (last k : ℕ) (name : List ℕ) (day minute tick prot
     pub blockOf-formatted-directory : blockOf disk (3 + k) ≡ (newDirectoryBlock 5 0)
     blockOf-formatted-directory =
         let m = length-based in
-        rw disk-based (blockOf-same based (3 + k) (omega (arith, args)) (newDirectoryBlock 5 0) length-rootDirectory)
+        rw disk-based (blockOf-same based (3 + k) (omega (arith, args)) (newDirectoryBlock 5 0) (length-new 5 0))
 
     -- ---- the root's fields and the slots
 

@@ -1,36 +1,18 @@
 -- The walk over a formatted image: the root directory alone, with no entry.
 use Prim.Native.Nat.{ℕ, zero, suc, _+_}
-use mathlib.Core.Path.{_≡_, refl, _∙_}
+use mathlib.Core.Path.{_≡_, refl}
 use mathlib.Core.Bool.{true}
 use mathlib.Core.List.{List, [], _∷_}
-use native.Mathlib.Omega.{arith}
-use lib.ListN.{getD, length-replicate, getD-replicate}
-use borrow.Author.Tests.{eq-eqb}
-use Rattle.disk.specs.Blocks.{blockOf}
-use Rattle.directory.specs.declared.Walked.the-variants.{End}
-use Rattle.directory.specs.Entries.{directoryHeadIn, walkedAt}
-use Rattle.directory.proofs.Laws.{getD-putDirectoryHead-after, directoryHeadIn-putDirectoryHead}
 use Rattle.rules.specs.Counting.{gather}
 use Rattle.rules.specs.Anodes.{Anodes}
 use Rattle.rules.specs.Accepted.{diskSize}
 use Rattle.rules.specs.Walk.{Dir, root, Item, entriesIn, isBlockOf, itemsBy, itemsOf, scan, done, visited, walk, walkOf}
-use Rattle.rules.specs.Format.{zeroBlock, newDirectoryBlock, formatted}
-use Rattle.laws.specs.Entries.{entries-end, itemsAt-whole}
-use Rattle.format.proofs.Laws.{Taken, rootHead, blockOf-formatted-directory}
+use Rattle.rules.specs.Format.{formatted}
+use Rattle.laws.specs.Entries.{itemsAt-whole}
+use Rattle.laws.specs.NewDirectory.{head-new, entries-new}
+use Rattle.format.proofs.Laws.{Taken, blockOf-formatted-directory}
 use Rattle.format_laws.specs.Anodes.{Laid}
 use Rattle.format_laws.specs.Links.{root-is}
-
--- ---- the root directory's block
-
-head-root : directoryHeadIn (newDirectoryBlock 5 0) ≡ rootHead
-unfolding newDirectoryBlock
-head-root = directoryHeadIn-putDirectoryHead zeroBlock rootHead (omega (arith, length-replicate {A = ℕ} 512 0))
-
-ends-root : walkedAt (newDirectoryBlock 5 0) 16 ≡ End
-unfolding walkedAt newDirectoryBlock
-ends-root =
-    let first : getD (newDirectoryBlock 5 0) 16 0 ≡ 0 = getD-putDirectoryHead-after zeroBlock rootHead 16 (omega arith) ∙ getD-replicate {A = ℕ} 512 16 0 0 (omega arith) in
-    rw (eq-eqb (getD (newDirectoryBlock 5 0) 16 0) 0 first)
 
 -- ---- a walk from a directory with no item
 
@@ -50,11 +32,11 @@ module _ (img : List ℕ) (last k : ℕ) (name : List ℕ) (day minute tick prot
 
   no-entries : entriesIn disk (3 + k) ≡ []
   unfolding entriesIn
-  no-entries = entries-end (blockOf disk (3 + k)) (3 + k) 28 16 (rw (blockOf-formatted-directory img last k name day minute tick protection args) ends-root)
+  no-entries = rw (blockOf-formatted-directory img last k name day minute tick protection args) (entries-new 5 0 (3 + k))
 
   marked : isBlockOf disk root (3 + k) ≡ true
   unfolding isBlockOf
-  marked = rw (blockOf-formatted-directory img last k name day minute tick protection args, head-root)
+  marked = rw (blockOf-formatted-directory img last k name day minute tick protection args, head-new 5 0)
 
   module _ (s : Anodes) (m : Laid s (diskSize img) last k) where
     pub no-items : itemsOf disk s root ≡ []

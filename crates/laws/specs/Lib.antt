@@ -33,6 +33,7 @@ pub mod Trees
 pub mod TreeChanges
 pub mod Totals
 pub mod Entries
+pub mod NewDirectory
 pub mod Whole
 pub mod Resize
 pub mod FreeExtent

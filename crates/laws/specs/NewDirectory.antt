@@ -1,0 +1,32 @@
+-- A directory block with no entry: its length, its head, and its end mark at byte 16.
+use Prim.Native.Nat.{ℕ}
+use mathlib.Core.Path.{_≡_, _∙_}
+use mathlib.Core.List.{[]}
+use native.Mathlib.Omega.{arith}
+use lib.ListN.{length, getD, length-replicate, getD-replicate}
+use Rattle.directory.specs.declared.Walked.the-variants.{End}
+use Rattle.directory.specs.Entries.{directoryMark, directoryHeadIn, walkedAt}
+use Rattle.directory.proofs.Laws.{length-putDirectoryHead, getD-putDirectoryHead-after, directoryHeadIn-putDirectoryHead}
+use Rattle.rules.specs.Walk.{entriesFrom}
+use Rattle.rules.specs.Format.{zeroBlock, newDirectoryBlock}
+use Rattle.laws.specs.Entries.{entries-end}
+
+module _ (owner parent : ℕ) where
+  pub length-new : length (newDirectoryBlock owner parent) ≡ 512
+  unfolding newDirectoryBlock
+  length-new = length-putDirectoryHead zeroBlock _ ∙ length-replicate {A = ℕ} 512 0
+
+  pub head-new : directoryHeadIn (newDirectoryBlock owner parent) ≡ record { mark = directoryMark; owner = record { 0 = owner }; parent = record { 0 = parent } }
+  unfolding newDirectoryBlock
+  head-new = directoryHeadIn-putDirectoryHead zeroBlock _ (omega (arith, length-replicate {A = ℕ} 512 0))
+
+  zero-new : getD (newDirectoryBlock owner parent) 16 0 ≡ 0
+  unfolding newDirectoryBlock
+  zero-new = getD-putDirectoryHead-after zeroBlock _ 16 (omega arith) ∙ getD-replicate {A = ℕ} 512 16 0 0 (omega arith)
+
+  pub mark-new : walkedAt (newDirectoryBlock owner parent) 16 ≡ End
+  unfolding walkedAt
+  mark-new = rw zero-new
+
+  pub entries-new : (y : ℕ) → entriesFrom 28 (newDirectoryBlock owner parent) y 16 ≡ []
+  entries-new y = entries-end (newDirectoryBlock owner parent) y 28 16 mark-new
