@@ -1,9 +1,8 @@
 -- The outcome of the calls that read an image, from the check's; what the check loaded of an image that it accepted.
-use Prim.Native.Nat.{ℕ, zero, suc, _≤_}
+use Prim.Native.Nat.{ℕ, _≤_}
 use mathlib.Core.Path.{_≡_, refl, sym, ap, _∙_}
 use mathlib.Core.Logic.{inl, inr}
 use mathlib.Core.List.{List, [], _∷_}
-use native.Mathlib.Omega.{arith}
 use lib.Dec.{ltb}
 use borrow.Author.Tests.{ltb-false}
 use lib.ListN.{length, getD, drop, replicate}
@@ -27,13 +26,12 @@ use Rattle.changes.specs.Answers.{Late, own-tables, span-late, list-late}
 use Rattle.changed.specs.Leaves.{Leaves}
 use Rattle.changed.specs.Laws.{late-table}
 use Rattle.find.specs.Open.{Open}
-use Rattle.find.proofs.Laws.{refused-some}
+use Rattle.find.proofs.Laws.{refused-some, some-cases}
 use Rattle.reading.proofs.Laws.{bytes-refused, fields-refused, name-refused}
 
 after-refused : (k : ℕ) (img : List ℕ) → 1 ≤ k → summaryAfter k img ≡ replicate 4 0
 unfolding summaryAfter
-after-refused zero img some = absurd (omega arith)
-after-refused (suc k) img some = refl
+after-refused k img = some-cases (λ n. summaryAfter n img ≡ replicate 4 0) (λ n. refl) k
 
 -- the tables that 0 shows are those of every late answer
 late-tables : (k : ℕ) → Late k → (range : ℕ) (shown old : List ℕ) → tableLeft k range shown old ≡ tableLeft 0 range shown old

@@ -1,5 +1,5 @@
 -- The entries of a directory block, one by one: what a found one says, and that its bytes at another place, or in another block, are the same entry.
-use Prim.Native.Nat.{ℕ, zero, suc, _+_, _*_, _≤_, _<_}
+use Prim.Native.Nat.{ℕ, zero, suc, _+_, _-_, _*_, _≤_, _<_}
 use mathlib.Core.Path.{_≡_, refl, sym, ap, _∙_, subst, fun-ext}
 use mathlib.Core.Logic.{_⊎_, inl, inr}
 use mathlib.Core.Bool.{false, cond, _&&_, true≢false}
@@ -145,7 +145,7 @@ pub record FirstFound (b : List ℕ) (y m at : ℕ) (e : Entered) (behind : List
   pub rest : entriesFrom m b y (at + getD b at 0) ≡ behind
   pub unbroken : anyIn (λ f. f .broken) (entriesFrom m b y (at + getD b at 0)) ≡ false
 
-pub first-found : (b : List ℕ) (y m at : ℕ) (e : Entered) (l : List Entered) → entriesFrom (suc m) b y at ≡ e ∷ l → anyIn (λ f. f .broken) (entriesFrom (suc m) b y at) ≡ false → FirstFound b y m at e l
+first-found : (b : List ℕ) (y m at : ℕ) (e : Entered) (l : List Entered) → entriesFrom (suc m) b y at ≡ e ∷ l → anyIn (λ f. f .broken) (entriesFrom (suc m) b y at) ≡ false → FirstFound b y m at e l
 first-found b y m at e l i u = elim (unbroken-cases b y m at u) [
   | inl o ↦ absurd (cons≢nil (sym i ∙ entries-end b y (suc m) at o))
   | inr o ↦ (let c = sym (entries-more b y m at (o .0) (o .1)) ∙ i in
@@ -153,7 +153,7 @@ first-found b y m at e l i u = elim (unbroken-cases b y m at u) [
 ]
 
 -- by its place
-pub first-here : {b : List ℕ} {y m p : ℕ} {e : Entered} {l : List Entered} → FirstFound b y m p e l → (at : ℕ) → e .place ≡ y * 512 + at → p ≡ at
+first-here : {b : List ℕ} {y m p : ℕ} {e : Entered} {l : List Entered} → FirstFound b y m p e l → (at : ℕ) → e .place ≡ y * 512 + at → p ≡ at
 first-here o at place = omega (arith, ap (λ (d : Entered). d .place) (o .stands .is), place)
 
 -- the places grow
@@ -164,34 +164,65 @@ place-after b y xs e ys zero at i u = absurd (no-member e (xs, ys, i))
 place-after b y [] e ys (suc m) at i u = omega (arith, ap (λ (d : Entered). d .place) (first-found b y m at e ys i u .stands .is))
 place-after b y (x ∷ xs) e ys (suc m) at i u = let o = first-found b y m at x (xs ++ (e ∷ ys)) i u in omega (arith, place-after b y xs e ys m (at + getD b at 0) (o .rest) (o .unbroken))
 
--- an entry ends before the next begins
-pub place-order : (b : List ℕ) (y at : ℕ) (f e : Entered) → f .place ≡ y * 512 + at → (vs ys us : List Entered) (k p : ℕ) → entriesFrom k b y p ≡ us ++ (f ∷ (vs ++ (e ∷ ys))) →
-    anyIn (λ g. g .broken) (entriesFrom k b y p) ≡ false → y * 512 + (at + getD b at 0) ≤ e .place
-unfolding entriesFrom
-place-order b y at f e place vs ys us zero p i u = absurd (no-member f (us, vs ++ (e ∷ ys), i))
-place-order b y at f e place vs ys [] (suc m) p i u =
-    let o = first-found b y m p f (vs ++ (e ∷ ys)) i u in
-    let here = first-here o at place in
-    rw here at (place-after b y vs e ys m (p + getD b p 0) (o .rest) (o .unbroken))
-place-order b y at f e place vs ys (x ∷ us) (suc m) p i u =
-    let o = first-found b y m p x (us ++ (f ∷ (vs ++ (e ∷ ys)))) i u in
-    place-order b y at f e place vs ys us m (p + getD b p 0) (o .rest) (o .unbroken)
+-- the entries from p on, passed up to e at its place
+pub record Reaches (b : List ℕ) (y k p at : ℕ) (xs : List Entered) (e : Entered) (ys : List Entered) : Type 0 where
+  -- how many may follow e
+  pub m : ℕ
+  pub found : FirstFound b y m at e ys
+  -- an entry has at least 18 bytes
+  pub fuel : p + 18 * k ≤ at + 18 * suc m
+  pub end : endFrom k b p ≡ endFrom (suc m) b at
+  -- a block with the same bytes before e has the same entries there
+  pub front : (b′ : List ℕ) → length b ≡ 512 → length b′ ≡ 512 → ((i : ℕ) → i < at → getD b′ i 0 ≡ getD b i 0) → entriesFrom k b′ y p ≡ xs ++ entriesFrom (suc m) b′ y at
 
--- an entry of the list stands at its place, before the end mark
-pub entry-standing : (b : List ℕ) (y at : ℕ) (e : Entered) → e .place ≡ y * 512 + at → (ys xs : List Entered) (k p : ℕ) → entriesFrom k b y p ≡ xs ++ (e ∷ ys) →
-    anyIn (λ f. f .broken) (entriesFrom k b y p) ≡ false → p ≤ 510 → 520 ≤ p + 18 * k → Standing b y at (endFrom k b p) e
-entry-standing b y at e place ys xs zero p i u l f = absurd (omega (arith, l, f))
-entry-standing b y at e place ys [] (suc m) p i u l f =
+pub reaches : (b : List ℕ) (y at : ℕ) (e : Entered) → e .place ≡ y * 512 + at → (ys xs : List Entered) (k p : ℕ) → entriesFrom k b y p ≡ xs ++ (e ∷ ys) →
+    anyIn (λ f. f .broken) (entriesFrom k b y p) ≡ false → Reaches b y k p at xs e ys
+unfolding entriesFrom
+reaches b y at e place ys xs zero p i u = absurd (no-member e (xs, ys, i))
+reaches b y at e place ys [] (suc m) p i u =
     let o = first-found b y m p e ys i u in
-    let s = o .stands in
-    let g = found-at b p (s .entry) (s .walked) in
-    subst (λ (q : ℕ). Standing b y q (endFrom (suc m) b p) e) (first-here o at place)
-    (stands-before s (endFrom (suc m) b p) (omega (arith, end-bounds b y m (p + getD b p 0) (o .unbroken) (g .room) (omega (arith, f, g .long)) .0, end-more b y m p (s .entry) (s .walked))))
-entry-standing b y at e place ys (z ∷ zs) (suc m) p i u l f =
+    let here = first-here o at place in
+    record { m = m; found = subst (λ (q : ℕ). FirstFound b y m q e ys) here o; fuel = omega (arith, here); end = ap (endFrom (suc m) b) here; front = λ b′ w w′ same. ap (entriesFrom (suc m) b′ y) here }
+reaches b y at e place ys (z ∷ zs) (suc m) p i u =
     let o = first-found b y m p z (zs ++ (e ∷ ys)) i u in
     let s = o .stands in
     let g = found-at b p (s .entry) (s .walked) in
-    stands-before (entry-standing b y at e place ys zs m (p + getD b p 0) (o .rest) (o .unbroken) (g .room) (omega (arith, f, g .long))) (endFrom (suc m) b p) (omega (arith, end-more b y m p (s .entry) (s .walked)))
+    let r = reaches b y at e place ys zs m (p + getD b p 0) (o .rest) (o .unbroken) in
+    let before : p + getD b p 0 ≤ at = omega (arith, place, place-after b y zs e ys m (p + getD b p 0) (o .rest) (o .unbroken)) in
+    record {
+      m = r .m;
+      found = r .found;
+      fuel = omega (arith, r .fuel, g .long);
+      end = end-more b y m p (s .entry) (s .walked) ∙ r .end;
+      front = λ b′ w w′ same.
+          entries-more b′ y m p (s .entry) (walked-same b b′ p p w w′ g (g .room) (λ i l. same (p + i) (omega arith)) ∙ s .walked)
+          ∙ rw (same p (omega (arith, before, g .long)), ← (s .is), r .front b′ w w′ same);
+    }
+
+-- an entry of the list stands in the block
+pub entry-place : (b : List ℕ) (y k p : ℕ) (e : Entered) → Member e (entriesFrom k b y p) → anyIn (λ f. f .broken) (entriesFrom k b y p) ≡ false → (at : ℕ) × (p ≤ at) × Standing b y at 510 e
+entry-place b y k p e (xs, ys, i) u =
+    let l = place-after b y xs e ys k p i u in
+    let at = e .place - y * 512 in
+    let s = reaches b y at e (omega arith) ys xs k p i u .found .stands in
+    (at, omega arith, stands-before s 510 (found-at b at (s .entry) (s .walked) .room))
+
+-- an entry ends before the next begins
+pub place-order : (b : List ℕ) (y at : ℕ) (f e : Entered) → f .place ≡ y * 512 + at → (vs ys us : List Entered) (k p : ℕ) → entriesFrom k b y p ≡ us ++ (f ∷ (vs ++ (e ∷ ys))) →
+    anyIn (λ g. g .broken) (entriesFrom k b y p) ≡ false → y * 512 + (at + getD b at 0) ≤ e .place
+place-order b y at f e place vs ys us k p i u =
+    let r = reaches b y at f place (vs ++ (e ∷ ys)) us k p i u in
+    place-after b y vs e ys (r .m) (at + getD b at 0) (r .found .rest) (r .found .unbroken)
+
+-- an entry of the list stands before the end mark
+pub entry-standing : (b : List ℕ) (y at : ℕ) (e : Entered) → e .place ≡ y * 512 + at → (ys xs : List Entered) (k p : ℕ) → entriesFrom k b y p ≡ xs ++ (e ∷ ys) →
+    anyIn (λ f. f .broken) (entriesFrom k b y p) ≡ false → p ≤ 510 → 520 ≤ p + 18 * k → Standing b y at (endFrom k b p) e
+entry-standing b y at e place ys xs k p i u l f =
+    let r = reaches b y at e place ys xs k p i u in
+    let s = r .found .stands in
+    let g = found-at b at (s .entry) (s .walked) in
+    stands-before s (endFrom k b p)
+    (omega (arith, r .end, end-more b y (r .m) at (s .entry) (s .walked), end-bounds b y (r .m) (at + getD b at 0) (r .found .unbroken) (g .room) (omega (arith, f, r .fuel, g .long)) .0))
 
 -- ---- an entry of a directory block whose entries keep the rules
 

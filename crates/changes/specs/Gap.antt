@@ -14,7 +14,7 @@ use Rattle.directory.proofs.Laws.{found-at}
 use Rattle.rules.specs.Counting.{anyIn}
 use Rattle.rules.specs.Walk.{Entered, entriesFrom}
 use Rattle.rules.specs.Changes.{endFrom, entriesEnd, gapClosed}
-use Rattle.changes.specs.FoundEntries.{part-same, head-same, walked-same, entry-standing, entries-more, entries-end, unbroken-cases, end-more, end-here, end-bounds, first-found, first-here, place-after, place-order, BlockEntry, block-standing, end-within}
+use Rattle.changes.specs.FoundEntries.{part-same, head-same, walked-same, entry-standing, entries-more, entries-end, unbroken-cases, end-more, end-here, end-bounds, place-after, place-order, reaches, BlockEntry, block-standing, end-within}
 use Rattle.changes.specs.Members.{Member}
 
 -- the same entry, so many bytes earlier
@@ -61,25 +61,17 @@ module _ (b b′ : List ℕ) (y at len end : ℕ) (whole : length b ≡ 512) (wh
 
   -- with those before it
   module _ (e : Entered) (ys : List Entered) (place : e .place ≡ y * 512 + at) (its-length : getD b at 0 ≡ len) where
-    closed : (xs : List Entered) (k p : ℕ) → entriesFrom k b y p ≡ xs ++ (e ∷ ys) → anyIn (λ f. f .broken) (entriesFrom k b y p) ≡ false → p ≤ 510 → 520 ≤ p + 18 * k →
+    closed : (xs : List Entered) (k p : ℕ) → entriesFrom k b y p ≡ xs ++ (e ∷ ys) → anyIn (λ f. f .broken) (entriesFrom k b y p) ≡ false → 520 ≤ p + 18 * k →
         endFrom k b p ≡ end → entriesFrom k b′ y p ≡ xs ++ map (lowered len) ys
-    closed xs zero p i u r f q = absurd (omega (arith, r, f))
-    closed [] (suc m) p i u r f q =
-        let o = first-found b y m p e ys i u in
+    closed xs k p i u f q =
+        let r = reaches b y at e place ys xs k p i u in
+        let o = r .found in
         let s = o .stands in
-        let g = found-at b p (s .entry) (s .walked) in
-        let here = first-here o at place in
-        let next : p + getD b p 0 ≡ at + len = rw here (ap (λ (n : ℕ). at + n) its-length) in
-        rw here (moved m at (omega arith) (rw next at (o .unbroken)) (omega (arith, g .room, next)) (omega (arith, f, g .long, next)) (rw next at (sym (end-more b y m p (s .entry) (s .walked)) ∙ q)))
-        ∙ ap (map (lowered len)) (rw next at (o .rest))
-    closed (z ∷ zs) (suc m) p i u r f q =
-        let o = first-found b y m p z (zs ++ (e ∷ ys)) i u in
-        let s = o .stands in
-        let g = found-at b p (s .entry) (s .walked) in
-        let before : p + getD b p 0 ≤ at = omega (arith, place, place-after b y zs e ys m (p + getD b p 0) (o .rest) (o .unbroken)) in
-        let same : getD b′ p 0 ≡ getD b p 0 = front p (omega (arith, before, g .long)) in
-        entries-more b′ y m p (s .entry) (walked-same b b′ p p whole whole′ g (g .room) (λ i l. front (p + i) (omega arith)) ∙ s .walked)
-        ∙ rw (same, ← (s .is), closed zs m (p + getD b p 0) (o .rest) (o .unbroken) (g .room) (omega (arith, f, g .long)) (sym (end-more b y m p (s .entry) (s .walked)) ∙ q))
+        let g = found-at b at (s .entry) (s .walked) in
+        let next : at + getD b at 0 ≡ at + len = ap (λ (n : ℕ). at + n) its-length in
+        r .front b′ whole whole′ front
+        ∙ ap (λ (l : List Entered). xs ++ l) (moved (r .m) at (omega arith) (rw next at (o .unbroken)) (omega (arith, g .room, next)) (omega (arith, f, r .fuel, g .long, next))
+        (rw next at (sym (end-more b y (r .m) at (s .entry) (s .walked)) ∙ sym (r .end) ∙ q)) ∙ ap (map (lowered len)) (rw next at (o .rest)))
 
 -- ---- the bytes of the block
 
@@ -172,7 +164,7 @@ module _ {b : List ℕ} {y at : ℕ} {e : Entered} (u : BlockEntry b y at e) whe
       let within = end-within u in
       let s = block-standing u in
       closed b (gapClosed b at len end) y at len end (u .whole) length-closed (gap-front b at len end (u .whole) fits within) (gap-behind b at len end (u .whole) fits within)
-      (gap-zeros b at len end (u .whole) fits within) (omega (arith, found-at b at (s .entry) (s .walked) .long)) e (u .parted .1) (u .place) refl (u .parted .0) 28 16 (u .parted .2) (u .unbroken) (omega arith) (omega arith) refl
+      (gap-zeros b at len end (u .whole) fits within) (omega (arith, found-at b at (s .entry) (s .walked) .long)) e (u .parted .1) (u .place) refl (u .parted .0) 28 16 (u .parted .2) (u .unbroken) (omega arith) refl
 
   -- the bytes of an entry that stays
   pub bytes-earlier : (f : Entered) → Member f (u .parted .0) → (k : ℕ) → f .place ≡ y * 512 + k → take (getD b k 0) (drop k (gapClosed b at (getD b at 0) (entriesEnd b))) ≡ take (getD b k 0) (drop k b)

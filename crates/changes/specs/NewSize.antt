@@ -21,8 +21,7 @@ use Rattle.directory.specs.Entries.{directoryHeadIn, kindRead, nameLength, comm
 use Rattle.directory.proofs.Laws.{found-at, end-at}
 use Rattle.rules.specs.Counting.{anyIn}
 use Rattle.rules.specs.Walk.{Entered, entriesFrom}
-use Rattle.changes.specs.Members.{no-member}
-use Rattle.changes.specs.FoundEntries.{head-same, walked-same, enteredAt, entries-more, entries-end, unbroken-cases, first-found, first-here, place-after}
+use Rattle.changes.specs.FoundEntries.{head-same, walked-same, entries-more, entries-end, unbroken-cases, reaches}
 
 -- the same entry with another size
 abbrev pub sized : ℕ → Entered → Entered
@@ -135,26 +134,16 @@ module _ (b : List ℕ) (y at new : ℕ) (whole : length b ≡ 512) (e : Entered
 
   pub entries-sized : (xs : List Entered) (k p : ℕ) → entriesFrom k b y p ≡ xs ++ (e ∷ ys) → anyIn (λ f. f .broken) (entriesFrom k b y p) ≡ false →
       entriesFrom k (put32 b (at + 4) new) y p ≡ xs ++ (sized new e ∷ ys)
-  unfolding entriesFrom
-  entries-sized xs zero p i u = absurd (no-member e (xs, ys, i))
-  entries-sized [] (suc m) p i u =
-      let o = first-found b y m p e ys i u in
+  entries-sized xs k p i u =
+      let r = reaches b y at e place ys xs k p i u in
+      let o = r .found in
       let s = o .stands in
-      let here = first-here o at place in
-      let x = ap (walkedAt b) (sym here) ∙ s .walked in
-      let g = found-at b at (s .entry) x in
-      ap (entriesFrom (suc m) (b′ b at new whole) y) here
-      ∙ entries-more (b′ b at new whole) y m at (withNew new (s .entry)) (walked-new b at new whole (omega (arith, g .long, g .room)) ∙ ap (onFound new) x)
+      let g = found-at b at (s .entry) (s .walked) in
+      let c = b′ b at new whole in
+      r .front c whole whole′ (λ i l. others b at new whole i (inl (omega arith)))
+      ∙ ap (λ (l : List Entered). xs ++ l) (entries-more c y (r .m) at (withNew new (s .entry)) (walked-new b at new whole (omega (arith, g .long, g .room)) ∙ ap (onFound new) (s .walked))
       ∙ rw (
         others b at new whole at (inl (omega arith)),
-        entries-later b (b′ b at new whole) y whole whole′ m (at + getD b at 0) (λ i l. others b at new whole i (inr (omega (arith, l, g .long)))) (rw here at (o .unbroken)),
+        entries-later b c y whole whole′ (r .m) (at + getD b at 0) (λ i l. others b at new whole i (inr (omega (arith, l, g .long)))) (o .unbroken),
       )
-      (ap₂ _∷_ (ap (λ (q : ℕ). sized new (enteredAt (s .entry) (y * 512 + q))) (sym here) ∙ ap (sized new) (sym (s .is))) (rw here at (o .rest)))
-  entries-sized (z ∷ zs) (suc m) p i u =
-      let o = first-found b y m p z (zs ++ (e ∷ ys)) i u in
-      let s = o .stands in
-      let g = found-at b p (s .entry) (s .walked) in
-      let before : p + getD b p 0 ≤ at = omega (arith, place, place-after b y zs e ys m (p + getD b p 0) (o .rest) (o .unbroken)) in
-      entries-more (b′ b at new whole) y m p (s .entry)
-      (walked-same b (b′ b at new whole) p p whole whole′ g (g .room) (λ i l. others b at new whole (p + i) (inl (omega arith))) ∙ s .walked)
-      ∙ rw (others b at new whole p (inl (omega (arith, before, g .long))), ← (s .is), entries-sized zs m (p + getD b p 0) (o .rest) (o .unbroken))
+      (ap₂ _∷_ (ap (sized new) (sym (s .is))) (o .rest)))

@@ -6,17 +6,14 @@ use mathlib.Core.Bool.{Bool, true, false, true≢false}
 use mathlib.Core.List.{List, [], _∷_, map}
 use mathlib.Core.Option.{some}
 use native.Mathlib.Omega.{arith}
-use lib.ListN.{length, getD}
+use lib.ListN.{length}
 use Rattle.disk.specs.Blocks.{blockOf}
 use Rattle.disk.proofs.Laws.{length-blockOf}
-use Rattle.directory.specs.declared.Walked.{Walked}
-use Rattle.directory.specs.declared.Walked.the-variants.{Found, End, Fault}
-use Rattle.directory.specs.Entries.{walkedAt}
 use Rattle.directory.proofs.Laws.{FoundAt, found-at}
 use Rattle.rules.specs.Counting.{oneAt, sumList, times, anyIn}
 use Rattle.rules.specs.Anodes.{Anodes, limit, anodesOf}
 use Rattle.rules.specs.Chains.{chainOf, heads, run, blocksOf, blockCount}
-use Rattle.rules.specs.Walk.{Dir, Entered, Item, withRest, entriesFrom, entriesIn, isBlockOf, blocksFor, itemOf, broken, itemsAt, itemsBy, reachedDirs}
+use Rattle.rules.specs.Walk.{Dir, Entered, Item, entriesIn, isBlockOf, blocksFor, itemOf, broken, itemsAt, itemsBy, reachedDirs}
 use Rattle.rules.specs.Accepted.{checkAnswer}
 use Rattle.rules.specs.Lookup.{noDirectory, entriesOf, isNamed, firstNamed, entryNamed, nth}
 use Rattle.counting.specs.Laws.{none-or}
@@ -33,8 +30,8 @@ use Rattle.laws.specs.Entries.{broken-wrong, item-fine, item-anode, item-dir, i
 use Rattle.laws.specs.Whole.{Whole, counts-head, not-dir, dir-heads, named-heads}
 use Rattle.frames.specs.DisjointBlocks.{DataBlock, chain-block}
 use Rattle.changes.specs.Image.{WholeImage, headIn, sideIn, accepted-whole, headed-named, headed-reached, reached-some}
-use Rattle.changes.specs.FoundEntries.{enteredAt, Standing, BlockEntry}
-use Rattle.changes.specs.Members.{Member, no-member, member-first, member-later, member-cons, member-each, member-sum, member-gather, member-times}
+use Rattle.changes.specs.FoundEntries.{Standing, entry-place, BlockEntry}
+use Rattle.changes.specs.Members.{Member, member-first, member-later, member-each, member-sum, member-gather, member-times}
 
 -- ---- lookups
 
@@ -56,27 +53,6 @@ unfolding nth
 nth-member [] n e is = absurd (let z : _≡_ {A = ℕ} 0 1 = cc in omega arith)
 nth-member (x ∷ l) zero e is = ([], l, cc)
 nth-member (x ∷ l) (suc n) e is = member-later e x l (nth-member l n e is)
-
--- ---- where an entry stands
-
--- an entry of a block that keeps the rules is found at its place
-entry-place : (k : ℕ) (b : List ℕ) (y at : ℕ) (e : Entered) → Member e (entriesFrom k b y at) → e .broken ≡ false → (place : ℕ) × (at ≤ place) × Standing b y place 510 e
-unfolding entriesFrom
-entry-place zero b y at e p u = absurd (no-member e p)
-entry-place (suc k) b y at e p u = go (walkedAt b at) refl p (entry-place k b y (at + getD b at 0) e)
-  where
-    go : (w : Walked) → walkedAt b at ≡ w → Member e (withRest w (y * 512 + at) (entriesFrom k b y (at + getD b at 0))) →
-        (Member e (entriesFrom k b y (at + getD b at 0)) → e .broken ≡ false → (place : ℕ) × (at + getD b at 0 ≤ place) × Standing b y place 510 e) →
-        (place : ℕ) × (at ≤ place) × Standing b y place 510 e
-    go (Found x) f q rest = elim (member-cons e (enteredAt x (y * 512 + at)) (entriesFrom k b y (at + getD b at 0)) q) [
-      | inl i ↦ (at, omega arith, record { entry = x; walked = f; is = i; before = found-at b at x f .room })
-      | inr i ↦ (let r = rest i u in (r .0, omega (arith, r .1), r .2))
-    ]
-    go End f q rest = absurd (no-member e q)
-    go (Fault r) f q rest = elim (member-cons e (record { broken = true; dir = false; anode = 0; size = 0; place = y * 512 + at }) [] q) [
-      | inl i ↦ absurd (true≢false (sym (ap (λ (z : Entered). z .broken) i) ∙ u))
-      | inr i ↦ absurd (no-member e i)
-    ]
 
 -- ---- a reached directory
 
@@ -254,7 +230,7 @@ module _ (img : List ℕ) (blocks anodes : ℕ) (accepted : checkAnswer img bloc
   unfolding entriesIn
   place-in a on e m =
       let y = anodesOf img .block a in
-      let p = entry-place 28 (blockOf img y) y 16 e m (fine w (reached-dir .0) (reached-dir .1) a (rw (reached-dir .2) on) e m .0) in
+      let p = entry-place (blockOf img y) y 28 16 e m (dir-block a on .unbroken) in
       (p .0, ap (λ (c : Entered). c .place) (p .2 .is), found-at (blockOf img y) (p .0) (p .2 .entry) (p .2 .walked))
 
   module _ (e : Entered) (member : Member e (entriesOf img (anodesOf img) h)) where
@@ -268,7 +244,7 @@ module _ (img : List ℕ) (blocks anodes : ℕ) (accepted : checkAnswer img bloc
         let c : Member a (chainOf (s .next) limit (reached-dir .0 .head)) = rw (reached-dir .2) (q .1) in
         let f = fine w (reached-dir .0) (reached-dir .1) a c e (q .2) in
         let d = counts-head (w .good) (e .anode) (f .2) in
-        let p = entry-place 28 (blockOf img (s .block a)) (s .block a) 16 e (q .2) (f .0) in
+        let p = entry-place (blockOf img (s .block a)) (s .block a) 28 16 e (q .2) (dir-block a (q .1) .unbroken) in
         let place : e .place ≡ s .block a * 512 + p .0 = ap (λ (z : Entered). z .place) (p .2 .is) in
         let y : e .place / 512 ≡ s .block a = omega (arith, p .2 .before) in
         let at : e .place % 512 ≡ p .0 = omega (arith, p .2 .before) in

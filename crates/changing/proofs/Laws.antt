@@ -1,5 +1,5 @@
 -- What the changes by name answer and leave, from what the search found.
-use Prim.Native.Nat.{ℕ, zero, suc, _≤_}
+use Prim.Native.Nat.{ℕ, _≤_}
 use mathlib.Core.Path.{_≡_, refl, sym, ap, _∙_}
 use mathlib.Core.Logic.{inl, inr}
 use mathlib.Core.Bool.{Bool, true, false, cond, not, _||_}
@@ -34,7 +34,7 @@ use Rattle.changed.specs.Leaves.{Leaves}
 use Rattle.changed.specs.Laws.{leaves-refused, leaves-same}
 use Rattle.contents.specs.Written.{InsideOnce}
 use Rattle.find.specs.Open.{Open}
-use Rattle.find.proofs.Laws.{refused-some}
+use Rattle.find.proofs.Laws.{refused-some, some-cases}
 
 module _ {img counts firsts nexts queue parents heads : List ℕ} {dirs : ℕ} (o : Open img counts firsts nexts queue parents heads dirs) where
   -- the blocks of the chain that an entry names are inside the image, each once
@@ -54,8 +54,7 @@ late-some n k (inr z) e l = omega (arith, z, e)
 module _ (img : List ℕ) (o : Option Entered) (f : Entered → Left) where
   -- a number that is not 0 leaves the image
   pub named-refused : (k : ℕ) → 1 ≤ k → changeNamed k img o f ≡ left k img
-  named-refused zero l = absurd (omega arith)
-  named-refused (suc k) l = refl
+  named-refused = some-cases (λ n. changeNamed n img o f ≡ left n img) (λ n. refl)
 
   named-done : (n : ℕ) (x : Entered) → n ≡ 0 → o ≡ some x → changeNamed n img o f ≡ f x
   named-done n x e is = rw (e, is)
@@ -148,8 +147,7 @@ module _ (img : List ℕ) (s : Anodes) (h type : ℕ) (name comment : List ℕ) 
 
 module _ (img : List ℕ) (h : ℕ) (new : NewEntry) where
   pub made-refused : (k : ℕ) → 1 ≤ k → madeAfter k img h new ≡ left k img
-  made-refused zero l = absurd (omega arith)
-  made-refused (suc k) l = refl
+  made-refused = some-cases (λ n. madeAfter n img h new ≡ left n img) (λ n. refl)
 
   pub leaves-unmade : (n k : ℕ) → 17 ≤ k → n ≡ k → (b a : List ℕ) → Leaves k img b a img b a (madeAfter n img h new)
   leaves-unmade n k l e b a = rw (e, made-refused k (omega arith)) (leaves-refused k l img b a)

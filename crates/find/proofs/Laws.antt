@@ -1,5 +1,5 @@
 -- What an open image says of its reached directories, and what a search answers.
-use Prim.Native.Nat.{ℕ, _≤_, _<_}
+use Prim.Native.Nat.{ℕ, zero, suc, _≤_, _<_}
 use mathlib.Core.Path.{_≡_, refl, sym, ap, _∙_}
 use mathlib.Core.Bool.{Bool, true, false, cond, not}
 use mathlib.Core.List.{List, [], map}
@@ -81,6 +81,11 @@ search-there o x is = rw is
 -- the number of a refusal is not 0
 pub refused-some : (r : Refusal) (k : ℕ) → k ≡ numberOf r → 1 ≤ k
 refused-some r k e = omega (arith, e, number-some r)
+
+-- what holds of every number but 0
+pub some-cases : (P : ℕ → Type 0) → ((n : ℕ) → P (suc n)) → (k : ℕ) → 1 ≤ k → P k
+some-cases P each zero l = absurd (omega arith)
+some-cases P each (suc k) l = each k
 
 -- what the table refused stays refused
 pub refused-before : (a b c : ℕ) → c ≡ firstOf a b → (r : Refusal) → a ≡ numberOf r → c ≡ numberOf r

@@ -16,6 +16,7 @@ use Rattle.changes.specs.Members.{Member}
 use Rattle.changes.specs.Reached.{entry-facts}
 use Rattle.changes.specs.Read.{bytes-long}
 use Rattle.find.specs.Open.{Open}
+use Rattle.find.proofs.Laws.{some-cases}
 
 -- a part within the first bytes of a list
 pub take-within : {X : Type 0} (size offset len : ℕ) (l : List X) → offset + len ≤ size → take len (drop offset (take size l)) ≡ take len (drop offset l)
@@ -43,17 +44,14 @@ module _ {img counts firsts nexts queue parents heads : List ℕ} {dirs : ℕ} (
 module _ (img : List ℕ) (o : Option Entered) where
   -- a refused read leaves the buffer
   pub bytes-refused : (k : ℕ) → 1 ≤ k → (s : Anodes) (offset : ℕ) (out : List ℕ) → bytesRead k img s o offset out ≡ out
-  bytes-refused zero l s offset out = absurd (omega arith)
-  bytes-refused (suc k) l s offset out = refl
+  bytes-refused k l s offset out = some-cases (λ n. bytesRead n img s o offset out ≡ out) (λ n. refl) k l
 
   -- a refused list gives zero fields and an empty name
   pub fields-refused : (k : ℕ) → 1 ≤ k → fieldsListed k img o ≡ replicate 11 0
-  fields-refused zero l = absurd (omega arith)
-  fields-refused (suc k) l = refl
+  fields-refused = some-cases (λ n. fieldsListed n img o ≡ replicate 11 0) (λ n. refl)
 
   pub name-refused : (k : ℕ) → 1 ≤ k → nameListed k img o ≡ []
-  name-refused zero l = absurd (omega arith)
-  name-refused (suc k) l = refl
+  name-refused = some-cases (λ n. nameListed n img o ≡ []) (λ n. refl)
 
 -- ---- a done read
 
