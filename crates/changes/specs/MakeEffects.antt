@@ -19,7 +19,7 @@ use Rattle.rules.specs.Counting.{oneAt, times, anyIn, gather}
 use Rattle.rules.specs.Anodes.{Anodes, limit, anodesOf}
 use Rattle.rules.specs.Chains.{chainOf, blocksOf}
 use Rattle.rules.specs.Walk.{Entered, entriesFrom, entriesIn, reachedDirs}
-use Rattle.rules.specs.Lookup.{noDirectory, entriesOf, nameAt, bytesOf, contents}
+use Rattle.rules.specs.Lookup.{noDirectory, entriesOf, nameAt, contents}
 use Rattle.rules.specs.Changes.{entriesEnd, parentOf, entryPlace, NewEntry, entryOf, madeImage}
 use Rattle.laws.specs.Tests.{same?, less?}
 use Rattle.laws.specs.Sums.{oneAt-cases, oneAt-same, oneAt-other}
@@ -27,25 +27,20 @@ use Rattle.laws.specs.Bags.{times-nil, times-cons, times-append}
 use Rattle.laws.specs.Heads.{Head}
 use Rattle.laws.specs.Space.{on-chain}
 use Rattle.laws.specs.TreeChanges.{headed}
-use Rattle.laws.specs.ChainBlocks.{gather-append, extent, kept-blocks, stands-once}
+use Rattle.laws.specs.ChainBlocks.{gather-append, stands-once}
+use Rattle.laws.specs.Each.{OneMore}
 use Rattle.laws.specs.DirectoryTakes.{dir-head}
 use Rattle.frames.specs.DisjointBlocks.{chains-apart, chain-block}
 use Rattle.changes.specs.Image.{headIn, headed-reached, headed-same, reached-headed}
 use Rattle.changes.specs.FoundEntries.{part-same, enteredAt, entry-standing}
 use Rattle.changes.specs.Members.{Member, none-in, member-first, member-times, times-member, gather-congr}
-use Rattle.changes.specs.Reached.{block-on, reached-from-5, reached-head, dir-block, entry-facts, not-file}
+use Rattle.changes.specs.Reached.{block-on, reached-from-5, reached-not-1, reached-head, dir-block, entry-facts, not-file}
+use Rattle.changes.specs.KeptChains.{SameChain, same-blocks, BlocksKept, contents-same, entries-same}
 use Rattle.changes.specs.EntryBytes.{entryBytes, bytes-at, with-length}
 use Rattle.laws.specs.NewDirectory.{entries-new}
 use Rattle.changes.specs.NewEntry.{comment-put}
-use Rattle.changes.specs.MadeImage.{Making, spare, w, plan, own-block, parent-block, before, kept-block, parent-new, cont, old-block, orphan, spot, inside-before, spot-data, in-block, at-end, entry-kept, entry-block, entry-other, made-anodes, entries-made, other-entries, its-head}
+use Rattle.changes.specs.MadeImage.{Making, spare, w, plan, own-block, parent-block, before, kept-block, parent-new, cont, old-block, orphan, spot, inside-before, spot-data, in-block, at-end, entry-kept, entry-block, entry-other, made-anodes, entries-made, other-entries}
 use Rattle.changes.specs.Make.{made-dirs}
-
--- a list with one more element somewhere in it
-pub record EntryAdded (e : Entered) (old now : List Entered) : Type 0 where
-  pub before : List Entered
-  pub behind : List Entered
-  pub were : old ≡ before ++ behind
-  pub are : now ≡ before ++ (e ∷ behind)
 
 times-mapped : (g : ℕ → ℕ) (l : List ℕ) (a : ℕ) → 0 < times a l → 0 < times (g a) (map g l)
 times-mapped g [] a p = absurd (omega (arith, p, times-nil a))
@@ -106,25 +101,8 @@ module _ {img : List ℕ} {blocks anodes h : ℕ} {new : NewEntry} {f : ℕ} {ro
     before-same : entriesIn (before m) (t .block a) ≡ entriesIn img (s .block a)
     before-same = ap (entriesIn (before m)) (same-place .1) ∙ cont m a one head-not-1 .0
 
-  -- ---- the entries of other directories
-
   head-now : (k : ℕ) → noDirectory img s k ≡ false → Head (t .next) (t .block) k
   head-now k r = dir-head (orphan m .2) k (reached-headed img blocks anodes (m .fresh .accepted) k r)
-
-  -- every other directory has the entries that it had
-  pub entries-kept : (k : ℕ) → noDirectory img (anodesOf img) k ≡ false → k ≢ h →
-      entriesOf (madeImage img (anodesOf img) h new f room ys t zs) (anodesOf (madeImage img (anodesOf img) h new f room ys t zs)) k ≡ entriesOf img (anodesOf img) k
-  unfolding entriesOf
-  entries-kept k r kh = rw (made-anodes m)
-      (ap (gather (λ a. entriesIn j (t .block a))) same
-      ∙ gather-congr (λ a. entriesIn j (t .block a)) (λ a. entriesIn img (s .block a)) (chainOf (s .next) limit k) (λ a on.
-      other-entries m a (same-place k r a on .0 ∙ one k r a on) (not-spot a on) ∙ before-same k r a on))
-    where
-      same : chainOf (t .next) limit k ≡ chainOf (s .next) limit k
-      same = plan m .others k (reached-head img blocks anodes (m .fresh .accepted) k r) (λ q. omega (arith, q, reached-from-5 img blocks anodes (m .fresh .accepted) k r)) kh
-
-      not-spot : (a : ℕ) → Member a (chainOf (s .next) limit k) → a ≢ spot m .anode
-      not-spot a on e = kh (sym (on-chain (orphan m .2 .good) k (head-now k r) a (rw same (member-times a (chainOf (s .next) limit k) on)) .0) ∙ ap (orphan m .0) e ∙ its-head m)
 
   -- ---- the entries of the directory itself
 
@@ -167,26 +145,25 @@ module _ {img : List ℕ} {blocks anodes h : ℕ} {new : NewEntry} {f : ℕ} {ro
       other-entries m a (ones a (omega (arith, p, part a))) (λ e. omega (arith, p, none, ap (λ (x : ℕ). times x l) e)))
 
   -- the directory has its entries and the new one
-  pub entry-added : EntryAdded (enteredAt (entryOf new f) (entryPlace room zs)) (entriesOf img (anodesOf img) h)
+  pub entry-added : OneMore (enteredAt (entryOf new f) (entryPlace room zs)) (entriesOf img (anodesOf img) h)
       (entriesOf (madeImage img (anodesOf img) h new f room ys t zs) (anodesOf (madeImage img (anodesOf img) h new f room ys t zs)) h)
   entry-added = go (times-member (spot m .anode) (chainOf (t .next) limit h) (spot m .on))
     where
-      go : Member (spot m .anode) (chainOf (t .next) limit h) → EntryAdded (enteredAt (entryOf new f) (entryPlace room zs)) (entriesOf img s h) (entriesOf j (anodesOf j) h)
+      go : Member (spot m .anode) (chainOf (t .next) limit h) → OneMore (enteredAt (entryOf new f) (entryPlace room zs)) (entriesOf img s h) (entriesOf j (anodesOf j) h)
       go (front, back, parted) =
           let a = spot m .anode in
           let once = stands-once (orphan m .2 .good) h (head-now h (m .fresh .reached)) a front back parted in
           let all : (x : ℕ) → times x (chainOf (t .next) limit h) ≡ times x front + (oneAt a x + times x back) = λ x.
-          ap (times x) parted ∙ times-append x front (a ∷ back) ∙ ap (λ (n : ℕ). times x front + n) (times-cons x a back) in
-          record {
-            before = gather was front ++ was a;
-            behind = gather was back;
-            were = sym before-all ∙ ap (gather was) parted ∙ gather-append was front (a ∷ back) ∙ gather-first was (gather was front) a back;
-            are = now-all ∙ ap (gather now) parted ∙ gather-append now front (a ∷ back) ∙ gather-first now (gather now front) a back
+          ap (times x) parted ∙ times-append x front (a ∷ back) ∙ ap (λ (n : ℕ). times x front + n) (times-cons x a back) in (
+            gather was front ++ was a,
+            gather was back,
+            sym before-all ∙ ap (gather was) parted ∙ gather-append was front (a ∷ back) ∙ gather-first was (gather was front) a back,
+            now-all ∙ ap (gather now) parted ∙ gather-append now front (a ∷ back) ∙ gather-first now (gather now front) a back
                 ∙ ap₂ (λ (k l : List Entered). k ++ now a ++ l) (now-was front (λ x. omega (arith, all x)) (once .0)) (now-was back (λ x. omega (arith, all x)) (once .1))
                 ∙ ap (λ (k : List Entered). gather was front ++ k ++ gather was back) (entries-made m)
                 ∙ ap (λ (k : List Entered). k ++ gather was back) (sym (append-assoc (gather was front) (was a) (entered ∷ [])))
-                ∙ append-assoc (gather was front ++ was a) (entered ∷ []) (gather was back);
-          }
+                ∙ append-assoc (gather was front ++ was a) (entered ∷ []) (gather was back),
+          )
 
   -- ---- the directories
 
@@ -206,15 +183,14 @@ module _ {img : List ℕ} {blocks anodes h : ℕ} {new : NewEntry} {f : ℕ} {ro
   pub new-reached : new .dir ≡ true → noDirectory (madeImage img (anodesOf img) h new f room ys t zs) (anodesOf (madeImage img (anodesOf img) h new f room ys t zs)) f ≡ false
   new-reached d = headed-reached j (anodesOf j) f (omega (arith, headed-made f, ap (λ (b : Bool). cond b (oneAt f f) 0) d, oneAt-same f f refl))
 
-  -- ---- the bytes of files
+  -- ---- other chains
 
   module _ (k : ℕ) (d : Head (s .next) (s .block) k) (k1 : k ≢ 1) (kh : k ≢ h) where
-    blocks-same : blocksOf t k ≡ blocksOf s k
-    unfolding extent
-    blocks-same = kept-blocks s t k (plan m .others k d k1 kh) (λ a p.
-        let c = on-chain (w m .good) k d a p in
-        let e = plan m .kept a (c .1) (λ q. k1 (sym (c .0) ∙ q)) in
-        rw (e .0, e .1))
+    same-chain : SameChain s t k
+    same-chain = record {
+      same-anodes = plan m .others k d k1 kh;
+      same-extents = λ a p. let c = on-chain (w m .good) k d a p in plan m .kept a (c .1) (λ q. k1 (sym (c .0) ∙ q));
+    }
 
     now-head : Head (t .next) (t .block) k
     now-head = plan m .stays k d
@@ -246,17 +222,25 @@ module _ {img : List ℕ} {blocks anodes h : ℕ} {new : NewEntry} {f : ℕ} {ro
         (none-in y zs (λ q. let b = parent-block m y q in
         apart-h (b .0) (omega (arith, b .1, ap (times (b .0)) (plan m .chain), times-append (b .0) (chainOf (s .next) limit h) (plan m .new))) (rw (← (b .2)) p)))
 
-    bytes-same : bytesOf j t k ≡ bytesOf img s k
-    unfolding bytesOf
-    bytes-same = gather-congr (blockOf j) (blockOf img) (blocksOf t k) (λ y on. block-same y (member-times y (blocksOf t k) on)) ∙ ap (gather (blockOf img)) blocks-same
+    blocks-kept : BlocksKept img j s k
+    blocks-kept y p = block-same y (rw (same-blocks same-chain) p)
 
   -- every file that was there has the bytes that it had
   pub contents-kept : (k : ℕ) → noDirectory img (anodesOf img) k ≡ false → (e : Entered) → Member e (entriesOf img (anodesOf img) k) → e .dir ≡ false →
       contents (madeImage img (anodesOf img) h new f room ys t zs) (anodesOf (madeImage img (anodesOf img) h new f room ys t zs)) e ≡ contents img (anodesOf img) e
-  unfolding contents
   contents-kept k r e on file =
       let g = entry-facts img blocks anodes (m .fresh .accepted) k r e on in
-      rw (made-anodes m) (ap (take (e .size)) (bytes-same (e .anode) (g .head) (λ q. omega (arith, q, g .from-6)) (λ q. not-file img blocks anodes (m .fresh .accepted) h (m .fresh .reached) k e g file (sym q))))
+      let e1 : e .anode ≢ 1 = λ q. omega (arith, q, g .from-6) in
+      let eh : e .anode ≢ h = λ q. not-file img blocks anodes (m .fresh .accepted) h (m .fresh .reached) k e g file (sym q) in
+      rw (made-anodes m) (contents-same img j e (same-chain (e .anode) (g .head) e1 eh) (blocks-kept (e .anode) (g .head) e1 eh))
+
+  -- every other directory has the entries that it had
+  pub entries-kept : (k : ℕ) → noDirectory img (anodesOf img) k ≡ false → k ≢ h →
+      entriesOf (madeImage img (anodesOf img) h new f room ys t zs) (anodesOf (madeImage img (anodesOf img) h new f room ys t zs)) k ≡ entriesOf img (anodesOf img) k
+  entries-kept k r kh =
+      let d = reached-head img blocks anodes (m .fresh .accepted) k r in
+      let k1 = reached-not-1 img blocks anodes (m .fresh .accepted) k r in
+      rw (made-anodes m) (entries-same img blocks anodes (m .fresh .accepted) k r j (blocks-kept k d k1 kh) (same-chain k d k1 kh))
 
   -- ---- the bytes of entries
 

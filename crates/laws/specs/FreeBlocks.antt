@@ -23,13 +23,10 @@ use Rattle.laws.specs.Arriving.{fills, ends, starts, behind, free-is, ap
 use Rattle.laws.specs.Take.{free-head, free-after, take-steps, take-placed}
 use Rattle.laws.specs.Give.{side-last-head, give-steps, give-placed}
 use Rattle.laws.specs.Frame.{chain-kept}
+use Rattle.laws.specs.Each.{OneMore}
 use Rattle.laws.specs.ChainBlocks.{gather-append, extent, extent-alike, blocksOf-extents, kept-blocks, gather-off, gather-skip, stands-once, inserted-chain}
 use Rattle.laws.specs.TakenBlocks.{extent-longer, extent-filled}
 use Rattle.laws.specs.GivenBlocks.{unlinked-chain}
-
--- l′ is l with y at one place more
-abbrev pub OneMore : ℕ → List ℕ → List ℕ → Type 0
-OneMore y l l′ = (front : List ℕ) × (back : List ℕ) × (l ≡ front ++ back) × (l′ ≡ front ++ (y ∷ back))
 
 one-around : (y : ℕ) (p l l′ q : List ℕ) → OneMore y l l′ → OneMore y (p ++ (l ++ q)) (p ++ (l′ ++ q))
 one-around y p l l′ q o = (
