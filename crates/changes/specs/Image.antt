@@ -1,19 +1,18 @@
 -- From the check's answer to the whole accepted state, and back for an image that has the same root block and anode block heads.
-use Prim.Native.Nat.{ℕ, zero, suc, _+_, _≤_, _<_}
+use Prim.Native.Nat.{ℕ, _+_, _≤_, _<_}
 use mathlib.Core.Path.{_≡_, refl, sym, ap, _∙_}
 use mathlib.Core.Logic.{_≢_, inl, inr}
 use mathlib.Core.Bool.{Bool, false, _&&_}
-use mathlib.Core.List.{List, [], _∷_, _++_, map}
+use mathlib.Core.List.{List, map}
 use native.Mathlib.Omega.{arith}
 use lib.Dec.{eqb, leb}
 use borrow.Author.Tests.{leb-true, ne-eqb, eqb-true, eqb-false}
-use Rattle.disk.specs.Blocks.{blockOf}
 use Rattle.disk.specs.Root.{slotOf}
 use Rattle.disk.specs.AnodeBlocks.{anodeHeadIn}
 use Rattle.rules.specs.Counting.{oneAt, sumList, times}
 use Rattle.rules.specs.Anodes.{Anodes, limit, exists, anodesOf, withAnodes}
 use Rattle.rules.specs.Chains.{heads, headOf, cut, systemOwns}
-use Rattle.rules.specs.Walk.{Dir, Entered, Item, root, entriesIn, isBlockOf, itemsBy, itemsOf, Scanned, faulty, fine, faultOf, scan, subDirs, Walk, fault, done, visited, walk, walkOf, faultIn, dirsIn, reached, reachedDirs, naming}
+use Rattle.rules.specs.Walk.{Dir, Entered, root, entriesIn, isBlockOf, itemsBy, itemsOf, Walk, fault, done, walkOf, faultIn, dirsIn, reached, reachedDirs, naming}
 use Rattle.rules.specs.Accepted.{diskSize, lastReserved, wrongSlots, unnamed, unnamedChain, checkAnswer}
 use Rattle.rules.specs.Lookup.{noDirectory}
 use Rattle.counting.specs.Laws.{none-and, anyBelow-all}
@@ -21,16 +20,17 @@ use Rattle.laws.specs.Tests.{less?}
 use Rattle.laws.specs.Sums.{oneAt-cases}
 use Rattle.laws.specs.Bags.{list-mono, map-sum}
 use Rattle.laws.specs.Items.{below, namedIn, subs-named}
-use Rattle.laws.specs.Trees.{tree-one}
+use Rattle.laws.specs.Trees.{heads-once, tree-one}
 use Rattle.laws.specs.TreeChanges.{headed}
 use Rattle.laws.specs.Space.{Good}
 use Rattle.laws.specs.Passes.{passes-of}
 use Rattle.laws.specs.Whole.{Whole, head-counts, counts-head, named-heads}
-use Rattle.laws.specs.Accepted.{Accepted, whole-of, accepted-of}
+use Rattle.laws.specs.Accepted.{Accepted, named-range, whole-of, accepted-of}
 use Rattle.laws.specs.Acceptance.{passed-of, passed-accepted, Tested, passes-tested}
 use Rattle.laws.specs.ImageAnodes.{reading-of}
+use Rattle.laws.specs.Damage.{Faulted, walk-faulted}
 use Rattle.laws.specs.OneOwner.{naming-sum, passes, accepted-one-owner, good}
-use Rattle.frames.specs.Kept.{Unheld, Kept, kept-all, diskSize-kept, wrongSize-kept, shortTables-kept, slotOf-kept, lastReserved-kept, wrongType-kept, wrongRoot-kept, systemOwns-kept, wrongSlots-heads, anodesOf-kept, kept-both}
+use Rattle.frames.specs.Kept.{Unheld, Kept, HeadsKept, kept-all, diskSize-kept, wrongSize-kept, shortTables-kept, slotOf-kept, lastReserved-kept, wrongType-kept, wrongRoot-kept, systemOwns-kept, wrongSlots-heads, anodesOf-kept, kept-both}
 use Rattle.frames.specs.StoredAnodes.{AnodesStored, root-unheld, withAnodes-stored, anodesOf-withAnodes}
 use Rattle.frames.specs.DisjointBlocks.{DataBlock}
 use Rattle.changes.specs.Members.{none-in}
@@ -47,47 +47,9 @@ headIn img = headOf limit (anodesOf img .next) (anodesOf img .block)
 abbrev pub sideIn : List ℕ → ℕ → ℕ
 sideIn img = headOf limit (cut (anodesOf img .next)) (anodesOf img .block)
 
--- ---- a walk answers 0 where it is done, and only there
-
--- a walk that stopped has a number
-abbrev Numbered : Walk → Type 0
-Numbered (fault n) = n ≢ 0
-Numbered (done ds) = Unit {0}
-
--- so has a scan
-abbrev NumberedScan : Scanned → Type 0
-NumberedScan (faulty n) = n ≢ 0
-NumberedScan (fine q l) = Unit {0}
-
-scan-numbered : (d : Dir) (is : List Item) (q : List Dir) (named : List ℕ) → NumberedScan (scan d is q named)
-unfolding scan
-scan-numbered d [] q named = tt
-scan-numbered d (i ∷ is) q named = go (faultOf i named) (scan-numbered d is)
-  where
-    go : (n : ℕ) → ((q : List Dir) (l : List ℕ) → NumberedScan (scan d is q l)) →
-        NumberedScan (elim n [ zero ↦ scan d is (q ++ subDirs d i) (i .anode ∷ named) | suc m ↦ faulty (suc m) ])
-    go zero rest = rest (q ++ subDirs d i) (i .anode ∷ named)
-    go (suc m) rest = λ z. omega (arith, z)
-
-visited-numbered : (d : Dir) (w : Walk) → Numbered w → Numbered (visited d w)
-unfolding visited
-visited-numbered d (fault n) p = p
-visited-numbered d (done ds) p = tt
-
-walk-numbered : (items : Dir → List Item) (k : ℕ) (q : List Dir) (named : List ℕ) → Numbered (walk items k q named)
-unfolding walk
-walk-numbered items zero [] named = tt
-walk-numbered items zero (d ∷ q) named = λ z. omega (arith, z)
-walk-numbered items (suc k) [] named = tt
-walk-numbered items (suc k) (d ∷ q) named = go (scan d (items d) q named) (scan-numbered d (items d) q named) (walk-numbered items k)
-  where
-    go : (c : Scanned) → NumberedScan c → ((q : List Dir) (l : List ℕ) → Numbered (walk items k q l)) →
-        Numbered (elim c [ faulty n ↦ fault n | fine q l ↦ visited d (walk items k q l) ])
-    go (faulty n) p rest = p
-    go (fine q l) p rest = visited-numbered d (walk items k q l) (rest q l)
-
-walk-done : (w : Walk) → Numbered w → faultIn w ≡ 0 → w ≡ done (dirsIn w)
-walk-done (fault n) p z = absurd (p z)
+-- a walk answers 0 where it is done, and only there
+walk-done : (w : Walk) → Faulted w → faultIn w ≡ 0 → w ≡ done (dirsIn w)
+walk-done (fault n) p z = absurd (omega (arith, p .0, z))
 walk-done (done ds) p z = refl
 
 -- how often reached entries name an anode, directory by directory
@@ -102,8 +64,8 @@ module _ (img : List ℕ) (blocks anodes : ℕ) (e : checkAnswer img blocks anod
   accepted-slots = passed-of img blocks anodes e .slots-right
 
   pub accepted-walk : walkOf img (anodesOf img) ≡ done (reachedDirs img (anodesOf img))
-  unfolding walkOf reachedDirs
-  accepted-walk = walk-done (walkOf img (anodesOf img)) (walk-numbered (itemsOf img (anodesOf img)) limit (root ∷ []) []) (passed-of img blocks anodes e .walked)
+  unfolding reachedDirs
+  accepted-walk = walk-done (walkOf img (anodesOf img)) (walk-faulted img (anodesOf img)) (passed-of img blocks anodes e .walked)
 
   accepted : Accepted (exists img) (diskSize img) (lastReserved img) (anodesOf img) (systemOwns img) (entriesIn img) (isBlockOf img) (reachedDirs img (anodesOf img))
   unfolding walkOf itemsOf
@@ -127,9 +89,8 @@ module _ (img : List ℕ) (blocks anodes : ℕ) (e : checkAnswer img blocks anod
 -- ---- the same disk
 
 -- j has the length of img, its root block and the heads of its anode blocks
-pub record SameDisk (img j : List ℕ) : Type 0 where
-  pub kept : Kept (λ d. d ≡ 2) img j
-  pub heads-kept : (s : ℕ) → slotOf img s ≢ 0 → anodeHeadIn (blockOf j (slotOf img s)) ≡ anodeHeadIn (blockOf img (slotOf img s))
+abbrev pub SameDisk : List ℕ → List ℕ → Type 0
+SameDisk img j = HeadsKept (λ d. d ≡ 2) img j
 
 pub same-own : (img : List ℕ) → SameDisk img img
 same-own img = record { kept = kept-all img; heads-kept = λ s u. refl }
@@ -237,13 +198,8 @@ module _ {ex : ℕ → Bool} {n last : ℕ} {s : Anodes} {system hd sd : ℕ →
 
   -- no two of them have one head
   headed-once : headed h dirs ≤ 1
-  headed-once = elim (oneAt-cases 5 h) [
-    | inr c ↦ omega (arith, headed-named, w .tree .once h, c .1)
-    | inl c ↦ elim (less? 0 (sumList (namedIn (itemsBy entries marked s) h) dirs)) [
-      | inl p ↦ absurd (omega (arith, named-heads w h p .0, c .0))
-      | inr p ↦ omega (arith, headed-named, c .1)
-    ]
-  ]
+  unfolding headed
+  headed-once = heads-once (itemsBy entries marked s) root limit (omega arith) (named-range (w .good) entries marked) dirs (w .tree .exact) (w .tree .faultless) (w .tree .once) h
 
 module _ (img : List ℕ) (s : Anodes) (h : ℕ) where
   headed-times : times h (map (λ d. d .head) (reachedDirs img s)) ≡ headed h (reachedDirs img s)

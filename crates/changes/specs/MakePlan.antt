@@ -30,7 +30,7 @@ use Rattle.laws.specs.Whole.{Whole}
 use Rattle.laws.specs.OwnBlock.{own-filled}
 use Rattle.laws.specs.Orphan.{Orphaned, not-dir, orphan-changed}
 use Rattle.laws.specs.DirectoryTakes.{find-headed, dir-head, dir-not-1, dir-taken, directory-takes}
-use Rattle.laws.specs.Make.{fresh-chain, fresh-orphan}
+use Rattle.laws.specs.Make.{fresh-stays, fresh-chain, fresh-orphan}
 
 -- h heads a reached directory of an accepted image, and f is the lowest free anode
 pub record Fresh (img : List ℕ) (blocks anodes h f : ℕ) : Type 0 where
@@ -220,10 +220,6 @@ module _ (img : List ℕ) {s : Anodes} {hd sd : ℕ → ℕ} {entries : ℕ → 
     not-own : h ≢ f
     not-own = let d = find-headed (λ d. d .head ≢ f) h dirs (not-dir orphan f6) (omega (arith, reached)) in λ e. d .2 (d .1 ∙ e)
 
-    begun-head : (m : ℕ) → Head (s .next) (s .block) m → Head (begun .next) (begun .block) m
-    unfolding rewritten
-    begun-head m d = record { pos = d .pos; in-use = rw (changed-other (s .block) f 65535 m (λ e. d .in-use (ap (s .block) e ∙ fresh))) (d .in-use); no-pred = d .no-pred }
-
     own-head : Head (r .next) (r .block) f
     own-head = step .shift .stays f (orphan .head)
 
@@ -269,8 +265,8 @@ module _ (img : List ℕ) {s : Anodes} {hd sd : ℕ → ℕ} {entries : ℕ → 
             λ u q. let c = through a u q in p .apart a n (λ z. u (sym (c .1) ∙ z)) (λ i. q (sym (c .2) ∙ i)),
           );
           kept = λ a u q. let c = through a u q in let y = p .kept a (λ z. u (sym (c .1) ∙ z)) (λ i. q (sym (c .2) ∙ i)) in (y .0 ∙ c .0, y .1 ∙ c .1);
-          stays = λ m d. p .stays m (step .shift .stays m (begun-head m d));
-          others = λ m d m1 mh. let d′ = begun-head m d in
+          stays = λ m d. p .stays m (step .shift .stays m (fresh-stays w f f6 there fA fresh m d));
+          others = λ m d m1 mh. let d′ = fresh-stays w f f6 there fA fresh m d in
               p .others m (step .shift .stays m d′) m1 mh ∙ own-kept m d′ m1 (λ i. d .in-use (ap (s .block) i ∙ fresh));
         }
 

@@ -9,10 +9,8 @@ use Rattle.laws.specs.Tests.{less?}
 use Rattle.laws.specs.Sums.{oneAt-same, oneAt-other, oneAt-cases}
 use Rattle.laws.specs.Bags.{list-cons, list-append, list-add, list-mono, list-scale, times-nil, times-cons}
 use Rattle.laws.specs.Each.{Each, each-right}
-
--- x stands in l: what stands before it, and what behind
-abbrev pub Member {ℓ} : {X : Type ℓ} → X → List X → Type ℓ
-Member {X = X} x l = (before : List X) × (after : List X) × (l ≡ before ++ (x ∷ after))
+pub use Rattle.laws.specs.Each.{Member}
+pub use Rattle.laws.specs.Bags.{times-member}
 
 module _ {ℓ} {X : Type ℓ} where
   pub no-member : (x : X) → Member x [] → ⊥
@@ -73,13 +71,6 @@ map-kept f l e = map-members f (λ x. x) l e ∙ map-id l
 pub member-times : (x : ℕ) (l : List ℕ) → Member x l → 0 < times x l
 unfolding times
 member-times x l p = omega (arith, member-sum (λ y. oneAt y x) x l p, oneAt-same x x refl)
-
-pub times-member : (x : ℕ) (l : List ℕ) → 0 < times x l → Member x l
-times-member x [] p = absurd (omega (arith, p, times-nil x))
-times-member x (y ∷ l) p = elim (oneAt-cases y x) [
-  | inl e ↦ ([], l, ap (λ (z : ℕ). z ∷ l) (e .0))
-  | inr e ↦ member-later x y l (times-member x l (omega (arith, p, times-cons x y l, e .1)))
-]
 
 -- what does not stand in a list
 pub none-in : (x : ℕ) (l : List ℕ) → (0 < times x l → ⊥) → times x l ≡ 0

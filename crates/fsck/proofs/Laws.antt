@@ -19,7 +19,7 @@ use Rattle.rules.specs.Tables.{blockTable, anodeTable, tableLeft, blocksLeft, a
 use Rattle.rules.specs.Calls.{Outcome, outcomeOf, settled, checkOutcome, fileCount, dirCount}
 use Rattle.counting.specs.Laws.{neither}
 use Rattle.laws.specs.Acceptance.{passed-of, size-bounds}
-use Rattle.laws.specs.Damage.{NoneOr, if-number, damage-range}
+use Rattle.laws.specs.Damage.{NoneOr, if-number, damage-range, wider}
 use Rattle.tables.proofs.Laws.{zeroed-past}
 use Rattle.laws.specs.Chains.{HeadTable}
 use Rattle.tree.specs.Tree.{treeNumber, Counts, Queued}
@@ -130,7 +130,7 @@ once n t₀ t₁ t₂ shown t₃ z k e =
 late-range : (img : List ℕ) → NoneOr 5 16 (5 if wrongSlots img else damageIn img (anodesOf img))
 late-range img =
     if-number 5 (wrongSlots img) 5 16 (damageIn img (anodesOf img)) (omega arith) (omega arith)
-    (elim (damage-range img (anodesOf img)) [ inl z ↦ inl z | inr l ↦ inr (omega (arith, l .0), l .1) ])
+    (wider 6 16 5 16 (damageIn img (anodesOf img)) (omega arith) (omega arith) (damage-range img (anodesOf img)))
 
 module _ (img b₀ a₀ : List ℕ) where
   outcome : (k : ℕ) (b a : List ℕ) → checkAnswer img (length b₀) (length a₀) ≡ k → b ≡ blocksLeft k img b₀ → a ≡ anodesLeft k img a₀

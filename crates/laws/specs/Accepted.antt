@@ -23,7 +23,7 @@ module _ (ex : ℕ → Bool) (n last : ℕ) where
     pub all-named : AllNamed s entries marked dirs
 
 -- what a directory with no fault names is below the limit, and not the root
-named-range : {ex : ℕ → Bool} {n last : ℕ} {s : Anodes} {system hd sd : ℕ → ℕ} → Good limit ex n last s system hd sd → (entries : ℕ → List Entered) (marked : Dir → ℕ → Bool) (d : Dir) (x : ℕ) →
+pub named-range : {ex : ℕ → Bool} {n last : ℕ} {s : Anodes} {system hd sd : ℕ → ℕ} → Good limit ex n last s system hd sd → (entries : ℕ → List Entered) (marked : Dir → ℕ → Bool) (d : Dir) (x : ℕ) →
     faults (itemsBy entries marked s) d ≡ 0 → 0 < namedIn (itemsBy entries marked s) x d → (x ≢ 5) × (x < limit)
 named-range {s = s} g entries marked d x z p = elim (names-head g x) [
   | inl q ↦ (λ e. omega (arith, e, q .0), g .view .below x (q .1 .in-use))

@@ -7,7 +7,7 @@ use native.Mathlib.Omega.{arith}
 use lib.ListN.{length}
 use Rattle.rules.specs.Counting.{oneAt, sumBelow, sumList, times, gather}
 use Rattle.laws.specs.Tests.{less?}
-use Rattle.laws.specs.Each.{Each, each-all, each-map, each-zero, list-congr-each, list-mono-each}
+use Rattle.laws.specs.Each.{Each, Member, each-all, each-map, each-zero, list-congr-each, list-mono-each}
 use Rattle.laws.specs.Sums.{oneAt-cases, oneAt-same, sum-congr, sum-mono, sum-const, sum-zero, sum-add, sum-pick}
 
 module _ {ℓ} {X : Type ℓ} where
@@ -142,6 +142,13 @@ pub gather-kept {ℓ} : {Y : Type ℓ} (f f′ : ℕ → List Y) (l : List ℕ) 
 unfolding gather
 gather-kept f f′ [] h = refl
 gather-kept f f′ (x ∷ l) h = rw (h x (times-here x l), gather-kept f f′ l (λ a p. h a (times-later a x l p)))
+
+-- a number that stands in a list is a member of it
+pub times-member : (x : ℕ) (l : List ℕ) → 0 < times x l → Member x l
+unfolding times
+times-member x l p =
+    let (y, before, after, parted, q) = list-some (λ y. oneAt y x) l p in
+    elim (oneAt-cases y x) [ inl c ↦ (before, after, rw (c .0) at parted) | inr c ↦ absurd (omega (arith, q, c .1)) ]
 
 -- a weight's sum over a list of numbers below k, by how often each number stands there
 pub sum-by-times : (w : ℕ → ℕ) (l : List ℕ) (k : ℕ) → ((x : ℕ) → k ≤ x → times x l ≡ 0) → sumList w l ≡ sumBelow (λ x. times x l * w x) k

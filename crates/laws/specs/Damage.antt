@@ -102,7 +102,7 @@ walk-range img s = go (walkOf img s) (walk-faulted img s)
     go (done ds) p = inl refl
 
 -- a range within a wider one
-wider : (a b c d n : ℕ) → c ≤ a → b ≤ d → NoneOr a b n → NoneOr c d n
+pub wider : (a b c d n : ℕ) → c ≤ a → b ≤ d → NoneOr a b n → NoneOr c d n
 wider a b c d n l m (inl z) = inl z
 wider a b c d n l m (inr r) = inr (omega arith, omega arith)
 

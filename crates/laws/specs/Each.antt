@@ -68,7 +68,12 @@ unfolding sumList
 each-none g Q [] h = tt
 each-none g Q (d ∷ l) h = (λ x q. omega (arith, h x q), each-none g Q l (λ x q. omega (arith, h x q)))
 
--- ---- a list with one more element somewhere in it
+-- ---- members
 
+-- x stands in l: what stands before it, and what behind
+abbrev pub Member {ℓ} : {X : Type ℓ} → X → List X → Type ℓ
+Member {X = X} x l = (before : List X) × (after : List X) × (l ≡ before ++ (x ∷ after))
+
+-- a list with one more element somewhere in it
 abbrev pub OneMore {ℓ} : {X : Type ℓ} → X → List X → List X → Type ℓ
 OneMore {X = X} x l more = (front : List X) × (back : List X) × (l ≡ front ++ back) × (more ≡ front ++ (x ∷ back))

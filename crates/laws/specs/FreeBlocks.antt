@@ -12,7 +12,7 @@ use Rattle.rules.specs.Chains.{chainOf, run, blocksOf, cut, side}
 use Rattle.rules.specs.Space.{planned, rewritten, insertedAfter, unlinked, withoutFirst, withoutLast, sideOf, lowestFree, append, takeBlock, join, release, giveBack}
 use Rattle.laws.specs.LinkChanges.{first, second, third}
 use Rattle.laws.specs.Sums.{oneAt-cases, oneAt-same, changed-same, changed-other}
-use Rattle.laws.specs.Bags.{times-nil, times-cons, times-append}
+use Rattle.laws.specs.Bags.{times-nil, times-cons, times-append, times-member}
 use Rattle.laws.specs.Links.{the-chain, seg-used}
 use Rattle.laws.specs.Heads.{Head, times-on-chain}
 use Rattle.laws.specs.Space.{Alike, Good, head-1, on-chain}
@@ -44,15 +44,6 @@ one-anode f f′ pre post x y same i j o =
     let now : gather f′ (pre ++ (x ∷ post)) ≡ gather f pre ++ (f′ x ++ gather f post) = gather-append f′ pre (x ∷ post) ∙ rw (gather-off f f′ x same pre i, gather-off f f′ x same post j) in
     rw (gather-append f pre (x ∷ post), now) (one-around y (gather f pre) (f x) (f′ x) (gather f post) o)
 
--- a member of a list, and what stands around it
-member-split : (x : ℕ) (l : List ℕ) → 0 < times x l → (pre : List ℕ) × (post : List ℕ) × (l ≡ pre ++ (x ∷ post))
-member-split x [] p = absurd (omega (arith, p, times-nil x))
-member-split x (b ∷ l) p = go (oneAt-cases b x) (member-split x l)
-  where
-    go : ((b ≡ x) × (oneAt b x ≡ 1)) ⊎ ((b ≢ x) × (oneAt b x ≡ 0)) → (0 < times x l → (pre : List ℕ) × (post : List ℕ) × (l ≡ pre ++ (x ∷ post))) → (pre : List ℕ) × (post : List ℕ) × (b ∷ l ≡ pre ++ (x ∷ post))
-    go (inl e) r = ([], l, ap (λ (i : ℕ). i ∷ l) (e .0))
-    go (inr e) r = let w = r (omega (arith, p, times-cons x b l, e .1)) in (b ∷ w .0, w .1, ap (λ (k : List ℕ). b ∷ k) (w .2))
-
 -- an extent with the block before its start
 extent-before : (s : Anodes) (a y : ℕ) → y + 1 ≡ s .block a → run y (s .count a + 1) ≡ y ∷ extent s a
 unfolding extent run
@@ -62,7 +53,7 @@ extent-before s a y e = rw (← e, add-one (s .count a), add-one y)
 
 module _ {ex : ℕ → Bool} {n last : ℕ} {s : Anodes} {system hd sd : ℕ → ℕ} (g : Good limit ex n last s system hd sd) (x : ℕ) (free : hd x ≡ 1) (y : ℕ) where
   split : (pre : List ℕ) × (post : List ℕ) × (chainOf (s .next) limit 1 ≡ pre ++ (x ∷ post))
-  split = member-split x (chainOf (s .next) limit 1) (omega (arith, times-on-chain (g .view) (g .linked) hd (g .heads) 1 (head-1 g) x, oneAt-same (hd x) 1 free))
+  split = times-member x (chainOf (s .next) limit 1) (omega (arith, times-on-chain (g .view) (g .linked) hd (g .heads) 1 (head-1 g) x, oneAt-same (hd x) 1 free))
 
   once : (times x (split .0) ≡ 0) × (times x (split .1) ≡ 0)
   once = stands-once g 1 (head-1 g) x (split .0) (split .1) (split .2)

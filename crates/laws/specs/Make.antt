@@ -74,9 +74,9 @@ module _ {ex : ℕ → Bool} {n last : ℕ} {s : Anodes} {system hd sd : ℕ →
       let not-f = used-not-free (s .block) a f u fresh in
       record { same-count = changed-other (s .count) f 0 a not-f; same-block = changed-other (s .block) f 65535 a not-f; same-next = refl }
 
-  stays : (m : ℕ) → Head (s .next) (s .block) m → Head (made .next) (made .block) m
+  pub fresh-stays : (m : ℕ) → Head (s .next) (s .block) m → Head (made .next) (made .block) m
   unfolding rewritten
-  stays m d = head-while d (rw (like-a m (d .in-use) .same-block) (d .in-use))
+  fresh-stays m d = head-while d (rw (like-a m (d .in-use) .same-block) (d .in-use))
 
   was : (m : ℕ) → m ≢ f → Head (made .next) (made .block) m → Head (s .next) (s .block) m
   unfolding rewritten
@@ -90,7 +90,7 @@ module _ {ex : ℕ → Bool} {n last : ℕ} {s : Anodes} {system hd sd : ℕ →
   still-fine : (e : Entered) → wrong (itemOf s e) ≡ 0 → wrong (itemOf made e) ≡ 0
   unfolding rewritten
   still-fine e z = fine-still (w .good) good e e refl refl z
-      (λ l d q. (stays (e .anode) d, sized-still s made e (kept-count s made (e .anode) refl (λ a k. like-a a (on-chain (w .good) (e .anode) d a k .1) .same-count)) q))
+      (λ l d q. (fresh-stays (e .anode) d, sized-still s made e (kept-count s made (e .anode) refl (λ a k. like-a a (on-chain (w .good) (e .anode) d a k .1) .same-count)) q))
 
   -- the new chain is its head alone, with no block
   pub fresh-chain : chainOf (rewritten s f 0 65535 .next) limit f ≡ f ∷ []
