@@ -124,7 +124,7 @@ module _ {img : List ℕ} {e : Entered} {new : ℕ} {t : Anodes} {ys : List ℕ}
   resized-accepted : checkAnswer (resizedImage img s e new t ys) (p .blocks) (p .anodes) ≡ 0
   resized-accepted = whole-accepted img j (p .blocks) (p .anodes) (p .accepted) (resized-same p) {hd = steps p .ran .hd′} {sd = steps p .ran .sd′} {dirs = dirs} (rw (resized-anodes p) still-whole)
 
--- a refused resize leaves the image that came
+-- what a resize leaves of an accepted image is accepted
 pub resize-accepted : (img : List ℕ) (blocks anodes : ℕ) → checkAnswer img blocks anodes ≡ 0 → (h : ℕ) → noDirectory img (anodesOf img) h ≡ false →
     (e : Entered) → Member e (entriesOf img (anodesOf img) h) → e .dir ≡ false → (new : ℕ) → checkAnswer (resized img (anodesOf img) e new .image) blocks anodes ≡ 0
 unfolding resized

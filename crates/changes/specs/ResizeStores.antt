@@ -137,7 +137,7 @@ module _ {img : List ℕ} {e : Entered} {new : ℕ} {t : Anodes} {ys : List ℕ}
   stores-kept = kept-both (λ y o. o .0) (λ y o. o .1) zeros-kept size-kept
 
   -- from the image on: what no slot holds and none of the stores names is kept
-  pub left-kept : Kept (λ y. Unheld img y × (Left-alone y × (y ≢ e .place / 512))) img (resizedImage img s e new t ys)
+  left-kept : Kept (λ y. Unheld img y × (Left-alone y × (y ≢ e .place / 512))) img (resizedImage img s e new t ys)
   unfolding resizedImage
   left-kept = kept-both (λ y o. o .0) (λ y o. o .1) stored stores-kept
 
