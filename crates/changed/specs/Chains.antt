@@ -15,7 +15,7 @@ use Rattle.laws.specs.Acceptance.{passed-of}
 use Rattle.laws.specs.Heads.{Head}
 use Rattle.laws.specs.Space.{Good}
 use Rattle.laws.specs.GivenBlocks.{gives-blocks}
-use Rattle.anodes.specs.Loaded.{anodesFrom}
+use Rattle.anodes.specs.Loaded.{anodesFrom, Loaded}
 use Rattle.tree.specs.Steps.{sumFrom}
 use Rattle.tree.proofs.Rules.{sumFrom-count}
 use Rattle.space.specs.Steps.{GoodAnodes}
@@ -23,7 +23,7 @@ use Rattle.space.proofs.Many.{count-small}
 use Rattle.changes.specs.Image.{headIn, sideIn, accepted-whole}
 use Rattle.changes.specs.Reached.{EntryFacts, entry-facts}
 use Rattle.changes.specs.PlannedChange.{PlannedChange}
-use Rattle.changed.specs.Leaves.{Loaded, ReachedEntry}
+use Rattle.changed.specs.Leaves.{ReachedEntry}
 
 module _ {img counts firsts nexts : List ℕ} (l : Loaded img counts firsts nexts) where
   pub loaded-size : wrongSize img ≡ false

@@ -11,12 +11,12 @@ use Rattle.disk.proofs.Laws.{length-listed}
 use Rattle.rules.specs.Anodes.{Anodes, limit, anodesOf}
 use Rattle.rules.specs.Chains.{systemOwns}
 use Rattle.rules.specs.Accepted.{diskSize}
-use Rattle.rules.specs.Tables.{anodeTable, anodeEntry, blockTable, blockEntry, ownerHead, tableLeft, blocksLeft, anodesLeft}
+use Rattle.rules.specs.Tables.{anodeTable, blockTable, blockEntry, ownerHead, tableLeft, blocksLeft, anodesLeft}
 use Rattle.rules.specs.Changes.{left}
 use Rattle.rules.specs.Calls.{settled}
 use Rattle.laws.specs.Space.{Good}
 use Rattle.laws.specs.Resize.{Ran}
-use Rattle.laws.specs.OwnerTable.{ran-data, setAll, setAll-front, kept-table, ran-table, table-past}
+use Rattle.laws.specs.OwnerTable.{ran-data, setAll, setAll-front, kept-table, ran-table, heads-past}
 use Rattle.frames.specs.Kept.{diskSize-kept, systemOwns-kept}
 use Rattle.changes.specs.Image.{SameDisk}
 use Rattle.changed.specs.Leaves.{Leaves}
@@ -56,12 +56,12 @@ pub leaves-done : (img j : List ℕ) → SameDisk img j → (b a b′ a′ : Lis
 unfolding settled blocksLeft anodesLeft tableLeft anodeTable
 leaves-done img j d b a b′ a′ shown heads b₀ a₀ p q =
     let size = diskSize-kept (d .kept) in
-    let past : drop limit a ≡ drop limit a₀ = ap (drop limit) q ∙ table-past (anodeEntry (anodesOf img)) limit (drop limit a₀) in
+    let past = heads-past (anodesOf img) a a₀ q in
     rw (shown (drop (diskSize img) b₀) p, heads, past, size, kept-table img j size (systemOwns-kept (d .kept) refl) (anodesOf j) (anodesOf j) (λ x. refl))
 
 -- a change that leaves the anodes leaves both tables
 pub leaves-same : (img j : List ℕ) → SameDisk img j → anodesOf j ≡ anodesOf img → (b a : List ℕ) → Leaves 0 img b a j b a (left 0 j)
 unfolding anodesLeft tableLeft anodeTable
 leaves-same img j d same b a b₀ a₀ p q =
-    let past : drop limit a ≡ drop limit a₀ = ap (drop limit) q ∙ table-past (anodeEntry (anodesOf img)) limit (drop limit a₀) in
+    let past = heads-past (anodesOf img) a a₀ q in
     leaves-done img j d b a b a (λ r shown. rw same shown) (rw (same, past) q) b₀ a₀ p q

@@ -1,7 +1,7 @@
 -- From the check's answer to the whole accepted state, and back for an image that has the same root block and anode block heads.
 use Prim.Native.Nat.{ℕ, _+_, _≤_, _<_}
 use mathlib.Core.Path.{_≡_, refl, sym, ap, _∙_}
-use mathlib.Core.Logic.{_≢_, inl, inr}
+use mathlib.Core.Logic.{_≢_}
 use mathlib.Core.Bool.{Bool, false, _&&_}
 use mathlib.Core.List.{List, map}
 use native.Mathlib.Omega.{arith}
@@ -16,15 +16,13 @@ use Rattle.rules.specs.Walk.{Dir, Entered, root, entriesIn, isBlockOf, itemsBy,
 use Rattle.rules.specs.Accepted.{diskSize, lastReserved, wrongSlots, unnamed, unnamedChain, checkAnswer}
 use Rattle.rules.specs.Lookup.{noDirectory}
 use Rattle.counting.specs.Laws.{none-and, anyBelow-all}
-use Rattle.laws.specs.Tests.{less?}
-use Rattle.laws.specs.Sums.{oneAt-cases}
 use Rattle.laws.specs.Bags.{list-mono, map-sum}
 use Rattle.laws.specs.Items.{below, namedIn, subs-named}
 use Rattle.laws.specs.Trees.{heads-once, tree-one}
 use Rattle.laws.specs.TreeChanges.{headed}
 use Rattle.laws.specs.Space.{Good}
 use Rattle.laws.specs.Passes.{passes-of}
-use Rattle.laws.specs.Whole.{Whole, head-counts, counts-head, named-heads}
+use Rattle.laws.specs.Whole.{Whole, head-counts, counts-head}
 use Rattle.laws.specs.Accepted.{Accepted, named-range, whole-of, accepted-of}
 use Rattle.laws.specs.Acceptance.{passed-of, passed-accepted, Tested, passes-tested}
 use Rattle.laws.specs.ImageAnodes.{reading-of}

@@ -7,7 +7,7 @@ use native.Mathlib.Omega.{arith}
 use Rattle.rules.specs.Counting.{sumList, times, gather, oneAt}
 use Rattle.laws.specs.Tests.{less?}
 use Rattle.laws.specs.Sums.{oneAt-same, oneAt-other, oneAt-cases}
-use Rattle.laws.specs.Bags.{list-cons, list-append, list-add, list-mono, list-scale, times-nil, times-cons}
+use Rattle.laws.specs.Bags.{list-cons, list-append, list-add, list-mono, list-scale}
 use Rattle.laws.specs.Each.{Each, each-right}
 pub use Rattle.laws.specs.Each.{Member}
 pub use Rattle.laws.specs.Bags.{times-member}

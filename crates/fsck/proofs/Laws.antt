@@ -32,7 +32,7 @@ use Rattle.fsck.specs.declared.Checked.the-variants.{Accepted, Refused}
 use Rattle.fsck.specs.declared.Test.{Test}
 use Rattle.fsck.specs.declared.Test.the-variants.{Passed, Failed}
 use Rattle.fsck.specs.Answers.{checkedNumber, Headed, HeaderTested, SpaceTested, Filled, Kept, TablesAfter, TablesLeft}
-use Rattle.fsck.proofs.Space.{blocks-past, heads-past}
+use Rattle.laws.specs.OwnerTable.{blocks-past, heads-past}
 
 -- ---- 1 to 4
 

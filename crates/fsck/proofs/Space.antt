@@ -11,16 +11,14 @@ use borrow.Author.Tests.{ne-eqb}
 use Rattle.disk.specs.declared.Root.{Root}
 use Rattle.disk.specs.Blocks.{blockOf}
 use Rattle.disk.specs.Root.{rootIn}
-use Rattle.disk.specs.AnodeBlocks.{listed}
 use Rattle.rules.specs.Counting.{anyBelow}
 use Rattle.rules.specs.Anodes.{Anodes, limit, exists, anodesOf}
 use Rattle.rules.specs.Accepted.{diskSize, wrongFixed, outOfRange, wrongLinks, wrongFreeList, lastReserved, twoOwners, noOwner, treeFault, damageIn}
-use Rattle.rules.specs.Tables.{chainHead, blockEntry, anodeEntry, blockTable, anodeTable}
+use Rattle.rules.specs.Tables.{chainHead, anodeEntry, anodeTable}
 use Rattle.laws.specs.Links.{View, Linked, next-below, linked}
 use Rattle.laws.specs.Passes.{Reading}
 use Rattle.laws.specs.TestsPassed.{fixed-anodes, next-used, tested-view, tested-checked}
 use Rattle.laws.specs.ImageAnodes.{reading-of}
-use Rattle.laws.specs.OwnerTable.{table-past}
 use Rattle.anodes.specs.Loaded.{anodesFrom}
 use Rattle.chains.specs.Predecessors.{Closed}
 use Rattle.chains.proofs.Laws.{table-at, entry-some, head-table}
@@ -28,19 +26,6 @@ use Rattle.owners.specs.Marks.{OwnersMarked}
 use Rattle.owners.proofs.Shown.{marked-no-owner, marked-table}
 use Rattle.laws.specs.Chains.{HeadTable}
 use Rattle.fsck.specs.Answers.{Filled}
-
--- ---- a table that shows its range keeps what stands behind it
-
-past-kept : (f : ℕ → ℕ) (n : ℕ) (t t₀ : List ℕ) → t ≡ listed f 0 n ++ drop n t₀ → drop n t ≡ drop n t₀
-past-kept f n t t₀ is = ap (λ (l : List ℕ). drop n l) is ∙ table-past f n (drop n t₀)
-
-pub blocks-past : (img : List ℕ) (s : Anodes) (t t₀ : List ℕ) → t ≡ blockTable img s ++ drop (diskSize img) t₀ → drop (diskSize img) t ≡ drop (diskSize img) t₀
-unfolding blockTable
-blocks-past img s t t₀ = past-kept (blockEntry img s) (diskSize img) t t₀
-
-pub heads-past : (s : Anodes) (t t₀ : List ℕ) → t ≡ anodeTable s ++ drop limit t₀ → drop limit t ≡ drop limit t₀
-unfolding anodeTable
-heads-past s t t₀ = past-kept (anodeEntry s) limit t t₀
 
 -- ---- 6 to 11
 

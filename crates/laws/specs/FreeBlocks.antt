@@ -6,13 +6,13 @@ use mathlib.Core.Bool.{Bool}
 use mathlib.Core.List.{List, [], _∷_, _++_, append-nil, append-assoc}
 use native.Mathlib.Omega.{arith}
 use native.Mathlib.Numerals.{add-one}
-use Rattle.rules.specs.Counting.{oneAt, times, gather, lastOf}
+use Rattle.rules.specs.Counting.{times, gather, lastOf}
 use Rattle.rules.specs.Anodes.{Anodes, limit}
 use Rattle.rules.specs.Chains.{chainOf, run, blocksOf, cut, side}
 use Rattle.rules.specs.Space.{planned, rewritten, insertedAfter, unlinked, withoutFirst, withoutLast, sideOf, lowestFree, append, takeBlock, join, release, giveBack}
 use Rattle.laws.specs.LinkChanges.{first, second, third}
-use Rattle.laws.specs.Sums.{oneAt-cases, oneAt-same, changed-same, changed-other}
-use Rattle.laws.specs.Bags.{times-nil, times-cons, times-append, times-member}
+use Rattle.laws.specs.Sums.{oneAt-same, changed-same, changed-other}
+use Rattle.laws.specs.Bags.{times-append, times-member}
 use Rattle.laws.specs.Links.{the-chain, seg-used}
 use Rattle.laws.specs.Heads.{Head, times-on-chain}
 use Rattle.laws.specs.Space.{Alike, Good, head-1, on-chain}

@@ -42,8 +42,20 @@ listed-is f k l e h =
 pub table-entry : (f : ℕ → ℕ) (k : ℕ) (rest : List ℕ) (i : ℕ) → i < k → getD (listed f 0 k ++ rest) i 0 ≡ f i
 table-entry f k rest i l = List·getD-append (listed f 0 k) rest 0 i (rw (length-listed f 0 k) l) ∙ listed-at f k i l
 
-pub table-past : (f : ℕ → ℕ) (k : ℕ) (rest : List ℕ) → drop k (listed f 0 k ++ rest) ≡ rest
+table-past : (f : ℕ → ℕ) (k : ℕ) (rest : List ℕ) → drop k (listed f 0 k ++ rest) ≡ rest
 table-past f k rest = drop-at (listed f 0 k) rest k (length-listed f 0 k)
+
+-- a table that shows its range keeps what stands behind it
+past-kept : (f : ℕ → ℕ) (n : ℕ) (t t₀ : List ℕ) → t ≡ listed f 0 n ++ drop n t₀ → drop n t ≡ drop n t₀
+past-kept f n t t₀ is = ap (drop n) is ∙ table-past f n (drop n t₀)
+
+pub blocks-past : (img : List ℕ) (s : Anodes) (t t₀ : List ℕ) → t ≡ blockTable img s ++ drop (diskSize img) t₀ → drop (diskSize img) t ≡ drop (diskSize img) t₀
+unfolding blockTable
+blocks-past img s t t₀ = past-kept (blockEntry img s) (diskSize img) t t₀
+
+pub heads-past : (s : Anodes) (t t₀ : List ℕ) → t ≡ anodeTable s ++ drop limit t₀ → drop limit t ≡ drop limit t₀
+unfolding anodeTable
+heads-past s t t₀ = past-kept (anodeEntry s) limit t t₀
 
 listed-same : (f f′ : ℕ → ℕ) (k : ℕ) → ((i : ℕ) → i < k → f i ≡ f′ i) → listed f 0 k ≡ listed f′ 0 k
 listed-same f f′ k h = listed-is f k (listed f′ 0 k) (length-listed f′ 0 k) (λ i l. h i l ∙ sym (listed-at f′ k i l))

@@ -22,12 +22,12 @@ use Rattle.rules.specs.Changes.{firstRoom, noRoom, neededBlock, entryPlace, New
 use Rattle.laws.specs.Bags.{times-nil}
 use Rattle.laws.specs.Links.{View, Linked}
 use Rattle.laws.specs.OwnerTable.{setAll, fresh-owner}
-use Rattle.anodes.specs.Loaded.{anodesFrom}
+use Rattle.anodes.specs.Loaded.{anodesFrom, Loaded}
 use Rattle.changes.specs.Members.{times-member}
 use Rattle.changes.specs.Reached.{dir-block}
 use Rattle.changes.specs.MakePlan.{Fresh, parent-took}
 use Rattle.changes.specs.MadeImage.{Making, first-in, good, made-same, made-anodes}
-use Rattle.changed.specs.Leaves.{Leaves, Loaded}
+use Rattle.changed.specs.Leaves.{Leaves}
 use Rattle.changed.specs.Laws.{Shows, shows-kept, leaves-refused, leaves-done}
 use Rattle.making.specs.declared.MakePlan.{MakePlan}
 use Rattle.making.specs.declared.Planned.the-variants.{Stopped}

@@ -23,10 +23,10 @@ use Rattle.changes.specs.FoundEntries.{block-standing, end-within}
 use Rattle.changes.specs.Reached.{block-data, block-entry}
 use Rattle.changes.specs.Remove.{remove-refused}
 use Rattle.changes.specs.RemoveStores.{PlannedRemove, ran, end-good, removed-same, removed-anodes}
-use Rattle.anodes.specs.Loaded.{anodesFrom}
+use Rattle.anodes.specs.Loaded.{anodesFrom, Loaded}
 use Rattle.tree.specs.Steps.{sumFrom}
 use Rattle.space.specs.Steps.{moveBlock, moveMany}
-use Rattle.changed.specs.Leaves.{Leaves, Loaded, ReachedEntry}
+use Rattle.changed.specs.Leaves.{Leaves, ReachedEntry}
 use Rattle.changed.specs.Laws.{leaves-refused, shows-kept, shows-ran, leaves-done}
 use Rattle.changed.specs.Chains.{image-good, entry-known, entry-not-1, loaded-copies, chain-counted, planned-change}
 

@@ -21,11 +21,11 @@ use Rattle.laws.specs.Whole.{blocks-count}
 use Rattle.laws.specs.OwnerTable.{setAll}
 use Rattle.changes.specs.ResizePlan.{plan-refused, plan-longer}
 use Rattle.changes.specs.ResizeStores.{PlannedResize, steps, resized-same, resized-anodes}
-use Rattle.anodes.specs.Loaded.{anodesFrom}
+use Rattle.anodes.specs.Loaded.{anodesFrom, Loaded}
 use Rattle.tree.specs.Steps.{sumFrom}
 use Rattle.space.specs.Steps.{moveBlock, moveMany}
 use Rattle.space.proofs.Many.{count-small}
-use Rattle.changed.specs.Leaves.{Leaves, Loaded, ReachedEntry}
+use Rattle.changed.specs.Leaves.{Leaves, ReachedEntry}
 use Rattle.changed.specs.Laws.{Shows, leaves-refused, shows-ran, leaves-done}
 use Rattle.changed.specs.Chains.{loaded-size, image-good, entry-known, entry-not-1, loaded-copies, chain-counted, planned-change, gave-few}
 

@@ -2,7 +2,8 @@ use denote.Ref.{now}
 use mathlib.Core.List.{[]}
 use mathlib.Core.Path.{refl, sym, _∙_}
 use native.Mathlib.Omega.{arith}
-use Rattle.fsck.proofs.Space.{space-6, space-7, space-8, view, closed, links, space-9, space-10, space-11, space-none, heads-past, heads-some, shown, last-of, none-of}
+use Rattle.laws.specs.OwnerTable.{heads-past}
+use Rattle.fsck.proofs.Space.{space-6, space-7, space-8, view, closed, links, space-9, space-10, space-11, space-none, heads-some, shown, last-of, none-of}
 use borrow.Author.Needs.{needs}
 use Rattle.fsck.proofs.test_space.Statement.{statement}
 use Rattle.fsck.proofs.test_space.Tie as tie
