@@ -216,8 +216,8 @@ place-order b y at f e place vs ys us k p i u =
 
 -- an entry of the list stands before the end mark
 pub entry-standing : (b : List ℕ) (y at : ℕ) (e : Entered) → e .place ≡ y * 512 + at → (ys xs : List Entered) (k p : ℕ) → entriesFrom k b y p ≡ xs ++ (e ∷ ys) →
-    anyIn (λ f. f .broken) (entriesFrom k b y p) ≡ false → p ≤ 510 → 520 ≤ p + 18 * k → Standing b y at (endFrom k b p) e
-entry-standing b y at e place ys xs k p i u l f =
+    anyIn (λ f. f .broken) (entriesFrom k b y p) ≡ false → 520 ≤ p + 18 * k → Standing b y at (endFrom k b p) e
+entry-standing b y at e place ys xs k p i u f =
     let r = reaches b y at e place ys xs k p i u in
     let s = r .found .stands in
     let g = found-at b at (s .entry) (s .walked) in
@@ -236,7 +236,7 @@ pub record BlockEntry (b : List ℕ) (y at : ℕ) (e : Entered) : Type 0 where
 module _ {b : List ℕ} {y at : ℕ} {e : Entered} (u : BlockEntry b y at e) where
   pub block-standing : Standing b y at (entriesEnd b) e
   unfolding entriesEnd
-  block-standing = entry-standing b y at e (u .place) (u .parted .1) (u .parted .0) 28 16 (u .parted .2) (u .unbroken) (omega arith) (omega arith)
+  block-standing = entry-standing b y at e (u .place) (u .parted .1) (u .parted .0) 28 16 (u .parted .2) (u .unbroken) (omega arith)
 
   pub end-within : entriesEnd b ≤ 512
   unfolding entriesEnd

@@ -179,5 +179,5 @@ module _ {b : List ℕ} {y at : ℕ} {e : Entered} (u : BlockEntry b y at e) whe
       let xs = u .parted .0 in
       let all : entriesFrom 28 b y 16 ≡ xs ++ (e ∷ (us ++ (f ∷ vs))) = u .parted .2 ∙ rw i in
       let behind : at + getD b at 0 ≤ k = omega (arith, p, place-order b y at e f (u .place) us vs xs 28 16 all (u .unbroken)) in
-      let f-stands = entry-standing b y k f p vs (xs ++ (e ∷ us)) 28 16 (all ∙ sym (append-assoc xs (e ∷ us) (f ∷ vs))) (u .unbroken) (omega arith) (omega arith) in
+      let f-stands = entry-standing b y k f p vs (xs ++ (e ∷ us)) 28 16 (all ∙ sym (append-assoc xs (e ∷ us) (f ∷ vs))) (u .unbroken) (omega arith) in
       (behind, bytes-behind b at (getD b at 0) (entriesEnd b) (u .whole) fits (end-within u) k (getD b k 0) behind (f-stands .before))

@@ -15,10 +15,10 @@ use Rattle.directory.specs.declared.Walked.the-variants.{Found}
 use Rattle.directory.specs.declared.Entry.{Entry}
 use Rattle.directory.specs.Entries.{goodComment, entryLength, walkedAt, putEntry}
 use Rattle.directory.proofs.Laws.{length-putEntry, getD-putEntry-before, nameIn-putEntry, walkedAt-putEntry, found-at}
-use Rattle.rules.specs.Counting.{oneAt, times, anyIn, gather}
+use Rattle.rules.specs.Counting.{oneAt, times, gather}
 use Rattle.rules.specs.Anodes.{Anodes, limit, anodesOf}
 use Rattle.rules.specs.Chains.{chainOf, blocksOf}
-use Rattle.rules.specs.Walk.{Entered, entriesFrom, entriesIn, reachedDirs}
+use Rattle.rules.specs.Walk.{Entered, entriesIn, reachedDirs}
 use Rattle.rules.specs.Lookup.{noDirectory, entriesOf, nameAt, contents}
 use Rattle.rules.specs.Changes.{entriesEnd, parentOf, entryPlace, NewEntry, entryOf, madeImage}
 use Rattle.laws.specs.Tests.{same?, less?}
@@ -32,7 +32,7 @@ use Rattle.laws.specs.Each.{OneMore}
 use Rattle.laws.specs.DirectoryTakes.{dir-head}
 use Rattle.frames.specs.DisjointBlocks.{chains-apart, chain-block}
 use Rattle.changes.specs.Image.{headIn, headed-reached, headed-same, reached-headed}
-use Rattle.changes.specs.FoundEntries.{part-same, enteredAt, entry-standing}
+use Rattle.changes.specs.FoundEntries.{part-same, enteredAt, BlockEntry, block-standing}
 use Rattle.changes.specs.Members.{Member, none-in, member-first, member-times, times-member, gather-congr}
 use Rattle.changes.specs.Reached.{block-on, reached-from-5, reached-not-1, reached-head, dir-block, entry-facts, not-file}
 use Rattle.changes.specs.KeptChains.{SameChain, same-blocks, BlocksKept, contents-same, entries-same}
@@ -65,16 +65,14 @@ block-part img y k n there fits = part-same img (blockOf img y) (y * 512 + k) k 
     (λ i l. let e : y * 512 + k + i ≡ y * 512 + (k + i) = omega arith in rw e (sym (getD-blockOf img y (k + i) (omega arith))))
 
 -- an entry of a block keeps its bytes when another is put behind the last
-bytes-put : (b : List ℕ) (y at : ℕ) (x : Entry) (name comment : List ℕ) → length b ≡ 512 → anyIn (λ e. e .broken) (entriesFrom 28 b y 16) ≡ false → (e : Entered) → e .place ≡ y * 512 + at →
-    Member e (entriesFrom 28 b y 16) →
+bytes-put : {b : List ℕ} {y at : ℕ} {e : Entered} → BlockEntry b y at e → (x : Entry) (name comment : List ℕ) →
     take (getD (putEntry b (entriesEnd b) x name comment) at 0) (drop at (putEntry b (entriesEnd b) x name comment)) ≡ take (getD b at 0) (drop at b)
-unfolding entriesEnd
-bytes-put b y at x name comment whole u e place (xs, ys, parted) =
-    let st = entry-standing b y at e place ys xs 28 16 parted u (omega arith) (omega arith) in
+bytes-put {b} {y} {at} u x name comment =
+    let st = block-standing u in
     let found = found-at b at (st .entry) (st .walked) in
     let b′ = putEntry b (entriesEnd b) x name comment in
     with-length b′ b at at (omega (arith, found .long))
-    (part-same b′ b at at (getD b at 0) (omega (arith, length-putEntry b (entriesEnd b) x name comment, whole, found .room)) (omega (arith, whole, found .room))
+    (part-same b′ b at at (getD b at 0) (omega (arith, length-putEntry b (entriesEnd b) x name comment, u .whole, found .room)) (omega (arith, u .whole, found .room))
     (λ i l. getD-putEntry-before b (entriesEnd b) x name comment (at + i) (omega (arith, l, st .before))))
 
 module _ {img : List ℕ} {blocks anodes h : ℕ} {new : NewEntry} {f : ℕ} {room : Option ℕ} {ys : List ℕ} {t : Anodes} {zs : List ℕ} (m : Making img blocks anodes h new f room ys t zs) where
@@ -265,7 +263,7 @@ module _ {img : List ℕ} {blocks anodes h : ℕ} {new : NewEntry} {f : ℕ} {ro
       let place : e .place ≡ s .block a * 512 + at = omega (arith, g .in-block) in
       bytes-at j (e .place) (s .block a) at place (omega arith) ∙ elim (same? a (spot m .anode)) [
         | inl q ↦ rw (made-block a q (kept .1) old)
-            (bytes-put (blockOf img (s .block a)) (s .block a) at (entryOf new f) (new .name) (new .comment) (g .block-facts .whole) (g .block-facts .unbroken) e place (g .member))
+            (bytes-put (record { whole = g .block-facts .whole; unbroken = g .block-facts .unbroken; parted = g .member; place = place }) (entryOf new f) (new .name) (new .comment))
         | inr q ↦ rw (ap (blockOf j) (sym (kept .1)) ∙ entry-other m a (kept .0 ∙ one k r a (g .member-chain)) q ∙ ap (blockOf (before m)) (kept .1) ∙ old)
       ] ∙ sym (bytes-at img (e .place) (s .block a) at place (omega arith))
 
