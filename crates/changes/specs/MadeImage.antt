@@ -22,7 +22,7 @@ use Rattle.rules.specs.Format.{newDirectoryBlock}
 use Rattle.rules.specs.Changes.{withBlocks, entriesEnd, noRoom, parentOf, entryPlace, NewEntry, entryOf, madeImage}
 use Rattle.laws.specs.Tests.{eq→eqb, and, or-right}
 use Rattle.laws.specs.Sums.{oneAt-cases, oneAt-same}
-use Rattle.laws.specs.Bags.{list-cons, times-nil, times-cons, times-append}
+use Rattle.laws.specs.Bags.{list-cons, times-nil, times-cons, times-append, times-here}
 use Rattle.laws.specs.Space.{Good, on-chain}
 use Rattle.laws.specs.Each.{Each, each-map}
 use Rattle.laws.specs.TreeChanges.{headed, none-headed}
@@ -45,7 +45,7 @@ use Rattle.changes.specs.MakePlan.{Fresh, fresh-free, MakeSteps, MadePla
 times-map : (g : ℕ → ℕ) (l : List ℕ) (y : ℕ) → 0 < times y (map g l) → (a : ℕ) × (0 < times a l) × (y ≡ g a)
 times-map g [] y p = absurd (omega (arith, p, times-nil y))
 times-map g (x ∷ l) y p = elim (oneAt-cases (g x) y) [
-  | inl c ↦ (x, omega (arith, times-cons x x l, oneAt-same x x refl), sym (c .0))
+  | inl c ↦ (x, times-here x l, sym (c .0))
   | inr c ↦ (let r = times-map g l y (omega (arith, p, times-cons y (g x) (map g l), c .1)) in (r .0, omega (arith, r .1, times-cons (r .0) x l), r .2))
 ]
 

@@ -23,7 +23,7 @@ use Rattle.rules.specs.Lookup.{noDirectory, entriesOf, nameAt, contents}
 use Rattle.rules.specs.Changes.{entriesEnd, parentOf, entryPlace, NewEntry, entryOf, madeImage}
 use Rattle.laws.specs.Tests.{same?, less?}
 use Rattle.laws.specs.Sums.{oneAt-cases, oneAt-same, oneAt-other}
-use Rattle.laws.specs.Bags.{times-nil, times-cons, times-append}
+use Rattle.laws.specs.Bags.{times-nil, times-cons, times-append, gather-none}
 use Rattle.laws.specs.Heads.{Head}
 use Rattle.laws.specs.Space.{on-chain}
 use Rattle.laws.specs.TreeChanges.{headed}
@@ -48,11 +48,6 @@ times-mapped g (x ∷ l) a p = elim (oneAt-cases x a) [
   | inl c ↦ omega (arith, times-cons (g a) (g x) (map g l), oneAt-same (g x) (g a) (ap g (c .0)))
   | inr c ↦ omega (arith, times-cons (g a) (g x) (map g l), times-mapped g l a (omega (arith, p, c .1, times-cons a x l)))
 ]
-
-gather-none : (g : ℕ → List Entered) (l : List ℕ) → ((a : ℕ) → 0 < times a l → g a ≡ []) → gather g l ≡ []
-unfolding gather
-gather-none g [] e = refl
-gather-none g (x ∷ l) e = rw (e x (omega (arith, times-cons x x l, oneAt-same x x refl)), gather-none g l (λ a p. e a (omega (arith, p, times-cons a x l))))
 
 -- the first element's list joined to what stands before
 gather-first : (g : ℕ → List Entered) (k : List Entered) (a : ℕ) (l : List ℕ) → k ++ gather g (a ∷ l) ≡ k ++ g a ++ gather g l

@@ -21,8 +21,7 @@ use Rattle.rules.specs.Counting.{times, anyIn}
 use Rattle.rules.specs.Walk.{Entered, entriesFrom}
 use Rattle.rules.specs.Format.{newDirectoryBlock}
 use Rattle.rules.specs.Changes.{endFrom, entriesEnd, firstRoom}
-use Rattle.laws.specs.Sums.{oneAt-same}
-use Rattle.laws.specs.Bags.{times-cons}
+use Rattle.laws.specs.Bags.{times-cons, times-here}
 use Rattle.laws.specs.NewDirectory.{mark-new}
 use Rattle.changes.specs.FoundEntries.{head-same, walked-same, enteredAt, entries-more, entries-end, unbroken-cases, end-more, end-here, end-bounds}
 
@@ -121,5 +120,5 @@ room-found img len (y ∷ ys) place e = go (leb (entriesEnd (blockOf img y) + le
     go : (c : Bool) → leb (entriesEnd (blockOf img y) + len) 510 ≡ c → elim c [ true ↦ some (y * 512 + entriesEnd (blockOf img y)) | false ↦ firstRoom img len ys ] ≡ some place →
         (firstRoom img len ys ≡ some place → (x : ℕ) × (0 < times x ys) × (place ≡ x * 512 + entriesEnd (blockOf img x)) × (entriesEnd (blockOf img x) + len ≤ 510)) →
         (x : ℕ) × (0 < times x (y ∷ ys)) × (place ≡ x * 512 + entriesEnd (blockOf img x)) × (entriesEnd (blockOf img x) + len ≤ 510)
-    go true c f rec = (y, omega (arith, times-cons y y ys, oneAt-same y y refl), cc, leb-true (entriesEnd (blockOf img y) + len) 510 c)
+    go true c f rec = (y, times-here y ys, cc, leb-true (entriesEnd (blockOf img y) + len) 510 c)
     go false c f rec = let r = rec f in (r .0, omega (arith, times-cons (r .0) y ys, r .1), r .2, r .3)

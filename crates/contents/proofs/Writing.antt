@@ -21,7 +21,7 @@ use Rattle.rules.specs.Changes.{spread, written}
 use Rattle.laws.specs.Chains.{gathered-step, run-step, Inside}
 use Rattle.laws.specs.ChainBlocks.{extent}
 use Rattle.laws.specs.Sums.{oneAt-same}
-use Rattle.laws.specs.Bags.{times-cons, times-append}
+use Rattle.laws.specs.Bags.{times-cons, times-append, times-here}
 use Rattle.contents.specs.Written.{writtenOver, InsideOnce}
 
 -- ---- a store over two lists
@@ -130,7 +130,7 @@ inside-append img l n i = (λ y p. i y (omega (arith, p, times-append y l n)), �
 -- the first block of a run, and those behind it
 module _ (img : List ℕ) (b n m : ℕ) (more : n ≡ m + 1) (i : Inside img (run b n)) where
   pub first-inside : b * 512 + 512 ≤ length img
-  first-inside = (rw (run-step b n m more) at i) b (omega (arith, times-cons b b (run (b + 1) m), oneAt-same b b refl))
+  first-inside = (rw (run-step b n m more) at i) b (times-here b (run (b + 1) m))
 
   pub rest-inside : Inside img (run (b + 1) m)
   rest-inside = inside-append img (b ∷ []) (run (b + 1) m) (rw (run-step b n m more) at i) .1

@@ -12,8 +12,7 @@ use Rattle.rules.specs.Counting.{times, gather}
 use Rattle.rules.specs.Anodes.{Anodes}
 use Rattle.rules.specs.Chains.{chainOf, run, blocksOf}
 use Rattle.rules.specs.Changes.{endFrom, entriesEnd, firstRoom}
-use Rattle.laws.specs.Sums.{oneAt-same}
-use Rattle.laws.specs.Bags.{times-cons}
+use Rattle.laws.specs.Bags.{times-here, times-later}
 use Rattle.laws.specs.Chains.{gathered-step}
 use Rattle.laws.specs.ChainBlocks.{extent}
 use Rattle.anodes.specs.Loaded.{anodesFrom}
@@ -83,7 +82,7 @@ single-blocks : (block count : ℕ → ℕ) (l : List ℕ) → ((a : ℕ) → 0 
 unfolding gather run
 single-blocks block count [] one = refl
 single-blocks block count (x ∷ l) one =
-    rw (one x (omega (arith, times-cons x x l, oneAt-same x x refl)), single-blocks block count l (λ a p. one a (omega (arith, p, times-cons a x l))))
+    rw (one x (times-here x l), single-blocks block count l (λ a p. one a (times-later a x l p)))
 
 module _ (img : List ℕ) (len : ℕ) where
   pub room-none : (ys : List ℕ) → ys ≡ [] → none ≡ firstRoom img len ys

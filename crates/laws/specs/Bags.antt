@@ -143,6 +143,11 @@ unfolding gather
 gather-kept f f′ [] h = refl
 gather-kept f f′ (x ∷ l) h = rw (h x (times-here x l), gather-kept f f′ l (λ a p. h a (times-later a x l p)))
 
+pub gather-none {ℓ} : {Y : Type ℓ} (f : ℕ → List Y) (l : List ℕ) → ((a : ℕ) → 0 < times a l → f a ≡ []) → gather f l ≡ []
+unfolding gather
+gather-none f [] h = refl
+gather-none f (x ∷ l) h = rw (h x (times-here x l), gather-none f l (λ a p. h a (times-later a x l p)))
+
 -- a number that stands in a list is a member of it
 pub times-member : (x : ℕ) (l : List ℕ) → 0 < times x l → Member x l
 unfolding times

@@ -11,7 +11,7 @@ use Rattle.rules.specs.Anodes.{Anodes, limit}
 use Rattle.rules.specs.Chains.{chainOf, run, blocksOf}
 use Rattle.rules.specs.Space.{planned, rewritten, unlinked, withoutLast, found, lastFull, giveBack, giveMany}
 use Rattle.laws.specs.Sums.{changed-same, changed-other}
-use Rattle.laws.specs.Bags.{list-cons}
+use Rattle.laws.specs.Bags.{none-at, gather-none}
 use Rattle.laws.specs.Segments.{Seg, Chain, seg-split}
 use Rattle.laws.specs.Links.{the-chain, chain-the}
 use Rattle.laws.specs.LinkChanges.{first, second, third, unlink, unlink-view, unlink-linked, unlink-after}
@@ -25,14 +25,6 @@ use Rattle.laws.specs.Frame.{shift-of, moved-stays}
 use Rattle.laws.specs.Repeated.{repeated-none, repeated-done}
 use Rattle.laws.specs.ChainBlocks.{gather-append, extent, blocksOf-extents, shift-blocks, gather-off, gather-skip, stands-once}
 use Rattle.laws.specs.TakenBlocks.{run-end, last-split}
-
--- anodes with no block have no blocks
-gather-none : (s : Anodes) (l : List ℕ) → sumList (s .count) l ≡ 0 → gather (extent s) l ≡ []
-unfolding gather extent run
-gather-none s [] z = refl
-gather-none s (a ∷ l) z =
-    let c : s .count a ≡ 0 = omega (arith, z, list-cons (s .count) a l) in
-    rw (c, gather-none s l (omega (arith, z, list-cons (s .count) a l)))
 
 -- the blocks of a list of anodes of which the last that has any loses its last
 gather-lost : (f f′ : ℕ → List ℕ) (pre post : List ℕ) (x y : ℕ) → ((a : ℕ) → a ≢ x → f′ a ≡ f a) → times x pre ≡ 0 → times x post ≡ 0 → gather f post ≡ [] → f x ≡ f′ x ++ (y ∷ []) →
@@ -93,10 +85,11 @@ module _ {ex : ℕ → Bool} {n last : ℕ} {s : Anodes} {system hd sd : ℕ →
 
   -- x alone has lost its last block
   lost : (r : Anodes) → ((a : ℕ) → a ≢ x → extent r a ≡ extent s a) → extent s x ≡ extent r x ++ (y ∷ []) → blocksOf s h ≡ gather (extent r) (split .0 ++ (x ∷ split .1)) ++ (y ∷ [])
+  unfolding extent run
   lost r same less =
       let once = stands-once g h d x (split .0) (split .1) (split .2) in
       blocksOf-extents s h ∙ ap (gather (extent s)) (split .2)
-      ∙ gather-lost (extent s) (extent r) (split .0) (split .1) x y same (once .0) (once .1) (gather-none s (split .1) (split .3)) less
+      ∙ gather-lost (extent s) (extent r) (split .0) (split .1) x y same (once .0) (once .1) (gather-none (extent s) (split .1) (λ a p. rw (none-at (s .count) (split .1) (split .3) a p))) less
 
   rewritten-blocks : (c b : ℕ) → s .count x - 1 ≡ c → run b c ≡ run (s .block x) c → blocksOf s h ≡ blocksOf (rewritten s x c b) h ++ (y ∷ [])
   unfolding rewritten extent y

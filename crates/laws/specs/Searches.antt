@@ -38,13 +38,13 @@ module _ (count : ℕ → ℕ) (p a : ℕ) where
   full-at zero e h = absurd (h refl)
   full-at (suc c) e h = rw (e, fullAt)
 
-  pub none-at : count a ≡ 0 → fullAt count p a ≡ nowhere
+  pub nowhere-at : count a ≡ 0 → fullAt count p a ≡ nowhere
   unfolding fullAt
-  none-at e = rw (e, fullAt)
+  nowhere-at e = rw (e, fullAt)
 
   found-at : (q x : ℕ) → fullAt count p a ≡ found q x → (0 < count a) × (p ≡ q) × (a ≡ x)
   found-at q x e = elim (same? (count a) 0) [
-    | inl z ↦ absurd (nowhere≢found q x (sym (none-at z) ∙ e))
+    | inl z ↦ absurd (nowhere≢found q x (sym (nowhere-at z) ∙ e))
     | inr n ↦ (let s : found p a ≡ found q x = sym (full-at (count a) refl n) ∙ e in (omega arith, cc, cc))
   ]
 

@@ -16,7 +16,7 @@ use Rattle.rules.specs.Space.{Found, nowhere, found, firstFound, firstFull, las
 use Rattle.laws.specs.Chains.{chain-none, chain-zero, chain-step}
 use Rattle.laws.specs.Tests.{less?}
 use Rattle.laws.specs.Sums.{least-cases}
-use Rattle.laws.specs.Searches.{full-at, none-at}
+use Rattle.laws.specs.Searches.{full-at, nowhere-at}
 use Rattle.laws.specs.ImageAnodes.{slot-exists, slot-missing}
 use Rattle.anodes.specs.Loaded.{anodesFrom}
 
@@ -87,7 +87,7 @@ module _ (count next : ℕ → ℕ) where
 
     pub first-step : count a ≡ 0 → firstFull count p (chainOf next k a) ≡ firstFull count a (chainOf next m (next a))
     unfolding firstFull firstFound
-    first-step h = rw (chain-step next k m a fuel some, none-at count p a h)
+    first-step h = rw (chain-step next k m a fuel some, nowhere-at count p a h)
 
 -- ---- the last anode with a block
 
@@ -117,7 +117,7 @@ module _ (count next : ℕ → ℕ) where
 
     pub last-step : count a ≡ 0 → firstFound (lastFull count p (chainOf next k a)) b ≡ firstFound (lastFull count a (chainOf next m (next a))) b
     unfolding lastFull firstFound
-    last-step h = rw (chain-step next k m a fuel some, none-at count p a h) (or-assoc (lastFull count a (chainOf next m (next a))) nowhere b)
+    last-step h = rw (chain-step next k m a fuel some, nowhere-at count p a h) (or-assoc (lastFull count a (chainOf next m (next a))) nowhere b)
 
 -- ---- the last anode
 
