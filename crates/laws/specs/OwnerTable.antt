@@ -17,7 +17,7 @@ use Rattle.rules.specs.Anodes.{Anodes, limit}
 use Rattle.rules.specs.Chains.{headOf, covers, owners, systemOwns}
 use Rattle.rules.specs.Accepted.{diskSize}
 use Rattle.rules.specs.Space.{rewritten, onChain, dropped}
-use Rattle.rules.specs.Tables.{chainHead, anodeEntry, anodeTable, headWhere, ownerHead, blockEntry, blockTable}
+use Rattle.rules.specs.Tables.{chainHead, anodeEntry, anodeTable, headWhere, ownerHead, blockEntry, blockTable, entryOr}
 use Rattle.laws.specs.Tests.{same?, less?}
 use Rattle.laws.specs.Sums.{oneAt-cases, oneAt-same, oneAt-other, sum-congr, sum-scale, sum-swap, sum-member, sum-some, sum-single, sum-pick}
 use Rattle.laws.specs.Bags.{times-nil, times-cons, times-here, times-later}
@@ -223,12 +223,12 @@ not-system img x z = elim (less? x 3) [ inl l ↦ absurd (omega (arith, rw (lt-l
 module _ (img j : List ℕ) (same-size : diskSize j ≡ diskSize img) (same-system : systemOwns j ≡ systemOwns img) (s t : Anodes) where
   -- where every block has the owner that it had, the block table is the same
   pub kept-table : ((x : ℕ) → ownerHead t x ≡ ownerHead s x) → blockTable j t ≡ blockTable img s
-  unfolding blockTable blockEntry
+  unfolding blockTable blockEntry entryOr
   kept-table same = rw same-size (listed-same (blockEntry j t) (blockEntry img s) (diskSize img) (λ x l. rw (same-system, same x)))
 
   ran-entry : {ex : ℕ → Bool} {last : ℕ} {hd sd : ℕ → ℕ} → Good limit ex (diskSize img) last s (systemOwns img) hd sd → {from to h size : ℕ} {ys : List ℕ} →
       Ran limit ex (diskSize img) last s (systemOwns img) hd from to h size ys t → from ≢ to → (x : ℕ) → blockEntry j t x ≡ cond (leb 1 (times x ys)) to (blockEntry img s x)
-  unfolding blockEntry
+  unfolding blockEntry entryOr
   ran-entry g {from} {to} {ys = ys} ran apart x = rw (same-system, ran-owner g ran apart x) (elim (less? 0 (times x ys)) [
     | inl p ↦ rw (le-leb 1 (times x ys) p) (let z = ran-data g ran apart x p .1 in rw (le-ltb x 3 (not-system img x z), z))
     | inr p ↦ rw (lt-leb 1 (times x ys) (omega arith))

@@ -13,6 +13,7 @@ use Rattle.disk.specs.Root.{slotOf}
 use Rattle.rules.specs.Counting.{sumBelow}
 use Rattle.rules.specs.Chains.{covers, holds, systemOwns, owners}
 use Rattle.rules.specs.Accepted.{diskSize, wrongSize, wrongSlots, ownersOf, twoOwners}
+use Rattle.rules.specs.Tables.{entryOr}
 use Rattle.counting.specs.Laws.{anyBelow-hit, anyBelow-all, sumBelow-none, sumBelow-more, sumBelow-upto}
 use Rattle.laws.specs.TestsPassed.{right-slot}
 use Rattle.laws.specs.Acceptance.{size-bounds}
@@ -20,7 +21,7 @@ use Rattle.laws.specs.Tests.{same?, less?}
 use Rattle.laws.specs.Sums.{oneAt-same, oneAt-other, sum-zero, sum-none}
 use Rattle.laws.specs.Ownership.{covers-cases, covers-in, covers-under, covers-over}
 use Rattle.anodes.specs.Loaded.{anodesFrom}
-use Rattle.owners.specs.Marks.{KeptOutside, RunFilled, RunHit, Marked, OwnedTwice, entryOr, headMark, ownerEntry}
+use Rattle.owners.specs.Marks.{KeptOutside, RunFilled, RunHit, Marked, OwnedTwice, headMark, ownerEntry}
 use Rattle.owners.proofs.Laws.{marked-free, marked-same, marked-none, marked-run, marked-hit, owned-more}
 
 -- ---- what was checked before

@@ -10,12 +10,12 @@ use lib.Seq.{length-take-le, getD-take}
 use Rattle.rules.specs.Counting.{anyBelow}
 use Rattle.rules.specs.Anodes.{Anodes}
 use Rattle.rules.specs.Accepted.{diskSize, ownersOf, noOwner}
-use Rattle.rules.specs.Tables.{chainHead, headWhere, ownerHead, blockEntry, blockTable}
+use Rattle.rules.specs.Tables.{chainHead, headWhere, ownerHead, blockEntry, blockTable, entryOr}
 use Rattle.counting.specs.Laws.{anyBelow-same}
 use Rattle.laws.specs.Sums.{sum-congr}
 use Rattle.laws.specs.Ownership.{covers-cases}
 use Rattle.laws.specs.OwnerTable.{listed-is}
-use Rattle.owners.specs.Marks.{Marked, entryOr, headMark, ownerEntry, OwnersMarked}
+use Rattle.owners.specs.Marks.{Marked, headMark, ownerEntry, OwnersMarked}
 
 -- 11: an entry of 0 is a block with no owner
 pub marked-no-owner : (img : List ℕ) (s : Anodes) (E : ℕ → ℕ) (t : List ℕ) → Marked (diskSize img) (ownersOf img s) E t

@@ -5,10 +5,11 @@ use mathlib.Core.Logic.{_≢_}
 use mathlib.Core.Bool.{Bool, true, false, cond}
 use mathlib.Core.List.{List}
 use lib.ListN.{getD}
-use lib.Dec.{eqb, ltb}
+use lib.Dec.{eqb}
 use Rattle.rules.specs.Counting.{sumBelow}
 use Rattle.rules.specs.Anodes.{Anodes, limit}
-use Rattle.rules.specs.Chains.{covers, systemOwns}
+use Rattle.rules.specs.Chains.{covers}
+use Rattle.rules.specs.Tables.{entryOr}
 use Rattle.rules.specs.Accepted.{diskSize, ownersOf}
 
 -- a table is left as it was outside the blocks from `first` up to `end`
@@ -56,10 +57,6 @@ pub record OwnedTwice (n : ℕ) (owners : ℕ → ℕ) : Type 0 where
 abbrev pub Answered : Bool → ℕ → (ℕ → ℕ) → (ℕ → ℕ) → List ℕ → Type 0
 Answered true n owners entry t = OwnedTwice n owners
 Answered false n owners entry t = Marked n owners entry t
-
--- a block's entry: 65535 for blocks 0 to 2, 65534 for an anode block, else e
-unfoldable pub entryOr : List ℕ → ℕ → ℕ → ℕ
-entryOr img e x = cond (ltb x 3) 65535 (cond (eqb (systemOwns img x) 0) e 65534)
 
 -- the head that an anode's blocks are marked with, at block x
 unfoldable pub headMark : Anodes → List ℕ → ℕ → ℕ → ℕ

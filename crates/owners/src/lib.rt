@@ -10,8 +10,9 @@ ghost use Rattle.rules.specs.Counting.{anyBelow};
 ghost use Rattle.rules.specs.Anodes.{limit};
 ghost use Rattle.rules.specs.Chains.{systemOwns};
 ghost use Rattle.rules.specs.Accepted.{diskSize, wrongSize, wrongSlots, wrongFixed, outOfRange, twoOwners};
+ghost use Rattle.rules.specs.Tables.{entryOr};
 ghost use Rattle.anodes.specs.Loaded.{anodesFrom};
-ghost use Rattle.owners.specs.Marks.{KeptOutside, RunTested, RunHolds, RunMarked, Answered, entryOr, OwnersMarked};
+ghost use Rattle.owners.specs.Marks.{KeptOutside, RunTested, RunHolds, RunMarked, Answered, OwnersMarked};
 use disk::slot_of;
 
 // One of the `count` blocks from `first` upward is marked: their marks add up to more than 0.

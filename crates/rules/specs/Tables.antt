@@ -22,7 +22,7 @@ anodeEntry s a = cond (eqb a 0) 0 (cond (eqb (s .block a) 0) 0 (chainHead s a))
 unfoldable pub anodeTable : Anodes → List ℕ
 anodeTable s = listed (anodeEntry s) 0 limit
 
--- each block's owner: 65535 for blocks 0 to 2, 65534 for anode blocks, else the head of the chain whose anode owns it
+-- the head of a's chain where anode a owns block x, else 0
 unfoldable pub headWhere : Anodes → ℕ → ℕ → ℕ
 headWhere s x a = cond (eqb (covers (s .count a) (s .block a) x) 1) (chainHead s a) 0
 
@@ -30,9 +30,13 @@ headWhere s x a = cond (eqb (covers (s .count a) (s .block a) x) 1) (chainHead s
 unfoldable pub ownerHead : Anodes → ℕ → ℕ
 ownerHead s x = sumBelow (headWhere s x) limit
 
--- the entry of block x in the block table
+-- a block's owner: 65535 for blocks 0 to 2, 65534 for anode blocks, else h
+unfoldable pub entryOr : List ℕ → ℕ → ℕ → ℕ
+entryOr img h x = cond (ltb x 3) 65535 (cond (eqb (systemOwns img x) 0) h 65534)
+
+-- the entry of block x in the block table: its owner, the head of the chain whose anode owns it
 unfoldable pub blockEntry : List ℕ → Anodes → ℕ → ℕ
-blockEntry img s x = cond (ltb x 3) 65535 (cond (eqb (systemOwns img x) 0) (ownerHead s x) 65534)
+blockEntry img s x = entryOr img (ownerHead s x) x
 
 -- the block table, N entries
 unfoldable pub blockTable : List ℕ → Anodes → List ℕ
