@@ -67,7 +67,7 @@ owners-refused : map answer (bent 2 1 4 0 ∷ bent 2 1 3 0 ∷ bent 5 0 4 0 ∷ 
 unfolding everything disk5 answer bent
 owners-refused = refl
 
--- the mark, the owner, an anode with no block in the root's chain, a length byte, a type, a name with a slash, an entry with no end mark
+-- the mark, the owner, an anode with no block in the root's chain, a length byte, a type, a name with a slash; a length byte behind the end mark is not examined
 directory-refused : map answer (set disk5 2048 0 ∷ put16 disk5 2060 6 ∷ setAnode (bent 5 1 4 6) 6 (anodeMade 0 65535 0) ∷ set withFile 2064 22 ∷ set withFile 2065 1 ∷ set withFile 2080 47 ∷ set disk5 2558 18 ∷ [])
     ≡ 12 ∷ 12 ∷ 12 ∷ 12 ∷ 12 ∷ 12 ∷ 0 ∷ []
 unfolding everything disk5 withFile answer bent
