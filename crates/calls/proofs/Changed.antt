@@ -12,15 +12,14 @@ use Rattle.rules.specs.Anodes.{anodesOf}
 use Rattle.rules.specs.Walk.{Entered}
 use Rattle.rules.specs.Accepted.{checkAnswer}
 use Rattle.rules.specs.Lookup.{entryNamed}
-use Rattle.rules.specs.Changes.{Left, left, NewEntry, resized, written, removed}
-use Rattle.rules.specs.Calls.{outcomeOf, settled, checkOutcome, spanAnswer, readAnswer, resizeAnswer, removeAnswer, makeAnswer, changeNamed, madeAfter, makeOutcome, resizeOutcome, writeOutcome, removeOutcome}
+use Rattle.rules.specs.Changes.{Left, left, NewEntry, resized, made, written, removed}
+use Rattle.rules.specs.Calls.{outcomeOf, settled, checkOutcome, spanAnswer, readAnswer, resizeAnswer, removeAnswer, makeAnswer, leftAfter, changeNamed, makeOutcome, resizeOutcome, writeOutcome, removeOutcome}
 use Rattle.fsck.specs.declared.Tally.{Tally}
 use Rattle.fsck.specs.declared.Checked.{Checked}
 use Rattle.fsck.specs.declared.Checked.the-variants.{Accepted, Refused}
 use Rattle.fsck.specs.Answers.{checkedNumber}
 use Rattle.changed.specs.Leaves.{Leaves}
-use Rattle.find.proofs.Laws.{refused-some}
-use Rattle.changing.proofs.Laws.{named-refused, made-refused}
+use Rattle.find.proofs.Laws.{refused-some, not-done}
 use Rattle.calls.proofs.Opened.{change-refused, change-answered}
 
 abbrev newOf : ℕ → List ℕ → List ℕ → ℕ → ℕ → ℕ → ℕ → NewEntry
@@ -32,7 +31,7 @@ module _ (img b₀ a₀ b a : List ℕ) (x : Checked) (e : outcomeOf (checkedNum
   module _ (r : Refusal) (is : x ≡ Refused r) (k : ℕ) (n : k ≡ numberOf r) where
     -- a change by name
     named-not-made : (m : ℕ) (o : Option Entered) (f : Entered → Left) → outcomeOf k img b a [] [] ≡ settled (changeNamed (firstOf (checkAnswer img (length b₀) (length a₀)) m) img o f) b₀ a₀ [] []
-    named-not-made m o f = change-refused img b₀ a₀ b a x e r is k n m (λ l. changeNamed l img o f) (named-refused img o f k (refused-some r k n))
+    named-not-made m o f = change-refused img b₀ a₀ b a x e r is k n m (λ l. changeNamed l img o f) (not-done k (refused-some r k n) _ (left k img))
 
     pub write-refused : (h : ℕ) (name : List ℕ) (offset : ℕ) (bytes : List ℕ) → outcomeOf k img b a [] [] ≡ writeOutcome img b₀ a₀ h name offset bytes
     unfolding writeOutcome readAnswer
@@ -49,7 +48,7 @@ module _ (img b₀ a₀ b a : List ℕ) (x : Checked) (e : outcomeOf (checkedNum
     pub make-refused : (h type : ℕ) (name comment : List ℕ) (day minute tick protection : ℕ) → outcomeOf k img b a [] [] ≡ makeOutcome img b₀ a₀ h type name comment day minute tick protection
     unfolding makeOutcome
     make-refused h type name comment day minute tick protection = change-refused img b₀ a₀ b a x e r is k n (makeAnswer img (anodesOf img) h type name comment)
-        (λ m. madeAfter m img h (newOf type name comment day minute tick protection)) (made-refused img h (newOf type name comment day minute tick protection) k (refused-some r k n))
+        (λ m. leftAfter m img (made img (anodesOf img) h (newOf type name comment day minute tick protection))) (not-done k (refused-some r k n) _ (left k img))
 
   -- ---- the check accepted
 
@@ -75,8 +74,8 @@ module _ (img b₀ a₀ b a : List ℕ) (x : Checked) (e : outcomeOf (checkedNum
     remove-answered h name l = named-answered (removeAnswer img (anodesOf img) h name) (entryNamed img (anodesOf img) h name) (λ y. removed img (anodesOf img) y) l
 
     pub make-answered : (h type : ℕ) (name comment : List ℕ) (day minute tick protection : ℕ) →
-        Leaves r img b a img′ b′ a′ (madeAfter (makeAnswer img (anodesOf img) h type name comment) img h (newOf type name comment day minute tick protection)) →
+        Leaves r img b a img′ b′ a′ (leftAfter (makeAnswer img (anodesOf img) h type name comment) img (made img (anodesOf img) h (newOf type name comment day minute tick protection))) →
         outcomeOf r img′ b′ a′ [] [] ≡ makeOutcome img b₀ a₀ h type name comment day minute tick protection
     unfolding makeOutcome
     make-answered h type name comment day minute tick protection l = change-answered img b₀ a₀ b a x e t is (makeAnswer img (anodesOf img) h type name comment)
-        (λ m. madeAfter m img h (newOf type name comment day minute tick protection)) r img′ b′ a′ l
+        (λ m. leftAfter m img (made img (anodesOf img) h (newOf type name comment day minute tick protection))) r img′ b′ a′ l

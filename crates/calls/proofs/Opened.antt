@@ -14,7 +14,7 @@ use Rattle.rules.specs.Accepted.{diskSize, shortTables, checkAnswer}
 use Rattle.rules.specs.Changes.{Left, left}
 use Rattle.rules.specs.Tables.{anodeEntry, anodeTable, blockTable, tableLeft, blocksLeft, anodesLeft}
 use Rattle.rules.specs.Lookup.{entryNamed, entriesOf, nth}
-use Rattle.rules.specs.Calls.{Outcome, outcomeOf, settled, checkOutcome, summaryOf, summaryAfter, summaryOutcome, spanAnswer, bytesRead, readAnswer, readOutcome, listAnswer, listAnswered, fieldsListed, nameListed, listOutcome}
+use Rattle.rules.specs.Calls.{Outcome, outcomeOf, settled, checkOutcome, summaryOf, doneOr, summaryOutcome, spanAnswer, bytesRead, readAnswer, readOutcome, listAnswer, listAnswered, fieldsListed, nameListed, listOutcome}
 use Rattle.fsck.specs.declared.Tally.{Tally}
 use Rattle.fsck.specs.declared.Checked.{Checked}
 use Rattle.fsck.specs.declared.Checked.the-variants.{Accepted, Refused}
@@ -26,12 +26,7 @@ use Rattle.changes.specs.Answers.{Late, own-tables, span-late, list-late}
 use Rattle.changed.specs.Leaves.{Leaves}
 use Rattle.changed.specs.Laws.{late-table}
 use Rattle.find.specs.Open.{Open}
-use Rattle.find.proofs.Laws.{refused-some, some-cases}
-use Rattle.reading.proofs.Laws.{bytes-refused, fields-refused, name-refused}
-
-after-refused : (k : ℕ) (img : List ℕ) → 1 ≤ k → summaryAfter k img ≡ replicate 4 0
-unfolding summaryAfter
-after-refused k img = some-cases (λ n. summaryAfter n img ≡ replicate 4 0) (λ n. refl) k
+use Rattle.find.proofs.Laws.{refused-some, not-done}
 
 -- the tables that 0 shows are those of every late answer
 late-tables : (k : ℕ) → Late k → (range : ℕ) (shown old : List ℕ) → tableLeft k range shown old ≡ tableLeft 0 range shown old
@@ -76,14 +71,14 @@ module _ (img b₀ a₀ b a : List ℕ) (x : Checked) (e : outcomeOf (checkedNum
 
     pub summary-refused : outcomeOf k img b a (replicate 4 0) [] ≡ summaryOutcome img b₀ a₀
     unfolding summaryOutcome
-    summary-refused = rw (answers-k, after-refused k img some) (settled-k (replicate 4 0) [])
+    summary-refused = rw (answers-k, not-done k some (summaryOf img (anodesOf img)) (replicate 4 0)) (settled-k (replicate 4 0) [])
 
     pub read-refused : (h : ℕ) (name : List ℕ) (offset : ℕ) (out : List ℕ) → outcomeOf k img b a out [] ≡ readOutcome img b₀ a₀ h name offset out
     unfolding readOutcome readAnswer
     read-refused h name offset out =
         rw (
           firstOf-some (checkAnswer img (length b₀) (length a₀)) (spanAnswer img (anodesOf img) h name offset (length out)) k answers-k some,
-          bytes-refused img (entryNamed img (anodesOf img) h name) k some (anodesOf img) offset out,
+          not-done k some _ out,
         )
         (settled-k out [])
 
@@ -92,8 +87,8 @@ module _ (img b₀ a₀ b a : List ℕ) (x : Checked) (e : outcomeOf (checkedNum
     list-refused h n =
         rw (
           firstOf-some (checkAnswer img (length b₀) (length a₀)) (listAnswer img (anodesOf img) h n) k answers-k some,
-          fields-refused img (nth (entriesOf img (anodesOf img) h) n) k some,
-          name-refused img (nth (entriesOf img (anodesOf img) h) n) k some,
+          not-done k some _ (replicate 11 0),
+          not-done k some _ [],
         )
         (settled-k (replicate 11 0) [])
 
@@ -131,7 +126,7 @@ module _ (img b₀ a₀ b a : List ℕ) (x : Checked) (e : outcomeOf (checkedNum
     check-accepted = rw answers-0 (settled-late 0 (inl refl) [] [])
 
     pub summary-accepted : Tallied x img (anodesOf img) → (n : ℕ) → n ≡ diskSize img → outcomeOf 0 img b a (n ∷ t .free ∷ t .files ∷ t .dirs ∷ []) [] ≡ summaryOutcome img b₀ a₀
-    unfolding summaryOutcome summaryAfter summaryOf
+    unfolding summaryOutcome doneOr summaryOf
     summary-accepted told n size =
         let v = rw is at told in
         rw (answers-0, ← size, ← (v .0), ← (v .1), ← (v .2)) (settled-late 0 (inl refl) (n ∷ t .free ∷ t .files ∷ t .dirs ∷ []) [])

@@ -154,11 +154,11 @@ module _ (img : List ℕ) (s : Anodes) (h : ℕ) (new : NewEntry) where
       | inl l ↦ rw (lt-ltb first limit l) (owning (neededBlock img (new .dir) (rewritten s first 0 65535) first) refl l)
     ]
       where
-        owning : (p : Plan) → neededBlock img (new .dir) (rewritten s first 0 65535) first ≡ p → first < limit → P (madeIn p img s h new first space)
+        owning : (p : Plan) → neededBlock img (new .dir) (rewritten s first 0 65535) first ≡ p → first < limit → P (leftBy p img (λ r ys. leftBy (neededBlock img (noRoom space) r h) img (λ t zs. left 0 (madeImage img s h new first space ys t zs))))
         owning (refused n) e l = refused-with n (needed-refused img (new .dir) (rewritten s first 0 65535) first n e)
         owning (planned r ys) e l = taking (neededBlock img (noRoom space) r h) refl
           where
-            taking : (p : Plan) → neededBlock img (noRoom space) r h ≡ p → P (leftBy p img (madeImage img s h new first space ys))
+            taking : (p : Plan) → neededBlock img (noRoom space) r h ≡ p → P (leftBy p img (λ t zs. left 0 (madeImage img s h new first space ys t zs)))
             taking (refused n) q = refused-with n (needed-refused img (noRoom space) r h n q)
             taking (planned t zs) q = done l r ys e t zs q
 

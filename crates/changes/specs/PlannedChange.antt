@@ -22,7 +22,7 @@ use Rattle.changes.specs.SingleBlocks.{single-apart}
 
 -- what a change leaves, by the two ways that its plan can end
 pub left-cases : (P : Left → Type 0) (img : List ℕ) (f : Anodes → List ℕ → List ℕ) (plan : Plan) → ((k : ℕ) → plan ≡ refused k → P (left k img)) →
-    ((t : Anodes) (ys : List ℕ) → plan ≡ planned t ys → P (left 0 (f t ys))) → P (leftBy plan img f)
+    ((t : Anodes) (ys : List ℕ) → plan ≡ planned t ys → P (left 0 (f t ys))) → P (leftBy plan img (λ t ys. left 0 (f t ys)))
 left-cases P img f (refused k) stopped done = stopped k refl
 left-cases P img f (planned t ys) stopped done = done t ys refl
 

@@ -14,7 +14,7 @@ use Rattle.rules.specs.Chains.{blocksOf}
 use Rattle.rules.specs.Walk.{Entered, blocksFor}
 use Rattle.rules.specs.Accepted.{checkAnswer}
 use Rattle.rules.specs.Lookup.{noDirectory, entriesOf, entryNamed, bytesOf, contents}
-use Rattle.rules.specs.Calls.{spanAnswer, readAnswer, readOutcome, settled}
+use Rattle.rules.specs.Calls.{spanAnswer, readAnswer, readOutcome, settled, doneOr}
 use Rattle.frames.specs.StoredBytes.{length-gather}
 use Rattle.frames.specs.DisjointBlocks.{chain-block}
 use Rattle.changes.specs.Image.{accepted-whole}
@@ -52,7 +52,7 @@ module _ (img b a : List ℕ) (accepted : checkAnswer img (length b) (length a) 
   -- and a read of the whole size is done and gives them
   pub whole-read : (out : List ℕ) → length out ≡ e .size →
       (readOutcome img b a h name 0 out .answer ≡ 0) × (readOutcome img b a h name 0 out .output ≡ contents img (anodesOf img) e)
-  unfolding readOutcome settled contents
+  unfolding readOutcome settled doneOr contents
   whole-read out long = (
     done out long,
     rw (done out long, found, long) (take-take (e .size) (e .size) (bytesOf img (anodesOf img) (e .anode)) (omega arith)),

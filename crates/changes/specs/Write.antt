@@ -12,7 +12,7 @@ use Rattle.endian.proofs.Laws.{length-stored, getD-stored-before, getD-stored-i
 use Rattle.rules.specs.Counting.{times}
 use Rattle.rules.specs.Anodes.{Anodes, limit, exists, anodesOf}
 use Rattle.rules.specs.Chains.{chainOf, systemOwns, blocksOf}
-use Rattle.rules.specs.Walk.{Dir, root, Entered, entriesIn, isBlockOf, itemsAt, itemsBy, itemsOf, done, walk, walkOf, dirsIn, reachedDirs}
+use Rattle.rules.specs.Walk.{Dir, root, Entered, entriesIn, isBlockOf, itemsFor, itemsAt, itemsBy, itemsOf, done, walk, walkOf, dirsIn, reachedDirs}
 use Rattle.rules.specs.Accepted.{diskSize, lastReserved, checkAnswer}
 use Rattle.rules.specs.Lookup.{noDirectory, entriesOf, bytesOf, contents}
 use Rattle.rules.specs.Changes.{written}
@@ -89,7 +89,7 @@ module _ (img : List ℕ) (blocks anodes : ℕ) (accepted : checkAnswer img bloc
   written-bytes k r = entry-bytes-same img blocks anodes accepted k r j (dir-kept k r)
 
   same-items : (d : Dir) → Member d (reachedDirs img s) → itemsBy (entriesIn j) (isBlockOf j) s d ≡ itemsBy (entriesIn img) (isBlockOf img) s d
-  unfolding itemsBy itemsAt entriesIn isBlockOf
+  unfolding itemsBy itemsFor entriesIn isBlockOf
   same-items d m =
       let r = member-reached img s d m in
       gather-congr (itemsAt (entriesIn j) (isBlockOf j) s d) (itemsAt (entriesIn img) (isBlockOf img) s d) (chainOf (s .next) limit (d .head)) (λ a on.

@@ -21,7 +21,7 @@ use Rattle.rules.specs.Walk.{Entered}
 use Rattle.rules.specs.Accepted.{diskSize, checkAnswer}
 use Rattle.rules.specs.Lookup.{noDirectory, entriesOf, entryNamed}
 use Rattle.rules.specs.Changes.{Left, left, NewEntry, made, written}
-use Rattle.rules.specs.Calls.{makeAnswer, wrongEntry, changeNamed, madeAfter}
+use Rattle.rules.specs.Calls.{makeAnswer, wrongEntry, doneOr, leftAfter, changeNamed}
 use Rattle.counting.specs.Laws.{neither}
 use Rattle.laws.specs.Tests.{same?, less?}
 use Rattle.frames.specs.DisjointBlocks.{chain-block, chain-once}
@@ -34,7 +34,7 @@ use Rattle.changed.specs.Leaves.{Leaves}
 use Rattle.changed.specs.Laws.{leaves-refused, leaves-same}
 use Rattle.contents.specs.Written.{InsideOnce}
 use Rattle.find.specs.Open.{Open}
-use Rattle.find.proofs.Laws.{refused-some, some-cases}
+use Rattle.find.proofs.Laws.{refused-some, not-done}
 
 module _ {img counts firsts nexts queue parents heads : List ℕ} {dirs : ℕ} (o : Open img counts firsts nexts queue parents heads dirs) where
   -- the blocks of the chain that an entry names are inside the image, each once
@@ -51,23 +51,21 @@ pub late-some : (n k : ℕ) → Late n → n ≡ k → 1 ≤ k → 17 ≤ k
 late-some n k (inl z) e l = absurd (omega (arith, z, e, l))
 late-some n k (inr z) e l = omega (arith, z, e)
 
-module _ (img : List ℕ) (o : Option Entered) (f : Entered → Left) where
-  -- a number that is not 0 leaves the image
-  pub named-refused : (k : ℕ) → 1 ≤ k → changeNamed k img o f ≡ left k img
-  named-refused = some-cases (λ n. changeNamed n img o f ≡ left n img) (λ n. refl)
+-- a done change of it
+pub leaves-named : (img : List ℕ) (o : Option Entered) (f : Entered → Left) (n : ℕ) (x : Entered) → n ≡ 0 → o ≡ some x → (r : ℕ) (b a img′ b′ a′ : List ℕ) → Leaves r img b a img′ b′ a′ (f x) →
+    Leaves r img b a img′ b′ a′ (changeNamed n img o f)
+unfolding doneOr
+leaves-named img o f n x e is r b a img′ b′ a′ l = rw (e, is) l
 
-  named-done : (n : ℕ) (x : Entered) → n ≡ 0 → o ≡ some x → changeNamed n img o f ≡ f x
-  named-done n x e is = rw (e, is)
+module _ (img : List ℕ) (done : Left) where
+  -- a number that is not 0 leaves the image, and the tables that show it
+  pub leaves-unmade : (n k : ℕ) → 17 ≤ k → n ≡ k → (b a : List ℕ) → Leaves k img b a img b a (leftAfter n img done)
+  leaves-unmade n k l e b a = rw (e, not-done k (omega arith) done (left k img)) (leaves-refused k l img b a)
 
-  pub leaves-named : (n : ℕ) (x : Entered) → n ≡ 0 → o ≡ some x → (r : ℕ) (b a img′ b′ a′ : List ℕ) → Leaves r img b a img′ b′ a′ (f x) → Leaves r img b a img′ b′ a′ (changeNamed n img o f)
-  leaves-named n x e is r b a img′ b′ a′ l = rw (named-done n x e is) l
-
-  -- and the tables that show it
-  pub leaves-unchanged : (n : ℕ) → Late n → (r : Refusal) (k : ℕ) → k ≡ numberOf r → n ≡ numberOf r → (b a : List ℕ) → Leaves k img b a img b a (changeNamed n img o f)
+  pub leaves-unchanged : (n : ℕ) → Late n → (r : Refusal) (k : ℕ) → k ≡ numberOf r → n ≡ numberOf r → (b a : List ℕ) → Leaves k img b a img b a (leftAfter n img done)
   leaves-unchanged n late r k number is b a =
       let e : n ≡ k = is ∙ sym number in
-      let some = refused-some r k number in
-      rw (e, named-refused k some) (leaves-refused k (late-some n k late e some) img b a)
+      leaves-unmade n k (late-some n k late e (refused-some r k number)) e b a
 
 -- a write changes no anode, so it leaves both tables
 pub leaves-written : (img : List ℕ) → checkAnswer img (diskSize img) limit ≡ 0 → (h : ℕ) → noDirectory img (anodesOf img) h ≡ false → (e : Entered) → Member e (entriesOf img (anodesOf img) h) → e .dir ≡ false →
@@ -145,12 +143,7 @@ module _ (img : List ℕ) (s : Anodes) (h type : ℕ) (name comment : List ℕ) 
     unfolding makeAnswer
     make-fine e found = rw (right, e, found)
 
-module _ (img : List ℕ) (h : ℕ) (new : NewEntry) where
-  pub made-refused : (k : ℕ) → 1 ≤ k → madeAfter k img h new ≡ left k img
-  made-refused = some-cases (λ n. madeAfter n img h new ≡ left n img) (λ n. refl)
-
-  pub leaves-unmade : (n k : ℕ) → 17 ≤ k → n ≡ k → (b a : List ℕ) → Leaves k img b a img b a (madeAfter n img h new)
-  leaves-unmade n k l e b a = rw (e, made-refused k (omega arith)) (leaves-refused k l img b a)
-
-  pub leaves-made : (n : ℕ) → n ≡ 0 → (other : NewEntry) → other ≡ new → (r : ℕ) (b a img′ b′ a′ : List ℕ) → Leaves r img b a img′ b′ a′ (made img (anodesOf img) h other) → Leaves r img b a img′ b′ a′ (madeAfter n img h new)
-  leaves-made n e other same r b a img′ b′ a′ l = rw (e, ← same) l
+pub leaves-made : (img : List ℕ) (h : ℕ) (new : NewEntry) (n : ℕ) → n ≡ 0 → (other : NewEntry) → other ≡ new → (r : ℕ) (b a img′ b′ a′ : List ℕ) → Leaves r img b a img′ b′ a′ (made img (anodesOf img) h other) →
+    Leaves r img b a img′ b′ a′ (leftAfter n img (made img (anodesOf img) h new))
+unfolding doneOr
+leaves-made img h new n e other same r b a img′ b′ a′ l = rw (e, ← same) l

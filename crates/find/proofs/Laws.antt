@@ -16,6 +16,7 @@ use Rattle.rules.specs.Anodes.{Anodes, limit, anodesOf}
 use Rattle.rules.specs.Walk.{Entered, Dir}
 use Rattle.rules.specs.Accepted.{diskSize}
 use Rattle.rules.specs.Lookup.{noDirectory, entriesOf, nth, isThere, notEmpty, fullDir}
+use Rattle.rules.specs.Calls.{doneOr}
 use Rattle.anodes.specs.Loaded.{anodesFrom}
 use Rattle.tree.specs.Steps.{queueOf}
 use Rattle.laws.specs.Acceptance.{firstOf-some, firstOf-none}
@@ -82,10 +83,11 @@ search-there o x is = rw is
 pub refused-some : (r : Refusal) (k : ℕ) → k ≡ numberOf r → 1 ≤ k
 refused-some r k e = omega (arith, e, number-some r)
 
--- what holds of every number but 0
-pub some-cases : (P : ℕ → Type 0) → ((n : ℕ) → P (suc n)) → (k : ℕ) → 1 ≤ k → P k
-some-cases P each zero l = absurd (omega arith)
-some-cases P each (suc k) l = each k
+-- every number but 0 refuses
+pub not-done {ℓ} : {X : Type ℓ} (k : ℕ) → 1 ≤ k → (x y : X) → doneOr k x y ≡ y
+unfolding doneOr
+not-done zero l x y = absurd (omega arith)
+not-done (suc k) l x y = refl
 
 -- what the table refused stays refused
 pub refused-before : (a b c : ℕ) → c ≡ firstOf a b → (r : Refusal) → a ≡ numberOf r → c ≡ numberOf r

@@ -14,10 +14,10 @@ use Rattle.rules.specs.Counting.{_if_else_, firstOf}
 use Rattle.rules.specs.Anodes.{Anodes, limit, anodesOf}
 use Rattle.rules.specs.Walk.{Entered}
 use Rattle.rules.specs.Accepted.{diskSize, wrongSize, checkAnswer}
-use Rattle.rules.specs.Lookup.{noDirectory, entryNamed, notEmpty}
+use Rattle.rules.specs.Lookup.{noDirectory, entryNamed, ofEntry, notEmpty}
 use Rattle.rules.specs.Format.{wrongFormat, formatAnswer, formatted}
 use Rattle.rules.specs.Changes.{Left, left, NewEntry, resized, made, written, removed}
-use Rattle.rules.specs.Calls.{checkedFirst, settled, checkOutcome, summaryOutcome, formatOutcome, formatLeft, readAnswer, readOutcome, spanAnswer, listAnswered, listOutcome, makeOutcome, makeAnswer, madeAfter, wrongEntry, resizeOutcome, resizeAnswer, writeOutcome, removeOutcome, removeAnswer, changeNamed}
+use Rattle.rules.specs.Calls.{checkedFirst, settled, checkOutcome, summaryOutcome, formatOutcome, doneOr, leftAfter, readAnswer, readOutcome, spanAnswer, listAnswered, listOutcome, makeOutcome, makeAnswer, wrongEntry, resizeOutcome, resizeAnswer, writeOutcome, removeOutcome, removeAnswer, changeNamed}
 use Rattle.rules.specs.History.{Call, check, summary, format, read, list, make, resize, write, remove, outcome, Sound, Damage, SoundThroughout}
 use Rattle.counting.specs.Laws.{neither}
 use Rattle.laws.specs.Acceptance.{if-zero, firstOf-zero}
@@ -79,33 +79,34 @@ module _ (img : List ℕ) (ok : checkAnswer img (diskSize img) limit ≡ 0) wher
   -- format leaves the image, or a formatted one
   format-kept : (last k : ℕ) (name : List ℕ) (day minute tick protection : ℕ) →
       let l = formatOutcome img last k name day minute tick protection in Kept (l .answer) (l .image)
-  unfolding formatOutcome formatAnswer
+  unfolding formatOutcome formatAnswer doneOr
   format-kept last k name day minute tick protection = go (wrongSize img) (wrongFormat img last k name) refl refl
     where
       new : List ℕ
       new = formatted img last k name day minute tick protection
 
       go : (a b : Bool) → wrongSize img ≡ a → wrongFormat img last k name ≡ b →
-          let l = formatLeft (1 if a else 20 if b else 0) img new in Kept (l .answer) (l .image)
+          let l = leftAfter (1 if a else 20 if b else 0) img (left 0 new) in Kept (l .answer) (l .image)
       go true b p q = stays 1 (λ d. omega (arith, d .0))
       go false true p q = stays 20 (λ d. omega (arith, d .1))
       go false false p q = becomes 0 new (formatted-accepted img last k name day minute tick protection p q (diskSize img) limit (omega arith) (omega arith)) (λ d. omega (arith, d .0))
 
   -- a change: refused by the check or by its own table, or made
-  change-kept : (blocks anodes : List ℕ) (m : ℕ) → Late m → (f : ℕ → Left) → ((k : ℕ) → f (suc k) ≡ left (suc k) img) → (m ≡ 0 → Kept (f 0 .answer) (f 0 .image)) →
-      let l = f (checkedFirst img blocks anodes m) in Kept (l .answer) (l .image)
-  change-kept blocks anodes m late f refused made = go (checkedFirst img blocks anodes m) refl
+  change-kept : (blocks anodes : List ℕ) (m : ℕ) → Late m → (done : Left) → (m ≡ 0 → Kept (done .answer) (done .image)) →
+      let l = leftAfter (checkedFirst img blocks anodes m) img done in Kept (l .answer) (l .image)
+  unfolding doneOr
+  change-kept blocks anodes m late done made = go (checkedFirst img blocks anodes m) refl
     where
-      go : (n : ℕ) → checkedFirst img blocks anodes m ≡ n → Kept (f n .answer) (f n .image)
+      go : (n : ℕ) → checkedFirst img blocks anodes m ≡ n → let l = leftAfter n img done in Kept (l .answer) (l .image)
       go zero e = made (firstOf-zero (checkAnswer img (length blocks) (length anodes)) m e .1)
-      go (suc n) e = rw (refused n) (stays (suc n) (rw e at (answers (length blocks) (length anodes) m late)))
+      go (suc n) e = stays (suc n) (rw e at (answers (length blocks) (length anodes) m late))
 
   -- of a named entry
   named-kept : (blocks anodes : List ℕ) (m : ℕ) → Late m → (o : Option Entered) (f : Entered → Left) → (m ≡ 0 → (e : Entered) → o ≡ some e → Kept (f e .answer) (f e .image)) →
       let l = changeNamed (checkedFirst img blocks anodes m) img o f in Kept (l .answer) (l .image)
-  named-kept blocks anodes m late o f made = change-kept blocks anodes m late (λ n. changeNamed n img o f) (λ k. refl) (λ z. found o (made z))
+  named-kept blocks anodes m late o f made = change-kept blocks anodes m late (ofEntry o f (left 22 img)) (λ z. found o (made z))
     where
-      found : (o : Option Entered) → ((e : Entered) → o ≡ some e → Kept (f e .answer) (f e .image)) → let l = changeNamed 0 img o f in Kept (l .answer) (l .image)
+      found : (o : Option Entered) → ((e : Entered) → o ≡ some e → Kept (f e .answer) (f e .image)) → let l = ofEntry o f (left 22 img) in Kept (l .answer) (l .image)
       found none k = stays 22 (λ d. omega (arith, d .1))
       found (some e) k = k e refl
 
@@ -139,10 +140,10 @@ module _ (img : List ℕ) (ok : checkAnswer img (diskSize img) limit ≡ 0) wher
       (steps-harmless _ (elim (remove-answers img (diskSize img) limit ok h (f .0) e m) [ inl z ↦ inl z | inr k ↦ inr (inr k) ])))
 
   make-kept : (blocks anodes : List ℕ) (h type : ℕ) (name comment : List ℕ) (new : NewEntry) → new .name ≡ name → new .comment ≡ comment →
-      let l = madeAfter (checkedFirst img blocks anodes (makeAnswer img s h type name comment)) img h new in Kept (l .answer) (l .image)
+      let l = leftAfter (checkedFirst img blocks anodes (makeAnswer img s h type name comment)) img (made img s h new) in Kept (l .answer) (l .image)
   unfolding makeAnswer wrongEntry
   make-kept blocks anodes h type name comment new en ec =
-      change-kept blocks anodes (makeAnswer img s h type name comment) (make-late img s h type name comment) (λ n. madeAfter n img h new) (λ k. refl)
+      change-kept blocks anodes (makeAnswer img s h type name comment) (make-late img s h type name comment) (made img s h new)
       (λ z.
       let w = if-zero 20 (wrongEntry type name comment) _ (omega arith) z in
       let r = if-zero 21 (noDirectory img s h) _ (omega arith) (w .1) in

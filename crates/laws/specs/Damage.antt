@@ -11,7 +11,8 @@ use Rattle.rules.specs.Anodes.{Anodes, limit}
 use Rattle.rules.specs.Chains.{chainOf, heads, blockCount}
 use Rattle.rules.specs.Walk.{Dir, Entered, Item, Scanned, faulty, fine, Walk, fault, done, walk, walkOf, visited, faultIn, scan, faultOf, subDirs, itemOf, itemsAt, itemsBy, itemsOf, broken, wrongAnode, wrongFileSize, blocksFor, entriesIn, isBlockOf, root}
 use Rattle.rules.specs.Accepted.{diskSize, lastReserved, wrongFixed, outOfRange, wrongLinks, wrongFreeList, twoOwners, noOwner, unnamedChain, treeFault, damageIn}
-use Rattle.laws.specs.Each.{Each, each-given, each-gather}
+use Rattle.laws.specs.Each.{Each, each-gather}
+use Rattle.laws.specs.Items.{each-item}
 
 -- 0, or one of the numbers from a up to b
 abbrev pub NoneOr : ℕ → ℕ → ℕ → Type 0
@@ -41,13 +42,11 @@ told-entry s e = (
   either-number (e .dir) 12 15 0 _ (inl refl) (either-number (eqb (blockCount s (e .anode)) (blocksFor (e .size))) 12 15 0 15 (inl refl) (inr (omega arith, omega arith))),
 )
 
-told-at : (t : Bool) (s : Anodes) (es : List Entered) → Each Told (cond t (map (itemOf s) es) (broken ∷ []))
-told-at true s es = each-given Told (itemOf s) (told-entry s) es
-told-at false s es = ((inr (omega arith, omega arith), inl refl), tt)
-
 told-items : (img : List ℕ) (s : Anodes) (d : Dir) → Each Told (itemsOf img s d)
-unfolding itemsOf itemsBy itemsAt
-told-items img s d = each-gather Told (itemsAt (entriesIn img) (isBlockOf img) s d) (λ a. told-at (eqb (s .count a) 1 && isBlockOf img d (s .block a)) s (entriesIn img (s .block a))) (chainOf (s .next) limit (d .head))
+unfolding itemsOf itemsBy
+told-items img s d =
+    each-gather Told (itemsAt (entriesIn img) (isBlockOf img) s d)
+    (each-item Told (itemOf s) (told-entry s) (inr (omega arith, omega arith), inl refl) (entriesIn img) (isBlockOf img) s d) (chainOf (s .next) limit (d .head))
 
 fault-told : (i : Item) (named : List ℕ) → Told i → NoneOr 12 15 (faultOf i named)
 unfolding faultOf

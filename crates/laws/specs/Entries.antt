@@ -14,7 +14,7 @@ use Rattle.directory.specs.Entries.{isDir, walkedAt}
 use Rattle.rules.specs.Counting.{sumList, times}
 use Rattle.rules.specs.Anodes.{limit, Anodes}
 use Rattle.rules.specs.Chains.{chainOf, heads, blockCount}
-use Rattle.rules.specs.Walk.{Dir, Entered, entriesFrom, Item, blocksFor, wrongAnode, wrongFileSize, itemOf, broken, itemsAt, itemsBy}
+use Rattle.rules.specs.Walk.{Dir, Entered, entriesFrom, Item, blocksFor, wrongAnode, wrongFileSize, itemOf, broken, itemsFor, itemsAt, itemsBy}
 use Rattle.laws.specs.Tests.{cond-cases, T-true, both}
 use Rattle.laws.specs.Bags.{list-one, list-mono, list-congr, list-congr-where, list-zero, gather-sum, map-sum, none-at, kept-sum-where}
 use Rattle.laws.specs.Space.{Alike}
@@ -138,7 +138,7 @@ module _ (entries : ℕ → List Entered) (marked : Dir → ℕ → Bool) (s : A
 
   -- or is broken
   pub itemsAt-cases : (a : ℕ) → Gives a ⊎ (itemsAt entries marked s d a ≡ broken ∷ [])
-  unfolding itemsAt
+  unfolding itemsFor
   itemsAt-cases a = elim (cond-cases (eqb (s .count a) 1 && marked d (s .block a)) (map (itemOf s) (entries (s .block a))) (broken ∷ [])) [
     | inl q ↦ (let b = both (eqb (s .count a) 1) (marked d (s .block a)) (q .0) in inl (eqb→eq (s .count a) 1 (b .0), b .1, q .1))
     | inr q ↦ inr (q .1)
@@ -154,7 +154,7 @@ module _ (entries : ℕ → List Entered) (marked : Dir → ℕ → Bool) (s : A
       (none-at (λ a. sumList wrong (itemsAt entries marked s d a)) (chainOf (s .next) limit (d .head)) (sym (items-sum wrong) ∙ z) a p)
 
   pub itemsAt-whole : (a : ℕ) → s .count a ≡ 1 → T (marked d (s .block a)) → itemsAt entries marked s d a ≡ map (itemOf s) (entries (s .block a))
-  unfolding itemsAt
+  unfolding itemsFor
   itemsAt-whole a c m = rw (eq-eqb (s .count a) 1 c, T-true (marked d (s .block a)) m)
 
   -- a weight that is at most another at every entry

@@ -1,12 +1,24 @@
 -- What the items of a directory name, and how much is wrong with them.
 use Prim.Native.Nat.{ℕ, _+_, _≤_}
 use mathlib.Core.Path.{_≡_, _∙_}
-use mathlib.Core.Bool.{Bool, true, false, cond}
+use mathlib.Core.Bool.{Bool, true, false, cond, _&&_}
 use mathlib.Core.List.{List, [], _∷_, map}
 use native.Mathlib.Omega.{arith}
+use lib.Dec.{eqb}
 use Rattle.rules.specs.Counting.{oneAt, sumList, times, gather}
-use Rattle.rules.specs.Walk.{Dir, Item, subDirs}
+use Rattle.rules.specs.Anodes.{Anodes}
+use Rattle.rules.specs.Walk.{Dir, Entered, Item, broken, itemsFor, subDirs}
 use Rattle.laws.specs.Bags.{list-nil, list-one, list-mono, list-congr, gather-sum, map-sum}
+use Rattle.laws.specs.Each.{Each, each-given}
+
+-- what holds of the item of each entry, and of a broken one, holds of all that an anode gives
+pub each-item : (P : Item → Type 0) (item : Entered → Item) → ((e : Entered) → P (item e)) → P broken → (entries : ℕ → List Entered) (marked : Dir → ℕ → Bool) (s : Anodes) (d : Dir) (a : ℕ) →
+    Each P (itemsFor item entries marked s d a)
+unfolding itemsFor
+each-item P item h b entries marked s d a = go (eqb (s .count a) 1 && marked d (s .block a)) where
+  go : (t : Bool) → Each P (cond t (map item (entries (s .block a))) (broken ∷ []))
+  go true = each-given P item h (entries (s .block a))
+  go false = (b, tt)
 
 -- the numbers of the faults of an item: what is tried before 14, and after it
 unfoldable pub wrong : Item → ℕ

@@ -18,7 +18,7 @@ use Rattle.rules.specs.Chains.{systemOwns, blocksOf}
 use Rattle.rules.specs.Walk.{entriesIn, isBlockOf, reachedDirs}
 use Rattle.rules.specs.Accepted.{diskSize, lastReserved, wrongSize}
 use Rattle.rules.specs.Space.{refused, planned, rewritten, after, repeated, takeBlock, takeMany}
-use Rattle.rules.specs.Changes.{firstRoom, noRoom, neededBlock, entryPlace, NewEntry, madeIn, madeWith, made}
+use Rattle.rules.specs.Changes.{firstRoom, noRoom, neededBlock, entryPlace, NewEntry, left, leftBy, madeImage, madeWith, made}
 use Rattle.laws.specs.Bags.{times-nil}
 use Rattle.laws.specs.Acceptance.{passed-of}
 use Rattle.laws.specs.Heads.{Head}
@@ -113,7 +113,7 @@ module _ {img : List ℕ} {h f : ℕ} (x : Fresh img (diskSize img) limit h f) w
   -- s the anodes that the steps start from
   module _ (dir : Bool) (len : ℕ) (room : Option ℕ) (found : room ≡ firstRoom img len (blocksOf (anodesOf img) h)) (s : Anodes) (begun : s ≡ rewritten (anodesOf img) f 0 65535) where
     made-is : (new : NewEntry) → new .dir ≡ dir → entryLength (length (new .name)) (length (new .comment)) ≡ len →
-        made img (anodesOf img) h new ≡ madeIn (neededBlock img dir s f) img (anodesOf img) h new f room
+        made img (anodesOf img) h new ≡ leftBy (neededBlock img dir s f) img (λ r ys. leftBy (neededBlock img (noRoom room) r h) img (λ t zs. left 0 (madeImage img (anodesOf img) h new f room ys t zs)))
     unfolding made madeWith
     made-is new d n = rw (x .lowest, lt-ltb f limit (x .below), begun, found, sym d, sym n)
 

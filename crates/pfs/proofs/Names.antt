@@ -13,7 +13,7 @@ use Rattle.rules.specs.Anodes.{anodesOf}
 use Rattle.rules.specs.Walk.{Entered}
 use Rattle.rules.specs.Accepted.{checkAnswer}
 use Rattle.rules.specs.Lookup.{entriesOf, nameAt, nth}
-use Rattle.rules.specs.Calls.{Outcome, outcomeOf, settled, fieldList, fieldsAt, fieldsListed, nameListed, listAnswer, listAnswered, listOutcome}
+use Rattle.rules.specs.Calls.{Outcome, outcomeOf, settled, doneOr, fieldList, fieldsAt, fieldsListed, nameListed, listAnswer, listAnswered, listOutcome}
 use Rattle.laws.specs.Acceptance.{firstOf-zero}
 use Rattle.changes.specs.Reached.{entry-facts, nth-member}
 use Rattle.changes.specs.Answers.{list-reached}
@@ -39,7 +39,7 @@ module _ (img b₀ a₀ : List ℕ) (h n : ℕ) where
       named-part img (x .place) (omega (arith, w .exact, w .room))
 
   of-answer : (k : ℕ) → k ≡ listAnswered img b₀ a₀ h n → (o : Option Entered) → nth (entriesOf img (anodesOf img) h) n ≡ o → nameListed k img o ≡ nameGiven img (fieldsListed k img o)
-  unfolding nameGiven listAnswered
+  unfolding nameGiven listAnswered doneOr
   of-answer (suc k) e o is = refl
   of-answer zero e none is = refl
   of-answer zero e (some x) is =

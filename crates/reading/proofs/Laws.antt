@@ -10,13 +10,12 @@ use Rattle.rules.specs.Anodes.{Anodes, limit, anodesOf}
 use Rattle.rules.specs.Walk.{Entered, blocksFor}
 use Rattle.rules.specs.Accepted.{diskSize}
 use Rattle.rules.specs.Lookup.{noDirectory, entriesOf, bytesOf, contents}
-use Rattle.rules.specs.Calls.{bytesRead, fieldsListed, nameListed}
+use Rattle.rules.specs.Calls.{doneOr, bytesRead}
 use Rattle.laws.specs.Acceptance.{passed-of, size-bounds}
 use Rattle.changes.specs.Members.{Member}
 use Rattle.changes.specs.Reached.{entry-facts}
 use Rattle.changes.specs.Read.{bytes-long}
 use Rattle.find.specs.Open.{Open}
-use Rattle.find.proofs.Laws.{some-cases}
 
 -- a part within the first bytes of a list
 pub take-within : {X : Type 0} (size offset len : ℕ) (l : List X) → offset + len ≤ size → take len (drop offset (take size l)) ≡ take len (drop offset l)
@@ -39,24 +38,10 @@ module _ {img counts firsts nexts queue parents heads : List ℕ} {dirs : ℕ} (
   unfolding blocksFor
   file-long f = omega (arith, bytes-long img (diskSize img) limit (o .loaded .accepted) h reached e member f)
 
--- ---- a refused call
-
-module _ (img : List ℕ) (o : Option Entered) where
-  -- a refused read leaves the buffer
-  pub bytes-refused : (k : ℕ) → 1 ≤ k → (s : Anodes) (offset : ℕ) (out : List ℕ) → bytesRead k img s o offset out ≡ out
-  bytes-refused k l s offset out = some-cases (λ n. bytesRead n img s o offset out ≡ out) (λ n. refl) k l
-
-  -- a refused list gives zero fields and an empty name
-  pub fields-refused : (k : ℕ) → 1 ≤ k → fieldsListed k img o ≡ replicate 11 0
-  fields-refused = some-cases (λ n. fieldsListed n img o ≡ replicate 11 0) (λ n. refl)
-
-  pub name-refused : (k : ℕ) → 1 ≤ k → nameListed k img o ≡ []
-  name-refused = some-cases (λ n. nameListed n img o ≡ []) (λ n. refl)
-
 -- ---- a done read
 
 -- fills the buffer with the file's bytes
 pub bytes-done : (img : List ℕ) (s : Anodes) (o : Option Entered) (x : Entered) → o ≡ some x → (offset : ℕ) (out new : List ℕ) → offset + length out ≤ x .size →
     new ≡ take (length out) (drop offset (bytesOf img s (x .anode))) → new ≡ bytesRead 0 img s o offset out
-unfolding contents
+unfolding doneOr contents
 bytes-done img s o x is offset out new l e = rw is (e ∙ sym (take-within (x .size) offset (length out) (bytesOf img s (x .anode)) l))

@@ -3,7 +3,7 @@
 use Prim.Native.Nat.{ℕ, zero, suc, _+_, _/_, _%_}
 use mathlib.Core.Bool.{Bool, cond, not, _||_}
 use mathlib.Core.List.{List, [], _∷_}
-use mathlib.Core.Option.{Option, none, some}
+use mathlib.Core.Option.{Option}
 use lib.ListN.{length, getD, take, drop, replicate}
 use lib.Dec.{eqb}
 use Rattle.disk.specs.Blocks.{blockOf}
@@ -16,9 +16,9 @@ use Rattle.rules.specs.Chains.{blockCount}
 use Rattle.rules.specs.Walk.{Entered, reached, reachedDirs}
 use Rattle.rules.specs.Accepted.{diskSize, checkAnswer}
 use Rattle.rules.specs.Tables.{blocksLeft, anodesLeft}
-use Rattle.rules.specs.Lookup.{noDirectory, entriesOf, nameAt, entryNamed, nth, isThere, namesDir, fullDir, pastEnd, contents}
+use Rattle.rules.specs.Lookup.{noDirectory, entriesOf, nameAt, entryNamed, nth, ofEntry, isThere, namesDir, fullDir, pastEnd, contents}
 use Rattle.rules.specs.Format.{formatAnswer, formatted}
-use Rattle.rules.specs.Changes.{Left, left, NewEntry, resized, made, written, removed}
+use Rattle.rules.specs.Changes.{Left, left, resized, made, written, removed}
 
 -- all that a call settles: its answer, the image, both tables, the output and, of list, the name
 pub record Outcome : Type 0 where
@@ -38,6 +38,19 @@ unfoldable pub settled : Left → List ℕ → List ℕ → List ℕ → List �
 settled l blocks anodes output name =
     outcomeOf (l .answer) (l .image) (blocksLeft (l .answer) (l .image) blocks) (anodesLeft (l .answer) (l .image) anodes) output name
 
+-- x of a done call, y of one that its number refuses
+unfoldable pub doneOr {ℓ} : {X : Type ℓ} → ℕ → X → X → X
+doneOr zero x y = x
+doneOr (suc n) x y = y
+
+-- a refused change leaves the image, a done one what it makes
+abbrev pub leftAfter : ℕ → List ℕ → Left → Left
+leftAfter n img l = doneOr n l (left n img)
+
+-- f of the entry that a done call found, x after a refusal
+abbrev pub foundOr : ℕ → Option Entered → (Entered → List ℕ) → List ℕ → List ℕ
+foundOr n e f x = doneOr n (ofEntry e f x) x
+
 -- Check
 unfoldable pub checkOutcome : List ℕ → List ℕ → List ℕ → Outcome
 checkOutcome img blocks anodes = settled (left (checkAnswer img (length blocks) (length anodes)) img) blocks anodes [] []
@@ -54,25 +67,16 @@ dirCount img s = length (reachedDirs img s)
 unfoldable pub summaryOf : List ℕ → Anodes → List ℕ
 summaryOf img s = diskSize img ∷ blockCount s 1 ∷ fileCount img s ∷ dirCount img s ∷ []
 
--- the four numbers, or zeros after a refusal
-unfoldable pub summaryAfter : ℕ → List ℕ → List ℕ
-summaryAfter zero img = summaryOf img (anodesOf img)
-summaryAfter (suc n) img = replicate 4 0
-
 -- Summary: the check's outcome with the four numbers as output
 unfoldable pub summaryOutcome : List ℕ → List ℕ → List ℕ → Outcome
 summaryOutcome img blocks anodes =
-    settled (left (checkAnswer img (length blocks) (length anodes)) img) blocks anodes (summaryAfter (checkAnswer img (length blocks) (length anodes)) img) []
+    settled (left (checkAnswer img (length blocks) (length anodes)) img) blocks anodes
+    (doneOr (checkAnswer img (length blocks) (length anodes)) (summaryOf img (anodesOf img)) (replicate 4 0)) []
 
--- Format is lent no tables
-abbrev pub formatLeft : ℕ → List ℕ → List ℕ → Left
-formatLeft zero img new = left 0 new
-formatLeft (suc n) img new = left (suc n) img
-
--- Format: the answer, and the image that is left
+-- Format, which is lent no tables: the answer, and the image that is left
 unfoldable pub formatOutcome : List ℕ → ℕ → ℕ → List ℕ → ℕ → ℕ → ℕ → ℕ → Left
 formatOutcome img last k name day minute tick protection =
-    formatLeft (formatAnswer img last k name) img (formatted img last k name day minute tick protection)
+    leftAfter (formatAnswer img last k name) img (left 0 (formatted img last k name day minute tick protection))
 
 -- every call but format runs the whole check first; n is what its own refusals come to
 abbrev pub checkedFirst : List ℕ → List ℕ → List ℕ → ℕ → ℕ
@@ -122,17 +126,13 @@ listAnswer img s h n =
     else 22 if not (isThere (nth (entriesOf img s h) n))
     else 0
 
--- a number that is not 0 refuses; otherwise the change of the named entry is made (22, were there none)
+-- a change of the named entry (22, were there none)
 abbrev pub changeNamed : ℕ → List ℕ → Option Entered → (Entered → Left) → Left
-changeNamed (suc n) img e f = left (suc n) img
-changeNamed zero img none f = left 22 img
-changeNamed zero img (some e) f = f e
+changeNamed n img e f = leftAfter n img (ofEntry e f (left 22 img))
 
 -- Read: a done read fills the output buffer, whose length is the length asked; a refused one leaves it unchanged
 abbrev pub bytesRead : ℕ → List ℕ → Anodes → Option Entered → ℕ → List ℕ → List ℕ
-bytesRead (suc n) img s e offset out = out
-bytesRead zero img s none offset out = out
-bytesRead zero img s (some e) offset out = take (length out) (drop offset (contents img s e))
+bytesRead n img s e offset out = foundOr n e (λ e. take (length out) (drop offset (contents img s e))) out
 
 -- the check first, then 21, 22, 24, 26; write answers the same
 unfoldable pub readAnswer : List ℕ → List ℕ → List ℕ → ℕ → List ℕ → ℕ → ℕ → ℕ
@@ -157,15 +157,11 @@ fieldsAt img place =
 
 -- the fields of the entry that was found; zeros after a refusal
 abbrev pub fieldsListed : ℕ → List ℕ → Option Entered → List ℕ
-fieldsListed (suc n) img e = replicate 11 0
-fieldsListed zero img none = replicate 11 0
-fieldsListed zero img (some e) = fieldsAt img (e .place)
+fieldsListed n img e = foundOr n e (λ e. fieldsAt img (e .place)) (replicate 11 0)
 
 -- its name; empty after a refusal
 abbrev pub nameListed : ℕ → List ℕ → Option Entered → List ℕ
-nameListed (suc n) img e = []
-nameListed zero img none = []
-nameListed zero img (some e) = nameAt img (e .place)
+nameListed n img e = foundOr n e (λ e. nameAt img (e .place)) []
 
 -- the check first, then 21, 22
 unfoldable pub listAnswered : List ℕ → List ℕ → List ℕ → ℕ → ℕ → ℕ
@@ -178,17 +174,12 @@ listOutcome img blocks anodes h n =
     (fieldsListed (listAnswered img blocks anodes h n) img (nth (entriesOf img (anodesOf img) h) n))
     (nameListed (listAnswered img blocks anodes h n) img (nth (entriesOf img (anodesOf img) h) n))
 
--- Make
-abbrev pub madeAfter : ℕ → List ℕ → ℕ → NewEntry → Left
-madeAfter zero img h new = made img (anodesOf img) h new
-madeAfter (suc n) img h new = left (suc n) img
-
 -- Make: the check first, then 20, 21, 23, then the steps
 unfoldable pub makeOutcome : List ℕ → List ℕ → List ℕ → ℕ → ℕ → List ℕ → List ℕ → ℕ → ℕ → ℕ → ℕ → Outcome
 makeOutcome img blocks anodes h type name comment day minute tick protection =
     settled
-    (madeAfter (checkedFirst img blocks anodes (makeAnswer img (anodesOf img) h type name comment)) img h
-    (record { dir = eqb type 2; name = name; comment = comment; day = day; minute = minute; tick = tick; protection = protection }))
+    (leftAfter (checkedFirst img blocks anodes (makeAnswer img (anodesOf img) h type name comment)) img
+    (made img (anodesOf img) h (record { dir = eqb type 2; name = name; comment = comment; day = day; minute = minute; tick = tick; protection = protection })))
     blocks anodes [] []
 
 -- Resize

@@ -28,10 +28,10 @@ pub record Left : Type 0 where
 abbrev pub left : ℕ → List ℕ → Left
 left answer image = record { answer = answer; image = image }
 
--- refused if any step is; a done plan leaves the image that f makes of its anodes and blocks
-abbrev pub leftBy : Plan → List ℕ → (Anodes → List ℕ → List ℕ) → Left
+-- refused if any step is, and then the image stays; a done plan leaves what f makes of its anodes and blocks
+abbrev pub leftBy : Plan → List ℕ → (Anodes → List ℕ → Left) → Left
 leftBy (refused n) img f = left n img
-leftBy (planned t ys) img f = left 0 (f t ys)
+leftBy (planned t ys) img f = f t ys
 
 -- the image with one block of it changed by f
 unfoldable pub inBlock : List ℕ → ℕ → (List ℕ → List ℕ) → List ℕ
@@ -72,7 +72,7 @@ resizedImage img s e new t ys = withSize (zeroTail (zeroTaken (withAnodes img t)
 
 -- Resize: refused by its first step that fails, else that image
 unfoldable pub resized : List ℕ → Anodes → Entered → ℕ → Left
-resized img s e new = leftBy (resizePlan img s (e .anode) (blocksFor new)) img (resizedImage img s e new)
+resized img s e new = leftBy (resizePlan img s (e .anode) (blocksFor new)) img (λ t ys. left 0 (resizedImage img s e new t ys))
 
 -- ---- Make
 
@@ -147,18 +147,17 @@ madeImage img s h new f room ys t zs =
     (entryPlace room zs / 512)
     (λ b. putEntry b (entryPlace room zs % 512) (entryOf new f) (new .name) (new .comment))
 
--- the parent's step, after the new directory's
-abbrev pub madeIn : Plan → List ℕ → Anodes → ℕ → NewEntry → ℕ → Option ℕ → Left
-madeIn (refused n) img s h new f room = left n img
-madeIn (planned t ys) img s h new f room = leftBy (neededBlock img (noRoom room) t h) img (madeImage img s h new f room ys)
+-- the steps, with head f, (0, 65535, 0), and the room that was found: the new directory's block, then the parent's
+abbrev pub madeIn : List ℕ → Anodes → ℕ → NewEntry → ℕ → Option ℕ → Left
+madeIn img s h new f room =
+    leftBy (neededBlock img (new .dir) (rewritten s f 0 65535) f) img (λ r ys.
+    leftBy (neededBlock img (noRoom room) r h) img (λ t zs. left 0 (madeImage img s h new f room ys t zs)))
 
--- the lowest free anode from 6 up as head, (0, 65535, 0); 28 if none
+-- the entry goes to the first block of the parent with room
 unfoldable pub madeWith : List ℕ → Anodes → ℕ → NewEntry → ℕ → Left
-madeWith img s h new f =
-    madeIn (neededBlock img (new .dir) (rewritten s f 0 65535) f) img s h new f
-    (firstRoom img (entryLength (length (new .name)) (length (new .comment))) (blocksOf s h))
+madeWith img s h new f = madeIn img s h new f (firstRoom img (entryLength (length (new .name)) (length (new .comment))) (blocksOf s h))
 
--- Make: 28 if there is no free anode, else its steps with the lowest one
+-- Make: 28 if there is no free anode, else its steps with the lowest one as head
 unfoldable pub made : List ℕ → Anodes → ℕ → NewEntry → Left
 made img s h new =
     cond (ltb (Space.lowestFree limit (exists img) (lastReserved img) s) limit)
@@ -193,4 +192,4 @@ removedImage img e t ys = withoutEntry (withAnodes img (Space.dropped limit t (e
 -- Remove: refused by its first step that fails, else that image
 unfoldable pub removed : List ℕ → Anodes → Entered → Left
 removed img s e =
-    leftBy (Space.giveMany limit (exists img) (lastReserved img) (blockCount s (e .anode)) s (e .anode)) img (removedImage img e)
+    leftBy (Space.giveMany limit (exists img) (lastReserved img) (blockCount s (e .anode)) s (e .anode)) img (λ t ys. left 0 (removedImage img e t ys))

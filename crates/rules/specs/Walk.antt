@@ -85,10 +85,14 @@ itemOf s e = record {
 abbrev pub broken : Item
 broken = record { early = 12; late = 0; dir = false; anode = 0; place = 0 }
 
--- what anode a of directory d gives, where `entries` are those of a block and `marked` says whether a block is a directory's
-unfoldable pub itemsAt : (ℕ → List Entered) → (Dir → ℕ → Bool) → Anodes → Dir → ℕ → List Item
-itemsAt entries marked s d a =
-    cond (eqb (s .count a) 1 && marked d (s .block a)) (map (itemOf s) (entries (s .block a))) (broken ∷ [])
+-- what anode a of directory d gives, where `entries` are those of a block, `marked` says whether a block is a directory's and `item` looks at an entry
+unfoldable pub itemsFor : (Entered → Item) → (ℕ → List Entered) → (Dir → ℕ → Bool) → Anodes → Dir → ℕ → List Item
+itemsFor item entries marked s d a =
+    cond (eqb (s .count a) 1 && marked d (s .block a)) (map item (entries (s .block a))) (broken ∷ [])
+
+-- what anode a of directory d gives under the eyes of the walk
+abbrev pub itemsAt : (ℕ → List Entered) → (Dir → ℕ → Bool) → Anodes → Dir → ℕ → List Item
+itemsAt entries marked s d a = itemsFor (itemOf s) entries marked s d a
 
 -- what directory d gives, anode by anode
 unfoldable pub itemsBy : (ℕ → List Entered) → (Dir → ℕ → Bool) → Anodes → Dir → List Item

@@ -18,10 +18,10 @@ use Rattle.directory.specs.declared.Walked.the-variants.{Found, Fault}
 use Rattle.directory.specs.Entries.{walkedAt}
 use Rattle.rules.specs.Counting.{sumList}
 use Rattle.rules.specs.Anodes.{Anodes, limit}
-use Rattle.rules.specs.Walk.{Dir, Entered, Item, entriesFrom, entriesIn, isBlockOf, blocksFor}
+use Rattle.rules.specs.Walk.{Dir, Entered, Item, entriesFrom, entriesIn, isBlockOf, itemsFor, blocksFor}
 use Rattle.laws.specs.Entries.{enteredAt, entries-more}
 use Rattle.laws.specs.Chains.{chain-none, chain-zero, chain-step, gathered-step}
-use Rattle.tree.specs.Steps.{dirMade, sumFrom, headAt, itemIn, Progress, stopped, going, refuse, enterItem, onward, enterAll, itemsFor, itemsAlong, halted, ended, afterDir, runFrom, dirsFrom, queueOf, marked}
+use Rattle.tree.specs.Steps.{dirMade, sumFrom, headAt, itemIn, Progress, stopped, going, refuse, enterItem, onward, enterAll, itemsFrom, itemsAlong, halted, ended, afterDir, runFrom, dirsFrom, queueOf, marked}
 
 -- ---- the sum along a chain
 
@@ -198,29 +198,29 @@ enter-append head (i ∷ is) js queue marks files =
     (λ q m n. enter-append head is js q m n)
 
 module _ (item : Entered → Item) (img : List ℕ) (s : Anodes) (d : Dir) (a head : ℕ) (queue : List Dir) (marks : List ℕ) (files : ℕ) where
-  pub anode-count : (s .count a ≡ 1 → ⊥) → enterAll head (itemsFor item img s d a) queue marks files ≡ stopped 12
+  pub anode-count : (s .count a ≡ 1 → ⊥) → enterAll head (itemsFrom item img s d a) queue marks files ≡ stopped 12
   unfolding itemsFor enterAll enterItem
   anode-count n = rw (ne-eqb (s .count a) 1 n)
 
-  pub anode-mark : s .count a ≡ 1 → isBlockOf img d (s .block a) ≡ false → enterAll head (itemsFor item img s d a) queue marks files ≡ stopped 12
+  pub anode-mark : s .count a ≡ 1 → isBlockOf img d (s .block a) ≡ false → enterAll head (itemsFrom item img s d a) queue marks files ≡ stopped 12
   unfolding itemsFor enterAll enterItem
   anode-mark n h = rw (eq-eqb (s .count a) 1 n, h)
 
   pub anode-block : s .count a ≡ 1 → isBlockOf img d (s .block a) ≡ true
-      → enterAll head (itemsFor item img s d a) queue marks files ≡ enterAll head (map item (entriesIn img (s .block a))) queue marks files
+      → enterAll head (itemsFrom item img s d a) queue marks files ≡ enterAll head (map item (entriesIn img (s .block a))) queue marks files
   unfolding itemsFor
   anode-block n h = rw (eq-eqb (s .count a) 1 n, h)
 
 module _ (item : Entered → Item) (img : List ℕ) (s : Anodes) (d : Dir) (a head : ℕ) (queue : List Dir) (marks : List ℕ) (files k m : ℕ) (fuel : k ≡ m + 1) (some : a ≡ 0 → ⊥) where
   -- the items of anode a, and those behind it
-  along-items : enterAll head (itemsAlong item img s d k a) queue marks files ≡ onward (enterAll head (itemsFor item img s d a) queue marks files) (enterAll head (itemsAlong item img s d m (s .next a)))
-  along-items = rw (gathered-step (itemsFor item img s d) (s .next) k m a fuel some) (enter-append head (itemsFor item img s d a) (itemsAlong item img s d m (s .next a)) queue marks files)
+  along-items : enterAll head (itemsAlong item img s d k a) queue marks files ≡ onward (enterAll head (itemsFrom item img s d a) queue marks files) (enterAll head (itemsAlong item img s d m (s .next a)))
+  along-items = rw (gathered-step (itemsFrom item img s d) (s .next) k m a fuel some) (enter-append head (itemsFrom item img s d a) (itemsAlong item img s d m (s .next a)) queue marks files)
 
-  pub along-stop : (n : ℕ) → enterAll head (itemsFor item img s d a) queue marks files ≡ stopped n
+  pub along-stop : (n : ℕ) → enterAll head (itemsFrom item img s d a) queue marks files ≡ stopped n
       → enterAll head (itemsAlong item img s d k a) queue marks files ≡ stopped n
   along-stop n h = along-items ∙ rw h
 
-  pub along-step : (q : List Dir) (l : List ℕ) (f : ℕ) → enterAll head (itemsFor item img s d a) queue marks files ≡ going q l f
+  pub along-step : (q : List Dir) (l : List ℕ) (f : ℕ) → enterAll head (itemsFrom item img s d a) queue marks files ≡ going q l f
       → enterAll head (itemsAlong item img s d k a) queue marks files ≡ enterAll head (itemsAlong item img s d m (s .next a)) q l f
   along-step q l f h = along-items ∙ rw h
 

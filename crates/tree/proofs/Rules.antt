@@ -14,19 +14,19 @@ use Rattle.disk.specs.Refusals.{numberOf}
 use Rattle.rules.specs.Counting.{_if_else_, firstOf, anyBelow, sumList, times, gather}
 use Rattle.rules.specs.Anodes.{Anodes, limit}
 use Rattle.rules.specs.Chains.{chainOf, heads, blockCount}
-use Rattle.rules.specs.Walk.{Dir, root, Entered, entriesIn, isBlockOf, Item, wrongAnode, wrongFileSize, itemOf, broken, itemsAt, itemsBy, itemsOf, Walk, fault, done, walk, walkOf, faultIn, reachedDirs, reached, naming}
+use Rattle.rules.specs.Walk.{Dir, root, Entered, entriesIn, isBlockOf, Item, wrongAnode, wrongFileSize, itemOf, itemsBy, itemsOf, Walk, fault, done, walk, walkOf, faultIn, reachedDirs, reached, naming}
 use Rattle.rules.specs.Accepted.{unnamed, unnamedChain, treeFault}
 use Rattle.rules.specs.Calls.{fileCount, dirCount}
 use Rattle.counting.specs.Laws.{anyBelow-same}
 use Rattle.laws.specs.Bags.{times-nil}
 use Rattle.laws.specs.Chains.{HeadTable}
-use Rattle.laws.specs.Each.{Each, each-given, each-gather}
-use Rattle.laws.specs.Items.{names-sum}
+use Rattle.laws.specs.Each.{Each, each-gather}
+use Rattle.laws.specs.Items.{each-item, names-sum}
 use Rattle.laws.specs.Acceptance.{firstOf-some}
 use Rattle.anodes.specs.Loaded.{anodesFrom}
 use Rattle.tree.specs.declared.TreeRead.{TreeRead}
 use Rattle.tree.specs.declared.TreeRead.the-variants.{Counted, Fault}
-use Rattle.tree.specs.Steps.{sumFrom, headAt, itemIn, itemsFor, itemsWith, halted, ended, runFrom, conclusion, dirsFrom, queueOf, unnamedAt, marked}
+use Rattle.tree.specs.Steps.{sumFrom, headAt, itemIn, itemsFrom, itemsWith, halted, ended, runFrom, conclusion, dirsFrom, queueOf, unnamedAt, marked}
 use Rattle.tree.proofs.Laws.{head-range, marked-more, length-queue}
 use Rattle.tree.proofs.Matching.{namings, filesIn, Agree, agree-same, InRange, WalkMatch, walk-match}
 
@@ -45,16 +45,11 @@ module _ (counts nexts heads : List ℕ) where
   range-item e = early-range (e .broken) (e .anode)
 
   module _ (img : List ℕ) (s : Anodes) where
-    range-for : (d : Dir) (a : ℕ) → Each InRange (itemsFor (itemIn counts nexts heads) img s d a)
-    unfolding itemsFor
-    range-for d a = go (eqb (s .count a) 1 && isBlockOf img d (s .block a)) where
-      go : (b : Bool) → Each InRange (cond b (map (itemIn counts nexts heads) (entriesIn img (s .block a))) (broken ∷ []))
-      go true = each-given InRange (itemIn counts nexts heads) range-item (entriesIn img (s .block a))
-      go false = (λ e. absurd (omega arith), tt)
-
     range-items : (d : Dir) → Each InRange (itemsWith (itemIn counts nexts heads) img s d)
     unfolding itemsWith
-    range-items d = each-gather InRange (itemsFor (itemIn counts nexts heads) img s d) (range-for d) (chainOf (s .next) limit (d .head))
+    range-items d =
+        each-gather InRange (itemsFrom (itemIn counts nexts heads) img s d)
+        (each-item InRange (itemIn counts nexts heads) range-item (λ e. absurd (omega arith)) (entriesIn img) (isBlockOf img) s d) (chainOf (s .next) limit (d .head))
 
 -- an anode without a block heads no chain
 heads-none : (next block : ℕ → ℕ) (a : ℕ) → block a ≡ 0 → heads limit next block a ≡ 0
@@ -102,7 +97,7 @@ module _ (counts nexts t : List ℕ) (s : Anodes) (table : HeadTable t s) (past 
   item-same e = rw (head-same t s table past (e .anode), sums (e .anode))
 
   items-same : (img : List ℕ) → itemsWith (itemIn counts nexts t) img s ≡ itemsOf img s
-  unfolding itemsWith itemsFor itemsOf itemsBy itemsAt
+  unfolding itemsWith itemsOf itemsBy
   items-same img = ap (λ (item : Entered → Item). itemsWith item img s) (fun-ext item-same)
 
   -- ---- what the walk answers

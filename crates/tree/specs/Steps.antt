@@ -2,14 +2,14 @@
 use Prim.Native.Nat.{ℕ, zero, suc, _+_, _≤_}
 use mathlib.Core.Path.{_≡_}
 use mathlib.Core.Bool.{Bool, false, cond, _&&_}
-use mathlib.Core.List.{List, [], _∷_, _++_, map}
+use mathlib.Core.List.{List, [], _∷_, _++_}
 use lib.ListN.{length, getD, set}
 use lib.Dec.{eqb, leb, ltb}
 use Rattle.disk.specs.Refusals.{numberOf}
 use Rattle.rules.specs.Counting.{sumList, gather}
 use Rattle.rules.specs.Anodes.{Anodes, limit}
 use Rattle.rules.specs.Chains.{chainOf}
-use Rattle.rules.specs.Walk.{Dir, Entered, Item, entriesIn, isBlockOf, blocksFor, broken}
+use Rattle.rules.specs.Walk.{Dir, Entered, Item, entriesIn, isBlockOf, blocksFor, itemsFor}
 use Rattle.tree.specs.declared.Tally.{Tally}
 use Rattle.tree.specs.declared.Step.{Step}
 use Rattle.tree.specs.declared.Step.the-variants.{Go, Fault}
@@ -68,14 +68,13 @@ unfoldable pub enterAll : ℕ → List Item → List Dir → List ℕ → ℕ �
 enterAll head [] queue marks files = going queue marks files
 enterAll head (i ∷ is) queue marks files = onward (enterItem head i queue marks files) (enterAll head is)
 
--- what anode a of directory d gives, where `item` looks at an entry
-unfoldable pub itemsFor : (Entered → Item) → List ℕ → Anodes → Dir → ℕ → List Item
-itemsFor item img s d a =
-    cond (eqb (s .count a) 1 && isBlockOf img d (s .block a)) (map item (entriesIn img (s .block a))) (broken ∷ [])
+-- what anode a of directory d of an image gives, where `item` looks at an entry
+abbrev pub itemsFrom : (Entered → Item) → List ℕ → Anodes → Dir → ℕ → List Item
+itemsFrom item img s d a = itemsFor item (entriesIn img) (isBlockOf img) s d a
 
 -- what the chain of at most k anodes from a on gives
 abbrev pub itemsAlong : (Entered → Item) → List ℕ → Anodes → Dir → ℕ → ℕ → List Item
-itemsAlong item img s d k a = gather (itemsFor item img s d) (chainOf (s .next) k a)
+itemsAlong item img s d k a = gather (itemsFrom item img s d) (chainOf (s .next) k a)
 
 -- what directory d gives
 unfoldable pub itemsWith : (Entered → Item) → List ℕ → Anodes → Dir → List Item

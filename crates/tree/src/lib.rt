@@ -10,7 +10,7 @@ ghost use Rattle.laws.specs.Chains.{HeadTable};
 ghost use Rattle.laws.specs.Entries.{enteredAt};
 ghost use Rattle.anodes.specs.Loaded.{anodesFrom};
 ghost use Rattle.tree.specs.Tree.{treeNumber, Counts, Queued};
-ghost use Rattle.tree.specs.Steps.{dirMade, sumFrom, headAt, itemIn, enterItem, itemsFor, itemsWith, queueOf, entering, Leaves, runFrom, conclusion, tallyMade, Room, unnamedAt};
+ghost use Rattle.tree.specs.Steps.{dirMade, sumFrom, headAt, itemIn, enterItem, itemsFrom, itemsWith, queueOf, entering, Leaves, runFrom, conclusion, tallyMade, Room, unnamedAt};
 use directory::Entry;
 use directory::Kind;
 use directory::Walked;
@@ -215,7 +215,7 @@ fn enter_anode(
     t: Tally,
 ) -> Step
     requires { ⌜ Room t (now marks) (now queue) (now parents) ⌝ }
-    ensures { λ r. ⌜ Leaves r (now (marks .exit)) (now (queue .exit)) (now (parents .exit)) (entering t (now (marks .entry)) (now (queue .entry)) (now (parents .entry)) (head .0) (itemsFor (itemIn (now (counts .entry)) (now (nexts .entry)) (now (heads .entry))) (now (image .entry)) (anodesFrom (now (counts .entry)) (now (firsts .entry)) (now (nexts .entry))) (dirMade (head .0) (parent .0)) a)) ⌝ }
+    ensures { λ r. ⌜ Leaves r (now (marks .exit)) (now (queue .exit)) (now (parents .exit)) (entering t (now (marks .entry)) (now (queue .entry)) (now (parents .entry)) (head .0) (itemsFrom (itemIn (now (counts .entry)) (now (nexts .entry)) (now (heads .entry))) (now (image .entry)) (anodesFrom (now (counts .entry)) (now (firsts .entry)) (now (nexts .entry))) (dirMade (head .0) (parent .0)) a)) ⌝ }
 {
     if entry(counts, a) != 1 {
         return Step::Fault(Refusal::DirectoryBlock);

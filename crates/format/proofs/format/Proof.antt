@@ -1,7 +1,7 @@
 -- `format` leaves what the rules say, refusals included.
 use mathlib.Core.Path.{sym, _∙_}
 use Rattle.rules.specs.Format.{formatAnswer}
-use Rattle.rules.specs.Calls.{formatOutcome}
+use Rattle.rules.specs.Calls.{formatOutcome, doneOr}
 use borrow.Author.Needs.{needs}
 use Rattle.format.proofs.format.Statement.{statement}
 use Rattle.format.proofs.format.Tie as tie
@@ -16,7 +16,7 @@ same-length : tie.Need-same-length
 same-length c = search needs
 
 returns : tie.Need-returns
-unfolding formatOutcome formatAnswer
+unfolding formatOutcome formatAnswer doneOr
 returns c = rw (sym (c .before .before .wrong-size .ensures) ∙ c .before .if1 .taken, c .number .ensures)
 
 wrong-format-requires : tie.Need-wrong-format-requires
@@ -29,7 +29,7 @@ same-length-2 : tie.Need-same-length-2
 same-length-2 c = search needs
 
 returns-2 : tie.Need-returns-2
-unfolding formatOutcome formatAnswer
+unfolding formatOutcome formatAnswer doneOr
 returns-2 c = rw (sym (c .before .before .before .before .before .wrong-size .ensures) ∙ c .before .before .before .before .if1 .left, sym (c .before .before .wrong-format .ensures) ∙ c .before .if2 .taken, c .number2 .ensures)
 
 make-requires : tie.Need-make-requires
@@ -39,7 +39,7 @@ same-length-3 : tie.Need-same-length-3
 same-length-3 c = search needs
 
 returns-3 : tie.Need-returns-3
-unfolding formatOutcome formatAnswer
+unfolding formatOutcome formatAnswer doneOr
 returns-3 c = rw (sym (c .before .before .before .before .before .before .before .before .wrong-size .ensures) ∙ c .before .before .before .before .before .before .before .if1 .left, sym (c .before .before .before .before .before .wrong-format .ensures) ∙ c .before .before .before .before .if2 .left, c .before .before .make .ensures)
 
 pub format-spec : {M : Type 1} → statement M

@@ -1,8 +1,9 @@
 use Rattle.changes.specs.Answers.{list-reached}
-use Rattle.find.proofs.Laws.{refused-some}
+use Rattle.rules.specs.Calls.{doneOr}
+use Rattle.find.proofs.Laws.{refused-some, not-done}
 use mathlib.Core.Path.{sym, _∙_}
 use Rattle.changes.specs.Reached.{nth-member}
-use Rattle.reading.proofs.Laws.{place-low, fields-refused, name-refused}
+use Rattle.reading.proofs.Laws.{place-low}
 use borrow.Author.Needs.{needs}
 use Rattle.reading.proofs.list_nth.Statement.{statement}
 use Rattle.reading.proofs.list_nth.Tie as tie
@@ -39,6 +40,7 @@ part-result-end : tie.Need-part-result-end
 part-result-end c = search needs
 
 returns : tie.Need-returns
+unfolding doneOr
 returns c =
     let f = rw (c .before .before .before .before .found .given .1) at (c .before .before .before .before .before .before .find-nth .ensures) in
     (sym (f .0), (rw (f .1) (c .before .put-fields .ensures), rw (f .1) (c .name-part .ensures)))
@@ -48,7 +50,7 @@ returns-2 c =
     let r = c .before .before .before .before .found2 .given in
     let n = c .before .before .number .ensures in
     let some = refused-some (r .0 .0) _ n in
-    (n ∙ sym (rw (r .1) at (c .before .before .before .before .before .before .find-nth .ensures)), (sym (fields-refused _ _ _ some), sym (name-refused _ _ _ some)))
+    (n ∙ sym (rw (r .1) at (c .before .before .before .before .before .before .find-nth .ensures)), (sym (not-done _ some _ _), sym (not-done _ some _ _)))
 
 pub list-nth-spec : {M : Type 1} → statement M
 list-nth-spec =

@@ -1,6 +1,6 @@
-use Rattle.reading.proofs.Laws.{file-long, bytes-refused, bytes-done}
+use Rattle.reading.proofs.Laws.{file-long, bytes-done}
 use Rattle.changes.specs.Answers.{span-found}
-use Rattle.find.proofs.Laws.{refused-some}
+use Rattle.find.proofs.Laws.{refused-some, not-done}
 use Rattle.changes.specs.Reached.{named-member}
 use native.Mathlib.Omega.{arith}
 use mathlib.Core.Path.{sym, _∙_}
@@ -24,7 +24,7 @@ returns : tie.Need-returns
 returns c =
     let r = c .before .before .found2 .given in
     let n = c .number .ensures in
-    (n ∙ sym (rw (r .1) at (c .before .before .before .before .find-span .ensures)), sym (bytes-refused _ _ _ (refused-some (r .0 .0) _ n) _ _ _))
+    (n ∙ sym (rw (r .1) at (c .before .before .before .before .find-span .ensures)), sym (not-done _ (refused-some (r .0 .0) _ n) _ _))
 
 copy-out-requires : tie.Need-copy-out-requires
 copy-out-requires c κs =
