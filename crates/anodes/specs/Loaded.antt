@@ -15,6 +15,10 @@ use Rattle.tables.specs.Held.{HeldBelow}
 unfoldable pub anodesFrom : List ℕ → List ℕ → List ℕ → Anodes
 anodesFrom c b n = record { count = λ a. getD c a 0; block = λ a. getD b a 0; next = λ a. getD n a 0 }
 
+-- three lists with a number for each anode
+abbrev pub AnodeTables : List ℕ → List ℕ → List ℕ → Type 0
+AnodeTables c b n = (length c ≡ limit) × (length b ≡ limit) × (length n ≡ limit)
+
 -- an anode as the rules see it: a free one is (0, 0, 0)
 unfoldable pub asSeen : Anode → Anode
 asSeen x = cond (eqb (x .block .0) 0) (anodeMade 0 0 0) x
@@ -29,6 +33,4 @@ pub record LoadedBelow (s : Anodes) (c b n : List ℕ) (k : ℕ) : Type 0 where
 pub record Loaded (img counts firsts nexts : List ℕ) : Type 0 where
   pub accepted : checkAnswer img (diskSize img) limit ≡ 0
   pub is-loaded : anodesFrom counts firsts nexts ≡ anodesOf img
-  pub counts-long : length counts ≡ limit
-  pub firsts-long : length firsts ≡ limit
-  pub nexts-long : length nexts ≡ limit
+  pub tables : AnodeTables counts firsts nexts

@@ -2,10 +2,9 @@
 ghost use mathlib.Core.Path.{_≡_};
 ghost use mathlib.Core.Logic.{_≢_};
 ghost use Prim.Native.Nat.{_+_, _*_, _<_};
-ghost use lib.ListN.{length};
 ghost use Rattle.disk.specs.Root.{slotOf};
 ghost use Rattle.rules.specs.Anodes.{anodesOf};
-ghost use Rattle.anodes.specs.Loaded.{anodesFrom, asSeen, LoadedBelow};
+ghost use Rattle.anodes.specs.Loaded.{anodesFrom, AnodeTables, asSeen, LoadedBelow};
 use disk::Anode;
 use disk::BlockNo;
 use disk::anode_in;
@@ -34,7 +33,7 @@ fn load_block(
     nexts: &mut [u16],
 )
     requires { ⌜ (slotOf (now image) s ≡ slot .0) × (slot .0 ≢ 0) ⌝ }
-    requires { ⌜ (s < 42) × (length (now counts) ≡ 3444) × (length (now firsts) ≡ 3444) × (length (now nexts) ≡ 3444) ⌝ }
+    requires { ⌜ (s < 42) × AnodeTables (now counts) (now firsts) (now nexts) ⌝ }
     requires { ⌜ LoadedBelow (anodesOf (now image)) (now counts) (now firsts) (now nexts) (s * 82) ⌝ }
     ensures { λ _. ⌜ LoadedBelow (anodesOf (now (image .entry))) (now (counts .exit)) (now (firsts .exit)) (now (nexts .exit)) (s * 82 + 82) ⌝ }
 {
@@ -50,7 +49,7 @@ fn load_block(
 
 // Loads the 82 anodes of slot `s`, after those of the slots before it; those of a slot that holds 0 are (0, 0, 0).
 fn load_slot(image: &[u8], s: usize, counts: &mut [u16], firsts: &mut [u16], nexts: &mut [u16])
-    requires { ⌜ (s < 42) × (length (now counts) ≡ 3444) × (length (now firsts) ≡ 3444) × (length (now nexts) ≡ 3444) ⌝ }
+    requires { ⌜ (s < 42) × AnodeTables (now counts) (now firsts) (now nexts) ⌝ }
     requires { ⌜ LoadedBelow (anodesOf (now image)) (now counts) (now firsts) (now nexts) (s * 82) ⌝ }
     ensures { λ _. ⌜ LoadedBelow (anodesOf (now (image .entry))) (now (counts .exit)) (now (firsts .exit)) (now (nexts .exit)) (s * 82 + 82) ⌝ }
 {
@@ -68,7 +67,7 @@ fn load_slot(image: &[u8], s: usize, counts: &mut [u16], firsts: &mut [u16], nex
 
 // Loads every anode; a free or missing one is (0, 0, 0).
 pub fn load(image: &[u8], counts: &mut [u16], firsts: &mut [u16], nexts: &mut [u16])
-    requires { ⌜ (length (now counts) ≡ 3444) × (length (now firsts) ≡ 3444) × (length (now nexts) ≡ 3444) ⌝ }
+    requires { ⌜ AnodeTables (now counts) (now firsts) (now nexts) ⌝ }
     ensures { λ _. ⌜ anodesFrom (now (counts .exit)) (now (firsts .exit)) (now (nexts .exit)) ≡ anodesOf (now (image .entry)) ⌝ }
 {
     for s in 0..42 {

@@ -12,7 +12,7 @@ use Rattle.rules.specs.Anodes.{anodesOf}
 use Rattle.rules.specs.Walk.{Entered}
 use Rattle.rules.specs.Accepted.{checkAnswer}
 use Rattle.rules.specs.Lookup.{entryNamed}
-use Rattle.rules.specs.Changes.{Left, left, NewEntry, resized, made, written, removed}
+use Rattle.rules.specs.Changes.{Left, left, newEntry, resized, made, written, removed}
 use Rattle.rules.specs.Calls.{outcomeOf, settled, checkOutcome, spanAnswer, readAnswer, resizeAnswer, removeAnswer, makeAnswer, leftAfter, changeNamed, makeOutcome, resizeOutcome, writeOutcome, removeOutcome}
 use Rattle.fsck.specs.declared.Tally.{Tally}
 use Rattle.fsck.specs.declared.Checked.{Checked}
@@ -21,9 +21,6 @@ use Rattle.fsck.specs.Answers.{checkedNumber}
 use Rattle.changed.specs.Leaves.{Leaves}
 use Rattle.find.proofs.Laws.{refused-some, not-done}
 use Rattle.calls.proofs.Opened.{change-refused, change-answered}
-
-abbrev newOf : ℕ → List ℕ → List ℕ → ℕ → ℕ → ℕ → ℕ → NewEntry
-newOf type name comment day minute tick protection = record { dir = eqb type 2; name = name; comment = comment; day = day; minute = minute; tick = tick; protection = protection }
 
 module _ (img b₀ a₀ b a : List ℕ) (x : Checked) (e : outcomeOf (checkedNumber x) img b a [] [] ≡ checkOutcome img b₀ a₀) where
   -- ---- the check refused
@@ -48,7 +45,7 @@ module _ (img b₀ a₀ b a : List ℕ) (x : Checked) (e : outcomeOf (checkedNum
     pub make-refused : (h type : ℕ) (name comment : List ℕ) (day minute tick protection : ℕ) → outcomeOf k img b a [] [] ≡ makeOutcome img b₀ a₀ h type name comment day minute tick protection
     unfolding makeOutcome
     make-refused h type name comment day minute tick protection = change-refused img b₀ a₀ b a x e r is k n (makeAnswer img (anodesOf img) h type name comment)
-        (λ m. leftAfter m img (made img (anodesOf img) h (newOf type name comment day minute tick protection))) (not-done k (refused-some r k n) _ (left k img))
+        (λ m. leftAfter m img (made img (anodesOf img) h (newEntry (eqb type 2) name comment day minute tick protection))) (not-done k (refused-some r k n) _ (left k img))
 
   -- ---- the check accepted
 
@@ -74,8 +71,8 @@ module _ (img b₀ a₀ b a : List ℕ) (x : Checked) (e : outcomeOf (checkedNum
     remove-answered h name l = named-answered (removeAnswer img (anodesOf img) h name) (entryNamed img (anodesOf img) h name) (λ y. removed img (anodesOf img) y) l
 
     pub make-answered : (h type : ℕ) (name comment : List ℕ) (day minute tick protection : ℕ) →
-        Leaves r img b a img′ b′ a′ (leftAfter (makeAnswer img (anodesOf img) h type name comment) img (made img (anodesOf img) h (newOf type name comment day minute tick protection))) →
+        Leaves r img b a img′ b′ a′ (leftAfter (makeAnswer img (anodesOf img) h type name comment) img (made img (anodesOf img) h (newEntry (eqb type 2) name comment day minute tick protection))) →
         outcomeOf r img′ b′ a′ [] [] ≡ makeOutcome img b₀ a₀ h type name comment day minute tick protection
     unfolding makeOutcome
     make-answered h type name comment day minute tick protection l = change-answered img b₀ a₀ b a x e t is (makeAnswer img (anodesOf img) h type name comment)
-        (λ m. leftAfter m img (made img (anodesOf img) h (newOf type name comment day minute tick protection))) r img′ b′ a′ l
+        (λ m. leftAfter m img (made img (anodesOf img) h (newEntry (eqb type 2) name comment day minute tick protection))) r img′ b′ a′ l

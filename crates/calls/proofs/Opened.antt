@@ -87,8 +87,8 @@ module _ (img b₀ a₀ b a : List ℕ) (x : Checked) (e : outcomeOf (checkedNum
     list-refused h n =
         rw (
           firstOf-some (checkAnswer img (length b₀) (length a₀)) (listAnswer img (anodesOf img) h n) k answers-k some,
-          not-done k some _ (replicate 11 0),
-          not-done k some _ [],
+          not-done {X = List ℕ} k some _ (replicate 11 0),
+          not-done {X = List ℕ} k some _ [],
         )
         (settled-k (replicate 11 0) [])
 
@@ -137,7 +137,7 @@ module _ (img b₀ a₀ b a : List ℕ) (x : Checked) (e : outcomeOf (checkedNum
     opened counts firsts nexts queue parents q =
         let o = rw is at q in
         record {
-          loaded = record { accepted = accepted-answer; is-loaded = o .0; counts-long = o .2 .0; firsts-long = o .2 .1; nexts-long = o .2 .2 };
+          loaded = record { accepted = accepted-answer; is-loaded = o .0; tables = o .2 .0 };
           queued = o .1;
           shown = λ i l. ap (λ (z : List ℕ). getD z i 0) (anodes-left 0 number-0)
               ∙ table-entry (anodeEntry (anodesOf img)) limit (drop limit a₀) i l;

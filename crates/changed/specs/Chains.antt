@@ -12,13 +12,12 @@ use Rattle.rules.specs.Walk.{Entered}
 use Rattle.rules.specs.Accepted.{diskSize, wrongSize, lastReserved}
 use Rattle.rules.specs.Space.{planned, giveMany}
 use Rattle.laws.specs.Acceptance.{passed-of}
-use Rattle.laws.specs.Heads.{Head}
 use Rattle.laws.specs.Space.{Good}
 use Rattle.laws.specs.GivenBlocks.{gives-blocks}
 use Rattle.anodes.specs.Loaded.{anodesFrom, Loaded}
 use Rattle.tree.specs.Steps.{sumFrom}
 use Rattle.tree.proofs.Rules.{sumFrom-count}
-use Rattle.space.specs.Steps.{GoodAnodes}
+use Rattle.space.specs.Steps.{Ready}
 use Rattle.space.proofs.Many.{count-small}
 use Rattle.changes.specs.Image.{headIn, sideIn, accepted-whole}
 use Rattle.changes.specs.Reached.{EntryFacts, entry-facts}
@@ -56,9 +55,9 @@ module _ {img counts firsts nexts : List ℕ} (l : Loaded img counts firsts next
     entry-not-1 i = omega (arith, i, entry-known .from-6)
 
     -- what the steps on it ask of the copies, and the count that was read off the tables
-    pub plan-ready : (nc nf nn : List ℕ) → nc ≡ counts → nf ≡ firsts → nn ≡ nexts → (have : ℕ) → have ≡ sumFrom counts nexts limit (e .anode) → ((wrongSize img ≡ false) × GoodAnodes img (anodesFrom nc nf nn))
-        × (Head (anodesFrom nc nf nn .next) (anodesFrom nc nf nn .block) (e .anode) × (e .anode ≢ 1) × (have ≡ blockCount (anodesFrom nc nf nn) (e .anode)))
-    plan-ready nc nf nn c f n have all = rw (loaded-copies nc nf nn c f n .is-loaded) ((loaded-size, (headIn img, sideIn img, image-good)), (entry-known .head, entry-not-1, chain-counted (e .anode) have all))
+    pub plan-ready : (nc nf nn : List ℕ) → nc ≡ counts → nf ≡ firsts → nn ≡ nexts → (have : ℕ) → have ≡ sumFrom counts nexts limit (e .anode) →
+        Ready img (anodesFrom nc nf nn) (e .anode) × (have ≡ blockCount (anodesFrom nc nf nn) (e .anode))
+    plan-ready nc nf nn c f n have all = rw (loaded-copies nc nf nn c f n .is-loaded) (((loaded-size, (headIn img, sideIn img, image-good)), (entry-known .head, entry-not-1)), chain-counted (e .anode) have all)
 
     -- fewer blocks can be given back than a table of 65,535 numbers holds
     pub gave-few : (k : ℕ) (t : Anodes) (ys : List ℕ) → giveMany limit (exists img) (lastReserved img) k (anodesOf img) (e .anode) ≡ planned t ys → k ≤ blockCount (anodesOf img) (e .anode) → length ys < 65535

@@ -19,7 +19,7 @@ use Rattle.rules.specs.Accepted.{diskSize, lastReserved, checkAnswer}
 use Rattle.rules.specs.Lookup.{noDirectory}
 use Rattle.rules.specs.Space.{Plan, refused, planned, rewritten, lowestFree}
 use Rattle.rules.specs.Format.{newDirectoryBlock}
-use Rattle.rules.specs.Changes.{firstRoom, noRoom, neededBlock, entryPlace, NewEntry, entryOf, madeImage, Left, left, leftBy, madeIn, madeWith, made}
+use Rattle.rules.specs.Changes.{firstRoom, noRoom, neededBlock, entryPlace, NewEntry, entryOf, madeImage, Left, left, leftBy, madeWith, made}
 use Rattle.laws.specs.Tests.{same?, less?}
 use Rattle.laws.specs.Sums.{oneAt-cases, oneAt-same}
 use Rattle.laws.specs.Bags.{list-cons, list-append, list-one}

@@ -8,7 +8,7 @@ ghost use lib.ListN.{length};
 ghost use Rattle.directory.specs.Entries.{goodName, goodComment};
 ghost use Rattle.rules.specs.Anodes.{anodesOf};
 ghost use Rattle.rules.specs.Lookup.{entryNamed};
-ghost use Rattle.rules.specs.Changes.{left, made, written, resized, removed};
+ghost use Rattle.rules.specs.Changes.{left, newEntry, made, written, resized, removed};
 ghost use Rattle.rules.specs.Calls.{spanAnswer, resizeAnswer, removeAnswer, makeAnswer, leftAfter, changeNamed};
 ghost use Rattle.find.specs.Open.{Open};
 ghost use Rattle.changed.specs.Leaves.{Leaves};
@@ -149,7 +149,7 @@ pub fn make_named(
     protection: u8,
 ) -> u32
     requires { ⌜ Open (now image) (now counts) (now firsts) (now nexts) (now queue) (now parents) (now heads) dirs × (3444 ≤ length (now heads)) ⌝ }
-    ensures { λ r. ⌜ Leaves r (now (image .entry)) (now (blocks .entry)) (now (heads .entry)) (now (image .exit)) (now (blocks .exit)) (now (heads .exit)) (leftAfter (makeAnswer (now (image .entry)) (anodesOf (now (image .entry))) (head .0) kind (now (name .entry)) (now (comment .entry))) (now (image .entry)) (made (now (image .entry)) (anodesOf (now (image .entry))) (head .0) (record { dir = eqb kind 2; name = now (name .entry); comment = now (comment .entry); day = day; minute = minute; tick = tick; protection = protection }))) ⌝ }
+    ensures { λ r. ⌜ Leaves r (now (image .entry)) (now (blocks .entry)) (now (heads .entry)) (now (image .exit)) (now (blocks .exit)) (now (heads .exit)) (leftAfter (makeAnswer (now (image .entry)) (anodesOf (now (image .entry))) (head .0) kind (now (name .entry)) (now (comment .entry))) (now (image .entry)) (made (now (image .entry)) (anodesOf (now (image .entry))) (head .0) (newEntry (eqb kind 2) (now (name .entry)) (now (comment .entry)) day minute tick protection))) ⌝ }
 {
     let read = kind_of(kind);
     let KindRead::Is(k) = read else {

@@ -1,18 +1,10 @@
--- The entry that a caller asks for, where a directory has room for it, and a block on the way to one entry less.
+-- Where a directory has room for an entry, and a block on the way to one entry less.
 use Prim.Native.Nat.{ℕ, _+_}
 use mathlib.Core.List.{List, _++_}
 use mathlib.Core.Option.{Option, none, some}
 use lib.ListN.{take, drop}
-use Rattle.directory.specs.declared.Kind.{Kind}
-use Rattle.directory.specs.Entries.{isDir}
-use Rattle.rules.specs.Changes.{NewEntry}
 use Rattle.edits.specs.declared.Room.{Room}
 use Rattle.edits.specs.declared.Room.the-variants.{At, Nowhere}
-
--- the entry that a caller asks for
-abbrev pub newEntry : Kind → List ℕ → List ℕ → ℕ → ℕ → ℕ → ℕ → NewEntry
-newEntry kind name comment day minute tick protection =
-    record { dir = isDir kind; name = name; comment = comment; day = day; minute = minute; tick = tick; protection = protection }
 
 -- the room that was found, or what the blocks behind have
 abbrev pub orRest : Room → Option ℕ → Option ℕ

@@ -7,16 +7,16 @@ ghost use lib.Dec.{eqb};
 ghost use lib.ListN.{length, getD, take};
 ghost use Rattle.disk.specs.AnodeBlocks.{anodeMade};
 ghost use Rattle.disk.specs.Blocks.{blockOf};
-ghost use Rattle.directory.specs.Entries.{goodName, goodComment, putEntry};
+ghost use Rattle.directory.specs.Entries.{goodName, goodComment, isDir, putEntry};
 ghost use Rattle.rules.specs.Counting.{times};
 ghost use Rattle.rules.specs.Anodes.{anodesOf, sameAnode, storeChanged, withAnodes};
 ghost use Rattle.rules.specs.Chains.{chainOf, blocksOf};
 ghost use Rattle.rules.specs.Walk.{Entered};
 ghost use Rattle.rules.specs.Format.{zeroBlock, newDirectoryBlock};
-ghost use Rattle.rules.specs.Changes.{inBlock, withBlocks, zeroTail, withSize, entriesEnd, firstRoom, entryOf, gapClosed, withoutEntry};
+ghost use Rattle.rules.specs.Changes.{inBlock, withBlocks, zeroTail, withSize, entriesEnd, firstRoom, newEntry, entryOf, gapClosed, withoutEntry};
 ghost use Rattle.laws.specs.OwnerTable.{setAll};
 ghost use Rattle.anodes.specs.Loaded.{anodesFrom};
-ghost use Rattle.edits.specs.Entries.{newEntry, roomOf, orRest, movedDown};
+ghost use Rattle.edits.specs.Entries.{roomOf, orRest, movedDown};
 use directory::DirectoryHead;
 use directory::Entry;
 use directory::Kind;
@@ -288,7 +288,7 @@ pub fn put_new_entry(
     protection: u8,
 )
     requires { ⌜ (goodName (now name) ≡ true) × (goodComment (now comment) ≡ true) ⌝ }
-    ensures { λ _. ⌜ now (image .exit) ≡ inBlock (now (image .entry)) (place / 512) (λ (b : List ℕ). putEntry b (place % 512) (entryOf (newEntry kind (now (name .entry)) (now (comment .entry)) day minute tick protection) (anode .0)) (now (name .entry)) (now (comment .entry))) ⌝ }
+    ensures { λ _. ⌜ now (image .exit) ≡ inBlock (now (image .entry)) (place / 512) (λ (b : List ℕ). putEntry b (place % 512) (entryOf (newEntry (isDir kind) (now (name .entry)) (now (comment .entry)) day minute tick protection) (anode .0)) (now (name .entry)) (now (comment .entry))) ⌝ }
 {
     let from = place / 512 * 512;
     let end = block_end(image.len(), from);

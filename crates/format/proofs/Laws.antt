@@ -175,7 +175,7 @@ module _ (img : List ℕ) (last k : ℕ) (name : List ℕ) (day minute tick prot
         let m = length-rooted in
         blockOf-formatted-other (3 + s) (omega arith) ∙ blockOf-withAnodeBlocks-same (diskSize img) last k rooted k s h (omega (arith, args))
 
-    pub blockOf-formatted-directory : blockOf disk (3 + k) ≡ (newDirectoryBlock 5 0)
+    pub blockOf-formatted-directory : blockOf disk (3 + k) ≡ newDirectoryBlock 5 0
     blockOf-formatted-directory =
         let m = length-based in
         rw disk-based (blockOf-same based (3 + k) (omega (arith, args)) (newDirectoryBlock 5 0) (length-new 5 0))

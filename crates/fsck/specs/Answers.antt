@@ -12,7 +12,7 @@ use Rattle.rules.specs.Walk.{reachedDirs}
 use Rattle.rules.specs.Accepted.{diskSize, wrongSize, wrongSlots, treeFault, damageIn, checkAnswer}
 use Rattle.rules.specs.Tables.{blockTable, anodeTable}
 use Rattle.rules.specs.Calls.{fileCount, dirCount}
-use Rattle.anodes.specs.Loaded.{anodesFrom}
+use Rattle.anodes.specs.Loaded.{anodesFrom, AnodeTables}
 use Rattle.laws.specs.Chains.{HeadTable}
 use Rattle.tree.specs.Steps.{queueOf}
 use Rattle.fsck.specs.declared.Checked.{Checked}
@@ -70,7 +70,7 @@ TablesLeft (Refused r) img s b₀ a₀ b a = Kept img b₀ a₀ b a
 -- five tables with an entry for each anode
 abbrev pub Sized : List ℕ → List ℕ → List ℕ → List ℕ → List ℕ → Type 0
 Sized counts firsts nexts queue parents =
-    (length counts ≡ limit) × (length firsts ≡ limit) × (length nexts ≡ limit) × (length queue ≡ limit) × (length parents ≡ limit)
+    AnodeTables counts firsts nexts × (length queue ≡ limit) × (length parents ≡ limit)
 
 -- an accepted image's anodes in three tables, its reached directories and their parents in two
 abbrev pub Opened : Checked → List ℕ → List ℕ → List ℕ → List ℕ → List ℕ → List ℕ → Type 0

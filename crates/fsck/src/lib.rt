@@ -8,7 +8,7 @@ ghost use Rattle.rules.specs.Counting.{_if_else_};
 ghost use Rattle.rules.specs.Anodes.{anodesOf};
 ghost use Rattle.rules.specs.Accepted.{diskSize, wrongSize, wrongSlots, damageIn};
 ghost use Rattle.rules.specs.Calls.{outcomeOf, checkOutcome};
-ghost use Rattle.anodes.specs.Loaded.{anodesFrom};
+ghost use Rattle.anodes.specs.Loaded.{anodesFrom, AnodeTables};
 ghost use Rattle.fsck.specs.Answers.{checkedNumber, Tallied, HeaderTested, SpaceTested, TablesAfter, TablesLeft, Sized, Opened};
 use anodes::load;
 use chains::fill_heads;
@@ -81,7 +81,7 @@ fn test_space(
     blocks: &mut [u16],
     anodes: &mut [u16],
 ) -> Test
-    requires { ⌜ (length (now counts) ≡ 3444) × (length (now firsts) ≡ 3444) × (length (now nexts) ≡ 3444) ⌝ }
+    requires { ⌜ AnodeTables (now counts) (now firsts) (now nexts) ⌝ }
     requires { ⌜ anodesFrom (now counts) (now firsts) (now nexts) ≡ anodesOf (now image) ⌝ }
     requires { ⌜ (wrongSize (now image) ≡ false) × (wrongSlots (now image) ≡ false) × (diskSize (now image) ≤ length (now blocks)) × (3444 ≤ length (now anodes)) ⌝ }
     requires { ⌜ ((x : ℕ) → x < diskSize (now image) → getD (now blocks) x 0 ≡ 0) ⌝ }

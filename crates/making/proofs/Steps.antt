@@ -16,7 +16,7 @@ use Rattle.directory.specs.Entries.{entryLength}
 use Rattle.rules.specs.Anodes.{Anodes, limit, exists, anodesOf}
 use Rattle.rules.specs.Chains.{systemOwns, blocksOf}
 use Rattle.rules.specs.Walk.{entriesIn, isBlockOf, reachedDirs}
-use Rattle.rules.specs.Accepted.{diskSize, lastReserved, wrongSize}
+use Rattle.rules.specs.Accepted.{diskSize, lastReserved}
 use Rattle.rules.specs.Space.{refused, planned, rewritten, after, repeated, takeBlock, takeMany}
 use Rattle.rules.specs.Changes.{firstRoom, noRoom, neededBlock, entryPlace, NewEntry, left, leftBy, madeImage, madeWith, made}
 use Rattle.laws.specs.Bags.{times-nil}
@@ -36,7 +36,7 @@ use Rattle.changes.specs.MadeImage.{first-in}
 use Rattle.changed.specs.Laws.{Shows, shows-ran}
 use Rattle.space.specs.declared.Step.{Step}
 use Rattle.space.specs.declared.Step.the-variants.{Moved, Refused}
-use Rattle.space.specs.Steps.{stepPlan, GoodAnodes}
+use Rattle.space.specs.Steps.{stepPlan, Ready}
 use Rattle.making.specs.declared.Planned.the-variants.{Make, Stopped}
 use Rattle.making.specs.Steps.{someBlock, neededPlan, PlanOf}
 
@@ -83,10 +83,6 @@ module _ (img : List ℕ) {s : Anodes} {hd sd : ℕ → ℕ} (g : Good limit (ex
       ∙ e
 
 -- ---- both steps
-
--- what a step on the chain of m asks of the anodes s
-abbrev Ready : List ℕ → Anodes → ℕ → Type 0
-Ready img s m = ((wrongSize img ≡ false) × GoodAnodes img s) × (Head (s .next) (s .block) m × (m ≢ 1))
 
 module _ {img : List ℕ} {h f : ℕ} (x : Fresh img (diskSize img) limit h f) where
   pub free-f : (6 ≤ f) × (anodesOf img .block f ≡ 0) × T (exists img f)

@@ -1,7 +1,6 @@
 // Makes an entry in a directory: a fresh head, a block of its own for a directory, a block for the parent where it has no room, then the entry.
 ghost use mathlib.Core.Bool.{true, false};
 ghost use mathlib.Core.List.{[], _∷_};
-ghost use mathlib.Core.Logic.{_≢_};
 ghost use mathlib.Core.Path.{_≡_};
 ghost use Prim.Native.Nat.{ℕ, _≤_};
 ghost use lib.ListN.{length};
@@ -9,18 +8,17 @@ ghost use Rattle.directory.specs.Entries.{goodName, goodComment, isDir, entryLe
 ghost use Rattle.rules.specs.Anodes.{limit, anodesOf};
 ghost use Rattle.rules.specs.Chains.{blocksOf};
 ghost use Rattle.rules.specs.Walk.{reachedDirs};
-ghost use Rattle.rules.specs.Accepted.{diskSize, wrongSize};
+ghost use Rattle.rules.specs.Accepted.{diskSize};
 ghost use Rattle.rules.specs.Lookup.{noDirectory};
 ghost use Rattle.rules.specs.Space.{rewritten};
 ghost use Rattle.rules.specs.Format.{newDirectoryBlock};
-ghost use Rattle.rules.specs.Changes.{withBlocks, firstRoom, noRoom, neededBlock, parentOf, entryPlace, made};
-ghost use Rattle.laws.specs.Heads.{Head};
+ghost use Rattle.rules.specs.Changes.{withBlocks, firstRoom, noRoom, neededBlock, parentOf, entryPlace, newEntry, made};
 ghost use Rattle.laws.specs.OwnerTable.{setAll};
-ghost use Rattle.anodes.specs.Loaded.{anodesFrom, Loaded};
+ghost use Rattle.anodes.specs.Loaded.{anodesFrom, AnodeTables, Loaded};
 ghost use Rattle.changed.specs.Leaves.{Leaves};
 ghost use Rattle.changes.specs.MakePlan.{Fresh};
-ghost use Rattle.edits.specs.Entries.{newEntry, roomOf};
-ghost use Rattle.space.specs.Steps.{GoodAnodes};
+ghost use Rattle.edits.specs.Entries.{roomOf};
+ghost use Rattle.space.specs.Steps.{Ready};
 ghost use Rattle.making.specs.Steps.{someBlock, neededPlan, Plans, PlanOf};
 use chains::show_heads;
 use directory::Kind;
@@ -74,9 +72,8 @@ fn take_needed(
     firsts: &mut [u16],
     nexts: &mut [u16],
 ) -> Step
-    requires { ⌜ (length (now counts) ≡ 3444) × (length (now firsts) ≡ 3444) × (length (now nexts) ≡ 3444) ⌝ }
-    requires { ⌜ (wrongSize (now image) ≡ false) × GoodAnodes (now image) (anodesFrom (now counts) (now firsts) (now nexts)) ⌝ }
-    requires { ⌜ Head (anodesFrom (now counts) (now firsts) (now nexts) .next) (anodesFrom (now counts) (now firsts) (now nexts) .block) (head .0) × (head .0 ≢ 1) ⌝ }
+    requires { ⌜ AnodeTables (now counts) (now firsts) (now nexts) ⌝ }
+    requires { ⌜ Ready (now image) (anodesFrom (now counts) (now firsts) (now nexts)) (head .0) ⌝ }
     ensures { λ r. ⌜ neededPlan r (anodesFrom (now (counts .exit)) (now (firsts .exit)) (now (nexts .exit))) ≡ neededBlock (now (image .entry)) needed (anodesFrom (now (counts .entry)) (now (firsts .entry)) (now (nexts .entry))) (head .0) ⌝ }
 {
     if needed {
@@ -106,7 +103,7 @@ fn take_blocks(
     firsts: &mut [u16],
     nexts: &mut [u16],
 ) -> Planned
-    requires { ⌜ (length (now counts) ≡ 3444) × (length (now firsts) ≡ 3444) × (length (now nexts) ≡ 3444) ⌝ }
+    requires { ⌜ AnodeTables (now counts) (now firsts) (now nexts) ⌝ }
     requires { ⌜ Fresh (now image) (diskSize (now image)) limit (head .0) (fresh .0) × (anodesFrom (now counts) (now firsts) (now nexts) ≡ rewritten (anodesOf (now image)) (fresh .0) 0 65535) ⌝ }
     ensures { λ r. ⌜ ((len : ℕ) → roomOf room ≡ firstRoom (now (image .entry)) len (blocksOf (anodesOf (now (image .entry))) (head .0)) → PlanOf r (now (image .entry)) (isDir kind) len (head .0) (anodesFrom (now (counts .exit)) (now (firsts .exit)) (now (nexts .exit)))) ⌝ }
 {
@@ -199,7 +196,7 @@ fn commit_make(
     requires { ⌜ (noDirectory (now image) (anodesOf (now image)) (head .0) ≡ false) × (parent .0 ≡ parentOf (reachedDirs (now image) (anodesOf (now image))) (head .0)) ⌝ }
     requires { ⌜ (goodName (now name) ≡ true) × (goodComment (now comment) ≡ true) ⌝ }
     requires { ⌜ Plans (now image) (isDir kind) (entryLength (length (now name)) (length (now comment))) (head .0) plan (anodesFrom (now «new_counts») (now «new_firsts») (now «new_nexts»)) ⌝ }
-    ensures { λ _. ⌜ Leaves 0 (now (image .entry)) (now (blocks .entry)) (now (anodes .entry)) (now (image .exit)) (now (blocks .exit)) (now (anodes .exit)) (made (now (image .entry)) (anodesOf (now (image .entry))) (head .0) (newEntry kind (now (name .entry)) (now (comment .entry)) day minute tick protection)) ⌝ }
+    ensures { λ _. ⌜ Leaves 0 (now (image .entry)) (now (blocks .entry)) (now (anodes .entry)) (now (image .exit)) (now (blocks .exit)) (now (anodes .exit)) (made (now (image .entry)) (anodesOf (now (image .entry))) (head .0) (newEntry (isDir kind) (now (name .entry)) (now (comment .entry)) day minute tick protection)) ⌝ }
 {
     store_anodes(
         image,
@@ -250,7 +247,7 @@ pub fn make_entry(
     requires { ⌜ Loaded (now image) (now counts) (now firsts) (now nexts) × (3444 ≤ length (now anodes)) ⌝ }
     requires { ⌜ (noDirectory (now image) (anodesOf (now image)) (head .0) ≡ false) × (parent .0 ≡ parentOf (reachedDirs (now image) (anodesOf (now image))) (head .0)) ⌝ }
     requires { ⌜ (goodName (now name) ≡ true) × (goodComment (now comment) ≡ true) ⌝ }
-    ensures { λ r. ⌜ Leaves r (now (image .entry)) (now (blocks .entry)) (now (anodes .entry)) (now (image .exit)) (now (blocks .exit)) (now (anodes .exit)) (made (now (image .entry)) (anodesOf (now (image .entry))) (head .0) (newEntry kind (now (name .entry)) (now (comment .entry)) day minute tick protection)) ⌝ }
+    ensures { λ r. ⌜ Leaves r (now (image .entry)) (now (blocks .entry)) (now (anodes .entry)) (now (image .exit)) (now (blocks .exit)) (now (anodes .exit)) (made (now (image .entry)) (anodesOf (now (image .entry))) (head .0) (newEntry (isDir kind) (now (name .entry)) (now (comment .entry)) day minute tick protection)) ⌝ }
 {
     let mut new_counts = copied(counts);
     let mut new_firsts = copied(firsts);

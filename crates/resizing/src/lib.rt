@@ -1,6 +1,5 @@
 // Resizes a file of an accepted image: takes or gives back blocks, and stores the new size.
 ghost use mathlib.Core.Bool.{false, cond};
-ghost use mathlib.Core.Logic.{_≢_};
 ghost use mathlib.Core.Path.{_≡_};
 ghost use Prim.Native.Nat.{_≤_};
 ghost use lib.Dec.{leb};
@@ -9,12 +8,10 @@ ghost use Rattle.directory.specs.Entries.{isDir};
 ghost use Rattle.rules.specs.Anodes.{anodesOf};
 ghost use Rattle.rules.specs.Chains.{blockCount};
 ghost use Rattle.rules.specs.Walk.{blocksFor};
-ghost use Rattle.rules.specs.Accepted.{wrongSize};
 ghost use Rattle.rules.specs.Space.{planned};
 ghost use Rattle.rules.specs.Changes.{resizePlan, resized};
-ghost use Rattle.laws.specs.Heads.{Head};
-ghost use Rattle.anodes.specs.Loaded.{anodesFrom, Loaded};
-ghost use Rattle.space.specs.Steps.{manyPlan, GoodAnodes};
+ghost use Rattle.anodes.specs.Loaded.{anodesFrom, AnodeTables, Loaded};
+ghost use Rattle.space.specs.Steps.{manyPlan, Ready};
 ghost use Rattle.lookup.specs.Answers.{entered};
 ghost use Rattle.changed.specs.Leaves.{Leaves, ReachedEntry};
 use chains::show_heads;
@@ -44,9 +41,9 @@ fn plan_resize(
     nexts: &mut [u16],
     moved: &mut [u16],
 ) -> Moves
-    requires { ⌜ (length (now counts) ≡ 3444) × (length (now firsts) ≡ 3444) × (length (now nexts) ≡ 3444) × (length (now moved) ≡ 65535) ⌝ }
-    requires { ⌜ (wrongSize (now image) ≡ false) × GoodAnodes (now image) (anodesFrom (now counts) (now firsts) (now nexts)) ⌝ }
-    requires { ⌜ Head (anodesFrom (now counts) (now firsts) (now nexts) .next) (anodesFrom (now counts) (now firsts) (now nexts) .block) (head .0) × (head .0 ≢ 1) × (have ≡ blockCount (anodesFrom (now counts) (now firsts) (now nexts)) (head .0)) ⌝ }
+    requires { ⌜ AnodeTables (now counts) (now firsts) (now nexts) × (length (now moved) ≡ 65535) ⌝ }
+    requires { ⌜ Ready (now image) (anodesFrom (now counts) (now firsts) (now nexts)) (head .0) ⌝ }
+    requires { ⌜ have ≡ blockCount (anodesFrom (now counts) (now firsts) (now nexts)) (head .0) ⌝ }
     ensures { λ r. ⌜ manyPlan r (anodesFrom (now (counts .exit)) (now (firsts .exit)) (now (nexts .exit))) (now (moved .exit)) ≡ resizePlan (now (image .entry)) (anodesFrom (now (counts .entry)) (now (firsts .entry)) (now (nexts .entry))) (head .0) want ⌝ }
 {
     if have <= want {

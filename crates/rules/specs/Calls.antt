@@ -18,7 +18,7 @@ use Rattle.rules.specs.Accepted.{diskSize, checkAnswer}
 use Rattle.rules.specs.Tables.{blocksLeft, anodesLeft}
 use Rattle.rules.specs.Lookup.{noDirectory, entriesOf, nameAt, entryNamed, nth, ofEntry, isThere, namesDir, fullDir, pastEnd, contents}
 use Rattle.rules.specs.Format.{formatAnswer, formatted}
-use Rattle.rules.specs.Changes.{Left, left, resized, made, written, removed}
+use Rattle.rules.specs.Changes.{Left, left, newEntry, resized, made, written, removed}
 
 -- all that a call settles: its answer, the image, both tables, the output and, of list, the name
 pub record Outcome : Type 0 where
@@ -179,7 +179,7 @@ unfoldable pub makeOutcome : List ℕ → List ℕ → List ℕ → ℕ → ℕ 
 makeOutcome img blocks anodes h type name comment day minute tick protection =
     settled
     (leftAfter (checkedFirst img blocks anodes (makeAnswer img (anodesOf img) h type name comment)) img
-    (made img (anodesOf img) h (record { dir = eqb type 2; name = name; comment = comment; day = day; minute = minute; tick = tick; protection = protection })))
+    (made img (anodesOf img) h (newEntry (eqb type 2) name comment day minute tick protection)))
     blocks anodes [] []
 
 -- Resize

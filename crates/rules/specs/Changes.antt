@@ -122,6 +122,11 @@ pub record NewEntry : Type 0 where
   pub tick : ℕ
   pub protection : ℕ
 
+-- the same in one line
+abbrev pub newEntry : Bool → List ℕ → List ℕ → ℕ → ℕ → ℕ → ℕ → NewEntry
+newEntry dir name comment day minute tick protection =
+    record { dir = dir; name = name; comment = comment; day = day; minute = minute; tick = tick; protection = protection }
+
 -- the new entry's fields, with head anode f
 unfoldable pub entryOf : NewEntry → ℕ → Entry
 entryOf new f = record {

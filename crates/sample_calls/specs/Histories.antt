@@ -11,9 +11,9 @@ use Rattle.rules.specs.Totals.{total}
 use Rattle.rules.specs.History.{check, summary, read, list, make, resize, write, remove, outcome}
 use Rattle.rules.specs.Everything.{everything}
 
--- named `bench`
+-- named `b`
 unfoldable disk8 : List ℕ
-disk8 = formatted (replicate 4096 255) 5 1 (98 ∷ 101 ∷ 110 ∷ 99 ∷ 104 ∷ []) 1 2 3 4
+disk8 = formatted (replicate 4096 255) 5 1 (98 ∷ []) 1 2 3 4
 
 abbrev blocks : List ℕ
 blocks = replicate 8 0

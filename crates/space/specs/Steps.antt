@@ -1,13 +1,16 @@
 -- What the steps on tables of anodes answer, in the terms of the rules, and the state that they start from.
 use Prim.Native.Nat.{ℕ}
+use mathlib.Core.Path.{_≡_}
+use mathlib.Core.Logic.{_≢_}
 use mathlib.Core.Bool.{Bool, false, cond}
 use mathlib.Core.List.{List, [], _∷_}
 use lib.ListN.{take}
 use Rattle.disk.specs.Refusals.{numberOf}
 use Rattle.rules.specs.Anodes.{Anodes, limit, exists}
 use Rattle.rules.specs.Chains.{systemOwns}
-use Rattle.rules.specs.Accepted.{diskSize, lastReserved}
+use Rattle.rules.specs.Accepted.{diskSize, wrongSize, lastReserved}
 use Rattle.rules.specs.Space.{Plan, refused, planned, Found, nowhere, found, repeated, takeBlock, giveBack}
+use Rattle.laws.specs.Heads.{Head}
 use Rattle.laws.specs.Space.{Good}
 use Rattle.space.specs.declared.Step.{Step}
 use Rattle.space.specs.declared.Step.the-variants.{Moved, Refused}
@@ -52,6 +55,10 @@ moveMany img taking k s h = repeated (λ t. moveBlock img taking t h) k s
 -- the anodes of a disk in good order: refusals 6 to 11 hold, with some table of heads and of sides
 abbrev pub GoodAnodes : List ℕ → Anodes → Type 0
 GoodAnodes img s = (hd : ℕ → ℕ) × (sd : ℕ → ℕ) × Good limit (exists img) (diskSize img) (lastReserved img) s (systemOwns img) hd sd
+
+-- what a step on the chain of h asks of the anodes s: h heads a chain other than the free list
+abbrev pub Ready : List ℕ → Anodes → ℕ → Type 0
+Ready img s h = ((wrongSize img ≡ false) × GoodAnodes img s) × (Head (s .next) (s .block) h × (h ≢ 1))
 
 -- an extent found in the tables
 abbrev pub foundOf : Extent → Found

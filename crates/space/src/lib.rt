@@ -9,12 +9,11 @@ ghost use lib.ListN.{length, getD};
 ghost use Rattle.rules.specs.Counting.{lastOf};
 ghost use Rattle.rules.specs.Anodes.{exists};
 ghost use Rattle.rules.specs.Chains.{chainOf, cut, blockCount};
-ghost use Rattle.rules.specs.Accepted.{wrongSize, lastReserved};
+ghost use Rattle.rules.specs.Accepted.{lastReserved};
 ghost use Rattle.rules.specs.Space.{rewritten, insertedAfter, unlinked, withoutBlock, firstFull, lastFull, freeExtent, sideOf, lowestFree, append, put, takeBlock, join, giveBack, dropped};
 ghost use Rattle.laws.specs.Links.{View, Linked};
-ghost use Rattle.laws.specs.Heads.{Head};
-ghost use Rattle.anodes.specs.Loaded.{anodesFrom};
-ghost use Rattle.space.specs.Steps.{stepPlan, manyPlan, stoppedBy, movesNumber, movesCount, moveBlock, moveMany, GoodAnodes, foundOf};
+ghost use Rattle.anodes.specs.Loaded.{anodesFrom, AnodeTables};
+ghost use Rattle.space.specs.Steps.{stepPlan, manyPlan, stoppedBy, movesNumber, movesCount, moveBlock, moveMany, Ready, foundOf};
 use disk::AnodeNo;
 use disk::BlockNo;
 use disk::Refusal;
@@ -170,7 +169,7 @@ fn rewrite(counts: &mut [u16], firsts: &mut [u16], a: usize, count: u16, first: 
 
 // Unlinks anode `a`, next of `p`, and zeroes it.
 fn unlink(counts: &mut [u16], firsts: &mut [u16], nexts: &mut [u16], p: usize, a: usize)
-    requires { ⌜ (p < 3444) × (a < 3444) × (length (now counts) ≡ 3444) × (length (now firsts) ≡ 3444) × (length (now nexts) ≡ 3444) ⌝ }
+    requires { ⌜ (p < 3444) × (a < 3444) × AnodeTables (now counts) (now firsts) (now nexts) ⌝ }
     ensures { λ _. ⌜ anodesFrom (now (counts .exit)) (now (firsts .exit)) (now (nexts .exit)) ≡ unlinked (anodesFrom (now (counts .entry)) (now (firsts .entry)) (now (nexts .entry))) p a ⌝ }
 {
     let next = entry(nexts, a);
@@ -188,7 +187,7 @@ fn insert_after(
     a: u16,
     y: BlockNo,
 )
-    requires { ⌜ (p < 3444) × (a < 3444) × (length (now counts) ≡ 3444) × (length (now firsts) ≡ 3444) × (length (now nexts) ≡ 3444) ⌝ }
+    requires { ⌜ (p < 3444) × (a < 3444) × AnodeTables (now counts) (now firsts) (now nexts) ⌝ }
     ensures { λ _. ⌜ anodesFrom (now (counts .exit)) (now (firsts .exit)) (now (nexts .exit)) ≡ insertedAfter (anodesFrom (now (counts .entry)) (now (firsts .entry)) (now (nexts .entry))) p a 1 (y .0) ⌝ }
 {
     let next = entry(nexts, p);
@@ -206,7 +205,7 @@ fn append(
     firsts: &mut [u16],
     nexts: &mut [u16],
 ) -> Step
-    requires { ⌜ (z < 3444) × (length (now counts) ≡ 3444) × (length (now firsts) ≡ 3444) × (length (now nexts) ≡ 3444) ⌝ }
+    requires { ⌜ (z < 3444) × AnodeTables (now counts) (now firsts) (now nexts) ⌝ }
     ensures { λ r. ⌜ ((last : ℕ) → stepPlan r (anodesFrom (now (counts .exit)) (now (firsts .exit)) (now (nexts .exit))) ≡ append 3444 (exists (now (image .entry))) last (anodesFrom (now (counts .entry)) (now (firsts .entry)) (now (nexts .entry))) z (y .0)) ⌝ }
 {
     let f = lowest_free(image, firsts);
@@ -227,7 +226,7 @@ fn put(
     firsts: &mut [u16],
     nexts: &mut [u16],
 ) -> Step
-    requires { ⌜ (z < 3444) × (length (now counts) ≡ 3444) × (length (now firsts) ≡ 3444) × (length (now nexts) ≡ 3444) × (getD (now firsts) z 0 ≢ 0) ⌝ }
+    requires { ⌜ (z < 3444) × AnodeTables (now counts) (now firsts) (now nexts) × (getD (now firsts) z 0 ≢ 0) ⌝ }
     ensures { λ r. ⌜ ((last : ℕ) → stepPlan r (anodesFrom (now (counts .exit)) (now (firsts .exit)) (now (nexts .exit))) ≡ put 3444 (exists (now (image .entry))) last own (anodesFrom (now (counts .entry)) (now (firsts .entry)) (now (nexts .entry))) z (y .0)) ⌝ }
 {
     let count = entry(counts, z);
@@ -254,7 +253,7 @@ fn without_block(
     x: usize,
     first: BlockNo,
 )
-    requires { ⌜ (p < 3444) × (x < 3444) × (length (now counts) ≡ 3444) × (length (now firsts) ≡ 3444) × (length (now nexts) ≡ 3444) × (0 < getD (now counts) x 0) ⌝ }
+    requires { ⌜ (p < 3444) × (x < 3444) × AnodeTables (now counts) (now firsts) (now nexts) × (0 < getD (now counts) x 0) ⌝ }
     ensures { λ _. ⌜ anodesFrom (now (counts .exit)) (now (firsts .exit)) (now (nexts .exit)) ≡ withoutBlock (anodesFrom (now (counts .entry)) (now (firsts .entry)) (now (nexts .entry))) kept p x (first .0) ⌝ }
 {
     let count = entry(counts, x);
@@ -278,9 +277,8 @@ pub fn take_block(
     firsts: &mut [u16],
     nexts: &mut [u16],
 ) -> Step
-    requires { ⌜ (length (now counts) ≡ 3444) × (length (now firsts) ≡ 3444) × (length (now nexts) ≡ 3444) ⌝ }
-    requires { ⌜ (wrongSize (now image) ≡ false) × GoodAnodes (now image) (anodesFrom (now counts) (now firsts) (now nexts)) ⌝ }
-    requires { ⌜ Head (anodesFrom (now counts) (now firsts) (now nexts) .next) (anodesFrom (now counts) (now firsts) (now nexts) .block) (head .0) × (head .0 ≢ 1) ⌝ }
+    requires { ⌜ AnodeTables (now counts) (now firsts) (now nexts) ⌝ }
+    requires { ⌜ Ready (now image) (anodesFrom (now counts) (now firsts) (now nexts)) (head .0) ⌝ }
     ensures { λ r. ⌜ stepPlan r (anodesFrom (now (counts .exit)) (now (firsts .exit)) (now (nexts .exit))) ≡ takeBlock 3444 (exists (now (image .entry))) (lastReserved (now (image .entry))) own (anodesFrom (now (counts .entry)) (now (firsts .entry)) (now (nexts .entry))) (head .0) ⌝ }
 {
     let found = free_extent(own, counts, nexts);
@@ -313,7 +311,7 @@ fn join(
     firsts: &mut [u16],
     nexts: &mut [u16],
 ) -> Step
-    requires { ⌜ (z < 3444) × (length (now counts) ≡ 3444) × (length (now firsts) ≡ 3444) × (length (now nexts) ≡ 3444) ⌝ }
+    requires { ⌜ (z < 3444) × AnodeTables (now counts) (now firsts) (now nexts) ⌝ }
     requires { ⌜ (getD (now firsts) z 0 ≢ 0) × (0 < getD (now counts) z 0 → getD (now firsts) z 0 + getD (now counts) z 0 ≤ 65535) ⌝ }
     ensures { λ r. ⌜ ((last : ℕ) → stepPlan r (anodesFrom (now (counts .exit)) (now (firsts .exit)) (now (nexts .exit))) ≡ join 3444 (exists (now (image .entry))) last (anodesFrom (now (counts .entry)) (now (firsts .entry)) (now (nexts .entry))) z (y .0)) ⌝ }
 {
@@ -337,9 +335,9 @@ pub fn give_back(
     firsts: &mut [u16],
     nexts: &mut [u16],
 ) -> Step
-    requires { ⌜ (length (now counts) ≡ 3444) × (length (now firsts) ≡ 3444) × (length (now nexts) ≡ 3444) ⌝ }
-    requires { ⌜ (wrongSize (now image) ≡ false) × GoodAnodes (now image) (anodesFrom (now counts) (now firsts) (now nexts)) ⌝ }
-    requires { ⌜ Head (anodesFrom (now counts) (now firsts) (now nexts) .next) (anodesFrom (now counts) (now firsts) (now nexts) .block) (head .0) × (head .0 ≢ 1) × (0 < blockCount (anodesFrom (now counts) (now firsts) (now nexts)) (head .0)) ⌝ }
+    requires { ⌜ AnodeTables (now counts) (now firsts) (now nexts) ⌝ }
+    requires { ⌜ Ready (now image) (anodesFrom (now counts) (now firsts) (now nexts)) (head .0) ⌝ }
+    requires { ⌜ 0 < blockCount (anodesFrom (now counts) (now firsts) (now nexts)) (head .0) ⌝ }
     ensures { λ r. ⌜ stepPlan r (anodesFrom (now (counts .exit)) (now (firsts .exit)) (now (nexts .exit))) ≡ giveBack 3444 (exists (now (image .entry))) (lastReserved (now (image .entry))) (anodesFrom (now (counts .entry)) (now (firsts .entry)) (now (nexts .entry))) (head .0) ⌝ }
 {
     let from = head.0 as usize;
@@ -404,9 +402,9 @@ fn move_block(
     firsts: &mut [u16],
     nexts: &mut [u16],
 ) -> Step
-    requires { ⌜ (length (now counts) ≡ 3444) × (length (now firsts) ≡ 3444) × (length (now nexts) ≡ 3444) ⌝ }
-    requires { ⌜ (wrongSize (now image) ≡ false) × GoodAnodes (now image) (anodesFrom (now counts) (now firsts) (now nexts)) ⌝ }
-    requires { ⌜ Head (anodesFrom (now counts) (now firsts) (now nexts) .next) (anodesFrom (now counts) (now firsts) (now nexts) .block) (head .0) × (head .0 ≢ 1) × (taking ≡ false → 0 < blockCount (anodesFrom (now counts) (now firsts) (now nexts)) (head .0)) ⌝ }
+    requires { ⌜ AnodeTables (now counts) (now firsts) (now nexts) ⌝ }
+    requires { ⌜ Ready (now image) (anodesFrom (now counts) (now firsts) (now nexts)) (head .0) ⌝ }
+    requires { ⌜ (taking ≡ false → 0 < blockCount (anodesFrom (now counts) (now firsts) (now nexts)) (head .0)) ⌝ }
     ensures { λ r. ⌜ stepPlan r (anodesFrom (now (counts .exit)) (now (firsts .exit)) (now (nexts .exit))) ≡ moveBlock (now (image .entry)) taking (anodesFrom (now (counts .entry)) (now (firsts .entry)) (now (nexts .entry))) (head .0) ⌝ }
 {
     if taking {
@@ -426,9 +424,9 @@ pub fn move_many(
     nexts: &mut [u16],
     moved: &mut [u16],
 ) -> Moves
-    requires { ⌜ (length (now counts) ≡ 3444) × (length (now firsts) ≡ 3444) × (length (now nexts) ≡ 3444) × (length (now moved) ≡ 65535) ⌝ }
-    requires { ⌜ (wrongSize (now image) ≡ false) × GoodAnodes (now image) (anodesFrom (now counts) (now firsts) (now nexts)) ⌝ }
-    requires { ⌜ Head (anodesFrom (now counts) (now firsts) (now nexts) .next) (anodesFrom (now counts) (now firsts) (now nexts) .block) (head .0) × (head .0 ≢ 1) × (taking ≡ false → k ≤ blockCount (anodesFrom (now counts) (now firsts) (now nexts)) (head .0)) ⌝ }
+    requires { ⌜ AnodeTables (now counts) (now firsts) (now nexts) × (length (now moved) ≡ 65535) ⌝ }
+    requires { ⌜ Ready (now image) (anodesFrom (now counts) (now firsts) (now nexts)) (head .0) ⌝ }
+    requires { ⌜ (taking ≡ false → k ≤ blockCount (anodesFrom (now counts) (now firsts) (now nexts)) (head .0)) ⌝ }
     ensures { λ r. ⌜ manyPlan r (anodesFrom (now (counts .exit)) (now (firsts .exit)) (now (nexts .exit))) (now (moved .exit)) ≡ moveMany (now (image .entry)) taking k (anodesFrom (now (counts .entry)) (now (firsts .entry)) (now (nexts .entry))) (head .0) ⌝ }
 {
     let mut left = k;

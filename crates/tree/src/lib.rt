@@ -8,7 +8,7 @@ ghost use Rattle.rules.specs.Counting.{anyBelow};
 ghost use Rattle.rules.specs.Walk.{blocksFor, isBlockOf, entriesIn};
 ghost use Rattle.laws.specs.Chains.{HeadTable};
 ghost use Rattle.laws.specs.Entries.{enteredAt};
-ghost use Rattle.anodes.specs.Loaded.{anodesFrom};
+ghost use Rattle.anodes.specs.Loaded.{anodesFrom, AnodeTables};
 ghost use Rattle.tree.specs.Tree.{treeNumber, Counts, Queued};
 ghost use Rattle.tree.specs.Steps.{dirMade, sumFrom, headAt, itemIn, enterItem, itemsFrom, itemsWith, queueOf, entering, Leaves, runFrom, conclusion, tallyMade, Room, unnamedAt};
 use directory::Entry;
@@ -366,7 +366,7 @@ pub fn walk_tree(
     queue: &mut [u16],
     parents: &mut [u16],
 ) -> TreeRead
-    requires { ⌜ (length (now counts) ≡ 3444) × (length (now firsts) ≡ 3444) × (length (now nexts) ≡ 3444) × HeadTable (now heads) (anodesFrom (now counts) (now firsts) (now nexts)) ⌝ }
+    requires { ⌜ HeadTable (now heads) (anodesFrom (now counts) (now firsts) (now nexts)) × AnodeTables (now counts) (now firsts) (now nexts) ⌝ }
     requires { ⌜ (length (now queue) ≡ 3444) × (length (now parents) ≡ 3444) ⌝ }
     ensures answer { λ r. ⌜ treeNumber r ≡ treeFault (now (image .entry)) (anodesFrom (now (counts .entry)) (now (firsts .entry)) (now (nexts .entry))) ⌝ }
     ensures counted { λ r. ⌜ Counts r (now (image .entry)) (anodesFrom (now (counts .entry)) (now (firsts .entry)) (now (nexts .entry))) ⌝ }

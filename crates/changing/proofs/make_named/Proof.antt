@@ -1,6 +1,6 @@
 use Rattle.changing.proofs.Laws.{leaves-unmade, leaves-made, wrong-type, right-type, made-kind, right-entry, make-wrong, make-nowhere, make-there, make-fine}
 use Rattle.find.proofs.Laws.{reached-queued, own-heads, open-unbroken, by-image, search-is}
-use Rattle.rules.specs.Changes.{parentOf}
+use Rattle.rules.specs.Changes.{newEntry, parentOf}
 use Rattle.rules.specs.Lookup.{entryNamed}
 use Rattle.rules.specs.Walk.{Dir}
 use Rattle.rules.specs.Anodes.{Anodes}
@@ -25,7 +25,7 @@ number-requires : tie.Need-number-requires
 number-requires c κs = search needs
 
 returns : tie.Need-returns
-returns c = rw (c .number .ensures) (leaves-unmade _ _ _ _ 20 (omega arith) (make-wrong _ _ _ _ _ _ (wrong-type _ _ _ (sym (c .before .before .before .kind-of .ensures) ∙ c .before .enum-told .given .1))) _ _)
+returns c = rw (c .number .ensures) (leaves-unmade _ _ _ 20 (omega arith) (make-wrong _ _ _ _ _ _ (wrong-type _ _ _ (sym (c .before .before .before .kind-of .ensures) ∙ c .before .enum-told .given .1))) _ _)
 
 wrong-entry-requires : tie.Need-wrong-entry-requires
 wrong-entry-requires c κs = search needs
@@ -36,7 +36,7 @@ number-requires-2 c κs = search needs
 returns-2 : tie.Need-returns-2
 returns-2 c =
     let k = right-type _ _ (sym (c .before .before .before .before .before .before .kind-of .ensures) ∙ c .before .before .before .before .read .given .1) _ _ in
-    rw (c .number2 .ensures) (leaves-unmade _ _ _ _ 20 (omega arith) (make-wrong _ _ _ _ _ _ (k ∙ sym (c .before .before .wrong-entry .ensures) ∙ c .before .if1 .taken)) _ _)
+    rw (c .number2 .ensures) (leaves-unmade _ _ _ 20 (omega arith) (make-wrong _ _ _ _ _ _ (k ∙ sym (c .before .before .wrong-entry .ensures) ∙ c .before .if1 .taken)) _ _)
 
 is-reached-requires : tie.Need-is-reached-requires
 is-reached-requires c κs = own-heads (c .before .before .before .before .before .before .before .before .before .before .before .before .before .before .before .before .before .pre .0)
@@ -51,7 +51,7 @@ returns-3 : tie.Need-returns-3
 returns-3 c =
     let k = right-type _ _ (sym (c .before .before .before .before .before .before .before .before .before .kind-of .ensures) ∙ c .before .before .before .before .before .before .before .read .given .1) _ _ in
     let reached = c .before .before .is-reached in
-    rw (c .number3 .ensures) (leaves-unmade _ _ _ _ 21 (omega arith) (make-nowhere _ _ _ _ _ _ (k ∙ sym (c .before .before .before .before .before .wrong-entry .ensures) ∙ c .before .before .before .before .if1 .left) (reached-queued (c .before .before .before .before .before .before .before .before .before .before .before .before .before .before .before .before .before .before .before .before .pre .0) _ (reached .result) (reached .ensures) ∙ c .before .if2 .taken)) _ _)
+    rw (c .number3 .ensures) (leaves-unmade _ _ _ 21 (omega arith) (make-nowhere _ _ _ _ _ _ (k ∙ sym (c .before .before .before .before .before .wrong-entry .ensures) ∙ c .before .before .before .before .if1 .left) (reached-queued (c .before .before .before .before .before .before .before .before .before .before .before .before .before .before .before .before .before .before .before .before .pre .0) _ (reached .result) (reached .ensures) ∙ c .before .if2 .taken)) _ _)
 
 entry-named-requires : tie.Need-entry-named-requires
 entry-named-requires c κs =
@@ -78,7 +78,7 @@ returns-4 c =
     let k = right-type _ _ (sym (c .before .before .before .before .before .before .before .before .before .before .before .before .before .kind-of .ensures) ∙ c .before .before .before .before .before .before .before .before .before .before .before .read .given .1) _ _ in
     let reached = c .before .before .before .before .before .before .is-reached in
     let told = c .before .enum-told2 .given in
-    rw (c .number4 .ensures) (leaves-unmade _ _ _ _ 23 (omega arith) (make-there _ _ _ _ _ _ (k ∙ sym (c .before .before .before .before .before .before .before .before .before .wrong-entry .ensures) ∙ c .before .before .before .before .before .before .before .before .if1 .left) _ (reached-queued o _ (reached .result) (reached .ensures) ∙ c .before .before .before .before .before .if2 .left)
+    rw (c .number4 .ensures) (leaves-unmade _ _ _ 23 (omega arith) (make-there _ _ _ _ _ _ (k ∙ sym (c .before .before .before .before .before .before .before .before .before .wrong-entry .ensures) ∙ c .before .before .before .before .before .before .before .before .if1 .left) _ (reached-queued o _ (reached .result) (reached .ensures) ∙ c .before .before .before .before .before .if2 .left)
     (search-is _ _ _ (by-image o (λ (s : Anodes). entryNamed (a .image .now) s (a .head .0) (a .name .now)) _ (c .before .before .before .entry-named .ensures)) (told .1))) _ _)
 
 enum-told-3 : tie.Need-enum-told-3
@@ -112,7 +112,7 @@ returns-5 c =
     let reached = c .before .before .before .before .before .before .before .before .before .before .before .before .before .before .before .before .is-reached in
     leaves-made _ _ _ _ (make-fine _ _ _ _ _ _ (right-type _ _ is _ _ ∙ sym (c .before .before .before .before .before .before .before .before .before .before .before .before .before .before .before .before .before .before .before .wrong-entry .ensures) ∙ c .before .before .before .before .before .before .before .before .before .before .before .before .before .before .before .before .before .before .if1 .left) (reached-queued o _ (reached .result) (reached .ensures) ∙ c .before .before .before .before .before .before .before .before .before .before .before .before .before .before .before .if2 .left)
     (search-is _ _ _ (by-image o (λ (s : Anodes). entryNamed (a .image .now) s (a .head .0) (a .name .now)) _ (c .before .before .before .before .before .before .before .before .before .before .before .before .before .entry-named .ensures)) (c .before .before .before .before .before .before .before .before .before .before .before .enum-told3 .given .1)))
-    _ (ap (λ (d : Bool). record { dir = d; name = a .name .now; comment = a .comment .now; day = a .day; minute = a .minute; tick = a .tick; protection = a .protection }) (made-kind _ _ is))
+    _ (ap (λ (d : Bool). newEntry d (a .name .now) (a .comment .now) (a .day) (a .minute) (a .tick) (a .protection)) (made-kind _ _ is))
     _ _ _ _ _ _ (c .before .before .before .before .before .before .make-entry .ensures)
 
 pub make-named-spec : {M : Type 1} → statement M

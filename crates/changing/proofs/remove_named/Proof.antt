@@ -26,7 +26,7 @@ same-length-2 c = search needs
 returns : tie.Need-returns
 returns c =
     let r = c .before .before .found2 .given in
-    leaves-unchanged _ _ _ _ (remove-late _ _ _ _) (r .0 .0) _ (c .number .ensures) (rw (r .1) at (c .before .before .before .before .find-removable .ensures)) _ _
+    leaves-unchanged _ _ _ (remove-late _ _ _ _) (r .0 .0) _ (c .number .ensures) (rw (r .1) at (c .before .before .before .before .find-removable .ensures)) _ _
 
 remove-entry-requires : tie.Need-remove-entry-requires
 remove-entry-requires c κs =

@@ -26,7 +26,7 @@ same-length-2 c = search needs
 returns : tie.Need-returns
 returns c =
     let r = c .before .before .found2 .given in
-    leaves-unchanged _ _ _ _ (resize-late _ _ _ _) (r .0 .0) _ (c .number .ensures) (rw (r .1) at (c .before .before .before .before .find-file .ensures)) _ _
+    leaves-unchanged _ _ _ (resize-late _ _ _ _) (r .0 .0) _ (c .number .ensures) (rw (r .1) at (c .before .before .before .before .find-file .ensures)) _ _
 
 resize-entry-requires : tie.Need-resize-entry-requires
 resize-entry-requires c κs =

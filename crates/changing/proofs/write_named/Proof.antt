@@ -27,7 +27,7 @@ same-length c = search needs
 returns : tie.Need-returns
 returns c =
     let r = c .before .before .found2 .given in
-    λ b a. leaves-unchanged _ _ _ _ (span-late _ _ _ _ _ _) (r .0 .0) _ (c .number .ensures) (rw (r .1) at (c .before .before .before .before .find-span .ensures)) b a
+    λ b a. leaves-unchanged _ _ _ (span-late _ _ _ _ _ _) (r .0 .0) _ (c .number .ensures) (rw (r .1) at (c .before .before .before .before .find-span .ensures)) b a
 
 write-along-requires : tie.Need-write-along-requires
 write-along-requires c κs =

@@ -3,11 +3,10 @@ use mathlib.Core.List.{List}
 use native.Mathlib.Omega.{arith}
 use lib.ListN.{length}
 use borrow.Author.Tests.{leb-true}
-use Rattle.directory.specs.Entries.{goodComment, putEntry}
+use Rattle.directory.specs.Entries.{goodComment, isDir, putEntry}
 use Rattle.directory.proofs.Laws.{goodName-length}
 use Rattle.disk.proofs.Laws.{withBlock-none, block-changed}
-use Rattle.rules.specs.Changes.{inBlock, entryOf}
-use Rattle.edits.specs.Entries.{newEntry}
+use Rattle.rules.specs.Changes.{inBlock, newEntry, entryOf}
 use Rattle.edits.proofs.Blocks.{kind-back}
 use borrow.Author.Needs.{needs}
 use Rattle.edits.proofs.put_new_entry.Statement.{statement}
@@ -50,7 +49,7 @@ unfolding inBlock entryOf
 returns-2 c =
     let g = c .before .before .before .before .before .before .before .before .before .args in
     block-changed (g .image .now) (g .place / 512) (c .before .before .before .before .before .block-end .result) (c .before .before .before .before .before .block-end .ensures) (omega arith) (c .before .before .put-entry .last .0) (c .before .before .put-entry .kept .0)
-    (λ (b : List ℕ). putEntry b (g .place % 512) (entryOf (newEntry (g .kind) (g .name .now) (g .comment .now) (g .day) (g .minute) (g .tick) (g .protection)) (g .anode .0)) (g .name .now) (g .comment .now))
+    (λ (b : List ℕ). putEntry b (g .place % 512) (entryOf (newEntry (isDir (g .kind)) (g .name .now) (g .comment .now) (g .day) (g .minute) (g .tick) (g .protection)) (g .anode .0)) (g .name .now) (g .comment .now))
     (rw (kind-back (g .kind)) (c .before .before .put-entry .ensures))
 
 pub put-new-entry-spec : {M : Type 1} → statement M

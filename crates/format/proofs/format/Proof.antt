@@ -1,4 +1,3 @@
--- `format` leaves what the rules say, refusals included.
 use mathlib.Core.Path.{sym, _∙_}
 use Rattle.rules.specs.Format.{formatAnswer}
 use Rattle.rules.specs.Calls.{formatOutcome, doneOr}

@@ -1,4 +1,3 @@
--- `list_head` gives anode 1.
 use borrow.Author.Tests.{eq-eqb, ne-eqb}
 use Rattle.rules.specs.Format.{listHead}
 use borrow.Author.Needs.{needs}

@@ -1,4 +1,3 @@
--- `lower_anode` gives anode 2.
 use borrow.Author.Tests.{eq-eqb, ne-eqb}
 use Rattle.rules.specs.Format.{lowerAnode}
 use borrow.Author.Needs.{needs}

@@ -1,4 +1,3 @@
--- `make` leaves the formatted image.
 use native.Mathlib.Omega.{arith}
 use lib.ListN.{length}
 use Rattle.format.proofs.Laws.{taken, root-lent, root-stored, anodes-blank, directory-stored}

@@ -1,4 +1,3 @@
--- `put_anode_block` stores one anode block.
 use borrow.Author.Tests.{eq-eqb, ne-eqb}
 use Rattle.rules.specs.Format.{emptyAnodeBlock, anodeBlock}
 use borrow.Author.Needs.{needs}

@@ -1,4 +1,3 @@
--- `put_anode_blocks` stores the anode blocks, one after the other.
 use mathlib.Core.Path.{_≡_, sym, ap, _∙_}
 use mathlib.Core.List.{List}
 use Prim.Native.Nat.{ℕ, _+_, _≤_, _-_}
@@ -11,11 +10,9 @@ use Rattle.format.proofs.Parts.{block-lent, withAnodeBlocks-none, withA
 use Rattle.format.proofs.put_anode_blocks.Statement.{statement}
 use Rattle.format.proofs.put_anode_blocks.Tie as tie
 
--- what holds before each turn
 abbrev Inv-loop : tie.InvT-loop
 Inv-loop image₀ n last slots s₀ image s = (s ≤ slots) × (length image ≡ length image₀) × (image ≡ withAnodeBlocks image₀ n last slots s)
 
--- what gets less with each turn
 abbrev μ-loop : tie.MeasureT-loop
 μ-loop image₀ n last slots s₀ image s = slots - s
 

@@ -1,4 +1,3 @@
--- `put_first_anodes` stores the anodes of the first anode block.
 use Rattle.rules.specs.Format.{firstAnodes}
 use borrow.Author.Needs.{needs}
 use Rattle.format.proofs.put_first_anodes.Statement.{statement}

@@ -1,4 +1,3 @@
--- `put_root_block` stores the root block.
 use Rattle.rules.specs.Format.{rootBlock}
 use borrow.Author.Needs.{needs}
 use Rattle.format.proofs.put_root_block.Statement.{statement}

@@ -1,4 +1,3 @@
--- `start_disk` leaves zeros and the disk type.
 use mathlib.Core.Path.{_∙_}
 use Rattle.format.proofs.Parts.{all-cleared}
 use Rattle.format.proofs.Laws.{start-stored}

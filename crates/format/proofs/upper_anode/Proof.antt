@@ -1,4 +1,3 @@
--- `upper_anode` gives anode 6.
 use borrow.Author.Tests.{eq-eqb, ne-eqb}
 use Rattle.rules.specs.Format.{upperAnode}
 use borrow.Author.Needs.{needs}

@@ -1,4 +1,3 @@
--- `wrong_format` is the test of 20.
 use borrow.Author.Tests.{lt-ltb, le-ltb, le-leb, lt-leb, ne-eqb, eq-eqb}
 use Rattle.rules.specs.Format.{wrongFormat}
 use borrow.Author.Needs.{needs}

@@ -1,6 +1,6 @@
-use Rattle.rules.specs.Changes.{madeImage}
+use Rattle.rules.specs.Changes.{newEntry, madeImage}
 use Rattle.anodes.specs.Loaded.{anodesFrom}
-use Rattle.edits.specs.Entries.{newEntry}
+use Rattle.directory.specs.Entries.{isDir}
 use Rattle.making.proofs.Done.{new-view, placed, done-leaves}
 use borrow.Author.Needs.{needs}
 use Rattle.making.proofs.commit_make.Statement.{statement}
@@ -29,7 +29,7 @@ unfolding anodesFrom
 show-heads-requires c κs =
     let a = c .before .before .before .before .before .before .before .before .before .before .before .before .before .before .before .before .before .before .before .before .before .before .before .before .before .before .before .before .before .before .before .before .before .before .before .before .args in
     let pre = c .before .before .before .before .before .before .before .before .before .before .before .before .before .before .before .before .before .before .before .before .before .before .before .before .before .before .before .before .before .before .before .before .before .before .before .before .pre in
-    let v = new-view (a .image .now) _ (newEntry (a .kind) (a .name .now) (a .comment .now) (a .day) (a .minute) (a .tick) (a .protection)) _ _ (pre .1 .1 .1) (pre .1 .1 .0 .0) (pre .1 .1 .0 .1) in
+    let v = new-view (a .image .now) _ (newEntry (isDir (a .kind)) (a .name .now) (a .comment .now) (a .day) (a .minute) (a .tick) (a .protection)) _ _ (pre .1 .1 .1) (pre .1 .1 .0 .0) (pre .1 .1 .0 .1) in
     (pre .0 .1, pre .0 .2, v .0, v .1)
 
 same-length : tie.Need-same-length
@@ -46,7 +46,7 @@ unfolding madeImage
 returns c =
     let a = c .before .before .before .before .before .before .before .before .before .before .before .before .before .before .before .before .before .before .before .before .before .before .before .before .before .before .before .before .before .before .before .before .before .before .before .before .before .before .before .args in
     let pre = c .before .before .before .before .before .before .before .before .before .before .before .before .before .before .before .before .before .before .before .before .before .before .before .before .before .before .before .before .before .before .before .before .before .before .before .before .before .before .before .pre in
-    let new = newEntry (a .kind) (a .name .now) (a .comment .now) (a .day) (a .minute) (a .tick) (a .protection) in
+    let new = newEntry (isDir (a .kind)) (a .name .now) (a .comment .now) (a .day) (a .minute) (a .tick) (a .protection) in
     rw (c .before .before .before .before .before .before .before .before .before .before .before .before .before .before .put-new-entry .ensures, c .before .before .before .before .before .before .before .before .before .before .before .before .before .before .before .before .before .before .head-new2 .ensures, c .before .before .before .before .before .before .before .before .before .before .before .before .before .before .before .before .before .before .before .before .before .before .head-new .ensures, c .before .before .before .before .before .before .before .before .before .before .before .before .before .before .before .before .before .before .before .before .before .before .before .before .before .before .store-anodes .ensures, c .before .before .before .before .before .before .note-owner2 .ensures, c .before .before .before .before .before .before .before .before .before .before .note-owner .ensures, c .before .before .show-heads .ensures (a .new-counts .now), pre .1 .0 .1, placed (a .image .now) _ new _ _ (pre .1 .1 .1) (pre .1 .1 .0 .0) (pre .1 .1 .0 .1))
     (done-leaves (a .image .now) _ new _ _ (pre .1 .1 .1) (pre .1 .1 .0 .0) (pre .1 .1 .0 .1) _ _)
 

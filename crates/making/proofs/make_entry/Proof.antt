@@ -1,9 +1,9 @@
 use native.Mathlib.Omega.{arith}
 use lib.ListN.{length}
 use borrow.Author.Tests.{leb-true}
-use Rattle.directory.specs.Entries.{goodComment}
+use Rattle.directory.specs.Entries.{goodComment, isDir}
 use Rattle.directory.proofs.Laws.{goodName-length}
-use Rattle.edits.specs.Entries.{newEntry}
+use Rattle.rules.specs.Changes.{newEntry}
 use Rattle.changed.specs.Chains.{loaded-copies}
 use Rattle.making.proofs.Done.{stopped}
 use borrow.Author.Needs.{needs}
@@ -56,7 +56,7 @@ same-length c = search needs
 returns : tie.Need-returns
 returns c =
     let a = c .before .before .before .before .before .before .before .before .before .before .before .before .before .before .before .before .before .before .before .before .before .before .before .before .args in
-    let new = newEntry (a .kind) (a .name .now) (a .comment .now) (a .day) (a .minute) (a .tick) (a .protection) in
+    let new = newEntry (isDir (a .kind)) (a .name .now) (a .comment .now) (a .day) (a .minute) (a .tick) (a .protection) in
     rw (c .number .ensures) (stopped (a .image .now) _ new (c .before .before .planned2 .given .0 .0) (rw (c .before .before .planned2 .given .1, c .before .before .before .before .before .before .before .before .before .before .before .entry-len .ensures) at (c .before .before .before .before .before .before .before .plan-make .ensures)) _ _)
 
 slice-aggregate-commit-make : tie.Need-slice-aggregate-commit-make

@@ -1,3 +1,4 @@
+use Rattle.rules.specs.Anodes.{anodesOf}
 use Rattle.reading.proofs.Laws.{file-long, bytes-done}
 use Rattle.changes.specs.Answers.{span-found}
 use Rattle.find.proofs.Laws.{refused-some, not-done}
@@ -38,8 +39,9 @@ same-length c = search needs
 
 returns-2 : tie.Need-returns-2
 returns-2 c =
+    let a = c .before .before .before .before .before .before .before .before .before .before .before .before .before .before .before .before .args in
     let f = rw (c .before .before .before .before .before .found .given .1) at (c .before .before .before .before .before .before .before .find-span .ensures) in
-    (sym (f .0), bytes-done _ _ _ _ (f .1) _ _ _ (span-found _ _ _ _ _ (f .1) _ _ (f .0) .2) (rw (c .before .before .before .before .before .before .before .before .before .before .before .before .before .before .before .before .pre .1 .loaded .is-loaded) at (c .before .before .copy-out .ensures)))
+    (sym (f .0), bytes-done (a .image .now) (anodesOf (a .image .now)) _ _ (f .1) _ (a .out .now) _ (span-found _ _ _ _ _ (f .1) _ _ (f .0) .2) (rw (c .before .before .before .before .before .before .before .before .before .before .before .before .before .before .before .before .pre .1 .loaded .is-loaded) at (c .before .before .copy-out .ensures)))
 
 pub read-named-spec : {M : Type 1} → statement M
 read-named-spec =

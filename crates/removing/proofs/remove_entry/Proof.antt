@@ -40,7 +40,7 @@ move-many-requires : tie.Need-move-many-requires
 move-many-requires c κs =
     let pre = c .before .before .before .before .before .before .before .before .before .before .before .before .before .before .before .pre in
     let w = plan-ready (pre .0 .0) (entered (c .before .before .before .before .before .before .before .before .before .before .before .before .before .before .before .args .e)) (pre .0 .1) _ _ _ (c .before .before .before .before .before .before .before .copied .ensures) (c .before .before .before .before .before .before .copied2 .ensures) (c .before .before .before .before .before .copied3 .ensures) _ (c .before .before .before .before .before .before .before .before .chain-sum .ensures) in
-    ((search needs, search needs, search needs, search needs), (w .0, (w .1 .0, w .1 .1, λ q. le-of-eq (w .1 .2))))
+    (((search needs, search needs, search needs), search needs), (w .0, λ q. le-of-eq (w .1)))
 
 moves-number-requires : tie.Need-moves-number-requires
 moves-number-requires c κs = search needs

@@ -41,7 +41,7 @@ slice-aggregate-plan-resize-4 c = search needs
 plan-resize-requires : tie.Need-plan-resize-requires
 plan-resize-requires c κs =
     let pre = c .before .before .before .before .before .before .before .before .before .before .before .before .before .before .before .before .pre in
-    ((search needs, search needs, search needs, search needs), plan-ready (pre .0 .0) (entered (c .before .before .before .before .before .before .before .before .before .before .before .before .before .before .before .before .args .e)) (pre .0 .1) _ _ _ (c .before .before .before .before .before .before .before .copied .ensures) (c .before .before .before .before .before .before .copied2 .ensures) (c .before .before .before .before .before .copied3 .ensures) _ (c .before .before .before .before .before .before .before .before .before .chain-sum .ensures))
+    (((search needs, search needs, search needs), search needs), plan-ready (pre .0 .0) (entered (c .before .before .before .before .before .before .before .before .before .before .before .before .before .before .before .before .args .e)) (pre .0 .1) _ _ _ (c .before .before .before .before .before .before .before .copied .ensures) (c .before .before .before .before .before .before .copied2 .ensures) (c .before .before .before .before .before .copied3 .ensures) _ (c .before .before .before .before .before .before .before .before .before .chain-sum .ensures))
 
 moves-number-requires : tie.Need-moves-number-requires
 moves-number-requires c κs = search needs

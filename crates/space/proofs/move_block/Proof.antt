@@ -20,7 +20,7 @@ unfolding moveBlock
 returns c = rw (c .before .before .before .before .before .before .before .before .before .before .if1 .taken) (c .before .before .before .before .before .before .take-block .ensures)
 
 give-back-requires : tie.Need-give-back-requires
-give-back-requires c κs = let pre = c .before .before .before .before .before .before .before .before .pre in (pre .0, (pre .1 .0, (pre .1 .1 .0, pre .1 .1 .1, pre .1 .1 .2 (c .before .before .before .if1 .left))))
+give-back-requires c κs = let pre = c .before .before .before .before .before .before .before .before .pre in (pre .0, (pre .1 .0, pre .1 .1 (c .before .before .before .if1 .left)))
 
 same-length-4 : tie.Need-same-length-4
 same-length-4 c = search needs

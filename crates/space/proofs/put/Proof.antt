@@ -39,7 +39,7 @@ cast-if3 : tie.Need-cast-if3
 cast-if3 c = search needs
 
 add-rewrite : tie.Need-add-rewrite
-add-rewrite c = let e : c .before .before .before .before .before .entry2 .result + c .before .before .before .before .before .before .before .before .entry .result ≡ c .before .before .before .before .before .before .before .before .before .before .before .before .before .before .args .y .0 = eqb-true _ _ (c .before .before .if3 .taken) in record { fits = omega (arith, e, c .before .before .before .struct-known .given, c .before .before .before .before .before .entry2 .ensures, c .before .before .before .before .before .before .before .before .before .before .before .before .before .before .pre .4) }
+add-rewrite c = let e : c .before .before .before .before .before .entry2 .result + c .before .before .before .before .before .before .before .before .entry .result ≡ c .before .before .before .before .before .before .before .before .before .before .before .before .before .before .args .y .0 = eqb-true _ _ (c .before .before .if3 .taken) in record { fits = omega (arith, e, c .before .before .before .struct-known .given, c .before .before .before .before .before .entry2 .ensures, c .before .before .before .before .before .before .before .before .before .before .before .before .before .before .pre .2) }
 
 rewrite-requires-2 : tie.Need-rewrite-requires-2
 rewrite-requires-2 c κs = search needs

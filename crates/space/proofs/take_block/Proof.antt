@@ -60,7 +60,7 @@ without-block-requires c κs =
     let at = c .before .before .before .before .before .before .before .found .given in
     let e : freeExtent 3444 (a .own) s ≡ found (at .0 .0) (at .0 .1 .0) = sym (c .before .before .before .before .before .before .before .before .before .free-extent .ensures (a .firsts .now)) ∙ ap foundOf (at .1) in
     let w = found-at (good .2) (cut (s .next)) (cut-goes (s .next)) _ _ (side-found _ s good _ _ _ e .2) in
-    (w .0, w .1, search needs, search needs, search needs, w .2)
+    (w .0, w .1, pre .0, w .2)
 
 cast-last-anode : tie.Need-cast-last-anode
 cast-last-anode c = search needs
@@ -80,7 +80,7 @@ put-requires c κs =
     let w = c .before .before .before .before .before .before .before .before .before .before .before .before .without-block in
     let left = w .ensures ∙ first-out s _ _ _ (ap (λ (b : ℕ). b + 1) (c .before .before .before .before .before .before .before .before .before .before .before .before .before .before .before .before .before .entry .ensures)) in
     let end = chain-end _ s (pre .1 .0 .1) _ _ _ e _ (h .0) (h .1) (w .last .0) (w .last .1 .0) (w .last .1 .1 .0) left _ (c .before .before .before .last-anode .ensures) in
-    (end .0, w .kept .0 ∙ pre .0 .0, w .kept .1 .0 ∙ pre .0 .1, w .kept .1 .1 .0 ∙ pre .0 .2, end .1)
+    (end .0, (w .kept .0 ∙ pre .0 .0, w .kept .1 .0 ∙ pre .0 .1, w .kept .1 .1 .0 ∙ pre .0 .2), end .1)
 
 same-length-3 : tie.Need-same-length-3
 same-length-3 c = search needs
