@@ -105,6 +105,14 @@ pub fn cat<L: Library>(arguments: &Arguments, out: &mut dyn Write) -> Done {
     Ok(out.write_all(&content::<L>(arguments)?.0)?)
 }
 
+/// What is there under a name, a link that leads nowhere too, is replaced only by force.
+fn spare(arguments: &Arguments, file: &OsStr) -> Done {
+    match !arguments.has("--force") && fs::symlink_metadata(file).is_ok() {
+        true => Err(arguments.trouble(format!("{}: there already", text::show_os(file)))),
+        false => Ok(()),
+    }
+}
+
 pub fn get<L: Library>(arguments: &Arguments) -> Done {
     let (bytes, path) = content::<L>(arguments)?;
     let own_name = String::from_utf8(path.name().to_vec());
@@ -113,9 +121,7 @@ pub fn get<L: Library>(arguments: &Arguments) -> Done {
         (None, Ok(name)) if name != "." && name != ".." => OsStr::new(name),
         _ => return Err(arguments.trouble(format!("{path}: give FILE, for no file here can have that name"))),
     };
-    if !arguments.has("--force") && fs::symlink_metadata(file).is_ok() {
-        return Err(arguments.trouble(format!("{}: there already", text::show_os(file))));
-    }
+    spare(arguments, file)?;
     replace(file, &bytes)
 }
 
@@ -163,10 +169,8 @@ fn default_name(file: &OsStr) -> Vec<u8> {
 
 pub fn format<L: Library>(arguments: &Arguments) -> Done {
     let file = arguments.operand(0);
+    spare(arguments, file)?;
     let old = fs::metadata(file).ok();
-    if old.is_some() && !arguments.has("--force") {
-        return Err(arguments.trouble(format!("{}: there already", text::show_os(file))));
-    }
     // A file larger than any disk counts as one block too many, and an empty one as no disk.
     let old_blocks =
         old.as_ref().map(|old| (old.len() / BLOCK as u64).min(65_536) as usize).filter(|&blocks| blocks > 0);
