@@ -91,12 +91,12 @@ pub fn tree<L: Library>(arguments: &Arguments, out: &mut dyn Write) -> Done {
     Ok(())
 }
 
-/// The bytes of a file of the disk.
+/// The bytes of a file of the disk, and its path.
 fn content<L: Library>(arguments: &Arguments) -> Result<(Vec<u8>, Path), Failure> {
     let mut disk = load_sound::<L>(arguments.operand(0))?;
     let path = Path::parse(arguments.operand(1))?;
-    let size = path.entry(&mut disk)?.size;
     let (directory, name) = path.place(&mut disk)?;
+    let size = disk.find(directory, name).map_err(refused(&path))?.size;
     let bytes = disk.read(directory, name, 0, size as usize).map_err(refused(&path))?;
     Ok((bytes, path))
 }
@@ -127,12 +127,10 @@ pub fn get<L: Library>(arguments: &Arguments) -> Done {
 
 pub fn mkdir<L: Library>(arguments: &Arguments) -> Done {
     let path = Path::parse(arguments.operand(1))?;
-    let comment = arguments.bytes("--comment");
-    let (stamp, protection) = (arguments.stamp()?, arguments.number("--protection", 0)?);
+    let new = arguments.new_entry(Kind::Directory)?;
     store::change(arguments.operand(0), |disk: &mut Disk<L>| {
         let (parent, name) = path.place(disk)?;
-        let new = New { kind: Kind::Directory, name, comment: &comment, stamp, protection };
-        disk.make(parent, &new).map_err(refused(&path))
+        disk.make(parent, &New { name, ..new }).map_err(refused(&path))
     })
 }
 
@@ -153,8 +151,8 @@ pub fn resize<L: Library>(arguments: &Arguments) -> Done {
     })
 }
 
-/// What a disk has if nothing is said: 1,760 blocks, of which 63 are last reserved and two hold anodes; other
-/// sizes have the same shares, and always room for the anode blocks and the root directory.
+/// Last reserved and the number of anode blocks if nothing is said: 63 and 2 for 1,760 blocks, the same shares of
+/// other sizes, and always room for the anode blocks and the root directory.
 fn default_shape(blocks: usize) -> (u16, u16) {
     let anode_blocks = (blocks / 880).clamp(1, 42);
     let last_reserved = (blocks * 63 / 1_760).max(3 + anode_blocks).min(blocks.saturating_sub(1));
@@ -179,10 +177,8 @@ pub fn format<L: Library>(arguments: &Arguments) -> Done {
         false => old_blocks.unwrap_or(1_760),
     };
     let (last_reserved, anode_blocks) = default_shape(blocks);
-    let name = match arguments.has("--name") {
-        true => arguments.bytes("--name"),
-        false => default_name(file),
-    };
+    let name =
+        arguments.value("--name").map_or_else(|| default_name(file), |name| name.as_encoded_bytes().to_vec());
     let format = Format {
         last_reserved: arguments.number("--reserved", last_reserved)?,
         anode_blocks: arguments.number("--anode-blocks", anode_blocks)?,
