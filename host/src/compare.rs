@@ -3,9 +3,9 @@
 
 use std::collections::BTreeMap;
 
-use crate::calls::{run, Call, Library, Model, Outcome, ANODES, BLOCK};
+use crate::calls::{run, Call, Library, Outcome, ANODES, BLOCK};
 use crate::histories::{follow, random_call, Mood};
-use crate::model;
+use crate::model::{self, Model};
 use crate::rng::Rng;
 use crate::shapes::Shaped;
 

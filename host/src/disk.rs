@@ -14,8 +14,9 @@ pub use crate::refusals::Error;
 /// library.
 ///
 /// ```
-/// use ovenknit_host::calls::{Model, Stamp, ROOT};
+/// use ovenknit_host::calls::{Stamp, ROOT};
 /// use ovenknit_host::disk::{Disk, Entry, Format, Kind, New};
+/// use ovenknit_host::model::Model;
 ///
 /// # fn main() -> Result<(), ovenknit_host::disk::Error> {
 /// let mut disk = Disk::<Model>::format(1_760, &Format::new(63, 2, b"bench 4"))?;
@@ -331,7 +332,8 @@ impl<L: Library> Iterator for List<'_, L> {
 #[cfg(test)]
 mod tests {
     use super::*;
-    use crate::calls::{Model, ROOT};
+    use crate::calls::ROOT;
+    use crate::model::Model;
 
     fn disk() -> Disk<Model> {
         let mut disk = Disk::format(20, &Format::new(9, 1, b"disk")).expect("it is formatted");

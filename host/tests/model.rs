@@ -3,12 +3,12 @@
 
 use std::collections::BTreeMap;
 
-use ovenknit_host::calls::{run, Call, Model, Outcome, DIRECTORY, ROOT, UNREAD};
+use ovenknit_host::calls::{run, Call, Outcome, DIRECTORY, ROOT, UNREAD};
 use ovenknit_host::compare::{junk_tables, Histogram};
 use ovenknit_host::disk::Kind;
 use ovenknit_host::histories::{expect_format, head_of, random_call, Mood};
 use ovenknit_host::model::layout::{Anode, AnodeTable, ANODES, BLOCK};
-use ovenknit_host::model::{self, layout, naive};
+use ovenknit_host::model::{self, layout, naive, Model};
 use ovenknit_host::rng::{seeded, Rng};
 use ovenknit_host::shapes::{accepted, disk_blocks, formatted, random_bytes, shaped, Bender, Recipe, Shaped};
 use ovenknit_host::starts::Start;

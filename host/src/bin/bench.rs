@@ -5,8 +5,9 @@
 use std::hint::black_box;
 use std::time::{Duration, Instant};
 
-use ovenknit_host::calls::{run, Call, Lent, Library, Model, Output, Stamp, ANODES, BLOCK, FILE, ROOT};
+use ovenknit_host::calls::{run, Call, Lent, Library, Output, Stamp, ANODES, BLOCK, FILE, ROOT};
 use ovenknit_host::ffi::Proved;
+use ovenknit_host::model::Model;
 use ovenknit_host::rng::Rng;
 use ovenknit_host::shapes::{shaped, Recipe};
 
