@@ -88,6 +88,11 @@ impl Output {
     }
 }
 
+/// A block table and an anode table, as long as the calls on an image need them.
+pub fn tables(image: &[u8]) -> (Vec<u16>, Vec<u16>) {
+    (vec![0; image.len() / BLOCK], vec![0; ANODES])
+}
+
 /// What a call is lent to work on. Calls that only look do not write to the image; format is lent no tables.
 pub struct Lent<'a> {
     pub image: &'a mut [u8],

@@ -10,7 +10,7 @@ use crate::rng::Rng;
 use crate::shapes::Shaped;
 
 /// A table of junk, cheaply: one pattern from a random start.
-pub fn junk(length: usize, rng: &mut Rng) -> Vec<u16> {
+fn junk(length: usize, rng: &mut Rng) -> Vec<u16> {
     let start = rng.word();
     (0..length).map(|place| start.wrapping_add((place as u16).wrapping_mul(40_503))).collect()
 }
