@@ -1,8 +1,6 @@
 //! The calls of the library as values. A history of them can be run on the model, on the proved library, or on
 //! both side by side. [`Call`] carries the arguments, [`Library`] is whoever runs them.
 
-use crate::model;
-
 /// The bytes of a block.
 pub const BLOCK: usize = 512;
 /// The entries that an anode table needs.
@@ -90,6 +88,11 @@ impl Output {
     }
 }
 
+/// A block table and an anode table, as long as the calls on an image need them.
+pub fn tables(image: &[u8]) -> (Vec<u16>, Vec<u16>) {
+    (vec![0; image.len() / BLOCK], vec![0; ANODES])
+}
+
 /// What a call is lent to work on. Calls that only look do not write to the image; format is lent no tables.
 pub struct Lent<'a> {
     pub image: &'a mut [u8],
@@ -115,38 +118,4 @@ pub fn run<L: Library>(call: &Call, image: &mut [u8], blocks: &mut [u16], anodes
     let mut output = Output::for_call(call);
     let answer = L::answer(call, Lent { image, blocks, anodes }, &mut output);
     Outcome { answer, output }
-}
-
-/// The model as a library.
-pub struct Model;
-
-impl Library for Model {
-    fn answer(call: &Call, lent: Lent, output: &mut Output) -> u32 {
-        let Lent { image, blocks, anodes } = lent;
-        match call {
-            Call::Check => model::check(image, blocks, anodes),
-            Call::Summary => model::summary(image, blocks, anodes, &mut output.counts),
-            Call::Format { last_reserved, anode_blocks, name, stamp, protection } => {
-                model::format(image, *last_reserved, *anode_blocks, name, *stamp, *protection)
-            }
-            Call::Read { directory, name, offset, .. } => {
-                model::read(image, blocks, anodes, *directory, name, *offset, &mut output.bytes)
-            }
-            Call::List { directory, place } => {
-                model::list(image, blocks, anodes, *directory, *place, &mut output.entry)
-            }
-            Call::Make { directory, kind, name, comment, stamp, protection } => {
-                let entry =
-                    model::NewEntry { kind: *kind, name, comment, stamp: *stamp, protection: *protection };
-                model::make(image, blocks, anodes, *directory, &entry)
-            }
-            Call::Resize { directory, name, size } => {
-                model::resize(image, blocks, anodes, *directory, name, *size)
-            }
-            Call::Write { directory, name, offset, data } => {
-                model::write(image, blocks, anodes, *directory, name, *offset, data)
-            }
-            Call::Remove { directory, name } => model::remove(image, blocks, anodes, *directory, name),
-        }
-    }
 }

@@ -3,14 +3,15 @@
 
 use std::collections::BTreeMap;
 
-use crate::calls::{run, Call, Library, Model, Outcome, ANODES, BLOCK};
+use crate::calls::{run, Call, Library, Outcome, ANODES, BLOCK};
 use crate::histories::{follow, random_call, Mood};
-use crate::model;
+use crate::model::{self, Model, Totals};
 use crate::rng::Rng;
 use crate::shapes::Shaped;
+use crate::tree::Tree;
 
 /// A table of junk, cheaply: one pattern from a random start.
-pub fn junk(length: usize, rng: &mut Rng) -> Vec<u16> {
+fn junk(length: usize, rng: &mut Rng) -> Vec<u16> {
     let start = rng.word();
     (0..length).map(|place| start.wrapping_add((place as u16).wrapping_mul(40_503))).collect()
 }
@@ -40,6 +41,15 @@ pub fn compare<L: Library>(call: &Call, image: &mut [u8], blocks: &mut [u16], an
     assert!(*blocks == model_blocks[..], "block tables differ after {call:?}, answered {answer}");
     assert!(*anodes == model_anodes[..], "anode tables differ after {call:?}, answered {answer}");
     outcome
+}
+
+/// The blocks of a disk by kind. It must be accepted, the kinds must add up to its size, and files and directories
+/// must have the blocks that the tree needs.
+pub fn totals(image: &[u8], tree: &Tree) -> Totals {
+    let totals = model::totals(image).expect("the disk is no longer accepted");
+    assert_eq!(totals.sum(), image.len() / BLOCK, "{totals:?}");
+    assert_eq!((totals.files, totals.directories), tree.blocks());
+    totals
 }
 
 /// How often each call gave each answer.
@@ -112,9 +122,7 @@ impl<'a> History<'a> {
         let mut mood = Mood::random(self.rng);
         let mut free = self.free_blocks();
         for _ in 0..calls {
-            if self.rng.percent(3) {
-                mood = Mood::random(self.rng);
-            }
+            mood = mood.next(self.rng);
             let call = random_call(&self.disk.tree, mood, blocks, free, self.rng);
             self.call::<L>(&call);
             free = self.free_blocks();
@@ -132,13 +140,8 @@ impl<'a> History<'a> {
         }
     }
 
-    /// The free blocks of the disk as it is now, which must be accepted and have an owner for every block.
     fn free_blocks(&self) -> usize {
-        let image = &self.disk.image;
-        let totals = model::totals(image).expect("the disk is no longer accepted");
-        assert_eq!(totals.sum(), image.len() / BLOCK, "{totals:?}");
-        assert_eq!((totals.files, totals.directories), self.disk.tree.blocks());
-        totals.free
+        totals(&self.disk.image, &self.disk.tree).free
     }
 }
 

@@ -2,20 +2,20 @@
 
 use std::marker::PhantomData;
 
-use crate::calls::{run, Call, Library, Output, Stamp, ANODES, BLOCK, DIRECTORY, FILE};
+use crate::calls::{run, tables, Call, Library, Output, Stamp, BLOCK, DIRECTORY, FILE};
 pub use crate::refusals::Error;
 
 /// A disk image and the two tables that the calls fill, over any [`Library`].
 ///
-/// Every method but [`Disk::new`] is one call of the library, and every call but format checks the whole image
-/// first. A refused call leaves the image as it was.
+/// Every call but format checks the whole image first, and a refused one leaves the image as it was.
 ///
 /// The example runs on the model; with the feature `proved`, `Disk<ffi::Proved>` is the same over the proved
 /// library.
 ///
 /// ```
-/// use ovenknit_host::calls::{Model, Stamp, ROOT};
+/// use ovenknit_host::calls::{Stamp, ROOT};
 /// use ovenknit_host::disk::{Disk, Entry, Format, Kind, New};
+/// use ovenknit_host::model::Model;
 ///
 /// # fn main() -> Result<(), ovenknit_host::disk::Error> {
 /// let mut disk = Disk::<Model>::format(1_760, &Format::new(63, 2, b"bench 4"))?;
@@ -188,8 +188,8 @@ impl Entry {
 impl<L: Library> Disk<L> {
     /// Takes an image as it is; the first call checks it.
     pub fn new(image: Vec<u8>) -> Self {
-        let blocks = vec![0; image.len() / BLOCK];
-        Disk { image, blocks, anodes: vec![0; ANODES], library: PhantomData }
+        let (blocks, anodes) = tables(&image);
+        Disk { image, blocks, anodes, library: PhantomData }
     }
 
     /// Makes an empty disk of so many blocks.
@@ -228,7 +228,7 @@ impl<L: Library> Disk<L> {
         Ok(Entry::of(&self.image, &output.entry))
     }
 
-    /// The first entry of that name. Names match byte for byte.
+    /// The first entry of that name, by a call for each place up to it. Names match byte for byte.
     pub fn find(&mut self, directory: u16, name: &[u8]) -> Result<Entry, Error> {
         let mut place = 0;
         loop {
@@ -283,11 +283,6 @@ impl<L: Library> Disk<L> {
         &self.image
     }
 
-    /// The image, without the tables.
-    pub fn into_image(self) -> Vec<u8> {
-        self.image
-    }
-
     /// The owner of each block, by the block table as the last call left it. After a damage number the table says
     /// nothing.
     pub fn owners(&self) -> impl Iterator<Item = Owner> + '_ {
@@ -331,7 +326,8 @@ impl<L: Library> Iterator for List<'_, L> {
 #[cfg(test)]
 mod tests {
     use super::*;
-    use crate::calls::{Model, ROOT};
+    use crate::calls::ROOT;
+    use crate::model::Model;
 
     fn disk() -> Disk<Model> {
         let mut disk = Disk::format(20, &Format::new(9, 1, b"disk")).expect("it is formatted");
@@ -375,6 +371,6 @@ mod tests {
         let known = start.chain([Owner::AnodeBlock, Owner::Entry(ROOT), Owner::Free]);
         assert!(disk.owners().take(6).eq(known));
         assert_eq!(disk.heads()[..8], [0, 1, 1, 0, 0, 5, 1, 7]);
-        assert_eq!(disk.into_image(), before);
+        assert_eq!(disk.image(), before);
     }
 }

@@ -1,9 +1,9 @@
 //! Random calls for histories: their arguments are mostly such that the call can be done on the disk, at times
 //! such that it must be refused, and often at the very edge.
 
-use crate::calls::{Call, DIRECTORY, FILE, ROOT};
-use crate::disk::Kind;
-use crate::model;
+use crate::calls::{Call, BLOCK, DIRECTORY, FILE, ROOT};
+use crate::disk::{Disk, Kind};
+use crate::model::Model;
 use crate::rng::Rng;
 use crate::shapes::format_call;
 use crate::tree::{Node, Tree};
@@ -25,7 +25,15 @@ impl Mood {
         [Mood::Mixed, Mood::Growing, Mood::Making, Mood::Shrinking][rng.below(4)]
     }
 
-    /// How many calls in a hundred are make, resize and remove; the others do not change the tree's shape.
+    /// The mood of the next call: mostly the same.
+    pub fn next(self, rng: &mut Rng) -> Self {
+        match rng.percent(3) {
+            true => Mood::random(rng),
+            false => self,
+        }
+    }
+
+    /// How many calls in a hundred are make, resize and remove; the others look, write or, rarely, format.
     fn shares(self) -> [usize; 3] {
         match self {
             Mood::Mixed => [20, 25, 12],
@@ -49,11 +57,11 @@ pub fn random_call(tree: &Tree, mood: Mood, blocks: usize, free: usize, rng: &mu
         let (directory, name) = any_entry(tree, |_| true, rng);
         Call::Remove { directory, name }
     } else {
-        quiet_call(tree, blocks, rng)
+        other_call(tree, blocks, rng)
     }
 }
 
-fn quiet_call(tree: &Tree, blocks: usize, rng: &mut Rng) -> Call {
+fn other_call(tree: &Tree, blocks: usize, rng: &mut Rng) -> Call {
     match rng.below(20) {
         0 => Call::Check,
         1 => Call::Summary,
@@ -155,9 +163,9 @@ fn make_call(tree: &Tree, rng: &mut Rng) -> Call {
 
 fn resize_call(tree: &Tree, mood: Mood, free: usize, rng: &mut Rng) -> Call {
     let (directory, name) = any_file(tree, rng);
-    let old = tree.find(directory, &name).map_or(0, |node| node.content.len());
-    let held = old.next_multiple_of(512);
-    let most = held + free * 512;
+    let old = tree.size(directory, &name);
+    let held = old.next_multiple_of(BLOCK);
+    let most = held + free * BLOCK;
     let size = match rng.below(12) {
         0 => old as u64,
         1 => held as u64,
@@ -201,15 +209,13 @@ fn any_range(size: usize, rng: &mut Rng) -> (u64, usize) {
 
 fn read_call(tree: &Tree, rng: &mut Rng) -> Call {
     let (directory, name) = any_file(tree, rng);
-    let size = tree.find(directory, &name).map_or(0, |node| node.content.len());
-    let (offset, length) = any_range(size, rng);
+    let (offset, length) = any_range(tree.size(directory, &name), rng);
     Call::Read { directory, name, offset, length }
 }
 
 fn write_call(tree: &Tree, rng: &mut Rng) -> Call {
     let (directory, name) = any_file(tree, rng);
-    let size = tree.find(directory, &name).map_or(0, |node| node.content.len());
-    let (offset, length) = any_range(size, rng);
+    let (offset, length) = any_range(tree.size(directory, &name), rng);
     Call::Write { directory, name, offset, data: rng.bytes(length) }
 }
 
@@ -239,40 +245,15 @@ fn random_format(blocks: usize, rng: &mut Rng) -> Call {
     call
 }
 
-/// The number by which format must refuse these arguments on a disk of this many blocks, 0 if it is done.
-pub fn expect_format(call: &Call, blocks: usize) -> u32 {
-    let Call::Format { last_reserved, anode_blocks, name, .. } = call else {
-        return 0;
-    };
-    let (last, count) = (usize::from(*last_reserved), usize::from(*anode_blocks));
-    let good =
-        (1..=42).contains(&count) && 3 + count <= last && last < blocks && (1..=31).contains(&name.len());
-    match good {
-        true => 0,
-        false => 20,
-    }
-}
-
-/// The anode that the first entry of this name has in an accepted image, by the model.
-pub fn head_of(image: &[u8], directory: u16, name: &[u8]) -> Option<u16> {
-    let (mut blocks, mut anodes) = (vec![0; image.len() / 512], vec![0; model::layout::ANODES]);
-    let mut fields = [0; 11];
-    for place in 0.. {
-        if model::list(image, &mut blocks, &mut anodes, directory, place, &mut fields) != 0 {
-            break;
-        }
-        let start = fields[7] as usize;
-        if image[start..start + fields[8] as usize] == *name {
-            return Some(fields[1] as u16);
-        }
-    }
-    None
+/// The anode of the first entry of this name in an accepted image, by the model; 0 if there is none.
+pub fn head_of(image: &[u8], directory: u16, name: &[u8]) -> u16 {
+    Disk::<Model>::new(image.to_vec()).find(directory, name).map_or(0, |entry| entry.anode)
 }
 
 /// Does to the tree what a done change did to the disk that is now in `image`.
 pub fn follow(tree: &mut Tree, call: &Call, image: &[u8]) {
     let made = match call {
-        Call::Make { directory, name, .. } => head_of(image, *directory, name).unwrap_or(0),
+        Call::Make { directory, name, .. } => head_of(image, *directory, name),
         _ => 0,
     };
     tree.apply(call, made);

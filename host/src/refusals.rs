@@ -2,9 +2,8 @@
 
 use std::fmt;
 
-/// Every number with what it means.
-pub const WORDS: [(u32, &str); 26] = [
-    (0, "done"),
+/// Every refusal with what it means.
+const WORDS: [(u32, &str); 25] = [
     (
         1,
         "the image is not a whole number of 512-byte blocks, or has fewer than 5 or more than 65,535 of them",
@@ -56,18 +55,8 @@ impl Error {
 
     /// What the number means.
     pub fn words(self) -> &'static str {
-        words(self.number)
+        WORDS.iter().find(|row| row.0 == self.number).map_or("unknown number", |row| row.1)
     }
-
-    /// Is it one of those that say the disk is damaged?
-    pub fn is_damage(self) -> bool {
-        (3..=16).contains(&self.number)
-    }
-}
-
-/// What a number means.
-pub fn words(number: u32) -> &'static str {
-    WORDS.iter().find(|row| row.0 == number).map_or("unknown number", |row| row.1)
 }
 
 impl fmt::Display for Error {
@@ -85,16 +74,9 @@ mod tests {
     #[test]
     fn every_number_has_words() {
         let numbers: Vec<u32> = WORDS.iter().map(|row| row.0).collect();
-        assert_eq!(numbers, (0..=16).chain(20..=28).collect::<Vec<u32>>());
-        assert!(WORDS.iter().all(|row| !row.1.is_empty()));
+        assert_eq!(numbers, (1..=16).chain(20..=28).collect::<Vec<u32>>());
         assert_eq!(Error::of(27).unwrap_err().to_string(), "27: no block is free");
+        assert_eq!(Error::of(17).unwrap_err().to_string(), "17: unknown number");
         assert_eq!(Error::of(0), Ok(()));
-        assert_eq!(words(17), "unknown number");
-    }
-
-    #[test]
-    fn damage_is_3_to_16() {
-        let damage = WORDS.iter().filter_map(|row| Error::of(row.0).err()).filter(|error| error.is_damage());
-        assert_eq!(damage.map(Error::number).collect::<Vec<u32>>(), (3..=16).collect::<Vec<u32>>());
     }
 }

@@ -32,7 +32,7 @@ impl Rng {
     /// A number in the range, both ends included. The range must not be empty.
     pub fn within(&mut self, range: RangeInclusive<usize>) -> usize {
         let (low, high) = range.into_inner();
-        debug_assert!(low <= high);
+        assert!(low <= high);
         low + self.below(high - low + 1)
     }
 
@@ -81,11 +81,6 @@ impl Rng {
 
     pub fn stamp(&mut self) -> Stamp {
         Stamp::new(self.word(), self.word(), self.word())
-    }
-
-    /// A table of junk words.
-    pub fn words(&mut self, length: usize) -> Vec<u16> {
-        (0..length).map(|_| self.word()).collect()
     }
 }
 

@@ -13,8 +13,9 @@ mod plan;
 pub use bend::Bender;
 pub use plan::{shaped, Deal, Recipe, Shaped};
 
-use crate::calls::{run, Call, Model};
+use crate::calls::{run, Call};
 use crate::model::layout::{put_word, BLOCK};
+use crate::model::Model;
 use crate::rng::Rng;
 
 /// The arguments of a format that is done on a disk of this many blocks.

@@ -5,7 +5,7 @@ use crate::shapes::{disk_blocks, formatted, shaped, Recipe, Shaped};
 use crate::tree::Tree;
 
 /// What a disk is like before the first call.
-#[derive(Clone, Copy, Debug, PartialEq, Eq, PartialOrd, Ord)]
+#[derive(Clone, Copy, Debug)]
 pub enum Start {
     /// Empty, from format.
     Formatted,

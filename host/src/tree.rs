@@ -4,11 +4,16 @@
 
 use std::collections::BTreeMap;
 
-use crate::calls::{Call, DIRECTORY, FILE, ROOT};
+use crate::calls::{Call, BLOCK, DIRECTORY, FILE, ROOT};
 use crate::disk::{Entry, Kind};
 
 /// The bytes of a directory block that entries may fill.
 pub const ENTRY_SPACE: usize = 494;
+
+/// The bytes that an entry with a name and a comment of these lengths takes.
+pub fn entry_length(name: usize, comment: usize) -> usize {
+    (17 + name + comment).div_ceil(2) * 2
+}
 
 /// An entry, with the bytes of the file.
 #[derive(Clone, Debug, PartialEq, Eq)]
@@ -18,9 +23,8 @@ pub struct Node {
 }
 
 impl Node {
-    /// The bytes that the entry takes.
     pub fn length(&self) -> usize {
-        (17 + self.entry.name.len() + self.entry.comment.len()).div_ceil(2) * 2
+        entry_length(self.entry.name.len(), self.entry.comment.len())
     }
 }
 
@@ -75,15 +79,6 @@ fn used(block: &[Node]) -> usize {
     block.iter().map(Node::length).sum()
 }
 
-/// What a call must answer.
-#[derive(Clone, Copy, Debug, PartialEq, Eq)]
-pub enum Expected {
-    /// This number, 0 for done.
-    Answer(u32),
-    /// Done, or refused for want of space by 27 or 28: the tree cannot know.
-    IfSpace,
-}
-
 /// The directories of a disk by number; the root's is 5.
 #[derive(Clone, Debug, PartialEq, Eq)]
 pub struct Tree {
@@ -108,7 +103,7 @@ impl Tree {
     /// The blocks that files and directories take.
     pub fn blocks(&self) -> (usize, usize) {
         let nodes = self.directories.values().flat_map(Directory::nodes);
-        let files = nodes.map(|node| node.content.len().div_ceil(512)).sum();
+        let files = nodes.map(|node| node.content.len().div_ceil(BLOCK)).sum();
         let directories = self.directories.values().map(|directory| directory.blocks.len()).sum();
         (files, directories)
     }
@@ -117,80 +112,79 @@ impl Tree {
         self.directories.get(&directory)?.find(name)
     }
 
-    /// What a call must answer on a disk that holds this tree. Format is not asked for.
-    pub fn expect(&self, call: &Call) -> Expected {
-        match call {
-            Call::Check | Call::Summary | Call::Format { .. } => Expected::Answer(0),
+    /// The size of a file; 0 if there is none of that name.
+    pub fn size(&self, directory: u16, name: &[u8]) -> usize {
+        self.find(directory, name).map_or(0, |node| node.content.len())
+    }
+
+    /// The number from 20 to 26 by which a call must be refused on a disk of so many blocks that holds this tree. Any
+    /// other call is done, unless space stops it, of which the tree knows nothing.
+    pub fn refusal(&self, call: &Call, blocks: usize) -> Option<u32> {
+        let passed = match call {
+            Call::Check | Call::Summary => Ok(()),
+            Call::Format { last_reserved, anode_blocks, name, .. } => {
+                pass_format(blocks, usize::from(*last_reserved), usize::from(*anode_blocks), name)
+            }
             Call::Read { directory, name, offset, length } => {
-                Expected::Answer(self.expect_bytes(*directory, name, *offset, *length))
+                self.pass_part(*directory, name, *offset, *length)
             }
             Call::Write { directory, name, offset, data } => {
-                Expected::Answer(self.expect_bytes(*directory, name, *offset, data.len()))
+                self.pass_part(*directory, name, *offset, data.len())
             }
-            Call::List { directory, place } => Expected::Answer(self.expect_list(*directory, *place)),
+            Call::List { directory, place } => self.pass_list(*directory, *place),
             Call::Make { directory, kind, name, comment, .. } => {
-                unless(self.refuse_make(*directory, *kind, name, comment))
+                self.pass_make(*directory, *kind, name, comment)
             }
-            Call::Resize { directory, name, .. } => unless(self.refuse_file(*directory, name)),
-            Call::Remove { directory, name } => unless(self.refuse_remove(*directory, name)),
-        }
-    }
-
-    fn refuse_name(&self, directory: u16, name: &[u8]) -> Result<&Node, u32> {
-        self.directories.get(&directory).ok_or(21u32)?.find(name).ok_or(22)
-    }
-
-    fn refuse_file(&self, directory: u16, name: &[u8]) -> Option<u32> {
-        match self.refuse_name(directory, name) {
-            Ok(node) if node.entry.kind == Kind::File => None,
-            Ok(_) => Some(24),
-            Err(number) => Some(number),
-        }
-    }
-
-    fn expect_bytes(&self, directory: u16, name: &[u8], offset: u64, length: usize) -> u32 {
-        if let Some(number) = self.refuse_file(directory, name) {
-            return number;
-        }
-        let size = self.find(directory, name).map_or(0, |node| node.content.len());
-        match offset.checked_add(length as u64) {
-            Some(end) if end <= size as u64 => 0,
-            _ => 26,
-        }
-    }
-
-    fn expect_list(&self, directory: u16, place: u64) -> u32 {
-        match self.directories.get(&directory) {
-            None => 21,
-            Some(directory) if (directory.nodes().count() as u64) <= place => 22,
-            Some(_) => 0,
-        }
-    }
-
-    fn refuse_make(&self, directory: u16, kind: u8, name: &[u8], comment: &[u8]) -> Option<u32> {
-        let forbidden = name.iter().any(|byte| [0, b':', b'/'].contains(byte));
-        if ![FILE, DIRECTORY].contains(&kind)
-            || name.is_empty()
-            || name.len() > 107
-            || forbidden
-            || comment.len() > 79
-        {
-            return Some(20);
-        }
-        match self.refuse_name(directory, name) {
-            Ok(_) => Some(23),
-            Err(22) => None,
-            Err(number) => Some(number),
-        }
-    }
-
-    fn refuse_remove(&self, directory: u16, name: &[u8]) -> Option<u32> {
-        let node = match self.refuse_name(directory, name) {
-            Ok(node) => node,
-            Err(number) => return Some(number),
+            Call::Resize { directory, name, .. } => self.pass_file(*directory, name).map(drop),
+            Call::Remove { directory, name } => self.pass_remove(*directory, name),
         };
-        let full = self.directories.get(&node.entry.anode).is_some_and(|directory| !directory.is_empty());
-        (node.entry.kind == Kind::Directory && full).then_some(25)
+        passed.err()
+    }
+
+    fn pass_directory(&self, number: u16) -> Result<&Directory, u32> {
+        self.directories.get(&number).ok_or(21)
+    }
+
+    fn pass_name(&self, directory: u16, name: &[u8]) -> Result<&Node, u32> {
+        self.pass_directory(directory)?.find(name).ok_or(22)
+    }
+
+    fn pass_file(&self, directory: u16, name: &[u8]) -> Result<&Node, u32> {
+        let node = self.pass_name(directory, name)?;
+        (node.entry.kind == Kind::File).then_some(node).ok_or(24)
+    }
+
+    fn pass_part(&self, directory: u16, name: &[u8], offset: u64, length: usize) -> Result<(), u32> {
+        let size = self.pass_file(directory, name)?.content.len() as u64;
+        let end = offset.checked_add(length as u64);
+        end.filter(|&end| end <= size).map(drop).ok_or(26)
+    }
+
+    fn pass_list(&self, directory: u16, place: u64) -> Result<(), u32> {
+        let entries = self.pass_directory(directory)?.nodes().count() as u64;
+        (place < entries).then_some(()).ok_or(22)
+    }
+
+    fn pass_make(&self, directory: u16, kind: u8, name: &[u8], comment: &[u8]) -> Result<(), u32> {
+        let good = [FILE, DIRECTORY].contains(&kind)
+            && (1..=107).contains(&name.len())
+            && !name.iter().any(|byte| [0, b':', b'/'].contains(byte))
+            && comment.len() <= 79;
+        if !good {
+            return Err(20);
+        }
+        match self.pass_directory(directory)?.find(name) {
+            Some(_) => Err(23),
+            None => Ok(()),
+        }
+    }
+
+    fn pass_remove(&self, directory: u16, name: &[u8]) -> Result<(), u32> {
+        let entry = &self.pass_name(directory, name)?.entry;
+        match entry.kind == Kind::Directory && !self.directories[&entry.anode].is_empty() {
+            true => Err(25),
+            false => Ok(()),
+        }
     }
 
     /// The bytes that a done read gives.
@@ -254,6 +248,10 @@ impl Tree {
     }
 }
 
-fn unless(refusal: Option<u32>) -> Expected {
-    refusal.map_or(Expected::IfSpace, Expected::Answer)
+fn pass_format(blocks: usize, last_reserved: usize, anode_blocks: usize, name: &[u8]) -> Result<(), u32> {
+    let good = (1..=42).contains(&anode_blocks)
+        && 3 + anode_blocks <= last_reserved
+        && last_reserved < blocks
+        && (1..=31).contains(&name.len());
+    good.then_some(()).ok_or(20)
 }

@@ -3,16 +3,16 @@
 
 use std::collections::BTreeMap;
 
-use ovenknit_host::calls::{run, Call, Model, Outcome, DIRECTORY, ROOT, UNREAD};
-use ovenknit_host::compare::{junk_tables, Histogram};
+use ovenknit_host::calls::{run, tables, Call, Outcome, DIRECTORY, ROOT, UNREAD};
+use ovenknit_host::compare::{junk_tables, totals, Histogram};
 use ovenknit_host::disk::Kind;
-use ovenknit_host::histories::{expect_format, head_of, random_call, Mood};
+use ovenknit_host::histories::{head_of, random_call, Mood};
 use ovenknit_host::model::layout::{Anode, AnodeTable, ANODES, BLOCK};
-use ovenknit_host::model::{self, layout, naive};
+use ovenknit_host::model::{self, layout, naive, Model};
 use ovenknit_host::rng::{seeded, Rng};
 use ovenknit_host::shapes::{accepted, disk_blocks, formatted, random_bytes, shaped, Bender, Recipe, Shaped};
 use ovenknit_host::starts::Start;
-use ovenknit_host::tree::{Expected, Tree};
+use ovenknit_host::tree::{entry_length, Tree};
 
 /// Runs both checks with the same junk in the tables, compares all that they leave, and answers their number.
 fn compare_checks(image: &[u8], blocks: Vec<u16>, anodes: Vec<u16>) -> u32 {
@@ -45,11 +45,7 @@ fn compare_bent(image: &[u8], histogram: &mut Histogram, rng: &mut Rng) {
         histogram.add(compare_with_junk(&bender.scuffed(rng), rng), "check");
         histogram.add(compare_with_junk(&bender.jolted(rng), rng), "check");
     }
-    let (mut blocks, mut anodes) = junk_tables(image.len() / BLOCK, false, rng);
-    match rng.percent(50) {
-        true => blocks.truncate(rng.below(image.len() / BLOCK)),
-        false => anodes.truncate(rng.below(ANODES)),
-    }
+    let (blocks, anodes) = junk_tables(image.len() / BLOCK, true, rng);
     let answer = compare_checks(image, blocks, anodes);
     assert_eq!(answer, 2);
     histogram.add(answer, "check");
@@ -232,25 +228,24 @@ impl<'a> History<'a> {
         self.image.len() / BLOCK
     }
 
-    /// Makes random calls, and changes its mood now and then.
+    fn free_blocks(&self) -> usize {
+        totals(self.image, &self.tree).free
+    }
+
+    /// Makes random calls.
     fn go_on(&mut self, calls: usize) {
         let mut mood = Mood::random(&mut self.rng);
+        let mut free = self.free_blocks();
         for _ in 0..calls {
-            if self.rng.percent(3) {
-                mood = Mood::random(&mut self.rng);
-            }
-            let free = self.totals().free;
+            mood = mood.next(&mut self.rng);
             let call = random_call(&self.tree, mood, self.blocks(), free, &mut self.rng);
             self.call(&call);
+            free = self.free_blocks();
         }
     }
 
-    fn totals(&self) -> model::Totals {
-        model::totals(self.image).expect("the disk is accepted")
-    }
-
     /// Runs a call and compares all that it leaves with what it must leave.
-    fn call(&mut self, call: &Call) -> u32 {
+    fn call(&mut self, call: &Call) {
         let before = self.image.clone();
         let (mut blocks, mut anodes) = junk_tables(self.blocks(), false, &mut self.rng);
         if self.rng.percent(1) {
@@ -274,11 +269,9 @@ impl<'a> History<'a> {
         if answer == 0 && call.changes() {
             self.compare_change(call, &before);
         }
-        self.compare_totals(call);
         if self.rng.percent(2) {
             assert_eq!(compare_with_junk(self.image, &mut self.rng), 0);
         }
-        answer
     }
 
     /// With a table too short every call but format answers 2 and touches nothing.
@@ -286,11 +279,7 @@ impl<'a> History<'a> {
         if let Call::Format { .. } = call {
             return;
         }
-        let (mut blocks, mut anodes) = junk_tables(self.blocks(), false, &mut self.rng);
-        match self.rng.percent(50) {
-            true => blocks.truncate(self.blocks() - 1),
-            false => anodes.truncate(ANODES - 1),
-        }
+        let (mut blocks, mut anodes) = junk_tables(self.blocks(), true, &mut self.rng);
         let lent = (self.image.clone(), blocks.clone(), anodes.clone());
         let outcome = run::<Model>(call, self.image, &mut blocks, &mut anodes);
         assert_eq!(outcome.answer, 2);
@@ -299,17 +288,11 @@ impl<'a> History<'a> {
     }
 
     fn compare_answer(&self, call: &Call, answer: u32, before: &[u8]) {
-        let expected = match call {
-            Call::Format { .. } => Expected::Answer(expect_format(call, self.blocks())),
-            _ => self.tree.expect(call),
+        let possible = match self.tree.refusal(call, self.blocks()) {
+            Some(number) => vec![number],
+            None => self.possible_answers(call, before),
         };
-        match expected {
-            Expected::Answer(number) => assert_eq!(answer, number, "{call:?}"),
-            Expected::IfSpace => {
-                let possible = self.possible_answers(call, before);
-                assert!(possible.contains(&answer), "{answer}, not one of {possible:?}, for {call:?}");
-            }
-        }
+        assert!(possible.contains(&answer), "{answer}, not one of {possible:?}, for {call:?}");
     }
 
     /// What a call that only space can stop may answer, from counts of free blocks and free anodes alone.
@@ -319,7 +302,7 @@ impl<'a> History<'a> {
         let free = model::totals(before).expect("the disk was accepted").free;
         match call {
             Call::Make { directory, kind, name, comment, .. } => {
-                let length = (17 + name.len() + comment.len()).div_ceil(2) * 2;
+                let length = entry_length(name.len(), comment.len());
                 let more = !self.tree.directories[directory].has_room(length);
                 let blocks = usize::from(*kind == DIRECTORY) + usize::from(more);
                 match (anodes, free) {
@@ -331,8 +314,8 @@ impl<'a> History<'a> {
                 }
             }
             Call::Resize { directory, name, size } => {
-                let old = self.tree.find(*directory, name).map_or(0, |node| node.content.len());
-                let (old, new) = (old.div_ceil(BLOCK) as u64, size.div_ceil(BLOCK as u64));
+                let old = self.tree.size(*directory, name).div_ceil(BLOCK) as u64;
+                let new = size.div_ceil(BLOCK as u64);
                 match new.saturating_sub(old) {
                     0 if old == new => vec![0],
                     0 if anodes as u64 >= old - new => vec![0],
@@ -373,7 +356,7 @@ impl<'a> History<'a> {
             Call::List { directory, place } => self.compare_entry(*directory, *place, &output.entry),
             Call::Summary => {
                 let (files, directories) = self.tree.counts();
-                let counts = [self.blocks(), self.totals().free, files, directories];
+                let counts = [self.blocks(), self.free_blocks(), files, directories];
                 assert_eq!(output.counts, counts.map(|count| count as u32));
             }
             _ => {}
@@ -409,15 +392,10 @@ impl<'a> History<'a> {
 
     /// After a done change: only what the change is about has changed, and the tree follows.
     fn compare_change(&mut self, call: &Call, before: &[u8]) {
-        let made = match call {
-            Call::Make { directory, name, .. } => {
-                head_of(self.image, *directory, name).expect("the new entry is there")
-            }
-            _ => 0,
-        };
-        if let Call::Make { .. } = call {
+        let mut made = 0;
+        if let Call::Make { directory, name, .. } = call {
+            made = head_of(self.image, *directory, name);
             let old = AnodeTable::read(before, layout::slots(before));
-            assert!(made >= 6 && !old.in_use(made));
             let lowest = old.existing().find(|&number| number >= 6 && !old[number].in_use());
             assert_eq!(lowest, Some(made), "the head is the lowest free anode");
         }
@@ -430,7 +408,7 @@ impl<'a> History<'a> {
     /// Bytes that the change is not about are as they were: other blocks, what no rule examines in anode
     /// blocks, and anodes that were free and still are.
     fn compare_untouched(&self, call: &Call, before: &[u8], made: u16) {
-        let (mut owners, mut heads) = (vec![0; self.blocks()], vec![0; ANODES]);
+        let (mut owners, mut heads) = tables(self.image);
         assert_eq!(model::check(self.image, &mut owners, &mut heads), 0);
         let head =
             |directory: u16, name: &[u8]| self.tree.find(directory, name).map_or(0, |node| node.entry.anode);
@@ -455,13 +433,6 @@ impl<'a> History<'a> {
         for number in old.existing().filter(|&number| !old[number].in_use() && !new[number].in_use()) {
             assert_eq!(old[number], new[number], "free anode {number} changed by {call:?}");
         }
-    }
-
-    /// The seven kinds add up to N, and those of files and directories are what the tree needs.
-    fn compare_totals(&self, call: &Call) {
-        let totals = self.totals();
-        assert_eq!(totals.sum(), self.blocks(), "{totals:?} after {call:?}");
-        assert_eq!((totals.files, totals.directories), self.tree.blocks(), "after {call:?}");
     }
 
     /// Lists and reads all that the tree has.

@@ -5,8 +5,9 @@
 use std::hint::black_box;
 use std::time::{Duration, Instant};
 
-use ovenknit_host::calls::{run, Call, Lent, Library, Model, Output, Stamp, ANODES, BLOCK, FILE, ROOT};
+use ovenknit_host::calls::{run, tables, Call, Lent, Library, Output, Stamp, BLOCK, FILE, ROOT};
 use ovenknit_host::ffi::Proved;
+use ovenknit_host::model::Model;
 use ovenknit_host::rng::Rng;
 use ovenknit_host::shapes::{shaped, Recipe};
 
@@ -15,7 +16,7 @@ const RUNS: usize = 1_001;
 const NAME: &[u8] = b"bench";
 const SIZE: u64 = 1_000;
 
-/// A disk with the tables and buffers that its calls are lent.
+/// A disk with the tables that its calls are lent.
 struct Disk {
     image: Vec<u8>,
     blocks: Vec<u16>,
@@ -24,8 +25,8 @@ struct Disk {
 
 impl Disk {
     fn new(image: Vec<u8>) -> Self {
-        let blocks = vec![0; image.len() / BLOCK];
-        Disk { image, blocks, anodes: vec![0; ANODES] }
+        let (blocks, anodes) = tables(&image);
+        Disk { image, blocks, anodes }
     }
 
     fn empty(blocks: usize, last_reserved: u16, anode_blocks: u16) -> Self {
@@ -124,11 +125,11 @@ fn measure_calls(what: &str, disk: Disk) {
     let (directory, name) = (ROOT, NAME.to_vec());
     let calls = [
         ("read 64 bytes", Call::Read { directory, name: name.clone(), offset: 480, length: 64 }),
-        ("list the root's last", Call::List { directory, place: last }),
+        ("list the root's last entry", Call::List { directory, place: last }),
         ("make a file", make(b"new")),
         ("resize by one block", Call::Resize { directory, name: name.clone(), size: SIZE + 512 }),
         ("write 64 bytes", Call::Write { directory, name: name.clone(), offset: 480, data: vec![7; 64] }),
-        ("remove two blocks", Call::Remove { directory, name }),
+        ("remove a file of two blocks", Call::Remove { directory, name }),
     ];
     println!("{what}");
     for (what, call) in calls {

@@ -6,6 +6,7 @@ use std::str::FromStr;
 use super::help::Syntax;
 use super::{stamps, text, Failure};
 use crate::calls::Stamp;
+use crate::disk::{Kind, New};
 
 /// The operands and options of one command.
 pub struct Arguments {
@@ -91,27 +92,20 @@ impl Arguments {
         self.options.iter().rev().find(|(name, _)| *name == option).map(|(_, value)| value.as_os_str())
     }
 
-    /// The bytes of an option's value, none if it is not given.
-    pub fn bytes(&self, option: &str) -> Vec<u8> {
-        self.value(option).map_or(Vec::new(), |value| value.as_encoded_bytes().to_vec())
-    }
-
     /// An option that is a number.
     pub fn number<N: FromStr>(&self, option: &str, default: N) -> Result<N, Failure> {
-        let Some(value) = self.value(option) else {
-            return Ok(default);
-        };
-        self.parsed(value).ok_or_else(|| self.trouble(format!("{option}: not a number that fits")))
-    }
-
-    fn parsed<N: FromStr>(&self, word: &OsStr) -> Option<N> {
-        word.to_str()?.parse().ok()
+        self.value(option).map_or(Ok(default), |value| self.parsed(option, value))
     }
 
     /// An operand that is a number.
     pub fn number_operand(&self, place: usize) -> Result<u64, Failure> {
         let word = self.operand(place);
-        self.parsed(word).ok_or_else(|| self.trouble(format!("{}: not a number", text::show_os(word))))
+        self.parsed(&text::show_os(word), word)
+    }
+
+    fn parsed<N: FromStr>(&self, what: &str, word: &OsStr) -> Result<N, Failure> {
+        let number = word.to_str().and_then(|word| word.parse().ok());
+        number.ok_or_else(|| self.trouble(format!("{what}: not a number that fits")))
     }
 
     /// The option `--date`, or the clock.
@@ -121,5 +115,12 @@ impl Arguments {
         };
         let stamp = value.to_str().and_then(stamps::parse);
         stamp.ok_or_else(|| self.trouble("--date: not a date from 1978-01-01 to 2157-06-06"))
+    }
+
+    /// An entry with the fields that the options give, still without a name.
+    pub fn new_entry(&self, kind: Kind) -> Result<New<'_>, Failure> {
+        let comment = self.value("--comment").unwrap_or_default().as_encoded_bytes();
+        let (stamp, protection) = (self.stamp()?, self.number("--protection", 0)?);
+        Ok(New { kind, name: b"", comment, stamp, protection })
     }
 }

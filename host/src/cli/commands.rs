@@ -91,18 +91,26 @@ pub fn tree<L: Library>(arguments: &Arguments, out: &mut dyn Write) -> Done {
     Ok(())
 }
 
-/// The bytes of a file of the disk.
+/// The bytes of a file of the disk, and its path.
 fn content<L: Library>(arguments: &Arguments) -> Result<(Vec<u8>, Path), Failure> {
     let mut disk = load_sound::<L>(arguments.operand(0))?;
     let path = Path::parse(arguments.operand(1))?;
-    let size = path.entry(&mut disk)?.size;
     let (directory, name) = path.place(&mut disk)?;
+    let size = disk.find(directory, name).map_err(refused(&path))?.size;
     let bytes = disk.read(directory, name, 0, size as usize).map_err(refused(&path))?;
     Ok((bytes, path))
 }
 
 pub fn cat<L: Library>(arguments: &Arguments, out: &mut dyn Write) -> Done {
     Ok(out.write_all(&content::<L>(arguments)?.0)?)
+}
+
+/// What is there under a name, a link that leads nowhere too, is replaced only by force.
+fn spare(arguments: &Arguments, file: &OsStr) -> Done {
+    match !arguments.has("--force") && fs::symlink_metadata(file).is_ok() {
+        true => Err(arguments.trouble(format!("{}: there already", text::show_os(file)))),
+        false => Ok(()),
+    }
 }
 
 pub fn get<L: Library>(arguments: &Arguments) -> Done {
@@ -113,20 +121,16 @@ pub fn get<L: Library>(arguments: &Arguments) -> Done {
         (None, Ok(name)) if name != "." && name != ".." => OsStr::new(name),
         _ => return Err(arguments.trouble(format!("{path}: give FILE, for no file here can have that name"))),
     };
-    if !arguments.has("--force") && fs::symlink_metadata(file).is_ok() {
-        return Err(arguments.trouble(format!("{}: there already", text::show_os(file))));
-    }
+    spare(arguments, file)?;
     replace(file, &bytes)
 }
 
 pub fn mkdir<L: Library>(arguments: &Arguments) -> Done {
     let path = Path::parse(arguments.operand(1))?;
-    let comment = arguments.bytes("--comment");
-    let (stamp, protection) = (arguments.stamp()?, arguments.number("--protection", 0)?);
+    let new = arguments.new_entry(Kind::Directory)?;
     store::change(arguments.operand(0), |disk: &mut Disk<L>| {
         let (parent, name) = path.place(disk)?;
-        let new = New { kind: Kind::Directory, name, comment: &comment, stamp, protection };
-        disk.make(parent, &new).map_err(refused(&path))
+        disk.make(parent, &New { name, ..new }).map_err(refused(&path))
     })
 }
 
@@ -147,8 +151,8 @@ pub fn resize<L: Library>(arguments: &Arguments) -> Done {
     })
 }
 
-/// What a disk has if nothing is said: 1,760 blocks, of which 63 are last reserved and two hold anodes; other
-/// sizes have the same shares, and always room for the anode blocks and the root directory.
+/// Last reserved and the number of anode blocks if nothing is said: 63 and 2 for 1,760 blocks, the same shares of
+/// other sizes, and always room for the anode blocks and the root directory.
 fn default_shape(blocks: usize) -> (u16, u16) {
     let anode_blocks = (blocks / 880).clamp(1, 42);
     let last_reserved = (blocks * 63 / 1_760).max(3 + anode_blocks).min(blocks.saturating_sub(1));
@@ -163,10 +167,8 @@ fn default_name(file: &OsStr) -> Vec<u8> {
 
 pub fn format<L: Library>(arguments: &Arguments) -> Done {
     let file = arguments.operand(0);
+    spare(arguments, file)?;
     let old = fs::metadata(file).ok();
-    if old.is_some() && !arguments.has("--force") {
-        return Err(arguments.trouble(format!("{}: there already", text::show_os(file))));
-    }
     // A file larger than any disk counts as one block too many, and an empty one as no disk.
     let old_blocks =
         old.as_ref().map(|old| (old.len() / BLOCK as u64).min(65_536) as usize).filter(|&blocks| blocks > 0);
@@ -175,10 +177,8 @@ pub fn format<L: Library>(arguments: &Arguments) -> Done {
         false => old_blocks.unwrap_or(1_760),
     };
     let (last_reserved, anode_blocks) = default_shape(blocks);
-    let name = match arguments.has("--name") {
-        true => arguments.bytes("--name"),
-        false => default_name(file),
-    };
+    let name =
+        arguments.value("--name").map_or_else(|| default_name(file), |name| name.as_encoded_bytes().to_vec());
     let format = Format {
         last_reserved: arguments.number("--reserved", last_reserved)?,
         anode_blocks: arguments.number("--anode-blocks", anode_blocks)?,

@@ -48,8 +48,8 @@ impl Use {
     }
 }
 
-/// The blocks of a disk.
-pub struct Plan {
+/// The blocks of a disk, and who owns them.
+pub struct BlockMap {
     /// The use of each block, and its owner.
     pub blocks: Vec<(Use, Owner)>,
     /// The paths of files and directories by the heads of their chains.
@@ -69,8 +69,8 @@ pub struct Run {
 /// Where the image holds last reserved, in two bytes, the higher one first.
 const LAST_RESERVED: usize = 2 * BLOCK + 54;
 
-impl Plan {
-    pub fn of<L: Library>(disk: &mut Disk<L>) -> Result<Plan, Failure> {
+impl BlockMap {
+    pub fn of<L: Library>(disk: &mut Disk<L>) -> Result<BlockMap, Failure> {
         let all = walk::below(disk, &Path::default())?;
         let directories = all.iter().filter(|found| found.entry.kind == Kind::Directory);
         let directories: HashSet<u16> = directories.map(|found| found.entry.anode).chain([ROOT]).collect();
@@ -89,7 +89,7 @@ impl Plan {
         let blocks = disk.owners().map(|owner| (used(owner), owner)).collect();
         let image = disk.image();
         let last_reserved = u16::from_be_bytes([image[LAST_RESERVED], image[LAST_RESERVED + 1]]);
-        Ok(Plan { blocks, paths, last_reserved })
+        Ok(BlockMap { blocks, paths, last_reserved })
     }
 
     pub fn count(&self, used: Use) -> usize {

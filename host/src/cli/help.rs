@@ -48,7 +48,7 @@ pub const COMMANDS: [Syntax; 13] = [
         flags: &[],
         options: &[],
         short: "size, free blocks, files and directories",
-        long: "Prints the disk's blocks and bytes, its free blocks, files and directories (with the root), and its anodes in use.",
+        long: "Prints the disk's blocks and bytes, its free blocks, files and directories (with the root), and its anodes in use (anode 0 not counted).",
     },
     Syntax {
         name: "check",

@@ -3,7 +3,7 @@
 use std::io::Write;
 
 use super::arguments::Arguments;
-use super::drawing::{Plan, USES};
+use super::drawing::{BlockMap, USES};
 use super::store::load_sound;
 use super::{svg, Done};
 use crate::calls::{Library, BLOCK};
@@ -12,10 +12,10 @@ use crate::calls::{Library, BLOCK};
 const WIDTH: usize = 64;
 
 pub fn df<L: Library>(arguments: &Arguments, out: &mut dyn Write) -> Done {
-    let plan = Plan::of(&mut load_sound::<L>(arguments.operand(0))?)?;
-    let all = plan.blocks.len();
+    let map = BlockMap::of(&mut load_sound::<L>(arguments.operand(0))?)?;
+    let all = map.blocks.len();
     writeln!(out, "{:<14}{:>7}{:>11}{:>8}", "", "blocks", "bytes", "share")?;
-    let rows = USES.iter().map(|&(used, _, name, _)| (name, plan.count(used)));
+    let rows = USES.iter().map(|&(used, _, name, _)| (name, map.count(used)));
     for (name, blocks) in rows.chain([("all", all)]) {
         // Percent with one digit behind the point, rounded.
         let share = (blocks * 1_000 + all / 2) / all;
@@ -25,16 +25,16 @@ pub fn df<L: Library>(arguments: &Arguments, out: &mut dyn Write) -> Done {
 }
 
 pub fn map<L: Library>(arguments: &Arguments, out: &mut dyn Write) -> Done {
-    let plan = Plan::of(&mut load_sound::<L>(arguments.operand(0))?)?;
+    let map = BlockMap::of(&mut load_sound::<L>(arguments.operand(0))?)?;
     if arguments.has("--svg") {
-        return Ok(out.write_all(svg::picture(&plan).as_bytes())?);
+        return Ok(out.write_all(svg::picture(&map).as_bytes())?);
     }
     if arguments.has("--owners") {
-        return Ok(out.write_all(plan.owners().as_bytes())?);
+        return Ok(out.write_all(map.owners().as_bytes())?);
     }
-    out.write_all(plan.text(WIDTH).as_bytes())?;
+    out.write_all(map.text(WIDTH).as_bytes())?;
     for (used, letter, name, _) in USES {
-        writeln!(out, "{letter} {name} {}", plan.count(used))?;
+        writeln!(out, "{letter} {name} {}", map.count(used))?;
     }
-    Ok(writeln!(out, "| behind last reserved {}", plan.last_reserved)?)
+    Ok(writeln!(out, "| behind last reserved {}", map.last_reserved)?)
 }

@@ -43,10 +43,6 @@ enum Failure {
 type Done = Result<(), Failure>;
 
 impl Failure {
-    fn trouble(message: impl Into<String>) -> Self {
-        Failure::Trouble(message.into())
-    }
-
     fn status(&self) -> u8 {
         match self {
             Failure::Refused(_) | Failure::Answered => 1,
@@ -83,7 +79,7 @@ pub fn run<L: Library>(words: &[OsString], out: &mut dyn Write, errors: &mut dyn
 
 fn command<L: Library>(words: &[OsString], out: &mut dyn Write) -> Done {
     let Some((first, rest)) = words.split_first() else {
-        return Err(Failure::trouble("no command; see pfs --help"));
+        return Err(Failure::Trouble("no command; see pfs --help".into()));
     };
     let name = first.to_string_lossy();
     if ["--help", "-h", "help"].contains(&&*name) {

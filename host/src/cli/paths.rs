@@ -30,14 +30,6 @@ impl Path {
         Path { names }
     }
 
-    /// The directory and the name in it.
-    pub fn split(&self) -> Result<(Path, &[u8]), Failure> {
-        let Some((name, names)) = self.names.split_last() else {
-            return Err(Failure::trouble("the root has no name; give the path of an entry"));
-        };
-        Ok((Path { names: names.to_vec() }, name))
-    }
-
     pub fn depth(&self) -> usize {
         self.names.len()
     }
@@ -58,7 +50,10 @@ impl Path {
 
     /// The directory's number and the name in it.
     pub fn place<L: Library>(&self, disk: &mut Disk<L>) -> Result<(u16, &[u8]), Failure> {
-        let (parent, name) = self.split()?;
+        let Some((name, parents)) = self.names.split_last() else {
+            return Err(Failure::Trouble("the root has no name; give the path of an entry".into()));
+        };
+        let parent = Path { names: parents.to_vec() };
         Ok((parent.directory(disk)?, name))
     }
 

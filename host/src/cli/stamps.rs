@@ -5,9 +5,11 @@ use std::time::{SystemTime, UNIX_EPOCH};
 use crate::calls::Stamp;
 
 const FIRST_YEAR: u32 = 1978;
+/// The year of the last day, 65,535.
+const LAST_YEAR: u32 = 2157;
 /// Days from 1 January 1970 to 1 January 1978.
 const UNIX_DAYS: u64 = 2_922;
-const TICKS_IN_SECOND: u64 = 50;
+const TICKS_IN_SECOND: u16 = 50;
 
 fn days_of_year(year: u32) -> u32 {
     let leap = year.is_multiple_of(4) && (!year.is_multiple_of(100) || year.is_multiple_of(400));
@@ -38,7 +40,7 @@ fn date(day: u16) -> (u32, u32, u32) {
 
 /// The day number of a date; nothing if there is no such date, or no number for it.
 fn day_number(year: u32, month: u32, day: u32) -> Option<u16> {
-    if !(FIRST_YEAR..=2_200).contains(&year) || !(1..=12).contains(&month) {
+    if !(FIRST_YEAR..=LAST_YEAR).contains(&year) || !(1..=12).contains(&month) {
         return None;
     }
     if !(1..=days_of_month(year, month)).contains(&day) {
@@ -55,14 +57,15 @@ pub fn show(stamp: Stamp) -> String {
     let (year, month, day) = date(day);
     let time = match (minute, tick) {
         (0..=1_439, 0..=2_999) => {
-            format!("{:02}:{:02}:{:02}.{:02}", minute / 60, minute % 60, tick / 50, tick % 50 * 2)
+            let (second, part) = (tick / TICKS_IN_SECOND, tick % TICKS_IN_SECOND);
+            format!("{:02}:{:02}:{second:02}.{:02}", minute / 60, minute % 60, part * 100 / TICKS_IN_SECOND)
         }
         _ => format!("{minute}m {tick}t"),
     };
     format!("{year}-{month:02}-{day:02} {time:<11}")
 }
 
-/// `YYYY-MM-DD`, with `THH:MM` or `THH:MM:SS` behind it.
+/// A date as `YYYY-MM-DD`, perhaps with `HH:MM` or `HH:MM:SS` behind a `T` or a space.
 pub fn parse(text: &str) -> Option<Stamp> {
     let (date, time) = text.split_once(['T', ' ']).unwrap_or((text, "0:0"));
     let [year, month, day] = numbers(date, '-')?[..] else {
@@ -76,7 +79,8 @@ pub fn parse(text: &str) -> Option<Stamp> {
     if hour > 23 || minute > 59 || second > 59 {
         return None;
     }
-    Some(Stamp::new(day_number(year, month, day)?, (hour * 60 + minute) as u16, (second * 50) as u16))
+    let tick = second as u16 * TICKS_IN_SECOND;
+    Some(Stamp::new(day_number(year, month, day)?, (hour * 60 + minute) as u16, tick))
 }
 
 fn numbers(text: &str, between: char) -> Option<Vec<u32>> {
@@ -91,8 +95,8 @@ fn numbers(text: &str, between: char) -> Option<Vec<u32>> {
 pub fn now() -> Stamp {
     let since = SystemTime::now().duration_since(UNIX_EPOCH).unwrap_or_default();
     let (days, seconds) = (since.as_secs() / 86_400, since.as_secs() % 86_400);
-    let part = u64::from(since.subsec_millis()) * TICKS_IN_SECOND / 1_000;
-    let tick = seconds % 60 * TICKS_IN_SECOND + part;
+    let milliseconds = seconds % 60 * 1_000 + u64::from(since.subsec_millis());
+    let tick = milliseconds * u64::from(TICKS_IN_SECOND) / 1_000;
     let day = u16::try_from(days.saturating_sub(UNIX_DAYS)).unwrap_or(u16::MAX);
     Stamp::new(day, (seconds / 60) as u16, tick as u16)
 }
@@ -115,9 +119,9 @@ mod tests {
     }
 
     #[test]
-    fn dates_that_are_none() {
+    fn dates_are_read_or_turned_away() {
         assert_eq!(parse("1978-01-02T01:02:03"), Some(Stamp::new(1, 62, 150)));
-        assert_eq!(parse("2000-02-29T23:59"), Some(Stamp::new(8_094, 1_439, 0)));
+        assert_eq!(parse("2000-02-29 23:59"), Some(Stamp::new(8_094, 1_439, 0)));
         for bad in [
             "",
             "1978",
@@ -126,11 +130,13 @@ mod tests {
             "1999-02-29",
             "1978-13-01",
             "1978-01-00",
+            "1978-01-+1",
+            "x-y-z",
+            "1978-01-01T1",
+            "1978-01-01T1:2:3:4",
             "1978-01-01T24:00",
+            "1978-01-01T00:60",
         ] {
-            assert_eq!(parse(bad), None, "{bad}");
-        }
-        for bad in ["1978-01-01T1", "1978-01-01T1:2:3:4", "1978-01-+1", "1978-01-01T00:60", "x-y-z"] {
             assert_eq!(parse(bad), None, "{bad}");
         }
     }

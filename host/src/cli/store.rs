@@ -141,8 +141,8 @@ impl Drop for Temporary {
 pub fn replace(name: &OsStr, bytes: &[u8]) -> Result<(), Failure> {
     let path = fs::canonicalize(name).unwrap_or_else(|_| PathBuf::from(name));
     let old = fs::metadata(&path).ok();
-    if old.as_ref().is_some_and(|old| !old.is_file()) {
-        return Err(Failure::Trouble(format!("{}: not a file that can be replaced", text::show_os(name))));
+    if old.as_ref().is_some_and(|old| !old.is_file() || old.permissions().readonly()) {
+        return Err(Failure::Trouble(format!("{}: not a file, or write-protected", text::show_os(name))));
     }
     let permissions = old.map(|old| old.permissions());
     let written = Temporary::beside(&path).and_then(|mut temporary| {

@@ -10,14 +10,17 @@
 //! * `space`: taking and giving back one block.
 //! * `calls`: the calls.
 //! * `totals`: the seven kinds of blocks.
+//! * `library`: the calls behind one trait, as the proved library has them.
 
 mod calls;
 mod check;
 pub mod layout;
+mod library;
 pub mod naive;
 mod space;
 mod totals;
 
 pub use calls::{format, list, make, read, remove, resize, summary, write, NewEntry};
 pub use check::{check, survey, Survey};
+pub use library::Model;
 pub use totals::{totals, Totals};

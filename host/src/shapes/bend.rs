@@ -5,6 +5,7 @@
 //! fault here. Besides these there is damage without an aim.
 
 use super::faults::{faults, wrong_length};
+use crate::calls::tables;
 use crate::model::layout::*;
 use crate::model::{survey, Survey};
 use crate::rng::Rng;
@@ -36,8 +37,7 @@ pub struct Bender<'a> {
 impl<'a> Bender<'a> {
     /// Looks at an image; nothing if the check refuses it.
     pub fn new(image: &'a [u8]) -> Option<Self> {
-        let mut owners = vec![0; image.len() / BLOCK];
-        let mut heads = vec![0; ANODES];
+        let (mut owners, mut heads) = tables(image);
         let survey = survey(image, &mut owners, &mut heads).ok()?;
         let mut before = vec![0; ANODES];
         for number in survey.table.existing().filter(|&number| survey.table[number].in_use()) {

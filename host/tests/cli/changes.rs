@@ -133,6 +133,17 @@ fn permissions_and_links_stay() {
     assert!(folder.done(&["tree", "disk.adf"]).contains("  new/\n"));
 }
 
+#[cfg(unix)]
+#[test]
+fn a_link_that_leads_nowhere_is_replaced_only_by_force() {
+    let folder = Folder::with_disk("nowhere");
+    std::os::unix::fs::symlink("nowhere", folder.path("link")).expect("the link is made");
+    folder.fails(2, &["format", "link"]);
+    folder.fails(2, &["get", "disk.adf", "recipes/pack7", "link"]);
+    folder.done(&["get", "disk.adf", "recipes/pack7", "link", "--force"]);
+    assert_eq!(folder.read("link"), b"180 C, 25 min\n");
+}
+
 #[test]
 fn changes_of_one_disk_at_the_same_time_are_all_kept() {
     let folder = Folder::with_disk("together");

@@ -91,6 +91,21 @@ fn files_that_cannot_be_read_or_written_end_with_2() {
     }
 }
 
+#[test]
+fn a_write_protected_file_is_not_replaced() {
+    let folder = Folder::with_disk("protected");
+    let mut permissions = std::fs::metadata(folder.path("disk.adf")).expect("it is there").permissions();
+    permissions.set_readonly(true);
+    std::fs::set_permissions(folder.path("disk.adf"), permissions).expect("it is protected");
+    for words in [
+        &["mkdir", "disk.adf", "new"][..],
+        &["format", "disk.adf", "--force"],
+        &["get", "disk.adf", "recipes/pack7", "disk.adf", "--force"],
+    ] {
+        folder.fails(2, words);
+    }
+}
+
 /// A file larger than any disk is refused without being read to its end.
 #[cfg(unix)]
 #[test]

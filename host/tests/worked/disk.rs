@@ -2,9 +2,9 @@
 
 use std::marker::PhantomData;
 
-use ovenknit_host::calls::{Call, Library, Outcome, Stamp, ROOT};
+use ovenknit_host::calls::{tables, Call, Library, Outcome, Stamp, ROOT};
 use ovenknit_host::compare::compare;
-use ovenknit_host::model::layout::{self, Anode, AnodeTable, ANODES, BLOCK};
+use ovenknit_host::model::layout::{self, Anode, AnodeTable, BLOCK};
 use ovenknit_host::model::naive;
 
 /// A small disk with tables of the right size. Every call is run on the library and on the model, and followed by
@@ -29,8 +29,8 @@ pub fn format_call(last_reserved: u16, anode_blocks: u16, name: &[u8]) -> Call {
 
 impl<L: Library> Disk<L> {
     pub fn new(image: Vec<u8>) -> Self {
-        let blocks = vec![0; image.len() / BLOCK];
-        Disk { image, blocks, anodes: vec![0; ANODES], library: PhantomData }
+        let (blocks, anodes) = tables(&image);
+        Disk { image, blocks, anodes, library: PhantomData }
     }
 
     pub fn format(blocks: usize, last_reserved: u16, anode_blocks: u16) -> Self {

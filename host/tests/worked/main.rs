@@ -7,7 +7,7 @@ macro_rules! both {
         mod on_the_model {
             $(#[test]
             fn $case() {
-                super::$case::<ovenknit_host::calls::Model>();
+                super::$case::<ovenknit_host::model::Model>();
             })*
         }
 
