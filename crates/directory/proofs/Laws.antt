@@ -295,11 +295,13 @@ module _ (b : List ℕ) (at : ℕ) (e : Entry) (name comment : List ℕ) where
 
 -- ---- what a found entry and the end mark say of the bytes
 
+-- whether an entry was found
 abbrev isFound : Walked → Bool
 isFound (Found e) = true
 isFound End = false
 isFound (Fault r) = false
 
+-- whether the end mark was met
 abbrev isEnd : Walked → Bool
 isEnd (Found e) = false
 isEnd End = true
