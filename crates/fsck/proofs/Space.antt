@@ -1,27 +1,25 @@
 -- The tests of anodes and blocks: the answer of each, what the next one asks, and the tables at the end.
 use Prim.Native.Nat.{ℕ, _≤_, _<_}
-use mathlib.Core.Path.{_≡_, sym, ap, _∙_}
+use mathlib.Core.Path.{_≡_, sym}
 use mathlib.Core.Logic.{_≢_}
 use mathlib.Core.Bool.{true, false}
 use mathlib.Core.List.{List, _++_}
-use native.Mathlib.Omega.{arith}
 use lib.ListN.{length, getD, drop}
 use lib.Dec.{eqb}
-use borrow.Author.Tests.{ne-eqb}
 use Rattle.disk.specs.declared.Root.{Root}
 use Rattle.disk.specs.Blocks.{blockOf}
 use Rattle.disk.specs.Root.{rootIn}
 use Rattle.rules.specs.Counting.{anyBelow}
 use Rattle.rules.specs.Anodes.{Anodes, limit, exists, anodesOf}
 use Rattle.rules.specs.Accepted.{diskSize, wrongFixed, outOfRange, wrongLinks, wrongFreeList, lastReserved, twoOwners, noOwner, treeFault, damageIn}
-use Rattle.rules.specs.Tables.{chainHead, anodeEntry, anodeTable}
+use Rattle.rules.specs.Tables.{chainHead, anodeTable}
 use Rattle.laws.specs.Links.{View, Linked, next-below, linked}
 use Rattle.laws.specs.Passes.{Reading}
-use Rattle.laws.specs.TestsPassed.{fixed-anodes, next-used, tested-view, tested-checked}
+use Rattle.laws.specs.TestsPassed.{next-used, tested-view, tested-checked}
 use Rattle.laws.specs.ImageAnodes.{reading-of}
 use Rattle.anodes.specs.Loaded.{anodesFrom}
 use Rattle.chains.specs.Predecessors.{Closed}
-use Rattle.chains.proofs.Laws.{table-at, entry-some, head-table}
+use Rattle.chains.proofs.Laws.{entry-head, entry-some, head-table}
 use Rattle.owners.specs.Marks.{OwnersMarked}
 use Rattle.owners.proofs.Shown.{marked-no-owner, marked-table}
 use Rattle.laws.specs.Chains.{HeadTable}
@@ -89,14 +87,9 @@ module _ (img c b n : List ℕ) (e : anodesFrom c b n ≡ anodesOf img) where
           unfolding anodesFrom
           heads-table = head-table (anodesFrom c b n) view links t (drop 3444 t₀) is
 
-          used : (a : ℕ) → 0 < anodesFrom c b n .count a → anodesFrom c b n .block a ≢ 0
-          used a some z = omega (arith, reading .free-count a z)
-
-          heads-are : (a : ℕ) → a < 3444 → 0 < anodesFrom c b n .count a → getD t a 0 ≡ chainHead (anodesFrom c b n) a
-          unfolding anodeEntry anodesFrom
-          heads-are a l some =
-              table-at (anodesFrom c b n) view links t (drop 3444 t₀) is a l
-              ∙ rw (ne-eqb a 0 (λ z. omega (arith, ap (anodesFrom c b n .count) z, fixed-anodes (anodesFrom c b n) f6 .0 .count-0)), ne-eqb (anodesFrom c b n .block a) 0 (used a some))
+          heads-are : (a : ℕ) → a < 3444 → getD t a 0 ≡ chainHead (anodesFrom c b n) a
+          unfolding anodesFrom
+          heads-are = entry-head (anodesFrom c b n) view links t (drop 3444 t₀) is
 
           -- both tables, once the owners are marked
           pub shown : (u u₀ : List ℕ) → drop (diskSize img) u ≡ drop (diskSize img) u₀ → diskSize img ≤ length u → OwnersMarked img (anodesFrom c b n) t u
