@@ -4,8 +4,8 @@ use Prim.Native.Nat.{ℕ, _+_, _-_, _*_, _≤_}
 use native.Mathlib.Omega.{arith}
 use Rattle.rules.specs.Walk.{entriesFrom}
 use Rattle.tree.specs.Steps.{itemIn, entering, Room}
-use Rattle.laws.specs.Entries.{entries-end}
-use Rattle.tree.proofs.Laws.{block-whole, entries-none, enter-none, block-broken, block-stop, block-step}
+use Rattle.laws.specs.Entries.{entries-end, entries-none, block-whole}
+use Rattle.tree.proofs.Laws.{enter-none, block-broken, block-stop, block-step}
 use borrow.Author.Needs.{needs}
 use Rattle.tree.proofs.enter_block.Statement.{statement}
 use Rattle.tree.proofs.enter_block.Tie as tie
