@@ -103,18 +103,18 @@ unfolding writtenOver spread gather
 over-spread img j [] bytes offset long i same = refl
 over-spread img j (y ∷ ys) bytes offset long i same =
     let first = oneAt-same y y refl in
-    let here = i y (omega (arith, times-cons y y ys)) in
-    let kept = same y (omega (arith, times-cons y y ys)) in
+    let here = i .0 y (times-here y ys) in
+    let kept = same y (times-here y ys) in
     let new = stored (blockOf img y) offset bytes in
-    let whole : length new ≡ 512 = length-stored (blockOf img y) offset bytes ∙ length-blockOf img y (here .0) in
+    let whole : length new ≡ 512 = length-stored (blockOf img y) offset bytes ∙ length-blockOf img y here in
     let enough : length (blockOf j y) ≤ length new = rw kept (le-of-eq (sym (length-stored (blockOf img y) offset bytes))) in
     let rest = stored (gather (blockOf img) ys) (offset - 512) (drop (512 - offset) bytes) in
     let split : stored (blockOf img y ++ gather (blockOf img) ys) offset bytes ≡ new ++ rest =
-    rw (← length-blockOf img y (here .0)) (stored-append (blockOf img y) (gather (blockOf img) ys) offset bytes) in
+    rw (← length-blockOf img y here) (stored-append (blockOf img y) (gather (blockOf img) ys) offset bytes) in
     rw (kept, split, take-at new rest 512 whole, drop-at new rest 512 whole)
     (over-spread img (withBlock j y new) ys (drop (512 - offset) bytes) (offset - 512) (length-withBlock j y new enough ∙ long)
-    (λ z p. let q = i z (omega (arith, p, times-cons z y ys)) in (q .0, omega (arith, q .1, times-cons z y ys)))
-    (λ z p. blockOf-withBlock-other j y new enough z (λ e. omega (arith, rw e at p, here .1, times-cons y y ys)) ∙ same z (omega (arith, p, times-cons z y ys))))
+    (λ z p. i .0 z (omega (arith, p, times-cons z y ys)), λ z. omega (arith, i .1 z, times-cons z y ys))
+    (λ z p. blockOf-withBlock-other j y new enough z (λ e. omega (arith, rw e at p, i .1 y, times-cons y y ys)) ∙ same z (omega (arith, p, times-cons z y ys))))
 
 -- the rules' image of a write
 pub over-written : (img : List ℕ) (s : Anodes) (h : ℕ) (e : Entered) (offset : ℕ) (bytes : List ℕ) → e .anode ≡ h → InsideOnce img (blocksOf s h)
