@@ -48,16 +48,9 @@ seen-fields img a x y at is =
     (λ n. rw (is, at, ne-eqb (anodeOf img a .block .0) 0 (rw at at n)) (refl, refl, refl))
     (same? (y .block .0) 0)
 
--- a missing anode is seen as (0, 0, 0)
-seen-high : (img : List ℕ) (a : ℕ) → 3444 ≤ a → asSeen (anodeOf img a) ≡ anodeMade 0 0 0
-seen-high img a h = rw (anodeOf-missing img a (slotOf-high img (a / 82) (omega arith))) (asSeen-free (anodeMade 0 0 0) refl)
-
--- the three fields that the rules see of an anode of a slot that holds 0
-missing-fields : (img : List ℕ) (s a : ℕ) → slotOf img s ≡ 0 → s * 82 ≤ a → a < s * 82 + 82
-    → (0 ≡ anodesOf img .count a) × (0 ≡ anodesOf img .block a) × (0 ≡ anodesOf img .next a)
-missing-fields img s a e l h =
-    let q : a / 82 ≡ s = omega arith in
-    seen-fields img a (anodeMade 0 0 0) (anodeOf img a) refl (sym (rw (anodeOf-missing img a (rw q e)) (asSeen-free (anodeMade 0 0 0) refl)))
+-- and all three are 0 where its slot holds 0 or is missing
+missing-fields : (img : List ℕ) (a : ℕ) → slotOf img (a / 82) ≡ 0 → (0 ≡ anodesOf img .count a) × (0 ≡ anodesOf img .block a) × (0 ≡ anodesOf img .next a)
+missing-fields img a e = seen-fields img a (anodeMade 0 0 0) (anodeOf img a) refl (sym (rw (anodeOf-missing img a e) (asSeen-free (anodeMade 0 0 0) refl)))
 
 -- ---- the tables
 
@@ -101,12 +94,15 @@ pub loaded-missing : (img c b n c' b' n' : List ℕ) (s e : ℕ) → slotOf img 
     → e ≡ s * 82 + 82 → e ≤ length c → e ≤ length b → e ≤ length n
     → c' ≡ zeroed c (s * 82) e → b' ≡ zeroed b (s * 82) e → n' ≡ zeroed n (s * 82) e
     → LoadedBelow (anodesOf img) (putMid (s * 82) (e - s * 82) c c') (putMid (s * 82) (e - s * 82) b b') (putMid (s * 82) (e - s * 82) n n') (s * 82 + 82)
-loaded-missing img c b n c' b' n' s e none l end p q r x y z = record {
-  counts = held-zeroed (anodesOf img .count) c c' (s * 82) e end p x (l .counts) (λ a h k. missing-fields img s a none h k .0);
-  blocks = held-zeroed (anodesOf img .block) b b' (s * 82) e end q y (l .blocks) (λ a h k. missing-fields img s a none h k .1);
-  nexts = held-zeroed (anodesOf img .next) n n' (s * 82) e end r z (l .nexts) (λ a h k. missing-fields img s a none h k .2);
-}
+loaded-missing img c b n c' b' n' s e none l end p q r x y z =
+    let slot : (a : ℕ) → s * 82 ≤ a → a < s * 82 + 82 → slotOf img (a / 82) ≡ 0 = λ a h k. (let i : a / 82 ≡ s = omega arith in rw i none) in
+    record {
+      counts = held-zeroed (anodesOf img .count) c c' (s * 82) e end p x (l .counts) (λ a h k. missing-fields img a (slot a h k) .0);
+      blocks = held-zeroed (anodesOf img .block) b b' (s * 82) e end q y (l .blocks) (λ a h k. missing-fields img a (slot a h k) .1);
+      nexts = held-zeroed (anodesOf img .next) n n' (s * 82) e end r z (l .nexts) (λ a h k. missing-fields img a (slot a h k) .2);
+    }
 
+-- anodes with the same fields are the same
 same-anodes : (s t : Anodes) → ((a : ℕ) → s .count a ≡ t .count a) → ((a : ℕ) → s .block a ≡ t .block a) → ((a : ℕ) → s .next a ≡ t .next a) → s ≡ t
 same-anodes s t p q r = λ i. record { count = λ a. p a i; block = λ a. q a i; next = λ a. r a i }
 
@@ -120,9 +116,8 @@ pub loaded-all : (img : List ℕ) (c b n : List ℕ) → length c ≡ 3444 → l
     → LoadedBelow (anodesOf img) c b n 3444 → anodesFrom c b n ≡ anodesOf img
 unfolding anodesFrom
 loaded-all img c b n p q r l =
-    let high : (a : ℕ) → 3444 ≤ a → (0 ≡ anodesOf img .count a) × (0 ≡ anodesOf img .block a) × (0 ≡ anodesOf img .next a) =
-    λ a h. seen-fields img a (anodeMade 0 0 0) (anodeOf img a) refl (sym (seen-high img a h)) in
+    let high : (a : ℕ) → 3444 ≤ a → slotOf img (a / 82) ≡ 0 = λ a h. slotOf-high img (a / 82) (omega arith) in
     same-anodes (anodesFrom c b n) (anodesOf img)
-    (held-all (anodesOf img .count) c p (l .counts) (λ a h. sym (high a h .0)))
-    (held-all (anodesOf img .block) b q (l .blocks) (λ a h. sym (high a h .1)))
-    (held-all (anodesOf img .next) n r (l .nexts) (λ a h. sym (high a h .2)))
+    (held-all (anodesOf img .count) c p (l .counts) (λ a h. sym (missing-fields img a (high a h) .0)))
+    (held-all (anodesOf img .block) b q (l .blocks) (λ a h. sym (missing-fields img a (high a h) .1)))
+    (held-all (anodesOf img .next) n r (l .nexts) (λ a h. sym (missing-fields img a (high a h) .2)))

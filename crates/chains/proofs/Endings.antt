@@ -8,11 +8,13 @@ use native.Mathlib.Omega.{arith}
 use native.Mathlib.Numerals.{add-one}
 use lib.ListN.{length, getD, set, replicate, length-set, length-replicate}
 use lib.Seq.{getD-set-same, getD-set-other}
-use lib.Dec.{T, eqb, eqb→eq, T-not, not-T}
+use lib.Dec.{eqb, eqb→eq, T-not}
+use borrow.Author.Tests.{eqb-false}
 use Rattle.endian.proofs.Laws.{getD-zeros}
 use Rattle.rules.specs.Counting.{anyBelow}
 use Rattle.rules.specs.Chains.{followed}
-use Rattle.laws.specs.Tests.{same?, eq→eqb, both, and, any-some, some-any}
+use Rattle.counting.specs.Laws.{and-none, anyBelow-each}
+use Rattle.laws.specs.Tests.{same?, eq→eqb, both, any-some, other}
 use Rattle.laws.specs.Segments.{followed-zero}
 use Rattle.chains.specs.Predecessors.{Closed, PredTable}
 use Rattle.chains.specs.Storing.{storedAlong}
@@ -144,13 +146,8 @@ module _ (n b : List ℕ) where
     all-end : anyBelow (unmarked b m) 3444 ≡ false → AllEnd n b
     unfolding unmarked
     all-end e = record {
-      ends = λ a h u. w .ending a (λ z. subst-false (some-any (unmarked b m) 3444 a (below a u)
-          (and (not (eqb a 0)) (not (eqb (getD b a 0) 0) && eqb (getD m a 0) 0) (not-T (eqb a 0) (λ q. h (eqb→eq a 0 q)))
-          (and (not (eqb (getD b a 0) 0)) (eqb (getD m a 0) 0) (not-T (eqb (getD b a 0) 0) (λ q. u (eqb→eq (getD b a 0) 0 q))) (eq→eqb (getD m a 0) 0 z)))));
+      ends = λ a h u. w .ending a (eqb-false (getD m a 0) 0 (and-none _ _ (and-none _ _ (anyBelow-each (unmarked b m) a 3444 (below a u) e) (other a 0 h)) (other (getD b a 0) 0 u)));
     }
-      where
-        subst-false : T (anyBelow (unmarked b m) 3444) → ⊥
-        subst-false h = rw e at h
 
     endless : Closed n b → anyBelow (unmarked b m) 3444 ≡ true → Endless n b
     unfolding unmarked

@@ -4,15 +4,13 @@ use mathlib.Core.Path.{_≡_, refl, sym, ap, _∙_}
 use mathlib.Core.Logic.{_≢_, _⊎_, inl, inr}
 use mathlib.Core.List.{List, _++_}
 use native.Mathlib.Omega.{arith}
-use lib.ListN.{length, getD, set, take, drop, length-set, take-append-drop}
-use lib.Seq.{getD-set-same, getD-set-other, drop-set-lt, getD-take, length-take-le}
-use borrow.Author.Tests.{eq-eqb, ne-eqb}
-use Rattle.disk.specs.AnodeBlocks.{listed}
+use lib.ListN.{length, getD, set, drop, length-set}
+use lib.Seq.{getD-set-same, getD-set-other, drop-set-lt}
 use Rattle.rules.specs.Chains.{followed, headOf}
 use Rattle.rules.specs.Tables.{chainHead, anodeEntry, anodeTable}
 use Rattle.anodes.specs.Loaded.{anodesFrom}
 use Rattle.laws.specs.Tests.{same?}
-use Rattle.laws.specs.OwnerTable.{listed-is}
+use Rattle.laws.specs.OwnerTable.{listed-front, anodeEntry-head}
 use Rattle.laws.specs.Links.{View, Linked, next-below, checked}
 use Rattle.laws.specs.Heads.{Head, chain-ind, headOf-heads}
 use Rattle.chains.specs.Predecessors.{PredTable}
@@ -21,6 +19,15 @@ use Rattle.chains.specs.Filling.{HeadsOnly, FilledBelow}
 use Rattle.chains.proofs.Predecessors.{no-pred}
 use Rattle.chains.proofs.Storing.{stored-length, set-kept, stored-kept, stored-step}
 use Rattle.chains.proofs.Endings.{followed-none, followed-one}
+
+-- an anode that is no head
+pub fill-skip : (n b m : List ℕ) (a : ℕ) → FilledBelow m n b a → (Head (λ x. getD n x 0) (λ x. getD b x 0) a → ⊥) → FilledBelow m n b (a + 1)
+fill-skip n b m a w off = record {
+  long = w .long;
+  right = w .right;
+  along = w .along;
+  filled = λ h l d. elim (same? h a) [ inl e ↦ absurd (off (rw e at d)) | inr e ↦ w .filled h (omega arith) d ];
+}
 
 module _ (n b : List ℕ) (v : View 3444 (λ a. getD n a 0) (λ a. getD b a 0)) (k : Linked 3444 (λ a. getD n a 0) (λ a. getD b a 0)) where
   -- ---- a head stored along its chain
@@ -74,7 +81,7 @@ module _ (n b : List ℕ) (v : View 3444 (λ a. getD n a 0) (λ a. getD b a 0)) 
         new x p q = elim (same? x (suc a)) [
           | inl y ↦ inr (ap (λ (z : ℕ). getD n z 0) y)
           | inr y ↦ elim (r x (rw (getD-set-other m (suc a) x h 0 y) at p) q) [
-            | inl z ↦ inl (set-kept n h some m (suc a) (getD n x 0) z)
+            | inl z ↦ inl (set-kept h some m (suc a) (getD n x 0) z)
             | inr z ↦ inl (rw (z, here) some)
           ]
         ]
@@ -84,35 +91,25 @@ module _ (n b : List ℕ) (v : View 3444 (λ a. getD n a 0) (λ a. getD b a 0)) 
   pub head-at : (t : List ℕ) → PredTable t n → (a : ℕ) → a ≢ 0 → getD b a 0 ≢ 0 → getD t a 0 ≡ 0 → Head (λ x. getD n x 0) (λ x. getD b x 0) a
   head-at t p a h u z = record { pos = h; in-use = u; no-pred = no-pred t n p (v .zero-end) a h z }
 
-  module _ (m : List ℕ) (a : ℕ) (w : FilledBelow m n b a) where
-    -- a is no head
-    pub fill-skip : (Head (λ x. getD n x 0) (λ x. getD b x 0) a → ⊥) → FilledBelow m n b (a + 1)
-    fill-skip off = record {
-      long = w .long;
-      right = w .right;
-      along = w .along;
-      filled = λ h l d. elim (same? h a) [ inl e ↦ absurd (off (rw e at d)) | inr e ↦ w .filled h (omega arith) d ];
+  module _ (m : List ℕ) (a : ℕ) (w : FilledBelow m n b a) (d : Head (λ x. getD n x 0) (λ x. getD b x 0) a) where
+    on-head : onChain a (d .pos) a
+    unfolding onChain
+    on-head q = (d .in-use, headOf-heads v k .at-head a d)
+
+    pub fill-rest : drop 3444 (storedAlong 3444 n m a a) ≡ drop 3444 m
+    fill-rest = stored-rest a (d .pos) 3444 m a on-head
+
+    pub fill-more : FilledBelow (storedAlong 3444 n m a a) n b (a + 1)
+    fill-more = record {
+      long = rw (stored-length n a 3444 m a) (w .long);
+      right = stored-right a (d .pos) 3444 m a (w .long) on-head (w .right);
+      along = stored-along a (d .pos) 3444 m a (w .long) on-head (checked v k .ends a (d .in-use)) (λ x p q. inl (w .along x p q));
+      filled = λ h l g. elim (same? h a) [
+        | inl e ↦ rw (e, stored-step n a 3444 3443 a m refl (d .pos))
+            (stored-kept n a (d .pos) 3443 (set m a a) (getD n a 0) a (rw (getD-set-same m a a 0 (omega (arith, v .below a (d .in-use), w .long))) (d .pos)))
+        | inr e ↦ stored-kept n a (d .pos) 3444 m a h (w .filled h (omega arith) g)
+      ];
     }
-
-    module _ (d : Head (λ x. getD n x 0) (λ x. getD b x 0) a) where
-      on-head : onChain a (d .pos) a
-      unfolding onChain
-      on-head q = (d .in-use, headOf-heads v k .at-head a d)
-
-      pub fill-rest : drop 3444 (storedAlong 3444 n m a a) ≡ drop 3444 m
-      fill-rest = stored-rest a (d .pos) 3444 m a on-head
-
-      pub fill-more : FilledBelow (storedAlong 3444 n m a a) n b (a + 1)
-      fill-more = record {
-        long = rw (stored-length n a 3444 m a) (w .long);
-        right = stored-right a (d .pos) 3444 m a (w .long) on-head (w .right);
-        along = stored-along a (d .pos) 3444 m a (w .long) on-head (checked v k .ends a (d .in-use)) (λ x p q. inl (w .along x p q));
-        filled = λ h l g. elim (same? h a) [
-          | inl e ↦ rw (e, stored-step n a 3444 3443 a m refl (d .pos))
-              (stored-kept n a (d .pos) 3443 (set m a a) (getD n a 0) a (rw (getD-set-same m a a 0 (omega (arith, v .below a (d .in-use), w .long))) (d .pos)))
-          | inr e ↦ stored-kept n a (d .pos) 3444 m a h (w .filled h (omega arith) g)
-        ];
-      }
 
   -- ---- the whole table
 
@@ -125,25 +122,22 @@ module _ (n b : List ℕ) (v : View 3444 (λ a. getD n a 0) (λ a. getD b a 0)) 
   }
 
   module _ (m : List ℕ) (w : FilledBelow m n b 3444) where
-    none-at : (x : ℕ) → x < 3444 → headOf 3444 (λ a. getD n a 0) (λ a. getD b a 0) x ≡ 0 → getD m x 0 ≡ 0
-    none-at x l z = elim (same? (getD m x 0) 0) [ inl e ↦ e | inr e ↦ w .right x l e ∙ z ]
-
     some-at : (x : ℕ) → x ≢ 0 → getD b x 0 ≢ 0 → getD m x 0 ≢ 0
     some-at = chain-ind v k (λ x. getD m x 0 ≢ 0) (λ h d. w .filled h (v .below h (d .in-use)) d) (λ x q p. w .along x p q)
 
-    entry-is : (c : List ℕ) (x : ℕ) → x < 3444 → getD m x 0 ≡ anodeEntry (anodesFrom c b n) x
-    unfolding anodeEntry chainHead anodesFrom
-    entry-is c x l = elim (same? x 0) [
-      | inl e ↦ none-at x l (rw e (headOf-heads v k .off-zero)) ∙ rw (eq-eqb x 0 e)
-      | inr e ↦ elim (same? (getD b x 0) 0) [
-        | inl z ↦ none-at x l (headOf-heads v k .off x z) ∙ rw (ne-eqb x 0 e, eq-eqb (getD b x 0) 0 z)
-        | inr z ↦ w .right x l (some-at x e z) ∙ rw (ne-eqb x 0 e, ne-eqb (getD b x 0) 0 z)
-      ]
+    entry-is : (c : List ℕ) (x : ℕ) → x < 3444 → getD m x 0 ≡ chainHead (anodesFrom c b n) x
+    unfolding chainHead anodesFrom
+    entry-is c x l = elim (same? (getD m x 0) 0) [
+      | inl e ↦ e ∙ sym (none e)
+      | inr e ↦ w .right x l e
     ]
+      where
+        none : getD m x 0 ≡ 0 → headOf 3444 (λ a. getD n a 0) (λ a. getD b a 0) x ≡ 0
+        none e = elim (same? x 0) [
+          | inl z ↦ rw z (headOf-heads v k .off-zero)
+          | inr z ↦ elim (same? (getD b x 0) 0) [ inl u ↦ headOf-heads v k .off x u | inr u ↦ absurd (some-at x z u e) ]
+        ]
 
     pub fill-done : (c rest : List ℕ) → drop 3444 m ≡ rest → m ≡ anodeTable (anodesFrom c b n) ++ rest
-    unfolding anodeTable
-    fill-done c rest e = rw (← e, front) (sym (take-append-drop 3444 m))
-      where
-        front : listed (anodeEntry (anodesFrom c b n)) 0 3444 ≡ take 3444 m
-        front = listed-is (anodeEntry (anodesFrom c b n)) 3444 (take 3444 m) (length-take-le 3444 m (w .long)) (λ i l. sym (getD-take 3444 m i 0 l ∙ entry-is c i l))
+    unfolding anodeTable anodesFrom
+    fill-done c rest e = listed-front (anodeEntry (anodesFrom c b n)) 3444 m (w .long) (λ x l. entry-is c x l ∙ sym (anodeEntry-head (anodesFrom c b n) v k x)) ∙ rw e

@@ -1,5 +1,5 @@
 -- What a caller has once the tests find nothing, and what the table of heads says.
-use Prim.Native.Nat.{ℕ, _+_, _<_}
+use Prim.Native.Nat.{ℕ, _<_}
 use mathlib.Core.Path.{_≡_, refl, sym, _∙_}
 use mathlib.Core.Logic.{_≢_, _⊎_, inl, inr}
 use mathlib.Core.Bool.{Bool, true, false, not, _&&_, _||_}
@@ -7,14 +7,13 @@ use mathlib.Core.List.{List, _++_}
 use native.Mathlib.Omega.{arith}
 use lib.ListN.{getD}
 use lib.Dec.{eqb}
-use borrow.Author.Tests.{eq-eqb, ne-eqb}
 use Rattle.rules.specs.Anodes.{Anodes, limit}
 use Rattle.rules.specs.Chains.{heads, headOf}
 use Rattle.rules.specs.Accepted.{wrongFixed}
 use Rattle.rules.specs.Tables.{chainHead, anodeEntry, anodeTable}
 use Rattle.laws.specs.Tests.{same?}
 use Rattle.laws.specs.Chains.{HeadTable}
-use Rattle.laws.specs.OwnerTable.{table-entry}
+use Rattle.laws.specs.OwnerTable.{table-entry, anodeEntry-head}
 use Rattle.laws.specs.Links.{View, Linked}
 use Rattle.laws.specs.Heads.{headOf-heads, heads-cases, head-of-is}
 
@@ -34,27 +33,19 @@ fixed-tests s = parts (eqb (s .count 0) 0) (eqb (s .block 0) 65535) (eqb (s .nex
 -- ---- the table of heads
 
 module _ (s : Anodes) (v : View limit (s .next) (s .block)) (k : Linked limit (s .next) (s .block)) (t rest : List ℕ) (is : t ≡ anodeTable s ++ rest) where
-  pub table-at : (a : ℕ) → a < limit → getD t a 0 ≡ anodeEntry s a
+  -- an anode's entry is the head of its chain
+  pub entry-head : (a : ℕ) → a < limit → getD t a 0 ≡ chainHead s a
   unfolding anodeTable
-  table-at a l = rw is (table-entry (anodeEntry s) limit rest a l)
-
-  entry-used : (a : ℕ) → a ≢ 0 → s .block a ≢ 0 → getD t a 0 ≡ headOf limit (s .next) (s .block) a
-  unfolding anodeEntry chainHead
-  entry-used a h u = table-at a (v .below a u) ∙ rw (ne-eqb a 0 h, ne-eqb (s .block a) 0 u)
-
-  entry-free : (a : ℕ) → a < limit → s .block a ≡ 0 → getD t a 0 ≡ 0
-  unfolding anodeEntry
-  entry-free a l z = elim (same? a 0) [
-    | inl e ↦ table-at a l ∙ rw (eq-eqb a 0 e)
-    | inr e ↦ table-at a l ∙ rw (ne-eqb a 0 e, eq-eqb (s .block a) 0 z)
-  ]
+  entry-head a l = rw is (table-entry (anodeEntry s) limit rest a l) ∙ anodeEntry-head s v k a
 
   -- an anode in use has a head
   pub entry-some : (a : ℕ) → a ≢ 0 → s .block a ≢ 0 → getD t a 0 ≢ 0
-  entry-some a h u = rw (entry-used a h u) (head-of-is v k (headOf limit (s .next) (s .block)) (headOf-heads v k) a h u .pos)
+  unfolding chainHead
+  entry-some a h u = rw (entry-head a (v .below a u)) (head-of-is v k (headOf limit (s .next) (s .block)) (headOf-heads v k) a h u .pos)
 
   -- from 6 up, the heads are the anodes that have themselves for an entry
   pub head-table : HeadTable t s
+  unfolding chainHead
   head-table a six l = (λ e. is-head (same? (s .block a) 0) e, own)
     where
       some : a ≢ 0
@@ -62,13 +53,13 @@ module _ (s : Anodes) (v : View limit (s .next) (s .block)) (k : Linked limit (s
 
       own : heads limit (s .next) (s .block) a ≡ 1 → getD t a 0 ≡ a
       own e = elim (heads-cases v k a) [
-        | inl d ↦ entry-used a some (d .0 .in-use) ∙ headOf-heads v k .at-head a (d .0)
+        | inl d ↦ entry-head a l ∙ headOf-heads v k .at-head a (d .0)
         | inr d ↦ absurd (omega (arith, d .1))
       ]
 
       is-head : (s .block a ≡ 0) ⊎ (s .block a ≢ 0) → getD t a 0 ≡ a → heads limit (s .next) (s .block) a ≡ 1
-      is-head (inl z) e = absurd (some (sym e ∙ entry-free a l z))
+      is-head (inl z) e = absurd (some (sym e ∙ entry-head a l ∙ headOf-heads v k .off a z))
       is-head (inr u) e = elim (heads-cases v k a) [
         | inl d ↦ d .1
-        | inr d ↦ absurd (d .0 (rw (sym (entry-used a some u) ∙ e) at (head-of-is v k (headOf limit (s .next) (s .block)) (headOf-heads v k) a some u)))
+        | inr d ↦ absurd (d .0 (rw (sym (entry-head a l) ∙ e) at (head-of-is v k (headOf limit (s .next) (s .block)) (headOf-heads v k) a some u)))
       ]

@@ -2,18 +2,18 @@
 use Prim.Native.Nat.{ℕ, _<_}
 use mathlib.Core.Path.{_≡_, sym, _∙_}
 use mathlib.Core.Logic.{_≢_, inl, inr}
-use mathlib.Core.Bool.{Bool, true, false, not, _&&_, _||_, or-true}
+use mathlib.Core.Bool.{Bool, true, false, not, _||_, or-true}
 use mathlib.Core.List.{List}
 use native.Mathlib.Omega.{arith}
 use lib.ListN.{getD}
-use lib.Dec.{T, eqb, ltb, ltb→lt, T-not}
-use borrow.Author.Tests.{lt-ltb, eq-eqb, ne-eqb}
+use lib.Dec.{eqb, ltb}
+use borrow.Author.Tests.{lt-ltb, le-ltb, eq-eqb, ne-eqb, eqb-false, not-true}
 use Rattle.rules.specs.Counting.{anyBelow}
 use Rattle.rules.specs.Chains.{preds, followed}
 use Rattle.rules.specs.Accepted.{wrongLink, wrongAt, hasPred, wrongLinks}
 use Rattle.anodes.specs.Loaded.{anodesFrom}
-use Rattle.counting.specs.Laws.{anyBelow-hit}
-use Rattle.laws.specs.Tests.{same?, T-false, eq→eqb, both, either, any-some}
+use Rattle.counting.specs.Laws.{none-or, none-and, anyBelow-hit, anyBelow-all}
+use Rattle.laws.specs.Tests.{same?, same}
 use Rattle.laws.specs.Links.{View, Linked, checked}
 use Rattle.chains.specs.Predecessors.{Closed, PredTable, NotedBelow, Twice, Noted, fixedNoted}
 use Rattle.chains.specs.Endings.{Endless, AllEnd, Ends}
@@ -65,21 +65,17 @@ module _ (c b n : List ℕ) where
     pub links-fixed : true ≡ fixedNoted t → wrongLinks (anodesFrom c b n) ≡ true
     links-fixed e = links-rest ∙ rw (← e, or-true)
 
-    right-at : AllEnd n b → (a : ℕ) → T (wrongAt (anodesFrom c b n) a) → ⊥
+    right-at : AllEnd n b → (a : ℕ) → wrongAt (anodesFrom c b n) a ≡ false
     unfolding wrongAt wrongLink anodesFrom
-    right-at ends a h =
-        let p = both (not (eqb a 0)) (not (eqb (getD b a 0) 0) && (ltb 1 (preds 3444 (λ x. getD n x 0) a) || not (eqb (followed (λ x. getD n x 0) 3444 a) 0))) h in
-        let q = both (not (eqb (getD b a 0) 0)) (ltb 1 (preds 3444 (λ x. getD n x 0) a) || not (eqb (followed (λ x. getD n x 0) 3444 a) 0)) (p .1) in
-        let some : a ≢ 0 = λ z. T-not (eqb a 0) (p .0) (eq→eqb a 0 z) in
-        let used : getD b a 0 ≢ 0 = λ z. T-not (eqb (getD b a 0) 0) (q .0) (eq→eqb (getD b a 0) 0 z) in
-        elim (either (ltb 1 (preds 3444 (λ x. getD n x 0) a)) (not (eqb (followed (λ x. getD n x 0) 3444 a) 0)) (q .1)) [
-          | inl l ↦ omega (arith, ltb→lt 1 (preds 3444 (λ x. getD n x 0) a) l, preds-one t n w a some)
-          | inr l ↦ T-not (eqb (followed (λ x. getD n x 0) 3444 a) 0) l (eq→eqb (followed (λ x. getD n x 0) 3444 a) 0 (ends .ends a some used))
-        ]
+    right-at ends a =
+        none-and (not (eqb a 0)) _ (λ p.
+        none-and (not (eqb (getD b a 0) 0)) _ (λ q.
+        let some = eqb-false a 0 (not-true (eqb a 0) p) in
+        let used = eqb-false (getD b a 0) 0 (not-true (eqb (getD b a 0) 0) q) in
+        none-or (ltb 1 (preds 3444 (λ x. getD n x 0) a)) _ (le-ltb 1 (preds 3444 (λ x. getD n x 0) a) (preds-one t n w a some)) (same (followed (λ x. getD n x 0) 3444 a) 0 (ends .ends a some used))))
 
     links-right : false ≡ fixedNoted t → AllEnd n b → wrongLinks (anodesFrom c b n) ≡ false
-    links-right e ends =
-        links-rest ∙ rw (← e, T-false (anyBelow (wrongAt (anodesFrom c b n)) 3444) (λ h. let s = any-some (wrongAt (anodesFrom c b n)) 3444 h in right-at ends (s .0) (s .2)))
+    links-right e ends = links-rest ∙ rw (← e, anyBelow-all (wrongAt (anodesFrom c b n)) 3444 (λ a l. right-at ends a))
 
     pub links-ends : View 3444 (λ a. getD n a 0) (λ a. getD b a 0) → false ≡ fixedNoted t → (r : Bool) → Ends r n b → wrongLinks (anodesFrom c b n) ≡ r
     links-ends v e true ends = links-endless v ends

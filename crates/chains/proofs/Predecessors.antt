@@ -7,11 +7,9 @@ use native.Mathlib.Omega.{arith}
 use lib.ListN.{length, getD, set, replicate}
 use lib.Seq.{getD-set-same, getD-set-other}
 use Rattle.endian.proofs.Laws.{getD-zeros}
-use Rattle.rules.specs.Counting.{oneAt}
 use Rattle.rules.specs.Chains.{preds}
 use Rattle.laws.specs.Tests.{same?}
-use Rattle.laws.specs.Sums.{oneAt-same, oneAt-cases, oneAt-le, sum-member, sum-members, sum-le-one}
-use Rattle.laws.specs.Links.{preds-none as none-before}
+use Rattle.laws.specs.Links.{preds-none as counted-none, preds-one as counted-one, preds-some as counted-some, preds-two as counted-two}
 use Rattle.chains.specs.Predecessors.{PredTable, NotedBelow, Twice}
 use Rattle.chains.proofs.Storing.{entry-below}
 
@@ -32,18 +30,12 @@ module _ (t n : List ℕ) (a : ℕ) (w : NotedBelow t n a) where
 
   module _ (x : ℕ) (is : getD n a 0 ≡ x) (some : x ≢ 0) where
     pub noted-twice : a < 3444 → getD t x 0 ≢ 0 → Twice n
-    unfolding preds
     noted-twice l h = record {
       anode = x;
       before = a;
       some = some;
       leads = is;
-      two = omega (
-        arith,
-        sum-members (λ p. oneAt (getD n p 0) x) (getD t x 0) a 3444 (omega (arith, w .earlier x h)) l (λ e. omega (arith, w .earlier x h)),
-        oneAt-same (getD n (getD t x 0) 0) x (w .is-pred x h),
-        oneAt-same (getD n a 0) x is,
-      );
+      two = counted-two 3444 (λ p. getD n p 0) x (getD t x 0) (omega (arith, w .earlier x h)) (w .is-pred x h) a l (λ e. omega (arith, w .earlier x h)) is;
     }
 
     pub noted-set : x < length t → getD n 0 0 ≡ 0 → getD t x 0 ≡ 0 → NotedBelow (set t x a) n (a + 1)
@@ -77,15 +69,10 @@ module _ (t n : List ℕ) (w : PredTable t n) where
   no-pred first x h z p e = h (sym e ∙ ap (λ (q : ℕ). getD n q 0) (sym (pred-is p x h e) ∙ z) ∙ first)
 
   pub preds-none : getD n 0 0 ≡ 0 → (x : ℕ) → x ≢ 0 → getD t x 0 ≡ 0 → preds 3444 (λ a. getD n a 0) x ≡ 0
-  preds-none first x h z = none-before 3444 (λ a. getD n a 0) x (no-pred first x h z)
+  preds-none first x h z = counted-none 3444 (λ a. getD n a 0) x (no-pred first x h z)
 
   pub preds-some : (x : ℕ) → getD t x 0 ≢ 0 → 0 < preds 3444 (λ a. getD n a 0) x
-  unfolding preds
-  preds-some x z = omega (arith, sum-member (λ p. oneAt (getD n p 0) x) (getD t x 0) 3444 (w .noted .earlier x z), oneAt-same (getD n (getD t x 0) 0) x (w .noted .is-pred x z))
+  preds-some x z = counted-some 3444 (λ a. getD n a 0) x (getD t x 0) (w .noted .earlier x z) (w .noted .is-pred x z)
 
   pub preds-one : (x : ℕ) → x ≢ 0 → preds 3444 (λ a. getD n a 0) x ≤ 1
-  unfolding preds
-  preds-one x h = sum-le-one (λ p. oneAt (getD n p 0) x) 3444 (λ p. oneAt-le (getD n p 0) x) (λ p q lp lq u v. sym (pred-is p x h (is p u)) ∙ pred-is q x h (is q v))
-    where
-      is : (p : ℕ) → 0 < oneAt (getD n p 0) x → getD n p 0 ≡ x
-      is p l = elim (oneAt-cases (getD n p 0) x) [ inl e ↦ e .0 | inr e ↦ absurd (omega arith) ]
+  preds-one x h = counted-one 3444 (λ a. getD n a 0) x (λ p q e f. sym (pred-is p x h e) ∙ pred-is q x h f)

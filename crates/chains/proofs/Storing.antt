@@ -13,6 +13,13 @@ use Rattle.chains.specs.Storing.{storedAlong}
 pub entry-below : (l : List ℕ) (a : ℕ) → getD l a 0 ≢ 0 → a < length l
 entry-below l a h = elim (less? a (length l)) [ inl k ↦ k | inr k ↦ absurd (h (List·getD-eq-default l 0 k)) ]
 
+-- a store of another number than 0 takes no entry away
+pub set-kept : (v : ℕ) → v ≢ 0 → (m : List ℕ) (i x : ℕ) → getD m x 0 ≢ 0 → getD (set m i v) x 0 ≢ 0
+set-kept v some m i x h = elim (same? x i) [
+  | inl e ↦ rw (e, getD-set-same m i v 0 (rw e at (entry-below m x h))) some
+  | inr e ↦ rw (getD-set-other m i x v 0 e) h
+]
+
 module _ (links : List ℕ) (v : ℕ) where
   pub stored-none : (k : ℕ) (m : List ℕ) (a : ℕ) → k ≡ 0 → storedAlong k links m v a ≡ m
   unfolding storedAlong
@@ -34,16 +41,8 @@ module _ (links : List ℕ) (v : ℕ) where
   stored-length (suc k) m zero = refl
   stored-length (suc k) m (suc a) = stored-length k (set m (suc a) v) (getD links (suc a) 0) ∙ length-set m (suc a) v
 
-  module _ (some : v ≢ 0) where
-    -- storing takes no entry away
-    pub set-kept : (m : List ℕ) (i x : ℕ) → getD m x 0 ≢ 0 → getD (set m i v) x 0 ≢ 0
-    set-kept m i x h = elim (same? x i) [
-      | inl e ↦ rw (e, getD-set-same m i v 0 (rw e at (entry-below m x h))) some
-      | inr e ↦ rw (getD-set-other m i x v 0 e) h
-    ]
-
-    pub stored-kept : (k : ℕ) (m : List ℕ) (a x : ℕ) → getD m x 0 ≢ 0 → getD (storedAlong k links m v a) x 0 ≢ 0
-    unfolding storedAlong
-    stored-kept zero m a x h = h
-    stored-kept (suc k) m zero x h = h
-    stored-kept (suc k) m (suc a) x h = stored-kept k (set m (suc a) v) (getD links (suc a) 0) x (set-kept m (suc a) x h)
+  pub stored-kept : v ≢ 0 → (k : ℕ) (m : List ℕ) (a x : ℕ) → getD m x 0 ≢ 0 → getD (storedAlong k links m v a) x 0 ≢ 0
+  unfolding storedAlong
+  stored-kept some zero m a x h = h
+  stored-kept some (suc k) m zero x h = h
+  stored-kept some (suc k) m (suc a) x h = stored-kept some k (set m (suc a) v) (getD links (suc a) 0) x (set-kept v some m (suc a) x h)

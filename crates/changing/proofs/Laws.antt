@@ -42,7 +42,7 @@ module _ {img counts firsts nexts queue parents heads : List ℕ} {dirs : ℕ} (
   chain-inside h r e m =
       let w = accepted-whole img (diskSize img) limit (o .loaded .accepted) in
       let d = entry-facts img (diskSize img) limit (o .loaded .accepted) h r e m .head in
-      λ y p. (chain-block img (w .good) (e .anode) d y p .inside, chain-once (w .good) (e .anode) d y)
+      (λ y p. chain-block img (w .good) (e .anode) d y p .inside, chain-once (w .good) (e .anode) d)
 
 -- ---- a change of a named entry
 

@@ -1,16 +1,16 @@
 -- Laws of bytes written over some blocks. Assumes nothing.
-use Prim.Native.Nat.{ℕ, zero, suc, _+_, _-_, _*_, _<_, _≤_}
-use mathlib.Core.Path.{_≡_, refl, sym, ap, _∙_}
+use Prim.Native.Nat.{ℕ, _+_, _-_, _*_, _<_, _≤_}
+use mathlib.Core.Path.{_≡_, refl, sym, _∙_}
 use mathlib.Core.List.{List, [], _∷_, _++_}
 use native.Mathlib.Omega.{arith}
 use native.Mathlib.Nat.{le-of-eq}
-use lib.ListN.{length, set, take, drop, take-append-drop, drop-of-length-le}
-use lib.Seq.{take-all, take-at, drop-at, drop-drop, drop-nil}
+use lib.ListN.{length, take, drop, drop-of-length-le}
+use lib.Seq.{take-at, drop-at, drop-drop, drop-nil}
 use borrow.Rule.Slice.PartMut.{putMid}
 use Rattle.endian.specs.Bytes.{stored}
-use Rattle.endian.proofs.Laws.{length-stored, stored-none, stored-cons, stored-out, stored-take}
+use Rattle.endian.proofs.Laws.{length-stored, stored-none, stored-out, stored-take, stored-append}
 use Rattle.disk.specs.Blocks.{blockOf, withBlock}
-use Rattle.disk.proofs.Laws.{length-blockOf, part-block, block-back}
+use Rattle.disk.proofs.Laws.{length-blockOf, withBlock-own, part-block, block-back}
 use Rattle.disk.proofs.Store.{length-withBlock, blockOf-withBlock-other}
 use Rattle.rules.specs.Counting.{times, gather}
 use Rattle.rules.specs.Anodes.{Anodes}
@@ -24,40 +24,7 @@ use Rattle.laws.specs.Sums.{oneAt-same}
 use Rattle.laws.specs.Bags.{times-cons, times-append, times-here}
 use Rattle.contents.specs.Written.{writtenOver, InsideOnce}
 
--- ---- a store over two lists
-
--- a store behind the first byte
-stored-later : (x : ℕ) (l : List ℕ) (at : ℕ) (s : List ℕ) → stored (x ∷ l) (suc at) s ≡ x ∷ stored l at s
-unfolding stored
-stored-later x l at [] = refl
-stored-later x l at (v ∷ s) = stored-later x (set l at v) (suc at) s
-
--- the second list gets what goes past the first one's end
-stored-append : (l m : List ℕ) (at : ℕ) (s : List ℕ) → stored (l ++ m) at s ≡ stored l at s ++ stored m (at - length l) (drop (length l - at) s)
-stored-append [] m at s =
-    let none : 0 - at ≡ 0 = omega arith in
-    let same : at - 0 ≡ at = omega arith in
-    rw (stored-out [] at s (omega arith), none, same)
-stored-append (x ∷ l) m at [] = rw (stored-none (x ∷ (l ++ m)) at, stored-none (x ∷ l) at, drop-nil {A = ℕ} (suc (length l) - at), stored-none m (at - suc (length l)))
-stored-append (x ∷ l) m zero (v ∷ s) =
-    let full : suc (length l) - 0 ≡ suc (length l - 0) = omega arith in
-    let none : 0 - suc (length l) ≡ 0 - length l = omega arith in
-    rw (stored-cons (x ∷ (l ++ m)) 0 v s, stored-cons (x ∷ l) 0 v s, full, none, stored-later v (l ++ m) 0 s, stored-later v l 0 s)
-    (ap (λ (r : List ℕ). v ∷ r) (stored-append l m 0 s))
-stored-append (x ∷ l) m (suc at) (v ∷ s) =
-    let one : suc (length l) - suc at ≡ length l - at = omega arith in
-    let other : suc at - suc (length l) ≡ at - length l = omega arith in
-    rw (one, other, stored-later x (l ++ m) at (v ∷ s), stored-later x l at (v ∷ s))
-    (ap (λ (r : List ℕ). x ∷ r) (stored-append l m at (v ∷ s)))
-
 -- ---- one block
-
--- a block's own bytes stored in it change nothing
-own-block : (img : List ℕ) (y : ℕ) → withBlock img y (blockOf img y) ≡ img
-unfolding withBlock blockOf
-own-block img y =
-    rw (take-all (length (take 512 (drop (y * 512) img))) (take 512 (drop (y * 512) img)) (omega arith), ← drop-drop 512 (y * 512) img, take-append-drop 512 (drop (y * 512) img))
-    (take-append-drop (y * 512) img)
 
 -- no block is left
 pub over-empty : (img ys bytes : List ℕ) (offset : ℕ) → ys ≡ [] → writtenOver img ys offset bytes ≡ img
@@ -69,7 +36,7 @@ over-none : (img ys : List ℕ) (offset : ℕ) → writtenOver img ys offset [] 
 unfolding writtenOver
 over-none img [] offset = refl
 over-none img (y ∷ ys) offset =
-    rw (stored-none (blockOf img y) offset, own-block img y, drop-nil {A = ℕ} (512 - offset)) (over-none img ys (offset - 512))
+    rw (stored-none (blockOf img y) offset, withBlock-own img y, drop-nil {A = ℕ} (512 - offset)) (over-none img ys (offset - 512))
 
 pub over-done : (img ys bytes : List ℕ) (offset done : ℕ) → length bytes ≤ done → writtenOver img ys offset (drop done bytes) ≡ img
 over-done img ys bytes offset done h = rw (drop-of-length-le bytes {i = done} h) (over-none img ys offset)
@@ -80,7 +47,7 @@ module _ (img : List ℕ) (y : ℕ) (inside : y * 512 + 512 ≤ length img) (ys 
   unfolding writtenOver
   over-skipped h =
       let none : 512 - offset ≡ 0 = omega arith in
-      rw (stored-out (blockOf img y) offset bytes (rw (length-blockOf img y inside) h), own-block img y, none)
+      rw (stored-out (blockOf img y) offset bytes (rw (length-blockOf img y inside) h), withBlock-own img y, none)
 
   -- the block was lent, and the bytes that fall into it were stored
   pub over-stored : (done : ℕ) (new : List ℕ) → offset < 512 → new ≡ stored (take (y * 512 + 512 - y * 512) (drop (y * 512) img)) offset (take (512 - offset) (drop done bytes))
@@ -103,18 +70,18 @@ unfolding writtenOver spread gather
 over-spread img j [] bytes offset long i same = refl
 over-spread img j (y ∷ ys) bytes offset long i same =
     let first = oneAt-same y y refl in
-    let here = i y (omega (arith, times-cons y y ys)) in
-    let kept = same y (omega (arith, times-cons y y ys)) in
+    let here = i .0 y (times-here y ys) in
+    let kept = same y (times-here y ys) in
     let new = stored (blockOf img y) offset bytes in
-    let whole : length new ≡ 512 = length-stored (blockOf img y) offset bytes ∙ length-blockOf img y (here .0) in
+    let whole : length new ≡ 512 = length-stored (blockOf img y) offset bytes ∙ length-blockOf img y here in
     let enough : length (blockOf j y) ≤ length new = rw kept (le-of-eq (sym (length-stored (blockOf img y) offset bytes))) in
     let rest = stored (gather (blockOf img) ys) (offset - 512) (drop (512 - offset) bytes) in
     let split : stored (blockOf img y ++ gather (blockOf img) ys) offset bytes ≡ new ++ rest =
-    rw (← length-blockOf img y (here .0)) (stored-append (blockOf img y) (gather (blockOf img) ys) offset bytes) in
+    rw (← length-blockOf img y here) (stored-append (blockOf img y) (gather (blockOf img) ys) offset bytes) in
     rw (kept, split, take-at new rest 512 whole, drop-at new rest 512 whole)
     (over-spread img (withBlock j y new) ys (drop (512 - offset) bytes) (offset - 512) (length-withBlock j y new enough ∙ long)
-    (λ z p. let q = i z (omega (arith, p, times-cons z y ys)) in (q .0, omega (arith, q .1, times-cons z y ys)))
-    (λ z p. blockOf-withBlock-other j y new enough z (λ e. omega (arith, rw e at p, here .1, times-cons y y ys)) ∙ same z (omega (arith, p, times-cons z y ys))))
+    (λ z p. i .0 z (omega (arith, p, times-cons z y ys)), λ z. omega (arith, i .1 z, times-cons z y ys))
+    (λ z p. blockOf-withBlock-other j y new enough z (λ e. omega (arith, rw e at p, i .1 y, times-cons y y ys)) ∙ same z (omega (arith, p, times-cons z y ys))))
 
 -- the rules' image of a write
 pub over-written : (img : List ℕ) (s : Anodes) (h : ℕ) (e : Entered) (offset : ℕ) (bytes : List ℕ) → e .anode ≡ h → InsideOnce img (blocksOf s h)

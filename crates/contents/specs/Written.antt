@@ -1,11 +1,12 @@
 -- Bytes written over some blocks, and how far a write along a chain is.
-use Prim.Native.Nat.{ℕ, _+_, _-_, _*_, _<_, _≤_}
+use Prim.Native.Nat.{ℕ, _-_, _≤_}
 use mathlib.Core.Path.{_≡_}
 use mathlib.Core.List.{List, [], _∷_, _++_}
-use lib.ListN.{length, drop}
+use lib.ListN.{drop}
 use Rattle.endian.specs.Bytes.{stored}
 use Rattle.disk.specs.Blocks.{blockOf, withBlock}
 use Rattle.rules.specs.Counting.{times}
+use Rattle.laws.specs.Chains.{Inside}
 use Rattle.contents.specs.declared.Cursor.{Cursor}
 
 -- block by block: each stores what falls into it, and the next goes on with the rest of the offset and of the bytes
@@ -19,4 +20,4 @@ WrittenPast c bytes img ys c′ img′ = (rest : List ℕ) → writtenOver img�
 
 -- the image has each of these blocks whole, and none of them stands twice
 abbrev pub InsideOnce : List ℕ → List ℕ → Type 0
-InsideOnce img ys = (y : ℕ) → 0 < times y ys → (y * 512 + 512 ≤ length img) × (times y ys ≤ 1)
+InsideOnce img ys = Inside img ys × ((y : ℕ) → times y ys ≤ 1)

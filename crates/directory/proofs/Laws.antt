@@ -1,7 +1,7 @@
 -- The cases of the definitions, and what a reader of a directory block gets after a store. Assumes nothing.
 use mathlib.Core.Path.{_≡_, refl, sym, ap, _∙_}
 use Prim.Native.Nat.{ℕ, _+_, _-_, _*_, _/_, _%_, _<_, _≤_}
-use mathlib.Core.List.{List, [], _∷_, _++_}
+use mathlib.Core.List.{List, [], _∷_}
 use mathlib.Core.Bool.{Bool, true, false, cond, _&&_, and-eq-true-iff, false≢true}
 use native.Mathlib.Omega.{arith}
 use native.Mathlib.Numerals.{add-one}
@@ -10,7 +10,7 @@ use lib.Dec.{leb, eqb}
 use lib.ListN.{length, getD, set, take, drop, drop-of-length-le, length-set, length-drop}
 use lib.Seq.{drop-cons, getD-set-same, getD-set-other, getD-take, getD-drop, length-take-le, ext-getD}
 use Rattle.endian.specs.Bytes.{be16, be32, put16, put32, stored, cleared}
-use Rattle.endian.proofs.Laws.{length-put16, length-put32, be16-put16-same, be16-put16-other, getD-put16-other, length-stored, length-cleared, stored-none, stored-cons, getD-stored-before, getD-stored-after, getD-stored-in, getD-cleared-before, getD-cleared-after, getD-cleared-in}
+use Rattle.endian.proofs.Laws.{length-put16, length-put32, be16-put16-same, be16-put16-other, getD-put16-other, length-stored, length-cleared, run-on, byte-run, put16-run, put32-run, getD-stored-before, getD-stored-after, getD-stored-in, getD-cleared-before, getD-cleared-after, getD-cleared-in}
 use Rattle.directory.specs.declared.DirectoryHead.{DirectoryHead}
 use Rattle.directory.specs.declared.Kind.{Kind}
 use Rattle.directory.specs.declared.Kind.the-variants.{File, Directory}
@@ -100,28 +100,6 @@ putEntry-stores b at e name comment len type l t b1 b2 b3 b4 b5 b6 b7 b8 b9 b10 
     rw (s13, s12, s11, s10, s9, s8, s7, s6, s5, s4, s3, s2, s1, l, t)
 
 -- ---- the run of bytes of an entry's fields
-
--- a run that goes on where another ends
-run-on : (l : List ℕ) (at : ℕ) (s m : List ℕ) → m ≡ stored l at s → (k : ℕ) (t : List ℕ) → k ≡ at + length s
-    → stored m k t ≡ stored l at (s ++ t)
-run-on l at [] m p k t q =
-    let e : k ≡ at = omega arith in
-    rw (p, stored-none l at, e)
-run-on l at (v ∷ s) m p k t q =
-    run-on (set l at v) (at + 1) s m (p ∙ stored-cons l at v s) k t (omega arith) ∙ sym (stored-cons l at v (s ++ t))
-
-byte-run : (l : List ℕ) (at v : ℕ) → set l at v ≡ stored l at (v ∷ [])
-unfolding stored
-byte-run l at v = refl
-
-put16-run : (l : List ℕ) (at v : ℕ) → put16 l at v ≡ stored l at (v / 256 ∷ v % 256 ∷ [])
-unfolding put16 stored
-put16-run l at v = rw (add-one at)
-
-put32-run : (l : List ℕ) (at v : ℕ)
-    → put32 l at v ≡ stored l at (v / 65536 / 256 ∷ v / 65536 % 256 ∷ v % 65536 / 256 ∷ v % 65536 % 256 ∷ [])
-unfolding put32
-put32-run l at v = put16-run _ (at + 2) (v % 65536) ∙ run-on l at _ _ (put16-run l at (v / 65536)) (at + 2) _ (omega arith)
 
 -- the first sixteen bytes of an entry
 unfoldable entryHead : Entry → List ℕ
@@ -295,11 +273,13 @@ module _ (b : List ℕ) (at : ℕ) (e : Entry) (name comment : List ℕ) where
 
 -- ---- what a found entry and the end mark say of the bytes
 
+-- whether an entry was found
 abbrev isFound : Walked → Bool
 isFound (Found e) = true
 isFound End = false
 isFound (Fault r) = false
 
+-- whether the end mark was met
 abbrev isEnd : Walked → Bool
 isEnd (Found e) = false
 isEnd End = true

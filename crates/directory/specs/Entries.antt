@@ -62,15 +62,15 @@ goodComment comment = leb (length comment) 79
 unfoldable pub entryLength : ℕ → ℕ → ℕ
 entryLength name comment = (name + comment + 18) / 2 * 2
 
--- the name's length at 15, the comment's after the name
+-- the name's length, at 15
 unfoldable pub nameLength : List ℕ → ℕ → ℕ
 nameLength b at = getD b (at + 15) 0
 
--- the comment's length stands behind the name
+-- the comment's length, after the name
 unfoldable pub commentLength : List ℕ → ℕ → ℕ
 commentLength b at = getD b (at + 16 + nameLength b at) 0
 
--- the name from 16, the comment after its length byte
+-- the name, from 16 on
 unfoldable pub nameIn : List ℕ → ℕ → List ℕ
 nameIn b at = take (nameLength b at) (drop (at + 16) b)
 
@@ -107,7 +107,7 @@ walkedAt b at =
     cond (eqb (getD b at 0) 0) End
     (cond (entryShaped b at) (walkedKind (kindRead (getD b (at + 1) 0)) (entryIn b at)) (Fault DirectoryBlock))
 
--- the block with an entry stored at a place: length 0, type 1 and the fields as above, the name, the comment's length byte and the comment;
+-- the block with an entry stored at a place: its length at 0, its type at 1 and the fields as above, the name, the comment's length byte and the comment;
 -- its pad byte and the byte after it become 0
 unfoldable pub putEntry : List ℕ → ℕ → Entry → List ℕ → List ℕ → List ℕ
 putEntry b at e name comment =

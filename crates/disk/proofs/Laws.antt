@@ -5,8 +5,8 @@ use Prim.Native.Nat.{ℕ, zero, suc, _+_, _*_, _/_, _%_, _-_, _<_, _≤_, min}
 use mathlib.Core.List.{List, [], append-nil}
 use native.Mathlib.Omega.{arith}
 use native.Mathlib.Nat.{not-suc-le-zero, zero-add, add-zero}
-use lib.ListN.{length, getD, take, drop, length-take, length-drop, drop-of-length-le, List·getD-eq-default}
-use lib.Seq.{take-all}
+use lib.ListN.{length, getD, take, drop, length-take, length-drop, take-append-drop, drop-of-length-le, List·getD-eq-default}
+use lib.Seq.{take-all, drop-drop}
 use borrow.Author.Tests.{le-ltb, lt-ltb, eq-eqb, ne-eqb}
 use borrow.Rule.Slice.PartMut.{putMid, post-is}
 use Rattle.endian.proofs.Laws.{less?, length-put16}
@@ -34,6 +34,13 @@ unfolding withBlock
 withBlock-out img b new h =
     let e : length (blockOf img b) ≡ 0 = omega (arith, length-blockOf-min img b) in
     rw (e, take-all (b * 512) img h, drop-of-length-le img {i = b * 512 + 512} (omega arith)) (append-nil img)
+
+-- a block's own bytes stored in it change nothing
+pub withBlock-own : (img : List ℕ) (b : ℕ) → withBlock img b (blockOf img b) ≡ img
+unfolding withBlock blockOf
+withBlock-own img b =
+    rw (take-all (length (take 512 (drop (b * 512) img))) (take 512 (drop (b * 512) img)) (omega arith), ← drop-drop 512 (b * 512) img, take-append-drop 512 (drop (b * 512) img))
+    (take-append-drop (b * 512) img)
 
 -- a block that is lent up to `e`: 512 bytes on, or the image's end before that
 module _ (img : List ℕ) (b e : ℕ) (end : e ≡ min (b * 512 + 512) (length img)) where

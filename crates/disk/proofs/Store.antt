@@ -96,20 +96,30 @@ module _ (b : List ℕ) (r : Root) (name : List ℕ) where
   abbrev named : List ℕ
   named = stored (set dated 20 (r .name)) 21 name
 
-  be16-dated : (k : ℕ) → k < 19 → be16 (putRoot b r name) k ≡ be16 dated k
+  -- a number with no byte of the name, its length byte before it, and first and last reserved
+  be16-dated : (k : ℕ) → ((j : ℕ) → j < length name + 2 → k + 1 ≡ 20 + j → ⊥) → ((j : ℕ) → j < 5 → k + 1 ≡ 52 + j → ⊥) → be16 (putRoot b r name) k ≡ be16 dated k
   unfolding putRoot
-  be16-dated k h =
-      be16-put16-other _ 54 (r .last .0) k (λ j m e. omega arith)
-      ∙ be16-put16-other named 52 (r .first .0) k (λ j m e. omega arith)
-      ∙ be16-stored-other (set dated 20 (r .name)) 21 name k (λ j m e. omega arith)
-      ∙ be16-set-other dated 20 (r .name) k (omega arith) (omega arith)
+  be16-dated k n m =
+      be16-put16-other _ 54 (r .last .0) k (λ j h e. m (j + 2) (omega arith) (omega arith))
+      ∙ be16-put16-other named 52 (r .first .0) k (λ j h e. m j (omega arith) e)
+      ∙ be16-stored-other (set dated 20 (r .name)) 21 name k (λ j h e. n (j + 1) (omega arith) (omega arith))
+      ∙ be16-set-other dated 20 (r .name) k (λ e. n 1 (omega arith) (omega arith)) (λ e. n 0 (omega arith) (omega arith))
 
-  be16-typed : (k : ℕ) → k < 11 → be16 dated k ≡ be16 (put32 b 0 (r .signature)) k
-  be16-typed k h =
-      be16-put16-other _ 18 (r .protection) k (λ j m e. omega arith)
-      ∙ be16-put16-other _ 16 (r .tick) k (λ j m e. omega arith)
-      ∙ be16-put16-other _ 14 (r .minute) k (λ j m e. omega arith)
-      ∙ be16-put16-other _ 12 (r .day) k (λ j m e. omega arith)
+  -- and none of the stamp
+  be16-typed : (k : ℕ) → ((j : ℕ) → j < 9 → k + 1 ≡ 12 + j → ⊥) → be16 dated k ≡ be16 (put32 b 0 (r .signature)) k
+  be16-typed k n =
+      be16-put16-other _ 18 (r .protection) k (λ j h e. n (j + 6) (omega arith) (omega arith))
+      ∙ be16-put16-other _ 16 (r .tick) k (λ j h e. n (j + 4) (omega arith) (omega arith))
+      ∙ be16-put16-other _ 14 (r .minute) k (λ j h e. n (j + 2) (omega arith) (omega arith))
+      ∙ be16-put16-other _ 12 (r .day) k (λ j h e. n j (omega arith) e)
+
+  -- a number of the stamp or before it
+  be16-before : (k : ℕ) → k < 19 → be16 (putRoot b r name) k ≡ be16 dated k
+  be16-before k h = be16-dated k (λ j m e. omega arith) (λ j m e. omega arith)
+
+  -- a half of the disk type
+  be16-type : (k : ℕ) → k < 11 → be16 (putRoot b r name) k ≡ be16 (put32 b 0 (r .signature)) k
+  be16-type k h = be16-before k (omega arith) ∙ be16-typed k (λ j m e. omega arith)
 
   pub rootIn-putRoot : 512 ≤ length b → rootIn (putRoot b r name) ≡ r
   unfolding rootIn putRoot
@@ -120,21 +130,21 @@ module _ (b : List ℕ) (r : Root) (name : List ℕ) where
       let b3 = put16 b2 16 (r .tick) in
       let b7 = put16 named 52 (r .first .0) in
       rw (
-        be32-halves (putRoot b r name) b0 0 0 (be16-dated 0 (omega arith) ∙ be16-typed 0 (omega arith)) (be16-dated 2 (omega arith) ∙ be16-typed 2 (omega arith)),
+        be32-halves (putRoot b r name) b0 0 0 (be16-type 0 (omega arith)) (be16-type 2 (omega arith)),
         be32-put32-same b 0 (r .signature) (omega arith),
-        be16-dated 12 (omega arith),
+        be16-before 12 (omega arith),
         be16-put16-other b3 18 (r .protection) 12 (λ j m e. omega arith),
         be16-put16-other b2 16 (r .tick) 12 (λ j m e. omega arith),
         be16-put16-other b1 14 (r .minute) 12 (λ j m e. omega arith),
         be16-put16-same b0 12 (r .day) (simp length-put32 (omega arith)),
-        be16-dated 14 (omega arith),
+        be16-before 14 (omega arith),
         be16-put16-other b3 18 (r .protection) 14 (λ j m e. omega arith),
         be16-put16-other b2 16 (r .tick) 14 (λ j m e. omega arith),
         be16-put16-same b1 14 (r .minute) (simp (length-put16, length-put32) (omega arith)),
-        be16-dated 16 (omega arith),
+        be16-before 16 (omega arith),
         be16-put16-other b3 18 (r .protection) 16 (λ j m e. omega arith),
         be16-put16-same b2 16 (r .tick) (simp (length-put16, length-put32) (omega arith)),
-        be16-dated 18 (omega arith),
+        be16-before 18 (omega arith),
         be16-put16-same b3 18 (r .protection) (simp (length-put16, length-put32) (omega arith)),
         getD-put16-other b7 54 (r .last .0) 20 (omega arith) (omega arith),
         getD-put16-other named 52 (r .first .0) 20 (omega arith) (omega arith),
@@ -152,17 +162,12 @@ module _ (b : List ℕ) (r : Root) (name : List ℕ) where
       ∙ getD-put16-other named 52 (r .first .0) (21 + k) (omega arith) (omega arith)
       ∙ getD-stored-in (set dated 20 (r .name)) 21 name (21 + k) k refl h (simp (length-set, length-put16, length-put32) (omega arith))
 
+  -- a number behind all fields
   be16-putRoot-after : (k : ℕ) → length name ≤ 31 → 56 ≤ k → be16 (putRoot b r name) k ≡ be16 b k
-  unfolding putRoot put32
+  unfolding put32
   be16-putRoot-after k short h =
-      be16-put16-other _ 54 (r .last .0) k (λ j m e. omega arith)
-      ∙ be16-put16-other named 52 (r .first .0) k (λ j m e. omega arith)
-      ∙ be16-stored-other (set dated 20 (r .name)) 21 name k (λ j m e. omega arith)
-      ∙ be16-set-other dated 20 (r .name) k (omega arith) (omega arith)
-      ∙ be16-put16-other _ 18 (r .protection) k (λ j m e. omega arith)
-      ∙ be16-put16-other _ 16 (r .tick) k (λ j m e. omega arith)
-      ∙ be16-put16-other _ 14 (r .minute) k (λ j m e. omega arith)
-      ∙ be16-put16-other _ 12 (r .day) k (λ j m e. omega arith)
+      be16-dated k (λ j m e. omega arith) (λ j m e. omega arith)
+      ∙ be16-typed k (λ j m e. omega arith)
       ∙ be16-put16-other _ 2 (r .signature % 65536) k (λ j m e. omega arith)
       ∙ be16-put16-other b 0 (r .signature / 65536) k (λ j m e. omega arith)
 

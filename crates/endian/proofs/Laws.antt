@@ -1,7 +1,7 @@
 -- What a reader of bytes gets after a store, and the steps of the loops that store a run. Assumes nothing.
-use mathlib.Core.Path.{_≡_, refl, sym, _∙_}
+use mathlib.Core.Path.{_≡_, refl, sym, ap, _∙_}
 use Prim.Native.Nat.{ℕ, zero, suc, _+_, _/_, _%_, _-_, _<_, _≤_}
-use mathlib.Core.List.{List, [], _∷_, append-nil}
+use mathlib.Core.List.{List, [], _∷_, _++_, append-nil}
 use mathlib.Core.Bool.{Bool, true, false}
 use mathlib.Core.Logic.{_≢_, _⊎_, inl, inr, ⊎-elim}
 use lib.Dec.{ltb, eqb}
@@ -10,7 +10,7 @@ use native.Mathlib.Omega.{arith}
 use native.Mathlib.Numerals.{add-one}
 use native.Mathlib.Nat.{not-suc-le-zero}
 use lib.ListN.{length, getD, set, take, drop, replicate, length-set, length-replicate, getD-replicate, drop-of-length-le, List·getD-eq-default}
-use lib.Seq.{set-out, getD-set-same, getD-set-other, drop-cons, length-take-le, length-sets, sets-eq}
+use lib.Seq.{set-out, getD-set-same, getD-set-other, drop-cons, drop-nil, length-take-le, length-sets, sets-eq}
 use Rattle.endian.specs.Bytes.{be16, be32, put16, put32, stored, cleared}
 
 -- ---- cases
@@ -160,6 +160,53 @@ be16-stored-other l at s k n =
     be16-bytes (stored l at s) l k k
     (getD-stored-other l at s k (λ j m e. n (j + 1) (omega arith) (omega arith)))
     (getD-stored-other l at s (k + 1) (λ j m e. n j (omega arith) e))
+
+-- a run that goes on where another ends
+pub run-on : (l : List ℕ) (at : ℕ) (s m : List ℕ) → m ≡ stored l at s → (k : ℕ) (t : List ℕ) → k ≡ at + length s
+    → stored m k t ≡ stored l at (s ++ t)
+run-on l at [] m p k t q =
+    let e : k ≡ at = omega arith in
+    rw (p, stored-none l at, e)
+run-on l at (v ∷ s) m p k t q =
+    run-on (set l at v) (at + 1) s m (p ∙ stored-cons l at v s) k t (omega arith) ∙ sym (stored-cons l at v (s ++ t))
+
+-- a byte, a two-byte number and a four-byte number are runs
+pub byte-run : (l : List ℕ) (at v : ℕ) → set l at v ≡ stored l at (v ∷ [])
+unfolding stored
+byte-run l at v = refl
+
+pub put16-run : (l : List ℕ) (at v : ℕ) → put16 l at v ≡ stored l at (v / 256 ∷ v % 256 ∷ [])
+unfolding put16 stored
+put16-run l at v = rw (add-one at)
+
+pub put32-run : (l : List ℕ) (at v : ℕ)
+    → put32 l at v ≡ stored l at (v / 65536 / 256 ∷ v / 65536 % 256 ∷ v % 65536 / 256 ∷ v % 65536 % 256 ∷ [])
+unfolding put32
+put32-run l at v = put16-run _ (at + 2) (v % 65536) ∙ run-on l at _ _ (put16-run l at (v / 65536)) (at + 2) _ (omega arith)
+
+-- a run stored behind the first byte
+stored-later : (x : ℕ) (l : List ℕ) (at : ℕ) (s : List ℕ) → stored (x ∷ l) (suc at) s ≡ x ∷ stored l at s
+unfolding stored
+stored-later x l at [] = refl
+stored-later x l at (v ∷ s) = stored-later x (set l at v) (suc at) s
+
+-- a run stored in two lists: the second one gets what goes past the first one's end
+pub stored-append : (l m : List ℕ) (at : ℕ) (s : List ℕ) → stored (l ++ m) at s ≡ stored l at s ++ stored m (at - length l) (drop (length l - at) s)
+stored-append [] m at s =
+    let none : 0 - at ≡ 0 = omega arith in
+    let same : at - 0 ≡ at = omega arith in
+    rw (stored-out [] at s (omega arith), none, same)
+stored-append (x ∷ l) m at [] = rw (stored-none (x ∷ (l ++ m)) at, stored-none (x ∷ l) at, drop-nil {A = ℕ} (suc (length l) - at), stored-none m (at - suc (length l)))
+stored-append (x ∷ l) m zero (v ∷ s) =
+    let full : suc (length l) - 0 ≡ suc (length l - 0) = omega arith in
+    let none : 0 - suc (length l) ≡ 0 - length l = omega arith in
+    rw (stored-cons (x ∷ (l ++ m)) 0 v s, stored-cons (x ∷ l) 0 v s, full, none, stored-later v (l ++ m) 0 s, stored-later v l 0 s)
+    (ap (λ (r : List ℕ). v ∷ r) (stored-append l m 0 s))
+stored-append (x ∷ l) m (suc at) (v ∷ s) =
+    let one : suc (length l) - suc at ≡ length l - at = omega arith in
+    let other : suc at - suc (length l) ≡ at - length l = omega arith in
+    rw (one, other, stored-later x (l ++ m) at (v ∷ s), stored-later x l at (v ∷ s))
+    (ap (λ (r : List ℕ). x ∷ r) (stored-append l m at (v ∷ s)))
 
 -- zeros are a run like any other
 pub cleared-stored : (l : List ℕ) (at n : ℕ) → cleared l at n ≡ stored l at (replicate n 0)

@@ -56,7 +56,7 @@ module _ {img counts firsts nexts queue parents heads : List ℕ} {dirs : ℕ} (
   unfolding entriesOf anodesFrom
   open-unbroken h e = rw (← (o .loaded .is-loaded)) at (reached-unbroken img (diskSize img) limit (o .loaded .accepted) h e)
 
-  -- an entry that the tables give is the image's
+  -- what the anodes in the tables give, whatever the counts, is what the image's give
   pub by-image : {X : Type 0} (f : Anodes → X) (x : X) → ((c : List ℕ) → x ≡ f (anodesFrom c firsts nexts)) → x ≡ f (anodesOf img)
   by-image f x e = e counts ∙ ap f (o .loaded .is-loaded)
 
@@ -77,9 +77,9 @@ search-is e r q found is = sym found ∙ ap entryOf is
 pub search-there : (o : Option Entered) (x : Entered) → o ≡ some x → searchNumber false o ≡ 0
 search-there o x is = rw is
 
--- ---- a table of refusals with one row more
+-- ---- a number that is not 0
 
--- the number of a refusal is not 0
+-- as that of a refusal
 pub refused-some : (r : Refusal) (k : ℕ) → k ≡ numberOf r → 1 ≤ k
 refused-some r k e = omega (arith, e, number-some r)
 
@@ -88,6 +88,8 @@ pub not-done {ℓ} : {X : Type ℓ} (k : ℕ) → 1 ≤ k → (x y : X) → done
 unfolding doneOr
 not-done zero l x y = absurd (omega arith)
 not-done (suc k) l x y = refl
+
+-- ---- a table of refusals with one row more
 
 -- what the table refused stays refused
 pub refused-before : (a b c : ℕ) → c ≡ firstOf a b → (r : Refusal) → a ≡ numberOf r → c ≡ numberOf r

@@ -1,113 +1,133 @@
 -- The tests of anodes and blocks: the answer of each, what the next one asks, and the tables at the end.
 use Prim.Native.Nat.{ℕ, _≤_, _<_}
-use mathlib.Core.Path.{_≡_, sym, ap, _∙_}
+use mathlib.Core.Path.{_≡_, _∙_}
 use mathlib.Core.Logic.{_≢_}
 use mathlib.Core.Bool.{true, false}
 use mathlib.Core.List.{List, _++_}
-use native.Mathlib.Omega.{arith}
 use lib.ListN.{length, getD, drop}
 use lib.Dec.{eqb}
-use borrow.Author.Tests.{ne-eqb}
 use Rattle.disk.specs.declared.Root.{Root}
 use Rattle.disk.specs.Blocks.{blockOf}
 use Rattle.disk.specs.Root.{rootIn}
-use Rattle.rules.specs.Counting.{anyBelow}
+use Rattle.rules.specs.Counting.{_if_else_, anyBelow}
 use Rattle.rules.specs.Anodes.{Anodes, limit, exists, anodesOf}
 use Rattle.rules.specs.Accepted.{diskSize, wrongFixed, outOfRange, wrongLinks, wrongFreeList, lastReserved, twoOwners, noOwner, treeFault, damageIn}
-use Rattle.rules.specs.Tables.{chainHead, anodeEntry, anodeTable}
+use Rattle.rules.specs.Tables.{chainHead, anodeTable}
 use Rattle.laws.specs.Links.{View, Linked, next-below, linked}
 use Rattle.laws.specs.Passes.{Reading}
-use Rattle.laws.specs.TestsPassed.{fixed-anodes, next-used, tested-view, tested-checked}
+use Rattle.laws.specs.TestsPassed.{next-used, tested-view, tested-checked}
 use Rattle.laws.specs.ImageAnodes.{reading-of}
 use Rattle.anodes.specs.Loaded.{anodesFrom}
 use Rattle.chains.specs.Predecessors.{Closed}
-use Rattle.chains.proofs.Laws.{table-at, entry-some, head-table}
+use Rattle.chains.proofs.Laws.{entry-head, entry-some, head-table}
 use Rattle.owners.specs.Marks.{OwnersMarked}
 use Rattle.owners.proofs.Shown.{marked-no-owner, marked-table}
 use Rattle.laws.specs.Chains.{HeadTable}
 use Rattle.fsck.specs.Answers.{Filled}
 
--- ---- 6 to 11
+-- ---- the tests that are passed so far, over the anodes loaded in three tables
 
-module _ (img c b n : List ℕ) (e : anodesFrom c b n ≡ anodesOf img) where
-  reading : Reading limit (exists img) 0 0 (anodesFrom c b n)
-  reading = rw e (reading-of img 0 0)
+-- 6
+pub record Passed6 (img c b n : List ℕ) : Type 0 where
+  pub loaded : anodesFrom c b n ≡ anodesOf img
+  pub fixed-right : wrongFixed (anodesFrom c b n) ≡ false
 
-  pub space-6 : wrongFixed (anodesFrom c b n) ≡ true → damageIn img (anodesOf img) ≡ 6
+-- and 7
+pub record Passed7 (img c b n : List ℕ) : Type 0 where
+  pub six : Passed6 img c b n
+  pub in-range : anyBelow (outOfRange (anodesFrom c b n) (diskSize img)) 3444 ≡ false
+
+-- and 8
+pub record Passed8 (img c b n : List ℕ) : Type 0 where
+  pub seven : Passed7 img c b n
+  pub links-right : wrongLinks (anodesFrom c b n) ≡ false
+
+-- and 9
+pub record Passed9 (img c b n : List ℕ) : Type 0 where
+  pub eight : Passed8 img c b n
+  pub free-right : wrongFreeList (anodesFrom c b n) (lastReserved img) ≡ false
+
+-- and 10
+pub record Passed10 (img c b n : List ℕ) : Type 0 where
+  pub nine : Passed9 img c b n
+  pub none-twice : twoOwners img (anodesFrom c b n) ≡ false
+
+-- ---- the answer of the next one
+
+pub space-6 : (img c b n : List ℕ) → anodesFrom c b n ≡ anodesOf img → wrongFixed (anodesFrom c b n) ≡ true → damageIn img (anodesOf img) ≡ 6
+unfolding damageIn
+space-6 img c b n e t = rw (← e, t)
+
+module _ {img c b n : List ℕ} where
+  pub space-7 : Passed6 img c b n → anyBelow (outOfRange (anodesFrom c b n) (diskSize img)) 3444 ≡ true → damageIn img (anodesOf img) ≡ 7
   unfolding damageIn
-  space-6 t = rw (sym e, t)
+  space-7 p t = rw (← p .loaded, p .fixed-right, t)
 
-  module _ (f6 : wrongFixed (anodesFrom c b n) ≡ false) (k : ℕ) (size : k ≡ diskSize img) where
-    pub space-7 : anyBelow (outOfRange (anodesFrom c b n) k) 3444 ≡ true → damageIn img (anodesOf img) ≡ 7
-    unfolding damageIn
-    space-7 t = rw (sym e, f6, sym size, t)
+  pub space-8 : Passed7 img c b n → wrongLinks (anodesFrom c b n) ≡ true → damageIn img (anodesOf img) ≡ 8
+  unfolding damageIn
+  space-8 p t = rw (← p .six .loaded, p .six .fixed-right, p .in-range, t)
 
-    module _ (f7 : anyBelow (outOfRange (anodesFrom c b n) k) 3444 ≡ false) where
-      pub space-8 : wrongLinks (anodesFrom c b n) ≡ true → damageIn img (anodesOf img) ≡ 8
-      unfolding damageIn
-      space-8 t = rw (sym e, f6, sym size, f7, t)
+  -- what is left of the table behind 8
+  left-8 : Passed8 img c b n
+      → damageIn img (anodesOf img) ≡ (9 if wrongFreeList (anodesFrom c b n) (lastReserved img) else (10 if twoOwners img (anodesFrom c b n) else (11 if noOwner img (anodesFrom c b n) else treeFault img (anodesOf img))))
+  unfolding damageIn
+  left-8 p = let s = p .seven .six in rw (← s .loaded, s .fixed-right, p .seven .in-range, p .links-right)
 
-      pub view : View 3444 (λ a. getD n a 0) (λ a. getD b a 0)
+  pub space-9 : Passed8 img c b n → wrongFreeList (anodesFrom c b n) (lastReserved img) ≡ true → damageIn img (anodesOf img) ≡ 9
+  space-9 p t = left-8 p ∙ rw t
+
+  pub space-10 : Passed9 img c b n → twoOwners img (anodesFrom c b n) ≡ true → damageIn img (anodesOf img) ≡ 10
+  space-10 p t = left-8 (p .eight) ∙ rw (p .free-right, t)
+
+  pub space-11 : Passed10 img c b n → noOwner img (anodesFrom c b n) ≡ true → damageIn img (anodesOf img) ≡ 11
+  space-11 p t = left-8 (p .nine .eight) ∙ rw (p .nine .free-right, p .none-twice, t)
+
+  pub space-none : Passed10 img c b n → noOwner img (anodesFrom c b n) ≡ false → damageIn img (anodesOf img) ≡ treeFault img (anodesOf img)
+  space-none p t = left-8 (p .nine .eight) ∙ rw (p .nine .free-right, p .none-twice, t)
+
+  -- ---- what the next one asks
+
+  reading : Passed6 img c b n → Reading limit (exists img) 0 0 (anodesFrom c b n)
+  reading p = rw (p .loaded) (reading-of img 0 0)
+
+  module _ (p : Passed7 img c b n) where
+    pub view : View 3444 (λ a. getD n a 0) (λ a. getD b a 0)
+    unfolding anodesFrom
+    view = tested-view (anodesFrom c b n) (p .six .fixed-right) (reading (p .six))
+
+    pub closed : Closed n b
+    unfolding anodesFrom
+    closed = record { next-used = λ a h. next-used (anodesFrom c b n) (p .six .fixed-right) (diskSize img) (p .in-range) a (next-below view a h) h }
+
+  module _ (p : Passed8 img c b n) where
+    pub links : Linked 3444 (λ a. getD n a 0) (λ a. getD b a 0)
+    unfolding anodesFrom
+    links = let s = p .seven .six in linked (view (p .seven)) (tested-checked (anodesFrom c b n) (s .fixed-right) (reading s) (diskSize img) (p .seven .in-range) (p .links-right))
+
+    -- the table of heads
+    module _ (t t₀ : List ℕ) (is : t ≡ anodeTable (anodesFrom c b n) ++ drop 3444 t₀) where
+      pub heads-some : (a : ℕ) → a ≢ 0 → getD b a 0 ≢ 0 → getD t a 0 ≢ 0
       unfolding anodesFrom
-      view = tested-view (anodesFrom c b n) f6 reading
+      heads-some = entry-some (anodesFrom c b n) (view (p .seven)) links t (drop 3444 t₀) is
 
-      pub closed : Closed n b
+      heads-table : HeadTable t (anodesFrom c b n)
       unfolding anodesFrom
-      closed = record { next-used = λ a h. next-used (anodesFrom c b n) f6 k f7 a (next-below view a h) h }
+      heads-table = head-table (anodesFrom c b n) (view (p .seven)) links t (drop 3444 t₀) is
 
-      module _ (f8 : wrongLinks (anodesFrom c b n) ≡ false) where
-        pub links : Linked 3444 (λ a. getD n a 0) (λ a. getD b a 0)
-        unfolding anodesFrom
-        links = linked view (tested-checked (anodesFrom c b n) f6 reading k f7 f8)
+      heads-are : (a : ℕ) → a < 3444 → getD t a 0 ≡ chainHead (anodesFrom c b n) a
+      unfolding anodesFrom
+      heads-are = entry-head (anodesFrom c b n) (view (p .seven)) links t (drop 3444 t₀) is
 
-        module _ (last : ℕ) (limits : last ≡ lastReserved img) where
-          pub space-9 : wrongFreeList (anodesFrom c b n) last ≡ true → damageIn img (anodesOf img) ≡ 9
-          unfolding damageIn
-          space-9 t = rw (sym e, f6, sym size, f7, f8, sym limits, t)
-
-          module _ (f9 : wrongFreeList (anodesFrom c b n) last ≡ false) where
-            pub space-10 : twoOwners img (anodesFrom c b n) ≡ true → damageIn img (anodesOf img) ≡ 10
-            unfolding damageIn
-            space-10 t = rw (sym e, f6, sym size, f7, f8, sym limits, f9, t)
-
-            module _ (f10 : twoOwners img (anodesFrom c b n) ≡ false) where
-              pub space-11 : noOwner img (anodesFrom c b n) ≡ true → damageIn img (anodesOf img) ≡ 11
-              unfolding damageIn
-              space-11 t = rw (sym e, f6, sym size, f7, f8, sym limits, f9, f10, t)
-
-              pub space-none : noOwner img (anodesFrom c b n) ≡ false → damageIn img (anodesOf img) ≡ treeFault img (anodesOf img)
-              unfolding damageIn
-              space-none t = rw (sym e, f6, sym size, f7, f8, sym limits, f9, f10, t)
-
-        -- the table of heads
-        module _ (t t₀ : List ℕ) (is : t ≡ anodeTable (anodesFrom c b n) ++ drop 3444 t₀) where
-          pub heads-some : (a : ℕ) → a ≢ 0 → getD b a 0 ≢ 0 → getD t a 0 ≢ 0
-          unfolding anodesFrom
-          heads-some = entry-some (anodesFrom c b n) view links t (drop 3444 t₀) is
-
-          heads-table : HeadTable t (anodesFrom c b n)
-          unfolding anodesFrom
-          heads-table = head-table (anodesFrom c b n) view links t (drop 3444 t₀) is
-
-          used : (a : ℕ) → 0 < anodesFrom c b n .count a → anodesFrom c b n .block a ≢ 0
-          used a some z = omega (arith, reading .free-count a z)
-
-          heads-are : (a : ℕ) → a < 3444 → 0 < anodesFrom c b n .count a → getD t a 0 ≡ chainHead (anodesFrom c b n) a
-          unfolding anodeEntry anodesFrom
-          heads-are a l some =
-              table-at (anodesFrom c b n) view links t (drop 3444 t₀) is a l
-              ∙ rw (ne-eqb a 0 (λ z. omega (arith, ap (anodesFrom c b n .count) z, fixed-anodes (anodesFrom c b n) f6 .0 .count-0)), ne-eqb (anodesFrom c b n .block a) 0 (used a some))
-
-          -- both tables, once the owners are marked
-          pub shown : (u u₀ : List ℕ) → drop (diskSize img) u ≡ drop (diskSize img) u₀ → diskSize img ≤ length u → OwnersMarked img (anodesFrom c b n) t u
-              → Filled img (anodesOf img) u₀ t₀ u t × HeadTable t (anodesOf img)
-          shown u u₀ kept room m = (
-            record {
-              blocks-shown = rw (sym e, sym kept) (marked-table img (anodesFrom c b n) t heads-are u room m);
-              anodes-shown = rw (sym e) is;
-            },
-            rw (sym e) heads-table,
-          )
+      -- both tables, once the owners are marked
+      pub shown : (u u₀ : List ℕ) → drop (diskSize img) u ≡ drop (diskSize img) u₀ → diskSize img ≤ length u → OwnersMarked img (anodesFrom c b n) t u
+          → Filled img (anodesOf img) u₀ t₀ u t × HeadTable t (anodesOf img)
+      shown u u₀ kept room m = (
+        record {
+          blocks-shown = rw (← p .seven .six .loaded, ← kept) (marked-table img (anodesFrom c b n) t heads-are u room m);
+          anodes-shown = rw (← p .seven .six .loaded) is;
+        },
+        rw (← p .seven .six .loaded) heads-table,
+      )
 
 pub last-of : (img block : List ℕ) (root : Root) → block ≡ blockOf img 2 → root ≡ rootIn block → root .last .0 ≡ lastReserved img
 unfolding lastReserved

@@ -5,16 +5,19 @@ use mathlib.Core.Logic.{_≢_, _⊎_, inl, inr}
 use mathlib.Core.Bool.{Bool, true, false, cond, _&&_}
 use mathlib.Core.List.{List, [], _∷_, map}
 use native.Mathlib.Omega.{arith}
+use native.Mathlib.Numerals.{add-one}
 use lib.ListN.{getD}
 use lib.Dec.{T, eqb, leb, eqb→eq, leb→le}
 use borrow.Author.Tests.{le-leb, eq-eqb}
+use Rattle.disk.specs.declared.Refusal.{Refusal}
+use Rattle.disk.specs.Blocks.{blockOf}
 use Rattle.directory.specs.declared.Entry.{Entry}
-use Rattle.directory.specs.declared.Walked.the-variants.{Found, End}
+use Rattle.directory.specs.declared.Walked.the-variants.{Found, End, Fault}
 use Rattle.directory.specs.Entries.{isDir, walkedAt}
 use Rattle.rules.specs.Counting.{sumList, times}
 use Rattle.rules.specs.Anodes.{limit, Anodes}
 use Rattle.rules.specs.Chains.{chainOf, heads, blockCount}
-use Rattle.rules.specs.Walk.{Dir, Entered, entriesFrom, Item, blocksFor, wrongAnode, wrongFileSize, itemOf, broken, itemsFor, itemsAt, itemsBy}
+use Rattle.rules.specs.Walk.{Dir, Entered, entriesFrom, Item, blocksFor, wrongAnode, wrongFileSize, itemOf, broken, itemsFor, itemsAt, itemsBy, entriesIn}
 use Rattle.laws.specs.Tests.{cond-cases, T-true, both}
 use Rattle.laws.specs.Bags.{list-one, list-mono, list-congr, list-congr-where, list-zero, gather-sum, map-sum, none-at, kept-sum-where}
 use Rattle.laws.specs.Space.{Alike}
@@ -35,6 +38,24 @@ pub entries-end : (b : List ℕ) (y k at : ℕ) → walkedAt b at ≡ End → en
 unfolding entriesFrom
 entries-end b y zero at e = refl
 entries-end b y (suc k) at e = rw e
+
+-- no entry is left to be read
+pub entries-none : (b : List ℕ) (y k at : ℕ) → k ≡ 0 → entriesFrom k b y at ≡ []
+unfolding entriesFrom
+entries-none b y k at e = rw e
+
+-- those of a block, from its first place on
+pub block-whole : (img : List ℕ) (y : ℕ) (b : List ℕ) → b ≡ blockOf img y → entriesFrom 28 b y 16 ≡ entriesIn img y
+unfolding entriesIn
+block-whole img y b e = rw e
+
+module _ (b : List ℕ) (y k m at : ℕ) (fuel : k ≡ m + 1) where
+  pub entries-fault : (r : Refusal) → walkedAt b at ≡ Fault r → entriesFrom k b y at ≡ record { broken = true; dir = false; anode = 0; size = 0; place = y * 512 + at } ∷ []
+  unfolding entriesFrom
+  entries-fault r e = rw (fuel, add-one m, e)
+
+  pub entries-step : (x : Entry) → walkedAt b at ≡ Found x → entriesFrom k b y at ≡ enteredAt x (y * 512 + at) ∷ entriesFrom m b y (at + getD b at 0)
+  entries-step x e = rw (fuel, add-one m) (entries-more b y m at x e)
 
 -- ---- weights
 

@@ -7,7 +7,7 @@ use native.Mathlib.Omega.{arith}
 use lib.ListN.{length}
 use Rattle.rules.specs.Counting.{oneAt, times}
 use Rattle.rules.specs.Chains.{chainOf, followed, preds}
-use Rattle.laws.specs.Tests.{same?, less?}
+use Rattle.laws.specs.Tests.{same?}
 use Rattle.laws.specs.Sums.{oneAt-cases, oneAt-same, oneAt-some, oneAt-other, oneAt-le, sum-zero, sum-member, sum-members, sum-le-one}
 use Rattle.laws.specs.Bags.{times-nil, times-cons, pigeonhole}
 use Rattle.laws.specs.Segments.{Seg, Chain, followed-zero, chainOf-is, chain-is, chain-ends, chain-one, seg-avoids}
@@ -42,6 +42,16 @@ unfolding preds
 preds-one A next x one =
     sum-le-one (λ p. oneAt (next p) x) A (λ p. oneAt-le (next p) x) (λ p q i j a b. one p q (oneAt-some (next p) x a) (oneAt-some (next q) x b))
 
+-- the next of some has one, and the next of two has two
+module _ (A : ℕ) (next : ℕ → ℕ) (x p : ℕ) (below : p < A) (leads : next p ≡ x) where
+  pub preds-some : 0 < preds A next x
+  unfolding preds
+  preds-some = omega (arith, sum-member (λ q. oneAt (next q) x) p A below, oneAt-same (next p) x leads)
+
+  pub preds-two : (q : ℕ) → q < A → p ≢ q → next q ≡ x → 1 < preds A next x
+  unfolding preds
+  preds-two q l s e = omega (arith, sum-members (λ y. oneAt (next y) x) p q A below l s, oneAt-same (next p) x leads, oneAt-same (next q) x e)
+
 module _ {A : ℕ} {next block : ℕ → ℕ} (v : View A next block) where
   -- only an anode in use has a next
   pub used : (a : ℕ) → next a ≢ 0 → block a ≢ 0
@@ -58,11 +68,7 @@ module _ {A : ℕ} {next block : ℕ → ℕ} (v : View A next block) where
 
   -- no predecessor, counted and said
   pub no-preds : (a : ℕ) → a ≢ 0 → preds A next a ≡ 0 → (p : ℕ) → next p ≢ a
-  unfolding preds
-  no-preds a a0 z p e = elim (less? p A) [
-    | inl l ↦ omega (arith, sum-member (λ q. oneAt (next q) a) p A l, oneAt-same (next p) a e)
-    | inr l ↦ omega (arith, next-below p (λ y. a0 (sym e ∙ y)))
-  ]
+  no-preds a a0 z p e = omega (arith, z, preds-some A next a p (next-below p (λ y. a0 (sym e ∙ y))) e)
 
   -- ---- from the check to the form to prove with: the rank is the length of the chain
 
@@ -71,7 +77,6 @@ module _ {A : ℕ} {next block : ℕ → ℕ} (v : View A next block) where
   shorter a (b ∷ l) m h c d = omega (arith, ap length (chain-one next (next b) m l (rw (c .0) at d) (c .2)))
 
   pub linked : Checked A next block → Linked A next block
-  unfolding preds
   linked k = record {
     closed = λ a h. k .closed a (next-below a h) h;
     uniq = uniq;
@@ -85,9 +90,7 @@ module _ {A : ℕ} {next block : ℕ → ℕ} (v : View A next block) where
         | inr s ↦ absurd (omega (
           arith,
           k .one-pred (next p) h (k .closed p (next-below p h) h),
-          sum-members (λ x. oneAt (next x) (next p)) p q A (next-below p h) (next-below q (λ z. h (e ∙ z))) s,
-          oneAt-same (next p) (next p) refl,
-          oneAt-same (next q) (next p) (sym e),
+          preds-two A next (next p) p (next-below p h) refl q (next-below q (λ z. h (e ∙ z))) s (sym e),
         ))
       ]
 

@@ -8,8 +8,8 @@ use native.Mathlib.Omega.{arith}
 use native.Mathlib.Nat.{zero-add}
 use borrow.Author.Tests.{le-leb, lt-leb, eq-eqb, ne-eqb, lt-ltb, le-ltb}
 use lib.Dec.{T, leb}
-use lib.ListN.{length, getD, set, drop, length-set, List·getD-append}
-use lib.Seq.{drop-at, set-append-left, getD-set-same, getD-set-other, ext-getD}
+use lib.ListN.{length, getD, set, take, drop, length-set, take-append-drop, List·getD-append}
+use lib.Seq.{drop-at, set-append-left, getD-set-same, getD-set-other, getD-take, length-take-le, ext-getD}
 use Rattle.disk.specs.AnodeBlocks.{listed}
 use Rattle.disk.proofs.Laws.{getD-listed, length-listed}
 use Rattle.rules.specs.Counting.{oneAt, sumBelow, times}
@@ -23,6 +23,7 @@ use Rattle.laws.specs.Sums.{oneAt-cases, oneAt-same, oneAt-other, sum-co
 use Rattle.laws.specs.Bags.{times-nil, times-cons, times-here, times-later}
 use Rattle.laws.specs.Ownership.{covers-cases, covers-none}
 use Rattle.laws.specs.LinkChanges.{without, without-cases, without-other}
+use Rattle.laws.specs.Links.{View, Linked}
 use Rattle.laws.specs.Heads.{Head, heads-one, headOf-heads}
 use Rattle.laws.specs.Blocks.{blocks}
 use Rattle.laws.specs.Held.{held, held-fresh}
@@ -37,6 +38,12 @@ listed-at f k i l = getD-listed f 0 k i 0 l ∙ ap f (zero-add i)
 pub listed-is : (f : ℕ → ℕ) (k : ℕ) (l : List ℕ) → length l ≡ k → ((i : ℕ) → i < k → f i ≡ getD l i 0) → listed f 0 k ≡ l
 listed-is f k l e h =
     ext-getD 0 (listed f 0 k) l (length-listed f 0 k ∙ sym e) (λ i b. (let c : i < k = rw (length-listed f 0 k) at b in listed-at f k i c ∙ h i c))
+
+-- a table that holds the values in its first k entries is their list and what stands behind it
+pub listed-front : (f : ℕ → ℕ) (k : ℕ) (t : List ℕ) → k ≤ length t → ((i : ℕ) → i < k → getD t i 0 ≡ f i) → t ≡ listed f 0 k ++ drop k t
+listed-front f k t room h =
+    let front = listed-is f k (take k t) (length-take-le k t room) (λ i l. sym (getD-take k t i 0 l ∙ h i l)) in
+    sym (ap (λ (l : List ℕ). l ++ drop k t) front ∙ take-append-drop k t)
 
 -- before other numbers: its entries, and what stands behind it
 pub table-entry : (f : ℕ → ℕ) (k : ℕ) (rest : List ℕ) (i : ℕ) → i < k → getD (listed f 0 k ++ rest) i 0 ≡ f i
@@ -62,6 +69,17 @@ listed-same f f′ k h = listed-is f k (listed f′ 0 k) (length-listed f′ 0 k
 
 -- ---- the tables of one state
 
+-- an anode's entry in the anode table is the head of its chain, also where that is 0
+pub anodeEntry-head : (s : Anodes) → View limit (s .next) (s .block) → Linked limit (s .next) (s .block) → (a : ℕ) → anodeEntry s a ≡ chainHead s a
+unfolding anodeEntry chainHead
+anodeEntry-head s v k a = elim (same? a 0) [
+  | inl e ↦ rw (eq-eqb a 0 e) (sym (ap (headOf limit (s .next) (s .block)) e ∙ headOf-heads v k .off-zero))
+  | inr e ↦ rw (ne-eqb a 0 e) (elim (same? (s .block a) 0) [
+    | inl u ↦ rw (eq-eqb (s .block a) 0 u) (sym (headOf-heads v k .off a u))
+    | inr u ↦ rw (ne-eqb (s .block a) 0 u)
+  ])
+]
+
 module _ {ex : ℕ → Bool} {n last : ℕ} {s : Anodes} {system hd sd : ℕ → ℕ} (g : Good limit ex n last s system hd sd) where
   -- the head that the rules compute for an anode is the one that the table of heads gives it
   chainHead-is : (a : ℕ) → chainHead s a ≡ hd a
@@ -70,14 +88,7 @@ module _ {ex : ℕ → Bool} {n last : ℕ} {s : Anodes} {system hd sd : ℕ →
 
   -- and so is its entry in the anode table
   pub anodeEntry-is : (a : ℕ) → anodeEntry s a ≡ hd a
-  unfolding anodeEntry
-  anodeEntry-is a = elim (same? a 0) [
-    | inl e ↦ rw (eq-eqb a 0 e) (sym (ap hd e ∙ g .heads .off-zero))
-    | inr e ↦ rw (ne-eqb a 0 e) (elim (same? (s .block a) 0) [
-      | inl u ↦ rw (eq-eqb (s .block a) 0 u) (sym (g .heads .off a u))
-      | inr u ↦ rw (ne-eqb (s .block a) 0 u) (chainHead-is a)
-    ])
-  ]
+  anodeEntry-is a = anodeEntry-head s (g .view) (g .linked) a ∙ chainHead-is a
 
   -- the anode table is the table of heads, listed
   pub anodeTable-is : anodeTable s ≡ listed hd 0 limit

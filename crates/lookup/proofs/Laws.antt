@@ -23,8 +23,8 @@ use Rattle.rules.specs.Chains.{chainOf}
 use Rattle.rules.specs.Walk.{Entered, entriesFrom, entriesIn}
 use Rattle.rules.specs.Lookup.{nameAt, isNamed, firstNamed, entryNamed, entriesOf, nth}
 use Rattle.anodes.specs.Loaded.{anodesFrom}
+use Rattle.laws.specs.Entries.{entries-fault, entries-step}
 use Rattle.laws.specs.Chains.{gathered-step}
-use Rattle.tree.proofs.Laws.{entries-fault, entries-step}
 use Rattle.lookup.specs.Answers.{placed, entered, orElse, onlyIf, Unbroken}
 
 -- ---- bytes from `i` on
@@ -80,12 +80,9 @@ module _ (block : List ℕ) (y k m at : ℕ) (fuel : k ≡ m + 1) where
   unbroken-no-fault r e u = true≢false (rw (entries-fault block y k m at fuel r e) at u)
 
   module _ (e : Entry) (is : walkedAt block at ≡ Found e) where
-    one-more : entriesFrom k block y at ≡ entered (placed e (y * 512 + at)) ∷ entriesFrom m block y (at + getD block at 0)
-    one-more = entries-step block y k m at fuel e is
-
     pub unbroken-rest : Unbroken (entriesFrom k block y at) → Unbroken (entriesFrom m block y (at + getD block at 0))
     unfolding anyIn
-    unbroken-rest u = rw one-more at u
+    unbroken-rest u = rw (entries-step block y k m at fuel e is) at u
 
     module _ (img name : List ℕ) (part : block ≡ blockOf img y) where
       -- an entry passed: the first found so far with the entries from the place on, and with the one at the place before those behind it
@@ -93,7 +90,7 @@ module _ (block : List ℕ) (y k m at : ℕ) (fuel : k ≡ m + 1) where
           → orElse (orElse found (onlyIf (sameBytes (nameIn block at) name) (entered (placed e (y * 512 + at))))) (firstNamed img name (entriesFrom m block y (at + getD block at 0)))
           ≡ orElse found (firstNamed img name (entriesFrom k block y at))
       named-passed found =
-          rw (one-more, first-step img name (entered (placed e (y * 512 + at))) (entriesFrom m block y (at + getD block at 0)), is-named img y block at name e part (omega (arith, found-at block at e is .room)))
+          rw (entries-step block y k m at fuel e is, first-step img name (entered (placed e (y * 512 + at))) (entriesFrom m block y (at + getD block at 0)), is-named img y block at name e part (omega (arith, found-at block at e is .room)))
           (or-assoc found (onlyIf (sameBytes (nameIn block at) name) (entered (placed e (y * 512 + at)))) (firstNamed img name (entriesFrom m block y (at + getD block at 0))))
 
 pub named-none : (img name : List ℕ) (es : List Entered) → es ≡ [] → firstNamed img name es ≡ none
@@ -111,11 +108,11 @@ nth-none es rest n e = rw e
 module _ (block : List ℕ) (y k m at : ℕ) (fuel : k ≡ m + 1) (e : Entry) (is : walkedAt block at ≡ Found e) (rest : List Entered) (n : ℕ) where
   pub nth-here : n ≡ 0 → nth (entriesFrom k block y at ++ rest) n ≡ some (entered (placed e (y * 512 + at)))
   unfolding nth
-  nth-here z = rw (one-more block y k m at fuel e is, z)
+  nth-here z = rw (entries-step block y k m at fuel e is, z)
 
   pub nth-behind : (l : ℕ) → n ≡ l + 1 → nth (entriesFrom k block y at ++ rest) n ≡ nth (entriesFrom m block y (at + getD block at 0) ++ rest) l
   unfolding nth
-  nth-behind l p = rw (one-more block y k m at fuel e is, p, add-one l)
+  nth-behind l p = rw (entries-step block y k m at fuel e is, p, add-one l)
 
 -- ---- the entries along a chain
 

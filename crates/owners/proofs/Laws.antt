@@ -1,7 +1,7 @@
 -- Laws of the marks. Assumes nothing.
 use mathlib.Core.Path.{_≡_, refl, sym, _∙_}
 use mathlib.Core.Logic.{_≢_, ⊎-elim, inl, inr}
-use mathlib.Core.Bool.{Bool, true, false, not, or-false}
+use mathlib.Core.Bool.{Bool, false, not, or-false}
 use mathlib.Core.List.{List}
 use Prim.Native.Nat.{ℕ, _+_, _<_, _≤_}
 use native.Mathlib.Omega.{arith}
@@ -14,14 +14,13 @@ use borrow.Author.Tests.{eqb-true, eq-eqb, ne-eqb}
 use Rattle.endian.proofs.Laws.{same?}
 use Rattle.rules.specs.Counting.{anyBelow}
 use Rattle.rules.specs.Chains.{covers}
-use Rattle.counting.specs.Laws.{anyBelow-none, anyBelow-hit}
 use Rattle.laws.specs.Ownership.{covers-cases, covers-in}
 use Rattle.owners.specs.Marks.{KeptOutside, RunFilled, RunHit, RunHolds, RunTested, Marked, OwnedTwice}
 
 -- ---- a run
 
-pub holds-none : (t : List ℕ) (first mark : ℕ) → RunHolds t first first mark
-holds-none t first mark = record { each = λ x l m. absurd (omega arith) }
+pub run-none : (t : List ℕ) (first mark : ℕ) → RunHolds t first first mark
+run-none t first mark = record { each = λ x l m. absurd (omega arith) }
 
 -- a sum of marks is 0 if no block of the run is marked, and only then
 pub record Summed (sum : ℕ) (t : List ℕ) (first end : ℕ) : Type 0 where
@@ -29,7 +28,7 @@ pub record Summed (sum : ℕ) (t : List ℕ) (first end : ℕ) : Type 0 where
   pub some : sum ≢ 0 → RunHit t first end
 
 pub summed-none : (t : List ℕ) (first : ℕ) → Summed 0 t first first
-summed-none t first = record { none = λ e. holds-none t first 0; some = λ n. absurd (n refl) }
+summed-none t first = record { none = λ e. run-none t first 0; some = λ n. absurd (n refl) }
 
 pub summed-more : (sum : ℕ) (t : List ℕ) (first i : ℕ) → first ≤ i → Summed sum t first i → Summed (sum + getD t i 0) t first (i + 1)
 summed-more sum t first i from s = record {
@@ -48,8 +47,8 @@ summed-tested sum t first end s = elim (same? sum 0) [
   | inr n ↦ rw (ne-eqb sum 0 n) (s .some n)
 ]
 
-pub holds-more : (t : List ℕ) (first i mark : ℕ) → RunHolds t first i mark → i < length t → RunHolds (set t i mark) first (i + 1) mark
-holds-more t first i mark run room = record {
+pub run-more : (t : List ℕ) (first i mark : ℕ) → RunHolds t first i mark → i < length t → RunHolds (set t i mark) first (i + 1) mark
+run-more t first i mark run room = record {
   each = λ x l m. ⊎-elim (λ e. rw e (getD-set-same t i mark 0 room)) (λ n. getD-set-other t i x mark 0 n ∙ run .each x l (omega arith)) (same? x i);
 }
 
@@ -68,19 +67,12 @@ kept-drop old t first count n kept within same =
     ext-getD 0 (drop n t) (drop n old) (rw (length-drop n t, length-drop n old, same))
     (λ i l. rw (getD-drop n t i 0, getD-drop n old i 0) (kept .outside (n + i) (λ p q. let w = within (omega arith) in omega arith)))
 
--- ---- a count
+-- ---- a test so far
 
--- a count is not 0 if a number was counted below the bound, and only then
-module _ (test : ℕ → Bool) where
-  pub counted-none : not (eqb 0 0) ≡ anyBelow test 0
-  counted-none = sym (anyBelow-none test)
-
-  pub counted-one : (n i : ℕ) → test i ≡ true → not (eqb (n + 1) 0) ≡ anyBelow test (i + 1)
-  counted-one n i p = rw (ne-eqb (n + 1) 0 (λ e. omega arith), anyBelow-hit test i (i + 1) (omega arith) p)
-
-  pub counted-not : (n i : ℕ) → not (eqb n 0) ≡ anyBelow test i → test i ≡ false → not (eqb n 0) ≡ anyBelow test (i + 1)
-  unfolding anyBelow
-  counted-not n i e p = rw (add-one i, p, or-false (anyBelow test i)) e
+-- a number that fails the test changes nothing
+pub any-kept : (test : ℕ → Bool) (b : Bool) (i : ℕ) → b ≡ anyBelow test i → test i ≡ false → b ≡ anyBelow test (i + 1)
+unfolding anyBelow
+any-kept test b i e p = rw (add-one i, p, or-false (anyBelow test i)) e
 
 -- ---- a marked table
 

@@ -1,12 +1,10 @@
 -- What a marked table shows of the rules: refusal 11, and the block table. Assumes nothing.
-use mathlib.Core.Path.{_≡_, sym, ap, _∙_}
+use mathlib.Core.Path.{_≡_, _∙_}
 use mathlib.Core.Logic.{inl, inr}
 use mathlib.Core.List.{List, _++_}
 use Prim.Native.Nat.{ℕ, _<_, _≤_}
-use native.Mathlib.Omega.{arith}
 use lib.Dec.{eqb}
-use lib.ListN.{length, getD, take, drop, take-append-drop}
-use lib.Seq.{length-take-le, getD-take}
+use lib.ListN.{length, getD, drop}
 use Rattle.rules.specs.Counting.{anyBelow}
 use Rattle.rules.specs.Anodes.{Anodes}
 use Rattle.rules.specs.Accepted.{diskSize, ownersOf, noOwner}
@@ -14,7 +12,7 @@ use Rattle.rules.specs.Tables.{chainHead, headWhere, ownerHead, blockEntry, blo
 use Rattle.counting.specs.Laws.{anyBelow-same}
 use Rattle.laws.specs.Sums.{sum-congr}
 use Rattle.laws.specs.Ownership.{covers-cases}
-use Rattle.laws.specs.OwnerTable.{listed-is}
+use Rattle.laws.specs.OwnerTable.{listed-front}
 use Rattle.owners.specs.Marks.{Marked, headMark, ownerEntry, OwnersMarked}
 
 -- 11: an entry of 0 is a block with no owner
@@ -23,11 +21,11 @@ pub marked-no-owner : (img : List ℕ) (s : Anodes) (E : ℕ → ℕ) (t : List 
 unfolding noOwner
 marked-no-owner img s E t m = anyBelow-same (λ x. eqb (getD t x 0) 0) (λ x. eqb (ownersOf img s x) 0) (diskSize img) (m .zeros)
 
-module _ (img : List ℕ) (s : Anodes) (heads : List ℕ) (are : (a : ℕ) → a < 3444 → 0 < s .count a → getD heads a 0 ≡ chainHead s a) where
+module _ (img : List ℕ) (s : Anodes) (heads : List ℕ) (are : (a : ℕ) → a < 3444 → getD heads a 0 ≡ chainHead s a) where
   mark-is : (x a : ℕ) → a < 3444 → headMark s heads x a ≡ headWhere s x a
   unfolding headMark headWhere
   mark-is x a l = elim (covers-cases (s .count a) (s .block a) x) [
-    | inl c ↦ rw (c .2) (are a l (omega arith))
+    | inl c ↦ rw (c .2) (are a l)
     | inr c ↦ rw (c .1)
   ]
 
@@ -38,7 +36,4 @@ module _ (img : List ℕ) (s : Anodes) (heads : List ℕ) (are : (a : ℕ) → a
   -- with the heads of all chains, the table is the block table and what stands behind it
   pub marked-table : (t : List ℕ) → diskSize img ≤ length t → OwnersMarked img s heads t → t ≡ blockTable img s ++ drop (diskSize img) t
   unfolding blockTable
-  marked-table t room m =
-      let n = diskSize img in
-      let front = listed-is (blockEntry img s) n (take n t) (length-take-le n t room) (λ x l. sym (getD-take n t x 0 l ∙ m .entries x l ∙ entry-is x)) in
-      sym (ap (λ (l : List ℕ). l ++ drop n t) front ∙ take-append-drop n t)
+  marked-table t room m = listed-front (blockEntry img s) (diskSize img) t room (λ x l. m .entries x l ∙ entry-is x)

@@ -7,7 +7,7 @@ use lib.ListN.{getD}
 use Rattle.disk.specs.Blocks.{blockOf}
 use Rattle.rules.specs.Walk.{Entered, entriesFrom, entriesIn}
 use Rattle.rules.specs.Lookup.{isThere, nth}
-use Rattle.tree.proofs.Laws.{block-whole}
+use Rattle.laws.specs.Entries.{block-whole}
 use Rattle.lookup.proofs.Laws.{entriesAlong, nth-along}
 
 there-before : (es rest : List Entered) → isThere (nth es 0) ≡ true → isThere (nth (es ++ rest) 0) ≡ true

@@ -11,7 +11,6 @@ use lib.ListN.{length, getD, set, take, drop, length-set, length-append, drop-of
 use lib.Seq.{take-all, take-add, take-append-le, drop-append-le, getD-set-same, getD-set-other}
 use borrow.Author.Tests.{eq-eqb, ne-eqb, leb-true, ltb-true}
 use Rattle.disk.specs.declared.Refusal.{Refusal}
-use Rattle.disk.specs.Blocks.{blockOf}
 use Rattle.directory.specs.declared.Kind.the-variants.{File, Directory}
 use Rattle.directory.specs.declared.Entry.{Entry}
 use Rattle.directory.specs.declared.Walked.the-variants.{Found, Fault}
@@ -19,7 +18,7 @@ use Rattle.directory.specs.Entries.{walkedAt}
 use Rattle.rules.specs.Counting.{sumList}
 use Rattle.rules.specs.Anodes.{Anodes, limit}
 use Rattle.rules.specs.Walk.{Dir, Entered, Item, entriesFrom, entriesIn, isBlockOf, itemsFor, blocksFor}
-use Rattle.laws.specs.Entries.{enteredAt, entries-more}
+use Rattle.laws.specs.Entries.{enteredAt, entries-more, entries-fault, entries-step}
 use Rattle.laws.specs.Chains.{chain-none, chain-zero, chain-step, gathered-step}
 use Rattle.tree.specs.Steps.{dirMade, sumFrom, headAt, itemIn, Progress, stopped, going, refuse, enterItem, onward, enterAll, itemsFrom, itemsAlong, halted, ended, afterDir, runFrom, dirsFrom, queueOf, marked}
 
@@ -141,23 +140,6 @@ module _ (counts nexts heads : List ℕ) (head : ℕ) (e : Entry) (place : ℕ) 
   enter-dir h m k = rw (h, eq-eqb (getD marks (e .anode .0) 0) 0 m, k)
 
 -- ---- the entries of a block, from a place on
-
-pub block-whole : (img : List ℕ) (y : ℕ) (block : List ℕ) → block ≡ blockOf img y → entriesFrom 28 block y 16 ≡ entriesIn img y
-unfolding entriesIn
-block-whole img y block e = rw e
-
-pub entries-none : (block : List ℕ) (y k at : ℕ) → k ≡ 0 → entriesFrom k block y at ≡ []
-unfolding entriesFrom
-entries-none block y k at e = rw e
-
-module _ (block : List ℕ) (y k m at : ℕ) (fuel : k ≡ m + 1) where
-  pub entries-fault : (r : Refusal) → walkedAt block at ≡ Fault r → entriesFrom k block y at ≡ record { broken = true; dir = false; anode = 0; size = 0; place = y * 512 + at } ∷ []
-  unfolding entriesFrom
-  entries-fault r e = rw (fuel, add-one m, e)
-
-  pub entries-step : (e : Entry) → walkedAt block at ≡ Found e
-      → entriesFrom k block y at ≡ enteredAt e (y * 512 + at) ∷ entriesFrom m block y (at + getD block at 0)
-  entries-step e w = rw (fuel, add-one m) (entries-more block y m at e w)
 
 pub enter-none : (head : ℕ) (is : List Item) (queue : List Dir) (marks : List ℕ) (files : ℕ) → is ≡ [] → enterAll head is queue marks files ≡ going queue marks files
 unfolding enterAll

@@ -33,9 +33,11 @@ same-length-2 c = search needs
 
 returns-3 : tie.Need-returns-3
 returns-3 c =
-    let l : c .before .before .before .before .before .before .before .before .entry .result < length (c .before .before .before .before .before .before .before .before .before .before .before .args .preds .now) = omega (arith, c .before .before .before .before .before .before .before .before .before .before .before .pre .3 (c .before .before .before .before .before .before .before .before .before .before .before .args .a)) in
+    let s = c .before .before .before .before .before .before .before .before .before .before .before in
+    let e = c .before .before .before .before .before .before .before .before .entry in
+    let l : e .result < length (s .args .preds .now) = omega (arith, s .pre .3 (s .args .a)) in
     rw (c .before .before .set-entry .ensures)
-    (noted-set _ _ _ (c .before .before .before .before .before .before .before .before .before .before .before .pre .4) _ (sym (c .before .before .before .before .before .before .before .before .entry .ensures)) (c .before .before .before .before .before .before .before .if1 .left) l (c .before .before .before .before .before .before .before .before .before .before .before .pre .2) (sym (c .before .before .before .before .before .entry2 .ensures) ∙ c .before .before .before .before .if2 .left))
+    (noted-set _ _ _ (s .pre .4) _ (sym (e .ensures)) (c .before .before .before .before .before .before .before .if1 .left) l (s .pre .2) (sym (c .before .before .before .before .before .entry2 .ensures) ∙ c .before .before .before .before .if2 .left))
 
 pub note-pred-spec : {M : Type 1} → statement M
 note-pred-spec =

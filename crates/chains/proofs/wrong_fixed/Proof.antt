@@ -1,5 +1,10 @@
+use mathlib.Core.Path.{_≡_, sym, _∙_}
+use mathlib.Core.Bool.{_||_}
+use lib.Dec.{eqb}
+use lib.ListN.{getD}
 use borrow.Author.Tests.{eq-eqb, ne-eqb}
 use borrow.Author.Needs.{needs}
+use Rattle.rules.specs.Accepted.{wrongFixed}
 use Rattle.anodes.specs.Loaded.{anodesFrom}
 use Rattle.chains.proofs.Laws.{fixed-tests}
 use Rattle.chains.proofs.wrong_fixed.Statement.{statement}
@@ -27,42 +32,22 @@ unfolding anodesFrom
 returns-3 c =
     rw (fixed-tests _, ← c .before .before .before .before .before .not-empty .ensures, c .before .before .before .before .if1 .left, ← c .before .before .before .entry .ensures, eq-eqb _ 0 (c .before .before .if2 .left), ← c .before .not-empty2 .ensures, c .if3 .taken)
 
+-- anodes 2 and 5 are left behind the tests of 0 and 1
+two-left : (c : tie.Else3) → let g = c .before .before .before .before .before .before .before .before .before .args in wrongFixed (anodesFrom (g .counts .now) (g .firsts .now) (g .nexts .now)) ≡ (eqb (getD (g .firsts .now) 2 0) 0 || eqb (getD (g .firsts .now) 5 0) 0)
+unfolding anodesFrom
+two-left c = rw (fixed-tests _, ← c .before .before .before .before .before .not-empty .ensures, c .before .before .before .before .if1 .left, ← c .before .before .before .entry .ensures, eq-eqb _ 0 (c .before .before .if2 .left), ← c .before .not-empty2 .ensures, c .if3 .left)
+
 entry-requires-2 : tie.Need-entry-requires-2
 entry-requires-2 c κs = search needs
 
 returns-4 : tie.Need-returns-4
-unfolding anodesFrom
-returns-4 c =
-    rw (
-      fixed-tests _,
-      ← c .before .before .before .before .before .before .before .not-empty .ensures,
-      c .before .before .before .before .before .before .if1 .left,
-      ← c .before .before .before .before .before .entry .ensures,
-      eq-eqb _ 0 (c .before .before .before .before .if2 .left),
-      ← c .before .before .before .not-empty2 .ensures,
-      c .before .before .if3 .left,
-      ← c .before .entry2 .ensures,
-      eq-eqb _ 0 (c .if4 .taken),
-    )
+returns-4 c = sym (two-left (c .before .before) ∙ rw (← c .before .entry2 .ensures, eq-eqb _ 0 (c .if4 .taken)))
 
 entry-requires-3 : tie.Need-entry-requires-3
 entry-requires-3 c κs = search needs
 
 returns-5 : tie.Need-returns-5
-unfolding anodesFrom
-returns-5 c =
-    rw (
-      fixed-tests _,
-      ← c .before .before .before .before .before .before .before .before .not-empty .ensures,
-      c .before .before .before .before .before .before .before .if1 .left,
-      ← c .before .before .before .before .before .before .entry .ensures,
-      eq-eqb _ 0 (c .before .before .before .before .before .if2 .left),
-      ← c .before .before .before .before .not-empty2 .ensures,
-      c .before .before .before .if3 .left,
-      ← c .before .before .entry2 .ensures,
-      ne-eqb _ 0 (c .before .if4 .left),
-      c .entry3 .ensures,
-    )
+returns-5 c = sym (two-left (c .before .before .before) ∙ rw (← c .before .before .entry2 .ensures, ne-eqb _ 0 (c .before .if4 .left), c .entry3 .ensures))
 
 pub wrong-fixed-spec : {M : Type 1} → statement M
 wrong-fixed-spec =

@@ -33,7 +33,7 @@ loop-holds c =
     let a = c .before .before .before .before .before .before .args in
     let whole = blocksOf-extents (anodesFrom (a .counts .now) (a .firsts .now) (a .nexts .now)) (a .head .0) in (
       refl,
-      λ y p. c .before .before .before .before .before .before .pre y (rw whole p) .0,
+      rw (← whole) (c .before .before .before .before .before .before .pre .0),
       λ e is. rw (← whole) (over-written _ _ _ e _ _ is (c .before .before .before .before .before .before .pre)),
     )
 

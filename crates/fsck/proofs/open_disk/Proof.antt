@@ -1,10 +1,23 @@
-use denote.Ref.{now}
+use lib.ListN.{length}
 use native.Mathlib.Omega.{arith}
 use Rattle.tables.proofs.Laws.{zeroed-below}
+use Rattle.fsck.specs.Answers.{Headed}
 use Rattle.fsck.proofs.Laws.{headed, outcome-header, outcome-accepted, outcome-refused}
 use borrow.Author.Needs.{needs}
 use Rattle.fsck.proofs.open_disk.Statement.{statement}
 use Rattle.fsck.proofs.open_disk.Tie as tie
+
+-- ---- what is known behind 1 to 4
+
+-- they are passed
+headed-at : (c : tie.After-disk-size) → Headed (c .before .before .before .before .before .before .before .before .before .before .before .before .args .image .now) (length (c .before .before .before .before .before .before .before .before .before .before .before .before .args .blocks .now)) (length (c .before .before .before .before .before .before .before .before .before .before .before .before .args .anodes .now))
+headed-at c = headed _ _ _ _ (c .before .enum-told .given .1) (c .before .before .before .test-header .ensures)
+
+-- the place where the disk's size is known, from the one behind 5 to 16
+abbrev sized : tie.After-examine → tie.After-disk-size
+sized x = x .before .before .before .before .before .before .before .before .before .before .before .before .before .before .before .before
+
+-- ---- the answers
 
 test-header-requires : tie.Need-test-header-requires
 test-header-requires c κs = search needs
@@ -22,30 +35,32 @@ disk-size-requires : tie.Need-disk-size-requires
 disk-size-requires c κs = search needs
 
 zero-first-requires : tie.Need-zero-first-requires
-zero-first-requires c κs = let h = headed _ _ _ _ (c .before .before .enum-told .given .1) (c .before .before .before .before .test-header .ensures) in omega (arith, h .blocks-room, c .before .disk-size .ensures)
+zero-first-requires c κs = omega (arith, headed-at (c .before) .blocks-room, c .before .disk-size .ensures)
 
 zero-first-requires-2 : tie.Need-zero-first-requires-2
-zero-first-requires-2 c κs = (headed _ _ _ _ (c .before .before .before .before .before .before .enum-told .given .1) (c .before .before .before .before .before .before .before .before .test-header .ensures)) .anodes-room
+zero-first-requires-2 c κs = headed-at (c .before .before .before .before .before) .anodes-room
 
 examine-requires : tie.Need-examine-requires
 examine-requires c κs =
-    let h = headed _ _ _ _ (c .before .before .before .before .before .before .before .before .before .before .before .before .before .before .before .before .enum-told .given .1) (c .before .before .before .before .before .before .before .before .before .before .before .before .before .before .before .before .before .before .test-header .ensures) in
+    let d = c .before .before .before .before .before .before .before .before .before .before .before .before .before .before .before in
+    let h = headed-at d in
     let b = c .before .before .before .before .before .before .before .before .before .before .before .before .before .zero-first in
-    let a = c .before .before .before .before .before .before .before .before .before .zero-first2 in
-    (c .before .before .before .before .before .before .before .before .before .before .before .before .before .before .before .before .before .before .before .before .before .before .before .before .before .before .before .pre, ((h .size-right, omega (arith, h .blocks-room, b .kept .0), omega (arith, h .anodes-room, a .kept .0)), (λ x l. zeroed-below (c .before .before .before .before .before .before .before .before .before .before .before .before .before .before .before .disk-size .result) _ _ (b .ensures) x (omega (arith, l, c .before .before .before .before .before .before .before .before .before .before .before .before .before .before .before .disk-size .ensures)), zeroed-below _ (now (c .before .before .before .before .before .before .before .before .before .before .before .before .before .before .before .before .before .before .before .before .before .before .before .before .before .before .before .args .anodes)) _ (a .ensures))))
+    let a = c .before .before .before .before .before .before .before .before .before .zero-first2 in (
+      c .before .before .before .before .before .before .before .before .before .before .before .before .before .before .before .before .before .before .before .before .before .before .before .before .before .before .before .pre,
+      (
+        (h .size-right, omega (arith, h .blocks-room, b .kept .0), omega (arith, h .anodes-room, a .kept .0)),
+        (λ x l. zeroed-below (d .disk-size .result) _ _ (b .ensures) x (omega (arith, l, d .disk-size .ensures)), zeroed-below _ (c .before .before .before .before .before .before .before .before .before .before .before .before .before .before .before .before .before .before .before .before .before .before .before .before .before .before .before .args .anodes .now) _ (a .ensures)),
+      ),
+    )
 
 enum-told-2 : tie.Need-enum-told-2
 enum-told-2 c = search needs
 
 zero-first-requires-3 : tie.Need-zero-first-requires-3
-zero-first-requires-3 c κs =
-    let h = headed _ _ _ _ (c .before .before .before .before .before .before .before .before .before .before .before .before .before .before .before .before .before .before .before .before .before .before .before .before .before .before .before .before .before .before .before .before .before .before .enum-told .given .1) (c .before .before .before .before .before .before .before .before .before .before .before .before .before .before .before .before .before .before .before .before .before .before .before .before .before .before .before .before .before .before .before .before .before .before .before .before .test-header .ensures) in
-    omega (arith, h .blocks-room, c .before .before .before .before .before .before .before .before .before .before .before .before .before .before .before .before .before .before .before .before .before .before .before .before .before .before .before .before .before .before .before .before .before .disk-size .ensures, c .before .before .before .before .before .before .before .before .before .before .before .before .before .before .before .before .before .before .before .before .before .before .before .before .before .before .before .before .before .before .before .zero-first .kept .0, c .before .before .before .before .before .before .before .before .before .before .before .before .before .before .before .before .before .examine .kept .1 .0)
+zero-first-requires-3 c κs = let x = c .before .before .before .before .before .before .before .before .before .before .before .before .before .before .before .before .before in omega (arith, headed-at (sized x) .blocks-room, sized x .disk-size .ensures, x .before .before .before .before .before .before .before .before .before .before .before .before .before .before .zero-first .kept .0, x .examine .kept .1 .0)
 
 zero-first-requires-4 : tie.Need-zero-first-requires-4
-zero-first-requires-4 c κs =
-    let h = headed _ _ _ _ (c .before .before .before .before .before .before .before .before .before .before .before .before .before .before .before .before .before .before .before .before .before .before .before .before .before .before .before .before .before .before .before .before .before .before .before .before .before .before .enum-told .given .1) (c .before .before .before .before .before .before .before .before .before .before .before .before .before .before .before .before .before .before .before .before .before .before .before .before .before .before .before .before .before .before .before .before .before .before .before .before .before .before .before .before .test-header .ensures) in
-    omega (arith, h .anodes-room, c .before .before .before .before .before .before .before .before .before .before .before .before .before .before .before .before .before .before .before .before .before .before .before .before .before .before .before .before .before .before .before .zero-first2 .kept .0, c .before .before .before .before .before .before .before .before .before .before .before .before .before .before .before .before .before .before .before .before .before .examine .kept .1 .1 .0)
+zero-first-requires-4 c κs = let x = c .before .before .before .before .before .before .before .before .before .before .before .before .before .before .before .before .before .before .before .before .before in omega (arith, headed-at (sized x) .anodes-room, x .before .before .before .before .before .before .before .before .before .before .zero-first2 .kept .0, x .examine .kept .1 .1 .0)
 
 enum-told-3 : tie.Need-enum-told-3
 enum-told-3 c = search needs
@@ -73,9 +88,9 @@ same-length-7 c = search needs
 
 returns-2 : tie.Need-returns-2
 returns-2 c =
-    let h = headed _ _ _ _ (c .before .before .before .before .before .before .before .before .before .before .before .before .before .before .before .before .before .before .before .before .before .before .before .before .before .before .before .before .before .before .before .before .before .before .before .before .before .before .before .before .before .enum-told .given .1) (c .before .before .before .before .before .before .before .before .before .before .before .before .before .before .before .before .before .before .before .before .before .before .before .before .before .before .before .before .before .before .before .before .before .before .before .before .before .before .before .before .before .before .before .test-header .ensures) in
-    let x = c .before .before .before .before .before .before .before .before .before .before .before .before .before .before .before .before .before .before .before .before .before .before .before .before .examine in
-    (outcome-refused _ _ _ _ (c .before .before .before .before .before .before .before .before .before .before .before .before .before .before .before .before .before .before .before .before .before .before .before .before .before .before .before .before .before .before .before .before .before .before .before .before .before .before .before .before .disk-size .ensures) h _ _ _ _ (c .before .before .before .before .before .before .before .before .before .before .before .before .before .before .before .before .before .before .before .before .before .before .before .before .before .before .before .before .before .before .before .before .before .before .before .before .before .before .zero-first .ensures) (c .before .before .before .before .before .before .before .before .before .before .before .before .before .before .before .before .before .before .before .before .before .before .before .before .before .before .before .before .before .before .before .before .before .before .zero-first2 .ensures) _ (x .ensures .0) (x .ensures .1 .1 .0) _ (c .before .before .before .before .before .before .before .before .enum-told2 .given .1) _ _ (c .before .before .before .before .before .before .zero-first3 .ensures) (c .before .before .zero-first4 .ensures), (x .ensures .1 .0, x .ensures .1 .1 .1))
+    let x = c .before .before .before .before .before .before .before .before .before .before .before .before .before .before .before .before .before .before .before .before .before .before .before .before in
+    let e = x .examine .ensures in
+    (outcome-refused _ _ _ _ (sized x .disk-size .ensures) (headed-at (sized x)) _ _ _ _ (x .before .before .before .before .before .before .before .before .before .before .before .before .before .before .zero-first .ensures) (x .before .before .before .before .before .before .before .before .before .before .zero-first2 .ensures) _ (e .0) (e .1 .1 .0) _ (c .before .before .before .before .before .before .before .before .enum-told2 .given .1) _ _ (c .before .before .before .before .before .before .zero-first3 .ensures) (c .before .before .zero-first4 .ensures), (e .1 .0, e .1 .1 .1))
 
 same-length-8 : tie.Need-same-length-8
 same-length-8 c = search needs
@@ -100,9 +115,9 @@ same-length-14 c = search needs
 
 returns-3 : tie.Need-returns-3
 returns-3 c =
-    let h = headed _ _ _ _ (c .before .before .before .before .before .before .before .before .before .before .before .before .before .before .before .before .before .before .before .before .before .before .before .before .before .before .before .before .before .before .before .before .before .enum-told .given .1) (c .before .before .before .before .before .before .before .before .before .before .before .before .before .before .before .before .before .before .before .before .before .before .before .before .before .before .before .before .before .before .before .before .before .before .before .test-header .ensures) in
-    let x = c .before .before .before .before .before .before .before .before .before .before .before .before .before .before .before .before .examine in
-    (outcome-accepted _ _ _ _ (c .before .before .before .before .before .before .before .before .before .before .before .before .before .before .before .before .before .before .before .before .before .before .before .before .before .before .before .before .before .before .before .before .disk-size .ensures) h _ _ _ _ (c .before .before .before .before .before .before .before .before .before .before .before .before .before .before .before .before .before .before .before .before .before .before .before .before .before .before .before .before .before .before .zero-first .ensures) (c .before .before .before .before .before .before .before .before .before .before .before .before .before .before .before .before .before .before .before .before .before .before .before .before .before .before .zero-first2 .ensures) _ (x .ensures .0) (x .ensures .1 .1 .0) _ (c .enum-told3 .given .1), (x .ensures .1 .0, x .ensures .1 .1 .1))
+    let x = c .before .before .before .before .before .before .before .before .before .before .before .before .before .before .before .before in
+    let e = x .examine .ensures in
+    (outcome-accepted _ _ _ _ (sized x .disk-size .ensures) (headed-at (sized x)) _ _ _ _ (x .before .before .before .before .before .before .before .before .before .before .before .before .before .before .zero-first .ensures) (x .before .before .before .before .before .before .before .before .before .before .zero-first2 .ensures) _ (e .0) (e .1 .1 .0) _ (c .enum-told3 .given .1), (e .1 .0, e .1 .1 .1))
 
 pub open-disk-spec : {M : Type 1} → statement M
 open-disk-spec =

@@ -1,12 +1,57 @@
-use denote.Ref.{now}
-use mathlib.Core.List.{[]}
-use mathlib.Core.Path.{refl, sym, _∙_}
+use mathlib.Core.List.{List, []}
+use mathlib.Core.Path.{_≡_, refl, sym, _∙_}
+use Prim.Native.Nat.{ℕ}
 use native.Mathlib.Omega.{arith}
+use Rattle.rules.specs.Accepted.{diskSize}
 use Rattle.laws.specs.OwnerTable.{heads-past}
-use Rattle.fsck.proofs.Space.{space-6, space-7, space-8, view, closed, links, space-9, space-10, space-11, space-none, heads-some, shown, last-of, none-of}
+use Rattle.fsck.proofs.Space.{Passed6, Passed7, Passed8, Passed9, Passed10, space-6, space-7, space-8, view, closed, links, space-9, space-10, space-11, space-none, heads-some, shown, last-of, none-of}
 use borrow.Author.Needs.{needs}
 use Rattle.fsck.proofs.test_space.Statement.{statement}
 use Rattle.fsck.proofs.test_space.Tie as tie
+
+-- ---- the tests passed before a place
+
+-- the place at the start, from those behind a passed test
+abbrev start-1 : tie.Else1 → tie.Start
+start-1 c = c .before .before .before .before .before .before .before .before .before
+
+abbrev start-2 : tie.Else2 → tie.Start
+start-2 c = start-1 (c .before .before)
+
+abbrev start-3 : tie.Else3 → tie.Start
+start-3 c = start-2 (c .before .before .before .before)
+
+abbrev start-4 : tie.Else4 → tie.Start
+start-4 c = start-3 (c .before .before .before .before .before .before .before .before .before)
+
+abbrev start-5 : tie.Else5 → tie.Start
+start-5 c = start-4 (c .before .before .before .before .before .before)
+
+-- what is said there of the image and the tables of its anodes
+abbrev At : (List ℕ → List ℕ → List ℕ → List ℕ → Type 0) → tie.Start → Type 0
+At P s = P (s .args .image .now) (s .args .counts .now) (s .args .firsts .now) (s .args .nexts .now)
+
+-- the disk's size, as it was read
+size-at : (c : tie.Else1) → c .before .before .disk-size .result ≡ diskSize (start-1 c .args .image .now)
+size-at c = c .before .before .disk-size .ensures
+
+-- 6 to 10, one after the other
+passed-6 : (c : tie.Else1) → At Passed6 (start-1 c)
+passed-6 c = record { loaded = start-1 c .pre .1 .0; fixed-right = sym (c .before .wrong-fixed .ensures) ∙ c .if1 .left }
+
+passed-7 : (c : tie.Else2) → At Passed7 (start-2 c)
+passed-7 c = record { six = passed-6 (c .before .before); in-range = rw (size-at (c .before .before)) at (sym (c .before .out-of-range .ensures) ∙ c .if2 .left) }
+
+passed-8 : (c : tie.Else3) → At Passed8 (start-3 c)
+passed-8 c = record { seven = passed-7 (c .before .before .before .before); links-right = sym (c .before .before .wrong-links .ensures .0 _) ∙ c .if3 .left }
+
+passed-9 : (c : tie.Else4) → At Passed9 (start-4 c)
+passed-9 c = record { eight = passed-8 (c .before .before .before .before .before .before .before .before .before); free-right = rw (last-of _ _ _ (c .before .before .before .block-part .ensures) (c .before .before .root-in .ensures)) at (sym (c .before .wrong-free-list .ensures) ∙ c .if4 .left) }
+
+passed-10 : (c : tie.Else5) → At Passed10 (start-5 c)
+passed-10 c = record { nine = passed-9 (c .before .before .before .before .before .before); none-twice = sym (c .before .before .before .mark-owners .ensures .0 _) ∙ c .if5 .left }
+
+-- ---- the answers
 
 disk-size-requires : tie.Need-disk-size-requires
 disk-size-requires c κs = search needs
@@ -21,22 +66,28 @@ out-of-range-requires : tie.Need-out-of-range-requires
 out-of-range-requires c κs = search needs
 
 returns-2 : tie.Need-returns-2
-returns-2 c = (space-7 _ _ _ _ (c .before .before .before .before .before .before .before .before .before .before .before .pre .1 .0) (sym (c .before .before .before .wrong-fixed .ensures) ∙ c .before .before .if1 .left) _ (c .before .before .before .before .disk-size .ensures) (sym (c .before .out-of-range .ensures) ∙ c .if2 .taken), record { blocks-kept = refl; anodes-kept = refl })
+returns-2 c = (space-7 (passed-6 (c .before .before)) (rw (size-at (c .before .before)) at (sym (c .before .out-of-range .ensures) ∙ c .if2 .taken)), record { blocks-kept = refl; anodes-kept = refl })
 
 slice-aggregate-wrong-links : tie.Need-slice-aggregate-wrong-links
 slice-aggregate-wrong-links c = search needs
 
 wrong-links-requires : tie.Need-wrong-links-requires
-wrong-links-requires c κs = (refl, c .before .before .before .before .before .before .before .before .before .before .before .before .pre .0 .1, c .before .before .before .before .before .before .before .before .before .before .before .before .pre .0 .2, view _ _ _ _ (c .before .before .before .before .before .before .before .before .before .before .before .before .pre .1 .0) (sym (c .before .before .before .before .wrong-fixed .ensures) ∙ c .before .before .before .if1 .left) _ (c .before .before .before .before .before .disk-size .ensures) (sym (c .before .before .out-of-range .ensures) ∙ c .before .if2 .left), closed _ _ _ _ (c .before .before .before .before .before .before .before .before .before .before .before .before .pre .1 .0) (sym (c .before .before .before .before .wrong-fixed .ensures) ∙ c .before .before .before .if1 .left) _ (c .before .before .before .before .before .disk-size .ensures) (sym (c .before .before .out-of-range .ensures) ∙ c .before .if2 .left))
+wrong-links-requires c κs =
+    let p = passed-7 (c .before) in
+    let s = start-2 (c .before) in
+    (refl, s .pre .0 .1, s .pre .0 .2, view p, closed p)
 
 returns-3 : tie.Need-returns-3
-returns-3 c = (space-8 _ _ _ _ (c .before .before .before .before .before .before .before .before .before .before .before .before .before .before .before .pre .1 .0) (sym (c .before .before .before .before .before .before .before .wrong-fixed .ensures) ∙ c .before .before .before .before .before .before .if1 .left) _ (c .before .before .before .before .before .before .before .before .disk-size .ensures) (sym (c .before .before .before .before .before .out-of-range .ensures) ∙ c .before .before .before .before .if2 .left) (sym (c .before .before .wrong-links .ensures .0 _) ∙ c .if3 .taken), record { blocks-kept = refl; anodes-kept = refl })
+returns-3 c = (space-8 (passed-7 (c .before .before .before .before)) (sym (c .before .before .wrong-links .ensures .0 _) ∙ c .if3 .taken), record { blocks-kept = refl; anodes-kept = refl })
 
 slice-aggregate-fill-heads : tie.Need-slice-aggregate-fill-heads
 slice-aggregate-fill-heads c = search needs
 
 fill-heads-requires : tie.Need-fill-heads-requires
-fill-heads-requires c κs = (c .before .before .before .before .before .before .before .before .before .before .before .before .before .before .before .before .before .pre .1 .1 .0 .3, c .before .before .before .before .before .before .before .before .before .before .before .before .before .before .before .before .before .pre .1 .1 .1 .1, view _ _ _ _ (c .before .before .before .before .before .before .before .before .before .before .before .before .before .before .before .before .before .pre .1 .0) (sym (c .before .before .before .before .before .before .before .before .before .wrong-fixed .ensures) ∙ c .before .before .before .before .before .before .before .before .if1 .left) _ (c .before .before .before .before .before .before .before .before .before .before .disk-size .ensures) (sym (c .before .before .before .before .before .before .before .out-of-range .ensures) ∙ c .before .before .before .before .before .before .if2 .left), links _ _ _ _ (c .before .before .before .before .before .before .before .before .before .before .before .before .before .before .before .before .before .pre .1 .0) (sym (c .before .before .before .before .before .before .before .before .before .wrong-fixed .ensures) ∙ c .before .before .before .before .before .before .before .before .if1 .left) _ (c .before .before .before .before .before .before .before .before .before .before .disk-size .ensures) (sym (c .before .before .before .before .before .before .before .out-of-range .ensures) ∙ c .before .before .before .before .before .before .if2 .left) (sym (c .before .before .before .before .wrong-links .ensures .0 _) ∙ c .before .before .if3 .left), c .before .before .before .before .wrong-links .ensures .1 (c .before .before .if3 .left))
+fill-heads-requires c κs =
+    let p = passed-8 (c .before .before) in
+    let s = start-3 (c .before .before) in
+    (s .pre .1 .1 .0 .3, s .pre .1 .1 .1 .1, view (p .seven), links p, c .before .before .before .before .wrong-links .ensures .1 (c .before .before .if3 .left))
 
 block-part-requires : tie.Need-block-part-requires
 block-part-requires c κs = search needs
@@ -51,10 +102,20 @@ same-length : tie.Need-same-length
 same-length c = search needs
 
 returns-4 : tie.Need-returns-4
-returns-4 c = (space-9 _ _ _ _ (c .before .before .before .before .before .before .before .before .before .before .before .before .before .before .before .before .before .before .before .before .before .before .before .before .pre .1 .0) (sym (c .before .before .before .before .before .before .before .before .before .before .before .before .before .before .before .before .wrong-fixed .ensures) ∙ c .before .before .before .before .before .before .before .before .before .before .before .before .before .before .before .if1 .left) _ (c .before .before .before .before .before .before .before .before .before .before .before .before .before .before .before .before .before .disk-size .ensures) (sym (c .before .before .before .before .before .before .before .before .before .before .before .before .before .before .out-of-range .ensures) ∙ c .before .before .before .before .before .before .before .before .before .before .before .before .before .if2 .left) (sym (c .before .before .before .before .before .before .before .before .before .before .before .wrong-links .ensures .0 _) ∙ c .before .before .before .before .before .before .before .before .before .if3 .left) _ (last-of _ _ _ (c .before .before .before .block-part .ensures) (c .before .before .root-in .ensures)) (sym (c .before .wrong-free-list .ensures) ∙ c .if4 .taken), record { blocks-kept = refl; anodes-kept = heads-past _ _ (now (c .before .before .before .before .before .before .before .before .before .before .before .before .before .before .before .before .before .before .before .before .before .before .before .before .args .anodes)) (c .before .before .before .before .before .before .fill-heads .ensures []) })
+returns-4 c =
+    let t = rw (last-of _ _ _ (c .before .before .before .block-part .ensures) (c .before .before .root-in .ensures)) at (sym (c .before .wrong-free-list .ensures) ∙ c .if4 .taken) in
+    (space-9 (passed-8 (c .before .before .before .before .before .before .before .before .before)) t, record { blocks-kept = refl; anodes-kept = heads-past _ _ (start-3 (c .before .before .before .before .before .before .before .before .before) .args .anodes .now) (c .before .before .before .before .before .before .fill-heads .ensures []) })
 
 mark-owners-requires : tie.Need-mark-owners-requires
-mark-owners-requires c κs = ((c .before .before .before .before .before .before .before .before .before .before .before .before .before .before .before .before .before .before .before .before .before .before .before .before .before .before .pre .0 .0, c .before .before .before .before .before .before .before .before .before .before .before .before .before .before .before .before .before .before .before .before .before .before .before .before .before .before .pre .0 .1, omega (arith, c .before .before .before .before .before .before .before .before .before .before .before .before .before .before .before .before .before .before .before .before .before .before .before .before .before .before .pre .1 .1 .0 .3, c .before .before .before .before .before .before .before .before .fill-heads .kept .1 .1 .1 .0)), ((c .before .before .before .before .before .before .before .before .before .before .before .before .before .before .before .before .before .before .before .before .before .before .before .before .before .before .pre .1 .1 .0 .0, c .before .before .before .before .before .before .before .before .before .before .before .before .before .before .before .before .before .before .before .before .before .before .before .before .before .before .pre .1 .1 .0 .1, c .before .before .before .before .before .before .before .before .before .before .before .before .before .before .before .before .before .before .before .before .before .before .before .before .before .before .pre .1 .1 .0 .2), (c .before .before .before .before .before .before .before .before .before .before .before .before .before .before .before .before .before .before .before .before .before .before .before .before .before .before .pre .1 .1 .1 .0, ((_, (sym (c .before .before .before .before .before .before .before .before .before .before .before .before .before .before .before .before .before .before .wrong-fixed .ensures) ∙ c .before .before .before .before .before .before .before .before .before .before .before .before .before .before .before .before .before .if1 .left), rw (c .before .before .before .before .before .before .before .before .before .before .before .before .before .before .before .before .before .before .before .disk-size .ensures) at (sym (c .before .before .before .before .before .before .before .before .before .before .before .before .before .before .before .before .out-of-range .ensures) ∙ c .before .before .before .before .before .before .before .before .before .before .before .before .before .before .before .if2 .left)), heads-some _ _ _ _ (c .before .before .before .before .before .before .before .before .before .before .before .before .before .before .before .before .before .before .before .before .before .before .before .before .before .before .pre .1 .0) (sym (c .before .before .before .before .before .before .before .before .before .before .before .before .before .before .before .before .before .before .wrong-fixed .ensures) ∙ c .before .before .before .before .before .before .before .before .before .before .before .before .before .before .before .before .before .if1 .left) _ (c .before .before .before .before .before .before .before .before .before .before .before .before .before .before .before .before .before .before .before .disk-size .ensures) (sym (c .before .before .before .before .before .before .before .before .before .before .before .before .before .before .before .before .out-of-range .ensures) ∙ c .before .before .before .before .before .before .before .before .before .before .before .before .before .before .before .if2 .left) (sym (c .before .before .before .before .before .before .before .before .before .before .before .before .before .wrong-links .ensures .0 _) ∙ c .before .before .before .before .before .before .before .before .before .before .before .if3 .left) _ (now (c .before .before .before .before .before .before .before .before .before .before .before .before .before .before .before .before .before .before .before .before .before .before .before .before .before .before .args .anodes)) (c .before .before .before .before .before .before .before .before .fill-heads .ensures _)))))
+mark-owners-requires c κs =
+    let p = passed-9 (c .before .before) .eight in
+    let s = start-4 (c .before .before) in (
+      (s .pre .0 .0, s .pre .0 .1, omega (arith, s .pre .1 .1 .0 .3, c .before .before .before .before .before .before .before .before .fill-heads .kept .1 .1 .1 .0)),
+      (
+        (s .pre .1 .1 .0 .0, s .pre .1 .1 .0 .1, s .pre .1 .1 .0 .2),
+        (s .pre .1 .1 .1 .0, ((_, p .seven .six .fixed-right, p .seven .in-range), heads-some p _ (s .args .anodes .now) (c .before .before .before .before .before .before .before .before .fill-heads .ensures _))),
+      ),
+    )
 
 same-length-2 : tie.Need-same-length-2
 same-length-2 c = search needs
@@ -63,10 +124,12 @@ same-length-3 : tie.Need-same-length-3
 same-length-3 c = search needs
 
 returns-5 : tie.Need-returns-5
-returns-5 c = (space-10 _ _ _ _ (c .before .before .before .before .before .before .before .before .before .before .before .before .before .before .before .before .before .before .before .before .before .before .before .before .before .before .before .before .before .before .pre .1 .0) (sym (c .before .before .before .before .before .before .before .before .before .before .before .before .before .before .before .before .before .before .before .before .before .before .wrong-fixed .ensures) ∙ c .before .before .before .before .before .before .before .before .before .before .before .before .before .before .before .before .before .before .before .before .before .if1 .left) _ (c .before .before .before .before .before .before .before .before .before .before .before .before .before .before .before .before .before .before .before .before .before .before .before .disk-size .ensures) (sym (c .before .before .before .before .before .before .before .before .before .before .before .before .before .before .before .before .before .before .before .before .out-of-range .ensures) ∙ c .before .before .before .before .before .before .before .before .before .before .before .before .before .before .before .before .before .before .before .if2 .left) (sym (c .before .before .before .before .before .before .before .before .before .before .before .before .before .before .before .before .before .wrong-links .ensures .0 _) ∙ c .before .before .before .before .before .before .before .before .before .before .before .before .before .before .before .if3 .left) _ (last-of _ _ _ (c .before .before .before .before .before .before .before .before .before .block-part .ensures) (c .before .before .before .before .before .before .before .before .root-in .ensures)) (sym (c .before .before .before .before .before .before .before .wrong-free-list .ensures) ∙ c .before .before .before .before .before .before .if4 .left) (sym (c .before .before .before .mark-owners .ensures .0 _) ∙ c .if5 .taken), record { blocks-kept = c .before .before .before .mark-owners .ensures .1 .1; anodes-kept = heads-past _ _ (now (c .before .before .before .before .before .before .before .before .before .before .before .before .before .before .before .before .before .before .before .before .before .before .before .before .before .before .before .before .before .before .args .anodes)) (c .before .before .before .before .before .before .before .before .before .before .before .before .fill-heads .ensures []) })
+returns-5 c =
+    let m = c .before .before .before .mark-owners in
+    (space-10 (passed-9 (c .before .before .before .before .before .before)) (sym (m .ensures .0 _) ∙ c .if5 .taken), record { blocks-kept = m .ensures .1 .1; anodes-kept = heads-past _ _ (start-4 (c .before .before .before .before .before .before) .args .anodes .now) (c .before .before .before .before .before .before .before .before .before .before .before .before .fill-heads .ensures []) })
 
 no-owner-requires : tie.Need-no-owner-requires
-no-owner-requires c κs = omega (arith, c .before .before .before .before .before .before .before .before .before .before .before .before .before .before .before .before .before .before .before .before .before .before .before .before .before .before .before .before .before .before .before .pre .1 .1 .0 .2, c .before .before .before .before .before .before .before .before .before .before .before .before .before .before .before .before .before .before .before .before .before .before .before .before .disk-size .ensures, c .before .before .before .before .mark-owners .kept .1 .1 .1 .1 .0)
+no-owner-requires c κs = omega (arith, start-5 (c .before) .pre .1 .1 .0 .2, c .before .before .before .before .before .before .before .before .before .before .before .before .before .before .before .before .before .before .before .before .before .before .before .before .disk-size .ensures, c .before .before .before .before .mark-owners .kept .1 .1 .1 .1 .0)
 
 same-length-4 : tie.Need-same-length-4
 same-length-4 c = search needs
@@ -75,7 +138,10 @@ same-length-5 : tie.Need-same-length-5
 same-length-5 c = search needs
 
 returns-6 : tie.Need-returns-6
-returns-6 c = (space-11 _ _ _ _ (c .before .before .before .before .before .before .before .before .before .before .before .before .before .before .before .before .before .before .before .before .before .before .before .before .before .before .before .before .before .before .before .before .before .pre .1 .0) (sym (c .before .before .before .before .before .before .before .before .before .before .before .before .before .before .before .before .before .before .before .before .before .before .before .before .before .wrong-fixed .ensures) ∙ c .before .before .before .before .before .before .before .before .before .before .before .before .before .before .before .before .before .before .before .before .before .before .before .before .if1 .left) _ (c .before .before .before .before .before .before .before .before .before .before .before .before .before .before .before .before .before .before .before .before .before .before .before .before .before .before .disk-size .ensures) (sym (c .before .before .before .before .before .before .before .before .before .before .before .before .before .before .before .before .before .before .before .before .before .before .before .out-of-range .ensures) ∙ c .before .before .before .before .before .before .before .before .before .before .before .before .before .before .before .before .before .before .before .before .before .before .if2 .left) (sym (c .before .before .before .before .before .before .before .before .before .before .before .before .before .before .before .before .before .before .before .before .wrong-links .ensures .0 _) ∙ c .before .before .before .before .before .before .before .before .before .before .before .before .before .before .before .before .before .before .if3 .left) _ (last-of _ _ _ (c .before .before .before .before .before .before .before .before .before .before .before .before .block-part .ensures) (c .before .before .before .before .before .before .before .before .before .before .before .root-in .ensures)) (sym (c .before .before .before .before .before .before .before .before .before .before .wrong-free-list .ensures) ∙ c .before .before .before .before .before .before .before .before .before .if4 .left) (sym (c .before .before .before .before .before .before .mark-owners .ensures .0 _) ∙ c .before .before .before .if5 .left) (sym (none-of _ _ _ _ _ (c .before .before .before .before .before .before .before .before .before .before .before .before .before .before .before .before .before .before .before .before .before .before .before .before .before .before .disk-size .ensures) (c .before .before .before .before .before .before .mark-owners .ensures .1 .0 (c .before .before .before .if5 .left) _)) ∙ sym (c .before .no-owner .ensures) ∙ c .if6 .taken), record { blocks-kept = c .before .before .before .before .before .before .mark-owners .ensures .1 .1; anodes-kept = heads-past _ _ (now (c .before .before .before .before .before .before .before .before .before .before .before .before .before .before .before .before .before .before .before .before .before .before .before .before .before .before .before .before .before .before .before .before .before .args .anodes)) (c .before .before .before .before .before .before .before .before .before .before .before .before .before .before .before .fill-heads .ensures []) })
+returns-6 c =
+    let m = c .before .before .before .before .before .before .mark-owners in
+    let t = sym (none-of _ _ _ _ _ (c .before .before .before .before .before .before .before .before .before .before .before .before .before .before .before .before .before .before .before .before .before .before .before .before .before .before .disk-size .ensures) (m .ensures .1 .0 (c .before .before .before .if5 .left) _)) ∙ sym (c .before .no-owner .ensures) ∙ c .if6 .taken in
+    (space-11 (passed-10 (c .before .before .before)) t, record { blocks-kept = m .ensures .1 .1; anodes-kept = heads-past _ _ (start-5 (c .before .before .before) .args .anodes .now) (c .before .before .before .before .before .before .before .before .before .before .before .before .before .before .before .fill-heads .ensures []) })
 
 same-length-6 : tie.Need-same-length-6
 same-length-6 c = search needs
@@ -84,7 +150,13 @@ same-length-7 : tie.Need-same-length-7
 same-length-7 c = search needs
 
 returns-7 : tie.Need-returns-7
-returns-7 c = (space-none _ _ _ _ (c .before .before .before .before .before .before .before .before .before .before .before .before .before .before .before .before .before .before .before .before .before .before .before .before .before .before .before .before .before .before .before .before .before .pre .1 .0) (sym (c .before .before .before .before .before .before .before .before .before .before .before .before .before .before .before .before .before .before .before .before .before .before .before .before .before .wrong-fixed .ensures) ∙ c .before .before .before .before .before .before .before .before .before .before .before .before .before .before .before .before .before .before .before .before .before .before .before .before .if1 .left) _ (c .before .before .before .before .before .before .before .before .before .before .before .before .before .before .before .before .before .before .before .before .before .before .before .before .before .before .disk-size .ensures) (sym (c .before .before .before .before .before .before .before .before .before .before .before .before .before .before .before .before .before .before .before .before .before .before .before .out-of-range .ensures) ∙ c .before .before .before .before .before .before .before .before .before .before .before .before .before .before .before .before .before .before .before .before .before .before .if2 .left) (sym (c .before .before .before .before .before .before .before .before .before .before .before .before .before .before .before .before .before .before .before .before .wrong-links .ensures .0 _) ∙ c .before .before .before .before .before .before .before .before .before .before .before .before .before .before .before .before .before .before .if3 .left) _ (last-of _ _ _ (c .before .before .before .before .before .before .before .before .before .before .before .before .block-part .ensures) (c .before .before .before .before .before .before .before .before .before .before .before .root-in .ensures)) (sym (c .before .before .before .before .before .before .before .before .before .before .wrong-free-list .ensures) ∙ c .before .before .before .before .before .before .before .before .before .if4 .left) (sym (c .before .before .before .before .before .before .mark-owners .ensures .0 _) ∙ c .before .before .before .if5 .left) (sym (none-of _ _ _ _ _ (c .before .before .before .before .before .before .before .before .before .before .before .before .before .before .before .before .before .before .before .before .before .before .before .before .before .before .disk-size .ensures) (c .before .before .before .before .before .before .mark-owners .ensures .1 .0 (c .before .before .before .if5 .left) _)) ∙ sym (c .before .no-owner .ensures) ∙ c .if6 .left), shown _ _ _ _ (c .before .before .before .before .before .before .before .before .before .before .before .before .before .before .before .before .before .before .before .before .before .before .before .before .before .before .before .before .before .before .before .before .before .pre .1 .0) (sym (c .before .before .before .before .before .before .before .before .before .before .before .before .before .before .before .before .before .before .before .before .before .before .before .before .before .wrong-fixed .ensures) ∙ c .before .before .before .before .before .before .before .before .before .before .before .before .before .before .before .before .before .before .before .before .before .before .before .before .if1 .left) _ (c .before .before .before .before .before .before .before .before .before .before .before .before .before .before .before .before .before .before .before .before .before .before .before .before .before .before .disk-size .ensures) (sym (c .before .before .before .before .before .before .before .before .before .before .before .before .before .before .before .before .before .before .before .before .before .before .before .out-of-range .ensures) ∙ c .before .before .before .before .before .before .before .before .before .before .before .before .before .before .before .before .before .before .before .before .before .before .if2 .left) (sym (c .before .before .before .before .before .before .before .before .before .before .before .before .before .before .before .before .before .before .before .before .wrong-links .ensures .0 _) ∙ c .before .before .before .before .before .before .before .before .before .before .before .before .before .before .before .before .before .before .if3 .left) _ (now (c .before .before .before .before .before .before .before .before .before .before .before .before .before .before .before .before .before .before .before .before .before .before .before .before .before .before .before .before .before .before .before .before .before .args .anodes)) (c .before .before .before .before .before .before .before .before .before .before .before .before .before .before .before .fill-heads .ensures _) _ _ (c .before .before .before .before .before .before .mark-owners .ensures .1 .1) (omega (arith, c .before .before .before .before .before .before .before .before .before .before .before .before .before .before .before .before .before .before .before .before .before .before .before .before .before .before .before .before .before .before .before .before .before .pre .1 .1 .0 .2, c .before .before .before .before .before .before .mark-owners .kept .1 .1 .1 .1 .0)) (c .before .before .before .before .before .before .mark-owners .ensures .1 .0 (c .before .before .before .if5 .left) _))
+returns-7 c =
+    let m = c .before .before .before .before .before .before .mark-owners in
+    let marked = m .ensures .1 .0 (c .before .before .before .if5 .left) _ in
+    let s = start-5 (c .before .before .before) in
+    let p = passed-10 (c .before .before .before) in
+    let t = sym (none-of _ _ _ _ _ (c .before .before .before .before .before .before .before .before .before .before .before .before .before .before .before .before .before .before .before .before .before .before .before .before .before .before .disk-size .ensures) marked) ∙ sym (c .before .no-owner .ensures) ∙ c .if6 .left in
+    (space-none p t, shown (p .nine .eight) _ (s .args .anodes .now) (c .before .before .before .before .before .before .before .before .before .before .before .before .before .before .before .fill-heads .ensures _) _ _ (m .ensures .1 .1) (omega (arith, s .pre .1 .1 .0 .2, m .kept .1 .1 .1 .1 .0)) marked)
 
 pub test-space-spec : {M : Type 1} → statement M
 test-space-spec =

@@ -1,5 +1,5 @@
 use borrow.Author.Needs.{needs}
-use Rattle.owners.proofs.Laws.{holds-none, holds-more, kept-none, kept-more}
+use Rattle.owners.proofs.Laws.{run-none, run-more, kept-none, kept-more}
 use Rattle.owners.specs.Marks.{KeptOutside, RunHolds}
 use lib.ListN.{length, length-set}
 use native.Mathlib.Omega.{arith}
@@ -18,7 +18,7 @@ add-end : tie.Need-add-end Inv-loop μ-loop
 add-end c = search needs
 
 loop-holds : tie.Need-loop-holds Inv-loop μ-loop
-loop-holds c = (search needs, search needs, search needs, holds-none _ _ _, kept-none _ _ _)
+loop-holds c = (search needs, search needs, search needs, run-none _ _ _, kept-none _ _ _)
 
 mul-blocks : tie.Need-mul-blocks Inv-loop μ-loop
 mul-blocks c =
@@ -41,7 +41,7 @@ loop-again c =
     let l = c .before .loop in
     let h = c .before .before .pre (omega arith) in
     let room : l .i < length (l .blocks) = omega arith in
-    (search needs, search needs, simp length-set (search needs), holds-more _ _ (l .i) _ (l .inv .3) room, kept-more _ _ _ (l .i) (l .inv .4) (l .inv .0) _)
+    (search needs, search needs, simp length-set (search needs), run-more _ _ (l .i) _ (l .inv .3) room, kept-more _ _ _ (l .i) (l .inv .4) (l .inv .0) _)
 
 same-length : tie.Need-same-length Inv-loop μ-loop
 same-length c = search needs

@@ -1,8 +1,8 @@
 use mathlib.Core.Path.{_≡_, sym, _∙_}
 use mathlib.Core.Bool.{true≢false}
-use Prim.Native.Nat.{_-_, _≤_}
+use Prim.Native.Nat.{_+_, _-_, _<_, _≤_}
 use native.Mathlib.Omega.{arith}
-use lib.ListN.{length, drop}
+use lib.ListN.{length, getD, drop}
 use Rattle.rules.specs.Accepted.{diskSize}
 use Rattle.anodes.specs.Loaded.{anodesFrom}
 use Rattle.laws.specs.TestsPassed.{fixed-anodes, extent-inside}
@@ -18,6 +18,11 @@ Inv-loop image counts firsts heads blocks₀ a₀ blocks a = (a ≤ 3444) × (le
 
 abbrev μ-loop : tie.MeasureT-loop
 μ-loop image counts firsts heads blocks₀ a₀ blocks a = 3444 - a
+
+-- the blocks of the anode that is looked at are on the disk
+within : (c : tie.In-loop Inv-loop μ-loop) → let g = c .before .before .before .before .before .before .before .before .before .before .before .before .args in let a = c .before .loop .a in 0 < getD (g .counts .now) a 0 → getD (g .firsts .now) a 0 + getD (g .counts .now) a 0 ≤ diskSize (g .image .now)
+unfolding anodesFrom
+within c = let s = c .before .before .before .before .before .before .before .before .before .before .before .before .pre .1 .1 .1 .0 in extent-inside _ (s .1) _ (s .2) (c .before .loop .a) (c .loop-test .taken)
 
 mark-system-requires : tie.Need-mark-system-requires Inv-loop μ-loop
 mark-system-requires c κs = search needs
@@ -52,23 +57,17 @@ shared-slice-read-mark-run-3 : tie.Need-shared-slice-read-mark-run-3 Inv-loop μ
 shared-slice-read-mark-run-3 c = search needs
 
 mark-run-requires : tie.Need-mark-run-requires Inv-loop μ-loop
-unfolding anodesFrom
-mark-run-requires c κs = λ z.
-    let s = c .before .before .before .before .before .before .before .before .before .before .before .before .before .before .before .before .pre .1 .1 .1 .0 in
-    let w = extent-inside _ (s .1) _ (s .2) (c .before .before .before .before .before .loop .a) (c .before .before .before .before .loop-test .taken) z in
-    search needs
+mark-run-requires c κs = λ z. let w = within (c .before .before .before .before) z in search needs
 
 same-length-2 : tie.Need-same-length-2 Inv-loop μ-loop
 same-length-2 c = search needs
 
 returns-2 : tie.Need-returns-2 Inv-loop μ-loop
-unfolding anodesFrom
 returns-2 c =
     let l = c .before .before .before .before .before .before .before .before .before .loop in
-    let s = c .before .before .before .before .before .before .before .before .before .before .before .before .before .before .before .before .before .before .before .before .pre .1 .1 .1 .0 in
-    let within = extent-inside _ (s .1) _ (s .2) (l .a) (c .before .before .before .before .before .before .before .before .loop-test .taken) in
-    let o = anode-hit _ _ _ _ _ (l .a) _ (l .inv .3) (c .before .before .before .before .before .before .before .before .loop-test .taken) (rw (c .if2 .taken) at (c .before .before .before .mark-run .ensures .0)) within in
-    (λ n. sym (two-owners _ _ _ n o), (λ e. absurd (true≢false e), kept-drop _ _ _ _ _ (c .before .before .before .mark-run .ensures .1) within (search needs) ∙ l .inv .2 ∙ c .before .before .before .before .before .before .before .before .before .before .before .before .before .mark-system .ensures .1))
+    let m = c .before .before .before .mark-run in
+    let o = anode-hit _ _ _ _ _ (l .a) _ (l .inv .3) (c .before .before .before .before .before .before .before .before .loop-test .taken) (rw (c .if2 .taken) at (m .ensures .0)) (within (c .before .before .before .before .before .before .before .before)) in
+    (λ n. sym (two-owners _ _ _ n o), (λ e. absurd (true≢false e), kept-drop _ _ _ _ _ (m .ensures .1) (within (c .before .before .before .before .before .before .before .before)) (search needs) ∙ l .inv .2 ∙ c .before .before .before .before .before .before .before .before .before .before .before .before .before .mark-system .ensures .1))
 
 add-a : tie.Need-add-a Inv-loop μ-loop
 add-a c = search needs
@@ -80,15 +79,15 @@ loop-again : tie.Need-loop-again Inv-loop μ-loop
 unfolding anodesFrom
 loop-again c =
     let l = c .before .before .before .before .before .before .before .before .before .loop in
-    let s = c .before .before .before .before .before .before .before .before .before .before .before .before .before .before .before .before .before .before .before .before .pre .1 .1 .1 .0 in
-    let within = extent-inside _ (s .1) _ (s .2) (l .a) (c .before .before .before .before .before .before .before .before .loop-test .taken) in
-    let size = size-some _ (c .before .before .before .before .before .before .before .before .before .before .before .before .before .before .before .before .before .before .before .before .pre .1 .0 .0) in
-    let run = rw (c .if2 .left) at (c .before .before .before .mark-run .ensures .0) in
-    let some = head-some _ _ _ _ _ (l .a) _ (l .inv .3) _ run (omega arith) (fixed-anodes _ (s .1) .0 .count-0) (c .before .before .before .before .before .before .before .before .before .before .before .before .before .before .before .before .before .before .before .before .pre .1 .1 .1 .1 (l .a)) in (
+    let m = c .before .before .before .mark-run in
+    let p = c .before .before .before .before .before .before .before .before .before .before .before .before .before .before .before .before .before .before .before .before .pre .1 in
+    let size = size-some _ (p .0 .0) in
+    let run = rw (c .if2 .left) at (m .ensures .0) in
+    let some = head-some _ _ _ _ _ (l .a) _ (l .inv .3) _ run (omega arith) (fixed-anodes _ (p .1 .1 .0 .1) .0 .count-0) (p .1 .1 .1 (l .a)) in (
       search needs,
       search needs,
-      kept-drop _ _ _ _ _ (c .before .before .before .mark-run .ensures .1) within (search needs) ∙ l .inv .2,
-      anode-more _ _ _ _ _ (l .a) _ (l .inv .3) _ run (c .before .before .before .mark-run .ensures .1) some,
+      kept-drop _ _ _ _ _ (m .ensures .1) (within (c .before .before .before .before .before .before .before .before)) (search needs) ∙ l .inv .2,
+      anode-more _ _ _ _ _ (l .a) _ (l .inv .3) _ run (m .ensures .1) some,
     )
 
 same-length-3 : tie.Need-same-length-3 Inv-loop μ-loop

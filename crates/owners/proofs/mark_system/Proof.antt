@@ -1,5 +1,5 @@
 use mathlib.Core.Path.{_≡_, sym, _∙_}
-use Prim.Native.Nat.{_-_, _≤_}
+use Prim.Native.Nat.{_+_, _-_, _≤_}
 use native.Mathlib.Omega.{arith}
 use lib.ListN.{length, drop}
 use Rattle.rules.specs.Accepted.{diskSize}
@@ -15,6 +15,10 @@ Inv-loop image blocks₀ s₀ blocks s = (s ≤ 42) × (length blocks ≡ length
 
 abbrev μ-loop : tie.MeasureT-loop
 μ-loop image blocks₀ s₀ blocks s = 42 - s
+
+-- the block of a slot is above the root block and on the disk
+within : (c : tie.Else2 Inv-loop μ-loop) → (3 ≤ c .before .before .slot-of .result .0) × (c .before .before .slot-of .result .0 + 1 ≤ diskSize (c .before .before .before .before .before .before .before .before .before .before .before .before .args .image .now))
+within c = slot-within _ _ _ (c .before .before .before .before .before .before .before .before .before .before .before .before .pre .0 .1) (sym (c .before .before .slot-of .ensures)) (c .if2 .left)
 
 mark-run-requires : tie.Need-mark-run-requires Inv-loop μ-loop
 mark-run-requires c κs = λ z. let h = size-some _ (c .before .before .before .pre .0 .0) in search needs
@@ -46,19 +50,19 @@ loop-again c =
     (search needs, search needs, search needs, system-skip _ _ _ _ (l .inv .3) (sym (c .before .before .slot-of .ensures) ∙ c .if2 .taken))
 
 mark-run-requires-2 : tie.Need-mark-run-requires-2 Inv-loop μ-loop
-mark-run-requires-2 c κs = λ z. let h = slot-within _ _ _ (c .before .before .before .before .before .before .before .before .before .before .before .before .before .pre .0 .1) (sym (c .before .before .before .slot-of .ensures)) (c .before .if2 .left) in search needs
+mark-run-requires-2 c κs = λ z. let w = within (c .before) in search needs
 
 same-length-2 : tie.Need-same-length-2 Inv-loop μ-loop
 same-length-2 c = search needs
 
 returns-2 : tie.Need-returns-2 Inv-loop μ-loop
 returns-2 c =
-    let b = sym (c .before .before .before .before .before .before .before .slot-of .ensures) in
     let l = c .before .before .before .before .before .before .before .before .before .loop in
+    let m = c .before .before .before .mark-run2 in
     let h = size-some _ (c .before .before .before .before .before .before .before .before .before .before .before .before .before .before .before .before .before .pre .0 .0) in
-    let w = slot-within _ _ _ (c .before .before .before .before .before .before .before .before .before .before .before .before .before .before .before .before .before .pre .0 .1) b (c .before .before .before .before .before .if2 .left) in (
-      system-hit _ _ _ _ (l .inv .3) _ (c .before .before .before .before .before .before .before .before .loop-test .taken) b (c .before .before .before .before .before .if2 .left) (w .0) (w .1) (rw (c .if3 .taken) at (c .before .before .before .mark-run2 .ensures .0)),
-      kept-drop _ _ _ 1 _ (c .before .before .before .mark-run2 .ensures .1) (λ z. w .1) (search needs) ∙ l .inv .2 ∙ kept-drop _ _ 0 3 _ (c .before .before .before .before .before .before .before .before .before .before .before .before .before .mark-run .ensures .1) (λ z. h) (search needs),
+    let w = within (c .before .before .before .before .before) in (
+      system-hit _ _ _ _ (l .inv .3) _ (c .before .before .before .before .before .before .before .before .loop-test .taken) (sym (c .before .before .before .before .before .before .before .slot-of .ensures)) (c .before .before .before .before .before .if2 .left) (w .0) (w .1) (rw (c .if3 .taken) at (m .ensures .0)),
+      kept-drop _ _ _ 1 _ (m .ensures .1) (λ z. w .1) (search needs) ∙ l .inv .2 ∙ kept-drop _ _ 0 3 _ (c .before .before .before .before .before .before .before .before .before .before .before .before .before .mark-run .ensures .1) (λ z. h) (search needs),
     )
 
 add-s-2 : tie.Need-add-s-2 Inv-loop μ-loop
@@ -69,13 +73,12 @@ loop-less-2 c = search needs
 
 loop-again-2 : tie.Need-loop-again-2 Inv-loop μ-loop
 loop-again-2 c =
-    let b = sym (c .before .before .before .before .before .before .before .slot-of .ensures) in
     let l = c .before .before .before .before .before .before .before .before .before .loop in
-    let w = slot-within _ _ _ (c .before .before .before .before .before .before .before .before .before .before .before .before .before .before .before .before .before .pre .0 .1) b (c .before .before .before .before .before .if2 .left) in (
+    let m = c .before .before .before .mark-run2 in (
       search needs,
       search needs,
-      kept-drop _ _ _ 1 _ (c .before .before .before .mark-run2 .ensures .1) (λ z. w .1) (search needs) ∙ l .inv .2,
-      system-more _ _ _ _ (l .inv .3) _ _ b (c .before .before .before .before .before .if2 .left) (rw (c .if3 .left) at (c .before .before .before .mark-run2 .ensures .0)) (c .before .before .before .mark-run2 .ensures .1),
+      kept-drop _ _ _ 1 _ (m .ensures .1) (λ z. within (c .before .before .before .before .before) .1) (search needs) ∙ l .inv .2,
+      system-more _ _ _ _ (l .inv .3) _ _ (sym (c .before .before .before .before .before .before .before .slot-of .ensures)) (c .before .before .before .before .before .if2 .left) (rw (c .if3 .left) at (m .ensures .0)) (m .ensures .1),
     )
 
 same-length-3 : tie.Need-same-length-3 Inv-loop μ-loop

@@ -1,6 +1,7 @@
 use borrow.Author.Tests.{eq-eqb, ne-eqb}
 use borrow.Author.Needs.{needs}
-use Rattle.owners.proofs.Laws.{counted-none, counted-one, counted-not}
+use Rattle.counting.specs.Laws.{anyBelow-none, anyBelow-hit}
+use Rattle.owners.proofs.Laws.{any-kept}
 use Rattle.rules.specs.Counting.{anyBelow}
 use lib.Dec.{eqb}
 use lib.ListN.{getD}
@@ -8,7 +9,7 @@ use native.Mathlib.Omega.{arith}
 use Prim.Native.Nat.{_-_, _≤_}
 use mathlib.Core.Bool.{not}
 use mathlib.Core.Logic.{⊎-elim}
-use mathlib.Core.Path.{_≡_}
+use mathlib.Core.Path.{_≡_, sym}
 use Rattle.owners.proofs.no_owner.Statement.{statement}
 use Rattle.owners.proofs.no_owner.Tie as tie
 
@@ -19,7 +20,7 @@ abbrev μ-loop : tie.MeasureT-loop
 μ-loop blocks n free₀ x₀ free x = n - x
 
 loop-holds : tie.Need-loop-holds Inv-loop μ-loop
-loop-holds c = (search needs, counted-none _)
+loop-holds c = (search needs, sym (anyBelow-none _))
 
 mul-if1 : tie.Need-mul-if1 Inv-loop μ-loop
 mul-if1 c = search needs
@@ -37,8 +38,8 @@ loop-again : tie.Need-loop-again Inv-loop μ-loop
 loop-again c =
     let l = c .before .before .before .loop in
     ⊎-elim
-    (λ w. (search needs, rw (w .1) (counted-one _ 0 (l .x) (eq-eqb _ _ (w .0 .taken)))))
-    (λ w. (search needs, rw (w .1) (counted-not _ (l .free) (l .x) (l .inv .1) (ne-eqb _ _ (w .0 .left)))))
+    (λ w. (search needs, rw (w .1) (sym (anyBelow-hit _ (l .x) _ (omega arith) (eq-eqb _ _ (w .0 .taken))))))
+    (λ w. (search needs, rw (w .1) (any-kept _ _ (l .x) (l .inv .1) (ne-eqb _ _ (w .0 .left)))))
     (c .if1 .came)
 
 returns : tie.Need-returns Inv-loop μ-loop

@@ -1,11 +1,30 @@
-use mathlib.Core.Path.{sym, _∙_}
-use Prim.Native.Nat.{_+_}
+use mathlib.Core.Path.{_≡_, sym, _∙_}
+use mathlib.Core.Bool.{true}
+use Prim.Native.Nat.{_+_, _<_, _≤_}
 use native.Mathlib.Omega.{arith}
+use lib.ListN.{getD, set}
 use borrow.Author.Tests.{not-true, not-false}
+use Rattle.tree.specs.Steps.{headAt, marked}
 use Rattle.tree.proofs.Laws.{marked-room, queue-push, enter-no-head, enter-twice, enter-size, enter-file, enter-dir}
 use borrow.Author.Needs.{needs}
 use Rattle.tree.proofs.enter.Statement.{statement}
 use Rattle.tree.proofs.enter.Tie as tie
+
+-- ---- what is known of the entry's anode behind a passed test
+
+-- it is a head
+a-head : (c : tie.Else1) → headAt (c .before .before .before .before .before .before .before .before .before .before .args .heads .now) (c .before .before .before .before .before .before .before .before .before .before .args .e .anode .0) ≡ true
+a-head c = sym (c .before .head-at .ensures) ∙ not-false _ (c .if1 .left)
+
+-- and has no mark
+unmarked : (c : tie.Else2) → getD (c .before .before .before .before .before .before .before .before .before .before .before .before .before .args .marks .now) (c .before .before .before .before .before .before .before .before .before .before .before .before .before .args .e .anode .0) 0 ≡ 0
+unmarked c = sym (c .before .entry .ensures) ∙ c .if2 .left
+
+-- so that one more fits
+room : (c : tie.Else2) → (c .before .before .before .before .before .before .before .before .before .before .before .before .before .args .t .last + c .before .before .before .before .before .before .before .before .before .before .before .before .before .args .t .files < 3444) × (c .before .before .before .before .before .before .before .before .before .before .before .before .before .args .t .last + c .before .before .before .before .before .before .before .before .before .before .before .before .before .args .t .files + 1 ≤ marked (set (c .before .before .before .before .before .before .before .before .before .before .before .before .before .args .marks .now) (c .before .before .before .before .before .before .before .before .before .before .before .before .before .args .e .anode .0) 1))
+room c = marked-room (c .before .before .before .before .before .before .before .before .before .before .before .before .before .args .heads .now) _ _ _ (a-head (c .before .before .before)) (unmarked c) (c .before .before .before .before .before .before .before .before .before .before .before .before .before .pre .0) (c .before .before .before .before .before .before .before .before .before .before .before .before .before .pre .3)
+
+-- ---- the answers
 
 cast-i : tie.Need-cast-i
 cast-i c = search needs
@@ -23,9 +42,7 @@ same-length : tie.Need-same-length
 same-length c = search needs
 
 returns-2 : tie.Need-returns-2
-returns-2 c =
-    let head = sym (c .before .before .before .before .head-at .ensures) ∙ not-false _ (c .before .before .before .if1 .left) in
-    λ place. (sym (enter-twice _ _ _ _ (c .before .before .before .before .before .before .before .before .before .before .before .before .before .args .e) place _ _ _ head (λ z. c .if2 .taken (c .before .entry .ensures ∙ z))), search needs)
+returns-2 c = λ place. (sym (enter-twice _ _ _ _ (c .before .before .before .before .before .before .before .before .before .before .before .before .before .args .e) place _ _ _ (a-head (c .before .before .before)) (λ z. c .if2 .taken (c .before .entry .ensures ∙ z))), search needs)
 
 enum-told : tie.Need-enum-told
 enum-told c = search needs
@@ -46,21 +63,13 @@ same-length-2 : tie.Need-same-length-2
 same-length-2 c = search needs
 
 returns-3 : tie.Need-returns-3
-returns-3 c =
-    let head = sym (c .before .before .before .before .before .before .before .before .before .before .head-at .ensures) ∙ not-false _ (c .before .before .before .before .before .before .before .before .before .if1 .left) in
-    let new = sym (c .before .before .before .before .before .before .before .entry .ensures) ∙ c .before .before .before .before .before .before .if2 .left in
-    λ place. (sym (enter-size _ _ _ _ (c .before .before .before .before .before .before .before .before .before .before .before .before .before .before .before .before .before .before .before .args .e) place _ _ _ head new (c .before .before .before .before .enum-told .given .1) (λ z. c .if3 .taken (c .before .before .before .chain-sum .ensures ∙ z ∙ sym (c .before .blocks-for .ensures)))), search needs)
+returns-3 c = λ place. (sym (enter-size _ _ _ _ (c .before .before .before .before .before .before .before .before .before .before .before .before .before .before .before .before .before .before .before .args .e) place _ _ _ (a-head (c .before .before .before .before .before .before .before .before .before)) (unmarked (c .before .before .before .before .before .before)) (c .before .before .before .before .enum-told .given .1) (λ z. c .if3 .taken (c .before .before .before .chain-sum .ensures ∙ z ∙ sym (c .before .blocks-for .ensures)))), search needs)
 
 set-entry-requires : tie.Need-set-entry-requires
 set-entry-requires c κs = search needs
 
 with-file-requires : tie.Need-with-file-requires
-with-file-requires c κs =
-    let x = c .before .before .before .before .before .before .before .before .before .before .before .before .before .before .before .before .before .before .before .before .before .before .before .args in
-    let head = sym (c .before .before .before .before .before .before .before .before .before .before .before .before .before .before .head-at .ensures) ∙ not-false _ (c .before .before .before .before .before .before .before .before .before .before .before .before .before .if1 .left) in
-    let new = sym (c .before .before .before .before .before .before .before .before .before .before .before .entry .ensures) ∙ c .before .before .before .before .before .before .before .before .before .before .if2 .left in
-    let room = marked-room (x .heads .now) (x .marks .now) (x .e .anode .0) (x .t .last + x .t .files) head new (c .before .before .before .before .before .before .before .before .before .before .before .before .before .before .before .before .before .before .before .before .before .before .before .pre .0) (c .before .before .before .before .before .before .before .before .before .before .before .before .before .before .before .before .before .before .before .before .before .before .before .pre .3) in
-    omega arith
+with-file-requires c κs = omega (arith, room (c .before .before .before .before .before .before .before .before .before .before) .0)
 
 enum-told-2 : tie.Need-enum-told-2
 enum-told-2 c = search needs
@@ -75,25 +84,16 @@ set-entry-requires-4 : tie.Need-set-entry-requires-4
 set-entry-requires-4 c κs = search needs
 
 with-directory-requires : tie.Need-with-directory-requires
-with-directory-requires c κs =
-    let x = c .before .before .before .before .before .before .before .before .before .before .before .before .before .before .before .before .before .before .before .before .before .before .before .before .before .before .before .args in
-    let head = sym (c .before .before .before .before .before .before .before .before .before .before .before .before .before .before .before .before .before .before .head-at .ensures) ∙ not-false _ (c .before .before .before .before .before .before .before .before .before .before .before .before .before .before .before .before .before .if1 .left) in
-    let new = sym (c .before .before .before .before .before .before .before .before .before .before .before .before .before .before .before .entry .ensures) ∙ c .before .before .before .before .before .before .before .before .before .before .before .before .before .before .if2 .left in
-    let room = marked-room (x .heads .now) (x .marks .now) (x .e .anode .0) (x .t .last + x .t .files) head new (c .before .before .before .before .before .before .before .before .before .before .before .before .before .before .before .before .before .before .before .before .before .before .before .before .before .before .before .pre .0) (c .before .before .before .before .before .before .before .before .before .before .before .before .before .before .before .before .before .before .before .before .before .before .before .before .before .before .before .pre .3) in
-    omega arith
+with-directory-requires c κs = omega (arith, room (c .before .before .before .before .before .before .before .before .before .before .before .before .before .before) .0)
 
 same-length-3 : tie.Need-same-length-3
 same-length-3 c = search needs
 
 returns-4 : tie.Need-returns-4
 returns-4 c =
-    let x = c .before .before .before .before .before .before .before .before .before .before .before .before .before .before .before .before .before .before .before .before .before .before .before .before .args in
-    let head = sym (c .before .before .before .before .before .before .before .before .before .before .before .before .before .before .before .head-at .ensures) ∙ not-false _ (c .before .before .before .before .before .before .before .before .before .before .before .before .before .before .if1 .left) in
-    let new = sym (c .before .before .before .before .before .before .before .before .before .before .before .before .entry .ensures) ∙ c .before .before .before .before .before .before .before .before .before .before .before .if2 .left in
     let size = sym (c .before .before .before .before .before .before .before .before .chain-sum .ensures) ∙ c .before .before .before .before .before .if3 .left ∙ c .before .before .before .before .before .before .blocks-for .ensures in
-    let room = marked-room (x .heads .now) (x .marks .now) (x .e .anode .0) (x .t .last + x .t .files) head new (c .before .before .before .before .before .before .before .before .before .before .before .before .before .before .before .before .before .before .before .before .before .before .before .before .pre .0) (c .before .before .before .before .before .before .before .before .before .before .before .before .before .before .before .before .before .before .before .before .before .before .before .before .pre .3) in
     rw (c .with-file .ensures, c .before .before .before .set-entry .ensures)
-    (λ place. (sym (enter-file _ _ _ _ (x .e) place _ _ _ head new (c .before .before .before .before .before .before .before .before .before .enum-told .given .1) size), omega arith))
+    (λ place. (sym (enter-file _ _ _ _ (c .before .before .before .before .before .before .before .before .before .before .before .before .before .before .before .before .before .before .before .before .before .before .before .before .args .e) place _ _ _ (a-head (c .before .before .before .before .before .before .before .before .before .before .before .before .before .before)) (unmarked (c .before .before .before .before .before .before .before .before .before .before .before)) (c .before .before .before .before .before .before .before .before .before .enum-told .given .1) size), omega (arith, room (c .before .before .before .before .before .before .before .before .before .before .before) .1)))
 
 same-length-4 : tie.Need-same-length-4
 same-length-4 c = search needs
@@ -106,13 +106,12 @@ same-length-6 c = search needs
 
 returns-5 : tie.Need-returns-5
 returns-5 c =
-    let x = c .before .before .before .before .before .before .before .before .before .before .before .before .before .before .before .before .before .before .before .before .before .before .before .before .before .before .before .before .args in
-    let head = sym (c .before .before .before .before .before .before .before .before .before .before .before .before .before .before .before .before .before .before .before .head-at .ensures) ∙ not-false _ (c .before .before .before .before .before .before .before .before .before .before .before .before .before .before .before .before .before .before .if1 .left) in
-    let new = sym (c .before .before .before .before .before .before .before .before .before .before .before .before .before .before .before .before .entry .ensures) ∙ c .before .before .before .before .before .before .before .before .before .before .before .before .before .before .before .if2 .left in
-    let room = marked-room (x .heads .now) (x .marks .now) (x .e .anode .0) (x .t .last + x .t .files) head new (c .before .before .before .before .before .before .before .before .before .before .before .before .before .before .before .before .before .before .before .before .before .before .before .before .before .before .before .before .pre .0) (c .before .before .before .before .before .before .before .before .before .before .before .before .before .before .before .before .before .before .before .before .before .before .before .before .before .before .before .before .pre .3) in
-    let push = queue-push (x .queue .now) (x .parents .now) (x .t .last) (x .e .anode .0) (x .head .0) (omega arith) (omega arith) in
+    let s = c .before .before .before .before .before .before .before .before .before .before .before .before .before .before .before .before .before .before .before .before .before .before .before .before .before .before .before .before in
+    let x = s .args in
+    let r = room (c .before .before .before .before .before .before .before .before .before .before .before .before .before .before .before) in
+    let push = queue-push (x .queue .now) (x .parents .now) (x .t .last) (x .e .anode .0) (x .head .0) (omega (arith, r .0, s .pre .1)) (omega (arith, r .0, s .pre .2)) in
     rw (c .with-directory .ensures, c .before .before .before .before .before .before .before .before .before .before .before .set-entry2 .ensures, c .before .before .before .before .before .before .before .set-entry3 .ensures, c .before .before .before .set-entry4 .ensures)
-    (λ place. (rw push (sym (enter-dir _ _ _ _ (x .e) place _ _ _ head new (c .before .before .before .before .before .before .before .before .before .before .before .before .before .enum-told2 .given .1))), omega arith))
+    (λ place. (rw push (sym (enter-dir _ _ _ _ (x .e) place _ _ _ (a-head (c .before .before .before .before .before .before .before .before .before .before .before .before .before .before .before .before .before .before)) (unmarked (c .before .before .before .before .before .before .before .before .before .before .before .before .before .before .before)) (c .before .before .before .before .before .before .before .before .before .before .before .before .before .enum-told2 .given .1))), omega (arith, r .1)))
 
 pub enter-spec : {M : Type 1} → statement M
 enter-spec =

@@ -2,10 +2,11 @@ use mathlib.Core.Path.{_≡_, sym, ap, _∙_}
 use mathlib.Core.List.{map}
 use Prim.Native.Nat.{ℕ, _+_, _-_, _*_, _≤_}
 use native.Mathlib.Omega.{arith}
-use Rattle.rules.specs.Walk.{entriesFrom}
+use lib.ListN.{length}
+use Rattle.rules.specs.Walk.{entriesFrom, entriesIn}
 use Rattle.tree.specs.Steps.{itemIn, entering, Room}
-use Rattle.laws.specs.Entries.{entries-end}
-use Rattle.tree.proofs.Laws.{block-whole, entries-none, enter-none, block-broken, block-stop, block-step}
+use Rattle.laws.specs.Entries.{entries-end, entries-none, block-whole}
+use Rattle.tree.proofs.Laws.{enter-none, block-broken, block-stop, block-step}
 use borrow.Author.Needs.{needs}
 use Rattle.tree.proofs.enter_block.Statement.{statement}
 use Rattle.tree.proofs.enter_block.Tie as tie
@@ -18,6 +19,19 @@ Inv-loop image counts nexts heads marks₀ queue₀ parents₀ head block tally�
 
 abbrev μ-loop : tie.MeasureT-loop
 μ-loop image counts nexts heads marks₀ queue₀ parents₀ head block tally₀ at₀ fuel₀ marks queue parents tally at fuel = fuel
+
+-- the tables in the loop are as long as those that were lent
+lengths : (c : tie.At-loop Inv-loop μ-loop) → let g = c .before .before .before .before .before .before .before .before .before .args in let l = c .loop in (length (l .marks) ≡ length (g .marks .now)) × (length (l .queue) ≡ length (g .queue .now)) × (length (l .parents) ≡ length (g .parents .now))
+lengths c =
+    let i = c .loop .inv .0 in
+    let p = c .before .before .before .before .before .before .before .before .before .pre in
+    (i .0 ∙ sym (p .0), i .1 ∙ sym (p .1), i .2 ∙ sym (p .2))
+
+-- what is left in the loop comes to what the whole block comes to
+left : (c : tie.At-loop Inv-loop μ-loop) → let g = c .before .before .before .before .before .before .before .before .before .args in let l = c .loop in let item = itemIn (g .counts .now) (g .nexts .now) (g .heads .now) in
+    entering (l .tally) (l .marks) (l .queue) (l .parents) (g .head .0) (map item (entriesFrom (l .fuel) (c .before .block-part .result .now) (g .b .0) (l .at)))
+    ≡ entering (g .t) (g .marks .now) (g .queue .now) (g .parents .now) (g .head .0) (map item (entriesIn (g .image .now) (g .b .0)))
+left c = rw (block-whole _ _ _ (c .before .block-part .ensures)) at (c .loop .inv .2 (c .before .before .before .before .before .before .before .before .before .args .b .0))
 
 block-part-requires : tie.Need-block-part-requires Inv-loop μ-loop
 block-part-requires c κs = search needs
@@ -44,11 +58,7 @@ same-length-3 : tie.Need-same-length-3 Inv-loop μ-loop
 same-length-3 c = search needs
 
 returns : tie.Need-returns Inv-loop μ-loop
-returns c =
-    let l = c .before .before .before .before .loop in
-    let y = c .before .before .before .before .before .before .before .before .before .before .before .before .before .args .b .0 in
-    let i = rw (block-whole _ _ _ (c .before .before .before .before .before .block-part .ensures)) at (l .inv .2 y) in
-    (sym (enter-none _ _ _ _ _ (ap (map _) (entries-end _ y _ _ (sym (c .before .before .entry-at .ensures) ∙ c .enum-told .given .1)))) ∙ i, l .inv .0 .3)
+returns c = (sym (enter-none _ _ _ _ _ (ap (map _) (entries-end _ (c .before .before .before .before .before .before .before .before .before .before .before .before .before .args .b .0) _ _ (sym (c .before .before .entry-at .ensures) ∙ c .enum-told .given .1)))) ∙ left (c .before .before .before .before), c .before .before .before .before .loop .inv .0 .3)
 
 enum-told-2 : tie.Need-enum-told-2 Inv-loop μ-loop
 enum-told-2 c = search needs
@@ -63,11 +73,7 @@ same-length-6 : tie.Need-same-length-6 Inv-loop μ-loop
 same-length-6 c = search needs
 
 returns-2 : tie.Need-returns-2 Inv-loop μ-loop
-returns-2 c =
-    let l = c .before .before .before .before .loop in
-    let y = c .before .before .before .before .before .before .before .before .before .before .before .before .before .args .b .0 in
-    let i = rw (block-whole _ _ _ (c .before .before .before .before .before .block-part .ensures)) at (l .inv .2 y) in
-    (sym (block-broken _ _ _ _ y _ _ (l .fuel - 1) _ _ _ _ (omega arith) _ (sym (c .before .before .entry-at .ensures) ∙ c .enum-told2 .given .1)) ∙ i, search needs)
+returns-2 c = (sym (block-broken _ _ _ _ (c .before .before .before .before .before .before .before .before .before .before .before .before .before .args .b .0) _ _ (c .before .before .before .before .loop .fuel - 1) _ _ _ _ (omega arith) _ (sym (c .before .before .entry-at .ensures) ∙ c .enum-told2 .given .1)) ∙ left (c .before .before .before .before), search needs)
 
 enter-requires : tie.Need-enter-requires Inv-loop μ-loop
 enter-requires c κs = search needs
@@ -79,22 +85,22 @@ enum-told-3 : tie.Need-enum-told-3 Inv-loop μ-loop
 enum-told-3 c = search needs
 
 same-length-7 : tie.Need-same-length-7 Inv-loop μ-loop
-same-length-7 c = c .before .before .before .before .before .before .before .before .enter .kept .1 .1 .1 .0 ∙ c .before .before .before .before .before .before .before .before .before .before .before .before .before .before .before .before .before .loop .inv .0 .0 ∙ sym (c .before .before .before .before .before .before .before .before .before .before .before .before .before .before .before .before .before .before .before .before .before .before .before .before .before .before .pre .0)
+same-length-7 c = c .before .before .before .before .before .before .before .before .enter .kept .1 .1 .1 .0 ∙ lengths (c .before .before .before .before .before .before .before .before .before .before .before .before .before .before .before .before .before) .0
 
 same-length-8 : tie.Need-same-length-8 Inv-loop μ-loop
-same-length-8 c = c .before .before .before .before .before .before .before .before .enter .kept .1 .1 .1 .1 .0 ∙ c .before .before .before .before .before .before .before .before .before .before .before .before .before .before .before .before .before .loop .inv .0 .1 ∙ sym (c .before .before .before .before .before .before .before .before .before .before .before .before .before .before .before .before .before .before .before .before .before .before .before .before .before .before .pre .1)
+same-length-8 c = c .before .before .before .before .before .before .before .before .enter .kept .1 .1 .1 .1 .0 ∙ lengths (c .before .before .before .before .before .before .before .before .before .before .before .before .before .before .before .before .before) .1
 
 same-length-9 : tie.Need-same-length-9 Inv-loop μ-loop
-same-length-9 c = c .before .before .before .before .before .before .before .before .enter .kept .1 .1 .1 .1 .1 .0 ∙ c .before .before .before .before .before .before .before .before .before .before .before .before .before .before .before .before .before .loop .inv .0 .2 ∙ sym (c .before .before .before .before .before .before .before .before .before .before .before .before .before .before .before .before .before .before .before .before .before .before .before .before .before .before .pre .2)
+same-length-9 c = c .before .before .before .before .before .before .before .before .enter .kept .1 .1 .1 .1 .1 .0 ∙ lengths (c .before .before .before .before .before .before .before .before .before .before .before .before .before .before .before .before .before) .2
 
 returns-3 : tie.Need-returns-3 Inv-loop μ-loop
 returns-3 c =
     let l = c .before .before .before .before .before .before .before .before .before .before .before .before .before .before .before .before .before .loop in
     let y = c .before .before .before .before .before .before .before .before .before .before .before .before .before .before .before .before .before .before .before .before .before .before .before .before .before .before .args .b .0 in
-    let i = rw (block-whole _ _ _ (c .before .before .before .before .before .before .before .before .before .before .before .before .before .before .before .before .before .before .block-part .ensures)) at (l .inv .2 y) in
     let g = c .enum-told3 .given in
     let f = c .before .before .before .before .before .before .before .before .before .before .before .before .before .found .given in
-    (rw (g .1) (sym (block-stop _ _ y _ _ (l .fuel - 1) _ _ _ _ (omega arith) (f .0 .0) (sym (c .before .before .before .before .before .before .before .before .before .before .before .before .before .before .before .entry-at .ensures) ∙ f .1) _ (rw (g .1) at (sym (c .before .before .before .before .before .before .before .before .enter .ensures (y * 512 + l .at) .0)))) ∙ i), c .before .before .before .before .before .before .before .before .enter .ensures 0 .1)
+    let e = c .before .before .before .before .before .before .before .before .enter .ensures in
+    (rw (g .1) (sym (block-stop _ _ y _ _ (l .fuel - 1) _ _ _ _ (omega arith) (f .0 .0) (sym (c .before .before .before .before .before .before .before .before .before .before .before .before .before .before .before .entry-at .ensures) ∙ f .1) _ (rw (g .1) at (sym (e (y * 512 + l .at) .0)))) ∙ left (c .before .before .before .before .before .before .before .before .before .before .before .before .before .before .before .before .before)), e 0 .1)
 
 read8-requires : tie.Need-read8-requires Inv-loop μ-loop
 read8-requires c κs = search needs
@@ -131,11 +137,7 @@ same-length-12 : tie.Need-same-length-12 Inv-loop μ-loop
 same-length-12 c = search needs
 
 returns-4 : tie.Need-returns-4 Inv-loop μ-loop
-returns-4 c =
-    let l = c .before .loop in
-    let y = c .before .before .before .before .before .before .before .before .before .before .args .b .0 in
-    let i = rw (block-whole _ _ _ (c .before .before .block-part .ensures)) at (l .inv .2 y) in
-    (sym (enter-none _ _ _ _ _ (ap (map _) (entries-none _ y (l .fuel) _ (omega arith)))) ∙ i, l .inv .0 .3)
+returns-4 c = (sym (enter-none _ _ _ _ _ (ap (map _) (entries-none _ (c .before .before .before .before .before .before .before .before .before .before .args .b .0) (c .before .loop .fuel) _ (omega arith)))) ∙ left (c .before), c .before .loop .inv .0 .3)
 
 pub enter-block-spec : {M : Type 1} → statement M
 enter-block-spec =

@@ -2,7 +2,7 @@ use mathlib.Core.Path.{_≡_, sym, _∙_}
 use Prim.Native.Nat.{_+_, _-_, _≤_}
 use native.Mathlib.Omega.{arith}
 use mathlib.Core.List.{[]}
-use lib.ListN.{take, drop}
+use lib.ListN.{length, take, drop}
 use Rattle.anodes.specs.Loaded.{anodesFrom}
 use Rattle.tree.specs.Steps.{itemIn, itemsWith, runFrom, queueOf, Room}
 use Rattle.tree.proofs.Laws.{marked-most, run-end, run-stop, run-step}
@@ -18,6 +18,13 @@ Inv-loop image counts firsts nexts heads marks₀ queue₀ parents₀ tally₀ f
 
 abbrev μ-loop : tie.MeasureT-loop
 μ-loop image counts firsts nexts heads marks₀ queue₀ parents₀ tally₀ first₀ marks queue parents tally first = 3444 - first
+
+-- the tables in the loop are as long as those that were lent
+lengths : (c : tie.At-loop Inv-loop μ-loop) → let g = c .before .before .before .before .before .before .before .before .before .args in let l = c .loop in (length (l .marks) ≡ length (g .marks .now)) × (length (l .queue) ≡ length (g .queue .now)) × (length (l .parents) ≡ length (g .parents .now))
+lengths c =
+    let i = c .loop .inv .0 in
+    let p = c .before .before .before .before .before .before .before .before .before .pre in
+    (i .0 ∙ sym (p .0), i .1 ∙ sym (p .1), i .2 ∙ sym (p .2))
 
 loop-holds : tie.Need-loop-holds Inv-loop μ-loop
 loop-holds c = search needs
@@ -38,13 +45,13 @@ enum-known-step-2 : tie.Need-enum-known-step-2 Inv-loop μ-loop
 enum-known-step-2 c = search needs
 
 same-length : tie.Need-same-length Inv-loop μ-loop
-same-length c = c .before .before .before .before .before .before .before .before .before .enter-directory .kept .1 .1 .1 .1 .1 .0 ∙ c .before .before .before .before .before .before .before .before .before .before .before .before .before .before .before .before .before .before .before .loop .inv .0 .0 ∙ sym (c .before .before .before .before .before .before .before .before .before .before .before .before .before .before .before .before .before .before .before .before .before .before .before .before .before .before .before .before .pre .0)
+same-length c = c .before .before .before .before .before .before .before .before .before .enter-directory .kept .1 .1 .1 .1 .1 .0 ∙ lengths (c .before .before .before .before .before .before .before .before .before .before .before .before .before .before .before .before .before .before .before) .0
 
 same-length-2 : tie.Need-same-length-2 Inv-loop μ-loop
-same-length-2 c = c .before .before .before .before .before .before .before .before .before .enter-directory .kept .1 .1 .1 .1 .1 .1 .0 ∙ c .before .before .before .before .before .before .before .before .before .before .before .before .before .before .before .before .before .before .before .loop .inv .0 .1 ∙ sym (c .before .before .before .before .before .before .before .before .before .before .before .before .before .before .before .before .before .before .before .before .before .before .before .before .before .before .before .before .pre .1)
+same-length-2 c = c .before .before .before .before .before .before .before .before .before .enter-directory .kept .1 .1 .1 .1 .1 .1 .0 ∙ lengths (c .before .before .before .before .before .before .before .before .before .before .before .before .before .before .before .before .before .before .before) .1
 
 same-length-3 : tie.Need-same-length-3 Inv-loop μ-loop
-same-length-3 c = c .before .before .before .before .before .before .before .before .before .enter-directory .kept .1 .1 .1 .1 .1 .1 .1 .0 ∙ c .before .before .before .before .before .before .before .before .before .before .before .before .before .before .before .before .before .before .before .loop .inv .0 .2 ∙ sym (c .before .before .before .before .before .before .before .before .before .before .before .before .before .before .before .before .before .before .before .before .before .before .before .before .before .before .before .before .pre .2)
+same-length-3 c = c .before .before .before .before .before .before .before .before .before .enter-directory .kept .1 .1 .1 .1 .1 .1 .1 .0 ∙ lengths (c .before .before .before .before .before .before .before .before .before .before .before .before .before .before .before .before .before .before .before) .2
 
 returns : tie.Need-returns Inv-loop μ-loop
 returns c =

@@ -1,10 +1,18 @@
 use mathlib.Core.Path.{sym, _∙_}
 use mathlib.Core.Bool.{true, false}
 use lib.ListN.{length-set}
-use Rattle.tree.proofs.Rules.{start-fits, answered}
+use Rattle.anodes.specs.Loaded.{anodesFrom}
+use Rattle.tree.proofs.Rules.{Says, start-fits, answered}
 use borrow.Author.Needs.{needs}
 use Rattle.tree.proofs.walk_tree.Statement.{statement}
 use Rattle.tree.proofs.walk_tree.Tie as tie
+
+-- what the walk's answer says of the rules
+said : (c : tie.After-walk-queue) → let g = c .before .before .before .before .before .before .before .before .before .before .before .args in let w = c .walk-queue in Says (g .image .now) (anodesFrom (g .counts .now) (g .firsts .now) (g .nexts .now)) (g .heads .now) (w .result) (w .last .1 .1 .1 .1 .1 .0) (w .last .1 .1 .1 .1 .1 .1 .0) (w .last .1 .1 .1 .1 .1 .1 .1 .0)
+said c =
+    let s = c .before .before .before .before .before .before .before .before .before .before .before in
+    let w = c .walk-queue in
+    answered _ _ _ _ _ (s .pre .0 .1 .1) (s .pre .0 .0) (s .args .queue .now) (s .args .parents .now) (s .pre .1 .0) (s .pre .1 .1) (w .result) (w .last .1 .1 .1 .1 .1 .0) (w .last .1 .1 .1 .1 .1 .1 .0) (w .last .1 .1 .1 .1 .1 .1 .1 .0) (w .ensures)
 
 array-write-marks : tie.Need-array-write-marks
 array-write-marks c = search needs
@@ -31,10 +39,7 @@ same-length-2 : tie.Need-same-length-2
 same-length-2 c = c .before .before .before .before .before .before .before .walk-queue .kept .1 .1 .1 .1 .1 .1 .1 .0 ∙ simp length-set
 
 returns : tie.Need-returns
-returns c =
-    let e = c .enum-told .given .1 in
-    let w = c .before .before .before .before .before .before .before .walk-queue in
-    rw e (rw e at (answered _ _ _ _ _ (c .before .before .before .before .before .before .before .before .before .before .before .before .before .before .before .before .before .before .pre .0 .1 .1) (c .before .before .before .before .before .before .before .before .before .before .before .before .before .before .before .before .before .before .pre .0 .0) (c .before .before .before .before .before .before .before .before .before .before .before .before .before .before .before .before .before .before .args .queue .now) (c .before .before .before .before .before .before .before .before .before .before .before .before .before .before .before .before .before .before .args .parents .now) (c .before .before .before .before .before .before .before .before .before .before .before .before .before .before .before .before .before .before .pre .1 .0) (c .before .before .before .before .before .before .before .before .before .before .before .before .before .before .before .before .before .before .pre .1 .1) (w .result) (w .last .1 .1 .1 .1 .1 .0) (w .last .1 .1 .1 .1 .1 .1 .0) (w .last .1 .1 .1 .1 .1 .1 .1 .0) (w .ensures)), (tt, tt))
+returns c = let e = c .enum-told .given .1 in rw e (rw e at (said (c .before .before .before .before .before .before .before)), (tt, tt))
 
 enum-told-2 : tie.Need-enum-told-2
 enum-told-2 c = search needs
@@ -53,8 +58,7 @@ same-length-4 c = c .before .before .before .before .before .before .before .bef
 
 returns-2 : tie.Need-returns-2
 returns-2 c =
-    let w = c .before .before .before .before .before .before .before .before .before .before .walk-queue in
-    let s = rw (c .before .before .before .enum-told2 .given .1) at (answered _ _ _ _ _ (c .before .before .before .before .before .before .before .before .before .before .before .before .before .before .before .before .before .before .before .before .before .pre .0 .1 .1) (c .before .before .before .before .before .before .before .before .before .before .before .before .before .before .before .before .before .before .before .before .before .pre .0 .0) (c .before .before .before .before .before .before .before .before .before .before .before .before .before .before .before .before .before .before .before .before .before .args .queue .now) (c .before .before .before .before .before .before .before .before .before .before .before .before .before .before .before .before .before .before .before .before .before .args .parents .now) (c .before .before .before .before .before .before .before .before .before .before .before .before .before .before .before .before .before .before .before .before .before .pre .1 .0) (c .before .before .before .before .before .before .before .before .before .before .before .before .before .before .before .before .before .before .before .before .before .pre .1 .1) (w .result) (w .last .1 .1 .1 .1 .1 .0) (w .last .1 .1 .1 .1 .1 .1 .0) (w .last .1 .1 .1 .1 .1 .1 .1 .0) (w .ensures)) in
+    let s = rw (c .before .before .before .enum-told2 .given .1) at (said (c .before .before .before .before .before .before .before .before .before .before)) in
     (sym (s .0 true (sym (c .before .any-unnamed .ensures) ∙ c .if1 .taken)), (tt, tt))
 
 same-length-5 : tie.Need-same-length-5
@@ -66,8 +70,7 @@ same-length-6 c = c .before .before .before .before .before .before .before .bef
 returns-3 : tie.Need-returns-3
 returns-3 c =
     let e = c .before .before .before .enum-told2 .given .1 in
-    let w = c .before .before .before .before .before .before .before .before .before .before .walk-queue in
-    let s = rw e at (answered _ _ _ _ _ (c .before .before .before .before .before .before .before .before .before .before .before .before .before .before .before .before .before .before .before .before .before .pre .0 .1 .1) (c .before .before .before .before .before .before .before .before .before .before .before .before .before .before .before .before .before .before .before .before .before .pre .0 .0) (c .before .before .before .before .before .before .before .before .before .before .before .before .before .before .before .before .before .before .before .before .before .args .queue .now) (c .before .before .before .before .before .before .before .before .before .before .before .before .before .before .before .before .before .before .before .before .before .args .parents .now) (c .before .before .before .before .before .before .before .before .before .before .before .before .before .before .before .before .before .before .before .before .before .pre .1 .0) (c .before .before .before .before .before .before .before .before .before .before .before .before .before .before .before .before .before .before .before .before .before .pre .1 .1) (w .result) (w .last .1 .1 .1 .1 .1 .0) (w .last .1 .1 .1 .1 .1 .1 .0) (w .last .1 .1 .1 .1 .1 .1 .1 .0) (w .ensures)) in
+    let s = rw e at (said (c .before .before .before .before .before .before .before .before .before .before)) in
     rw e (sym (s .0 false (sym (c .before .any-unnamed .ensures) ∙ c .if1 .left)), ((s .1, s .2), s .3))
 
 pub walk-tree-spec : {M : Type 1} → statement M
