@@ -15,7 +15,7 @@ use Rattle.rules.specs.Tables.{chainHead, anodeEntry, anodeTable}
 use Rattle.laws.specs.Tests.{same?}
 use Rattle.laws.specs.Chains.{HeadTable}
 use Rattle.laws.specs.OwnerTable.{table-entry}
-use Rattle.laws.specs.Links.{View, Linked}
+use Rattle.laws.specs.Links.{Linked}
 use Rattle.laws.specs.Heads.{headOf-heads, heads-cases, head-of-is}
 
 -- ---- 6
@@ -33,14 +33,14 @@ fixed-tests s = parts (eqb (s .count 0) 0) (eqb (s .block 0) 65535) (eqb (s .nex
 
 -- ---- the table of heads
 
-module _ (s : Anodes) (v : View limit (s .next) (s .block)) (k : Linked limit (s .next) (s .block)) (t rest : List ℕ) (is : t ≡ anodeTable s ++ rest) where
+module _ (s : Anodes) (k : Linked limit (s .next) (s .block)) (t rest : List ℕ) (is : t ≡ anodeTable s ++ rest) where
   pub table-at : (a : ℕ) → a < limit → getD t a 0 ≡ anodeEntry s a
   unfolding anodeTable
   table-at a l = rw is (table-entry (anodeEntry s) limit rest a l)
 
   entry-used : (a : ℕ) → a ≢ 0 → s .block a ≢ 0 → getD t a 0 ≡ headOf limit (s .next) (s .block) a
   unfolding anodeEntry chainHead
-  entry-used a h u = table-at a (v .below a u) ∙ rw (ne-eqb a 0 h, ne-eqb (s .block a) 0 u)
+  entry-used a h u = table-at a (k .view .below a u) ∙ rw (ne-eqb a 0 h, ne-eqb (s .block a) 0 u)
 
   entry-free : (a : ℕ) → a < limit → s .block a ≡ 0 → getD t a 0 ≡ 0
   unfolding anodeEntry
@@ -51,7 +51,7 @@ module _ (s : Anodes) (v : View limit (s .next) (s .block)) (k : Linked limit (s
 
   -- an anode in use has a head
   pub entry-some : (a : ℕ) → a ≢ 0 → s .block a ≢ 0 → getD t a 0 ≢ 0
-  entry-some a h u = rw (entry-used a h u) (head-of-is v k (headOf limit (s .next) (s .block)) (headOf-heads v k) a h u .pos)
+  entry-some a h u = rw (entry-used a h u) (head-of-is k (headOf-heads k) a h u .pos)
 
   -- from 6 up, the heads are the anodes that have themselves for an entry
   pub head-table : HeadTable t s
@@ -61,14 +61,14 @@ module _ (s : Anodes) (v : View limit (s .next) (s .block)) (k : Linked limit (s
       some z = omega arith
 
       own : heads limit (s .next) (s .block) a ≡ 1 → getD t a 0 ≡ a
-      own e = elim (heads-cases v k a) [
-        | inl d ↦ entry-used a some (d .0 .in-use) ∙ headOf-heads v k .at-head a (d .0)
+      own e = elim (heads-cases k a) [
+        | inl d ↦ entry-used a some (d .0 .in-use) ∙ headOf-heads k .at-head a (d .0)
         | inr d ↦ absurd (omega (arith, d .1))
       ]
 
       is-head : (s .block a ≡ 0) ⊎ (s .block a ≢ 0) → getD t a 0 ≡ a → heads limit (s .next) (s .block) a ≡ 1
       is-head (inl z) e = absurd (some (sym e ∙ entry-free a l z))
-      is-head (inr u) e = elim (heads-cases v k a) [
+      is-head (inr u) e = elim (heads-cases k a) [
         | inl d ↦ d .1
-        | inr d ↦ absurd (d .0 (rw (sym (entry-used a some u) ∙ e) at (head-of-is v k (headOf limit (s .next) (s .block)) (headOf-heads v k) a some u)))
+        | inr d ↦ absurd (d .0 (rw (sym (entry-used a some u) ∙ e) at (head-of-is k (headOf-heads k) a some u)))
       ]

@@ -183,7 +183,7 @@ module _ (img : List ℕ) {s : Anodes} {hd sd : ℕ → ℕ} {entries : ℕ → 
           ];
           blocks = x .1 ∙ ap (λ (y : ℕ). y ∷ []) (sym (x .2 .at));
           apart = λ a p u q.
-              let now = times-on-chain (m .good .view) (m .good .linked) (m .hd′) (m .good .heads) h (sh .stays h (dir-head o h reached)) a in
+              let now = times-on-chain (m .good .linked) (m .good .heads) h (sh .stays h (dir-head o h reached)) a in
               let twice = ap (times a) (x .2 .chain) ∙ times-append a (chainOf (r .next) limit h) (x .2 .anode ∷ []) in
               elim (same? (step .hd′ a) h) [
                 | inl i ↦ omega (
@@ -192,13 +192,13 @@ module _ (img : List ℕ) {s : Anodes} {hd sd : ℕ → ℕ} {entries : ℕ → 
                   now,
                   twice,
                   oneAt-le (m .hd′ a) h,
-                  times-on-chain (o .good .view) (o .good .linked) (step .hd′) (o .good .heads) h (dir-head o h reached) a,
+                  times-on-chain (o .good .linked) (o .good .heads) h (dir-head o h reached) a,
                   oneAt-same (step .hd′ a) h i,
                 )
                 | inr i ↦ omega (arith, p, now, twice, oneAt-other (m .hd′ a) h (λ k. i (sym (sh .same-hd a u q i) ∙ k)))
               ];
           kept = λ a u q. elim (same? (step .hd′ a) h) [
-            | inl i ↦ x .2 .kept a (omega (arith, times-on-chain (o .good .view) (o .good .linked) (step .hd′) (o .good .heads) h (dir-head o h reached) a, oneAt-same (step .hd′ a) h i))
+            | inl i ↦ x .2 .kept a (omega (arith, times-on-chain (o .good .linked) (o .good .heads) h (dir-head o h reached) a, oneAt-same (step .hd′ a) h i))
             | inr i ↦ (let l = sh .apart a u q i in (l .same-count, l .same-block))
           ];
           stays = sh .stays;
@@ -231,7 +231,7 @@ module _ (img : List ℕ) {s : Anodes} {hd sd : ℕ → ℕ} {entries : ℕ → 
     head-used : (a : ℕ) → s .block a ≢ 0 → hd a ≢ f
     head-used a u e = elim (same? a 0) [
       | inl z ↦ omega (arith, f6, e, ap hd z, w .good .heads .off-zero)
-      | inr z ↦ head-of-is (w .good .view) (w .good .linked) hd (w .good .heads) a z u .in-use (ap (s .block) e ∙ fresh)
+      | inr z ↦ head-of-is (w .good .linked) (w .good .heads) a z u .in-use (ap (s .block) e ∙ fresh)
     ]
 
     -- an anode in use, not the free list's, through the first steps

@@ -15,12 +15,11 @@ use Rattle.rules.specs.Counting.{anyBelow}
 use Rattle.rules.specs.Anodes.{Anodes, limit, exists, anodesOf}
 use Rattle.rules.specs.Accepted.{diskSize, wrongFixed, outOfRange, wrongLinks, wrongFreeList, lastReserved, twoOwners, noOwner, treeFault, damageIn}
 use Rattle.rules.specs.Tables.{chainHead, anodeEntry, anodeTable}
-use Rattle.laws.specs.Links.{View, Linked, next-below, linked}
+use Rattle.laws.specs.Links.{View, Closed, Linked, next-below, linked}
 use Rattle.laws.specs.Passes.{Reading}
-use Rattle.laws.specs.TestsPassed.{fixed-anodes, next-used, tested-view, tested-checked}
+use Rattle.laws.specs.TestsPassed.{fixed-anodes, next-used, tested-checked}
 use Rattle.laws.specs.ImageAnodes.{reading-of}
 use Rattle.anodes.specs.Loaded.{anodesFrom}
-use Rattle.chains.specs.Predecessors.{Closed}
 use Rattle.chains.proofs.Laws.{table-at, entry-some, head-table}
 use Rattle.owners.specs.Marks.{OwnersMarked}
 use Rattle.owners.proofs.Shown.{marked-no-owner, marked-table}
@@ -30,14 +29,22 @@ use Rattle.fsck.specs.Answers.{Filled}
 -- ---- 6 to 11
 
 module _ (img c b n : List ℕ) (e : anodesFrom c b n ≡ anodesOf img) where
-  reading : Reading limit (exists img) 0 0 (anodesFrom c b n)
-  reading = rw e (reading-of img 0 0)
+  reading : Reading limit (exists img) (anodesFrom c b n)
+  reading = rw e (reading-of img)
+
+  pub view : View 3444 (λ a. getD n a 0) (λ a. getD b a 0)
+  unfolding anodesFrom
+  view = reading .view
 
   pub space-6 : wrongFixed (anodesFrom c b n) ≡ true → damageIn img (anodesOf img) ≡ 6
   unfolding damageIn
   space-6 t = rw (sym e, t)
 
   module _ (f6 : wrongFixed (anodesFrom c b n) ≡ false) (k : ℕ) (size : k ≡ diskSize img) where
+    pub zero-end : getD n 0 0 ≡ 0
+    unfolding anodesFrom
+    zero-end = fixed-anodes (anodesFrom c b n) f6 .1
+
     pub space-7 : anyBelow (outOfRange (anodesFrom c b n) k) 3444 ≡ true → damageIn img (anodesOf img) ≡ 7
     unfolding damageIn
     space-7 t = rw (sym e, f6, sym size, t)
@@ -47,18 +54,14 @@ module _ (img c b n : List ℕ) (e : anodesFrom c b n ≡ anodesOf img) where
       unfolding damageIn
       space-8 t = rw (sym e, f6, sym size, f7, t)
 
-      pub view : View 3444 (λ a. getD n a 0) (λ a. getD b a 0)
+      pub closed : Closed (λ a. getD n a 0) (λ a. getD b a 0)
       unfolding anodesFrom
-      view = tested-view (anodesFrom c b n) f6 reading
-
-      pub closed : Closed n b
-      unfolding anodesFrom
-      closed = record { next-used = λ a h. next-used (anodesFrom c b n) f6 k f7 a (next-below view a h) h }
+      closed a h = next-used (anodesFrom c b n) f6 k f7 a (next-below view a h) h
 
       module _ (f8 : wrongLinks (anodesFrom c b n) ≡ false) where
         pub links : Linked 3444 (λ a. getD n a 0) (λ a. getD b a 0)
         unfolding anodesFrom
-        links = linked view (tested-checked (anodesFrom c b n) f6 reading k f7 f8)
+        links = linked view zero-end (tested-checked (anodesFrom c b n) f6 view k f7 f8)
 
         module _ (last : ℕ) (limits : last ≡ lastReserved img) where
           pub space-9 : wrongFreeList (anodesFrom c b n) last ≡ true → damageIn img (anodesOf img) ≡ 9
@@ -83,19 +86,19 @@ module _ (img c b n : List ℕ) (e : anodesFrom c b n ≡ anodesOf img) where
         module _ (t t₀ : List ℕ) (is : t ≡ anodeTable (anodesFrom c b n) ++ drop 3444 t₀) where
           pub heads-some : (a : ℕ) → a ≢ 0 → getD b a 0 ≢ 0 → getD t a 0 ≢ 0
           unfolding anodesFrom
-          heads-some = entry-some (anodesFrom c b n) view links t (drop 3444 t₀) is
+          heads-some = entry-some (anodesFrom c b n) links t (drop 3444 t₀) is
 
           heads-table : HeadTable t (anodesFrom c b n)
           unfolding anodesFrom
-          heads-table = head-table (anodesFrom c b n) view links t (drop 3444 t₀) is
+          heads-table = head-table (anodesFrom c b n) links t (drop 3444 t₀) is
 
           used : (a : ℕ) → 0 < anodesFrom c b n .count a → anodesFrom c b n .block a ≢ 0
-          used a some z = omega (arith, reading .free-count a z)
+          used a some z = omega (arith, reading .present .free-none a z)
 
           heads-are : (a : ℕ) → a < 3444 → 0 < anodesFrom c b n .count a → getD t a 0 ≡ chainHead (anodesFrom c b n) a
           unfolding anodeEntry anodesFrom
           heads-are a l some =
-              table-at (anodesFrom c b n) view links t (drop 3444 t₀) is a l
+              table-at (anodesFrom c b n) links t (drop 3444 t₀) is a l
               ∙ rw (ne-eqb a 0 (λ z. omega (arith, ap (anodesFrom c b n .count) z, fixed-anodes (anodesFrom c b n) f6 .0 .count-0)), ne-eqb (anodesFrom c b n .block a) 0 (used a some))
 
           -- both tables, once the owners are marked

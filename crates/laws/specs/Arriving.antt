@@ -111,8 +111,8 @@ module _ {A : ℕ} {ex : ℕ → Bool} {n last : ℕ} {s : Anodes} (system : ℕ
       sd′ = sd;
       good = rewrite-good g z c b system u b0 z0 z1 (λ x. omega (arith, gains x)) (λ l. fits) (λ q l. is-high q) (λ q l. is-low q);
       kept = λ a q. refl;
-      more = λ h. omega (arith, blocks-rewrite A hd (s .count) z c (g .view .below z u) h, ap (λ (i : ℕ). oneAt (hd z) h * i) e);
-      got = λ h x. omega (arith, held-rewrite A hd (s .count) (s .block) z c b (g .view .below z u) h x, ap (λ (i : ℕ). oneAt (hd z) h * i) (gains x));
+      more = λ h. omega (arith, blocks-rewrite A hd (s .count) z c (g .linked .view .below z u) h, ap (λ (i : ℕ). oneAt (hd z) h * i) e);
+      got = λ h x. omega (arith, held-rewrite A hd (s .count) (s .block) z c b (g .linked .view .below z u) h x, ap (λ (i : ℕ). oneAt (hd z) h * i) (gains x));
       apart = λ a v q. record { same-count = changed-other (s .count) z c a (λ i. q (ap hd i)); same-block = changed-other (s .block) z b a (λ i. q (ap hd i)); same-next = refl };
       no-new = λ a d. rewrite-head-was (s .block) z b u b0 (s .next) a d;
     }
@@ -133,7 +133,7 @@ module _ {A : ℕ} {ex : ℕ → Bool} {n last : ℕ} {s : Anodes} (system : ℕ
   pub grown-before : z ≢ 1 → s .count z ≢ 0 → y + 1 ≡ s .block z → Placed A ex n last s system hd (hd z) y (rewritten s z (s .count z + 1) y)
   grown-before z1 c0 e = gained z1 (s .count z + 1) y (omega arith) y0
       (λ x. rw (add-one (s .count z)) (omega (arith, covers-front (s .count z) y x, ap (λ (k : ℕ). covers (s .count z) k x) next-is)))
-      (omega (arith, e, g .own .fits z (g .view .below z u) (omega arith))) high (λ q. omega (arith, e, g .low z q (omega arith)))
+      (omega (arith, e, g .own .fits z (g .linked .view .below z u) (omega arith))) high (λ q. omega (arith, e, g .low z q (omega arith)))
     where
       next-is : suc y ≡ s .block z
       next-is = omega arith
@@ -148,14 +148,14 @@ module _ {A : ℕ} {ex : ℕ → Bool} {n last : ℕ} {s : Anodes} (system : ℕ
         sd′ = changed sd f (sd z);
         good = insert-good g z f 1 y system z0 u (i .0) (i .2) fA (i .1) y0 (λ x. omega (arith, one x)) (λ p. omega arith) (λ q l. high q) (λ q l. omega (arith, low q));
         kept = λ a q. changed-other hd f (hd z) a (λ e. q (ap (s .block) e ∙ i .1));
-        more = λ h. omega (arith, blocks-fresh A hd (s .count) f (hd z) 1 fA (g .free-none f (i .1)) h);
-        got = λ h x. omega (arith, held-fresh A hd (s .count) (s .block) f (hd z) 1 y fA (g .free-none f (i .1)) h x, ap (λ (k : ℕ). oneAt (hd z) h * k) (one x));
+        more = λ h. omega (arith, blocks-fresh A hd (s .count) f (hd z) 1 fA (g .present .free-none f (i .1)) h);
+        got = λ h x. omega (arith, held-fresh A hd (s .count) (s .block) f (hd z) 1 y fA (g .present .free-none f (i .1)) h x, ap (λ (k : ℕ). oneAt (hd z) h * k) (one x));
         apart = λ a v q. record {
           same-count = changed-other (s .count) f 1 a (λ e. v (ap (s .block) e ∙ i .1));
           same-block = changed-other (s .block) f y a (λ e. v (ap (s .block) e ∙ i .1));
           same-next = elim (insertAfter-cases (s .next) z f a) [ first c ↦ absurd (q (ap hd (c .0))) | second c ↦ absurd (v (ap (s .block) (c .1) ∙ i .1)) | third c ↦ c .2 ];
         };
-        no-new = λ a d. insert-head-was (g .view) (g .linked) hd (g .heads) z f y z0 u (λ e. omega (arith, e, i .0)) (i .1) fA y0 a d .1;
+        no-new = λ a d. insert-head-was (g .linked) z f y u (i .1) a d .1;
       }
     where
       one : (x : ℕ) → covers 1 y x ≡ oneAt y x

@@ -13,7 +13,7 @@ use Rattle.rules.specs.Space.{rewritten, onChain, dropped, insertedAfter}
 use Rattle.laws.specs.Tests.{T-false}
 use Rattle.laws.specs.Sums.{oneAt-same, changed-other, changed-pos}
 use Rattle.laws.specs.Bags.{times-cons, times-append, gather-kept}
-use Rattle.laws.specs.LinkChanges.{without, drop-apart, insertAfter, insert-view, insert-linked, insert-after}
+use Rattle.laws.specs.LinkChanges.{without, drop-apart, insertAfter, insert-linked, insert-after}
 use Rattle.laws.specs.Segments.{Chain}
 use Rattle.laws.specs.Links.{the-chain, chain-the, seg-once}
 use Rattle.laws.specs.Heads.{Head, head-chain}
@@ -85,9 +85,9 @@ module _ {ex : ℕ → Bool} {n last : ℕ} {s : Anodes} {system hd sd : ℕ →
     -- leaves every other chain
     dropped-chain : chainOf (dropped limit s h .next) limit m ≡ chainOf (s .next) limit m
     unfolding dropped without
-    dropped-chain = chain-the (drop-good g h h6 d none .view) (drop-good g h h6 d none .linked) m (chainOf (s .next) limit m)
+    dropped-chain = chain-the (drop-good g h h6 d none .linked) m (chainOf (s .next) limit m)
         (λ q. rw (T-false (onChain limit s h m) (alive m (g .heads .at-head m c))) (c .in-use))
-        (drop-apart (g .view) (g .linked) (onChain limit s h) (dead-along g h h6 d none) m 0 (chainOf (s .next) limit m) (the-chain (g .view) (g .linked) m (λ q. c .in-use))
+        (drop-apart (g .linked) (onChain limit s h) (dead-along g h h6 d none) m 0 (chainOf (s .next) limit m) (the-chain (g .linked) m (λ q. c .in-use))
         (λ a p. alive a (on-chain g m c a p .0)))
 
     -- and the blocks of it
@@ -100,18 +100,18 @@ module _ {ex : ℕ → Bool} {n last : ℕ} {s : Anodes} {system hd sd : ℕ →
 module _ {A : ℕ} {ex : ℕ → Bool} {n last : ℕ} {s : Anodes} {system hd sd : ℕ → ℕ} (g : Good A ex n last s system hd sd) (m : ℕ) (d : Head (s .next) (s .block) m) (x : ℕ) (pre post : List ℕ)
     (split : chainOf (s .next) A m ≡ pre ++ (x ∷ post)) where
   chain : Chain (s .next) m (pre ++ (x ∷ post))
-  chain = rw split at (head-chain (g .view) (g .linked) m d)
+  chain = rw split at (head-chain (g .linked) m d)
 
   -- x stands in the chain once
   pub stands-once : (times x pre ≡ 0) × (times x post ≡ 0)
   stands-once =
-      let once = seg-once (g .view) (g .linked) m 0 (pre ++ (x ∷ post)) x (λ q. d .in-use) chain in
+      let once = seg-once (g .linked) m 0 (pre ++ (x ∷ post)) x (λ q. d .in-use) chain in
       (omega (arith, once, times-append x pre (x ∷ post), times-cons x x post, oneAt-same x x refl), omega (arith, once, times-append x pre (x ∷ post), times-cons x x post, oneAt-same x x refl))
 
   -- a fresh anode f after x
   pub inserted-chain : x ≢ 0 → s .block x ≢ 0 → (f c b : ℕ) → f ≢ 0 → s .block f ≡ 0 → f < A → b ≢ 0 → chainOf (insertedAfter s x f c b .next) A m ≡ pre ++ (x ∷ (f ∷ post))
   unfolding insertedAfter insertAfter
   inserted-chain x0 u f c b f0 fresh fA b0 =
-      chain-the (insert-view (g .view) (g .linked) x f b x0 u f0 fresh fA b0) (insert-linked (g .view) (g .linked) x f b x0 u f0 fresh fA b0)
+      chain-the (insert-linked (g .linked) x f b x0 u f0 fresh fA b0)
       m (pre ++ (x ∷ (f ∷ post))) (λ q. changed-pos (s .block) f b m b0 (d .in-use))
-      (insert-after (g .view) (g .linked) x f b x0 u f0 fresh fA b0 m pre post (λ q. d .in-use) chain)
+      (insert-after (g .linked) x f b x0 u f0 fresh fA b0 m pre post (λ q. d .in-use) chain)

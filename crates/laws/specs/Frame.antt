@@ -33,8 +33,8 @@ module _ {A : ℕ} {ex : ℕ → Bool} {n last : ℕ} {s : Anodes} {system hd sd
   pub chain-kept : {t : Anodes} {system′ hd′ sd′ : ℕ → ℕ} → Good A ex n last t system′ hd′ sd′ → (m : ℕ) → Head (s .next) (s .block) m → Head (t .next) (t .block) m →
       ((a : ℕ) → 0 < times a (chainOf (s .next) A m) → Alike s t a) → chainOf (t .next) A m ≡ chainOf (s .next) A m
   chain-kept {t} g′ m d d′ h =
-      chain-the (g′ .view) (g′ .linked) m (chainOf (s .next) A m) (λ q. d′ .in-use)
-      (seg-keep (s .next) (t .next) m 0 (chainOf (s .next) A m) (λ x p. h x p .same-next) (head-chain (g .view) (g .linked) m d))
+      chain-the (g′ .linked) m (chainOf (s .next) A m) (λ q. d′ .in-use)
+      (seg-keep (s .next) (t .next) m 0 (chainOf (s .next) A m) (λ x p. h x p .same-next) (head-chain (g .linked) m d))
 
   -- what stands on the chain of a head other than 1 and h is in use, and 1 and h are not its head
   pub on-other : (m : ℕ) → Head (s .next) (s .block) m → {h : ℕ} → m ≢ 1 → m ≢ h → (a : ℕ) → 0 < times a (chainOf (s .next) A m) → (s .block a ≢ 0) × (hd a ≢ 1) × (hd a ≢ h)
@@ -57,10 +57,10 @@ module _ {A : ℕ} {ex : ℕ → Bool} {n last : ℕ} {s : Anodes} {system hd sd
       where
         pos : (a : ℕ) → s .block a ≢ 0 → a ≢ 0 → hd a ≢ 1 → hd a ≢ h → hd′ a ≡ hd a
         pos a u a0 q i =
-            let d = head-of-is (g .view) (g .linked) hd (g .heads) a a0 u in
+            let d = head-of-is (g .linked) (g .heads) a a0 u in
             let d′ = stays (hd a) d in
-            seg-head (g′ .view) (g′ .linked) hd′ (g′ .heads) (hd a) 0 (chainOf (t .next) A (hd a)) (head-chain (g′ .view) (g′ .linked) (hd a) d′) a
-            (rw (apart-chain apart (hd a) d q i g′ d′) (omega (arith, on-own (g .view) (g .linked) hd (g .heads) a a0 u)))
+            seg-head (g′ .linked) (g′ .heads) (hd a) 0 (chainOf (t .next) A (hd a)) (head-chain (g′ .linked) (hd a) d′) a
+            (rw (apart-chain apart (hd a) d q i g′ d′) (omega (arith, on-own (g .linked) (g .heads) a a0 u)))
             ∙ g′ .heads .at-head (hd a) d′
 
         same : (a : ℕ) → s .block a ≢ 0 → hd a ≢ 1 → hd a ≢ h → hd′ a ≡ hd a

@@ -53,7 +53,7 @@ extent-before s a y e = rw (← e, add-one (s .count a), add-one y)
 
 module _ {ex : ℕ → Bool} {n last : ℕ} {s : Anodes} {system hd sd : ℕ → ℕ} (g : Good limit ex n last s system hd sd) (x : ℕ) (free : hd x ≡ 1) (y : ℕ) where
   split : (pre : List ℕ) × (post : List ℕ) × (chainOf (s .next) limit 1 ≡ pre ++ (x ∷ post))
-  split = times-member x (chainOf (s .next) limit 1) (omega (arith, times-on-chain (g .view) (g .linked) hd (g .heads) 1 (head-1 g) x, oneAt-same (hd x) 1 free))
+  split = times-member x (chainOf (s .next) limit 1) (omega (arith, times-on-chain (g .linked) (g .heads) 1 (head-1 g) x, oneAt-same (hd x) 1 free))
 
   once : (times x (split .0) ≡ 0) × (times x (split .1) ≡ 0)
   once = stands-once g 1 (head-1 g) x (split .0) (split .1) (split .2)
@@ -99,10 +99,10 @@ module _ {ex : ℕ → Bool} {n last : ℕ} {s : Anodes} {system hd sd : ℕ →
       let t = insertedAfter s x f 1 y in
       let pre = split .0 ++ (x ∷ []) in
       let parts : (l : List ℕ) → split .0 ++ (x ∷ l) ≡ pre ++ l = λ l. sym (append-assoc (split .0) (x ∷ []) l) in
-      let none : extent s f ≡ [] = rw (g .free-none f fresh) in
+      let none : extent s f ≡ [] = rw (g .present .free-none f fresh) in
       let new : extent t f ≡ y ∷ [] = rw (changed-same (s .count) f 1, changed-same (s .block) f y) in
       let away : times f (pre ++ split .1) ≡ 0 = rw (split .2 ∙ parts (split .1)) at
-      (seg-used (g .view) (g .linked) 1 0 (chainOf (s .next) limit 1) f (λ q. head-1 g .in-use) (the-chain (g .view) (g .linked) 1 (λ q. head-1 g .in-use)) fresh) in
+      (seg-used (g .linked) 1 0 (chainOf (s .next) limit 1) f (λ q. head-1 g .in-use) (the-chain (g .linked) 1 (λ q. head-1 g .in-use)) fresh) in
       let before : blocksOf s 1 ≡ gather (extent s) (pre ++ (f ∷ split .1)) = was ∙ ap (gather (extent s)) (parts (split .1)) ∙ sym (gather-skip (extent s) pre (split .1) f none) in
       let after : blocksOf t 1 ≡ gather (extent t) (pre ++ (f ∷ split .1)) =
       blocksOf-extents t 1 ∙ ap (gather (extent t)) (inserted-chain g 1 (head-1 g) x (split .0) (split .1) (split .2) x0 u f 1 y f0 fresh fA y0 ∙ parts (f ∷ split .1)) in

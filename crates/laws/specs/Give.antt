@@ -126,7 +126,7 @@ pub record Gives (A : ℕ) (ex : ℕ → Bool) (n last : ℕ) (s : Anodes) (syst
 module _ {A : ℕ} {ex : ℕ → Bool} {n last : ℕ} {s : Anodes} {system hd sd : ℕ → ℕ} (g : Good A ex n last s system hd sd) (h : ℕ) (d : Head (s .next) (s .block) h) where
   -- what the search for the last block finds stands on the chain
   pub given-found : (p x : ℕ) → lastFull (s .count) 0 (chainOf (s .next) A h) ≡ found p x → FoundIn (s .count) (s .next) h (chainOf (s .next) A h) 0 p x
-  given-found = lastFull-found (s .count) (s .next) h 0 0 (chainOf (s .next) A h) (the-chain (g .view) (g .linked) h (λ q. d .in-use))
+  given-found = lastFull-found (s .count) (s .next) h 0 0 (chainOf (s .next) A h) (the-chain (g .linked) h (λ q. d .in-use))
 
   module _ (h1 : h ≢ 1) (t : Anodes) (ys : List ℕ) (e : giveBack A ex last s h ≡ planned t ys) where
     -- a give that is done has made these steps

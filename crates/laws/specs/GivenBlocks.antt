@@ -14,7 +14,7 @@ use Rattle.laws.specs.Sums.{changed-same, changed-other}
 use Rattle.laws.specs.Bags.{none-at, gather-none}
 use Rattle.laws.specs.Segments.{Seg, Chain, seg-split}
 use Rattle.laws.specs.Links.{the-chain, chain-the}
-use Rattle.laws.specs.LinkChanges.{first, second, third, unlink, unlink-view, unlink-linked, unlink-after}
+use Rattle.laws.specs.LinkChanges.{first, second, third, unlink, unlink-linked, unlink-after}
 use Rattle.laws.specs.Heads.{Head}
 use Rattle.laws.specs.Space.{Good}
 use Rattle.laws.specs.Searches.{FoundIn, lastFull-split}
@@ -48,7 +48,7 @@ unfolding unlinked unlink
 unlinked-chain {s = s} g m d x pre post split p px x0 xm = go pre refl (rw (w .2 .0) at (w .1))
   where
     chain : Chain (s .next) m (pre ++ (x ∷ post))
-    chain = rw split at (the-chain (g .view) (g .linked) m (λ q. d .in-use))
+    chain = rw split at (the-chain (g .linked) m (λ q. d .in-use))
 
     w : (y : ℕ) × Seg (s .next) m pre y × Seg (s .next) y (x ∷ post) 0
     w = seg-split (s .next) m 0 pre (x ∷ post) chain
@@ -60,9 +60,9 @@ unlinked-chain {s = s} g m d x pre post split p px x0 xm = go pre refl (rw (w .2
         let end : p ≡ lastOf m (b ∷ l) = g .linked .uniq p (lastOf m (b ∷ l)) (λ z. x0 (sym px ∙ z)) (px ∙ sym (seg-last (s .next) m x b l c)) in
         let front : b ∷ l ≡ t .0 ++ (p ∷ []) = t .1 ∙ ap (λ (i : ℕ). t .0 ++ (i ∷ [])) (sym end) in
         let parts : (m : List ℕ) → b ∷ l ++ m ≡ t .0 ++ (p ∷ m) = λ m. ap (λ (i : List ℕ). i ++ m) front ∙ append-assoc (t .0) (p ∷ []) m in
-        chain-the (unlink-view (g .view) (g .linked) p x x0 px) (unlink-linked (g .view) (g .linked) p x x0 px) m (t .0 ++ (p ∷ post))
+        chain-the (unlink-linked (g .linked) p x x0 px) m (t .0 ++ (p ∷ post))
         (λ z. rw (changed-other (s .block) x 0 m (λ i. xm (sym i))) (d .in-use))
-        (unlink-after (g .view) (g .linked) p x x0 px m (t .0) post (λ z. d .in-use) (rw (ap (λ (i : List ℕ). i ++ (x ∷ post)) e ∙ parts (x ∷ post)) at chain))
+        (unlink-after (g .linked) p x x0 px m (t .0) post (λ z. d .in-use) (rw (ap (λ (i : List ℕ). i ++ (x ∷ post)) e ∙ parts (x ∷ post)) at chain))
         ∙ sym (parts post)
 
 -- an extent without its last block

@@ -43,11 +43,11 @@ last-gone (suc c) b x l = rw (one-less c) (omega (arith, covers-end c b x))
 
 module _ {A : ℕ} {ex : ℕ → Bool} {n last : ℕ} {s : Anodes} {system hd sd : ℕ → ℕ} (g : Good A ex n last s system hd sd) (x : ℕ) (full : 0 < s .count x) where
   pub full-used : s .block x ≢ 0
-  full-used z = omega (arith, full, g .free-none x z)
+  full-used z = omega (arith, full, g .present .free-none x z)
 
   -- its blocks are on the disk
   pub full-inside : s .block x + s .count x ≤ n
-  full-inside = g .own .fits x (g .view .below x full-used) full
+  full-inside = g .own .fits x (g .linked .view .below x full-used) full
 
   pub full-0 : x ≢ 0
   full-0 e = omega (arith, full, ap (s .count) e, g .fixed .count-0)
@@ -71,11 +71,11 @@ module _ {A : ℕ} {ex : ℕ → Bool} {n last : ℕ} {s : Anodes} {system hd sd
     shrunk-fewer : (h : ℕ) → blocks A hd (changed (s .count) x c) h + oneAt (hd x) h ≡ blocks A hd (s .count) h
     shrunk-fewer h =
         let r : blocks A hd (changed (s .count) x c) h + oneAt (hd x) h * suc c ≡ blocks A hd (s .count) h + oneAt (hd x) h * c
-        = rw e at (blocks-rewrite A hd (s .count) x c (g .view .below x full-used) h) in
+        = rw e at (blocks-rewrite A hd (s .count) x c (g .linked .view .below x full-used) h) in
         omega arith
 
     shrunk-lost : (h w : ℕ) → held A hd (changed (s .count) x c) (changed (s .block) x b) h w + oneAt (hd x) h * oneAt y w ≡ held A hd (s .count) (s .block) h w
-    shrunk-lost h w = omega (arith, held-rewrite A hd (s .count) (s .block) x c b (g .view .below x full-used) h w, ap (λ (i : ℕ). oneAt (hd x) h * i) (left w))
+    shrunk-lost h w = omega (arith, held-rewrite A hd (s .count) (s .block) x c b (g .linked .view .below x full-used) h w, ap (λ (i : ℕ). oneAt (hd x) h * i) (left w))
 
     shrunk : InHand A ex n last s system hd (hd x) y (rewritten s x c b)
     unfolding rewritten
@@ -113,7 +113,7 @@ module _ {A : ℕ} {ex : ℕ → Bool} {n last : ℕ} {s : Anodes} {system hd sd
           | third c ↦ c .2
         ];
       };
-      no-new = λ a d. unlink-head-was (g .view) (g .linked) hd (g .heads) p x full-0 px a d .1;
+      no-new = λ a d. unlink-head-was (g .linked) p x full-0 px a d .1;
     }
       where
         left : (w : ℕ) → covers (s .count x) (s .block x) w ≡ oneAt (s .block x) w + covers 0 65535 w
@@ -122,14 +122,14 @@ module _ {A : ℕ} {ex : ℕ → Bool} {n last : ℕ} {s : Anodes} {system hd sd
         off : (h : ℕ) → blocks A (changed hd x 0) (changed (s .count) x 0) h ≡ blocks A hd (changed (s .count) x 0) h
         off h =
             let r : blocks A (changed hd x 0) (changed (s .count) x 0) h ≡ blocks A hd (changed (s .count) x 0) h + oneAt 0 h * 0
-            = rw (changed-twice (s .count) x 0 0) at (blocks-fresh A hd (changed (s .count) x 0) x 0 0 (g .view .below x full-used) (changed-same (s .count) x 0) h) in
+            = rw (changed-twice (s .count) x 0 0) at (blocks-fresh A hd (changed (s .count) x 0) x 0 0 (g .linked .view .below x full-used) (changed-same (s .count) x 0) h) in
             omega arith
 
         away : (h w : ℕ) → held A (changed hd x 0) (changed (s .count) x 0) (changed (s .block) x 0) h w ≡ held A hd (changed (s .count) x 0) (changed (s .block) x 65535) h w
         away h w =
             let r : held A (changed hd x 0) (changed (s .count) x 0) (changed (s .block) x 0) h w ≡ held A hd (changed (s .count) x 0) (changed (s .block) x 65535) h w + oneAt 0 h * covers 0 0 w
             = rw (changed-twice (s .count) x 0 0, changed-twice (s .block) x 65535 0) at
-            (held-fresh A hd (changed (s .count) x 0) (changed (s .block) x 65535) x 0 0 0 (g .view .below x full-used) (changed-same (s .count) x 0) h w) in
+            (held-fresh A hd (changed (s .count) x 0) (changed (s .block) x 65535) x 0 0 0 (g .linked .view .below x full-used) (changed-same (s .count) x 0) h w) in
             omega (arith, r, ap (λ (i : ℕ). oneAt 0 h * i) (covers-none 0 w))
 
 -- ---- an anode x with a block less

@@ -58,7 +58,7 @@ headed-used g a q z = q (g .heads .off a z)
 
 -- an anode that the table gives itself for head is one
 pub self-headed : {A : ℕ} {ex : ℕ → Bool} {n last : ℕ} {s : Anodes} {system hd sd : ℕ → ℕ} → Good A ex n last s system hd sd → (m : ℕ) → m ≢ 0 → hd m ≡ m → Head (s .next) (s .block) m
-self-headed {hd = hd} g m m0 e = rw e at (head-of-is (g .view) (g .linked) hd (g .heads) m m0 (headed-used g m (λ z. m0 (sym e ∙ z))))
+self-headed {hd = hd} g m m0 e = rw e at (head-of-is (g .linked) (g .heads) m m0 (headed-used g m (λ z. m0 (sym e ∙ z))))
 
 -- a head stays one while a block is in hand
 pub hand-stays : {A : ℕ} {ex : ℕ → Bool} {n last : ℕ} {s r : Anodes} {system hd : ℕ → ℕ} {m y : ℕ} → InHand A ex n last s system hd m y r → (a : ℕ) → Head (s .next) (s .block) a → Head (r .next) (r .block) a

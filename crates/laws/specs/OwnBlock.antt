@@ -51,11 +51,11 @@ module _ {A : ℕ} {ex : ℕ → Bool} {n last : ℕ} {s : Anodes} {system hd sd
     end-on : 0 < times (lastOf h (chainOf (s .next) A h)) (chainOf (s .next) A h)
     end-on = elim (last-on h (chainOf (s .next) A h)) [
       | inr p ↦ p
-      | inl e ↦ rw e (omega (arith, times-on-chain (g .view) (g .linked) hd (g .heads) h d h, oneAt-same (hd h) h (g .heads .at-head h d)))
+      | inl e ↦ rw e (omega (arith, times-on-chain (g .linked) (g .heads) h d h, oneAt-same (hd h) h (g .heads .at-head h d)))
     ]
 
     split : (m : List ℕ) × (chainOf (s .next) A h ≡ m ++ (lastOf h (chainOf (s .next) A h) ∷ []))
-    split = chain-end (s .next) h (chainOf (s .next) A h) (d .pos) (head-chain (g .view) (g .linked) h d)
+    split = chain-end (s .next) h (chainOf (s .next) A h) (d .pos) (head-chain (g .linked) h d)
 
     put-filled : chainOf (s .next) A h ≡ h ∷ [] → s .count h ≡ 0 → (t : Anodes) (ys : List ℕ) → put A ex last true r (lastOf h (chainOf (r .next) A h)) y ≡ planned t ys →
         (ys ≡ y ∷ []) × Filled A t h y
@@ -83,7 +83,7 @@ module _ {A : ℕ} {ex : ℕ → Bool} {n last : ℕ} {s : Anodes} {system hd sd
       not-f a p e = used a p (ap (r .block) e ∙ fresh .1)
 
       end-0 : end ≢ 0
-      end-0 e = omega (arith, end-on, ap (λ (a : ℕ). times a (chainOf (s .next) A h)) e, seg-zero (s .next) h 0 (chainOf (s .next) A h) (head-chain (g .view) (g .linked) h d))
+      end-0 e = omega (arith, end-on, ap (λ (a : ℕ). times a (chainOf (s .next) A h)) e, seg-zero (s .next) h 0 (chainOf (s .next) A h) (head-chain (g .linked) h d))
 
       put-appended : Appended A s (insertedAfter r end f 1 y) h y
       unfolding insertedAfter

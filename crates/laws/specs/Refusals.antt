@@ -15,7 +15,7 @@ use Rattle.laws.specs.Sums.{oneAt-cases, sum-zero}
 use Rattle.laws.specs.LinkChanges.{first, second, third}
 use Rattle.laws.specs.Heads.{Head, head-of-is, on-own}
 use Rattle.laws.specs.Blocks.{blocks}
-use Rattle.laws.specs.Cut.{cut-other, cut-view, cut-linked}
+use Rattle.laws.specs.Cut.{cut-other, cut-linked}
 use Rattle.laws.specs.Space.{Good}
 use Rattle.laws.specs.Sides.{side-head}
 use Rattle.laws.specs.Searches.{firstFull-none}
@@ -53,7 +53,7 @@ module _ {A : ℕ} {ex : ℕ → Bool} {n last : ℕ} {s : Anodes} {system hd sd
   ]
     where
       d : Head (cut (s .next)) (s .block) (sd a)
-      d = head-of-is (cut-view (g .view)) (cut-linked (g .linked)) sd (g .sides) a a0 u
+      d = head-of-is (cut-linked (g .linked)) (g .sides) a a0 u
 
   -- no anode of either side has a block: the free chain has none
   no-block : ((m : ℕ) → (m ≡ 1) ⊎ (m ≡ 2) → firstFull (s .count) 0 (side A s m) ≡ nowhere) → blocks A hd (s .count) 1 ≡ 0
@@ -67,8 +67,8 @@ module _ {A : ℕ} {ex : ℕ → Bool} {n last : ℕ} {s : Anodes} {system hd sd
       empty a q = elim (same? a 0) [
         | inl i ↦ ap (s .count) i ∙ g .fixed .count-0
         | inr i ↦ elim (same? (s .block a) 0) [
-          | inl u ↦ g .free-none a u
-          | inr u ↦ firstFull-none (s .count) 0 (side A s (sd a)) (e (sd a) (on-side a i u q)) a (omega (arith, on-own (cut-view (g .view)) (cut-linked (g .linked)) sd (g .sides) a i u))
+          | inl u ↦ g .present .free-none a u
+          | inr u ↦ firstFull-none (s .count) 0 (side A s (sd a)) (e (sd a) (on-side a i u q)) a (omega (arith, on-own (cut-linked (g .linked)) (g .sides) a i u))
         ]
       ]
 

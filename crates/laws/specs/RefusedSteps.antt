@@ -13,8 +13,9 @@ use Rattle.rules.specs.Space.{refused, rewritten, withoutFirst, withoutLast, Fo
 use Rattle.laws.specs.Sums.{oneAt-same, oneAt-other}
 use Rattle.laws.specs.LinkChanges.{first, second, third}
 use Rattle.laws.specs.Heads.{Head}
-use Rattle.laws.specs.Blocks.{blocks, blocks-chain}
+use Rattle.laws.specs.Blocks.{blocks}
 use Rattle.laws.specs.Space.{Good}
+use Rattle.laws.specs.Owners.{blocks-chain}
 use Rattle.laws.specs.Searches.{lastFull-none}
 use Rattle.laws.specs.Arriving.{fills, ends, starts, behind, append-cases, put-cases, join-cases}
 use Rattle.laws.specs.Take.{withoutFirst-out}
@@ -69,7 +70,7 @@ module _ {A : ℕ} {ex : ℕ → Bool} {n last : ℕ} where
   last-block {s} {hd = hd} g h d some = go (lastFull (s .count) 0 (chainOf (s .next) A h)) refl
     where
       go : (c : Found) → lastFull (s .count) 0 (chainOf (s .next) A h) ≡ c → (p : ℕ) × (x : ℕ) × (lastFull (s .count) 0 (chainOf (s .next) A h) ≡ found p x)
-      go nowhere e = absurd (omega (arith, some, blocks-chain (g .view) (g .linked) hd (g .heads) (s .count) (g .free-none) (g .fixed .count-0) h d, lastFull-none (s .count) 0 (chainOf (s .next) A h) e))
+      go nowhere e = absurd (omega (arith, some, blocks-chain g h d, lastFull-none (s .count) 0 (chainOf (s .next) A h) e))
       go (found p x) e = (p, x, e)
 
   -- so a give is refused with 28 alone

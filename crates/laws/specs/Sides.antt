@@ -7,15 +7,12 @@ use Rattle.rules.specs.Counting.{times}
 use Rattle.rules.specs.Anodes.{Anodes}
 use Rattle.rules.specs.Chains.{cut, side}
 use Rattle.laws.specs.Segments.{Chain}
-use Rattle.laws.specs.Links.{View, Linked}
+use Rattle.laws.specs.Links.{Linked}
 use Rattle.laws.specs.Heads.{Head, chain-ind, head-chain, seg-head}
-use Rattle.laws.specs.Cut.{cut-cases, cut-view, cut-linked, cut-head, cut-head-2}
+use Rattle.laws.specs.Cut.{cut-cases, cut-linked, cut-head, cut-head-2}
 use Rattle.laws.specs.Space.{Good, head-1}
 
 module _ {A : ℕ} {ex : ℕ → Bool} {n last : ℕ} {s : Anodes} {system hd sd : ℕ → ℕ} (g : Good A ex n last s system hd sd) where
-  cv : View A (cut (s .next)) (s .block)
-  cv = cut-view (g .view)
-
   ck : Linked A (cut (s .next)) (s .block)
   ck = cut-linked (g .linked)
 
@@ -24,7 +21,7 @@ module _ {A : ℕ} {ex : ℕ → Bool} {n last : ℕ} {s : Anodes} {system hd sd
 
   -- an anode has its side's head for head
   pub side-head : (a : ℕ) → a ≢ 0 → s .block a ≢ 0 → hd a ≡ hd (sd a)
-  side-head = chain-ind cv ck (λ a. hd a ≡ hd (sd a))
+  side-head = chain-ind ck (λ a. hd a ≡ hd (sd a))
       (λ a d. ap hd (sym (g .sides .at-head a d)))
       (λ a h q. elim (cut-cases (s .next) a) [
         | inl c ↦ absurd (h (c .1))
@@ -42,10 +39,10 @@ module _ {A : ℕ} {ex : ℕ → Bool} {n last : ℕ} {s : Anodes} {system hd sd
 
   pub side-chain : (m : ℕ) → (m ≡ 1) ⊎ (m ≡ 2) → Chain (cut (s .next)) m (side A s m)
   unfolding side
-  side-chain m o = head-chain cv ck m (side-start m o)
+  side-chain m o = head-chain ck m (side-start m o)
 
   pub side-sd : (m : ℕ) → (m ≡ 1) ⊎ (m ≡ 2) → (x : ℕ) → 0 < times x (side A s m) → sd x ≡ m
   unfolding side
   side-sd m o x c =
       let d = side-start m o in
-      seg-head cv ck sd (g .sides) m 0 (side A s m) (head-chain cv ck m d) x c ∙ g .sides .at-head m d
+      seg-head ck (g .sides) m 0 (side A s m) (head-chain ck m d) x c ∙ g .sides .at-head m d

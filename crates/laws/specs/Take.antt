@@ -26,7 +26,7 @@ use Rattle.laws.specs.Arriving.{put-cases, refused≢planned, filled, gr
 pub last-head : {A : ℕ} {ex : ℕ → Bool} {n last : ℕ} {s : Anodes} {system hd sd : ℕ → ℕ} → Good A ex n last s system hd sd → (h : ℕ) → h ≢ 0 → hd h ≡ h → hd (lastOf h (chainOf (s .next) A h)) ≡ h
 last-head {A} {s = s} {hd = hd} g h h0 q = elim (last-on h (chainOf (s .next) A h)) [
   | inl c ↦ ap hd c ∙ q
-  | inr c ↦ seg-head (g .view) (g .linked) hd (g .heads) h 0 (chainOf (s .next) A h) (the-chain (g .view) (g .linked) h (λ z. headed-used g h (λ y. h0 (sym q ∙ y)))) (lastOf h (chainOf (s .next) A h)) c ∙ q
+  | inr c ↦ seg-head (g .linked) (g .heads) h 0 (chainOf (s .next) A h) (the-chain (g .linked) h (λ z. headed-used g h (λ y. h0 (sym q ∙ y)))) (lastOf h (chainOf (s .next) A h)) c ∙ q
 ]
 
 module _ {A : ℕ} {ex : ℕ → Bool} {n last : ℕ} {s : Anodes} {system hd sd : ℕ → ℕ} (g : Good A ex n last s system hd sd) where

@@ -67,7 +67,7 @@ module _ {ex : ℕ → Bool} {n last : ℕ} {s : Anodes} {system hd sd : ℕ →
 
   split : (pre : List ℕ) × (chainOf (s .next) limit h ≡ pre ++ (end ∷ []))
   unfolding end
-  split = chain-end (s .next) h (chainOf (s .next) limit h) (d .pos) (the-chain (g .view) (g .linked) h (λ q. d .in-use))
+  split = chain-end (s .next) h (chainOf (s .next) limit h) (d .pos) (the-chain (g .linked) h (λ q. d .in-use))
 
   -- the last anode gains the block
   gained : (c b : ℕ) → run b c ≡ extent s end ++ (y ∷ []) → blocksOf (rewritten s end c b) h ≡ blocksOf s h ++ (y ∷ [])
@@ -98,7 +98,7 @@ module _ {ex : ℕ → Bool} {n last : ℕ} {s : Anodes} {system hd sd : ℕ →
       let chain : chainOf (t .next) limit h ≡ l ++ (f ∷ []) =
       inserted-chain g h d end (split .0) [] (split .1) end-0 end-used f 1 y (omega arith) fresh fA y0 ∙ sym (ap (λ (k : List ℕ). k ++ (f ∷ [])) (split .1) ∙ append-assoc (split .0) (end ∷ []) (f ∷ [])) in
       let same : gather (extent t) l ≡ gather (extent s) l = gather-off (extent s) (extent t) f (λ a i. rw (changed-other (s .count) f 1 a i, changed-other (s .block) f y a i)) l
-      (seg-used (g .view) (g .linked) h 0 l f (λ q. d .in-use) (the-chain (g .view) (g .linked) h (λ q. d .in-use)) fresh) in
+      (seg-used (g .linked) h 0 l f (λ q. d .in-use) (the-chain (g .linked) h (λ q. d .in-use)) fresh) in
       let new : extent t f ≡ y ∷ [] = rw (changed-same (s .count) f 1, changed-same (s .block) f y) in
       blocksOf-extents t h ∙ ap (gather (extent t)) chain ∙ gather-append (extent t) l (f ∷ [])
       ∙ ap (λ (k : List ℕ). k ++ (extent t f ++ [])) same ∙ ap (λ (k : List ℕ). gather (extent s) l ++ (k ++ [])) new ∙ ap (λ (k : List ℕ). k ++ (y ∷ [])) (sym (blocksOf-extents s h))

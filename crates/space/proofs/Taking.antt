@@ -15,7 +15,7 @@ use Rattle.laws.specs.Acceptance.{size-bounds}
 use Rattle.laws.specs.Segments.{Chain, seg-keep}
 use Rattle.laws.specs.Links.{View, the-chain, chain-the, next-below}
 use Rattle.laws.specs.Heads.{Head, seg-head}
-use Rattle.laws.specs.Cut.{cut-cases, cut-other, cut-view, cut-linked}
+use Rattle.laws.specs.Cut.{cut-cases, cut-other, cut-linked}
 use Rattle.laws.specs.Space.{Good}
 use Rattle.laws.specs.Searches.{FoundIn}
 use Rattle.laws.specs.Moves.{InHand, headed-used}
@@ -33,14 +33,14 @@ module _ {A : ℕ} {ex : ℕ → Bool} {n last : ℕ} {s : Anodes} {system hd sd
 
   -- it does not come to 2
   cut-chain : chainOf (cut (s .next)) A h ≡ chainOf (s .next) A h
-  cut-chain = chain-the (cut-view (g .view)) (cut-linked (g .linked)) h (chainOf (s .next) A h) (λ z. in-use)
+  cut-chain = chain-the (cut-linked (g .linked)) h (chainOf (s .next) A h) (λ z. in-use)
       (seg-keep (s .next) (cut (s .next)) h 0 (chainOf (s .next) A h) (λ x p. cut-other (s .next) x (λ e. h1 (sym own-head ∙ sym (on x p) ∙ sym (g .heads .along x (λ z. omega (arith, e, z))) ∙ ap hd e ∙ g .two-on))) chain)
     where
       chain : Chain (s .next) h (chainOf (s .next) A h)
-      chain = the-chain (g .view) (g .linked) h (λ z. in-use)
+      chain = the-chain (g .linked) h (λ z. in-use)
 
       on : (x : ℕ) → 0 < times x (chainOf (s .next) A h) → hd x ≡ hd h
-      on x p = seg-head (g .view) (g .linked) hd (g .heads) h 0 (chainOf (s .next) A h) chain x p
+      on x p = seg-head (g .linked) (g .heads) h 0 (chainOf (s .next) A h) chain x p
 
   -- its last anode, as the search before 2 finds it
   last-before-two : lastOf h (chainOf (cut (s .next)) A h) ≡ lastOf h (chainOf (s .next) A h)
@@ -59,8 +59,8 @@ cut-goes next a q = elim (cut-cases next a) [ inl d ↦ absurd (q (d .1)) | inr 
 pub found-at : {ex : ℕ → Bool} {n last : ℕ} {s : Anodes} {system hd sd : ℕ → ℕ} → Good 3444 ex n last s system hd sd → (next : ℕ → ℕ) → ((a : ℕ) → next a ≢ 0 → next a ≡ s .next a) →
     {m : ℕ} {l : List ℕ} (p x : ℕ) → FoundIn (s .count) next m l 0 p x → (p < 3444) × (x < 3444) × (0 < s .count x)
 found-at g next goes p x w = (
-  elim (w .before) [ inl c ↦ omega (arith, c .1) | inr c ↦ next-below (g .view) p (λ z. full-0 g x (w .full) (sym c ∙ goes p (λ q. full-0 g x (w .full) (sym c ∙ q)) ∙ z)) ],
-  g .view .below x (full-used g x (w .full)),
+  elim (w .before) [ inl c ↦ omega (arith, c .1) | inr c ↦ next-below (g .linked .view) p (λ z. full-0 g x (w .full) (sym c ∙ goes p (λ q. full-0 g x (w .full) (sym c ∙ q)) ∙ z)) ],
+  g .linked .view .below x (full-used g x (w .full)),
   w .full,
 )
 
@@ -73,7 +73,7 @@ used-below view c f n left z used = view .below z (λ q. used (ap (λ (t : Anode
 
 module _ (img : List ℕ) (s : Anodes) (good : GoodAnodes img s) where
   pub full-fits : wrongSize img ≡ false → (x : ℕ) → 0 < s .count x → s .block x + s .count x ≤ 65535
-  full-fits size x f = let g = good .2 in omega (arith, size-bounds img size .1, g .own .fits x (g .view .below x (full-used g x f)) f)
+  full-fits size x f = let g = good .2 in omega (arith, size-bounds img size .1, g .own .fits x (g .linked .view .below x (full-used g x f)) f)
 
   -- the extent that a take finds
   module _ (own : Bool) (p x : ℕ) (e : freeExtent 3444 own s ≡ found p x) where
@@ -95,7 +95,7 @@ module _ (img : List ℕ) (s : Anodes) (good : GoodAnodes img s) where
       unfolding anodesFrom
       chain-end =
           let used : getD f z 0 ≢ 0 = λ q. last-used (out .good) h (d .pos) h1 (out .heads-kept h d) (rw (← is-end) (sym (ap (λ (t : Anodes). t .block z) left) ∙ q)) in
-          (used-below (out .good .view) c f n left z used, used)
+          (used-below (out .good .linked .view) c f n left z used, used)
 
       pub taken-from : (y : ℕ) → y ≡ s .block x → put 3444 (exists img) (lastReserved img) own (anodesFrom c f n) z y ≡ takeBlock 3444 (exists img) (lastReserved img) own s h
       unfolding takeFrom

@@ -3,7 +3,7 @@ use mathlib.Core.List.{[]}
 use mathlib.Core.Path.{refl, sym, _∙_}
 use native.Mathlib.Omega.{arith}
 use Rattle.laws.specs.OwnerTable.{heads-past}
-use Rattle.fsck.proofs.Space.{space-6, space-7, space-8, view, closed, links, space-9, space-10, space-11, space-none, heads-some, shown, last-of, none-of}
+use Rattle.fsck.proofs.Space.{space-6, space-7, space-8, view, zero-end, closed, links, space-9, space-10, space-11, space-none, heads-some, shown, last-of, none-of}
 use borrow.Author.Needs.{needs}
 use Rattle.fsck.proofs.test_space.Statement.{statement}
 use Rattle.fsck.proofs.test_space.Tie as tie
@@ -27,7 +27,7 @@ slice-aggregate-wrong-links : tie.Need-slice-aggregate-wrong-links
 slice-aggregate-wrong-links c = search needs
 
 wrong-links-requires : tie.Need-wrong-links-requires
-wrong-links-requires c κs = (refl, c .before .before .before .before .before .before .before .before .before .before .before .before .pre .0 .1, c .before .before .before .before .before .before .before .before .before .before .before .before .pre .0 .2, view _ _ _ _ (c .before .before .before .before .before .before .before .before .before .before .before .before .pre .1 .0) (sym (c .before .before .before .before .wrong-fixed .ensures) ∙ c .before .before .before .if1 .left) _ (c .before .before .before .before .before .disk-size .ensures) (sym (c .before .before .out-of-range .ensures) ∙ c .before .if2 .left), closed _ _ _ _ (c .before .before .before .before .before .before .before .before .before .before .before .before .pre .1 .0) (sym (c .before .before .before .before .wrong-fixed .ensures) ∙ c .before .before .before .if1 .left) _ (c .before .before .before .before .before .disk-size .ensures) (sym (c .before .before .out-of-range .ensures) ∙ c .before .if2 .left))
+wrong-links-requires c κs = (refl, c .before .before .before .before .before .before .before .before .before .before .before .before .pre .0 .1, c .before .before .before .before .before .before .before .before .before .before .before .before .pre .0 .2, view _ _ _ _ (c .before .before .before .before .before .before .before .before .before .before .before .before .pre .1 .0), zero-end _ _ _ _ (c .before .before .before .before .before .before .before .before .before .before .before .before .pre .1 .0) (sym (c .before .before .before .before .wrong-fixed .ensures) ∙ c .before .before .before .if1 .left) _ (c .before .before .before .before .before .disk-size .ensures), closed _ _ _ _ (c .before .before .before .before .before .before .before .before .before .before .before .before .pre .1 .0) (sym (c .before .before .before .before .wrong-fixed .ensures) ∙ c .before .before .before .if1 .left) _ (c .before .before .before .before .before .disk-size .ensures) (sym (c .before .before .out-of-range .ensures) ∙ c .before .if2 .left))
 
 returns-3 : tie.Need-returns-3
 returns-3 c = (space-8 _ _ _ _ (c .before .before .before .before .before .before .before .before .before .before .before .before .before .before .before .pre .1 .0) (sym (c .before .before .before .before .before .before .before .wrong-fixed .ensures) ∙ c .before .before .before .before .before .before .if1 .left) _ (c .before .before .before .before .before .before .before .before .disk-size .ensures) (sym (c .before .before .before .before .before .out-of-range .ensures) ∙ c .before .before .before .before .if2 .left) (sym (c .before .before .wrong-links .ensures .0 _) ∙ c .if3 .taken), record { blocks-kept = refl; anodes-kept = refl })
@@ -36,7 +36,7 @@ slice-aggregate-fill-heads : tie.Need-slice-aggregate-fill-heads
 slice-aggregate-fill-heads c = search needs
 
 fill-heads-requires : tie.Need-fill-heads-requires
-fill-heads-requires c κs = (c .before .before .before .before .before .before .before .before .before .before .before .before .before .before .before .before .before .pre .1 .1 .0 .3, c .before .before .before .before .before .before .before .before .before .before .before .before .before .before .before .before .before .pre .1 .1 .1 .1, view _ _ _ _ (c .before .before .before .before .before .before .before .before .before .before .before .before .before .before .before .before .before .pre .1 .0) (sym (c .before .before .before .before .before .before .before .before .before .wrong-fixed .ensures) ∙ c .before .before .before .before .before .before .before .before .if1 .left) _ (c .before .before .before .before .before .before .before .before .before .before .disk-size .ensures) (sym (c .before .before .before .before .before .before .before .out-of-range .ensures) ∙ c .before .before .before .before .before .before .if2 .left), links _ _ _ _ (c .before .before .before .before .before .before .before .before .before .before .before .before .before .before .before .before .before .pre .1 .0) (sym (c .before .before .before .before .before .before .before .before .before .wrong-fixed .ensures) ∙ c .before .before .before .before .before .before .before .before .if1 .left) _ (c .before .before .before .before .before .before .before .before .before .before .disk-size .ensures) (sym (c .before .before .before .before .before .before .before .out-of-range .ensures) ∙ c .before .before .before .before .before .before .if2 .left) (sym (c .before .before .before .before .wrong-links .ensures .0 _) ∙ c .before .before .if3 .left), c .before .before .before .before .wrong-links .ensures .1 (c .before .before .if3 .left))
+fill-heads-requires c κs = (c .before .before .before .before .before .before .before .before .before .before .before .before .before .before .before .before .before .pre .1 .1 .0 .3, c .before .before .before .before .before .before .before .before .before .before .before .before .before .before .before .before .before .pre .1 .1 .1 .1, links _ _ _ _ (c .before .before .before .before .before .before .before .before .before .before .before .before .before .before .before .before .before .pre .1 .0) (sym (c .before .before .before .before .before .before .before .before .before .wrong-fixed .ensures) ∙ c .before .before .before .before .before .before .before .before .if1 .left) _ (c .before .before .before .before .before .before .before .before .before .before .disk-size .ensures) (sym (c .before .before .before .before .before .before .before .out-of-range .ensures) ∙ c .before .before .before .before .before .before .if2 .left) (sym (c .before .before .before .before .wrong-links .ensures .0 _) ∙ c .before .before .if3 .left), c .before .before .before .before .wrong-links .ensures .1 (c .before .before .if3 .left))
 
 block-part-requires : tie.Need-block-part-requires
 block-part-requires c κs = search needs
