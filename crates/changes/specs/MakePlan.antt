@@ -22,8 +22,8 @@ use Rattle.laws.specs.Heads.{Head, head-of-is, times-on-chain}
 use Rattle.laws.specs.Space.{Good}
 use Rattle.laws.specs.Arriving.{free-is, planned-same}
 use Rattle.laws.specs.Take.{take-good}
-use Rattle.laws.specs.Frame.{Shift, take-shift}
-use Rattle.laws.specs.ChainBlocks.{shift-chain}
+use Rattle.laws.specs.Moves.{Shift, shift-none}
+use Rattle.laws.specs.Frame.{shift-chain}
 use Rattle.laws.specs.Each.{Each}
 use Rattle.laws.specs.TreeChanges.{headed}
 use Rattle.laws.specs.Whole.{Whole}
@@ -71,15 +71,6 @@ pub record MadePlan (s : Anodes) (hd : ℕ → ℕ) (f h : ℕ) (dir : Bool) (ys
   pub stays : (m : ℕ) → Head (s .next) (s .block) m → Head (t .next) (t .block) m
   pub others : (m : ℕ) → Head (s .next) (s .block) m → m ≢ 1 → m ≢ h → chainOf (t .next) limit m ≡ chainOf (s .next) limit m
 
--- no step
-shift-none : (s : Anodes) (hd : ℕ → ℕ) (h : ℕ) → Shift s hd s hd h
-shift-none s hd h = record {
-  stays = λ m d. d;
-  no-new = λ m d. d;
-  apart = λ a u q i. record { same-count = refl; same-block = refl; same-next = refl };
-  same-hd = λ a u q i. refl;
-}
-
 module _ (img : List ℕ) {s : Anodes} {hd sd : ℕ → ℕ} {entries : ℕ → List Entered} {marked : Dir → ℕ → Bool} {dirs : List Dir}
     (w : Whole (exists img) (diskSize img) (lastReserved img) s (systemOwns img) hd sd entries marked dirs)
     (f : ℕ) (f6 : 6 ≤ f) (there : T (exists img f)) (fA : f < limit) (fresh : s .block f ≡ 0) where
@@ -96,7 +87,7 @@ module _ (img : List ℕ) {s : Anodes} {hd sd : ℕ → ℕ} {entries : ℕ → 
     hd′ : ℕ → ℕ
     sd′ : ℕ → ℕ
     good : Good limit (exists img) (diskSize img) (lastReserved img) t (systemOwns img) hd′ sd′
-    shift : Shift begun (changed hd f f) t hd′ f
+    shift : Shift begun (changed hd f f) t hd′ 1 f
     chain : chainOf (t .next) limit f ≡ f ∷ []
     count : t .count f ≡ cond dir 1 0
     blocks : ys ≡ cond dir (t .block f ∷ []) []
@@ -107,7 +98,7 @@ module _ (img : List ℕ) {s : Anodes} {hd sd : ℕ → ℕ} {entries : ℕ → 
     hd′ = changed hd f f;
     sd′ = changed sd f f;
     good = orphan .good;
-    shift = shift-none begun (changed hd f f) f;
+    shift = shift-none begun (changed hd f f) 1 f;
     chain = fresh-chain w f f6 there fA fresh;
     count = changed-same (s .count) f 0;
     blocks = refl;
@@ -118,7 +109,7 @@ module _ (img : List ℕ) {s : Anodes} {hd sd : ℕ → ℕ} {entries : ℕ → 
   own-step true t ys e =
       let m = take-good (orphan .good) f (orphan .head) (λ q. omega (arith, f6, q)) true t ys e in
       let q = own-filled (orphan .good) f (orphan .head) (λ q. omega (arith, f6, q)) (own-none .chain) (own-none .count) t ys e in
-      record { hd′ = m .hd′; sd′ = m .sd′; good = m .good; shift = take-shift (orphan .good) m; chain = q .2 .chain; count = q .2 .one; blocks = q .1 ∙ ap (λ (y : ℕ). y ∷ []) (sym (q .2 .at)) }
+      record { hd′ = m .hd′; sd′ = m .sd′; good = m .good; shift = m .shift; chain = q .2 .chain; count = q .2 .one; blocks = q .1 ∙ ap (λ (y : ℕ). y ∷ []) (sym (q .2 .at)) }
   own-step false t ys e = let q = planned-same begun t [] ys e in rw (q .0, sym (q .1)) at own-none
 
   -- ---- the parent's block
@@ -170,7 +161,7 @@ module _ (img : List ℕ) {s : Anodes} {hd sd : ℕ → ℕ} {entries : ℕ → 
     parent-step true t zs e =
         let x = dir-taken o h reached t zs e in
         let m = take-good (o .good) h (dir-head o h reached) (dir-not-1 o h reached) true t zs e in
-        let sh = take-shift (o .good) m in
+        let sh = m .shift in
         record {
           heads-now = m .hd′;
           sides-now = m .sd′;

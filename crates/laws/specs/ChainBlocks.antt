@@ -18,7 +18,8 @@ use Rattle.laws.specs.Segments.{Chain}
 use Rattle.laws.specs.Links.{the-chain, chain-the, seg-once}
 use Rattle.laws.specs.Heads.{Head, head-chain}
 use Rattle.laws.specs.Space.{Alike, Good, on-chain, dead-head, dead-along, drop-good}
-use Rattle.laws.specs.Frame.{kept-count, Shift, apart-alike, apart-chain}
+use Rattle.laws.specs.Moves.{Shift}
+use Rattle.laws.specs.Frame.{kept-count, shift-alike, shift-chain}
 
 pub gather-append {ℓ κ} : {X : Type ℓ} {Y : Type κ} (f : X → List Y) (l m : List X) → gather f (l ++ m) ≡ gather f l ++ gather f m
 unfolding gather
@@ -51,23 +52,15 @@ pub kept-blocks : (s t : Anodes) (m : ℕ) → chainOf (t .next) limit m ≡ cha
 kept-blocks s t m e h = blocksOf-extents t m ∙ ap (gather (extent t)) e ∙ gather-kept (extent s) (extent t) (chainOf (s .next) limit m) h ∙ sym (blocksOf-extents s m)
 
 module _ {ex : ℕ → Bool} {n last : ℕ} {s : Anodes} {system hd sd : ℕ → ℕ} (g : Good limit ex n last s system hd sd) where
-  -- steps on the chain of h leave every other chain but 1's
-  module _ {t : Anodes} {system′ hd′ sd′ : ℕ → ℕ} (g′ : Good limit ex n last t system′ hd′ sd′) {h : ℕ} (shift : Shift s hd t hd′ h) (m : ℕ) (d : Head (s .next) (s .block) m) (m1 : m ≢ 1) (mh : m ≢ h) where
-    -- its anodes read the same
-    pub shift-alike : (a : ℕ) → 0 < times a (chainOf (s .next) limit m) → Alike s t a
-    shift-alike = apart-alike g (shift .apart) m d m1 mh
-
-    -- they are the same anodes
-    pub shift-chain : chainOf (t .next) limit m ≡ chainOf (s .next) limit m
-    shift-chain = apart-chain g (shift .apart) m d m1 mh g′ (shift .stays m d)
-
-    -- and it has as many blocks
+  -- steps on the chains of k and h leave every other
+  module _ {t : Anodes} {system′ hd′ sd′ : ℕ → ℕ} (g′ : Good limit ex n last t system′ hd′ sd′) {k h : ℕ} (shift : Shift s hd t hd′ k h) (m : ℕ) (d : Head (s .next) (s .block) m) (mk : m ≢ k) (mh : m ≢ h) where
+    -- how many blocks it has
     pub shift-count : blockCount t m ≡ blockCount s m
-    shift-count = kept-count s t m shift-chain (λ a p. shift-alike a p .same-count)
+    shift-count = kept-count s t m (shift-chain g g′ shift m d mk mh) (λ a p. shift-alike g g′ shift m d mk mh a p .same-count)
 
-    -- and so its blocks are
+    -- and which
     pub shift-blocks : blocksOf t m ≡ blocksOf s m
-    shift-blocks = kept-blocks s t m shift-chain (λ a p. extent-alike (shift-alike a p))
+    shift-blocks = kept-blocks s t m (shift-chain g g′ shift m d mk mh) (λ a p. extent-alike (shift-alike g g′ shift m d mk mh a p))
 
   -- a fresh head f
   module _ (f : ℕ) (fresh : s .block f ≡ 0) where

@@ -15,16 +15,15 @@ use Rattle.laws.specs.Sums.{oneAt-same, changed-same, changed-other}
 use Rattle.laws.specs.Bags.{times-append, times-member}
 use Rattle.laws.specs.Links.{the-chain, seg-used}
 use Rattle.laws.specs.Heads.{Head, times-on-chain}
-use Rattle.laws.specs.Space.{Alike, Good, head-1, on-chain}
+use Rattle.laws.specs.Space.{Good, head-1}
 use Rattle.laws.specs.Searches.{FoundIn}
 use Rattle.laws.specs.Moves.{headed-used}
 use Rattle.laws.specs.Leaving.{full-0, full-1, withoutBlock-cases}
 use Rattle.laws.specs.Arriving.{fills, ends, starts, behind, free-is, append-cases, join-cases, refused≢planned, planned-same}
 use Rattle.laws.specs.Take.{free-head, free-after, take-steps, take-placed}
 use Rattle.laws.specs.Give.{side-last-head, give-steps, give-placed}
-use Rattle.laws.specs.Frame.{chain-kept}
 use Rattle.laws.specs.Each.{OneMore}
-use Rattle.laws.specs.ChainBlocks.{gather-append, extent, extent-alike, blocksOf-extents, kept-blocks, gather-off, gather-skip, stands-once, inserted-chain}
+use Rattle.laws.specs.ChainBlocks.{gather-append, extent, blocksOf-extents, shift-blocks, gather-off, gather-skip, stands-once, inserted-chain}
 use Rattle.laws.specs.TakenBlocks.{extent-longer, extent-filled}
 use Rattle.laws.specs.GivenBlocks.{unlinked-chain}
 
@@ -112,12 +111,6 @@ module _ {ex : ℕ → Bool} {n last : ℕ} {s : Anodes} {system hd sd : ℕ →
 -- ---- the steps
 
 module _ {ex : ℕ → Bool} {n last : ℕ} {s : Anodes} {system hd sd : ℕ → ℕ} (g : Good limit ex n last s system hd sd) where
-  -- a change that touches no anode of the free list
-  free-kept : {t : Anodes} {system′ hd′ sd′ : ℕ → ℕ} → Good limit ex n last t system′ hd′ sd′ → ((a : ℕ) → s .block a ≢ 0 → hd a ≡ 1 → Alike s t a) → blocksOf t 1 ≡ blocksOf s 1
-  free-kept {t} g′ alike =
-      let each : (a : ℕ) → 0 < times a (chainOf (s .next) limit 1) → Alike s t a = λ a p. (let o = on-chain g 1 (head-1 g) a p in alike a (o .1) (o .0)) in
-      kept-blocks s t 1 (chain-kept g g′ 1 (head-1 g) (head-1 g′) each) (λ a p. extent-alike (each a p))
-
   -- the first block of x, found first on a side
   withoutFirst-less : (m : ℕ) (o : (m ≡ 1) ⊎ (m ≡ 2)) (p x : ℕ) → FoundIn (s .count) (cut (s .next)) m (side limit s m) 0 p x →
       OneMore (s .block x) (blocksOf (withoutFirst s p x) 1) (blocksOf s 1)
@@ -168,7 +161,7 @@ module _ {ex : ℕ → Bool} {n last : ℕ} {s : Anodes} {system hd sd : ℕ →
   take-free own t ys e =
       let k = take-steps g h own t ys e in
       let w = take-placed g h d h1 k in
-      (s .block (k .x), w .1, rw (free-kept (k .out .good) (w .0 .good) (λ a v j. w .0 .apart a v (λ q. h1 (sym q ∙ j)))) (withoutFirst-less g (k .m) (k .one-side) (k .p) (k .x) (k .on)))
+      (s .block (k .x), w .1, rw (shift-blocks (k .out .good) (w .0 .good) (w .0 .shift) 1 (head-1 (k .out .good)) (λ q. h1 (sym q)) (λ q. h1 (sym q))) (withoutFirst-less g (k .m) (k .one-side) (k .p) (k .x) (k .on)))
 
   -- and a give puts one among them
   pub give-free : (t : Anodes) (ys : List ℕ) → giveBack limit ex last s h ≡ planned t ys → (y : ℕ) × (ys ≡ y ∷ []) × OneMore y (blocksOf s 1) (blocksOf t 1)
@@ -179,4 +172,4 @@ module _ {ex : ℕ → Bool} {n last : ℕ} {s : Anodes} {system hd sd : ℕ →
       let r = withoutLast s h (k .p) (k .x) in
       let y = s .block (k .x) + (s .count (k .x) - 1) in
       let m = join-more (k .out .good) y (k .some) (lastOf (sideOf last y) (side limit r (sideOf last y))) (side-last-head system y (k .out .good) (k .some) (k .inside)) t ys (k .joins) in
-      (y, w .1, rw (free-kept g (k .out .good) (λ a v j. k .out .apart a (λ q. h1 (sym q ∙ j)))) at m)
+      (y, w .1, rw (shift-blocks g (k .out .good) (k .out .shift) 1 (head-1 g) (λ q. h1 (sym q)) (λ q. h1 (sym q))) at m)

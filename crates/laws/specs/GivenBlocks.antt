@@ -18,10 +18,8 @@ use Rattle.laws.specs.LinkChanges.{first, second, third, unlink, unlink-
 use Rattle.laws.specs.Heads.{Head}
 use Rattle.laws.specs.Space.{Good}
 use Rattle.laws.specs.Searches.{FoundIn, lastFull-split}
-use Rattle.laws.specs.Moves.{Placed, self-headed, hand-stays}
 use Rattle.laws.specs.Leaving.{full-0, withoutBlock-cases}
 use Rattle.laws.specs.Give.{given-found, give-steps, give-placed, give-good}
-use Rattle.laws.specs.Frame.{shift-of, moved-stays}
 use Rattle.laws.specs.Repeated.{repeated-none, repeated-done}
 use Rattle.laws.specs.ChainBlocks.{gather-append, extent, blocksOf-extents, shift-blocks, gather-off, gather-skip, stands-once}
 use Rattle.laws.specs.TakenBlocks.{run-end, last-split}
@@ -123,18 +121,13 @@ module _ {ex : ℕ → Bool} {n last : ℕ} {s : Anodes} {system hd sd : ℕ →
 -- ---- the whole
 
 module _ {ex : ℕ → Bool} {n last : ℕ} {s : Anodes} {system hd sd : ℕ → ℕ} (g : Good limit ex n last s system hd sd) (h : ℕ) (d : Head (s .next) (s .block) h) (h1 : h ≢ 1) where
-  -- the block into the free list: the giver's chain has its blocks as before
-  free-placed : {y : ℕ} {t : Anodes} {system′ : ℕ → ℕ} → Placed limit ex n last s system′ hd 1 y t → blocksOf t h ≡ blocksOf s h
-  free-placed w = shift-blocks g (w .good) (shift-of g (w .good) 1 (λ m c. self-headed (w .good) m (c .pos) (w .kept m (c .in-use) ∙ g .heads .at-head m c)) (w .no-new) (λ a u q i. w .apart a u q)) h d h1 h1
-
-module _ {ex : ℕ → Bool} {n last : ℕ} {s : Anodes} {system hd sd : ℕ → ℕ} (g : Good limit ex n last s system hd sd) (h : ℕ) (d : Head (s .next) (s .block) h) (h1 : h ≢ 1) where
   -- a give takes the last block off the blocks of the giver's chain
   pub give-blocks : (t : Anodes) (ys : List ℕ) → giveBack limit ex last s h ≡ planned t ys → blocksOf s h ≡ blocksOf t h ++ ys
   give-blocks t ys e =
       let k = give-steps g h d h1 t ys e in
       let w = give-placed g h d h1 t ys e in
       withoutLast-blocks g h d (k .p) (k .x) (k .is-last)
-      ∙ ap (λ (l : List ℕ). l ++ ((s .block (k .x) + (s .count (k .x) - 1)) ∷ [])) (sym (free-placed (k .out .good) h (hand-stays (k .out) h d) h1 (w .0)))
+      ∙ ap (λ (l : List ℕ). l ++ ((s .block (k .x) + (s .count (k .x) - 1)) ∷ [])) (sym (shift-blocks (k .out .good) (w .0 .good) (w .0 .shift) h (k .out .shift .stays h d) h1 h1))
       ∙ ap (λ (l : List ℕ). blocksOf t h ++ l) (sym (w .1))
 
 -- k gives, one after the other: the last of the chain's blocks, last first
@@ -145,7 +138,7 @@ gives-blocks zero h h1 t zs s system hd sd g d e = let q = repeated-none (λ s. 
 gives-blocks {ex} {n} {last} (suc k) h h1 t zs s system hd sd g d e =
     let (r, ys, xs, q, f, z) = repeated-done (λ s. giveBack limit ex last s h) k s t zs e in
     let w = give-good g h d h1 r ys q in
-    let b = gives-blocks k h h1 t xs r system (w .hd′) (w .sd′) (w .good) (moved-stays g w h d) f in
+    let b = gives-blocks k h h1 t xs r system (w .hd′) (w .sd′) (w .good) (w .shift .stays h d) f in
     let all : zs ≡ w .block ∷ xs = z ∙ ap (λ (l : List ℕ). l ++ xs) (w .handed) in (
       give-blocks g h d h1 r ys q ∙ ap (λ (l : List ℕ). blocksOf r h ++ l) (w .handed) ∙ ap (λ (l : List ℕ). l ++ (w .block ∷ [])) (b .0)
           ∙ append-assoc (blocksOf t h) (reverse xs) (w .block ∷ []) ∙ ap (λ (l : List ℕ). blocksOf t h ++ l) (sym (reverse-cons (w .block) xs) ∙ ap reverse (sym all)),

@@ -16,10 +16,10 @@ use Rattle.laws.specs.Segments.{seg-zero}
 use Rattle.laws.specs.Heads.{Head, head-chain, times-on-chain}
 use Rattle.laws.specs.Space.{Alike, Good, on-chain}
 use Rattle.laws.specs.Searches.{last-on}
-use Rattle.laws.specs.Moves.{InHand, hand-stays}
+use Rattle.laws.specs.Moves.{InHand}
 use Rattle.laws.specs.Arriving.{free-is, append-cases, refused≢planned, planned-same}
 use Rattle.laws.specs.Take.{take-steps}
-use Rattle.laws.specs.Frame.{apart-chain}
+use Rattle.laws.specs.Frame.{shift-alike, shift-chain}
 use Rattle.laws.specs.ChainBlocks.{inserted-chain}
 use Rattle.laws.specs.TakenBlocks.{chain-end}
 
@@ -42,10 +42,10 @@ module _ {A : ℕ} {ex : ℕ → Bool} {n last : ℕ} {s : Anodes} {system hd sd
   module _ {y : ℕ} {r : Anodes} (i : InHand A ex n last s system hd 1 y r) where
     -- the block in hand was of no anode of the chain
     hand-chain : chainOf (r .next) A h ≡ chainOf (s .next) A h
-    hand-chain = apart-chain g (λ a u p q. i .apart a p) h d h1 h1 (i .good) (hand-stays i h d)
+    hand-chain = shift-chain g (i .good) (i .shift) h d h1 h1
 
     on-h : (a : ℕ) → 0 < times a (chainOf (s .next) A h) → Alike s r a
-    on-h a p = i .apart a (λ q. h1 (sym (on-chain g h d a p .0) ∙ q))
+    on-h = shift-alike g (i .good) (i .shift) h d h1 h1
 
     -- its last anode stands on it, behind the others
     end-on : 0 < times (lastOf h (chainOf (s .next) A h)) (chainOf (s .next) A h)
@@ -89,7 +89,7 @@ module _ {A : ℕ} {ex : ℕ → Bool} {n last : ℕ} {s : Anodes} {system hd sd
       unfolding insertedAfter
       put-appended = record {
         anode = f;
-        chain = inserted-chain (i .good) h (hand-stays i h d) end (split .0) [] (hand-chain ∙ split .1)
+        chain = inserted-chain (i .good) h (i .shift .stays h d) end (split .0) [] (hand-chain ∙ split .1)
             end-0 (used end end-on) f 1 y (λ e. omega (arith, e, fresh .0)) (fresh .1) fA y0
             ∙ sym (ap (λ (l : List ℕ). l ++ (f ∷ [])) (split .1) ∙ append-assoc (split .0) (end ∷ []) (f ∷ []));
         one = changed-same (r .count) f 1;

@@ -22,7 +22,6 @@ use Rattle.laws.specs.Take.{withoutFirst-out}
 use Rattle.laws.specs.Refusals.{refused-same, planned≢refused, append-refused, put-refused, take-27}
 use Rattle.laws.specs.Repeated.{repeated-refused}
 use Rattle.laws.specs.Give.{give-good}
-use Rattle.laws.specs.Frame.{moved-stays}
 use Rattle.laws.specs.FreeExtent.{extent-found, take-nowhere, take-found}
 
 -- the taker's last anode z cannot have block y: it has blocks, and directory blocks (own) get an anode of their own or y is not its end
@@ -91,7 +90,7 @@ module _ {A : ℕ} {ex : ℕ → Bool} {n last : ℕ} where
       let (j, r, (hd, sd, g, d, some), q) = repeated-refused (λ s. giveBack A ex last s h)
       (λ i s. (hd : ℕ → ℕ) × (sd : ℕ → ℕ) × Good A ex n last s system hd sd × Head (s .next) (s .block) h × (i ≤ blocks A hd (s .count) h))
       (λ i s t ys (hd, sd, g, d, some) q. let w = give-good g h d h1 t ys q in
-      (w .hd′, w .sd′, w .good, moved-stays g w h d, omega (arith, some, w .moved h, oneAt-same h h refl, oneAt-other 1 h (λ j. h1 (sym j)))))
+      (w .hd′, w .sd′, w .good, w .shift .stays h d, omega (arith, some, w .moved h, oneAt-same h h refl, oneAt-other 1 h (λ j. h1 (sym j)))))
       i s k (hd, sd, g, d, some) e in
       give-refused g h d (omega arith) k q
 

@@ -10,11 +10,10 @@ use Rattle.rules.specs.Anodes.{Anodes}
 use Rattle.rules.specs.Chains.{chainOf, cut, side}
 use Rattle.rules.specs.Space.{planned, rewritten, Found, nowhere, found, withoutFirst, freeExtent, put, takeFrom, takeBlock}
 use Rattle.laws.specs.Ownership.{hand}
-use Rattle.laws.specs.Links.{the-chain}
 use Rattle.laws.specs.LinkChanges.{first, second, third}
-use Rattle.laws.specs.Heads.{Head, seg-head}
+use Rattle.laws.specs.Heads.{Head}
 use Rattle.laws.specs.Cut.{cut-cases}
-use Rattle.laws.specs.Space.{Good}
+use Rattle.laws.specs.Space.{Good, on-chain}
 use Rattle.laws.specs.Sides.{head-of-1, side-head, not-free, side-sd}
 use Rattle.laws.specs.Searches.{FoundIn, last-on}
 use Rattle.laws.specs.Moves.{InHand, Placed, Moved, headed-used, moved-by}
@@ -23,10 +22,10 @@ use Rattle.laws.specs.FreeExtent.{extent-found, take-nowhere, take-found
 use Rattle.laws.specs.Arriving.{put-cases, refused≢planned, filled, grown, placed-by, append-placed}
 
 -- the last anode of a chain has its head
-pub last-head : {A : ℕ} {ex : ℕ → Bool} {n last : ℕ} {s : Anodes} {system hd sd : ℕ → ℕ} → Good A ex n last s system hd sd → (h : ℕ) → h ≢ 0 → hd h ≡ h → hd (lastOf h (chainOf (s .next) A h)) ≡ h
-last-head {A} {s = s} {hd = hd} g h h0 q = elim (last-on h (chainOf (s .next) A h)) [
-  | inl c ↦ ap hd c ∙ q
-  | inr c ↦ seg-head (g .linked) (g .heads) h 0 (chainOf (s .next) A h) (the-chain (g .linked) h (λ z. headed-used g h (λ y. h0 (sym q ∙ y)))) (lastOf h (chainOf (s .next) A h)) c ∙ q
+pub last-head : {A : ℕ} {ex : ℕ → Bool} {n last : ℕ} {s : Anodes} {system hd sd : ℕ → ℕ} → Good A ex n last s system hd sd → (h : ℕ) → Head (s .next) (s .block) h → hd (lastOf h (chainOf (s .next) A h)) ≡ h
+last-head {A} {s = s} {hd = hd} g h d = elim (last-on h (chainOf (s .next) A h)) [
+  | inl c ↦ ap hd c ∙ g .heads .at-head h d
+  | inr c ↦ on-chain g h d (lastOf h (chainOf (s .next) A h)) c .0
 ]
 
 module _ {A : ℕ} {ex : ℕ → Bool} {n last : ℕ} {s : Anodes} {system hd sd : ℕ → ℕ} (g : Good A ex n last s system hd sd) where
@@ -51,7 +50,7 @@ module _ {A : ℕ} {ex : ℕ → Bool} {n last : ℕ} {s : Anodes} {system hd sd
 -- ---- into the taker's chain
 
 module _ {A : ℕ} {ex : ℕ → Bool} {n last : ℕ} {s : Anodes} (system : ℕ → ℕ) {hd sd : ℕ → ℕ} (y : ℕ) (g : Good A ex n last s (hand system y) hd sd) (y0 : y ≢ 0) (yn : y < n)
-    (h : ℕ) (h0 : h ≢ 0) (h1 : h ≢ 1) (own-head : hd h ≡ h) where
+    (h : ℕ) (d : Head (s .next) (s .block) h) (h1 : h ≢ 1) where
   end : ℕ
   end = lastOf h (chainOf (s .next) A h)
 
@@ -60,16 +59,16 @@ module _ {A : ℕ} {ex : ℕ → Bool} {n last : ℕ} {s : Anodes} (system : ℕ
   put-placed own t ys e = rw e-head at placed
     where
       e-head : hd end ≡ h
-      e-head = last-head g h h0 own-head
+      e-head = last-head g h d
 
       e0 : end ≢ 0
-      e0 q = h0 (sym e-head ∙ ap hd q ∙ g .heads .off-zero)
+      e0 q = d .pos (sym e-head ∙ ap hd q ∙ g .heads .off-zero)
 
       e1 : end ≢ 1
       e1 q = h1 (sym e-head ∙ ap hd q ∙ head-of-1 g)
 
       u : s .block end ≢ 0
-      u = headed-used g end (λ q. h0 (sym e-head ∙ q))
+      u = headed-used g end (λ q. d .pos (sym e-head ∙ q))
 
       off : (sd end ≢ 1) × (sd end ≢ 2)
       off = not-free g end (λ q. h1 (sym e-head ∙ q)) u e0
@@ -127,7 +126,7 @@ module _ {A : ℕ} {ex : ℕ → Bool} {n last : ℕ} {s : Anodes} {system hd sd
   -- the block in hand has come to the chain of h
   pub take-placed : Head (s .next) (s .block) h → h ≢ 1 → {own : Bool} {t : Anodes} {ys : List ℕ} → (k : Takes A ex n last s system hd own h t ys) →
       Placed A ex n last (withoutFirst s (k .p) (k .x)) system (k .out .hd′) h (s .block (k .x)) t × (ys ≡ s .block (k .x) ∷ [])
-  take-placed d h1 {own} {t} {ys} k = put-placed system (s .block (k .x)) (k .out .good) (k .some) (k .inside) h (d .pos) h1 (k .out .heads-kept h d) own t ys (k .puts)
+  take-placed d h1 {own} {t} {ys} k = put-placed system (s .block (k .x)) (k .out .good) (k .some) (k .inside) h (k .out .shift .stays h d) h1 own t ys (k .puts)
 
   -- a take moves one block from the free list to the chain of h
   pub take-good : Head (s .next) (s .block) h → h ≢ 1 → (own : Bool) (t : Anodes) (ys : List ℕ) → takeBlock A ex last own s h ≡ planned t ys → Moved A ex n last s system hd 1 h ys t

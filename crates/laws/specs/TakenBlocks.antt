@@ -17,10 +17,9 @@ use Rattle.laws.specs.Links.{the-chain, seg-used}
 use Rattle.laws.specs.LinkChanges.{first, second, third}
 use Rattle.laws.specs.Heads.{Head}
 use Rattle.laws.specs.Space.{Good}
-use Rattle.laws.specs.Moves.{InHand, headed-used, hand-stays}
+use Rattle.laws.specs.Moves.{headed-used}
 use Rattle.laws.specs.Arriving.{free-is, append-cases, put-cases, refused≢planned, planned-same}
 use Rattle.laws.specs.Take.{last-head, take-steps, take-good}
-use Rattle.laws.specs.Frame.{shift-of, moved-stays}
 use Rattle.laws.specs.Repeated.{repeated-none, repeated-done}
 use Rattle.laws.specs.ChainBlocks.{gather-append, extent, blocksOf-extents, shift-blocks, gather-off, stands-once, inserted-chain}
 
@@ -81,7 +80,7 @@ module _ {ex : ℕ → Bool} {n last : ℕ} {s : Anodes} {system hd sd : ℕ →
 
   end-head : hd end ≡ h
   unfolding end
-  end-head = last-head g h (d .pos) (g .heads .at-head h d)
+  end-head = last-head g h d
 
   end-used : s .block end ≢ 0
   end-used = headed-used g end (λ q. d .pos (sym end-head ∙ q))
@@ -121,15 +120,11 @@ module _ {ex : ℕ → Bool} {n last : ℕ} {s : Anodes} {system hd sd : ℕ →
 -- ---- the whole
 
 module _ {ex : ℕ → Bool} {n last : ℕ} {s : Anodes} {system hd sd : ℕ → ℕ} (g : Good limit ex n last s system hd sd) (h : ℕ) (d : Head (s .next) (s .block) h) (h1 : h ≢ 1) where
-  -- the block out of the free list: the taker's chain has its blocks as before
-  free-left : {y : ℕ} {r : Anodes} → InHand limit ex n last s system hd 1 y r → blocksOf r h ≡ blocksOf s h
-  free-left i = shift-blocks g (i .good) (shift-of g (i .good) 1 (hand-stays i) (i .no-new) (λ a u q j. i .apart a q)) h d h1 h1
-
   -- a take puts its block behind the blocks of the taker's chain
   pub take-blocks : (own : Bool) (t : Anodes) (ys : List ℕ) → takeBlock limit ex last own s h ≡ planned t ys → blocksOf t h ≡ blocksOf s h ++ ys
   take-blocks own t ys e =
       let k = take-steps g h own t ys e in
-      put-blocks (k .out .good) h (hand-stays (k .out) h d) (s .block (k .x)) (k .some) own t ys (k .puts) ∙ ap (λ (l : List ℕ). l ++ ys) (free-left (k .out))
+      put-blocks (k .out .good) h (k .out .shift .stays h d) (s .block (k .x)) (k .some) own t ys (k .puts) ∙ ap (λ (l : List ℕ). l ++ ys) (shift-blocks g (k .out .good) (k .out .shift) h d h1 h1)
 
 -- k takes, one after the other, put their blocks behind those of the taker's chain in order
 pub takes-blocks : {ex : ℕ → Bool} {n last : ℕ} (k h : ℕ) → h ≢ 1 → (own : Bool) (t : Anodes) (zs : List ℕ) (s : Anodes) (system hd sd : ℕ → ℕ) → Good limit ex n last s system hd sd →
@@ -139,7 +134,7 @@ takes-blocks zero h h1 own t zs s system hd sd g d e = let q = repeated-none (λ
 takes-blocks {ex} {n} {last} (suc k) h h1 own t zs s system hd sd g d e =
     let (r, ys, xs, q, f, z) = repeated-done (λ s. takeBlock limit ex last own s h) k s t zs e in
     let w = take-good g h d h1 own r ys q in
-    let b = takes-blocks k h h1 own t xs r system (w .hd′) (w .sd′) (w .good) (moved-stays g w h d) f in (
+    let b = takes-blocks k h h1 own t xs r system (w .hd′) (w .sd′) (w .good) (w .shift .stays h d) f in (
       b .0 ∙ ap (λ (l : List ℕ). l ++ xs) (take-blocks g h d h1 own r ys q) ∙ append-assoc (blocksOf s h) ys xs ∙ ap (λ (l : List ℕ). blocksOf s h ++ l) (sym z),
       ap length (z ∙ ap (λ (l : List ℕ). l ++ xs) (w .handed)) ∙ ap suc (b .1),
     )

@@ -19,8 +19,9 @@ use Rattle.laws.specs.Blocks.{blocks}
 use Rattle.laws.specs.Held.{held, chain-blocks}
 use Rattle.laws.specs.Space.{Good, head-5}
 use Rattle.laws.specs.Owners.{blocks-chain}
-use Rattle.laws.specs.Frame.{Shift, on-other}
-use Rattle.laws.specs.ChainBlocks.{shift-alike, shift-chain, shift-count}
+use Rattle.laws.specs.Moves.{Shift}
+use Rattle.laws.specs.Frame.{on-other, shift-alike, shift-chain}
+use Rattle.laws.specs.ChainBlocks.{shift-count}
 use Rattle.laws.specs.Each.{Each, each-map, each-both, each-pair, each-zero}
 use Rattle.laws.specs.Items.{wrong, names-sum, giving, giving-le, below, namedIn, faults, below-items}
 use Rattle.laws.specs.Trees.{Tree}
@@ -185,7 +186,7 @@ module _ {ex : ℕ → Bool} {n last : ℕ} {s : Anodes} {system hd sd : ℕ →
     not-dir = none-headed h dirs (omega (arith, w .tree .exact (λ d. oneAt (d .head) h), oneAt-other 5 h (λ e. omega (arith, e, file-head .0)), w .tree .once h, file, named-by-kind items h dirs))
 
     -- a file's chain is changed, by takes or gives, its entry's size with it, and nothing else of the directories
-    pub change-file : {t : Anodes} {hd′ sd′ : ℕ → ℕ} → Good limit ex n last t system hd′ sd′ → Shift s hd t hd′ h →
+    pub change-file : {t : Anodes} {hd′ sd′ : ℕ → ℕ} → Good limit ex n last t system hd′ sd′ → Shift s hd t hd′ 1 h →
         (φ : Entered → Entered) (entries′ : ℕ → List Entered) (marked′ : Dir → ℕ → Bool) →
         ((e : Entered) → (φ e .broken ≡ e .broken) × (φ e .dir ≡ e .dir) × (φ e .anode ≡ e .anode)) →
         ((e : Entered) → e .anode ≢ h → φ e .size ≡ e .size) →
