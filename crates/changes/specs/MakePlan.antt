@@ -20,7 +20,8 @@ use Rattle.laws.specs.Sums.{oneAt-cases, oneAt-same, oneAt-other, oneAt-le, cha
 use Rattle.laws.specs.Bags.{times-nil, times-cons, times-append}
 use Rattle.laws.specs.Heads.{Head, head-of-is, times-on-chain}
 use Rattle.laws.specs.Space.{Good}
-use Rattle.laws.specs.Arriving.{free-is, planned-same}
+use Rattle.laws.specs.Plans.{planned-same}
+use Rattle.laws.specs.Arriving.{free-is}
 use Rattle.laws.specs.Take.{take-good}
 use Rattle.laws.specs.Moves.{Shift, shift-none}
 use Rattle.laws.specs.Frame.{shift-chain}

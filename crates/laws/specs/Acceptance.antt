@@ -1,14 +1,14 @@
 -- The check's table: its answer is 0 exactly if every test fails, and what the tests 6 to 11 say in numbers.
-use Prim.Native.Nat.{ℕ, zero, suc, _+_, _%_, _≤_, _<_}
+use Prim.Native.Nat.{ℕ, _+_, _%_, _≤_, _<_}
 use mathlib.Core.Path.{_≡_, refl}
 use mathlib.Core.Logic.{_≢_, inl, inr}
-use mathlib.Core.Bool.{Bool, true, false, not, _&&_, _||_}
+use mathlib.Core.Bool.{Bool, false, not, _&&_, _||_}
 use mathlib.Core.List.{List, [], _∷_}
 use native.Mathlib.Omega.{arith}
 use lib.Dec.{eqb, leb, ltb}
 use lib.ListN.{length}
 use borrow.Author.Tests.{ltb-true, ltb-false, leb-false, eqb-false, not-true, lt-ltb, le-ltb, lt-leb, eq-eqb, ne-eqb}
-use Rattle.rules.specs.Counting.{_if_else_, firstOf, anyBelow, anyIn, times}
+use Rattle.rules.specs.Counting.{anyBelow, anyIn, times}
 use Rattle.rules.specs.Anodes.{Anodes, limit, anodesOf}
 use Rattle.rules.specs.Chains.{chainOf, followed, preds, owners, side, systemOwns}
 use Rattle.rules.specs.Walk.{walkOf, faultIn}
@@ -16,7 +16,7 @@ use Rattle.rules.specs.Accepted.{diskSize, wrongSize, shortTables, wrongType, l
 use Rattle.counting.specs.Laws.{neither, none-or, and-none, none-and, anyBelow-each, anyBelow-all}
 use Rattle.laws.specs.Each.{Each}
 use Rattle.laws.specs.Bags.{times-here, times-later, each-at}
-use Rattle.laws.specs.Tests.{same}
+use Rattle.laws.specs.Tests.{same, if-zero, firstOf-zero, firstOf-none}
 use Rattle.laws.specs.TestsPassed.{fixed-anodes, extent-inside, tested-checked}
 use Rattle.laws.specs.Links.{View}
 use Rattle.laws.specs.Space.{FixedHead}
@@ -135,25 +135,6 @@ module _ (s : Anodes) (n last : ℕ) (system : ℕ → ℕ) where
           le-ltb (last + 1) (s .block a + s .count a) (omega (arith, p .low a q (ltb-true 0 (s .count a) c))))
 
 -- ---- the table
-
--- a row that answers 0 has failed, and so has the rest
-pub if-zero : (n : ℕ) (t : Bool) (rest : ℕ) → n ≢ 0 → (n if t else rest) ≡ 0 → (t ≡ false) × (rest ≡ 0)
-if-zero n true rest p e = absurd (p e)
-if-zero n false rest p e = (refl, e)
-
-pub firstOf-zero : (a b : ℕ) → firstOf a b ≡ 0 → (a ≡ 0) × (b ≡ 0)
-unfolding firstOf
-firstOf-zero zero b e = (refl, e)
-firstOf-zero (suc a) b e = absurd (omega arith)
-
-pub firstOf-some : (a b k : ℕ) → a ≡ k → 1 ≤ k → firstOf a b ≡ k
-unfolding firstOf
-firstOf-some zero b k e l = absurd (omega arith)
-firstOf-some (suc a) b k e l = e
-
-pub firstOf-none : (a b : ℕ) → a ≡ 0 → firstOf a b ≡ b
-unfolding firstOf
-firstOf-none a b e = rw e
 
 -- a disk has 5 to 65,535 blocks
 pub size-bounds : (img : List ℕ) → wrongSize img ≡ false → (5 ≤ diskSize img) × (diskSize img ≤ 65535)

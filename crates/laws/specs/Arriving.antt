@@ -19,6 +19,7 @@ use Rattle.laws.specs.HeadChanges.{insert-head-was}
 use Rattle.laws.specs.Blocks.{blocks-rewrite, blocks-fresh}
 use Rattle.laws.specs.Held.{held-rewrite, held-fresh}
 use Rattle.laws.specs.Space.{Good, rewrite-good, insert-good}
+use Rattle.laws.specs.Plans.{refused≢planned, planned-same}
 use Rattle.laws.specs.Moves.{rewrite-shift, Placed, self-headed}
 
 -- block y and the last anode z of its side: z is filled, grows at its end or before its start, or y gets an anode behind it
@@ -93,12 +94,6 @@ module _ (A : ℕ) (ex : ℕ → Bool) (last : ℕ) where
         ])
   ]
 
-pub refused≢planned : (k : ℕ) (t : Anodes) (ys : List ℕ) → refused k ≡ planned t ys → ⊥
-refused≢planned k t ys e = let z : _≡_ {A = ℕ} 0 1 = cc in omega arith
-
-pub planned-same : (s t : Anodes) (xs ys : List ℕ) → planned s xs ≡ planned t ys → (s ≡ t) × (ys ≡ xs)
-planned-same s t xs ys e = (cc, cc)
-
 module _ {A : ℕ} {ex : ℕ → Bool} {n last : ℕ} {s : Anodes} (system : ℕ → ℕ) {hd sd : ℕ → ℕ} (y : ℕ) (g : Good A ex n last s (hand system y) hd sd) (y0 : y ≢ 0) (yn : y < n)
     (z : ℕ) (z0 : z ≢ 0) (u : s .block z ≢ 0) (high : sd z ≡ 1 → last < y) (low : sd z ≡ 2 → y ≤ last) where
   -- z becomes (c, b) and has gained y
@@ -116,19 +111,19 @@ module _ {A : ℕ} {ex : ℕ → Bool} {n last : ℕ} {s : Anodes} (system : ℕ
     }
 
   -- an empty anode is filled
-  pub filled : z ≢ 1 → s .count z ≡ 0 → Placed A ex n last s system hd (hd z) y (rewritten s z 1 y)
+  filled : z ≢ 1 → s .count z ≡ 0 → Placed A ex n last s system hd (hd z) y (rewritten s z 1 y)
   filled z1 e = gained z1 1 y (omega arith) y0
       (λ x. rw e (omega (arith, covers-one y x, covers-none (s .block z) x)))
       (omega arith) high (λ q. omega (arith, low q))
 
   -- y comes after the end of z
-  pub grown : z ≢ 1 → s .count z ≢ 0 → s .block z + s .count z ≡ y → Placed A ex n last s system hd (hd z) y (rewritten s z (s .count z + 1) (s .block z))
+  grown : z ≢ 1 → s .count z ≢ 0 → s .block z + s .count z ≡ y → Placed A ex n last s system hd (hd z) y (rewritten s z (s .count z + 1) (s .block z))
   grown z1 c0 e = gained z1 (s .count z + 1) (s .block z) (omega arith) u
       (λ x. rw (add-one (s .count z)) (omega (arith, covers-end (s .count z) (s .block z) x, ap (λ (k : ℕ). oneAt k x) e)))
       (omega arith) (λ q. g .high z q (omega arith)) (λ q. omega (arith, low q))
 
   -- or before its start
-  pub grown-before : z ≢ 1 → s .count z ≢ 0 → y + 1 ≡ s .block z → Placed A ex n last s system hd (hd z) y (rewritten s z (s .count z + 1) y)
+  grown-before : z ≢ 1 → s .count z ≢ 0 → y + 1 ≡ s .block z → Placed A ex n last s system hd (hd z) y (rewritten s z (s .count z + 1) y)
   grown-before z1 c0 e = gained z1 (s .count z + 1) y (omega arith) y0
       (λ x. rw (add-one (s .count z)) (omega (arith, covers-front (s .count z) y x, ap (λ (k : ℕ). covers (s .count z) k x) next-is)))
       (omega (arith, e, g .own .fits z (g .linked .view .below z u) (omega arith))) high (λ q. omega (arith, e, g .low z q (omega arith)))
@@ -162,11 +157,26 @@ module _ {A : ℕ} {ex : ℕ → Bool} {n last : ℕ} {s : Anodes} (system : ℕ
       }
 
   -- a plan for y that is done
-  pub placed-by : (r t : Anodes) (ys : List ℕ) → planned r (y ∷ []) ≡ planned t ys → Placed A ex n last s system hd (hd z) y r → Placed A ex n last s system hd (hd z) y t × (ys ≡ y ∷ [])
+  placed-by : (r t : Anodes) (ys : List ℕ) → planned r (y ∷ []) ≡ planned t ys → Placed A ex n last s system hd (hd z) y r → Placed A ex n last s system hd (hd z) y t × (ys ≡ y ∷ [])
   placed-by r t ys e w = let q = planned-same r t (y ∷ []) ys e in (rw (q .0) at w, q .1)
 
-  pub append-placed : (t : Anodes) (ys : List ℕ) → append A ex last s z y ≡ planned t ys → Placed A ex n last s system hd (hd z) y t × (ys ≡ y ∷ [])
+  append-placed : (t : Anodes) (ys : List ℕ) → append A ex last s z y ≡ planned t ys → Placed A ex n last s system hd (hd z) y t × (ys ≡ y ∷ [])
   append-placed t ys e = elim (append-cases A ex last s z y) [
     | inl c ↦ placed-by (insertedAfter s z (lowestFree A ex last s) 1 y) t ys (sym (c .2) ∙ e) (appended (lowestFree A ex last s) (c .0) (c .1))
     | inr c ↦ absurd (refused≢planned 28 t ys (sym (c .0) ∙ e))
+  ]
+
+  pub put-placed : z ≢ 1 → (own : Bool) (t : Anodes) (ys : List ℕ) → put A ex last own s z y ≡ planned t ys → Placed A ex n last s system hd (hd z) y t × (ys ≡ y ∷ [])
+  put-placed z1 own t ys e = elim (put-cases A ex last own s z y) [
+    | first c ↦ placed-by (rewritten s z 1 y) t ys (sym (c .1) ∙ e) (filled z1 (c .0))
+    | second c ↦ placed-by (rewritten s z (s .count z + 1) (s .block z)) t ys (sym (c .3) ∙ e) (grown z1 (c .0) (c .2))
+    | third c ↦ append-placed t ys (sym (c .2) ∙ e)
+  ]
+
+  pub join-placed : (t : Anodes) (ys : List ℕ) → join A ex last s z y ≡ planned t ys → Placed A ex n last s system hd (hd z) y t × (ys ≡ y ∷ [])
+  join-placed t ys e = elim (join-cases A ex last s z y) [
+    | fills c ↦ placed-by (rewritten s z 1 y) t ys (sym (c .2) ∙ e) (filled (c .0) (c .1))
+    | ends c ↦ placed-by (rewritten s z (s .count z + 1) (s .block z)) t ys (sym (c .3) ∙ e) (grown (c .0) (c .1) (c .2))
+    | starts c ↦ placed-by (rewritten s z (s .count z + 1) y) t ys (sym (c .3) ∙ e) (grown-before (c .0) (c .1) (c .2))
+    | behind c ↦ append-placed t ys (sym (c .1) ∙ e)
   ]

@@ -1,7 +1,7 @@
 -- What a step does to the blocks of the free list: one goes or comes, and the others keep their order.
 use Prim.Native.Nat.{ℕ, suc, _+_, _-_, _<_}
 use mathlib.Core.Path.{_≡_, refl, sym, ap, _∙_}
-use mathlib.Core.Logic.{_≢_, _⊎_, inl, inr}
+use mathlib.Core.Logic.{_≢_, inl, inr}
 use mathlib.Core.Bool.{Bool}
 use mathlib.Core.List.{List, [], _∷_, _++_, append-nil, append-assoc}
 use native.Mathlib.Omega.{arith}
@@ -16,10 +16,12 @@ use Rattle.laws.specs.Bags.{times-append, times-member}
 use Rattle.laws.specs.Links.{the-chain, seg-used}
 use Rattle.laws.specs.Heads.{Head, times-on-chain}
 use Rattle.laws.specs.Space.{Good, head-1}
+use Rattle.laws.specs.Sides.{SideHead}
 use Rattle.laws.specs.Searches.{FoundIn}
 use Rattle.laws.specs.Moves.{headed-used}
 use Rattle.laws.specs.Leaving.{full-0, full-1, withoutBlock-cases}
-use Rattle.laws.specs.Arriving.{fills, ends, starts, behind, free-is, append-cases, join-cases, refused≢planned, planned-same}
+use Rattle.laws.specs.Plans.{refused≢planned, planned-same}
+use Rattle.laws.specs.Arriving.{fills, ends, starts, behind, free-is, append-cases, join-cases}
 use Rattle.laws.specs.Take.{free-head, free-after, take-steps, take-placed}
 use Rattle.laws.specs.Give.{side-last-head, give-steps, give-placed}
 use Rattle.laws.specs.Each.{OneMore}
@@ -112,7 +114,7 @@ module _ {ex : ℕ → Bool} {n last : ℕ} {s : Anodes} {system hd sd : ℕ →
 
 module _ {ex : ℕ → Bool} {n last : ℕ} {s : Anodes} {system hd sd : ℕ → ℕ} (g : Good limit ex n last s system hd sd) where
   -- the first block of x, found first on a side
-  withoutFirst-less : (m : ℕ) (o : (m ≡ 1) ⊎ (m ≡ 2)) (p x : ℕ) → FoundIn (s .count) (cut (s .next)) m (side limit s m) 0 p x →
+  withoutFirst-less : (m : ℕ) (o : SideHead m) (p x : ℕ) → FoundIn (s .count) (cut (s .next)) m (side limit s m) 0 p x →
       OneMore (s .block x) (blocksOf (withoutFirst s p x) 1) (blocksOf s 1)
   unfolding withoutFirst extent run
   withoutFirst-less m o p x f = elim (withoutBlock-cases s 2 p x (s .block x + 1)) [

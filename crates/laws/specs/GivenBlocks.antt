@@ -20,7 +20,7 @@ use Rattle.laws.specs.Space.{Good}
 use Rattle.laws.specs.Searches.{FoundIn, lastFull-split}
 use Rattle.laws.specs.Leaving.{full-0, withoutBlock-cases}
 use Rattle.laws.specs.Give.{given-found, give-steps, give-placed, give-good}
-use Rattle.laws.specs.Repeated.{repeated-none, repeated-done}
+use Rattle.laws.specs.Plans.{repeated-none, repeated-done}
 use Rattle.laws.specs.ChainBlocks.{gather-append, extent, blocksOf-extents, shift-blocks, gather-off, gather-skip, stands-once}
 use Rattle.laws.specs.TakenBlocks.{run-end, last-split}
 

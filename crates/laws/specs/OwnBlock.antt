@@ -17,7 +17,8 @@ use Rattle.laws.specs.Heads.{Head, head-chain, times-on-chain}
 use Rattle.laws.specs.Space.{Alike, Good, on-chain}
 use Rattle.laws.specs.Searches.{last-on}
 use Rattle.laws.specs.Moves.{InHand}
-use Rattle.laws.specs.Arriving.{free-is, append-cases, refused≢planned, planned-same}
+use Rattle.laws.specs.Plans.{refused≢planned, planned-same}
+use Rattle.laws.specs.Arriving.{free-is, append-cases}
 use Rattle.laws.specs.Take.{take-steps}
 use Rattle.laws.specs.Frame.{shift-alike, shift-chain}
 use Rattle.laws.specs.ChainBlocks.{inserted-chain}

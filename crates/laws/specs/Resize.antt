@@ -16,7 +16,7 @@ use Rattle.laws.specs.Blocks.{blocks}
 use Rattle.laws.specs.Held.{held}
 use Rattle.laws.specs.Space.{Good}
 use Rattle.laws.specs.Moves.{Shift, shift-none, shift-trans, shift-swap, Moved}
-use Rattle.laws.specs.Repeated.{repeated-none, repeated-done}
+use Rattle.laws.specs.Plans.{repeated-none, repeated-done}
 use Rattle.laws.specs.Take.{take-good}
 use Rattle.laws.specs.Give.{give-good}
 use Rattle.laws.specs.Totals.{file-size}

@@ -18,9 +18,9 @@ use Rattle.laws.specs.LinkChanges.{first, second, third}
 use Rattle.laws.specs.Heads.{Head}
 use Rattle.laws.specs.Space.{Good}
 use Rattle.laws.specs.Moves.{headed-used}
-use Rattle.laws.specs.Arriving.{free-is, append-cases, put-cases, refused≢planned, planned-same}
+use Rattle.laws.specs.Plans.{refused≢planned, planned-same, repeated-none, repeated-done}
+use Rattle.laws.specs.Arriving.{free-is, append-cases, put-cases}
 use Rattle.laws.specs.Take.{last-head, take-steps, take-good}
-use Rattle.laws.specs.Repeated.{repeated-none, repeated-done}
 use Rattle.laws.specs.ChainBlocks.{gather-append, extent, blocksOf-extents, shift-blocks, gather-off, stands-once, inserted-chain}
 
 -- one block more at the end of an extent

@@ -23,7 +23,7 @@ use Rattle.laws.specs.Blocks.{blocks}
 use Rattle.laws.specs.Moves.{Moved}
 use Rattle.laws.specs.Take.{take-good}
 use Rattle.laws.specs.Give.{give-good}
-use Rattle.laws.specs.Repeated.{after-none, after-both, repeated-zero, repeated-next, repeated-stop}
+use Rattle.laws.specs.Plans.{after-none, after-both, repeated-zero, repeated-next, repeated-stop}
 use Rattle.laws.specs.Whole.{blocks-count}
 use Rattle.space.specs.declared.Moves.{Moves}
 use Rattle.space.specs.declared.Moves.the-variants.{Done, Stopped}
