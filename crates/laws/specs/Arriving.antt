@@ -20,7 +20,8 @@ use Rattle.laws.specs.Blocks.{blocks-rewrite, blocks-fresh}
 use Rattle.laws.specs.Held.{held-rewrite, held-fresh}
 use Rattle.laws.specs.Space.{Good, rewrite-good, insert-good}
 use Rattle.laws.specs.Plans.{refused≢planned, planned-same}
-use Rattle.laws.specs.Moves.{rewrite-shift, Placed, self-headed}
+use Rattle.laws.specs.Owners.{self-headed}
+use Rattle.laws.specs.Moves.{rewrite-shift, Placed}
 
 -- block y and the last anode z of its side: z is filled, grows at its end or before its start, or y gets an anode behind it
 pub data Joins (A : ℕ) (ex : ℕ → Bool) (last : ℕ) (s : Anodes) (z y : ℕ) : Type 0 where

@@ -12,22 +12,20 @@ use Rattle.rules.specs.Chains.{chainOf, run, blocksOf, cut, side}
 use Rattle.rules.specs.Space.{planned, rewritten, insertedAfter, unlinked, withoutFirst, withoutLast, sideOf, lowestFree, append, takeBlock, join, release, giveBack}
 use Rattle.laws.specs.LinkChanges.{first, second, third}
 use Rattle.laws.specs.Sums.{oneAt-same, changed-same, changed-other}
-use Rattle.laws.specs.Bags.{times-append, times-member}
+use Rattle.laws.specs.Bags.{times-append, gather-append, gather-off, gather-skip, times-member}
 use Rattle.laws.specs.Links.{the-chain, seg-used}
 use Rattle.laws.specs.Heads.{Head, times-on-chain}
 use Rattle.laws.specs.Space.{Good, head-1}
 use Rattle.laws.specs.Sides.{SideHead}
 use Rattle.laws.specs.Searches.{FoundIn}
-use Rattle.laws.specs.Moves.{headed-used}
+use Rattle.laws.specs.Owners.{headed-used}
 use Rattle.laws.specs.Leaving.{full-0, full-1, withoutBlock-cases}
 use Rattle.laws.specs.Plans.{refused≢planned, planned-same}
 use Rattle.laws.specs.Arriving.{fills, ends, starts, behind, free-is, append-cases, join-cases}
 use Rattle.laws.specs.Take.{free-head, free-after, take-steps, take-placed}
 use Rattle.laws.specs.Give.{side-last-head, give-steps, give-placed}
 use Rattle.laws.specs.Each.{OneMore}
-use Rattle.laws.specs.ChainBlocks.{gather-append, extent, blocksOf-extents, shift-blocks, gather-off, gather-skip, stands-once, inserted-chain}
-use Rattle.laws.specs.TakenBlocks.{extent-longer, extent-filled}
-use Rattle.laws.specs.GivenBlocks.{unlinked-chain}
+use Rattle.laws.specs.ChainBlocks.{extent, blocksOf-extents, extent-filled, extent-longer, extent-before, shift-blocks, stands-once, inserted-chain, unlinked-chain}
 
 one-around : (y : ℕ) (p l l′ q : List ℕ) → OneMore y l l′ → OneMore y (p ++ (l ++ q)) (p ++ (l′ ++ q))
 one-around y p l l′ q o = (
@@ -44,11 +42,6 @@ unfolding gather
 one-anode f f′ pre post x y same i j o =
     let now : gather f′ (pre ++ (x ∷ post)) ≡ gather f pre ++ (f′ x ++ gather f post) = gather-append f′ pre (x ∷ post) ∙ rw (gather-off f f′ x same pre i, gather-off f f′ x same post j) in
     rw (gather-append f pre (x ∷ post), now) (one-around y (gather f pre) (f x) (f′ x) (gather f post) o)
-
--- an extent with the block before its start
-extent-before : (s : Anodes) (a y : ℕ) → y + 1 ≡ s .block a → run y (s .count a + 1) ≡ y ∷ extent s a
-unfolding extent run
-extent-before s a y e = rw (← e, add-one (s .count a), add-one y)
 
 -- ---- an anode x of the free list
 

@@ -11,12 +11,13 @@ use Rattle.rules.specs.Anodes.{Anodes}
 use Rattle.rules.specs.Chains.{chainOf, side}
 use Rattle.rules.specs.Space.{refused, planned, withoutLast, Found, nowhere, found, lastFull, sideOf, release, giveFrom, giveBack}
 use Rattle.laws.specs.Tests.{less?}
+use Rattle.laws.specs.Bags.{last-on}
 use Rattle.laws.specs.Ownership.{hand}
 use Rattle.laws.specs.Links.{the-chain}
 use Rattle.laws.specs.Heads.{Head}
 use Rattle.laws.specs.Space.{Good, on-chain}
 use Rattle.laws.specs.Sides.{SideHead, side-free, side-start, side-sd}
-use Rattle.laws.specs.Searches.{FoundIn, lastFull-found, last-on}
+use Rattle.laws.specs.Searches.{FoundIn, lastFull-found}
 use Rattle.laws.specs.Moves.{InHand, Placed, Moved, moved-by}
 use Rattle.laws.specs.Leaving.{last-gone, full-used, full-inside, withoutBlock-out}
 use Rattle.laws.specs.Plans.{refused≢planned}

@@ -1,72 +1,25 @@
 -- A give takes the last block off the giver's chain.
-use Prim.Native.Nat.{ℕ, zero, suc, _+_, _-_, _<_}
+use Prim.Native.Nat.{ℕ, zero, suc, _+_, _-_}
 use mathlib.Core.Path.{_≡_, refl, sym, ap, _∙_}
 use mathlib.Core.Logic.{_≢_, inl, inr}
 use mathlib.Core.Bool.{Bool}
 use mathlib.Core.List.{List, [], _∷_, _++_, reverse, append-nil, append-assoc, reverse-cons}
 use native.Mathlib.Omega.{arith}
 use lib.ListN.{length}
-use Rattle.rules.specs.Counting.{sumList, times, gather, lastOf}
+use Rattle.rules.specs.Counting.{sumList, gather}
 use Rattle.rules.specs.Anodes.{Anodes, limit}
 use Rattle.rules.specs.Chains.{chainOf, run, blocksOf}
 use Rattle.rules.specs.Space.{planned, rewritten, unlinked, withoutLast, found, lastFull, giveBack, giveMany}
 use Rattle.laws.specs.Sums.{changed-same, changed-other}
-use Rattle.laws.specs.Bags.{none-at, gather-none}
-use Rattle.laws.specs.Segments.{Seg, Chain, seg-split}
-use Rattle.laws.specs.Links.{the-chain, chain-the}
-use Rattle.laws.specs.LinkChanges.{first, second, third, unlink, unlink-linked, unlink-after}
+use Rattle.laws.specs.Bags.{none-at, gather-none, gather-skip, gather-last}
+use Rattle.laws.specs.LinkChanges.{first, second, third}
 use Rattle.laws.specs.Heads.{Head}
 use Rattle.laws.specs.Space.{Good}
 use Rattle.laws.specs.Searches.{FoundIn, lastFull-split}
 use Rattle.laws.specs.Leaving.{full-0, withoutBlock-cases}
 use Rattle.laws.specs.Give.{given-found, give-steps, give-placed, give-good}
 use Rattle.laws.specs.Plans.{repeated-none, repeated-done}
-use Rattle.laws.specs.ChainBlocks.{gather-append, extent, blocksOf-extents, shift-blocks, gather-off, gather-skip, stands-once}
-use Rattle.laws.specs.TakenBlocks.{run-end, last-split}
-
--- the blocks of a list of anodes of which the last that has any loses its last
-gather-lost : (f f′ : ℕ → List ℕ) (pre post : List ℕ) (x y : ℕ) → ((a : ℕ) → a ≢ x → f′ a ≡ f a) → times x pre ≡ 0 → times x post ≡ 0 → gather f post ≡ [] → f x ≡ f′ x ++ (y ∷ []) →
-    gather f (pre ++ (x ∷ post)) ≡ gather f′ (pre ++ (x ∷ post)) ++ (y ∷ [])
-unfolding gather
-gather-lost f f′ pre post x y same i j none lost =
-    let was : gather f (pre ++ (x ∷ post)) ≡ gather f pre ++ (f′ x ++ (y ∷ [])) = gather-append f pre (x ∷ post) ∙ rw (none, append-nil (f x), lost) in
-    let now : gather f′ (pre ++ (x ∷ post)) ≡ gather f pre ++ f′ x = gather-append f′ pre (x ∷ post) ∙ rw (gather-off f f′ x same pre i, gather-off f f′ x same post j, none, append-nil (f′ x)) in
-    was ∙ sym (append-assoc (gather f pre) (f′ x) (y ∷ [])) ∙ ap (λ (l : List ℕ). l ++ (y ∷ [])) (sym now)
-
--- a walk's last anode has for next what comes after the walk
-seg-last : (next : ℕ → ℕ) (a z b : ℕ) (l : List ℕ) → Seg next a (b ∷ l) z → next (lastOf a (b ∷ l)) ≡ z
-unfolding lastOf
-seg-last next a z b [] c = c .2
-seg-last next a z b (x ∷ l) c = seg-last next (next b) z x l (c .2)
-
--- an anode x of the chain of m, not its head, unlinked after p
-pub unlinked-chain : {ex : ℕ → Bool} {n last : ℕ} {s : Anodes} {system hd sd : ℕ → ℕ} → Good limit ex n last s system hd sd → (m : ℕ) → Head (s .next) (s .block) m → (x : ℕ) (pre post : List ℕ) →
-    chainOf (s .next) limit m ≡ pre ++ (x ∷ post) → (p : ℕ) → s .next p ≡ x → x ≢ 0 → x ≢ m → chainOf (unlinked s p x .next) limit m ≡ pre ++ post
-unfolding unlinked unlink
-unlinked-chain {s = s} g m d x pre post split p px x0 xm = go pre refl (rw (w .2 .0) at (w .1))
-  where
-    chain : Chain (s .next) m (pre ++ (x ∷ post))
-    chain = rw split at (the-chain (g .linked) m (λ q. d .in-use))
-
-    w : (y : ℕ) × Seg (s .next) m pre y × Seg (s .next) y (x ∷ post) 0
-    w = seg-split (s .next) m 0 pre (x ∷ post) chain
-
-    go : (l : List ℕ) → pre ≡ l → Seg (s .next) m l x → chainOf (unlink (s .next) p x) limit m ≡ l ++ post
-    go [] e c = absurd (xm (sym c))
-    go (b ∷ l) e c =
-        let t = last-split m b l in
-        let end : p ≡ lastOf m (b ∷ l) = g .linked .uniq p (lastOf m (b ∷ l)) (λ z. x0 (sym px ∙ z)) (px ∙ sym (seg-last (s .next) m x b l c)) in
-        let front : b ∷ l ≡ t .0 ++ (p ∷ []) = t .1 ∙ ap (λ (i : ℕ). t .0 ++ (i ∷ [])) (sym end) in
-        let parts : (m : List ℕ) → b ∷ l ++ m ≡ t .0 ++ (p ∷ m) = λ m. ap (λ (i : List ℕ). i ++ m) front ∙ append-assoc (t .0) (p ∷ []) m in
-        chain-the (unlink-linked (g .linked) p x x0 px) m (t .0 ++ (p ∷ post))
-        (λ z. rw (changed-other (s .block) x 0 m (λ i. xm (sym i))) (d .in-use))
-        (unlink-after (g .linked) p x x0 px m (t .0) post (λ z. d .in-use) (rw (ap (λ (i : List ℕ). i ++ (x ∷ post)) e ∙ parts (x ∷ post)) at chain))
-        ∙ sym (parts post)
-
--- an extent without its last block
-extent-shorter : (s : Anodes) (x : ℕ) → 0 < s .count x → extent s x ≡ run (s .block x) (s .count x - 1) ++ ((s .block x + (s .count x - 1)) ∷ [])
-unfolding extent
-extent-shorter s x full = let e : s .count x ≡ suc (s .count x - 1) = omega arith in ap (run (s .block x)) e ∙ run-end (s .block x) (s .count x - 1)
+use Rattle.laws.specs.ChainBlocks.{extent, blocksOf-extents, extent-shorter, shift-blocks, stands-once, unlinked-chain}
 
 -- ---- out of the giver's chain
 
@@ -87,7 +40,7 @@ module _ {ex : ℕ → Bool} {n last : ℕ} {s : Anodes} {system hd sd : ℕ →
   lost r same less =
       let once = stands-once g h d x (split .0) (split .1) (split .2) in
       blocksOf-extents s h ∙ ap (gather (extent s)) (split .2)
-      ∙ gather-lost (extent s) (extent r) (split .0) (split .1) x y same (once .0) (once .1) (gather-none (extent s) (split .1) (λ a p. rw (none-at (s .count) (split .1) (split .3) a p))) less
+      ∙ gather-last (extent s) (extent r) (split .0) (split .1) x y same (once .0) (once .1) (gather-none (extent s) (split .1) (λ a p. rw (none-at (s .count) (split .1) (split .3) a p))) less
 
   rewritten-blocks : (c b : ℕ) → s .count x - 1 ≡ c → run b c ≡ run (s .block x) c → blocksOf s h ≡ blocksOf (rewritten s x c b) h ++ (y ∷ [])
   unfolding rewritten extent y

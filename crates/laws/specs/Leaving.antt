@@ -18,7 +18,8 @@ use Rattle.laws.specs.HeadChanges.{unlink-head-was}
 use Rattle.laws.specs.Blocks.{blocks, blocks-rewrite, blocks-fresh}
 use Rattle.laws.specs.Held.{held, held-rewrite, held-fresh}
 use Rattle.laws.specs.Space.{Good, rewrite-good, unlink-good}
-use Rattle.laws.specs.Moves.{rewrite-shift, InHand, self-headed}
+use Rattle.laws.specs.Owners.{self-headed}
+use Rattle.laws.specs.Moves.{rewrite-shift, InHand}
 
 from-6 : (x : ℕ) → x ≢ 0 → x ≢ 1 → x ≢ 2 → x ≢ 3 → x ≢ 4 → x ≢ 5 → 6 ≤ x
 from-6 x a b c d e f = omega arith

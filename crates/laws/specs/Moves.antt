@@ -10,7 +10,7 @@ use Rattle.rules.specs.Anodes.{Anodes}
 use Rattle.rules.specs.Space.{rewritten}
 use Rattle.laws.specs.Sums.{changed-other, changed-pos}
 use Rattle.laws.specs.Ownership.{hand}
-use Rattle.laws.specs.Heads.{Head, head-while, head-of-is}
+use Rattle.laws.specs.Heads.{Head, head-while}
 use Rattle.laws.specs.HeadChanges.{rewrite-head-was}
 use Rattle.laws.specs.Blocks.{blocks}
 use Rattle.laws.specs.Held.{held}
@@ -93,14 +93,6 @@ module _ (A : ℕ) (ex : ℕ → Bool) (n last : ℕ) where
     pub block : ℕ
     pub handed : ys ≡ block ∷ []
     pub passed : (m y : ℕ) → held A hd′ (t .count) (t .block) m y + oneAt from m * oneAt block y ≡ held A hd (s .count) (s .block) m y + oneAt to m * oneAt block y
-
--- what has a head is in use
-pub headed-used : {A : ℕ} {ex : ℕ → Bool} {n last : ℕ} {s : Anodes} {system hd sd : ℕ → ℕ} → Good A ex n last s system hd sd → (a : ℕ) → hd a ≢ 0 → s .block a ≢ 0
-headed-used g a q z = q (g .heads .off a z)
-
--- an anode that the table gives itself for head is one
-pub self-headed : {A : ℕ} {ex : ℕ → Bool} {n last : ℕ} {s : Anodes} {system hd sd : ℕ → ℕ} → Good A ex n last s system hd sd → (m : ℕ) → m ≢ 0 → hd m ≡ m → Head (s .next) (s .block) m
-self-headed g m m0 e = rw e at (head-of-is (g .linked) (g .heads) m m0 (headed-used g m (λ z. m0 (sym e ∙ z))))
 
 -- out of one chain and into another
 pub moved-by : {A : ℕ} {ex : ℕ → Bool} {n last : ℕ} {s r t : Anodes} {system hd : ℕ → ℕ} {from to y : ℕ} {ys : List ℕ} →

@@ -4,16 +4,17 @@ use mathlib.Core.Path.{_≡_, sym, ap, _∙_}
 use mathlib.Core.Logic.{_≢_, inl, inr}
 use mathlib.Core.Bool.{Bool}
 use native.Mathlib.Omega.{arith}
-use Rattle.rules.specs.Counting.{oneAt, sumBelow, sumList}
+use Rattle.rules.specs.Counting.{oneAt, sumBelow, sumList, lastOf}
 use Rattle.rules.specs.Anodes.{Anodes}
 use Rattle.rules.specs.Chains.{chainOf, covers, owners}
 use Rattle.laws.specs.Tests.{same?}
 use Rattle.laws.specs.Sums.{oneAt-cases, oneAt-other, sum-zero, sum-some, sum-one}
+use Rattle.laws.specs.Bags.{last-on}
 use Rattle.laws.specs.Ownership.{covers-none}
 use Rattle.laws.specs.Heads.{Head, head-of-is, chain-sum}
 use Rattle.laws.specs.Blocks.{blocks}
 use Rattle.laws.specs.Held.{held, held-all}
-use Rattle.laws.specs.Space.{Good}
+use Rattle.laws.specs.Space.{Good, on-chain}
 
 module _ {A : ℕ} {ex : ℕ → Bool} {n last : ℕ} {s : Anodes} {system hd sd : ℕ → ℕ} (g : Good A ex n last s system hd sd) where
   pub hd-below : (a : ℕ) → hd a < A
@@ -27,6 +28,28 @@ module _ {A : ℕ} {ex : ℕ → Bool} {n last : ℕ} {s : Anodes} {system hd sd
     where
       some : 0 < A
       some = omega (arith, g .linked .view .below 5 (g .fixed .block-5))
+
+  -- what has a head is in use
+  pub headed-used : (a : ℕ) → hd a ≢ 0 → s .block a ≢ 0
+  headed-used a q z = q (g .heads .off a z)
+
+  -- an anode that the table gives itself for head is one
+  pub self-headed : (m : ℕ) → m ≢ 0 → hd m ≡ m → Head (s .next) (s .block) m
+  self-headed m m0 e = rw e at (head-of-is (g .linked) (g .heads) m m0 (headed-used m (λ z. m0 (sym e ∙ z))))
+
+  -- the last anode of a head's chain has that head, and so is in use and not 0
+  module _ (h : ℕ) (d : Head (s .next) (s .block) h) where
+    pub last-head : hd (lastOf h (chainOf (s .next) A h)) ≡ h
+    last-head = elim (last-on h (chainOf (s .next) A h)) [
+      | inl c ↦ ap hd c ∙ g .heads .at-head h d
+      | inr c ↦ on-chain g h d (lastOf h (chainOf (s .next) A h)) c .0
+    ]
+
+    pub last-used : s .block (lastOf h (chainOf (s .next) A h)) ≢ 0
+    last-used = headed-used (lastOf h (chainOf (s .next) A h)) (λ q. d .pos (sym last-head ∙ q))
+
+    pub last-0 : lastOf h (chainOf (s .next) A h) ≢ 0
+    last-0 q = d .pos (sym last-head ∙ ap hd q ∙ g .heads .off-zero)
 
   -- what is no head has no blocks
   pub blocks-none : (h : ℕ) → (Head (s .next) (s .block) h → ⊥) → blocks A hd (s .count) h ≡ 0

@@ -12,21 +12,15 @@ use Rattle.rules.specs.Space.{planned, withoutFirst, put, takeFrom, takeBlock}
 use Rattle.laws.specs.Ownership.{hand}
 use Rattle.laws.specs.Heads.{Head}
 use Rattle.laws.specs.Cut.{cut-cases}
-use Rattle.laws.specs.Space.{Good, on-chain}
+use Rattle.laws.specs.Space.{Good}
+use Rattle.laws.specs.Owners.{last-head, last-used, last-0}
 use Rattle.laws.specs.Sides.{SideHead, head-of-1, side-free, side-sd}
-use Rattle.laws.specs.Searches.{FoundIn, last-on}
-use Rattle.laws.specs.Moves.{InHand, Placed, Moved, headed-used, moved-by}
+use Rattle.laws.specs.Searches.{FoundIn}
+use Rattle.laws.specs.Moves.{InHand, Placed, Moved, moved-by}
 use Rattle.laws.specs.Leaving.{first-gone, full-used, full-inside, full-0, full-1, withoutBlock-out}
 use Rattle.laws.specs.FreeExtent.{extent-found, take-cases}
 use Rattle.laws.specs.Plans.{refused≢planned}
 use Rattle.laws.specs.Arriving.{put-placed}
-
--- the last anode of a chain has its head
-pub last-head : {A : ℕ} {ex : ℕ → Bool} {n last : ℕ} {s : Anodes} {system hd sd : ℕ → ℕ} → Good A ex n last s system hd sd → (h : ℕ) → Head (s .next) (s .block) h → hd (lastOf h (chainOf (s .next) A h)) ≡ h
-last-head {A} {s = s} {hd = hd} g h d = elim (last-on h (chainOf (s .next) A h)) [
-  | inl c ↦ ap hd c ∙ g .heads .at-head h d
-  | inr c ↦ on-chain g h d (lastOf h (chainOf (s .next) A h)) c .0
-]
 
 module _ {A : ℕ} {ex : ℕ → Bool} {n last : ℕ} {s : Anodes} {system hd sd : ℕ → ℕ} (g : Good A ex n last s system hd sd) where
   -- ---- out of the free list
@@ -55,7 +49,7 @@ module _ {A : ℕ} {ex : ℕ → Bool} {n last : ℕ} {s : Anodes} (system : ℕ
   end = lastOf h (chainOf (s .next) A h)
 
   end-placed : (own : Bool) (t : Anodes) (ys : List ℕ) → put A ex last own s (lastOf h (chainOf (s .next) A h)) y ≡ planned t ys → Placed A ex n last s system hd h y t × (ys ≡ y ∷ [])
-  end-placed own t ys e = rw e-head at (put-placed system y g y0 yn end e0 u (λ q. absurd (not-1 (off 1 (inl refl) q))) (λ q. absurd (not-1 (off 2 (inr refl) q))) (λ q. not-1 (ap hd q ∙ head-of-1 g)) own t ys e)
+  end-placed own t ys e = rw e-head at (put-placed system y g y0 yn end (last-0 g h d) (last-used g h d) (λ q. absurd (not-1 (off 1 (inl refl) q))) (λ q. absurd (not-1 (off 2 (inr refl) q))) (λ q. not-1 (ap hd q ∙ head-of-1 g)) own t ys e)
     where
       e-head : hd end ≡ h
       e-head = last-head g h d
@@ -63,14 +57,8 @@ module _ {A : ℕ} {ex : ℕ → Bool} {n last : ℕ} {s : Anodes} (system : ℕ
       not-1 : hd end ≢ 1
       not-1 q = h1 (sym e-head ∙ q)
 
-      e0 : end ≢ 0
-      e0 q = d .pos (sym e-head ∙ ap hd q ∙ g .heads .off-zero)
-
-      u : s .block end ≢ 0
-      u = headed-used g end (λ q. d .pos (sym e-head ∙ q))
-
       off : (m : ℕ) → SideHead m → sd end ≡ m → hd end ≡ 1
-      off m o = side-free g m o end e0 u
+      off m o = side-free g m o end (last-0 g h d) (last-used g h d)
 
 -- ---- the whole
 

@@ -16,7 +16,8 @@ use Rattle.laws.specs.Links.{the-chain}
 use Rattle.laws.specs.Heads.{Head}
 use Rattle.laws.specs.Space.{Good}
 use Rattle.laws.specs.Sides.{side-start, side-sd}
-use Rattle.laws.specs.Searches.{FoundIn, lastFull-found, last-on}
+use Rattle.laws.specs.Bags.{last-on}
+use Rattle.laws.specs.Searches.{FoundIn, lastFull-found}
 use Rattle.laws.specs.Moves.{InHand}
 use Rattle.laws.specs.Give.{sideOf-cases, withoutLast-out}
 use Rattle.anodes.specs.Loaded.{anodesFrom}

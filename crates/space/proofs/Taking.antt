@@ -18,10 +18,11 @@ use Rattle.laws.specs.Heads.{Head}
 use Rattle.laws.specs.Cut.{cut-cases, cut-other, cut-linked}
 use Rattle.laws.specs.Space.{Good, on-chain}
 use Rattle.laws.specs.Searches.{FoundIn}
-use Rattle.laws.specs.Moves.{InHand, headed-used}
+use Rattle.laws.specs.Owners.{last-used}
+use Rattle.laws.specs.Moves.{InHand}
 use Rattle.laws.specs.FreeExtent.{extent-found, take-found}
 use Rattle.laws.specs.Leaving.{full-used, full-0}
-use Rattle.laws.specs.Take.{last-head, withoutFirst-out}
+use Rattle.laws.specs.Take.{withoutFirst-out}
 use Rattle.anodes.specs.Loaded.{anodesFrom}
 use Rattle.space.specs.Steps.{GoodAnodes}
 
@@ -43,8 +44,8 @@ module _ {A : ℕ} {ex : ℕ → Bool} {n last : ℕ} {s : Anodes} {system hd sd
   last-before-two : lastOf h (chainOf (cut (s .next)) A h) ≡ lastOf h (chainOf (s .next) A h)
   last-before-two = ap (lastOf h) cut-chain
 
-  last-used : s .block (lastOf h (chainOf (cut (s .next)) A h)) ≢ 0
-  last-used = rw last-before-two (headed-used g (lastOf h (chainOf (s .next) A h)) (λ q. d .pos (sym (last-head g h d) ∙ q)))
+  end-used : s .block (lastOf h (chainOf (cut (s .next)) A h)) ≢ 0
+  end-used = rw last-before-two (last-used g h d)
 
 -- ---- an anode that a search finds
 
@@ -91,7 +92,7 @@ module _ (img : List ℕ) (s : Anodes) (good : GoodAnodes img s) where
       pub chain-end : (z < 3444) × (getD f z 0 ≢ 0)
       unfolding anodesFrom
       chain-end =
-          let used : getD f z 0 ≢ 0 = λ q. last-used (out .good) h (out .shift .stays h d) h1 (rw (← is-end) (sym (ap (λ (t : Anodes). t .block z) left) ∙ q)) in
+          let used : getD f z 0 ≢ 0 = λ q. end-used (out .good) h (out .shift .stays h d) h1 (rw (← is-end) (sym (ap (λ (t : Anodes). t .block z) left) ∙ q)) in
           (used-below (out .good .linked .view) c f n left z used, used)
 
       pub taken-from : (y : ℕ) → y ≡ s .block x → put 3444 (exists img) (lastReserved img) own (anodesFrom c f n) z y ≡ takeBlock 3444 (exists img) (lastReserved img) own s h
