@@ -20,7 +20,8 @@ use Rattle.fsck.specs.declared.Checked.{Checked}
 use Rattle.fsck.specs.declared.Checked.the-variants.{Accepted, Refused}
 use Rattle.fsck.specs.Answers.{checkedNumber, Tallied, Opened}
 use Rattle.counting.specs.Laws.{neither}
-use Rattle.laws.specs.Acceptance.{passed-of, firstOf-some, firstOf-none}
+use Rattle.laws.specs.Tests.{firstOf-some, firstOf-none}
+use Rattle.laws.specs.Acceptance.{passed-of}
 use Rattle.laws.specs.OwnerTable.{table-entry}
 use Rattle.changes.specs.Answers.{Late, own-tables, span-late, list-late}
 use Rattle.changed.specs.Leaves.{Leaves}

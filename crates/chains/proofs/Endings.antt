@@ -16,7 +16,8 @@ use Rattle.rules.specs.Chains.{followed}
 use Rattle.counting.specs.Laws.{and-none, anyBelow-each}
 use Rattle.laws.specs.Tests.{same?, eq→eqb, both, any-some, other}
 use Rattle.laws.specs.Segments.{followed-zero}
-use Rattle.chains.specs.Predecessors.{Closed, PredTable}
+use Rattle.laws.specs.Links.{Closed}
+use Rattle.chains.specs.Predecessors.{PredTable}
 use Rattle.chains.specs.Storing.{storedAlong}
 use Rattle.chains.specs.Endings.{EndingOnly, EndsBelow, unmarked, Endless, AllEnd, Ends}
 use Rattle.chains.proofs.Predecessors.{pred-is}
@@ -45,7 +46,7 @@ module _ (next : ℕ → ℕ) where
   followed-more z (suc k) (suc m) x l e = followed-more z k m (next x) (omega arith) e
 
   -- a walk that comes to 0 has a last anode
-  last-anode : (block : ℕ → ℕ) → ((a : ℕ) → next a ≢ 0 → block (next a) ≢ 0) → (k a : ℕ) → a ≢ 0 → block a ≢ 0 → followed next k a ≡ 0
+  last-anode : (block : ℕ → ℕ) → Closed next block → (k a : ℕ) → a ≢ 0 → block a ≢ 0 → followed next k a ≡ 0
       → (j : ℕ) × (j < k) × (followed next j a ≢ 0) × (block (followed next j a) ≢ 0) × (next (followed next j a) ≡ 0)
   unfolding followed
   last-anode block closed zero a h u e = absurd (h e)
@@ -149,7 +150,7 @@ module _ (n b : List ℕ) where
       ends = λ a h u. w .ending a (eqb-false (getD m a 0) 0 (and-none _ _ (and-none _ _ (anyBelow-each (unmarked b m) a 3444 (below a u) e) (other a 0 h)) (other (getD b a 0) 0 u)));
     }
 
-    endless : Closed n b → anyBelow (unmarked b m) 3444 ≡ true → Endless n b
+    endless : Closed (λ a. getD n a 0) (λ a. getD b a 0) → anyBelow (unmarked b m) 3444 ≡ true → Endless n b
     unfolding unmarked
     endless closed e =
         let s = any-some (unmarked b m) 3444 (rw e tt) in
@@ -161,13 +162,13 @@ module _ (n b : List ℕ) where
           anode = s .0;
           some = h;
           in-use = u;
-          never = λ z. found (s .0) (last-anode (λ y. getD n y 0) (λ y. getD b y 0) (closed .next-used) 3444 (s .0) h u z) (eqb→eq (getD m (s .0) 0) 0 (q .1));
+          never = λ z. found (s .0) (last-anode (λ y. getD n y 0) (λ y. getD b y 0) closed 3444 (s .0) h u z) (eqb→eq (getD m (s .0) 0) 0 (q .1));
         }
       where
         found : (a : ℕ) → (j : ℕ) × (j < 3444) × (followed (λ y. getD n y 0) j a ≢ 0) × (getD b (followed (λ y. getD n y 0) j a) 0 ≢ 0) × (getD n (followed (λ y. getD n y 0) j a) 0 ≡ 0)
             → getD m a 0 ≡ 0 → ⊥
         found a r z = w .marked (followed (λ y. getD n y 0) (r .0) a) (below (followed (λ y. getD n y 0) (r .0) a) (r .3)) (r .2) (r .3) (r .4) (r .0) a (r .1) refl z
 
-    pub ends-of : Closed n b → (r : Bool) → r ≡ anyBelow (unmarked b m) 3444 → Ends r n b
+    pub ends-of : Closed (λ a. getD n a 0) (λ a. getD b a 0) → (r : Bool) → r ≡ anyBelow (unmarked b m) 3444 → Ends r n b
     ends-of closed true e = endless closed (sym e)
     ends-of closed false e = all-end (sym e)

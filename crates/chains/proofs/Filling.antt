@@ -11,7 +11,7 @@ use Rattle.rules.specs.Tables.{chainHead, anodeEntry, anodeTable}
 use Rattle.anodes.specs.Loaded.{anodesFrom}
 use Rattle.laws.specs.Tests.{same?}
 use Rattle.laws.specs.OwnerTable.{listed-front, anodeEntry-head}
-use Rattle.laws.specs.Links.{View, Linked, next-below, checked}
+use Rattle.laws.specs.Links.{Linked, next-below, checked}
 use Rattle.laws.specs.Heads.{Head, chain-ind, headOf-heads}
 use Rattle.chains.specs.Predecessors.{PredTable}
 use Rattle.chains.specs.Storing.{storedAlong}
@@ -29,7 +29,7 @@ fill-skip n b m a w off = record {
   filled = λ h l d. elim (same? h a) [ inl e ↦ absurd (off (rw e at d)) | inr e ↦ w .filled h (omega arith) d ];
 }
 
-module _ (n b : List ℕ) (v : View 3444 (λ a. getD n a 0) (λ a. getD b a 0)) (k : Linked 3444 (λ a. getD n a 0) (λ a. getD b a 0)) where
+module _ (n b : List ℕ) (k : Linked 3444 (λ a. getD n a 0) (λ a. getD b a 0)) where
   -- ---- a head stored along its chain
 
   module _ (h : ℕ) (some : h ≢ 0) where
@@ -39,7 +39,7 @@ module _ (n b : List ℕ) (v : View 3444 (λ a. getD n a 0) (λ a. getD b a 0)) 
 
     on-next : (a : ℕ) → a ≢ 0 → onChain a → onChain (getD n a 0)
     unfolding onChain
-    on-next a p on q = (k .closed a q, headOf-heads v k .along a q ∙ on p .1)
+    on-next a p on q = (k .closed a q, headOf-heads k .along a q ∙ on p .1)
 
     stored-rest : (f : ℕ) (m : List ℕ) (a : ℕ) → onChain a → drop 3444 (storedAlong f n m h a) ≡ drop 3444 m
     unfolding storedAlong onChain
@@ -47,7 +47,7 @@ module _ (n b : List ℕ) (v : View 3444 (λ a. getD n a 0) (λ a. getD b a 0)) 
     stored-rest (suc f) m zero on = refl
     stored-rest (suc f) m (suc a) on =
         stored-rest f (set m (suc a) h) (getD n (suc a) 0) (on-next (suc a) (λ z. omega arith) on)
-        ∙ drop-set-lt 3444 m (suc a) h (v .below (suc a) (on (λ z. omega arith) .0))
+        ∙ drop-set-lt 3444 m (suc a) h (k .view .below (suc a) (on (λ z. omega arith) .0))
 
     stored-right : (f : ℕ) (m : List ℕ) (a : ℕ) → 3444 ≤ length m → onChain a → HeadsOnly m n b → HeadsOnly (storedAlong f n m h a) n b
     unfolding storedAlong onChain
@@ -61,7 +61,7 @@ module _ (n b : List ℕ) (v : View 3444 (λ a. getD n a 0) (λ a. getD b a 0)) 
 
         new : HeadsOnly (set m (suc a) h) n b
         new x l g = elim (same? x (suc a)) [
-          | inl q ↦ rw (q, getD-set-same m (suc a) h 0 (omega (arith, v .below (suc a) (here .0)))) (sym (here .1))
+          | inl q ↦ rw (q, getD-set-same m (suc a) h 0 (omega (arith, k .view .below (suc a) (here .0)))) (sym (here .1))
           | inr q ↦ rw (getD-set-other m (suc a) x h 0 q) (r x l (rw (getD-set-other m (suc a) x h 0 q) at g))
         ]
 
@@ -75,7 +75,7 @@ module _ (n b : List ℕ) (v : View 3444 (λ a. getD n a 0) (λ a. getD b a 0)) 
         stored-along f (set m (suc a) h) (getD n (suc a) 0) (rw (length-set m (suc a) h) long) (on-next (suc a) (λ z. omega arith) on) (sym (followed-one (λ x. getD n x 0) f (suc a)) ∙ e) new
       where
         here : getD (set m (suc a) h) (suc a) 0 ≡ h
-        here = getD-set-same m (suc a) h 0 (omega (arith, v .below (suc a) (on (λ z. omega arith) .0)))
+        here = getD-set-same m (suc a) h 0 (omega (arith, k .view .below (suc a) (on (λ z. omega arith) .0)))
 
         new : (x : ℕ) → getD (set m (suc a) h) x 0 ≢ 0 → getD n x 0 ≢ 0 → (getD (set m (suc a) h) (getD n x 0) 0 ≢ 0) ⊎ (getD n x 0 ≡ getD n (suc a) 0)
         new x p q = elim (same? x (suc a)) [
@@ -89,12 +89,12 @@ module _ (n b : List ℕ) (v : View 3444 (λ a. getD n a 0) (λ a. getD b a 0)) 
   -- ---- one anode after the other
 
   pub head-at : (t : List ℕ) → PredTable t n → (a : ℕ) → a ≢ 0 → getD b a 0 ≢ 0 → getD t a 0 ≡ 0 → Head (λ x. getD n x 0) (λ x. getD b x 0) a
-  head-at t p a h u z = record { pos = h; in-use = u; no-pred = no-pred t n p (v .zero-end) a h z }
+  head-at t p a h u z = record { pos = h; in-use = u; no-pred = no-pred t n p (k .zero-end) a h z }
 
   module _ (m : List ℕ) (a : ℕ) (w : FilledBelow m n b a) (d : Head (λ x. getD n x 0) (λ x. getD b x 0) a) where
     on-head : onChain a (d .pos) a
     unfolding onChain
-    on-head q = (d .in-use, headOf-heads v k .at-head a d)
+    on-head q = (d .in-use, headOf-heads k .at-head a d)
 
     pub fill-rest : drop 3444 (storedAlong 3444 n m a a) ≡ drop 3444 m
     fill-rest = stored-rest a (d .pos) 3444 m a on-head
@@ -103,10 +103,10 @@ module _ (n b : List ℕ) (v : View 3444 (λ a. getD n a 0) (λ a. getD b a 0)) 
     fill-more = record {
       long = rw (stored-length n a 3444 m a) (w .long);
       right = stored-right a (d .pos) 3444 m a (w .long) on-head (w .right);
-      along = stored-along a (d .pos) 3444 m a (w .long) on-head (checked v k .ends a (d .in-use)) (λ x p q. inl (w .along x p q));
+      along = stored-along a (d .pos) 3444 m a (w .long) on-head (checked k .ends a (d .in-use)) (λ x p q. inl (w .along x p q));
       filled = λ h l g. elim (same? h a) [
         | inl e ↦ rw (e, stored-step n a 3444 3443 a m refl (d .pos))
-            (stored-kept n a (d .pos) 3443 (set m a a) (getD n a 0) a (rw (getD-set-same m a a 0 (omega (arith, v .below a (d .in-use), w .long))) (d .pos)))
+            (stored-kept n a (d .pos) 3443 (set m a a) (getD n a 0) a (rw (getD-set-same m a a 0 (omega (arith, k .view .below a (d .in-use), w .long))) (d .pos)))
         | inr e ↦ stored-kept n a (d .pos) 3444 m a h (w .filled h (omega arith) g)
       ];
     }
@@ -117,13 +117,13 @@ module _ (n b : List ℕ) (v : View 3444 (λ a. getD n a 0) (λ a. getD b a 0)) 
   fill-none m long zeroed = record {
     long = long;
     right = λ x l h. absurd (h (zeroed x l));
-    along = λ x h q. absurd (h (zeroed x (next-below v x q)));
+    along = λ x h q. absurd (h (zeroed x (next-below (k .view) x q)));
     filled = λ h l d. absurd (d .pos (omega arith));
   }
 
   module _ (m : List ℕ) (w : FilledBelow m n b 3444) where
     some-at : (x : ℕ) → x ≢ 0 → getD b x 0 ≢ 0 → getD m x 0 ≢ 0
-    some-at = chain-ind v k (λ x. getD m x 0 ≢ 0) (λ h d. w .filled h (v .below h (d .in-use)) d) (λ x q p. w .along x p q)
+    some-at = chain-ind k (λ x. getD m x 0 ≢ 0) (λ h d. w .filled h (k .view .below h (d .in-use)) d) (λ x q p. w .along x p q)
 
     entry-is : (c : List ℕ) (x : ℕ) → x < 3444 → getD m x 0 ≡ chainHead (anodesFrom c b n) x
     unfolding chainHead anodesFrom
@@ -134,10 +134,10 @@ module _ (n b : List ℕ) (v : View 3444 (λ a. getD n a 0) (λ a. getD b a 0)) 
       where
         none : getD m x 0 ≡ 0 → headOf 3444 (λ a. getD n a 0) (λ a. getD b a 0) x ≡ 0
         none e = elim (same? x 0) [
-          | inl z ↦ rw z (headOf-heads v k .off-zero)
-          | inr z ↦ elim (same? (getD b x 0) 0) [ inl u ↦ headOf-heads v k .off x u | inr u ↦ absurd (some-at x z u e) ]
+          | inl z ↦ rw z (headOf-heads k .off-zero)
+          | inr z ↦ elim (same? (getD b x 0) 0) [ inl u ↦ headOf-heads k .off x u | inr u ↦ absurd (some-at x z u e) ]
         ]
 
     pub fill-done : (c rest : List ℕ) → drop 3444 m ≡ rest → m ≡ anodeTable (anodesFrom c b n) ++ rest
     unfolding anodeTable anodesFrom
-    fill-done c rest e = listed-front (anodeEntry (anodesFrom c b n)) 3444 m (w .long) (λ x l. entry-is c x l ∙ sym (anodeEntry-head (anodesFrom c b n) v k x)) ∙ rw e
+    fill-done c rest e = listed-front (anodeEntry (anodesFrom c b n)) 3444 m (w .long) (λ x l. entry-is c x l ∙ sym (anodeEntry-head (anodesFrom c b n) k x)) ∙ rw e

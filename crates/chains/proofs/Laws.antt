@@ -8,13 +8,13 @@ use native.Mathlib.Omega.{arith}
 use lib.ListN.{getD}
 use lib.Dec.{eqb}
 use Rattle.rules.specs.Anodes.{Anodes, limit}
-use Rattle.rules.specs.Chains.{heads, headOf}
+use Rattle.rules.specs.Chains.{heads}
 use Rattle.rules.specs.Accepted.{wrongFixed}
 use Rattle.rules.specs.Tables.{chainHead, anodeEntry, anodeTable}
 use Rattle.laws.specs.Tests.{same?}
 use Rattle.laws.specs.Chains.{HeadTable}
 use Rattle.laws.specs.OwnerTable.{table-entry, anodeEntry-head}
-use Rattle.laws.specs.Links.{View, Linked}
+use Rattle.laws.specs.Links.{Linked}
 use Rattle.laws.specs.Heads.{headOf-heads, heads-cases, head-of-is}
 
 -- ---- 6
@@ -32,16 +32,16 @@ fixed-tests s = parts (eqb (s .count 0) 0) (eqb (s .block 0) 65535) (eqb (s .nex
 
 -- ---- the table of heads
 
-module _ (s : Anodes) (v : View limit (s .next) (s .block)) (k : Linked limit (s .next) (s .block)) (t rest : List ℕ) (is : t ≡ anodeTable s ++ rest) where
+module _ (s : Anodes) (k : Linked limit (s .next) (s .block)) (t rest : List ℕ) (is : t ≡ anodeTable s ++ rest) where
   -- an anode's entry is the head of its chain
   pub entry-head : (a : ℕ) → a < limit → getD t a 0 ≡ chainHead s a
   unfolding anodeTable
-  entry-head a l = rw is (table-entry (anodeEntry s) limit rest a l) ∙ anodeEntry-head s v k a
+  entry-head a l = rw is (table-entry (anodeEntry s) limit rest a l) ∙ anodeEntry-head s k a
 
   -- an anode in use has a head
   pub entry-some : (a : ℕ) → a ≢ 0 → s .block a ≢ 0 → getD t a 0 ≢ 0
   unfolding chainHead
-  entry-some a h u = rw (entry-head a (v .below a u)) (head-of-is v k (headOf limit (s .next) (s .block)) (headOf-heads v k) a h u .pos)
+  entry-some a h u = rw (entry-head a (k .view .below a u)) (head-of-is k (headOf-heads k) a h u .pos)
 
   -- from 6 up, the heads are the anodes that have themselves for an entry
   pub head-table : HeadTable t s
@@ -52,14 +52,14 @@ module _ (s : Anodes) (v : View limit (s .next) (s .block)) (k : Linked limit (s
       some z = omega arith
 
       own : heads limit (s .next) (s .block) a ≡ 1 → getD t a 0 ≡ a
-      own e = elim (heads-cases v k a) [
-        | inl d ↦ entry-head a l ∙ headOf-heads v k .at-head a (d .0)
+      own e = elim (heads-cases k a) [
+        | inl d ↦ entry-head a l ∙ headOf-heads k .at-head a (d .0)
         | inr d ↦ absurd (omega (arith, d .1))
       ]
 
       is-head : (s .block a ≡ 0) ⊎ (s .block a ≢ 0) → getD t a 0 ≡ a → heads limit (s .next) (s .block) a ≡ 1
-      is-head (inl z) e = absurd (some (sym e ∙ entry-head a l ∙ headOf-heads v k .off a z))
-      is-head (inr u) e = elim (heads-cases v k a) [
+      is-head (inl z) e = absurd (some (sym e ∙ entry-head a l ∙ headOf-heads k .off a z))
+      is-head (inr u) e = elim (heads-cases k a) [
         | inl d ↦ d .1
-        | inr d ↦ absurd (d .0 (rw (sym (entry-head a l) ∙ e) at (head-of-is v k (headOf limit (s .next) (s .block)) (headOf-heads v k) a some u)))
+        | inr d ↦ absurd (d .0 (rw (sym (entry-head a l) ∙ e) at (head-of-is k (headOf-heads k) a some u)))
       ]

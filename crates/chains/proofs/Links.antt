@@ -14,33 +14,33 @@ use Rattle.rules.specs.Accepted.{wrongLink, wrongAt, hasPred, wrongLinks}
 use Rattle.anodes.specs.Loaded.{anodesFrom}
 use Rattle.counting.specs.Laws.{none-or, none-and, anyBelow-hit, anyBelow-all}
 use Rattle.laws.specs.Tests.{same?, same}
-use Rattle.laws.specs.Links.{View, Linked, checked}
-use Rattle.chains.specs.Predecessors.{Closed, PredTable, NotedBelow, Twice, Noted, fixedNoted}
+use Rattle.laws.specs.Links.{View, Linked, checked, Closed}
+use Rattle.chains.specs.Predecessors.{PredTable, NotedBelow, Twice, Noted, fixedNoted}
 use Rattle.chains.specs.Endings.{Endless, AllEnd, Ends}
 use Rattle.chains.proofs.Predecessors.{preds-none, preds-some, preds-one}
 
 -- a next is an anode
-pub next-in : (b n : List ℕ) → View 3444 (λ a. getD n a 0) (λ a. getD b a 0) → Closed n b → (a : ℕ) → getD n a 0 < 3444
-next-in b n v closed a = elim (same? (getD n a 0) 0) [ inl z ↦ omega arith | inr h ↦ v .below (getD n a 0) (closed .next-used a h) ]
+pub next-in : (b n : List ℕ) → View 3444 (λ a. getD n a 0) (λ a. getD b a 0) → Closed (λ a. getD n a 0) (λ a. getD b a 0) → (a : ℕ) → getD n a 0 < 3444
+next-in b n v closed a = elim (same? (getD n a 0) 0) [ inl z ↦ omega arith | inr h ↦ v .below (getD n a 0) (closed a h) ]
 
 -- by links in order no second predecessor is found
-pub noted-once : (b n : List ℕ) → View 3444 (λ a. getD n a 0) (λ a. getD b a 0) → Linked 3444 (λ a. getD n a 0) (λ a. getD b a 0)
+pub noted-once : (b n : List ℕ) → Linked 3444 (λ a. getD n a 0) (λ a. getD b a 0)
     → (r : Bool) (t : List ℕ) → Noted r t n 3444 → NotedBelow t n 3444
-noted-once b n v k true t w =
+noted-once b n k true t w =
     let u : getD b (w .anode) 0 ≢ 0 = rw (w .leads) at (k .closed (w .before) (λ z. w .some (sym (w .leads) ∙ z))) in
-    absurd (omega (arith, w .two, checked v k .one-pred (w .anode) (w .some) u))
-noted-once b n v k false t w = w
+    absurd (omega (arith, w .two, checked k .one-pred (w .anode) (w .some) u))
+noted-once b n k false t w = w
 
 module _ (c b n : List ℕ) where
   links-at : (a : ℕ) → a < 3444 → wrongAt (anodesFrom c b n) a ≡ true → wrongLinks (anodesFrom c b n) ≡ true
   unfolding wrongLinks
   links-at a l h = rw (anyBelow-hit (wrongAt (anodesFrom c b n)) a 3444 l h)
 
-  pub links-twice : View 3444 (λ a. getD n a 0) (λ a. getD b a 0) → Closed n b → Twice n → wrongLinks (anodesFrom c b n) ≡ true
+  pub links-twice : View 3444 (λ a. getD n a 0) (λ a. getD b a 0) → Closed (λ a. getD n a 0) (λ a. getD b a 0) → Twice n → wrongLinks (anodesFrom c b n) ≡ true
   unfolding wrongAt wrongLink anodesFrom
   links-twice v closed w =
       let x = w .anode in
-      let u : getD b x 0 ≢ 0 = rw (w .leads) at (closed .next-used (w .before) (λ z. w .some (sym (w .leads) ∙ z))) in
+      let u : getD b x 0 ≢ 0 = rw (w .leads) at (closed (w .before) (λ z. w .some (sym (w .leads) ∙ z))) in
       links-at x (v .below x u) (rw (ne-eqb x 0 (w .some), ne-eqb (getD b x 0) 0 u, lt-ltb 1 (preds 3444 (λ a. getD n a 0) x) (w .two)))
 
   links-endless : View 3444 (λ a. getD n a 0) (λ a. getD b a 0) → Endless n b → wrongLinks (anodesFrom c b n) ≡ true

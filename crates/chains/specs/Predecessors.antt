@@ -8,10 +8,6 @@ use lib.ListN.{getD}
 use lib.Dec.{eqb}
 use Rattle.rules.specs.Chains.{preds}
 
--- every next that is not 0 is in use
-pub record Closed (nexts firsts : List ℕ) : Type 0 where
-  pub next-used : (a : ℕ) → getD nexts a 0 ≢ 0 → getD firsts (getD nexts a 0) 0 ≢ 0
-
 -- the predecessors below k are noted: an entry that is not 0 is one of them, and each of them is the entry
 pub record NotedBelow (table nexts : List ℕ) (k : ℕ) : Type 0 where
   pub is-pred : (x : ℕ) → getD table x 0 ≢ 0 → getD nexts (getD table x 0) 0 ≡ x

@@ -9,9 +9,9 @@ ghost use Rattle.rules.specs.Counting.{anyBelow, anyIn};
 ghost use Rattle.rules.specs.Chains.{chainOf};
 ghost use Rattle.rules.specs.Accepted.{wrongFixed, outOfRange, wrongLinks, notUpTo, wrongFreeList};
 ghost use Rattle.rules.specs.Tables.{anodeTable};
-ghost use Rattle.laws.specs.Links.{View, Linked};
+ghost use Rattle.laws.specs.Links.{View, Closed, Linked};
 ghost use Rattle.anodes.specs.Loaded.{anodesFrom};
-ghost use Rattle.chains.specs.Predecessors.{Closed, PredTable, NotedBelow, Noted, fixedNoted};
+ghost use Rattle.chains.specs.Predecessors.{PredTable, NotedBelow, Noted, fixedNoted};
 ghost use Rattle.chains.specs.Storing.{storedAlong};
 ghost use Rattle.chains.specs.Endings.{EndsBelow, unmarked, Ends};
 ghost use Rattle.chains.specs.FreeList.{wrongBefore};
@@ -201,7 +201,7 @@ fn some_unmarked(firsts: &[u16], marks: &[u16]) -> bool
 
 // Some anode's chain never ends.
 fn some_endless(firsts: &[u16], nexts: &[u16], preds: &[u16]) -> bool
-    requires { ⌜ (length (now firsts) ≡ 3444) × (length (now nexts) ≡ 3444) × (getD (now nexts) 0 0 ≡ 0) × PredTable (now preds) (now nexts) × Closed (now nexts) (now firsts) ⌝ }
+    requires { ⌜ (length (now firsts) ≡ 3444) × (length (now nexts) ≡ 3444) × (getD (now nexts) 0 0 ≡ 0) × PredTable (now preds) (now nexts) × Closed (λ a. getD (now nexts) a 0) (λ a. getD (now firsts) a 0) ⌝ }
     ensures { λ r. ⌜ Ends r (now (nexts .entry)) (now (firsts .entry)) ⌝ }
 {
     let mut marks = [0u16; 3444];
@@ -211,7 +211,7 @@ fn some_endless(firsts: &[u16], nexts: &[u16], preds: &[u16]) -> bool
 
 // 8: two predecessors, a chain that never ends, or a predecessor of 1, 3, 4 or 5; where there is none, `preds` holds each anode's predecessor.
 pub fn wrong_links(firsts: &[u16], nexts: &[u16], preds: &mut [u16]) -> bool
-    requires { ⌜ (now preds ≡ replicate 3444 0) × (length (now firsts) ≡ 3444) × (length (now nexts) ≡ 3444) × View 3444 (λ a. getD (now nexts) a 0) (λ a. getD (now firsts) a 0) × Closed (now nexts) (now firsts) ⌝ }
+    requires { ⌜ (now preds ≡ replicate 3444 0) × (length (now firsts) ≡ 3444) × (length (now nexts) ≡ 3444) × View 3444 (λ a. getD (now nexts) a 0) (λ a. getD (now firsts) a 0) × (getD (now nexts) 0 0 ≡ 0) × Closed (λ a. getD (now nexts) a 0) (λ a. getD (now firsts) a 0) ⌝ }
     ensures answer { λ r. ⌜ ((c : List ℕ) → r ≡ wrongLinks (anodesFrom c (now (firsts .entry)) (now (nexts .entry)))) ⌝ }
     ensures noted { λ r. ⌜ (r ≡ false → PredTable (now (preds .exit)) (now (nexts .entry))) ⌝ }
 {
@@ -226,7 +226,7 @@ pub fn wrong_links(firsts: &[u16], nexts: &[u16], preds: &mut [u16]) -> bool
 
 // Stores `a` along its chain where `a` is its head.
 fn fill_head(firsts: &[u16], nexts: &[u16], preds: &[u16], heads: &mut [u16], a: u16)
-    requires { ⌜ (0 < a) × View 3444 (λ x. getD (now nexts) x 0) (λ x. getD (now firsts) x 0) × Linked 3444 (λ x. getD (now nexts) x 0) (λ x. getD (now firsts) x 0) × PredTable (now preds) (now nexts) × FilledBelow (now heads) (now nexts) (now firsts) a ⌝ }
+    requires { ⌜ (0 < a) × Linked 3444 (λ x. getD (now nexts) x 0) (λ x. getD (now firsts) x 0) × PredTable (now preds) (now nexts) × FilledBelow (now heads) (now nexts) (now firsts) a ⌝ }
     ensures { λ _. ⌜ (drop 3444 (now (heads .exit)) ≡ drop 3444 (now (heads .entry))) × FilledBelow (now (heads .exit)) (now (nexts .entry)) (now (firsts .entry)) (a + 1) ⌝ }
 {
     let from = a as usize;
@@ -241,7 +241,7 @@ fn fill_head(firsts: &[u16], nexts: &[u16], preds: &[u16], heads: &mut [u16], a:
 
 // The head of each anode's chain, or 0 for anode 0 and free ones, in the first 3,444 entries of the lent table.
 pub fn fill_heads(firsts: &[u16], nexts: &[u16], preds: &[u16], heads: &mut [u16])
-    requires { ⌜ (3444 ≤ length (now heads)) × ((a : ℕ) → a < 3444 → getD (now heads) a 0 ≡ 0) × View 3444 (λ a. getD (now nexts) a 0) (λ a. getD (now firsts) a 0) × Linked 3444 (λ a. getD (now nexts) a 0) (λ a. getD (now firsts) a 0) × PredTable (now preds) (now nexts) ⌝ }
+    requires { ⌜ (3444 ≤ length (now heads)) × ((a : ℕ) → a < 3444 → getD (now heads) a 0 ≡ 0) × Linked 3444 (λ a. getD (now nexts) a 0) (λ a. getD (now firsts) a 0) × PredTable (now preds) (now nexts) ⌝ }
     ensures { λ _. ⌜ ((c : List ℕ) → now (heads .exit) ≡ anodeTable (anodesFrom c (now (firsts .entry)) (now (nexts .entry))) ++ drop 3444 (now (heads .entry))) ⌝ }
 {
     for a in 1..3444 {
@@ -251,7 +251,7 @@ pub fn fill_heads(firsts: &[u16], nexts: &[u16], preds: &[u16], heads: &mut [u16
 
 // The head of every anode's chain, by anodes whose links are in order.
 pub fn show_heads(firsts: &[u16], nexts: &[u16], heads: &mut [u16])
-    requires { ⌜ (3444 ≤ length (now heads)) × (length (now nexts) ≡ 3444) × View 3444 (λ a. getD (now nexts) a 0) (λ a. getD (now firsts) a 0) × Linked 3444 (λ a. getD (now nexts) a 0) (λ a. getD (now firsts) a 0) ⌝ }
+    requires { ⌜ (3444 ≤ length (now heads)) × (length (now nexts) ≡ 3444) × Linked 3444 (λ a. getD (now nexts) a 0) (λ a. getD (now firsts) a 0) ⌝ }
     ensures { λ _. ⌜ ((c : List ℕ) → now (heads .exit) ≡ anodeTable (anodesFrom c (now (firsts .entry)) (now (nexts .entry))) ++ drop 3444 (now (heads .entry))) ⌝ }
 {
     let mut preds = [0u16; 3444];

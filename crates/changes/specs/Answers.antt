@@ -13,7 +13,8 @@ use Rattle.rules.specs.Walk.{Entered}
 use Rattle.rules.specs.Accepted.{diskSize, shortTables, checkAnswer}
 use Rattle.rules.specs.Lookup.{noDirectory, entryNamed, isThere, namesDir, fullDir, pastEnd, nth, entriesOf}
 use Rattle.rules.specs.Calls.{spanAnswer, resizeAnswer, removeAnswer, makeAnswer, wrongEntry, listAnswer}
-use Rattle.laws.specs.Acceptance.{if-zero, firstOf-zero, firstOf-some, passed-of}
+use Rattle.laws.specs.Tests.{if-zero, firstOf-zero, firstOf-some}
+use Rattle.laws.specs.Acceptance.{passed-of}
 
 -- 0, or a number after the damage numbers
 abbrev pub Late : ℕ → Type 0

@@ -70,7 +70,7 @@ module _ (img : List ℕ) (blocks anodes : ℕ) (e : checkAnswer img blocks anod
   accepted =
       let p = passed-of img blocks anodes e in
       record {
-        reading = reading-of img (diskSize img) (lastReserved img);
+        reading = reading-of img;
         passes = passes img blocks anodes p;
         walked = accepted-walk;
         all-named = λ x l d. omega (
@@ -166,7 +166,7 @@ module _ (img j : List ℕ) (blocks anodes : ℕ) (e : checkAnswer img blocks an
       ))))
 
   tested : Tested (anodesOf j) (diskSize img) (lastReserved img) (systemOwns img)
-  tested = passes-tested (anodesOf j) (diskSize img) (lastReserved img) (systemOwns img) (exists img) (found .1 .passes)
+  tested = passes-tested (anodesOf j) (diskSize img) (lastReserved img) (systemOwns img) (found .1 .passes)
 
   -- an image of the same disk with a whole state is accepted
   pub whole-accepted : checkAnswer j blocks anodes ≡ 0

@@ -132,7 +132,7 @@ module _ {img : List ℕ} {blocks anodes h : ℕ} {new : NewEntry} {f : ℕ} {ro
   -- they are no block of a directory that was there, and not each other's
   old-apart : (a : ℕ) → s .count a ≡ 1 → headIn img a ≢ 1 → (times (s .block a) ys ≡ 0) × (times (s .block a) zs ≡ 0)
   old-apart a one q =
-      let u : s .block a ≢ 0 = λ z. omega (arith, one, w .good .free-none a z) in
+      let u : s .block a ≢ 0 = λ z. omega (arith, one, w .good .present .free-none a z) in
       let k = plan .kept a u q in
       let now : t .count a ≡ 1 = k .0 ∙ one in (
         none-in (s .block a) ys (λ p. let o = own-block (s .block a) p in

@@ -23,7 +23,7 @@ use Rattle.rules.specs.Changes.{firstRoom, noRoom, neededBlock, entryPlace, New
 use Rattle.laws.specs.Tests.{same?, less?}
 use Rattle.laws.specs.Sums.{oneAt-cases, oneAt-same}
 use Rattle.laws.specs.Bags.{list-cons, list-append, list-one}
-use Rattle.laws.specs.Refusals.{planned≢refused}
+use Rattle.laws.specs.Plans.{planned≢refused}
 use Rattle.laws.specs.RefusedSteps.{take-refused}
 use Rattle.laws.specs.Entries.{weighEntry, itemsAt-whole}
 use Rattle.laws.specs.Whole.{Whole}

@@ -23,11 +23,11 @@ use Rattle.rules.specs.Lookup.{noDirectory, entriesOf, nameAt, contents}
 use Rattle.rules.specs.Changes.{entriesEnd, parentOf, entryPlace, NewEntry, entryOf, madeImage}
 use Rattle.laws.specs.Tests.{same?, less?}
 use Rattle.laws.specs.Sums.{oneAt-cases, oneAt-same, oneAt-other}
-use Rattle.laws.specs.Bags.{times-nil, times-cons, times-append, gather-none}
+use Rattle.laws.specs.Bags.{times-nil, times-cons, times-append, gather-none, gather-append}
 use Rattle.laws.specs.Heads.{Head}
 use Rattle.laws.specs.Space.{on-chain}
 use Rattle.laws.specs.TreeChanges.{headed}
-use Rattle.laws.specs.ChainBlocks.{gather-append, stands-once}
+use Rattle.laws.specs.ChainBlocks.{stands-once}
 use Rattle.laws.specs.Each.{OneMore}
 use Rattle.laws.specs.DirectoryTakes.{dir-head}
 use Rattle.frames.specs.DisjointBlocks.{chains-apart, chain-block}

@@ -20,10 +20,11 @@ use Rattle.laws.specs.Sums.{oneAt-cases, oneAt-same, oneAt-other, oneAt-le, cha
 use Rattle.laws.specs.Bags.{times-nil, times-cons, times-append}
 use Rattle.laws.specs.Heads.{Head, head-of-is, times-on-chain}
 use Rattle.laws.specs.Space.{Good}
-use Rattle.laws.specs.Arriving.{free-is, planned-same}
+use Rattle.laws.specs.Plans.{planned-same}
+use Rattle.laws.specs.Arriving.{free-is}
 use Rattle.laws.specs.Take.{take-good}
-use Rattle.laws.specs.Frame.{Shift, take-shift}
-use Rattle.laws.specs.ChainBlocks.{shift-chain}
+use Rattle.laws.specs.Moves.{Shift, shift-none}
+use Rattle.laws.specs.Frame.{shift-chain}
 use Rattle.laws.specs.Each.{Each}
 use Rattle.laws.specs.TreeChanges.{headed}
 use Rattle.laws.specs.Whole.{Whole}
@@ -71,15 +72,6 @@ pub record MadePlan (s : Anodes) (hd : ℕ → ℕ) (f h : ℕ) (dir : Bool) (ys
   pub stays : (m : ℕ) → Head (s .next) (s .block) m → Head (t .next) (t .block) m
   pub others : (m : ℕ) → Head (s .next) (s .block) m → m ≢ 1 → m ≢ h → chainOf (t .next) limit m ≡ chainOf (s .next) limit m
 
--- no step
-shift-none : (s : Anodes) (hd : ℕ → ℕ) (h : ℕ) → Shift s hd s hd h
-shift-none s hd h = record {
-  stays = λ m d. d;
-  no-new = λ m d. d;
-  apart = λ a u q i. record { same-count = refl; same-block = refl; same-next = refl };
-  same-hd = λ a u q i. refl;
-}
-
 module _ (img : List ℕ) {s : Anodes} {hd sd : ℕ → ℕ} {entries : ℕ → List Entered} {marked : Dir → ℕ → Bool} {dirs : List Dir}
     (w : Whole (exists img) (diskSize img) (lastReserved img) s (systemOwns img) hd sd entries marked dirs)
     (f : ℕ) (f6 : 6 ≤ f) (there : T (exists img f)) (fA : f < limit) (fresh : s .block f ≡ 0) where
@@ -96,7 +88,7 @@ module _ (img : List ℕ) {s : Anodes} {hd sd : ℕ → ℕ} {entries : ℕ → 
     hd′ : ℕ → ℕ
     sd′ : ℕ → ℕ
     good : Good limit (exists img) (diskSize img) (lastReserved img) t (systemOwns img) hd′ sd′
-    shift : Shift begun (changed hd f f) t hd′ f
+    shift : Shift begun (changed hd f f) t hd′ 1 f
     chain : chainOf (t .next) limit f ≡ f ∷ []
     count : t .count f ≡ cond dir 1 0
     blocks : ys ≡ cond dir (t .block f ∷ []) []
@@ -107,7 +99,7 @@ module _ (img : List ℕ) {s : Anodes} {hd sd : ℕ → ℕ} {entries : ℕ → 
     hd′ = changed hd f f;
     sd′ = changed sd f f;
     good = orphan .good;
-    shift = shift-none begun (changed hd f f) f;
+    shift = shift-none begun (changed hd f f) 1 f;
     chain = fresh-chain w f f6 there fA fresh;
     count = changed-same (s .count) f 0;
     blocks = refl;
@@ -118,7 +110,7 @@ module _ (img : List ℕ) {s : Anodes} {hd sd : ℕ → ℕ} {entries : ℕ → 
   own-step true t ys e =
       let m = take-good (orphan .good) f (orphan .head) (λ q. omega (arith, f6, q)) true t ys e in
       let q = own-filled (orphan .good) f (orphan .head) (λ q. omega (arith, f6, q)) (own-none .chain) (own-none .count) t ys e in
-      record { hd′ = m .hd′; sd′ = m .sd′; good = m .good; shift = take-shift (orphan .good) m; chain = q .2 .chain; count = q .2 .one; blocks = q .1 ∙ ap (λ (y : ℕ). y ∷ []) (sym (q .2 .at)) }
+      record { hd′ = m .hd′; sd′ = m .sd′; good = m .good; shift = m .shift; chain = q .2 .chain; count = q .2 .one; blocks = q .1 ∙ ap (λ (y : ℕ). y ∷ []) (sym (q .2 .at)) }
   own-step false t ys e = let q = planned-same begun t [] ys e in rw (q .0, sym (q .1)) at own-none
 
   -- ---- the parent's block
@@ -170,7 +162,7 @@ module _ (img : List ℕ) {s : Anodes} {hd sd : ℕ → ℕ} {entries : ℕ → 
     parent-step true t zs e =
         let x = dir-taken o h reached t zs e in
         let m = take-good (o .good) h (dir-head o h reached) (dir-not-1 o h reached) true t zs e in
-        let sh = take-shift (o .good) m in
+        let sh = m .shift in
         record {
           heads-now = m .hd′;
           sides-now = m .sd′;
@@ -183,7 +175,7 @@ module _ (img : List ℕ) {s : Anodes} {hd sd : ℕ → ℕ} {entries : ℕ → 
           ];
           blocks = x .1 ∙ ap (λ (y : ℕ). y ∷ []) (sym (x .2 .at));
           apart = λ a p u q.
-              let now = times-on-chain (m .good .view) (m .good .linked) (m .hd′) (m .good .heads) h (sh .stays h (dir-head o h reached)) a in
+              let now = times-on-chain (m .good .linked) (m .good .heads) h (sh .stays h (dir-head o h reached)) a in
               let twice = ap (times a) (x .2 .chain) ∙ times-append a (chainOf (r .next) limit h) (x .2 .anode ∷ []) in
               elim (same? (step .hd′ a) h) [
                 | inl i ↦ omega (
@@ -192,13 +184,13 @@ module _ (img : List ℕ) {s : Anodes} {hd sd : ℕ → ℕ} {entries : ℕ → 
                   now,
                   twice,
                   oneAt-le (m .hd′ a) h,
-                  times-on-chain (o .good .view) (o .good .linked) (step .hd′) (o .good .heads) h (dir-head o h reached) a,
+                  times-on-chain (o .good .linked) (o .good .heads) h (dir-head o h reached) a,
                   oneAt-same (step .hd′ a) h i,
                 )
                 | inr i ↦ omega (arith, p, now, twice, oneAt-other (m .hd′ a) h (λ k. i (sym (sh .same-hd a u q i) ∙ k)))
               ];
           kept = λ a u q. elim (same? (step .hd′ a) h) [
-            | inl i ↦ x .2 .kept a (omega (arith, times-on-chain (o .good .view) (o .good .linked) (step .hd′) (o .good .heads) h (dir-head o h reached) a, oneAt-same (step .hd′ a) h i))
+            | inl i ↦ x .2 .kept a (omega (arith, times-on-chain (o .good .linked) (o .good .heads) h (dir-head o h reached) a, oneAt-same (step .hd′ a) h i))
             | inr i ↦ (let l = sh .apart a u q i in (l .same-count, l .same-block))
           ];
           stays = sh .stays;
@@ -231,7 +223,7 @@ module _ (img : List ℕ) {s : Anodes} {hd sd : ℕ → ℕ} {entries : ℕ → 
     head-used : (a : ℕ) → s .block a ≢ 0 → hd a ≢ f
     head-used a u e = elim (same? a 0) [
       | inl z ↦ omega (arith, f6, e, ap hd z, w .good .heads .off-zero)
-      | inr z ↦ head-of-is (w .good .view) (w .good .linked) hd (w .good .heads) a z u .in-use (ap (s .block) e ∙ fresh)
+      | inr z ↦ head-of-is (w .good .linked) (w .good .heads) a z u .in-use (ap (s .block) e ∙ fresh)
     ]
 
     -- an anode in use, not the free list's, through the first steps

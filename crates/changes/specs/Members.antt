@@ -8,7 +8,7 @@ use Rattle.rules.specs.Counting.{sumList, times, gather, oneAt}
 use Rattle.laws.specs.Tests.{less?}
 use Rattle.laws.specs.Sums.{oneAt-same, oneAt-other, oneAt-cases}
 use Rattle.laws.specs.Bags.{list-cons, list-append, list-add, list-mono, list-scale}
-use Rattle.laws.specs.Each.{Each, each-right}
+use Rattle.laws.specs.Each.{Each, each-right, list-congr-each, gather-congr-each}
 pub use Rattle.laws.specs.Each.{Member}
 pub use Rattle.laws.specs.Bags.{times-member}
 
@@ -41,11 +41,17 @@ module _ {ℓ} {X : Type ℓ} where
   pub member-sum : (w : X → ℕ) (x : X) (l : List X) → Member x l → w x ≤ sumList w l
   member-sum w x l (before, after, e) = rw e (omega (arith, list-append w before (x ∷ after), list-cons w x after))
 
-  -- two weights that agree at each member
+  -- and what holds of each member holds of each
+  pub each-members : (P : X → Type 0) (l : List X) → ((x : X) → Member x l → P x) → Each P l
+  each-members P [] f = tt
+  each-members P (x ∷ l) f = (f x (member-first x l), each-members P l (λ y m. f y (member-later y x l m)))
+
+  -- two weights, or two functions, that agree at each member
   pub member-congr : (w u : X → ℕ) (l : List X) → ((x : X) → Member x l → w x ≡ u x) → sumList w l ≡ sumList u l
-  unfolding sumList
-  member-congr w u [] f = refl
-  member-congr w u (x ∷ l) f = omega (arith, f x (member-first x l), member-congr w u l (λ y m. f y (member-later y x l m)))
+  member-congr w u l f = list-congr-each w u l (each-members (λ x. w x ≡ u x) l f)
+
+  pub gather-congr : {Y : Type 0} (f g : X → List Y) (l : List X) → ((x : X) → Member x l → f x ≡ g x) → gather f l ≡ gather g l
+  gather-congr f g l e = gather-congr-each f g l (each-members (λ x. f x ≡ g x) l e)
 
 -- a member of what f gives for the members of a list
 pub member-gather {ℓ κ} : {X : Type ℓ} {Y : Type κ} (f : X → List Y) (l : List X) (y : Y) → Member y (gather f l) → (x : X) × Member x l × Member y (f x)
@@ -55,11 +61,6 @@ member-gather f (x ∷ l) y p = elim (member-append y (f x) (gather f l) p) [
   | inl q ↦ (x, member-first x l, q)
   | inr q ↦ (let r = member-gather f l y q in (r .0, member-later (r .0) x l (r .1), r .2))
 ]
-
-pub gather-congr {ℓ κ} : {X : Type ℓ} {Y : Type κ} (f g : X → List Y) (l : List X) → ((x : X) → Member x l → f x ≡ g x) → gather f l ≡ gather g l
-unfolding gather
-gather-congr f g [] e = refl
-gather-congr f g (x ∷ l) e = ap₂ _++_ (e x (member-first x l)) (gather-congr f g l (λ y m. e y (member-later y x l m)))
 
 pub map-members {ℓ} : {X : Type ℓ} (f g : X → X) (l : List X) → ((x : X) → Member x l → f x ≡ g x) → map f l ≡ map g l
 map-members f g [] e = refl

@@ -251,7 +251,7 @@ module _ (img : List ℕ) (blocks anodes : ℕ) (accepted : checkAnswer img bloc
         record {
           unbroken = f .0;
           from-6 = f .1;
-          below = w .good .view .below (e .anode) (d .in-use);
+          below = w .good .linked .view .below (e .anode) (d .in-use);
           head = d;
           sized = λ i. elim (f .3) [ inl j ↦ absurd (true≢false (sym j ∙ i)) | inr j ↦ j ];
           a₀ = a;

@@ -16,7 +16,8 @@ use Rattle.rules.specs.Chains.{chainOf}
 use Rattle.rules.specs.Walk.{Entered, entriesIn}
 use Rattle.rules.specs.Lookup.{entriesOf, notEmpty}
 use Rattle.rules.specs.Changes.{entriesEnd, gapClosed, removedImage}
-use Rattle.laws.specs.ChainBlocks.{gather-append, stands-once}
+use Rattle.laws.specs.Bags.{gather-append}
+use Rattle.laws.specs.ChainBlocks.{stands-once}
 use Rattle.frames.specs.Kept.{entriesIn-kept}
 use Rattle.frames.specs.DisjointBlocks.{DataBlock}
 use Rattle.changes.specs.Members.{Member, no-member, member-append, member-gather, member-times, gather-congr, map-members, map-kept}

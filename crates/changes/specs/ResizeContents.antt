@@ -23,9 +23,8 @@ use Rattle.rules.specs.Changes.{inBlock, zeroTail, zeroTaken, resizedImage}
 use Rattle.laws.specs.Chains.{Inside}
 use Rattle.laws.specs.Tests.{same?}
 use Rattle.laws.specs.Sums.{oneAt-same}
-use Rattle.laws.specs.Bags.{times-cons, times-append}
+use Rattle.laws.specs.Bags.{times-cons, times-append, gather-append}
 use Rattle.laws.specs.Whole.{blocks-count}
-use Rattle.laws.specs.ChainBlocks.{gather-append}
 use Rattle.frames.specs.StoredBlocks.{inBlock-kept, blockOf-inBlock}
 use Rattle.frames.specs.StoredBytes.{length-gather, blockOf-withBlocks}
 use Rattle.frames.specs.DisjointBlocks.{chain-once, chain-block}

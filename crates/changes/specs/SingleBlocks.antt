@@ -17,19 +17,19 @@ use Rattle.changes.specs.Reached.{block-on}
 
 module _ {ex : ℕ → Bool} {n last : ℕ} {s : Anodes} {system hd sd : ℕ → ℕ} (g : Good limit ex n last s system hd sd) (a : ℕ) (one : s .count a ≡ 1) where
   single-used : s .block a ≢ 0
-  single-used z = omega (arith, one, g .free-none a z)
+  single-used z = omega (arith, one, g .present .free-none a z)
 
   single-covers : covers (s .count a) (s .block a) (s .block a) ≡ 1
   single-covers = covers-in (s .count a) (s .block a) (s .block a) (omega arith) (omega (arith, one))
 
   pub single-apart : (c : ℕ) → s .count c ≡ 1 → a ≢ c → s .block a ≢ s .block c
   single-apart c one-c ne e =
-      let below = g .view .below a single-used in
-      let other : s .block c ≢ 0 = λ z. omega (arith, one-c, g .free-none c z) in
+      let below = g .linked .view .below a single-used in
+      let other : s .block c ≢ 0 = λ z. omega (arith, one-c, g .present .free-none c z) in
       omega (
         arith,
         one,
-        disjoint limit (s .count) (s .block) system n (g .own) a c (s .block a) below (g .view .below c other) ne (omega (arith, one, g .own .fits a below (omega (arith, one)))),
+        disjoint limit (s .count) (s .block) system n (g .own) a c (s .block a) below (g .linked .view .below c other) ne (omega (arith, one, g .own .fits a below (omega (arith, one)))),
         single-covers,
         covers-in (s .count c) (s .block c) (s .block a) (omega (arith, e)) (omega (arith, e, one-c)),
       )
@@ -39,5 +39,5 @@ pub single-data : {ex : ℕ → Bool} {last : ℕ} {s : Anodes} {hd sd : ℕ →
 single-data {s = s} {hd = hd} img g a one =
     let used = single-used g a one in
     let a0 : a ≢ 0 = λ z. omega (arith, one, ap (s .count) z, g .fixed .count-0) in
-    let h = head-of-is (g .view) (g .linked) hd (g .heads) a a0 used in
-    chain-block img g (hd a) h (s .block a) (block-on s (hd a) a (times-member a (chainOf (s .next) limit (hd a)) (omega (arith, on-own (g .view) (g .linked) hd (g .heads) a a0 used))) one)
+    let h = head-of-is (g .linked) (g .heads) a a0 used in
+    chain-block img g (hd a) h (s .block a) (block-on s (hd a) a (times-member a (chainOf (s .next) limit (hd a)) (omega (arith, on-own (g .linked) (g .heads) a a0 used))) one)

@@ -18,7 +18,8 @@ use Rattle.laws.specs.Tests.{same?, less?}
 use Rattle.laws.specs.Sums.{oneAt-same, oneAt-other, sum-congr, sum-zero, sum-add, sum-swap, sum-oneAt}
 use Rattle.laws.specs.Bags.{gather-sum}
 use Rattle.laws.specs.Acceptance.{passed-of, size-bounds}
-use Rattle.laws.specs.Blocks.{blocks, blocks-none}
+use Rattle.laws.specs.Blocks.{blocks}
+use Rattle.laws.specs.Owners.{blocks-none}
 use Rattle.laws.specs.Space.{head-1, head-5}
 use Rattle.laws.specs.Items.{giving, below, namedIn, names-sum, below-items}
 use Rattle.laws.specs.Totals.{file-size, filesOf, dirsOf}
@@ -124,7 +125,7 @@ module _ (img : List ℕ) (number anodes : ℕ) (accepted : checkAnswer img numb
   maybe : (h : ℕ) → h ≢ 0 → ((p : ℕ) → s .next p ≢ h) → has h ≡ chainBlocks s h
   unfolding chainBlocks
   maybe h h0 first = elim (same? (s .block h) 0) [
-    | inl z ↦ rw (eq-eqb (s .block h) 0 z) (blocks-none (w .good .view) (w .good .linked) (headIn img) (w .good .heads) (s .count) (w .good .free-none) (w .good .fixed .count-0) h (λ d. d .in-use z))
+    | inl z ↦ rw (eq-eqb (s .block h) 0 z) (blocks-none (w .good) h (λ d. d .in-use z))
     | inr u ↦ rw (ne-eqb (s .block h) 0 u) (blocks-count (w .good) h (record { pos = h0; in-use = u; no-pred = first }))
   ]
 

@@ -19,7 +19,7 @@ use Rattle.rules.specs.Lookup.{noDirectory, entriesOf, nth, isThere, notEmpty, 
 use Rattle.rules.specs.Calls.{doneOr}
 use Rattle.anodes.specs.Loaded.{anodesFrom}
 use Rattle.tree.specs.Steps.{queueOf}
-use Rattle.laws.specs.Acceptance.{firstOf-some, firstOf-none}
+use Rattle.laws.specs.Tests.{firstOf-some, firstOf-none}
 use Rattle.laws.specs.OwnerTable.{anodeEntry-is}
 use Rattle.changes.specs.Answers.{searchNumber}
 use Rattle.changes.specs.Image.{accepted-whole}
@@ -49,7 +49,7 @@ module _ {img counts firsts nexts queue parents heads : List ℕ} {dirs : ℕ} (
   own-heads i l =
       let w = accepted-whole img (diskSize img) limit (o .loaded .accepted) in
       let d = reached-head img (diskSize img) limit (o .loaded .accepted) (getD queue i 0) (queued-reached i l) in
-      o .shown (getD queue i 0) (w .good .view .below (getD queue i 0) (d .in-use)) ∙ anodeEntry-is (w .good) (getD queue i 0) ∙ w .good .heads .at-head (getD queue i 0) d
+      o .shown (getD queue i 0) (w .good .linked .view .below (getD queue i 0) (d .in-use)) ∙ anodeEntry-is (w .good) (getD queue i 0) ∙ w .good .heads .at-head (getD queue i 0) d
 
   -- its entries are unbroken, by the blocks and nexts alone
   pub open-unbroken : (h : ℕ) → noDirectory img (anodesOf img) h ≡ false → anyIn (λ e. e .broken) (entriesOf img (anodesFrom [] firsts nexts) h) ≡ false

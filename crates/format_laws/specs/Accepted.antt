@@ -6,7 +6,7 @@ use mathlib.Core.List.{List, [], _∷_}
 use lib.Dec.{leb}
 use borrow.Author.Tests.{leb-true}
 use Rattle.rules.specs.Counting.{gather}
-use Rattle.rules.specs.Anodes.{Anodes, limit, exists, anodesOf}
+use Rattle.rules.specs.Anodes.{Anodes, limit, anodesOf}
 use Rattle.rules.specs.Chains.{systemOwns, blockCount}
 use Rattle.rules.specs.Walk.{root, reached, reachedDirs, faultIn}
 use Rattle.rules.specs.Accepted.{diskSize, wrongSize, unnamedChain, checkAnswer}
@@ -35,8 +35,8 @@ module _ (img : List ℕ) (last k : ℕ) (name : List ℕ) (day minute tick prot
   anodes-laid = laid img last k name day minute tick protection args
 
   tested : Tested s (diskSize img) last (systemOwns disk)
-  tested = passes-tested s (diskSize img) last (systemOwns disk) (exists disk)
-      (laid-passes anodes-laid (args .room) (args .there) (systemOwns disk) (system-owns img last k name day minute tick protection args) (exists disk))
+  tested = passes-tested s (diskSize img) last (systemOwns disk)
+      (laid-passes anodes-laid (args .room) (args .there) (systemOwns disk) (system-owns img last k name day minute tick protection args))
 
   named : (x : ℕ) → x < limit → unnamedChain disk s x ≡ false
   unfolding unnamedChain

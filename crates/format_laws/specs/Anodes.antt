@@ -62,8 +62,8 @@ module _ (img : List ℕ) (a : ℕ) where
   at-free : anodeOf img a ≡ anodeMade 0 0 0 → At (anodesOf img) a 0 0 0
   at-free e =
       let is : anodesOf img .block a ≡ 0 = block-at img a ∙ ap (λ (x : Anode). x .block .0) e in
-      let r = reading-of img 0 0 in
-      record { count = r .free-count a is; block = is; next = r .free-next a is }
+      let r = reading-of img in
+      record { count = r .present .free-none a is; block = is; next = r .view .free-end a is }
 
 module _ (img : List ℕ) (last k : ℕ) (name : List ℕ) (day minute tick protection : ℕ) (args : Taken img last k name) where
   abbrev disk : List ℕ

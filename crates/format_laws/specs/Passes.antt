@@ -2,7 +2,6 @@
 use Prim.Native.Nat.{ℕ, _+_, _≤_, _<_}
 use mathlib.Core.Path.{_≡_}
 use mathlib.Core.Logic.{inl, inr}
-use mathlib.Core.Bool.{Bool}
 use native.Mathlib.Omega.{arith}
 use Rattle.rules.specs.Anodes.{Anodes, limit}
 use Rattle.rules.specs.Chains.{covers, preds}
@@ -21,8 +20,8 @@ module _ {s : Anodes} {n last k : ℕ} (m : Laid s n last k) (room : 3 + k ≤ l
   fits _ is-6 c = omega (arith, m .owns-6 .count, m .owns-6 .start (omega (arith, m .owns-6 .count)))
   fits _ (free a f) c = absurd (omega (arith, f .count))
 
-  pub laid-passes : (system : ℕ → ℕ) → ((x : ℕ) → system x ≡ covers (3 + k) 0 x) → (ex : ℕ → Bool) → Passes limit ex n last s system
-  laid-passes system sys ex = record {
+  pub laid-passes : (system : ℕ → ℕ) → ((x : ℕ) → system x ≡ covers (3 + k) 0 x) → Passes limit n last s system
+  laid-passes system sys = record {
     fixed = record {
       count-0 = m .at-0 .count;
       block-0 = m .at-0 .block;
@@ -32,7 +31,7 @@ module _ {s : Anodes} {n last k : ℕ} (m : Laid s n last k) (room : 3 + k ≤ l
       block-5 = λ z. omega (arith, z, m .at-5 .block);
     };
     next-0 = m .at-0 .next;
-    links = record { closed = λ a l. closed m a; one-pred = λ x x0 u. one-pred m x x0; ends = λ a. ends m a (m .which a) (m .linking) };
+    links = record { closed = closed m; one-pred = λ x x0 u. one-pred m x x0; ends = λ a. ends m a (m .which a) (m .linking) };
     first = first;
     two-on = two-on m;
     high = λ a. high m a (m .which a);

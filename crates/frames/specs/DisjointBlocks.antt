@@ -44,7 +44,7 @@ module _ {ex : ℕ → Bool} {n last : ℕ} {s : Anodes} {system hd sd : ℕ →
     ]
 
     one-holder : y < n → system y + times y (blocksOf s h) ≤ 1
-    one-holder l = omega (arith, times-held l, total-held g y l, sum-member (λ m. heldBy m y) h limit (g .view .below h (d .in-use)))
+    one-holder l = omega (arith, times-held l, total-held g y l, sum-member (λ m. heldBy m y) h limit (g .linked .view .below h (d .in-use)))
 
     -- a block stands in a chain at most once
     pub chain-once : times y (blocksOf s h) ≤ 1
@@ -63,7 +63,7 @@ module _ {ex : ℕ → Bool} {n last : ℕ} {s : Anodes} {system hd sd : ℕ →
         times-held h d y l,
         times-held k e y l,
         total-held g y l,
-        sum-members (λ m. heldBy m y) h k limit (g .view .below h (d .in-use)) (g .view .below k (e .in-use)) o,
+        sum-members (λ m. heldBy m y) h k limit (g .linked .view .below h (d .in-use)) (g .linked .view .below k (e .in-use)) o,
       )
 
 -- ---- in an image

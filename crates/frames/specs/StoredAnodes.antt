@@ -85,12 +85,12 @@ alike-same s t a e =
 abbrev anodeFrom : Anodes → ℕ → Anode
 anodeFrom t a = anodeMade (t .count a) (t .block a) (t .next a)
 
-module _ {ex : ℕ → Bool} {n last : ℕ} (t : Anodes) (r : Reading limit ex n last t) (j : List ℕ) (a : ℕ) where
+module _ {ex : ℕ → Bool} (t : Anodes) (r : Reading limit ex t) (j : List ℕ) (a : ℕ) where
   -- free in both
   alike-free : anodesOf j .block a ≡ 0 → t .block a ≡ 0 → Alike t (anodesOf j) a
   alike-free p q =
-      let f = reading-of j n last in
-      record { same-count = f .free-count a p ∙ sym (r .free-count a q); same-block = p ∙ sym q; same-next = f .free-next a p ∙ sym (r .free-next a q) }
+      let f = reading-of j in
+      record { same-count = f .present .free-none a p ∙ sym (r .present .free-none a q); same-block = p ∙ sym q; same-next = f .view .free-end a p ∙ sym (r .view .free-end a q) }
 
   alike-stored : anodeOf j a ≡ anodeFrom t a → Alike t (anodesOf j) a
   alike-stored e =
@@ -140,9 +140,9 @@ module _ (img : List ℕ) (right : wrongSlots img ≡ false) (t : Anodes) where
       step true e = e
       step false e = set-other (upTo a) (stored-right img right (upTo-stored a)) a (anodeFrom t a) b (λ i. omega (arith, l, i)) ∙ e
 
-  module _ {n last : ℕ} (r : Reading limit (exists img) n last t) where
+  module _ (r : Reading limit (exists img) t) where
     missing-free : (a : ℕ) → slotOf img (a / 82) ≡ 0 → t .block a ≡ 0
-    missing-free a z = elim (same? (t .block a) 0) [ inl e ↦ e | inr u ↦ absurd (rw (slot-missing img a z) at (r .exist a u)) ]
+    missing-free a z = elim (same? (t .block a) 0) [ inl e ↦ e | inr u ↦ absurd (rw (slot-missing img a z) at (r .present .exist a u)) ]
 
     -- those below k are t's
     upTo-anodes : (k b : ℕ) → b < k → Alike t (anodesOf (upTo k)) b

@@ -13,12 +13,11 @@ use Rattle.rules.specs.Counting.{_if_else_, anyBelow}
 use Rattle.rules.specs.Anodes.{Anodes, limit, exists, anodesOf}
 use Rattle.rules.specs.Accepted.{diskSize, wrongFixed, outOfRange, wrongLinks, wrongFreeList, lastReserved, twoOwners, noOwner, treeFault, damageIn}
 use Rattle.rules.specs.Tables.{chainHead, anodeTable}
-use Rattle.laws.specs.Links.{View, Linked, next-below, linked}
+use Rattle.laws.specs.Links.{View, Linked, next-below, linked, Closed}
 use Rattle.laws.specs.Passes.{Reading}
-use Rattle.laws.specs.TestsPassed.{next-used, tested-view, tested-checked}
+use Rattle.laws.specs.TestsPassed.{fixed-anodes, next-used, tested-checked}
 use Rattle.laws.specs.ImageAnodes.{reading-of}
 use Rattle.anodes.specs.Loaded.{anodesFrom}
-use Rattle.chains.specs.Predecessors.{Closed}
 use Rattle.chains.proofs.Laws.{entry-head, entry-some, head-table}
 use Rattle.owners.specs.Marks.{OwnersMarked}
 use Rattle.owners.proofs.Shown.{marked-no-owner, marked-table}
@@ -87,36 +86,40 @@ module _ {img c b n : List ℕ} where
 
   -- ---- what the next one asks
 
-  reading : Passed6 img c b n → Reading limit (exists img) 0 0 (anodesFrom c b n)
-  reading p = rw (p .loaded) (reading-of img 0 0)
+  reading : Passed6 img c b n → Reading limit (exists img) (anodesFrom c b n)
+  reading p = rw (p .loaded) (reading-of img)
 
   module _ (p : Passed7 img c b n) where
     pub view : View 3444 (λ a. getD n a 0) (λ a. getD b a 0)
     unfolding anodesFrom
-    view = tested-view (anodesFrom c b n) (p .six .fixed-right) (reading (p .six))
+    view = reading (p .six) .view
 
-    pub closed : Closed n b
+    pub zero-end : getD n 0 0 ≡ 0
     unfolding anodesFrom
-    closed = record { next-used = λ a h. next-used (anodesFrom c b n) (p .six .fixed-right) (diskSize img) (p .in-range) a (next-below view a h) h }
+    zero-end = fixed-anodes (anodesFrom c b n) (p .six .fixed-right) .1
+
+    pub closed : Closed (λ a. getD n a 0) (λ a. getD b a 0)
+    unfolding anodesFrom
+    closed a h = next-used (anodesFrom c b n) (p .six .fixed-right) (diskSize img) (p .in-range) a (next-below view a h) h
 
   module _ (p : Passed8 img c b n) where
     pub links : Linked 3444 (λ a. getD n a 0) (λ a. getD b a 0)
     unfolding anodesFrom
-    links = let s = p .seven .six in linked (view (p .seven)) (tested-checked (anodesFrom c b n) (s .fixed-right) (reading s) (diskSize img) (p .seven .in-range) (p .links-right))
+    links = let s = p .seven .six in linked (view (p .seven)) (zero-end (p .seven)) (tested-checked (anodesFrom c b n) (s .fixed-right) (view (p .seven)) (diskSize img) (p .seven .in-range) (p .links-right))
 
     -- the table of heads
     module _ (t t₀ : List ℕ) (is : t ≡ anodeTable (anodesFrom c b n) ++ drop 3444 t₀) where
       pub heads-some : (a : ℕ) → a ≢ 0 → getD b a 0 ≢ 0 → getD t a 0 ≢ 0
       unfolding anodesFrom
-      heads-some = entry-some (anodesFrom c b n) (view (p .seven)) links t (drop 3444 t₀) is
+      heads-some = entry-some (anodesFrom c b n) links t (drop 3444 t₀) is
 
       heads-table : HeadTable t (anodesFrom c b n)
       unfolding anodesFrom
-      heads-table = head-table (anodesFrom c b n) (view (p .seven)) links t (drop 3444 t₀) is
+      heads-table = head-table (anodesFrom c b n) links t (drop 3444 t₀) is
 
       heads-are : (a : ℕ) → a < 3444 → getD t a 0 ≡ chainHead (anodesFrom c b n) a
       unfolding anodesFrom
-      heads-are = entry-head (anodesFrom c b n) (view (p .seven)) links t (drop 3444 t₀) is
+      heads-are = entry-head (anodesFrom c b n) links t (drop 3444 t₀) is
 
       -- both tables, once the owners are marked
       pub shown : (u u₀ : List ℕ) → drop (diskSize img) u ≡ drop (diskSize img) u₀ → diskSize img ≤ length u → OwnersMarked img (anodesFrom c b n) t u

@@ -20,7 +20,7 @@ use Rattle.rules.specs.Changes.{Left, left, NewEntry, resized, made, written, r
 use Rattle.rules.specs.Calls.{checkedFirst, settled, checkOutcome, summaryOutcome, formatOutcome, doneOr, leftAfter, readAnswer, readOutcome, spanAnswer, listAnswered, listOutcome, makeOutcome, makeAnswer, wrongEntry, resizeOutcome, resizeAnswer, writeOutcome, removeOutcome, removeAnswer, changeNamed}
 use Rattle.rules.specs.History.{Call, check, summary, format, read, list, make, resize, write, remove, outcome, Sound, Damage, SoundThroughout}
 use Rattle.counting.specs.Laws.{neither}
-use Rattle.laws.specs.Acceptance.{if-zero, firstOf-zero}
+use Rattle.laws.specs.Tests.{if-zero, firstOf-zero}
 use Rattle.format_laws.specs.Accepted.{formatted-accepted}
 use Rattle.changes.specs.Answers.{Late, own-tables, any-tables, span-late, list-late, resize-late, remove-late, make-late, file-found, span-found, removable-found}
 use Rattle.changes.specs.Reached.{named-member}

@@ -1,14 +1,14 @@
 -- The check's table: its answer is 0 exactly if every test fails, and what the tests 6 to 11 say in numbers.
-use Prim.Native.Nat.{ℕ, zero, suc, _+_, _%_, _≤_, _<_}
+use Prim.Native.Nat.{ℕ, _+_, _%_, _≤_, _<_}
 use mathlib.Core.Path.{_≡_, refl}
 use mathlib.Core.Logic.{_≢_, inl, inr}
-use mathlib.Core.Bool.{Bool, true, false, not, _&&_, _||_}
+use mathlib.Core.Bool.{Bool, false, not, _&&_, _||_}
 use mathlib.Core.List.{List, [], _∷_}
 use native.Mathlib.Omega.{arith}
 use lib.Dec.{eqb, leb, ltb}
 use lib.ListN.{length}
 use borrow.Author.Tests.{ltb-true, ltb-false, leb-false, eqb-false, not-true, lt-ltb, le-ltb, lt-leb, eq-eqb, ne-eqb}
-use Rattle.rules.specs.Counting.{_if_else_, firstOf, anyBelow, anyIn, times}
+use Rattle.rules.specs.Counting.{anyBelow, anyIn, times}
 use Rattle.rules.specs.Anodes.{Anodes, limit, anodesOf}
 use Rattle.rules.specs.Chains.{chainOf, followed, preds, owners, side, systemOwns}
 use Rattle.rules.specs.Walk.{walkOf, faultIn}
@@ -16,10 +16,11 @@ use Rattle.rules.specs.Accepted.{diskSize, wrongSize, shortTables, wrongType, l
 use Rattle.counting.specs.Laws.{neither, none-or, and-none, none-and, anyBelow-each, anyBelow-all}
 use Rattle.laws.specs.Each.{Each}
 use Rattle.laws.specs.Bags.{times-here, times-later, each-at}
-use Rattle.laws.specs.Tests.{same}
+use Rattle.laws.specs.Tests.{same, if-zero, firstOf-zero, firstOf-none}
 use Rattle.laws.specs.TestsPassed.{fixed-anodes, extent-inside, tested-checked}
+use Rattle.laws.specs.Links.{View}
 use Rattle.laws.specs.Space.{FixedHead}
-use Rattle.laws.specs.Passes.{Reading, Passes}
+use Rattle.laws.specs.Passes.{Passes}
 
 -- no number of a list passes
 pub in-none : (test : ℕ → Bool) (l : List ℕ) → anyIn test l ≡ false → (x : ℕ) → 0 < times x l → test x ≡ false
@@ -48,112 +49,92 @@ module _ (s : Anodes) (n last : ℕ) (system : ℕ → ℕ) where
     pub none-twice : anyBelow (λ x. ltb 1 (owners limit (s .count) (s .block) system x)) n ≡ false
     pub all-owned : anyBelow (λ x. eqb (owners limit (s .count) (s .block) system x) 0) n ≡ false
 
-  module _ (ex : ℕ → Bool) where
-    -- where no test holds, the same is true in numbers, and what is proved of accepted images stands on that form
-    pub tested-passes : Reading limit ex n last s → Tested → Passes limit ex n last s system
-    unfolding wrongLinks hasPred wrongFreeList notAbove notUpTo
-    tested-passes r t = record {
-      fixed = fixed-anodes s (t .fixed-right) .0;
-      next-0 = fixed-anodes s (t .fixed-right) .1;
-      links = tested-checked s (t .fixed-right) r n (t .in-range) (t .links-right);
-      first = first;
-      two-on = positive _ (eqb-false _ 0 (w .0));
-      high = λ a p c. leb-false _ last (and-none _ _ (in-none (notAbove s last) (side limit s 1) (w1 .0) a p) (lt-ltb 0 _ c));
-      low = λ a p c. omega (arith, ltb-false (last + 1) _ (and-none _ _ (in-none (notUpTo s last) (chainOf (s .next) limit 2) (w1 .1) a p) (lt-ltb 0 _ c)));
-      own = record {
-        not-two = λ x l. ltb-false 1 _ (anyBelow-each (λ x. ltb 1 (owners limit (s .count) (s .block) system x)) x n l (t .none-twice));
-        not-none = λ x l. positive _ (eqb-false _ 0 (anyBelow-each (λ x. eqb (owners limit (s .count) (s .block) system x) 0) x n l (t .all-owned)));
-        fits = extent-inside s (t .fixed-right) n (t .in-range);
-      };
-    }
-      where
-        positive : (k : ℕ) → k ≢ 0 → 1 ≤ k
-        positive k p = omega arith
+  -- where no test holds, the same is true in numbers, and what is proved of accepted images stands on that form
+  pub tested-passes : View limit (s .next) (s .block) → Tested → Passes limit n last s system
+  unfolding wrongLinks hasPred wrongFreeList notAbove notUpTo
+  tested-passes v t = record {
+    fixed = fixed-anodes s (t .fixed-right) .0;
+    next-0 = fixed-anodes s (t .fixed-right) .1;
+    links = tested-checked s (t .fixed-right) v n (t .in-range) (t .links-right);
+    first = first;
+    two-on = positive _ (eqb-false _ 0 (w .0));
+    high = λ a p c. leb-false _ last (and-none _ _ (in-none (notAbove s last) (side limit s 1) (w1 .0) a p) (lt-ltb 0 _ c));
+    low = λ a p c. omega (arith, ltb-false (last + 1) _ (and-none _ _ (in-none (notUpTo s last) (chainOf (s .next) limit 2) (w1 .1) a p) (lt-ltb 0 _ c)));
+    own = record {
+      not-two = λ x l. ltb-false 1 _ (anyBelow-each (λ x. ltb 1 (owners limit (s .count) (s .block) system x)) x n l (t .none-twice));
+      not-none = λ x l. positive _ (eqb-false _ 0 (anyBelow-each (λ x. eqb (owners limit (s .count) (s .block) system x) 0) x n l (t .all-owned)));
+      fits = extent-inside s (t .fixed-right) n (t .in-range);
+    };
+  }
+    where
+      positive : (k : ℕ) → k ≢ 0 → 1 ≤ k
+      positive k p = omega arith
 
-        p1 : (hasPred s 1 ≡ false) × ((hasPred s 3 || (hasPred s 4 || hasPred s 5)) ≡ false)
-        p1 = neither _ _ (neither (anyBelow (wrongAt s) limit) _ (t .links-right) .1)
+      p1 : (hasPred s 1 ≡ false) × ((hasPred s 3 || (hasPred s 4 || hasPred s 5)) ≡ false)
+      p1 = neither _ _ (neither (anyBelow (wrongAt s) limit) _ (t .links-right) .1)
 
-        p3 : (hasPred s 3 ≡ false) × ((hasPred s 4 || hasPred s 5) ≡ false)
-        p3 = neither _ _ (p1 .1)
+      p3 : (hasPred s 3 ≡ false) × ((hasPred s 4 || hasPred s 5) ≡ false)
+      p3 = neither _ _ (p1 .1)
 
-        p4 : (hasPred s 4 ≡ false) × (hasPred s 5 ≡ false)
-        p4 = neither _ _ (p3 .1)
+      p4 : (hasPred s 4 ≡ false) × (hasPred s 5 ≡ false)
+      p4 = neither _ _ (p3 .1)
 
-        none-before : (a : ℕ) → hasPred s a ≡ false → preds limit (s .next) a ≡ 0
-        none-before a e = omega (arith, ltb-false 0 (preds limit (s .next) a) e)
+      none-before : (a : ℕ) → hasPred s a ≡ false → preds limit (s .next) a ≡ 0
+      none-before a e = omega (arith, ltb-false 0 (preds limit (s .next) a) e)
 
-        first : (m : ℕ) → FixedHead m → preds limit (s .next) m ≡ 0
-        first m (inl e) = rw e (none-before 1 (p1 .0))
-        first m (inr (inl e)) = rw e (none-before 3 (p3 .0))
-        first m (inr (inr (inl e))) = rw e (none-before 4 (p4 .0))
-        first m (inr (inr (inr e))) = rw e (none-before 5 (p4 .1))
+      first : (m : ℕ) → FixedHead m → preds limit (s .next) m ≡ 0
+      first m (inl e) = rw e (none-before 1 (p1 .0))
+      first m (inr (inl e)) = rw e (none-before 3 (p3 .0))
+      first m (inr (inr (inl e))) = rw e (none-before 4 (p4 .0))
+      first m (inr (inr (inr e))) = rw e (none-before 5 (p4 .1))
 
-        w : (eqb (times 2 (chainOf (s .next) limit 1)) 0 ≡ false) × ((anyIn (notAbove s last) (side limit s 1) || anyIn (notUpTo s last) (chainOf (s .next) limit 2)) ≡ false)
-        w = neither _ _ (t .free-right)
+      w : (eqb (times 2 (chainOf (s .next) limit 1)) 0 ≡ false) × ((anyIn (notAbove s last) (side limit s 1) || anyIn (notUpTo s last) (chainOf (s .next) limit 2)) ≡ false)
+      w = neither _ _ (t .free-right)
 
-        w1 : (anyIn (notAbove s last) (side limit s 1) ≡ false) × (anyIn (notUpTo s last) (chainOf (s .next) limit 2) ≡ false)
-        w1 = neither _ _ (w .1)
+      w1 : (anyIn (notAbove s last) (side limit s 1) ≡ false) × (anyIn (notUpTo s last) (chainOf (s .next) limit 2) ≡ false)
+      w1 = neither _ _ (w .1)
 
-    -- and where it is true in numbers, no test holds
-    pub passes-tested : Passes limit ex n last s system → Tested
-    unfolding wrongFixed outOfRange wrongLinks wrongAt wrongLink hasPred wrongFreeList notAbove notUpTo
-    passes-tested p = record {
-      fixed-right = rw (eq-eqb (s .count 0) 0 (p .fixed .count-0), eq-eqb (s .block 0) 65535 (p .fixed .block-0), eq-eqb (s .next 0) 0 (p .next-0), eq-eqb (s .count 1) 0 (p .fixed .count-1), eq-eqb (s .block 1) 65535 (p .fixed .block-1), ne-eqb (s .block 2) 0 (p .fixed .block-2), ne-eqb (s .block 5) 0 (p .fixed .block-5));
-      in-range = anyBelow-all (outOfRange s n) limit range;
-      links-right = none-or _ _ (anyBelow-all (wrongAt s) limit link)
-          (none-or _ _ (le-ltb 0 _ (none 1 (inl refl))) (none-or _ _ (le-ltb 0 _ (none 3 (inr (inl refl)))) (none-or _ _ (le-ltb 0 _ (none 4 (inr (inr (inl refl))))) (le-ltb 0 _ (none 5 (inr (inr (inr refl))))))));
-      free-right = none-or _ _ (ne-eqb (times 2 (chainOf (s .next) limit 1)) 0 (λ e. omega (arith, e, p .two-on)))
-          (none-or _ _ (none-in (notAbove s last) (side limit s 1) above) (none-in (notUpTo s last) (chainOf (s .next) limit 2) up-to));
-      none-twice = anyBelow-all (λ x. ltb 1 (owners limit (s .count) (s .block) system x)) n (λ x l. le-ltb 1 _ (p .own .not-two x l));
-      all-owned = anyBelow-all (λ x. eqb (owners limit (s .count) (s .block) system x) 0) n (λ x l. ne-eqb (owners limit (s .count) (s .block) system x) 0 (λ e. omega (arith, e, p .own .not-none x l)));
-    }
-      where
-        none : (m : ℕ) → FixedHead m → preds limit (s .next) m ≤ 0
-        none m f = omega (arith, p .first m f)
+  -- and where it is true in numbers, no test holds
+  pub passes-tested : Passes limit n last s system → Tested
+  unfolding wrongFixed outOfRange wrongLinks wrongAt wrongLink hasPred wrongFreeList notAbove notUpTo
+  passes-tested p = record {
+    fixed-right = rw (eq-eqb (s .count 0) 0 (p .fixed .count-0), eq-eqb (s .block 0) 65535 (p .fixed .block-0), eq-eqb (s .next 0) 0 (p .next-0), eq-eqb (s .count 1) 0 (p .fixed .count-1), eq-eqb (s .block 1) 65535 (p .fixed .block-1), ne-eqb (s .block 2) 0 (p .fixed .block-2), ne-eqb (s .block 5) 0 (p .fixed .block-5));
+    in-range = anyBelow-all (outOfRange s n) limit range;
+    links-right = none-or _ _ (anyBelow-all (wrongAt s) limit link)
+        (none-or _ _ (le-ltb 0 _ (none 1 (inl refl))) (none-or _ _ (le-ltb 0 _ (none 3 (inr (inl refl)))) (none-or _ _ (le-ltb 0 _ (none 4 (inr (inr (inl refl))))) (le-ltb 0 _ (none 5 (inr (inr (inr refl))))))));
+    free-right = none-or _ _ (ne-eqb (times 2 (chainOf (s .next) limit 1)) 0 (λ e. omega (arith, e, p .two-on)))
+        (none-or _ _ (none-in (notAbove s last) (side limit s 1) above) (none-in (notUpTo s last) (chainOf (s .next) limit 2) up-to));
+    none-twice = anyBelow-all (λ x. ltb 1 (owners limit (s .count) (s .block) system x)) n (λ x l. le-ltb 1 _ (p .own .not-two x l));
+    all-owned = anyBelow-all (λ x. eqb (owners limit (s .count) (s .block) system x) 0) n (λ x l. ne-eqb (owners limit (s .count) (s .block) system x) 0 (λ e. omega (arith, e, p .own .not-none x l)));
+  }
+    where
+      none : (m : ℕ) → FixedHead m → preds limit (s .next) m ≤ 0
+      none m f = omega (arith, p .first m f)
 
-        range : (a : ℕ) → a < limit → outOfRange s n a ≡ false
-        range a l =
-            none-and (not (eqb a 0)) (ltb 0 (s .count a) && ltb n (s .block a + s .count a) || not (eqb (s .next a) 0) && eqb (s .block (s .next a)) 0) (λ e.
-            none-or (ltb 0 (s .count a) && ltb n (s .block a + s .count a)) (not (eqb (s .next a) 0) && eqb (s .block (s .next a)) 0)
-            (none-and (ltb 0 (s .count a)) (ltb n (s .block a + s .count a)) (λ c. le-ltb n (s .block a + s .count a) (p .own .fits a l (ltb-true 0 (s .count a) c))))
-            (none-and (not (eqb (s .next a) 0)) (eqb (s .block (s .next a)) 0) (λ c. ne-eqb (s .block (s .next a)) 0 (p .links .closed a l (eqb-false (s .next a) 0 (not-true (eqb (s .next a) 0) c))))))
+      range : (a : ℕ) → a < limit → outOfRange s n a ≡ false
+      range a l =
+          none-and (not (eqb a 0)) (ltb 0 (s .count a) && ltb n (s .block a + s .count a) || not (eqb (s .next a) 0) && eqb (s .block (s .next a)) 0) (λ e.
+          none-or (ltb 0 (s .count a) && ltb n (s .block a + s .count a)) (not (eqb (s .next a) 0) && eqb (s .block (s .next a)) 0)
+          (none-and (ltb 0 (s .count a)) (ltb n (s .block a + s .count a)) (λ c. le-ltb n (s .block a + s .count a) (p .own .fits a l (ltb-true 0 (s .count a) c))))
+          (none-and (not (eqb (s .next a) 0)) (eqb (s .block (s .next a)) 0) (λ c. ne-eqb (s .block (s .next a)) 0 (p .links .closed a (eqb-false (s .next a) 0 (not-true (eqb (s .next a) 0) c))))))
 
-        link : (a : ℕ) → a < limit → wrongAt s a ≡ false
-        link a l =
-            none-and (not (eqb a 0)) (not (eqb (s .block a) 0) && wrongLink s a) (λ e.
-            none-and (not (eqb (s .block a) 0)) (wrongLink s a) (λ u.
-            none-or (ltb 1 (preds limit (s .next) a)) (not (eqb (followed (s .next) limit a) 0))
-            (le-ltb 1 (preds limit (s .next) a) (p .links .one-pred a (eqb-false a 0 (not-true (eqb a 0) e)) (eqb-false (s .block a) 0 (not-true (eqb (s .block a) 0) u))))
-            (same (followed (s .next) limit a) 0 (p .links .ends a (eqb-false (s .block a) 0 (not-true (eqb (s .block a) 0) u))))))
+      link : (a : ℕ) → a < limit → wrongAt s a ≡ false
+      link a l =
+          none-and (not (eqb a 0)) (not (eqb (s .block a) 0) && wrongLink s a) (λ e.
+          none-and (not (eqb (s .block a) 0)) (wrongLink s a) (λ u.
+          none-or (ltb 1 (preds limit (s .next) a)) (not (eqb (followed (s .next) limit a) 0))
+          (le-ltb 1 (preds limit (s .next) a) (p .links .one-pred a (eqb-false a 0 (not-true (eqb a 0) e)) (eqb-false (s .block a) 0 (not-true (eqb (s .block a) 0) u))))
+          (same (followed (s .next) limit a) 0 (p .links .ends a (eqb-false (s .block a) 0 (not-true (eqb (s .block a) 0) u))))))
 
-        above : (a : ℕ) → 0 < times a (side limit s 1) → notAbove s last a ≡ false
-        above a q = none-and (ltb 0 (s .count a)) (leb (s .block a) last) (λ c. lt-leb (s .block a) last (p .high a q (ltb-true 0 (s .count a) c)))
+      above : (a : ℕ) → 0 < times a (side limit s 1) → notAbove s last a ≡ false
+      above a q = none-and (ltb 0 (s .count a)) (leb (s .block a) last) (λ c. lt-leb (s .block a) last (p .high a q (ltb-true 0 (s .count a) c)))
 
-        up-to : (a : ℕ) → 0 < times a (chainOf (s .next) limit 2) → notUpTo s last a ≡ false
-        up-to a q =
-            none-and (ltb 0 (s .count a)) (ltb (last + 1) (s .block a + s .count a)) (λ c.
-            le-ltb (last + 1) (s .block a + s .count a) (omega (arith, p .low a q (ltb-true 0 (s .count a) c))))
+      up-to : (a : ℕ) → 0 < times a (chainOf (s .next) limit 2) → notUpTo s last a ≡ false
+      up-to a q =
+          none-and (ltb 0 (s .count a)) (ltb (last + 1) (s .block a + s .count a)) (λ c.
+          le-ltb (last + 1) (s .block a + s .count a) (omega (arith, p .low a q (ltb-true 0 (s .count a) c))))
 
 -- ---- the table
-
--- a row that answers 0 has failed, and so has the rest
-pub if-zero : (n : ℕ) (t : Bool) (rest : ℕ) → n ≢ 0 → (n if t else rest) ≡ 0 → (t ≡ false) × (rest ≡ 0)
-if-zero n true rest p e = absurd (p e)
-if-zero n false rest p e = (refl, e)
-
-pub firstOf-zero : (a b : ℕ) → firstOf a b ≡ 0 → (a ≡ 0) × (b ≡ 0)
-unfolding firstOf
-firstOf-zero zero b e = (refl, e)
-firstOf-zero (suc a) b e = absurd (omega arith)
-
-pub firstOf-some : (a b k : ℕ) → a ≡ k → 1 ≤ k → firstOf a b ≡ k
-unfolding firstOf
-firstOf-some zero b k e l = absurd (omega arith)
-firstOf-some (suc a) b k e l = e
-
-pub firstOf-none : (a b : ℕ) → a ≡ 0 → firstOf a b ≡ b
-unfolding firstOf
-firstOf-none a b e = rw e
 
 -- a disk has 5 to 65,535 blocks
 pub size-bounds : (img : List ℕ) → wrongSize img ≡ false → (5 ≤ diskSize img) × (diskSize img ≤ 65535)

@@ -17,8 +17,8 @@ use Rattle.laws.specs.Whole.{named-le, AllNamed, Whole, names-head}
 -- 6 to 11 pass, the walk from the root meets no fault, and every head from 6 up is named
 module _ (ex : ℕ → Bool) (n last : ℕ) where
   pub record Accepted (s : Anodes) (system : ℕ → ℕ) (entries : ℕ → List Entered) (marked : Dir → ℕ → Bool) (dirs : List Dir) : Type 0 where
-    pub reading : Reading limit ex n last s
-    pub passes : Passes limit ex n last s system
+    pub reading : Reading limit ex s
+    pub passes : Passes limit n last s system
     pub walked : walk (itemsBy entries marked s) limit (root ∷ []) [] ≡ done dirs
     pub all-named : AllNamed s entries marked dirs
 
@@ -26,7 +26,7 @@ module _ (ex : ℕ → Bool) (n last : ℕ) where
 pub named-range : {ex : ℕ → Bool} {n last : ℕ} {s : Anodes} {system hd sd : ℕ → ℕ} → Good limit ex n last s system hd sd → (entries : ℕ → List Entered) (marked : Dir → ℕ → Bool) (d : Dir) (x : ℕ) →
     faults (itemsBy entries marked s) d ≡ 0 → 0 < namedIn (itemsBy entries marked s) x d → (x ≢ 5) × (x < limit)
 named-range {s = s} g entries marked d x z p = elim (names-head g x) [
-  | inl q ↦ (λ e. omega (arith, e, q .0), g .view .below x (q .1 .in-use))
+  | inl q ↦ (λ e. omega (arith, e, q .0), g .linked .view .below x (q .1 .in-use))
   | inr k ↦ absurd (omega (arith, p, z, named-le entries marked s x k d))
 ]
 

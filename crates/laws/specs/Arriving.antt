@@ -13,13 +13,15 @@ use Rattle.rules.specs.Chains.{covers}
 use Rattle.rules.specs.Space.{refused, planned, rewritten, insertedAfter, fillOr, growOr, growBeforeOr, free, lowestFree, append, put, join}
 use Rattle.laws.specs.Tests.{cond-cases, eq→eqb, both}
 use Rattle.laws.specs.Sums.{changed-other, least-cases}
-use Rattle.laws.specs.Ownership.{covers-none, covers-end, covers-front, hand}
+use Rattle.laws.specs.Ownership.{covers-none, covers-one, covers-end, covers-front, hand}
 use Rattle.laws.specs.LinkChanges.{Which, first, second, third, insertAfter, insertAfter-cases}
-use Rattle.laws.specs.HeadChanges.{insert-head-was, rewrite-head-was}
+use Rattle.laws.specs.HeadChanges.{insert-head-was}
 use Rattle.laws.specs.Blocks.{blocks-rewrite, blocks-fresh}
 use Rattle.laws.specs.Held.{held-rewrite, held-fresh}
 use Rattle.laws.specs.Space.{Good, rewrite-good, insert-good}
-use Rattle.laws.specs.Moves.{Placed}
+use Rattle.laws.specs.Plans.{refused≢planned, planned-same}
+use Rattle.laws.specs.Owners.{self-headed}
+use Rattle.laws.specs.Moves.{rewrite-shift, Placed}
 
 -- block y and the last anode z of its side: z is filled, grows at its end or before its start, or y gets an anode behind it
 pub data Joins (A : ℕ) (ex : ℕ → Bool) (last : ℕ) (s : Anodes) (z y : ℕ) : Type 0 where
@@ -93,12 +95,6 @@ module _ (A : ℕ) (ex : ℕ → Bool) (last : ℕ) where
         ])
   ]
 
-pub refused≢planned : (k : ℕ) (t : Anodes) (ys : List ℕ) → refused k ≡ planned t ys → ⊥
-refused≢planned k t ys e = let z : _≡_ {A = ℕ} 0 1 = cc in omega arith
-
-pub planned-same : (s t : Anodes) (xs ys : List ℕ) → planned s xs ≡ planned t ys → (s ≡ t) × (ys ≡ xs)
-planned-same s t xs ys e = (cc, cc)
-
 module _ {A : ℕ} {ex : ℕ → Bool} {n last : ℕ} {s : Anodes} (system : ℕ → ℕ) {hd sd : ℕ → ℕ} (y : ℕ) (g : Good A ex n last s (hand system y) hd sd) (y0 : y ≢ 0) (yn : y < n)
     (z : ℕ) (z0 : z ≢ 0) (u : s .block z ≢ 0) (high : sd z ≡ 1 → last < y) (low : sd z ≡ 2 → y ≤ last) where
   -- z becomes (c, b) and has gained y
@@ -110,30 +106,28 @@ module _ {A : ℕ} {ex : ℕ → Bool} {n last : ℕ} {s : Anodes} (system : ℕ
       hd′ = hd;
       sd′ = sd;
       good = rewrite-good g z c b system u b0 z0 z1 (λ x. omega (arith, gains x)) (λ l. fits) (λ q l. is-high q) (λ q l. is-low q);
-      kept = λ a q. refl;
-      more = λ h. omega (arith, blocks-rewrite A hd (s .count) z c (g .view .below z u) h, ap (λ (i : ℕ). oneAt (hd z) h * i) e);
-      got = λ h x. omega (arith, held-rewrite A hd (s .count) (s .block) z c b (g .view .below z u) h x, ap (λ (i : ℕ). oneAt (hd z) h * i) (gains x));
-      apart = λ a v q. record { same-count = changed-other (s .count) z c a (λ i. q (ap hd i)); same-block = changed-other (s .block) z b a (λ i. q (ap hd i)); same-next = refl };
-      no-new = λ a d. rewrite-head-was (s .block) z b u b0 (s .next) a d;
+      shift = rewrite-shift s hd z c b u b0;
+      more = λ h. omega (arith, blocks-rewrite A hd (s .count) z c (g .linked .view .below z u) h, ap (λ (i : ℕ). oneAt (hd z) h * i) e);
+      got = λ h x. omega (arith, held-rewrite A hd (s .count) (s .block) z c b (g .linked .view .below z u) h x, ap (λ (i : ℕ). oneAt (hd z) h * i) (gains x));
     }
 
   -- an empty anode is filled
-  pub filled : z ≢ 1 → s .count z ≡ 0 → Placed A ex n last s system hd (hd z) y (rewritten s z 1 y)
+  filled : z ≢ 1 → s .count z ≡ 0 → Placed A ex n last s system hd (hd z) y (rewritten s z 1 y)
   filled z1 e = gained z1 1 y (omega arith) y0
-      (λ x. rw e (omega (arith, covers-front 0 y x, covers-none (suc y) x, covers-none (s .block z) x)))
+      (λ x. rw e (omega (arith, covers-one y x, covers-none (s .block z) x)))
       (omega arith) high (λ q. omega (arith, low q))
 
   -- y comes after the end of z
-  pub grown : z ≢ 1 → s .count z ≢ 0 → s .block z + s .count z ≡ y → Placed A ex n last s system hd (hd z) y (rewritten s z (s .count z + 1) (s .block z))
+  grown : z ≢ 1 → s .count z ≢ 0 → s .block z + s .count z ≡ y → Placed A ex n last s system hd (hd z) y (rewritten s z (s .count z + 1) (s .block z))
   grown z1 c0 e = gained z1 (s .count z + 1) (s .block z) (omega arith) u
       (λ x. rw (add-one (s .count z)) (omega (arith, covers-end (s .count z) (s .block z) x, ap (λ (k : ℕ). oneAt k x) e)))
       (omega arith) (λ q. g .high z q (omega arith)) (λ q. omega (arith, low q))
 
   -- or before its start
-  pub grown-before : z ≢ 1 → s .count z ≢ 0 → y + 1 ≡ s .block z → Placed A ex n last s system hd (hd z) y (rewritten s z (s .count z + 1) y)
+  grown-before : z ≢ 1 → s .count z ≢ 0 → y + 1 ≡ s .block z → Placed A ex n last s system hd (hd z) y (rewritten s z (s .count z + 1) y)
   grown-before z1 c0 e = gained z1 (s .count z + 1) y (omega arith) y0
       (λ x. rw (add-one (s .count z)) (omega (arith, covers-front (s .count z) y x, ap (λ (k : ℕ). covers (s .count z) k x) next-is)))
-      (omega (arith, e, g .own .fits z (g .view .below z u) (omega arith))) high (λ q. omega (arith, e, g .low z q (omega arith)))
+      (omega (arith, e, g .own .fits z (g .linked .view .below z u) (omega arith))) high (λ q. omega (arith, e, g .low z q (omega arith)))
     where
       next-is : suc y ≡ s .block z
       next-is = omega arith
@@ -143,30 +137,47 @@ module _ {A : ℕ} {ex : ℕ → Bool} {n last : ℕ} {s : Anodes} (system : ℕ
   unfolding insertedAfter insertAfter
   appended f fA t =
       let i = free-is A ex last s f t in
+      let good = insert-good g z f 1 y system z0 u (i .0) (i .2) fA (i .1) y0 (λ x. omega (arith, covers-one y x)) (λ p. omega arith) (λ q l. high q) (λ q l. omega (arith, low q)) in
+      let kept : (a : ℕ) → s .block a ≢ 0 → changed hd f (hd z) a ≡ hd a = λ a v. changed-other hd f (hd z) a (λ e. v (ap (s .block) e ∙ i .1)) in
       record {
         hd′ = changed hd f (hd z);
         sd′ = changed sd f (sd z);
-        good = insert-good g z f 1 y system z0 u (i .0) (i .2) fA (i .1) y0 (λ x. omega (arith, one x)) (λ p. omega arith) (λ q l. high q) (λ q l. omega (arith, low q));
-        kept = λ a q. changed-other hd f (hd z) a (λ e. q (ap (s .block) e ∙ i .1));
-        more = λ h. omega (arith, blocks-fresh A hd (s .count) f (hd z) 1 fA (g .free-none f (i .1)) h);
-        got = λ h x. omega (arith, held-fresh A hd (s .count) (s .block) f (hd z) 1 y fA (g .free-none f (i .1)) h x, ap (λ (k : ℕ). oneAt (hd z) h * k) (one x));
-        apart = λ a v q. record {
-          same-count = changed-other (s .count) f 1 a (λ e. v (ap (s .block) e ∙ i .1));
-          same-block = changed-other (s .block) f y a (λ e. v (ap (s .block) e ∙ i .1));
-          same-next = elim (insertAfter-cases (s .next) z f a) [ first c ↦ absurd (q (ap hd (c .0))) | second c ↦ absurd (v (ap (s .block) (c .1) ∙ i .1)) | third c ↦ c .2 ];
+        good = good;
+        shift = record {
+          stays = λ a d. self-headed good a (d .pos) (kept a (d .in-use) ∙ g .heads .at-head a d);
+          no-new = λ a d. insert-head-was (g .linked) z f y u (i .1) a d .1;
+          apart = λ a v q j. record {
+            same-count = changed-other (s .count) f 1 a (λ e. v (ap (s .block) e ∙ i .1));
+            same-block = changed-other (s .block) f y a (λ e. v (ap (s .block) e ∙ i .1));
+            same-next = elim (insertAfter-cases (s .next) z f a) [ first c ↦ absurd (q (ap hd (c .0))) | second c ↦ absurd (v (ap (s .block) (c .1) ∙ i .1)) | third c ↦ c .2 ];
+          };
+          same-hd = λ a v q j. kept a v;
         };
-        no-new = λ a d. insert-head-was (g .view) (g .linked) hd (g .heads) z f y z0 u (λ e. omega (arith, e, i .0)) (i .1) fA y0 a d .1;
+        more = λ h. omega (arith, blocks-fresh A hd (s .count) f (hd z) 1 fA (g .present .free-none f (i .1)) h);
+        got = λ h x. omega (arith, held-fresh A hd (s .count) (s .block) f (hd z) 1 y fA (g .present .free-none f (i .1)) h x, ap (λ (k : ℕ). oneAt (hd z) h * k) (covers-one y x));
       }
-    where
-      one : (x : ℕ) → covers 1 y x ≡ oneAt y x
-      one x = omega (arith, covers-front 0 y x, covers-none (suc y) x)
 
   -- a plan for y that is done
-  pub placed-by : (r t : Anodes) (ys : List ℕ) → planned r (y ∷ []) ≡ planned t ys → Placed A ex n last s system hd (hd z) y r → Placed A ex n last s system hd (hd z) y t × (ys ≡ y ∷ [])
+  placed-by : (r t : Anodes) (ys : List ℕ) → planned r (y ∷ []) ≡ planned t ys → Placed A ex n last s system hd (hd z) y r → Placed A ex n last s system hd (hd z) y t × (ys ≡ y ∷ [])
   placed-by r t ys e w = let q = planned-same r t (y ∷ []) ys e in (rw (q .0) at w, q .1)
 
-  pub append-placed : (t : Anodes) (ys : List ℕ) → append A ex last s z y ≡ planned t ys → Placed A ex n last s system hd (hd z) y t × (ys ≡ y ∷ [])
+  append-placed : (t : Anodes) (ys : List ℕ) → append A ex last s z y ≡ planned t ys → Placed A ex n last s system hd (hd z) y t × (ys ≡ y ∷ [])
   append-placed t ys e = elim (append-cases A ex last s z y) [
     | inl c ↦ placed-by (insertedAfter s z (lowestFree A ex last s) 1 y) t ys (sym (c .2) ∙ e) (appended (lowestFree A ex last s) (c .0) (c .1))
     | inr c ↦ absurd (refused≢planned 28 t ys (sym (c .0) ∙ e))
+  ]
+
+  pub put-placed : z ≢ 1 → (own : Bool) (t : Anodes) (ys : List ℕ) → put A ex last own s z y ≡ planned t ys → Placed A ex n last s system hd (hd z) y t × (ys ≡ y ∷ [])
+  put-placed z1 own t ys e = elim (put-cases A ex last own s z y) [
+    | first c ↦ placed-by (rewritten s z 1 y) t ys (sym (c .1) ∙ e) (filled z1 (c .0))
+    | second c ↦ placed-by (rewritten s z (s .count z + 1) (s .block z)) t ys (sym (c .3) ∙ e) (grown z1 (c .0) (c .2))
+    | third c ↦ append-placed t ys (sym (c .2) ∙ e)
+  ]
+
+  pub join-placed : (t : Anodes) (ys : List ℕ) → join A ex last s z y ≡ planned t ys → Placed A ex n last s system hd (hd z) y t × (ys ≡ y ∷ [])
+  join-placed t ys e = elim (join-cases A ex last s z y) [
+    | fills c ↦ placed-by (rewritten s z 1 y) t ys (sym (c .2) ∙ e) (filled (c .0) (c .1))
+    | ends c ↦ placed-by (rewritten s z (s .count z + 1) (s .block z)) t ys (sym (c .3) ∙ e) (grown (c .0) (c .1) (c .2))
+    | starts c ↦ placed-by (rewritten s z (s .count z + 1) y) t ys (sym (c .3) ∙ e) (grown-before (c .0) (c .1) (c .2))
+    | behind c ↦ append-placed t ys (sym (c .1) ∙ e)
   ]

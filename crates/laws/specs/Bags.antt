@@ -1,13 +1,13 @@
--- Sums over a list, and how often a number stands in one.
+-- Sums over a list, how often a number stands in one, and the lists that its elements give.
 use Prim.Native.Nat.{ℕ, _+_, _*_, _≤_, _<_}
 use mathlib.Core.Path.{_≡_, refl, sym, ap, _∙_}
-use mathlib.Core.Logic.{inl, inr}
-use mathlib.Core.List.{List, [], _∷_, _++_, map}
+use mathlib.Core.Logic.{_≢_, _⊎_, inl, inr}
+use mathlib.Core.List.{List, [], _∷_, _++_, map, append-nil, append-assoc}
 use native.Mathlib.Omega.{arith}
 use lib.ListN.{length}
-use Rattle.rules.specs.Counting.{oneAt, sumBelow, sumList, times, gather}
+use Rattle.rules.specs.Counting.{oneAt, sumBelow, sumList, times, gather, lastOf}
 use Rattle.laws.specs.Tests.{less?}
-use Rattle.laws.specs.Each.{Each, Member, each-all, each-map, each-zero, list-congr-each, list-mono-each}
+use Rattle.laws.specs.Each.{Each, Member, each-all, each-map, each-zero, list-congr-each, list-mono-each, gather-congr-each}
 use Rattle.laws.specs.Sums.{oneAt-cases, oneAt-same, sum-congr, sum-mono, sum-const, sum-zero, sum-add, sum-pick}
 
 module _ {ℓ} {X : Type ℓ} where
@@ -88,6 +88,16 @@ module _ {ℓ κ} {X : Type ℓ} {Y : Type κ} where
   gather-sum f w [] = refl
   gather-sum f w (x ∷ l) = omega (arith, list-append w (f x) (gather f l), gather-sum f w l)
 
+  pub gather-append : (f : X → List Y) (l m : List X) → gather f (l ++ m) ≡ gather f l ++ gather f m
+  unfolding gather
+  gather-append f [] m = refl
+  gather-append f (x ∷ l) m = ap (λ (k : List Y). f x ++ k) (gather-append f l m) ∙ sym (append-assoc (f x) (gather f l) (gather f m))
+
+  -- an element that gives nothing
+  pub gather-skip : (f : X → List Y) (pre post : List X) (x : X) → f x ≡ [] → gather f (pre ++ (x ∷ post)) ≡ gather f (pre ++ post)
+  unfolding gather
+  gather-skip f pre post x e = gather-append f pre (x ∷ post) ∙ ap (λ (l : List Y). gather f pre ++ (l ++ gather f post)) e ∙ sym (gather-append f pre post)
+
   pub map-sum : (f : X → Y) (w : Y → ℕ) (l : List X) → sumList w (map f l) ≡ sumList (λ x. w (f x)) l
   unfolding sumList
   map-sum f w [] = refl
@@ -138,15 +148,26 @@ pub kept-sum : (f f′ : ℕ → ℕ) (l : List ℕ) → ((a : ℕ) → 0 < time
 kept-sum f f′ l e = list-congr-each f′ f l (each-in (λ a. f′ a ≡ f a) l e)
 
 -- two functions that agree on the numbers of a list
-pub gather-kept {ℓ} : {Y : Type ℓ} (f f′ : ℕ → List Y) (l : List ℕ) → ((a : ℕ) → 0 < times a l → f′ a ≡ f a) → gather f′ l ≡ gather f l
-unfolding gather
-gather-kept f f′ [] h = refl
-gather-kept f f′ (x ∷ l) h = rw (h x (times-here x l), gather-kept f f′ l (λ a p. h a (times-later a x l p)))
+pub gather-kept : {Y : Type 0} (f f′ : ℕ → List Y) (l : List ℕ) → ((a : ℕ) → 0 < times a l → f′ a ≡ f a) → gather f′ l ≡ gather f l
+gather-kept f f′ l h = gather-congr-each f′ f l (each-in (λ a. f′ a ≡ f a) l h)
+
+-- but at x, which does not stand in it
+pub gather-off : {Y : Type 0} (f f′ : ℕ → List Y) (x : ℕ) → ((a : ℕ) → a ≢ x → f′ a ≡ f a) → (l : List ℕ) → times x l ≡ 0 → gather f′ l ≡ gather f l
+gather-off f f′ x same l z = gather-kept f f′ l (λ a p. same a (λ i. omega (arith, z, p, ap (λ (b : ℕ). times b l) i)))
 
 pub gather-none {ℓ} : {Y : Type ℓ} (f : ℕ → List Y) (l : List ℕ) → ((a : ℕ) → 0 < times a l → f a ≡ []) → gather f l ≡ []
 unfolding gather
 gather-none f [] h = refl
 gather-none f (x ∷ l) h = rw (h x (times-here x l), gather-none f l (λ a p. h a (times-later a x l p)))
+
+-- where the last number that gives anything gives y behind what it gives otherwise, so does the list
+pub gather-last : (f f′ : ℕ → List ℕ) (pre post : List ℕ) (x y : ℕ) → ((a : ℕ) → a ≢ x → f′ a ≡ f a) → times x pre ≡ 0 → times x post ≡ 0 → gather f post ≡ [] → f x ≡ f′ x ++ (y ∷ []) →
+    gather f (pre ++ (x ∷ post)) ≡ gather f′ (pre ++ (x ∷ post)) ++ (y ∷ [])
+unfolding gather
+gather-last f f′ pre post x y same i j none lost =
+    let was : gather f (pre ++ (x ∷ post)) ≡ gather f pre ++ (f′ x ++ (y ∷ [])) = gather-append f pre (x ∷ post) ∙ rw (none, append-nil (f x), lost) in
+    let now : gather f′ (pre ++ (x ∷ post)) ≡ gather f pre ++ f′ x = gather-append f′ pre (x ∷ post) ∙ rw (gather-off f f′ x same pre i, gather-off f f′ x same post j, none, append-nil (f′ x)) in
+    was ∙ sym (append-assoc (gather f pre) (f′ x) (y ∷ [])) ∙ ap (λ (l : List ℕ). l ++ (y ∷ [])) (sym now)
 
 -- a number that stands in a list is a member of it
 pub times-member : (x : ℕ) (l : List ℕ) → 0 < times x l → Member x l
@@ -180,3 +201,19 @@ pigeonhole l k below once =
       sum-mono (λ x. times x l * 1) (λ x. 1) k (λ i m. omega (arith, once i)),
       sum-const 1 k,
     )
+
+-- ---- the last number of a list
+
+pub last-on : (p : ℕ) (l : List ℕ) → (lastOf p l ≡ p) ⊎ (0 < times (lastOf p l) l)
+unfolding lastOf
+last-on p [] = inl refl
+last-on p (x ∷ l) = inr (elim (last-on x l) [
+  | inl e ↦ rw e (times-here x l)
+  | inr e ↦ times-later (lastOf x l) x l e
+])
+
+-- a list that is not empty, and its last element
+pub last-split : (p x : ℕ) (l : List ℕ) → (pre : List ℕ) × (x ∷ l ≡ pre ++ (lastOf p (x ∷ l) ∷ []))
+unfolding lastOf
+last-split p x [] = ([], refl)
+last-split p x (y ∷ l) = let r = last-split x y l in (x ∷ r .0, ap (λ (k : List ℕ). x ∷ k) (r .1))

@@ -1,14 +1,10 @@
 -- How many blocks the chain of each head has, and what a change of one anode does to that.
 use Prim.Native.Nat.{ℕ, _+_, _*_, _<_}
-use mathlib.Core.Path.{_≡_, refl, sym, _∙_}
-use mathlib.Core.Logic.{_≢_, inl, inr}
+use mathlib.Core.Path.{_≡_, refl, _∙_}
+use mathlib.Core.Logic.{_≢_}
 use native.Mathlib.Omega.{arith}
-use Rattle.rules.specs.Counting.{oneAt, sumBelow, sumList, changed}
-use Rattle.rules.specs.Chains.{chainOf}
-use Rattle.laws.specs.Tests.{same?}
-use Rattle.laws.specs.Sums.{oneAt-other, changed-same, changed-other, sum-congr, sum-zero, sum-swap, sum-update, sum-at}
-use Rattle.laws.specs.Links.{View, Linked}
-use Rattle.laws.specs.Heads.{Head, Heads, head-of-is, chain-sum}
+use Rattle.rules.specs.Counting.{oneAt, sumBelow, changed}
+use Rattle.laws.specs.Sums.{changed-same, changed-other, sum-congr, sum-swap, sum-update, sum-at}
 
 -- the blocks that the table hd gives the head h: the sum of `count` over its anodes
 unfoldable pub blocks : ℕ → (ℕ → ℕ) → (ℕ → ℕ) → ℕ → ℕ
@@ -39,23 +35,3 @@ module _ (A : ℕ) (hd count : ℕ → ℕ) where
     arith,
     rw (changed-same count x c, changed-same hd x m, z) at (blocks-changed A hd count (changed hd x m) (changed count x c) x l (changed-other hd x m) (changed-other count x c) h),
   )
-
--- ---- heads and chains
-
-module _ {A : ℕ} {next block : ℕ → ℕ} (v : View A next block) (k : Linked A next block) (hd : ℕ → ℕ) (t : Heads next block hd) (count : ℕ → ℕ)
-    (free-none : (a : ℕ) → block a ≡ 0 → count a ≡ 0) (zero-none : count 0 ≡ 0) where
-  -- what is no head has no blocks
-  pub blocks-none : (h : ℕ) → (Head next block h → ⊥) → blocks A hd count h ≡ 0
-  unfolding blocks
-  blocks-none h none = sum-zero (λ a. oneAt (hd a) h * count a) A (λ a l. elim (same? a 0) [
-    | inl e ↦ rw (e, zero-none) (omega arith)
-    | inr e ↦ elim (same? (block a) 0) [
-      | inl u ↦ rw (free-none a u) (omega arith)
-      | inr u ↦ rw (oneAt-other (hd a) h (λ q. none (rw q at (head-of-is v k hd t a e u)))) (omega arith)
-    ]
-  ])
-
-  -- and a head's are those of its chain
-  pub blocks-chain : (h : ℕ) → Head next block h → blocks A hd count h ≡ sumList count (chainOf next A h)
-  unfolding blocks
-  blocks-chain h d = sym (chain-sum v k hd t count h d)

@@ -1,38 +1,28 @@
 -- The blocks of a chain in its order: which changes leave the lists of other chains as they are, and what an anode of a chain is to it.
-use Prim.Native.Nat.{ℕ, _≤_, _<_}
+use Prim.Native.Nat.{ℕ, suc, _+_, _-_, _≤_, _<_}
 use mathlib.Core.Path.{_≡_, refl, sym, ap, _∙_}
 use mathlib.Core.Logic.{_≢_}
 use mathlib.Core.Bool.{Bool}
 use mathlib.Core.List.{List, [], _∷_, _++_, append-assoc}
 use native.Mathlib.Omega.{arith}
+use native.Mathlib.Numerals.{add-one}
 use lib.Dec.{T}
-use Rattle.rules.specs.Counting.{times, gather}
+use Rattle.rules.specs.Counting.{times, gather, lastOf}
 use Rattle.rules.specs.Anodes.{Anodes, limit}
 use Rattle.rules.specs.Chains.{chainOf, run, blocksOf, blockCount}
-use Rattle.rules.specs.Space.{rewritten, onChain, dropped, insertedAfter}
+use Rattle.rules.specs.Space.{rewritten, onChain, dropped, insertedAfter, unlinked}
 use Rattle.laws.specs.Tests.{T-false}
 use Rattle.laws.specs.Sums.{oneAt-same, changed-other, changed-pos}
-use Rattle.laws.specs.Bags.{times-cons, times-append, gather-kept}
-use Rattle.laws.specs.LinkChanges.{without, drop-apart, insertAfter, insert-view, insert-linked, insert-after}
-use Rattle.laws.specs.Segments.{Chain}
+use Rattle.laws.specs.Bags.{times-cons, times-append, gather-kept, last-split}
+use Rattle.laws.specs.LinkChanges.{without, drop-apart, insertAfter, insert-linked, insert-after, unlink, unlink-linked, unlink-after}
+use Rattle.laws.specs.Segments.{Seg, Chain, seg-split, seg-last, chain-end}
+use Rattle.laws.specs.Chains.{run-end}
 use Rattle.laws.specs.Links.{the-chain, chain-the, seg-once}
 use Rattle.laws.specs.Heads.{Head, head-chain}
 use Rattle.laws.specs.Space.{Alike, Good, on-chain, dead-head, dead-along, drop-good}
-use Rattle.laws.specs.Frame.{kept-count, Shift, apart-alike, apart-chain}
-
-pub gather-append {ℓ κ} : {X : Type ℓ} {Y : Type κ} (f : X → List Y) (l m : List X) → gather f (l ++ m) ≡ gather f l ++ gather f m
-unfolding gather
-gather-append f [] m = refl
-gather-append {Y = Y} f (x ∷ l) m = ap (λ (k : List Y). f x ++ k) (gather-append f l m) ∙ sym (append-assoc (f x) (gather f l) (gather f m))
-
--- two functions that agree but at x, over a list without x
-pub gather-off : (f f′ : ℕ → List ℕ) (x : ℕ) → ((a : ℕ) → a ≢ x → f′ a ≡ f a) → (l : List ℕ) → times x l ≡ 0 → gather f′ l ≡ gather f l
-gather-off f f′ x same l z = gather-kept f f′ l (λ a p. same a (λ i. omega (arith, z, p, ap (λ (b : ℕ). times b l) i)))
-
--- an element that gives nothing
-pub gather-skip : (f : ℕ → List ℕ) (pre post : List ℕ) (x : ℕ) → f x ≡ [] → gather f (pre ++ (x ∷ post)) ≡ gather f (pre ++ post)
-unfolding gather
-gather-skip f pre post x e = gather-append f pre (x ∷ post) ∙ ap (λ (l : List ℕ). gather f pre ++ (l ++ gather f post)) e ∙ sym (gather-append f pre post)
+use Rattle.laws.specs.Owners.{last-used, last-0}
+use Rattle.laws.specs.Moves.{Shift}
+use Rattle.laws.specs.Frame.{kept-count, shift-alike, shift-chain}
 
 -- the blocks of one anode
 unfoldable pub extent : Anodes → ℕ → List ℕ
@@ -46,28 +36,37 @@ pub blocksOf-extents : (s : Anodes) (h : ℕ) → blocksOf s h ≡ gather (exten
 unfolding blocksOf extent
 blocksOf-extents s h = refl
 
+-- an empty one filled, one with a block more at its end or before its start, and without its last block
+pub extent-filled : (s : Anodes) (a y : ℕ) → s .count a ≡ 0 → run y 1 ≡ extent s a ++ (y ∷ [])
+unfolding extent run
+extent-filled s a y e = rw e
+
+pub extent-longer : (s : Anodes) (a y : ℕ) → s .block a + s .count a ≡ y → run (s .block a) (s .count a + 1) ≡ extent s a ++ (y ∷ [])
+unfolding extent
+extent-longer s a y e = rw (← e, add-one (s .count a)) (run-end (s .block a) (s .count a))
+
+pub extent-before : (s : Anodes) (a y : ℕ) → y + 1 ≡ s .block a → run y (s .count a + 1) ≡ y ∷ extent s a
+unfolding extent run
+extent-before s a y e = rw (← e, add-one (s .count a), add-one y)
+
+pub extent-shorter : (s : Anodes) (x : ℕ) → 0 < s .count x → extent s x ≡ run (s .block x) (s .count x - 1) ++ ((s .block x + (s .count x - 1)) ∷ [])
+unfolding extent
+extent-shorter s x full = let e : s .count x ≡ suc (s .count x - 1) = omega arith in ap (run (s .block x)) e ∙ run-end (s .block x) (s .count x - 1)
+
 -- a chain of the same anodes with the same extents has the same blocks
 pub kept-blocks : (s t : Anodes) (m : ℕ) → chainOf (t .next) limit m ≡ chainOf (s .next) limit m → ((a : ℕ) → 0 < times a (chainOf (s .next) limit m) → extent t a ≡ extent s a) → blocksOf t m ≡ blocksOf s m
 kept-blocks s t m e h = blocksOf-extents t m ∙ ap (gather (extent t)) e ∙ gather-kept (extent s) (extent t) (chainOf (s .next) limit m) h ∙ sym (blocksOf-extents s m)
 
 module _ {ex : ℕ → Bool} {n last : ℕ} {s : Anodes} {system hd sd : ℕ → ℕ} (g : Good limit ex n last s system hd sd) where
-  -- steps on the chain of h leave every other chain but 1's
-  module _ {t : Anodes} {system′ hd′ sd′ : ℕ → ℕ} (g′ : Good limit ex n last t system′ hd′ sd′) {h : ℕ} (shift : Shift s hd t hd′ h) (m : ℕ) (d : Head (s .next) (s .block) m) (m1 : m ≢ 1) (mh : m ≢ h) where
-    -- its anodes read the same
-    pub shift-alike : (a : ℕ) → 0 < times a (chainOf (s .next) limit m) → Alike s t a
-    shift-alike = apart-alike g (shift .apart) m d m1 mh
-
-    -- they are the same anodes
-    pub shift-chain : chainOf (t .next) limit m ≡ chainOf (s .next) limit m
-    shift-chain = apart-chain g (shift .apart) m d m1 mh g′ (shift .stays m d)
-
-    -- and it has as many blocks
+  -- steps on the chains of k and h leave every other
+  module _ {t : Anodes} {system′ hd′ sd′ : ℕ → ℕ} (g′ : Good limit ex n last t system′ hd′ sd′) {k h : ℕ} (shift : Shift s hd t hd′ k h) (m : ℕ) (d : Head (s .next) (s .block) m) (mk : m ≢ k) (mh : m ≢ h) where
+    -- how many blocks it has
     pub shift-count : blockCount t m ≡ blockCount s m
-    shift-count = kept-count s t m shift-chain (λ a p. shift-alike a p .same-count)
+    shift-count = kept-count s t m (shift-chain g g′ shift m d mk mh) (λ a p. shift-alike g g′ shift m d mk mh a p .same-count)
 
-    -- and so its blocks are
+    -- and which
     pub shift-blocks : blocksOf t m ≡ blocksOf s m
-    shift-blocks = kept-blocks s t m shift-chain (λ a p. extent-alike (shift-alike a p))
+    shift-blocks = kept-blocks s t m (shift-chain g g′ shift m d mk mh) (λ a p. extent-alike (shift-alike g g′ shift m d mk mh a p))
 
   -- a fresh head f
   module _ (f : ℕ) (fresh : s .block f ≡ 0) where
@@ -85,9 +84,9 @@ module _ {ex : ℕ → Bool} {n last : ℕ} {s : Anodes} {system hd sd : ℕ →
     -- leaves every other chain
     dropped-chain : chainOf (dropped limit s h .next) limit m ≡ chainOf (s .next) limit m
     unfolding dropped without
-    dropped-chain = chain-the (drop-good g h h6 d none .view) (drop-good g h h6 d none .linked) m (chainOf (s .next) limit m)
+    dropped-chain = chain-the (drop-good g h h6 d none .linked) m (chainOf (s .next) limit m)
         (λ q. rw (T-false (onChain limit s h m) (alive m (g .heads .at-head m c))) (c .in-use))
-        (drop-apart (g .view) (g .linked) (onChain limit s h) (dead-along g h h6 d none) m 0 (chainOf (s .next) limit m) (the-chain (g .view) (g .linked) m (λ q. c .in-use))
+        (drop-apart (g .linked) (onChain limit s h) (dead-along g h h6 d none) m 0 (chainOf (s .next) limit m) (the-chain (g .linked) m (λ q. c .in-use))
         (λ a p. alive a (on-chain g m c a p .0)))
 
     -- and the blocks of it
@@ -100,18 +99,47 @@ module _ {ex : ℕ → Bool} {n last : ℕ} {s : Anodes} {system hd sd : ℕ →
 module _ {A : ℕ} {ex : ℕ → Bool} {n last : ℕ} {s : Anodes} {system hd sd : ℕ → ℕ} (g : Good A ex n last s system hd sd) (m : ℕ) (d : Head (s .next) (s .block) m) (x : ℕ) (pre post : List ℕ)
     (split : chainOf (s .next) A m ≡ pre ++ (x ∷ post)) where
   chain : Chain (s .next) m (pre ++ (x ∷ post))
-  chain = rw split at (head-chain (g .view) (g .linked) m d)
+  chain = rw split at (head-chain (g .linked) m d)
 
   -- x stands in the chain once
   pub stands-once : (times x pre ≡ 0) × (times x post ≡ 0)
   stands-once =
-      let once = seg-once (g .view) (g .linked) m 0 (pre ++ (x ∷ post)) x (λ q. d .in-use) chain in
+      let once = seg-once (g .linked) m 0 (pre ++ (x ∷ post)) x (λ q. d .in-use) chain in
       (omega (arith, once, times-append x pre (x ∷ post), times-cons x x post, oneAt-same x x refl), omega (arith, once, times-append x pre (x ∷ post), times-cons x x post, oneAt-same x x refl))
 
   -- a fresh anode f after x
   pub inserted-chain : x ≢ 0 → s .block x ≢ 0 → (f c b : ℕ) → f ≢ 0 → s .block f ≡ 0 → f < A → b ≢ 0 → chainOf (insertedAfter s x f c b .next) A m ≡ pre ++ (x ∷ (f ∷ post))
   unfolding insertedAfter insertAfter
   inserted-chain x0 u f c b f0 fresh fA b0 =
-      chain-the (insert-view (g .view) (g .linked) x f b x0 u f0 fresh fA b0) (insert-linked (g .view) (g .linked) x f b x0 u f0 fresh fA b0)
+      chain-the (insert-linked (g .linked) x f b x0 u f0 fresh fA b0)
       m (pre ++ (x ∷ (f ∷ post))) (λ q. changed-pos (s .block) f b m b0 (d .in-use))
-      (insert-after (g .view) (g .linked) x f b x0 u f0 fresh fA b0 m pre post (λ q. d .in-use) chain)
+      (insert-after (g .linked) x f b x0 u f0 fresh fA b0 m pre post (λ q. d .in-use) chain)
+
+  -- x, not the head, unlinked after p
+  pub unlinked-chain : (p : ℕ) → s .next p ≡ x → x ≢ 0 → x ≢ m → chainOf (unlinked s p x .next) A m ≡ pre ++ post
+  unfolding unlinked unlink
+  unlinked-chain p px x0 xm = go pre refl (rw (w .2 .0) at (w .1))
+    where
+      w : (y : ℕ) × Seg (s .next) m pre y × Seg (s .next) y (x ∷ post) 0
+      w = seg-split (s .next) m 0 pre (x ∷ post) chain
+
+      go : (l : List ℕ) → pre ≡ l → Seg (s .next) m l x → chainOf (unlink (s .next) p x) A m ≡ l ++ post
+      go [] e c = absurd (xm (sym c))
+      go (b ∷ l) e c =
+          let t = last-split m b l in
+          let end : p ≡ lastOf m (b ∷ l) = g .linked .uniq p (lastOf m (b ∷ l)) (λ z. x0 (sym px ∙ z)) (px ∙ sym (seg-last (s .next) m x b l c)) in
+          let front : b ∷ l ≡ t .0 ++ (p ∷ []) = t .1 ∙ ap (λ (i : ℕ). t .0 ++ (i ∷ [])) (sym end) in
+          let parts : (m : List ℕ) → b ∷ l ++ m ≡ t .0 ++ (p ∷ m) = λ m. ap (λ (i : List ℕ). i ++ m) front ∙ append-assoc (t .0) (p ∷ []) m in
+          chain-the (unlink-linked (g .linked) p x x0 px) m (t .0 ++ (p ∷ post))
+          (λ z. rw (changed-other (s .block) x 0 m (λ i. xm (sym i))) (d .in-use))
+          (unlink-after (g .linked) p x x0 px m (t .0) post (λ z. d .in-use) (rw (ap (λ (i : List ℕ). i ++ (x ∷ post)) e ∙ parts (x ∷ post)) at chain))
+          ∙ sym (parts post)
+
+-- a fresh anode f behind the last of the chain of h
+pub appended-chain : {A : ℕ} {ex : ℕ → Bool} {n last : ℕ} {s : Anodes} {system hd sd : ℕ → ℕ} → Good A ex n last s system hd sd → (h : ℕ) → Head (s .next) (s .block) h → (f c b : ℕ) →
+    f ≢ 0 → s .block f ≡ 0 → f < A → b ≢ 0 → chainOf (insertedAfter s (lastOf h (chainOf (s .next) A h)) f c b .next) A h ≡ chainOf (s .next) A h ++ (f ∷ [])
+appended-chain {A} {s = s} g h d f c b f0 fresh fA b0 =
+    let end = lastOf h (chainOf (s .next) A h) in
+    let split = chain-end (s .next) h (chainOf (s .next) A h) (d .pos) (head-chain (g .linked) h d) in
+    inserted-chain g h d end (split .0) [] (split .1) (last-0 g h d) (last-used g h d) f c b f0 fresh fA b0
+    ∙ sym (ap (λ (l : List ℕ). l ++ (f ∷ [])) (split .1) ∙ append-assoc (split .0) (end ∷ []) (f ∷ []))

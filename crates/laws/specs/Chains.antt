@@ -1,8 +1,9 @@
 -- A chain and a run of blocks followed step by step, a table of the heads of chains, and blocks that an image has whole.
 use Prim.Native.Nat.{ℕ, zero, suc, _+_, _*_, _<_, _≤_}
-use mathlib.Core.Path.{_≡_, refl}
+use mathlib.Core.Path.{_≡_, refl, ap}
 use mathlib.Core.Logic.{_≢_}
 use mathlib.Core.List.{List, [], _∷_, _++_}
+use native.Mathlib.Omega.{arith}
 use native.Mathlib.Numerals.{add-one}
 use lib.ListN.{length, getD}
 use Rattle.rules.specs.Counting.{times, gather}
@@ -46,6 +47,12 @@ run-none b n e = rw e
 pub run-step : (b n m : ℕ) → n ≡ m + 1 → run b n ≡ b ∷ run (b + 1) m
 unfolding run
 run-step b n m e = rw (e, add-one m, add-one b)
+
+-- and ends with its last
+pub run-end : (b c : ℕ) → run b (suc c) ≡ run b c ++ ((b + c) ∷ [])
+unfolding run
+run-end b zero = let e : b + 0 ≡ b = omega arith in rw e
+run-end b (suc c) = let e : b + suc c ≡ suc b + c = omega arith in rw e (ap (λ (l : List ℕ). b ∷ l) (run-end (suc b) c))
 
 -- a table in which exactly the heads of chains stand for themselves, from 6 up
 abbrev pub HeadTable : List ℕ → Anodes → Type 0

@@ -9,7 +9,7 @@ use Rattle.rules.specs.Counting.{changed}
 use Rattle.rules.specs.Chains.{cut}
 use Rattle.laws.specs.Tests.{same?, eqb-cases}
 use Rattle.laws.specs.Sums.{changed-same, changed-other}
-use Rattle.laws.specs.Links.{View, Linked}
+use Rattle.laws.specs.Links.{Linked}
 use Rattle.laws.specs.Heads.{Head}
 use Rattle.laws.specs.LinkChanges.{insertAfter, unlink, without}
 
@@ -28,15 +28,10 @@ same-cut : (next next′ : ℕ → ℕ) (a : ℕ) → next′ a ≡ next a → c
 unfolding cut
 same-cut next next′ a e = rw e
 
-pub cut-view : {A : ℕ} {next block : ℕ → ℕ} → View A next block → View A (cut next) block
-cut-view {A} {next} {block} v = record {
-  below = v .below;
-  free-end = λ a h. elim (cut-cases next a) [ inl c ↦ c .1 | inr c ↦ c .1 ∙ v .free-end a h ];
-  zero-end = elim (cut-cases next 0) [ inl c ↦ c .1 | inr c ↦ c .1 ∙ v .zero-end ];
-}
-
 pub cut-linked : {A : ℕ} {next block : ℕ → ℕ} → Linked A next block → Linked A (cut next) block
 cut-linked {A} {next} {block} k = record {
+  view = record { below = k .view .below; free-end = λ a h. elim (cut-cases next a) [ inl c ↦ c .1 | inr c ↦ c .1 ∙ k .view .free-end a h ] };
+  zero-end = elim (cut-cases next 0) [ inl c ↦ c .1 | inr c ↦ c .1 ∙ k .zero-end ];
   closed = λ a h. elim (cut-cases next a) [ inl c ↦ absurd (h (c .1)) | inr c ↦ rw (c .1) (k .closed a (rw (c .1) at h)) ];
   uniq = λ p q h e. elim (cut-cases next p) [
     | inl c ↦ absurd (h (c .1))

@@ -16,7 +16,6 @@ use Rattle.laws.specs.Bags.{list-nil, list-append, list-some, list-one, 
 use Rattle.laws.specs.Heads.{Head}
 use Rattle.laws.specs.Moves.{Moved}
 use Rattle.laws.specs.Take.{take-good}
-use Rattle.laws.specs.Frame.{take-shift}
 use Rattle.laws.specs.OwnBlock.{Appended, own-appended}
 use Rattle.laws.specs.Each.{Each, each-both, each-pair, each-right, each-zero}
 use Rattle.laws.specs.Items.{wrong, faults}
@@ -98,11 +97,11 @@ module _ {ex : ℕ → Bool} {n last f : ℕ} {s : Anodes} {system hd sd : ℕ �
               ((k : Bool → ℕ → ℕ) → sumList (λ j. k (j .dir) (j .anode)) (itemsAt entries marked t d a) ≡ sumList (λ j. k (j .dir) (j .anode)) (itemsAt entries marked s d a))
               × (sumList wrong (itemsAt entries marked t d a) ≡ 0)
           at-a a on z = let c = dir-taken .2 .kept a on in
-              at-alike s t (λ j. j) (amiss h) (λ y. omega (arith, y, broken-wrong)) (λ j y. (refl, refl, still-fine o h no-file (w .good) (take-shift (o .good) w) j y)) entries entries marked marked d a
+              at-alike s t (λ j. j) (amiss h) (λ y. omega (arith, y, broken-wrong)) (λ j y. (refl, refl, still-fine o h no-file (w .good) (w .shift) j y)) entries entries marked marked d a
               (c .0) (c .1) (λ i. (sym (map-id (entries (s .block a))), refl)) z
 
       -- the state stays accepted but for the chain that nothing names
       pub directory-takes : Orphaned ex n last f t system (take-good (o .good) h dir-head dir-not-1 true t ys e .hd′) (take-good (o .good) h dir-head dir-not-1 true t ys e .sd′) entries marked dirs
-      directory-takes = orphan-shift o h no-file (w .good) (take-shift (o .good) w)
+      directory-takes = orphan-shift o h no-file (w .good) (w .shift)
           (each-both (λ d. d .head ≡ h → T (marked d (dir-taken .0))) (λ d. sumList (amiss h) (items d) ≡ 0) (λ d. d .head ≡ h → AlikeItems items items′ d) dirs
-          (λ d a b q. alike d (a q, b) q) (its (dir-taken .0) (dir-taken .1)) (none-amiss o h no-file (w .good) (take-shift (o .good) w)))
+          (λ d a b q. alike d (a q, b) q) (its (dir-taken .0) (dir-taken .1)) (none-amiss o h no-file (w .good) (w .shift)))

@@ -56,6 +56,11 @@ unfolding sumList
 list-mono-each w u [] e = omega arith
 list-mono-each w u (x ∷ l) e = omega (arith, list-mono-each w u l (e .1), e .0)
 
+pub gather-congr-each {ℓ} : {X : Type ℓ} {Y : Type 0} (f g : X → List Y) (l : List X) → Each (λ x. f x ≡ g x) l → gather f l ≡ gather g l
+unfolding gather
+gather-congr-each f g [] e = refl
+gather-congr-each f g (x ∷ l) e = rw (e .0, gather-congr-each f g l (e .1))
+
 -- what has no weight on a list is 0 at each member
 pub each-zero {ℓ} : {X : Type ℓ} (g : X → ℕ) (l : List X) → sumList g l ≡ 0 → Each (λ x. g x ≡ 0) l
 unfolding sumList

@@ -1,7 +1,7 @@
 -- What a step does to the blocks of the free list: one goes or comes, and the others keep their order.
 use Prim.Native.Nat.{ℕ, suc, _+_, _-_, _<_}
 use mathlib.Core.Path.{_≡_, refl, sym, ap, _∙_}
-use mathlib.Core.Logic.{_≢_, _⊎_, inl, inr}
+use mathlib.Core.Logic.{_≢_, inl, inr}
 use mathlib.Core.Bool.{Bool}
 use mathlib.Core.List.{List, [], _∷_, _++_, append-nil, append-assoc}
 use native.Mathlib.Omega.{arith}
@@ -12,21 +12,20 @@ use Rattle.rules.specs.Chains.{chainOf, run, blocksOf, cut, side}
 use Rattle.rules.specs.Space.{planned, rewritten, insertedAfter, unlinked, withoutFirst, withoutLast, sideOf, lowestFree, append, takeBlock, join, release, giveBack}
 use Rattle.laws.specs.LinkChanges.{first, second, third}
 use Rattle.laws.specs.Sums.{oneAt-same, changed-same, changed-other}
-use Rattle.laws.specs.Bags.{times-append, times-member}
+use Rattle.laws.specs.Bags.{times-append, gather-append, gather-off, gather-skip, times-member}
 use Rattle.laws.specs.Links.{the-chain, seg-used}
 use Rattle.laws.specs.Heads.{Head, times-on-chain}
-use Rattle.laws.specs.Space.{Alike, Good, head-1, on-chain}
+use Rattle.laws.specs.Space.{Good, head-1}
+use Rattle.laws.specs.Sides.{SideHead}
 use Rattle.laws.specs.Searches.{FoundIn}
-use Rattle.laws.specs.Moves.{headed-used}
+use Rattle.laws.specs.Owners.{headed-used}
 use Rattle.laws.specs.Leaving.{full-0, full-1, withoutBlock-cases}
-use Rattle.laws.specs.Arriving.{fills, ends, starts, behind, free-is, append-cases, join-cases, refused≢planned, planned-same}
+use Rattle.laws.specs.Plans.{refused≢planned, planned-same}
+use Rattle.laws.specs.Arriving.{fills, ends, starts, behind, free-is, append-cases, join-cases}
 use Rattle.laws.specs.Take.{free-head, free-after, take-steps, take-placed}
 use Rattle.laws.specs.Give.{side-last-head, give-steps, give-placed}
-use Rattle.laws.specs.Frame.{chain-kept}
 use Rattle.laws.specs.Each.{OneMore}
-use Rattle.laws.specs.ChainBlocks.{gather-append, extent, extent-alike, blocksOf-extents, kept-blocks, gather-off, gather-skip, stands-once, inserted-chain}
-use Rattle.laws.specs.TakenBlocks.{extent-longer, extent-filled}
-use Rattle.laws.specs.GivenBlocks.{unlinked-chain}
+use Rattle.laws.specs.ChainBlocks.{extent, blocksOf-extents, extent-filled, extent-longer, extent-before, shift-blocks, stands-once, inserted-chain, unlinked-chain}
 
 one-around : (y : ℕ) (p l l′ q : List ℕ) → OneMore y l l′ → OneMore y (p ++ (l ++ q)) (p ++ (l′ ++ q))
 one-around y p l l′ q o = (
@@ -44,16 +43,11 @@ one-anode f f′ pre post x y same i j o =
     let now : gather f′ (pre ++ (x ∷ post)) ≡ gather f pre ++ (f′ x ++ gather f post) = gather-append f′ pre (x ∷ post) ∙ rw (gather-off f f′ x same pre i, gather-off f f′ x same post j) in
     rw (gather-append f pre (x ∷ post), now) (one-around y (gather f pre) (f x) (f′ x) (gather f post) o)
 
--- an extent with the block before its start
-extent-before : (s : Anodes) (a y : ℕ) → y + 1 ≡ s .block a → run y (s .count a + 1) ≡ y ∷ extent s a
-unfolding extent run
-extent-before s a y e = rw (← e, add-one (s .count a), add-one y)
-
 -- ---- an anode x of the free list
 
 module _ {ex : ℕ → Bool} {n last : ℕ} {s : Anodes} {system hd sd : ℕ → ℕ} (g : Good limit ex n last s system hd sd) (x : ℕ) (free : hd x ≡ 1) (y : ℕ) where
   split : (pre : List ℕ) × (post : List ℕ) × (chainOf (s .next) limit 1 ≡ pre ++ (x ∷ post))
-  split = times-member x (chainOf (s .next) limit 1) (omega (arith, times-on-chain (g .view) (g .linked) hd (g .heads) 1 (head-1 g) x, oneAt-same (hd x) 1 free))
+  split = times-member x (chainOf (s .next) limit 1) (omega (arith, times-on-chain (g .linked) (g .heads) 1 (head-1 g) x, oneAt-same (hd x) 1 free))
 
   once : (times x (split .0) ≡ 0) × (times x (split .1) ≡ 0)
   once = stands-once g 1 (head-1 g) x (split .0) (split .1) (split .2)
@@ -99,10 +93,10 @@ module _ {ex : ℕ → Bool} {n last : ℕ} {s : Anodes} {system hd sd : ℕ →
       let t = insertedAfter s x f 1 y in
       let pre = split .0 ++ (x ∷ []) in
       let parts : (l : List ℕ) → split .0 ++ (x ∷ l) ≡ pre ++ l = λ l. sym (append-assoc (split .0) (x ∷ []) l) in
-      let none : extent s f ≡ [] = rw (g .free-none f fresh) in
+      let none : extent s f ≡ [] = rw (g .present .free-none f fresh) in
       let new : extent t f ≡ y ∷ [] = rw (changed-same (s .count) f 1, changed-same (s .block) f y) in
       let away : times f (pre ++ split .1) ≡ 0 = rw (split .2 ∙ parts (split .1)) at
-      (seg-used (g .view) (g .linked) 1 0 (chainOf (s .next) limit 1) f (λ q. head-1 g .in-use) (the-chain (g .view) (g .linked) 1 (λ q. head-1 g .in-use)) fresh) in
+      (seg-used (g .linked) 1 0 (chainOf (s .next) limit 1) f (λ q. head-1 g .in-use) (the-chain (g .linked) 1 (λ q. head-1 g .in-use)) fresh) in
       let before : blocksOf s 1 ≡ gather (extent s) (pre ++ (f ∷ split .1)) = was ∙ ap (gather (extent s)) (parts (split .1)) ∙ sym (gather-skip (extent s) pre (split .1) f none) in
       let after : blocksOf t 1 ≡ gather (extent t) (pre ++ (f ∷ split .1)) =
       blocksOf-extents t 1 ∙ ap (gather (extent t)) (inserted-chain g 1 (head-1 g) x (split .0) (split .1) (split .2) x0 u f 1 y f0 fresh fA y0 ∙ parts (f ∷ split .1)) in
@@ -112,14 +106,8 @@ module _ {ex : ℕ → Bool} {n last : ℕ} {s : Anodes} {system hd sd : ℕ →
 -- ---- the steps
 
 module _ {ex : ℕ → Bool} {n last : ℕ} {s : Anodes} {system hd sd : ℕ → ℕ} (g : Good limit ex n last s system hd sd) where
-  -- a change that touches no anode of the free list
-  free-kept : {t : Anodes} {system′ hd′ sd′ : ℕ → ℕ} → Good limit ex n last t system′ hd′ sd′ → ((a : ℕ) → s .block a ≢ 0 → hd a ≡ 1 → Alike s t a) → blocksOf t 1 ≡ blocksOf s 1
-  free-kept {t} g′ alike =
-      let each : (a : ℕ) → 0 < times a (chainOf (s .next) limit 1) → Alike s t a = λ a p. (let o = on-chain g 1 (head-1 g) a p in alike a (o .1) (o .0)) in
-      kept-blocks s t 1 (chain-kept g g′ 1 (head-1 g) (head-1 g′) each) (λ a p. extent-alike (each a p))
-
   -- the first block of x, found first on a side
-  withoutFirst-less : (m : ℕ) (o : (m ≡ 1) ⊎ (m ≡ 2)) (p x : ℕ) → FoundIn (s .count) (cut (s .next)) m (side limit s m) 0 p x →
+  withoutFirst-less : (m : ℕ) (o : SideHead m) (p x : ℕ) → FoundIn (s .count) (cut (s .next)) m (side limit s m) 0 p x →
       OneMore (s .block x) (blocksOf (withoutFirst s p x) 1) (blocksOf s 1)
   unfolding withoutFirst extent run
   withoutFirst-less m o p x f = elim (withoutBlock-cases s 2 p x (s .block x + 1)) [
@@ -168,7 +156,7 @@ module _ {ex : ℕ → Bool} {n last : ℕ} {s : Anodes} {system hd sd : ℕ →
   take-free own t ys e =
       let k = take-steps g h own t ys e in
       let w = take-placed g h d h1 k in
-      (s .block (k .x), w .1, rw (free-kept (k .out .good) (w .0 .good) (λ a v j. w .0 .apart a v (λ q. h1 (sym q ∙ j)))) (withoutFirst-less g (k .m) (k .one-side) (k .p) (k .x) (k .on)))
+      (s .block (k .x), w .1, rw (shift-blocks (k .out .good) (w .0 .good) (w .0 .shift) 1 (head-1 (k .out .good)) (λ q. h1 (sym q)) (λ q. h1 (sym q))) (withoutFirst-less g (k .m) (k .one-side) (k .p) (k .x) (k .on)))
 
   -- and a give puts one among them
   pub give-free : (t : Anodes) (ys : List ℕ) → giveBack limit ex last s h ≡ planned t ys → (y : ℕ) × (ys ≡ y ∷ []) × OneMore y (blocksOf s 1) (blocksOf t 1)
@@ -179,4 +167,4 @@ module _ {ex : ℕ → Bool} {n last : ℕ} {s : Anodes} {system hd sd : ℕ →
       let r = withoutLast s h (k .p) (k .x) in
       let y = s .block (k .x) + (s .count (k .x) - 1) in
       let m = join-more (k .out .good) y (k .some) (lastOf (sideOf last y) (side limit r (sideOf last y))) (side-last-head system y (k .out .good) (k .some) (k .inside)) t ys (k .joins) in
-      (y, w .1, rw (free-kept g (k .out .good) (λ a v j. k .out .apart a (λ q. h1 (sym q ∙ j)))) at m)
+      (y, w .1, rw (shift-blocks g (k .out .good) (k .out .shift) 1 (head-1 g) (λ q. h1 (sym q)) (λ q. h1 (sym q))) at m)

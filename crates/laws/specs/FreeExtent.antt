@@ -5,40 +5,40 @@ use mathlib.Core.Logic.{_⊎_, inl, inr}
 use mathlib.Core.Bool.{Bool, true, false, cond}
 use Rattle.rules.specs.Anodes.{Anodes}
 use Rattle.rules.specs.Chains.{cut, side}
-use Rattle.rules.specs.Space.{refused, nowhere, found, firstFull, freeExtent, takeFrom, takeBlock}
+use Rattle.rules.specs.Space.{refused, Found, nowhere, found, firstFull, freeExtent, takeFrom, takeBlock}
 use Rattle.laws.specs.Space.{Good}
-use Rattle.laws.specs.Sides.{side-chain}
+use Rattle.laws.specs.Sides.{SideHead, side-chain}
 use Rattle.laws.specs.Searches.{FoundIn, one-found, none-found, firstFull-found}
 
 module _ (A : ℕ) (own : Bool) (s : Anodes) where
   -- x after p is found so on one of the two sides
   pub extent-found : {ex : ℕ → Bool} {n last : ℕ} {system hd sd : ℕ → ℕ} → Good A ex n last s system hd sd → (p x : ℕ) → freeExtent A own s ≡ found p x →
-      (m : ℕ) × ((m ≡ 1) ⊎ (m ≡ 2)) × FoundIn (s .count) (cut (s .next)) m (side A s m) 0 p x
+      (m : ℕ) × SideHead m × FoundIn (s .count) (cut (s .next)) m (side A s m) 0 p x
   unfolding freeExtent
   extent-found g p x e = elim (one-found (firstFull (s .count) 0 (side A s (cond own 2 1))) (firstFull (s .count) 0 (side A s (cond own 1 2))) p x e) [
     | inl f ↦ (cond own 2 1, one-side own, on (cond own 2 1) (one-side own) f)
     | inr f ↦ (cond own 1 2, other-side own, on (cond own 1 2) (other-side own) f)
   ]
     where
-      one-side : (b : Bool) → (cond {A = ℕ} b 2 1 ≡ 1) ⊎ (cond {A = ℕ} b 2 1 ≡ 2)
+      one-side : (b : Bool) → SideHead (cond b 2 1)
       one-side true = inr refl
       one-side false = inl refl
 
-      other-side : (b : Bool) → (cond {A = ℕ} b 1 2 ≡ 1) ⊎ (cond {A = ℕ} b 1 2 ≡ 2)
+      other-side : (b : Bool) → SideHead (cond b 1 2)
       other-side true = inl refl
       other-side false = inr refl
 
-      on : (m : ℕ) → (m ≡ 1) ⊎ (m ≡ 2) → firstFull (s .count) 0 (side A s m) ≡ found p x → FoundIn (s .count) (cut (s .next)) m (side A s m) 0 p x
+      on : (m : ℕ) → SideHead m → firstFull (s .count) 0 (side A s m) ≡ found p x → FoundIn (s .count) (cut (s .next)) m (side A s m) 0 p x
       on m o f = firstFull-found (s .count) (cut (s .next)) m 0 0 (side A s m) (side-chain g m o) p x f
 
   -- where it is found on none, neither side has a block
-  pub extent-nowhere : freeExtent A own s ≡ nowhere → (m : ℕ) → (m ≡ 1) ⊎ (m ≡ 2) → firstFull (s .count) 0 (side A s m) ≡ nowhere
+  pub extent-nowhere : freeExtent A own s ≡ nowhere → (m : ℕ) → SideHead m → firstFull (s .count) 0 (side A s m) ≡ nowhere
   unfolding freeExtent
   extent-nowhere e m o =
       let n = none-found (firstFull (s .count) 0 (side A s (cond own 2 1))) (firstFull (s .count) 0 (side A s (cond own 1 2))) e in
       either own (n .0) (n .1) o
     where
-      either : (b : Bool) → firstFull (s .count) 0 (side A s (cond b 2 1)) ≡ nowhere → firstFull (s .count) 0 (side A s (cond b 1 2)) ≡ nowhere → (m ≡ 1) ⊎ (m ≡ 2) → firstFull (s .count) 0 (side A s m) ≡ nowhere
+      either : (b : Bool) → firstFull (s .count) 0 (side A s (cond b 2 1)) ≡ nowhere → firstFull (s .count) 0 (side A s (cond b 1 2)) ≡ nowhere → SideHead m → firstFull (s .count) 0 (side A s m) ≡ nowhere
       either true p q (inl i) = rw i q
       either true p q (inr i) = rw i p
       either false p q (inl i) = rw i p
@@ -54,3 +54,13 @@ module _ (A : ℕ) (own : Bool) (s : Anodes) where
     pub take-found : (p x : ℕ) → freeExtent A own s ≡ found p x → takeBlock A ex last own s h ≡ takeFrom A ex last own s h p x
     unfolding takeBlock
     take-found p x e = rw (e, takeBlock)
+
+    -- which of the two a take is
+    pub take-cases : ((freeExtent A own s ≡ nowhere) × (takeBlock A ex last own s h ≡ refused 27))
+        ⊎ ((p : ℕ) × (x : ℕ) × (freeExtent A own s ≡ found p x) × (takeBlock A ex last own s h ≡ takeFrom A ex last own s h p x))
+    take-cases = go (freeExtent A own s) refl
+      where
+        go : (c : Found) → freeExtent A own s ≡ c → ((freeExtent A own s ≡ nowhere) × (takeBlock A ex last own s h ≡ refused 27))
+            ⊎ ((p : ℕ) × (x : ℕ) × (freeExtent A own s ≡ found p x) × (takeBlock A ex last own s h ≡ takeFrom A ex last own s h p x))
+        go nowhere e = inl (e, take-nowhere e)
+        go (found p x) e = inr (p, x, e, take-found p x e)

@@ -9,17 +9,19 @@ use borrow.Author.Tests.{lt-ltb, le-ltb}
 use Rattle.rules.specs.Counting.{lastOf}
 use Rattle.rules.specs.Anodes.{Anodes}
 use Rattle.rules.specs.Chains.{chainOf, side}
-use Rattle.rules.specs.Space.{refused, planned, rewritten, withoutLast, Found, nowhere, found, lastFull, sideOf, join, release, giveFrom, giveBack}
+use Rattle.rules.specs.Space.{refused, planned, withoutLast, Found, nowhere, found, lastFull, sideOf, release, giveFrom, giveBack}
 use Rattle.laws.specs.Tests.{less?}
+use Rattle.laws.specs.Bags.{last-on}
 use Rattle.laws.specs.Ownership.{hand}
 use Rattle.laws.specs.Links.{the-chain}
 use Rattle.laws.specs.Heads.{Head}
 use Rattle.laws.specs.Space.{Good, on-chain}
-use Rattle.laws.specs.Sides.{head-of-1, side-head, side-start, side-sd}
-use Rattle.laws.specs.Searches.{FoundIn, lastFull-found, last-on}
+use Rattle.laws.specs.Sides.{SideHead, side-free, side-start, side-sd}
+use Rattle.laws.specs.Searches.{FoundIn, lastFull-found}
 use Rattle.laws.specs.Moves.{InHand, Placed, Moved, moved-by}
 use Rattle.laws.specs.Leaving.{last-gone, full-used, full-inside, withoutBlock-out}
-use Rattle.laws.specs.Arriving.{fills, ends, starts, behind, join-cases, refused≢planned, filled, grown, grown-before, placed-by, append-placed}
+use Rattle.laws.specs.Plans.{refused≢planned}
+use Rattle.laws.specs.Arriving.{join-placed}
 
 -- ---- out of the giver's chain
 
@@ -60,7 +62,7 @@ module _ {A : ℕ} {ex : ℕ → Bool} {n last : ℕ} {s : Anodes} (system : ℕ
   end : ℕ
   end = lastOf (sideOf last y) (side A s (sideOf last y))
 
-  one-side : (m ≡ 1) ⊎ (m ≡ 2)
+  one-side : SideHead m
   unfolding m
   one-side = elim (sideOf-cases last y) [ inl c ↦ inl (c .1) | inr c ↦ inr (c .1) ]
 
@@ -81,7 +83,7 @@ module _ {A : ℕ} {ex : ℕ → Bool} {n last : ℕ} {s : Anodes} (system : ℕ
   u q = m0 (sym end-side ∙ g .sides .off end q)
 
   e-head : hd end ≡ 1
-  e-head = side-head g end e0 u ∙ ap hd end-side ∙ elim one-side [ inl c ↦ ap hd c ∙ head-of-1 g | inr c ↦ ap hd c ∙ g .two-on ]
+  e-head = side-free g m one-side end e0 u end-side
 
   high : sd end ≡ 1 → last < y
   unfolding m
@@ -91,17 +93,6 @@ module _ {A : ℕ} {ex : ℕ → Bool} {n last : ℕ} {s : Anodes} (system : ℕ
   unfolding m
   low q = elim (sideOf-cases last y) [ inl c ↦ absurd (omega (arith, q, end-side, c .1)) | inr c ↦ c .0 ]
 
-  join-placed : (t : Anodes) (ys : List ℕ) → join A ex last s end y ≡ planned t ys → Placed A ex n last s system hd (hd end) y t × (ys ≡ y ∷ [])
-  join-placed t ys e = elim (join-cases A ex last s end y) [
-    | fills c ↦ by (rewritten s end 1 y) (sym (c .2) ∙ e) (filled system y g y0 yn end e0 u high low (c .0) (c .1))
-    | ends c ↦ by (rewritten s end (s .count end + 1) (s .block end)) (sym (c .3) ∙ e) (grown system y g y0 yn end e0 u high low (c .0) (c .1) (c .2))
-    | starts c ↦ by (rewritten s end (s .count end + 1) y) (sym (c .3) ∙ e) (grown-before system y g y0 yn end e0 u high low (c .0) (c .1) (c .2))
-    | behind c ↦ append-placed system y g y0 yn end e0 u high low t ys (sym (c .1) ∙ e)
-  ]
-    where
-      by : (r : Anodes) → planned r (y ∷ []) ≡ planned t ys → Placed A ex n last s system hd (hd end) y r → Placed A ex n last s system hd (hd end) y t × (ys ≡ y ∷ [])
-      by r e w = placed-by system y g y0 yn end e0 u high low r t ys e w
-
   -- the last anode of the block's side is on the free list
   pub side-last-head : hd (lastOf (sideOf last y) (side A s (sideOf last y))) ≡ 1
   unfolding end
@@ -109,7 +100,7 @@ module _ {A : ℕ} {ex : ℕ → Bool} {n last : ℕ} {s : Anodes} (system : ℕ
 
   pub release-placed : (t : Anodes) (ys : List ℕ) → release A ex last s y ≡ planned t ys → Placed A ex n last s system hd 1 y t × (ys ≡ y ∷ [])
   unfolding release end
-  release-placed t ys e = rw e-head at (join-placed t ys e)
+  release-placed t ys e = rw e-head at (join-placed system y g y0 yn end e0 u high low t ys e)
 
 -- ---- the whole
 
@@ -126,7 +117,7 @@ pub record Gives (A : ℕ) (ex : ℕ → Bool) (n last : ℕ) (s : Anodes) (syst
 module _ {A : ℕ} {ex : ℕ → Bool} {n last : ℕ} {s : Anodes} {system hd sd : ℕ → ℕ} (g : Good A ex n last s system hd sd) (h : ℕ) (d : Head (s .next) (s .block) h) where
   -- what the search for the last block finds stands on the chain
   pub given-found : (p x : ℕ) → lastFull (s .count) 0 (chainOf (s .next) A h) ≡ found p x → FoundIn (s .count) (s .next) h (chainOf (s .next) A h) 0 p x
-  given-found = lastFull-found (s .count) (s .next) h 0 0 (chainOf (s .next) A h) (the-chain (g .view) (g .linked) h (λ q. d .in-use))
+  given-found = lastFull-found (s .count) (s .next) h 0 0 (chainOf (s .next) A h) (the-chain (g .linked) h (λ q. d .in-use))
 
   module _ (h1 : h ≢ 1) (t : Anodes) (ys : List ℕ) (e : giveBack A ex last s h ≡ planned t ys) where
     -- a give that is done has made these steps

@@ -1,74 +1,25 @@
 -- A give takes the last block off the giver's chain.
-use Prim.Native.Nat.{ℕ, zero, suc, _+_, _-_, _<_}
+use Prim.Native.Nat.{ℕ, zero, suc, _+_, _-_}
 use mathlib.Core.Path.{_≡_, refl, sym, ap, _∙_}
 use mathlib.Core.Logic.{_≢_, inl, inr}
 use mathlib.Core.Bool.{Bool}
 use mathlib.Core.List.{List, [], _∷_, _++_, reverse, append-nil, append-assoc, reverse-cons}
 use native.Mathlib.Omega.{arith}
 use lib.ListN.{length}
-use Rattle.rules.specs.Counting.{sumList, times, gather, lastOf}
+use Rattle.rules.specs.Counting.{sumList, gather}
 use Rattle.rules.specs.Anodes.{Anodes, limit}
 use Rattle.rules.specs.Chains.{chainOf, run, blocksOf}
 use Rattle.rules.specs.Space.{planned, rewritten, unlinked, withoutLast, found, lastFull, giveBack, giveMany}
 use Rattle.laws.specs.Sums.{changed-same, changed-other}
-use Rattle.laws.specs.Bags.{none-at, gather-none}
-use Rattle.laws.specs.Segments.{Seg, Chain, seg-split}
-use Rattle.laws.specs.Links.{the-chain, chain-the}
-use Rattle.laws.specs.LinkChanges.{first, second, third, unlink, unlink-view, unlink-linked, unlink-after}
+use Rattle.laws.specs.Bags.{none-at, gather-none, gather-skip, gather-last}
+use Rattle.laws.specs.LinkChanges.{first, second, third}
 use Rattle.laws.specs.Heads.{Head}
 use Rattle.laws.specs.Space.{Good}
 use Rattle.laws.specs.Searches.{FoundIn, lastFull-split}
-use Rattle.laws.specs.Moves.{Placed, self-headed, hand-stays}
 use Rattle.laws.specs.Leaving.{full-0, withoutBlock-cases}
 use Rattle.laws.specs.Give.{given-found, give-steps, give-placed, give-good}
-use Rattle.laws.specs.Frame.{shift-of, moved-stays}
-use Rattle.laws.specs.Repeated.{repeated-none, repeated-done}
-use Rattle.laws.specs.ChainBlocks.{gather-append, extent, blocksOf-extents, shift-blocks, gather-off, gather-skip, stands-once}
-use Rattle.laws.specs.TakenBlocks.{run-end, last-split}
-
--- the blocks of a list of anodes of which the last that has any loses its last
-gather-lost : (f f′ : ℕ → List ℕ) (pre post : List ℕ) (x y : ℕ) → ((a : ℕ) → a ≢ x → f′ a ≡ f a) → times x pre ≡ 0 → times x post ≡ 0 → gather f post ≡ [] → f x ≡ f′ x ++ (y ∷ []) →
-    gather f (pre ++ (x ∷ post)) ≡ gather f′ (pre ++ (x ∷ post)) ++ (y ∷ [])
-unfolding gather
-gather-lost f f′ pre post x y same i j none lost =
-    let was : gather f (pre ++ (x ∷ post)) ≡ gather f pre ++ (f′ x ++ (y ∷ [])) = gather-append f pre (x ∷ post) ∙ rw (none, append-nil (f x), lost) in
-    let now : gather f′ (pre ++ (x ∷ post)) ≡ gather f pre ++ f′ x = gather-append f′ pre (x ∷ post) ∙ rw (gather-off f f′ x same pre i, gather-off f f′ x same post j, none, append-nil (f′ x)) in
-    was ∙ sym (append-assoc (gather f pre) (f′ x) (y ∷ [])) ∙ ap (λ (l : List ℕ). l ++ (y ∷ [])) (sym now)
-
--- a walk's last anode has for next what comes after the walk
-seg-last : (next : ℕ → ℕ) (a z b : ℕ) (l : List ℕ) → Seg next a (b ∷ l) z → next (lastOf a (b ∷ l)) ≡ z
-unfolding lastOf
-seg-last next a z b [] c = c .2
-seg-last next a z b (x ∷ l) c = seg-last next (next b) z x l (c .2)
-
--- an anode x of the chain of m, not its head, unlinked after p
-pub unlinked-chain : {ex : ℕ → Bool} {n last : ℕ} {s : Anodes} {system hd sd : ℕ → ℕ} → Good limit ex n last s system hd sd → (m : ℕ) → Head (s .next) (s .block) m → (x : ℕ) (pre post : List ℕ) →
-    chainOf (s .next) limit m ≡ pre ++ (x ∷ post) → (p : ℕ) → s .next p ≡ x → x ≢ 0 → x ≢ m → chainOf (unlinked s p x .next) limit m ≡ pre ++ post
-unfolding unlinked unlink
-unlinked-chain {s = s} g m d x pre post split p px x0 xm = go pre refl (rw (w .2 .0) at (w .1))
-  where
-    chain : Chain (s .next) m (pre ++ (x ∷ post))
-    chain = rw split at (the-chain (g .view) (g .linked) m (λ q. d .in-use))
-
-    w : (y : ℕ) × Seg (s .next) m pre y × Seg (s .next) y (x ∷ post) 0
-    w = seg-split (s .next) m 0 pre (x ∷ post) chain
-
-    go : (l : List ℕ) → pre ≡ l → Seg (s .next) m l x → chainOf (unlink (s .next) p x) limit m ≡ l ++ post
-    go [] e c = absurd (xm (sym c))
-    go (b ∷ l) e c =
-        let t = last-split m b l in
-        let end : p ≡ lastOf m (b ∷ l) = g .linked .uniq p (lastOf m (b ∷ l)) (λ z. x0 (sym px ∙ z)) (px ∙ sym (seg-last (s .next) m x b l c)) in
-        let front : b ∷ l ≡ t .0 ++ (p ∷ []) = t .1 ∙ ap (λ (i : ℕ). t .0 ++ (i ∷ [])) (sym end) in
-        let parts : (m : List ℕ) → b ∷ l ++ m ≡ t .0 ++ (p ∷ m) = λ m. ap (λ (i : List ℕ). i ++ m) front ∙ append-assoc (t .0) (p ∷ []) m in
-        chain-the (unlink-view (g .view) (g .linked) p x x0 px) (unlink-linked (g .view) (g .linked) p x x0 px) m (t .0 ++ (p ∷ post))
-        (λ z. rw (changed-other (s .block) x 0 m (λ i. xm (sym i))) (d .in-use))
-        (unlink-after (g .view) (g .linked) p x x0 px m (t .0) post (λ z. d .in-use) (rw (ap (λ (i : List ℕ). i ++ (x ∷ post)) e ∙ parts (x ∷ post)) at chain))
-        ∙ sym (parts post)
-
--- an extent without its last block
-extent-shorter : (s : Anodes) (x : ℕ) → 0 < s .count x → extent s x ≡ run (s .block x) (s .count x - 1) ++ ((s .block x + (s .count x - 1)) ∷ [])
-unfolding extent
-extent-shorter s x full = let e : s .count x ≡ suc (s .count x - 1) = omega arith in ap (run (s .block x)) e ∙ run-end (s .block x) (s .count x - 1)
+use Rattle.laws.specs.Plans.{repeated-none, repeated-done}
+use Rattle.laws.specs.ChainBlocks.{extent, blocksOf-extents, extent-shorter, shift-blocks, stands-once, unlinked-chain}
 
 -- ---- out of the giver's chain
 
@@ -89,7 +40,7 @@ module _ {ex : ℕ → Bool} {n last : ℕ} {s : Anodes} {system hd sd : ℕ →
   lost r same less =
       let once = stands-once g h d x (split .0) (split .1) (split .2) in
       blocksOf-extents s h ∙ ap (gather (extent s)) (split .2)
-      ∙ gather-lost (extent s) (extent r) (split .0) (split .1) x y same (once .0) (once .1) (gather-none (extent s) (split .1) (λ a p. rw (none-at (s .count) (split .1) (split .3) a p))) less
+      ∙ gather-last (extent s) (extent r) (split .0) (split .1) x y same (once .0) (once .1) (gather-none (extent s) (split .1) (λ a p. rw (none-at (s .count) (split .1) (split .3) a p))) less
 
   rewritten-blocks : (c b : ℕ) → s .count x - 1 ≡ c → run b c ≡ run (s .block x) c → blocksOf s h ≡ blocksOf (rewritten s x c b) h ++ (y ∷ [])
   unfolding rewritten extent y
@@ -123,18 +74,13 @@ module _ {ex : ℕ → Bool} {n last : ℕ} {s : Anodes} {system hd sd : ℕ →
 -- ---- the whole
 
 module _ {ex : ℕ → Bool} {n last : ℕ} {s : Anodes} {system hd sd : ℕ → ℕ} (g : Good limit ex n last s system hd sd) (h : ℕ) (d : Head (s .next) (s .block) h) (h1 : h ≢ 1) where
-  -- the block into the free list: the giver's chain has its blocks as before
-  free-placed : {y : ℕ} {t : Anodes} {system′ : ℕ → ℕ} → Placed limit ex n last s system′ hd 1 y t → blocksOf t h ≡ blocksOf s h
-  free-placed w = shift-blocks g (w .good) (shift-of g (w .good) 1 (λ m c. self-headed (w .good) m (c .pos) (w .kept m (c .in-use) ∙ g .heads .at-head m c)) (w .no-new) (λ a u q i. w .apart a u q)) h d h1 h1
-
-module _ {ex : ℕ → Bool} {n last : ℕ} {s : Anodes} {system hd sd : ℕ → ℕ} (g : Good limit ex n last s system hd sd) (h : ℕ) (d : Head (s .next) (s .block) h) (h1 : h ≢ 1) where
   -- a give takes the last block off the blocks of the giver's chain
   pub give-blocks : (t : Anodes) (ys : List ℕ) → giveBack limit ex last s h ≡ planned t ys → blocksOf s h ≡ blocksOf t h ++ ys
   give-blocks t ys e =
       let k = give-steps g h d h1 t ys e in
       let w = give-placed g h d h1 t ys e in
       withoutLast-blocks g h d (k .p) (k .x) (k .is-last)
-      ∙ ap (λ (l : List ℕ). l ++ ((s .block (k .x) + (s .count (k .x) - 1)) ∷ [])) (sym (free-placed (k .out .good) h (hand-stays (k .out) h d) h1 (w .0)))
+      ∙ ap (λ (l : List ℕ). l ++ ((s .block (k .x) + (s .count (k .x) - 1)) ∷ [])) (sym (shift-blocks (k .out .good) (w .0 .good) (w .0 .shift) h (k .out .shift .stays h d) h1 h1))
       ∙ ap (λ (l : List ℕ). blocksOf t h ++ l) (sym (w .1))
 
 -- k gives, one after the other: the last of the chain's blocks, last first
@@ -145,7 +91,7 @@ gives-blocks zero h h1 t zs s system hd sd g d e = let q = repeated-none (λ s. 
 gives-blocks {ex} {n} {last} (suc k) h h1 t zs s system hd sd g d e =
     let (r, ys, xs, q, f, z) = repeated-done (λ s. giveBack limit ex last s h) k s t zs e in
     let w = give-good g h d h1 r ys q in
-    let b = gives-blocks k h h1 t xs r system (w .hd′) (w .sd′) (w .good) (moved-stays g w h d) f in
+    let b = gives-blocks k h h1 t xs r system (w .hd′) (w .sd′) (w .good) (w .shift .stays h d) f in
     let all : zs ≡ w .block ∷ xs = z ∙ ap (λ (l : List ℕ). l ++ xs) (w .handed) in (
       give-blocks g h d h1 r ys q ∙ ap (λ (l : List ℕ). blocksOf r h ++ l) (w .handed) ∙ ap (λ (l : List ℕ). l ++ (w .block ∷ [])) (b .0)
           ∙ append-assoc (blocksOf t h) (reverse xs) (w .block ∷ []) ∙ ap (λ (l : List ℕ). blocksOf t h ++ l) (sym (reverse-cons (w .block) xs) ∙ ap reverse (sym all)),

@@ -12,7 +12,7 @@ use Rattle.laws.specs.Tests.{same?, less?, cond-cases, eq→eqb, both, a
 use Rattle.laws.specs.Sums.{oneAt-cases, oneAt-same, oneAt-some, oneAt-other, sum-congr, sum-zero, sum-member, sum-some, sum-single}
 use Rattle.laws.specs.Bags.{times-nil, times-cons, sum-by-times}
 use Rattle.laws.specs.Segments.{Seg, Chain, seg-zero}
-use Rattle.laws.specs.Links.{View, Linked, preds-none, used, next-pos, above-free, no-preds, seg-used, the-chain}
+use Rattle.laws.specs.Links.{Linked, preds-none, used, next-pos, above-free, no-preds, seg-used, the-chain}
 
 -- a is a head: in use, not 0, and nobody's next
 pub record Head (next block : ℕ → ℕ) (a : ℕ) : Type 0 where
@@ -31,13 +31,13 @@ pub record Heads (next block hd : ℕ → ℕ) : Type 0 where
   pub along : (a : ℕ) → next a ≢ 0 → hd (next a) ≡ hd a
   pub at-head : (a : ℕ) → Head next block a → hd a ≡ a
 
-module _ {A : ℕ} {next block : ℕ → ℕ} (v : View A next block) (k : Linked A next block) where
+module _ {A : ℕ} {next block : ℕ → ℕ} (k : Linked A next block) where
   -- an anode has a predecessor, or is nobody's next
   pub pred? : (a : ℕ) → a ≢ 0 → ((p : ℕ) × (next p ≡ a)) ⊎ ((p : ℕ) → next p ≢ a)
   unfolding preds
   pred? a h = elim (less? 0 (preds A next a)) [
     | inl l ↦ (let s = sum-some (λ p. oneAt (next p) a) A l in inl (s .0, oneAt-some (next (s .0)) a (s .2)))
-    | inr l ↦ inr (no-preds v a h (omega arith))
+    | inr l ↦ inr (no-preds (k .view) a h (omega arith))
   ]
 
   -- induction along chains, from their heads on
@@ -45,23 +45,23 @@ module _ {A : ℕ} {next block : ℕ → ℕ} (v : View A next block) (k : Linke
   chain-ind P base step a h u = go (suc (sumBelow (k .rank) A)) a h u (omega arith)
     where
       go : (r a : ℕ) → a ≢ 0 → block a ≢ 0 → sumBelow (k .rank) A < k .rank a + r → P a
-      go zero a h u l = absurd (omega (arith, sum-member (k .rank) a A (v .below a u)))
+      go zero a h u l = absurd (omega (arith, sum-member (k .rank) a A (k .view .below a u)))
       go (suc r) a h u l = pick (pred? a h) (go r)
         where
           pick : ((p : ℕ) × (next p ≡ a)) ⊎ ((p : ℕ) → next p ≢ a) → ((b : ℕ) → b ≢ 0 → block b ≢ 0 → sumBelow (k .rank) A < k .rank b + r → P b) → P a
           pick (inr n) rest = base a (record { pos = h; in-use = u; no-pred = n })
           pick (inl s) rest =
               let np : next (s .0) ≢ 0 = λ z. h (sym (s .1) ∙ z) in
-              let below = k .falls (s .0) (next-pos v (s .0) np) (used v (s .0) np) in
-              rw (s .1) at (step (s .0) np (rest (s .0) (next-pos v (s .0) np) (used v (s .0) np) (omega (arith, below, ap (k .rank) (s .1)))))
+              let below = k .falls (s .0) (next-pos k (s .0) np) (used (k .view) (s .0) np) in
+              rw (s .1) at (step (s .0) np (rest (s .0) (next-pos k (s .0) np) (used (k .view) (s .0) np) (omega (arith, below, ap (k .rank) (s .1)))))
 
   -- the chain of a head
   pub head-chain : (h : ℕ) → Head next block h → Chain next h (chainOf next A h)
-  head-chain h d = the-chain v k h (λ q. d .in-use)
+  head-chain h d = the-chain k h (λ q. d .in-use)
 
   -- the rules settle the table
-  pub heads-one : (hd hd′ : ℕ → ℕ) → Heads next block hd → Heads next block hd′ → (a : ℕ) → hd a ≡ hd′ a
-  heads-one hd hd′ s t a = elim (same? a 0) [
+  pub heads-one : {hd hd′ : ℕ → ℕ} → Heads next block hd → Heads next block hd′ → (a : ℕ) → hd a ≡ hd′ a
+  heads-one {hd} {hd′} s t a = elim (same? a 0) [
     | inl e ↦ rw e (s .off-zero ∙ sym (t .off-zero))
     | inr e ↦ elim (same? (block a) 0) [
       | inl d ↦ s .off a d ∙ sym (t .off a d)
@@ -96,7 +96,7 @@ module _ {A : ℕ} {next block : ℕ → ℕ} (v : View A next block) (k : Linke
           record {
             pos = λ z. T-not (eqb h 0) (s .0) (eq→eqb h 0 z);
             in-use = λ z. T-not (eqb (block h) 0) (t .0) (eq→eqb (block h) 0 z);
-            no-pred = no-preds v h (λ z. T-not (eqb h 0) (s .0) (eq→eqb h 0 z)) (eqb→eq (preds A next h) 0 (t .1));
+            no-pred = no-preds (k .view) h (λ z. T-not (eqb h 0) (s .0) (eq→eqb h 0 z)) (eqb→eq (preds A next h) 0 (t .1));
           },
           e .1,
         ))
@@ -111,13 +111,13 @@ module _ {A : ℕ} {next block : ℕ → ℕ} (v : View A next block) (k : Linke
   ]
 
   pub head-below : (h : ℕ) → Head next block h → h < A
-  head-below h d = v .below h (d .in-use)
+  head-below h d = k .view .below h (d .in-use)
 
   pub headOf-heads : Heads next block (headOf A next block)
   unfolding headOf
   headOf-heads = record {
     off = λ a z. sum-zero (term a) A (λ h l. elim (heads-cases h) [
-      | inl s ↦ vanish a h (seg-used v k h 0 (chainOf next A h) a (λ q. s .0 .in-use) (head-chain h (s .0)) z)
+      | inl s ↦ vanish a h (seg-used k h 0 (chainOf next A h) a (λ q. s .0 .in-use) (head-chain h (s .0)) z)
       | inr s ↦ none a h (s .1)
     ]);
     off-zero = sum-zero (term 0) A (λ h l. elim (heads-cases h) [
@@ -152,7 +152,7 @@ module _ {A : ℕ} {next block : ℕ → ℕ} (v : View A next block) (k : Linke
 
   -- ---- a table of heads and the chains
 
-  module _ (hd : ℕ → ℕ) (t : Heads next block hd) where
+  module _ {hd : ℕ → ℕ} (t : Heads next block hd) where
     pub head-of-is : (a : ℕ) → a ≢ 0 → block a ≢ 0 → Head next block (hd a)
     head-of-is = chain-ind (λ a. Head next block (hd a)) (λ a d. rw (t .at-head a d) d) (λ a n d. rw (t .along a n) d)
 
@@ -163,7 +163,7 @@ module _ {A : ℕ} {next block : ℕ → ℕ} (v : View A next block) (k : Linke
       where
         step : (a : ℕ) → next a ≢ 0 → times a (chainOf next A (hd a)) ≡ 1 → times (next a) (chainOf next A (hd a)) ≡ 1
         step a n q =
-            let d = head-of-is a (next-pos v a n) (used v a n) in
+            let d = head-of-is a (next-pos k a n) (used (k .view) a n) in
             omega (arith, times-next (hd a) (chainOf next A (hd a)) (head-chain (hd a) d) a n, oneAt-other (hd a) (next a) (λ e. d .no-pred a (sym e)))
 
     -- what stands on one walk has one head
@@ -195,5 +195,5 @@ module _ {A : ℕ} {next block : ℕ → ℕ} (v : View A next block) (k : Linke
     -- a sum over a chain, and over the anodes that the table gives its head
     pub chain-sum : (c : ℕ → ℕ) (h : ℕ) → Head next block h → sumList c (chainOf next A h) ≡ sumBelow (λ a. oneAt (hd a) h * c a) A
     chain-sum c h d =
-        sum-by-times c (chainOf next A h) A (λ x l. seg-used v k h 0 (chainOf next A h) x (λ q. d .in-use) (head-chain h d) (above-free v x l))
+        sum-by-times c (chainOf next A h) A (λ x l. seg-used k h 0 (chainOf next A h) x (λ q. d .in-use) (head-chain h d) (above-free (k .view) x l))
         ∙ sum-congr (λ a. times a (chainOf next A h) * c a) (λ a. oneAt (hd a) h * c a) A (λ a l. ap (λ (y : ℕ). y * c a) (times-on-chain h d a))

@@ -9,7 +9,7 @@ use Rattle.laws.specs.Tests.{less?}
 use Rattle.laws.specs.Sums.{changed-same, changed-other, sum-congr, sum-zero, sum-add, sum-scale, sum-swap, sum-pick}
 use Rattle.laws.specs.Bags.{gather-sum}
 use Rattle.laws.specs.Ownership.{covers-none, covers-front}
-use Rattle.laws.specs.Links.{View, Linked}
+use Rattle.laws.specs.Links.{Linked}
 use Rattle.laws.specs.Heads.{Head, Heads, chain-sum}
 use Rattle.laws.specs.Blocks.{blocks, blocks-changed, blocks-all}
 
@@ -59,7 +59,7 @@ run-sum f b (suc c) n l =
       sum-pick f b n (omega arith),
     )
 
-module _ {A : ℕ} {next block : ℕ → ℕ} (v : View A next block) (k : Linked A next block) (hd : ℕ → ℕ) (t : Heads next block hd) (count : ℕ → ℕ) (n : ℕ)
+module _ {A : ℕ} {next block : ℕ → ℕ} (k : Linked A next block) {hd : ℕ → ℕ} (t : Heads next block hd) (count : ℕ → ℕ) (n : ℕ)
     (fits : (a : ℕ) → a < A → 0 < count a → block a + count a ≤ n) where
   each-run : (f : ℕ → ℕ) (a : ℕ) → a < A → sumList f (run (block a) (count a)) ≡ sumBelow (λ y. covers (count a) (block a) y * f y) n
   unfolding run sumList
@@ -73,7 +73,7 @@ module _ {A : ℕ} {next block : ℕ → ℕ} (v : View A next block) (k : Linke
   unfolding held blocks
   chain-blocks f h d =
       gather-sum (λ a. run (block a) (count a)) f (chainOf next A h)
-      ∙ chain-sum v k hd t (λ a. sumList f (run (block a) (count a))) h d
+      ∙ chain-sum k t (λ a. sumList f (run (block a) (count a))) h d
       ∙ sum-congr (λ a. oneAt (hd a) h * sumList f (run (block a) (count a))) (λ a. sumBelow (λ y. oneAt (hd a) h * (covers (count a) (block a) y * f y)) n) A
       (λ a l. ap (λ (q : ℕ). oneAt (hd a) h * q) (each-run f a l) ∙ sym (sum-scale (λ y. covers (count a) (block a) y * f y) (oneAt (hd a) h) n))
       ∙ sum-swap (λ a y. oneAt (hd a) h * (covers (count a) (block a) y * f y)) A n

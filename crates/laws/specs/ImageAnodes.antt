@@ -42,16 +42,17 @@ module _ (img : List ℕ) where
   unfolding exists existsIn anodesIn
   slot-missing a z = rw (anodeSlots-at img (a / 82), z) (le-ltb (a % 82) 0 (omega arith))
 
-  pub reading-of : (n last : ℕ) → Reading limit (exists img) n last (anodesOf img)
-  reading-of n last = record {
-    low = λ a u. elim (less? a limit) [ inl l ↦ l | inr l ↦ absurd (slot-there a u (slotOf-high img (a / 82) (omega arith))) ];
-    exist = λ a u. rw (slot-exists a (slotOf img (a / 82)) refl (slot-there a u)) tt;
-    free-count = free-count;
-    free-next = free-next;
+  pub reading-of : Reading limit (exists img) (anodesOf img)
+  reading-of = record {
+    view = record {
+      below = λ a u. elim (less? a limit) [ inl l ↦ l | inr l ↦ absurd (slot-there a u (slotOf-high img (a / 82) (omega arith))) ];
+      free-end = free-end;
+    };
+    present = record { exist = λ a u. rw (slot-exists a (slotOf img (a / 82)) refl (slot-there a u)) tt; free-none = free-none };
   }
     where
-      free-count : (a : ℕ) → anodesOf img .block a ≡ 0 → anodesOf img .count a ≡ 0
-      free-count a z = unfold anodesOf inUse in rw (eq-eqb (fieldsOf (anodeSlots img) .block a) 0 z)
+      free-none : (a : ℕ) → anodesOf img .block a ≡ 0 → anodesOf img .count a ≡ 0
+      free-none a z = unfold anodesOf inUse in rw (eq-eqb (fieldsOf (anodeSlots img) .block a) 0 z)
 
-      free-next : (a : ℕ) → anodesOf img .block a ≡ 0 → anodesOf img .next a ≡ 0
-      free-next a z = unfold anodesOf inUse in rw (eq-eqb (fieldsOf (anodeSlots img) .block a) 0 z)
+      free-end : (a : ℕ) → anodesOf img .block a ≡ 0 → anodesOf img .next a ≡ 0
+      free-end a z = unfold anodesOf inUse in rw (eq-eqb (fieldsOf (anodeSlots img) .block a) 0 z)

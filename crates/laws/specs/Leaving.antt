@@ -12,20 +12,21 @@ use Rattle.rules.specs.Chains.{covers}
 use Rattle.rules.specs.Space.{rewritten, unlinked, emptied, withoutBlock}
 use Rattle.laws.specs.Tests.{same?}
 use Rattle.laws.specs.Sums.{changed-same, changed-other, changed-twice}
-use Rattle.laws.specs.Ownership.{covers-none, covers-end, covers-front, hand}
+use Rattle.laws.specs.Ownership.{covers-none, covers-one, covers-end, covers-front, hand}
 use Rattle.laws.specs.LinkChanges.{Which, first, second, third, unlink, unlink-cases}
-use Rattle.laws.specs.HeadChanges.{unlink-head-was, rewrite-head-was}
+use Rattle.laws.specs.HeadChanges.{unlink-head-was}
 use Rattle.laws.specs.Blocks.{blocks, blocks-rewrite, blocks-fresh}
 use Rattle.laws.specs.Held.{held, held-rewrite, held-fresh}
 use Rattle.laws.specs.Space.{Good, rewrite-good, unlink-good}
-use Rattle.laws.specs.Moves.{InHand}
+use Rattle.laws.specs.Owners.{self-headed}
+use Rattle.laws.specs.Moves.{rewrite-shift, InHand}
 
 from-6 : (x : ℕ) → x ≢ 0 → x ≢ 1 → x ≢ 2 → x ≢ 3 → x ≢ 4 → x ≢ 5 → 6 ≤ x
 from-6 x a b c d e f = omega arith
 
 -- the only block of an extent goes
 only-gone : (c b x b′ : ℕ) → c ≡ 1 → covers c b x ≡ oneAt b x + covers 0 b′ x
-only-gone c b x b′ e = rw e (omega (arith, covers-front 0 b x, covers-none (suc b) x, covers-none b′ x))
+only-gone c b x b′ e = rw e (omega (arith, covers-one b x, covers-none b′ x))
 
 -- one more, less one
 one-less : (c : ℕ) → suc c - 1 ≡ c
@@ -43,11 +44,11 @@ last-gone (suc c) b x l = rw (one-less c) (omega (arith, covers-end c b x))
 
 module _ {A : ℕ} {ex : ℕ → Bool} {n last : ℕ} {s : Anodes} {system hd sd : ℕ → ℕ} (g : Good A ex n last s system hd sd) (x : ℕ) (full : 0 < s .count x) where
   pub full-used : s .block x ≢ 0
-  full-used z = omega (arith, full, g .free-none x z)
+  full-used z = omega (arith, full, g .present .free-none x z)
 
   -- its blocks are on the disk
   pub full-inside : s .block x + s .count x ≤ n
-  full-inside = g .own .fits x (g .view .below x full-used) full
+  full-inside = g .own .fits x (g .linked .view .below x full-used) full
 
   pub full-0 : x ≢ 0
   full-0 e = omega (arith, full, ap (s .count) e, g .fixed .count-0)
@@ -71,11 +72,11 @@ module _ {A : ℕ} {ex : ℕ → Bool} {n last : ℕ} {s : Anodes} {system hd sd
     shrunk-fewer : (h : ℕ) → blocks A hd (changed (s .count) x c) h + oneAt (hd x) h ≡ blocks A hd (s .count) h
     shrunk-fewer h =
         let r : blocks A hd (changed (s .count) x c) h + oneAt (hd x) h * suc c ≡ blocks A hd (s .count) h + oneAt (hd x) h * c
-        = rw e at (blocks-rewrite A hd (s .count) x c (g .view .below x full-used) h) in
+        = rw e at (blocks-rewrite A hd (s .count) x c (g .linked .view .below x full-used) h) in
         omega arith
 
     shrunk-lost : (h w : ℕ) → held A hd (changed (s .count) x c) (changed (s .block) x b) h w + oneAt (hd x) h * oneAt y w ≡ held A hd (s .count) (s .block) h w
-    shrunk-lost h w = omega (arith, held-rewrite A hd (s .count) (s .block) x c b (g .view .below x full-used) h w, ap (λ (i : ℕ). oneAt (hd x) h * i) (left w))
+    shrunk-lost h w = omega (arith, held-rewrite A hd (s .count) (s .block) x c b (g .linked .view .below x full-used) h w, ap (λ (i : ℕ). oneAt (hd x) h * i) (left w))
 
     shrunk : InHand A ex n last s system hd (hd x) y (rewritten s x c b)
     unfolding rewritten
@@ -83,12 +84,9 @@ module _ {A : ℕ} {ex : ℕ → Bool} {n last : ℕ} {s : Anodes} {system hd sd
       hd′ = hd;
       sd′ = sd;
       good = shrunk-good;
-      heads-kept = λ a d. g .heads .at-head a d;
-      kept = λ a q. refl;
+      shift = rewrite-shift s hd x c b full-used b0;
       fewer = shrunk-fewer;
       lost = shrunk-lost;
-      apart = λ a q. record { same-count = changed-other (s .count) x c a (λ i. q (ap hd i)); same-block = changed-other (s .block) x b a (λ i. q (ap hd i)); same-next = refl };
-      no-new = λ a d. rewrite-head-was (s .block) x b full-used b0 (s .next) a d;
     }
 
   -- x, with one block and after p, is unlinked
@@ -98,38 +96,43 @@ module _ {A : ℕ} {ex : ℕ → Bool} {n last : ℕ} {s : Anodes} {system hd sd
     unlinked-out = record {
       hd′ = changed hd x 0;
       sd′ = changed sd x 0;
-      good = rw (changed-twice (s .count) x 0 0, changed-twice (s .block) x 65535 0) at
-          (unlink-good (shrunk-good 0 65535 (s .block x) one (omega arith) left (λ l. absurd (omega arith))) p x px x6 (changed-same (s .count) x 0));
-      heads-kept = λ a d. changed-other hd x 0 a (λ i. d .no-pred p (px ∙ sym i)) ∙ g .heads .at-head a d;
-      kept = λ a q. changed-other hd x 0 a (λ i. q (ap hd i));
+      good = good;
+      shift = record {
+        stays = λ a d. self-headed good a (d .pos) (changed-other hd x 0 a (λ i. d .no-pred p (px ∙ sym i)) ∙ g .heads .at-head a d);
+        no-new = λ a d. unlink-head-was (g .linked) p x full-0 px a d .1;
+        apart = λ a u q i. record {
+          same-count = changed-other (s .count) x 0 a (λ i. q (ap hd i));
+          same-block = changed-other (s .block) x 0 a (λ i. q (ap hd i));
+          same-next = elim (unlink-cases (s .next) p x a) [
+            | first c ↦ absurd (q (ap hd (c .0)))
+            | second c ↦ absurd (q (ap hd (c .1) ∙ sym (g .heads .along p (λ z. full-0 (sym px ∙ z))) ∙ ap hd px))
+            | third c ↦ c .2
+          ];
+        };
+        same-hd = λ a u q i. changed-other hd x 0 a (λ i. q (ap hd i));
+      };
       fewer = λ h. omega (arith, shrunk-fewer 0 65535 (s .block x) one (omega arith) left (λ l. absurd (omega arith)) h, off h);
       lost = λ h w. omega (arith, shrunk-lost 0 65535 (s .block x) one (omega arith) left (λ l. absurd (omega arith)) h w, away h w);
-      apart = λ a q. record {
-        same-count = changed-other (s .count) x 0 a (λ i. q (ap hd i));
-        same-block = changed-other (s .block) x 0 a (λ i. q (ap hd i));
-        same-next = elim (unlink-cases (s .next) p x a) [
-          | first c ↦ absurd (q (ap hd (c .0)))
-          | second c ↦ absurd (q (ap hd (c .1) ∙ sym (g .heads .along p (λ z. full-0 (sym px ∙ z))) ∙ ap hd px))
-          | third c ↦ c .2
-        ];
-      };
-      no-new = λ a d. unlink-head-was (g .view) (g .linked) hd (g .heads) p x full-0 px a d .1;
     }
       where
         left : (w : ℕ) → covers (s .count x) (s .block x) w ≡ oneAt (s .block x) w + covers 0 65535 w
         left w = only-gone (s .count x) (s .block x) w 65535 one
 
+        good : Good A ex n last (unlinked s p x) (hand system (s .block x)) (changed hd x 0) (changed sd x 0)
+        good = rw (changed-twice (s .count) x 0 0, changed-twice (s .block) x 65535 0) at
+            (unlink-good (shrunk-good 0 65535 (s .block x) one (omega arith) left (λ l. absurd (omega arith))) p x px x6 (changed-same (s .count) x 0))
+
         off : (h : ℕ) → blocks A (changed hd x 0) (changed (s .count) x 0) h ≡ blocks A hd (changed (s .count) x 0) h
         off h =
             let r : blocks A (changed hd x 0) (changed (s .count) x 0) h ≡ blocks A hd (changed (s .count) x 0) h + oneAt 0 h * 0
-            = rw (changed-twice (s .count) x 0 0) at (blocks-fresh A hd (changed (s .count) x 0) x 0 0 (g .view .below x full-used) (changed-same (s .count) x 0) h) in
+            = rw (changed-twice (s .count) x 0 0) at (blocks-fresh A hd (changed (s .count) x 0) x 0 0 (g .linked .view .below x full-used) (changed-same (s .count) x 0) h) in
             omega arith
 
         away : (h w : ℕ) → held A (changed hd x 0) (changed (s .count) x 0) (changed (s .block) x 0) h w ≡ held A hd (changed (s .count) x 0) (changed (s .block) x 65535) h w
         away h w =
             let r : held A (changed hd x 0) (changed (s .count) x 0) (changed (s .block) x 0) h w ≡ held A hd (changed (s .count) x 0) (changed (s .block) x 65535) h w + oneAt 0 h * covers 0 0 w
             = rw (changed-twice (s .count) x 0 0, changed-twice (s .block) x 65535 0) at
-            (held-fresh A hd (changed (s .count) x 0) (changed (s .block) x 65535) x 0 0 0 (g .view .below x full-used) (changed-same (s .count) x 0) h w) in
+            (held-fresh A hd (changed (s .count) x 0) (changed (s .block) x 65535) x 0 0 0 (g .linked .view .below x full-used) (changed-same (s .count) x 0) h w) in
             omega (arith, r, ap (λ (i : ℕ). oneAt 0 h * i) (covers-none 0 w))
 
 -- ---- an anode x with a block less

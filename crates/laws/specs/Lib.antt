@@ -21,11 +21,11 @@ pub mod Owners
 pub mod Searches
 pub mod Moves
 pub mod Leaving
+pub mod Plans
 pub mod Arriving
+pub mod FreeExtent
 pub mod Take
 pub mod Give
-pub mod Refusals
-pub mod Repeated
 pub mod Frame
 pub mod Items
 pub mod Walks
@@ -34,11 +34,10 @@ pub mod TreeChanges
 pub mod Totals
 pub mod Entries
 pub mod NewDirectory
+pub mod ChainBlocks
 pub mod Whole
 pub mod Resize
-pub mod FreeExtent
 pub mod RefusedSteps
-pub mod ChainBlocks
 pub mod TakenBlocks
 pub mod GivenBlocks
 pub mod FreeBlocks

@@ -11,7 +11,7 @@ use Rattle.laws.specs.Tests.{cond-cases}
 use Rattle.laws.specs.Sums.{oneAt-same, changed-cases, changed-same, changed-other, changed-pos}
 use Rattle.laws.specs.Bags.{times-cons, times-append}
 use Rattle.laws.specs.Segments.{Seg, Chain, seg-append, seg-split, seg-keep}
-use Rattle.laws.specs.Links.{View, Linked, used, next-pos, seg-once, seg-used}
+use Rattle.laws.specs.Links.{Linked, used, next-pos, seg-once, seg-used}
 
 -- one of three
 pub data Which (P Q R : Type 0) : Type 0 where
@@ -66,28 +66,13 @@ used-not-free block p f up fresh e = up (ap block e ∙ fresh)
 pub fresh-no-next : {A : ℕ} {next block : ℕ → ℕ} → Linked A next block → (f : ℕ) → f ≢ 0 → block f ≡ 0 → (x : ℕ) → next x ≢ f
 fresh-no-next {block = block} k f f0 fresh x e = k .closed x (λ z. f0 (sym e ∙ z)) (ap block e ∙ fresh)
 
-module _ {A : ℕ} {next block : ℕ → ℕ} (v : View A next block) (k : Linked A next block) where
+module _ {A : ℕ} {next block : ℕ → ℕ} (k : Linked A next block) where
   module _ (p f b : ℕ) (p0 : p ≢ 0) (up : block p ≢ 0) (f0 : f ≢ 0) (fresh : block f ≡ 0) (fA : f < A) (b0 : b ≢ 0) where
     not-f : p ≢ f
     not-f = used-not-free block p f up fresh
 
     not-next : (x : ℕ) → next x ≢ f
     not-next = fresh-no-next k f f0 fresh
-
-    pub insert-view : View A (insertAfter next p f) (changed block f b)
-    insert-view = record {
-      below = λ a h. elim (changed-cases block f b a) [ inl e ↦ rw (e .0) fA | inr e ↦ v .below a (rw (e .1) at h) ];
-      free-end = λ a h. elim (insertAfter-cases next p f a) [
-        | first e ↦ absurd (up (ap block (sym (e .0)) ∙ sym (changed-other block f b a (λ q. not-f (sym (e .0) ∙ q))) ∙ h))
-        | second e ↦ absurd (b0 (sym (changed-same block f b) ∙ ap (changed block f b) (sym (e .1)) ∙ h))
-        | third e ↦ e .2 ∙ v .free-end a (sym (changed-other block f b a (e .1)) ∙ h)
-      ];
-      zero-end = elim (insertAfter-cases next p f 0) [
-        | first e ↦ absurd (p0 (sym (e .0)))
-        | second e ↦ absurd (f0 (sym (e .1)))
-        | third e ↦ e .2 ∙ v .zero-end
-      ];
-    }
 
     f-used : changed block f b f ≢ 0
     f-used = rw (changed-same block f b) b0
@@ -105,6 +90,19 @@ module _ {A : ℕ} {next block : ℕ → ℕ} (v : View A next block) (k : Linke
 
     pub insert-linked : Linked A (insertAfter next p f) (changed block f b)
     insert-linked = record {
+      view = record {
+        below = λ a h. elim (changed-cases block f b a) [ inl e ↦ rw (e .0) fA | inr e ↦ k .view .below a (rw (e .1) at h) ];
+        free-end = λ a h. elim (insertAfter-cases next p f a) [
+          | first e ↦ absurd (up (ap block (sym (e .0)) ∙ sym (changed-other block f b a (λ q. not-f (sym (e .0) ∙ q))) ∙ h))
+          | second e ↦ absurd (b0 (sym (changed-same block f b) ∙ ap (changed block f b) (sym (e .1)) ∙ h))
+          | third e ↦ e .2 ∙ k .view .free-end a (sym (changed-other block f b a (e .1)) ∙ h)
+        ];
+      };
+      zero-end = elim (insertAfter-cases next p f 0) [
+        | first e ↦ absurd (p0 (sym (e .0)))
+        | second e ↦ absurd (f0 (sym (e .1)))
+        | third e ↦ e .2 ∙ k .zero-end
+      ];
       closed = λ a h. elim (insertAfter-cases next p f a) [
         | first e ↦ rw (e .1) f-used
         | second e ↦ rw (e .2) (changed-pos block f b (next p) b0 (k .closed p (rw (e .2) at h)))
@@ -150,13 +148,13 @@ module _ {A : ℕ} {next block : ℕ → ℕ} (v : View A next block) (k : Linke
         keep : (x : ℕ) → 0 < times x l → insertAfter next p f x ≡ next x
         keep x m = elim (insertAfter-cases next p f x) [
           | first e ↦ absurd (omega (arith, ap (λ (y : ℕ). times y l) (e .0)))
-          | second e ↦ absurd (omega (arith, seg-used v k a z l x u c (ap block (e .1) ∙ fresh)))
+          | second e ↦ absurd (omega (arith, seg-used k a z l x u c (ap block (e .1) ∙ fresh)))
           | third e ↦ e .2
         ]
 
     pub insert-after : (a : ℕ) (l m : List ℕ) → (a ≢ 0 → block a ≢ 0) → Chain next a (l ++ (p ∷ m)) → Chain (insertAfter next p f) a (l ++ (p ∷ (f ∷ m)))
     insert-after a l m u c =
-        let once = seg-once v k a 0 (l ++ (p ∷ m)) p u c in
+        let once = seg-once k a 0 (l ++ (p ∷ m)) p u c in
         let s = seg-split next a 0 l (p ∷ m) c in
         seg-append (insertAfter next p f) a (s .0) 0 l (p ∷ (f ∷ m))
         (insert-apart a (s .0) l u (s .1) (omega (arith, once, times-append p l (p ∷ m), times-cons p p m, oneAt-same p p refl)))
@@ -169,13 +167,13 @@ module _ {A : ℕ} {next block : ℕ → ℕ} (v : View A next block) (k : Linke
     next-there e = x0 (sym px ∙ e)
 
     pub pred-used : block p ≢ 0
-    pred-used = used v p next-there
+    pred-used = used (k .view) p next-there
 
     pub unlink-used : block x ≢ 0
     unlink-used = rw px at (k .closed p next-there)
 
     pub pred-pos : p ≢ 0
-    pred-pos = next-pos v p next-there
+    pred-pos = next-pos k p next-there
 
     ranked : k .rank x < k .rank p
     ranked = rw px at (k .falls p pred-pos pred-used)
@@ -186,23 +184,21 @@ module _ {A : ℕ} {next block : ℕ → ℕ} (v : View A next block) (k : Linke
     kept : (a : ℕ) → a ≢ x → block a ≢ 0 → changed block x 0 a ≢ 0
     kept a h u = rw (changed-other block x 0 a h) u
 
-    pub unlink-view : View A (unlink next p x) (changed block x 0)
-    unlink-view = record {
-      below = λ a h. elim (changed-cases block x 0 a) [ inl e ↦ absurd (h (e .1)) | inr e ↦ v .below a (rw (e .1) at h) ];
-      free-end = λ a h. elim (unlink-cases next p x a) [
-        | first e ↦ e .1
-        | second e ↦ absurd (kept a (e .0) (rw (e .1) pred-used) h)
-        | third e ↦ e .2 ∙ v .free-end a (sym (changed-other block x 0 a (e .0)) ∙ h)
-      ];
+    pub unlink-linked : Linked A (unlink next p x) (changed block x 0)
+    unlink-linked = record {
+      view = record {
+        below = λ a h. elim (changed-cases block x 0 a) [ inl e ↦ absurd (h (e .1)) | inr e ↦ k .view .below a (rw (e .1) at h) ];
+        free-end = λ a h. elim (unlink-cases next p x a) [
+          | first e ↦ e .1
+          | second e ↦ absurd (kept a (e .0) (rw (e .1) pred-used) h)
+          | third e ↦ e .2 ∙ k .view .free-end a (sym (changed-other block x 0 a (e .0)) ∙ h)
+        ];
+      };
       zero-end = elim (unlink-cases next p x 0) [
         | first e ↦ e .1
         | second e ↦ absurd (pred-pos (sym (e .1)))
-        | third e ↦ e .2 ∙ v .zero-end
+        | third e ↦ e .2 ∙ k .zero-end
       ];
-    }
-
-    pub unlink-linked : Linked A (unlink next p x) (changed block x 0)
-    unlink-linked = record {
       closed = λ a h. elim (unlink-cases next p x a) [
         | first e ↦ absurd (h (e .1))
         | second e ↦ rw (e .2) (kept (next x) (λ q. omega (arith, k .falls x x0 unlink-used, ap (k .rank) q)) (k .closed x (rw (e .2) at h)))
@@ -251,25 +247,23 @@ module _ {A : ℕ} {next block : ℕ → ℕ} (v : View A next block) (k : Linke
         (s .2 .0, s .2 .1, rw un-p (unlink-apart (next x) 0 m (s .2 .2 .2) (omega (arith, once p, oneAt-same p p refl)) (omega (arith, once x, oneAt-same x x refl))))
       where
         once : (y : ℕ) → times y l + (oneAt p y + (oneAt x y + times y m)) ≤ 1
-        once y = omega (arith, seg-once v k a 0 (l ++ (p ∷ (x ∷ m))) y u c, times-append y l (p ∷ (x ∷ m)), times-cons y p (x ∷ m), times-cons y x m)
+        once y = omega (arith, seg-once k a 0 (l ++ (p ∷ (x ∷ m))) y u c, times-append y l (p ∷ (x ∷ m)), times-cons y p (x ∷ m), times-cons y x m)
 
   -- ---- a fresh anode is a chain of its own: no next changes
 
   module _ (f b : ℕ) (f0 : f ≢ 0) (fresh : block f ≡ 0) (fA : f < A) (b0 : b ≢ 0) where
-    pub head-view : View A next (changed block f b)
-    head-view = record {
-      below = λ a h. elim (changed-cases block f b a) [ inl e ↦ rw (e .0) fA | inr e ↦ v .below a (rw (e .1) at h) ];
-      free-end = λ a h. elim (changed-cases block f b a) [ inl e ↦ absurd (b0 (sym (e .1) ∙ h)) | inr e ↦ v .free-end a (sym (e .1) ∙ h) ];
-      zero-end = v .zero-end;
-    }
-
     pub head-linked : Linked A next (changed block f b)
     head-linked = record {
+      view = record {
+        below = λ a h. elim (changed-cases block f b a) [ inl e ↦ rw (e .0) fA | inr e ↦ k .view .below a (rw (e .1) at h) ];
+        free-end = λ a h. elim (changed-cases block f b a) [ inl e ↦ absurd (b0 (sym (e .1) ∙ h)) | inr e ↦ k .view .free-end a (sym (e .1) ∙ h) ];
+      };
+      zero-end = k .zero-end;
       closed = λ a h. changed-pos block f b (next a) b0 (k .closed a h);
       uniq = k .uniq;
       rank = changed (k .rank) f (suc (k .rank 0));
       falls = λ a a0 u. elim (changed-cases block f b a) [
-        | inl e ↦ rw (e .0, v .free-end f fresh, changed-same (k .rank) f (suc (k .rank 0)), changed-other (k .rank) f (suc (k .rank 0)) 0 (λ q. f0 (sym q))) (omega arith)
+        | inl e ↦ rw (e .0, k .view .free-end f fresh, changed-same (k .rank) f (suc (k .rank 0)), changed-other (k .rank) f (suc (k .rank 0)) 0 (λ q. f0 (sym q))) (omega arith)
         | inr e ↦ omega (arith, changed-other (k .rank) f (suc (k .rank 0)) a (e .0), changed-other (k .rank) f (suc (k .rank 0)) (next a) (fresh-no-next k f f0 fresh a), k .falls a a0 (rw (e .1) at u))
       ];
     }
@@ -277,18 +271,16 @@ module _ {A : ℕ} {next block : ℕ → ℕ} (v : View A next block) (k : Linke
   -- ---- whole chains dropped: what `dead` says goes, and it says the same of an anode and its next
 
   module _ (dead : ℕ → Bool) (along : (a : ℕ) → next a ≢ 0 → dead (next a) ≡ dead a) where
-    pub drop-view : View A (without dead next) (without dead block)
-    drop-view = record {
-      below = λ a h. elim (without-cases dead block a) [ inl e ↦ absurd (h (e .1)) | inr e ↦ v .below a (rw (e .1) at h) ];
-      free-end = λ a h. elim (without-cases dead next a) [
-        | inl e ↦ e .1
-        | inr e ↦ e .1 ∙ v .free-end a (sym (without-other dead block a (e .0)) ∙ h)
-      ];
-      zero-end = elim (without-cases dead next 0) [ inl e ↦ e .1 | inr e ↦ e .1 ∙ v .zero-end ];
-    }
-
     pub drop-linked : Linked A (without dead next) (without dead block)
     drop-linked = record {
+      view = record {
+        below = λ a h. elim (without-cases dead block a) [ inl e ↦ absurd (h (e .1)) | inr e ↦ k .view .below a (rw (e .1) at h) ];
+        free-end = λ a h. elim (without-cases dead next a) [
+          | inl e ↦ e .1
+          | inr e ↦ e .1 ∙ k .view .free-end a (sym (without-other dead block a (e .0)) ∙ h)
+        ];
+      };
+      zero-end = elim (without-cases dead next 0) [ inl e ↦ e .1 | inr e ↦ e .1 ∙ k .zero-end ];
       closed = λ a h. elim (without-cases dead next a) [
         | inl e ↦ absurd (h (e .1))
         | inr e ↦ rw (e .1, without-other dead block (next a) (λ d. e .0 (rw (along a (rw (e .1) at h)) at d))) (k .closed a (rw (e .1) at h))
@@ -319,15 +311,10 @@ module _ (block : ℕ → ℕ) (x b : ℕ) (u : block x ≢ 0) (b0 : b ≢ 0) wh
   pub use-same : (a : ℕ) → block a ≡ 0 → changed block x b a ≡ 0
   use-same a h = elim (changed-cases block x b a) [ inl e ↦ absurd (u (ap block (sym (e .0)) ∙ h)) | inr e ↦ e .1 ∙ h ]
 
-  pub rewrite-view : {A : ℕ} {next : ℕ → ℕ} → View A next block → View A next (changed block x b)
-  rewrite-view v = record {
-    below = λ a h. v .below a (λ z. h (use-same a z));
-    free-end = λ a h. v .free-end a (same-use a h);
-    zero-end = v .zero-end;
-  }
-
   pub rewrite-linked : {A : ℕ} {next : ℕ → ℕ} → Linked A next block → Linked A next (changed block x b)
   rewrite-linked {next = next} k = record {
+    view = record { below = λ a h. k .view .below a (λ z. h (use-same a z)); free-end = λ a h. k .view .free-end a (same-use a h) };
+    zero-end = k .zero-end;
     closed = λ a h z. k .closed a h (same-use (next a) z);
     uniq = k .uniq;
     rank = k .rank;

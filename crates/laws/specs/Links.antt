@@ -12,21 +12,26 @@ use Rattle.laws.specs.Sums.{oneAt-cases, oneAt-same, oneAt-some, oneAt-o
 use Rattle.laws.specs.Bags.{times-nil, times-cons, pigeonhole}
 use Rattle.laws.specs.Segments.{Seg, Chain, followed-zero, chainOf-is, chain-is, chain-ends, chain-one, seg-avoids}
 
--- the view of an image: what reading gives, whatever the image
+-- what reading an image gives, whatever the image: an anode in use is below A, and a free one has no next
 pub record View (A : ℕ) (next block : ℕ → ℕ) : Type 0 where
   pub below : (a : ℕ) → block a ≢ 0 → a < A
   pub free-end : (a : ℕ) → block a ≡ 0 → next a ≡ 0
-  pub zero-end : next 0 ≡ 0
+
+-- every next that is not 0 is in use
+abbrev pub Closed : (ℕ → ℕ) → (ℕ → ℕ) → Type 0
+Closed next block = (a : ℕ) → next a ≢ 0 → block (next a) ≢ 0
 
 -- refusals 7 (its second half) and 8
 pub record Checked (A : ℕ) (next block : ℕ → ℕ) : Type 0 where
-  pub closed : (a : ℕ) → a < A → next a ≢ 0 → block (next a) ≢ 0
+  pub closed : Closed next block
   pub one-pred : (x : ℕ) → x ≢ 0 → block x ≢ 0 → preds A next x ≤ 1
   pub ends : (a : ℕ) → block a ≢ 0 → followed next A a ≡ 0
 
--- what to prove with: a rank that falls along next says that every chain ends
+-- what to prove with: anode 0 has no next, and a rank that falls along next says that every chain ends
 pub record Linked (A : ℕ) (next block : ℕ → ℕ) : Type 0 where
-  pub closed : (a : ℕ) → next a ≢ 0 → block (next a) ≢ 0
+  pub view : View A next block
+  pub zero-end : next 0 ≡ 0
+  pub closed : Closed next block
   pub uniq : (p q : ℕ) → next p ≢ 0 → next p ≡ next q → p ≡ q
   pub rank : ℕ → ℕ
   pub falls : (a : ℕ) → a ≢ 0 → block a ≢ 0 → rank (next a) < rank a
@@ -60,9 +65,6 @@ module _ {A : ℕ} {next block : ℕ → ℕ} (v : View A next block) where
   pub next-below : (a : ℕ) → next a ≢ 0 → a < A
   next-below a h = v .below a (used a h)
 
-  pub next-pos : (a : ℕ) → next a ≢ 0 → a ≢ 0
-  next-pos a h e = h (rw e (v .zero-end))
-
   pub above-free : (a : ℕ) → A ≤ a → block a ≡ 0
   above-free a h = elim (same? (block a) 0) [ inl e ↦ e | inr e ↦ absurd (omega (arith, v .below a e)) ]
 
@@ -76,9 +78,11 @@ module _ {A : ℕ} {next block : ℕ → ℕ} (v : View A next block) where
   shorter a [] m h c d = absurd (h c)
   shorter a (b ∷ l) m h c d = omega (arith, ap length (chain-one next (next b) m l (rw (c .0) at d) (c .2)))
 
-  pub linked : Checked A next block → Linked A next block
-  linked k = record {
-    closed = λ a h. k .closed a (next-below a h) h;
+  pub linked : next 0 ≡ 0 → Checked A next block → Linked A next block
+  linked zero-end k = record {
+    view = v;
+    zero-end = zero-end;
+    closed = k .closed;
     uniq = uniq;
     rank = λ a. length (chainOf next A a);
     falls = λ a h u. shorter a (chainOf next A a) (chainOf next A (next a)) h (chainOf-is next A a (k .ends a u)) (chainOf-is next A (next a) (next-ends a u (same? (next a) 0)));
@@ -89,64 +93,67 @@ module _ {A : ℕ} {next block : ℕ → ℕ} (v : View A next block) where
         | inl s ↦ s
         | inr s ↦ absurd (omega (
           arith,
-          k .one-pred (next p) h (k .closed p (next-below p h) h),
+          k .one-pred (next p) h (k .closed p h),
           preds-two A next (next p) p (next-below p h) refl q (next-below q (λ z. h (e ∙ z))) s (sym e),
         ))
       ]
 
       next-ends : (a : ℕ) → block a ≢ 0 → (next a ≡ 0) ⊎ (next a ≢ 0) → followed next A (next a) ≡ 0
-      next-ends a u (inl e) = rw e (followed-zero next A (v .zero-end))
-      next-ends a u (inr e) = k .ends (next a) (k .closed a (v .below a u) e)
+      next-ends a u (inl e) = rw e (followed-zero next A zero-end)
+      next-ends a u (inr e) = k .ends (next a) (k .closed a e)
 
-  -- ---- and back
+-- ---- and back
 
-  module _ (k : Linked A next block) where
-    -- the chain from an anode in use, found by its rank
-    pub chain-found : (r a : ℕ) → (a ≢ 0 → block a ≢ 0) → k .rank a < r → (l : List ℕ) × Chain next a l
-    chain-found zero a u h = absurd (omega arith)
-    chain-found (suc r) a u h = go (same? a 0) (chain-found r (next a))
-      where
-        go : (a ≡ 0) ⊎ (a ≢ 0) → ((next a ≢ 0 → block (next a) ≢ 0) → k .rank (next a) < r → (l : List ℕ) × Chain next (next a) l) → (l : List ℕ) × Chain next a l
-        go (inl e) rest = ([], e)
-        go (inr e) rest = let t = rest (k .closed a) (omega (arith, k .falls a e (u e))) in (a ∷ t .0, (refl, e, t .1))
+module _ {A : ℕ} {next block : ℕ → ℕ} (k : Linked A next block) where
+  pub next-pos : (a : ℕ) → next a ≢ 0 → a ≢ 0
+  next-pos a h e = h (rw e (k .zero-end))
 
-    -- in a walk no rank is above the first, and so none stands there twice
-    pub seg-rank : (a z : ℕ) (l : List ℕ) (x : ℕ) → (a ≢ 0 → block a ≢ 0) → Seg next a l z → k .rank a < k .rank x → times x l ≡ 0
-    seg-rank a z l x u c h = seg-avoids next x (λ b. (b ≢ 0 → block b ≢ 0) × (k .rank b < k .rank x))
-        (λ b b0 p. (λ e. omega (arith, p .1, ap (k .rank) e), (k .closed b, omega (arith, p .1, k .falls b b0 (p .0 b0))))) a z l (u, h) c
+  -- the chain from an anode in use, found by its rank
+  pub chain-found : (r a : ℕ) → (a ≢ 0 → block a ≢ 0) → k .rank a < r → (l : List ℕ) × Chain next a l
+  chain-found zero a u h = absurd (omega arith)
+  chain-found (suc r) a u h = go (same? a 0) (chain-found r (next a))
+    where
+      go : (a ≡ 0) ⊎ (a ≢ 0) → ((next a ≢ 0 → block (next a) ≢ 0) → k .rank (next a) < r → (l : List ℕ) × Chain next (next a) l) → (l : List ℕ) × Chain next a l
+      go (inl e) rest = ([], e)
+      go (inr e) rest = let t = rest (k .closed a) (omega (arith, k .falls a e (u e))) in (a ∷ t .0, (refl, e, t .1))
 
-    pub seg-once : (a z : ℕ) (l : List ℕ) (x : ℕ) → (a ≢ 0 → block a ≢ 0) → Seg next a l z → times x l ≤ 1
-    seg-once a z [] x u c = omega (arith, times-nil x)
-    seg-once a z (b ∷ l) x u c =
-        let nb : block b ≢ 0 = rw (c .0) at u (c .1) in
-        elim (oneAt-cases b x) [
-          | inl e ↦ omega (arith, times-cons x b l, seg-rank (next b) z l x (k .closed b) (c .2) (omega (arith, k .falls b (c .1) nb, ap (k .rank) (e .0))))
-          | inr e ↦ omega (arith, times-cons x b l, seg-once (next b) z l x (k .closed b) (c .2))
-        ]
+  -- in a walk no rank is above the first, and so none stands there twice
+  pub seg-rank : (a z : ℕ) (l : List ℕ) (x : ℕ) → (a ≢ 0 → block a ≢ 0) → Seg next a l z → k .rank a < k .rank x → times x l ≡ 0
+  seg-rank a z l x u c h = seg-avoids next x (λ b. (b ≢ 0 → block b ≢ 0) × (k .rank b < k .rank x))
+      (λ b b0 p. (λ e. omega (arith, p .1, ap (k .rank) e), (k .closed b, omega (arith, p .1, k .falls b b0 (p .0 b0))))) a z l (u, h) c
 
-    -- what stands in a walk is in use
-    pub seg-used : (a z : ℕ) (l : List ℕ) (x : ℕ) → (a ≢ 0 → block a ≢ 0) → Seg next a l z → block x ≡ 0 → times x l ≡ 0
-    seg-used a z l x u c h = seg-avoids next x (λ b. b ≢ 0 → block b ≢ 0) (λ b b0 p. (λ e. p b0 (ap block e ∙ h), k .closed b)) a z l u c
+  pub seg-once : (a z : ℕ) (l : List ℕ) (x : ℕ) → (a ≢ 0 → block a ≢ 0) → Seg next a l z → times x l ≤ 1
+  seg-once a z [] x u c = omega (arith, times-nil x)
+  seg-once a z (b ∷ l) x u c =
+      let nb : block b ≢ 0 = rw (c .0) at u (c .1) in
+      elim (oneAt-cases b x) [
+        | inl e ↦ omega (arith, times-cons x b l, seg-rank (next b) z l x (k .closed b) (c .2) (omega (arith, k .falls b (c .1) nb, ap (k .rank) (e .0))))
+        | inr e ↦ omega (arith, times-cons x b l, seg-once (next b) z l x (k .closed b) (c .2))
+      ]
 
-    pub seg-short : (a z : ℕ) (l : List ℕ) → (a ≢ 0 → block a ≢ 0) → Seg next a l z → length l ≤ A
-    seg-short a z l u c = pigeonhole l A (λ x h. seg-used a z l x u c (above-free x h)) (λ x. seg-once a z l x u c)
+  -- what stands in a walk is in use
+  pub seg-used : (a z : ℕ) (l : List ℕ) (x : ℕ) → (a ≢ 0 → block a ≢ 0) → Seg next a l z → block x ≡ 0 → times x l ≡ 0
+  seg-used a z l x u c h = seg-avoids next x (λ b. b ≢ 0 → block b ≢ 0) (λ b b0 p. (λ e. p b0 (ap block e ∙ h), k .closed b)) a z l u c
 
-    -- the chain from an anode in use: `chainOf` with fuel A is it
-    pub the-chain : (a : ℕ) → (a ≢ 0 → block a ≢ 0) → Chain next a (chainOf next A a)
-    the-chain a u =
-        let t = chain-found (suc (k .rank a)) a u (omega arith) in
-        rw (chain-is next A a (t .0) (t .1) (seg-short a 0 (t .0) u (t .1))) (t .1)
+  pub seg-short : (a z : ℕ) (l : List ℕ) → (a ≢ 0 → block a ≢ 0) → Seg next a l z → length l ≤ A
+  seg-short a z l u c = pigeonhole l A (λ x h. seg-used a z l x u c (above-free (k .view) x h)) (λ x. seg-once a z l x u c)
 
-    -- and any chain from it is that one
-    pub chain-the : (a : ℕ) (l : List ℕ) → (a ≢ 0 → block a ≢ 0) → Chain next a l → chainOf next A a ≡ l
-    chain-the a l u c = chain-is next A a l c (seg-short a 0 l u c)
+  -- the chain from an anode in use: `chainOf` with fuel A is it
+  pub the-chain : (a : ℕ) → (a ≢ 0 → block a ≢ 0) → Chain next a (chainOf next A a)
+  the-chain a u =
+      let t = chain-found (suc (k .rank a)) a u (omega arith) in
+      rw (chain-is next A a (t .0) (t .1) (seg-short a 0 (t .0) u (t .1))) (t .1)
 
-    pub checked : Checked A next block
-    checked = record {
-      closed = λ a l. k .closed a;
-      one-pred = λ x h u. preds-one A next x (λ p q a b. k .uniq p q (λ z. h (sym a ∙ z)) (a ∙ sym b));
-      ends = ends;
-    }
-      where
-        ends : (a : ℕ) → block a ≢ 0 → followed next A a ≡ 0
-        ends a u = let c = the-chain a (λ q. u) in chain-ends next A a (chainOf next A a) (v .zero-end) c (seg-short a 0 (chainOf next A a) (λ q. u) c)
+  -- and any chain from it is that one
+  pub chain-the : (a : ℕ) (l : List ℕ) → (a ≢ 0 → block a ≢ 0) → Chain next a l → chainOf next A a ≡ l
+  chain-the a l u c = chain-is next A a l c (seg-short a 0 l u c)
+
+  pub checked : Checked A next block
+  checked = record {
+    closed = k .closed;
+    one-pred = λ x h u. preds-one A next x (λ p q a b. k .uniq p q (λ z. h (sym a ∙ z)) (a ∙ sym b));
+    ends = ends;
+  }
+    where
+      ends : (a : ℕ) → block a ≢ 0 → followed next A a ≡ 0
+      ends a u = let c = the-chain a (λ q. u) in chain-ends next A a (chainOf next A a) (k .zero-end) c (seg-short a 0 (chainOf next A a) (λ q. u) c)

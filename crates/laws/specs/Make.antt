@@ -95,7 +95,7 @@ module _ {ex : ℕ → Bool} {n last : ℕ} {s : Anodes} {system hd sd : ℕ →
   -- the new chain is its head alone, with no block
   pub fresh-chain : chainOf (rewritten s f 0 65535 .next) limit f ≡ f ∷ []
   unfolding rewritten
-  fresh-chain = chain-the (good .view) (good .linked) f (f ∷ []) (λ q. head-f .in-use) (refl, f0, w .good .view .free-end f fresh)
+  fresh-chain = chain-the (good .linked) f (f ∷ []) (λ q. head-f .in-use) (refl, f0, w .good .linked .view .free-end f fresh)
 
   module _ (entries′ : ℕ → List Entered) (marked′ : Dir → ℕ → Bool)
       (cont : (a : ℕ) → s .count a ≡ 1 → hd a ≢ 1 → (entries′ (s .block a) ≡ entries (s .block a)) × ((d : Dir) → marked′ d (s .block a) ≡ marked d (s .block a))) where

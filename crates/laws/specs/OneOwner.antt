@@ -42,11 +42,11 @@ module _ (img : List ℕ) (blocks anodes : ℕ) (p : Passed img blocks anodes) w
   abbrev s : Anodes
   s = anodesOf img
 
-  pub passes : Passes limit (exists img) (diskSize img) (lastReserved img) s (systemOwns img)
-  passes = tested-passes s (diskSize img) (lastReserved img) (systemOwns img) (exists img) (reading-of img (diskSize img) (lastReserved img)) (p .tested)
+  pub passes : Passes limit (diskSize img) (lastReserved img) s (systemOwns img)
+  passes = tested-passes s (diskSize img) (lastReserved img) (systemOwns img) (reading-of img .view) (p .tested)
 
   pub good : Good limit (exists img) (diskSize img) (lastReserved img) s (systemOwns img) (headOf limit (s .next) (s .block)) (headOf limit (cut (s .next)) (s .block))
-  good = good-of (reading-of img (diskSize img) (lastReserved img)) passes
+  good = good-of (reading-of img) passes
 
   -- the walk was done, and named no anode twice
   walk-done : (w : Walk) → walkOf img s ≡ w → faultIn w ≡ 0 → (x : ℕ) → times x (map (λ i. i .anode) (gather (itemsOf img s) (dirsIn w))) ≤ 1
@@ -63,7 +63,7 @@ module _ (img : List ℕ) (blocks anodes : ℕ) (p : Passed img blocks anodes) w
   named h e l =
       let u = counts-head good h e .in-use in
       eqb-false (naming img s h) 0 (and-none (eqb (heads limit (s .next) (s .block) h) 1) (unnamed img s h)
-      (and-none (leb 6 h) (eqb (heads limit (s .next) (s .block) h) 1 && unnamed img s h) (anyBelow-each (unnamedChain img s) h limit (reading-of img (diskSize img) (lastReserved img) .low h u) (p .all-named)) (le-leb 6 h l))
+      (and-none (leb 6 h) (eqb (heads limit (s .next) (s .block) h) 1 && unnamed img s h) (anyBelow-each (unnamedChain img s) h limit (reading-of img .view .below h u) (p .all-named)) (le-leb 6 h l))
       (eq-eqb (heads limit (s .next) (s .block) h) 1 e))
 
   -- 2 stands on 1's chain and so heads none

@@ -13,8 +13,9 @@ use Rattle.laws.specs.Sums.{oneAt-cases, oneAt-same}
 use Rattle.laws.specs.Bags.{list-add, list-mono, list-congr}
 use Rattle.laws.specs.Heads.{Head}
 use Rattle.laws.specs.Space.{Good}
-use Rattle.laws.specs.Frame.{Shift}
-use Rattle.laws.specs.ChainBlocks.{shift-alike, shift-chain, shift-count}
+use Rattle.laws.specs.Moves.{Shift}
+use Rattle.laws.specs.Frame.{shift-alike, shift-chain}
+use Rattle.laws.specs.ChainBlocks.{shift-count}
 use Rattle.laws.specs.Each.{Each, each-map, each-both, each-pair, each-zero}
 use Rattle.laws.specs.Items.{wrong, namedIn, faults}
 use Rattle.laws.specs.Trees.{Tree}
@@ -40,7 +41,7 @@ module _ (ex : ℕ → Bool) (n last : ℕ) where
 module _ {ex : ℕ → Bool} {n last f : ℕ} {s : Anodes} {system hd sd : ℕ → ℕ} {entries : ℕ → List Entered} {marked : Dir → ℕ → Bool} {dirs : List Dir}
     (o : Orphaned ex n last f s system hd sd entries marked dirs)
     (h : ℕ) (no-file : sumList (λ d. sumList (file-size (λ x. oneAt x h)) (itemsBy entries marked s d)) dirs ≡ 0)
-    {t : Anodes} {hd′ sd′ : ℕ → ℕ} (g′ : Good limit ex n last t system hd′ sd′) (sh : Shift s hd t hd′ h) where
+    {t : Anodes} {hd′ sd′ : ℕ → ℕ} (g′ : Good limit ex n last t system hd′ sd′) (sh : Shift s hd t hd′ 1 h) where
   abbrev items : Dir → List Item
   items = itemsBy entries marked s
 
@@ -98,7 +99,7 @@ module _ {ex : ℕ → Bool} {n last f : ℕ} {s : Anodes} {system hd sd : ℕ �
   not-dir f6 = tree-unnamed given root dirs (o .tree) f (omega arith) (o .not-named)
 
   -- the chain that nothing names takes or gives
-  pub orphan-changed : 6 ≤ f → {t : Anodes} {hd′ sd′ : ℕ → ℕ} → Good limit ex n last t system hd′ sd′ → Shift s hd t hd′ f → Orphaned ex n last f t system hd′ sd′ entries marked dirs
+  pub orphan-changed : 6 ≤ f → {t : Anodes} {hd′ sd′ : ℕ → ℕ} → Good limit ex n last t system hd′ sd′ → Shift s hd t hd′ 1 f → Orphaned ex n last f t system hd′ sd′ entries marked dirs
   orphan-changed f6 {t} g′ sh = orphan-shift o f (omega (arith, named-by-kind given f dirs, o .not-named)) g′ sh
       (each-map (λ d. d .head ≢ f) (λ d. d .head ≡ f → AlikeItems given (itemsBy entries marked t) d) dirs (λ d q e. absurd (q e)) (not-dir f6))
 

@@ -3,7 +3,7 @@ use Prim.Native.Nat.{ℕ, _≤_, _<_}
 use mathlib.Core.Path.{_≡_, sym, ap, _∙_}
 use mathlib.Core.Logic.{_≢_, inl, inr}
 use mathlib.Core.Bool.{Bool, true}
-use mathlib.Core.List.{List, [], _∷_, _++_, append-assoc}
+use mathlib.Core.List.{List, [], _∷_, _++_}
 use native.Mathlib.Omega.{arith}
 use lib.Dec.{T}
 use Rattle.rules.specs.Counting.{times, lastOf}
@@ -12,16 +12,15 @@ use Rattle.rules.specs.Chains.{chainOf}
 use Rattle.rules.specs.Space.{planned, rewritten, insertedAfter, free, lowestFree, fillOr, append, put, takeBlock}
 use Rattle.laws.specs.Sums.{oneAt-same, changed-same, changed-other}
 use Rattle.laws.specs.Bags.{times-here}
-use Rattle.laws.specs.Segments.{seg-zero}
-use Rattle.laws.specs.Heads.{Head, head-chain, times-on-chain}
+use Rattle.laws.specs.Heads.{Head, times-on-chain}
 use Rattle.laws.specs.Space.{Alike, Good, on-chain}
-use Rattle.laws.specs.Searches.{last-on}
-use Rattle.laws.specs.Moves.{InHand, hand-stays}
-use Rattle.laws.specs.Arriving.{free-is, append-cases, refused≢planned, planned-same}
+use Rattle.laws.specs.Bags.{last-on}
+use Rattle.laws.specs.Moves.{InHand}
+use Rattle.laws.specs.Plans.{refused≢planned, planned-same}
+use Rattle.laws.specs.Arriving.{free-is, append-cases}
 use Rattle.laws.specs.Take.{take-steps}
-use Rattle.laws.specs.Frame.{apart-chain}
-use Rattle.laws.specs.ChainBlocks.{inserted-chain}
-use Rattle.laws.specs.TakenBlocks.{chain-end}
+use Rattle.laws.specs.Frame.{shift-alike, shift-chain}
+use Rattle.laws.specs.ChainBlocks.{appended-chain}
 
 -- the chain of h is its head alone, with the block y
 pub record Filled (A : ℕ) (t : Anodes) (h y : ℕ) : Type 0 where
@@ -42,20 +41,17 @@ module _ {A : ℕ} {ex : ℕ → Bool} {n last : ℕ} {s : Anodes} {system hd sd
   module _ {y : ℕ} {r : Anodes} (i : InHand A ex n last s system hd 1 y r) where
     -- the block in hand was of no anode of the chain
     hand-chain : chainOf (r .next) A h ≡ chainOf (s .next) A h
-    hand-chain = apart-chain g (λ a u p q. i .apart a p) h d h1 h1 (i .good) (hand-stays i h d)
+    hand-chain = shift-chain g (i .good) (i .shift) h d h1 h1
 
     on-h : (a : ℕ) → 0 < times a (chainOf (s .next) A h) → Alike s r a
-    on-h a p = i .apart a (λ q. h1 (sym (on-chain g h d a p .0) ∙ q))
+    on-h = shift-alike g (i .good) (i .shift) h d h1 h1
 
     -- its last anode stands on it, behind the others
     end-on : 0 < times (lastOf h (chainOf (s .next) A h)) (chainOf (s .next) A h)
     end-on = elim (last-on h (chainOf (s .next) A h)) [
       | inr p ↦ p
-      | inl e ↦ rw e (omega (arith, times-on-chain (g .view) (g .linked) hd (g .heads) h d h, oneAt-same (hd h) h (g .heads .at-head h d)))
+      | inl e ↦ rw e (omega (arith, times-on-chain (g .linked) (g .heads) h d h, oneAt-same (hd h) h (g .heads .at-head h d)))
     ]
-
-    split : (m : List ℕ) × (chainOf (s .next) A h ≡ m ++ (lastOf h (chainOf (s .next) A h) ∷ []))
-    split = chain-end (s .next) h (chainOf (s .next) A h) (d .pos) (head-chain (g .view) (g .linked) h d)
 
     put-filled : chainOf (s .next) A h ≡ h ∷ [] → s .count h ≡ 0 → (t : Anodes) (ys : List ℕ) → put A ex last true r (lastOf h (chainOf (r .next) A h)) y ≡ planned t ys →
         (ys ≡ y ∷ []) × Filled A t h y
@@ -76,22 +72,14 @@ module _ {A : ℕ} {ex : ℕ → Bool} {n last : ℕ} {s : Anodes} {system hd sd
       fresh : (6 ≤ f) × (r .block f ≡ 0) × T (ex f)
       fresh = free-is A ex last r f is-free
 
-      used : (a : ℕ) → 0 < times a (chainOf (s .next) A h) → r .block a ≢ 0
-      used a p z = on-chain g h d a p .1 (sym (on-h a p .same-block) ∙ z)
-
       not-f : (a : ℕ) → 0 < times a (chainOf (s .next) A h) → a ≢ f
-      not-f a p e = used a p (ap (r .block) e ∙ fresh .1)
-
-      end-0 : end ≢ 0
-      end-0 e = omega (arith, end-on, ap (λ (a : ℕ). times a (chainOf (s .next) A h)) e, seg-zero (s .next) h 0 (chainOf (s .next) A h) (head-chain (g .view) (g .linked) h d))
+      not-f a p e = on-chain g h d a p .1 (sym (on-h a p .same-block) ∙ ap (r .block) e ∙ fresh .1)
 
       put-appended : Appended A s (insertedAfter r end f 1 y) h y
       unfolding insertedAfter
       put-appended = record {
         anode = f;
-        chain = inserted-chain (i .good) h (hand-stays i h d) end (split .0) [] (hand-chain ∙ split .1)
-            end-0 (used end end-on) f 1 y (λ e. omega (arith, e, fresh .0)) (fresh .1) fA y0
-            ∙ sym (ap (λ (l : List ℕ). l ++ (f ∷ [])) (split .1) ∙ append-assoc (split .0) (end ∷ []) (f ∷ []));
+        chain = rw hand-chain at (appended-chain (i .good) h (i .shift .stays h d) f 1 y (λ e. omega (arith, e, fresh .0)) (fresh .1) fA y0);
         one = changed-same (r .count) f 1;
         at = changed-same (r .block) f y;
         kept = λ a p. (changed-other (r .count) f 1 a (not-f a p) ∙ on-h a p .same-count, changed-other (r .block) f y a (not-f a p) ∙ on-h a p .same-block);

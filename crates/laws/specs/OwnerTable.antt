@@ -14,7 +14,7 @@ use Rattle.disk.specs.AnodeBlocks.{listed}
 use Rattle.disk.proofs.Laws.{getD-listed, length-listed}
 use Rattle.rules.specs.Counting.{oneAt, sumBelow, times}
 use Rattle.rules.specs.Anodes.{Anodes, limit}
-use Rattle.rules.specs.Chains.{headOf, covers, owners, systemOwns}
+use Rattle.rules.specs.Chains.{covers, owners, systemOwns}
 use Rattle.rules.specs.Accepted.{diskSize}
 use Rattle.rules.specs.Space.{rewritten, onChain, dropped}
 use Rattle.rules.specs.Tables.{chainHead, anodeEntry, anodeTable, headWhere, ownerHead, blockEntry, blockTable, entryOr}
@@ -23,7 +23,7 @@ use Rattle.laws.specs.Sums.{oneAt-cases, oneAt-same, oneAt-other, sum-co
 use Rattle.laws.specs.Bags.{times-nil, times-cons, times-here, times-later}
 use Rattle.laws.specs.Ownership.{covers-cases, covers-none}
 use Rattle.laws.specs.LinkChanges.{without, without-cases, without-other}
-use Rattle.laws.specs.Links.{View, Linked}
+use Rattle.laws.specs.Links.{Linked}
 use Rattle.laws.specs.Heads.{Head, heads-one, headOf-heads}
 use Rattle.laws.specs.Blocks.{blocks}
 use Rattle.laws.specs.Held.{held, held-fresh}
@@ -70,12 +70,12 @@ listed-same f f′ k h = listed-is f k (listed f′ 0 k) (length-listed f′ 0 k
 -- ---- the tables of one state
 
 -- an anode's entry in the anode table is the head of its chain, also where that is 0
-pub anodeEntry-head : (s : Anodes) → View limit (s .next) (s .block) → Linked limit (s .next) (s .block) → (a : ℕ) → anodeEntry s a ≡ chainHead s a
+pub anodeEntry-head : (s : Anodes) → Linked limit (s .next) (s .block) → (a : ℕ) → anodeEntry s a ≡ chainHead s a
 unfolding anodeEntry chainHead
-anodeEntry-head s v k a = elim (same? a 0) [
-  | inl e ↦ rw (eq-eqb a 0 e) (sym (ap (headOf limit (s .next) (s .block)) e ∙ headOf-heads v k .off-zero))
+anodeEntry-head s k a = elim (same? a 0) [
+  | inl e ↦ rw (eq-eqb a 0 e) (sym (ap (headOf limit (s .next) (s .block)) e ∙ headOf-heads k .off-zero))
   | inr e ↦ rw (ne-eqb a 0 e) (elim (same? (s .block a) 0) [
-    | inl u ↦ rw (eq-eqb (s .block a) 0 u) (sym (headOf-heads v k .off a u))
+    | inl u ↦ rw (eq-eqb (s .block a) 0 u) (sym (headOf-heads k .off a u))
     | inr u ↦ rw (ne-eqb (s .block a) 0 u)
   ])
 ]
@@ -84,11 +84,11 @@ module _ {ex : ℕ → Bool} {n last : ℕ} {s : Anodes} {system hd sd : ℕ →
   -- the head that the rules compute for an anode is the one that the table of heads gives it
   chainHead-is : (a : ℕ) → chainHead s a ≡ hd a
   unfolding chainHead
-  chainHead-is a = heads-one (g .view) (g .linked) (headOf limit (s .next) (s .block)) hd (headOf-heads (g .view) (g .linked)) (g .heads) a
+  chainHead-is a = heads-one (g .linked) (headOf-heads (g .linked)) (g .heads) a
 
   -- and so is its entry in the anode table
   pub anodeEntry-is : (a : ℕ) → anodeEntry s a ≡ hd a
-  anodeEntry-is a = anodeEntry-head s (g .view) (g .linked) a ∙ chainHead-is a
+  anodeEntry-is a = anodeEntry-head s (g .linked) a ∙ chainHead-is a
 
   -- the anode table is the table of heads, listed
   pub anodeTable-is : anodeTable s ≡ listed hd 0 limit
@@ -137,7 +137,7 @@ module _ {ex : ℕ → Bool} {n last : ℕ} {s : Anodes} {system hd sd : ℕ →
   ownerHead-is m x p =
       let i = held-data m x p in
       let o = owner g x (i .0) (i .1) in
-      let same : m ≡ o .0 = elim (same? m (o .0)) [ inl e ↦ e | inr e ↦ absurd (omega (arith, p, o .3 m (g .view .below m (holder g m x p .in-use)) e)) ] in
+      let same : m ≡ o .0 = elim (same? m (o .0)) [ inl e ↦ e | inr e ↦ absurd (omega (arith, p, o .3 m (g .linked .view .below m (holder g m x p .in-use)) e)) ] in
       owner-sum x
       ∙ sum-single (λ j. held limit hd (s .count) (s .block) j x * j) (o .0) limit (o .1) (λ j l e. rw (o .3 j l e) (omega arith))
       ∙ rw (o .2) (omega (arith, same))
@@ -187,7 +187,7 @@ module _ {ex : ℕ → Bool} {n last : ℕ} {s : Anodes} {system hd sd : ℕ →
   pub fresh-owner : (f : ℕ) → 6 ≤ f → T (ex f) → f < limit → s .block f ≡ 0 → (x : ℕ) → ownerHead (rewritten s f 0 65535) x ≡ ownerHead s x
   unfolding rewritten
   fresh-owner f f6 there fA fresh x = same-owner g (head-good g f 65535 f6 there fA fresh (omega arith)) x
-      (λ m. omega (arith, held-fresh limit hd (s .count) (s .block) f f 0 65535 fA (g .free-none f fresh) m x, ap (λ (k : ℕ). oneAt f m * k) (covers-none 65535 x)))
+      (λ m. omega (arith, held-fresh limit hd (s .count) (s .block) f f 0 65535 fA (g .present .free-none f fresh) m x, ap (λ (k : ℕ). oneAt f m * k) (covers-none 65535 x)))
 
   -- a chain with no block dropped
   pub dropped-owner : (h : ℕ) → 6 ≤ h → (d : Head (s .next) (s .block) h) → (none : (a : ℕ) → hd a ≡ h → s .count a ≡ 0) → (x : ℕ) → ownerHead (dropped limit s h) x ≡ ownerHead s x

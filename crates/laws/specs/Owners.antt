@@ -1,19 +1,20 @@
--- The owner of a block: in a good state each block is the system's, or stands in the chain of exactly one head.
+-- Heads and their blocks in a good state: how many each has, and that each block is the system's or stands in the chain of exactly one head.
 use Prim.Native.Nat.{ℕ, _+_, _*_, _<_}
-use mathlib.Core.Path.{_≡_, ap, _∙_}
+use mathlib.Core.Path.{_≡_, sym, ap, _∙_}
 use mathlib.Core.Logic.{_≢_, inl, inr}
 use mathlib.Core.Bool.{Bool}
 use native.Mathlib.Omega.{arith}
-use Rattle.rules.specs.Counting.{oneAt, sumBelow}
+use Rattle.rules.specs.Counting.{oneAt, sumBelow, sumList, lastOf}
 use Rattle.rules.specs.Anodes.{Anodes}
-use Rattle.rules.specs.Chains.{covers, owners}
+use Rattle.rules.specs.Chains.{chainOf, covers, owners}
 use Rattle.laws.specs.Tests.{same?}
-use Rattle.laws.specs.Sums.{oneAt-cases, sum-some, sum-one}
+use Rattle.laws.specs.Sums.{oneAt-cases, oneAt-other, sum-zero, sum-some, sum-one}
+use Rattle.laws.specs.Bags.{last-on}
 use Rattle.laws.specs.Ownership.{covers-none}
-use Rattle.laws.specs.Heads.{Head, head-of-is}
+use Rattle.laws.specs.Heads.{Head, head-of-is, chain-sum}
 use Rattle.laws.specs.Blocks.{blocks}
 use Rattle.laws.specs.Held.{held, held-all}
-use Rattle.laws.specs.Space.{Good}
+use Rattle.laws.specs.Space.{Good, on-chain}
 
 module _ {A : ℕ} {ex : ℕ → Bool} {n last : ℕ} {s : Anodes} {system hd sd : ℕ → ℕ} (g : Good A ex n last s system hd sd) where
   pub hd-below : (a : ℕ) → hd a < A
@@ -21,12 +22,50 @@ module _ {A : ℕ} {ex : ℕ → Bool} {n last : ℕ} {s : Anodes} {system hd sd
     | inl e ↦ rw (e, g .heads .off-zero) some
     | inr e ↦ elim (same? (s .block a) 0) [
       | inl u ↦ rw (g .heads .off a u) some
-      | inr u ↦ g .view .below (hd a) (head-of-is (g .view) (g .linked) hd (g .heads) a e u .in-use)
+      | inr u ↦ g .linked .view .below (hd a) (head-of-is (g .linked) (g .heads) a e u .in-use)
     ]
   ]
     where
       some : 0 < A
-      some = omega (arith, g .view .below 5 (g .fixed .block-5))
+      some = omega (arith, g .linked .view .below 5 (g .fixed .block-5))
+
+  -- what has a head is in use
+  pub headed-used : (a : ℕ) → hd a ≢ 0 → s .block a ≢ 0
+  headed-used a q z = q (g .heads .off a z)
+
+  -- an anode that the table gives itself for head is one
+  pub self-headed : (m : ℕ) → m ≢ 0 → hd m ≡ m → Head (s .next) (s .block) m
+  self-headed m m0 e = rw e at (head-of-is (g .linked) (g .heads) m m0 (headed-used m (λ z. m0 (sym e ∙ z))))
+
+  -- the last anode of a head's chain has that head, and so is in use and not 0
+  module _ (h : ℕ) (d : Head (s .next) (s .block) h) where
+    pub last-head : hd (lastOf h (chainOf (s .next) A h)) ≡ h
+    last-head = elim (last-on h (chainOf (s .next) A h)) [
+      | inl c ↦ ap hd c ∙ g .heads .at-head h d
+      | inr c ↦ on-chain g h d (lastOf h (chainOf (s .next) A h)) c .0
+    ]
+
+    pub last-used : s .block (lastOf h (chainOf (s .next) A h)) ≢ 0
+    last-used = headed-used (lastOf h (chainOf (s .next) A h)) (λ q. d .pos (sym last-head ∙ q))
+
+    pub last-0 : lastOf h (chainOf (s .next) A h) ≢ 0
+    last-0 q = d .pos (sym last-head ∙ ap hd q ∙ g .heads .off-zero)
+
+  -- what is no head has no blocks
+  pub blocks-none : (h : ℕ) → (Head (s .next) (s .block) h → ⊥) → blocks A hd (s .count) h ≡ 0
+  unfolding blocks
+  blocks-none h none = sum-zero (λ a. oneAt (hd a) h * s .count a) A (λ a l. elim (same? a 0) [
+    | inl e ↦ rw (e, g .fixed .count-0) (omega arith)
+    | inr e ↦ elim (same? (s .block a) 0) [
+      | inl u ↦ rw (g .present .free-none a u) (omega arith)
+      | inr u ↦ rw (oneAt-other (hd a) h (λ q. none (rw q at (head-of-is (g .linked) (g .heads) a e u)))) (omega arith)
+    ]
+  ])
+
+  -- and a head's are those of its chain
+  pub blocks-chain : (h : ℕ) → Head (s .next) (s .block) h → blocks A hd (s .count) h ≡ sumList (s .count) (chainOf (s .next) A h)
+  unfolding blocks
+  blocks-chain h d = sym (chain-sum (g .linked) (g .heads) (s .count) h d)
 
   -- a block of the disk is the system's, or one head holds it
   pub total-held : (y : ℕ) → y < n → system y + sumBelow (λ m. held A hd (s .count) (s .block) m y) A ≡ 1
@@ -43,8 +82,8 @@ module _ {A : ℕ} {ex : ℕ → Bool} {n last : ℕ} {s : Anodes} {system hd sd
       at : (a : ℕ) → 0 < oneAt (hd a) m * covers (s .count a) (s .block a) y → Head (s .next) (s .block) m
       at a i = elim (oneAt-cases (hd a) m) [
         | inr e ↦ absurd (omega (arith, rw (e .1) at i))
-        | inl e ↦ rw (e .0) at (head-of-is (g .view) (g .linked) hd (g .heads) a
-            (λ z. none (ap (s .count) z ∙ g .fixed .count-0)) (λ z. none (g .free-none a z)))
+        | inl e ↦ rw (e .0) at (head-of-is (g .linked) (g .heads) a
+            (λ z. none (ap (s .count) z ∙ g .fixed .count-0)) (λ z. none (g .present .free-none a z)))
       ]
         where
           none : s .count a ≡ 0 → ⊥

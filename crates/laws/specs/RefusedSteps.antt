@@ -1,28 +1,30 @@
 -- When steps are refused, and with which number: a take with 27 or 28, a give of a block that is there only with 28.
-use Prim.Native.Nat.{ℕ, _+_, _-_, _≤_, _<_}
-use mathlib.Core.Path.{_≡_, refl, sym, _∙_}
+use Prim.Native.Nat.{ℕ, _+_, _-_, _*_, _≤_, _<_}
+use mathlib.Core.Path.{_≡_, refl, sym, ap, _∙_}
 use mathlib.Core.Logic.{_≢_, _⊎_, inl, inr, _↔_}
 use mathlib.Core.Bool.{Bool, true, true≢false}
 use mathlib.Core.List.{[], _∷_}
 use native.Mathlib.Omega.{arith}
 use lib.Dec.{T}
-use Rattle.rules.specs.Counting.{lastOf}
+use Rattle.rules.specs.Counting.{oneAt, lastOf}
 use Rattle.rules.specs.Anodes.{Anodes}
 use Rattle.rules.specs.Chains.{chainOf, side}
-use Rattle.rules.specs.Space.{refused, rewritten, withoutFirst, withoutLast, Found, nowhere, found, lastFull, freeExtent, sideOf, free, lowestFree, append, put, takeFrom, takeBlock, join, release, giveFrom, giveBack, takeMany, giveMany}
-use Rattle.laws.specs.Sums.{oneAt-same, oneAt-other}
+use Rattle.rules.specs.Space.{refused, rewritten, insertedAfter, withoutFirst, withoutLast, Found, nowhere, found, firstFull, lastFull, freeExtent, sideOf, free, lowestFree, append, put, takeFrom, takeBlock, join, release, giveFrom, giveBack, takeMany, giveMany}
+use Rattle.laws.specs.Tests.{same?}
+use Rattle.laws.specs.Sums.{oneAt-cases, oneAt-same, oneAt-other, sum-zero}
 use Rattle.laws.specs.LinkChanges.{first, second, third}
-use Rattle.laws.specs.Heads.{Head}
-use Rattle.laws.specs.Blocks.{blocks, blocks-chain}
+use Rattle.laws.specs.Heads.{Head, on-own}
+use Rattle.laws.specs.Blocks.{blocks}
+use Rattle.laws.specs.Cut.{cut-linked}
 use Rattle.laws.specs.Space.{Good}
-use Rattle.laws.specs.Searches.{lastFull-none}
+use Rattle.laws.specs.Sides.{SideHead, on-side}
+use Rattle.laws.specs.Owners.{blocks-chain}
+use Rattle.laws.specs.Searches.{firstFull-none, lastFull-none}
+use Rattle.laws.specs.FreeExtent.{extent-found, extent-nowhere, take-found, take-cases}
+use Rattle.laws.specs.Plans.{refused-same, planned≢refused, repeated-refused}
 use Rattle.laws.specs.Arriving.{fills, ends, starts, behind, append-cases, put-cases, join-cases}
 use Rattle.laws.specs.Take.{withoutFirst-out}
-use Rattle.laws.specs.Refusals.{refused-same, planned≢refused, append-refused, put-refused, take-27}
-use Rattle.laws.specs.Repeated.{repeated-refused}
 use Rattle.laws.specs.Give.{give-good}
-use Rattle.laws.specs.Frame.{moved-stays}
-use Rattle.laws.specs.FreeExtent.{extent-found, take-nowhere, take-found}
 
 -- the taker's last anode z cannot have block y: it has blocks, and directory blocks (own) get an anode of their own or y is not its end
 abbrev pub NeedsAnode : Bool → Anodes → ℕ → ℕ → Type 0
@@ -36,17 +38,34 @@ JoinsNone s z y = (z ≡ 1) ⊎ ((s .count z ≢ 0) × (s .block z + s .count z 
 abbrev pub NoneFree : ℕ → (ℕ → Bool) → ℕ → Anodes → Type 0
 NoneFree A ex last s = (a : ℕ) → a < A → T (free A ex last s a) → ⊥
 
+-- ---- with which number
+
 module _ (A : ℕ) (ex : ℕ → Bool) (last : ℕ) where
+  append-refused : (s : Anodes) (z y k : ℕ) → append A ex last s z y ≡ refused k → (k ≡ 28) × NoneFree A ex last s
+  append-refused s z y k e = elim (append-cases A ex last s z y) [
+    | inl c ↦ absurd (planned≢refused (insertedAfter s z (lowestFree A ex last s) 1 y) (y ∷ []) k (sym (c .2) ∙ e))
+    | inr c ↦ (refused-same k 28 (sym e ∙ c .0), c .1)
+  ]
+
   -- ---- take
 
-  pub take-refused : (own : Bool) (s : Anodes) (h k : ℕ) → takeBlock A ex last own s h ≡ refused k → (k ≡ 27) ⊎ (k ≡ 28)
+  put-refused : (own : Bool) (s : Anodes) (z y k : ℕ) → put A ex last own s z y ≡ refused k → (k ≡ 28) × NeedsAnode own s z y × NoneFree A ex last s
+  put-refused own s z y k e = elim (put-cases A ex last own s z y) [
+    | first c ↦ absurd (planned≢refused (rewritten s z 1 y) (y ∷ []) k (sym (c .1) ∙ e))
+    | second c ↦ absurd (planned≢refused (rewritten s z (s .count z + 1) (s .block z)) (y ∷ []) k (sym (c .3) ∙ e))
+    | third c ↦ (let r = append-refused s z y k (sym (c .2) ∙ e) in (r .0, (c .0, c .1), r .1))
+  ]
+
+  -- x after p has a free block: 28 alone
+  found-refused : (own : Bool) (s : Anodes) (h p x k : ℕ) → takeFrom A ex last own s h p x ≡ refused k → k ≡ 28
   unfolding takeFrom
-  take-refused own s h k e = go (freeExtent A own s) refl
-    where
-      go : (c : Found) → freeExtent A own s ≡ c → (k ≡ 27) ⊎ (k ≡ 28)
-      go nowhere q = inl (refused-same k 27 (sym e ∙ take-nowhere A own s ex last h q))
-      go (found p x) q = inr (put-refused A ex last own (withoutFirst s p x) (lastOf h (chainOf (withoutFirst s p x .next) A h)) (s .block x) k
-          (sym (take-found A own s ex last h p x q) ∙ e) .0)
+  found-refused own s h p x k e = put-refused own (withoutFirst s p x) (lastOf h (chainOf (withoutFirst s p x .next) A h)) (s .block x) k e .0
+
+  pub take-refused : (own : Bool) (s : Anodes) (h k : ℕ) → takeBlock A ex last own s h ≡ refused k → (k ≡ 27) ⊎ (k ≡ 28)
+  take-refused own s h k e = elim (take-cases A own s ex last h) [
+    | inl c ↦ inl (refused-same k 27 (sym e ∙ c .1))
+    | inr (p, x, q, i) ↦ inr (found-refused own s h p x k (sym i ∙ e))
+  ]
 
   pub takes-refused : (own : Bool) (i : ℕ) (s : Anodes) (h k : ℕ) → takeMany A ex last own i s h ≡ refused k → (k ≡ 27) ⊎ (k ≡ 28)
   unfolding takeMany
@@ -59,7 +78,7 @@ module _ (A : ℕ) (ex : ℕ → Bool) (last : ℕ) where
     | fills c ↦ absurd (planned≢refused (rewritten s z 1 y) (y ∷ []) k (sym (c .2) ∙ e))
     | ends c ↦ absurd (planned≢refused (rewritten s z (s .count z + 1) (s .block z)) (y ∷ []) k (sym (c .3) ∙ e))
     | starts c ↦ absurd (planned≢refused (rewritten s z (s .count z + 1) y) (y ∷ []) k (sym (c .3) ∙ e))
-    | behind c ↦ (let r = append-refused A ex last s z y k (sym (c .1) ∙ e) in (r .0, c .0, r .1))
+    | behind c ↦ (let r = append-refused s z y k (sym (c .1) ∙ e) in (r .0, c .0, r .1))
   ]
 
 module _ {A : ℕ} {ex : ℕ → Bool} {n last : ℕ} where
@@ -69,7 +88,7 @@ module _ {A : ℕ} {ex : ℕ → Bool} {n last : ℕ} where
   last-block {s} {hd = hd} g h d some = go (lastFull (s .count) 0 (chainOf (s .next) A h)) refl
     where
       go : (c : Found) → lastFull (s .count) 0 (chainOf (s .next) A h) ≡ c → (p : ℕ) × (x : ℕ) × (lastFull (s .count) 0 (chainOf (s .next) A h) ≡ found p x)
-      go nowhere e = absurd (omega (arith, some, blocks-chain (g .view) (g .linked) hd (g .heads) (s .count) (g .free-none) (g .fixed .count-0) h d, lastFull-none (s .count) 0 (chainOf (s .next) A h) e))
+      go nowhere e = absurd (omega (arith, some, blocks-chain g h d, lastFull-none (s .count) 0 (chainOf (s .next) A h) e))
       go (found p x) e = (p, x, e)
 
   -- so a give is refused with 28 alone
@@ -90,7 +109,7 @@ module _ {A : ℕ} {ex : ℕ → Bool} {n last : ℕ} where
       let (j, r, (hd, sd, g, d, some), q) = repeated-refused (λ s. giveBack A ex last s h)
       (λ i s. (hd : ℕ → ℕ) × (sd : ℕ → ℕ) × Good A ex n last s system hd sd × Head (s .next) (s .block) h × (i ≤ blocks A hd (s .count) h))
       (λ i s t ys (hd, sd, g, d, some) q. let w = give-good g h d h1 t ys q in
-      (w .hd′, w .sd′, w .good, moved-stays g w h d, omega (arith, some, w .moved h, oneAt-same h h refl, oneAt-other 1 h (λ j. h1 (sym j)))))
+      (w .hd′, w .sd′, w .good, w .shift .stays h d, omega (arith, some, w .moved h, oneAt-same h h refl, oneAt-other 1 h (λ j. h1 (sym j)))))
       i s k (hd, sd, g, d, some) e in
       give-refused g h d (omega arith) k q
 
@@ -102,11 +121,7 @@ module _ (A : ℕ) (ex : ℕ → Bool) (last : ℕ) (s : Anodes) (z y : ℕ) whe
 
   put-28 : (own : Bool) → (put A ex last own s z y ≡ refused 28) ↔ (NeedsAnode own s z y × NoneFree A ex last s)
   put-28 own = (
-    λ e. elim (put-cases A ex last own s z y) [
-      | first c ↦ absurd (planned≢refused (rewritten s z 1 y) (y ∷ []) 28 (sym (c .1) ∙ e))
-      | second c ↦ absurd (planned≢refused (rewritten s z (s .count z + 1) (s .block z)) (y ∷ []) 28 (sym (c .3) ∙ e))
-      | third c ↦ ((c .0, c .1), append-refused A ex last s z y 28 (sym (c .2) ∙ e) .1)
-    ],
+    λ e. (let r = put-refused A ex last own s z y 28 e in (r .1, r .2)),
     λ n. elim (put-cases A ex last own s z y) [
       | first c ↦ absurd (n .0 .0 (c .0))
       | second c ↦ absurd (elim (n .0 .1) [ inl i ↦ true≢false (sym i ∙ c .1) | inr i ↦ i (c .2) ])
@@ -143,10 +158,29 @@ module _ (A : ℕ) (ex : ℕ → Bool) (last : ℕ) (s : Anodes) (h p x : ℕ) w
   give-28-exactly y z e f i = rw (e, giveBack, ← f, ← i) (join-28 A ex last (withoutLast s h p x) z y)
 
 module _ {A : ℕ} {ex : ℕ → Bool} {n last : ℕ} {s : Anodes} {system hd sd : ℕ → ℕ} (g : Good A ex n last s system hd sd) where
+  -- no anode of either side has a block: the free chain has none
+  no-block : ((m : ℕ) → SideHead m → firstFull (s .count) 0 (side A s m) ≡ nowhere) → blocks A hd (s .count) 1 ≡ 0
+  unfolding blocks side
+  no-block e = sum-zero (λ a. oneAt (hd a) 1 * s .count a) A (λ a l. elim (oneAt-cases (hd a) 1) [
+    | inr c ↦ rw (c .1) (omega arith)
+    | inl c ↦ rw (empty a (c .0)) (omega arith)
+  ])
+    where
+      empty : (a : ℕ) → hd a ≡ 1 → s .count a ≡ 0
+      empty a q = elim (same? a 0) [
+        | inl i ↦ ap (s .count) i ∙ g .fixed .count-0
+        | inr i ↦ elim (same? (s .block a) 0) [
+          | inl u ↦ g .present .free-none a u
+          | inr u ↦ firstFull-none (s .count) 0 (side A s (sd a)) (e (sd a) (on-side g a i u q)) a (omega (arith, on-own (cut-linked (g .linked)) (g .sides) a i u))
+        ]
+      ]
+
   -- a take is refused with 27 exactly if no free block is left
   pub take-27-exactly : (own : Bool) (h : ℕ) → (takeBlock A ex last own s h ≡ refused 27) ↔ (blocks A hd (s .count) 1 ≡ 0)
-  take-27-exactly own h = (take-27 g own h, λ z. go (freeExtent A own s) refl z)
-    where
-      go : (c : Found) → freeExtent A own s ≡ c → blocks A hd (s .count) 1 ≡ 0 → takeBlock A ex last own s h ≡ refused 27
-      go nowhere e z = take-nowhere A own s ex last h e
-      go (found p x) e z = let f = extent-found A own s g p x e in absurd (omega (arith, z, withoutFirst-out g (f .0) (f .1) p x (f .2) .fewer 1, oneAt-same 1 1 refl))
+  take-27-exactly own h = elim (take-cases A own s ex last h) [
+    | inl c ↦ (λ e. no-block (extent-nowhere A own s (c .0)), λ z. c .1)
+    | inr (p, x, q, i) ↦ (
+      λ e. absurd (omega (arith, found-refused A ex last own s h p x 27 (sym i ∙ e))),
+      λ z. (let (m, o, f) = extent-found A own s g p x q in absurd (omega (arith, z, withoutFirst-out g m o p x f .fewer 1, oneAt-same 1 1 refl))),
+    )
+  ]

@@ -70,7 +70,7 @@ module _ {ex : ℕ → Bool} {n last : ℕ} {s : Anodes} {system hd : ℕ → �
   unfolding blocks
   none-left a q = elim (less? a limit) [
     | inl l ↦ omega (arith, sum-none (λ b. oneAt (hd′ b) h * t .count b) limit (ran .has) a l, ap (λ (k : ℕ). k * t .count a) (oneAt-same (hd′ a) h q))
-    | inr l ↦ elim (same? (t .block a) 0) [ inl z ↦ ran .good .free-none a z | inr u ↦ absurd (omega (arith, l, ran .good .view .below a u)) ]
+    | inr l ↦ elim (same? (t .block a) 0) [ inl z ↦ ran .good .present .free-none a z | inr u ↦ absurd (omega (arith, l, ran .good .linked .view .below a u)) ]
   ]
 
   pub dropped-good : Good limit ex n last left system (without dead hd′) (without dead (ran .sd′))
@@ -92,7 +92,7 @@ module _ {ex : ℕ → Bool} {n last : ℕ} {s : Anodes} {system hd : ℕ → �
           in-use = rw (alive (t .block) m (λ k. q (sym (ran .good .heads .at-head m j) ∙ k))) (j .in-use);
           no-pred = λ p k. elim (without-cases dead (t .next) p) [ inl c ↦ j .pos (sym k ∙ c .1) | inr c ↦ j .no-pred p (sym (c .1) ∙ k) ];
         };
-    was = λ m i. let k = drop-head-was (ran .good .view) (ran .good .linked) hd′ (ran .good .heads) dead (dead-along (ran .good) h h6 still none-left) m i in
+    was = λ m i. let k = drop-head-was dead (dead-along (ran .good) h h6 still none-left) m i in
         (λ q. k .0 (head-dead (ran .good) h h6 still none-left m (ran .good .heads .at-head m (k .1) ∙ q)), ran .shift .no-new m (k .1));
     apart = λ a u q i. alike-trans (ran .shift .apart a u q i) (alike a (λ k. i (sym (ran .shift .same-hd a u q i) ∙ k)));
   }

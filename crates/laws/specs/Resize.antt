@@ -15,11 +15,10 @@ use Rattle.laws.specs.Heads.{Head}
 use Rattle.laws.specs.Blocks.{blocks}
 use Rattle.laws.specs.Held.{held}
 use Rattle.laws.specs.Space.{Good}
-use Rattle.laws.specs.Moves.{Moved}
-use Rattle.laws.specs.Repeated.{repeated-none, repeated-done}
+use Rattle.laws.specs.Moves.{Shift, shift-none, shift-trans, shift-swap, Moved}
+use Rattle.laws.specs.Plans.{repeated-none, repeated-done}
 use Rattle.laws.specs.Take.{take-good}
 use Rattle.laws.specs.Give.{give-good}
-use Rattle.laws.specs.Frame.{Shift, moved-stays, take-shift, give-shift, shift-trans}
 use Rattle.laws.specs.Totals.{file-size}
 use Rattle.laws.specs.Whole.{Whole, blocks-count, file-head, change-file}
 
@@ -29,7 +28,7 @@ module _ (A : ℕ) (ex : ℕ → Bool) (n last : ℕ) where
     pub hd′ : ℕ → ℕ
     pub sd′ : ℕ → ℕ
     pub good : Good A ex n last t system hd′ sd′
-    pub shift : Shift s hd t hd′ h
+    pub shift : Shift s hd t hd′ 1 h
     pub has : blocks A hd′ (t .count) h ≡ size
     pub passed : (m y : ℕ) → held A hd′ (t .count) (t .block) m y + oneAt from m * times y ys ≡ held A hd (s .count) (s .block) m y + oneAt to m * times y ys
 
@@ -41,12 +40,12 @@ module _ {A : ℕ} {ex : ℕ → Bool} {n last : ℕ} where
     sd′ = sd;
     good = g;
     has = refl;
-    shift = record { stays = λ m d. d; no-new = λ m d. d; apart = λ a u q i. record { same-count = refl; same-block = refl; same-next = refl }; same-hd = λ a u q i. refl };
+    shift = shift-none s hd 1 h;
     passed = λ m y. rw (times-nil y) (omega arith);
   }
 
   -- a step, and the steps after it
-  ran-after : {s r t : Anodes} {system hd : ℕ → ℕ} {from to h size : ℕ} {ys xs zs : List ℕ} → (w : Moved A ex n last s system hd from to ys r) → Shift s hd r (w .hd′) h →
+  ran-after : {s r t : Anodes} {system hd : ℕ → ℕ} {from to h size : ℕ} {ys xs zs : List ℕ} → (w : Moved A ex n last s system hd from to ys r) → Shift s hd r (w .hd′) 1 h →
       Ran A ex n last r system (w .hd′) from to h size xs t → zs ≡ ys ++ xs → Ran A ex n last s system hd from to h size zs t
   ran-after {from = from} {to = to} {xs = xs} {zs = zs} w a b e = record {
     hd′ = b .hd′;
@@ -63,7 +62,7 @@ module _ {A : ℕ} {ex : ℕ → Bool} {n last : ℕ} where
   -- steps one after the other, each of which moves a block of the chain of h; `Left`: what so many steps left say of its blocks
   steps-ran : (from to h : ℕ) (system : ℕ → ℕ) (step : Anodes → Plan) →
       ((s : Anodes) (hd sd : ℕ → ℕ) → Good A ex n last s system hd sd → Head (s .next) (s .block) h → (t : Anodes) (ys : List ℕ) → step s ≡ planned t ys →
-      (w : Moved A ex n last s system hd from to ys t) × Shift s hd t (w .hd′) h) →
+      (w : Moved A ex n last s system hd from to ys t) × Shift s hd t (w .hd′) 1 h) →
       (size : ℕ) (Left : ℕ → ℕ → Type 0) → ((b : ℕ) → Left 0 b → b ≡ size) → ((k b b′ : ℕ) → b′ + oneAt from h ≡ b + oneAt to h → Left (suc k) b → Left k b′) →
       (k : ℕ) (t : Anodes) (zs : List ℕ) (s : Anodes) (hd sd : ℕ → ℕ) → Good A ex n last s system hd sd → Head (s .next) (s .block) h → Left k (blocks A hd (s .count) h) →
       repeated step k s ≡ planned t zs → Ran A ex n last s system hd from to h size zs t
@@ -72,14 +71,14 @@ module _ {A : ℕ} {ex : ℕ → Bool} {n last : ℕ} where
   steps-ran from to h system step each size Left done less (suc k) t zs s hd sd g d left e =
       let (r, ys, xs, q, f, z) = repeated-done step k s t zs e in
       let (w, shift) = each s hd sd g d r ys q in
-      ran-after w shift (steps-ran from to h system step each size Left done less k t xs r (w .hd′) (w .sd′) (w .good) (moved-stays g w h d) (less k (blocks A hd (s .count) h) (blocks A (w .hd′) (r .count) h) (w .moved h) left) f) z
+      ran-after w shift (steps-ran from to h system step each size Left done less k t xs r (w .hd′) (w .sd′) (w .good) (w .shift .stays h d) (less k (blocks A hd (s .count) h) (blocks A (w .hd′) (r .count) h) (w .moved h) left) f) z
 
   -- k takes that are done
   pub grow-ran : (k h : ℕ) → h ≢ 1 → (own : Bool) (t : Anodes) (zs : List ℕ) (s : Anodes) (system hd sd : ℕ → ℕ) → Good A ex n last s system hd sd → Head (s .next) (s .block) h →
       takeMany A ex last own k s h ≡ planned t zs → Ran A ex n last s system hd 1 h h (blocks A hd (s .count) h + k) zs t
   unfolding takeMany
   grow-ran k h h1 own t zs s system hd sd g d e =
-      steps-ran 1 h h system (λ s. takeBlock A ex last own s h) (λ s hd sd g d t ys q. let w = take-good g h d h1 own t ys q in (w, take-shift g w))
+      steps-ran 1 h h system (λ s. takeBlock A ex last own s h) (λ s hd sd g d t ys q. let w = take-good g h d h1 own t ys q in (w, w .shift))
       (blocks A hd (s .count) h + k) (λ i b. b + i ≡ blocks A hd (s .count) h + k) (λ b l. omega arith)
       (λ i b b′ m l. omega (arith, m, l, oneAt-same h h refl, oneAt-other 1 h (λ q. h1 (sym q)))) k t zs s hd sd g d refl e
 
@@ -88,7 +87,7 @@ module _ {A : ℕ} {ex : ℕ → Bool} {n last : ℕ} where
       Head (s .next) (s .block) h → giveMany A ex last k s h ≡ planned t zs → Ran A ex n last s system hd h 1 h size zs t
   unfolding giveMany
   shrink-ran k h h1 t zs s system hd sd size b g d e =
-      steps-ran h 1 h system (λ s. giveBack A ex last s h) (λ s hd sd g d t ys q. let w = give-good g h d h1 t ys q in (w, give-shift g w))
+      steps-ran h 1 h system (λ s. giveBack A ex last s h) (λ s hd sd g d t ys q. let w = give-good g h d h1 t ys q in (w, shift-swap (w .shift)))
       size (λ i b. b ≡ size + i) (λ b l. omega arith)
       (λ i b b′ m l. omega (arith, m, l, oneAt-same h h refl, oneAt-other 1 h (λ q. h1 (sym q)))) k t zs s hd sd g d b e
 

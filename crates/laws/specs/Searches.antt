@@ -4,7 +4,7 @@ use mathlib.Core.Path.{_≡_, refl, sym, ap, _∙_}
 use mathlib.Core.Logic.{_≢_, _⊎_, inl, inr}
 use mathlib.Core.List.{List, [], _∷_, _++_}
 use native.Mathlib.Omega.{arith}
-use Rattle.rules.specs.Counting.{sumList, times, lastOf}
+use Rattle.rules.specs.Counting.{sumList, times}
 use Rattle.rules.specs.Space.{Found, nowhere, found, fullAt, firstFound, firstFull, lastFull}
 use Rattle.laws.specs.Tests.{same?}
 use Rattle.laws.specs.Sums.{oneAt-cases}
@@ -114,13 +114,3 @@ lastFull-split count p (b ∷ l) q x e = go (lastFull count b l) refl e (lastFul
         (pre : List ℕ) × (post : List ℕ) × (b ∷ l ≡ pre ++ (x ∷ post)) × (sumList count post ≡ 0)
     go (found q′ y) f e r = let t = r (f ∙ e) in (b ∷ t .0, t .1, ap (λ (k : List ℕ). b ∷ k) (t .2), t .3)
     go nowhere f e r = ([], l, ap (λ (y : ℕ). y ∷ l) (found-at count p b q x e .2), lastFull-none count b l f)
-
--- ---- the end of a list
-
-pub last-on : (p : ℕ) (l : List ℕ) → (lastOf p l ≡ p) ⊎ (0 < times (lastOf p l) l)
-unfolding lastOf
-last-on p [] = inl refl
-last-on p (x ∷ l) = inr (elim (last-on x l) [
-  | inl e ↦ rw e (times-here x l)
-  | inr e ↦ times-later (lastOf x l) x l e
-])

@@ -5,10 +5,10 @@ use mathlib.Core.Logic.{_≢_}
 use mathlib.Core.List.{List, [], _∷_, _++_}
 use native.Mathlib.Omega.{arith}
 use lib.ListN.{length}
-use Rattle.rules.specs.Counting.{times}
+use Rattle.rules.specs.Counting.{times, lastOf}
 use Rattle.rules.specs.Chains.{chainOf, followed}
 use Rattle.laws.specs.Sums.{oneAt-other}
-use Rattle.laws.specs.Bags.{times-nil, times-cons, times-here, times-later}
+use Rattle.laws.specs.Bags.{times-nil, times-cons, times-here, times-later, last-split}
 
 -- from a, following next, the anodes of l are met, none of them 0, and then z
 
@@ -81,3 +81,16 @@ seg-avoids next x P step a z (b ∷ l) p c =
 -- 0 stands in no walk
 pub seg-zero : (next : ℕ → ℕ) (a z : ℕ) (l : List ℕ) → Seg next a l z → times 0 l ≡ 0
 seg-zero next a z l c = seg-avoids next 0 (λ b. Unit {0}) (λ b b0 p. (b0, tt)) a z l tt c
+
+-- ---- the end of a walk
+
+-- a walk's last anode has for next what comes after the walk
+pub seg-last : (next : ℕ → ℕ) (a z b : ℕ) (l : List ℕ) → Seg next a (b ∷ l) z → next (lastOf a (b ∷ l)) ≡ z
+unfolding lastOf
+seg-last next a z b [] c = c .2
+seg-last next a z b (x ∷ l) c = seg-last next (next b) z x l (c .2)
+
+-- a chain's last anode
+pub chain-end : (next : ℕ → ℕ) (h : ℕ) (l : List ℕ) → h ≢ 0 → Chain next h l → (pre : List ℕ) × (l ≡ pre ++ (lastOf h l ∷ []))
+chain-end next h [] h0 c = absurd (h0 c)
+chain-end next h (x ∷ l) h0 c = last-split h x l

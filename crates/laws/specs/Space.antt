@@ -12,11 +12,11 @@ use Rattle.rules.specs.Space.{rewritten, insertedAfter, unlinked, onChain, drop
 use Rattle.laws.specs.Tests.{same?, T-same}
 use Rattle.laws.specs.Sums.{oneAt-cases, oneAt-same, changed-cases, changed-same, changed-other}
 use Rattle.laws.specs.Ownership.{covers-none, EachOnce, own-same, move}
-use Rattle.laws.specs.Links.{View, Linked}
+use Rattle.laws.specs.Links.{Linked}
 use Rattle.laws.specs.Heads.{Head, Heads, times-on-chain}
-use Rattle.laws.specs.LinkChanges.{first, second, third, insertAfter, insertAfter-cases, unlink, unlink-cases, without, without-cases, without-other, insert-view, insert-linked, unlink-view, unlink-linked, head-view, head-linked, drop-view, drop-linked, same-use, use-same, rewrite-view, rewrite-linked}
+use Rattle.laws.specs.LinkChanges.{first, second, third, insertAfter, insertAfter-cases, unlink, unlink-cases, without, without-cases, without-other, insert-linked, unlink-linked, head-linked, drop-linked, same-use, use-same, rewrite-linked}
 use Rattle.laws.specs.HeadChanges.{insert-heads, unlink-heads, fresh-heads, drop-heads, rewrite-heads}
-use Rattle.laws.specs.Cut.{cut-cases, cut-other, cut-view, cut-linked, cut-insertAfter, cut-unlink, cut-drop}
+use Rattle.laws.specs.Cut.{cut-cases, cut-other, cut-linked, cut-insertAfter, cut-unlink, cut-drop}
 
 -- the anode a reads the same in two states
 pub record Alike (s t : Anodes) (a : ℕ) : Type 0 where
@@ -26,6 +26,11 @@ pub record Alike (s t : Anodes) (a : ℕ) : Type 0 where
 
 pub alike-trans : {s t r : Anodes} {a : ℕ} → Alike s t a → Alike t r a → Alike s r a
 alike-trans e f = record { same-count = f .same-count ∙ e .same-count; same-block = f .same-block ∙ e .same-block; same-next = f .same-next ∙ e .same-next }
+
+-- an anode in use exists, and a free one has no blocks
+pub record Present (ex : ℕ → Bool) (s : Anodes) : Type 0 where
+  pub exist : (a : ℕ) → s .block a ≢ 0 → T (ex a)
+  pub free-none : (a : ℕ) → s .block a ≡ 0 → s .count a ≡ 0
 
 -- the fields of anodes 0, 1, 2 and 5 that the rules fix
 pub record FixedAnodes (s : Anodes) : Type 0 where
@@ -53,10 +58,8 @@ fixed-pos m f z = omega (arith, z, fixed-low m f .0)
 module _ (A : ℕ) (ex : ℕ → Bool) (n last : ℕ) where
   -- hd is the table of heads, sd that of the sides
   pub record Good (s : Anodes) (system hd sd : ℕ → ℕ) : Type 0 where
-    pub view : View A (s .next) (s .block)
     pub linked : Linked A (s .next) (s .block)
-    pub exist : (a : ℕ) → s .block a ≢ 0 → T (ex a)
-    pub free-none : (a : ℕ) → s .block a ≡ 0 → s .count a ≡ 0
+    pub present : Present ex s
     pub own : EachOnce A (s .count) (s .block) system n
     pub fixed : FixedAnodes s
     pub first : (m : ℕ) → FixedHead m → (p : ℕ) → s .next p ≢ m
@@ -112,14 +115,15 @@ module _ {A : ℕ} {ex : ℕ → Bool} {n last : ℕ} {s : Anodes} {system hd sd
     pub rewrite-good : Good A ex n last (rewritten s x c b) system′ hd sd
     unfolding rewritten
     rewrite-good = record {
-      view = rewrite-view (s .block) x b u b0 (g .view);
       linked = rewrite-linked (s .block) x b u b0 (g .linked);
-      exist = λ a h. g .exist a (λ z. h (use-same (s .block) x b u b0 a z));
-      free-none = λ a h. elim (changed-cases (s .count) x c a) [
-        | inl e ↦ absurd (u (ap (s .block) (sym (e .0)) ∙ same-use (s .block) x b u b0 a h))
-        | inr e ↦ e .1 ∙ g .free-none a (same-use (s .block) x b u b0 a h)
-      ];
-      own = move A (s .count) (s .block) system n x (g .view .below x u) c b system′ moved fits (g .own);
+      present = record {
+        exist = λ a h. g .present .exist a (λ z. h (use-same (s .block) x b u b0 a z));
+        free-none = λ a h. elim (changed-cases (s .count) x c a) [
+          | inl e ↦ absurd (u (ap (s .block) (sym (e .0)) ∙ same-use (s .block) x b u b0 a h))
+          | inr e ↦ e .1 ∙ g .present .free-none a (same-use (s .block) x b u b0 a h)
+        ];
+      };
+      own = move A (s .count) (s .block) system n x (g .linked .view .below x u) c b system′ moved fits (g .own);
       fixed = fixed-kept x c b (s .next) x0 x1 (λ a l h z. h (same-use (s .block) x b u b0 a z));
       first = g .first;
       heads = rewrite-heads (s .block) x b u b0 (g .heads);
@@ -137,17 +141,18 @@ module _ {A : ℕ} {ex : ℕ → Bool} {n last : ℕ} {s : Anodes} {system hd sd
     pub unlink-good : Good A ex n last (unlinked s p x) system (changed hd x 0) (changed sd x 0)
     unfolding unlinked unlink
     unlink-good = record {
-      view = unlink-view (g .view) (g .linked) p x x0 px;
-      linked = unlink-linked (g .view) (g .linked) p x x0 px;
-      exist = λ a h. elim (changed-cases (s .block) x 0 a) [ inl e ↦ absurd (h (e .1)) | inr e ↦ g .exist a (rw (e .1) at h) ];
-      free-none = λ a h. elim (changed-cases (s .count) x 0 a) [ inl e ↦ e .1 | inr e ↦ e .1 ∙ g .free-none a (sym (changed-other (s .block) x 0 a (e .0)) ∙ h) ];
-      own = move A (s .count) (s .block) system n x (g .view .below x ux) 0 0 system
+      linked = unlink-linked (g .linked) p x x0 px;
+      present = record {
+        exist = λ a h. elim (changed-cases (s .block) x 0 a) [ inl e ↦ absurd (h (e .1)) | inr e ↦ g .present .exist a (rw (e .1) at h) ];
+        free-none = λ a h. elim (changed-cases (s .count) x 0 a) [ inl e ↦ e .1 | inr e ↦ e .1 ∙ g .present .free-none a (sym (changed-other (s .block) x 0 a (e .0)) ∙ h) ];
+      };
+      own = move A (s .count) (s .block) system n x (g .linked .view .below x ux) 0 0 system
           (λ y. rw none (omega (arith, covers-none (s .block x) y, covers-none 0 y))) (λ q. absurd (omega arith)) (g .own);
       fixed = low-fixed x 0 0 _ x6;
       first = λ m f. first-of m (fixed-pos m f) (g .first m f);
-      heads = unlink-heads (g .view) (g .linked) hd (g .heads) p x x0 px;
+      heads = unlink-heads (g .linked) p x x0 px (g .heads);
       two-on = changed-other hd x 0 2 (omega arith) ∙ g .two-on;
-      sides = rw (cut-unlink (s .next) p x) at (unlink-heads (cut-view (g .view)) (cut-linked (g .linked)) sd (g .sides) p x x0 (cut-other (s .next) p (λ q. omega (arith, px, q)) ∙ px));
+      sides = rw (cut-unlink (s .next) p x) at (unlink-heads (cut-linked (g .linked)) p x x0 (cut-other (s .next) p (λ q. omega (arith, px, q)) ∙ px) (g .sides));
       high = high-kept x 0 0 (changed sd x 0) (changed-other sd x 0) (λ q p. absurd (omega arith));
       low = low-kept x 0 0 (changed sd x 0) (changed-other sd x 0) (λ q p. absurd (omega arith));
     }
@@ -172,16 +177,17 @@ module _ {A : ℕ} {ex : ℕ → Bool} {n last : ℕ} {s : Anodes} {system hd sd
     pub insert-good : Good A ex n last (insertedAfter s p f c b) system′ (changed hd f (hd p)) (changed sd f (sd p))
     unfolding insertedAfter insertAfter
     insert-good = record {
-      view = insert-view (g .view) (g .linked) p f b p0 up f0 fresh fA b0;
-      linked = insert-linked (g .view) (g .linked) p f b p0 up f0 fresh fA b0;
-      exist = λ a h. elim (changed-cases (s .block) f b a) [ inl e ↦ rw (e .0) there | inr e ↦ g .exist a (rw (e .1) at h) ];
-      free-none = λ a h. elim (changed-cases (s .block) f b a) [ inl e ↦ absurd (b0 (sym (e .1) ∙ h)) | inr e ↦ changed-other (s .count) f c a (e .0) ∙ g .free-none a (sym (e .1) ∙ h) ];
-      own = move A (s .count) (s .block) system n f fA c b system′ (λ y. rw (g .free-none f fresh) (omega (arith, covers-none (s .block f) y, moved y))) fits (g .own);
+      linked = insert-linked (g .linked) p f b p0 up f0 fresh fA b0;
+      present = record {
+        exist = λ a h. elim (changed-cases (s .block) f b a) [ inl e ↦ rw (e .0) there | inr e ↦ g .present .exist a (rw (e .1) at h) ];
+        free-none = λ a h. elim (changed-cases (s .block) f b a) [ inl e ↦ absurd (b0 (sym (e .1) ∙ h)) | inr e ↦ changed-other (s .count) f c a (e .0) ∙ g .present .free-none a (sym (e .1) ∙ h) ];
+      };
+      own = move A (s .count) (s .block) system n f fA c b system′ (λ y. rw (g .present .free-none f fresh) (omega (arith, covers-none (s .block f) y, moved y))) fits (g .own);
       fixed = low-fixed f c b _ f6;
       first = λ m i. first-of m (fixed-low m i .1) (g .first m i);
-      heads = insert-heads (g .view) (g .linked) hd (g .heads) p f b p0 up f0 fresh fA b0;
+      heads = insert-heads (g .linked) p f b up fresh f0 b0 (g .heads);
       two-on = changed-other hd f (hd p) 2 (omega arith) ∙ g .two-on;
-      sides = rw (cut-insertAfter (s .next) p f (omega arith)) at (insert-heads (cut-view (g .view)) (cut-linked (g .linked)) sd (g .sides) p f b p0 up f0 fresh fA b0);
+      sides = rw (cut-insertAfter (s .next) p f (omega arith)) at (insert-heads (cut-linked (g .linked)) p f b up fresh f0 b0 (g .sides));
       high = high-kept f c b (changed sd f (sd p)) (changed-other sd f (sd p)) (λ q. is-high (sym (changed-same sd f (sd p)) ∙ q));
       low = low-kept f c b (changed sd f (sd p)) (changed-other sd f (sd p)) (λ q. is-low (sym (changed-same sd f (sd p)) ∙ q));
     }
@@ -198,16 +204,17 @@ module _ {A : ℕ} {ex : ℕ → Bool} {n last : ℕ} {s : Anodes} {system hd sd
     pub head-good : Good A ex n last (rewritten s f 0 b) system (changed hd f f) (changed sd f f)
     unfolding rewritten
     head-good = record {
-      view = head-view (g .view) (g .linked) f b (omega arith) fresh fA b0;
-      linked = head-linked (g .view) (g .linked) f b (omega arith) fresh fA b0;
-      exist = λ a h. elim (changed-cases (s .block) f b a) [ inl e ↦ rw (e .0) there | inr e ↦ g .exist a (rw (e .1) at h) ];
-      free-none = λ a h. elim (changed-cases (s .count) f 0 a) [ inl e ↦ e .1 | inr e ↦ e .1 ∙ g .free-none a (sym (changed-other (s .block) f b a (e .0)) ∙ h) ];
-      own = move A (s .count) (s .block) system n f fA 0 b system (λ y. rw (g .free-none f fresh) (omega (arith, covers-none (s .block f) y, covers-none b y))) (λ q. absurd (omega arith)) (g .own);
+      linked = head-linked (g .linked) f b (omega arith) fresh fA b0;
+      present = record {
+        exist = λ a h. elim (changed-cases (s .block) f b a) [ inl e ↦ rw (e .0) there | inr e ↦ g .present .exist a (rw (e .1) at h) ];
+        free-none = λ a h. elim (changed-cases (s .count) f 0 a) [ inl e ↦ e .1 | inr e ↦ e .1 ∙ g .present .free-none a (sym (changed-other (s .block) f b a (e .0)) ∙ h) ];
+      };
+      own = move A (s .count) (s .block) system n f fA 0 b system (λ y. rw (g .present .free-none f fresh) (omega (arith, covers-none (s .block f) y, covers-none b y))) (λ q. absurd (omega arith)) (g .own);
       fixed = low-fixed f 0 b _ f6;
       first = g .first;
-      heads = fresh-heads (g .view) (g .linked) hd (g .heads) f b (omega arith) fresh fA b0;
+      heads = fresh-heads (g .linked) f b (omega arith) fresh b0 (g .heads);
       two-on = changed-other hd f f 2 (omega arith) ∙ g .two-on;
-      sides = fresh-heads (cut-view (g .view)) (cut-linked (g .linked)) sd (g .sides) f b (omega arith) fresh fA b0;
+      sides = fresh-heads (cut-linked (g .linked)) f b (omega arith) fresh b0 (g .sides);
       high = high-kept f 0 b (changed sd f f) (changed-other sd f f) (λ q p. absurd (omega arith));
       low = low-kept f 0 b (changed sd f f) (changed-other sd f f) (λ q p. absurd (omega arith));
     }
@@ -216,7 +223,7 @@ module _ {A : ℕ} {ex : ℕ → Bool} {n last : ℕ} {s : Anodes} {system hd sd
   pub on-chain : (m : ℕ) → Head (s .next) (s .block) m → (a : ℕ) → 0 < times a (chainOf (s .next) A m) → (hd a ≡ m) × (s .block a ≢ 0)
   on-chain m d a p = elim (oneAt-cases (hd a) m) [
     | inl e ↦ (e .0, λ z. d .pos (sym (e .0) ∙ g .heads .off a z))
-    | inr e ↦ absurd (omega (arith, p, times-on-chain (g .view) (g .linked) hd (g .heads) m d a, e .1))
+    | inr e ↦ absurd (omega (arith, p, times-on-chain (g .linked) (g .heads) m d a, e .1))
   ]
 
   -- the chain of the head h, from 6 up and with no block, is dropped
@@ -230,7 +237,7 @@ module _ {A : ℕ} {ex : ℕ → Bool} {n last : ℕ} {s : Anodes} {system hd sd
 
     pub head-dead : (a : ℕ) → hd a ≡ h → T (dead a)
     unfolding onChain
-    head-dead a e = le→leb 1 (times a (chainOf (s .next) A h)) (omega (arith, times-on-chain (g .view) (g .linked) hd (g .heads) h d a, oneAt-same (hd a) h e))
+    head-dead a e = le→leb 1 (times a (chainOf (s .next) A h)) (omega (arith, times-on-chain (g .linked) (g .heads) h d a, oneAt-same (hd a) h e))
 
     pub dead-along : (a : ℕ) → s .next a ≢ 0 → dead (s .next a) ≡ dead a
     dead-along a n = T-same (dead (s .next a)) (dead a)
@@ -240,13 +247,14 @@ module _ {A : ℕ} {ex : ℕ → Bool} {n last : ℕ} {s : Anodes} {system hd sd
     pub drop-good : Good A ex n last (dropped A s h) system (without dead hd) (without dead sd)
     unfolding dropped without
     drop-good = record {
-      view = drop-view (g .view) (g .linked) dead dead-along;
-      linked = drop-linked (g .view) (g .linked) dead dead-along;
-      exist = λ a q. elim (without-cases dead (s .block) a) [ inl e ↦ absurd (q (e .1)) | inr e ↦ g .exist a (rw (e .1) at q) ];
-      free-none = λ a q. elim (without-cases dead (s .count) a) [
-        | inl e ↦ e .1
-        | inr e ↦ e .1 ∙ g .free-none a (sym (without-other dead (s .block) a (e .0)) ∙ q)
-      ];
+      linked = drop-linked (g .linked) dead dead-along;
+      present = record {
+        exist = λ a q. elim (without-cases dead (s .block) a) [ inl e ↦ absurd (q (e .1)) | inr e ↦ g .present .exist a (rw (e .1) at q) ];
+        free-none = λ a q. elim (without-cases dead (s .count) a) [
+          | inl e ↦ e .1
+          | inr e ↦ e .1 ∙ g .present .free-none a (sym (without-other dead (s .block) a (e .0)) ∙ q)
+        ];
+      };
       own = own-same A (s .count) (s .block) (without dead (s .count)) (without dead (s .block)) system n covered
           (λ a l. elim (without-cases dead (s .count) a) [
             | inl e ↦ rw (e .1) (λ q. absurd (omega arith))
@@ -261,9 +269,9 @@ module _ {A : ℕ} {ex : ℕ → Bool} {n last : ℕ} {s : Anodes} {system hd sd
         block-5 = rw (without-other dead (s .block) 5 dead-5) (g .fixed .block-5);
       };
       first = λ m f. first-of m (fixed-pos m f) (g .first m f);
-      heads = drop-heads (g .view) (g .linked) hd (g .heads) dead dead-along;
+      heads = drop-heads dead dead-along (g .heads);
       two-on = without-other dead hd 2 dead-2 ∙ g .two-on;
-      sides = rw (cut-drop (s .next) dead) at (drop-heads (cut-view (g .view)) (cut-linked (g .linked)) sd (g .sides) dead cut-along);
+      sides = rw (cut-drop (s .next) dead) at (drop-heads dead cut-along (g .sides));
       high = λ a q. elim (without-cases dead sd a) [
         | inl e ↦ absurd (omega (arith, q, e .1))
         | inr e ↦ rw (without-other dead (s .count) a (e .0), without-other dead (s .block) a (e .0)) (g .high a (sym (e .1) ∙ q))

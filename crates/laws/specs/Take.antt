@@ -1,40 +1,33 @@
 -- A take that is done leaves a good state, and one block has gone from the free list to the taker's chain.
-use Prim.Native.Nat.{ℕ, _+_, _≤_, _<_}
+use Prim.Native.Nat.{ℕ, _+_, _<_}
 use mathlib.Core.Path.{_≡_, refl, sym, ap, _∙_}
-use mathlib.Core.Logic.{_≢_, _⊎_, inl, inr}
+use mathlib.Core.Logic.{_≢_, inl, inr}
 use mathlib.Core.Bool.{Bool}
 use mathlib.Core.List.{List, [], _∷_}
 use native.Mathlib.Omega.{arith}
 use Rattle.rules.specs.Counting.{lastOf}
 use Rattle.rules.specs.Anodes.{Anodes}
 use Rattle.rules.specs.Chains.{chainOf, cut, side}
-use Rattle.rules.specs.Space.{planned, rewritten, Found, nowhere, found, withoutFirst, freeExtent, put, takeFrom, takeBlock}
+use Rattle.rules.specs.Space.{planned, withoutFirst, put, takeFrom, takeBlock}
 use Rattle.laws.specs.Ownership.{hand}
-use Rattle.laws.specs.Links.{the-chain}
-use Rattle.laws.specs.LinkChanges.{first, second, third}
-use Rattle.laws.specs.Heads.{Head, seg-head}
+use Rattle.laws.specs.Heads.{Head}
 use Rattle.laws.specs.Cut.{cut-cases}
 use Rattle.laws.specs.Space.{Good}
-use Rattle.laws.specs.Sides.{head-of-1, side-head, not-free, side-sd}
-use Rattle.laws.specs.Searches.{FoundIn, last-on}
-use Rattle.laws.specs.Moves.{InHand, Placed, Moved, headed-used, moved-by}
+use Rattle.laws.specs.Owners.{last-head, last-used, last-0}
+use Rattle.laws.specs.Sides.{SideHead, head-of-1, side-free, side-sd}
+use Rattle.laws.specs.Searches.{FoundIn}
+use Rattle.laws.specs.Moves.{InHand, Placed, Moved, moved-by}
 use Rattle.laws.specs.Leaving.{first-gone, full-used, full-inside, full-0, full-1, withoutBlock-out}
-use Rattle.laws.specs.FreeExtent.{extent-found, take-nowhere, take-found}
-use Rattle.laws.specs.Arriving.{put-cases, refused≢planned, filled, grown, placed-by, append-placed}
-
--- the last anode of a chain has its head
-pub last-head : {A : ℕ} {ex : ℕ → Bool} {n last : ℕ} {s : Anodes} {system hd sd : ℕ → ℕ} → Good A ex n last s system hd sd → (h : ℕ) → h ≢ 0 → hd h ≡ h → hd (lastOf h (chainOf (s .next) A h)) ≡ h
-last-head {A} {s = s} {hd = hd} g h h0 q = elim (last-on h (chainOf (s .next) A h)) [
-  | inl c ↦ ap hd c ∙ q
-  | inr c ↦ seg-head (g .view) (g .linked) hd (g .heads) h 0 (chainOf (s .next) A h) (the-chain (g .view) (g .linked) h (λ z. headed-used g h (λ y. h0 (sym q ∙ y)))) (lastOf h (chainOf (s .next) A h)) c ∙ q
-]
+use Rattle.laws.specs.FreeExtent.{extent-found, take-cases}
+use Rattle.laws.specs.Plans.{refused≢planned}
+use Rattle.laws.specs.Arriving.{put-placed}
 
 module _ {A : ℕ} {ex : ℕ → Bool} {n last : ℕ} {s : Anodes} {system hd sd : ℕ → ℕ} (g : Good A ex n last s system hd sd) where
   -- ---- out of the free list
 
-  module _ (m : ℕ) (o : (m ≡ 1) ⊎ (m ≡ 2)) (p x : ℕ) (f : FoundIn (s .count) (cut (s .next)) m (side A s m) 0 p x) where
+  module _ (m : ℕ) (o : SideHead m) (p x : ℕ) (f : FoundIn (s .count) (cut (s .next)) m (side A s m) 0 p x) where
     pub free-head : hd x ≡ 1
-    free-head = side-head g x (full-0 g x (f .full)) (full-used g x (f .full)) ∙ ap hd (side-sd g m o x (f .on)) ∙ elim o [ inl e ↦ ap hd e ∙ head-of-1 g | inr e ↦ ap hd e ∙ g .two-on ]
+    free-head = side-free g m o x (full-0 g x (f .full)) (full-used g x (f .full)) (side-sd g m o x (f .on))
 
     -- one that is not 2 stands after p
     pub free-after : x ≢ 2 → s .next p ≡ x
@@ -51,48 +44,28 @@ module _ {A : ℕ} {ex : ℕ → Bool} {n last : ℕ} {s : Anodes} {system hd sd
 -- ---- into the taker's chain
 
 module _ {A : ℕ} {ex : ℕ → Bool} {n last : ℕ} {s : Anodes} (system : ℕ → ℕ) {hd sd : ℕ → ℕ} (y : ℕ) (g : Good A ex n last s (hand system y) hd sd) (y0 : y ≢ 0) (yn : y < n)
-    (h : ℕ) (h0 : h ≢ 0) (h1 : h ≢ 1) (own-head : hd h ≡ h) where
-  end : ℕ
+    (h : ℕ) (d : Head (s .next) (s .block) h) (h1 : h ≢ 1) where
+  abbrev end : ℕ
   end = lastOf h (chainOf (s .next) A h)
 
-  pub put-placed : (own : Bool) (t : Anodes) (ys : List ℕ) → put A ex last own s (lastOf h (chainOf (s .next) A h)) y ≡ planned t ys → Placed A ex n last s system hd h y t × (ys ≡ y ∷ [])
-  unfolding end
-  put-placed own t ys e = rw e-head at placed
+  end-placed : (own : Bool) (t : Anodes) (ys : List ℕ) → put A ex last own s (lastOf h (chainOf (s .next) A h)) y ≡ planned t ys → Placed A ex n last s system hd h y t × (ys ≡ y ∷ [])
+  end-placed own t ys e = rw e-head at (put-placed system y g y0 yn end (last-0 g h d) (last-used g h d) (λ q. absurd (not-1 (off 1 (inl refl) q))) (λ q. absurd (not-1 (off 2 (inr refl) q))) (λ q. not-1 (ap hd q ∙ head-of-1 g)) own t ys e)
     where
       e-head : hd end ≡ h
-      e-head = last-head g h h0 own-head
+      e-head = last-head g h d
 
-      e0 : end ≢ 0
-      e0 q = h0 (sym e-head ∙ ap hd q ∙ g .heads .off-zero)
+      not-1 : hd end ≢ 1
+      not-1 q = h1 (sym e-head ∙ q)
 
-      e1 : end ≢ 1
-      e1 q = h1 (sym e-head ∙ ap hd q ∙ head-of-1 g)
-
-      u : s .block end ≢ 0
-      u = headed-used g end (λ q. h0 (sym e-head ∙ q))
-
-      off : (sd end ≢ 1) × (sd end ≢ 2)
-      off = not-free g end (λ q. h1 (sym e-head ∙ q)) u e0
-
-      high : sd end ≡ 1 → last < y
-      high q = absurd (off .0 q)
-
-      low : sd end ≡ 2 → y ≤ last
-      low q = absurd (off .1 q)
-
-      placed : Placed A ex n last s system hd (hd end) y t × (ys ≡ y ∷ [])
-      placed = elim (put-cases A ex last own s end y) [
-        | first c ↦ placed-by system y g y0 yn end e0 u high low (rewritten s end 1 y) t ys (sym (c .1) ∙ e) (filled system y g y0 yn end e0 u high low e1 (c .0))
-        | second c ↦ placed-by system y g y0 yn end e0 u high low (rewritten s end (s .count end + 1) (s .block end)) t ys (sym (c .3) ∙ e) (grown system y g y0 yn end e0 u high low e1 (c .0) (c .2))
-        | third c ↦ append-placed system y g y0 yn end e0 u high low t ys (sym (c .2) ∙ e)
-      ]
+      off : (m : ℕ) → SideHead m → sd end ≡ m → hd end ≡ 1
+      off m o = side-free g m o end (last-0 g h d) (last-used g h d)
 
 -- ---- the whole
 
 -- a take that is done: x after p is the first extent with a block on one of the two sides, its first block is out, and is put behind the last anode of the taker's chain
 pub record Takes (A : ℕ) (ex : ℕ → Bool) (n last : ℕ) (s : Anodes) (system hd : ℕ → ℕ) (own : Bool) (h : ℕ) (t : Anodes) (ys : List ℕ) : Type 0 where
   pub m : ℕ
-  pub one-side : (m ≡ 1) ⊎ (m ≡ 2)
+  pub one-side : SideHead m
   pub p : ℕ
   pub x : ℕ
   pub on : FoundIn (s .count) (cut (s .next)) m (side A s m) 0 p x
@@ -105,29 +78,26 @@ module _ {A : ℕ} {ex : ℕ → Bool} {n last : ℕ} {s : Anodes} {system hd sd
   -- a take that is done has made these steps
   pub take-steps : (own : Bool) (t : Anodes) (ys : List ℕ) → takeBlock A ex last own s h ≡ planned t ys → Takes A ex n last s system hd own h t ys
   unfolding takeFrom
-  take-steps own t ys e = go (freeExtent A own s) refl
-    where
-      go : (c : Found) → freeExtent A own s ≡ c → Takes A ex n last s system hd own h t ys
-      go nowhere q = absurd (refused≢planned 27 t ys (sym (take-nowhere A own s ex last h q) ∙ e))
-      go (found p x) q =
-          let (m, o, f) = extent-found A own s g p x q in
-          let u = full-used g x (f .full) in
-          record {
-            m = m;
-            one-side = o;
-            p = p;
-            x = x;
-            on = f;
-            some = u;
-            inside = omega (arith, full-inside g x (f .full), f .full);
-            out = withoutFirst-out g m o p x f;
-            puts = sym (take-found A own s ex last h p x q) ∙ e;
-          }
+  take-steps own t ys e = elim (take-cases A own s ex last h) [
+    | inl c ↦ absurd (refused≢planned 27 t ys (sym (c .1) ∙ e))
+    | inr (p, x, q, i) ↦ (let (m, o, f) = extent-found A own s g p x q in
+        record {
+          m = m;
+          one-side = o;
+          p = p;
+          x = x;
+          on = f;
+          some = full-used g x (f .full);
+          inside = omega (arith, full-inside g x (f .full), f .full);
+          out = withoutFirst-out g m o p x f;
+          puts = sym i ∙ e;
+        })
+  ]
 
   -- the block in hand has come to the chain of h
   pub take-placed : Head (s .next) (s .block) h → h ≢ 1 → {own : Bool} {t : Anodes} {ys : List ℕ} → (k : Takes A ex n last s system hd own h t ys) →
       Placed A ex n last (withoutFirst s (k .p) (k .x)) system (k .out .hd′) h (s .block (k .x)) t × (ys ≡ s .block (k .x) ∷ [])
-  take-placed d h1 {own} {t} {ys} k = put-placed system (s .block (k .x)) (k .out .good) (k .some) (k .inside) h (d .pos) h1 (k .out .heads-kept h d) own t ys (k .puts)
+  take-placed d h1 {own} {t} {ys} k = end-placed system (s .block (k .x)) (k .out .good) (k .some) (k .inside) h (k .out .shift .stays h d) h1 own t ys (k .puts)
 
   -- a take moves one block from the free list to the chain of h
   pub take-good : Head (s .next) (s .block) h → h ≢ 1 → (own : Bool) (t : Anodes) (ys : List ℕ) → takeBlock A ex last own s h ≡ planned t ys → Moved A ex n last s system hd 1 h ys t

@@ -5,89 +5,41 @@ use mathlib.Core.Logic.{_≢_, inl, inr}
 use mathlib.Core.Bool.{Bool}
 use mathlib.Core.List.{List, [], _∷_, _++_, append-nil, append-assoc}
 use native.Mathlib.Omega.{arith}
-use native.Mathlib.Numerals.{add-one}
 use lib.ListN.{length}
-use Rattle.rules.specs.Counting.{times, gather, lastOf}
+use Rattle.rules.specs.Counting.{gather, lastOf}
 use Rattle.rules.specs.Anodes.{Anodes, limit}
 use Rattle.rules.specs.Chains.{chainOf, run, blocksOf}
 use Rattle.rules.specs.Space.{planned, rewritten, insertedAfter, lowestFree, put, takeBlock, takeMany}
 use Rattle.laws.specs.Sums.{changed-same, changed-other}
-use Rattle.laws.specs.Segments.{Chain}
+use Rattle.laws.specs.Bags.{times-nil, gather-append, gather-off, gather-last}
+use Rattle.laws.specs.Segments.{chain-end}
 use Rattle.laws.specs.Links.{the-chain, seg-used}
 use Rattle.laws.specs.LinkChanges.{first, second, third}
 use Rattle.laws.specs.Heads.{Head}
 use Rattle.laws.specs.Space.{Good}
-use Rattle.laws.specs.Moves.{InHand, headed-used, hand-stays}
-use Rattle.laws.specs.Arriving.{free-is, append-cases, put-cases, refused≢planned, planned-same}
-use Rattle.laws.specs.Take.{last-head, take-steps, take-good}
-use Rattle.laws.specs.Frame.{shift-of, moved-stays}
-use Rattle.laws.specs.Repeated.{repeated-none, repeated-done}
-use Rattle.laws.specs.ChainBlocks.{gather-append, extent, blocksOf-extents, shift-blocks, gather-off, stands-once, inserted-chain}
-
--- one block more at the end of an extent
-pub run-end : (b c : ℕ) → run b (suc c) ≡ run b c ++ ((b + c) ∷ [])
-unfolding run
-run-end b zero = let e : b + 0 ≡ b = omega arith in rw e
-run-end b (suc c) = let e : b + suc c ≡ suc b + c = omega arith in rw e (ap (λ (l : List ℕ). b ∷ l) (run-end (suc b) c))
-
-pub extent-longer : (s : Anodes) (a y : ℕ) → s .block a + s .count a ≡ y → run (s .block a) (s .count a + 1) ≡ extent s a ++ (y ∷ [])
-unfolding extent
-extent-longer s a y e = rw (← e, add-one (s .count a)) (run-end (s .block a) (s .count a))
-
--- an empty extent filled
-pub extent-filled : (s : Anodes) (a y : ℕ) → s .count a ≡ 0 → run y 1 ≡ extent s a ++ (y ∷ [])
-unfolding extent run
-extent-filled s a y e = rw e
-
--- a list that is not empty, and its last element
-pub last-split : (p x : ℕ) (l : List ℕ) → (pre : List ℕ) × (x ∷ l ≡ pre ++ (lastOf p (x ∷ l) ∷ []))
-unfolding lastOf
-last-split p x [] = ([], refl)
-last-split p x (y ∷ l) = let r = last-split x y l in (x ∷ r .0, ap (λ (k : List ℕ). x ∷ k) (r .1))
-
--- a chain's last anode
-pub chain-end : (next : ℕ → ℕ) (h : ℕ) (l : List ℕ) → h ≢ 0 → Chain next h l → (pre : List ℕ) × (l ≡ pre ++ (lastOf h l ∷ []))
-chain-end next h [] h0 c = absurd (h0 c)
-chain-end next h (x ∷ l) h0 c = last-split h x l
-
--- the blocks of a list of anodes whose last has one block more
-gather-end : (f f′ : ℕ → List ℕ) (pre : List ℕ) (z y : ℕ) → ((a : ℕ) → a ≢ z → f′ a ≡ f a) → times z pre ≡ 0 → f′ z ≡ f z ++ (y ∷ []) →
-    gather f′ (pre ++ (z ∷ [])) ≡ gather f (pre ++ (z ∷ [])) ++ (y ∷ [])
-unfolding gather
-gather-end f f′ pre z y same once more =
-    let now : gather f′ (pre ++ (z ∷ [])) ≡ gather f pre ++ (f z ++ (y ∷ [])) = gather-append f′ pre (z ∷ []) ∙ rw (append-nil (f′ z), gather-off f f′ z same pre once, more) in
-    let was : gather f (pre ++ (z ∷ [])) ≡ gather f pre ++ f z = gather-append f pre (z ∷ []) ∙ rw (append-nil (f z)) in
-    now ∙ sym (append-assoc (gather f pre) (f z) (y ∷ [])) ∙ ap (λ (l : List ℕ). l ++ (y ∷ [])) (sym was)
+use Rattle.laws.specs.Plans.{refused≢planned, planned-same, repeated-none, repeated-done}
+use Rattle.laws.specs.Arriving.{free-is, append-cases, put-cases}
+use Rattle.laws.specs.Take.{take-steps, take-good}
+use Rattle.laws.specs.ChainBlocks.{extent, blocksOf-extents, extent-filled, extent-longer, shift-blocks, stands-once, appended-chain}
 
 -- ---- into the taker's chain
 
 module _ {ex : ℕ → Bool} {n last : ℕ} {s : Anodes} {system hd sd : ℕ → ℕ} (g : Good limit ex n last s system hd sd) (h : ℕ) (d : Head (s .next) (s .block) h) (y : ℕ) (y0 : y ≢ 0) where
-  end : ℕ
+  abbrev end : ℕ
   end = lastOf h (chainOf (s .next) limit h)
 
   split : (pre : List ℕ) × (chainOf (s .next) limit h ≡ pre ++ (end ∷ []))
-  unfolding end
-  split = chain-end (s .next) h (chainOf (s .next) limit h) (d .pos) (the-chain (g .view) (g .linked) h (λ q. d .in-use))
+  split = chain-end (s .next) h (chainOf (s .next) limit h) (d .pos) (the-chain (g .linked) h (λ q. d .in-use))
 
   -- the last anode gains the block
   gained : (c b : ℕ) → run b c ≡ extent s end ++ (y ∷ []) → blocksOf (rewritten s end c b) h ≡ blocksOf s h ++ (y ∷ [])
-  unfolding rewritten extent
+  unfolding rewritten extent gather
   gained c b more =
       blocksOf-extents (rewritten s end c b) h ∙ ap (gather (extent (rewritten s end c b))) (split .1)
-      ∙ gather-end (extent s) (extent (rewritten s end c b)) (split .0) end y
-      (λ a i. rw (changed-other (s .count) end c a i, changed-other (s .block) end b a i)) (stands-once g h d end (split .0) [] (split .1) .0)
+      ∙ gather-last (extent (rewritten s end c b)) (extent s) (split .0) [] end y
+      (λ a i. rw (changed-other (s .count) end c a i, changed-other (s .block) end b a i)) (stands-once g h d end (split .0) [] (split .1) .0) (times-nil end) refl
       (rw (changed-same (s .count) end c, changed-same (s .block) end b) more)
       ∙ ap (λ (l : List ℕ). l ++ (y ∷ [])) (sym (blocksOf-extents s h ∙ ap (gather (extent s)) (split .1)))
-
-  end-head : hd end ≡ h
-  unfolding end
-  end-head = last-head g h (d .pos) (g .heads .at-head h d)
-
-  end-used : s .block end ≢ 0
-  end-used = headed-used g end (λ q. d .pos (sym end-head ∙ q))
-
-  end-0 : end ≢ 0
-  end-0 q = d .pos (sym end-head ∙ ap hd q ∙ g .heads .off-zero)
 
   -- or a fresh anode after it has the block
   appended : (f : ℕ) → f < limit → 6 ≤ f → s .block f ≡ 0 → blocksOf (insertedAfter s end f 1 y) h ≡ blocksOf s h ++ (y ∷ [])
@@ -95,16 +47,14 @@ module _ {ex : ℕ → Bool} {n last : ℕ} {s : Anodes} {system hd sd : ℕ →
   appended f fA f6 fresh =
       let t = insertedAfter s end f 1 y in
       let l = chainOf (s .next) limit h in
-      let chain : chainOf (t .next) limit h ≡ l ++ (f ∷ []) =
-      inserted-chain g h d end (split .0) [] (split .1) end-0 end-used f 1 y (omega arith) fresh fA y0 ∙ sym (ap (λ (k : List ℕ). k ++ (f ∷ [])) (split .1) ∙ append-assoc (split .0) (end ∷ []) (f ∷ [])) in
+      let chain : chainOf (t .next) limit h ≡ l ++ (f ∷ []) = appended-chain g h d f 1 y (omega arith) fresh fA y0 in
       let same : gather (extent t) l ≡ gather (extent s) l = gather-off (extent s) (extent t) f (λ a i. rw (changed-other (s .count) f 1 a i, changed-other (s .block) f y a i)) l
-      (seg-used (g .view) (g .linked) h 0 l f (λ q. d .in-use) (the-chain (g .view) (g .linked) h (λ q. d .in-use)) fresh) in
+      (seg-used (g .linked) h 0 l f (λ q. d .in-use) (the-chain (g .linked) h (λ q. d .in-use)) fresh) in
       let new : extent t f ≡ y ∷ [] = rw (changed-same (s .count) f 1, changed-same (s .block) f y) in
       blocksOf-extents t h ∙ ap (gather (extent t)) chain ∙ gather-append (extent t) l (f ∷ [])
       ∙ ap (λ (k : List ℕ). k ++ (extent t f ++ [])) same ∙ ap (λ (k : List ℕ). gather (extent s) l ++ (k ++ [])) new ∙ ap (λ (k : List ℕ). k ++ (y ∷ [])) (sym (blocksOf-extents s h))
 
   put-blocks : (own : Bool) (t : Anodes) (ys : List ℕ) → put limit ex last own s (lastOf h (chainOf (s .next) limit h)) y ≡ planned t ys → blocksOf t h ≡ blocksOf s h ++ ys
-  unfolding end
   put-blocks own t ys e = elim (put-cases limit ex last own s end y) [
     | first c ↦ by (rewritten s end 1 y) (sym (c .1) ∙ e) (gained 1 y (extent-filled s end y (c .0)))
     | second c ↦ by (rewritten s end (s .count end + 1) (s .block end)) (sym (c .3) ∙ e) (gained (s .count end + 1) (s .block end) (extent-longer s end y (c .2)))
@@ -121,15 +71,11 @@ module _ {ex : ℕ → Bool} {n last : ℕ} {s : Anodes} {system hd sd : ℕ →
 -- ---- the whole
 
 module _ {ex : ℕ → Bool} {n last : ℕ} {s : Anodes} {system hd sd : ℕ → ℕ} (g : Good limit ex n last s system hd sd) (h : ℕ) (d : Head (s .next) (s .block) h) (h1 : h ≢ 1) where
-  -- the block out of the free list: the taker's chain has its blocks as before
-  free-left : {y : ℕ} {r : Anodes} → InHand limit ex n last s system hd 1 y r → blocksOf r h ≡ blocksOf s h
-  free-left i = shift-blocks g (i .good) (shift-of g (i .good) 1 (hand-stays i) (i .no-new) (λ a u q j. i .apart a q)) h d h1 h1
-
   -- a take puts its block behind the blocks of the taker's chain
   pub take-blocks : (own : Bool) (t : Anodes) (ys : List ℕ) → takeBlock limit ex last own s h ≡ planned t ys → blocksOf t h ≡ blocksOf s h ++ ys
   take-blocks own t ys e =
       let k = take-steps g h own t ys e in
-      put-blocks (k .out .good) h (hand-stays (k .out) h d) (s .block (k .x)) (k .some) own t ys (k .puts) ∙ ap (λ (l : List ℕ). l ++ ys) (free-left (k .out))
+      put-blocks (k .out .good) h (k .out .shift .stays h d) (s .block (k .x)) (k .some) own t ys (k .puts) ∙ ap (λ (l : List ℕ). l ++ ys) (shift-blocks g (k .out .good) (k .out .shift) h d h1 h1)
 
 -- k takes, one after the other, put their blocks behind those of the taker's chain in order
 pub takes-blocks : {ex : ℕ → Bool} {n last : ℕ} (k h : ℕ) → h ≢ 1 → (own : Bool) (t : Anodes) (zs : List ℕ) (s : Anodes) (system hd sd : ℕ → ℕ) → Good limit ex n last s system hd sd →
@@ -139,7 +85,7 @@ takes-blocks zero h h1 own t zs s system hd sd g d e = let q = repeated-none (λ
 takes-blocks {ex} {n} {last} (suc k) h h1 own t zs s system hd sd g d e =
     let (r, ys, xs, q, f, z) = repeated-done (λ s. takeBlock limit ex last own s h) k s t zs e in
     let w = take-good g h d h1 own r ys q in
-    let b = takes-blocks k h h1 own t xs r system (w .hd′) (w .sd′) (w .good) (moved-stays g w h d) f in (
+    let b = takes-blocks k h h1 own t xs r system (w .hd′) (w .sd′) (w .good) (w .shift .stays h d) f in (
       b .0 ∙ ap (λ (l : List ℕ). l ++ xs) (take-blocks g h d h1 own r ys q) ∙ append-assoc (blocksOf s h) ys xs ∙ ap (λ (l : List ℕ). blocksOf s h ++ l) (sym z),
       ap length (z ∙ ap (λ (l : List ℕ). l ++ xs) (w .handed)) ∙ ap suc (b .1),
     )

@@ -1,12 +1,12 @@
--- Cases on numbers, and what Boolean tests say.
-use Prim.Native.Nat.{ℕ, zero, suc, _<_}
+-- Cases on numbers, what Boolean tests say, and what a table of refusals answers.
+use Prim.Native.Nat.{ℕ, zero, suc, _≤_, _<_}
 use mathlib.Core.Path.{_≡_, refl}
 use mathlib.Core.Logic.{_≢_, _⊎_, inl, inr}
 use mathlib.Core.Bool.{Bool, true, false, cond, not, _&&_, _||_}
 use native.Mathlib.Omega.{arith}
 use lib.Dec.{T, eqb, eqb-refl, eqb→eq}
 use borrow.Author.Tests.{eq-eqb, ne-eqb}
-use Rattle.rules.specs.Counting.{anyBelow}
+use Rattle.rules.specs.Counting.{_if_else_, firstOf, anyBelow}
 use Rattle.counting.specs.Laws.{anyBelow-hit}
 pub use Rattle.endian.proofs.Laws.{same?, less?}
 
@@ -67,3 +67,24 @@ other a b p = rw (ne-eqb a b p)
 
 pub same : (a b : ℕ) → a ≡ b → not (eqb a b) ≡ false
 same a b p = rw (eq-eqb a b p)
+
+-- ---- a table of refusals
+
+-- a row that answers 0 has failed, and so has the rest
+pub if-zero : (n : ℕ) (t : Bool) (rest : ℕ) → n ≢ 0 → (n if t else rest) ≡ 0 → (t ≡ false) × (rest ≡ 0)
+if-zero n true rest p e = absurd (p e)
+if-zero n false rest p e = (refl, e)
+
+pub firstOf-zero : (a b : ℕ) → firstOf a b ≡ 0 → (a ≡ 0) × (b ≡ 0)
+unfolding firstOf
+firstOf-zero zero b e = (refl, e)
+firstOf-zero (suc a) b e = absurd (omega arith)
+
+pub firstOf-some : (a b k : ℕ) → a ≡ k → 1 ≤ k → firstOf a b ≡ k
+unfolding firstOf
+firstOf-some zero b k e l = absurd (omega arith)
+firstOf-some (suc a) b k e l = e
+
+pub firstOf-none : (a b : ℕ) → a ≡ 0 → firstOf a b ≡ b
+unfolding firstOf
+firstOf-none a b e = rw e

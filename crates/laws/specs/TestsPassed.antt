@@ -2,7 +2,7 @@
 use Prim.Native.Nat.{ℕ, _+_, _*_, _≤_, _<_}
 use mathlib.Core.Path.{_≡_, sym, ap, _∙_}
 use mathlib.Core.Logic.{_≢_, inl, inr}
-use mathlib.Core.Bool.{Bool, false, not, _&&_, _||_, and-eq-true-iff}
+use mathlib.Core.Bool.{false, not, _&&_, _||_, and-eq-true-iff}
 use mathlib.Core.List.{List}
 use native.Mathlib.Omega.{arith}
 use lib.Dec.{eqb, ltb, leb}
@@ -19,9 +19,8 @@ use Rattle.rules.specs.Accepted.{diskSize, wrongSlot, wrongSlots, wrongFixed, o
 use Rattle.counting.specs.Laws.{neither, and-none, anyBelow-each}
 use Rattle.laws.specs.Tests.{same?, less?, other}
 use Rattle.laws.specs.Segments.{followed-zero}
-use Rattle.laws.specs.Links.{View, Checked}
+use Rattle.laws.specs.Links.{View, Checked, next-below}
 use Rattle.laws.specs.Space.{FixedAnodes}
-use Rattle.laws.specs.Passes.{Reading}
 
 -- ---- 5
 
@@ -128,13 +127,9 @@ module _ (s : Anodes) (fixed : wrongFixed s ≡ false) where
 
   -- ---- the links that the checked anodes have
 
-  module _ {ex : ℕ → Bool} {n last : ℕ} (r : Reading limit ex n last s) where
-    pub tested-view : View limit (s .next) (s .block)
-    tested-view = record { below = r .low; free-end = r .free-next; zero-end = fixed-anodes .1 }
-
-    pub tested-checked : (k : ℕ) → anyBelow (outOfRange s k) limit ≡ false → wrongLinks s ≡ false → Checked limit (s .next) (s .block)
-    tested-checked k right links = record {
-      closed = next-used k right;
-      one-pred = λ a a0 u. one-pred links a (r .low a u) a0 u;
-      ends = λ a u. chain-ends links a (r .low a u) u;
-    }
+  pub tested-checked : View limit (s .next) (s .block) → (n : ℕ) → anyBelow (outOfRange s n) limit ≡ false → wrongLinks s ≡ false → Checked limit (s .next) (s .block)
+  tested-checked v n right links = record {
+    closed = λ a h. next-used n right a (next-below v a h) h;
+    one-pred = λ a a0 u. one-pred links a (v .below a u) a0 u;
+    ends = λ a u. chain-ends links a (v .below a u) u;
+  }

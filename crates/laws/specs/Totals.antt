@@ -6,14 +6,16 @@ use mathlib.Core.Bool.{Bool, true, false, cond}
 use mathlib.Core.List.{List, [], _∷_}
 use native.Mathlib.Omega.{arith}
 use Rattle.rules.specs.Counting.{oneAt, sumBelow, sumList, times}
+use Rattle.rules.specs.Anodes.{Anodes}
 use Rattle.rules.specs.Walk.{Dir, Item}
 use Rattle.laws.specs.Tests.{less?}
 use Rattle.laws.specs.Sums.{oneAt-other, sum-congr, sum-add, sum-at}
 use Rattle.laws.specs.Bags.{list-add, list-congr, list-scale, list-swap, map-sum, sum-by-times}
-use Rattle.laws.specs.Ownership.{EachOnce, total}
-use Rattle.laws.specs.Links.{View, Linked}
-use Rattle.laws.specs.Heads.{Head, Heads}
-use Rattle.laws.specs.Blocks.{blocks, blocks-all, blocks-none}
+use Rattle.laws.specs.Ownership.{total}
+use Rattle.laws.specs.Heads.{Head}
+use Rattle.laws.specs.Blocks.{blocks, blocks-all}
+use Rattle.laws.specs.Space.{Good}
+use Rattle.laws.specs.Owners.{hd-below, blocks-none}
 use Rattle.laws.specs.Each.{Each, list-congr-each, each-none}
 use Rattle.laws.specs.Items.{names, giving, below, namedIn, below-items}
 use Rattle.laws.specs.Trees.{Tree}
@@ -55,14 +57,12 @@ dirsOf f dirs = sumList (λ d. f (d .head)) dirs
 
 -- ---- the whole
 
-module _ {A : ℕ} {next block : ℕ → ℕ} (v : View A next block) (k : Linked A next block) (hd : ℕ → ℕ) (t : Heads next block hd) (count : ℕ → ℕ)
-    (free-none : (a : ℕ) → block a ≡ 0 → count a ≡ 0) (zero-none : count 0 ≡ 0)
-    (items : Dir → List Item) (top : Dir) (dirs : List Dir) (tree : Tree items top dirs) (top-is : top .head ≡ 5) (six : 6 ≤ A)
-    (two : hd 2 ≡ 1)
-    (names-heads : (x : ℕ) → 0 < sumList (namedIn items x) dirs → (6 ≤ x) × (x < A) × Head next block x)
-    (heads-named : (x : ℕ) → 6 ≤ x → Head next block x → 1 ≤ sumList (namedIn items x) dirs) where
+module _ {A : ℕ} {ex : ℕ → Bool} {n last : ℕ} {s : Anodes} {system hd sd : ℕ → ℕ} (g : Good A ex n last s system hd sd)
+    (items : Dir → List Item) (top : Dir) (dirs : List Dir) (tree : Tree items top dirs) (top-is : top .head ≡ 5)
+    (names-heads : (x : ℕ) → 0 < sumList (namedIn items x) dirs → (6 ≤ x) × (x < A) × Head (s .next) (s .block) x)
+    (heads-named : (x : ℕ) → 6 ≤ x → Head (s .next) (s .block) x → 1 ≤ sumList (namedIn items x) dirs) where
   f : ℕ → ℕ
-  f = blocks A hd count
+  f = blocks A hd (s .count)
 
   abbrev namings : ℕ → ℕ
   namings x = sumList (namedIn items x) dirs
@@ -79,7 +79,7 @@ module _ {A : ℕ} {next block : ℕ → ℕ} (v : View A next block) (k : Linke
   high x l = rw (oneAt-other 1 x (omega arith), oneAt-other 3 x (omega arith), oneAt-other 4 x (omega arith), oneAt-other 5 x (omega arith))
       (elim (less? 0 (namings x)) [
         | inl p ↦ rw (once x p) (omega arith)
-        | inr p ↦ rw (blocks-none v k hd t count free-none zero-none x (λ d. omega (arith, heads-named x l d))) (omega arith)
+        | inr p ↦ rw (blocks-none g x (λ d. omega (arith, heads-named x l d))) (omega arith)
       ])
     where
       once : (x : ℕ) → 0 < namings x → namings x ≡ 1
@@ -88,9 +88,9 @@ module _ {A : ℕ} {next block : ℕ → ℕ} (v : View A next block) (k : Linke
   -- every head but 1, 3, 4 and 5 is named once
   each : (x : ℕ) → f x ≡ by-name x
   unfolding oneAt f
-  each zero = rw (low-unnamed 0 (omega arith), blocks-none v k hd t count free-none zero-none 0 (λ d. d .pos refl)) (omega arith)
+  each zero = rw (low-unnamed 0 (omega arith), blocks-none g 0 (λ d. d .pos refl)) (omega arith)
   each (suc zero) = rw (low-unnamed 1 (omega arith)) (omega arith)
-  each (suc (suc zero)) = rw (low-unnamed 2 (omega arith), blocks-none v k hd t count free-none zero-none 2 (λ d. omega (arith, two, t .at-head 2 d))) (omega arith)
+  each (suc (suc zero)) = rw (low-unnamed 2 (omega arith), blocks-none g 2 (λ d. omega (arith, g .two-on, g .heads .at-head 2 d))) (omega arith)
   each (suc (suc (suc zero))) = rw (low-unnamed 3 (omega arith)) (omega arith)
   each (suc (suc (suc (suc zero)))) = rw (low-unnamed 4 (omega arith)) (omega arith)
   each (suc (suc (suc (suc (suc zero))))) = rw (low-unnamed 5 (omega arith)) (omega arith)
@@ -99,6 +99,7 @@ module _ {A : ℕ} {next block : ℕ → ℕ} (v : View A next block) (k : Linke
   total-named : sumBelow f A ≡ sumBelow (λ x. namings x * f x) A + (f 1 + f 3 + f 4 + f 5)
   unfolding f
   total-named =
+      let six = g .linked .view .below 5 (g .fixed .block-5) in
       sum-congr f by-name A (λ x l. each x)
       ∙ omega (
         arith,
@@ -126,14 +127,13 @@ module _ {A : ℕ} {next block : ℕ → ℕ} (v : View A next block) (k : Linke
       at-each (d ∷ l) e = (sum-by-times f (names (items d)) A (e .0), at-each l (e .1))
 
   -- the sum
-  pub tree-total : (system : ℕ → ℕ) (n : ℕ) → EachOnce A count block system n → ((a : ℕ) → hd a < A) →
-      sumBelow system n + (blocks A hd count 1 + filesOf items (blocks A hd count) dirs + dirsOf (blocks A hd count) dirs + blocks A hd count 3 + blocks A hd count 4) ≡ n
+  pub tree-total : sumBelow system n + (blocks A hd (s .count) 1 + filesOf items (blocks A hd (s .count)) dirs + dirsOf (blocks A hd (s .count)) dirs + blocks A hd (s .count) 3 + blocks A hd (s .count) 4) ≡ n
   unfolding f filesOf dirsOf
-  tree-total system n e low =
+  tree-total =
       omega (
         arith,
-        total A count block system n e,
-        blocks-all A hd count low,
+        total A (s .count) (s .block) system n (g .own),
+        blocks-all A hd (s .count) (hd-below g),
         total-named,
         by-dirs,
         by-kind items f dirs,

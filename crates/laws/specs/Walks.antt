@@ -10,7 +10,7 @@ use Rattle.rules.specs.Counting.{_if_else_, firstOf, sumList, times, gather}
 use Rattle.rules.specs.Walk.{Dir, Item, subDirs, faultOf, Scanned, faulty, fine, scan, Walk, fault, done, visited, walk}
 use Rattle.laws.specs.Sums.{oneAt-cases, oneAt-same}
 use Rattle.laws.specs.Bags.{list-nil, list-cons, list-append, gather-sum, times-nil, times-cons}
-use Rattle.laws.specs.Acceptance.{if-zero, firstOf-zero}
+use Rattle.laws.specs.Tests.{if-zero, firstOf-zero}
 use Rattle.laws.specs.Items.{wrong, names, subs, below, namedIn, faults}
 
 -- ---- one directory

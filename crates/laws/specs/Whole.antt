@@ -15,12 +15,13 @@ use Rattle.laws.specs.Tests.{same?, less?, cond-cases, both}
 use Rattle.laws.specs.Sums.{oneAt-cases, oneAt-same, oneAt-other, oneAt-le}
 use Rattle.laws.specs.Bags.{list-mono}
 use Rattle.laws.specs.Heads.{Head, heads-cases, times-on-chain}
-use Rattle.laws.specs.Blocks.{blocks, blocks-chain}
+use Rattle.laws.specs.Blocks.{blocks}
 use Rattle.laws.specs.Held.{held, chain-blocks}
 use Rattle.laws.specs.Space.{Good, head-5}
-use Rattle.laws.specs.Owners.{hd-below}
-use Rattle.laws.specs.Frame.{Shift, on-other}
-use Rattle.laws.specs.ChainBlocks.{shift-alike, shift-chain, shift-count}
+use Rattle.laws.specs.Owners.{blocks-chain}
+use Rattle.laws.specs.Moves.{Shift}
+use Rattle.laws.specs.Frame.{on-other, shift-alike, shift-chain}
+use Rattle.laws.specs.ChainBlocks.{shift-count}
 use Rattle.laws.specs.Each.{Each, each-map, each-both, each-pair, each-zero}
 use Rattle.laws.specs.Items.{wrong, names-sum, giving, giving-le, below, namedIn, faults, below-items}
 use Rattle.laws.specs.Trees.{Tree}
@@ -97,30 +98,30 @@ module _ (ex : ℕ → Bool) (n last : ℕ) where
 -- a head, counted and said
 module _ {ex : ℕ → Bool} {n last : ℕ} {s : Anodes} {system hd sd : ℕ → ℕ} (g : Good limit ex n last s system hd sd) where
   pub head-counts : (m : ℕ) → Head (s .next) (s .block) m → heads limit (s .next) (s .block) m ≡ 1
-  head-counts m d = elim (heads-cases (g .view) (g .linked) m) [ inl q ↦ q .1 | inr q ↦ absurd (q .0 d) ]
+  head-counts m d = elim (heads-cases (g .linked) m) [ inl q ↦ q .1 | inr q ↦ absurd (q .0 d) ]
 
   pub counts-head : (m : ℕ) → heads limit (s .next) (s .block) m ≡ 1 → Head (s .next) (s .block) m
-  counts-head m e = elim (heads-cases (g .view) (g .linked) m) [ inl q ↦ q .0 | inr q ↦ absurd (omega (arith, e, q .1)) ]
+  counts-head m e = elim (heads-cases (g .linked) m) [ inl q ↦ q .0 | inr q ↦ absurd (omega (arith, e, q .1)) ]
 
   -- x is a head from 6 up, or is not
   pub names-head : (x : ℕ) → ((6 ≤ x) × Head (s .next) (s .block) x) ⊎ (6 ≤ x → heads limit (s .next) (s .block) x ≡ 1 → ⊥)
   names-head x = elim (less? x 6) [
     | inl l ↦ inr (λ a b. omega (arith, a, l))
-    | inr l ↦ elim (heads-cases (g .view) (g .linked) x) [ inl q ↦ inl (l, q .0) | inr q ↦ inr (λ a b. q .0 (counts-head x b)) ]
+    | inr l ↦ elim (heads-cases (g .linked) x) [ inl q ↦ inl (l, q .0) | inr q ↦ inr (λ a b. q .0 (counts-head x b)) ]
   ]
 
   -- a head's blocks are those of its chain, how many and which
   pub blocks-count : (h : ℕ) → Head (s .next) (s .block) h → blocks limit hd (s .count) h ≡ blockCount s h
   unfolding blockCount
-  blocks-count h d = blocks-chain (g .view) (g .linked) hd (g .heads) (s .count) (g .free-none) (g .fixed .count-0) h d
+  blocks-count h d = blocks-chain g h d
 
   pub blocks-sum : (f : ℕ → ℕ) (h : ℕ) → Head (s .next) (s .block) h → sumList f (blocksOf s h) ≡ sumBelow (λ y. held limit hd (s .count) (s .block) h y * f y) n
   unfolding blocksOf
-  blocks-sum f h d = chain-blocks (g .view) (g .linked) hd (g .heads) (s .count) n (g .own .fits) f h d
+  blocks-sum f h d = chain-blocks (g .linked) (g .heads) (s .count) n (g .own .fits) f h d
 
   -- an anode stands once on the chain of its own head, and on no other's
   pub on-dir : (a h : ℕ) → hd a ≡ h → (m : ℕ) → Head (s .next) (s .block) m → times a (chainOf (s .next) limit m) ≡ oneAt m h
-  on-dir a h e m d = times-on-chain (g .view) (g .linked) hd (g .heads) m d a ∙ elim (oneAt-cases m h) [
+  on-dir a h e m d = times-on-chain (g .linked) (g .heads) m d a ∙ elim (oneAt-cases m h) [
     | inl q ↦ oneAt-same (hd a) m (e ∙ sym (q .0)) ∙ sym (q .1)
     | inr q ↦ oneAt-other (hd a) m (λ i. q .0 (sym i ∙ e)) ∙ sym (q .1)
   ]
@@ -167,18 +168,14 @@ module _ {ex : ℕ → Bool} {n last : ℕ} {s : Anodes} {system hd sd : ℕ →
   -- what is named is a head from 6 up
   pub named-heads : (x : ℕ) → 0 < sumList (namedIn (itemsBy entries marked s) x) dirs → (6 ≤ x) × (x < limit) × Head (s .next) (s .block) x
   named-heads x p = elim (names-head (w .good) x) [
-    | inl q ↦ (q .0, w .good .view .below x (q .1 .in-use), q .1)
+    | inl q ↦ (q .0, w .good .linked .view .below x (q .1 .in-use), q .1)
     | inr k ↦ absurd (omega (arith, p, w .tree .faultless, list-mono (namedIn (itemsBy entries marked s) x) (faults (itemsBy entries marked s)) dirs (named-le entries marked s x k)))
   ]
 
   -- the sum of demand 3 of an accepted state
   pub whole-total : sumBelow system n + (blocks limit hd (s .count) 1 + filesOf (itemsBy entries marked s) (blocks limit hd (s .count)) dirs + dirsOf (blocks limit hd (s .count)) dirs
       + blocks limit hd (s .count) 3 + blocks limit hd (s .count) 4) ≡ n
-  whole-total = tree-total (w .good .view) (w .good .linked) hd (w .good .heads) (s .count) (w .good .free-none) (w .good .fixed .count-0)
-      (itemsBy entries marked s) root dirs (w .tree) refl (omega arith) (w .good .two-on) named-heads (w .all-named) system n (w .good .own) (head-below-limit)
-    where
-      head-below-limit : (a : ℕ) → hd a < limit
-      head-below-limit = hd-below (w .good)
+  whole-total = tree-total (w .good) (itemsBy entries marked s) root dirs (w .tree) refl named-heads (w .all-named)
 
   -- h is a file's: some reached entry of a file names it
   module _ (h : ℕ) (file : 1 ≤ sumList (λ d. sumList (file-size (λ x. oneAt x h)) (itemsBy entries marked s d)) dirs) where
@@ -189,7 +186,7 @@ module _ {ex : ℕ → Bool} {n last : ℕ} {s : Anodes} {system hd sd : ℕ →
     not-dir = none-headed h dirs (omega (arith, w .tree .exact (λ d. oneAt (d .head) h), oneAt-other 5 h (λ e. omega (arith, e, file-head .0)), w .tree .once h, file, named-by-kind items h dirs))
 
     -- a file's chain is changed, by takes or gives, its entry's size with it, and nothing else of the directories
-    pub change-file : {t : Anodes} {hd′ sd′ : ℕ → ℕ} → Good limit ex n last t system hd′ sd′ → Shift s hd t hd′ h →
+    pub change-file : {t : Anodes} {hd′ sd′ : ℕ → ℕ} → Good limit ex n last t system hd′ sd′ → Shift s hd t hd′ 1 h →
         (φ : Entered → Entered) (entries′ : ℕ → List Entered) (marked′ : Dir → ℕ → Bool) →
         ((e : Entered) → (φ e .broken ≡ e .broken) × (φ e .dir ≡ e .dir) × (φ e .anode ≡ e .anode)) →
         ((e : Entered) → e .anode ≢ h → φ e .size ≡ e .size) →

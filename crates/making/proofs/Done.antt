@@ -20,7 +20,7 @@ use Rattle.rules.specs.Space.{rewritten, lowestFree}
 use Rattle.rules.specs.Tables.{anodeTable}
 use Rattle.rules.specs.Changes.{firstRoom, noRoom, neededBlock, entryPlace, NewEntry, madeImage, madeWith, made}
 use Rattle.laws.specs.Bags.{times-nil}
-use Rattle.laws.specs.Links.{View, Linked}
+use Rattle.laws.specs.Links.{Linked}
 use Rattle.laws.specs.OwnerTable.{setAll, fresh-owner}
 use Rattle.anodes.specs.Loaded.{anodesFrom, Loaded}
 use Rattle.changes.specs.Members.{times-member}
@@ -90,8 +90,8 @@ module _ (img : List ℕ) (h : ℕ) (new : NewEntry) (m : MakePlan) (t : Anodes)
   making = record { fresh = p .fresh; steps = p .steps; named = named; commented = commented }
 
   -- show_heads asks it of the new anodes
-  pub new-view : View limit (t .next) (t .block) × Linked limit (t .next) (t .block)
-  new-view = (good making .view, good making .linked)
+  pub new-links : Linked limit (t .next) (t .block)
+  new-links = good making .linked
 
   -- the block table shows both blocks
   shown : (b r : List ℕ) → Shows img (anodesOf img) b r → Shows img t (setAll (setAll b ys f) zs h) r

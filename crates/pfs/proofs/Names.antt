@@ -14,7 +14,7 @@ use Rattle.rules.specs.Walk.{Entered}
 use Rattle.rules.specs.Accepted.{checkAnswer}
 use Rattle.rules.specs.Lookup.{entriesOf, nameAt, nth}
 use Rattle.rules.specs.Calls.{Outcome, outcomeOf, settled, doneOr, fieldList, fieldsAt, fieldsListed, nameListed, listAnswer, listAnswered, listOutcome}
-use Rattle.laws.specs.Acceptance.{firstOf-zero}
+use Rattle.laws.specs.Tests.{firstOf-zero}
 use Rattle.changes.specs.Reached.{entry-facts, nth-member}
 use Rattle.changes.specs.Answers.{list-reached}
 use Rattle.reading.proofs.Laws.{take-within}

@@ -14,7 +14,7 @@ use Rattle.rules.specs.Accepted.{diskSize, lastReserved}
 use Rattle.rules.specs.Tables.{anodeTable}
 use Rattle.rules.specs.Space.{Plan, refused, planned, giveMany, dropped}
 use Rattle.rules.specs.Changes.{entriesEnd, removedImage, removed}
-use Rattle.laws.specs.Links.{View, Linked}
+use Rattle.laws.specs.Links.{Linked}
 use Rattle.laws.specs.Remove.{still, none-left}
 use Rattle.laws.specs.OwnerTable.{dropped-owner, setAll}
 use Rattle.frames.specs.StoredAnodes.{withAnodes-stored}
@@ -53,12 +53,12 @@ module _ {img counts firsts nexts : List ℕ} (l : Loaded img counts firsts next
     p = planned-change l e r gives
 
     -- the chain can be dropped
-    pub drops-ready : View limit (t .next) (t .block) × (Linked limit (t .next) (t .block) × (t .block (e .anode) ≢ 0))
-    drops-ready = (ran p .good .view, (ran p .good .linked, still (e .anode) (entry-known l e r .from-6) (entry-known l e r .head) (ran p) .in-use))
+    pub drops-ready : Linked limit (t .next) (t .block) × (t .block (e .anode) ≢ 0)
+    drops-ready = (ran p .good .linked, still (e .anode) (entry-known l e r .from-6) (entry-known l e r .head) (ran p) .in-use)
 
     -- the links that show_heads asks for
-    pub removed-links : (x : Anodes) → x ≡ end → View limit (x .next) (x .block) × Linked limit (x .next) (x .block)
-    removed-links x i = rw i (end-good p .view, end-good p .linked)
+    pub removed-links : (x : Anodes) → x ≡ end → Linked limit (x .next) (x .block)
+    removed-links x i = rw i (end-good p .linked)
 
     -- where the entry stands, also after the anodes are stored
     abbrev y : ℕ

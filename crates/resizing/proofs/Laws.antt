@@ -16,7 +16,7 @@ use Rattle.rules.specs.Space.{Plan, refused, planned, takeMany, giveMany}
 use Rattle.rules.specs.Format.{zeroBlock}
 use Rattle.rules.specs.Changes.{withBlocks, resizePlan, zeroTaken, resizedImage, resized}
 use Rattle.laws.specs.Tests.{less?}
-use Rattle.laws.specs.Links.{View, Linked}
+use Rattle.laws.specs.Links.{Linked}
 use Rattle.laws.specs.Whole.{blocks-count}
 use Rattle.laws.specs.OwnerTable.{setAll}
 use Rattle.changes.specs.ResizePlan.{plan-refused, plan-longer}
@@ -56,9 +56,6 @@ module _ {img counts firsts nexts : List ℕ} (l : Loaded img counts firsts next
     p = planned-change l e r (record { file = file; steps = plan })
 
     -- the links that show_heads asks for
-    pub resized-view : View limit (t .next) (t .block)
-    resized-view = steps p .ran .good .view
-
     pub resized-linked : Linked limit (t .next) (t .block)
     resized-linked = steps p .ran .good .linked
 

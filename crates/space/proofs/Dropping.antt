@@ -17,7 +17,7 @@ use Rattle.laws.specs.Tests.{cond-cases}
 use Rattle.laws.specs.Sums.{oneAt-same, oneAt-other, changed-cases, changed-other}
 use Rattle.laws.specs.Bags.{times-nil, times-cons}
 use Rattle.laws.specs.Segments.{Seg, seg-keep}
-use Rattle.laws.specs.Links.{View, Linked, the-chain, seg-once, seg-short}
+use Rattle.laws.specs.Links.{Linked, the-chain, seg-once, seg-short}
 use Rattle.anodes.specs.Loaded.{anodesFrom}
 use Rattle.space.proofs.Tables.{set-zero}
 
@@ -84,8 +84,8 @@ zeroed-on (suc k) s a (b ∷ l) c once short =
     more : zeroedOn l (zeroedAt s b) ≡ zeroedOn (b ∷ l) s
     more = λ i. record { count = without-more b l (s .count) i; block = without-more b l (s .block) i; next = without-more b l (s .next) i }
 
-pub zeroed-chain : (s : Anodes) → View 3444 (s .next) (s .block) → Linked 3444 (s .next) (s .block) → (h : ℕ) → s .block h ≢ 0 → zeroedFrom 3444 s h ≡ dropped 3444 s h
+pub zeroed-chain : (s : Anodes) → Linked 3444 (s .next) (s .block) → (h : ℕ) → s .block h ≢ 0 → zeroedFrom 3444 s h ≡ dropped 3444 s h
 unfolding dropped onChain
-zeroed-chain s v k h u =
-    let c = the-chain v k h (λ q. u) in
-    zeroed-on 3444 s h (chainOf (s .next) 3444 h) c (λ x. seg-once v k h 0 (chainOf (s .next) 3444 h) x (λ q. u) c) (seg-short v k h 0 (chainOf (s .next) 3444 h) (λ q. u) c)
+zeroed-chain s k h u =
+    let c = the-chain k h (λ q. u) in
+    zeroed-on 3444 s h (chainOf (s .next) 3444 h) c (λ x. seg-once k h 0 (chainOf (s .next) 3444 h) x (λ q. u) c) (seg-short k h 0 (chainOf (s .next) 3444 h) (λ q. u) c)

@@ -16,7 +16,8 @@ use Rattle.laws.specs.Links.{the-chain}
 use Rattle.laws.specs.Heads.{Head}
 use Rattle.laws.specs.Space.{Good}
 use Rattle.laws.specs.Sides.{side-start, side-sd}
-use Rattle.laws.specs.Searches.{FoundIn, lastFull-found, last-on}
+use Rattle.laws.specs.Bags.{last-on}
+use Rattle.laws.specs.Searches.{FoundIn, lastFull-found}
 use Rattle.laws.specs.Moves.{InHand}
 use Rattle.laws.specs.Give.{sideOf-cases, withoutLast-out}
 use Rattle.anodes.specs.Loaded.{anodesFrom}
@@ -46,7 +47,7 @@ one-side last y = elim (sideOf-cases last y) [ inl c ↦ inl (c .1) | inr c ↦ 
 
 module _ (img : List ℕ) (s : Anodes) (good : GoodAnodes img s) (h : ℕ) (d : Head (s .next) (s .block) h) (p x : ℕ) (e : lastFull (s .count) 0 (chainOf (s .next) 3444 h) ≡ found p x) where
   pub last-found : FoundIn (s .count) (s .next) h (chainOf (s .next) 3444 h) 0 p x
-  last-found = let g = good .2 in lastFull-found (s .count) (s .next) h 0 0 (chainOf (s .next) 3444 h) (the-chain (g .view) (g .linked) h (λ q. d .in-use)) p x e
+  last-found = let g = good .2 in lastFull-found (s .count) (s .next) h 0 0 (chainOf (s .next) 3444 h) (the-chain (g .linked) h (λ q. d .in-use)) p x e
 
   -- once its last block y is out, in other tables, the end z of that block's side
   module _ (size : wrongSize img ≡ false) (h1 : h ≢ 1) (c f n : List ℕ) (left : anodesFrom c f n ≡ withoutLast s h p x)
@@ -65,7 +66,7 @@ module _ (img : List ℕ) (s : Anodes) (good : GoodAnodes img s) (h : ℕ) (d : 
         let b = ap (λ (t : Anodes). t .block z) left in
         let k = ap (λ (t : Anodes). t .count z) left in
         let used : getD f z 0 ≢ 0 = λ q. end-of-side (out .good) m (rw start (one-side (lastReserved img) y)) (rw (← is-end) (sym b ∙ q)) in
-        let below = used-below (out .good .view) c f n left z used in
+        let below = used-below (out .good .linked .view) c f n left z used in
         (below, used, λ l. rw (b, k) (omega (arith, size-bounds img size .1, out .good .own .fits z below (rw k at l))))
 
     pub given-back : join 3444 (exists img) (lastReserved img) (anodesFrom c f n) z y ≡ giveBack 3444 (exists img) (lastReserved img) s h

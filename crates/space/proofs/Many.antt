@@ -23,8 +23,7 @@ use Rattle.laws.specs.Blocks.{blocks}
 use Rattle.laws.specs.Moves.{Moved}
 use Rattle.laws.specs.Take.{take-good}
 use Rattle.laws.specs.Give.{give-good}
-use Rattle.laws.specs.Frame.{moved-stays}
-use Rattle.laws.specs.Repeated.{after-none, after-both, repeated-zero, repeated-next, repeated-stop}
+use Rattle.laws.specs.Plans.{after-none, after-both, repeated-zero, repeated-next, repeated-stop}
 use Rattle.laws.specs.Whole.{blocks-count}
 use Rattle.space.specs.declared.Moves.{Moves}
 use Rattle.space.specs.declared.Moves.the-variants.{Done, Stopped}
@@ -105,7 +104,7 @@ module _ (img : List ℕ) (taking : Bool) (h : ℕ) (size : wrongSize img ≡ fa
       unfolding moveMany
       run-next h1 long t y e =
           let w = stepped img s (run .good) h (run .head) h1 taking t y e in
-          let d = moved-stays (run .good .2) w h (run .head) in
+          let d = w .shift .stays h (run .head) in
           let count : blockCount t h + oneAt (cond taking 1 h) h ≡ blockCount s h + oneAt (cond taking h 1) h = omega (arith, w .moved h, blocks-count (run .good .2) h (run .head), blocks-count (w .good) h d) in
           record {
             good = (w .hd′, w .sd′, w .good);

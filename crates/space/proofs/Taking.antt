@@ -14,40 +14,38 @@ use Rattle.rules.specs.Space.{found, withoutFirst, freeExtent, put, takeFrom, t
 use Rattle.laws.specs.Acceptance.{size-bounds}
 use Rattle.laws.specs.Segments.{Chain, seg-keep}
 use Rattle.laws.specs.Links.{View, the-chain, chain-the, next-below}
-use Rattle.laws.specs.Heads.{Head, seg-head}
-use Rattle.laws.specs.Cut.{cut-cases, cut-other, cut-view, cut-linked}
-use Rattle.laws.specs.Space.{Good}
+use Rattle.laws.specs.Heads.{Head}
+use Rattle.laws.specs.Cut.{cut-cases, cut-other, cut-linked}
+use Rattle.laws.specs.Space.{Good, on-chain}
 use Rattle.laws.specs.Searches.{FoundIn}
-use Rattle.laws.specs.Moves.{InHand, headed-used}
+use Rattle.laws.specs.Owners.{last-used}
+use Rattle.laws.specs.Moves.{InHand}
 use Rattle.laws.specs.FreeExtent.{extent-found, take-found}
 use Rattle.laws.specs.Leaving.{full-used, full-0}
-use Rattle.laws.specs.Take.{last-head, withoutFirst-out}
+use Rattle.laws.specs.Take.{withoutFirst-out}
 use Rattle.anodes.specs.Loaded.{anodesFrom}
 use Rattle.space.specs.Steps.{GoodAnodes}
 
 -- ---- the chain of a head other than 1
 
-module _ {A : ℕ} {ex : ℕ → Bool} {n last : ℕ} {s : Anodes} {system hd sd : ℕ → ℕ} (g : Good A ex n last s system hd sd) (h : ℕ) (h0 : h ≢ 0) (h1 : h ≢ 1) (own-head : hd h ≡ h) where
-  in-use : s .block h ≢ 0
-  in-use = headed-used g h (λ q. h0 (sym own-head ∙ q))
-
+module _ {A : ℕ} {ex : ℕ → Bool} {n last : ℕ} {s : Anodes} {system hd sd : ℕ → ℕ} (g : Good A ex n last s system hd sd) (h : ℕ) (d : Head (s .next) (s .block) h) (h1 : h ≢ 1) where
   -- it does not come to 2
   cut-chain : chainOf (cut (s .next)) A h ≡ chainOf (s .next) A h
-  cut-chain = chain-the (cut-view (g .view)) (cut-linked (g .linked)) h (chainOf (s .next) A h) (λ z. in-use)
-      (seg-keep (s .next) (cut (s .next)) h 0 (chainOf (s .next) A h) (λ x p. cut-other (s .next) x (λ e. h1 (sym own-head ∙ sym (on x p) ∙ sym (g .heads .along x (λ z. omega (arith, e, z))) ∙ ap hd e ∙ g .two-on))) chain)
+  cut-chain = chain-the (cut-linked (g .linked)) h (chainOf (s .next) A h) (λ z. d .in-use)
+      (seg-keep (s .next) (cut (s .next)) h 0 (chainOf (s .next) A h) (λ x p. cut-other (s .next) x (λ e. h1 (sym (on x p) ∙ sym (g .heads .along x (λ z. omega (arith, e, z))) ∙ ap hd e ∙ g .two-on))) chain)
     where
       chain : Chain (s .next) h (chainOf (s .next) A h)
-      chain = the-chain (g .view) (g .linked) h (λ z. in-use)
+      chain = the-chain (g .linked) h (λ z. d .in-use)
 
-      on : (x : ℕ) → 0 < times x (chainOf (s .next) A h) → hd x ≡ hd h
-      on x p = seg-head (g .view) (g .linked) hd (g .heads) h 0 (chainOf (s .next) A h) chain x p
+      on : (x : ℕ) → 0 < times x (chainOf (s .next) A h) → hd x ≡ h
+      on x p = on-chain g h d x p .0
 
   -- its last anode, as the search before 2 finds it
   last-before-two : lastOf h (chainOf (cut (s .next)) A h) ≡ lastOf h (chainOf (s .next) A h)
   last-before-two = ap (lastOf h) cut-chain
 
-  last-used : s .block (lastOf h (chainOf (cut (s .next)) A h)) ≢ 0
-  last-used = rw last-before-two (headed-used g (lastOf h (chainOf (s .next) A h)) (λ q. h0 (sym (last-head g h h0 own-head) ∙ q)))
+  end-used : s .block (lastOf h (chainOf (cut (s .next)) A h)) ≢ 0
+  end-used = rw last-before-two (last-used g h d)
 
 -- ---- an anode that a search finds
 
@@ -59,8 +57,8 @@ cut-goes next a q = elim (cut-cases next a) [ inl d ↦ absurd (q (d .1)) | inr 
 pub found-at : {ex : ℕ → Bool} {n last : ℕ} {s : Anodes} {system hd sd : ℕ → ℕ} → Good 3444 ex n last s system hd sd → (next : ℕ → ℕ) → ((a : ℕ) → next a ≢ 0 → next a ≡ s .next a) →
     {m : ℕ} {l : List ℕ} (p x : ℕ) → FoundIn (s .count) next m l 0 p x → (p < 3444) × (x < 3444) × (0 < s .count x)
 found-at g next goes p x w = (
-  elim (w .before) [ inl c ↦ omega (arith, c .1) | inr c ↦ next-below (g .view) p (λ z. full-0 g x (w .full) (sym c ∙ goes p (λ q. full-0 g x (w .full) (sym c ∙ q)) ∙ z)) ],
-  g .view .below x (full-used g x (w .full)),
+  elim (w .before) [ inl c ↦ omega (arith, c .1) | inr c ↦ next-below (g .linked .view) p (λ z. full-0 g x (w .full) (sym c ∙ goes p (λ q. full-0 g x (w .full) (sym c ∙ q)) ∙ z)) ],
+  g .linked .view .below x (full-used g x (w .full)),
   w .full,
 )
 
@@ -73,7 +71,7 @@ used-below view c f n left z used = view .below z (λ q. used (ap (λ (t : Anode
 
 module _ (img : List ℕ) (s : Anodes) (good : GoodAnodes img s) where
   pub full-fits : wrongSize img ≡ false → (x : ℕ) → 0 < s .count x → s .block x + s .count x ≤ 65535
-  full-fits size x f = let g = good .2 in omega (arith, size-bounds img size .1, g .own .fits x (g .view .below x (full-used g x f)) f)
+  full-fits size x f = let g = good .2 in omega (arith, size-bounds img size .1, g .own .fits x (g .linked .view .below x (full-used g x f)) f)
 
   -- the extent that a take finds
   module _ (own : Bool) (p x : ℕ) (e : freeExtent 3444 own s ≡ found p x) where
@@ -94,9 +92,9 @@ module _ (img : List ℕ) (s : Anodes) (good : GoodAnodes img s) where
       pub chain-end : (z < 3444) × (getD f z 0 ≢ 0)
       unfolding anodesFrom
       chain-end =
-          let used : getD f z 0 ≢ 0 = λ q. last-used (out .good) h (d .pos) h1 (out .heads-kept h d) (rw (← is-end) (sym (ap (λ (t : Anodes). t .block z) left) ∙ q)) in
-          (used-below (out .good .view) c f n left z used, used)
+          let used : getD f z 0 ≢ 0 = λ q. end-used (out .good) h (out .shift .stays h d) h1 (rw (← is-end) (sym (ap (λ (t : Anodes). t .block z) left) ∙ q)) in
+          (used-below (out .good .linked .view) c f n left z used, used)
 
       pub taken-from : (y : ℕ) → y ≡ s .block x → put 3444 (exists img) (lastReserved img) own (anodesFrom c f n) z y ≡ takeBlock 3444 (exists img) (lastReserved img) own s h
       unfolding takeFrom
-      taken-from y b = rw (b, is-end, left, last-before-two (out .good) h (d .pos) h1 (out .heads-kept h d)) (sym (take-found 3444 own s (exists img) (lastReserved img) h p x e))
+      taken-from y b = rw (b, is-end, left, last-before-two (out .good) h (out .shift .stays h d) h1) (sym (take-found 3444 own s (exists img) (lastReserved img) h p x e))

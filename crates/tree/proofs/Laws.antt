@@ -18,7 +18,7 @@ use Rattle.directory.specs.Entries.{walkedAt}
 use Rattle.rules.specs.Counting.{sumList}
 use Rattle.rules.specs.Anodes.{Anodes, limit}
 use Rattle.rules.specs.Walk.{Dir, Entered, Item, entriesFrom, entriesIn, isBlockOf, itemsFor, blocksFor}
-use Rattle.laws.specs.Entries.{enteredAt, entries-more, entries-fault, entries-step}
+use Rattle.laws.specs.Entries.{enteredAt, entries-fault, entries-step}
 use Rattle.laws.specs.Chains.{chain-none, chain-zero, chain-step, gathered-step}
 use Rattle.tree.specs.Steps.{dirMade, sumFrom, headAt, itemIn, Progress, stopped, going, refuse, enterItem, onward, enterAll, itemsFrom, itemsAlong, halted, ended, afterDir, runFrom, dirsFrom, queueOf, marked}
 

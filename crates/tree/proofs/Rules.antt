@@ -22,7 +22,7 @@ use Rattle.laws.specs.Bags.{times-nil}
 use Rattle.laws.specs.Chains.{HeadTable}
 use Rattle.laws.specs.Each.{Each, each-gather}
 use Rattle.laws.specs.Items.{each-item, names-sum}
-use Rattle.laws.specs.Acceptance.{firstOf-some}
+use Rattle.laws.specs.Tests.{firstOf-some}
 use Rattle.anodes.specs.Loaded.{anodesFrom}
 use Rattle.tree.specs.declared.TreeRead.{TreeRead}
 use Rattle.tree.specs.declared.TreeRead.the-variants.{Counted, Fault}

@@ -18,10 +18,10 @@ loop-holds : tie.Need-loop-holds Inv-loop μ-loop
 loop-holds c =
     let g = c .before .before .before .before .args in
     let p = c .before .before .before .before .pre in
-    (search needs, search needs, refl, refl, fill-none (g .nexts .now) (g .firsts .now) (p .2) (p .3) (g .heads .now) (p .0) (p .1))
+    (search needs, search needs, refl, refl, fill-none (g .nexts .now) (g .firsts .now) (p .2) (g .heads .now) (p .0) (p .1))
 
 fill-head-requires : tie.Need-fill-head-requires Inv-loop μ-loop
-fill-head-requires c κs = let p = c .before .before .before .before .before .before .before .pre in let i = c .before .before .loop .inv in (i .0, p .2, p .3, p .4, i .4)
+fill-head-requires c κs = let p = c .before .before .before .before .before .before .before .pre in let i = c .before .before .loop .inv in (i .0, p .2, p .3, i .4)
 
 add-a : tie.Need-add-a Inv-loop μ-loop
 add-a c = search needs
@@ -40,7 +40,7 @@ returns c =
     let g = c .before .before .before .before .before .before .args in
     let p = c .before .before .before .before .before .before .pre in
     let e : c .before .loop .a ≡ 3444 = omega arith in
-    λ k. fill-done (g .nexts .now) (g .firsts .now) (p .2) (p .3) (c .before .loop .heads) (rw e at (c .before .loop .inv .4)) k _ (c .before .loop .inv .3)
+    λ k. fill-done (g .nexts .now) (g .firsts .now) (p .2) (c .before .loop .heads) (rw e at (c .before .loop .inv .4)) k _ (c .before .loop .inv .3)
 
 pub fill-heads-spec : {M : Type 1} → statement M
 fill-heads-spec =

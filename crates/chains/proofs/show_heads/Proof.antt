@@ -17,7 +17,7 @@ note-preds-requires : tie.Need-note-preds-requires
 note-preds-requires c κs =
     let g = c .before .before .before .before .args in
     let p = c .before .before .before .before .pre in
-    (search needs, p .2 .zero-end, next-in (g .firsts .now) (g .nexts .now) (p .2) (record { next-used = p .3 .closed }))
+    (search needs, p .2 .zero-end, next-in (g .firsts .now) (g .nexts .now) (p .2 .view) (p .2 .closed))
 
 zero-first-requires : tie.Need-zero-first-requires
 zero-first-requires c κs = search needs
@@ -30,7 +30,7 @@ fill-heads-requires c κs =
     let g = c .before .before .before .before .before .before .before .before .before .before .before .before .args in
     let p = c .before .before .before .before .before .before .before .before .before .before .before .before .pre in
     let n = c .before .before .before .before .before .before .before .note-preds in
-    (search needs, zeroed-below 3444 (g .heads .now) _ (c .before .before .before .before .zero-first .ensures), p .2, p .3, table-of _ _ (p .1) (noted-once (g .firsts .now) (g .nexts .now) (p .2) (p .3) (n .result) _ (n .ensures)))
+    (search needs, zeroed-below 3444 (g .heads .now) _ (c .before .before .before .before .zero-first .ensures), p .2, table-of _ _ (p .1) (noted-once (g .firsts .now) (g .nexts .now) (p .2) (n .result) _ (n .ensures)))
 
 same-length : tie.Need-same-length
 same-length c = search needs

@@ -7,7 +7,10 @@ use Rattle.chains.proofs.wrong_links.Statement.{statement}
 use Rattle.chains.proofs.wrong_links.Tie as tie
 
 note-preds-requires : tie.Need-note-preds-requires
-note-preds-requires c κs = let p = c .before .before .before .before .pre in (p .0, p .3 .zero-end, next-in _ _ (p .3) (p .4))
+note-preds-requires c κs =
+    let g = c .before .before .before .before .args in
+    let p = c .before .before .before .before .pre in
+    (p .0, p .4, next-in (g .firsts .now) (g .nexts .now) (p .3) (p .5))
 
 same-length : tie.Need-same-length
 same-length c = search needs
@@ -15,7 +18,7 @@ same-length c = search needs
 returns : tie.Need-returns
 returns c =
     let p = c .before .before .before .before .before .before .before .before .pre in
-    (λ k. sym (links-twice k _ _ (p .3) (p .4) (rw (c .if1 .taken) at (c .before .before .before .note-preds .ensures))), λ e. absurd (false≢true (sym e)))
+    (λ k. sym (links-twice k _ _ (p .3) (p .5) (rw (c .if1 .taken) at (c .before .before .before .note-preds .ensures))), λ e. absurd (false≢true (sym e)))
 
 fixed-has-pred-requires : tie.Need-fixed-has-pred-requires
 fixed-has-pred-requires c κs = search needs
@@ -27,12 +30,12 @@ returns-2 : tie.Need-returns-2
 returns-2 c =
     let p = c .before .before .before .before .before .before .before .before .before .before .before .pre in
     let w = table-of _ _ (p .2) (rw (c .before .before .before .if1 .left) at (c .before .before .before .before .before .before .note-preds .ensures)) in
-    (λ k. sym (links-fixed k _ _ _ w (p .3 .zero-end) (sym (c .if2 .taken) ∙ c .before .fixed-has-pred .ensures)), λ e. w)
+    (λ k. sym (links-fixed k _ _ _ w (p .4) (sym (c .if2 .taken) ∙ c .before .fixed-has-pred .ensures)), λ e. w)
 
 some-endless-requires : tie.Need-some-endless-requires
 some-endless-requires c κs =
     let p = c .before .before .before .before .before .before .before .before .before .before .before .before .pre in
-    (p .1, p .2, p .3 .zero-end, table-of _ _ (p .2) (rw (c .before .before .before .before .if1 .left) at (c .before .before .before .before .before .before .before .note-preds .ensures)), p .4)
+    (p .1, p .2, p .4, table-of _ _ (p .2) (rw (c .before .before .before .before .if1 .left) at (c .before .before .before .before .before .before .before .note-preds .ensures)), p .5)
 
 same-length-3 : tie.Need-same-length-3
 same-length-3 c = search needs
@@ -41,7 +44,7 @@ returns-3 : tie.Need-returns-3
 returns-3 c =
     let p = c .before .before .before .before .before .before .before .before .before .before .before .before .before .pre in
     let w = table-of _ _ (p .2) (rw (c .before .before .before .before .before .if1 .left) at (c .before .before .before .before .before .before .before .before .note-preds .ensures)) in
-    (λ k. sym (links-ends k _ _ _ w (p .3 .zero-end) (p .3) (sym (c .before .before .if2 .left) ∙ c .before .before .before .fixed-has-pred .ensures) _ (c .some-endless .ensures)), λ e. w)
+    (λ k. sym (links-ends k _ _ _ w (p .4) (p .3) (sym (c .before .before .if2 .left) ∙ c .before .before .before .fixed-has-pred .ensures) _ (c .some-endless .ensures)), λ e. w)
 
 pub wrong-links-spec : {M : Type 1} → statement M
 wrong-links-spec =

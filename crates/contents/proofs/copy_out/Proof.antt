@@ -9,7 +9,8 @@ use Rattle.rules.specs.Chains.{chainOf, run}
 use Rattle.rules.specs.Lookup.{bytesOf}
 use Rattle.anodes.specs.Loaded.{anodesFrom}
 use Rattle.laws.specs.Chains.{gathered-none, gathered-end, gathered-step}
-use Rattle.laws.specs.ChainBlocks.{gather-append, extent, blocksOf-extents}
+use Rattle.laws.specs.Bags.{gather-append}
+use Rattle.laws.specs.ChainBlocks.{extent, blocksOf-extents}
 use Rattle.contents.specs.Copied.{filled}
 use Rattle.contents.proofs.Copying.{part-length, filled-start, filled-full, filled-end}
 use borrow.Author.Needs.{needs}

@@ -4,7 +4,7 @@ use Prim.Native.Nat.{ℕ}
 use native.Mathlib.Omega.{arith}
 use Rattle.rules.specs.Accepted.{diskSize}
 use Rattle.laws.specs.OwnerTable.{heads-past}
-use Rattle.fsck.proofs.Space.{Passed6, Passed7, Passed8, Passed9, Passed10, space-6, space-7, space-8, view, closed, links, space-9, space-10, space-11, space-none, heads-some, shown, last-of, none-of}
+use Rattle.fsck.proofs.Space.{Passed6, Passed7, Passed8, Passed9, Passed10, space-6, space-7, space-8, view, closed, links, space-9, space-10, space-11, space-none, heads-some, shown, last-of, none-of, zero-end}
 use borrow.Author.Needs.{needs}
 use Rattle.fsck.proofs.test_space.Statement.{statement}
 use Rattle.fsck.proofs.test_space.Tie as tie
@@ -75,7 +75,7 @@ wrong-links-requires : tie.Need-wrong-links-requires
 wrong-links-requires c κs =
     let p = passed-7 (c .before) in
     let s = start-2 (c .before) in
-    (refl, s .pre .0 .1, s .pre .0 .2, view p, closed p)
+    (refl, s .pre .0 .1, s .pre .0 .2, view p, zero-end p, closed p)
 
 returns-3 : tie.Need-returns-3
 returns-3 c = (space-8 (passed-7 (c .before .before .before .before)) (sym (c .before .before .wrong-links .ensures .0 _) ∙ c .if3 .taken), record { blocks-kept = refl; anodes-kept = refl })
@@ -87,7 +87,7 @@ fill-heads-requires : tie.Need-fill-heads-requires
 fill-heads-requires c κs =
     let p = passed-8 (c .before .before) in
     let s = start-3 (c .before .before) in
-    (s .pre .1 .1 .0 .3, s .pre .1 .1 .1 .1, view (p .seven), links p, c .before .before .before .before .wrong-links .ensures .1 (c .before .before .if3 .left))
+    (s .pre .1 .1 .0 .3, s .pre .1 .1 .1 .1, links p, c .before .before .before .before .wrong-links .ensures .1 (c .before .before .if3 .left))
 
 block-part-requires : tie.Need-block-part-requires
 block-part-requires c κs = search needs

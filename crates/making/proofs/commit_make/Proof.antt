@@ -1,7 +1,7 @@
 use Rattle.rules.specs.Changes.{newEntry, madeImage}
 use Rattle.anodes.specs.Loaded.{anodesFrom}
 use Rattle.directory.specs.Entries.{isDir}
-use Rattle.making.proofs.Done.{new-view, placed, done-leaves}
+use Rattle.making.proofs.Done.{new-links, placed, done-leaves}
 use borrow.Author.Needs.{needs}
 use Rattle.making.proofs.commit_make.Statement.{statement}
 use Rattle.making.proofs.commit_make.Tie as tie
@@ -29,8 +29,8 @@ unfolding anodesFrom
 show-heads-requires c κs =
     let a = c .before .before .before .before .before .before .before .before .before .before .before .before .before .before .before .before .before .before .before .before .before .before .before .before .before .before .before .before .before .before .before .before .before .before .before .before .args in
     let pre = c .before .before .before .before .before .before .before .before .before .before .before .before .before .before .before .before .before .before .before .before .before .before .before .before .before .before .before .before .before .before .before .before .before .before .before .before .pre in
-    let v = new-view (a .image .now) _ (newEntry (isDir (a .kind)) (a .name .now) (a .comment .now) (a .day) (a .minute) (a .tick) (a .protection)) _ _ (pre .1 .1 .1) (pre .1 .1 .0 .0) (pre .1 .1 .0 .1) in
-    (pre .0 .1, pre .0 .2, v .0, v .1)
+    let links = new-links (a .image .now) _ (newEntry (isDir (a .kind)) (a .name .now) (a .comment .now) (a .day) (a .minute) (a .tick) (a .protection)) _ _ (pre .1 .1 .1) (pre .1 .1 .0 .0) (pre .1 .1 .0 .1) in
+    (pre .0 .1, pre .0 .2, links)
 
 same-length : tie.Need-same-length
 same-length c = search needs

@@ -6,7 +6,7 @@ use Rattle.anodes.specs.Loaded.{anodesFrom}
 use Rattle.lookup.specs.Answers.{entered}
 use Rattle.space.proofs.Taking.{full-fits}
 use Rattle.changed.specs.Chains.{loaded-size, loaded-good, noted-all}
-use Rattle.resizing.proofs.Laws.{size-fits, moved-few, resized-view, resized-linked, done-leaves, zeroed-some, zeroed-none}
+use Rattle.resizing.proofs.Laws.{size-fits, moved-few, resized-linked, done-leaves, zeroed-some, zeroed-none}
 use borrow.Author.Needs.{needs}
 use Rattle.resizing.proofs.commit_resize.Statement.{statement}
 use Rattle.resizing.proofs.commit_resize.Tie as tie
@@ -44,7 +44,7 @@ unfolding anodesFrom
 show-heads-requires c κs =
     let pre = c .before .before .before .before .before .before .before .before .before .before .before .before .before .before .before .before .before .before .before .before .before .before .before .before .before .before .before .before .before .pre in
     let e = entered (c .before .before .before .before .before .before .before .before .before .before .before .before .before .before .before .before .before .before .before .before .before .before .before .before .before .before .before .before .before .args .e) in
-    (pre .1 .0 .1, pre .1 .0 .2, resized-view (pre .0 .0) e (pre .0 .1) _ (pre .1 .0 .0) _ _ (pre .1 .1 .0), resized-linked (pre .0 .0) e (pre .0 .1) _ (pre .1 .0 .0) _ _ (pre .1 .1 .0))
+    (pre .1 .0 .1, pre .1 .0 .2, resized-linked (pre .0 .0) e (pre .0 .1) _ (pre .1 .0 .0) _ _ (pre .1 .1 .0))
 
 same-length : tie.Need-same-length
 same-length c =

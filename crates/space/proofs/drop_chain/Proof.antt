@@ -30,7 +30,7 @@ same-length-3 : tie.Need-same-length-3 Inv-loop μ-loop
 same-length-3 c = search needs
 
 returns : tie.Need-returns Inv-loop μ-loop
-returns c = let l = c .before .before .loop in let pre = c .before .before .before .before .before .before .before .pre in sym (zeroed-end (l .fuel) _) ∙ rw (c .if1 .taken) at (l .inv .3) ∙ zeroed-chain _ (pre .0) (pre .1 .0) _ (pre .1 .1)
+returns c = let l = c .before .before .loop in let pre = c .before .before .before .before .before .before .before .pre in sym (zeroed-end (l .fuel) _) ∙ rw (c .if1 .taken) at (l .inv .3) ∙ zeroed-chain _ (pre .0) _ (pre .1)
 
 entry-requires : tie.Need-entry-requires Inv-loop μ-loop
 entry-requires c κs = search needs
@@ -71,7 +71,7 @@ same-length-6 : tie.Need-same-length-6 Inv-loop μ-loop
 same-length-6 c = search needs
 
 returns-2 : tie.Need-returns-2 Inv-loop μ-loop
-returns-2 c = let l = c .before .loop in let pre = c .before .before .before .before .before .before .pre in let e : l .fuel ≡ 0 = omega arith in sym (zeroed-none _ (l .at)) ∙ rw e at (l .inv .3) ∙ zeroed-chain _ (pre .0) (pre .1 .0) _ (pre .1 .1)
+returns-2 c = let l = c .before .loop in let pre = c .before .before .before .before .before .before .pre in let e : l .fuel ≡ 0 = omega arith in sym (zeroed-none _ (l .at)) ∙ rw e at (l .inv .3) ∙ zeroed-chain _ (pre .0) _ (pre .1)
 
 pub drop-chain-spec : {M : Type 1} → statement M
 drop-chain-spec =

@@ -1,12 +1,23 @@
--- Steps one after the other: what a run that is done has made of its first step, and where a refused run stops.
+-- Plans: a refusal is no plan that is done; steps one after the other, what a run that is done has made of its first step, and where a refused run stops.
 use Prim.Native.Nat.{ℕ, zero, suc, _+_}
 use mathlib.Core.Path.{_≡_, refl, sym, ap, _∙_}
 use mathlib.Core.List.{List, [], _++_, append-assoc}
+use native.Mathlib.Omega.{arith}
 use native.Mathlib.Numerals.{add-one}
 use Rattle.rules.specs.Anodes.{Anodes}
 use Rattle.rules.specs.Space.{Plan, refused, planned, after, repeated}
-use Rattle.laws.specs.Arriving.{refused≢planned, planned-same}
-use Rattle.laws.specs.Refusals.{planned≢refused}
+
+pub refused≢planned : (k : ℕ) (t : Anodes) (ys : List ℕ) → refused k ≡ planned t ys → ⊥
+refused≢planned k t ys e = let z : _≡_ {A = ℕ} 0 1 = cc in omega arith
+
+pub planned≢refused : (t : Anodes) (ys : List ℕ) (k : ℕ) → planned t ys ≡ refused k → ⊥
+planned≢refused t ys k e = refused≢planned k t ys (sym e)
+
+pub planned-same : (s t : Anodes) (xs ys : List ℕ) → planned s xs ≡ planned t ys → (s ≡ t) × (ys ≡ xs)
+planned-same s t xs ys e = (cc, cc)
+
+pub refused-same : (j k : ℕ) → refused j ≡ refused k → j ≡ k
+refused-same j k e = cc
 
 -- a plan behind blocks that changed hands before
 after-planned : (ys : List ℕ) (p : Plan) (t : Anodes) (zs : List ℕ) → after ys p ≡ planned t zs → (xs : List ℕ) × (p ≡ planned t xs) × (zs ≡ ys ++ xs)
