@@ -28,7 +28,7 @@ use Rattle.laws.specs.Acceptance.{passed-of, passed-accepted, Tested, passes-te
 use Rattle.laws.specs.ImageAnodes.{reading-of}
 use Rattle.laws.specs.Damage.{Faulted, walk-faulted}
 use Rattle.laws.specs.OneOwner.{naming-sum, passes, accepted-one-owner, good}
-use Rattle.frames.specs.Kept.{Unheld, Kept, HeadsKept, kept-all, diskSize-kept, wrongSize-kept, shortTables-kept, slotOf-kept, lastReserved-kept, wrongType-kept, wrongRoot-kept, systemOwns-kept, wrongSlots-heads, anodesOf-kept, kept-both}
+use Rattle.frames.specs.Kept.{Unheld, Kept, HeadsKept, kept-all, kept-both, diskSize-kept, wrongSize-kept, shortTables-kept, slotOf-kept, lastReserved-kept, wrongType-kept, wrongRoot-kept, systemOwns-kept, anodesOf-kept, wrongSlots-kept}
 use Rattle.frames.specs.StoredAnodes.{AnodesStored, root-unheld, withAnodes-stored, anodesOf-withAnodes}
 use Rattle.frames.specs.DisjointBlocks.{DataBlock}
 use Rattle.changes.specs.Members.{none-in}
@@ -177,7 +177,7 @@ module _ (img j : List ℕ) (blocks anodes : ℕ) (e : checkAnswer img blocks an
         tables-long = shortTables-kept (d .kept) blocks anodes ∙ p .tables-long;
         type-right = wrongType-kept (d .kept) refl ∙ p .type-right;
         root-right = wrongRoot-kept (d .kept) refl ∙ p .root-right;
-        slots-right = wrongSlots-heads (d .kept) refl (d .heads-kept) ∙ p .slots-right;
+        slots-right = wrongSlots-kept d refl ∙ p .slots-right;
         tested = rw (diskSize-kept (d .kept), lastReserved-kept (d .kept) refl, systemOwns-kept (d .kept) refl) tested;
         walked = ap faultIn walk-found;
         all-named = anyBelow-all (unnamedChain j (anodesOf j)) limit none-unnamed;
