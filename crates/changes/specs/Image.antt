@@ -90,25 +90,29 @@ module _ (img : List ℕ) (blocks anodes : ℕ) (e : checkAnswer img blocks anod
 abbrev pub SameDisk : List ℕ → List ℕ → Type 0
 SameDisk img j = HeadsKept (λ d. d ≡ 2) img j
 
-pub same-own : (img : List ℕ) → SameDisk img img
-same-own img = record { kept = kept-all img; heads-kept = λ s u. refl }
-
 same-stored : {img j : List ℕ} → wrongSlots img ≡ false → AnodesStored img j → SameDisk img j
 same-stored {img} right w = record {
   kept = record { length-kept = w .kept .length-kept; block-kept = λ d o. w .kept .block-kept d (rw o (root-unheld img right)) };
   heads-kept = w .heads-kept;
 }
 
+-- and has the anodes t
+pub record DiskWith (img : List ℕ) (t : Anodes) (j : List ℕ) : Type 0 where
+  pub same : SameDisk img j
+  pub anodes : anodesOf j ≡ t
+
+pub disk-own : (img : List ℕ) → DiskWith img (anodesOf img) img
+disk-own img = record { same = record { kept = kept-all img; heads-kept = λ s u. refl }; anodes = refl }
+
 -- an accepted image in which other anodes are stored
 module _ (img : List ℕ) (blocks anodes : ℕ) (e : checkAnswer img blocks anodes ≡ 0) (t : Anodes) where
   pub stored-kept : Kept (Unheld img) img (withAnodes img t)
   stored-kept = withAnodes-stored img (accepted-slots img blocks anodes e) t .kept
 
-  pub stored-same : SameDisk img (withAnodes img t)
-  stored-same = same-stored (accepted-slots img blocks anodes e) (withAnodes-stored img (accepted-slots img blocks anodes e) t)
-
-  pub stored-anodes : {n last : ℕ} {system hd sd : ℕ → ℕ} → Good limit (exists img) n last t system hd sd → anodesOf (withAnodes img t) ≡ t
-  stored-anodes g = anodesOf-withAnodes img (accepted-slots img blocks anodes e) t (passes-of g .0)
+  pub disk-stored : {n last : ℕ} {system hd sd : ℕ → ℕ} → Good limit (exists img) n last t system hd sd → DiskWith img t (withAnodes img t)
+  disk-stored g =
+      let right = accepted-slots img blocks anodes e in
+      record { same = same-stored right (withAnodes-stored img right t); anodes = anodesOf-withAnodes img right t (passes-of g .0) }
 
 -- what is no data block is not one of some data blocks
 pub not-one : {img : List ℕ} {b : ℕ} → DataBlock img b → (y : ℕ) → (DataBlock img y → ⊥) → y ≢ b
@@ -118,26 +122,29 @@ pub not-among : {img : List ℕ} (ys : List ℕ) → ((y : ℕ) → 0 < times y 
 not-among ys d y n = none-in y ys (λ p. n (d y p))
 
 -- stores that keep all but data blocks
-module _ {img i j : List ℕ} {on : ℕ → Type 0} (d : SameDisk img i) (k : Kept on i j) (others : (y : ℕ) → (DataBlock img y → ⊥) → on y) where
+module _ {img i j : List ℕ} {t : Anodes} {on : ℕ → Type 0} (d : DiskWith img t i) (k : Kept on i j) (others : (y : ℕ) → (DataBlock img y → ⊥) → on y) where
   root-on : on 2
   root-on = others 2 (λ b. omega (arith, b .above))
 
   slot-on : (s : ℕ) → slotOf img s ≢ 0 → on (slotOf img s)
   slot-on s u = others (slotOf img s) (λ b. b .unheld s u refl)
 
-  pub same-then : SameDisk img j
-  same-then = record {
-    kept = kept-both (λ b o. o) (λ b o. rw o root-on) (d .kept) k;
-    heads-kept = λ s u. ap anodeHeadIn (k .block-kept (slotOf img s) (slot-on s u)) ∙ d .heads-kept s u;
+  pub disk-then : DiskWith img t j
+  disk-then = record {
+    same = record {
+      kept = kept-both (λ b o. o) (λ b o. rw o root-on) (d .same .kept) k;
+      heads-kept = λ s u. ap anodeHeadIn (k .block-kept (slotOf img s) (slot-on s u)) ∙ d .same .heads-kept s u;
+    };
+    anodes = anodesOf-kept k root-on (λ s u. let e = slotOf-kept (d .same .kept) refl s in rw e (slot-on s (λ z. u (e ∙ z)))) ∙ d .anodes;
   }
-
-  pub anodes-then : anodesOf j ≡ anodesOf i
-  anodes-then = anodesOf-kept k root-on (λ s u. let e = slotOf-kept (d .kept) refl s in rw e (slot-on s (λ z. u (e ∙ z))))
 
 -- ---- back to the check's answer
 
-module _ (img j : List ℕ) (blocks anodes : ℕ) (e : checkAnswer img blocks anodes ≡ 0) (d : SameDisk img j) {hd sd : ℕ → ℕ} {dirs : List Dir}
-    (w : Whole (exists img) (diskSize img) (lastReserved img) (anodesOf j) (systemOwns img) hd sd (entriesIn j) (isBlockOf j) dirs) where
+module _ (img j : List ℕ) (blocks anodes : ℕ) (e : checkAnswer img blocks anodes ≡ 0) {t : Anodes} (d : DiskWith img t j) {hd sd : ℕ → ℕ} {dirs : List Dir}
+    (left : Whole (exists img) (diskSize img) (lastReserved img) t (systemOwns img) hd sd (entriesIn j) (isBlockOf j) dirs) where
+  w : Whole (exists img) (diskSize img) (lastReserved img) (anodesOf j) (systemOwns img) hd sd (entriesIn j) (isBlockOf j) dirs
+  w = rw (d .anodes) left
+
   found : (Q : List Dir) × Accepted (exists img) (diskSize img) (lastReserved img) (anodesOf j) (systemOwns img) (entriesIn j) (isBlockOf j) Q
   found = accepted-of w
 
@@ -172,13 +179,14 @@ module _ (img j : List ℕ) (blocks anodes : ℕ) (e : checkAnswer img blocks an
   pub whole-accepted : checkAnswer j blocks anodes ≡ 0
   whole-accepted =
       let p = passed-of img blocks anodes e in
+      let k = d .same .kept in
       passed-accepted j blocks anodes (record {
-        size-right = wrongSize-kept (d .kept) ∙ p .size-right;
-        tables-long = shortTables-kept (d .kept) blocks anodes ∙ p .tables-long;
-        type-right = wrongType-kept (d .kept) refl ∙ p .type-right;
-        root-right = wrongRoot-kept (d .kept) refl ∙ p .root-right;
-        slots-right = wrongSlots-kept d refl ∙ p .slots-right;
-        tested = rw (diskSize-kept (d .kept), lastReserved-kept (d .kept) refl, systemOwns-kept (d .kept) refl) tested;
+        size-right = wrongSize-kept k ∙ p .size-right;
+        tables-long = shortTables-kept k blocks anodes ∙ p .tables-long;
+        type-right = wrongType-kept k refl ∙ p .type-right;
+        root-right = wrongRoot-kept k refl ∙ p .root-right;
+        slots-right = wrongSlots-kept (d .same) refl ∙ p .slots-right;
+        tested = rw (diskSize-kept k, lastReserved-kept k refl, systemOwns-kept k refl) tested;
         walked = ap faultIn walk-found;
         all-named = anyBelow-all (unnamedChain j (anodesOf j)) limit none-unnamed;
       })

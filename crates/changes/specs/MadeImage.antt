@@ -32,7 +32,7 @@ use Rattle.frames.specs.Kept.{Kept}
 use Rattle.frames.specs.StoredBlocks.{inBlock-kept, blockOf-inBlock, withBlocks-kept}
 use Rattle.frames.specs.StoredBytes.{blockOf-withBlocks}
 use Rattle.frames.specs.DisjointBlocks.{DataBlock}
-use Rattle.changes.specs.Image.{WholeImage, headIn, sideIn, accepted-whole, SameDisk, stored-kept, stored-same, stored-anodes, same-then, anodes-then, not-one, not-among, reached-headed}
+use Rattle.changes.specs.Image.{WholeImage, headIn, sideIn, accepted-whole, DiskWith, stored-kept, disk-stored, disk-then, not-one, not-among, reached-headed}
 use Rattle.changes.specs.FoundEntries.{enteredAt, end-bounds}
 use Rattle.changes.specs.Members.{Member, none-in, no-member, member-cons, member-gather, member-times, times-member}
 use Rattle.changes.specs.Reached.{DirBlock, reached-from-5, dir-block}
@@ -165,16 +165,11 @@ module _ {img : List ℕ} {blocks anodes h : ℕ} {new : NewEntry} {f : ℕ} {ro
   parent-kept : Kept (λ d. times d zs ≡ 0) headed-own before
   parent-kept = withBlocks-kept headed-own zs (newDirectoryBlock h (parentOf dirs h)) (omega (arith, length-new h (parentOf dirs h)))
 
-  own-same : SameDisk img headed-own
-  own-same = same-then (stored-same img blocks anodes (m .fresh .accepted) t) own-kept (not-among ys own-data)
+  own-disk : DiskWith img t headed-own
+  own-disk = disk-then (disk-stored img blocks anodes (m .fresh .accepted) t good) own-kept (not-among ys own-data)
 
-  before-same : SameDisk img before
-  before-same = same-then own-same parent-kept (not-among zs parent-data)
-
-  before-anodes : anodesOf before ≡ t
-  before-anodes =
-      anodes-then own-same parent-kept (not-among zs parent-data) ∙ anodes-then (stored-same img blocks anodes (m .fresh .accepted) t) own-kept (not-among ys own-data)
-      ∙ stored-anodes img blocks anodes (m .fresh .accepted) t good
+  before-disk : DiskWith img t before
+  before-disk = disk-then own-disk parent-kept (not-among zs parent-data)
 
   -- a data block that is not new is the one that was
   pub kept-block : (y : ℕ) → DataBlock img y → times y ys ≡ 0 → times y zs ≡ 0 → blockOf before y ≡ blockOf img y
@@ -184,15 +179,15 @@ module _ {img : List ℕ} {blocks anodes h : ℕ} {new : NewEntry} {f : ℕ} {ro
   old-block a one q = let o = old-apart a one q in kept-block (s .block a) (single-data img (w .good) a one) (o .0) (o .1)
 
   pub inside-before : (y : ℕ) → DataBlock img y → y * 512 + 512 ≤ length before
-  inside-before y d = rw (before-same .kept .length-kept) (d .inside)
+  inside-before y d = rw (before-disk .same .kept .length-kept) (d .inside)
 
   pub own-new : (y : ℕ) → 0 < times y ys → blockOf before y ≡ newDirectoryBlock f h
   own-new y p = parent-kept .block-kept y (new-apart y p)
-      ∙ blockOf-withBlocks base ys (newDirectoryBlock f h) y (length-new f h) p (rw (stored-same img blocks anodes (m .fresh .accepted) t .kept .length-kept) (own-data y p .inside))
+      ∙ blockOf-withBlocks base ys (newDirectoryBlock f h) y (length-new f h) p (rw (stored-kept img blocks anodes (m .fresh .accepted) t .length-kept) (own-data y p .inside))
 
   pub parent-new : (y : ℕ) → 0 < times y zs → blockOf before y ≡ newDirectoryBlock h (parentOf dirs h)
   parent-new y p = blockOf-withBlocks headed-own zs (newDirectoryBlock h (parentOf dirs h)) y (length-new h (parentOf dirs h)) p
-      (rw (own-same .kept .length-kept) (parent-data y p .inside))
+      (rw (own-disk .same .kept .length-kept) (parent-data y p .inside))
 
   -- ---- the directories of that image
 
@@ -308,11 +303,8 @@ module _ {img : List ℕ} {blocks anodes h : ℕ} {new : NewEntry} {f : ℕ} {ro
       ∙ blockOf-inBlock before (place / 512) (λ b. putEntry b (place % 512) (entryOf new f) (new .name) (new .comment)) (length-putEntry (blockOf before (place / 512)) (place % 512) (entryOf new f) (new .name) (new .comment))
       ∙ ap₂ (λ (y e : ℕ). putEntry (blockOf before y) e (entryOf new f) (new .name) (new .comment)) in-block at-end
 
-  pub made-same : SameDisk img (madeImage img (anodesOf img) h new f room ys t zs)
-  made-same = same-then before-same entry-kept (not-one spot-data)
-
-  pub made-anodes : anodesOf (madeImage img (anodesOf img) h new f room ys t zs) ≡ t
-  made-anodes = anodes-then before-same entry-kept (not-one spot-data) ∙ before-anodes
+  pub made-disk : DiskWith img t (madeImage img (anodesOf img) h new f room ys t zs)
+  made-disk = disk-then before-disk entry-kept (not-one spot-data)
 
   pub entries-made : entriesIn j (t .block (spot .anode)) ≡ entriesIn before (t .block (spot .anode)) ++ (entered ∷ [])
   unfolding entriesIn entryOf goodComment

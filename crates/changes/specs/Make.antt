@@ -1,6 +1,6 @@
 -- Make: the image that it leaves of an accepted one is accepted.
 use Prim.Native.Nat.{ℕ, _+_, _*_, _<_}
-use mathlib.Core.Path.{_≡_, refl, sym, ap, _∙_, subst}
+use mathlib.Core.Path.{_≡_, refl, sym, ap, _∙_}
 use mathlib.Core.Logic.{_≢_, _⊎_, inl, inr}
 use mathlib.Core.Bool.{Bool, true, false, cond}
 use mathlib.Core.List.{List, [], _∷_}
@@ -32,7 +32,7 @@ use Rattle.changes.specs.Image.{reached-sum, whole-accepted}
 use Rattle.changes.specs.FoundEntries.{enteredAt}
 use Rattle.changes.specs.Reached.{reached-head}
 use Rattle.laws.specs.NewDirectory.{entries-new}
-use Rattle.changes.specs.MadeImage.{Making, spare, new-marked, first-in, once, plan, before, own-new, orphan, spot, made-same, made-anodes, entries-made, marks-made, entry-other, its-head, other-entries}
+use Rattle.changes.specs.MadeImage.{Making, spare, new-marked, first-in, once, plan, before, own-new, orphan, spot, made-disk, entries-made, marks-made, entry-other, its-head, other-entries}
 
 module _ {img : List ℕ} {blocks anodes h : ℕ} {new : NewEntry} {f : ℕ} {room : Option ℕ} {ys : List ℕ} {t : Anodes} {zs : List ℕ} (m : Making img blocks anodes h new f room ys t zs) where
   abbrev s : Anodes
@@ -106,17 +106,13 @@ module _ {img : List ℕ} {blocks anodes h : ℕ} {new : NewEntry} {f : ℕ} {ro
       go false d = enter-file entered (orphan m .2) (spare m .0) refl (inr (none-yet d)) (spot m .anode) h (once m) (its-head m) (entriesIn j) (isBlockOf j)
           (λ a i q v. gained a i v) (λ a i q c. same-marks a i c) (is-dir (new .dir) ∙ d)
 
-  image-whole : Whole (exists img) (diskSize img) (lastReserved img) (anodesOf j) (systemOwns img) (orphan m .0) (orphan m .1) (entriesIn j) (isBlockOf j) (grown (new .dir))
-  image-whole = subst (λ (x : Anodes). Whole (exists img) (diskSize img) (lastReserved img) x (systemOwns img) (orphan m .0) (orphan m .1) (entriesIn j) (isBlockOf j) (grown (new .dir)))
-      (sym (made-anodes m)) made-whole
-
   pub image-accepted : checkAnswer (madeImage img (anodesOf img) h new f room ys t zs) blocks anodes ≡ 0
-  image-accepted = whole-accepted img j blocks anodes (m .fresh .accepted) (made-same m) image-whole
+  image-accepted = whole-accepted img j blocks anodes (m .fresh .accepted) (made-disk m) made-whole
 
   -- the directories that were reached are, and the new one
   pub made-dirs : (weight : Dir → ℕ) → sumList weight (reachedDirs (madeImage img (anodesOf img) h new f room ys t zs) (anodesOf (madeImage img (anodesOf img) h new f room ys t zs)))
       ≡ sumList weight (reachedDirs img (anodesOf img)) + cond (new .dir) (weight (record { head = f; parent = h })) 0
-  made-dirs weight = reached-sum img j blocks anodes (m .fresh .accepted) (made-same m) image-whole weight ∙ go (new .dir)
+  made-dirs weight = reached-sum img j blocks anodes (m .fresh .accepted) (made-disk m) made-whole weight ∙ go (new .dir)
     where
       go : (b : Bool) → sumList weight (grown b) ≡ sumList weight dirs + cond b (weight (record { head = f; parent = h })) 0
       go true = omega (arith, list-cons weight (record { head = f; parent = h }) dirs)

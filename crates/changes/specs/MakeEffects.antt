@@ -39,7 +39,7 @@ use Rattle.changes.specs.KeptChains.{SameChain, same-blocks, BlocksKept,
 use Rattle.changes.specs.EntryBytes.{entryBytes, bytes-at, with-length}
 use Rattle.laws.specs.NewDirectory.{entries-new}
 use Rattle.changes.specs.NewEntry.{comment-put}
-use Rattle.changes.specs.MadeImage.{Making, spare, w, plan, own-block, parent-block, before, kept-block, parent-new, cont, old-block, orphan, spot, inside-before, spot-data, in-block, at-end, entry-kept, entry-block, entry-other, made-anodes, entries-made, other-entries}
+use Rattle.changes.specs.MadeImage.{Making, spare, w, plan, own-block, parent-block, before, kept-block, parent-new, cont, old-block, orphan, spot, inside-before, spot-data, in-block, at-end, entry-kept, entry-block, entry-other, made-disk, entries-made, other-entries}
 use Rattle.changes.specs.Make.{made-dirs}
 
 times-mapped : (g : ℕ → ℕ) (l : List ℕ) (a : ℕ) → 0 < times a l → 0 < times (g a) (map g l)
@@ -130,7 +130,7 @@ module _ {img : List ℕ} {blocks anodes h : ℕ} {new : NewEntry} {f : ℕ} {ro
 
   now-all : entriesOf j (anodesOf j) h ≡ gather now (chainOf (t .next) limit h)
   unfolding entriesOf
-  now-all = ap (λ (x : Anodes). entriesOf j x h) (made-anodes m)
+  now-all = ap (λ (x : Anodes). entriesOf j x h) (made-disk m .anodes)
 
   -- along other anodes of it nothing has changed
   now-was : (l : List ℕ) → ((a : ℕ) → times a l ≤ times a (chainOf (t .next) limit h)) → times (spot m .anode) l ≡ 0 → gather now l ≡ gather was l
@@ -225,7 +225,7 @@ module _ {img : List ℕ} {blocks anodes h : ℕ} {new : NewEntry} {f : ℕ} {ro
       let g = entry-facts img blocks anodes (m .fresh .accepted) k r e on in
       let e1 : e .anode ≢ 1 = λ q. omega (arith, q, g .from-6) in
       let eh : e .anode ≢ h = λ q. not-file img blocks anodes (m .fresh .accepted) h (m .fresh .reached) k e g file (sym q) in
-      rw (made-anodes m) (contents-same img j e (same-chain (e .anode) (g .head) e1 eh) (blocks-kept (e .anode) (g .head) e1 eh))
+      rw (made-disk m .anodes) (contents-same img j e (same-chain (e .anode) (g .head) e1 eh) (blocks-kept (e .anode) (g .head) e1 eh))
 
   -- every other directory has the entries that it had
   pub entries-kept : (k : ℕ) → noDirectory img (anodesOf img) k ≡ false → k ≢ h →
@@ -233,7 +233,7 @@ module _ {img : List ℕ} {blocks anodes h : ℕ} {new : NewEntry} {f : ℕ} {ro
   entries-kept k r kh =
       let d = reached-head img blocks anodes (m .fresh .accepted) k r in
       let k1 = reached-not-1 img blocks anodes (m .fresh .accepted) k r in
-      rw (made-anodes m) (entries-same img blocks anodes (m .fresh .accepted) k r j (blocks-kept k d k1 kh) (same-chain k d k1 kh))
+      rw (made-disk m .anodes) (entries-same img blocks anodes (m .fresh .accepted) k r j (blocks-kept k d k1 kh) (same-chain k d k1 kh))
 
   -- ---- the bytes of entries
 

@@ -13,7 +13,7 @@ use Rattle.rules.specs.Chains.{blockCount, systemOwns}
 use Rattle.rules.specs.Walk.{Dir, Entered, entriesIn, isBlockOf, reachedDirs}
 use Rattle.rules.specs.Accepted.{diskSize, lastReserved, checkAnswer}
 use Rattle.rules.specs.Lookup.{noDirectory, entriesOf, nth, isThere, notEmpty}
-use Rattle.rules.specs.Space.{Plan, refused, giveMany, onChain}
+use Rattle.rules.specs.Space.{Plan, refused, giveMany, onChain, dropped}
 use Rattle.rules.specs.Changes.{removedImage, removed}
 use Rattle.laws.specs.Tests.{same?}
 use Rattle.laws.specs.Sums.{oneAt-same, oneAt-other}
@@ -84,13 +84,13 @@ module _ {img : List ℕ} {e : Entered} {t : Anodes} {ys : List ℕ} (p : Planne
 
     -- the state that is left is whole, and every other directory is still in it
     pub left-whole : let dead = onChain limit t (e .anode) in (dirs : List Dir)
-        × Whole (exists img) (diskSize img) (lastReserved img) (anodesOf j) (systemOwns img) (without dead (Stores.ran p .hd′)) (without dead (Stores.ran p .sd′)) (entriesIn j) (isBlockOf j) dirs
+        × Whole (exists img) (diskSize img) (lastReserved img) (dropped limit t (e .anode)) (systemOwns img) (without dead (Stores.ran p .hd′)) (without dead (Stores.ran p .sd′)) (entriesIn j) (isBlockOf j) dirs
         × ((x : ℕ) → x ≢ e .anode → headed x dirs ≡ headed x (reachedDirs img s))
     unfolding entriesOf
-    left-whole = rw (Stores.removed-anodes p) (Laws.removed (w p) e (e .anode) refl (facts p .a₀) (p .home) (reached-headed img (p .blocks) (p .anodes) (p .accepted) (p .home) (p .reached)) (facts p .block-facts .on-chain) (entriesIn j) cont no-entry (Stores.ran p) (isBlockOf j) same-marks)
+    left-whole = Laws.removed (w p) e (e .anode) refl (facts p .a₀) (p .home) (reached-headed img (p .blocks) (p .anodes) (p .accepted) (p .home) (p .reached)) (facts p .block-facts .on-chain) (entriesIn j) cont no-entry (Stores.ran p) (isBlockOf j) same-marks
 
     pub planned-accepted : checkAnswer (removedImage img e t ys) (p .blocks) (p .anodes) ≡ 0
-    planned-accepted = whole-accepted img j (p .blocks) (p .anodes) (p .accepted) (Stores.removed-same p) (left-whole .1)
+    planned-accepted = whole-accepted img j (p .blocks) (p .anodes) (p .accepted) (Stores.removed-disk p) (left-whole .1)
 
 module _ (img : List ℕ) (blocks anodes : ℕ) (accepted : checkAnswer img blocks anodes ≡ 0) (h : ℕ) (reached : noDirectory img (anodesOf img) h ≡ false)
     (e : Entered) (member : Member e (entriesOf img (anodesOf img) h)) where

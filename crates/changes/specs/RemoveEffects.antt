@@ -21,7 +21,7 @@ use Rattle.changes.specs.Reached.{reached-not-1, reached-head, entry-fac
 use Rattle.changes.specs.EntryBytes.{entryBytes}
 use Rattle.changes.specs.KeptChains.{SameChain, BlocksKept, contents-same, entries-same, entry-bytes-same}
 use Rattle.changes.specs.PlannedChange.{w, facts, off-chain}
-use Rattle.changes.specs.RemoveStores.{PlannedRemove, ran, end-good, removed-same, removed-anodes, kept-data}
+use Rattle.changes.specs.RemoveStores.{PlannedRemove, ran, end-good, removed-disk, kept-data}
 use Rattle.changes.specs.Remove.{left-whole, planned-accepted}
 
 module _ {img : List ℕ} {e : Entered} {t : Anodes} {ys : List ℕ} (p : PlannedRemove img e t ys) where
@@ -57,13 +57,13 @@ module _ {img : List ℕ} {e : Entered} {t : Anodes} {ys : List ℕ} (p : Planne
   contents-kept k r f m file o =
       let g = entry-facts img (p .blocks) (p .anodes) (p .accepted) k r f m in
       let not-home = not-file img (p .blocks) (p .anodes) (p .accepted) (p .home) (p .reached) k f g file in
-      rw (removed-anodes p) (contents-same img j f (others-same (f .anode) (g .head) (λ q. omega (arith, q, g .from-6)) o) (others-kept (f .anode) (g .head) (λ q. not-home (sym q))))
+      rw (removed-disk p .anodes) (contents-same img j f (others-same (f .anode) (g .head) (λ q. omega (arith, q, g .from-6)) o) (others-kept (f .anode) (g .head) (λ q. not-home (sym q))))
 
   -- every other directory has the entries that it had
   pub entries-kept : (k : ℕ) → noDirectory img s k ≡ false → k ≢ p .home → k ≢ e .anode → entriesOf (removedImage img e t ys) (anodesOf (removedImage img e t ys)) k ≡ entriesOf img s k
   entries-kept k r kh o =
       let d = reached-head img (p .blocks) (p .anodes) (p .accepted) k r in
-      rw (removed-anodes p) (entries-same img (p .blocks) (p .anodes) (p .accepted) k r j (others-kept k d kh) (others-same k d (reached-not-1 img (p .blocks) (p .anodes) (p .accepted) k r) o))
+      rw (removed-disk p .anodes) (entries-same img (p .blocks) (p .anodes) (p .accepted) k r j (others-kept k d kh) (others-same k d (reached-not-1 img (p .blocks) (p .anodes) (p .accepted) k r) o))
 
   -- every entry of another directory has the bytes that it had
   pub bytes-kept : (k : ℕ) → noDirectory img s k ≡ false → k ≢ p .home → (f : Entered) → Member f (entriesOf img s k) → entryBytes (removedImage img e t ys) (f .place) ≡ entryBytes img (f .place)
@@ -76,7 +76,7 @@ module _ {img : List ℕ} {e : Entered} {t : Anodes} {ys : List ℕ} (p : Planne
     unfolding headed
     left-headed x o =
         let l = left-whole p empty in
-        reached-sum img j (p .blocks) (p .anodes) (p .accepted) (removed-same p) (l .1) (λ d. oneAt (d .head) x) ∙ l .2 x o
+        reached-sum img j (p .blocks) (p .anodes) (p .accepted) (removed-disk p) (l .1) (λ d. oneAt (d .head) x) ∙ l .2 x o
 
     -- those that were reached are reached, and no other
     pub reached-kept : (x : ℕ) → x ≢ e .anode → noDirectory (removedImage img e t ys) (anodesOf (removedImage img e t ys)) x ≡ noDirectory img s x
@@ -88,4 +88,4 @@ module _ {img : List ℕ} {e : Entered} {t : Anodes} {ys : List ℕ} (p : Planne
       where
         go : (b : Bool) → noDirectory j (anodesOf j) (e .anode) ≡ b → noDirectory j (anodesOf j) (e .anode) ≡ true
         go true q = q
-        go false q = absurd (gone .was (e .anode) (rw (removed-anodes p) at (reached-head j (p .blocks) (p .anodes) (planned-accepted p empty) (e .anode) q)) .0 refl)
+        go false q = absurd (gone .was (e .anode) (rw (removed-disk p .anodes) at (reached-head j (p .blocks) (p .anodes) (planned-accepted p empty) (e .anode) q)) .0 refl)

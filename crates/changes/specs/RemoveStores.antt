@@ -20,7 +20,7 @@ use Rattle.laws.specs.Remove.{dropped-good}
 use Rattle.frames.specs.Kept.{Kept, kept-both}
 use Rattle.frames.specs.StoredBlocks.{inBlock-kept, blockOf-inBlock}
 use Rattle.frames.specs.DisjointBlocks.{DataBlock}
-use Rattle.changes.specs.Image.{headIn, sideIn, SameDisk, stored-kept, stored-same, stored-anodes, not-one, same-then, anodes-then}
+use Rattle.changes.specs.Image.{headIn, sideIn, DiskWith, stored-kept, disk-stored, not-one, disk-then}
 use Rattle.changes.specs.FoundEntries.{BlockEntry}
 use Rattle.changes.specs.Reached.{block-data, block-entry}
 use Rattle.changes.specs.SingleBlocks.{single-data}
@@ -92,13 +92,8 @@ module _ {img : List ℕ} {e : Entered} {t : Anodes} {ys : List ℕ} (p : Planne
   unfolding removedImage withoutEntry closer
   block-left = blockOf-inBlock stored y closer long ∙ ap closer same-block
 
-  pub removed-same : SameDisk img (removedImage img e t ys)
-  removed-same = same-then (stored-same img (p .blocks) (p .anodes) (p .accepted) end) kept-last (not-one (block-data (facts p)))
-
-  pub removed-anodes : anodesOf (removedImage img e t ys) ≡ dropped limit t (e .anode)
-  removed-anodes =
-      anodes-then (stored-same img (p .blocks) (p .anodes) (p .accepted) end) kept-last (not-one (block-data (facts p)))
-      ∙ stored-anodes img (p .blocks) (p .anodes) (p .accepted) end end-good
+  pub removed-disk : DiskWith img (dropped limit t (e .anode)) (removedImage img e t ys)
+  removed-disk = disk-then (disk-stored img (p .blocks) (p .anodes) (p .accepted) end end-good) kept-last (not-one (block-data (facts p)))
 
   -- ---- the entries and marks of the blocks
 

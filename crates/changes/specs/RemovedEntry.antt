@@ -24,7 +24,7 @@ use Rattle.changes.specs.Reached.{reached-not-1, dir-block, place-in, no
 use Rattle.changes.specs.Gap.{lowered, bytes-earlier, bytes-later}
 use Rattle.changes.specs.EntryBytes.{entryBytes, bytes-at, with-length}
 use Rattle.changes.specs.PlannedChange.{w, facts, home-head}
-use Rattle.changes.specs.RemoveStores.{PlannedRemove, here, block-left, removed-anodes, kept-data, entries-left, apart}
+use Rattle.changes.specs.RemoveStores.{PlannedRemove, here, block-left, removed-disk, kept-data, entries-left, apart}
 use Rattle.changes.specs.Remove.{no-entry}
 use Rattle.changes.specs.KeptChains.{entries-along}
 use Rattle.changes.specs.RemoveEffects.{others-same}
@@ -193,7 +193,7 @@ module _ {img : List ℕ} {e : Entered} {t : Anodes} {ys : List ℕ} (p : Planne
 
     new-entries : entriesOf j (anodesOf j) (p .home) ≡ were ++ map (movedUp img e) behind
     unfolding gather
-    new-entries = rw (removed-anodes p, all-moved)
+    new-entries = rw (removed-disk p .anodes, all-moved)
         (entries-along (others-same p (p .home) (home-head p) (reached-not-1 img (p .blocks) (p .anodes) (p .accepted) (p .home) (p .reached)) not-itself) j
         ∙ ap (gather new) (facts p .member-chain .2) ∙ gather-append new front (facts p .a₀ ∷ back)
         ∙ rw (same-along front in-front, same-along back in-back, ← (facts p .in-block), entries-left p) (joined (map (lowered len) later) (gather old back)))

@@ -25,7 +25,7 @@ use Rattle.changes.specs.SameItems.{whole-same}
 use Rattle.changes.specs.NewSize.{sized, head-sized, entries-sized}
 use Rattle.changes.specs.ResizePlan.{plan-refused}
 use Rattle.changes.specs.PlannedChange.{left-cases, w, facts}
-use Rattle.changes.specs.ResizeStores.{PlannedResize, steps, dir-same, its-block, other-block, this-block, resized-same, resized-anodes}
+use Rattle.changes.specs.ResizeStores.{PlannedResize, steps, dir-same, its-block, other-block, this-block, resized-disk}
 
 -- ---- the entries
 
@@ -122,7 +122,7 @@ module _ {img : List ℕ} {e : Entered} {new : ℕ} {t : Anodes} {ys : List ℕ}
       (λ a on. items-left d m a (rw (dir-same p (d .head) (member-reached img s d m) .same-anodes) at on)))
 
   resized-accepted : checkAnswer (resizedImage img s e new t ys) (p .blocks) (p .anodes) ≡ 0
-  resized-accepted = whole-accepted img j (p .blocks) (p .anodes) (p .accepted) (resized-same p) {hd = steps p .ran .hd′} {sd = steps p .ran .sd′} {dirs = dirs} (rw (resized-anodes p) still-whole)
+  resized-accepted = whole-accepted img j (p .blocks) (p .anodes) (p .accepted) (resized-disk p) still-whole
 
 -- what a resize leaves of an accepted image is accepted
 pub resize-accepted : (img : List ℕ) (blocks anodes : ℕ) → checkAnswer img blocks anodes ≡ 0 → (h : ℕ) → noDirectory img (anodesOf img) h ≡ false →

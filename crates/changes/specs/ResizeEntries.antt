@@ -14,7 +14,7 @@ use Rattle.directory.proofs.Laws.{found-at}
 use Rattle.rules.specs.Counting.{oneAt, gather}
 use Rattle.rules.specs.Anodes.{Anodes, limit, anodesOf}
 use Rattle.rules.specs.Chains.{chainOf}
-use Rattle.rules.specs.Walk.{Entered, entriesIn, reachedDirs}
+use Rattle.rules.specs.Walk.{Entered, entriesIn}
 use Rattle.rules.specs.Lookup.{noDirectory, entriesOf}
 use Rattle.rules.specs.Changes.{resizedImage}
 use Rattle.laws.specs.Tests.{same?}
@@ -28,7 +28,7 @@ use Rattle.changes.specs.NamedOnce.{only-home}
 use Rattle.changes.specs.EntryBytes.{entryBytes}
 use Rattle.changes.specs.NewSize.{sized, put32-others}
 use Rattle.changes.specs.PlannedChange.{facts}
-use Rattle.changes.specs.ResizeStores.{PlannedResize, steps, dir-same, dir-kept, other-block, this-block, resized-same, resized-anodes}
+use Rattle.changes.specs.ResizeStores.{PlannedResize, dir-same, dir-kept, other-block, this-block, resized-disk}
 use Rattle.changes.specs.Resize.{resizedEntry, one-resized, entries-left, still-whole}
 
 map-gather : (φ : Entered → Entered) (f : ℕ → List Entered) (l : List ℕ) → map φ (gather f l) ≡ gather (λ a. map φ (f a)) l
@@ -67,8 +67,7 @@ module _ {img : List ℕ} {e : Entered} {new : ℕ} {t : Anodes} {ys : List ℕ}
   -- the same directories are reached
   pub resized-reached : (k : ℕ) → noDirectory j t k ≡ noDirectory img s k
   unfolding headed
-  resized-reached k = headed-same img j s t k (rw (resized-anodes p) at
-      (reached-sum img j (p .blocks) (p .anodes) (p .accepted) (resized-same p) {hd = steps p .ran .hd′} {sd = steps p .ran .sd′} {dirs = reachedDirs img s} (rw (resized-anodes p) (still-whole p)) (λ d. oneAt (d .head) k)))
+  resized-reached k = headed-same img j s t k (rw (resized-disk p .anodes) at (reached-sum img j (p .blocks) (p .anodes) (p .accepted) (resized-disk p) (still-whole p) (λ d. oneAt (d .head) k)))
 
   -- the directory k
   module _ (k : ℕ) (reached : noDirectory img s k ≡ false) where

@@ -26,7 +26,7 @@ use Rattle.laws.specs.ChainBlocks.{shift-alike, shift-chain}
 use Rattle.frames.specs.Kept.{Unheld, Kept, kept-all, kept-both}
 use Rattle.frames.specs.StoredBlocks.{inBlock-kept, blockOf-inBlock, withBlocks-kept}
 use Rattle.frames.specs.DisjointBlocks.{DataBlock, chains-apart, chain-block}
-use Rattle.changes.specs.Image.{headIn, SameDisk, stored-kept, stored-same, stored-anodes, not-one, not-among, same-then, anodes-then}
+use Rattle.changes.specs.Image.{headIn, DiskWith, stored-kept, disk-stored, not-one, not-among, disk-then}
 use Rattle.changes.specs.Members.{Member, member-first, member-later, member-times}
 use Rattle.changes.specs.Reached.{DirBlock, block-on, reached-not-1, reached-head, dir-block, block-data, not-file}
 use Rattle.changes.specs.KeptChains.{SameChain, BlocksKept}
@@ -147,14 +147,9 @@ module _ {img : List ℕ} {e : Entered} {new : ℕ} {t : Anodes} {ys : List ℕ}
     not-one (block-data (facts p)) y n,
   )
 
-  pub resized-same : SameDisk img (resizedImage img s e new t ys)
+  pub resized-disk : DiskWith img t (resizedImage img s e new t ys)
   unfolding resizedImage
-  resized-same = same-then (stored-same img (p .blocks) (p .anodes) (p .accepted) t) stores-kept only-data
-
-  pub resized-anodes : anodesOf (resizedImage img s e new t ys) ≡ t
-  unfolding resizedImage
-  resized-anodes =
-      anodes-then (stored-same img (p .blocks) (p .anodes) (p .accepted) t) stores-kept only-data ∙ stored-anodes img (p .blocks) (p .anodes) (p .accepted) t (steps .ran .good)
+  resized-disk = disk-then (disk-stored img (p .blocks) (p .anodes) (p .accepted) t (steps .ran .good)) stores-kept only-data
 
   -- ---- other chains
 

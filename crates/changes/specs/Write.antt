@@ -21,7 +21,7 @@ use Rattle.laws.specs.Whole.{Whole}
 use Rattle.frames.specs.Kept.{Kept}
 use Rattle.frames.specs.DisjointBlocks.{DataBlock, chains-apart, chain-block}
 use Rattle.frames.specs.StoredBytes.{written-kept, bytesOf-written, bytesOf-written-other}
-use Rattle.changes.specs.Image.{WholeImage, headIn, sideIn, accepted-whole, accepted-walk, SameDisk, same-own, not-among, same-then, anodes-then, whole-accepted}
+use Rattle.changes.specs.Image.{WholeImage, headIn, sideIn, accepted-whole, accepted-walk, DiskWith, disk-own, not-among, disk-then, whole-accepted}
 use Rattle.changes.specs.SameItems.{whole-same, walk-same}
 use Rattle.changes.specs.Members.{Member, gather-congr}
 use Rattle.changes.specs.EntryBytes.{entryBytes}
@@ -70,11 +70,8 @@ module _ (img : List ℕ) (blocks anodes : ℕ) (accepted : checkAnswer img bloc
   only-data : (y : ℕ) → 0 < times y (blocksOf s (e .anode)) → DataBlock img y
   only-data = chain-block img (w .good) (e .anode) (facts .head)
 
-  pub written-same : SameDisk img j
-  written-same = same-then (same-own img) kept (not-among (blocksOf s (e .anode)) only-data)
-
-  pub written-anodes : anodesOf j ≡ s
-  written-anodes = anodes-then (same-own img) kept (not-among (blocksOf s (e .anode)) only-data)
+  pub written-disk : DiskWith img s j
+  written-disk = disk-then (disk-own img) kept (not-among (blocksOf s (e .anode)) only-data)
 
   -- no block of a reached directory is written
   dir-kept : (k : ℕ) → noDirectory img s k ≡ false → BlocksKept img j s k
@@ -110,7 +107,7 @@ module _ (img : List ℕ) (blocks anodes : ℕ) (accepted : checkAnswer img bloc
 
   -- what a write leaves of an accepted image is accepted
   pub write-accepted : checkAnswer j blocks anodes ≡ 0
-  write-accepted = whole-accepted img j blocks anodes accepted written-same {hd = headIn img} {sd = sideIn img} {dirs = reachedDirs img s} (rw written-anodes still-whole)
+  write-accepted = whole-accepted img j blocks anodes accepted written-disk still-whole
 
   -- ---- what the files hold
 

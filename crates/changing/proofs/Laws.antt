@@ -29,7 +29,7 @@ use Rattle.changes.specs.Answers.{Late}
 use Rattle.changes.specs.Members.{Member}
 use Rattle.changes.specs.Image.{accepted-whole}
 use Rattle.changes.specs.Reached.{entry-facts}
-use Rattle.changes.specs.Write.{written-same, written-anodes}
+use Rattle.changes.specs.Write.{written-disk}
 use Rattle.changed.specs.Leaves.{Leaves}
 use Rattle.changed.specs.Laws.{leaves-refused, leaves-same}
 use Rattle.contents.specs.Written.{InsideOnce}
@@ -73,8 +73,7 @@ module _ (img : List ℕ) (o : Option Entered) (f : Entered → Left) where
 pub leaves-written : (img : List ℕ) → checkAnswer img (diskSize img) limit ≡ 0 → (h : ℕ) → noDirectory img (anodesOf img) h ≡ false → (e : Entered) → Member e (entriesOf img (anodesOf img) h) → e .dir ≡ false →
     (offset : ℕ) (bytes j : List ℕ) → j ≡ written img (anodesOf img) e offset bytes → (b a : List ℕ) → Leaves 0 img b a j b a (left 0 (written img (anodesOf img) e offset bytes))
 leaves-written img accepted h reached e member file offset bytes j is b a = rw is
-    (leaves-same img (written img (anodesOf img) e offset bytes) (written-same img (diskSize img) limit accepted h reached e member file offset bytes)
-    (written-anodes img (diskSize img) limit accepted h reached e member file offset bytes) b a)
+    (leaves-same img (written img (anodesOf img) e offset bytes) (written-disk img (diskSize img) limit accepted h reached e member file offset bytes) b a)
 
 -- ---- make
 

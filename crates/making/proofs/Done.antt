@@ -26,7 +26,7 @@ use Rattle.anodes.specs.Loaded.{anodesFrom, Loaded}
 use Rattle.changes.specs.Members.{times-member}
 use Rattle.changes.specs.Reached.{dir-block}
 use Rattle.changes.specs.MakePlan.{Fresh, parent-took}
-use Rattle.changes.specs.MadeImage.{Making, first-in, good, made-same, made-anodes}
+use Rattle.changes.specs.MadeImage.{Making, first-in, good, made-disk}
 use Rattle.changed.specs.Leaves.{Leaves}
 use Rattle.changed.specs.Laws.{Shows, shows-kept, leaves-refused, leaves-done}
 use Rattle.making.specs.declared.MakePlan.{MakePlan}
@@ -118,5 +118,5 @@ module _ (img : List ℕ) (h : ℕ) (new : NewEntry) (m : MakePlan) (t : Anodes)
       Leaves 0 img b a (madeImage img (anodesOf img) h new f (p .room) ys t zs) (setAll (setAll b ys f) zs h) (anodeTable t ++ drop limit a) (made img (anodesOf img) h new)
   unfolding made madeWith
   done-leaves b a = rw (x .lowest, lt-ltb f limit (x .below), p .steps .roomy, p .steps .own, p .steps .parent)
-      (leaves-done img (madeImage img (anodesOf img) h new f (p .room) ys t zs) (made-same making) b a (setAll (setAll b ys f) zs h) (anodeTable t ++ drop limit a)
-      (λ r q. rw (made-anodes making) (shown b r q)) (rw (made-anodes making)))
+      (leaves-done img (madeImage img (anodesOf img) h new f (p .room) ys t zs) (made-disk making) b a (setAll (setAll b ys f) zs h) (anodeTable t ++ drop limit a)
+      (shown b) refl)

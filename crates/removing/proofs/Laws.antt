@@ -1,6 +1,6 @@
 -- A removal by its plan: what it leaves of an accepted image and of its two tables.
 use Prim.Native.Nat.{ℕ, _+_, _*_, _/_, _%_, _≤_}
-use mathlib.Core.Path.{_≡_, sym, _∙_}
+use mathlib.Core.Path.{_≡_, refl, sym, _∙_}
 use mathlib.Core.Logic.{_≢_}
 use mathlib.Core.Bool.{false}
 use mathlib.Core.List.{List, _++_}
@@ -22,7 +22,7 @@ use Rattle.changes.specs.Image.{accepted-slots}
 use Rattle.changes.specs.FoundEntries.{block-standing, end-within}
 use Rattle.changes.specs.Reached.{block-data, block-entry}
 use Rattle.changes.specs.Remove.{remove-refused}
-use Rattle.changes.specs.RemoveStores.{PlannedRemove, ran, end-good, removed-same, removed-anodes}
+use Rattle.changes.specs.RemoveStores.{PlannedRemove, ran, end-good, removed-disk}
 use Rattle.anodes.specs.Loaded.{anodesFrom, Loaded}
 use Rattle.tree.specs.Steps.{sumFrom}
 use Rattle.space.specs.Steps.{moveBlock, moveMany}
@@ -79,6 +79,5 @@ module _ {img counts firsts nexts : List ℕ} (l : Loaded img counts firsts next
     done-leaves b a =
         let h6 = entry-known l e r .from-6 in
         let d = entry-known l e r .head in
-        let is-end = removed-anodes p in
-        rw gives (leaves-done img (removedImage img e t ys) (removed-same p) b a (setAll b ys 1) (anodeTable end ++ drop limit a)
-        (λ rest q. rw is-end (shows-kept img t end (dropped-owner (ran p .good) (e .anode) h6 (still (e .anode) h6 d (ran p)) (none-left (e .anode) h6 d (ran p))) (setAll b ys 1) rest (shows-ran img s t (image-good l) (ran p) (entry-not-1 l e r) b rest q))) (rw is-end))
+        rw gives (leaves-done img (removedImage img e t ys) (removed-disk p) b a (setAll b ys 1) (anodeTable end ++ drop limit a)
+        (λ rest q. shows-kept img t end (dropped-owner (ran p .good) (e .anode) h6 (still (e .anode) h6 d (ran p)) (none-left (e .anode) h6 d (ran p))) (setAll b ys 1) rest (shows-ran img s t (image-good l) (ran p) (entry-not-1 l e r) b rest q)) refl)

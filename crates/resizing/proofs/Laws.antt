@@ -1,6 +1,6 @@
 -- A resize by its plan: how much it asks for, and what it leaves of an accepted image and of its two tables.
 use Prim.Native.Nat.{ℕ, _+_, _-_, _<_, _≤_}
-use mathlib.Core.Path.{_≡_, sym, _∙_}
+use mathlib.Core.Path.{_≡_, refl, sym, _∙_}
 use mathlib.Core.Logic.{_⊎_, inl, inr}
 use mathlib.Core.Bool.{true, false, cond}
 use mathlib.Core.List.{List, _++_}
@@ -20,7 +20,7 @@ use Rattle.laws.specs.Links.{View, Linked}
 use Rattle.laws.specs.Whole.{blocks-count}
 use Rattle.laws.specs.OwnerTable.{setAll}
 use Rattle.changes.specs.ResizePlan.{plan-refused, plan-longer}
-use Rattle.changes.specs.ResizeStores.{PlannedResize, steps, resized-same, resized-anodes}
+use Rattle.changes.specs.ResizeStores.{PlannedResize, steps, resized-disk}
 use Rattle.anodes.specs.Loaded.{anodesFrom, Loaded}
 use Rattle.tree.specs.Steps.{sumFrom}
 use Rattle.space.specs.Steps.{moveBlock, moveMany}
@@ -90,8 +90,8 @@ module _ {img counts firsts nexts : List ℕ} (l : Loaded img counts firsts next
         Leaves 0 img b a (resizedImage img s e size t ys) (setAll b ys o) (anodeTable t ++ drop limit a) (resized img s e size)
     unfolding resized
     done-leaves o i b a = rw (plan, i)
-        (leaves-done img (resizedImage img s e size t ys) (resized-same p) b a (setAll b ys (cond (leb (blockCount s (e .anode)) (blocksFor size)) (e .anode) 1)) (anodeTable t ++ drop limit a)
-        (λ rest o. rw (resized-anodes p) (owners-shown b rest o)) (rw (resized-anodes p)))
+        (leaves-done img (resizedImage img s e size t ys) (resized-disk p) b a (setAll b ys (cond (leb (blockCount s (e .anode)) (blocksFor size)) (e .anode) 1)) (anodeTable t ++ drop limit a)
+        (owners-shown b) refl)
 
 -- ---- the plan by its two ways
 
