@@ -24,7 +24,7 @@ use Rattle.laws.specs.Space.{Good}
 use Rattle.laws.specs.Passes.{passes-of}
 use Rattle.laws.specs.Whole.{Whole, head-counts, counts-head}
 use Rattle.laws.specs.Accepted.{Accepted, named-range, whole-of, accepted-of}
-use Rattle.laws.specs.Acceptance.{passed-of, passed-accepted, Tested, passes-tested}
+use Rattle.laws.specs.Acceptance.{Passed, passed-of, passed-accepted, Tested, passes-tested}
 use Rattle.laws.specs.ImageAnodes.{reading-of}
 use Rattle.laws.specs.Damage.{Faulted, walk-faulted}
 use Rattle.laws.specs.OneOwner.{naming-sum, passes, accepted-one-owner, good}
@@ -57,32 +57,43 @@ naming-is img s x = naming-sum (itemsBy (entriesIn img) (isBlockOf img) s) x (re
 
 -- ---- an accepted image
 
-module _ (img : List ℕ) (blocks anodes : ℕ) (e : checkAnswer img blocks anodes ≡ 0) where
+-- the check answers 0, lent tables of these lengths
+pub record AcceptedImage (img : List ℕ) : Type 0 where
+  pub blocks : ℕ
+  pub anodes : ℕ
+  pub accepted : checkAnswer img blocks anodes ≡ 0
+
+-- tables as long as 2 asks
+abbrev pub accepted-own : (img : List ℕ) → checkAnswer img (diskSize img) limit ≡ 0 → AcceptedImage img
+accepted-own img e = record { blocks = diskSize img; anodes = limit; accepted = e }
+
+module _ {img : List ℕ} (a : AcceptedImage img) where
+  pub image-passed : Passed img (a .blocks) (a .anodes)
+  image-passed = passed-of img (a .blocks) (a .anodes) (a .accepted)
+
   pub accepted-slots : wrongSlots img ≡ false
-  accepted-slots = passed-of img blocks anodes e .slots-right
+  accepted-slots = image-passed .slots-right
 
   pub accepted-walk : walkOf img (anodesOf img) ≡ done (reachedDirs img (anodesOf img))
   unfolding reachedDirs
-  accepted-walk = walk-done (walkOf img (anodesOf img)) (walk-faulted img (anodesOf img)) (passed-of img blocks anodes e .walked)
+  accepted-walk = walk-done (walkOf img (anodesOf img)) (walk-faulted img (anodesOf img)) (image-passed .walked)
 
-  accepted : Accepted (exists img) (diskSize img) (lastReserved img) (anodesOf img) (systemOwns img) (entriesIn img) (isBlockOf img) (reachedDirs img (anodesOf img))
+  accepted-state : Accepted (exists img) (diskSize img) (lastReserved img) (anodesOf img) (systemOwns img) (entriesIn img) (isBlockOf img) (reachedDirs img (anodesOf img))
   unfolding walkOf itemsOf
-  accepted =
-      let p = passed-of img blocks anodes e in
-      record {
-        reading = reading-of img (diskSize img) (lastReserved img);
-        passes = passes img blocks anodes p;
-        walked = accepted-walk;
-        all-named = λ x l d. omega (
-          arith,
-          naming-is img (anodesOf img) x,
-          accepted-one-owner img blocks anodes e .named-once x (head-counts (good img blocks anodes p) x d) l,
-        );
-      }
+  accepted-state = record {
+    reading = reading-of img (diskSize img) (lastReserved img);
+    passes = passes img (a .blocks) (a .anodes) image-passed;
+    walked = accepted-walk;
+    all-named = λ x l d. omega (
+      arith,
+      naming-is img (anodesOf img) x,
+      accepted-one-owner img (a .blocks) (a .anodes) (a .accepted) .named-once x (head-counts (good img (a .blocks) (a .anodes) image-passed) x d) l,
+    );
+  }
 
   -- an accepted image has the whole state
   pub accepted-whole : WholeImage img (anodesOf img) (headIn img) (sideIn img) (reachedDirs img (anodesOf img))
-  accepted-whole = whole-of accepted
+  accepted-whole = whole-of accepted-state
 
 -- ---- the same disk
 
@@ -105,13 +116,13 @@ pub disk-own : (img : List ℕ) → DiskWith img (anodesOf img) img
 disk-own img = record { same = record { kept = kept-all img; heads-kept = λ s u. refl }; anodes = refl }
 
 -- an accepted image in which other anodes are stored
-module _ (img : List ℕ) (blocks anodes : ℕ) (e : checkAnswer img blocks anodes ≡ 0) (t : Anodes) where
+module _ {img : List ℕ} (a : AcceptedImage img) (t : Anodes) where
   pub stored-kept : Kept (Unheld img) img (withAnodes img t)
-  stored-kept = withAnodes-stored img (accepted-slots img blocks anodes e) t .kept
+  stored-kept = withAnodes-stored img (accepted-slots a) t .kept
 
   pub disk-stored : {n last : ℕ} {system hd sd : ℕ → ℕ} → Good limit (exists img) n last t system hd sd → DiskWith img t (withAnodes img t)
   disk-stored g =
-      let right = accepted-slots img blocks anodes e in
+      let right = accepted-slots a in
       record { same = same-stored right (withAnodes-stored img right t); anodes = anodesOf-withAnodes img right t (passes-of g .0) }
 
 -- what is no data block is not one of some data blocks
@@ -140,7 +151,7 @@ module _ {img i j : List ℕ} {t : Anodes} {on : ℕ → Type 0} (d : DiskWith i
 
 -- ---- back to the check's answer
 
-module _ (img j : List ℕ) (blocks anodes : ℕ) (e : checkAnswer img blocks anodes ≡ 0) {t : Anodes} (d : DiskWith img t j) {hd sd : ℕ → ℕ} {dirs : List Dir}
+module _ {img j : List ℕ} (a : AcceptedImage img) {t : Anodes} (d : DiskWith img t j) {hd sd : ℕ → ℕ} {dirs : List Dir}
     (left : Whole (exists img) (diskSize img) (lastReserved img) t (systemOwns img) hd sd (entriesIn j) (isBlockOf j) dirs) where
   w : Whole (exists img) (diskSize img) (lastReserved img) (anodesOf j) (systemOwns img) hd sd (entriesIn j) (isBlockOf j) dirs
   w = rw (d .anodes) left
@@ -176,13 +187,13 @@ module _ (img j : List ℕ) (blocks anodes : ℕ) (e : checkAnswer img blocks an
   tested = passes-tested (anodesOf j) (diskSize img) (lastReserved img) (systemOwns img) (exists img) (found .1 .passes)
 
   -- an image of the same disk with a whole state is accepted
-  pub whole-accepted : checkAnswer j blocks anodes ≡ 0
+  pub whole-accepted : checkAnswer j (a .blocks) (a .anodes) ≡ 0
   whole-accepted =
-      let p = passed-of img blocks anodes e in
+      let p = image-passed a in
       let k = d .same .kept in
-      passed-accepted j blocks anodes (record {
+      passed-accepted j (a .blocks) (a .anodes) (record {
         size-right = wrongSize-kept k ∙ p .size-right;
-        tables-long = shortTables-kept k blocks anodes ∙ p .tables-long;
+        tables-long = shortTables-kept k (a .blocks) (a .anodes) ∙ p .tables-long;
         type-right = wrongType-kept k refl ∙ p .type-right;
         root-right = wrongRoot-kept k refl ∙ p .root-right;
         slots-right = wrongSlots-kept (d .same) refl ∙ p .slots-right;
@@ -225,5 +236,10 @@ pub headed-same : (img j : List ℕ) (s t : Anodes) (h : ℕ) → headed h (reac
 unfolding noDirectory
 headed-same img j s t h e = ap (λ (n : ℕ). eqb n 0) (headed-times j t h ∙ e ∙ sym (headed-times img s h))
 
-pub reached-headed : (img : List ℕ) (blocks anodes : ℕ) → checkAnswer img blocks anodes ≡ 0 → (h : ℕ) → noDirectory img (anodesOf img) h ≡ false → headed h (reachedDirs img (anodesOf img)) ≡ 1
-reached-headed img blocks anodes e h n = omega (arith, headed-once (accepted-whole img blocks anodes e) h, reached-some img (anodesOf img) h n)
+-- h heads a reached directory of an accepted image
+pub record ReachedDir (img : List ℕ) (h : ℕ) : Type 0 where
+  pub image : AcceptedImage img
+  pub reached : noDirectory img (anodesOf img) h ≡ false
+
+pub reached-headed : {img : List ℕ} {h : ℕ} → ReachedDir img h → headed h (reachedDirs img (anodesOf img)) ≡ 1
+reached-headed {img} {h} r = omega (arith, headed-once (accepted-whole (r .image)) h, reached-some img (anodesOf img) h (r .reached))

@@ -32,14 +32,14 @@ use Rattle.frames.specs.Kept.{Kept}
 use Rattle.frames.specs.StoredBlocks.{inBlock-kept, blockOf-inBlock, withBlocks-kept}
 use Rattle.frames.specs.StoredBytes.{blockOf-withBlocks}
 use Rattle.frames.specs.DisjointBlocks.{DataBlock}
-use Rattle.changes.specs.Image.{WholeImage, headIn, sideIn, accepted-whole, DiskWith, stored-kept, disk-stored, disk-then, not-one, not-among, reached-headed}
+use Rattle.changes.specs.Image.{WholeImage, headIn, sideIn, accepted-whole, DiskWith, stored-kept, disk-stored, disk-then, not-one, not-among, ReachedDir, reached-headed}
 use Rattle.changes.specs.FoundEntries.{enteredAt, end-bounds}
 use Rattle.changes.specs.Members.{Member, none-in, no-member, member-cons, member-gather, member-times, times-member}
-use Rattle.changes.specs.Reached.{DirBlock, reached-from-5, dir-block}
+use Rattle.changes.specs.Reached.{DirBlock, reached-not-1, dir-block}
 use Rattle.changes.specs.SingleBlocks.{single-apart, single-data}
 use Rattle.laws.specs.NewDirectory.{length-new, entries-new, head-new}
 use Rattle.changes.specs.NewEntry.{entries-put, head-put, end-new, room-found}
-use Rattle.changes.specs.MakePlan.{Fresh, fresh-free, MakeSteps, MadePlan, made-plan, made-good, made-orphan, parent-took}
+use Rattle.changes.specs.MakePlan.{Fresh, fresh-dir, fresh-free, MakeSteps, MadePlan, made-plan, made-good, made-orphan, parent-took}
 
 -- what stands among the numbers that g gives for a list
 times-map : (g : ℕ → ℕ) (l : List ℕ) (y : ℕ) → 0 < times y (map g l) → (a : ℕ) × (0 < times a l) × (y ≡ g a)
@@ -93,11 +93,15 @@ module _ {img : List ℕ} {blocks anodes h : ℕ} {new : NewEntry} {f : ℕ} {ro
   pub spare : (6 ≤ f) × (anodesOf img .block f ≡ 0) × T (exists img f)
   spare = fresh-free (m .fresh)
 
+  -- the directory that gets the entry
+  abbrev pub parent : ReachedDir img h
+  parent = fresh-dir (m .fresh)
+
   pub w : WholeImage img s (headIn img) (sideIn img) dirs
-  w = accepted-whole img blocks anodes (m .fresh .accepted)
+  w = accepted-whole (parent .image)
 
   pub once : headed h dirs ≡ 1
-  once = reached-headed img blocks anodes (m .fresh .accepted) h (m .fresh .reached)
+  once = reached-headed parent
 
   pub plan : MadePlan s (headIn img) f h (new .dir) ys zs t
   plan = made-plan img w f (spare .0) (spare .2) (m .fresh .below) (spare .1) h once (new .dir) (m .steps .between) ys (m .steps .own) (noRoom room) t zs (m .steps .parent)
@@ -166,14 +170,14 @@ module _ {img : List ℕ} {blocks anodes h : ℕ} {new : NewEntry} {f : ℕ} {ro
   parent-kept = withBlocks-kept headed-own zs (newDirectoryBlock h (parentOf dirs h)) (omega (arith, length-new h (parentOf dirs h)))
 
   own-disk : DiskWith img t headed-own
-  own-disk = disk-then (disk-stored img blocks anodes (m .fresh .accepted) t good) own-kept (not-among ys own-data)
+  own-disk = disk-then (disk-stored (parent .image) t good) own-kept (not-among ys own-data)
 
   before-disk : DiskWith img t before
   before-disk = disk-then own-disk parent-kept (not-among zs parent-data)
 
   -- a data block that is not new is the one that was
   pub kept-block : (y : ℕ) → DataBlock img y → times y ys ≡ 0 → times y zs ≡ 0 → blockOf before y ≡ blockOf img y
-  kept-block y d o p = parent-kept .block-kept y p ∙ own-kept .block-kept y o ∙ stored-kept img blocks anodes (m .fresh .accepted) t .block-kept y (d .unheld)
+  kept-block y d o p = parent-kept .block-kept y p ∙ own-kept .block-kept y o ∙ stored-kept (parent .image) t .block-kept y (d .unheld)
 
   pub old-block : (a : ℕ) → s .count a ≡ 1 → headIn img a ≢ 1 → blockOf before (s .block a) ≡ blockOf img (s .block a)
   old-block a one q = let o = old-apart a one q in kept-block (s .block a) (single-data img (w .good) a one) (o .0) (o .1)
@@ -183,7 +187,7 @@ module _ {img : List ℕ} {blocks anodes h : ℕ} {new : NewEntry} {f : ℕ} {ro
 
   pub own-new : (y : ℕ) → 0 < times y ys → blockOf before y ≡ newDirectoryBlock f h
   own-new y p = parent-kept .block-kept y (new-apart y p)
-      ∙ blockOf-withBlocks base ys (newDirectoryBlock f h) y (length-new f h) p (rw (stored-kept img blocks anodes (m .fresh .accepted) t .length-kept) (own-data y p .inside))
+      ∙ blockOf-withBlocks base ys (newDirectoryBlock f h) y (length-new f h) p (rw (stored-kept (parent .image) t .length-kept) (own-data y p .inside))
 
   pub parent-new : (y : ℕ) → 0 < times y zs → blockOf before y ≡ newDirectoryBlock h (parentOf dirs h)
   parent-new y p = blockOf-withBlocks headed-own zs (newDirectoryBlock h (parentOf dirs h)) y (length-new h (parentOf dirs h)) p
@@ -216,15 +220,12 @@ module _ {img : List ℕ} {blocks anodes h : ℕ} {new : NewEntry} {f : ℕ} {ro
     pub fits : entriesEnd (blockOf before (t .block anode)) + len ≤ 510
     pub unbroken : anyIn (λ e. e .broken) (entriesIn before (t .block anode)) ≡ false
 
-  not-1 : h ≢ 1
-  not-1 e = omega (arith, e, reached-from-5 img blocks anodes (m .fresh .accepted) h (m .fresh .reached))
-
   -- a block of the directory is that of one of its anodes
   block-anode : (y : ℕ) → 0 < times y (blocksOf s h) → (a : ℕ) × Member a (chainOf (s .next) limit h) × DirBlock img h a × (y ≡ s .block a)
   unfolding blocksOf run
   block-anode y p =
       let q = member-gather (λ a. run (s .block a) (s .count a)) (chainOf (s .next) limit h) y (times-member y (blocksOf s h) p) in
-      let b = dir-block img blocks anodes (m .fresh .accepted) h (m .fresh .reached) (q .0) (q .1) in
+      let b = dir-block parent (q .0) (q .1) in
       let only : Member y (s .block (q .0) ∷ []) = rw (b .one) at (q .2) in
       (q .0, q .1, b, elim (member-cons y (s .block (q .0)) [] only) [ inl e ↦ e | inr e ↦ absurd (no-member y e) ])
 
@@ -235,7 +236,7 @@ module _ {img : List ℕ} {blocks anodes h : ℕ} {new : NewEntry} {f : ℕ} {ro
       let b = block-anode (found .0) (found .1) in
       let a = b .0 in
       let one = b .2 .one in
-      let q : headIn img a ≢ 1 = λ i. not-1 (sym (b .2 .on-chain) ∙ i) in
+      let q : headIn img a ≢ 1 = λ i. reached-not-1 parent (sym (b .2 .on-chain) ∙ i) in
       let k = plan .kept a (b .2 .in-use) q in
       let same : blockOf before (t .block a) ≡ blockOf img (found .0) = ap (blockOf before) (k .1) ∙ old-block a one q ∙ ap (blockOf img) (sym (b .3)) in
       record {

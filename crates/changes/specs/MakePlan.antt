@@ -31,6 +31,7 @@ use Rattle.laws.specs.OwnBlock.{own-filled}
 use Rattle.laws.specs.Orphan.{Orphaned, not-dir, orphan-changed}
 use Rattle.laws.specs.DirectoryTakes.{find-headed, dir-head, dir-not-1, dir-taken, directory-takes}
 use Rattle.laws.specs.Make.{fresh-stays, fresh-chain, fresh-orphan}
+use Rattle.changes.specs.Image.{ReachedDir}
 
 -- h heads a reached directory of an accepted image, and f is the lowest free anode
 pub record Fresh (img : List ℕ) (blocks anodes h f : ℕ) : Type 0 where
@@ -38,6 +39,9 @@ pub record Fresh (img : List ℕ) (blocks anodes h f : ℕ) : Type 0 where
   pub reached : noDirectory img (anodesOf img) h ≡ false
   pub lowest : lowestFree limit (exists img) (lastReserved img) (anodesOf img) ≡ f
   pub below : f < limit
+
+abbrev pub fresh-dir : {img : List ℕ} {blocks anodes h f : ℕ} → Fresh img blocks anodes h f → ReachedDir img h
+fresh-dir {blocks = blocks} {anodes = anodes} x = record { image = record { blocks = blocks; anodes = anodes; accepted = x .accepted }; reached = x .reached }
 
 -- the lowest free anode is free
 pub fresh-free : {img : List ℕ} {blocks anodes h f : ℕ} → Fresh img blocks anodes h f → (6 ≤ f) × (anodesOf img .block f ≡ 0) × T (exists img f)

@@ -17,7 +17,7 @@ use Rattle.rules.specs.Counting.{times, gather}
 use Rattle.rules.specs.Anodes.{Anodes, anodesOf, withAnodes}
 use Rattle.rules.specs.Chains.{blocksOf, blockCount}
 use Rattle.rules.specs.Walk.{Entered, blocksFor}
-use Rattle.rules.specs.Lookup.{noDirectory, entriesOf, bytesOf, contents}
+use Rattle.rules.specs.Lookup.{bytesOf, contents}
 use Rattle.rules.specs.Format.{zeroBlock}
 use Rattle.rules.specs.Changes.{inBlock, zeroTail, zeroTaken, resizedImage}
 use Rattle.laws.specs.Chains.{Inside}
@@ -30,7 +30,7 @@ use Rattle.frames.specs.StoredBlocks.{inBlock-kept, blockOf-inBlock}
 use Rattle.frames.specs.StoredBytes.{length-gather, blockOf-withBlocks}
 use Rattle.frames.specs.DisjointBlocks.{chain-once, chain-block}
 use Rattle.changes.specs.Members.{Member, member-first, member-later, member-times, gather-congr}
-use Rattle.changes.specs.Reached.{entry-facts, not-file}
+use Rattle.changes.specs.Reached.{EntryIn, entry-not-1, entry-facts, not-file}
 use Rattle.changes.specs.KeptChains.{contents-same}
 use Rattle.changes.specs.Read.{bytes-long, file-long}
 use Rattle.changes.specs.NewSize.{sized}
@@ -72,12 +72,11 @@ module _ {img : List ℕ} {e : Entered} {new : ℕ} {t : Anodes} {ys : List ℕ}
   -- ---- other files
 
   -- every other file has the bytes that it had
-  pub contents-resized-other : (k : ℕ) → noDirectory img s k ≡ false → (f : Entered) → Member f (entriesOf img s k) → f .dir ≡ false → f .anode ≢ e .anode → contents j t f ≡ contents img s f
-  contents-resized-other k r f m file apart =
-      let g = entry-facts img (p .blocks) (p .anodes) (p .accepted) k r f m in
-      let not-1f : f .anode ≢ 1 = λ i. omega (arith, i, g .from-6) in
-      let not-home = not-file img (p .blocks) (p .anodes) (p .accepted) (p .home) (p .reached) k f g file in
-      contents-same img j f (others-same p (f .anode) (g .head) not-1f apart) (others-kept p (f .anode) (g .head) not-1f apart (λ i. not-home (sym i)))
+  pub contents-resized-other : {k : ℕ} {f : Entered} → EntryIn img k f → f .dir ≡ false → f .anode ≢ e .anode → contents j t f ≡ contents img s f
+  contents-resized-other {f = f} m file apart =
+      let g = entry-facts m in
+      let not-home : f .anode ≢ p .home = λ i. not-file (p .entry .directory) g file (sym i) in
+      contents-same img j f (others-same p (f .anode) (g .head) (entry-not-1 g) apart) (others-kept p (f .anode) (g .head) (entry-not-1 g) apart not-home)
 
   -- ---- the file
 
@@ -239,7 +238,7 @@ module _ {img : List ℕ} {e : Entered} {new : ℕ} {t : Anodes} {ys : List ℕ}
       | inr odd ↦ (let pad : 512 - e .size % 512 ≡ (e .size + 511) / 512 * 512 - e .size = omega arith in rw (← pad) (odd-bytes odd))
       | inl even ↦ (let none : (e .size + 511) / 512 * 512 - e .size ≡ 0 = omega arith in
           gather-congr (blockOf j) (blockOf img) chain (λ y m. even-left even y (member-times y chain m))
-          ∙ sym (take-all (e .size) (gather (blockOf img) chain) (omega (arith, bytes-long img (p .blocks) (p .anodes) (p .accepted) (p .home) (p .reached) e (p .member) (p .plan .file))))
+          ∙ sym (take-all (e .size) (gather (blockOf img) chain) (omega (arith, bytes-long (p .entry) (p .plan .file))))
           ∙ sym (append-nil (take (e .size) (gather (blockOf img) chain))) ∙ ap (λ (n : ℕ). take (e .size) (gather (blockOf img) chain) ++ replicate n 0) (sym none))
     ]
 
@@ -253,6 +252,6 @@ module _ {img : List ℕ} {e : Entered} {new : ℕ} {t : Anodes} {ys : List ℕ}
         let all : gather (blockOf j) (blocksOf t (e .anode)) ≡ c ++ replicate (a + b) 0 =
         ap (gather (blockOf j)) (longer .0) ∙ gather-append (blockOf j) chain ys ∙ ap₂ _++_ old-bytes zeros ∙ append-assoc c (replicate a 0) (replicate b 0)
         ∙ ap (λ (l : List ℕ). c ++ l) (replicate-append-replicate {A = ℕ} a b 0) in
-        let up-to : new ≡ length c + (new - e .size) = omega (arith, file-long img (p .blocks) (p .anodes) (p .accepted) (p .home) (p .reached) e (p .member) (p .plan .file)) in
+        let up-to : new ≡ length c + (new - e .size) = omega (arith, file-long (p .entry) (p .plan .file)) in
         ap (take new) all ∙ ap (λ (n : ℕ). take n (c ++ replicate (a + b) 0)) up-to ∙ take-append-add c (replicate (a + b) 0) (new - e .size)
         ∙ ap (λ (l : List ℕ). c ++ l) (take-zeros (new - e .size) (a + b) (omega (arith, longer .1, facts p .sized (p .plan .file))))

@@ -16,7 +16,6 @@ use Rattle.rules.specs.Counting.{sumList, times, gather}
 use Rattle.rules.specs.Anodes.{Anodes, limit, anodesOf, withAnodes}
 use Rattle.rules.specs.Chains.{chainOf, run, blocksOf, blockCount}
 use Rattle.rules.specs.Walk.{Entered, blocksFor}
-use Rattle.rules.specs.Lookup.{noDirectory}
 use Rattle.rules.specs.Space.{planned}
 use Rattle.rules.specs.Format.{zeroBlock}
 use Rattle.rules.specs.Changes.{inBlock, withBlocks, resizePlan, zeroTail, withSize, zeroTaken, resizedImage}
@@ -26,11 +25,11 @@ use Rattle.laws.specs.ChainBlocks.{shift-alike, shift-chain}
 use Rattle.frames.specs.Kept.{Unheld, Kept, kept-all, kept-both}
 use Rattle.frames.specs.StoredBlocks.{inBlock-kept, blockOf-inBlock, withBlocks-kept}
 use Rattle.frames.specs.DisjointBlocks.{DataBlock, chains-apart, chain-block}
-use Rattle.changes.specs.Image.{headIn, DiskWith, stored-kept, disk-stored, not-one, not-among, disk-then}
+use Rattle.changes.specs.Image.{headIn, DiskWith, stored-kept, disk-stored, not-one, not-among, disk-then, ReachedDir}
 use Rattle.changes.specs.Members.{Member, member-first, member-later, member-times}
 use Rattle.changes.specs.Reached.{DirBlock, block-on, reached-not-1, reached-head, dir-block, block-data, not-file}
 use Rattle.changes.specs.KeptChains.{SameChain, BlocksKept}
-use Rattle.changes.specs.PlannedChange.{PlannedChange, w, facts, not-1, off-chain, off-anode}
+use Rattle.changes.specs.PlannedChange.{PlannedChange, image, w, facts, not-1, off-chain, off-anode}
 use Rattle.changes.specs.ResizePlan.{Resizing, plan-runs, handed-data, handed-apart}
 
 -- a resize of a file of an accepted image, and the steps that were planned
@@ -87,7 +86,7 @@ module _ {img : List ℕ} {e : Entered} {new : ℕ} {t : Anodes} {ys : List ℕ}
   j = withSize tailed (e .place) new
 
   pub stored : Kept (Unheld img) img anodesIn
-  stored = stored-kept img (p .blocks) (p .anodes) (p .accepted) t
+  stored = stored-kept (image p) t
 
   pub taken-kept : Kept (λ y. times y ys ≡ 0) anodesIn zeroed
   unfolding zeroTaken
@@ -149,7 +148,7 @@ module _ {img : List ℕ} {e : Entered} {new : ℕ} {t : Anodes} {ys : List ℕ}
 
   pub resized-disk : DiskWith img t (resizedImage img s e new t ys)
   unfolding resizedImage
-  resized-disk = disk-then (disk-stored img (p .blocks) (p .anodes) (p .accepted) t (steps .ran .good)) stores-kept only-data
+  resized-disk = disk-then (disk-stored (image p) t (steps .ran .good)) stores-kept only-data
 
   -- ---- other chains
 
@@ -173,29 +172,23 @@ module _ {img : List ℕ} {e : Entered} {new : ℕ} {t : Anodes} {ys : List ℕ}
 
   -- ---- the blocks of the directories
 
-  module _ (k : ℕ) (reached : noDirectory img s k ≡ false) where
-    its-head : Head (s .next) (s .block) k
-    its-head = reached-head img (p .blocks) (p .anodes) (p .accepted) k reached
-
-    head-not-1 : k ≢ 1
-    head-not-1 = reached-not-1 img (p .blocks) (p .anodes) (p .accepted) k reached
-
+  module _ {k : ℕ} (r : ReachedDir img k) where
     head-not-file : k ≢ e .anode
-    head-not-file = not-file img (p .blocks) (p .anodes) (p .accepted) k reached (p .home) e (facts p) (p .plan .file)
+    head-not-file = not-file r (facts p) (p .plan .file)
 
     -- its chain stays
     pub dir-same : SameChain s t k
-    dir-same = others-same k its-head head-not-1 head-not-file
+    dir-same = others-same k (reached-head r) (reached-not-1 r) head-not-file
 
     pub dir-kept : k ≢ p .home → BlocksKept img (resizedImage img s e new t ys) s k
-    dir-kept = others-kept k its-head head-not-1 head-not-file
+    dir-kept = others-kept k (reached-head r) (reached-not-1 r) head-not-file
 
     module _ (a : ℕ) (on : Member a (chainOf (s .next) limit k)) where
       pub its-block : DirBlock img k a
-      its-block = dir-block img (p .blocks) (p .anodes) (p .accepted) k reached a on
+      its-block = dir-block r a on
 
       left-alone : Left-alone (s .block a)
-      left-alone = alone k its-head head-not-1 head-not-file (s .block a) (block-on s k a on (its-block .one))
+      left-alone = alone k (reached-head r) (reached-not-1 r) head-not-file (s .block a) (block-on s k a on (its-block .one))
 
       -- up to the entry's new size it has the bytes that it had
       before-size : blockOf tailed (s .block a) ≡ blockOf img (s .block a)
@@ -214,4 +207,4 @@ module _ {img : List ℕ} {e : Entered} {new : ℕ} {t : Anodes} {ys : List ℕ}
 
   -- the block that has the entry
   pub home-alone : Left-alone (e .place / 512)
-  home-alone = rw (facts p .in-block) (left-alone (p .home) (p .reached) (facts p .a₀) (facts p .member-chain))
+  home-alone = rw (facts p .in-block) (left-alone (p .entry .directory) (facts p .a₀) (facts p .member-chain))

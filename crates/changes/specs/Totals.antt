@@ -12,19 +12,19 @@ use Rattle.rules.specs.Counting.{oneAt, sumBelow, sumList}
 use Rattle.rules.specs.Anodes.{Anodes, limit, anodesOf}
 use Rattle.rules.specs.Chains.{holds, systemOwns, blockCount}
 use Rattle.rules.specs.Walk.{Dir, Item, entriesIn, isBlockOf, itemsBy, itemsOf, reached, reachedDirs}
-use Rattle.rules.specs.Accepted.{diskSize, wrongSlots, checkAnswer}
+use Rattle.rules.specs.Accepted.{diskSize, wrongSlots}
 use Rattle.rules.specs.Totals.{freeBlocks, fileBlocks, directoryBlocks, chainBlocks, anodeBlocks, totalIn, total}
 use Rattle.laws.specs.Tests.{same?, less?}
 use Rattle.laws.specs.Sums.{oneAt-same, oneAt-other, sum-congr, sum-zero, sum-add, sum-swap, sum-oneAt}
 use Rattle.laws.specs.Bags.{gather-sum}
-use Rattle.laws.specs.Acceptance.{passed-of, size-bounds}
+use Rattle.laws.specs.Acceptance.{size-bounds}
 use Rattle.laws.specs.Blocks.{blocks, blocks-none}
 use Rattle.laws.specs.Space.{head-1, head-5}
 use Rattle.laws.specs.Items.{giving, below, namedIn, names-sum, below-items}
 use Rattle.laws.specs.Totals.{file-size, filesOf, dirsOf}
 use Rattle.laws.specs.Whole.{blocks-count, named-heads, whole-total}
 use Rattle.laws.specs.TestsPassed.{right-slot}
-use Rattle.changes.specs.Image.{WholeImage, headIn, sideIn, accepted-slots, accepted-whole}
+use Rattle.changes.specs.Image.{WholeImage, headIn, sideIn, AcceptedImage, image-passed, accepted-slots, accepted-whole}
 use Rattle.changes.specs.Members.{Member, member-sum, member-congr}
 
 -- ---- the system's blocks
@@ -74,7 +74,7 @@ module _ (img : List ℕ) (right : wrongSlots img ≡ false) where
 
 -- ---- the chains
 
-module _ (img : List ℕ) (number anodes : ℕ) (accepted : checkAnswer img number anodes ≡ 0) where
+module _ {img : List ℕ} (image : AcceptedImage img) where
   abbrev s : Anodes
   s = anodesOf img
 
@@ -89,7 +89,7 @@ module _ (img : List ℕ) (number anodes : ℕ) (accepted : checkAnswer img numb
   has = blocks limit (headIn img) (s .count)
 
   w : WholeImage img s (headIn img) (sideIn img) dirs
-  w = accepted-whole img number anodes accepted
+  w = accepted-whole image
 
   -- what an item of a reached directory names is a head
   item-blocks : (d : Dir) → Member d dirs → (i : Item) → Member i (items d) → has (i .anode) ≡ blockCount s (i .anode)
@@ -134,7 +134,7 @@ module _ (img : List ℕ) (number anodes : ℕ) (accepted : checkAnswer img numb
   accepted-total = omega (
     arith,
     whole-total w,
-    system-blocks img (accepted-slots img number anodes accepted) (omega (arith, size-bounds img (passed-of img number anodes accepted .size-right) .0)),
+    system-blocks img (accepted-slots image) (omega (arith, size-bounds img (image-passed image .size-right) .0)),
     blocks-count (w .good) 1 (head-1 (w .good)),
     files,
     directories,

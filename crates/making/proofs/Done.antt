@@ -24,6 +24,7 @@ use Rattle.laws.specs.Links.{View, Linked}
 use Rattle.laws.specs.OwnerTable.{setAll, fresh-owner}
 use Rattle.anodes.specs.Loaded.{anodesFrom, Loaded}
 use Rattle.changes.specs.Members.{times-member}
+use Rattle.changes.specs.Image.{accepted-own}
 use Rattle.changes.specs.Reached.{dir-block}
 use Rattle.changes.specs.MakePlan.{Fresh, parent-took}
 use Rattle.changes.specs.MadeImage.{Making, first-in, good, made-disk}
@@ -51,7 +52,7 @@ module _ {img counts firsts nexts : List ℕ} (l : Loaded img counts firsts next
     ones a p =
         let next : (λ x. getD nexts x 0) ≡ anodesOf img .next = ap (λ (s : Anodes). s .next) (l .is-loaded) in
         ap (λ (s : Anodes). s .count a) (l .is-loaded)
-        ∙ dir-block img (diskSize img) limit (l .accepted) h reached a (times-member a (chainOf (anodesOf img .next) limit h) (rw next at p)) .one
+        ∙ dir-block (record { image = accepted-own img (l .accepted); reached = reached }) a (times-member a (chainOf (anodesOf img .next) limit h) (rw next at p)) .one
 
     pub room-is : (room : Option ℕ) (len : ℕ) →
         ((c : List ℕ) → ((a : ℕ) → 0 < times a (chainOf (λ x. getD nexts x 0) 3444 h) → getD c a 0 ≡ 1) → room ≡ firstRoom img len (blocksOf (anodesFrom c firsts nexts) h)) →
