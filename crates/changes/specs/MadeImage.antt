@@ -39,7 +39,7 @@ use Rattle.changes.specs.Reached.{DirBlock, reached-not-1, dir-block}
 use Rattle.changes.specs.SingleBlocks.{single-apart, single-data}
 use Rattle.laws.specs.NewDirectory.{length-new, entries-new, head-new}
 use Rattle.changes.specs.NewEntry.{entries-put, head-put, end-new, room-found}
-use Rattle.changes.specs.MakePlan.{Fresh, fresh-dir, fresh-free, MakeSteps, MadePlan, made-plan, made-good, made-orphan, parent-took}
+use Rattle.changes.specs.MakePlan.{Fresh, fresh-dir, fresh-free, MakeSteps, ParentGrown, MadePlan, made-plan, made-orphan}
 
 -- what stands among the numbers that g gives for a list
 times-map : (g : ℕ → ℕ) (l : List ℕ) (y : ℕ) → 0 < times y (map g l) → (a : ℕ) × (0 < times a l) × (y ≡ g a)
@@ -103,14 +103,14 @@ module _ {img : List ℕ} {blocks anodes h : ℕ} {new : NewEntry} {f : ℕ} {ro
   pub once : headed h dirs ≡ 1
   once = reached-headed parent
 
-  pub plan : MadePlan s (headIn img) f h (new .dir) ys zs t
+  pub plan : MadePlan img s (headIn img) f h (new .dir) (noRoom room) ys zs t
   plan = made-plan img w f (spare .0) (spare .2) (m .fresh .below) (spare .1) h once (new .dir) (m .steps .between) ys (m .steps .own) (noRoom room) t zs (m .steps .parent)
 
-  pub state : (hd′ : ℕ → ℕ) × (sd′ : ℕ → ℕ) × Good limit (exists img) (diskSize img) (lastReserved img) t (systemOwns img) hd′ sd′
-  state = made-good img w f (spare .0) (spare .2) (m .fresh .below) (spare .1) h once (new .dir) (m .steps .between) ys (m .steps .own) (noRoom room) t zs (m .steps .parent)
+  abbrev pub grown : ParentGrown s (headIn img) h (noRoom room) zs t
+  grown = plan .grown
 
-  pub good : Good limit (exists img) (diskSize img) (lastReserved img) t (systemOwns img) (state .0) (state .1)
-  good = state .2
+  pub good : Good limit (exists img) (diskSize img) (lastReserved img) t (systemOwns img) (plan .hd′) (plan .sd′)
+  good = plan .good
 
   -- ---- the new blocks
 
@@ -124,32 +124,32 @@ module _ {img : List ℕ} {blocks anodes h : ℕ} {new : NewEntry} {f : ℕ} {ro
       ]
       go false c b = absurd (omega (arith, p, ap (times y) b, times-nil y))
 
-  pub parent-block : (y : ℕ) → 0 < times y zs → (a : ℕ) × (0 < times a (plan .new)) × (y ≡ t .block a)
-  parent-block y p = times-map (t .block) (plan .new) y (omega (arith, p, ap (times y) (plan .blocks)))
+  pub parent-block : (y : ℕ) → 0 < times y zs → (a : ℕ) × (0 < times a (grown .new)) × (y ≡ t .block a)
+  parent-block y p = times-map (t .block) (grown .new) y (omega (arith, p, ap (times y) (grown .blocks)))
 
   own-data : (y : ℕ) → 0 < times y ys → DataBlock img y
   own-data y p = let q = own-block y p in rw (q .1) (single-data img good f (q .0))
 
   parent-data : (y : ℕ) → 0 < times y zs → DataBlock img y
-  parent-data y p = let q = parent-block y p in rw (q .2) (single-data img good (q .0) (plan .ones (q .0) (q .1)))
+  parent-data y p = let q = parent-block y p in rw (q .2) (single-data img good (q .0) (grown .ones (q .0) (q .1)))
 
   -- they are no block of a directory that was there, and not each other's
   old-apart : (a : ℕ) → s .count a ≡ 1 → headIn img a ≢ 1 → (times (s .block a) ys ≡ 0) × (times (s .block a) zs ≡ 0)
   old-apart a one q =
       let u : s .block a ≢ 0 = λ z. omega (arith, one, w .good .free-none a z) in
-      let k = plan .kept a u q in
+      let k = grown .kept a u q in
       let now : t .count a ≡ 1 = k .0 ∙ one in (
         none-in (s .block a) ys (λ p. let o = own-block (s .block a) p in
             single-apart good a now f (o .0) (λ i. u (ap (s .block) i ∙ spare .1)) (k .1 ∙ o .1)),
         none-in (s .block a) zs (λ p. let o = parent-block (s .block a) p in
-            single-apart good a now (o .0) (plan .ones (o .0) (o .1)) (λ i. plan .apart (o .0) (o .1) .1 (rw (← i) u) (rw (← i) q)) (k .1 ∙ o .2)),
+            single-apart good a now (o .0) (grown .ones (o .0) (o .1)) (λ i. grown .apart (o .0) (o .1) (rw (← i) u) (rw (← i) q)) (k .1 ∙ o .2)),
       )
 
   new-apart : (y : ℕ) → 0 < times y ys → times y zs ≡ 0
   new-apart y p =
       let o = own-block y p in
       none-in y zs (λ q. let b = parent-block y q in
-      single-apart good f (o .0) (b .0) (plan .ones (b .0) (b .1)) (λ i. plan .apart (b .0) (b .1) .0 (sym i)) (sym (o .1) ∙ b .2))
+      single-apart good f (o .0) (b .0) (grown .ones (b .0) (b .1)) (λ i. plan .not-own (b .0) (b .1) (sym i)) (sym (o .1) ∙ b .2))
 
   -- ---- the image before the entry
 
@@ -237,12 +237,12 @@ module _ {img : List ℕ} {blocks anodes h : ℕ} {new : NewEntry} {f : ℕ} {ro
       let a = b .0 in
       let one = b .2 .one in
       let q : headIn img a ≢ 1 = λ i. reached-not-1 parent (sym (b .2 .on-chain) ∙ i) in
-      let k = plan .kept a (b .2 .in-use) q in
+      let k = grown .kept a (b .2 .in-use) q in
       let same : blockOf before (t .block a) ≡ blockOf img (found .0) = ap (blockOf before) (k .1) ∙ old-block a one q ∙ ap (blockOf img) (sym (b .3)) in
       record {
         anode = a;
         one = k .0 ∙ one;
-        on = omega (arith, ap (times a) (plan .chain), times-append a (chainOf (s .next) limit h) (plan .new), member-times a (chainOf (s .next) limit h) (b .1));
+        on = omega (arith, ap (times a) (grown .chain), times-append a (chainOf (s .next) limit h) (grown .new), member-times a (chainOf (s .next) limit h) (b .1));
         at = omega (arith, ap (λ (o : Option ℕ). entryPlace o zs) e, found .2, ap entriesEnd same, k .1, b .3);
         fits = rw same (found .3);
         unbroken = rw (k .1, cont a one q .0) (b .2 .unbroken);
@@ -251,15 +251,15 @@ module _ {img : List ℕ} {blocks anodes h : ℕ} {new : NewEntry} {f : ℕ} {ro
   in-new : room ≡ none → Spot
   unfolding entriesIn entryLength anyIn goodComment
   in-new e =
-      let took = parent-took img w f (spare .0) (spare .2) (m .fresh .below) (spare .1) h once (new .dir) (m .steps .between) ys (m .steps .own) t zs (rw e at (m .steps .parent)) in
+      let took = grown .took (ap noRoom e) in
       let p = first-in (took .0) zs (took .1) in
       let b = parent-block (took .0) p in
       let block : blockOf before (t .block (b .0)) ≡ newDirectoryBlock h (parentOf dirs h) = ap (blockOf before) (sym (b .2)) ∙ parent-new (took .0) p in
       let end = ap entriesEnd block ∙ end-new h (parentOf dirs h) in
       record {
         anode = b .0;
-        one = plan .ones (b .0) (b .1);
-        on = omega (arith, ap (times (b .0)) (plan .chain), times-append (b .0) (chainOf (s .next) limit h) (plan .new), b .1);
+        one = grown .ones (b .0) (b .1);
+        on = omega (arith, ap (times (b .0)) (grown .chain), times-append (b .0) (chainOf (s .next) limit h) (grown .new), b .1);
         at = omega (arith, ap (λ (o : Option ℕ). entryPlace o zs) e, ap (entryPlace none) (took .1), end, b .2);
         fits = omega (arith, end, goodName-length (new .name) (m .named), leb-true (length (new .comment)) 79 (m .commented));
         unbroken = rw (block, entries-new h (parentOf dirs h) (t .block (b .0)));

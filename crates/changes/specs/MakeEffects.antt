@@ -39,7 +39,7 @@ use Rattle.changes.specs.KeptChains.{SameChain, same-blocks, BlocksKept,
 use Rattle.changes.specs.EntryBytes.{entryBytes, bytes-at, with-length}
 use Rattle.laws.specs.NewDirectory.{entries-new}
 use Rattle.changes.specs.NewEntry.{comment-put}
-use Rattle.changes.specs.MadeImage.{Making, spare, parent, w, once, plan, own-block, parent-block, before, kept-block, parent-new, cont, old-block, orphan, spot, inside-before, spot-data, in-block, at-end, entry-kept, entry-block, entry-other, made-disk, entries-made, other-entries}
+use Rattle.changes.specs.MadeImage.{Making, spare, parent, w, once, plan, grown, own-block, parent-block, before, kept-block, parent-new, cont, old-block, orphan, spot, inside-before, spot-data, in-block, at-end, entry-kept, entry-block, entry-other, made-disk, entries-made, other-entries}
 use Rattle.changes.specs.Make.{made-dirs}
 
 times-mapped : (g : ℕ → ℕ) (l : List ℕ) (a : ℕ) → 0 < times a l → 0 < times (g a) (map g l)
@@ -89,7 +89,7 @@ module _ {img : List ℕ} {blocks anodes h : ℕ} {new : NewEntry} {f : ℕ} {ro
     head-not-1 q = reached-not-1 r (sym (dir-block r a on .on-chain) ∙ q)
 
     same-place : (t .count a ≡ s .count a) × (t .block a ≡ s .block a)
-    same-place = plan m .kept a (dir-block r a on .in-use) head-not-1
+    same-place = grown m .kept a (dir-block r a on .in-use) head-not-1
 
     before-same : entriesIn (before m) (t .block a) ≡ entriesIn img (s .block a)
     before-same = ap (entriesIn (before m)) (same-place .1) ∙ cont m a one head-not-1 .0
@@ -109,23 +109,23 @@ module _ {img : List ℕ} {blocks anodes h : ℕ} {new : NewEntry} {f : ℕ} {ro
   ones : (a : ℕ) → 0 < times a (chainOf (t .next) limit h) → t .count a ≡ 1
   ones a p = elim (less? 0 (times a (chainOf (s .next) limit h))) [
     | inl q ↦ (let on = times-member a (chainOf (s .next) limit h) q in same-place (parent m) a on .0 ∙ one (parent m) a on)
-    | inr q ↦ plan m .ones a (omega (arith, p, q, ap (times a) (plan m .chain), times-append a (chainOf (s .next) limit h) (plan m .new)))
+    | inr q ↦ grown m .ones a (omega (arith, p, q, ap (times a) (grown m .chain), times-append a (chainOf (s .next) limit h) (grown m .new)))
   ]
 
   -- a new block of it has no entry
-  new-none : (a : ℕ) → 0 < times a (plan m .new) → was a ≡ []
+  new-none : (a : ℕ) → 0 < times a (grown m .new) → was a ≡ []
   unfolding entriesIn
   new-none a p =
-      let on : 0 < times (t .block a) zs = rw (plan m .blocks) (times-mapped (t .block) (plan m .new) a p) in
+      let on : 0 < times (t .block a) zs = rw (grown m .blocks) (times-mapped (t .block) (grown m .new) a p) in
       rw (parent-new m (t .block a) on) (entries-new h (parentOf (reachedDirs img s) h) (t .block a))
 
   before-all : gather was (chainOf (t .next) limit h) ≡ entriesOf img s h
   unfolding entriesOf
   before-all =
-      ap (gather was) (plan m .chain) ∙ gather-append was (chainOf (s .next) limit h) (plan m .new)
+      ap (gather was) (grown m .chain) ∙ gather-append was (chainOf (s .next) limit h) (grown m .new)
       ∙ ap₂ (λ (k l : List Entered). k ++ l)
       (gather-congr was (λ a. entriesIn img (s .block a)) (chainOf (s .next) limit h) (before-same (parent m)))
-      (gather-none was (plan m .new) new-none)
+      (gather-none was (grown m .new) new-none)
       ∙ append-nil (gather (λ a. entriesIn img (s .block a)) (chainOf (s .next) limit h))
 
   now-all : entriesOf j (anodesOf j) h ≡ gather now (chainOf (t .next) limit h)
@@ -181,12 +181,12 @@ module _ {img : List ℕ} {blocks anodes h : ℕ} {new : NewEntry} {f : ℕ} {ro
   module _ (k : ℕ) (d : Head (s .next) (s .block) k) (k1 : k ≢ 1) (kh : k ≢ h) where
     same-chain : SameChain s t k
     same-chain = record {
-      same-anodes = plan m .others k d k1 kh;
-      same-extents = λ a p. let c = on-chain (w m .good) k d a p in plan m .kept a (c .1) (λ q. k1 (sym (c .0) ∙ q));
+      same-anodes = grown m .others k d k1 kh;
+      same-extents = λ a p. let c = on-chain (w m .good) k d a p in grown m .kept a (c .1) (λ q. k1 (sym (c .0) ∙ q));
     }
 
     now-head : Head (t .next) (t .block) k
-    now-head = plan m .stays k d
+    now-head = grown m .stays k d
 
     not-f : k ≢ f
     not-f e = d .in-use (ap (s .block) e ∙ spare m .1)
@@ -213,7 +213,7 @@ module _ {img : List ℕ} {blocks anodes h : ℕ} {new : NewEntry} {f : ℕ} {ro
         entry-kept m .block-kept y (λ e. apart-h (spot m .anode) (spot m .on) (rw (← e) p))
         ∙ kept-block m y (chain-block img (orphan m .2 .good) k now-head y p) (none-in y ys (apart-f y p))
         (none-in y zs (λ q. let b = parent-block m y q in
-        apart-h (b .0) (omega (arith, b .1, ap (times (b .0)) (plan m .chain), times-append (b .0) (chainOf (s .next) limit h) (plan m .new))) (rw (← (b .2)) p)))
+        apart-h (b .0) (omega (arith, b .1, ap (times (b .0)) (grown m .chain), times-append (b .0) (chainOf (s .next) limit h) (grown m .new))) (rw (← (b .2)) p)))
 
     blocks-kept : BlocksKept img j s k
     blocks-kept y p = block-same y (rw (same-blocks same-chain) p)

@@ -18,7 +18,7 @@ use Rattle.rules.specs.Accepted.{diskSize, lastReserved}
 use Rattle.rules.specs.Lookup.{noDirectory}
 use Rattle.rules.specs.Space.{rewritten, lowestFree}
 use Rattle.rules.specs.Tables.{anodeTable}
-use Rattle.rules.specs.Changes.{firstRoom, noRoom, neededBlock, entryPlace, NewEntry, madeImage, madeWith, made}
+use Rattle.rules.specs.Changes.{firstRoom, noRoom, entryPlace, NewEntry, madeImage, madeWith, made}
 use Rattle.laws.specs.Bags.{times-nil}
 use Rattle.laws.specs.Links.{View, Linked}
 use Rattle.laws.specs.OwnerTable.{setAll, fresh-owner}
@@ -26,14 +26,14 @@ use Rattle.anodes.specs.Loaded.{anodesFrom, Loaded}
 use Rattle.changes.specs.Members.{times-member}
 use Rattle.changes.specs.Image.{accepted-own}
 use Rattle.changes.specs.Reached.{dir-block}
-use Rattle.changes.specs.MakePlan.{Fresh, parent-took}
-use Rattle.changes.specs.MadeImage.{Making, first-in, good, made-disk}
+use Rattle.changes.specs.MakePlan.{Fresh}
+use Rattle.changes.specs.MadeImage.{Making, first-in, grown, good, made-disk}
 use Rattle.changed.specs.Leaves.{Leaves}
 use Rattle.changed.specs.Laws.{Shows, shows-kept, leaves-refused, leaves-done}
 use Rattle.making.specs.declared.MakePlan.{MakePlan}
 use Rattle.making.specs.declared.Planned.the-variants.{Stopped}
 use Rattle.making.specs.Steps.{someBlock, Plans, PlanOf}
-use Rattle.making.proofs.Steps.{no-block, one-block, step-shows, free-f, whole, once, first-ready, next-ready}
+use Rattle.making.proofs.Steps.{no-block, one-block, step-shows, free-f, whole, first-ready, next-ready}
 
 module _ {img counts firsts nexts : List ℕ} (l : Loaded img counts firsts nexts) where
   pub lowest-is : (f : ℕ) → ((c n : List ℕ) (last : ℕ) → f ≡ lowestFree 3444 (exists img) last (anodesFrom c firsts n)) → lowestFree limit (exists img) (lastReserved img) (anodesOf img) ≡ f
@@ -111,7 +111,7 @@ module _ (img : List ℕ) (h : ℕ) (new : NewEntry) (m : MakePlan) (t : Anodes)
       go : (o : Option ℕ) → p .room ≡ o → entryPlace o (m .parents .0 ∷ []) ≡ entryPlace o zs
       go (some place) e = refl
       go none e =
-          let q = parent-took img (whole x) f (free-f x .0) (free-f x .2) (x .below) (free-f x .1) h (once x) (new .dir) (p .steps .between) ys (p .steps .own) t zs (ap (λ (o : Option ℕ). neededBlock img (noRoom o) (p .steps .between) h) (sym e) ∙ p .steps .parent) in
+          let q = grown making .took (ap noRoom e) in
           ap (entryPlace none) (sym (one-block (m .parents .0) (λ z. omega (arith, first-in (q .0) [] (sym (no-block (m .parents .0) z) ∙ q .1), times-nil (q .0)))))
 
   -- what it leaves of the image and the tables
