@@ -56,11 +56,11 @@ module _ (b : List ℕ) (y end : ℕ) (e : Entry) (name comment : List ℕ) (who
           entriesFrom k b′ y at ≡ entriesFrom k b y at ++ (enteredAt e (y * 512 + end) ∷ [])) →
           entriesFrom (suc k) b′ y at ≡ entriesFrom (suc k) b y at ++ (enteredAt e (y * 512 + end) ∷ [])
       go (inl z) rec =
-          let here : at ≡ end = sym (end-here b y k at z) ∙ q in
+          let here : at ≡ end = sym (end-here b k at z) ∙ q in
           rw (entries-end b y (suc k) at z, here) (put-here k)
       go (inr (x, w, r)) rec =
           let f = found-at b at x w in
-          let further : endFrom k b (at + getD b at 0) ≡ end = sym (end-more b y k at x w) ∙ q in
+          let further : endFrom k b (at + getD b at 0) ≡ end = sym (end-more b k at x w) ∙ q in
           let fuel : 520 ≤ at + getD b at 0 + 18 * k = omega (arith, m, f .long) in
           let below : at + getD b at 0 ≤ end = omega (arith, end-bounds b y k (at + getD b at 0) r (f .room) fuel .0, further) in
           let same : (i : ℕ) → i < getD b at 0 → getD b′ (at + i) 0 ≡ getD b (at + i) 0 = λ i h. getD-putEntry-before b end e name comment (at + i) (omega arith) in
@@ -106,7 +106,7 @@ comment-put b at e name comment commented whole room =
 
 pub end-new : (owner parent : ℕ) → entriesEnd (newDirectoryBlock owner parent) ≡ 16
 unfolding entriesEnd
-end-new owner parent = end-here (newDirectoryBlock owner parent) 0 27 16 (mark-new owner parent)
+end-new owner parent = end-here (newDirectoryBlock owner parent) 27 16 (mark-new owner parent)
 
 -- ---- the first block with room
 

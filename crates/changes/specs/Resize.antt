@@ -101,7 +101,7 @@ module _ {img : List ℕ} {e : Entered} {new : ℕ} {t : Anodes} {ys : List ℕ}
     unfolding isBlockOf
     marks-left = elim (same? a (facts p .a₀)) [
       | inr n ↦ rw (other-block p r a on n)
-      | inl i ↦ rw (this-block p r a on i, head-sized (blockOf img (s .block a)) (e .place % 512) new (its-block p r a on .whole) (facts p .from-16))
+      | inl i ↦ rw (this-block p r a on i, head-sized (blockOf img (s .block a)) (e .place % 512) new (facts p .from-16))
     ]
 
     items-left : itemsAt (entriesIn j) (isBlockOf j) t d a ≡ itemsAt (λ y. map (resizedEntry (e .anode) new) (entriesIn img y)) (isBlockOf img) t d a
