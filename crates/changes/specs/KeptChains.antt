@@ -9,9 +9,11 @@ use Rattle.rules.specs.Anodes.{Anodes, limit, anodesOf}
 use Rattle.rules.specs.Chains.{chainOf, blocksOf}
 use Rattle.rules.specs.Walk.{Entered, entriesIn}
 use Rattle.rules.specs.Lookup.{entriesOf, bytesOf, contents}
+use Rattle.laws.specs.Bags.{gather-kept}
 use Rattle.laws.specs.ChainBlocks.{extent, kept-blocks}
+use Rattle.frames.specs.StoredBytes.{BlocksKept, bytesOf-kept}
 use Rattle.changes.specs.Image.{ReachedDir}
-use Rattle.changes.specs.Members.{Member, member-times, gather-congr}
+use Rattle.changes.specs.Members.{Member, gather-congr}
 use Rattle.changes.specs.Reached.{EntryIn, block-on, dir-block, entry-facts}
 use Rattle.changes.specs.EntryBytes.{entryBytes}
 
@@ -33,16 +35,12 @@ module _ {s t : Anodes} {h : ℕ} (c : SameChain s t h) where
   unfolding entriesOf
   entries-along j =
       ap (gather (λ a. entriesIn j (t .block a))) (c .same-anodes)
-      ∙ gather-congr (λ a. entriesIn j (t .block a)) (λ a. entriesIn j (s .block a)) (chainOf (s .next) limit h) (λ a on. ap (entriesIn j) (c .same-extents a (member-times a (chainOf (s .next) limit h) on) .1))
-
--- the blocks of the chain of h in s have the same bytes in both images
-abbrev pub BlocksKept : List ℕ → List ℕ → Anodes → ℕ → Type 0
-BlocksKept img j s h = (y : ℕ) → 0 < times y (blocksOf s h) → blockOf j y ≡ blockOf img y
+      ∙ gather-kept (λ a. entriesIn j (s .block a)) (λ a. entriesIn j (t .block a)) (chainOf (s .next) limit h) (λ a on. ap (entriesIn j) (c .same-extents a on .1))
 
 -- a file
 pub contents-same : (img j : List ℕ) {s t : Anodes} (e : Entered) → SameChain s t (e .anode) → BlocksKept img j s (e .anode) → contents j t e ≡ contents img s e
 unfolding contents bytesOf
-contents-same img j {s} e c kept = rw (same-blocks c) (ap (take (e .size)) (gather-congr (blockOf j) (blockOf img) (blocksOf s (e .anode)) (λ y on. kept y (member-times y (blocksOf s (e .anode)) on))))
+contents-same img j {s} e c kept = rw (same-blocks c) (ap (take (e .size)) (bytesOf-kept img j s (e .anode) kept))
 
 -- a reached directory
 module _ {img : List ℕ} {h : ℕ} (r : ReachedDir img h) (j : List ℕ) (kept : BlocksKept img j (anodesOf img) h) where

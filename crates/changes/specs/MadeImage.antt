@@ -21,8 +21,8 @@ use Rattle.rules.specs.Accepted.{diskSize, lastReserved}
 use Rattle.rules.specs.Format.{newDirectoryBlock}
 use Rattle.rules.specs.Changes.{withBlocks, entriesEnd, noRoom, parentOf, entryPlace, NewEntry, entryOf, madeImage}
 use Rattle.laws.specs.Tests.{eq→eqb, and, or-right}
-use Rattle.laws.specs.Sums.{oneAt-cases, oneAt-same}
-use Rattle.laws.specs.Bags.{list-cons, times-nil, times-cons, times-append, times-here}
+use Rattle.laws.specs.Sums.{oneAt-cases, oneAt-some}
+use Rattle.laws.specs.Bags.{list-cons, list-some, map-sum, times-nil, times-cons, times-append, times-here}
 use Rattle.laws.specs.Space.{Good, on-chain}
 use Rattle.laws.specs.Each.{Each, each-map}
 use Rattle.laws.specs.TreeChanges.{headed, none-headed}
@@ -36,21 +36,20 @@ use Rattle.changes.specs.Image.{WholeImage, headIn, sideIn, accepted-who
 use Rattle.changes.specs.FoundEntries.{enteredAt, end-bounds}
 use Rattle.changes.specs.Members.{Member, none-in, no-member, member-cons, member-gather, member-times, times-member}
 use Rattle.changes.specs.Reached.{DirBlock, reached-not-1, dir-block}
-use Rattle.changes.specs.SingleBlocks.{single-apart, single-data}
+use Rattle.changes.specs.SingleBlocks.{single-used, single-apart, single-data}
 use Rattle.laws.specs.NewDirectory.{length-new, entries-new, head-new}
 use Rattle.changes.specs.NewEntry.{entries-put, head-put, end-new, room-found}
 use Rattle.changes.specs.MakePlan.{Fresh, fresh-dir, fresh-free, MakeSteps, ParentGrown, MadePlan, made-plan, made-orphan}
 
 -- what stands among the numbers that g gives for a list
 times-map : (g : ℕ → ℕ) (l : List ℕ) (y : ℕ) → 0 < times y (map g l) → (a : ℕ) × (0 < times a l) × (y ≡ g a)
-times-map g [] y p = absurd (omega (arith, p, times-nil y))
-times-map g (x ∷ l) y p = elim (oneAt-cases (g x) y) [
-  | inl c ↦ (x, times-here x l, sym (c .0))
-  | inr c ↦ (let r = times-map g l y (omega (arith, p, times-cons y (g x) (map g l), c .1)) in (r .0, omega (arith, r .1, times-cons (r .0) x l), r .2))
-]
+unfolding times
+times-map g l y p =
+    let (a, before, after, parted, q) = list-some (λ x. oneAt (g x) y) l (omega (arith, p, map-sum g (λ z. oneAt z y) l)) in
+    (a, member-times a l (before, after, parted), sym (oneAt-some (g a) y q))
 
 pub first-in : (y : ℕ) (l : List ℕ) → l ≡ y ∷ [] → 0 < times y l
-first-in y l e = omega (arith, ap (times y) e, times-cons y y [], oneAt-same y y refl)
+first-in y l e = rw e (times-here y [])
 
 -- a new directory block is marked as its directory's
 pub new-marked : (i : List ℕ) (y owner parent : ℕ) → blockOf i y ≡ newDirectoryBlock owner parent → (d : Dir) → d .head ≡ owner → d .parent ≡ parent → T (isBlockOf i d y)
@@ -136,7 +135,7 @@ module _ {img : List ℕ} {blocks anodes h : ℕ} {new : NewEntry} {f : ℕ} {ro
   -- they are no block of a directory that was there, and not each other's
   old-apart : (a : ℕ) → s .count a ≡ 1 → headIn img a ≢ 1 → (times (s .block a) ys ≡ 0) × (times (s .block a) zs ≡ 0)
   old-apart a one q =
-      let u : s .block a ≢ 0 = λ z. omega (arith, one, w .good .free-none a z) in
+      let u = single-used (w .good) a one in
       let k = grown .kept a u q in
       let now : t .count a ≡ 1 = k .0 ∙ one in (
         none-in (s .block a) ys (λ p. let o = own-block (s .block a) p in

@@ -3,7 +3,7 @@ use Prim.Native.Nat.{ℕ, _+_, _*_, _/_, _%_, _≤_, _<_}
 use mathlib.Core.Path.{_≡_, refl, sym, ap, ap₂, _∙_}
 use mathlib.Core.Logic.{_≢_, inl, inr}
 use mathlib.Core.Bool.{Bool, true, false, cond}
-use mathlib.Core.List.{List, [], _∷_, _++_, map, append-assoc, append-nil}
+use mathlib.Core.List.{List, [], _∷_, _++_, map, map-append, append-assoc, append-nil}
 use mathlib.Core.Option.{Option}
 use native.Mathlib.Omega.{arith}
 use lib.ListN.{length, getD, take, drop}
@@ -22,8 +22,8 @@ use Rattle.rules.specs.Walk.{Entered, entriesIn, reachedDirs}
 use Rattle.rules.specs.Lookup.{noDirectory, entriesOf, nameAt, contents}
 use Rattle.rules.specs.Changes.{entriesEnd, parentOf, entryPlace, NewEntry, entryOf, madeImage}
 use Rattle.laws.specs.Tests.{same?, less?}
-use Rattle.laws.specs.Sums.{oneAt-cases, oneAt-same, oneAt-other}
-use Rattle.laws.specs.Bags.{times-nil, times-cons, times-append, gather-none}
+use Rattle.laws.specs.Sums.{oneAt-same, oneAt-other}
+use Rattle.laws.specs.Bags.{times-cons, times-append, gather-kept, gather-none}
 use Rattle.laws.specs.Heads.{Head}
 use Rattle.laws.specs.Space.{on-chain}
 use Rattle.laws.specs.TreeChanges.{headed}
@@ -31,11 +31,12 @@ use Rattle.laws.specs.ChainBlocks.{gather-append, stands-once}
 use Rattle.laws.specs.Each.{OneMore}
 use Rattle.laws.specs.DirectoryTakes.{dir-head}
 use Rattle.frames.specs.DisjointBlocks.{chains-apart, chain-block}
+use Rattle.frames.specs.StoredBytes.{BlocksKept}
 use Rattle.changes.specs.Image.{headIn, headed-reached, headed-same, ReachedDir}
 use Rattle.changes.specs.FoundEntries.{part-same, enteredAt, BlockEntry, block-standing}
 use Rattle.changes.specs.Members.{Member, none-in, member-first, member-times, times-member, gather-congr}
 use Rattle.changes.specs.Reached.{EntryIn, entry-not-1, block-on, reached-not-1, reached-head, dir-block, entry-facts, not-file}
-use Rattle.changes.specs.KeptChains.{SameChain, same-blocks, BlocksKept, contents-same, entries-same}
+use Rattle.changes.specs.KeptChains.{SameChain, same-blocks, contents-same, entries-same}
 use Rattle.changes.specs.EntryBytes.{entryBytes, bytes-at, with-length}
 use Rattle.laws.specs.NewDirectory.{entries-new}
 use Rattle.changes.specs.NewEntry.{comment-put}
@@ -43,11 +44,9 @@ use Rattle.changes.specs.MadeImage.{Making, spare, parent, w, once, plan
 use Rattle.changes.specs.Make.{made-dirs}
 
 times-mapped : (g : ℕ → ℕ) (l : List ℕ) (a : ℕ) → 0 < times a l → 0 < times (g a) (map g l)
-times-mapped g [] a p = absurd (omega (arith, p, times-nil a))
-times-mapped g (x ∷ l) a p = elim (oneAt-cases x a) [
-  | inl c ↦ omega (arith, times-cons (g a) (g x) (map g l), oneAt-same (g x) (g a) (ap g (c .0)))
-  | inr c ↦ omega (arith, times-cons (g a) (g x) (map g l), times-mapped g l a (omega (arith, p, c .1, times-cons a x l)))
-]
+times-mapped g l a p =
+    let (before, after, parted) = times-member a l p in
+    member-times (g a) (map g l) (map g before, map g after, ap (map g) parted ∙ map-append g before (a ∷ after))
 
 -- the first element's list joined to what stands before
 gather-first : (g : ℕ → List Entered) (k : List Entered) (a : ℕ) (l : List ℕ) → k ++ gather g (a ∷ l) ≡ k ++ g a ++ gather g l
@@ -134,8 +133,7 @@ module _ {img : List ℕ} {blocks anodes h : ℕ} {new : NewEntry} {f : ℕ} {ro
 
   -- along other anodes of it nothing has changed
   now-was : (l : List ℕ) → ((a : ℕ) → times a l ≤ times a (chainOf (t .next) limit h)) → times (spot m .anode) l ≡ 0 → gather now l ≡ gather was l
-  now-was l part none = gather-congr now was l (λ a on. let p = member-times a l on in
-      other-entries m a (ones a (omega (arith, p, part a))) (λ e. omega (arith, p, none, ap (λ (x : ℕ). times x l) e)))
+  now-was l part none = gather-kept was now l (λ a p. other-entries m a (ones a (omega (arith, p, part a))) (λ e. omega (arith, p, none, ap (λ (x : ℕ). times x l) e)))
 
   -- the directory has its entries and the new one
   pub entry-added : OneMore (enteredAt (entryOf new f) (entryPlace room zs)) (entriesOf img (anodesOf img) h)

@@ -17,8 +17,8 @@ use Rattle.rules.specs.Walk.{Dir, Entered, Item, entriesIn, isBlockOf, blocksFo
 use Rattle.rules.specs.Lookup.{entriesOf, isNamed, firstNamed, entryNamed, nth}
 use Rattle.counting.specs.Laws.{none-or}
 use Rattle.laws.specs.Tests.{T-true}
-use Rattle.laws.specs.Sums.{oneAt-cases, oneAt-same}
-use Rattle.laws.specs.Bags.{list-nil, list-cons, list-one, gather-sum, map-sum}
+use Rattle.laws.specs.Sums.{oneAt-cases, oneAt-same, oneAt-some}
+use Rattle.laws.specs.Bags.{list-one, list-some, gather-sum, map-sum}
 use Rattle.laws.specs.Heads.{Head}
 use Rattle.laws.specs.Space.{on-chain}
 use Rattle.laws.specs.Each.{each-zero}
@@ -56,11 +56,9 @@ nth-member (x ∷ l) (suc n) e is = member-later e x l (nth-member l n e is)
 -- ---- a reached directory
 
 headed-member : (h : ℕ) (l : List Dir) → 0 < sumList (λ d. oneAt (d .head) h) l → (d : Dir) × Member d l × (d .head ≡ h)
-headed-member h [] p = absurd (omega (arith, p, list-nil {X = Dir} (λ d. oneAt (d .head) h)))
-headed-member h (x ∷ l) p = elim (oneAt-cases (x .head) h) [
-  | inl c ↦ (x, member-first x l, c .0)
-  | inr c ↦ (let r = headed-member h l (omega (arith, p, c .1, list-cons {X = Dir} (λ d. oneAt (d .head) h) x l)) in (r .0, member-later (r .0) x l (r .1), r .2))
-]
+headed-member h l p =
+    let (d, before, after, parted, q) = list-some {X = Dir} (λ d. oneAt (d .head) h) l p in
+    (d, (before, after, parted), oneAt-some (d .head) h q)
 
 module _ {ex : ℕ → Bool} {n last : ℕ} {s : Anodes} {system hd sd : ℕ → ℕ} {entries : ℕ → List Entered} {marked : Dir → ℕ → Bool} {dirs : List Dir}
     (w : Whole ex n last s system hd sd entries marked dirs) where

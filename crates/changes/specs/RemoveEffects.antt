@@ -14,10 +14,11 @@ use Rattle.laws.specs.Heads.{Head}
 use Rattle.laws.specs.TreeChanges.{headed}
 use Rattle.laws.specs.Remove as Laws
 use Rattle.frames.specs.DisjointBlocks.{chain-block}
+use Rattle.frames.specs.StoredBytes.{BlocksKept}
 use Rattle.changes.specs.Image.{headIn, reached-sum, headed-same, ReachedDir}
 use Rattle.changes.specs.Reached.{EntryIn, entry-not-1, reached-not-1, reached-head, entry-facts, not-file}
 use Rattle.changes.specs.EntryBytes.{entryBytes}
-use Rattle.changes.specs.KeptChains.{SameChain, BlocksKept, contents-same, entries-same, entry-bytes-same}
+use Rattle.changes.specs.KeptChains.{SameChain, contents-same, entries-same, entry-bytes-same}
 use Rattle.changes.specs.PlannedChange.{image, w, facts, off-chain}
 use Rattle.changes.specs.RemoveStores.{PlannedRemove, ran, end-good, removed-disk, kept-data}
 use Rattle.changes.specs.Remove.{left-whole, planned-accepted}

@@ -23,13 +23,13 @@ use Rattle.rules.specs.Changes.{inBlock, zeroTail, zeroTaken, resizedImage}
 use Rattle.laws.specs.Chains.{Inside}
 use Rattle.laws.specs.Tests.{same?}
 use Rattle.laws.specs.Sums.{oneAt-same}
-use Rattle.laws.specs.Bags.{times-cons, times-append}
+use Rattle.laws.specs.Bags.{times-cons, times-append, times-here, times-later, gather-kept}
 use Rattle.laws.specs.Whole.{blocks-count}
 use Rattle.laws.specs.ChainBlocks.{gather-append}
 use Rattle.frames.specs.StoredBlocks.{inBlock-kept, blockOf-inBlock}
 use Rattle.frames.specs.StoredBytes.{length-gather, blockOf-withBlocks}
 use Rattle.frames.specs.DisjointBlocks.{chain-once, chain-block}
-use Rattle.changes.specs.Members.{Member, member-first, member-later, member-times, gather-congr}
+use Rattle.changes.specs.Members.{member-times}
 use Rattle.changes.specs.Reached.{EntryIn, entry-not-1, entry-facts, not-file}
 use Rattle.changes.specs.KeptChains.{contents-same}
 use Rattle.changes.specs.Read.{bytes-long, file-long}
@@ -52,12 +52,12 @@ take-zeros n m l =
     let e : m ≡ n + (m - n) = omega arith in
     ap (λ (k : ℕ). take {A = ℕ} n (replicate k 0)) e ∙ ap (take n) (sym (replicate-append-replicate {A = ℕ} n (m - n) 0)) ∙ take-at (replicate n 0) (replicate (m - n) 0) n (length-replicate {A = ℕ} n 0)
 
-gather-zeros : (f : ℕ → List ℕ) (l : List ℕ) → ((y : ℕ) → Member y l → f y ≡ zeroBlock) → gather f l ≡ replicate (length l * 512) 0
+gather-zeros : (f : ℕ → List ℕ) (l : List ℕ) → ((y : ℕ) → 0 < times y l → f y ≡ zeroBlock) → gather f l ≡ replicate (length l * 512) 0
 unfolding gather
 gather-zeros f [] z = refl
 gather-zeros f (x ∷ l) z =
     let e : 512 + length l * 512 ≡ suc (length l) * 512 = omega arith in
-    ap₂ _++_ (z x (member-first x l)) (gather-zeros f l (λ y m. z y (member-later y x l m))) ∙ replicate-append-replicate {A = ℕ} 512 (length l * 512) 0 ∙ ap (λ (n : ℕ). replicate n 0) e
+    ap₂ _++_ (z x (times-here x l)) (gather-zeros f l (λ y p. z y (times-later y x l p))) ∙ replicate-append-replicate {A = ℕ} 512 (length l * 512) 0 ∙ ap (λ (n : ℕ). replicate n 0) e
 
 module _ {img : List ℕ} {e : Entered} {new : ℕ} {t : Anodes} {ys : List ℕ} (p : PlannedResize img e new t ys) where
   abbrev s : Anodes
@@ -110,7 +110,7 @@ module _ {img : List ℕ} {e : Entered} {new : ℕ} {t : Anodes} {ys : List ℕ}
     pub contents-shrunk : contents j t (sized new e) ≡ take new (contents img s e)
     unfolding contents bytesOf blocksFor
     contents-shrunk =
-        let kept : gather (blockOf j) left-blocks ≡ gather (blockOf img) left-blocks = gather-congr (blockOf j) (blockOf img) left-blocks (λ y m. block-left y (member-times y left-blocks m)) in
+        let kept : gather (blockOf j) left-blocks ≡ gather (blockOf img) left-blocks = gather-kept (blockOf img) (blockOf j) left-blocks block-left in
         let enough : new ≤ length (gather (blockOf img) left-blocks) = omega (
           arith,
           length-gather img left-blocks (λ y q. inside y (still-in y q)),
@@ -153,7 +153,7 @@ module _ {img : List ℕ} {e : Entered} {new : ℕ} {t : Anodes} {ys : List ℕ}
         taken-kept p .block-kept y (omega (arith, once y, q)) ∙ stored p .block-kept y (chain-block img (w p .good) (e .anode) (facts p .head) y q .unheld)
 
     zeros : gather (blockOf j) ys ≡ replicate (length ys * 512) 0
-    zeros = gather-zeros (blockOf j) ys (λ y m. taken-zero y (member-times y ys m))
+    zeros = gather-zeros (blockOf j) ys taken-zero
 
     -- the size ends within the last block: it is cleared from there on
     module _ (odd : e .size % 512 ≢ 0) where
@@ -224,7 +224,7 @@ module _ {img : List ℕ} {e : Entered} {new : ℕ} {t : Anodes} {ys : List ℕ}
       odd-bytes =
           let part = take (e .size % 512) (blockOf img last) in
           ap (gather (blockOf j)) parted ∙ gather-append (blockOf j) front (last ∷ [])
-          ∙ ap₂ _++_ (gather-congr (blockOf j) (blockOf img) front (λ y m. front-left y (member-times y front m))) (append-nil (blockOf j last) ∙ last-left)
+          ∙ ap₂ _++_ (gather-kept (blockOf img) (blockOf j) front front-left) (append-nil (blockOf j last) ∙ last-left)
           ∙ sym (append-assoc (gather (blockOf img) front) part (replicate (512 - e .size % 512) 0))
           ∙ ap (λ (l : List ℕ). l ++ replicate (512 - e .size % 512) 0) (sym odd-contents)
 
@@ -237,7 +237,7 @@ module _ {img : List ℕ} {e : Entered} {new : ℕ} {t : Anodes} {ys : List ℕ}
     old-bytes = elim (same? (e .size % 512) 0) [
       | inr odd ↦ (let pad : 512 - e .size % 512 ≡ (e .size + 511) / 512 * 512 - e .size = omega arith in rw (← pad) (odd-bytes odd))
       | inl even ↦ (let none : (e .size + 511) / 512 * 512 - e .size ≡ 0 = omega arith in
-          gather-congr (blockOf j) (blockOf img) chain (λ y m. even-left even y (member-times y chain m))
+          gather-kept (blockOf img) (blockOf j) chain (even-left even)
           ∙ sym (take-all (e .size) (gather (blockOf img) chain) (omega (arith, bytes-long (p .entry) (p .plan .file))))
           ∙ sym (append-nil (take (e .size) (gather (blockOf img) chain))) ∙ ap (λ (n : ℕ). take (e .size) (gather (blockOf img) chain) ++ replicate n 0) (sym none))
     ]

@@ -3,11 +3,12 @@ use Prim.Native.Nat.{ℕ, zero, suc, _+_, _-_, _/_, _%_, _<_}
 use mathlib.Core.Path.{_≡_, refl, sym, ap, _∙_}
 use mathlib.Core.Logic.{_≢_}
 use mathlib.Core.Bool.{Bool, true, false, cond, not, _&&_, and-eq-true-iff}
-use mathlib.Core.List.{List, [], _∷_}
+use mathlib.Core.List.{List}
 use native.Mathlib.Omega.{arith}
 use native.Mathlib.Nat.{le-of-eq}
 use lib.Dec.{eqb, ltb}
-use lib.ListN.{length, getD, length-replicate}
+use lib.ListN.{length, getD, take, drop, length-replicate}
+use lib.Seq.{split-at}
 use borrow.Author.Tests.{eqb-false, not-true}
 use Rattle.endian.specs.Bytes.{put32, cleared}
 use Rattle.endian.proofs.Laws.{length-put32, length-cleared}
@@ -25,10 +26,11 @@ use Rattle.laws.specs.ChainBlocks.{shift-alike, shift-chain}
 use Rattle.frames.specs.Kept.{Unheld, Kept, kept-all, kept-both}
 use Rattle.frames.specs.StoredBlocks.{inBlock-kept, blockOf-inBlock, withBlocks-kept}
 use Rattle.frames.specs.DisjointBlocks.{DataBlock, chains-apart, chain-block}
+use Rattle.frames.specs.StoredBytes.{BlocksKept}
 use Rattle.changes.specs.Image.{headIn, DiskWith, stored-kept, disk-stored, not-one, not-among, disk-then, ReachedDir}
-use Rattle.changes.specs.Members.{Member, member-first, member-later, member-times}
+use Rattle.changes.specs.Members.{Member, member-times}
 use Rattle.changes.specs.Reached.{DirBlock, block-on, reached-not-1, reached-head, dir-block, block-data, not-file}
-use Rattle.changes.specs.KeptChains.{SameChain, BlocksKept}
+use Rattle.changes.specs.KeptChains.{SameChain}
 use Rattle.changes.specs.PlannedChange.{PlannedChange, image, w, facts, not-1, off-chain, off-anode}
 use Rattle.changes.specs.ResizePlan.{Resizing, plan-runs, handed-data, handed-apart}
 
@@ -55,9 +57,7 @@ length-blocksOf s h =
     ∙ list-congr (λ a. sumList (λ y. 1) (run (s .block a) (s .count a))) (s .count) chain (λ a. list-length (run (s .block a) (s .count a)) ∙ length-run (s .block a) (s .count a))
 
 nth-in : (l : List ℕ) (i : ℕ) → i < length l → Member (getD l i 0) l
-nth-in [] i p = absurd (omega arith)
-nth-in (x ∷ l) zero p = member-first x l
-nth-in (x ∷ l) (suc i) p = member-later (getD l i 0) x l (nth-in l i (omega arith))
+nth-in l i p = (take i l, drop (suc i) l, split-at l i 0 p)
 
 -- ---- the image that is left
 
