@@ -1,7 +1,6 @@
 -- The chains of a loaded image, and how many blocks a chain may have.
 use Prim.Native.Nat.{ℕ, _≤_, _<_}
 use mathlib.Core.Path.{_≡_, _∙_}
-use mathlib.Core.Logic.{_≢_}
 use mathlib.Core.Bool.{false}
 use mathlib.Core.List.{List}
 use native.Mathlib.Omega.{arith}
@@ -11,7 +10,6 @@ use Rattle.rules.specs.Chains.{systemOwns, blockCount}
 use Rattle.rules.specs.Walk.{Entered}
 use Rattle.rules.specs.Accepted.{diskSize, wrongSize, lastReserved}
 use Rattle.rules.specs.Space.{planned, giveMany}
-use Rattle.laws.specs.Acceptance.{passed-of}
 use Rattle.laws.specs.Space.{Good}
 use Rattle.laws.specs.GivenBlocks.{gives-blocks}
 use Rattle.anodes.specs.Loaded.{anodesFrom, Loaded}
@@ -19,17 +17,20 @@ use Rattle.tree.specs.Steps.{sumFrom}
 use Rattle.tree.proofs.Rules.{sumFrom-count}
 use Rattle.space.specs.Steps.{Ready}
 use Rattle.space.proofs.Many.{count-small}
-use Rattle.changes.specs.Image.{headIn, sideIn, accepted-whole}
-use Rattle.changes.specs.Reached.{EntryFacts, entry-facts}
+use Rattle.changes.specs.Image.{headIn, sideIn, AcceptedImage, accepted-own, image-passed, accepted-whole}
+use Rattle.changes.specs.Reached.{EntryIn, EntryFacts, entry-not-1, entry-facts}
 use Rattle.changes.specs.PlannedChange.{PlannedChange}
 use Rattle.changed.specs.Leaves.{ReachedEntry}
 
 module _ {img counts firsts nexts : List ℕ} (l : Loaded img counts firsts nexts) where
+  abbrev image : AcceptedImage img
+  image = accepted-own img (l .accepted)
+
   pub loaded-size : wrongSize img ≡ false
-  loaded-size = passed-of img (diskSize img) limit (l .accepted) .size-right
+  loaded-size = image-passed image .size-right
 
   pub image-good : Good limit (exists img) (diskSize img) (lastReserved img) (anodesOf img) (systemOwns img) (headIn img) (sideIn img)
-  image-good = accepted-whole img (diskSize img) limit (l .accepted) .good
+  image-good = accepted-whole image .good
 
   pub loaded-good : Good limit (exists img) (diskSize img) (lastReserved img) (anodesFrom counts firsts nexts) (systemOwns img) (headIn img) (sideIn img)
   loaded-good = rw (l .is-loaded) image-good
@@ -44,24 +45,24 @@ module _ {img counts firsts nexts : List ℕ} (l : Loaded img counts firsts next
 
   -- the chain that a reached entry names
   module _ (e : Entered) (r : ReachedEntry img e) where
+    abbrev entry : EntryIn img (r .0) e
+    entry = record { directory = record { image = image; reached = r .1 }; member = r .2 }
+
     pub entry-known : EntryFacts img (r .0) e
-    entry-known = entry-facts img (diskSize img) limit (l .accepted) (r .0) (r .1) e (r .2)
+    entry-known = entry-facts entry
 
     -- a change of the entry with its plan
     pub planned-change : {Plans : Type 0} → Plans → PlannedChange img e Plans
-    planned-change plan = record { blocks = diskSize img; anodes = limit; accepted = l .accepted; home = r .0; reached = r .1; member = r .2; plan = plan }
-
-    pub entry-not-1 : e .anode ≢ 1
-    entry-not-1 i = omega (arith, i, entry-known .from-6)
+    planned-change plan = record { home = r .0; entry = entry; plan = plan }
 
     -- what the steps on it ask of the copies, and the count that was read off the tables
     pub plan-ready : (nc nf nn : List ℕ) → nc ≡ counts → nf ≡ firsts → nn ≡ nexts → (have : ℕ) → have ≡ sumFrom counts nexts limit (e .anode) →
         Ready img (anodesFrom nc nf nn) (e .anode) × (have ≡ blockCount (anodesFrom nc nf nn) (e .anode))
-    plan-ready nc nf nn c f n have all = rw (loaded-copies nc nf nn c f n .is-loaded) (((loaded-size, (headIn img, sideIn img, image-good)), (entry-known .head, entry-not-1)), chain-counted (e .anode) have all)
+    plan-ready nc nf nn c f n have all = rw (loaded-copies nc nf nn c f n .is-loaded) (((loaded-size, (headIn img, sideIn img, image-good)), (entry-known .head, entry-not-1 entry-known)), chain-counted (e .anode) have all)
 
     -- fewer blocks can be given back than a table of 65,535 numbers holds
     pub gave-few : (k : ℕ) (t : Anodes) (ys : List ℕ) → giveMany limit (exists img) (lastReserved img) k (anodesOf img) (e .anode) ≡ planned t ys → k ≤ blockCount (anodesOf img) (e .anode) → length ys < 65535
-    gave-few k t ys p fits = omega (arith, count-small img (anodesOf img) (headIn img, sideIn img, image-good) (e .anode) (entry-known .head) loaded-size, gives-blocks k (e .anode) entry-not-1 t ys (anodesOf img) (systemOwns img) (headIn img) (sideIn img) image-good (entry-known .head) p .1)
+    gave-few k t ys p fits = omega (arith, count-small img (anodesOf img) (headIn img, sideIn img, image-good) (e .anode) (entry-known .head) loaded-size, gives-blocks k (e .anode) (entry-not-1 entry-known) t ys (anodesOf img) (systemOwns img) (headIn img) (sideIn img) image-good (entry-known .head) p .1)
 
 -- a table of 65,535 numbers has all that were noted, where they are fewer
 pub noted-all : (n : ℕ) (moved : List ℕ) → length moved ≡ 65535 → length (take n moved) < 65535 → n ≤ length moved

@@ -18,7 +18,7 @@ use Rattle.laws.specs.Space.{Good}
 use Rattle.laws.specs.Resize.{Ran}
 use Rattle.laws.specs.OwnerTable.{ran-data, setAll, setAll-front, kept-table, ran-table, heads-past}
 use Rattle.frames.specs.Kept.{diskSize-kept, systemOwns-kept}
-use Rattle.changes.specs.Image.{SameDisk}
+use Rattle.changes.specs.Image.{DiskWith}
 use Rattle.changed.specs.Leaves.{Leaves}
 
 -- an answer past the damage numbers shows the tables as 0 does
@@ -51,17 +51,17 @@ pub shows-kept : (img : List ℕ) (s t : Anodes) → ((x : ℕ) → ownerHead t 
 shows-kept img s t same b r p = p ∙ ap (λ (l : List ℕ). l ++ r) (sym (kept-table img img refl refl s t same))
 
 -- a done change leaves the tables of the new image
-pub leaves-done : (img j : List ℕ) → SameDisk img j → (b a b′ a′ : List ℕ) → ((r : List ℕ) → Shows img (anodesOf img) b r → Shows img (anodesOf j) b′ r)
-    → a′ ≡ anodeTable (anodesOf j) ++ drop limit a → Leaves 0 img b a j b′ a′ (left 0 j)
+pub leaves-done : (img j : List ℕ) {t : Anodes} → DiskWith img t j → (b a b′ a′ : List ℕ) → ((r : List ℕ) → Shows img (anodesOf img) b r → Shows img t b′ r)
+    → a′ ≡ anodeTable t ++ drop limit a → Leaves 0 img b a j b′ a′ (left 0 j)
 unfolding settled blocksLeft anodesLeft tableLeft anodeTable
-leaves-done img j d b a b′ a′ shown heads b₀ a₀ p q =
-    let size = diskSize-kept (d .kept) in
+leaves-done img j {t} d b a b′ a′ shown heads b₀ a₀ p q =
+    let size = diskSize-kept (d .same .kept) in
     let past = heads-past (anodesOf img) a a₀ q in
-    rw (shown (drop (diskSize img) b₀) p, heads, past, size, kept-table img j size (systemOwns-kept (d .kept) refl) (anodesOf j) (anodesOf j) (λ x. refl))
+    rw (shown (drop (diskSize img) b₀) p, heads, past, d .anodes, size, kept-table img j size (systemOwns-kept (d .same .kept) refl) t t (λ x. refl))
 
 -- a change that leaves the anodes leaves both tables
-pub leaves-same : (img j : List ℕ) → SameDisk img j → anodesOf j ≡ anodesOf img → (b a : List ℕ) → Leaves 0 img b a j b a (left 0 j)
+pub leaves-same : (img j : List ℕ) → DiskWith img (anodesOf img) j → (b a : List ℕ) → Leaves 0 img b a j b a (left 0 j)
 unfolding anodesLeft tableLeft anodeTable
-leaves-same img j d same b a b₀ a₀ p q =
+leaves-same img j d b a b₀ a₀ p q =
     let past = heads-past (anodesOf img) a a₀ q in
-    leaves-done img j d b a b a (λ r shown. rw same shown) (rw (same, past) q) b₀ a₀ p q
+    leaves-done img j d b a b a (λ r shown. shown) (rw past q) b₀ a₀ p q

@@ -96,36 +96,35 @@ module _ (b b′ : List ℕ) (at at′ : ℕ) (whole : length b ≡ 512) (whole�
 
 -- ---- the entries from a place on
 
-module _ (b : List ℕ) (y m at : ℕ) where
-  -- where none is broken, the end mark or an entry stands there
-  pub unbroken-cases : anyIn (λ e. e .broken) (entriesFrom (suc m) b y at) ≡ false →
-      (walkedAt b at ≡ End) ⊎ ((x : Entry) × (walkedAt b at ≡ Found x) × (anyIn (λ e. e .broken) (entriesFrom m b y (at + getD b at 0)) ≡ false))
-  unfolding entriesFrom anyIn
-  unbroken-cases u = go (walkedAt b at) refl u
-    where
-      go : (w : Walked) → walkedAt b at ≡ w → anyIn (λ e. e .broken) (withRest w (y * 512 + at) (entriesFrom m b y (at + getD b at 0))) ≡ false →
-          (walkedAt b at ≡ End) ⊎ ((x : Entry) × (walkedAt b at ≡ Found x) × (anyIn (λ e. e .broken) (entriesFrom m b y (at + getD b at 0)) ≡ false))
-      go (Found x) e v = inr (x, e, v)
-      go End e v = inl e
-      go (Fault r) e v = absurd (true≢false v)
+-- where none is broken, the end mark or an entry stands there
+pub unbroken-cases : (b : List ℕ) (y m at : ℕ) → anyIn (λ e. e .broken) (entriesFrom (suc m) b y at) ≡ false →
+    (walkedAt b at ≡ End) ⊎ ((x : Entry) × (walkedAt b at ≡ Found x) × (anyIn (λ e. e .broken) (entriesFrom m b y (at + getD b at 0)) ≡ false))
+unfolding entriesFrom anyIn
+unbroken-cases b y m at u = go (walkedAt b at) refl u
+  where
+    go : (w : Walked) → walkedAt b at ≡ w → anyIn (λ e. e .broken) (withRest w (y * 512 + at) (entriesFrom m b y (at + getD b at 0))) ≡ false →
+        (walkedAt b at ≡ End) ⊎ ((x : Entry) × (walkedAt b at ≡ Found x) × (anyIn (λ e. e .broken) (entriesFrom m b y (at + getD b at 0)) ≡ false))
+    go (Found x) e v = inr (x, e, v)
+    go End e v = inl e
+    go (Fault r) e v = absurd (true≢false v)
 
-  pub end-more : (x : Entry) → walkedAt b at ≡ Found x → endFrom (suc m) b at ≡ endFrom m b (at + getD b at 0)
-  unfolding endFrom
-  end-more x e = rw (ne-eqb (getD b at 0) 0 (λ z. omega (arith, z, found-at b at x e .long)))
+pub end-more : (b : List ℕ) (m at : ℕ) (x : Entry) → walkedAt b at ≡ Found x → endFrom (suc m) b at ≡ endFrom m b (at + getD b at 0)
+unfolding endFrom
+end-more b m at x e = rw (ne-eqb (getD b at 0) 0 (λ z. omega (arith, z, found-at b at x e .long)))
 
-  pub end-here : walkedAt b at ≡ End → endFrom (suc m) b at ≡ at
-  unfolding endFrom
-  end-here e = rw (end-at b at e)
+pub end-here : (b : List ℕ) (m at : ℕ) → walkedAt b at ≡ End → endFrom (suc m) b at ≡ at
+unfolding endFrom
+end-here b m at e = rw (end-at b at e)
 
 -- the end mark stands behind the entries; 28 entries never fit
 pub end-bounds : (b : List ℕ) (y k at : ℕ) → anyIn (λ e. e .broken) (entriesFrom k b y at) ≡ false → at ≤ 510 → 520 ≤ at + 18 * k →
     (at ≤ endFrom k b at) × (endFrom k b at ≤ 510) × (walkedAt b (endFrom k b at) ≡ End)
 end-bounds b y zero at u l f = absurd (omega (arith, l, f))
 end-bounds b y (suc m) at u l f = elim (unbroken-cases b y m at u) [
-  | inl e ↦ rw (end-here b y m at e) (omega arith, l, e)
+  | inl e ↦ rw (end-here b m at e) (omega arith, l, e)
   | inr e ↦ (let g = found-at b at (e .0) (e .1) in
       let r = end-bounds b y m (at + getD b at 0) (e .2) (g .room) (omega (arith, f, g .long)) in
-      rw (end-more b y m at (e .0) (e .1)) (omega (arith, r .0), r .1, r .2))
+      rw (end-more b m at (e .0) (e .1)) (omega (arith, r .0), r .1, r .2))
 ]
 
 -- an entry is found at its place in the block, and ends before the mark
@@ -193,7 +192,7 @@ reaches b y at e place ys (z ∷ zs) (suc m) p i u =
       m = r .m;
       found = r .found;
       fuel = omega (arith, r .fuel, g .long);
-      end = end-more b y m p (s .entry) (s .walked) ∙ r .end;
+      end = end-more b m p (s .entry) (s .walked) ∙ r .end;
       front = λ b′ w w′ same.
           entries-more b′ y m p (s .entry) (walked-same b b′ p p w w′ g (g .room) (λ i l. same (p + i) (omega arith)) ∙ s .walked)
           ∙ rw (same p (omega (arith, before, g .long)), ← (s .is), r .front b′ w w′ same);
@@ -222,7 +221,7 @@ entry-standing b y at e place ys xs k p i u f =
     let s = r .found .stands in
     let g = found-at b at (s .entry) (s .walked) in
     stands-before s (endFrom k b p)
-    (omega (arith, r .end, end-more b y (r .m) at (s .entry) (s .walked), end-bounds b y (r .m) (at + getD b at 0) (r .found .unbroken) (g .room) (omega (arith, f, r .fuel, g .long)) .0))
+    (omega (arith, r .end, end-more b (r .m) at (s .entry) (s .walked), end-bounds b y (r .m) (at + getD b at 0) (r .found .unbroken) (g .room) (omega (arith, f, r .fuel, g .long)) .0))
 
 -- ---- an entry of a directory block whose entries keep the rules
 

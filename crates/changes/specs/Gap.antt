@@ -48,12 +48,12 @@ module _ (b b′ : List ℕ) (y at len end : ℕ) (whole : length b ≡ 512) (wh
       entriesFrom (suc k) b′ y p ≡ map (lowered len) (entriesFrom k b y (p + len))
   moved zero p l u r f e = absurd (omega (arith, r, f))
   moved (suc m) p l u r f e = elim (unbroken-cases b y m (p + len) u) [
-    | inl q ↦ (let z : end ≡ p + len = sym e ∙ end-here b y m (p + len) q in
+    | inl q ↦ (let z : end ≡ p + len = sym e ∙ end-here b m (p + len) q in
         entries-end b′ y (suc (suc m)) p (ends p (zeros p (omega arith) (omega arith))) ∙ ap (map (lowered len)) (sym (entries-end b y (suc m) (p + len) q)))
     | inr q ↦ (let g = found-at b (p + len) (q .0) (q .1) in
         let n : p + len + getD b (p + len) 0 ≡ p + getD b (p + len) 0 + len = omega arith in
         let unbroken = rw n at (q .2) in
-        let last : endFrom m b (p + getD b (p + len) 0 + len) ≡ end = rw n at (sym (end-more b y m (p + len) (q .0) (q .1)) ∙ e) in
+        let last : endFrom m b (p + getD b (p + len) 0 + len) ≡ end = rw n at (sym (end-more b m (p + len) (q .0) (q .1)) ∙ e) in
         let behind-it = end-bounds b y m (p + getD b (p + len) 0 + len) unbroken (omega (arith, g .room)) (omega (arith, f, g .long)) in
         moved-first m p (q .0) (q .1) l (omega (arith, behind-it .0, last))
         (moved m (p + getD b (p + len) 0) (omega arith) unbroken (omega (arith, g .room)) (omega (arith, f, g .long)) last))
@@ -71,7 +71,7 @@ module _ (b b′ : List ℕ) (y at len end : ℕ) (whole : length b ≡ 512) (wh
         let next : at + getD b at 0 ≡ at + len = ap (λ (n : ℕ). at + n) its-length in
         r .front b′ whole whole′ front
         ∙ ap (λ (l : List Entered). xs ++ l) (moved (r .m) at (omega arith) (rw next at (o .unbroken)) (omega (arith, g .room, next)) (omega (arith, f, r .fuel, g .long, next))
-        (rw next at (sym (end-more b y (r .m) at (s .entry) (s .walked)) ∙ sym (r .end) ∙ q)) ∙ ap (map (lowered len)) (rw next at (o .rest)))
+        (rw next at (sym (end-more b (r .m) at (s .entry) (s .walked)) ∙ sym (r .end) ∙ q)) ∙ ap (map (lowered len)) (rw next at (o .rest)))
 
 -- ---- the bytes of the block
 

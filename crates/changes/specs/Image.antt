@@ -24,11 +24,11 @@ use Rattle.laws.specs.Space.{Good}
 use Rattle.laws.specs.Passes.{passes-of}
 use Rattle.laws.specs.Whole.{Whole, head-counts, counts-head}
 use Rattle.laws.specs.Accepted.{Accepted, named-range, whole-of, accepted-of}
-use Rattle.laws.specs.Acceptance.{passed-of, passed-accepted, Tested, passes-tested}
+use Rattle.laws.specs.Acceptance.{Passed, passed-of, passed-accepted, Tested, passes-tested}
 use Rattle.laws.specs.ImageAnodes.{reading-of}
 use Rattle.laws.specs.Damage.{Faulted, walk-faulted}
 use Rattle.laws.specs.OneOwner.{naming-sum, passes, accepted-one-owner, good}
-use Rattle.frames.specs.Kept.{Unheld, Kept, HeadsKept, kept-all, diskSize-kept, wrongSize-kept, shortTables-kept, slotOf-kept, lastReserved-kept, wrongType-kept, wrongRoot-kept, systemOwns-kept, wrongSlots-heads, anodesOf-kept, kept-both}
+use Rattle.frames.specs.Kept.{Unheld, Kept, HeadsKept, kept-all, kept-both, diskSize-kept, wrongSize-kept, shortTables-kept, slotOf-kept, lastReserved-kept, wrongType-kept, wrongRoot-kept, systemOwns-kept, anodesOf-kept, wrongSlots-kept}
 use Rattle.frames.specs.StoredAnodes.{AnodesStored, root-unheld, withAnodes-stored, anodesOf-withAnodes}
 use Rattle.frames.specs.DisjointBlocks.{DataBlock}
 use Rattle.changes.specs.Members.{none-in}
@@ -57,32 +57,43 @@ naming-is img s x = naming-sum (itemsBy (entriesIn img) (isBlockOf img) s) x (re
 
 -- ---- an accepted image
 
-module _ (img : List ℕ) (blocks anodes : ℕ) (e : checkAnswer img blocks anodes ≡ 0) where
+-- the check answers 0, lent tables of these lengths
+pub record AcceptedImage (img : List ℕ) : Type 0 where
+  pub blocks : ℕ
+  pub anodes : ℕ
+  pub accepted : checkAnswer img blocks anodes ≡ 0
+
+-- tables as long as 2 asks
+abbrev pub accepted-own : (img : List ℕ) → checkAnswer img (diskSize img) limit ≡ 0 → AcceptedImage img
+accepted-own img e = record { blocks = diskSize img; anodes = limit; accepted = e }
+
+module _ {img : List ℕ} (a : AcceptedImage img) where
+  pub image-passed : Passed img (a .blocks) (a .anodes)
+  image-passed = passed-of img (a .blocks) (a .anodes) (a .accepted)
+
   pub accepted-slots : wrongSlots img ≡ false
-  accepted-slots = passed-of img blocks anodes e .slots-right
+  accepted-slots = image-passed .slots-right
 
   pub accepted-walk : walkOf img (anodesOf img) ≡ done (reachedDirs img (anodesOf img))
   unfolding reachedDirs
-  accepted-walk = walk-done (walkOf img (anodesOf img)) (walk-faulted img (anodesOf img)) (passed-of img blocks anodes e .walked)
+  accepted-walk = walk-done (walkOf img (anodesOf img)) (walk-faulted img (anodesOf img)) (image-passed .walked)
 
-  accepted : Accepted (exists img) (diskSize img) (lastReserved img) (anodesOf img) (systemOwns img) (entriesIn img) (isBlockOf img) (reachedDirs img (anodesOf img))
+  accepted-state : Accepted (exists img) (diskSize img) (lastReserved img) (anodesOf img) (systemOwns img) (entriesIn img) (isBlockOf img) (reachedDirs img (anodesOf img))
   unfolding walkOf itemsOf
-  accepted =
-      let p = passed-of img blocks anodes e in
-      record {
-        reading = reading-of img;
-        passes = passes img blocks anodes p;
-        walked = accepted-walk;
-        all-named = λ x l d. omega (
-          arith,
-          naming-is img (anodesOf img) x,
-          accepted-one-owner img blocks anodes e .named-once x (head-counts (good img blocks anodes p) x d) l,
-        );
-      }
+  accepted-state = record {
+    reading = reading-of img;
+    passes = passes img (a .blocks) (a .anodes) image-passed;
+    walked = accepted-walk;
+    all-named = λ x l d. omega (
+      arith,
+      naming-is img (anodesOf img) x,
+      accepted-one-owner img (a .blocks) (a .anodes) (a .accepted) .named-once x (head-counts (good img (a .blocks) (a .anodes) image-passed) x d) l,
+    );
+  }
 
   -- an accepted image has the whole state
   pub accepted-whole : WholeImage img (anodesOf img) (headIn img) (sideIn img) (reachedDirs img (anodesOf img))
-  accepted-whole = whole-of accepted
+  accepted-whole = whole-of accepted-state
 
 -- ---- the same disk
 
@@ -90,25 +101,29 @@ module _ (img : List ℕ) (blocks anodes : ℕ) (e : checkAnswer img blocks anod
 abbrev pub SameDisk : List ℕ → List ℕ → Type 0
 SameDisk img j = HeadsKept (λ d. d ≡ 2) img j
 
-pub same-own : (img : List ℕ) → SameDisk img img
-same-own img = record { kept = kept-all img; heads-kept = λ s u. refl }
-
 same-stored : {img j : List ℕ} → wrongSlots img ≡ false → AnodesStored img j → SameDisk img j
 same-stored {img} right w = record {
   kept = record { length-kept = w .kept .length-kept; block-kept = λ d o. w .kept .block-kept d (rw o (root-unheld img right)) };
   heads-kept = w .heads-kept;
 }
 
+-- and has the anodes t
+pub record DiskWith (img : List ℕ) (t : Anodes) (j : List ℕ) : Type 0 where
+  pub same : SameDisk img j
+  pub anodes : anodesOf j ≡ t
+
+pub disk-own : (img : List ℕ) → DiskWith img (anodesOf img) img
+disk-own img = record { same = record { kept = kept-all img; heads-kept = λ s u. refl }; anodes = refl }
+
 -- an accepted image in which other anodes are stored
-module _ (img : List ℕ) (blocks anodes : ℕ) (e : checkAnswer img blocks anodes ≡ 0) (t : Anodes) where
+module _ {img : List ℕ} (a : AcceptedImage img) (t : Anodes) where
   pub stored-kept : Kept (Unheld img) img (withAnodes img t)
-  stored-kept = withAnodes-stored img (accepted-slots img blocks anodes e) t .kept
+  stored-kept = withAnodes-stored img (accepted-slots a) t .kept
 
-  pub stored-same : SameDisk img (withAnodes img t)
-  stored-same = same-stored (accepted-slots img blocks anodes e) (withAnodes-stored img (accepted-slots img blocks anodes e) t)
-
-  pub stored-anodes : {n last : ℕ} {system hd sd : ℕ → ℕ} → Good limit (exists img) n last t system hd sd → anodesOf (withAnodes img t) ≡ t
-  stored-anodes g = anodesOf-withAnodes img (accepted-slots img blocks anodes e) t (passes-of g .0)
+  pub disk-stored : {n last : ℕ} {system hd sd : ℕ → ℕ} → Good limit (exists img) n last t system hd sd → DiskWith img t (withAnodes img t)
+  disk-stored g =
+      let right = accepted-slots a in
+      record { same = same-stored right (withAnodes-stored img right t); anodes = anodesOf-withAnodes img right t (passes-of g .0) }
 
 -- what is no data block is not one of some data blocks
 pub not-one : {img : List ℕ} {b : ℕ} → DataBlock img b → (y : ℕ) → (DataBlock img y → ⊥) → y ≢ b
@@ -118,26 +133,29 @@ pub not-among : {img : List ℕ} (ys : List ℕ) → ((y : ℕ) → 0 < times y 
 not-among ys d y n = none-in y ys (λ p. n (d y p))
 
 -- stores that keep all but data blocks
-module _ {img i j : List ℕ} {on : ℕ → Type 0} (d : SameDisk img i) (k : Kept on i j) (others : (y : ℕ) → (DataBlock img y → ⊥) → on y) where
+module _ {img i j : List ℕ} {t : Anodes} {on : ℕ → Type 0} (d : DiskWith img t i) (k : Kept on i j) (others : (y : ℕ) → (DataBlock img y → ⊥) → on y) where
   root-on : on 2
   root-on = others 2 (λ b. omega (arith, b .above))
 
   slot-on : (s : ℕ) → slotOf img s ≢ 0 → on (slotOf img s)
   slot-on s u = others (slotOf img s) (λ b. b .unheld s u refl)
 
-  pub same-then : SameDisk img j
-  same-then = record {
-    kept = kept-both (λ b o. o) (λ b o. rw o root-on) (d .kept) k;
-    heads-kept = λ s u. ap anodeHeadIn (k .block-kept (slotOf img s) (slot-on s u)) ∙ d .heads-kept s u;
+  pub disk-then : DiskWith img t j
+  disk-then = record {
+    same = record {
+      kept = kept-both (λ b o. o) (λ b o. rw o root-on) (d .same .kept) k;
+      heads-kept = λ s u. ap anodeHeadIn (k .block-kept (slotOf img s) (slot-on s u)) ∙ d .same .heads-kept s u;
+    };
+    anodes = anodesOf-kept k root-on (λ s u. let e = slotOf-kept (d .same .kept) refl s in rw e (slot-on s (λ z. u (e ∙ z)))) ∙ d .anodes;
   }
-
-  pub anodes-then : anodesOf j ≡ anodesOf i
-  anodes-then = anodesOf-kept k root-on (λ s u. let e = slotOf-kept (d .kept) refl s in rw e (slot-on s (λ z. u (e ∙ z))))
 
 -- ---- back to the check's answer
 
-module _ (img j : List ℕ) (blocks anodes : ℕ) (e : checkAnswer img blocks anodes ≡ 0) (d : SameDisk img j) {hd sd : ℕ → ℕ} {dirs : List Dir}
-    (w : Whole (exists img) (diskSize img) (lastReserved img) (anodesOf j) (systemOwns img) hd sd (entriesIn j) (isBlockOf j) dirs) where
+module _ {img j : List ℕ} (a : AcceptedImage img) {t : Anodes} (d : DiskWith img t j) {hd sd : ℕ → ℕ} {dirs : List Dir}
+    (left : Whole (exists img) (diskSize img) (lastReserved img) t (systemOwns img) hd sd (entriesIn j) (isBlockOf j) dirs) where
+  w : Whole (exists img) (diskSize img) (lastReserved img) (anodesOf j) (systemOwns img) hd sd (entriesIn j) (isBlockOf j) dirs
+  w = rw (d .anodes) left
+
   found : (Q : List Dir) × Accepted (exists img) (diskSize img) (lastReserved img) (anodesOf j) (systemOwns img) (entriesIn j) (isBlockOf j) Q
   found = accepted-of w
 
@@ -169,16 +187,17 @@ module _ (img j : List ℕ) (blocks anodes : ℕ) (e : checkAnswer img blocks an
   tested = passes-tested (anodesOf j) (diskSize img) (lastReserved img) (systemOwns img) (found .1 .passes)
 
   -- an image of the same disk with a whole state is accepted
-  pub whole-accepted : checkAnswer j blocks anodes ≡ 0
+  pub whole-accepted : checkAnswer j (a .blocks) (a .anodes) ≡ 0
   whole-accepted =
-      let p = passed-of img blocks anodes e in
-      passed-accepted j blocks anodes (record {
-        size-right = wrongSize-kept (d .kept) ∙ p .size-right;
-        tables-long = shortTables-kept (d .kept) blocks anodes ∙ p .tables-long;
-        type-right = wrongType-kept (d .kept) refl ∙ p .type-right;
-        root-right = wrongRoot-kept (d .kept) refl ∙ p .root-right;
-        slots-right = wrongSlots-heads (d .kept) refl (d .heads-kept) ∙ p .slots-right;
-        tested = rw (diskSize-kept (d .kept), lastReserved-kept (d .kept) refl, systemOwns-kept (d .kept) refl) tested;
+      let p = image-passed a in
+      let k = d .same .kept in
+      passed-accepted j (a .blocks) (a .anodes) (record {
+        size-right = wrongSize-kept k ∙ p .size-right;
+        tables-long = shortTables-kept k (a .blocks) (a .anodes) ∙ p .tables-long;
+        type-right = wrongType-kept k refl ∙ p .type-right;
+        root-right = wrongRoot-kept k refl ∙ p .root-right;
+        slots-right = wrongSlots-kept (d .same) refl ∙ p .slots-right;
+        tested = rw (diskSize-kept k, lastReserved-kept k refl, systemOwns-kept k refl) tested;
         walked = ap faultIn walk-found;
         all-named = anyBelow-all (unnamedChain j (anodesOf j)) limit none-unnamed;
       })
@@ -217,5 +236,10 @@ pub headed-same : (img j : List ℕ) (s t : Anodes) (h : ℕ) → headed h (reac
 unfolding noDirectory
 headed-same img j s t h e = ap (λ (n : ℕ). eqb n 0) (headed-times j t h ∙ e ∙ sym (headed-times img s h))
 
-pub reached-headed : (img : List ℕ) (blocks anodes : ℕ) → checkAnswer img blocks anodes ≡ 0 → (h : ℕ) → noDirectory img (anodesOf img) h ≡ false → headed h (reachedDirs img (anodesOf img)) ≡ 1
-reached-headed img blocks anodes e h n = omega (arith, headed-once (accepted-whole img blocks anodes e) h, reached-some img (anodesOf img) h n)
+-- h heads a reached directory of an accepted image
+pub record ReachedDir (img : List ℕ) (h : ℕ) : Type 0 where
+  pub image : AcceptedImage img
+  pub reached : noDirectory img (anodesOf img) h ≡ false
+
+pub reached-headed : {img : List ℕ} {h : ℕ} → ReachedDir img h → headed h (reachedDirs img (anodesOf img)) ≡ 1
+reached-headed {img} {h} r = omega (arith, headed-once (accepted-whole (r .image)) h, reached-some img (anodesOf img) h (r .reached))

@@ -1,7 +1,6 @@
 -- A chain that a change leaves as it is: the same anodes with the same extents, and the same bytes in its blocks. So a directory has the entries that it had, and a file the bytes.
 use Prim.Native.Nat.{ℕ, _<_}
 use mathlib.Core.Path.{_≡_, refl, ap, _∙_}
-use mathlib.Core.Bool.{false}
 use mathlib.Core.List.{List}
 use lib.ListN.{take}
 use Rattle.disk.specs.Blocks.{blockOf}
@@ -9,11 +8,13 @@ use Rattle.rules.specs.Counting.{times, gather}
 use Rattle.rules.specs.Anodes.{Anodes, limit, anodesOf}
 use Rattle.rules.specs.Chains.{chainOf, blocksOf}
 use Rattle.rules.specs.Walk.{Entered, entriesIn}
-use Rattle.rules.specs.Accepted.{checkAnswer}
-use Rattle.rules.specs.Lookup.{noDirectory, entriesOf, bytesOf, contents}
+use Rattle.rules.specs.Lookup.{entriesOf, bytesOf, contents}
+use Rattle.laws.specs.Bags.{gather-kept}
 use Rattle.laws.specs.ChainBlocks.{extent, kept-blocks}
-use Rattle.changes.specs.Members.{Member, member-times, gather-congr}
-use Rattle.changes.specs.Reached.{block-on, dir-block, entry-facts}
+use Rattle.frames.specs.StoredBytes.{BlocksKept, bytesOf-kept}
+use Rattle.changes.specs.Image.{ReachedDir}
+use Rattle.changes.specs.Members.{Member, gather-congr}
+use Rattle.changes.specs.Reached.{EntryIn, block-on, dir-block, entry-facts}
 use Rattle.changes.specs.EntryBytes.{entryBytes}
 
 -- the chain of h has the anodes in t that it has in s, and they the extents
@@ -34,22 +35,17 @@ module _ {s t : Anodes} {h : ℕ} (c : SameChain s t h) where
   unfolding entriesOf
   entries-along j =
       ap (gather (λ a. entriesIn j (t .block a))) (c .same-anodes)
-      ∙ gather-congr (λ a. entriesIn j (t .block a)) (λ a. entriesIn j (s .block a)) (chainOf (s .next) limit h) (λ a on. ap (entriesIn j) (c .same-extents a (member-times a (chainOf (s .next) limit h) on) .1))
-
--- the blocks of the chain of h in s have the same bytes in both images
-abbrev pub BlocksKept : List ℕ → List ℕ → Anodes → ℕ → Type 0
-BlocksKept img j s h = (y : ℕ) → 0 < times y (blocksOf s h) → blockOf j y ≡ blockOf img y
+      ∙ gather-kept (λ a. entriesIn j (s .block a)) (λ a. entriesIn j (t .block a)) (chainOf (s .next) limit h) (λ a on. ap (entriesIn j) (c .same-extents a on .1))
 
 -- a file
 pub contents-same : (img j : List ℕ) {s t : Anodes} (e : Entered) → SameChain s t (e .anode) → BlocksKept img j s (e .anode) → contents j t e ≡ contents img s e
 unfolding contents bytesOf
-contents-same img j {s} e c kept = rw (same-blocks c) (ap (take (e .size)) (gather-congr (blockOf j) (blockOf img) (blocksOf s (e .anode)) (λ y on. kept y (member-times y (blocksOf s (e .anode)) on))))
+contents-same img j {s} e c kept = rw (same-blocks c) (ap (take (e .size)) (bytesOf-kept img j s (e .anode) kept))
 
 -- a reached directory
-module _ (img : List ℕ) (blocks anodes : ℕ) (accepted : checkAnswer img blocks anodes ≡ 0) (h : ℕ) (reached : noDirectory img (anodesOf img) h ≡ false) (j : List ℕ)
-    (kept : BlocksKept img j (anodesOf img) h) where
+module _ {img : List ℕ} {h : ℕ} (r : ReachedDir img h) (j : List ℕ) (kept : BlocksKept img j (anodesOf img) h) where
   pub block-same : (a : ℕ) → Member a (chainOf (anodesOf img .next) limit h) → blockOf j (anodesOf img .block a) ≡ blockOf img (anodesOf img .block a)
-  block-same a on = kept (anodesOf img .block a) (block-on (anodesOf img) h a on (dir-block img blocks anodes accepted h reached a on .one))
+  block-same a on = kept (anodesOf img .block a) (block-on (anodesOf img) h a on (dir-block r a on .one))
 
   pub entries-same : {t : Anodes} → SameChain (anodesOf img) t h → entriesOf j t h ≡ entriesOf img (anodesOf img) h
   unfolding entriesOf entriesIn
@@ -58,8 +54,8 @@ module _ (img : List ℕ) (blocks anodes : ℕ) (accepted : checkAnswer img bloc
       entries-along c j ∙ gather-congr (λ a. entriesIn j (s .block a)) (λ a. entriesIn img (s .block a)) (chainOf (s .next) limit h) (λ a on. rw (block-same a on))
 
   -- its entries have the bytes that they had
-  pub entry-bytes-same : (e : Entered) → Member e (entriesOf img (anodesOf img) h) → entryBytes j (e .place) ≡ entryBytes img (e .place)
+  pub entry-bytes-same : {e : Entered} → EntryIn img h e → entryBytes j (e .place) ≡ entryBytes img (e .place)
   unfolding entryBytes
-  entry-bytes-same e member =
-      let f = entry-facts img blocks anodes accepted h reached e member in
+  entry-bytes-same m =
+      let f = entry-facts m in
       rw (f .in-block, block-same (f .a₀) (f .member-chain))

@@ -21,8 +21,8 @@ use Rattle.rules.specs.Accepted.{diskSize, lastReserved}
 use Rattle.rules.specs.Format.{newDirectoryBlock}
 use Rattle.rules.specs.Changes.{withBlocks, entriesEnd, noRoom, parentOf, entryPlace, NewEntry, entryOf, madeImage}
 use Rattle.laws.specs.Tests.{eq→eqb, and, or-right}
-use Rattle.laws.specs.Sums.{oneAt-cases, oneAt-same}
-use Rattle.laws.specs.Bags.{list-cons, times-nil, times-cons, times-append, times-here}
+use Rattle.laws.specs.Sums.{oneAt-cases, oneAt-some}
+use Rattle.laws.specs.Bags.{list-cons, list-some, map-sum, times-nil, times-cons, times-append, times-here}
 use Rattle.laws.specs.Space.{Good, on-chain}
 use Rattle.laws.specs.Each.{Each, each-map}
 use Rattle.laws.specs.TreeChanges.{headed, none-headed}
@@ -32,25 +32,24 @@ use Rattle.frames.specs.Kept.{Kept}
 use Rattle.frames.specs.StoredBlocks.{inBlock-kept, blockOf-inBlock, withBlocks-kept}
 use Rattle.frames.specs.StoredBytes.{blockOf-withBlocks}
 use Rattle.frames.specs.DisjointBlocks.{DataBlock}
-use Rattle.changes.specs.Image.{WholeImage, headIn, sideIn, accepted-whole, SameDisk, stored-kept, stored-same, stored-anodes, same-then, anodes-then, not-one, not-among, reached-headed}
+use Rattle.changes.specs.Image.{WholeImage, headIn, sideIn, accepted-whole, DiskWith, stored-kept, disk-stored, disk-then, not-one, not-among, ReachedDir, reached-headed}
 use Rattle.changes.specs.FoundEntries.{enteredAt, end-bounds}
 use Rattle.changes.specs.Members.{Member, none-in, no-member, member-cons, member-gather, member-times, times-member}
-use Rattle.changes.specs.Reached.{DirBlock, reached-from-5, dir-block}
-use Rattle.changes.specs.SingleBlocks.{single-apart, single-data}
+use Rattle.changes.specs.Reached.{DirBlock, reached-not-1, dir-block}
+use Rattle.changes.specs.SingleBlocks.{single-used, single-apart, single-data}
 use Rattle.laws.specs.NewDirectory.{length-new, entries-new, head-new}
 use Rattle.changes.specs.NewEntry.{entries-put, head-put, end-new, room-found}
-use Rattle.changes.specs.MakePlan.{Fresh, fresh-free, MakeSteps, MadePlan, made-plan, made-good, made-orphan, parent-took}
+use Rattle.changes.specs.MakePlan.{Fresh, fresh-dir, fresh-free, MakeSteps, ParentGrown, MadePlan, made-plan, made-orphan}
 
 -- what stands among the numbers that g gives for a list
 times-map : (g : ℕ → ℕ) (l : List ℕ) (y : ℕ) → 0 < times y (map g l) → (a : ℕ) × (0 < times a l) × (y ≡ g a)
-times-map g [] y p = absurd (omega (arith, p, times-nil y))
-times-map g (x ∷ l) y p = elim (oneAt-cases (g x) y) [
-  | inl c ↦ (x, times-here x l, sym (c .0))
-  | inr c ↦ (let r = times-map g l y (omega (arith, p, times-cons y (g x) (map g l), c .1)) in (r .0, omega (arith, r .1, times-cons (r .0) x l), r .2))
-]
+unfolding times
+times-map g l y p =
+    let (a, before, after, parted, q) = list-some (λ x. oneAt (g x) y) l (omega (arith, p, map-sum g (λ z. oneAt z y) l)) in
+    (a, member-times a l (before, after, parted), sym (oneAt-some (g a) y q))
 
 pub first-in : (y : ℕ) (l : List ℕ) → l ≡ y ∷ [] → 0 < times y l
-first-in y l e = omega (arith, ap (times y) e, times-cons y y [], oneAt-same y y refl)
+first-in y l e = rw e (times-here y [])
 
 -- a new directory block is marked as its directory's
 pub new-marked : (i : List ℕ) (y owner parent : ℕ) → blockOf i y ≡ newDirectoryBlock owner parent → (d : Dir) → d .head ≡ owner → d .parent ≡ parent → T (isBlockOf i d y)
@@ -93,20 +92,24 @@ module _ {img : List ℕ} {blocks anodes h : ℕ} {new : NewEntry} {f : ℕ} {ro
   pub spare : (6 ≤ f) × (anodesOf img .block f ≡ 0) × T (exists img f)
   spare = fresh-free (m .fresh)
 
+  -- the directory that gets the entry
+  abbrev pub parent : ReachedDir img h
+  parent = fresh-dir (m .fresh)
+
   pub w : WholeImage img s (headIn img) (sideIn img) dirs
-  w = accepted-whole img blocks anodes (m .fresh .accepted)
+  w = accepted-whole (parent .image)
 
   pub once : headed h dirs ≡ 1
-  once = reached-headed img blocks anodes (m .fresh .accepted) h (m .fresh .reached)
+  once = reached-headed parent
 
-  pub plan : MadePlan s (headIn img) f h (new .dir) ys zs t
+  pub plan : MadePlan img s (headIn img) f h (new .dir) (noRoom room) ys zs t
   plan = made-plan img w f (spare .0) (spare .2) (m .fresh .below) (spare .1) h once (new .dir) (m .steps .between) ys (m .steps .own) (noRoom room) t zs (m .steps .parent)
 
-  pub state : (hd′ : ℕ → ℕ) × (sd′ : ℕ → ℕ) × Good limit (exists img) (diskSize img) (lastReserved img) t (systemOwns img) hd′ sd′
-  state = made-good img w f (spare .0) (spare .2) (m .fresh .below) (spare .1) h once (new .dir) (m .steps .between) ys (m .steps .own) (noRoom room) t zs (m .steps .parent)
+  abbrev pub grown : ParentGrown s (headIn img) h (noRoom room) zs t
+  grown = plan .grown
 
-  pub good : Good limit (exists img) (diskSize img) (lastReserved img) t (systemOwns img) (state .0) (state .1)
-  good = state .2
+  pub good : Good limit (exists img) (diskSize img) (lastReserved img) t (systemOwns img) (plan .hd′) (plan .sd′)
+  good = plan .good
 
   -- ---- the new blocks
 
@@ -120,32 +123,32 @@ module _ {img : List ℕ} {blocks anodes h : ℕ} {new : NewEntry} {f : ℕ} {ro
       ]
       go false c b = absurd (omega (arith, p, ap (times y) b, times-nil y))
 
-  pub parent-block : (y : ℕ) → 0 < times y zs → (a : ℕ) × (0 < times a (plan .new)) × (y ≡ t .block a)
-  parent-block y p = times-map (t .block) (plan .new) y (omega (arith, p, ap (times y) (plan .blocks)))
+  pub parent-block : (y : ℕ) → 0 < times y zs → (a : ℕ) × (0 < times a (grown .new)) × (y ≡ t .block a)
+  parent-block y p = times-map (t .block) (grown .new) y (omega (arith, p, ap (times y) (grown .blocks)))
 
   own-data : (y : ℕ) → 0 < times y ys → DataBlock img y
   own-data y p = let q = own-block y p in rw (q .1) (single-data img good f (q .0))
 
   parent-data : (y : ℕ) → 0 < times y zs → DataBlock img y
-  parent-data y p = let q = parent-block y p in rw (q .2) (single-data img good (q .0) (plan .ones (q .0) (q .1)))
+  parent-data y p = let q = parent-block y p in rw (q .2) (single-data img good (q .0) (grown .ones (q .0) (q .1)))
 
   -- they are no block of a directory that was there, and not each other's
   old-apart : (a : ℕ) → s .count a ≡ 1 → headIn img a ≢ 1 → (times (s .block a) ys ≡ 0) × (times (s .block a) zs ≡ 0)
   old-apart a one q =
-      let u : s .block a ≢ 0 = λ z. omega (arith, one, w .good .present .free-none a z) in
-      let k = plan .kept a u q in
+      let u = single-used (w .good) a one in
+      let k = grown .kept a u q in
       let now : t .count a ≡ 1 = k .0 ∙ one in (
         none-in (s .block a) ys (λ p. let o = own-block (s .block a) p in
             single-apart good a now f (o .0) (λ i. u (ap (s .block) i ∙ spare .1)) (k .1 ∙ o .1)),
         none-in (s .block a) zs (λ p. let o = parent-block (s .block a) p in
-            single-apart good a now (o .0) (plan .ones (o .0) (o .1)) (λ i. plan .apart (o .0) (o .1) .1 (rw (← i) u) (rw (← i) q)) (k .1 ∙ o .2)),
+            single-apart good a now (o .0) (grown .ones (o .0) (o .1)) (λ i. grown .apart (o .0) (o .1) (rw (← i) u) (rw (← i) q)) (k .1 ∙ o .2)),
       )
 
   new-apart : (y : ℕ) → 0 < times y ys → times y zs ≡ 0
   new-apart y p =
       let o = own-block y p in
       none-in y zs (λ q. let b = parent-block y q in
-      single-apart good f (o .0) (b .0) (plan .ones (b .0) (b .1)) (λ i. plan .apart (b .0) (b .1) .0 (sym i)) (sym (o .1) ∙ b .2))
+      single-apart good f (o .0) (b .0) (grown .ones (b .0) (b .1)) (λ i. plan .not-own (b .0) (b .1) (sym i)) (sym (o .1) ∙ b .2))
 
   -- ---- the image before the entry
 
@@ -165,34 +168,29 @@ module _ {img : List ℕ} {blocks anodes h : ℕ} {new : NewEntry} {f : ℕ} {ro
   parent-kept : Kept (λ d. times d zs ≡ 0) headed-own before
   parent-kept = withBlocks-kept headed-own zs (newDirectoryBlock h (parentOf dirs h)) (omega (arith, length-new h (parentOf dirs h)))
 
-  own-same : SameDisk img headed-own
-  own-same = same-then (stored-same img blocks anodes (m .fresh .accepted) t) own-kept (not-among ys own-data)
+  own-disk : DiskWith img t headed-own
+  own-disk = disk-then (disk-stored (parent .image) t good) own-kept (not-among ys own-data)
 
-  before-same : SameDisk img before
-  before-same = same-then own-same parent-kept (not-among zs parent-data)
-
-  before-anodes : anodesOf before ≡ t
-  before-anodes =
-      anodes-then own-same parent-kept (not-among zs parent-data) ∙ anodes-then (stored-same img blocks anodes (m .fresh .accepted) t) own-kept (not-among ys own-data)
-      ∙ stored-anodes img blocks anodes (m .fresh .accepted) t good
+  before-disk : DiskWith img t before
+  before-disk = disk-then own-disk parent-kept (not-among zs parent-data)
 
   -- a data block that is not new is the one that was
   pub kept-block : (y : ℕ) → DataBlock img y → times y ys ≡ 0 → times y zs ≡ 0 → blockOf before y ≡ blockOf img y
-  kept-block y d o p = parent-kept .block-kept y p ∙ own-kept .block-kept y o ∙ stored-kept img blocks anodes (m .fresh .accepted) t .block-kept y (d .unheld)
+  kept-block y d o p = parent-kept .block-kept y p ∙ own-kept .block-kept y o ∙ stored-kept (parent .image) t .block-kept y (d .unheld)
 
   pub old-block : (a : ℕ) → s .count a ≡ 1 → headIn img a ≢ 1 → blockOf before (s .block a) ≡ blockOf img (s .block a)
   old-block a one q = let o = old-apart a one q in kept-block (s .block a) (single-data img (w .good) a one) (o .0) (o .1)
 
   pub inside-before : (y : ℕ) → DataBlock img y → y * 512 + 512 ≤ length before
-  inside-before y d = rw (before-same .kept .length-kept) (d .inside)
+  inside-before y d = rw (before-disk .same .kept .length-kept) (d .inside)
 
   pub own-new : (y : ℕ) → 0 < times y ys → blockOf before y ≡ newDirectoryBlock f h
   own-new y p = parent-kept .block-kept y (new-apart y p)
-      ∙ blockOf-withBlocks base ys (newDirectoryBlock f h) y (length-new f h) p (rw (stored-same img blocks anodes (m .fresh .accepted) t .kept .length-kept) (own-data y p .inside))
+      ∙ blockOf-withBlocks base ys (newDirectoryBlock f h) y (length-new f h) p (rw (stored-kept (parent .image) t .length-kept) (own-data y p .inside))
 
   pub parent-new : (y : ℕ) → 0 < times y zs → blockOf before y ≡ newDirectoryBlock h (parentOf dirs h)
   parent-new y p = blockOf-withBlocks headed-own zs (newDirectoryBlock h (parentOf dirs h)) y (length-new h (parentOf dirs h)) p
-      (rw (own-same .kept .length-kept) (parent-data y p .inside))
+      (rw (own-disk .same .kept .length-kept) (parent-data y p .inside))
 
   -- ---- the directories of that image
 
@@ -221,15 +219,12 @@ module _ {img : List ℕ} {blocks anodes h : ℕ} {new : NewEntry} {f : ℕ} {ro
     pub fits : entriesEnd (blockOf before (t .block anode)) + len ≤ 510
     pub unbroken : anyIn (λ e. e .broken) (entriesIn before (t .block anode)) ≡ false
 
-  not-1 : h ≢ 1
-  not-1 e = omega (arith, e, reached-from-5 img blocks anodes (m .fresh .accepted) h (m .fresh .reached))
-
   -- a block of the directory is that of one of its anodes
   block-anode : (y : ℕ) → 0 < times y (blocksOf s h) → (a : ℕ) × Member a (chainOf (s .next) limit h) × DirBlock img h a × (y ≡ s .block a)
   unfolding blocksOf run
   block-anode y p =
       let q = member-gather (λ a. run (s .block a) (s .count a)) (chainOf (s .next) limit h) y (times-member y (blocksOf s h) p) in
-      let b = dir-block img blocks anodes (m .fresh .accepted) h (m .fresh .reached) (q .0) (q .1) in
+      let b = dir-block parent (q .0) (q .1) in
       let only : Member y (s .block (q .0) ∷ []) = rw (b .one) at (q .2) in
       (q .0, q .1, b, elim (member-cons y (s .block (q .0)) [] only) [ inl e ↦ e | inr e ↦ absurd (no-member y e) ])
 
@@ -240,13 +235,13 @@ module _ {img : List ℕ} {blocks anodes h : ℕ} {new : NewEntry} {f : ℕ} {ro
       let b = block-anode (found .0) (found .1) in
       let a = b .0 in
       let one = b .2 .one in
-      let q : headIn img a ≢ 1 = λ i. not-1 (sym (b .2 .on-chain) ∙ i) in
-      let k = plan .kept a (b .2 .in-use) q in
+      let q : headIn img a ≢ 1 = λ i. reached-not-1 parent (sym (b .2 .on-chain) ∙ i) in
+      let k = grown .kept a (b .2 .in-use) q in
       let same : blockOf before (t .block a) ≡ blockOf img (found .0) = ap (blockOf before) (k .1) ∙ old-block a one q ∙ ap (blockOf img) (sym (b .3)) in
       record {
         anode = a;
         one = k .0 ∙ one;
-        on = omega (arith, ap (times a) (plan .chain), times-append a (chainOf (s .next) limit h) (plan .new), member-times a (chainOf (s .next) limit h) (b .1));
+        on = omega (arith, ap (times a) (grown .chain), times-append a (chainOf (s .next) limit h) (grown .new), member-times a (chainOf (s .next) limit h) (b .1));
         at = omega (arith, ap (λ (o : Option ℕ). entryPlace o zs) e, found .2, ap entriesEnd same, k .1, b .3);
         fits = rw same (found .3);
         unbroken = rw (k .1, cont a one q .0) (b .2 .unbroken);
@@ -255,15 +250,15 @@ module _ {img : List ℕ} {blocks anodes h : ℕ} {new : NewEntry} {f : ℕ} {ro
   in-new : room ≡ none → Spot
   unfolding entriesIn entryLength anyIn goodComment
   in-new e =
-      let took = parent-took img w f (spare .0) (spare .2) (m .fresh .below) (spare .1) h once (new .dir) (m .steps .between) ys (m .steps .own) t zs (rw e at (m .steps .parent)) in
+      let took = grown .took (ap noRoom e) in
       let p = first-in (took .0) zs (took .1) in
       let b = parent-block (took .0) p in
       let block : blockOf before (t .block (b .0)) ≡ newDirectoryBlock h (parentOf dirs h) = ap (blockOf before) (sym (b .2)) ∙ parent-new (took .0) p in
       let end = ap entriesEnd block ∙ end-new h (parentOf dirs h) in
       record {
         anode = b .0;
-        one = plan .ones (b .0) (b .1);
-        on = omega (arith, ap (times (b .0)) (plan .chain), times-append (b .0) (chainOf (s .next) limit h) (plan .new), b .1);
+        one = grown .ones (b .0) (b .1);
+        on = omega (arith, ap (times (b .0)) (grown .chain), times-append (b .0) (chainOf (s .next) limit h) (grown .new), b .1);
         at = omega (arith, ap (λ (o : Option ℕ). entryPlace o zs) e, ap (entryPlace none) (took .1), end, b .2);
         fits = omega (arith, end, goodName-length (new .name) (m .named), leb-true (length (new .comment)) 79 (m .commented));
         unbroken = rw (block, entries-new h (parentOf dirs h) (t .block (b .0)));
@@ -308,11 +303,8 @@ module _ {img : List ℕ} {blocks anodes h : ℕ} {new : NewEntry} {f : ℕ} {ro
       ∙ blockOf-inBlock before (place / 512) (λ b. putEntry b (place % 512) (entryOf new f) (new .name) (new .comment)) (length-putEntry (blockOf before (place / 512)) (place % 512) (entryOf new f) (new .name) (new .comment))
       ∙ ap₂ (λ (y e : ℕ). putEntry (blockOf before y) e (entryOf new f) (new .name) (new .comment)) in-block at-end
 
-  pub made-same : SameDisk img (madeImage img (anodesOf img) h new f room ys t zs)
-  made-same = same-then before-same entry-kept (not-one spot-data)
-
-  pub made-anodes : anodesOf (madeImage img (anodesOf img) h new f room ys t zs) ≡ t
-  made-anodes = anodes-then before-same entry-kept (not-one spot-data) ∙ before-anodes
+  pub made-disk : DiskWith img t (madeImage img (anodesOf img) h new f room ys t zs)
+  made-disk = disk-then before-disk entry-kept (not-one spot-data)
 
   pub entries-made : entriesIn j (t .block (spot .anode)) ≡ entriesIn before (t .block (spot .anode)) ++ (entered ∷ [])
   unfolding entriesIn entryOf goodComment

@@ -1,6 +1,6 @@
 -- Make: the image that it leaves of an accepted one is accepted.
 use Prim.Native.Nat.{ℕ, _+_, _*_, _<_}
-use mathlib.Core.Path.{_≡_, refl, sym, ap, _∙_, subst}
+use mathlib.Core.Path.{_≡_, refl, sym, ap, _∙_}
 use mathlib.Core.Logic.{_≢_, _⊎_, inl, inr}
 use mathlib.Core.Bool.{Bool, true, false, cond}
 use mathlib.Core.List.{List, [], _∷_}
@@ -16,7 +16,6 @@ use Rattle.rules.specs.Anodes.{Anodes, limit, exists, anodesOf}
 use Rattle.rules.specs.Chains.{blocksOf, blockCount, systemOwns}
 use Rattle.rules.specs.Walk.{Dir, Entered, entriesIn, isBlockOf, blocksFor, itemsBy, reachedDirs}
 use Rattle.rules.specs.Accepted.{diskSize, lastReserved, checkAnswer}
-use Rattle.rules.specs.Lookup.{noDirectory}
 use Rattle.rules.specs.Space.{Plan, refused, planned, rewritten, lowestFree}
 use Rattle.rules.specs.Format.{newDirectoryBlock}
 use Rattle.rules.specs.Changes.{firstRoom, noRoom, neededBlock, entryPlace, NewEntry, entryOf, madeImage, Left, left, leftBy, madeWith, made}
@@ -28,11 +27,11 @@ use Rattle.laws.specs.RefusedSteps.{take-refused}
 use Rattle.laws.specs.Entries.{weighEntry, itemsAt-whole}
 use Rattle.laws.specs.Whole.{Whole}
 use Rattle.laws.specs.Make.{enter-file, enter-directory}
-use Rattle.changes.specs.Image.{reached-sum, whole-accepted}
+use Rattle.changes.specs.Image.{whole-accepted, reached-sum, ReachedDir}
 use Rattle.changes.specs.FoundEntries.{enteredAt}
 use Rattle.changes.specs.Reached.{reached-head}
 use Rattle.laws.specs.NewDirectory.{entries-new}
-use Rattle.changes.specs.MadeImage.{Making, spare, new-marked, first-in, once, plan, before, own-new, orphan, spot, made-same, made-anodes, entries-made, marks-made, entry-other, its-head, other-entries}
+use Rattle.changes.specs.MadeImage.{Making, spare, parent, new-marked, first-in, once, plan, before, own-new, orphan, spot, made-disk, entries-made, marks-made, entry-other, its-head, other-entries}
 
 module _ {img : List ℕ} {blocks anodes h : ℕ} {new : NewEntry} {f : ℕ} {room : Option ℕ} {ys : List ℕ} {t : Anodes} {zs : List ℕ} (m : Making img blocks anodes h new f room ys t zs) where
   abbrev s : Anodes
@@ -66,7 +65,7 @@ module _ {img : List ℕ} {blocks anodes h : ℕ} {new : NewEntry} {f : ℕ} {ro
 
   -- which is not the new chain's
   not-spot : f ≢ spot m .anode
-  not-spot e = reached-head img blocks anodes (m .fresh .accepted) h (m .fresh .reached) .in-use
+  not-spot e = reached-head (parent m) .in-use
       (ap (s .block) (sym (its-head m) ∙ ap (orphan m .0) (sym e) ∙ orphan m .2 .good .heads .at-head f (orphan m .2 .head)) ∙ spare m .1)
 
   -- the new directory has no entry
@@ -106,17 +105,13 @@ module _ {img : List ℕ} {blocks anodes h : ℕ} {new : NewEntry} {f : ℕ} {ro
       go false d = enter-file entered (orphan m .2) (spare m .0) refl (inr (none-yet d)) (spot m .anode) h (once m) (its-head m) (entriesIn j) (isBlockOf j)
           (λ a i q v. gained a i v) (λ a i q c. same-marks a i c) (is-dir (new .dir) ∙ d)
 
-  image-whole : Whole (exists img) (diskSize img) (lastReserved img) (anodesOf j) (systemOwns img) (orphan m .0) (orphan m .1) (entriesIn j) (isBlockOf j) (grown (new .dir))
-  image-whole = subst (λ (x : Anodes). Whole (exists img) (diskSize img) (lastReserved img) x (systemOwns img) (orphan m .0) (orphan m .1) (entriesIn j) (isBlockOf j) (grown (new .dir)))
-      (sym (made-anodes m)) made-whole
-
   pub image-accepted : checkAnswer (madeImage img (anodesOf img) h new f room ys t zs) blocks anodes ≡ 0
-  image-accepted = whole-accepted img j blocks anodes (m .fresh .accepted) (made-same m) image-whole
+  image-accepted = whole-accepted (parent m .image) (made-disk m) made-whole
 
   -- the directories that were reached are, and the new one
   pub made-dirs : (weight : Dir → ℕ) → sumList weight (reachedDirs (madeImage img (anodesOf img) h new f room ys t zs) (anodesOf (madeImage img (anodesOf img) h new f room ys t zs)))
       ≡ sumList weight (reachedDirs img (anodesOf img)) + cond (new .dir) (weight (record { head = f; parent = h })) 0
-  made-dirs weight = reached-sum img j blocks anodes (m .fresh .accepted) (made-same m) image-whole weight ∙ go (new .dir)
+  made-dirs weight = reached-sum (parent m .image) (made-disk m) made-whole weight ∙ go (new .dir)
     where
       go : (b : Bool) → sumList weight (grown b) ≡ sumList weight dirs + cond b (weight (record { head = f; parent = h })) 0
       go true = omega (arith, list-cons weight (record { head = f; parent = h }) dirs)
@@ -167,13 +162,14 @@ module _ (img : List ℕ) (s : Anodes) (h : ℕ) (new : NewEntry) where
   made-answer = made-cases (λ o. (o .answer ≡ 0) ⊎ ((o .answer ≡ 27) ⊎ (o .answer ≡ 28))) (inr (inl refl)) (inr (inr refl)) (λ l r ys e t zs q. inl refl)
 
 -- what a make leaves of an accepted image is accepted
-pub make-accepted : (img : List ℕ) (blocks anodes : ℕ) → checkAnswer img blocks anodes ≡ 0 → (h : ℕ) → noDirectory img (anodesOf img) h ≡ false → (new : NewEntry) → goodName (new .name) ≡ true →
-    goodComment (new .comment) ≡ true → checkAnswer (made img (anodesOf img) h new .image) blocks anodes ≡ 0
-make-accepted img blocks anodes accepted h reached new named commented =
-    made-cases img (anodesOf img) h new (λ o. checkAnswer (o .image) blocks anodes ≡ 0) accepted accepted
-    (λ l r ys e t zs q. image-accepted (record {
-      fresh = record { accepted = accepted; reached = reached; lowest = refl; below = l };
-      steps = record { between = r; own = e; roomy = refl; parent = q };
+pub make-accepted : {img : List ℕ} {h : ℕ} (r : ReachedDir img h) (new : NewEntry) → goodName (new .name) ≡ true → goodComment (new .comment) ≡ true →
+    checkAnswer (made img (anodesOf img) h new .image) (r .image .blocks) (r .image .anodes) ≡ 0
+make-accepted {img} {h} r new named commented =
+    let a = r .image in
+    made-cases img (anodesOf img) h new (λ o. checkAnswer (o .image) (a .blocks) (a .anodes) ≡ 0) (a .accepted) (a .accepted)
+    (λ l between ys e t zs q. image-accepted (record {
+      fresh = record { accepted = a .accepted; reached = r .reached; lowest = refl; below = l };
+      steps = record { between = between; own = e; roomy = refl; parent = q };
       named = named;
       commented = commented;
     }))

@@ -3,7 +3,7 @@ use Prim.Native.Nat.{ℕ, _+_, _*_, _/_, _%_, _≤_, _<_}
 use mathlib.Core.Path.{_≡_, refl, sym, ap, ap₂, _∙_}
 use mathlib.Core.Logic.{_≢_, inl, inr}
 use mathlib.Core.Bool.{Bool, true, false, cond}
-use mathlib.Core.List.{List, [], _∷_, _++_, map, append-assoc, append-nil}
+use mathlib.Core.List.{List, [], _∷_, _++_, map, map-append, append-assoc, append-nil}
 use mathlib.Core.Option.{Option}
 use native.Mathlib.Omega.{arith}
 use lib.ListN.{length, getD, take, drop}
@@ -22,8 +22,8 @@ use Rattle.rules.specs.Walk.{Entered, entriesIn, reachedDirs}
 use Rattle.rules.specs.Lookup.{noDirectory, entriesOf, nameAt, contents}
 use Rattle.rules.specs.Changes.{entriesEnd, parentOf, entryPlace, NewEntry, entryOf, madeImage}
 use Rattle.laws.specs.Tests.{same?, less?}
-use Rattle.laws.specs.Sums.{oneAt-cases, oneAt-same, oneAt-other}
-use Rattle.laws.specs.Bags.{times-nil, times-cons, times-append, gather-none, gather-append}
+use Rattle.laws.specs.Sums.{oneAt-same, oneAt-other}
+use Rattle.laws.specs.Bags.{times-cons, times-append, gather-none, gather-append, gather-kept}
 use Rattle.laws.specs.Heads.{Head}
 use Rattle.laws.specs.Space.{on-chain}
 use Rattle.laws.specs.TreeChanges.{headed}
@@ -31,23 +31,22 @@ use Rattle.laws.specs.ChainBlocks.{stands-once}
 use Rattle.laws.specs.Each.{OneMore}
 use Rattle.laws.specs.DirectoryTakes.{dir-head}
 use Rattle.frames.specs.DisjointBlocks.{chains-apart, chain-block}
-use Rattle.changes.specs.Image.{headIn, headed-reached, headed-same, reached-headed}
+use Rattle.frames.specs.StoredBytes.{BlocksKept}
+use Rattle.changes.specs.Image.{headIn, headed-reached, headed-same, ReachedDir}
 use Rattle.changes.specs.FoundEntries.{part-same, enteredAt, BlockEntry, block-standing}
 use Rattle.changes.specs.Members.{Member, none-in, member-first, member-times, times-member, gather-congr}
-use Rattle.changes.specs.Reached.{block-on, reached-from-5, reached-not-1, reached-head, dir-block, entry-facts, not-file}
-use Rattle.changes.specs.KeptChains.{SameChain, same-blocks, BlocksKept, contents-same, entries-same}
+use Rattle.changes.specs.Reached.{EntryIn, entry-not-1, block-on, reached-not-1, reached-head, dir-block, entry-facts, not-file}
+use Rattle.changes.specs.KeptChains.{SameChain, same-blocks, contents-same, entries-same}
 use Rattle.changes.specs.EntryBytes.{entryBytes, bytes-at, with-length}
 use Rattle.laws.specs.NewDirectory.{entries-new}
 use Rattle.changes.specs.NewEntry.{comment-put}
-use Rattle.changes.specs.MadeImage.{Making, spare, w, plan, own-block, parent-block, before, kept-block, parent-new, cont, old-block, orphan, spot, inside-before, spot-data, in-block, at-end, entry-kept, entry-block, entry-other, made-anodes, entries-made, other-entries}
+use Rattle.changes.specs.MadeImage.{Making, spare, parent, w, once, plan, grown, own-block, parent-block, before, kept-block, parent-new, cont, old-block, orphan, spot, inside-before, spot-data, in-block, at-end, entry-kept, entry-block, entry-other, made-disk, entries-made, other-entries}
 use Rattle.changes.specs.Make.{made-dirs}
 
 times-mapped : (g : ℕ → ℕ) (l : List ℕ) (a : ℕ) → 0 < times a l → 0 < times (g a) (map g l)
-times-mapped g [] a p = absurd (omega (arith, p, times-nil a))
-times-mapped g (x ∷ l) a p = elim (oneAt-cases x a) [
-  | inl c ↦ omega (arith, times-cons (g a) (g x) (map g l), oneAt-same (g x) (g a) (ap g (c .0)))
-  | inr c ↦ omega (arith, times-cons (g a) (g x) (map g l), times-mapped g l a (omega (arith, p, c .1, times-cons a x l)))
-]
+times-mapped g l a p =
+    let (before, after, parted) = times-member a l p in
+    member-times (g a) (map g l) (map g before, map g after, ap (map g) parted ∙ map-append g before (a ∷ after))
 
 -- the first element's list joined to what stands before
 gather-first : (g : ℕ → List Entered) (k : List Entered) (a : ℕ) (l : List ℕ) → k ++ gather g (a ∷ l) ≡ k ++ g a ++ gather g l
@@ -81,21 +80,21 @@ module _ {img : List ℕ} {blocks anodes h : ℕ} {new : NewEntry} {f : ℕ} {ro
   entered = enteredAt (entryOf new f) (entryPlace room zs)
 
   -- an anode of a directory that was reached
-  module _ (k : ℕ) (r : noDirectory img s k ≡ false) (a : ℕ) (on : Member a (chainOf (s .next) limit k)) where
+  module _ {k : ℕ} (r : ReachedDir img k) (a : ℕ) (on : Member a (chainOf (s .next) limit k)) where
     one : s .count a ≡ 1
-    one = dir-block img blocks anodes (m .fresh .accepted) k r a on .one
+    one = dir-block r a on .one
 
     head-not-1 : headIn img a ≢ 1
-    head-not-1 q = omega (arith, reached-from-5 img blocks anodes (m .fresh .accepted) k r, dir-block img blocks anodes (m .fresh .accepted) k r a on .on-chain, q)
+    head-not-1 q = reached-not-1 r (sym (dir-block r a on .on-chain) ∙ q)
 
     same-place : (t .count a ≡ s .count a) × (t .block a ≡ s .block a)
-    same-place = plan m .kept a (dir-block img blocks anodes (m .fresh .accepted) k r a on .in-use) head-not-1
+    same-place = grown m .kept a (dir-block r a on .in-use) head-not-1
 
     before-same : entriesIn (before m) (t .block a) ≡ entriesIn img (s .block a)
     before-same = ap (entriesIn (before m)) (same-place .1) ∙ cont m a one head-not-1 .0
 
-  head-now : (k : ℕ) → noDirectory img s k ≡ false → Head (t .next) (t .block) k
-  head-now k r = dir-head (orphan m .2) k (reached-headed img blocks anodes (m .fresh .accepted) k r)
+  head-now : Head (t .next) (t .block) h
+  head-now = dir-head (orphan m .2) h (once m)
 
   -- ---- the entries of the directory itself
 
@@ -108,34 +107,33 @@ module _ {img : List ℕ} {blocks anodes h : ℕ} {new : NewEntry} {f : ℕ} {ro
   -- each anode of it has one block
   ones : (a : ℕ) → 0 < times a (chainOf (t .next) limit h) → t .count a ≡ 1
   ones a p = elim (less? 0 (times a (chainOf (s .next) limit h))) [
-    | inl q ↦ (let on = times-member a (chainOf (s .next) limit h) q in same-place h (m .fresh .reached) a on .0 ∙ one h (m .fresh .reached) a on)
-    | inr q ↦ plan m .ones a (omega (arith, p, q, ap (times a) (plan m .chain), times-append a (chainOf (s .next) limit h) (plan m .new)))
+    | inl q ↦ (let on = times-member a (chainOf (s .next) limit h) q in same-place (parent m) a on .0 ∙ one (parent m) a on)
+    | inr q ↦ grown m .ones a (omega (arith, p, q, ap (times a) (grown m .chain), times-append a (chainOf (s .next) limit h) (grown m .new)))
   ]
 
   -- a new block of it has no entry
-  new-none : (a : ℕ) → 0 < times a (plan m .new) → was a ≡ []
+  new-none : (a : ℕ) → 0 < times a (grown m .new) → was a ≡ []
   unfolding entriesIn
   new-none a p =
-      let on : 0 < times (t .block a) zs = rw (plan m .blocks) (times-mapped (t .block) (plan m .new) a p) in
+      let on : 0 < times (t .block a) zs = rw (grown m .blocks) (times-mapped (t .block) (grown m .new) a p) in
       rw (parent-new m (t .block a) on) (entries-new h (parentOf (reachedDirs img s) h) (t .block a))
 
   before-all : gather was (chainOf (t .next) limit h) ≡ entriesOf img s h
   unfolding entriesOf
   before-all =
-      ap (gather was) (plan m .chain) ∙ gather-append was (chainOf (s .next) limit h) (plan m .new)
+      ap (gather was) (grown m .chain) ∙ gather-append was (chainOf (s .next) limit h) (grown m .new)
       ∙ ap₂ (λ (k l : List Entered). k ++ l)
-      (gather-congr was (λ a. entriesIn img (s .block a)) (chainOf (s .next) limit h) (λ a on. before-same h (m .fresh .reached) a on))
-      (gather-none was (plan m .new) new-none)
+      (gather-congr was (λ a. entriesIn img (s .block a)) (chainOf (s .next) limit h) (before-same (parent m)))
+      (gather-none was (grown m .new) new-none)
       ∙ append-nil (gather (λ a. entriesIn img (s .block a)) (chainOf (s .next) limit h))
 
   now-all : entriesOf j (anodesOf j) h ≡ gather now (chainOf (t .next) limit h)
   unfolding entriesOf
-  now-all = ap (λ (x : Anodes). entriesOf j x h) (made-anodes m)
+  now-all = ap (λ (x : Anodes). entriesOf j x h) (made-disk m .anodes)
 
   -- along other anodes of it nothing has changed
   now-was : (l : List ℕ) → ((a : ℕ) → times a l ≤ times a (chainOf (t .next) limit h)) → times (spot m .anode) l ≡ 0 → gather now l ≡ gather was l
-  now-was l part none = gather-congr now was l (λ a on. let p = member-times a l on in
-      other-entries m a (ones a (omega (arith, p, part a))) (λ e. omega (arith, p, none, ap (λ (x : ℕ). times x l) e)))
+  now-was l part none = gather-kept was now l (λ a p. other-entries m a (ones a (omega (arith, p, part a))) (λ e. omega (arith, p, none, ap (λ (x : ℕ). times x l) e)))
 
   -- the directory has its entries and the new one
   pub entry-added : OneMore (enteredAt (entryOf new f) (entryPlace room zs)) (entriesOf img (anodesOf img) h)
@@ -145,14 +143,14 @@ module _ {img : List ℕ} {blocks anodes h : ℕ} {new : NewEntry} {f : ℕ} {ro
       go : Member (spot m .anode) (chainOf (t .next) limit h) → OneMore (enteredAt (entryOf new f) (entryPlace room zs)) (entriesOf img s h) (entriesOf j (anodesOf j) h)
       go (front, back, parted) =
           let a = spot m .anode in
-          let once = stands-once (orphan m .2 .good) h (head-now h (m .fresh .reached)) a front back parted in
+          let alone = stands-once (orphan m .2 .good) h head-now a front back parted in
           let all : (x : ℕ) → times x (chainOf (t .next) limit h) ≡ times x front + (oneAt a x + times x back) = λ x.
           ap (times x) parted ∙ times-append x front (a ∷ back) ∙ ap (λ (n : ℕ). times x front + n) (times-cons x a back) in (
             gather was front ++ was a,
             gather was back,
             sym before-all ∙ ap (gather was) parted ∙ gather-append was front (a ∷ back) ∙ gather-first was (gather was front) a back,
             now-all ∙ ap (gather now) parted ∙ gather-append now front (a ∷ back) ∙ gather-first now (gather now front) a back
-                ∙ ap₂ (λ (k l : List Entered). k ++ now a ++ l) (now-was front (λ x. omega (arith, all x)) (once .0)) (now-was back (λ x. omega (arith, all x)) (once .1))
+                ∙ ap₂ (λ (k l : List Entered). k ++ now a ++ l) (now-was front (λ x. omega (arith, all x)) (alone .0)) (now-was back (λ x. omega (arith, all x)) (alone .1))
                 ∙ ap (λ (k : List Entered). gather was front ++ k ++ gather was back) (entries-made m)
                 ∙ ap (λ (k : List Entered). k ++ gather was back) (sym (append-assoc (gather was front) (was a) (entered ∷ [])))
                 ∙ append-assoc (gather was front ++ was a) (entered ∷ []) (gather was back),
@@ -181,12 +179,12 @@ module _ {img : List ℕ} {blocks anodes h : ℕ} {new : NewEntry} {f : ℕ} {ro
   module _ (k : ℕ) (d : Head (s .next) (s .block) k) (k1 : k ≢ 1) (kh : k ≢ h) where
     same-chain : SameChain s t k
     same-chain = record {
-      same-anodes = plan m .others k d k1 kh;
-      same-extents = λ a p. let c = on-chain (w m .good) k d a p in plan m .kept a (c .1) (λ q. k1 (sym (c .0) ∙ q));
+      same-anodes = grown m .others k d k1 kh;
+      same-extents = λ a p. let c = on-chain (w m .good) k d a p in grown m .kept a (c .1) (λ q. k1 (sym (c .0) ∙ q));
     }
 
     now-head : Head (t .next) (t .block) k
-    now-head = plan m .stays k d
+    now-head = grown m .stays k d
 
     not-f : k ≢ f
     not-f e = d .in-use (ap (s .block) e ∙ spare m .1)
@@ -204,7 +202,7 @@ module _ {img : List ℕ} {blocks anodes h : ℕ} {new : NewEntry} {f : ℕ} {ro
     apart-h : (a : ℕ) → 0 < times a (chainOf (t .next) limit h) → 0 < times (t .block a) (blocksOf t k) → ⊥
     apart-h a on p = omega (
       arith,
-      chains-apart (orphan m .2 .good) k h now-head (head-now h (m .fresh .reached)) kh (t .block a) p,
+      chains-apart (orphan m .2 .good) k h now-head head-now kh (t .block a) p,
       block-on t h a (times-member a (chainOf (t .next) limit h) on) (ones a on),
     )
 
@@ -213,27 +211,24 @@ module _ {img : List ℕ} {blocks anodes h : ℕ} {new : NewEntry} {f : ℕ} {ro
         entry-kept m .block-kept y (λ e. apart-h (spot m .anode) (spot m .on) (rw (← e) p))
         ∙ kept-block m y (chain-block img (orphan m .2 .good) k now-head y p) (none-in y ys (apart-f y p))
         (none-in y zs (λ q. let b = parent-block m y q in
-        apart-h (b .0) (omega (arith, b .1, ap (times (b .0)) (plan m .chain), times-append (b .0) (chainOf (s .next) limit h) (plan m .new))) (rw (← (b .2)) p)))
+        apart-h (b .0) (omega (arith, b .1, ap (times (b .0)) (grown m .chain), times-append (b .0) (chainOf (s .next) limit h) (grown m .new))) (rw (← (b .2)) p)))
 
     blocks-kept : BlocksKept img j s k
     blocks-kept y p = block-same y (rw (same-blocks same-chain) p)
 
   -- every file that was there has the bytes that it had
-  pub contents-kept : (k : ℕ) → noDirectory img (anodesOf img) k ≡ false → (e : Entered) → Member e (entriesOf img (anodesOf img) k) → e .dir ≡ false →
+  pub contents-kept : {k : ℕ} {e : Entered} → EntryIn img k e → e .dir ≡ false →
       contents (madeImage img (anodesOf img) h new f room ys t zs) (anodesOf (madeImage img (anodesOf img) h new f room ys t zs)) e ≡ contents img (anodesOf img) e
-  contents-kept k r e on file =
-      let g = entry-facts img blocks anodes (m .fresh .accepted) k r e on in
-      let e1 : e .anode ≢ 1 = λ q. omega (arith, q, g .from-6) in
-      let eh : e .anode ≢ h = λ q. not-file img blocks anodes (m .fresh .accepted) h (m .fresh .reached) k e g file (sym q) in
-      rw (made-anodes m) (contents-same img j e (same-chain (e .anode) (g .head) e1 eh) (blocks-kept (e .anode) (g .head) e1 eh))
+  contents-kept {e = e} n file =
+      let g = entry-facts n in
+      let eh : e .anode ≢ h = λ q. not-file (parent m) g file (sym q) in
+      rw (made-disk m .anodes) (contents-same img j e (same-chain (e .anode) (g .head) (entry-not-1 g) eh) (blocks-kept (e .anode) (g .head) (entry-not-1 g) eh))
 
   -- every other directory has the entries that it had
-  pub entries-kept : (k : ℕ) → noDirectory img (anodesOf img) k ≡ false → k ≢ h →
+  pub entries-kept : {k : ℕ} → ReachedDir img k → k ≢ h →
       entriesOf (madeImage img (anodesOf img) h new f room ys t zs) (anodesOf (madeImage img (anodesOf img) h new f room ys t zs)) k ≡ entriesOf img (anodesOf img) k
-  entries-kept k r kh =
-      let d = reached-head img blocks anodes (m .fresh .accepted) k r in
-      let k1 = reached-not-1 img blocks anodes (m .fresh .accepted) k r in
-      rw (made-anodes m) (entries-same img blocks anodes (m .fresh .accepted) k r j (blocks-kept k d k1 kh) (same-chain k d k1 kh))
+  entries-kept {k} r kh =
+      rw (made-disk m .anodes) (entries-same r j (blocks-kept k (reached-head r) (reached-not-1 r) kh) (same-chain k (reached-head r) (reached-not-1 r) kh))
 
   -- ---- the bytes of entries
 
@@ -246,20 +241,19 @@ module _ {img : List ℕ} {blocks anodes h : ℕ} {new : NewEntry} {f : ℕ} {ro
       ∙ ap (λ (b : List ℕ). putEntry b (entriesEnd b) (entryOf new f) (new .name) (new .comment)) (ap (blockOf (before m)) same ∙ old)
 
   -- those of an entry that was there are the same
-  pub bytes-kept : (k : ℕ) → noDirectory img (anodesOf img) k ≡ false → (e : Entered) → Member e (entriesOf img (anodesOf img) k) →
-      entryBytes (madeImage img (anodesOf img) h new f room ys t zs) (e .place) ≡ entryBytes img (e .place)
+  pub bytes-kept : {k : ℕ} {e : Entered} → EntryIn img k e → entryBytes (madeImage img (anodesOf img) h new f room ys t zs) (e .place) ≡ entryBytes img (e .place)
   unfolding entriesIn
-  bytes-kept k r e on =
-      let g = entry-facts img blocks anodes (m .fresh .accepted) k r e on in
+  bytes-kept {e = e} n =
+      let g = entry-facts n in
       let a = g .a₀ in
-      let kept = same-place k r a (g .member-chain) in
-      let old = old-block m a (one k r a (g .member-chain)) (head-not-1 k r a (g .member-chain)) in
+      let kept = same-place (n .directory) a (g .member-chain) in
+      let old = old-block m a (g .block-facts .one) (head-not-1 (n .directory) a (g .member-chain)) in
       let at = e .place % 512 in
       let place : e .place ≡ s .block a * 512 + at = omega (arith, g .in-block) in
       bytes-at j (e .place) (s .block a) at place (omega arith) ∙ elim (same? a (spot m .anode)) [
         | inl q ↦ rw (made-block a q (kept .1) old)
             (bytes-put (record { whole = g .block-facts .whole; unbroken = g .block-facts .unbroken; parted = g .member; place = place }) (entryOf new f) (new .name) (new .comment))
-        | inr q ↦ rw (ap (blockOf j) (sym (kept .1)) ∙ entry-other m a (kept .0 ∙ one k r a (g .member-chain)) q ∙ ap (blockOf (before m)) (kept .1) ∙ old)
+        | inr q ↦ rw (ap (blockOf j) (sym (kept .1)) ∙ entry-other m a (kept .0 ∙ g .block-facts .one) q ∙ ap (blockOf (before m)) (kept .1) ∙ old)
       ] ∙ sym (bytes-at img (e .place) (s .block a) at place (omega arith))
 
   new-whole : length (blockOf (before m) (t .block (spot m .anode))) ≡ 512

@@ -2,7 +2,7 @@
 use Prim.Native.Nat.{ℕ, _≤_, _<_}
 use mathlib.Core.Path.{_≡_, refl, sym, ap, _∙_, subst}
 use mathlib.Core.Logic.{_≢_, inl, inr}
-use mathlib.Core.Bool.{Bool, true, false, cond}
+use mathlib.Core.Bool.{Bool, true, false, cond, true≢false}
 use mathlib.Core.List.{List, [], _∷_, _++_, map, append-nil}
 use mathlib.Core.Option.{Option}
 use native.Mathlib.Omega.{arith}
@@ -32,6 +32,7 @@ use Rattle.laws.specs.OwnBlock.{own-filled}
 use Rattle.laws.specs.Orphan.{Orphaned, not-dir, orphan-changed}
 use Rattle.laws.specs.DirectoryTakes.{find-headed, dir-head, dir-not-1, dir-taken, directory-takes}
 use Rattle.laws.specs.Make.{fresh-stays, fresh-chain, fresh-orphan}
+use Rattle.changes.specs.Image.{ReachedDir}
 
 -- h heads a reached directory of an accepted image, and f is the lowest free anode
 pub record Fresh (img : List ℕ) (blocks anodes h f : ℕ) : Type 0 where
@@ -39,6 +40,9 @@ pub record Fresh (img : List ℕ) (blocks anodes h f : ℕ) : Type 0 where
   pub reached : noDirectory img (anodesOf img) h ≡ false
   pub lowest : lowestFree limit (exists img) (lastReserved img) (anodesOf img) ≡ f
   pub below : f < limit
+
+abbrev pub fresh-dir : {img : List ℕ} {blocks anodes h f : ℕ} → Fresh img blocks anodes h f → ReachedDir img h
+fresh-dir {blocks = blocks} {anodes = anodes} x = record { image = record { blocks = blocks; anodes = anodes; accepted = x .accepted }; reached = x .reached }
 
 -- the lowest free anode is free
 pub fresh-free : {img : List ℕ} {blocks anodes h f : ℕ} → Fresh img blocks anodes h f → (6 ≤ f) × (anodesOf img .block f ≡ 0) × T (exists img f)
@@ -55,22 +59,31 @@ pub record MakeSteps (img : List ℕ) (dir : Bool) (len h f : ℕ) (room : Optio
   pub roomy : firstRoom img len (blocksOf (anodesOf img) h) ≡ room
   pub parent : neededBlock img (noRoom room) between h ≡ planned t zs
 
--- what the steps of a make leave from s to t, where f is the fresh head and h the parent's, ys the own block and zs the parent's new one
-pub record MadePlan (s : Anodes) (hd : ℕ → ℕ) (f h : ℕ) (dir : Bool) (ys zs : List ℕ) (t : Anodes) : Type 0 where
-  pub own-chain : chainOf (t .next) limit f ≡ f ∷ []
-  pub own-count : t .count f ≡ cond dir 1 0
-  pub own-blocks : ys ≡ cond dir (t .block f ∷ []) []
+-- what steps from s to t have made of the chain of the parent h, and of the others: zs is the block that it took where it needed one
+pub record ParentGrown (s : Anodes) (hd : ℕ → ℕ) (h : ℕ) (needed : Bool) (zs : List ℕ) (t : Anodes) : Type 0 where
   -- the parent's new anode, if any
   pub new : List ℕ
   pub chain : chainOf (t .next) limit h ≡ chainOf (s .next) limit h ++ new
   pub ones : (a : ℕ) → 0 < times a new → t .count a ≡ 1
   pub blocks : zs ≡ map (t .block) new
+  pub took : needed ≡ true → (y : ℕ) × (zs ≡ y ∷ [])
   -- which was free, or the free list's
-  pub apart : (a : ℕ) → 0 < times a new → (a ≢ f) × (s .block a ≢ 0 → hd a ≢ 1 → ⊥)
+  pub apart : (a : ℕ) → 0 < times a new → s .block a ≢ 0 → hd a ≢ 1 → ⊥
   -- no anode but the free list's gets other blocks, and every other chain stays
   pub kept : (a : ℕ) → s .block a ≢ 0 → hd a ≢ 1 → (t .count a ≡ s .count a) × (t .block a ≡ s .block a)
   pub stays : (m : ℕ) → Head (s .next) (s .block) m → Head (t .next) (t .block) m
   pub others : (m : ℕ) → Head (s .next) (s .block) m → m ≢ 1 → m ≢ h → chainOf (t .next) limit m ≡ chainOf (s .next) limit m
+
+-- what the steps of a make leave from s to t, where f is the fresh head and ys its own block
+pub record MadePlan (img : List ℕ) (s : Anodes) (hd : ℕ → ℕ) (f h : ℕ) (dir needed : Bool) (ys zs : List ℕ) (t : Anodes) : Type 0 where
+  pub hd′ : ℕ → ℕ
+  pub sd′ : ℕ → ℕ
+  pub good : Good limit (exists img) (diskSize img) (lastReserved img) t (systemOwns img) hd′ sd′
+  pub own-chain : chainOf (t .next) limit f ≡ f ∷ []
+  pub own-count : t .count f ≡ cond dir 1 0
+  pub own-blocks : ys ≡ cond dir (t .block f ∷ []) []
+  pub grown : ParentGrown s hd h needed zs t
+  pub not-own : (a : ℕ) → 0 < times a (grown .new) → a ≢ f
 
 module _ (img : List ℕ) {s : Anodes} {hd sd : ℕ → ℕ} {entries : ℕ → List Entered} {marked : Dir → ℕ → Bool} {dirs : List Dir}
     (w : Whole (exists img) (diskSize img) (lastReserved img) s (systemOwns img) hd sd entries marked dirs)
@@ -128,45 +141,27 @@ module _ (img : List ℕ) {s : Anodes} {hd sd : ℕ → ℕ} {entries : ℕ → 
     o : Orphaned (exists img) (diskSize img) (lastReserved img) f r (systemOwns img) (step .hd′) (step .sd′) entries marked dirs
     o = owned entries marked (λ a i q. (refl, λ d. refl))
 
-    record ParentStep (t : Anodes) (zs : List ℕ) : Type 0 where
-      heads-now : ℕ → ℕ
-      sides-now : ℕ → ℕ
-      good : Good limit (exists img) (diskSize img) (lastReserved img) t (systemOwns img) heads-now sides-now
-      new : List ℕ
-      chain : chainOf (t .next) limit h ≡ chainOf (r .next) limit h ++ new
-      ones : (a : ℕ) → 0 < times a new → t .count a ≡ 1
-      blocks : zs ≡ map (t .block) new
-      apart : (a : ℕ) → 0 < times a new → r .block a ≢ 0 → step .hd′ a ≢ 1 → ⊥
-      kept : (a : ℕ) → r .block a ≢ 0 → step .hd′ a ≢ 1 → (t .count a ≡ r .count a) × (t .block a ≡ r .block a)
-      stays : (m : ℕ) → Head (r .next) (r .block) m → Head (t .next) (t .block) m
-      others : (m : ℕ) → Head (r .next) (r .block) m → m ≢ 1 → m ≢ h → chainOf (t .next) limit m ≡ chainOf (r .next) limit m
-
-    parent-none : ParentStep r []
+    parent-none : ParentGrown r (step .hd′) h false [] r
     parent-none = record {
-      heads-now = step .hd′;
-      sides-now = step .sd′;
-      good = step .good;
       new = [];
       chain = sym (append-nil (chainOf (r .next) limit h));
       ones = λ a p. absurd (omega (arith, p, times-nil a));
       blocks = refl;
+      took = λ e. absurd (true≢false (sym e));
       apart = λ a p u q. absurd (omega (arith, p, times-nil a));
       kept = λ a u q. (refl, refl);
       stays = λ m d. d;
       others = λ m d m1 mh. refl;
     }
 
-    parent-step : (needed : Bool) (t : Anodes) (zs : List ℕ) → neededBlock img needed r h ≡ planned t zs → ParentStep t zs
+    parent-grown : (needed : Bool) (t : Anodes) (zs : List ℕ) → neededBlock img needed r h ≡ planned t zs → ParentGrown r (step .hd′) h needed zs t
     unfolding neededBlock
-    parent-step false t zs e = let q = planned-same r t [] zs e in subst (ParentStep t) (sym (q .1)) (subst (λ (x : Anodes). ParentStep x []) (q .0) parent-none)
-    parent-step true t zs e =
+    parent-grown false t zs e = let q = planned-same r t [] zs e in rw (q .1, sym (q .0)) parent-none
+    parent-grown true t zs e =
         let x = dir-taken o h reached t zs e in
         let m = take-good (o .good) h (dir-head o h reached) (dir-not-1 o h reached) true t zs e in
         let sh = m .shift in
         record {
-          heads-now = m .hd′;
-          sides-now = m .sd′;
-          good = m .good;
           new = x .2 .anode ∷ [];
           chain = x .2 .chain;
           ones = λ a p. elim (oneAt-cases (x .2 .anode) a) [
@@ -174,6 +169,7 @@ module _ (img : List ℕ) {s : Anodes} {hd sd : ℕ → ℕ} {entries : ℕ → 
             | inr c ↦ absurd (omega (arith, p, times-cons a (x .2 .anode) [], times-nil a, c .1))
           ];
           blocks = x .1 ∙ ap (λ (y : ℕ). y ∷ []) (sym (x .2 .at));
+          took = λ n. (x .0, x .1);
           apart = λ a p u q.
               let now = times-on-chain (m .good .linked) (m .good .heads) h (sh .stays h (dir-head o h reached)) a in
               let twice = ap (times a) (x .2 .chain) ∙ times-append a (chainOf (r .next) limit h) (x .2 .anode ∷ []) in
@@ -196,6 +192,12 @@ module _ (img : List ℕ) {s : Anodes} {hd sd : ℕ → ℕ} {entries : ℕ → 
           stays = sh .stays;
           others = λ k d k1 kh. shift-chain (o .good) (m .good) sh k d k1 kh;
         }
+
+    parent-good : (needed : Bool) (t : Anodes) (zs : List ℕ) → neededBlock img needed r h ≡ planned t zs →
+        (hd′ : ℕ → ℕ) × (sd′ : ℕ → ℕ) × Good limit (exists img) (diskSize img) (lastReserved img) t (systemOwns img) hd′ sd′
+    unfolding neededBlock
+    parent-good false t zs e = (step .hd′, step .sd′, rw (sym (planned-same r t [] zs e .0)) (step .good))
+    parent-good true t zs e = let m = take-good (o .good) h (dir-head o h reached) (dir-not-1 o h reached) true t zs e in (m .hd′, m .sd′, m .good)
 
     -- nothing names the new chain yet
     parent-orphan : (entries′ : ℕ → List Entered) (marked′ : Dir → ℕ → Bool) → Orphaned (exists img) (diskSize img) (lastReserved img) f r (systemOwns img) (step .hd′) (step .sd′) entries′ marked′ dirs →
@@ -239,32 +241,33 @@ module _ (img : List ℕ) {s : Anodes} {hd sd : ℕ → ℕ} {entries : ℕ → 
         let x = step .shift .apart a used not-1 not-f in
         (x .same-count ∙ changed-other (s .count) f 0 a af, x .same-block ∙ b, step .shift .same-hd a used not-1 not-f ∙ k)
 
-    pub made-plan : (needed : Bool) (t : Anodes) (zs : List ℕ) → neededBlock img needed r h ≡ planned t zs → MadePlan s hd f h dir ys zs t
+    pub made-plan : (needed : Bool) (t : Anodes) (zs : List ℕ) → neededBlock img needed r h ≡ planned t zs → MadePlan img s hd f h dir needed ys zs t
     unfolding rewritten
     made-plan needed t zs e =
-        let p = parent-step needed t zs e in
+        let p = parent-grown needed t zs e in
+        let now = parent-good needed t zs e in
         let mine = p .kept f (own-head .in-use) (λ q. omega (arith, f6, step .good .heads .at-head f own-head, q)) in
         record {
+          hd′ = now .0;
+          sd′ = now .1;
+          good = now .2;
           own-chain = p .others f own-head (λ q. omega (arith, f6, q)) (λ q. not-own (sym q)) ∙ step .chain;
           own-count = mine .0 ∙ step .count;
           own-blocks = step .blocks ∙ ap (λ (y : ℕ). cond dir (y ∷ []) []) (sym (mine .1));
-          new = p .new;
-          chain = p .chain ∙ ap (λ (l : List ℕ). l ++ p .new) (own-kept h (dir-head orphan h reached) (dir-not-1 orphan h reached) not-own);
-          ones = p .ones;
-          blocks = p .blocks;
-          apart = λ a n. (
-            λ i. p .apart a n (rw i (own-head .in-use)) (λ q. omega (arith, f6, step .good .heads .at-head f own-head, ap (step .hd′) (sym i) ∙ q)),
-            λ u q. let c = through a u q in p .apart a n (λ z. u (sym (c .1) ∙ z)) (λ i. q (sym (c .2) ∙ i)),
-          );
-          kept = λ a u q. let c = through a u q in let y = p .kept a (λ z. u (sym (c .1) ∙ z)) (λ i. q (sym (c .2) ∙ i)) in (y .0 ∙ c .0, y .1 ∙ c .1);
-          stays = λ m d. p .stays m (step .shift .stays m (fresh-stays w f f6 there fA fresh m d));
-          others = λ m d m1 mh. let d′ = fresh-stays w f f6 there fA fresh m d in
-              p .others m (step .shift .stays m d′) m1 mh ∙ own-kept m d′ m1 (λ i. d .in-use (ap (s .block) i ∙ fresh));
+          grown = record {
+            new = p .new;
+            chain = p .chain ∙ ap (λ (l : List ℕ). l ++ p .new) (own-kept h (dir-head orphan h reached) (dir-not-1 orphan h reached) not-own);
+            ones = p .ones;
+            blocks = p .blocks;
+            took = p .took;
+            apart = λ a n u q. let c = through a u q in p .apart a n (λ z. u (sym (c .1) ∙ z)) (λ i. q (sym (c .2) ∙ i));
+            kept = λ a u q. let c = through a u q in let y = p .kept a (λ z. u (sym (c .1) ∙ z)) (λ i. q (sym (c .2) ∙ i)) in (y .0 ∙ c .0, y .1 ∙ c .1);
+            stays = λ m d. p .stays m (step .shift .stays m (fresh-stays w f f6 there fA fresh m d));
+            others = λ m d m1 mh. let d′ = fresh-stays w f f6 there fA fresh m d in
+                p .others m (step .shift .stays m d′) m1 mh ∙ own-kept m d′ m1 (λ i. d .in-use (ap (s .block) i ∙ fresh));
+          };
+          not-own = λ a n i. p .apart a n (rw i (own-head .in-use)) (λ q. omega (arith, f6, step .good .heads .at-head f own-head, ap (step .hd′) (sym i) ∙ q));
         }
-
-    pub made-good : (needed : Bool) (t : Anodes) (zs : List ℕ) → neededBlock img needed r h ≡ planned t zs →
-        (hd′ : ℕ → ℕ) × (sd′ : ℕ → ℕ) × Good limit (exists img) (diskSize img) (lastReserved img) t (systemOwns img) hd′ sd′
-    made-good needed t zs e = let p = parent-step needed t zs e in (p .heads-now, p .sides-now, p .good)
 
     -- the chain of f is not named yet, with any entries and marks that agree with the old in the blocks of directories
     pub made-orphan : (needed : Bool) (t : Anodes) (zs : List ℕ) → neededBlock img needed r h ≡ planned t zs → (entries′ : ℕ → List Entered) (marked′ : Dir → ℕ → Bool)
@@ -272,8 +275,3 @@ module _ (img : List ℕ) {s : Anodes} {hd sd : ℕ → ℕ} {entries : ℕ → 
         ((y : ℕ) → zs ≡ y ∷ [] → entries′ y ≡ []) → ((y : ℕ) → zs ≡ y ∷ [] → Each (λ d. d .head ≡ h → T (marked′ d y)) dirs) →
         (hd′ : ℕ → ℕ) × (sd′ : ℕ → ℕ) × Orphaned (exists img) (diskSize img) (lastReserved img) f t (systemOwns img) hd′ sd′ entries′ marked′ dirs
     made-orphan needed t zs e entries′ marked′ cont empty its = parent-orphan entries′ marked′ (owned entries′ marked′ cont) needed t zs e empty its
-
-    -- a parent with no room has taken a block
-    pub parent-took : (t : Anodes) (zs : List ℕ) → neededBlock img true r h ≡ planned t zs → (y : ℕ) × (zs ≡ y ∷ [])
-    unfolding neededBlock
-    parent-took t zs e = let x = dir-taken o h reached t zs e in (x .0, x .1)

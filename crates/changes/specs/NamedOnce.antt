@@ -9,14 +9,13 @@ use Rattle.rules.specs.Counting.{oneAt, sumList, times, gather}
 use Rattle.rules.specs.Anodes.{Anodes, limit, anodesOf}
 use Rattle.rules.specs.Chains.{chainOf}
 use Rattle.rules.specs.Walk.{Dir, Entered, Item, entriesIn, itemOf, itemsAt, itemsBy, reachedDirs}
-use Rattle.rules.specs.Accepted.{checkAnswer}
 use Rattle.rules.specs.Lookup.{entriesOf}
 use Rattle.laws.specs.Sums.{oneAt-same}
 use Rattle.laws.specs.Bags.{list-cons, list-append, list-congr, gather-sum, map-sum}
 use Rattle.laws.specs.Items.{names-sum, namedIn}
 use Rattle.laws.specs.Entries.{item-anode, items-sum}
 use Rattle.laws.specs.Whole.{Whole}
-use Rattle.changes.specs.Image.{accepted-whole}
+use Rattle.changes.specs.Image.{AcceptedImage, accepted-whole}
 use Rattle.changes.specs.Members.{Member, member-sum, member-congr, two-members}
 use Rattle.changes.specs.Reached.{its-items, EntryFacts}
 
@@ -75,7 +74,7 @@ module _ {ex : ℕ → Bool} {n last : ℕ} {s : Anodes} {system hd sd : ℕ →
     w .tree .once x,
   )
 
-module _ (img : List ℕ) (blocks anodes : ℕ) (accepted : checkAnswer img blocks anodes ≡ 0) {h : ℕ} {e : Entered} (f : EntryFacts img h e) where
+module _ {img : List ℕ} (image : AcceptedImage img) {h : ℕ} {e : Entered} (f : EntryFacts img h e) where
   abbrev s : Anodes
   s = anodesOf img
 
@@ -90,7 +89,7 @@ module _ (img : List ℕ) (blocks anodes : ℕ) (accepted : checkAnswer img bloc
   pub only-here : (d : Dir) → Member d (reachedDirs img s) → (a : ℕ) → Member a (chainOf (s .next) limit (d .head)) → a ≢ f .a₀ →
       (c : Entered) → Member c (entriesIn img (s .block a)) → c .anode ≢ e .anode
   only-here d m a on apart =
-      let w = accepted-whole img blocks anodes accepted in
+      let w = accepted-whole image in
       none-names (e .anode) (entriesIn img (s .block a)) (omega (
         arith,
         names-apart w (e .anode) a (f .a₀) apart (on-all w (e .anode) d m a on) (on-all w (e .anode) (f .block-facts .dir) (f .block-facts .reached) (f .a₀) its-chain),
@@ -112,7 +111,7 @@ module _ (img : List ℕ) (blocks anodes : ℕ) (accepted : checkAnswer img bloc
       elim m [ inl q ↦ none-names x before (omega arith) c q | inr q ↦ none-names x after (omega arith) c q ]
 
   names-home : sumList (λ a. namesOf (e .anode) (entriesIn img (s .block a))) (chainOf (s .next) limit h) ≤ 1
-  names-home = rw (f .block-facts .dir-head) at (names-once (accepted-whole img blocks anodes accepted) (e .anode) (f .block-facts .dir) (f .block-facts .reached))
+  names-home = rw (f .block-facts .dir-head) at (names-once (accepted-whole image) (e .anode) (f .block-facts .dir) (f .block-facts .reached))
 
   -- nor another in its own block
   pub only-this : (before after : List Entered) → entriesIn img (s .block (f .a₀)) ≡ before ++ (e ∷ after) → (c : Entered) → Member c before ⊎ Member c after → c .anode ≢ e .anode

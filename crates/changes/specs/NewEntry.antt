@@ -27,8 +27,11 @@ use Rattle.changes.specs.FoundEntries.{head-same, walked-same, enteredAt
 
 -- ---- an entry at the end mark's place
 
-module _ (b : List ℕ) (y end : ℕ) (e : Entry) (name comment : List ℕ) (whole : length b ≡ 512) (room : end + entryLength (e .name) (e .comment) ≤ 510)
+module _ (b : List ℕ) (y : ℕ) (e : Entry) (name comment : List ℕ) (whole : length b ≡ 512) (room : entriesEnd b + entryLength (e .name) (e .comment) ≤ 510)
     (named : length name ≡ e .name) (commented : length comment ≡ e .comment) (good : goodName name ≡ true) (short : e .comment ≤ 79) where
+  abbrev end : ℕ
+  end = entriesEnd b
+
   abbrev b′ : List ℕ
   b′ = putEntry b end e name comment
 
@@ -56,11 +59,11 @@ module _ (b : List ℕ) (y end : ℕ) (e : Entry) (name comment : List ℕ) (who
           entriesFrom k b′ y at ≡ entriesFrom k b y at ++ (enteredAt e (y * 512 + end) ∷ [])) →
           entriesFrom (suc k) b′ y at ≡ entriesFrom (suc k) b y at ++ (enteredAt e (y * 512 + end) ∷ [])
       go (inl z) rec =
-          let here : at ≡ end = sym (end-here b y k at z) ∙ q in
+          let here : at ≡ end = sym (end-here b k at z) ∙ q in
           rw (entries-end b y (suc k) at z, here) (put-here k)
       go (inr (x, w, r)) rec =
           let f = found-at b at x w in
-          let further : endFrom k b (at + getD b at 0) ≡ end = sym (end-more b y k at x w) ∙ q in
+          let further : endFrom k b (at + getD b at 0) ≡ end = sym (end-more b k at x w) ∙ q in
           let fuel : 520 ≤ at + getD b at 0 + 18 * k = omega (arith, m, f .long) in
           let below : at + getD b at 0 ≤ end = omega (arith, end-bounds b y k (at + getD b at 0) r (f .room) fuel .0, further) in
           let same : (i : ℕ) → i < getD b at 0 → getD b′ (at + i) 0 ≡ getD b (at + i) 0 = λ i h. getD-putEntry-before b end e name comment (at + i) (omega arith) in
@@ -70,24 +73,20 @@ module _ (b : List ℕ) (y end : ℕ) (e : Entry) (name comment : List ℕ) (who
           ∙ ap (λ (l : List Entered). enteredAt x (y * 512 + at) ∷ l) (ap (entriesFrom k b′ y) next ∙ rec (at + getD b at 0) (f .room) fuel r further)
           ∙ sym (ap (λ (l : List Entered). l ++ (enteredAt e (y * 512 + end) ∷ [])) (entries-more b y k at x w))
 
--- a block's entries, with one more behind the last
-pub entries-put : (b : List ℕ) (y : ℕ) (e : Entry) (name comment : List ℕ) → length b ≡ 512 → entriesEnd b + entryLength (e .name) (e .comment) ≤ 510 →
-    length name ≡ e .name → length comment ≡ e .comment → goodName name ≡ true → e .comment ≤ 79 → anyIn (λ j. j .broken) (entriesFrom 28 b y 16) ≡ false →
-    entriesFrom 28 (putEntry b (entriesEnd b) e name comment) y 16 ≡ entriesFrom 28 b y 16 ++ (enteredAt e (y * 512 + entriesEnd b) ∷ [])
-unfolding entriesEnd
-entries-put b y e name comment whole room named commented good short u =
-    put-behind b y (entriesEnd b) e name comment whole room named commented good short 28 16 (omega arith) (omega arith) u refl
+  -- a block's entries, with one more behind the last
+  pub entries-put : anyIn (λ j. j .broken) (entriesFrom 28 b y 16) ≡ false → entriesFrom 28 b′ y 16 ≡ entriesFrom 28 b y 16 ++ (enteredAt e (y * 512 + end) ∷ [])
+  unfolding entriesEnd
+  entries-put u = put-behind 28 16 (omega arith) (omega arith) u refl
 
 -- the head of a directory block stays
 pub head-put : (b : List ℕ) (at : ℕ) (e : Entry) (name comment : List ℕ) → 16 ≤ at → directoryHeadIn (putEntry b at e name comment) ≡ directoryHeadIn b
 head-put b at e name comment l = head-same b (putEntry b at e name comment) (λ i h. getD-putEntry-before b at e name comment i (omega arith))
 
 -- bytes that are stored, where only bytes behind them are cleared
-stored-cleared : (l b : List ℕ) (at from n : ℕ) (s : List ℕ) → length l ≡ length b → at + length s ≤ length b → at + length s ≤ from →
-    take (length s) (drop at (cleared (stored l at s) from n)) ≡ s
-stored-cleared l b at from n s same fits behind =
+stored-cleared : (l : List ℕ) (at from n : ℕ) (s : List ℕ) → at + length s ≤ length l → at + length s ≤ from → take (length s) (drop at (cleared (stored l at s) from n)) ≡ s
+stored-cleared l at from n s fits behind =
     let b′ = cleared (stored l at s) from n in
-    let long : length b′ ≡ length b = length-cleared (stored l at s) from n ∙ length-stored l at s ∙ same in
+    let long : length b′ ≡ length l = length-cleared (stored l at s) from n ∙ length-stored l at s in
     let part : length (take (length s) (drop at b′)) ≡ length s = length-take-le (length s) (drop at b′) (omega (arith, length-drop at b′)) in
     ext-getD 0 (take (length s) (drop at b′)) s part
     (λ i h. getD-take (length s) (drop at b′) i 0 (omega arith) ∙ getD-drop at b′ i 0 ∙ getD-cleared-before (stored l at s) from n (at + i) (omega arith)
@@ -100,13 +99,13 @@ unfolding putEntry entryLength
 comment-put b at e name comment commented whole room =
     let place : at + 17 + e .name ≡ at + 16 + e .name + 1 = omega arith in
     ap (λ (k : ℕ). take (length comment) (drop k (putEntry b at e name comment))) place
-    ∙ stored-cleared _ b (at + 16 + e .name + 1) _ _ comment (simp (length-set, length-stored, length-put16, length-put32)) (omega arith) (omega arith)
+    ∙ stored-cleared _ (at + 16 + e .name + 1) _ _ comment (simp (length-set, length-stored, length-put16, length-put32) (omega arith)) (omega arith)
 
 -- ---- a new directory block
 
 pub end-new : (owner parent : ℕ) → entriesEnd (newDirectoryBlock owner parent) ≡ 16
 unfolding entriesEnd
-end-new owner parent = end-here (newDirectoryBlock owner parent) 0 27 16 (mark-new owner parent)
+end-new owner parent = end-here (newDirectoryBlock owner parent) 27 16 (mark-new owner parent)
 
 -- ---- the first block with room
 

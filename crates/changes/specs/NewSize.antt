@@ -59,7 +59,7 @@ module _ (b : List ℕ) (at v : ℕ) where
   unfolding put32 put16
   drop-put32 n l = drop-set-lt n _ (at + 2 + 1) _ (omega arith) ∙ drop-set-lt n _ (at + 2) _ (omega arith) ∙ drop-set-lt n _ (at + 1) _ (omega arith) ∙ drop-set-lt n b at _ (omega arith)
 
-module _ (b : List ℕ) (at new : ℕ) (whole : length b ≡ 512) where
+module _ (b : List ℕ) (at new : ℕ) where
   abbrev b′ : List ℕ
   b′ = put32 b (at + 4) new
 
@@ -91,7 +91,7 @@ module _ (b : List ℕ) (at new : ℕ) (whole : length b ≡ 512) where
   same-shape = rw (others at (inl (omega arith)), name-length, comment-length, name-sized)
 
   -- the entry that has the size
-  new-fields : at + 7 < 512 → (k : Kind) → entryIn b′ at k ≡ withNew new (entryIn b at k)
+  new-fields : at + 7 < length b → (k : Kind) → entryIn b′ at k ≡ withNew new (entryIn b at k)
   unfolding entryIn
   new-fields l k = rw (
     others16 (at + 2) (inl (omega arith)),
@@ -104,7 +104,7 @@ module _ (b : List ℕ) (at new : ℕ) (whole : length b ≡ 512) where
     comment-length,
   )
 
-  walked-new : at + 7 < 512 → walkedAt b′ at ≡ onFound new (walkedAt b at)
+  walked-new : at + 7 < length b → walkedAt b′ at ≡ onFound new (walkedAt b at)
   unfolding walkedAt
   walked-new l = rw (others at (inl (omega arith)), same-shape, others (at + 1) (inl (omega arith))) (go (eqb (getD b at 0) 0) (entryShaped b at) (kindRead (getD b (at + 1) 0)))
     where
@@ -129,7 +129,7 @@ entries-later b b′ y whole whole′ (suc m) at same u = elim (unbroken-cases b
 ]
 
 module _ (b : List ℕ) (y at new : ℕ) (whole : length b ≡ 512) (e : Entered) (ys : List Entered) (place : e .place ≡ y * 512 + at) where
-  whole′ : length (b′ b at new whole) ≡ 512
+  whole′ : length (b′ b at new) ≡ 512
   whole′ = length-put32 b (at + 4) new ∙ whole
 
   pub entries-sized : (xs : List Entered) (k p : ℕ) → entriesFrom k b y p ≡ xs ++ (e ∷ ys) → anyIn (λ f. f .broken) (entriesFrom k b y p) ≡ false →
@@ -139,11 +139,11 @@ module _ (b : List ℕ) (y at new : ℕ) (whole : length b ≡ 512) (e : Entered
       let o = r .found in
       let s = o .stands in
       let g = found-at b at (s .entry) (s .walked) in
-      let c = b′ b at new whole in
-      r .front c whole whole′ (λ i l. others b at new whole i (inl (omega arith)))
-      ∙ ap (λ (l : List Entered). xs ++ l) (entries-more c y (r .m) at (withNew new (s .entry)) (walked-new b at new whole (omega (arith, g .long, g .room)) ∙ ap (onFound new) (s .walked))
+      let c = b′ b at new in
+      r .front c whole whole′ (λ i l. others b at new i (inl (omega arith)))
+      ∙ ap (λ (l : List Entered). xs ++ l) (entries-more c y (r .m) at (withNew new (s .entry)) (walked-new b at new (omega (arith, whole, g .long, g .room)) ∙ ap (onFound new) (s .walked))
       ∙ rw (
-        others b at new whole at (inl (omega arith)),
-        entries-later b c y whole whole′ (r .m) (at + getD b at 0) (λ i l. others b at new whole i (inr (omega (arith, l, g .long)))) (o .unbroken),
+        others b at new at (inl (omega arith)),
+        entries-later b c y whole whole′ (r .m) (at + getD b at 0) (λ i l. others b at new i (inr (omega (arith, l, g .long)))) (o .unbroken),
       )
       (ap₂ _∷_ (ap (sized new) (sym (s .is))) (o .rest)))

@@ -2,22 +2,18 @@
 use Prim.Native.Nat.{ℕ, _/_, _<_}
 use mathlib.Core.Path.{_≡_, refl, _∙_}
 use mathlib.Core.Logic.{_≢_}
-use mathlib.Core.Bool.{false}
 use mathlib.Core.List.{List}
 use native.Mathlib.Omega.{arith}
 use Rattle.rules.specs.Counting.{times}
 use Rattle.rules.specs.Anodes.{Anodes, anodesOf}
 use Rattle.rules.specs.Chains.{blocksOf}
 use Rattle.rules.specs.Walk.{Entered, reachedDirs}
-use Rattle.rules.specs.Accepted.{checkAnswer}
-use Rattle.rules.specs.Lookup.{noDirectory, entriesOf}
 use Rattle.rules.specs.Space.{Plan, refused, planned}
 use Rattle.rules.specs.Changes.{Left, left, leftBy}
 use Rattle.laws.specs.Heads.{Head}
 use Rattle.frames.specs.DisjointBlocks.{chains-apart}
-use Rattle.changes.specs.Image.{WholeImage, headIn, sideIn, accepted-whole}
-use Rattle.changes.specs.Members.{Member}
-use Rattle.changes.specs.Reached.{EntryFacts, block-on, reached-head, entry-facts}
+use Rattle.changes.specs.Image.{WholeImage, headIn, sideIn, AcceptedImage, accepted-whole}
+use Rattle.changes.specs.Reached.{EntryIn, EntryFacts, entry-not-1, block-on, reached-head, entry-facts}
 use Rattle.changes.specs.SingleBlocks.{single-apart}
 
 -- what a change leaves, by the two ways that its plan can end
@@ -28,31 +24,30 @@ left-cases P img f (planned t ys) stopped done = done t ys refl
 
 -- Plans: what is known of the plan
 pub record PlannedChange (img : List ℕ) (e : Entered) (Plans : Type 0) : Type 0 where
-  pub blocks : ℕ
-  pub anodes : ℕ
-  pub accepted : checkAnswer img blocks anodes ≡ 0
   -- the directory that has the entry
   pub home : ℕ
-  pub reached : noDirectory img (anodesOf img) home ≡ false
-  pub member : Member e (entriesOf img (anodesOf img) home)
+  pub entry : EntryIn img home e
   pub plan : Plans
 
 module _ {img : List ℕ} {e : Entered} {Plans : Type 0} (p : PlannedChange img e Plans) where
   abbrev s : Anodes
   s = anodesOf img
 
+  abbrev pub image : AcceptedImage img
+  image = p .entry .directory .image
+
   pub w : WholeImage img s (headIn img) (sideIn img) (reachedDirs img s)
-  w = accepted-whole img (p .blocks) (p .anodes) (p .accepted)
+  w = accepted-whole image
 
   -- what is known of the entry
   abbrev pub facts : EntryFacts img (p .home) e
-  facts = entry-facts img (p .blocks) (p .anodes) (p .accepted) (p .home) (p .reached) e (p .member)
+  facts = entry-facts (p .entry)
 
   pub not-1 : e .anode ≢ 1
-  not-1 i = omega (arith, i, facts .from-6)
+  not-1 = entry-not-1 facts
 
   pub home-head : Head (s .next) (s .block) (p .home)
-  home-head = reached-head img (p .blocks) (p .anodes) (p .accepted) (p .home) (p .reached)
+  home-head = reached-head (p .entry .directory)
 
   -- the block that the entry stands in is of its own directory's chain alone
   pub off-chain : (m : ℕ) → Head (s .next) (s .block) m → m ≢ p .home → (z : ℕ) → 0 < times z (blocksOf s m) → z ≢ e .place / 512

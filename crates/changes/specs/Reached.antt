@@ -14,12 +14,11 @@ use Rattle.rules.specs.Counting.{oneAt, sumList, times, anyIn}
 use Rattle.rules.specs.Anodes.{Anodes, limit, anodesOf}
 use Rattle.rules.specs.Chains.{chainOf, heads, run, blocksOf, blockCount}
 use Rattle.rules.specs.Walk.{Dir, Entered, Item, entriesIn, isBlockOf, blocksFor, itemOf, broken, itemsAt, itemsBy, reachedDirs}
-use Rattle.rules.specs.Accepted.{checkAnswer}
-use Rattle.rules.specs.Lookup.{noDirectory, entriesOf, isNamed, firstNamed, entryNamed, nth}
+use Rattle.rules.specs.Lookup.{entriesOf, isNamed, firstNamed, entryNamed, nth}
 use Rattle.counting.specs.Laws.{none-or}
 use Rattle.laws.specs.Tests.{T-true}
-use Rattle.laws.specs.Sums.{oneAt-cases, oneAt-same}
-use Rattle.laws.specs.Bags.{list-nil, list-cons, list-one, gather-sum, map-sum}
+use Rattle.laws.specs.Sums.{oneAt-cases, oneAt-same, oneAt-some}
+use Rattle.laws.specs.Bags.{list-one, list-some, gather-sum, map-sum}
 use Rattle.laws.specs.Heads.{Head}
 use Rattle.laws.specs.Space.{on-chain}
 use Rattle.laws.specs.Each.{each-zero}
@@ -29,7 +28,7 @@ use Rattle.laws.specs.Totals.{file-size}
 use Rattle.laws.specs.Entries.{broken-wrong, item-fine, item-anode, item-dir, items-sum, itemsAt-cases}
 use Rattle.laws.specs.Whole.{Whole, counts-head, not-dir, dir-heads, named-heads}
 use Rattle.frames.specs.DisjointBlocks.{DataBlock, chain-block}
-use Rattle.changes.specs.Image.{WholeImage, headIn, sideIn, accepted-whole, headed-named, headed-reached, reached-some}
+use Rattle.changes.specs.Image.{WholeImage, headIn, sideIn, AcceptedImage, accepted-whole, headed-named, headed-reached, reached-some, ReachedDir}
 use Rattle.changes.specs.FoundEntries.{Standing, entry-place, BlockEntry}
 use Rattle.changes.specs.Members.{Member, member-first, member-later, member-each, member-sum, member-gather, member-times}
 
@@ -57,11 +56,9 @@ nth-member (x ∷ l) (suc n) e is = member-later e x l (nth-member l n e is)
 -- ---- a reached directory
 
 headed-member : (h : ℕ) (l : List Dir) → 0 < sumList (λ d. oneAt (d .head) h) l → (d : Dir) × Member d l × (d .head ≡ h)
-headed-member h [] p = absurd (omega (arith, p, list-nil {X = Dir} (λ d. oneAt (d .head) h)))
-headed-member h (x ∷ l) p = elim (oneAt-cases (x .head) h) [
-  | inl c ↦ (x, member-first x l, c .0)
-  | inr c ↦ (let r = headed-member h l (omega (arith, p, c .1, list-cons {X = Dir} (λ d. oneAt (d .head) h) x l)) in (r .0, member-later (r .0) x l (r .1), r .2))
-]
+headed-member h l p =
+    let (d, before, after, parted, q) = list-some {X = Dir} (λ d. oneAt (d .head) h) l p in
+    (d, (before, after, parted), oneAt-some (d .head) h q)
 
 module _ {ex : ℕ → Bool} {n last : ℕ} {s : Anodes} {system hd sd : ℕ → ℕ} {entries : ℕ → List Entered} {marked : Dir → ℕ → Bool} {dirs : List Dir}
     (w : Whole ex n last s system hd sd entries marked dirs) where
@@ -116,9 +113,11 @@ module _ {ex : ℕ → Bool} {n last : ℕ} {s : Anodes} {system hd sd : ℕ →
 
 -- ---- in an accepted image
 
-pub member-reached : (img : List ℕ) (s : Anodes) (d : Dir) → Member d (reachedDirs img s) → noDirectory img s (d .head) ≡ false
+pub member-reached : {img : List ℕ} → AcceptedImage img → (d : Dir) → Member d (reachedDirs img (anodesOf img)) → ReachedDir img (d .head)
 unfolding headed
-member-reached img s d m = headed-reached img s (d .head) (omega (arith, member-sum (λ c. oneAt (c .head) (d .head)) d (reachedDirs img s) m, oneAt-same (d .head) (d .head) refl))
+member-reached {img} a d m =
+    let dirs = reachedDirs img (anodesOf img) in
+    record { image = a; reached = headed-reached img (anodesOf img) (d .head) (omega (arith, member-sum (λ c. oneAt (c .head) (d .head)) d dirs m, oneAt-same (d .head) (d .head) refl)) }
 
 -- the block of an anode of a reached directory
 pub record DirBlock (img : List ℕ) (h a : ℕ) : Type 0 where
@@ -135,7 +134,12 @@ pub record DirBlock (img : List ℕ) (h a : ℕ) : Type 0 where
   pub reached : Member dir (reachedDirs img (anodesOf img))
   pub marked : isBlockOf img dir (anodesOf img .block a) ≡ true
 
--- an entry of the reached directory h
+-- e is an entry of the reached directory h
+pub record EntryIn (img : List ℕ) (h : ℕ) (e : Entered) : Type 0 where
+  pub directory : ReachedDir img h
+  pub member : Member e (entriesOf img (anodesOf img) h)
+
+-- what is known of it
 pub record EntryFacts (img : List ℕ) (h : ℕ) (e : Entered) : Type 0 where
   pub unbroken : e .broken ≡ false
   pub from-6 : 6 ≤ e .anode
@@ -155,8 +159,12 @@ pub record EntryFacts (img : List ℕ) (h : ℕ) (e : Entered) : Type 0 where
   pub file : e .dir ≡ false →
       1 ≤ sumList (λ d. sumList (file-size (λ x. oneAt x (e .anode))) (itemsBy (entriesIn img) (isBlockOf img) (anodesOf img) d)) (reachedDirs img (anodesOf img))
 
--- the block that has it
 module _ {img : List ℕ} {h : ℕ} {e : Entered} (f : EntryFacts img h e) where
+  -- its chain is not the free list
+  pub entry-not-1 : e .anode ≢ 1
+  entry-not-1 i = omega (arith, i, f .from-6)
+
+  -- the block that has it
   pub block-data : DataBlock img (e .place / 512)
   block-data = rw (f .in-block) (f .block-facts .is-data)
 
@@ -183,12 +191,12 @@ block-on s h a on one = omega (
     here : sumList (λ y. oneAt y (s .block a)) (run (s .block a) (s .count a)) ≡ 1
     here = rw one (list-one (λ y. oneAt y (s .block a)) (s .block a) ∙ oneAt-same (s .block a) (s .block a) refl)
 
-module _ (img : List ℕ) (blocks anodes : ℕ) (accepted : checkAnswer img blocks anodes ≡ 0) (h : ℕ) (reached : noDirectory img (anodesOf img) h ≡ false) where
+module _ {img : List ℕ} {h : ℕ} (r : ReachedDir img h) where
   w : WholeImage img (anodesOf img) (headIn img) (sideIn img) (reachedDirs img (anodesOf img))
-  w = accepted-whole img blocks anodes accepted
+  w = accepted-whole (r .image)
 
   some-dir : 0 < headed h (reachedDirs img (anodesOf img))
-  some-dir = reached-some img (anodesOf img) h reached
+  some-dir = reached-some img (anodesOf img) h (r .reached)
 
   pub reached-dir : (d : Dir) × Member d (reachedDirs img (anodesOf img)) × (d .head ≡ h)
   unfolding headed
@@ -235,9 +243,9 @@ module _ (img : List ℕ) (blocks anodes : ℕ) (accepted : checkAnswer img bloc
 
   module _ (e : Entered) (member : Member e (entriesOf img (anodesOf img) h)) where
     -- an entry of it
-    pub entry-facts : EntryFacts img h e
+    facts-of : EntryFacts img h e
     unfolding entriesOf entriesIn
-    entry-facts =
+    facts-of =
         let s = anodesOf img in
         let q = member-gather (λ a. entriesIn img (s .block a)) (chainOf (s .next) limit h) e member in
         let a = q .0 in
@@ -269,10 +277,13 @@ module _ (img : List ℕ) (blocks anodes : ℕ) (accepted : checkAnswer img bloc
         file-one i = rw (item-dir (anodesOf img) e ∙ i, item-anode (anodesOf img) e) (oneAt-same (e .anode) (e .anode) refl)
 
   -- it is no file's
-  pub not-file : (k : ℕ) (e : Entered) → EntryFacts img k e → e .dir ≡ false → h ≢ e .anode
-  not-file k e f i q =
+  pub not-file : {k : ℕ} {e : Entered} → EntryFacts img k e → e .dir ≡ false → h ≢ e .anode
+  not-file {e = e} f i q =
       member-each (λ d. d .head ≢ e .anode) (reached-dir .0) (reachedDirs img (anodesOf img)) (reached-dir .1) (not-dir w (e .anode) (f .file i)) (reached-dir .2 ∙ q)
 
   -- no entry of it breaks the entry rules
   pub reached-unbroken : anyIn (λ e. e .broken) (entriesOf img (anodesOf img) h) ≡ false
-  reached-unbroken = none-broken (entriesOf img (anodesOf img) h) (λ e m. entry-facts e m .unbroken)
+  reached-unbroken = none-broken (entriesOf img (anodesOf img) h) (λ e m. facts-of e m .unbroken)
+
+pub entry-facts : {img : List ℕ} {h : ℕ} {e : Entered} → EntryIn img h e → EntryFacts img h e
+entry-facts {e = e} m = facts-of (m .directory) e (m .member)

@@ -13,24 +13,22 @@ use Rattle.rules.specs.Anodes.{anodesOf}
 use Rattle.rules.specs.Chains.{blocksOf}
 use Rattle.rules.specs.Walk.{Entered, blocksFor}
 use Rattle.rules.specs.Accepted.{checkAnswer}
-use Rattle.rules.specs.Lookup.{noDirectory, entriesOf, entryNamed, bytesOf, contents}
+use Rattle.rules.specs.Lookup.{noDirectory, entryNamed, bytesOf, contents}
 use Rattle.rules.specs.Calls.{spanAnswer, readAnswer, readOutcome, settled, doneOr}
 use Rattle.frames.specs.StoredBytes.{length-gather}
 use Rattle.frames.specs.DisjointBlocks.{chain-block}
 use Rattle.changes.specs.Image.{accepted-whole}
-use Rattle.changes.specs.Members.{Member}
-use Rattle.changes.specs.Reached.{named-member, entry-facts}
+use Rattle.changes.specs.Reached.{named-member, EntryIn, entry-facts}
 use Rattle.changes.specs.ResizeStores.{length-blocksOf}
 
 -- the bytes of a file
-module _ (img : List ℕ) (blocks anodes : ℕ) (accepted : checkAnswer img blocks anodes ≡ 0) (h : ℕ) (reached : noDirectory img (anodesOf img) h ≡ false)
-    (e : Entered) (member : Member e (entriesOf img (anodesOf img) h)) (file : e .dir ≡ false) where
+module _ {img : List ℕ} {h : ℕ} {e : Entered} (m : EntryIn img h e) (file : e .dir ≡ false) where
   -- its blocks have as many as its size asks for
   pub bytes-long : length (bytesOf img (anodesOf img) (e .anode)) ≡ blocksFor (e .size) * 512
   unfolding bytesOf
   bytes-long =
-      let w = accepted-whole img blocks anodes accepted in
-      let f = entry-facts img blocks anodes accepted h reached e member in
+      let w = accepted-whole (m .directory .image) in
+      let f = entry-facts m in
       omega (arith, length-gather img (blocksOf (anodesOf img) (e .anode)) (λ y p. chain-block img (w .good) (e .anode) (f .head) y p .inside), length-blocksOf (anodesOf img) (e .anode), f .sized file)
 
   -- a file has as many bytes as its size says
@@ -42,7 +40,10 @@ module _ (img b a : List ℕ) (accepted : checkAnswer img (length b) (length a) 
     (name : List ℕ) (e : Entered) (found : entryNamed img (anodesOf img) h name ≡ some e) (file : e .dir ≡ false) where
   -- a named file has as many bytes as its size says
   pub contents-long : length (contents img (anodesOf img) e) ≡ e .size
-  contents-long = file-long img (length b) (length a) accepted h reached e (named-member img (anodesOf img) h name e found) file
+  contents-long = file-long (record {
+    directory = record { image = record { blocks = length b; anodes = length a; accepted = accepted }; reached = reached };
+    member = named-member img (anodesOf img) h name e found;
+  }) file
 
   done : (out : List ℕ) → length out ≡ e .size → readAnswer img b a h name 0 (length out) ≡ 0
   unfolding readAnswer spanAnswer firstOf

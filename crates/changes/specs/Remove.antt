@@ -12,8 +12,8 @@ use Rattle.rules.specs.Anodes.{Anodes, limit, exists, anodesOf}
 use Rattle.rules.specs.Chains.{blockCount, systemOwns}
 use Rattle.rules.specs.Walk.{Dir, Entered, entriesIn, isBlockOf, reachedDirs}
 use Rattle.rules.specs.Accepted.{diskSize, lastReserved, checkAnswer}
-use Rattle.rules.specs.Lookup.{noDirectory, entriesOf, nth, isThere, notEmpty}
-use Rattle.rules.specs.Space.{Plan, refused, giveMany, onChain}
+use Rattle.rules.specs.Lookup.{entriesOf, nth, isThere, notEmpty}
+use Rattle.rules.specs.Space.{Plan, refused, giveMany, onChain, dropped}
 use Rattle.rules.specs.Changes.{removedImage, removed}
 use Rattle.laws.specs.Tests.{same?}
 use Rattle.laws.specs.Sums.{oneAt-same, oneAt-other}
@@ -26,10 +26,9 @@ use Rattle.laws.specs.RefusedSteps.{gives-refused}
 use Rattle.laws.specs.Remove as Laws
 use Rattle.frames.specs.Kept.{entriesIn-kept, isBlockOf-kept}
 use Rattle.changes.specs.Image.{headIn, sideIn, accepted-whole, whole-accepted, reached-headed}
-use Rattle.changes.specs.Members.{Member}
-use Rattle.changes.specs.Reached.{entry-facts}
+use Rattle.changes.specs.Reached.{EntryIn, entry-not-1, entry-facts}
 use Rattle.changes.specs.Gap.{lowered}
-use Rattle.changes.specs.PlannedChange.{left-cases, w, facts}
+use Rattle.changes.specs.PlannedChange.{left-cases, image, w, facts}
 use Rattle.changes.specs.RemoveStores.{PlannedRemove, here, kept-data, entries-left, marks-left, apart}
 use Rattle.changes.specs.RemoveStores as Stores
 
@@ -84,34 +83,35 @@ module _ {img : List ℕ} {e : Entered} {t : Anodes} {ys : List ℕ} (p : Planne
 
     -- the state that is left is whole, and every other directory is still in it
     pub left-whole : let dead = onChain limit t (e .anode) in (dirs : List Dir)
-        × Whole (exists img) (diskSize img) (lastReserved img) (anodesOf j) (systemOwns img) (without dead (Stores.ran p .hd′)) (without dead (Stores.ran p .sd′)) (entriesIn j) (isBlockOf j) dirs
+        × Whole (exists img) (diskSize img) (lastReserved img) (dropped limit t (e .anode)) (systemOwns img) (without dead (Stores.ran p .hd′)) (without dead (Stores.ran p .sd′)) (entriesIn j) (isBlockOf j) dirs
         × ((x : ℕ) → x ≢ e .anode → headed x dirs ≡ headed x (reachedDirs img s))
     unfolding entriesOf
-    left-whole = rw (Stores.removed-anodes p) (Laws.removed (w p) e (e .anode) refl (facts p .a₀) (p .home) (reached-headed img (p .blocks) (p .anodes) (p .accepted) (p .home) (p .reached)) (facts p .block-facts .on-chain) (entriesIn j) cont no-entry (Stores.ran p) (isBlockOf j) same-marks)
+    left-whole = Laws.removed (w p) e (e .anode) refl (facts p .a₀) (p .home) (reached-headed (p .entry .directory)) (facts p .block-facts .on-chain) (entriesIn j) cont no-entry (Stores.ran p) (isBlockOf j) same-marks
 
-    pub planned-accepted : checkAnswer (removedImage img e t ys) (p .blocks) (p .anodes) ≡ 0
-    planned-accepted = whole-accepted img j (p .blocks) (p .anodes) (p .accepted) (Stores.removed-same p) (left-whole .1)
+    pub planned-accepted : checkAnswer (removedImage img e t ys) (image p .blocks) (image p .anodes) ≡ 0
+    planned-accepted = whole-accepted (image p) (Stores.removed-disk p) (left-whole .1)
 
-module _ (img : List ℕ) (blocks anodes : ℕ) (accepted : checkAnswer img blocks anodes ≡ 0) (h : ℕ) (reached : noDirectory img (anodesOf img) h ≡ false)
-    (e : Entered) (member : Member e (entriesOf img (anodesOf img) h)) where
+module _ {img : List ℕ} {h : ℕ} {e : Entered} (m : EntryIn img h e) where
   -- ---- the answers
 
   -- a removal is refused with 28 alone
   pub remove-refused : (k : ℕ) → giveMany limit (exists img) (lastReserved img) (blockCount (anodesOf img) (e .anode)) (anodesOf img) (e .anode) ≡ refused k → k ≡ 28
   remove-refused k q =
-      let g = accepted-whole img blocks anodes accepted .good in
-      let f = entry-facts img blocks anodes accepted h reached e member in
-      gives-refused (blockCount (anodesOf img) (e .anode)) (e .anode) (λ i. omega (arith, i, f .from-6)) k (anodesOf img) (systemOwns img) (headIn img) (sideIn img) g (f .head)
+      let g = accepted-whole (m .directory .image) .good in
+      let f = entry-facts m in
+      gives-refused (blockCount (anodesOf img) (e .anode)) (e .anode) (entry-not-1 f) k (anodesOf img) (systemOwns img) (headIn img) (sideIn img) g (f .head)
       (omega (arith, blocks-count g (e .anode) (f .head))) q
 
   abbrev gives : Plan
   gives = giveMany limit (exists img) (lastReserved img) (blockCount (anodesOf img) (e .anode)) (anodesOf img) (e .anode)
 
   -- what a removal leaves of an accepted image is accepted, where a directory that goes is empty
-  pub remove-accepted : (e .dir ≡ true → notEmpty img (anodesOf img) e ≡ false) → checkAnswer (removed img (anodesOf img) e .image) blocks anodes ≡ 0
+  pub remove-accepted : (e .dir ≡ true → notEmpty img (anodesOf img) e ≡ false) → checkAnswer (removed img (anodesOf img) e .image) (m .directory .image .blocks) (m .directory .image .anodes) ≡ 0
   unfolding removed
-  remove-accepted empty = left-cases (λ l. checkAnswer (l .image) blocks anodes ≡ 0) img (removedImage img e) gives (λ k q. accepted)
-      (λ t ys q. planned-accepted (record { blocks = blocks; anodes = anodes; accepted = accepted; home = h; reached = reached; member = member; plan = q }) empty)
+  remove-accepted empty =
+      let a = m .directory .image in
+      left-cases (λ l. checkAnswer (l .image) (a .blocks) (a .anodes) ≡ 0) img (removedImage img e) gives (λ k q. a .accepted)
+      (λ t ys q. planned-accepted (record { home = h; entry = m; plan = q }) empty)
 
   -- it answers 0 or 28
   pub remove-answers : (removed img (anodesOf img) e .answer ≡ 0) ⊎ (removed img (anodesOf img) e .answer ≡ 28)

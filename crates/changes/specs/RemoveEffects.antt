@@ -4,7 +4,6 @@ use mathlib.Core.Path.{_≡_, refl, sym, _∙_}
 use mathlib.Core.Logic.{_≢_}
 use mathlib.Core.Bool.{Bool, true, false}
 use mathlib.Core.List.{List}
-use native.Mathlib.Omega.{arith}
 use Rattle.rules.specs.Counting.{oneAt}
 use Rattle.rules.specs.Anodes.{Anodes, limit, anodesOf}
 use Rattle.rules.specs.Walk.{Entered, reachedDirs}
@@ -15,13 +14,13 @@ use Rattle.laws.specs.Heads.{Head}
 use Rattle.laws.specs.TreeChanges.{headed}
 use Rattle.laws.specs.Remove as Laws
 use Rattle.frames.specs.DisjointBlocks.{chain-block}
-use Rattle.changes.specs.Image.{headIn, reached-sum, headed-same}
-use Rattle.changes.specs.Members.{Member}
-use Rattle.changes.specs.Reached.{reached-not-1, reached-head, entry-facts, not-file}
+use Rattle.frames.specs.StoredBytes.{BlocksKept}
+use Rattle.changes.specs.Image.{headIn, reached-sum, headed-same, ReachedDir}
+use Rattle.changes.specs.Reached.{EntryIn, entry-not-1, reached-not-1, reached-head, entry-facts, not-file}
 use Rattle.changes.specs.EntryBytes.{entryBytes}
-use Rattle.changes.specs.KeptChains.{SameChain, BlocksKept, contents-same, entries-same, entry-bytes-same}
-use Rattle.changes.specs.PlannedChange.{w, facts, off-chain}
-use Rattle.changes.specs.RemoveStores.{PlannedRemove, ran, end-good, removed-same, removed-anodes, kept-data}
+use Rattle.changes.specs.KeptChains.{SameChain, contents-same, entries-same, entry-bytes-same}
+use Rattle.changes.specs.PlannedChange.{image, w, facts, off-chain}
+use Rattle.changes.specs.RemoveStores.{PlannedRemove, ran, end-good, removed-disk, kept-data}
 use Rattle.changes.specs.Remove.{left-whole, planned-accepted}
 
 module _ {img : List ℕ} {e : Entered} {t : Anodes} {ys : List ℕ} (p : PlannedRemove img e t ys) where
@@ -52,22 +51,21 @@ module _ {img : List ℕ} {e : Entered} {t : Anodes} {ys : List ℕ} (p : Planne
     others-kept o z q = kept-data p .block-kept z (chain-block img (w p .good) m head z q, off-chain p m head o z q)
 
   -- every other file has the bytes that it had
-  pub contents-kept : (k : ℕ) → noDirectory img s k ≡ false → (f : Entered) → Member f (entriesOf img s k) → f .dir ≡ false → f .anode ≢ e .anode →
+  pub contents-kept : {k : ℕ} {f : Entered} → EntryIn img k f → f .dir ≡ false → f .anode ≢ e .anode →
       contents (removedImage img e t ys) (anodesOf (removedImage img e t ys)) f ≡ contents img s f
-  contents-kept k r f m file o =
-      let g = entry-facts img (p .blocks) (p .anodes) (p .accepted) k r f m in
-      let not-home = not-file img (p .blocks) (p .anodes) (p .accepted) (p .home) (p .reached) k f g file in
-      rw (removed-anodes p) (contents-same img j f (others-same (f .anode) (g .head) (λ q. omega (arith, q, g .from-6)) o) (others-kept (f .anode) (g .head) (λ q. not-home (sym q))))
+  contents-kept {f = f} m file o =
+      let g = entry-facts m in
+      let not-home : f .anode ≢ p .home = λ q. not-file (p .entry .directory) g file (sym q) in
+      rw (removed-disk p .anodes) (contents-same img j f (others-same (f .anode) (g .head) (entry-not-1 g) o) (others-kept (f .anode) (g .head) not-home))
 
   -- every other directory has the entries that it had
-  pub entries-kept : (k : ℕ) → noDirectory img s k ≡ false → k ≢ p .home → k ≢ e .anode → entriesOf (removedImage img e t ys) (anodesOf (removedImage img e t ys)) k ≡ entriesOf img s k
-  entries-kept k r kh o =
-      let d = reached-head img (p .blocks) (p .anodes) (p .accepted) k r in
-      rw (removed-anodes p) (entries-same img (p .blocks) (p .anodes) (p .accepted) k r j (others-kept k d kh) (others-same k d (reached-not-1 img (p .blocks) (p .anodes) (p .accepted) k r) o))
+  pub entries-kept : {k : ℕ} → ReachedDir img k → k ≢ p .home → k ≢ e .anode → entriesOf (removedImage img e t ys) (anodesOf (removedImage img e t ys)) k ≡ entriesOf img s k
+  entries-kept {k} r kh o =
+      rw (removed-disk p .anodes) (entries-same r j (others-kept k (reached-head r) kh) (others-same k (reached-head r) (reached-not-1 r) o))
 
   -- every entry of another directory has the bytes that it had
-  pub bytes-kept : (k : ℕ) → noDirectory img s k ≡ false → k ≢ p .home → (f : Entered) → Member f (entriesOf img s k) → entryBytes (removedImage img e t ys) (f .place) ≡ entryBytes img (f .place)
-  bytes-kept k r kh = entry-bytes-same img (p .blocks) (p .anodes) (p .accepted) k r j (others-kept k (reached-head img (p .blocks) (p .anodes) (p .accepted) k r) kh)
+  pub bytes-kept : {k : ℕ} {f : Entered} → EntryIn img k f → k ≢ p .home → entryBytes (removedImage img e t ys) (f .place) ≡ entryBytes img (f .place)
+  bytes-kept {k} m kh = entry-bytes-same (m .directory) j (others-kept k (reached-head (m .directory)) kh) m
 
   -- ---- the directories
 
@@ -76,7 +74,7 @@ module _ {img : List ℕ} {e : Entered} {t : Anodes} {ys : List ℕ} (p : Planne
     unfolding headed
     left-headed x o =
         let l = left-whole p empty in
-        reached-sum img j (p .blocks) (p .anodes) (p .accepted) (removed-same p) (l .1) (λ d. oneAt (d .head) x) ∙ l .2 x o
+        reached-sum (image p) (removed-disk p) (l .1) (λ d. oneAt (d .head) x) ∙ l .2 x o
 
     -- those that were reached are reached, and no other
     pub reached-kept : (x : ℕ) → x ≢ e .anode → noDirectory (removedImage img e t ys) (anodesOf (removedImage img e t ys)) x ≡ noDirectory img s x
@@ -88,4 +86,4 @@ module _ {img : List ℕ} {e : Entered} {t : Anodes} {ys : List ℕ} (p : Planne
       where
         go : (b : Bool) → noDirectory j (anodesOf j) (e .anode) ≡ b → noDirectory j (anodesOf j) (e .anode) ≡ true
         go true q = q
-        go false q = absurd (gone .was (e .anode) (rw (removed-anodes p) at (reached-head j (p .blocks) (p .anodes) (planned-accepted p empty) (e .anode) q)) .0 refl)
+        go false q = absurd (gone .was (e .anode) (rw (removed-disk p .anodes) at (reached-head (record { image = record { blocks = image p .blocks; anodes = image p .anodes; accepted = planned-accepted p empty }; reached = q }))) .0 refl)

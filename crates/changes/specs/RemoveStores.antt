@@ -20,11 +20,11 @@ use Rattle.laws.specs.Remove.{dropped-good}
 use Rattle.frames.specs.Kept.{Kept, kept-both}
 use Rattle.frames.specs.StoredBlocks.{inBlock-kept, blockOf-inBlock}
 use Rattle.frames.specs.DisjointBlocks.{DataBlock}
-use Rattle.changes.specs.Image.{headIn, sideIn, SameDisk, stored-kept, stored-same, stored-anodes, not-one, same-then, anodes-then}
+use Rattle.changes.specs.Image.{headIn, sideIn, DiskWith, stored-kept, disk-stored, not-one, disk-then}
 use Rattle.changes.specs.FoundEntries.{BlockEntry}
 use Rattle.changes.specs.Reached.{block-data, block-entry}
 use Rattle.changes.specs.SingleBlocks.{single-data}
-use Rattle.changes.specs.PlannedChange.{PlannedChange, w, facts, not-1, off-anode}
+use Rattle.changes.specs.PlannedChange.{PlannedChange, image, w, facts, not-1, off-anode}
 use Rattle.changes.specs.Gap.{lowered, length-closed, head-closed, entries-closed}
 
 -- a removal of an entry of an accepted image, and the steps that were planned
@@ -75,7 +75,7 @@ module _ {img : List ℕ} {e : Entered} {t : Anodes} {ys : List ℕ} (p : Planne
   end-good = dropped-good (e .anode) (facts p .from-6) (facts p .head) ran
 
   same-block : blockOf stored y ≡ b
-  same-block = stored-kept img (p .blocks) (p .anodes) (p .accepted) end .block-kept y (block-data (facts p) .unheld)
+  same-block = stored-kept (image p) end .block-kept y (block-data (facts p) .unheld)
 
   closer : List ℕ → List ℕ
   closer c = gapClosed c at (getD c at 0) (entriesEnd c)
@@ -92,18 +92,13 @@ module _ {img : List ℕ} {e : Entered} {t : Anodes} {ys : List ℕ} (p : Planne
   unfolding removedImage withoutEntry closer
   block-left = blockOf-inBlock stored y closer long ∙ ap closer same-block
 
-  pub removed-same : SameDisk img (removedImage img e t ys)
-  removed-same = same-then (stored-same img (p .blocks) (p .anodes) (p .accepted) end) kept-last (not-one (block-data (facts p)))
-
-  pub removed-anodes : anodesOf (removedImage img e t ys) ≡ dropped limit t (e .anode)
-  removed-anodes =
-      anodes-then (stored-same img (p .blocks) (p .anodes) (p .accepted) end) kept-last (not-one (block-data (facts p)))
-      ∙ stored-anodes img (p .blocks) (p .anodes) (p .accepted) end end-good
+  pub removed-disk : DiskWith img (dropped limit t (e .anode)) (removedImage img e t ys)
+  removed-disk = disk-then (disk-stored (image p) end end-good) kept-last (not-one (block-data (facts p)))
 
   -- ---- the entries and marks of the blocks
 
   pub kept-data : Kept (λ d. DataBlock img d × (d ≢ y)) img j
-  kept-data = kept-both (λ d o. o .0 .unheld) (λ d o. o .1) (stored-kept img (p .blocks) (p .anodes) (p .accepted) end) kept-last
+  kept-data = kept-both (λ d o. o .0 .unheld) (λ d o. o .1) (stored-kept (image p) end) kept-last
 
   pub entries-left : entriesIn j y ≡ here .parted .0 ++ map (lowered len) (here .parted .1)
   unfolding entriesIn

@@ -25,7 +25,7 @@ use Rattle.changes.specs.Reached.{reached-not-1, dir-block, place-in, no
 use Rattle.changes.specs.Gap.{lowered, bytes-earlier, bytes-later}
 use Rattle.changes.specs.EntryBytes.{entryBytes, bytes-at, with-length}
 use Rattle.changes.specs.PlannedChange.{w, facts, home-head}
-use Rattle.changes.specs.RemoveStores.{PlannedRemove, here, block-left, removed-anodes, kept-data, entries-left, apart}
+use Rattle.changes.specs.RemoveStores.{PlannedRemove, here, block-left, removed-disk, kept-data, entries-left, apart}
 use Rattle.changes.specs.Remove.{no-entry}
 use Rattle.changes.specs.KeptChains.{entries-along}
 use Rattle.changes.specs.RemoveEffects.{others-same}
@@ -91,7 +91,7 @@ module _ {img : List ℕ} {e : Entered} {t : Anodes} {ys : List ℕ} (p : Planne
 
   -- an entry of the block
   in-block : (f : Entered) → Member f (entriesIn img y) → (k : ℕ) × (f .place ≡ y * 512 + k) × FoundAt b k
-  in-block f m = rw (← (facts p .in-block)) at (place-in img (p .blocks) (p .anodes) (p .accepted) (p .home) (p .reached) (facts p .a₀) (facts p .member-chain) f (rw (facts p .in-block) at m))
+  in-block f m = rw (← (facts p .in-block)) at (place-in (p .entry .directory) (facts p .a₀) (facts p .member-chain) f (rw (facts p .in-block) at m))
 
   -- an entry before it keeps its bytes and its place
   same-before : (f : Entered) → Member f earlier → entryBytes j (f .place) ≡ entryBytes img (f .place)
@@ -144,7 +144,7 @@ module _ {img : List ℕ} {e : Entered} {t : Anodes} {ys : List ℕ} (p : Planne
   new a = entriesIn j (s .block a)
 
   other-anode : (a : ℕ) → Member a chain × (a ≢ facts p .a₀) → DataBlock img (s .block a) × (s .block a ≢ y)
-  other-anode a u = apart p a (dir-block img (p .blocks) (p .anodes) (p .accepted) (p .home) (p .reached) a (u .0) .one) (u .1)
+  other-anode a u = apart p a (dir-block (p .entry .directory) a (u .0) .one) (u .1)
 
   same-along : (l : List ℕ) → ((a : ℕ) → Member a l → Member a chain × (a ≢ facts p .a₀)) → gather new l ≡ gather old l
   same-along l o = gather-congr new old l (λ a m. entriesIn-kept (kept-data p) (s .block a) (other-anode a (o a m)))
@@ -155,7 +155,7 @@ module _ {img : List ℕ} {e : Entered} {t : Anodes} {ys : List ℕ} (p : Planne
   along l o f m =
       let q = member-gather old l f m in
       let u = o (q .0) (q .1) in
-      let i = place-in img (p .blocks) (p .anodes) (p .accepted) (p .home) (p .reached) (q .0) (u .0) f (q .2) in
+      let i = place-in (p .entry .directory) (q .0) (u .0) f (q .2) in
       let in-a : f .place / 512 ≡ s .block (q .0) = omega (arith, i .1, i .2 .room) in
       let k = other-anode (q .0) u in
       rw in-a (k .1, rw (kept-data p .block-kept (s .block (q .0)) k))
@@ -189,13 +189,13 @@ module _ {img : List ℕ} {e : Entered} {t : Anodes} {ys : List ℕ} (p : Planne
     not-itself q = go (e .dir) refl
       where
         go : (d : Bool) → e .dir ≡ d → ⊥
-        go true i = no-member e (rw (ap (entriesOf img s) q ∙ no-entry p empty i) at (p .member))
-        go false i = not-file img (p .blocks) (p .anodes) (p .accepted) (p .home) (p .reached) (p .home) e (facts p) i q
+        go true i = no-member e (rw (ap (entriesOf img s) q ∙ no-entry p empty i) at (p .entry .member))
+        go false i = not-file (p .entry .directory) (facts p) i q
 
     new-entries : entriesOf j (anodesOf j) (p .home) ≡ were ++ map (movedUp img e) behind
     unfolding gather
-    new-entries = rw (removed-anodes p, all-moved)
-        (entries-along (others-same p (p .home) (home-head p) (reached-not-1 img (p .blocks) (p .anodes) (p .accepted) (p .home) (p .reached)) not-itself) j
+    new-entries = rw (removed-disk p .anodes, all-moved)
+        (entries-along (others-same p (p .home) (home-head p) (reached-not-1 (p .entry .directory)) not-itself) j
         ∙ ap (gather new) (facts p .member-chain .2) ∙ gather-append new front (facts p .a₀ ∷ back)
         ∙ rw (same-along front in-front, same-along back in-back, ← (facts p .in-block), entries-left p) (joined (map (lowered len) later) (gather old back)))
 

@@ -12,20 +12,20 @@ use Rattle.rules.specs.Anodes.{Anodes, limit, exists, anodesOf}
 use Rattle.rules.specs.Chains.{chainOf, systemOwns}
 use Rattle.rules.specs.Walk.{Dir, Entered, entriesIn, isBlockOf, blocksFor, broken, itemsFor, itemsAt, itemsBy, reachedDirs}
 use Rattle.rules.specs.Accepted.{diskSize, lastReserved, checkAnswer}
-use Rattle.rules.specs.Lookup.{noDirectory, entriesOf}
+use Rattle.rules.specs.Space.{Plan}
 use Rattle.rules.specs.Changes.{resizePlan, resizedImage, resized}
 use Rattle.laws.specs.Tests.{same?}
 use Rattle.laws.specs.Whole.{Whole}
 use Rattle.laws.specs.Resize as Laws
-use Rattle.changes.specs.Image.{accepted-whole, whole-accepted}
+use Rattle.changes.specs.Image.{accepted-whole, whole-accepted, ReachedDir}
 use Rattle.changes.specs.Members.{Member, member-times, gather-congr, map-kept}
-use Rattle.changes.specs.Reached.{member-reached, entry-facts}
+use Rattle.changes.specs.Reached.{member-reached, EntryIn, entry-not-1, entry-facts}
 use Rattle.changes.specs.NamedOnce.{only-here, only-this}
 use Rattle.changes.specs.SameItems.{whole-same}
 use Rattle.changes.specs.NewSize.{sized, head-sized, entries-sized}
 use Rattle.changes.specs.ResizePlan.{plan-refused}
-use Rattle.changes.specs.PlannedChange.{left-cases, w, facts}
-use Rattle.changes.specs.ResizeStores.{PlannedResize, steps, dir-same, its-block, other-block, this-block, resized-same, resized-anodes}
+use Rattle.changes.specs.PlannedChange.{left-cases, image, w, facts}
+use Rattle.changes.specs.ResizeStores.{PlannedResize, steps, dir-same, its-block, other-block, this-block, resized-disk}
 
 -- ---- the entries
 
@@ -72,41 +72,41 @@ module _ {img : List ℕ} {e : Entered} {new : ℕ} {t : Anodes} {ys : List ℕ}
   j = resizedImage img s e new t ys
 
   module _ (d : Dir) (in-tree : Member d dirs) (a : ℕ) (on : Member a (chainOf (s .next) limit (d .head))) where
-    abbrev r : noDirectory img s (d .head) ≡ false
-    r = member-reached img s d in-tree
+    abbrev r : ReachedDir img (d .head)
+    r = member-reached (image p) d in-tree
 
     other-entries : a ≢ facts p .a₀ → entriesIn j (s .block a) ≡ entriesIn img (s .block a)
     unfolding entriesIn
-    other-entries n = rw (other-block p (d .head) r a on n)
+    other-entries n = rw (other-block p r a on n)
 
     this-entries : a ≡ facts p .a₀ → (before after : List Entered) → entriesIn img (s .block a) ≡ before ++ (e ∷ after) → entriesIn j (s .block a) ≡ before ++ (sized new e ∷ after)
     unfolding entriesIn
     this-entries i before after parted =
         let y = s .block a in
         let its-own : e .place / 512 ≡ y = facts p .in-block ∙ ap (s .block) (sym i) in
-        let here = its-block p (d .head) r a on in
-        rw (this-block p (d .head) r a on i) (entries-sized (blockOf img y) y (e .place % 512) new (here .whole) e after (omega arith) before 28 16 parted
+        let here = its-block p r a on in
+        rw (this-block p r a on i) (entries-sized (blockOf img y) y (e .place % 512) new (here .whole) e after (omega arith) before 28 16 parted
         (here .unbroken))
 
     -- its entries: the size is new where the file is named
     pub entries-left : entriesIn j (s .block a) ≡ map (resizedEntry (e .anode) new) (entriesIn img (s .block a))
     entries-left = elim (same? a (facts p .a₀)) [
-      | inr n ↦ other-entries n ∙ sym (others-stay (e .anode) new (entriesIn img (s .block a)) (only-here img (p .blocks) (p .anodes) (p .accepted) (facts p) d in-tree a on n))
+      | inr n ↦ other-entries n ∙ sym (others-stay (e .anode) new (entriesIn img (s .block a)) (only-here (image p) (facts p) d in-tree a on n))
       | inl i ↦ (let m : Member e (entriesIn img (s .block a)) = rw i (facts p .member) in
           this-entries i (m .0) (m .1) (m .2)
-          ∙ sym (rw (m .2) (one-resized (e .anode) new (m .0) e (m .1) refl (only-this img (p .blocks) (p .anodes) (p .accepted) (facts p) (m .0) (m .1) (ap (λ (c : ℕ). entriesIn img (s .block c)) (sym i) ∙ m .2)))))
+          ∙ sym (rw (m .2) (one-resized (e .anode) new (m .0) e (m .1) refl (only-this (image p) (facts p) (m .0) (m .1) (ap (λ (c : ℕ). entriesIn img (s .block c)) (sym i) ∙ m .2)))))
     ]
 
     marks-left : isBlockOf j d (s .block a) ≡ isBlockOf img d (s .block a)
     unfolding isBlockOf
     marks-left = elim (same? a (facts p .a₀)) [
-      | inr n ↦ rw (other-block p (d .head) r a on n)
-      | inl i ↦ rw (this-block p (d .head) r a on i, head-sized (blockOf img (s .block a)) (e .place % 512) new (its-block p (d .head) r a on .whole) (facts p .from-16))
+      | inr n ↦ rw (other-block p r a on n)
+      | inl i ↦ rw (this-block p r a on i, head-sized (blockOf img (s .block a)) (e .place % 512) new (facts p .from-16))
     ]
 
     items-left : itemsAt (entriesIn j) (isBlockOf j) t d a ≡ itemsAt (λ y. map (resizedEntry (e .anode) new) (entriesIn img y)) (isBlockOf img) t d a
     unfolding itemsFor
-    items-left = rw (dir-same p (d .head) r .same-extents a (member-times a (chainOf (s .next) limit (d .head)) on) .1, marks-left, entries-left)
+    items-left = rw (dir-same p r .same-extents a (member-times a (chainOf (s .next) limit (d .head)) on) .1, marks-left, entries-left)
 
   -- the state after the steps is whole where the entries have the new size
   sizes-whole : Whole (exists img) (diskSize img) (lastReserved img) t (systemOwns img) (steps p .ran .hd′) (steps p .ran .sd′)
@@ -119,24 +119,27 @@ module _ {img : List ℕ} {e : Entered} {new : ℕ} {t : Anodes} {ys : List ℕ}
   unfolding itemsBy
   still-whole = whole-same sizes-whole (entriesIn j) (isBlockOf j) (λ d m.
       gather-congr (itemsAt (entriesIn j) (isBlockOf j) t d) (itemsAt (λ y. map (resizedEntry (e .anode) new) (entriesIn img y)) (isBlockOf img) t d) (chainOf (t .next) limit (d .head))
-      (λ a on. items-left d m a (rw (dir-same p (d .head) (member-reached img s d m) .same-anodes) at on)))
+      (λ a on. items-left d m a (rw (dir-same p (member-reached (image p) d m) .same-anodes) at on)))
 
-  resized-accepted : checkAnswer (resizedImage img s e new t ys) (p .blocks) (p .anodes) ≡ 0
-  resized-accepted = whole-accepted img j (p .blocks) (p .anodes) (p .accepted) (resized-same p) {hd = steps p .ran .hd′} {sd = steps p .ran .sd′} {dirs = dirs} (rw (resized-anodes p) still-whole)
+  resized-accepted : checkAnswer (resizedImage img s e new t ys) (image p .blocks) (image p .anodes) ≡ 0
+  resized-accepted = whole-accepted (image p) (resized-disk p) still-whole
 
--- what a resize leaves of an accepted image is accepted
-pub resize-accepted : (img : List ℕ) (blocks anodes : ℕ) → checkAnswer img blocks anodes ≡ 0 → (h : ℕ) → noDirectory img (anodesOf img) h ≡ false →
-    (e : Entered) → Member e (entriesOf img (anodesOf img) h) → e .dir ≡ false → (new : ℕ) → checkAnswer (resized img (anodesOf img) e new .image) blocks anodes ≡ 0
-unfolding resized
-resize-accepted img blocks anodes accepted h reached e member file new =
-    left-cases (λ l. checkAnswer (l .image) blocks anodes ≡ 0) img (resizedImage img (anodesOf img) e new) (resizePlan img (anodesOf img) (e .anode) (blocksFor new)) (λ k q. accepted)
-    (λ t ys q. resized-accepted (record { blocks = blocks; anodes = anodes; accepted = accepted; home = h; reached = reached; member = member; plan = record { file = file; steps = q } }))
+module _ {img : List ℕ} {h : ℕ} {e : Entered} (m : EntryIn img h e) (new : ℕ) where
+  abbrev plan : Plan
+  plan = resizePlan img (anodesOf img) (e .anode) (blocksFor new)
 
--- it answers 0, 27 or 28
-pub resize-answers : (img : List ℕ) (blocks anodes : ℕ) → checkAnswer img blocks anodes ≡ 0 → (h : ℕ) → noDirectory img (anodesOf img) h ≡ false →
-    (e : Entered) → Member e (entriesOf img (anodesOf img) h) → (new : ℕ) → let r = resized img (anodesOf img) e new .answer in (r ≡ 0) ⊎ ((r ≡ 27) ⊎ (r ≡ 28))
-unfolding resized
-resize-answers img blocks anodes accepted h reached e member new =
-    let f = entry-facts img blocks anodes accepted h reached e member in
-    left-cases (λ l. (l .answer ≡ 0) ⊎ ((l .answer ≡ 27) ⊎ (l .answer ≡ 28))) img (resizedImage img (anodesOf img) e new) (resizePlan img (anodesOf img) (e .anode) (blocksFor new))
-    (λ k q. inr (plan-refused img (accepted-whole img blocks anodes accepted .good) (e .anode) (f .head) (λ i. omega (arith, i, f .from-6)) (blocksFor new) k q)) (λ t ys q. inl refl)
+  -- what a resize leaves of an accepted image is accepted
+  pub resize-accepted : e .dir ≡ false → checkAnswer (resized img (anodesOf img) e new .image) (m .directory .image .blocks) (m .directory .image .anodes) ≡ 0
+  unfolding resized
+  resize-accepted file =
+      let a = m .directory .image in
+      left-cases (λ l. checkAnswer (l .image) (a .blocks) (a .anodes) ≡ 0) img (resizedImage img (anodesOf img) e new) plan (λ k q. a .accepted)
+      (λ t ys q. resized-accepted (record { home = h; entry = m; plan = record { file = file; steps = q } }))
+
+  -- it answers 0, 27 or 28
+  pub resize-answers : let r = resized img (anodesOf img) e new .answer in (r ≡ 0) ⊎ ((r ≡ 27) ⊎ (r ≡ 28))
+  unfolding resized
+  resize-answers =
+      let f = entry-facts m in
+      left-cases (λ l. (l .answer ≡ 0) ⊎ ((l .answer ≡ 27) ⊎ (l .answer ≡ 28))) img (resizedImage img (anodesOf img) e new) plan
+      (λ k q. inr (plan-refused img (accepted-whole (m .directory .image) .good) (e .anode) (f .head) (entry-not-1 f) (blocksFor new) k q)) (λ t ys q. inl refl)

@@ -17,19 +17,19 @@ use Rattle.rules.specs.Counting.{times, gather}
 use Rattle.rules.specs.Anodes.{Anodes, anodesOf, withAnodes}
 use Rattle.rules.specs.Chains.{blocksOf, blockCount}
 use Rattle.rules.specs.Walk.{Entered, blocksFor}
-use Rattle.rules.specs.Lookup.{noDirectory, entriesOf, bytesOf, contents}
+use Rattle.rules.specs.Lookup.{bytesOf, contents}
 use Rattle.rules.specs.Format.{zeroBlock}
 use Rattle.rules.specs.Changes.{inBlock, zeroTail, zeroTaken, resizedImage}
 use Rattle.laws.specs.Chains.{Inside}
 use Rattle.laws.specs.Tests.{same?}
 use Rattle.laws.specs.Sums.{oneAt-same}
-use Rattle.laws.specs.Bags.{times-cons, times-append, gather-append}
+use Rattle.laws.specs.Bags.{times-cons, times-append, gather-append, times-here, times-later, gather-kept}
 use Rattle.laws.specs.Whole.{blocks-count}
 use Rattle.frames.specs.StoredBlocks.{inBlock-kept, blockOf-inBlock}
 use Rattle.frames.specs.StoredBytes.{length-gather, blockOf-withBlocks}
 use Rattle.frames.specs.DisjointBlocks.{chain-once, chain-block}
-use Rattle.changes.specs.Members.{Member, member-first, member-later, member-times, gather-congr}
-use Rattle.changes.specs.Reached.{entry-facts, not-file}
+use Rattle.changes.specs.Members.{member-times}
+use Rattle.changes.specs.Reached.{EntryIn, entry-not-1, entry-facts, not-file}
 use Rattle.changes.specs.KeptChains.{contents-same}
 use Rattle.changes.specs.Read.{bytes-long, file-long}
 use Rattle.changes.specs.NewSize.{sized}
@@ -51,12 +51,12 @@ take-zeros n m l =
     let e : m ≡ n + (m - n) = omega arith in
     ap (λ (k : ℕ). take {A = ℕ} n (replicate k 0)) e ∙ ap (take n) (sym (replicate-append-replicate {A = ℕ} n (m - n) 0)) ∙ take-at (replicate n 0) (replicate (m - n) 0) n (length-replicate {A = ℕ} n 0)
 
-gather-zeros : (f : ℕ → List ℕ) (l : List ℕ) → ((y : ℕ) → Member y l → f y ≡ zeroBlock) → gather f l ≡ replicate (length l * 512) 0
+gather-zeros : (f : ℕ → List ℕ) (l : List ℕ) → ((y : ℕ) → 0 < times y l → f y ≡ zeroBlock) → gather f l ≡ replicate (length l * 512) 0
 unfolding gather
 gather-zeros f [] z = refl
 gather-zeros f (x ∷ l) z =
     let e : 512 + length l * 512 ≡ suc (length l) * 512 = omega arith in
-    ap₂ _++_ (z x (member-first x l)) (gather-zeros f l (λ y m. z y (member-later y x l m))) ∙ replicate-append-replicate {A = ℕ} 512 (length l * 512) 0 ∙ ap (λ (n : ℕ). replicate n 0) e
+    ap₂ _++_ (z x (times-here x l)) (gather-zeros f l (λ y p. z y (times-later y x l p))) ∙ replicate-append-replicate {A = ℕ} 512 (length l * 512) 0 ∙ ap (λ (n : ℕ). replicate n 0) e
 
 module _ {img : List ℕ} {e : Entered} {new : ℕ} {t : Anodes} {ys : List ℕ} (p : PlannedResize img e new t ys) where
   abbrev s : Anodes
@@ -71,12 +71,11 @@ module _ {img : List ℕ} {e : Entered} {new : ℕ} {t : Anodes} {ys : List ℕ}
   -- ---- other files
 
   -- every other file has the bytes that it had
-  pub contents-resized-other : (k : ℕ) → noDirectory img s k ≡ false → (f : Entered) → Member f (entriesOf img s k) → f .dir ≡ false → f .anode ≢ e .anode → contents j t f ≡ contents img s f
-  contents-resized-other k r f m file apart =
-      let g = entry-facts img (p .blocks) (p .anodes) (p .accepted) k r f m in
-      let not-1f : f .anode ≢ 1 = λ i. omega (arith, i, g .from-6) in
-      let not-home = not-file img (p .blocks) (p .anodes) (p .accepted) (p .home) (p .reached) k f g file in
-      contents-same img j f (others-same p (f .anode) (g .head) not-1f apart) (others-kept p (f .anode) (g .head) not-1f apart (λ i. not-home (sym i)))
+  pub contents-resized-other : {k : ℕ} {f : Entered} → EntryIn img k f → f .dir ≡ false → f .anode ≢ e .anode → contents j t f ≡ contents img s f
+  contents-resized-other {f = f} m file apart =
+      let g = entry-facts m in
+      let not-home : f .anode ≢ p .home = λ i. not-file (p .entry .directory) g file (sym i) in
+      contents-same img j f (others-same p (f .anode) (g .head) (entry-not-1 g) apart) (others-kept p (f .anode) (g .head) (entry-not-1 g) apart not-home)
 
   -- ---- the file
 
@@ -110,7 +109,7 @@ module _ {img : List ℕ} {e : Entered} {new : ℕ} {t : Anodes} {ys : List ℕ}
     pub contents-shrunk : contents j t (sized new e) ≡ take new (contents img s e)
     unfolding contents bytesOf blocksFor
     contents-shrunk =
-        let kept : gather (blockOf j) left-blocks ≡ gather (blockOf img) left-blocks = gather-congr (blockOf j) (blockOf img) left-blocks (λ y m. block-left y (member-times y left-blocks m)) in
+        let kept : gather (blockOf j) left-blocks ≡ gather (blockOf img) left-blocks = gather-kept (blockOf img) (blockOf j) left-blocks block-left in
         let enough : new ≤ length (gather (blockOf img) left-blocks) = omega (
           arith,
           length-gather img left-blocks (λ y q. inside y (still-in y q)),
@@ -153,7 +152,7 @@ module _ {img : List ℕ} {e : Entered} {new : ℕ} {t : Anodes} {ys : List ℕ}
         taken-kept p .block-kept y (omega (arith, once y, q)) ∙ stored p .block-kept y (chain-block img (w p .good) (e .anode) (facts p .head) y q .unheld)
 
     zeros : gather (blockOf j) ys ≡ replicate (length ys * 512) 0
-    zeros = gather-zeros (blockOf j) ys (λ y m. taken-zero y (member-times y ys m))
+    zeros = gather-zeros (blockOf j) ys taken-zero
 
     -- the size ends within the last block: it is cleared from there on
     module _ (odd : e .size % 512 ≢ 0) where
@@ -224,7 +223,7 @@ module _ {img : List ℕ} {e : Entered} {new : ℕ} {t : Anodes} {ys : List ℕ}
       odd-bytes =
           let part = take (e .size % 512) (blockOf img last) in
           ap (gather (blockOf j)) parted ∙ gather-append (blockOf j) front (last ∷ [])
-          ∙ ap₂ _++_ (gather-congr (blockOf j) (blockOf img) front (λ y m. front-left y (member-times y front m))) (append-nil (blockOf j last) ∙ last-left)
+          ∙ ap₂ _++_ (gather-kept (blockOf img) (blockOf j) front front-left) (append-nil (blockOf j last) ∙ last-left)
           ∙ sym (append-assoc (gather (blockOf img) front) part (replicate (512 - e .size % 512) 0))
           ∙ ap (λ (l : List ℕ). l ++ replicate (512 - e .size % 512) 0) (sym odd-contents)
 
@@ -237,8 +236,8 @@ module _ {img : List ℕ} {e : Entered} {new : ℕ} {t : Anodes} {ys : List ℕ}
     old-bytes = elim (same? (e .size % 512) 0) [
       | inr odd ↦ (let pad : 512 - e .size % 512 ≡ (e .size + 511) / 512 * 512 - e .size = omega arith in rw (← pad) (odd-bytes odd))
       | inl even ↦ (let none : (e .size + 511) / 512 * 512 - e .size ≡ 0 = omega arith in
-          gather-congr (blockOf j) (blockOf img) chain (λ y m. even-left even y (member-times y chain m))
-          ∙ sym (take-all (e .size) (gather (blockOf img) chain) (omega (arith, bytes-long img (p .blocks) (p .anodes) (p .accepted) (p .home) (p .reached) e (p .member) (p .plan .file))))
+          gather-kept (blockOf img) (blockOf j) chain (even-left even)
+          ∙ sym (take-all (e .size) (gather (blockOf img) chain) (omega (arith, bytes-long (p .entry) (p .plan .file))))
           ∙ sym (append-nil (take (e .size) (gather (blockOf img) chain))) ∙ ap (λ (n : ℕ). take (e .size) (gather (blockOf img) chain) ++ replicate n 0) (sym none))
     ]
 
@@ -252,6 +251,6 @@ module _ {img : List ℕ} {e : Entered} {new : ℕ} {t : Anodes} {ys : List ℕ}
         let all : gather (blockOf j) (blocksOf t (e .anode)) ≡ c ++ replicate (a + b) 0 =
         ap (gather (blockOf j)) (longer .0) ∙ gather-append (blockOf j) chain ys ∙ ap₂ _++_ old-bytes zeros ∙ append-assoc c (replicate a 0) (replicate b 0)
         ∙ ap (λ (l : List ℕ). c ++ l) (replicate-append-replicate {A = ℕ} a b 0) in
-        let up-to : new ≡ length c + (new - e .size) = omega (arith, file-long img (p .blocks) (p .anodes) (p .accepted) (p .home) (p .reached) e (p .member) (p .plan .file)) in
+        let up-to : new ≡ length c + (new - e .size) = omega (arith, file-long (p .entry) (p .plan .file)) in
         ap (take new) all ∙ ap (λ (n : ℕ). take n (c ++ replicate (a + b) 0)) up-to ∙ take-append-add c (replicate (a + b) 0) (new - e .size)
         ∙ ap (λ (l : List ℕ). c ++ l) (take-zeros (new - e .size) (a + b) (omega (arith, longer .1, facts p .sized (p .plan .file))))

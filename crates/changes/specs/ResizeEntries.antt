@@ -2,7 +2,6 @@
 use Prim.Native.Nat.{ℕ, _+_, _/_, _%_, _≤_, _<_}
 use mathlib.Core.Path.{_≡_, refl, sym, ap, _∙_}
 use mathlib.Core.Logic.{_≢_, _⊎_, inl, inr}
-use mathlib.Core.Bool.{false}
 use mathlib.Core.List.{List, [], _∷_, _++_, map, map-append, append-assoc}
 use native.Mathlib.Omega.{arith}
 use lib.ListN.{length, getD, set, take, drop}
@@ -14,21 +13,21 @@ use Rattle.directory.proofs.Laws.{found-at}
 use Rattle.rules.specs.Counting.{oneAt, gather}
 use Rattle.rules.specs.Anodes.{Anodes, limit, anodesOf}
 use Rattle.rules.specs.Chains.{chainOf}
-use Rattle.rules.specs.Walk.{Entered, entriesIn, reachedDirs}
+use Rattle.rules.specs.Walk.{Entered, entriesIn}
 use Rattle.rules.specs.Lookup.{noDirectory, entriesOf}
 use Rattle.rules.specs.Changes.{resizedImage}
 use Rattle.laws.specs.Tests.{same?}
 use Rattle.laws.specs.TreeChanges.{headed}
-use Rattle.changes.specs.Image.{headed-same, reached-sum}
+use Rattle.changes.specs.Image.{reached-sum, headed-same, ReachedDir}
 use Rattle.changes.specs.Members.{Member, member-cons, member-append, gather-congr}
 use Rattle.changes.specs.FoundEntries.{part-same, place-order}
-use Rattle.changes.specs.Reached.{EntryFacts, block-entry, reached-dir, entry-facts}
+use Rattle.changes.specs.Reached.{EntryIn, EntryFacts, block-entry, reached-dir, entry-facts}
 use Rattle.changes.specs.KeptChains.{entries-along, entries-same}
 use Rattle.changes.specs.NamedOnce.{only-home}
 use Rattle.changes.specs.EntryBytes.{entryBytes}
 use Rattle.changes.specs.NewSize.{sized, put32-others}
-use Rattle.changes.specs.PlannedChange.{facts}
-use Rattle.changes.specs.ResizeStores.{PlannedResize, steps, dir-same, dir-kept, other-block, this-block, resized-same, resized-anodes}
+use Rattle.changes.specs.PlannedChange.{image, facts}
+use Rattle.changes.specs.ResizeStores.{PlannedResize, dir-same, dir-kept, other-block, this-block, resized-disk}
 use Rattle.changes.specs.Resize.{resizedEntry, one-resized, entries-left, still-whole}
 
 map-gather : (φ : Entered → Entered) (f : ℕ → List Entered) (l : List ℕ) → map φ (gather f l) ≡ gather (λ a. map φ (f a)) l
@@ -67,29 +66,28 @@ module _ {img : List ℕ} {e : Entered} {new : ℕ} {t : Anodes} {ys : List ℕ}
   -- the same directories are reached
   pub resized-reached : (k : ℕ) → noDirectory j t k ≡ noDirectory img s k
   unfolding headed
-  resized-reached k = headed-same img j s t k (rw (resized-anodes p) at
-      (reached-sum img j (p .blocks) (p .anodes) (p .accepted) (resized-same p) {hd = steps p .ran .hd′} {sd = steps p .ran .sd′} {dirs = reachedDirs img s} (rw (resized-anodes p) (still-whole p)) (λ d. oneAt (d .head) k)))
+  resized-reached k = headed-same img j s t k (rw (resized-disk p .anodes) at (reached-sum (image p) (resized-disk p) (still-whole p) (λ d. oneAt (d .head) k)))
 
   -- the directory k
-  module _ (k : ℕ) (reached : noDirectory img s k ≡ false) where
+  module _ {k : ℕ} (r : ReachedDir img k) where
     -- every other directory has the entries that it had
     pub entries-resized-other : k ≢ p .home → entriesOf j t k ≡ entriesOf img s k
-    entries-resized-other apart = entries-same img (p .blocks) (p .anodes) (p .accepted) k reached j (dir-kept p k reached apart) (dir-same p k reached)
+    entries-resized-other apart = entries-same r j (dir-kept p r apart) (dir-same p r)
 
     all-entries : entriesOf j t k ≡ map (resizedEntry (e .anode) new) (entriesOf img s k)
     unfolding entriesOf
     all-entries =
-        let d = reached-dir img (p .blocks) (p .anodes) (p .accepted) k reached in
+        let d = reached-dir r in
         let chain = chainOf (s .next) limit k in
-        entries-along (dir-same p k reached) j
+        entries-along (dir-same p r) j
         ∙ gather-congr (λ a. entriesIn j (s .block a)) (λ a. map (resizedEntry (e .anode) new) (entriesIn img (s .block a))) chain (λ a on. entries-left p (d .0) (d .1) a (rw (d .2) on))
         ∙ sym (map-gather (resizedEntry (e .anode) new) (λ a. entriesIn img (s .block a)) chain)
 
   -- its own has the entry with its new size
   pub entries-resized : (before behind : List Entered) → entriesOf img s (p .home) ≡ before ++ (e ∷ behind) → entriesOf j t (p .home) ≡ before ++ (sized new e ∷ behind)
   entries-resized before behind parted =
-      all-entries (p .home) (p .reached) ∙ ap (map (resizedEntry (e .anode) new)) parted
-      ∙ one-resized (e .anode) new before e behind refl (only-home img (p .blocks) (p .anodes) (p .accepted) (facts p) before behind parted)
+      all-entries (p .entry .directory) ∙ ap (map (resizedEntry (e .anode) new)) parted
+      ∙ one-resized (e .anode) new before e behind refl (only-home (image p) (facts p) before behind parted)
 
   -- ---- the bytes of the entries
 
@@ -101,7 +99,7 @@ module _ {img : List ℕ} {e : Entered} {new : ℕ} {t : Anodes} {ys : List ℕ}
 
   home-block : blockOf j y ≡ put32 (blockOf img y) (pos + 4) new
   home-block = rw (facts p .in-block)
-      (this-block p (p .home) (p .reached) (facts p .a₀) (facts p .member-chain) refl)
+      (this-block p (p .entry .directory) (facts p .a₀) (facts p .member-chain) refl)
 
   long : 18 ≤ getD (blockOf img y) pos 0
   long = found-at (blockOf img y) pos (facts p .stands .entry) (facts p .stands .walked) .long
@@ -115,9 +113,9 @@ module _ {img : List ℕ} {e : Entered} {new : ℕ} {t : Anodes} {ys : List ℕ}
         | inr q ↦ inr (omega arith)
       ]))
 
-  module _ (k : ℕ) (reached : noDirectory img s k ≡ false) (f : Entered) (member : Member f (entriesOf img s k)) (apart : f .anode ≢ e .anode) where
+  module _ {k : ℕ} {f : Entered} (m : EntryIn img k f) (apart : f .anode ≢ e .anode) where
     g : EntryFacts img k f
-    g = entry-facts img (p .blocks) (p .anodes) (p .accepted) k reached f member
+    g = entry-facts m
 
     -- in the same block it ends before the entry or starts behind it
     order : g .a₀ ≡ facts p .a₀ → (f .place % 512 + getD (blockOf img y) (f .place % 512) 0 ≤ pos) ⊎ (pos + 8 ≤ f .place % 512)
@@ -127,22 +125,22 @@ module _ {img : List ℕ} {e : Entered} {new : ℕ} {t : Anodes} {ys : List ℕ}
         let its-own : s .block (g .a₀) ≡ y = ap (s .block) i ∙ sym (facts p .in-block) in
         let same : f .place / 512 ≡ y = g .in-block ∙ its-own in
         let here = block-entry (facts p) in
-        let m = here .parted in
-        let n : Member f (m .0 ++ (e ∷ m .1)) = rw (its-own, m .2) at (g .member) in
-        elim (member-append f (m .0) (e ∷ m .1) n) [
+        let e-in = here .parted in
+        let n : Member f (e-in .0 ++ (e ∷ e-in .1)) = rw (its-own, e-in .2) at (g .member) in
+        elim (member-append f (e-in .0) (e ∷ e-in .1) n) [
           | inl q ↦ inl (omega (
             arith,
             same,
-            place-order (blockOf img y) y at f e (omega arith) (q .1) (m .1) (q .0) 28 16
-                (m .2 ∙ ap (λ (l : List Entered). l ++ (e ∷ m .1)) (q .2) ∙ append-assoc (q .0) (f ∷ q .1) (e ∷ m .1)) (here .unbroken),
+            place-order (blockOf img y) y at f e (omega arith) (q .1) (e-in .1) (q .0) 28 16
+                (e-in .2 ∙ ap (λ (l : List Entered). l ++ (e ∷ e-in .1)) (q .2) ∙ append-assoc (q .0) (f ∷ q .1) (e ∷ e-in .1)) (here .unbroken),
           ))
-          | inr q ↦ elim (member-cons f e (m .1) q) [
+          | inr q ↦ elim (member-cons f e (e-in .1) q) [
             | inl c ↦ absurd (apart (ap (λ (x : Entered). x .anode) c))
             | inr c ↦ inr (omega (
               arith,
               same,
               long,
-              place-order (blockOf img y) y pos e f (omega arith) (c .0) (c .1) (m .0) 28 16 (m .2 ∙ ap (λ (l : List Entered). m .0 ++ (e ∷ l)) (c .2)) (here .unbroken),
+              place-order (blockOf img y) y pos e f (omega arith) (c .0) (c .1) (e-in .0) 28 16 (e-in .2 ∙ ap (λ (l : List Entered). e-in .0 ++ (e ∷ l)) (c .2)) (here .unbroken),
             ))
           ]
         ]
@@ -151,7 +149,7 @@ module _ {img : List ℕ} {e : Entered} {new : ℕ} {t : Anodes} {ys : List ℕ}
     pub bytes-resized-other : entryBytes j (f .place) ≡ entryBytes img (f .place)
     unfolding entryBytes
     bytes-resized-other = elim (same? (g .a₀) (facts p .a₀)) [
-      | inr n ↦ rw (g .in-block, other-block p k reached (g .a₀) (g .member-chain) n)
+      | inr n ↦ rw (g .in-block, other-block p (m .directory) (g .a₀) (g .member-chain) n)
       | inl i ↦ (let same : f .place / 512 ≡ y = g .in-block ∙ ap (s .block) i ∙ sym (facts p .in-block) in
           let at = f .place % 512 in
           let o = order i in

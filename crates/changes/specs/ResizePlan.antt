@@ -3,10 +3,10 @@ use Prim.Native.Nat.{ℕ, _+_, _-_, _≤_, _<_}
 use mathlib.Core.Path.{_≡_, refl, sym, ap, _∙_}
 use mathlib.Core.Logic.{_≢_, _⊎_, inl, inr}
 use mathlib.Core.Bool.{false, cond}
-use mathlib.Core.List.{List, [], _∷_, _++_, append-nil, reverse}
+use mathlib.Core.List.{List, [], _++_, append-nil, reverse}
 use native.Mathlib.Omega.{arith}
 use lib.Dec.{leb}
-use lib.ListN.{length}
+use lib.ListN.{length, drop-of-length-le}
 use borrow.Author.Tests.{le-leb, lt-leb}
 use Rattle.rules.specs.Counting.{times}
 use Rattle.rules.specs.Anodes.{Anodes, limit, exists}
@@ -79,12 +79,8 @@ module _ (img : List ℕ) {s : Anodes} {hd sd : ℕ → ℕ} (g : Good limit (ex
     unfolding resizePlan
     plan-shorter l = elim (less? size (blockCount s h)) [
       | inl m ↦ (reverse ys, gives-blocks (blockCount s h - size) h h1 t ys s (systemOwns img) hd sd g d (rw (lt-leb (blockCount s h) size m) at plan) .0)
-      | inr m ↦ (let q = plan-longer m in ([], sym (append-nil (blocksOf s h)) ∙ ap (λ (l : List ℕ). blocksOf s h ++ l) (sym (none ys (omega (arith, q .1)))) ∙ sym (q .0) ∙ sym (append-nil (blocksOf t h))))
+      | inr m ↦ (let q = plan-longer m in ([], sym (append-nil (blocksOf s h)) ∙ ap (λ (l : List ℕ). blocksOf s h ++ l) (sym (drop-of-length-le ys {i = 0} (omega (arith, q .1)))) ∙ sym (q .0) ∙ sym (append-nil (blocksOf t h))))
     ]
-      where
-        none : (l : List ℕ) → length l ≡ 0 → l ≡ []
-        none [] z = refl
-        none (x ∷ l) z = absurd (omega arith)
 
   module _ {size : ℕ} {t : Anodes} {ys : List ℕ} (r : Resizing img s hd h size t ys) where
     from-head : Head (s .next) (s .block) (r .from)

@@ -3,11 +3,12 @@ use Prim.Native.Nat.{ℕ, zero, suc, _+_, _-_, _/_, _%_, _<_}
 use mathlib.Core.Path.{_≡_, refl, sym, ap, _∙_}
 use mathlib.Core.Logic.{_≢_}
 use mathlib.Core.Bool.{Bool, true, false, cond, not, _&&_, and-eq-true-iff}
-use mathlib.Core.List.{List, [], _∷_}
+use mathlib.Core.List.{List}
 use native.Mathlib.Omega.{arith}
 use native.Mathlib.Nat.{le-of-eq}
 use lib.Dec.{eqb, ltb}
-use lib.ListN.{length, getD, length-replicate}
+use lib.ListN.{length, getD, take, drop, length-replicate}
+use lib.Seq.{split-at}
 use borrow.Author.Tests.{eqb-false, not-true}
 use Rattle.endian.specs.Bytes.{put32, cleared}
 use Rattle.endian.proofs.Laws.{length-put32, length-cleared}
@@ -16,7 +17,6 @@ use Rattle.rules.specs.Counting.{sumList, times, gather}
 use Rattle.rules.specs.Anodes.{Anodes, limit, anodesOf, withAnodes}
 use Rattle.rules.specs.Chains.{chainOf, run, blocksOf, blockCount}
 use Rattle.rules.specs.Walk.{Entered, blocksFor}
-use Rattle.rules.specs.Lookup.{noDirectory}
 use Rattle.rules.specs.Space.{planned}
 use Rattle.rules.specs.Format.{zeroBlock}
 use Rattle.rules.specs.Changes.{inBlock, withBlocks, resizePlan, zeroTail, withSize, zeroTaken, resizedImage}
@@ -26,11 +26,12 @@ use Rattle.laws.specs.Frame.{shift-alike, shift-chain}
 use Rattle.frames.specs.Kept.{Unheld, Kept, kept-all, kept-both}
 use Rattle.frames.specs.StoredBlocks.{inBlock-kept, blockOf-inBlock, withBlocks-kept}
 use Rattle.frames.specs.DisjointBlocks.{DataBlock, chains-apart, chain-block}
-use Rattle.changes.specs.Image.{headIn, SameDisk, stored-kept, stored-same, stored-anodes, not-one, not-among, same-then, anodes-then}
-use Rattle.changes.specs.Members.{Member, member-first, member-later, member-times}
+use Rattle.frames.specs.StoredBytes.{BlocksKept}
+use Rattle.changes.specs.Image.{headIn, DiskWith, stored-kept, disk-stored, not-one, not-among, disk-then, ReachedDir}
+use Rattle.changes.specs.Members.{Member, member-times}
 use Rattle.changes.specs.Reached.{DirBlock, block-on, reached-not-1, reached-head, dir-block, block-data, not-file}
-use Rattle.changes.specs.KeptChains.{SameChain, BlocksKept}
-use Rattle.changes.specs.PlannedChange.{PlannedChange, w, facts, not-1, off-chain, off-anode}
+use Rattle.changes.specs.KeptChains.{SameChain}
+use Rattle.changes.specs.PlannedChange.{PlannedChange, image, w, facts, not-1, off-chain, off-anode}
 use Rattle.changes.specs.ResizePlan.{Resizing, plan-runs, handed-data, handed-apart}
 
 -- a resize of a file of an accepted image, and the steps that were planned
@@ -56,9 +57,7 @@ length-blocksOf s h =
     ∙ list-congr (λ a. sumList (λ y. 1) (run (s .block a) (s .count a))) (s .count) chain (λ a. list-length (run (s .block a) (s .count a)) ∙ length-run (s .block a) (s .count a))
 
 nth-in : (l : List ℕ) (i : ℕ) → i < length l → Member (getD l i 0) l
-nth-in [] i p = absurd (omega arith)
-nth-in (x ∷ l) zero p = member-first x l
-nth-in (x ∷ l) (suc i) p = member-later (getD l i 0) x l (nth-in l i (omega arith))
+nth-in l i p = (take i l, drop (suc i) l, split-at l i 0 p)
 
 -- ---- the image that is left
 
@@ -87,7 +86,7 @@ module _ {img : List ℕ} {e : Entered} {new : ℕ} {t : Anodes} {ys : List ℕ}
   j = withSize tailed (e .place) new
 
   pub stored : Kept (Unheld img) img anodesIn
-  stored = stored-kept img (p .blocks) (p .anodes) (p .accepted) t
+  stored = stored-kept (image p) t
 
   pub taken-kept : Kept (λ y. times y ys ≡ 0) anodesIn zeroed
   unfolding zeroTaken
@@ -147,14 +146,9 @@ module _ {img : List ℕ} {e : Entered} {new : ℕ} {t : Anodes} {ys : List ℕ}
     not-one (block-data (facts p)) y n,
   )
 
-  pub resized-same : SameDisk img (resizedImage img s e new t ys)
+  pub resized-disk : DiskWith img t (resizedImage img s e new t ys)
   unfolding resizedImage
-  resized-same = same-then (stored-same img (p .blocks) (p .anodes) (p .accepted) t) stores-kept only-data
-
-  pub resized-anodes : anodesOf (resizedImage img s e new t ys) ≡ t
-  unfolding resizedImage
-  resized-anodes =
-      anodes-then (stored-same img (p .blocks) (p .anodes) (p .accepted) t) stores-kept only-data ∙ stored-anodes img (p .blocks) (p .anodes) (p .accepted) t (steps .ran .good)
+  resized-disk = disk-then (disk-stored (image p) t (steps .ran .good)) stores-kept only-data
 
   -- ---- other chains
 
@@ -178,29 +172,23 @@ module _ {img : List ℕ} {e : Entered} {new : ℕ} {t : Anodes} {ys : List ℕ}
 
   -- ---- the blocks of the directories
 
-  module _ (k : ℕ) (reached : noDirectory img s k ≡ false) where
-    its-head : Head (s .next) (s .block) k
-    its-head = reached-head img (p .blocks) (p .anodes) (p .accepted) k reached
-
-    head-not-1 : k ≢ 1
-    head-not-1 = reached-not-1 img (p .blocks) (p .anodes) (p .accepted) k reached
-
+  module _ {k : ℕ} (r : ReachedDir img k) where
     head-not-file : k ≢ e .anode
-    head-not-file = not-file img (p .blocks) (p .anodes) (p .accepted) k reached (p .home) e (facts p) (p .plan .file)
+    head-not-file = not-file r (facts p) (p .plan .file)
 
     -- its chain stays
     pub dir-same : SameChain s t k
-    dir-same = others-same k its-head head-not-1 head-not-file
+    dir-same = others-same k (reached-head r) (reached-not-1 r) head-not-file
 
     pub dir-kept : k ≢ p .home → BlocksKept img (resizedImage img s e new t ys) s k
-    dir-kept = others-kept k its-head head-not-1 head-not-file
+    dir-kept = others-kept k (reached-head r) (reached-not-1 r) head-not-file
 
     module _ (a : ℕ) (on : Member a (chainOf (s .next) limit k)) where
       pub its-block : DirBlock img k a
-      its-block = dir-block img (p .blocks) (p .anodes) (p .accepted) k reached a on
+      its-block = dir-block r a on
 
       left-alone : Left-alone (s .block a)
-      left-alone = alone k its-head head-not-1 head-not-file (s .block a) (block-on s k a on (its-block .one))
+      left-alone = alone k (reached-head r) (reached-not-1 r) head-not-file (s .block a) (block-on s k a on (its-block .one))
 
       -- up to the entry's new size it has the bytes that it had
       before-size : blockOf tailed (s .block a) ≡ blockOf img (s .block a)
@@ -219,4 +207,4 @@ module _ {img : List ℕ} {e : Entered} {new : ℕ} {t : Anodes} {ys : List ℕ}
 
   -- the block that has the entry
   pub home-alone : Left-alone (e .place / 512)
-  home-alone = rw (facts p .in-block) (left-alone (p .home) (p .reached) (facts p .a₀) (facts p .member-chain))
+  home-alone = rw (facts p .in-block) (left-alone (p .entry .directory) (facts p .a₀) (facts p .member-chain))

@@ -6,7 +6,7 @@ use mathlib.Core.Bool.{Bool}
 use mathlib.Core.List.{List}
 use native.Mathlib.Omega.{arith}
 use Rattle.rules.specs.Anodes.{Anodes, limit}
-use Rattle.rules.specs.Chains.{chainOf, covers, systemOwns}
+use Rattle.rules.specs.Chains.{chainOf, systemOwns}
 use Rattle.rules.specs.Accepted.{diskSize}
 use Rattle.laws.specs.Ownership.{covers-in, disjoint}
 use Rattle.laws.specs.Heads.{head-of-is, on-own}
@@ -15,22 +15,17 @@ use Rattle.frames.specs.DisjointBlocks.{DataBlock, chain-block}
 use Rattle.changes.specs.Members.{times-member}
 use Rattle.changes.specs.Reached.{block-on}
 
-module _ {ex : ℕ → Bool} {n last : ℕ} {s : Anodes} {system hd sd : ℕ → ℕ} (g : Good limit ex n last s system hd sd) (a : ℕ) (one : s .count a ≡ 1) where
-  single-used : s .block a ≢ 0
-  single-used z = omega (arith, one, g .present .free-none a z)
+module _ {ex : ℕ → Bool} {n last : ℕ} {s : Anodes} {system hd sd : ℕ → ℕ} (g : Good limit ex n last s system hd sd) where
+  pub single-used : (a : ℕ) → s .count a ≡ 1 → s .block a ≢ 0
+  single-used a one z = omega (arith, one, g .present .free-none a z)
 
-  single-covers : covers (s .count a) (s .block a) (s .block a) ≡ 1
-  single-covers = covers-in (s .count a) (s .block a) (s .block a) (omega arith) (omega (arith, one))
-
-  pub single-apart : (c : ℕ) → s .count c ≡ 1 → a ≢ c → s .block a ≢ s .block c
-  single-apart c one-c ne e =
-      let below = g .linked .view .below a single-used in
-      let other : s .block c ≢ 0 = λ z. omega (arith, one-c, g .present .free-none c z) in
+  pub single-apart : (a : ℕ) → s .count a ≡ 1 → (c : ℕ) → s .count c ≡ 1 → a ≢ c → s .block a ≢ s .block c
+  single-apart a one c one-c ne e =
+      let below = g .linked .view .below a (single-used a one) in
       omega (
         arith,
-        one,
-        disjoint limit (s .count) (s .block) system n (g .own) a c (s .block a) below (g .linked .view .below c other) ne (omega (arith, one, g .own .fits a below (omega (arith, one)))),
-        single-covers,
+        disjoint limit (s .count) (s .block) system n (g .own) a c (s .block a) below (g .linked .view .below c (single-used c one-c)) ne (omega (arith, one, g .own .fits a below (omega (arith, one)))),
+        covers-in (s .count a) (s .block a) (s .block a) (omega arith) (omega (arith, one)),
         covers-in (s .count c) (s .block c) (s .block a) (omega (arith, e)) (omega (arith, e, one-c)),
       )
 

@@ -1,5 +1,5 @@
 -- In every accepted image the blocks of all kinds make the disk's size.
-use Prim.Native.Nat.{ℕ, zero, suc, _+_, _≤_, _<_}
+use Prim.Native.Nat.{ℕ, _+_, _≤_, _<_}
 use mathlib.Core.Path.{_≡_, refl, sym, ap, _∙_}
 use mathlib.Core.Logic.{_≢_, inl, inr}
 use mathlib.Core.Bool.{false, cond}
@@ -10,40 +10,36 @@ use borrow.Author.Tests.{lt-ltb, le-ltb, eq-eqb, ne-eqb}
 use Rattle.disk.specs.Root.{slotOf}
 use Rattle.rules.specs.Counting.{oneAt, sumBelow, sumList}
 use Rattle.rules.specs.Anodes.{Anodes, limit, anodesOf}
-use Rattle.rules.specs.Chains.{holds, systemOwns, blockCount}
+use Rattle.rules.specs.Chains.{covers, holds, systemOwns, blockCount}
 use Rattle.rules.specs.Walk.{Dir, Item, entriesIn, isBlockOf, itemsBy, itemsOf, reached, reachedDirs}
-use Rattle.rules.specs.Accepted.{diskSize, wrongSlots, checkAnswer}
+use Rattle.rules.specs.Accepted.{diskSize, wrongSlots}
 use Rattle.rules.specs.Totals.{freeBlocks, fileBlocks, directoryBlocks, chainBlocks, anodeBlocks, totalIn, total}
 use Rattle.laws.specs.Tests.{same?, less?}
 use Rattle.laws.specs.Sums.{oneAt-same, oneAt-other, sum-congr, sum-zero, sum-add, sum-swap, sum-oneAt}
 use Rattle.laws.specs.Bags.{gather-sum}
-use Rattle.laws.specs.Acceptance.{passed-of, size-bounds}
+use Rattle.laws.specs.Acceptance.{size-bounds}
 use Rattle.laws.specs.Blocks.{blocks}
 use Rattle.laws.specs.Owners.{blocks-none}
+use Rattle.laws.specs.Ownership.{covers-in, covers-over, covers-sum}
 use Rattle.laws.specs.Space.{head-1, head-5}
 use Rattle.laws.specs.Items.{giving, below, namedIn, names-sum, below-items}
 use Rattle.laws.specs.Totals.{file-size, filesOf, dirsOf}
 use Rattle.laws.specs.Whole.{blocks-count, named-heads, whole-total}
 use Rattle.laws.specs.TestsPassed.{right-slot}
-use Rattle.changes.specs.Image.{WholeImage, headIn, sideIn, accepted-slots, accepted-whole}
+use Rattle.changes.specs.Image.{WholeImage, headIn, sideIn, AcceptedImage, image-passed, accepted-slots, accepted-whole}
 use Rattle.changes.specs.Members.{Member, member-sum, member-congr}
 
 -- ---- the system's blocks
 
 module _ (img : List ℕ) (right : wrongSlots img ≡ false) where
-  start : (x : ℕ) → systemOwns img x ≡ oneAt 0 x + oneAt 1 x + oneAt 2 x + sumBelow (holds img x) 42
-  unfolding systemOwns oneAt
+  -- blocks 0 to 2, and those that slots hold
+  start : (x : ℕ) → systemOwns img x ≡ covers 3 0 x + sumBelow (holds img x) 42
+  unfolding systemOwns
   start x = elim (less? x 3) [
-    | inl l ↦ rw (lt-ltb x 3 l) (omega (arith, low x l, sum-zero (holds img x) 42 (λ s q. unheld s l)))
-    | inr l ↦ rw (le-ltb x 3 l, oneAt-other 0 x (λ e. omega (arith, e, l)), oneAt-other 1 x (λ e. omega (arith, e, l)), oneAt-other 2 x (λ e. omega (arith, e, l))) (omega arith)
+    | inl l ↦ rw (lt-ltb x 3 l) (omega (arith, covers-in 3 0 x (omega arith) (omega arith), sum-zero (holds img x) 42 (λ s q. unheld s l)))
+    | inr l ↦ rw (le-ltb x 3 l) (omega (arith, covers-over 3 0 x (omega arith)))
   ]
     where
-      low : (x : ℕ) → x < 3 → oneAt 0 x + oneAt 1 x + oneAt 2 x ≡ 1
-      low zero l = refl
-      low (suc zero) l = refl
-      low (suc (suc zero)) l = refl
-      low (suc (suc (suc x))) l = absurd (omega arith)
-
       unheld : (s : ℕ) → x < 3 → holds img x s ≡ 0
       unheld s l = unfold holds in elim (same? (slotOf img s) 0) [
         | inl z ↦ rw z
@@ -60,22 +56,18 @@ module _ (img : List ℕ) (right : wrongSlots img ≡ false) where
   system-blocks : 3 ≤ diskSize img → sumBelow (systemOwns img) (diskSize img) ≡ anodeBlocks img + 3
   unfolding anodeBlocks
   system-blocks l =
-      sum-congr (systemOwns img) (λ x. oneAt 0 x + oneAt 1 x + oneAt 2 x + sumBelow (holds img x) 42) (diskSize img) (λ x q. start x)
+      sum-congr (systemOwns img) (λ x. covers 3 0 x + sumBelow (holds img x) 42) (diskSize img) (λ x q. start x)
       ∙ omega (
         arith,
-        sum-add (λ x. oneAt 0 x + oneAt 1 x + oneAt 2 x) (λ x. sumBelow (holds img x) 42) (diskSize img),
-        sum-add (λ x. oneAt 0 x + oneAt 1 x) (λ x. oneAt 2 x) (diskSize img),
-        sum-add (λ x. oneAt 0 x) (λ x. oneAt 1 x) (diskSize img),
-        sum-oneAt 0 (diskSize img) (omega arith),
-        sum-oneAt 1 (diskSize img) (omega arith),
-        sum-oneAt 2 (diskSize img) (omega arith),
+        sum-add (covers 3 0) (λ x. sumBelow (holds img x) 42) (diskSize img),
+        covers-sum 3 0 (diskSize img) l,
         sum-swap (λ x s. holds img x s) (diskSize img) 42,
         sum-congr (λ s. sumBelow (λ x. holds img x s) (diskSize img)) (λ s. cond (eqb (slotOf img s) 0) 0 1) 42 (λ s q. slot-once s),
       )
 
 -- ---- the chains
 
-module _ (img : List ℕ) (number anodes : ℕ) (accepted : checkAnswer img number anodes ≡ 0) where
+module _ {img : List ℕ} (image : AcceptedImage img) where
   abbrev s : Anodes
   s = anodesOf img
 
@@ -90,7 +82,7 @@ module _ (img : List ℕ) (number anodes : ℕ) (accepted : checkAnswer img numb
   has = blocks limit (headIn img) (s .count)
 
   w : WholeImage img s (headIn img) (sideIn img) dirs
-  w = accepted-whole img number anodes accepted
+  w = accepted-whole image
 
   -- what an item of a reached directory names is a head
   item-blocks : (d : Dir) → Member d dirs → (i : Item) → Member i (items d) → has (i .anode) ≡ blockCount s (i .anode)
@@ -135,7 +127,7 @@ module _ (img : List ℕ) (number anodes : ℕ) (accepted : checkAnswer img numb
   accepted-total = omega (
     arith,
     whole-total w,
-    system-blocks img (accepted-slots img number anodes accepted) (omega (arith, size-bounds img (passed-of img number anodes accepted .size-right) .0)),
+    system-blocks img (accepted-slots image) (omega (arith, size-bounds img (image-passed image .size-right) .0)),
     blocks-count (w .good) 1 (head-1 (w .good)),
     files,
     directories,

@@ -14,19 +14,19 @@ use Rattle.rules.specs.Anodes.{Anodes, limit, exists, anodesOf}
 use Rattle.rules.specs.Chains.{chainOf, systemOwns, blocksOf}
 use Rattle.rules.specs.Walk.{Dir, root, Entered, entriesIn, isBlockOf, itemsFor, itemsAt, itemsBy, itemsOf, done, walk, walkOf, dirsIn, reachedDirs}
 use Rattle.rules.specs.Accepted.{diskSize, lastReserved, checkAnswer}
-use Rattle.rules.specs.Lookup.{noDirectory, entriesOf, bytesOf, contents}
+use Rattle.rules.specs.Lookup.{entriesOf, bytesOf, contents}
 use Rattle.rules.specs.Changes.{written}
 use Rattle.laws.specs.Tests.{less?}
 use Rattle.laws.specs.Whole.{Whole}
 use Rattle.frames.specs.Kept.{Kept}
 use Rattle.frames.specs.DisjointBlocks.{DataBlock, chains-apart, chain-block}
-use Rattle.frames.specs.StoredBytes.{written-kept, bytesOf-written, bytesOf-written-other}
-use Rattle.changes.specs.Image.{WholeImage, headIn, sideIn, accepted-whole, accepted-walk, SameDisk, same-own, not-among, same-then, anodes-then, whole-accepted}
+use Rattle.frames.specs.StoredBytes.{BlocksKept, written-kept, bytesOf-written, bytesOf-written-other}
+use Rattle.changes.specs.Image.{WholeImage, headIn, sideIn, AcceptedImage, accepted-whole, accepted-walk, DiskWith, disk-own, not-among, disk-then, whole-accepted, ReachedDir}
 use Rattle.changes.specs.SameItems.{whole-same, walk-same}
 use Rattle.changes.specs.Members.{Member, gather-congr}
 use Rattle.changes.specs.EntryBytes.{entryBytes}
-use Rattle.changes.specs.KeptChains.{BlocksKept, same-chain-own, block-same, entries-same, entry-bytes-same}
-use Rattle.changes.specs.Reached.{EntryFacts, member-reached, reached-head, entry-facts, not-file}
+use Rattle.changes.specs.KeptChains.{same-chain-own, block-same, entries-same, entry-bytes-same}
+use Rattle.changes.specs.Reached.{EntryIn, EntryFacts, member-reached, reached-head, entry-facts, not-file}
 
 -- ---- the file's bytes
 
@@ -50,19 +50,21 @@ take-stored n l at bytes within =
 
 -- ---- the image after the write
 
-module _ (img : List ℕ) (blocks anodes : ℕ) (accepted : checkAnswer img blocks anodes ≡ 0) (h : ℕ) (reached : noDirectory img (anodesOf img) h ≡ false)
-    (e : Entered) (member : Member e (entriesOf img (anodesOf img) h)) (file : e .dir ≡ false) (offset : ℕ) (bytes : List ℕ) where
+module _ {img : List ℕ} {h : ℕ} {e : Entered} (m : EntryIn img h e) (file : e .dir ≡ false) (offset : ℕ) (bytes : List ℕ) where
   abbrev s : Anodes
   s = anodesOf img
 
   abbrev j : List ℕ
   j = written img s e offset bytes
 
+  abbrev image : AcceptedImage img
+  image = m .directory .image
+
   w : WholeImage img s (headIn img) (sideIn img) (reachedDirs img s)
-  w = accepted-whole img blocks anodes accepted
+  w = accepted-whole image
 
   facts : EntryFacts img h e
-  facts = entry-facts img blocks anodes accepted h reached e member
+  facts = entry-facts m
 
   kept : Kept (λ y. times y (blocksOf s (e .anode)) ≡ 0) img j
   kept = written-kept img (w .good) e (facts .head) offset bytes
@@ -70,35 +72,32 @@ module _ (img : List ℕ) (blocks anodes : ℕ) (accepted : checkAnswer img bloc
   only-data : (y : ℕ) → 0 < times y (blocksOf s (e .anode)) → DataBlock img y
   only-data = chain-block img (w .good) (e .anode) (facts .head)
 
-  pub written-same : SameDisk img j
-  written-same = same-then (same-own img) kept (not-among (blocksOf s (e .anode)) only-data)
-
-  pub written-anodes : anodesOf j ≡ s
-  written-anodes = anodes-then (same-own img) kept (not-among (blocksOf s (e .anode)) only-data)
+  pub written-disk : DiskWith img s j
+  written-disk = disk-then (disk-own img) kept (not-among (blocksOf s (e .anode)) only-data)
 
   -- no block of a reached directory is written
-  dir-kept : (k : ℕ) → noDirectory img s k ≡ false → BlocksKept img j s k
-  dir-kept k r y q = kept .block-kept y (chains-apart (w .good) k (e .anode) (reached-head img blocks anodes accepted k r) (facts .head) (not-file img blocks anodes accepted k r h e facts file) y q)
+  dir-kept : {k : ℕ} → ReachedDir img k → BlocksKept img j s k
+  dir-kept {k} r y q = kept .block-kept y (chains-apart (w .good) k (e .anode) (reached-head r) (facts .head) (not-file r facts file) y q)
 
   -- every directory has the entries that it had
-  pub written-entries : (k : ℕ) → noDirectory img s k ≡ false → entriesOf j s k ≡ entriesOf img s k
-  written-entries k r = entries-same img blocks anodes accepted k r j (dir-kept k r) (same-chain-own s k)
+  pub written-entries : {k : ℕ} → ReachedDir img k → entriesOf j s k ≡ entriesOf img s k
+  written-entries {k} r = entries-same r j (dir-kept r) (same-chain-own s k)
 
   -- the bytes of their entries too
-  pub written-bytes : (k : ℕ) → noDirectory img s k ≡ false → (f : Entered) → Member f (entriesOf img s k) → entryBytes j (f .place) ≡ entryBytes img (f .place)
-  written-bytes k r = entry-bytes-same img blocks anodes accepted k r j (dir-kept k r)
+  pub written-bytes : {k : ℕ} {f : Entered} → EntryIn img k f → entryBytes j (f .place) ≡ entryBytes img (f .place)
+  written-bytes n = entry-bytes-same (n .directory) j (dir-kept (n .directory)) n
 
   same-items : (d : Dir) → Member d (reachedDirs img s) → itemsBy (entriesIn j) (isBlockOf j) s d ≡ itemsBy (entriesIn img) (isBlockOf img) s d
   unfolding itemsBy itemsFor entriesIn isBlockOf
-  same-items d m =
-      let r = member-reached img s d m in
+  same-items d in-tree =
+      let r = member-reached image d in-tree in
       gather-congr (itemsAt (entriesIn j) (isBlockOf j) s d) (itemsAt (entriesIn img) (isBlockOf img) s d) (chainOf (s .next) limit (d .head)) (λ a on.
-      rw (block-same img blocks anodes accepted (d .head) r j (dir-kept (d .head) r) a on))
+      rw (block-same r j (dir-kept r) a on))
 
   same-walk : walk (itemsBy (entriesIn j) (isBlockOf j) s) limit (root ∷ []) [] ≡ done (reachedDirs img s)
   unfolding walkOf itemsOf
   same-walk = walk-same (itemsBy (entriesIn img) (isBlockOf img) s) (itemsBy (entriesIn j) (isBlockOf j) s) limit (root ∷ []) [] (reachedDirs img s)
-      (accepted-walk img blocks anodes accepted) same-items
+      (accepted-walk image) same-items
 
   -- the same directories are reached
   pub written-dirs : reachedDirs j s ≡ reachedDirs img s
@@ -109,8 +108,8 @@ module _ (img : List ℕ) (blocks anodes : ℕ) (accepted : checkAnswer img bloc
   still-whole = whole-same w (entriesIn j) (isBlockOf j) same-items
 
   -- what a write leaves of an accepted image is accepted
-  pub write-accepted : checkAnswer j blocks anodes ≡ 0
-  write-accepted = whole-accepted img j blocks anodes accepted written-same {hd = headIn img} {sd = sideIn img} {dirs = reachedDirs img s} (rw written-anodes still-whole)
+  pub write-accepted : checkAnswer j (m .directory .image .blocks) (m .directory .image .anodes) ≡ 0
+  write-accepted = whole-accepted image written-disk still-whole
 
   -- ---- what the files hold
 
@@ -120,7 +119,6 @@ module _ (img : List ℕ) (blocks anodes : ℕ) (accepted : checkAnswer img bloc
   contents-written l = rw (bytesOf-written img (w .good) e (facts .head) offset bytes) (take-stored (e .size) (bytesOf img s (e .anode)) offset bytes l)
 
   -- every other file has the bytes that it had
-  pub contents-written-other : (k : ℕ) → noDirectory img s k ≡ false → (f : Entered) → Member f (entriesOf img s k) → f .anode ≢ e .anode → contents j s f ≡ contents img s f
+  pub contents-written-other : {k : ℕ} {f : Entered} → EntryIn img k f → f .anode ≢ e .anode → contents j s f ≡ contents img s f
   unfolding contents
-  contents-written-other k r f m o =
-      ap (take (f .size)) (bytesOf-written-other img (w .good) e (facts .head) offset bytes (f .anode) (entry-facts img blocks anodes accepted k r f m .head) o)
+  contents-written-other {f = f} n o = ap (take (f .size)) (bytesOf-written-other img (w .good) e (facts .head) offset bytes (f .anode) (entry-facts n .head) o)

@@ -27,9 +27,9 @@ use Rattle.laws.specs.Tests.{same?, less?}
 use Rattle.frames.specs.DisjointBlocks.{chain-block, chain-once}
 use Rattle.changes.specs.Answers.{Late}
 use Rattle.changes.specs.Members.{Member}
-use Rattle.changes.specs.Image.{accepted-whole}
+use Rattle.changes.specs.Image.{accepted-own, accepted-whole}
 use Rattle.changes.specs.Reached.{entry-facts}
-use Rattle.changes.specs.Write.{written-same, written-anodes}
+use Rattle.changes.specs.Write.{written-disk}
 use Rattle.changed.specs.Leaves.{Leaves}
 use Rattle.changed.specs.Laws.{leaves-refused, leaves-same}
 use Rattle.contents.specs.Written.{InsideOnce}
@@ -40,8 +40,9 @@ module _ {img counts firsts nexts queue parents heads : List ℕ} {dirs : ℕ} (
   -- the blocks of the chain that an entry names are inside the image, each once
   pub chain-inside : (h : ℕ) → noDirectory img (anodesOf img) h ≡ false → (e : Entered) → Member e (entriesOf img (anodesOf img) h) → InsideOnce img (blocksOf (anodesOf img) (e .anode))
   chain-inside h r e m =
-      let w = accepted-whole img (diskSize img) limit (o .loaded .accepted) in
-      let d = entry-facts img (diskSize img) limit (o .loaded .accepted) h r e m .head in
+      let image = accepted-own img (o .loaded .accepted) in
+      let w = accepted-whole image in
+      let d = entry-facts (record { directory = record { image = image; reached = r }; member = m }) .head in
       (λ y p. chain-block img (w .good) (e .anode) d y p .inside, chain-once (w .good) (e .anode) d)
 
 -- ---- a change of a named entry
@@ -71,8 +72,8 @@ module _ (img : List ℕ) (done : Left) where
 pub leaves-written : (img : List ℕ) → checkAnswer img (diskSize img) limit ≡ 0 → (h : ℕ) → noDirectory img (anodesOf img) h ≡ false → (e : Entered) → Member e (entriesOf img (anodesOf img) h) → e .dir ≡ false →
     (offset : ℕ) (bytes j : List ℕ) → j ≡ written img (anodesOf img) e offset bytes → (b a : List ℕ) → Leaves 0 img b a j b a (left 0 (written img (anodesOf img) e offset bytes))
 leaves-written img accepted h reached e member file offset bytes j is b a = rw is
-    (leaves-same img (written img (anodesOf img) e offset bytes) (written-same img (diskSize img) limit accepted h reached e member file offset bytes)
-    (written-anodes img (diskSize img) limit accepted h reached e member file offset bytes) b a)
+    (leaves-same img (written img (anodesOf img) e offset bytes)
+    (written-disk (record { directory = record { image = accepted-own img accepted; reached = reached }; member = member }) file offset bytes) b a)
 
 -- ---- make
 

@@ -12,9 +12,8 @@ use Rattle.disk.specs.declared.Refusal.{Refusal}
 use Rattle.disk.specs.Refusals.{numberOf}
 use Rattle.disk.proofs.Laws.{number-some}
 use Rattle.rules.specs.Counting.{_if_else_, firstOf, times, anyIn}
-use Rattle.rules.specs.Anodes.{Anodes, limit, anodesOf}
+use Rattle.rules.specs.Anodes.{Anodes, anodesOf}
 use Rattle.rules.specs.Walk.{Entered, Dir}
-use Rattle.rules.specs.Accepted.{diskSize}
 use Rattle.rules.specs.Lookup.{noDirectory, entriesOf, nth, isThere, notEmpty, fullDir}
 use Rattle.rules.specs.Calls.{doneOr}
 use Rattle.anodes.specs.Loaded.{anodesFrom}
@@ -22,7 +21,7 @@ use Rattle.tree.specs.Steps.{queueOf}
 use Rattle.laws.specs.Tests.{firstOf-some, firstOf-none}
 use Rattle.laws.specs.OwnerTable.{anodeEntry-is}
 use Rattle.changes.specs.Answers.{searchNumber}
-use Rattle.changes.specs.Image.{accepted-whole}
+use Rattle.changes.specs.Image.{accepted-own, accepted-whole}
 use Rattle.changes.specs.Reached.{reached-head, reached-unbroken}
 use Rattle.lookup.specs.declared.Lookup.{Lookup}
 use Rattle.lookup.specs.Answers.{entryOf}
@@ -47,14 +46,15 @@ module _ {img counts firsts nexts queue parents heads : List ℕ} {dirs : ℕ} (
   -- a reached directory's head is its own head in the table that the check filled
   pub own-heads : (i : ℕ) → i < dirs → getD heads (getD queue i 0) 0 ≡ getD queue i 0
   own-heads i l =
-      let w = accepted-whole img (diskSize img) limit (o .loaded .accepted) in
-      let d = reached-head img (diskSize img) limit (o .loaded .accepted) (getD queue i 0) (queued-reached i l) in
+      let image = accepted-own img (o .loaded .accepted) in
+      let w = accepted-whole image in
+      let d = reached-head (record { image = image; reached = queued-reached i l }) in
       o .shown (getD queue i 0) (w .good .linked .view .below (getD queue i 0) (d .in-use)) ∙ anodeEntry-is (w .good) (getD queue i 0) ∙ w .good .heads .at-head (getD queue i 0) d
 
   -- its entries are unbroken, by the blocks and nexts alone
   pub open-unbroken : (h : ℕ) → noDirectory img (anodesOf img) h ≡ false → anyIn (λ e. e .broken) (entriesOf img (anodesFrom [] firsts nexts) h) ≡ false
   unfolding entriesOf anodesFrom
-  open-unbroken h e = rw (← (o .loaded .is-loaded)) at (reached-unbroken img (diskSize img) limit (o .loaded .accepted) h e)
+  open-unbroken h e = rw (← (o .loaded .is-loaded)) at (reached-unbroken (record { image = accepted-own img (o .loaded .accepted); reached = e }))
 
   -- what the anodes in the tables give, whatever the counts, is what the image's give
   pub by-image : {X : Type 0} (f : Anodes → X) (x : X) → ((c : List ℕ) → x ≡ f (anodesFrom c firsts nexts)) → x ≡ f (anodesOf img)

@@ -95,17 +95,6 @@ module _ {on : ℕ → Type 0} {img j : List ℕ} (k : Kept on img j) where
     unfolding systemOwns holds
     systemOwns-kept = fun-ext (λ x. rw (sum-congr (holds j x) (holds img x) 42 (λ s l. rw (slotOf-kept s))))
 
-    -- the heads of the anode blocks
-    pub wrongSlots-heads : ((s : ℕ) → slotOf img s ≢ 0 → anodeHeadIn (blockOf j (slotOf img s)) ≡ anodeHeadIn (blockOf img (slotOf img s))) → wrongSlots j ≡ wrongSlots img
-    unfolding wrongSlots wrongSlot
-    wrongSlots-heads heads = rw (slotOf-kept 0, anyBelow-same (wrongSlot j) (wrongSlot img) 42 each)
-      where
-        each : (s : ℕ) → s < 42 → wrongSlot j s ≡ wrongSlot img s
-        each s l = elim (same? (slotOf img s) 0) [
-          | inl z ↦ rw (slotOf-kept s, z)
-          | inr u ↦ rw (slotOf-kept s, diskSize-kept, heads s u)
-        ]
-
     -- the anode blocks
     module _ (slots : (s : ℕ) → slotOf img s ≢ 0 → on (slotOf img s)) where
       pub anodeSlots-kept : anodeSlots j ≡ anodeSlots img
@@ -115,3 +104,14 @@ module _ {on : ℕ → Type 0} {img j : List ℕ} (k : Kept on img j) where
       pub anodesOf-kept : anodesOf j ≡ anodesOf img
       unfolding anodesOf
       anodesOf-kept = rw anodeSlots-kept
+
+-- the heads of the anode blocks
+pub wrongSlots-kept : {on : ℕ → Type 0} {img j : List ℕ} → HeadsKept on img j → on 2 → wrongSlots j ≡ wrongSlots img
+unfolding wrongSlots wrongSlot
+wrongSlots-kept {img = img} {j = j} w root = rw (slotOf-kept (w .kept) root 0, anyBelow-same (wrongSlot j) (wrongSlot img) 42 each)
+  where
+    each : (s : ℕ) → s < 42 → wrongSlot j s ≡ wrongSlot img s
+    each s l = elim (same? (slotOf img s) 0) [
+      | inl z ↦ rw (slotOf-kept (w .kept) root s, z)
+      | inr u ↦ rw (slotOf-kept (w .kept) root s, diskSize-kept (w .kept), w .heads-kept s u)
+    ]

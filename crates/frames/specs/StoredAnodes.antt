@@ -20,7 +20,7 @@ use Rattle.laws.specs.Space.{Alike, alike-trans}
 use Rattle.laws.specs.Passes.{Reading}
 use Rattle.laws.specs.ImageAnodes.{block-at, count-at, next-at, reading-of, slot-missing}
 use Rattle.laws.specs.TestsPassed.{right-slot, one-slot}
-use Rattle.frames.specs.Kept.{Unheld, HeadsKept, kept-all, kept-both, slotOf-kept, unheld-kept, wrongSlots-heads}
+use Rattle.frames.specs.Kept.{Unheld, HeadsKept, kept-all, kept-both, slotOf-kept, unheld-kept, wrongSlots-kept}
 
 -- j has the length of img, the blocks that no slot holds, and the heads of the anode blocks
 abbrev pub AnodesStored : List ℕ → List ℕ → Type 0
@@ -54,7 +54,7 @@ module _ (img : List ℕ) (a : ℕ) (x : Anode) where
 module _ (img : List ℕ) (right : wrongSlots img ≡ false) where
   module _ {j : List ℕ} (w : AnodesStored img j) where
     stored-right : wrongSlots j ≡ false
-    stored-right = wrongSlots-heads (w .kept) (root-unheld img right) (w .heads-kept) ∙ right
+    stored-right = wrongSlots-kept w (root-unheld img right) ∙ right
 
     -- one more anode
     stored-more : (a : ℕ) (x : Anode) → AnodesStored img (setAnode j a x)

@@ -66,9 +66,13 @@ gather-spread img (y ∷ ys) bytes long i once =
 
 -- ---- the bytes of a chain
 
-pub bytesOf-kept : {on : ℕ → Type 0} {img j : List ℕ} → Kept on img j → (s : Anodes) (h : ℕ) → ((y : ℕ) → 0 < times y (blocksOf s h) → on y) → bytesOf j s h ≡ bytesOf img s h
+-- the blocks of the chain of h have the same bytes in both images
+abbrev pub BlocksKept : List ℕ → List ℕ → Anodes → ℕ → Type 0
+BlocksKept img j s h = (y : ℕ) → 0 < times y (blocksOf s h) → blockOf j y ≡ blockOf img y
+
+pub bytesOf-kept : (img j : List ℕ) (s : Anodes) (h : ℕ) → BlocksKept img j s h → bytesOf j s h ≡ bytesOf img s h
 unfolding bytesOf
-bytesOf-kept {img = img} {j = j} k s h o = gather-kept (blockOf img) (blockOf j) (blocksOf s h) (λ y p. k .block-kept y (o y p))
+bytesOf-kept img j s h kept = gather-kept (blockOf img) (blockOf j) (blocksOf s h) kept
 
 module _ {ex : ℕ → Bool} {last : ℕ} {s : Anodes} {hd sd : ℕ → ℕ} (img : List ℕ) (g : Good limit ex (diskSize img) last s (systemOwns img) hd sd)
     (e : Entered) (d : Head (s .next) (s .block) (e .anode)) (offset : ℕ) (bytes : List ℕ) where
@@ -90,4 +94,4 @@ module _ {ex : ℕ → Bool} {last : ℕ} {s : Anodes} {hd sd : ℕ → ℕ} (im
 
   -- every other chain has the bytes that it had
   pub bytesOf-written-other : (h : ℕ) → Head (s .next) (s .block) h → h ≢ e .anode → bytesOf (written img s e offset bytes) s h ≡ bytesOf img s h
-  bytesOf-written-other h k o = bytesOf-kept written-kept s h (chains-apart g h (e .anode) k d o)
+  bytesOf-written-other h k o = bytesOf-kept img (written img s e offset bytes) s h (λ y p. written-kept .block-kept y (chains-apart g h (e .anode) k d o y p))

@@ -23,7 +23,8 @@ use Rattle.counting.specs.Laws.{neither}
 use Rattle.laws.specs.Tests.{if-zero, firstOf-zero}
 use Rattle.format_laws.specs.Accepted.{formatted-accepted}
 use Rattle.changes.specs.Answers.{Late, own-tables, any-tables, span-late, list-late, resize-late, remove-late, make-late, file-found, span-found, removable-found}
-use Rattle.changes.specs.Reached.{named-member}
+use Rattle.changes.specs.Image.{AcceptedImage, accepted-own}
+use Rattle.changes.specs.Reached.{named-member, EntryIn}
 use Rattle.changes.specs.Write.{write-accepted}
 use Rattle.changes.specs.Resize.{resize-accepted, resize-answers}
 use Rattle.changes.specs.Make.{make-accepted, made-answer}
@@ -52,6 +53,9 @@ pub record Kept (answer : ℕ) (img : List ℕ) : Type 0 where
 module _ (img : List ℕ) (ok : checkAnswer img (diskSize img) limit ≡ 0) where
   abbrev s : Anodes
   s = anodesOf img
+
+  abbrev image : AcceptedImage img
+  image = accepted-own img ok
 
   -- the image stays
   stays : (n : ℕ) → Harmless n → Kept n img
@@ -110,6 +114,10 @@ module _ (img : List ℕ) (ok : checkAnswer img (diskSize img) limit ≡ 0) wher
       found none k = stays 22 (λ d. omega (arith, d .1))
       found (some e) k = k e refl
 
+  -- the entry that a name finds in a reached directory
+  abbrev named-in : (h : ℕ) (name : List ℕ) (e : Entered) → noDirectory img s h ≡ false → entryNamed img s h name ≡ some e → EntryIn img h e
+  named-in h name e r q = record { directory = record { image = image; reached = r }; member = named-member img s h name e q }
+
   write-kept : (blocks anodes : List ℕ) (h : ℕ) (name : List ℕ) (offset : ℕ) (bytes : List ℕ) →
       let l = changeNamed (readAnswer img blocks anodes h name offset (length bytes)) img (entryNamed img s h name) (λ e. left 0 (written img s e offset bytes)) in Kept (l .answer) (l .image)
   unfolding readAnswer
@@ -117,7 +125,7 @@ module _ (img : List ℕ) (ok : checkAnswer img (diskSize img) limit ≡ 0) wher
       named-kept blocks anodes (spanAnswer img s h name offset (length bytes)) (span-late img s h name offset (length bytes)) (entryNamed img s h name) (λ e. left 0 (written img s e offset bytes))
       (λ z e q.
       let f = span-found img s h name e q offset (length bytes) z in
-      becomes 0 (written img s e offset bytes) (write-accepted img (diskSize img) limit ok h (f .0) e (named-member img s h name e q) (f .1) offset bytes) (λ d. omega (arith, d .0)))
+      becomes 0 (written img s e offset bytes) (write-accepted (named-in h name e (f .0) q) (f .1) offset bytes) (λ d. omega (arith, d .0)))
 
   resize-kept : (blocks anodes : List ℕ) (h : ℕ) (name : List ℕ) (new : ℕ) →
       let l = changeNamed (checkedFirst img blocks anodes (resizeAnswer img s h name)) img (entryNamed img s h name) (λ e. resized img s e new) in Kept (l .answer) (l .image)
@@ -125,8 +133,8 @@ module _ (img : List ℕ) (ok : checkAnswer img (diskSize img) limit ≡ 0) wher
       named-kept blocks anodes (resizeAnswer img s h name) (resize-late img s h name) (entryNamed img s h name) (λ e. resized img s e new)
       (λ z e q.
       let f = file-found img s h name e q z in
-      let m = named-member img s h name e q in
-      becomes (resized img s e new .answer) (resized img s e new .image) (resize-accepted img (diskSize img) limit ok h (f .0) e m (f .1) new) (steps-harmless _ (resize-answers img (diskSize img) limit ok h (f .0) e m new)))
+      let m = named-in h name e (f .0) q in
+      becomes (resized img s e new .answer) (resized img s e new .image) (resize-accepted m new (f .1)) (steps-harmless _ (resize-answers m new)))
 
   remove-kept : (blocks anodes : List ℕ) (h : ℕ) (name : List ℕ) →
       let l = changeNamed (checkedFirst img blocks anodes (removeAnswer img s h name)) img (entryNamed img s h name) (λ e. removed img s e) in Kept (l .answer) (l .image)
@@ -135,9 +143,9 @@ module _ (img : List ℕ) (ok : checkAnswer img (diskSize img) limit ≡ 0) wher
       named-kept blocks anodes (removeAnswer img s h name) (remove-late img s h name) (entryNamed img s h name) (λ e. removed img s e)
       (λ z e q.
       let f = removable-found img s h name e q z in
-      let m = named-member img s h name e q in
-      becomes (removed img s e .answer) (removed img s e .image) (remove-accepted img (diskSize img) limit ok h (f .0) e m (λ d. rw d at (f .1)))
-      (steps-harmless _ (elim (remove-answers img (diskSize img) limit ok h (f .0) e m) [ inl z ↦ inl z | inr k ↦ inr (inr k) ])))
+      let m = named-in h name e (f .0) q in
+      becomes (removed img s e .answer) (removed img s e .image) (remove-accepted m (λ d. rw d at (f .1)))
+      (steps-harmless _ (elim (remove-answers m) [ inl z ↦ inl z | inr k ↦ inr (inr k) ])))
 
   make-kept : (blocks anodes : List ℕ) (h type : ℕ) (name comment : List ℕ) (new : NewEntry) → new .name ≡ name → new .comment ≡ comment →
       let l = leftAfter (checkedFirst img blocks anodes (makeAnswer img s h type name comment)) img (made img s h new) in Kept (l .answer) (l .image)
@@ -148,7 +156,7 @@ module _ (img : List ℕ) (ok : checkAnswer img (diskSize img) limit ≡ 0) wher
       let w = if-zero 20 (wrongEntry type name comment) _ (omega arith) z in
       let r = if-zero 21 (noDirectory img s h) _ (omega arith) (w .1) in
       let n = neither (not (goodName name)) (not (goodComment comment)) (neither (not (eqb type 253 || eqb type 2)) (not (goodName name) || not (goodComment comment)) (w .0) .1) in
-      becomes (made img s h new .answer) (made img s h new .image) (make-accepted img (diskSize img) limit ok h (r .0) new (rw en (not-false _ (n .0))) (rw ec (not-false _ (n .1)))) (steps-harmless _ (made-answer img s h new)))
+      becomes (made img s h new .answer) (made img s h new .image) (make-accepted (record { image = image; reached = r .0 }) new (rw en (not-false _ (n .0))) (rw ec (not-false _ (n .1)))) (steps-harmless _ (made-answer img s h new)))
 
   -- every call leaves an accepted image and reports no damage
   call-kept : (c : Call) → Kept (outcome img c .answer) (outcome img c .image)
@@ -164,7 +172,7 @@ module _ (img : List ℕ) (ok : checkAnswer img (diskSize img) limit ≡ 0) wher
   call-kept (remove blocks anodes h name) = remove-kept blocks anodes h name
 
 sound-of : (img : List ℕ) → checkAnswer img (diskSize img) limit ≡ 0 → Sound img
-sound-of img ok = record { accepted = ok; adds-up = accepted-total img (diskSize img) limit ok }
+sound-of img ok = record { accepted = ok; adds-up = accepted-total (accepted-own img ok) }
 
 -- THE THEOREM
 pub sound-throughout : (img : List ℕ) → checkAnswer img (diskSize img) limit ≡ 0 → (cs : List Call) → SoundThroughout img cs

@@ -14,7 +14,7 @@ use Rattle.disk.specs.AnodeBlocks.{listed}
 use Rattle.disk.proofs.Laws.{getD-listed, length-listed}
 use Rattle.rules.specs.Counting.{oneAt, sumBelow, times}
 use Rattle.rules.specs.Anodes.{Anodes, limit}
-use Rattle.rules.specs.Chains.{covers, owners, systemOwns}
+use Rattle.rules.specs.Chains.{headOf, covers, owners, systemOwns}
 use Rattle.rules.specs.Accepted.{diskSize}
 use Rattle.rules.specs.Space.{rewritten, onChain, dropped}
 use Rattle.rules.specs.Tables.{chainHead, anodeEntry, anodeTable, headWhere, ownerHead, blockEntry, blockTable, entryOr}

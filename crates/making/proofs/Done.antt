@@ -18,21 +18,22 @@ use Rattle.rules.specs.Accepted.{diskSize, lastReserved}
 use Rattle.rules.specs.Lookup.{noDirectory}
 use Rattle.rules.specs.Space.{rewritten, lowestFree}
 use Rattle.rules.specs.Tables.{anodeTable}
-use Rattle.rules.specs.Changes.{firstRoom, noRoom, neededBlock, entryPlace, NewEntry, madeImage, madeWith, made}
+use Rattle.rules.specs.Changes.{firstRoom, noRoom, entryPlace, NewEntry, madeImage, madeWith, made}
 use Rattle.laws.specs.Bags.{times-nil}
 use Rattle.laws.specs.Links.{Linked}
 use Rattle.laws.specs.OwnerTable.{setAll, fresh-owner}
 use Rattle.anodes.specs.Loaded.{anodesFrom, Loaded}
 use Rattle.changes.specs.Members.{times-member}
+use Rattle.changes.specs.Image.{accepted-own}
 use Rattle.changes.specs.Reached.{dir-block}
-use Rattle.changes.specs.MakePlan.{Fresh, parent-took}
-use Rattle.changes.specs.MadeImage.{Making, first-in, good, made-same, made-anodes}
+use Rattle.changes.specs.MakePlan.{Fresh}
+use Rattle.changes.specs.MadeImage.{Making, first-in, grown, good, made-disk}
 use Rattle.changed.specs.Leaves.{Leaves}
 use Rattle.changed.specs.Laws.{Shows, shows-kept, leaves-refused, leaves-done}
 use Rattle.making.specs.declared.MakePlan.{MakePlan}
 use Rattle.making.specs.declared.Planned.the-variants.{Stopped}
 use Rattle.making.specs.Steps.{someBlock, Plans, PlanOf}
-use Rattle.making.proofs.Steps.{no-block, one-block, step-shows, free-f, whole, once, first-ready, next-ready}
+use Rattle.making.proofs.Steps.{no-block, one-block, step-shows, free-f, whole, first-ready, next-ready}
 
 module _ {img counts firsts nexts : List ℕ} (l : Loaded img counts firsts nexts) where
   pub lowest-is : (f : ℕ) → ((c n : List ℕ) (last : ℕ) → f ≡ lowestFree 3444 (exists img) last (anodesFrom c firsts n)) → lowestFree limit (exists img) (lastReserved img) (anodesOf img) ≡ f
@@ -51,7 +52,7 @@ module _ {img counts firsts nexts : List ℕ} (l : Loaded img counts firsts next
     ones a p =
         let next : (λ x. getD nexts x 0) ≡ anodesOf img .next = ap (λ (s : Anodes). s .next) (l .is-loaded) in
         ap (λ (s : Anodes). s .count a) (l .is-loaded)
-        ∙ dir-block img (diskSize img) limit (l .accepted) h reached a (times-member a (chainOf (anodesOf img .next) limit h) (rw next at p)) .one
+        ∙ dir-block (record { image = accepted-own img (l .accepted); reached = reached }) a (times-member a (chainOf (anodesOf img .next) limit h) (rw next at p)) .one
 
     pub room-is : (room : Option ℕ) (len : ℕ) →
         ((c : List ℕ) → ((a : ℕ) → 0 < times a (chainOf (λ x. getD nexts x 0) 3444 h) → getD c a 0 ≡ 1) → room ≡ firstRoom img len (blocksOf (anodesFrom c firsts nexts) h)) →
@@ -110,7 +111,7 @@ module _ (img : List ℕ) (h : ℕ) (new : NewEntry) (m : MakePlan) (t : Anodes)
       go : (o : Option ℕ) → p .room ≡ o → entryPlace o (m .parents .0 ∷ []) ≡ entryPlace o zs
       go (some place) e = refl
       go none e =
-          let q = parent-took img (whole x) f (free-f x .0) (free-f x .2) (x .below) (free-f x .1) h (once x) (new .dir) (p .steps .between) ys (p .steps .own) t zs (ap (λ (o : Option ℕ). neededBlock img (noRoom o) (p .steps .between) h) (sym e) ∙ p .steps .parent) in
+          let q = grown making .took (ap noRoom e) in
           ap (entryPlace none) (sym (one-block (m .parents .0) (λ z. omega (arith, first-in (q .0) [] (sym (no-block (m .parents .0) z) ∙ q .1), times-nil (q .0)))))
 
   -- what it leaves of the image and the tables
@@ -118,5 +119,5 @@ module _ (img : List ℕ) (h : ℕ) (new : NewEntry) (m : MakePlan) (t : Anodes)
       Leaves 0 img b a (madeImage img (anodesOf img) h new f (p .room) ys t zs) (setAll (setAll b ys f) zs h) (anodeTable t ++ drop limit a) (made img (anodesOf img) h new)
   unfolding made madeWith
   done-leaves b a = rw (x .lowest, lt-ltb f limit (x .below), p .steps .roomy, p .steps .own, p .steps .parent)
-      (leaves-done img (madeImage img (anodesOf img) h new f (p .room) ys t zs) (made-same making) b a (setAll (setAll b ys f) zs h) (anodeTable t ++ drop limit a)
-      (λ r q. rw (made-anodes making) (shown b r q)) (rw (made-anodes making)))
+      (leaves-done img (madeImage img (anodesOf img) h new f (p .room) ys t zs) (made-disk making) b a (setAll (setAll b ys f) zs h) (anodeTable t ++ drop limit a)
+      (shown b) refl)

@@ -30,7 +30,7 @@ use Rattle.laws.specs.TreeChanges.{headed}
 use Rattle.laws.specs.DirectoryTakes.{dir-head, dir-not-1}
 use Rattle.laws.specs.Make.{fresh-orphan}
 use Rattle.changes.specs.Image.{WholeImage, headIn, sideIn, accepted-whole, reached-headed}
-use Rattle.changes.specs.MakePlan.{Fresh, fresh-free, made-orphan}
+use Rattle.changes.specs.MakePlan.{Fresh, fresh-dir, fresh-free, made-orphan}
 use Rattle.changes.specs.Make.{needed-refused}
 use Rattle.changes.specs.MadeImage.{first-in}
 use Rattle.changed.specs.Laws.{Shows, shows-ran}
@@ -89,10 +89,10 @@ module _ {img : List ℕ} {h f : ℕ} (x : Fresh img (diskSize img) limit h f) w
   free-f = fresh-free x
 
   pub whole : WholeImage img (anodesOf img) (headIn img) (sideIn img) (reachedDirs img (anodesOf img))
-  whole = accepted-whole img (diskSize img) limit (x .accepted)
+  whole = accepted-whole (fresh-dir x .image)
 
   pub once : headed h (reachedDirs img (anodesOf img)) ≡ 1
-  once = reached-headed img (diskSize img) limit (x .accepted) h (x .reached)
+  once = reached-headed (fresh-dir x)
 
   pub first-ready : (s : Anodes) → s ≡ rewritten (anodesOf img) f 0 65535 → Ready img s f
   first-ready s e =

@@ -15,6 +15,7 @@ use Rattle.rules.specs.Accepted.{checkAnswer}
 use Rattle.rules.specs.Lookup.{entriesOf, nameAt, nth}
 use Rattle.rules.specs.Calls.{Outcome, outcomeOf, settled, doneOr, fieldList, fieldsAt, fieldsListed, nameListed, listAnswer, listAnswered, listOutcome}
 use Rattle.laws.specs.Tests.{firstOf-zero}
+use Rattle.changes.specs.Image.{AcceptedImage}
 use Rattle.changes.specs.Reached.{entry-facts, nth-member}
 use Rattle.changes.specs.Answers.{list-reached}
 use Rattle.reading.proofs.Laws.{take-within}
@@ -34,7 +35,8 @@ module _ (img b₀ a₀ : List ℕ) (h n : ℕ) where
   found-name : checkAnswer img (length b₀) (length a₀) ≡ 0 → listAnswer img (anodesOf img) h n ≡ 0 → (x : Entered) → nth (entriesOf img (anodesOf img) h) n ≡ some x → nameAt img (x .place) ≡ nameGiven img (fieldsAt img (x .place))
   unfolding nameGiven fieldsAt fieldList entryIn entryLength
   found-name accepted listed x is =
-      let f = entry-facts img (length b₀) (length a₀) accepted h (list-reached img (anodesOf img) h n listed) x (nth-member _ n x is) in
+      let image : AcceptedImage img = record { blocks = length b₀; anodes = length a₀; accepted = accepted } in
+      let f = entry-facts (record { directory = record { image = image; reached = list-reached img (anodesOf img) h n listed }; member = nth-member _ n x is }) in
       let w = found-at (blockOf img (x .place / 512)) (x .place % 512) (f .stands .entry) (f .stands .walked) in
       named-part img (x .place) (omega (arith, w .exact, w .room))
 

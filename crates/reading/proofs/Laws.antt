@@ -6,14 +6,14 @@ use mathlib.Core.List.{List, [], _∷_}
 use mathlib.Core.Option.{Option, some}
 use native.Mathlib.Omega.{arith}
 use lib.ListN.{length, take, drop}
-use Rattle.rules.specs.Anodes.{Anodes, limit, anodesOf}
+use Rattle.rules.specs.Anodes.{Anodes, anodesOf}
 use Rattle.rules.specs.Walk.{Entered, blocksFor}
-use Rattle.rules.specs.Accepted.{diskSize}
 use Rattle.rules.specs.Lookup.{noDirectory, entriesOf, bytesOf, contents}
 use Rattle.rules.specs.Calls.{doneOr, bytesRead}
-use Rattle.laws.specs.Acceptance.{passed-of, size-bounds}
+use Rattle.laws.specs.Acceptance.{size-bounds}
 use Rattle.changes.specs.Members.{Member}
-use Rattle.changes.specs.Reached.{entry-facts}
+use Rattle.changes.specs.Image.{accepted-own, image-passed}
+use Rattle.changes.specs.Reached.{EntryIn, entry-facts}
 use Rattle.changes.specs.Read.{bytes-long}
 use Rattle.find.specs.Open.{Open}
 
@@ -27,16 +27,19 @@ take-within (suc size) (suc offset) (suc len) (x ∷ l) e = take-within size off
 
 module _ {img counts firsts nexts queue parents heads : List ℕ} {dirs : ℕ} (o : Open img counts firsts nexts queue parents heads dirs)
     (h : ℕ) (reached : noDirectory img (anodesOf img) h ≡ false) (e : Entered) (member : Member e (entriesOf img (anodesOf img) h)) where
+  abbrev entry : EntryIn img h e
+  entry = record { directory = record { image = accepted-own img (o .loaded .accepted); reached = reached }; member = member }
+
   -- an entry stands on the disk
   pub place-low : e .place < 65536 * 512
   place-low =
-      let f = entry-facts img (diskSize img) limit (o .loaded .accepted) h reached e member in
-      omega (arith, f .in-block, f .block-facts .is-data .below, size-bounds img (passed-of img (diskSize img) limit (o .loaded .accepted) .size-right) .1)
+      let f = entry-facts entry in
+      omega (arith, f .in-block, f .block-facts .is-data .below, size-bounds img (image-passed (entry .directory .image) .size-right) .1)
 
   -- a file's blocks hold its bytes
   pub file-long : e .dir ≡ false → e .size ≤ length (bytesOf img (anodesOf img) (e .anode))
   unfolding blocksFor
-  file-long f = omega (arith, bytes-long img (diskSize img) limit (o .loaded .accepted) h reached e member f)
+  file-long f = omega (arith, bytes-long entry f)
 
 -- ---- a done read
 

@@ -1,6 +1,6 @@
 -- A removal by its plan: what it leaves of an accepted image and of its two tables.
 use Prim.Native.Nat.{ℕ, _+_, _*_, _/_, _%_, _≤_}
-use mathlib.Core.Path.{_≡_, sym, _∙_}
+use mathlib.Core.Path.{_≡_, refl, sym, _∙_}
 use mathlib.Core.Logic.{_≢_}
 use mathlib.Core.Bool.{false}
 use mathlib.Core.List.{List, _++_}
@@ -10,7 +10,7 @@ use Rattle.disk.specs.Blocks.{blockOf}
 use Rattle.rules.specs.Anodes.{Anodes, limit, exists, anodesOf, withAnodes}
 use Rattle.rules.specs.Chains.{blockCount}
 use Rattle.rules.specs.Walk.{Entered}
-use Rattle.rules.specs.Accepted.{diskSize, lastReserved}
+use Rattle.rules.specs.Accepted.{lastReserved}
 use Rattle.rules.specs.Tables.{anodeTable}
 use Rattle.rules.specs.Space.{Plan, refused, planned, giveMany, dropped}
 use Rattle.rules.specs.Changes.{entriesEnd, removedImage, removed}
@@ -18,17 +18,17 @@ use Rattle.laws.specs.Links.{Linked}
 use Rattle.laws.specs.Remove.{still, none-left}
 use Rattle.laws.specs.OwnerTable.{dropped-owner, setAll}
 use Rattle.frames.specs.StoredAnodes.{withAnodes-stored}
-use Rattle.changes.specs.Image.{accepted-slots}
+use Rattle.changes.specs.Image.{accepted-own, accepted-slots}
 use Rattle.changes.specs.FoundEntries.{block-standing, end-within}
-use Rattle.changes.specs.Reached.{block-data, block-entry}
+use Rattle.changes.specs.Reached.{entry-not-1, block-data, block-entry}
 use Rattle.changes.specs.Remove.{remove-refused}
-use Rattle.changes.specs.RemoveStores.{PlannedRemove, ran, end-good, removed-same, removed-anodes}
+use Rattle.changes.specs.RemoveStores.{PlannedRemove, ran, end-good, removed-disk}
 use Rattle.anodes.specs.Loaded.{anodesFrom, Loaded}
 use Rattle.tree.specs.Steps.{sumFrom}
 use Rattle.space.specs.Steps.{moveBlock, moveMany}
 use Rattle.changed.specs.Leaves.{Leaves, ReachedEntry}
 use Rattle.changed.specs.Laws.{leaves-refused, shows-kept, shows-ran, leaves-done}
-use Rattle.changed.specs.Chains.{image-good, entry-known, entry-not-1, loaded-copies, chain-counted, planned-change}
+use Rattle.changed.specs.Chains.{image-good, entry-known, loaded-copies, chain-counted, planned-change}
 
 module _ {img counts firsts nexts : List ℕ} (l : Loaded img counts firsts nexts) (e : Entered) (r : ReachedEntry img e) where
   abbrev s : Anodes
@@ -43,7 +43,7 @@ module _ {img counts firsts nexts : List ℕ} (l : Loaded img counts firsts next
   -- refused it leaves everything
   pub refused-leaves : (k : ℕ) → giveMany limit (exists img) (lastReserved img) (blockCount s (e .anode)) s (e .anode) ≡ refused k → (b a : List ℕ) → Leaves k img b a img b a (removed img s e)
   unfolding removed
-  refused-leaves k gives b a = rw gives (leaves-refused k (omega (arith, remove-refused img (diskSize img) limit (l .accepted) (r .0) (r .1) e (r .2) k gives)) img b a)
+  refused-leaves k gives b a = rw gives (leaves-refused k (omega (arith, remove-refused (record { directory = record { image = accepted-own img (l .accepted); reached = r .1 }; member = r .2 }) k gives)) img b a)
 
   module _ (t : Anodes) (ys : List ℕ) (gives : giveMany limit (exists img) (lastReserved img) (blockCount s (e .anode)) s (e .anode) ≡ planned t ys) where
     abbrev end : Anodes
@@ -70,7 +70,7 @@ module _ {img counts firsts nexts : List ℕ} (l : Loaded img counts firsts next
     pub stands : let i = withAnodes img end in (y * 512 + 512 ≤ length i) × (at + getD (blockOf i y) at 0 ≤ entriesEnd (blockOf i y)) × (entriesEnd (blockOf i y) ≤ 512)
     stands =
         let facts = entry-known l e r in
-        let kept = withAnodes-stored img (accepted-slots img (diskSize img) limit (l .accepted)) end .kept in
+        let kept = withAnodes-stored img (accepted-slots (accepted-own img (l .accepted))) end .kept in
         rw (kept .length-kept, kept .block-kept y (block-data facts .unheld)) (block-data facts .inside, block-standing (block-entry facts) .before, end-within (block-entry facts))
 
     -- what it leaves of the image and the tables
@@ -79,6 +79,5 @@ module _ {img counts firsts nexts : List ℕ} (l : Loaded img counts firsts next
     done-leaves b a =
         let h6 = entry-known l e r .from-6 in
         let d = entry-known l e r .head in
-        let is-end = removed-anodes p in
-        rw gives (leaves-done img (removedImage img e t ys) (removed-same p) b a (setAll b ys 1) (anodeTable end ++ drop limit a)
-        (λ rest q. rw is-end (shows-kept img t end (dropped-owner (ran p .good) (e .anode) h6 (still (e .anode) h6 d (ran p)) (none-left (e .anode) h6 d (ran p))) (setAll b ys 1) rest (shows-ran img s t (image-good l) (ran p) (entry-not-1 l e r) b rest q))) (rw is-end))
+        rw gives (leaves-done img (removedImage img e t ys) (removed-disk p) b a (setAll b ys 1) (anodeTable end ++ drop limit a)
+        (λ rest q. shows-kept img t end (dropped-owner (ran p .good) (e .anode) h6 (still (e .anode) h6 d (ran p)) (none-left (e .anode) h6 d (ran p))) (setAll b ys 1) rest (shows-ran img s t (image-good l) (ran p) (entry-not-1 (entry-known l e r)) b rest q)) refl)

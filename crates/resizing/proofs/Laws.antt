@@ -1,6 +1,6 @@
 -- A resize by its plan: how much it asks for, and what it leaves of an accepted image and of its two tables.
 use Prim.Native.Nat.{ℕ, _+_, _-_, _<_, _≤_}
-use mathlib.Core.Path.{_≡_, sym, _∙_}
+use mathlib.Core.Path.{_≡_, refl, sym, _∙_}
 use mathlib.Core.Logic.{_⊎_, inl, inr}
 use mathlib.Core.Bool.{true, false, cond}
 use mathlib.Core.List.{List, _++_}
@@ -19,15 +19,16 @@ use Rattle.laws.specs.Tests.{less?}
 use Rattle.laws.specs.Links.{Linked}
 use Rattle.laws.specs.Whole.{blocks-count}
 use Rattle.laws.specs.OwnerTable.{setAll}
+use Rattle.changes.specs.Reached.{entry-not-1}
 use Rattle.changes.specs.ResizePlan.{plan-refused, plan-longer}
-use Rattle.changes.specs.ResizeStores.{PlannedResize, steps, resized-same, resized-anodes}
+use Rattle.changes.specs.ResizeStores.{PlannedResize, steps, resized-disk}
 use Rattle.anodes.specs.Loaded.{anodesFrom, Loaded}
 use Rattle.tree.specs.Steps.{sumFrom}
 use Rattle.space.specs.Steps.{moveBlock, moveMany}
 use Rattle.space.proofs.Many.{count-small}
 use Rattle.changed.specs.Leaves.{Leaves, ReachedEntry}
 use Rattle.changed.specs.Laws.{Shows, leaves-refused, shows-ran, leaves-done}
-use Rattle.changed.specs.Chains.{loaded-size, image-good, entry-known, entry-not-1, loaded-copies, chain-counted, planned-change, gave-few}
+use Rattle.changed.specs.Chains.{loaded-size, image-good, entry-known, loaded-copies, chain-counted, planned-change, gave-few}
 
 module _ {img counts firsts nexts : List ℕ} (l : Loaded img counts firsts nexts) (e : Entered) (r : ReachedEntry img e) (size : ℕ) where
   abbrev s : Anodes
@@ -45,7 +46,7 @@ module _ {img counts firsts nexts : List ℕ} (l : Loaded img counts firsts next
   -- refused it leaves everything
   pub refused-leaves : (k : ℕ) → resizePlan img s (e .anode) (blocksFor size) ≡ refused k → (b a : List ℕ) → Leaves k img b a img b a (resized img s e size)
   unfolding resized
-  refused-leaves k plan b a = rw plan (leaves-refused k (late (plan-refused img (image-good l) (e .anode) (entry-known l e r .head) (entry-not-1 l e r) (blocksFor size) k plan)) img b a)
+  refused-leaves k plan b a = rw plan (leaves-refused k (late (plan-refused img (image-good l) (e .anode) (entry-known l e r .head) (entry-not-1 (entry-known l e r)) (blocksFor size) k plan)) img b a)
     where
       late : (k ≡ 27) ⊎ (k ≡ 28) → 17 ≤ k
       late (inl i) = omega (arith, i)
@@ -75,7 +76,7 @@ module _ {img counts firsts nexts : List ℕ} (l : Loaded img counts firsts next
     unfolding resizePlan
     moved-few = elim (less? (blocksFor size) (blockCount s (e .anode))) [
       | inl m ↦ gave-few l e r (blockCount s (e .anode) - blocksFor size) t ys (rw (lt-leb (blockCount s (e .anode)) (blocksFor size) m) at plan) (omega arith)
-      | inr m ↦ omega (arith, asked-less, plan-longer img (image-good l) (e .anode) (entry-known l e r .head) (entry-not-1 l e r) (blocksFor size) t ys plan m .1)
+      | inr m ↦ omega (arith, asked-less, plan-longer img (image-good l) (e .anode) (entry-known l e r .head) (entry-not-1 (entry-known l e r)) (blocksFor size) t ys plan m .1)
     ]
 
     -- the moved blocks are the file's where it has not shrunk, else the free list's
@@ -87,8 +88,8 @@ module _ {img counts firsts nexts : List ℕ} (l : Loaded img counts firsts next
         Leaves 0 img b a (resizedImage img s e size t ys) (setAll b ys o) (anodeTable t ++ drop limit a) (resized img s e size)
     unfolding resized
     done-leaves o i b a = rw (plan, i)
-        (leaves-done img (resizedImage img s e size t ys) (resized-same p) b a (setAll b ys (cond (leb (blockCount s (e .anode)) (blocksFor size)) (e .anode) 1)) (anodeTable t ++ drop limit a)
-        (λ rest o. rw (resized-anodes p) (owners-shown b rest o)) (rw (resized-anodes p)))
+        (leaves-done img (resizedImage img s e size t ys) (resized-disk p) b a (setAll b ys (cond (leb (blockCount s (e .anode)) (blocksFor size)) (e .anode) 1)) (anodeTable t ++ drop limit a)
+        (owners-shown b) refl)
 
 -- ---- the plan by its two ways
 
