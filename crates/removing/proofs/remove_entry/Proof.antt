@@ -1,13 +1,26 @@
-use mathlib.Core.Path.{sym, _∙_}
+use mathlib.Core.Path.{_≡_, sym, _∙_}
 use native.Mathlib.Nat.{le-of-eq}
+use Rattle.rules.specs.Anodes.{limit, exists, anodesOf}
+use Rattle.rules.specs.Chains.{blockCount}
+use Rattle.rules.specs.Accepted.{lastReserved}
+use Rattle.rules.specs.Space.{giveMany}
 use Rattle.anodes.specs.Loaded.{anodesFrom}
 use Rattle.lookup.specs.Answers.{entered}
+use Rattle.space.specs.Steps.{manyPlan}
 use Rattle.space.proofs.Many.{moves-done, moves-stopped}
 use Rattle.changed.specs.Chains.{plan-ready}
 use Rattle.removing.proofs.Laws.{gives-made, refused-leaves}
 use borrow.Author.Needs.{needs}
 use Rattle.removing.proofs.remove_entry.Statement.{statement}
 use Rattle.removing.proofs.remove_entry.Tie as tie
+
+-- the plan on the copies is that of the image
+given-as : (c : tie.After-move-many) →
+    let g = c .before .before .before .before .before .before .before .before .before .before .before .before .before .before .before .before .args in let s = anodesOf (g .image .now) in let p = c .move-many in let q = p .last .1 .1 .1 .1 in
+    giveMany limit (exists (g .image .now)) (lastReserved (g .image .now)) (blockCount s (g .e .anode .0)) s (g .e .anode .0) ≡ manyPlan (p .result) (anodesFrom (q .0) (q .1 .0) (q .1 .1 .0)) (q .1 .1 .1 .0)
+given-as c =
+    let pre = c .before .before .before .before .before .before .before .before .before .before .before .before .before .before .before .before .pre in
+    gives-made (pre .0 .0) (entered (c .before .before .before .before .before .before .before .before .before .before .before .before .before .before .before .before .args .e)) (pre .0 .1) _ _ _ (c .before .before .before .before .before .before .before .before .copied .ensures) (c .before .before .before .before .before .before .before .copied2 .ensures) (c .before .before .before .before .before .before .copied3 .ensures) _ (c .before .before .before .before .before .before .before .before .before .chain-sum .ensures) _ (c .move-many .ensures)
 
 chain-sum-requires : tie.Need-chain-sum-requires
 chain-sum-requires c κs = search needs
@@ -62,10 +75,10 @@ moves-count-requires c κs = search needs
 
 commit-remove-requires : tie.Need-commit-remove-requires
 commit-remove-requires c κs =
-    let pre = c .before .before .before .before .before .before .before .before .before .before .before .before .before .before .before .before .before .before .before .before .before .before .before .before .before .before .before .before .before .before .pre in
-    let p = c .before .before .before .before .before .before .before .before .before .before .before .before .before .before .move-many in
-    let made = gives-made (pre .0 .0) (entered (c .before .before .before .before .before .before .before .before .before .before .before .before .before .before .before .before .before .before .before .before .before .before .before .before .before .before .before .before .before .before .args .e)) (pre .0 .1) _ _ _ (c .before .before .before .before .before .before .before .before .before .before .before .before .before .before .before .before .before .before .before .before .before .before .copied .ensures) (c .before .before .before .before .before .before .before .before .before .before .before .before .before .before .before .before .before .before .before .before .before .copied2 .ensures) (c .before .before .before .before .before .before .before .before .before .before .before .before .before .before .before .before .before .before .before .before .copied3 .ensures) _ (c .before .before .before .before .before .before .before .before .before .before .before .before .before .before .before .before .before .before .before .before .before .before .before .chain-sum .ensures) _ (p .ensures) in
-    (pre .0, ((pre .1, search needs, search needs), rw (c .moves-count .ensures) (made ∙ moves-done _ (p .last .1 .1 .1 .1 .1 .1 .1 .0) (p .result) (sym (c .before .before .before .before .before .before .before .before .before .moves-number .ensures) ∙ c .before .before .before .before .before .before .before .before .if1 .taken))))
+    let l = c .before .before .before .before .before .before .before .before .before .before .before .before .before .before in
+    let pre = l .before .before .before .before .before .before .before .before .before .before .before .before .before .before .before .before .pre in
+    let p = l .move-many in
+    (pre .0, ((pre .1, search needs, search needs), rw (c .moves-count .ensures) (given-as l ∙ moves-done _ (p .last .1 .1 .1 .1 .1 .1 .1 .0) (p .result) (sym (c .before .before .before .before .before .before .before .before .before .moves-number .ensures) ∙ c .before .before .before .before .before .before .before .before .if1 .taken))))
 
 same-length : tie.Need-same-length
 same-length c = search needs
@@ -84,13 +97,11 @@ same-length-4 c = search needs
 
 returns-2 : tie.Need-returns-2
 returns-2 c =
-    let pre = c .before .before .before .before .before .before .before .before .before .before .before .before .before .before .before .before .before .before .before .before .before .before .pre in
-    let e = entered (c .before .before .before .before .before .before .before .before .before .before .before .before .before .before .before .before .before .before .before .before .before .before .args .e) in
-    let p = c .before .before .before .before .before .before .move-many in
-    let q = p .last .1 .1 .1 .1 in
-    let made = gives-made (pre .0 .0) e (pre .0 .1) _ _ _ (c .before .before .before .before .before .before .before .before .before .before .before .before .before .before .copied .ensures) (c .before .before .before .before .before .before .before .before .before .before .before .before .before .copied2 .ensures) (c .before .before .before .before .before .before .before .before .before .before .before .before .copied3 .ensures) _ (c .before .before .before .before .before .before .before .before .before .before .before .before .before .before .before .chain-sum .ensures) _ (p .ensures) in
+    let l = c .before .before .before .before .before .before in
+    let pre = l .before .before .before .before .before .before .before .before .before .before .before .before .before .before .before .before .pre in
+    let q = l .move-many .last .1 .1 .1 .1 in
     let is = c .before .moves-number .ensures in
-    rw is (refused-leaves (pre .0 .0) e (pre .0 .1) _ (made ∙ moves-stopped (anodesFrom (q .0) (q .1 .0) (q .1 .1 .0)) (q .1 .1 .1 .0) (p .result) (λ z. c .if1 .left (is ∙ z))) _ _)
+    rw is (refused-leaves (pre .0 .0) (entered (l .before .before .before .before .before .before .before .before .before .before .before .before .before .before .before .before .args .e)) (pre .0 .1) _ (given-as l ∙ moves-stopped (anodesFrom (q .0) (q .1 .0) (q .1 .1 .0)) (q .1 .1 .1 .0) (l .move-many .result) (λ z. c .if1 .left (is ∙ z))) _ _)
 
 pub remove-entry-spec : {M : Type 1} → statement M
 remove-entry-spec =

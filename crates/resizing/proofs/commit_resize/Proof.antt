@@ -1,3 +1,4 @@
+use Prim.Native.Nat.{_≤_}
 use mathlib.Core.Path.{_≡_, refl, ap, _∙_}
 use mathlib.Core.Logic.{⊎-elim}
 use lib.ListN.{length, take}
@@ -11,6 +12,12 @@ use borrow.Author.Needs.{needs}
 use Rattle.resizing.proofs.commit_resize.Statement.{statement}
 use Rattle.resizing.proofs.commit_resize.Tie as tie
 
+-- the table of moved blocks has all that were moved
+moved-enough : (c : tie.After-store-anodes) → let g = c .before .before .before .before .before .before .before .before .before .before .before .before .args in g .n ≤ length (g .moved .now)
+moved-enough c =
+    let pre = c .before .before .before .before .before .before .before .before .before .before .before .before .pre in
+    noted-all _ _ (pre .1 .0 .3) (moved-few (pre .0 .0) (entered (c .before .before .before .before .before .before .before .before .before .before .before .before .args .e)) (pre .0 .1) _ (pre .1 .0 .0) _ _ (pre .1 .1 .0))
+
 store-anodes-requires : tie.Need-store-anodes-requires
 store-anodes-requires c κs = search needs
 
@@ -18,9 +25,7 @@ cast-if1 : tie.Need-cast-if1
 cast-if1 c = search needs
 
 zero-blocks-requires : tie.Need-zero-blocks-requires
-zero-blocks-requires c κs =
-    let pre = c .before .before .before .before .before .before .before .before .before .before .before .before .before .before .before .before .before .pre in
-    noted-all _ _ (pre .1 .0 .3) (moved-few (pre .0 .0) (entered (c .before .before .before .before .before .before .before .before .before .before .before .before .before .before .before .before .before .args .e)) (pre .0 .1) _ (pre .1 .0 .0) _ _ (pre .1 .1 .0))
+zero-blocks-requires c κs = moved-enough (c .before .before .before .before .before)
 
 zero-tail-requires : tie.Need-zero-tail-requires
 unfolding anodesFrom
@@ -35,9 +40,7 @@ put-size-requires : tie.Need-put-size-requires
 put-size-requires c κs = search needs
 
 set-owners-requires : tie.Need-set-owners-requires
-set-owners-requires c κs =
-    let pre = c .before .before .before .before .before .before .before .before .before .before .before .before .before .before .before .before .before .before .before .before .before .before .before .before .before .pre in
-    noted-all _ _ (pre .1 .0 .3) (moved-few (pre .0 .0) (entered (c .before .before .before .before .before .before .before .before .before .before .before .before .before .before .before .before .before .before .before .before .before .before .before .before .before .args .e)) (pre .0 .1) _ (pre .1 .0 .0) _ _ (pre .1 .1 .0))
+set-owners-requires c κs = moved-enough (c .before .before .before .before .before .before .before .before .before .before .before .before .before)
 
 show-heads-requires : tie.Need-show-heads-requires
 unfolding anodesFrom

@@ -1,12 +1,25 @@
-use mathlib.Core.Path.{sym, _∙_}
+use mathlib.Core.Path.{_≡_, sym, _∙_}
+use Rattle.rules.specs.Anodes.{anodesOf}
+use Rattle.rules.specs.Walk.{blocksFor}
+use Rattle.rules.specs.Changes.{resizePlan}
 use Rattle.anodes.specs.Loaded.{anodesFrom}
 use Rattle.lookup.specs.Answers.{entered}
+use Rattle.space.specs.Steps.{manyPlan}
 use Rattle.space.proofs.Many.{moves-done, moves-stopped}
 use Rattle.changed.specs.Chains.{plan-ready}
 use Rattle.resizing.proofs.Laws.{plan-made, owner-is, refused-leaves}
 use borrow.Author.Needs.{needs}
 use Rattle.resizing.proofs.resize_entry.Statement.{statement}
 use Rattle.resizing.proofs.resize_entry.Tie as tie
+
+-- the plan on the copies is that of the image
+planned-as : (c : tie.After-plan-resize) →
+    let g = c .before .before .before .before .before .before .before .before .before .before .before .before .before .before .before .before .before .args in let p = c .plan-resize in let q = p .last .1 .1 .1 .1 in
+    resizePlan (g .image .now) (anodesOf (g .image .now)) (g .e .anode .0) (blocksFor (g .size)) ≡ manyPlan (p .result) (anodesFrom (q .0) (q .1 .0) (q .1 .1 .0)) (q .1 .1 .1 .0)
+planned-as c =
+    let g = c .before .before .before .before .before .before .before .before .before .before .before .before .before .before .before .before .before .args in
+    let pre = c .before .before .before .before .before .before .before .before .before .before .before .before .before .before .before .before .before .pre in
+    plan-made (pre .0 .0) (entered (g .e)) (pre .0 .1) (g .size) _ _ _ (c .before .before .before .before .before .before .before .before .copied .ensures) (c .before .before .before .before .before .before .before .copied2 .ensures) (c .before .before .before .before .before .before .copied3 .ensures) _ (c .before .before .before .before .before .before .before .before .before .blocks-for .ensures) _ (c .plan-resize .ensures)
 
 chain-sum-requires : tie.Need-chain-sum-requires
 chain-sum-requires c κs = search needs
@@ -66,11 +79,11 @@ new-owner-requires c κs = search needs
 
 commit-resize-requires : tie.Need-commit-resize-requires
 commit-resize-requires c κs =
-    let pre = c .before .before .before .before .before .before .before .before .before .before .before .before .before .before .before .before .before .before .before .before .before .before .before .before .before .before .before .before .before .before .before .before .pre in
-    let e = entered (c .before .before .before .before .before .before .before .before .before .before .before .before .before .before .before .before .before .before .before .before .before .before .before .before .before .before .before .before .before .before .before .before .args .e) in
-    let p = c .before .before .before .before .before .before .before .before .before .before .before .before .before .before .before .plan-resize in
-    let made = plan-made (pre .0 .0) e (pre .0 .1) (c .before .before .before .before .before .before .before .before .before .before .before .before .before .before .before .before .before .before .before .before .before .before .before .before .before .before .before .before .before .before .before .before .args .size) _ _ _ (c .before .before .before .before .before .before .before .before .before .before .before .before .before .before .before .before .before .before .before .before .before .before .before .copied .ensures) (c .before .before .before .before .before .before .before .before .before .before .before .before .before .before .before .before .before .before .before .before .before .before .copied2 .ensures) (c .before .before .before .before .before .before .before .before .before .before .before .before .before .before .before .before .before .before .before .before .before .copied3 .ensures) _ (c .before .before .before .before .before .before .before .before .before .before .before .before .before .before .before .before .before .before .before .before .before .before .before .before .blocks-for .ensures) _ (p .ensures) in
-    (pre .0, ((pre .1 .0, pre .1 .1, search needs, search needs), (rw (c .before .moves-count .ensures) (made ∙ moves-done _ (p .last .1 .1 .1 .1 .1 .1 .1 .0) (p .result) (sym (c .before .before .before .before .before .before .before .before .before .before .moves-number .ensures) ∙ c .before .before .before .before .before .before .before .before .before .if1 .taken)), owner-is (pre .0 .0) e (pre .0 .1) (c .before .before .before .before .before .before .before .before .before .before .before .before .before .before .before .before .before .before .before .before .before .before .before .before .before .before .before .before .before .before .before .before .args .size) _ _ _ (c .before .before .before .before .before .before .before .before .before .before .before .before .before .before .before .before .before .before .before .before .before .before .before .before .before .chain-sum .ensures) (c .before .before .before .before .before .before .before .before .before .before .before .before .before .before .before .before .before .before .before .before .before .before .before .before .blocks-for .ensures) (c .new-owner .ensures))))
+    let l = c .before .before .before .before .before .before .before .before .before .before .before .before .before .before .before in
+    let g = l .before .before .before .before .before .before .before .before .before .before .before .before .before .before .before .before .before .args in
+    let pre = l .before .before .before .before .before .before .before .before .before .before .before .before .before .before .before .before .before .pre in
+    let p = l .plan-resize in
+    (pre .0, ((pre .1 .0, pre .1 .1, search needs, search needs), (rw (c .before .moves-count .ensures) (planned-as l ∙ moves-done _ (p .last .1 .1 .1 .1 .1 .1 .1 .0) (p .result) (sym (c .before .before .before .before .before .before .before .before .before .before .moves-number .ensures) ∙ c .before .before .before .before .before .before .before .before .before .if1 .taken)), owner-is (pre .0 .0) (entered (g .e)) (pre .0 .1) (g .size) _ _ _ (l .before .before .before .before .before .before .before .before .before .before .chain-sum .ensures) (l .before .before .before .before .before .before .before .before .before .blocks-for .ensures) (c .new-owner .ensures))))
 
 same-length : tie.Need-same-length
 same-length c = search needs
@@ -89,13 +102,11 @@ same-length-4 c = search needs
 
 returns-2 : tie.Need-returns-2
 returns-2 c =
-    let pre = c .before .before .before .before .before .before .before .before .before .before .before .before .before .before .before .before .before .before .before .before .before .before .before .pre in
-    let e = entered (c .before .before .before .before .before .before .before .before .before .before .before .before .before .before .before .before .before .before .before .before .before .before .before .args .e) in
-    let p = c .before .before .before .before .before .before .plan-resize in
-    let q = p .last .1 .1 .1 .1 in
-    let made = plan-made (pre .0 .0) e (pre .0 .1) (c .before .before .before .before .before .before .before .before .before .before .before .before .before .before .before .before .before .before .before .before .before .before .before .args .size) _ _ _ (c .before .before .before .before .before .before .before .before .before .before .before .before .before .before .copied .ensures) (c .before .before .before .before .before .before .before .before .before .before .before .before .before .copied2 .ensures) (c .before .before .before .before .before .before .before .before .before .before .before .before .copied3 .ensures) _ (c .before .before .before .before .before .before .before .before .before .before .before .before .before .before .before .blocks-for .ensures) _ (p .ensures) in
+    let l = c .before .before .before .before .before .before in
+    let pre = l .before .before .before .before .before .before .before .before .before .before .before .before .before .before .before .before .before .pre in
+    let q = l .plan-resize .last .1 .1 .1 .1 in
     let is = c .before .moves-number .ensures in
-    rw is (refused-leaves (pre .0 .0) e (pre .0 .1) _ _ (made ∙ moves-stopped (anodesFrom (q .0) (q .1 .0) (q .1 .1 .0)) (q .1 .1 .1 .0) (p .result) (λ z. c .if1 .left (is ∙ z))) _ _)
+    rw is (refused-leaves (pre .0 .0) (entered (l .before .before .before .before .before .before .before .before .before .before .before .before .before .before .before .before .before .args .e)) (pre .0 .1) _ _ (planned-as l ∙ moves-stopped (anodesFrom (q .0) (q .1 .0) (q .1 .1 .0)) (q .1 .1 .1 .0) (l .plan-resize .result) (λ z. c .if1 .left (is ∙ z))) _ _)
 
 pub resize-entry-spec : {M : Type 1} → statement M
 resize-entry-spec =
