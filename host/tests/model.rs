@@ -73,7 +73,7 @@ fn linear_check_equals_naive_check_with_full_slots() {
         let mut recipe = Recipe::fragmented(900);
         recipe.cuts = 200 * case.seed as usize;
         let image = shaped(&recipe, rng).image;
-        let table = AnodeTable::read(&image, layout::slots(&image));
+        let table = AnodeTable::read(&image);
         assert!((0..ANODES as u16).filter(|&number| number != 3 && number != 4).all(|a| table.in_use(a)));
         assert_eq!(compare_with_junk(&image, rng), 0);
     }
@@ -137,7 +137,7 @@ fn shapes_have_what_format_never_makes() {
         let blocks = disk_blocks(300, rng);
         let Shaped { image, tree } = shaped(&Recipe::random(blocks, rng), rng);
         let slots = layout::slots(&image);
-        let table = AnodeTable::read(&image, slots);
+        let table = AnodeTable::read(&image);
         let last_reserved = layout::last_reserved(&image);
         let list: Vec<(u16, Anode)> = table.chain(1).skip(1).collect();
         let two = list.iter().position(|&(number, _)| number == 2).unwrap();
@@ -206,7 +206,7 @@ fn the_disks_of_the_bench_are_what_they_say() {
     let image = shaped(&Recipe::fragmented(65_535), rng).image;
     assert_eq!(model::summary(&image, &mut blocks, &mut anodes, &mut fields), 0);
     assert!(anodes[1..].iter().all(|&head| head != 0), "an anode is free");
-    let table = AnodeTable::read(&image, layout::slots(&image));
+    let table = AnodeTable::read(&image);
     let pieces = table.existing().filter(|&number| table[number].count > 0).count();
     assert!(pieces > 2_500, "only {pieces} pieces");
 }
@@ -297,7 +297,7 @@ impl<'a> History<'a> {
 
     /// What a call that only space can stop may answer, from counts of free blocks and free anodes alone.
     fn possible_answers(&self, call: &Call, before: &[u8]) -> Vec<u32> {
-        let table = AnodeTable::read(before, layout::slots(before));
+        let table = AnodeTable::read(before);
         let anodes = table.existing().filter(|&number| number >= 6 && !table[number].in_use()).count();
         let free = model::totals(before).expect("the disk was accepted").free;
         match call {
@@ -395,7 +395,7 @@ impl<'a> History<'a> {
         let mut made = 0;
         if let Call::Make { directory, name, .. } = call {
             made = head_of(self.image, *directory, name);
-            let old = AnodeTable::read(before, layout::slots(before));
+            let old = AnodeTable::read(before);
             let lowest = old.existing().find(|&number| number >= 6 && !old[number].in_use());
             assert_eq!(lowest, Some(made), "the head is the lowest free anode");
         }
@@ -428,8 +428,8 @@ impl<'a> History<'a> {
                 assert_eq!(old, new, "block {number} changed by {call:?}");
             }
         }
-        let old = AnodeTable::read(before, layout::slots(before));
-        let new = AnodeTable::read(self.image, layout::slots(self.image));
+        let old = AnodeTable::read(before);
+        let new = AnodeTable::read(self.image);
         for number in old.existing().filter(|&number| !old[number].in_use() && !new[number].in_use()) {
             assert_eq!(old[number], new[number], "free anode {number} changed by {call:?}");
         }

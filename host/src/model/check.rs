@@ -20,10 +20,12 @@ pub struct Survey {
 /// The check: answers 0 or the number of the first rule that is broken. Refusals 1 to 4 touch no table, 5 to 16
 /// leave both zeroed, and a disk that is accepted has its owners and heads there.
 pub fn check(image: &[u8], blocks: &mut [u16], anodes: &mut [u16]) -> u32 {
-    match survey(image, blocks, anodes) {
-        Ok(_) => 0,
-        Err(number) => number,
-    }
+    number(survey(image, blocks, anodes))
+}
+
+/// The number that a call answers for a result.
+pub(super) fn number<T>(result: Result<T, u32>) -> u32 {
+    result.err().unwrap_or(0)
 }
 
 /// The check with all that it learned, or its refusal.
@@ -49,9 +51,8 @@ pub fn survey(image: &[u8], blocks: &mut [u16], anodes: &mut [u16]) -> Result<Su
 fn examine(image: &[u8], owners: &mut [u16], heads: &mut [u16]) -> Result<Survey, u32> {
     let size = owners.len();
     let last_reserved = last_reserved(image);
-    let slots = slots(image);
-    check_slots(image, &slots, size)?;
-    let table = AnodeTable::read(image, slots);
+    check_slots(image, &slots(image), size)?;
+    let table = AnodeTable::read(image);
     check_special(&table)?;
     let live: Vec<u16> = table.existing().filter(|&number| number != 0 && table[number].in_use()).collect();
     check_fields(&table, &live, size)?;
@@ -91,7 +92,7 @@ fn check_slots(image: &[u8], slots: &[u16; SLOTS], size: usize) -> Result<(), u3
     if slots[0] == 0 {
         return Err(5);
     }
-    for (slot, &number) in slots.iter().enumerate().filter(|(_, &number)| number != 0) {
+    for (slot, number) in used_slots(slots) {
         if !(3..size).contains(&usize::from(number)) {
             return Err(5);
         }
@@ -132,8 +133,8 @@ fn check_predecessors(table: &AnodeTable, live: &[u16]) -> Result<Vec<bool>, u32
         }
         *follower = true;
     }
-    let headless = [FREE_LIST, TO_BE_FREED, BAD_BLOCKS, ROOT_DIRECTORY];
-    match headless.iter().any(|&number| followers[usize::from(number)]) {
+    let always_heads = [FREE_LIST, TO_BE_FREED, BAD_BLOCKS, ROOT_DIRECTORY];
+    match always_heads.iter().any(|&number| followers[usize::from(number)]) {
         true => Err(8),
         false => Ok(followers),
     }
@@ -184,7 +185,7 @@ fn check_free_list(table: &AnodeTable, last_reserved: u16) -> Result<(), u32> {
 /// 10 and 11: every block has one owner. Fills the owners.
 fn check_owners(table: &AnodeTable, live: &[u16], heads: &[u16], owners: &mut [u16]) -> Result<(), u32> {
     owners[..3].fill(OWNER_START);
-    for &number in table.slots().iter().filter(|&&number| number != 0) {
+    for (_, number) in used_slots(table.slots()) {
         owners[usize::from(number)] = OWNER_ANODES;
     }
     for &number in live {

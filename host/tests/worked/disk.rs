@@ -95,7 +95,7 @@ impl<L: Library> Disk<L> {
     }
 
     pub fn table(&self) -> AnodeTable {
-        AnodeTable::read(&self.image, layout::slots(&self.image))
+        AnodeTable::read(&self.image)
     }
 
     /// Count, block and next of an anode.
