@@ -104,9 +104,7 @@ fn number_of(variable: &str, default: u64) -> u64 {
     env::var(variable).map_or(default, |value| value.parse().expect("the variable is a number"))
 }
 
-/// The variables `PFS_CALLS` and `PFS_SEED` ask for more calls and for other ones. A long run, in the folder `host`:
-///
-///     PFS_CALLS=2000000 PFS_SEED=1000 cargo test --release --offline --features proved --test proved histories
+/// The variables `PFS_CALLS` and `PFS_SEED` ask for more calls and for other ones.
 #[test]
 fn histories_equal_the_model() {
     let calls = number_of("PFS_CALLS", 60_000).max(20_000) as usize;
@@ -152,12 +150,5 @@ fn every_call_refuses_damage_like_the_model() {
     }
     answers.print("damaged disks");
     answers.assert_answered((1..=16).filter(|&number| number != 2));
-    answers.assert_met(&[
-        (12, "make"),
-        (12, "resize"),
-        (12, "remove"),
-        (12, "write"),
-        (12, "read"),
-        (12, "list"),
-    ]);
+    answers.assert_met(&["make", "resize", "remove", "write", "read", "list"].map(|call| (12, call)));
 }
