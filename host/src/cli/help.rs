@@ -48,7 +48,8 @@ pub const COMMANDS: [Syntax; 13] = [
         flags: &[],
         options: &[],
         short: "size, free blocks, files and directories",
-        long: "Prints the disk's blocks and bytes, its free blocks, files and directories (with the root), and its anodes in use (anode 0 not counted).",
+        long: "Prints the disk's blocks and bytes, its free blocks, files and directories (with the root), and its anodes in use
+(anode 0 not counted).",
     },
     Syntax {
         name: "check",
@@ -64,7 +65,8 @@ pub const COMMANDS: [Syntax; 13] = [
         flags: &[],
         options: &[],
         short: "the entries of a directory",
-        long: "Prints each entry's type, size, protection, date and time, name and comment; of the root without PATH. If PATH is a file, prints that entry.",
+        long: "Prints each entry's type, size, protection, date and time, name and comment; of the root without PATH. If PATH is
+a file, prints that entry.",
     },
     Syntax {
         name: "tree",

@@ -112,7 +112,7 @@ fn entries<'a>(image: &'a [u8], table: &'a AnodeTable, head: u16) -> impl Iterat
 /// 21: the number must be a reached directory's head.
 fn reached(survey: &Survey, directory: u16) -> Result<(), u32> {
     let parent = survey.parents.get(usize::from(directory)).copied().flatten();
-    parent.map(|_| ()).ok_or(21)
+    parent.map(drop).ok_or(21)
 }
 
 /// 21, 22: the first entry of that name, with the block it is in.

@@ -138,6 +138,7 @@ impl<'a> Bender<'a> {
         image
     }
 
+    /// A number that has a meaning on this disk, or any.
     fn telling_number(&self, rng: &mut Rng) -> u16 {
         let table = &self.survey.table;
         let anode = self.any_in_use(rng, |_, _| true).unwrap_or(0);
