@@ -2,7 +2,7 @@
 
 use ovenknit_host::calls::{run, tables, Call, Outcome, DIRECTORY, UNREAD};
 use ovenknit_host::compare::{junk_tables, totals, Histogram};
-use ovenknit_host::histories::{head_of, random_call, Mood};
+use ovenknit_host::histories::{head_of, random_call, Mood, NO_ANODE, REFUSALS};
 use ovenknit_host::model::layout::{self, AnodeTable, BLOCK};
 use ovenknit_host::model::{self, Model};
 use ovenknit_host::rng::{seeded, Rng};
@@ -274,35 +274,6 @@ fn histories(start: Start, seeds: u64, calls: usize) -> Histogram {
     answers.print(&format!("histories, {start:?}"));
     answers
 }
-
-/// Every refusal from 20 to 27, by every call that can give it.
-const REFUSALS: [(u32, &str); 22] = [
-    (20, "format"),
-    (20, "make"),
-    (21, "read"),
-    (21, "list"),
-    (21, "make"),
-    (21, "resize"),
-    (21, "write"),
-    (21, "remove"),
-    (22, "read"),
-    (22, "list"),
-    (22, "resize"),
-    (22, "write"),
-    (22, "remove"),
-    (23, "make"),
-    (24, "read"),
-    (24, "resize"),
-    (24, "write"),
-    (25, "remove"),
-    (26, "read"),
-    (26, "write"),
-    (27, "make"),
-    (27, "resize"),
-];
-
-/// The calls that want of a free anode can stop.
-const NO_ANODE: [(u32, &str); 3] = [(28, "make"), (28, "resize"), (28, "remove")];
 
 #[test]
 fn histories_from_formatted_disks() {
