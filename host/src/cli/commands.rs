@@ -177,8 +177,7 @@ pub fn format<L: Library>(arguments: &Arguments) -> Done {
         false => old_blocks.unwrap_or(1_760),
     };
     let (last_reserved, anode_blocks) = default_shape(blocks);
-    let name =
-        arguments.value("--name").map_or_else(|| default_name(file), |name| name.as_encoded_bytes().to_vec());
+    let name = arguments.value("--name").map_or_else(|| default_name(file), <[u8]>::to_vec);
     let format = Format {
         last_reserved: arguments.number("--reserved", last_reserved)?,
         anode_blocks: arguments.number("--anode-blocks", anode_blocks)?,
