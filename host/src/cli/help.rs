@@ -101,8 +101,8 @@ a file, prints that entry.",
         options: NEW_ENTRY,
         short: "copy a file onto the disk",
         long: concat!("Copies FILE (- is standard input) to PATH, or into PATH if that is a directory, or into the root. A file that is
-there already gets the new size and bytes and keeps its date, protection and comment. The disk file changes only
-if all of it is done.", new_entry!()),
+there already gets the new size and bytes and keeps its date, protection and comment, for which no option may then
+be given. The disk file changes only if all of it is done.", new_entry!()),
     },
     Syntax {
         name: "mkdir",

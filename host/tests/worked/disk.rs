@@ -109,6 +109,7 @@ impl<L: Library> Disk<L> {
         layout::put_long(self.block_mut(4), layout::FIRST_ENTRY + layout::ENTRY_SIZE, size);
     }
 
+    /// Writes count, block and next of these anodes.
     pub fn set(&mut self, anodes: &[(u16, (u16, u16, u16))]) {
         let mut table = self.table();
         for &(number, (count, block, next)) in anodes {
