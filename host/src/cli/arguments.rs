@@ -72,7 +72,7 @@ impl Arguments {
 
     /// An operand that must be there.
     pub fn operand(&self, place: usize) -> &OsStr {
-        self.operands.get(place).map_or(OsStr::new(""), |operand| operand.as_os_str())
+        self.optional(place).unwrap_or_default()
     }
 
     /// An operand that may be left out.
