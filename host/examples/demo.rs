@@ -1,7 +1,7 @@
 //! A disk made, filled and read back by the proved library, from Rust. `demo.c` does the same from C and prints the
 //! same lines.
 //!
-//!     PFS_LIB_DIR=../target/staticlib cargo run --offline --features proved --example demo
+//!     cargo run --offline --features proved --example demo
 
 use ovenknit_host::calls::{Stamp, ROOT};
 use ovenknit_host::disk::{Disk, Error, Format, New};

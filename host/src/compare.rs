@@ -78,7 +78,7 @@ impl Histogram {
         self.counts.iter().filter(|(key, _)| key.0 == number).map(|(_, &count)| count).sum()
     }
 
-    /// The totals of the answers, then a line for each answer with the calls that gave it.
+    /// Prints the number of calls, then a line for each answer with the calls that gave it.
     pub fn print(&self, what: &str) {
         println!("{what}: {} calls", self.total());
         let mut lines: BTreeMap<u32, Vec<String>> = BTreeMap::new();
@@ -177,7 +177,7 @@ mod tests {
     fn histories<L: Library>() {
         for seed in 0..60 {
             let rng = &mut Rng::new(seed);
-            let disk = Start::ALL[seed as usize % 4].disk(rng);
+            let disk = Start::SMALL[seed as usize % 4].disk(rng);
             History::new(disk, rng).run::<L>(100);
         }
     }

@@ -1,17 +1,19 @@
-//! The host side of the PFS floppy disk library.
+//! The host side of the PFS floppy disk library, each layer above those that it uses:
 //!
-//! * [`model`]: the rules of the disks, written from the paper alone in ordinary Rust. The proved library is
-//!   compared with it.
-//! * [`shapes`]: generators of disk images: formatted ones, accepted ones that format never makes, and bent ones.
-//! * [`tree`]: what a disk should hold, as a plain tree in memory.
-//! * [`calls`]: the calls of the library as values, so that one history can be run on any library.
-//! * [`histories`]: random calls, from the middle and from the edges.
-//! * [`starts`]: the disks that histories start from.
-//! * [`rng`]: the small deterministic generator behind all of it.
-//! * [`compare`]: a library against the model, call by call.
-//! * [`disk`], [`refusals`]: a disk with its tables behind safe methods, and the numbers in words.
+//! * [`calls`]: the calls of the library as values, and the trait of whoever runs them.
+//! * `ffi`, with the feature `proved`: the proved library behind that trait.
+//! * [`refusals`], [`disk`]: the numbers in words, and a disk with its tables behind safe methods.
 //! * [`cli`]: the command line `pfs`.
-//! * `ffi`, with the feature `proved`: the proved library.
+//!
+//! For the tests:
+//!
+//! * [`model`]: the rules of the disks behind the same trait, written from the paper alone in ordinary Rust. The proved
+//!   library is compared with it.
+//! * [`rng`]: the small deterministic generator behind all that is random.
+//! * [`tree`]: what a disk should hold, as a plain tree in memory.
+//! * [`shapes`]: generators of disk images: formatted ones, accepted ones that format never makes, and bent ones.
+//! * [`starts`], [`histories`]: the disks that histories start from, and random calls, often at the very edge.
+//! * [`compare`]: a library against the model, call by call.
 
 #[cfg(feature = "proved")]
 pub mod ffi;

@@ -19,7 +19,7 @@ const WORDS: [(u32, &str); 25] = [
     (10, "a block has two owners"),
     (11, "a block has no owner"),
     (12, "a directory block or an entry in it breaks the rules"),
-    (13, "an entry names an anode that is no chain's head"),
+    (13, "an entry names an anode that is under 6, missing, free, or not a chain's head"),
     (14, "two entries name the same anode"),
     (15, "a file's chain does not hold as many blocks as its size needs"),
     (16, "a chain is named by no entry that the root leads to"),

@@ -1,26 +1,32 @@
 //! Generators of disk images for tests.
 //!
 //! * [`formatted`]: what format makes, for any arguments it takes.
-//! * [`shaped`]: accepted disks that format never makes, built from a plan that gives every block an owner.
+//! * [`shaped`]: accepted disks that format never makes, built from a plan that gives every block an owner. `recipe`
+//!   says what such a disk should be like, `outline` and `chains` are parts of the plan, `writer` writes it.
 //! * [`accepted`]: one or the other.
-//! * [`random_bytes`]: junk, mostly with a root block that passes.
+//! * [`random_bytes`]: junk, mostly with a root block that may pass.
 //! * [`Bender`]: accepted disks with a fault aimed at one refusal number, and disks with random damage.
 
 mod bend;
+mod chains;
 mod faults;
+mod outline;
 mod plan;
+mod recipe;
+mod writer;
 
 pub use bend::Bender;
-pub use plan::{shaped, Deal, Recipe, Shaped};
+pub use plan::{shaped, Shaped};
+pub use recipe::Recipe;
 
 use crate::calls::{run, Call};
-use crate::model::layout::{put_word, BLOCK};
+use crate::model::layout::*;
 use crate::model::Model;
 use crate::rng::Rng;
 
 /// The arguments of a format that is done on a disk of this many blocks.
 pub fn format_call(blocks: usize, rng: &mut Rng) -> Call {
-    let most = (blocks - 4).min(42);
+    let most = (blocks - 4).min(SLOTS);
     let anode_blocks = match rng.below(3) {
         0 => 1,
         1 => rng.within(1..=most),
@@ -33,7 +39,7 @@ pub fn format_call(blocks: usize, rng: &mut Rng) -> Call {
         2 => rng.within(lowest..=(lowest + 16).min(blocks - 1)),
         _ => rng.within(lowest..=blocks - 1),
     };
-    let name_length = rng.within(1..=31);
+    let name_length = rng.within(1..=LONGEST_DISK_NAME);
     Call::Format {
         last_reserved: last_reserved as u16,
         anode_blocks: anode_blocks as u16,
@@ -45,7 +51,7 @@ pub fn format_call(blocks: usize, rng: &mut Rng) -> Call {
 
 /// A disk of this many blocks (5 to 65,535), formatted by the model over junk.
 pub fn formatted(blocks: usize, rng: &mut Rng) -> Vec<u8> {
-    let mut image = rng.bytes(blocks * 512);
+    let mut image = rng.bytes(blocks * BLOCK);
     let call = format_call(blocks, rng);
     let outcome = run::<Model>(&call, &mut image, &mut [], &mut []);
     assert_eq!(outcome.answer, 0, "{call:?} is refused on {blocks} blocks");
@@ -73,19 +79,19 @@ pub fn accepted(most: usize, rng: &mut Rng) -> Vec<u8> {
     }
 }
 
-/// Junk of at most 13 blocks, mostly with a root block that can be gone into.
+/// Junk of up to 12 blocks, at times with some bytes more, mostly with a root block that may pass 3 and 4.
 pub fn random_bytes(rng: &mut Rng) -> Vec<u8> {
     let blocks = rng.within(0..=12);
     let extra = if rng.percent(10) { rng.below(BLOCK) } else { 0 };
     let mut image = rng.bytes(blocks * BLOCK + extra);
     if blocks >= 3 && rng.percent(80) {
-        let root = &mut image[2 * BLOCK..3 * BLOCK];
-        root[..4].copy_from_slice(b"PFS\0");
-        root[20] = rng.below(34) as u8;
-        put_word(root, 52, 0);
-        put_word(root, 54, rng.below(blocks + 1) as u16);
-        root[96..180].fill(0);
-        put_word(root, 96, rng.below(blocks + 1) as u16);
+        let root = block_mut(&mut image, ROOT_BLOCK);
+        root[..4].copy_from_slice(&DISK_TYPE);
+        root[ROOT_NAME] = rng.below(LONGEST_DISK_NAME + 3) as u8;
+        put_word(root, ROOT_FIRST_RESERVED, 0);
+        put_word(root, ROOT_LAST_RESERVED, rng.below(blocks + 1) as u16);
+        root[ROOT_SLOTS..ROOT_SLOTS + 2 * SLOTS].fill(0);
+        put_word(root, ROOT_SLOTS, rng.below(blocks + 1) as u16);
     }
     image
 }

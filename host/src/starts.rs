@@ -22,14 +22,8 @@ pub enum Start {
 }
 
 impl Start {
-    pub const ALL: [Start; 6] = [
-        Start::Formatted,
-        Start::Shaped,
-        Start::FullAnodes,
-        Start::FullBlocks,
-        Start::Larger,
-        Start::Largest,
-    ];
+    /// Those of at most 400 blocks.
+    pub const SMALL: [Start; 4] = [Start::Formatted, Start::Shaped, Start::FullAnodes, Start::FullBlocks];
 
     pub fn disk(self, rng: &mut Rng) -> Shaped {
         match self {

@@ -29,12 +29,17 @@ impl Node {
 }
 
 /// A directory: its entries, block by block.
-#[derive(Clone, Debug, Default, PartialEq, Eq)]
+#[derive(Clone, Debug, PartialEq, Eq)]
 pub struct Directory {
     pub blocks: Vec<Vec<Node>>,
 }
 
 impl Directory {
+    /// A new directory: one block without entries.
+    fn empty() -> Self {
+        Directory { blocks: vec![Vec::new()] }
+    }
+
     pub fn nodes(&self) -> impl Iterator<Item = &Node> {
         self.blocks.iter().flatten()
     }
@@ -53,13 +58,13 @@ impl Directory {
 
     /// Does some block have room for an entry of this length?
     pub fn has_room(&self, length: usize) -> bool {
-        self.blocks.iter().any(|block| used(block) + length <= ENTRY_SPACE)
+        self.blocks.iter().any(|block| fits(block, length))
     }
 
     /// Puts an entry at the end of the first block with room, else in a new block.
     fn add(&mut self, node: Node) {
         let length = node.length();
-        match self.blocks.iter_mut().find(|block| used(block) + length <= ENTRY_SPACE) {
+        match self.blocks.iter_mut().find(|block| fits(block, length)) {
             Some(block) => block.push(node),
             None => self.blocks.push(vec![node]),
         }
@@ -75,8 +80,9 @@ impl Directory {
     }
 }
 
-fn used(block: &[Node]) -> usize {
-    block.iter().map(Node::length).sum()
+/// Is there room in a block for an entry of this length?
+fn fits(block: &[Node], length: usize) -> bool {
+    block.iter().map(Node::length).sum::<usize>() + length <= ENTRY_SPACE
 }
 
 /// The directories of a disk by number; the root's is 5.
@@ -88,8 +94,7 @@ pub struct Tree {
 impl Default for Tree {
     /// An empty disk.
     fn default() -> Self {
-        let root = Directory { blocks: vec![Vec::new()] };
-        Tree { directories: BTreeMap::from([(ROOT, root)]) }
+        Tree { directories: BTreeMap::from([(ROOT, Directory::empty())]) }
     }
 }
 
@@ -219,7 +224,7 @@ impl Tree {
                     directory.add(node);
                 }
                 if *kind == DIRECTORY {
-                    self.directories.insert(made, Directory { blocks: vec![Vec::new()] });
+                    self.directories.insert(made, Directory::empty());
                 }
             }
             Call::Resize { directory, name, size } => {

@@ -38,31 +38,23 @@ fn the_example_in_c() {
     assert!(compiled.status.success(), "{}", String::from_utf8_lossy(&compiled.stderr));
 
     let ran = Command::new(&program).output().expect("the example runs");
-    std::fs::remove_file(&program).expect("the program is removed");
+    fs::remove_file(&program).expect("the program is removed");
     assert!(ran.status.success(), "{}", String::from_utf8_lossy(&ran.stderr));
     assert_eq!(String::from_utf8_lossy(&ran.stdout), LINES);
-}
-
-/// The fenced blocks of a language on the front page.
-fn shown(language: &str) -> Vec<String> {
-    let page = fs::read_to_string(Path::new(env!("CARGO_MANIFEST_DIR")).join("../README.md"))
-        .expect("the page is read");
-    let fence = format!("```{language}\n");
-    page.split(&fence).skip(1).filter_map(|rest| rest.split("```").next()).map(str::to_string).collect()
 }
 
 /// What the front page shows of the examples stands in them, and what it prints is printed.
 #[test]
 fn the_front_page_shows_the_examples() {
-    for (language, text) in
-        [("c", include_str!("../examples/demo.c")), ("rust", include_str!("../examples/demo.rs"))]
+    let page = include_str!("../../README.md");
+    for (fence, text) in
+        [("```c\n", include_str!("../examples/demo.c")), ("```rust\n", include_str!("../examples/demo.rs"))]
     {
-        let blocks = shown(language);
-        assert_eq!(blocks.len(), 1, "one block of {language}");
-        assert!(text.contains(&blocks[0]), "the page's {language} is not the example's");
+        let shown: Vec<&str> =
+            page.split(fence).skip(1).filter_map(|rest| rest.split("```").next()).collect();
+        assert_eq!(shown.len(), 1, "one block behind {fence}");
+        assert!(text.contains(shown[0]), "the page shows what is not in the example:\n{}", shown[0]);
     }
-    let page = fs::read_to_string(Path::new(env!("CARGO_MANIFEST_DIR")).join("../README.md"))
-        .expect("the page is read");
     for line in LINES.lines().take(3) {
         assert!(page.contains(line), "the page does not show `{line}`");
     }

@@ -7,7 +7,7 @@ use std::env;
 use ovenknit_host::calls::{Call, BLOCK};
 use ovenknit_host::compare::{compare, junk_tables, Histogram, History};
 use ovenknit_host::ffi::Proved;
-use ovenknit_host::histories::{random_call, Mood};
+use ovenknit_host::histories::{random_call, Mood, NO_ANODE, REFUSALS};
 use ovenknit_host::rng::{seeded, Rng};
 use ovenknit_host::shapes::{accepted, formatted, random_bytes, shaped, Bender, Recipe, Shaped};
 use ovenknit_host::starts::Start;
@@ -84,7 +84,7 @@ fn compare_histories(first_seed: u64, calls: usize) -> Histogram {
         let (start, calls_here) = match case.seed % 100 {
             0 => (Start::Largest, 12),
             1..=3 => (Start::Larger, 60),
-            other => (Start::ALL[other as usize % 4], 100),
+            other => (Start::SMALL[other as usize % 4], 100),
         };
         let disk = start.disk(rng);
         sizes.insert(disk.image.len() / BLOCK);
@@ -104,32 +104,15 @@ fn number_of(variable: &str, default: u64) -> u64 {
     env::var(variable).map_or(default, |value| value.parse().expect("the variable is a number"))
 }
 
-/// The variables `PFS_CALLS` and `PFS_SEED` ask for more calls and for other ones. A long run, in the folder `host`:
-///
-///     PFS_CALLS=2000000 PFS_SEED=1000 cargo test --release --offline --features proved --test proved histories
+/// The variables `PFS_CALLS` and `PFS_SEED` ask for more calls than 60,000 and for other ones.
 #[test]
 fn histories_equal_the_model() {
-    let calls = number_of("PFS_CALLS", 60_000).max(20_000) as usize;
+    let calls = number_of("PFS_CALLS", 0).max(60_000) as usize;
     let answers = compare_histories(number_of("PFS_SEED", 0), calls);
     answers.print("histories");
-    assert!(answers.total() >= calls);
     answers.assert_answered([0, 2]);
-    answers.assert_answered(20..=28);
-    answers.assert_met(&[
-        (20, "format"),
-        (20, "make"),
-        (22, "list"),
-        (24, "read"),
-        (24, "resize"),
-        (24, "write"),
-        (26, "read"),
-        (26, "write"),
-        (27, "make"),
-        (27, "resize"),
-        (28, "make"),
-        (28, "resize"),
-        (28, "remove"),
-    ]);
+    answers.assert_met(&REFUSALS);
+    answers.assert_met(&NO_ANODE);
 }
 
 /// Every call on images that are damaged or too small: the check's number, and tables to match.
@@ -138,7 +121,7 @@ fn every_call_refuses_damage_like_the_model() {
     let mut answers = Histogram::default();
     for mut case in seeded("every_call_refuses_damage_like_the_model", 0..300) {
         let rng = &mut case.rng;
-        let Shaped { image, tree } = Start::ALL[rng.below(4)].disk(rng);
+        let Shaped { image, tree } = Start::SMALL[rng.below(4)].disk(rng);
         let bender = Bender::new(&image).expect("the model accepts its own shapes");
         for number in 1..=16 {
             let Some(mut bent) = bender.bend(number, rng) else {
@@ -152,12 +135,5 @@ fn every_call_refuses_damage_like_the_model() {
     }
     answers.print("damaged disks");
     answers.assert_answered((1..=16).filter(|&number| number != 2));
-    answers.assert_met(&[
-        (12, "make"),
-        (12, "resize"),
-        (12, "remove"),
-        (12, "write"),
-        (12, "read"),
-        (12, "list"),
-    ]);
+    answers.assert_met(&["make", "resize", "remove", "write", "read", "list"].map(|call| (12, call)));
 }

@@ -68,8 +68,8 @@ impl Disk {
         elapsed
     }
 
-    /// The medians of a call on the model and on the proved library and of a proved check, in microseconds, the three
-    /// in turn, so that the machine's moods are shared. What the call changed is mended between the runs.
+    /// The medians of a call on the model and on the proved library and of a proved check, the three in turn, so that
+    /// all meet the same load. What the call changed is mended between the runs.
     fn medians(&mut self, call: &Call) -> Medians {
         let changed = self.changed_by(call);
         let mut output = Output::for_call(call);

@@ -12,7 +12,7 @@ use crate::disk::{Kind, New};
 pub struct Arguments {
     command: &'static str,
     operands: Vec<OsString>,
-    options: Vec<(&'static str, OsString)>,
+    options: Vec<(&'static str, Vec<u8>)>,
 }
 
 impl Arguments {
@@ -45,23 +45,20 @@ impl Arguments {
         word: &OsString,
         rest: &mut impl Iterator<Item = &'a OsString>,
     ) -> Result<(), Failure> {
-        let unknown = || self.trouble(format!("{}: no such option", text::show_os(word)));
-        let Some(known) = word.to_str() else {
-            return Err(unknown());
-        };
-        if let Some(flag) = syntax.flags.iter().find(|&&flag| flag == known) {
-            self.options.push((flag, OsString::new()));
+        let bytes = word.as_encoded_bytes();
+        if let Some(flag) = syntax.flags.iter().find(|flag| flag.as_bytes() == bytes) {
+            self.options.push((flag, Vec::new()));
             return Ok(());
         }
-        let (name, value) = match known.split_once('=') {
-            Some((name, value)) => (name, Some(OsString::from(value))),
-            None => (known, None),
+        let (name, value) = match bytes.iter().position(|&byte| byte == b'=') {
+            Some(place) => (&bytes[..place], Some(&bytes[place + 1..])),
+            None => (bytes, None),
         };
-        let Some(option) = syntax.options.iter().find(|&&option| option == name) else {
-            return Err(unknown());
+        let Some(option) = syntax.options.iter().find(|option| option.as_bytes() == name) else {
+            return Err(self.trouble(format!("{}: no such option", text::show_os(word))));
         };
-        match value.or_else(|| rest.next().cloned()) {
-            Some(value) => self.options.push((option, value)),
+        match value.or_else(|| rest.next().map(|value| value.as_encoded_bytes())) {
+            Some(value) => self.options.push((option, value.to_vec())),
             None => return Err(self.trouble(format!("{option}: no value"))),
         }
         Ok(())
@@ -75,7 +72,7 @@ impl Arguments {
 
     /// An operand that must be there.
     pub fn operand(&self, place: usize) -> &OsStr {
-        self.operands.get(place).map_or(OsStr::new(""), |operand| operand.as_os_str())
+        self.optional(place).unwrap_or_default()
     }
 
     /// An operand that may be left out.
@@ -88,8 +85,8 @@ impl Arguments {
     }
 
     /// The value of an option; the last one counts.
-    pub fn value(&self, option: &str) -> Option<&OsStr> {
-        self.options.iter().rev().find(|(name, _)| *name == option).map(|(_, value)| value.as_os_str())
+    pub fn value(&self, option: &str) -> Option<&[u8]> {
+        self.options.iter().rev().find(|(name, _)| *name == option).map(|(_, value)| value.as_slice())
     }
 
     /// An option that is a number.
@@ -100,11 +97,11 @@ impl Arguments {
     /// An operand that is a number.
     pub fn number_operand(&self, place: usize) -> Result<u64, Failure> {
         let word = self.operand(place);
-        self.parsed(&text::show_os(word), word)
+        self.parsed(&text::show_os(word), word.as_encoded_bytes())
     }
 
-    fn parsed<N: FromStr>(&self, what: &str, word: &OsStr) -> Result<N, Failure> {
-        let number = word.to_str().and_then(|word| word.parse().ok());
+    fn parsed<N: FromStr>(&self, what: &str, word: &[u8]) -> Result<N, Failure> {
+        let number = str::from_utf8(word).ok().and_then(|word| word.parse().ok());
         number.ok_or_else(|| self.trouble(format!("{what}: not a number that fits")))
     }
 
@@ -113,13 +110,13 @@ impl Arguments {
         let Some(value) = self.value("--date") else {
             return Ok(stamps::now());
         };
-        let stamp = value.to_str().and_then(stamps::parse);
+        let stamp = str::from_utf8(value).ok().and_then(stamps::parse);
         stamp.ok_or_else(|| self.trouble("--date: not a date from 1978-01-01 to 2157-06-06"))
     }
 
     /// An entry with the fields that the options give, still without a name.
     pub fn new_entry(&self, kind: Kind) -> Result<New<'_>, Failure> {
-        let comment = self.value("--comment").unwrap_or_default().as_encoded_bytes();
+        let comment = self.value("--comment").unwrap_or_default();
         let (stamp, protection) = (self.stamp()?, self.number("--protection", 0)?);
         Ok(New { kind, name: b"", comment, stamp, protection })
     }

@@ -106,7 +106,7 @@ pub fn cat<L: Library>(arguments: &Arguments, out: &mut dyn Write) -> Done {
 }
 
 /// What is there under a name, a link that leads nowhere too, is replaced only by force.
-fn spare(arguments: &Arguments, file: &OsStr) -> Done {
+fn may_replace(arguments: &Arguments, file: &OsStr) -> Done {
     match !arguments.has("--force") && fs::symlink_metadata(file).is_ok() {
         true => Err(arguments.trouble(format!("{}: there already", text::show_os(file)))),
         false => Ok(()),
@@ -121,7 +121,7 @@ pub fn get<L: Library>(arguments: &Arguments) -> Done {
         (None, Ok(name)) if name != "." && name != ".." => OsStr::new(name),
         _ => return Err(arguments.trouble(format!("{path}: give FILE, for no file here can have that name"))),
     };
-    spare(arguments, file)?;
+    may_replace(arguments, file)?;
     replace(file, &bytes)
 }
 
@@ -167,7 +167,7 @@ fn default_name(file: &OsStr) -> Vec<u8> {
 
 pub fn format<L: Library>(arguments: &Arguments) -> Done {
     let file = arguments.operand(0);
-    spare(arguments, file)?;
+    may_replace(arguments, file)?;
     let old = fs::metadata(file).ok();
     // A file larger than any disk counts as one block too many, and an empty one as no disk.
     let old_blocks =
@@ -177,8 +177,7 @@ pub fn format<L: Library>(arguments: &Arguments) -> Done {
         false => old_blocks.unwrap_or(1_760),
     };
     let (last_reserved, anode_blocks) = default_shape(blocks);
-    let name =
-        arguments.value("--name").map_or_else(|| default_name(file), |name| name.as_encoded_bytes().to_vec());
+    let name = arguments.value("--name").map_or_else(|| default_name(file), <[u8]>::to_vec);
     let format = Format {
         last_reserved: arguments.number("--reserved", last_reserved)?,
         anode_blocks: arguments.number("--anode-blocks", anode_blocks)?,

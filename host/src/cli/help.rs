@@ -48,7 +48,8 @@ pub const COMMANDS: [Syntax; 13] = [
         flags: &[],
         options: &[],
         short: "size, free blocks, files and directories",
-        long: "Prints the disk's blocks and bytes, its free blocks, files and directories (with the root), and its anodes in use (anode 0 not counted).",
+        long: "Prints the disk's blocks and bytes, its free blocks, files and directories (with the root), and its anodes in use
+(anode 0 not counted).",
     },
     Syntax {
         name: "check",
@@ -64,7 +65,8 @@ pub const COMMANDS: [Syntax; 13] = [
         flags: &[],
         options: &[],
         short: "the entries of a directory",
-        long: "Prints each entry's type, size, protection, date and time, name and comment; of the root without PATH. If PATH is a file, prints that entry.",
+        long: "Prints each entry's type, size, protection, date and time, name and comment; of the root without PATH. If PATH is
+a file, prints that entry.",
     },
     Syntax {
         name: "tree",
@@ -99,8 +101,8 @@ pub const COMMANDS: [Syntax; 13] = [
         options: NEW_ENTRY,
         short: "copy a file onto the disk",
         long: concat!("Copies FILE (- is standard input) to PATH, or into PATH if that is a directory, or into the root. A file that is
-there already gets the new size and bytes and keeps its date, protection and comment. The disk file changes only
-if all of it is done.", new_entry!()),
+there already gets the new size and bytes and keeps its date, protection and comment, for which no option may then
+be given. The disk file changes only if all of it is done.", new_entry!()),
     },
     Syntax {
         name: "mkdir",

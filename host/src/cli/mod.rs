@@ -3,7 +3,7 @@
 //! itself is last reserved, for the drawing of the map.
 //!
 //! * `arguments`, `help`: the words of a command line, and what is said about them.
-//! * `commands`: one function for each command; `put` and `map` have files of their own.
+//! * `commands`, `put`, `map`: one function for each command.
 //! * `store`: disk files, replaced as a whole or not at all.
 //! * `paths`, `walk`: from names to entries, and all entries of a disk.
 //! * `stamps`, `text`: dates and names as people write them.

@@ -10,7 +10,8 @@ use std::process;
 
 use super::{refused, text, Failure};
 use crate::calls::{Library, BLOCK};
-use crate::disk::{Disk, Error};
+use crate::disk::Disk;
+use crate::refusals::Error;
 
 /// More than any disk holds; nothing is read beyond it.
 const MOST_BYTES: u64 = 65_536 * BLOCK as u64;

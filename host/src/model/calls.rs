@@ -3,15 +3,10 @@
 
 use std::ops::Range;
 
-use super::check::{check, survey, Survey};
+use super::check::{check, number, survey, Survey};
 use super::layout::*;
 use super::space::{Purpose, Space};
 use crate::calls::Stamp;
-
-/// Turns a result into the number that a call answers.
-fn number(result: Result<(), u32>) -> u32 {
-    result.err().unwrap_or(0)
-}
 
 /// Runs a change after the check, and fills the tables for the new image if it was done.
 fn change(
@@ -57,7 +52,7 @@ pub fn format(
     }
     image.fill(0);
     image[..4].copy_from_slice(&DISK_TYPE);
-    let root = block_mut(image, ROOT_BLOCK as u16);
+    let root = block_mut(image, ROOT_BLOCK);
     root[..4].copy_from_slice(&DISK_TYPE);
     put_word(root, ROOT_DAY, stamp.day);
     put_word(root, ROOT_MINUTE, stamp.minute);
@@ -81,7 +76,7 @@ pub fn format(
 
 /// The first anodes of an empty disk whose root directory is in `directory`, the block after the anode blocks.
 fn format_anodes(image: &mut [u8], size: usize, last_reserved: u16, directory: u16) {
-    let mut table = AnodeTable::read(image, slots(image));
+    let mut table = AnodeTable::read(image);
     let lower = last_reserved - directory;
     let upper = (size - 1 - usize::from(last_reserved)) as u16;
     table[0] = Anode::empty(0);
@@ -117,7 +112,7 @@ fn entries<'a>(image: &'a [u8], table: &'a AnodeTable, head: u16) -> impl Iterat
 /// 21: the number must be a reached directory's head.
 fn reached(survey: &Survey, directory: u16) -> Result<(), u32> {
     let parent = survey.parents.get(usize::from(directory)).copied().flatten();
-    parent.map(|_| ()).ok_or(21)
+    parent.map(drop).ok_or(21)
 }
 
 /// 21, 22: the first entry of that name, with the block it is in.

@@ -20,10 +20,12 @@ pub struct Survey {
 /// The check: answers 0 or the number of the first rule that is broken. Refusals 1 to 4 touch no table, 5 to 16
 /// leave both zeroed, and a disk that is accepted has its owners and heads there.
 pub fn check(image: &[u8], blocks: &mut [u16], anodes: &mut [u16]) -> u32 {
-    match survey(image, blocks, anodes) {
-        Ok(_) => 0,
-        Err(number) => number,
-    }
+    number(survey(image, blocks, anodes))
+}
+
+/// The number that a call answers for a result.
+pub(super) fn number<T>(result: Result<T, u32>) -> u32 {
+    result.err().unwrap_or(0)
 }
 
 /// The check with all that it learned, or its refusal.
@@ -49,18 +51,17 @@ pub fn survey(image: &[u8], blocks: &mut [u16], anodes: &mut [u16]) -> Result<Su
 fn examine(image: &[u8], owners: &mut [u16], heads: &mut [u16]) -> Result<Survey, u32> {
     let size = owners.len();
     let last_reserved = last_reserved(image);
-    let slots = slots(image);
-    check_slots(image, &slots, size)?;
-    let table = AnodeTable::read(image, slots);
+    check_slots(image, &slots(image), size)?;
+    let table = AnodeTable::read(image);
     check_special(&table)?;
-    let live: Vec<u16> = table.existing().filter(|&number| number != 0 && table[number].in_use()).collect();
-    check_fields(&table, &live, size)?;
-    let followers = check_predecessors(&table, &live)?;
-    let lengths = check_chains(&table, &live, &followers, heads)?;
+    let in_use: Vec<u16> = table.existing().filter(|&number| number != 0 && table[number].in_use()).collect();
+    check_fields(&table, &in_use, size)?;
+    let followers = check_predecessors(&table, &in_use)?;
+    let lengths = check_chains(&table, &in_use, &followers, heads)?;
     check_free_list(&table, last_reserved)?;
-    check_owners(&table, &live, heads, owners)?;
+    check_owners(&table, &in_use, heads, owners)?;
     let walk = Walk::run(image, &table, &followers, &lengths)?;
-    check_named(&live, &followers, &walk.named)?;
+    check_named(&in_use, &followers, &walk.named)?;
     Ok(Survey {
         blocks: size,
         last_reserved,
@@ -91,7 +92,7 @@ fn check_slots(image: &[u8], slots: &[u16; SLOTS], size: usize) -> Result<(), u3
     if slots[0] == 0 {
         return Err(5);
     }
-    for (slot, &number) in slots.iter().enumerate().filter(|(_, &number)| number != 0) {
+    for (slot, number) in used_slots(slots) {
         if !(3..size).contains(&usize::from(number)) {
             return Err(5);
         }
@@ -115,25 +116,25 @@ fn check_special(table: &AnodeTable) -> Result<(), u32> {
 }
 
 /// 7: every extent is on the disk and every next is 0 or in use.
-fn check_fields(table: &AnodeTable, live: &[u16], size: usize) -> Result<(), u32> {
-    let good = live.iter().map(|&number| table[number]).all(|anode| {
+fn check_fields(table: &AnodeTable, in_use: &[u16], size: usize) -> Result<(), u32> {
+    let good = in_use.iter().map(|&number| table[number]).all(|anode| {
         (anode.count == 0 || anode.end() <= size) && (anode.next == 0 || table.in_use(anode.next))
     });
     good.then_some(()).ok_or(7)
 }
 
 /// 8, first part: at most one predecessor, and none for 1, 3, 4 and 5. Answers which anodes have one.
-fn check_predecessors(table: &AnodeTable, live: &[u16]) -> Result<Vec<bool>, u32> {
+fn check_predecessors(table: &AnodeTable, in_use: &[u16]) -> Result<Vec<bool>, u32> {
     let mut followers = vec![false; ANODES];
-    for next in live.iter().map(|&number| table[number].next).filter(|&next| next != 0) {
+    for next in in_use.iter().map(|&number| table[number].next).filter(|&next| next != 0) {
         let follower = &mut followers[usize::from(next)];
         if *follower {
             return Err(8);
         }
         *follower = true;
     }
-    let headless = [FREE_LIST, TO_BE_FREED, BAD_BLOCKS, ROOT_DIRECTORY];
-    match headless.iter().any(|&number| followers[usize::from(number)]) {
+    let always_heads = [FREE_LIST, TO_BE_FREED, BAD_BLOCKS, ROOT_DIRECTORY];
+    match always_heads.iter().any(|&number| followers[usize::from(number)]) {
         true => Err(8),
         false => Ok(followers),
     }
@@ -143,13 +144,13 @@ fn check_predecessors(table: &AnodeTable, live: &[u16]) -> Result<Vec<bool>, u32
 /// Fills the heads and answers the number of blocks of each chain, by head.
 fn check_chains(
     table: &AnodeTable,
-    live: &[u16],
+    in_use: &[u16],
     followers: &[bool],
     heads: &mut [u16],
 ) -> Result<Vec<u32>, u32> {
     let mut lengths = vec![0u32; ANODES];
     let mut met = 0;
-    for &head in live.iter().filter(|&&number| !followers[usize::from(number)]) {
+    for &head in in_use.iter().filter(|&&number| !followers[usize::from(number)]) {
         let mut number = head;
         while number != 0 {
             let anode = table[number];
@@ -159,7 +160,7 @@ fn check_chains(
             number = anode.next;
         }
     }
-    (met == live.len()).then_some(lengths).ok_or(8)
+    (met == in_use.len()).then_some(lengths).ok_or(8)
 }
 
 /// 9: anode 2 is on the free list, blocks above last reserved before it, the others from it on.
@@ -182,12 +183,12 @@ fn check_free_list(table: &AnodeTable, last_reserved: u16) -> Result<(), u32> {
 }
 
 /// 10 and 11: every block has one owner. Fills the owners.
-fn check_owners(table: &AnodeTable, live: &[u16], heads: &[u16], owners: &mut [u16]) -> Result<(), u32> {
+fn check_owners(table: &AnodeTable, in_use: &[u16], heads: &[u16], owners: &mut [u16]) -> Result<(), u32> {
     owners[..3].fill(OWNER_START);
-    for &number in table.slots().iter().filter(|&&number| number != 0) {
+    for (_, number) in used_slots(table.slots()) {
         owners[usize::from(number)] = OWNER_ANODES;
     }
-    for &number in live {
+    for &number in in_use {
         let anode = table[number];
         if anode.count == 0 {
             continue;
@@ -285,12 +286,12 @@ impl<'a> Walk<'a> {
 }
 
 /// 16: every chain from 6 up is named.
-fn check_named(live: &[u16], followers: &[bool], named: &[bool]) -> Result<(), u32> {
+fn check_named(in_use: &[u16], followers: &[bool], named: &[bool]) -> Result<(), u32> {
     let lost = |number: u16| {
         let place = usize::from(number);
         number >= FIRST_USER && !followers[place] && !named[place]
     };
-    match live.iter().any(|&number| lost(number)) {
+    match in_use.iter().any(|&number| lost(number)) {
         true => Err(16),
         false => Ok(()),
     }

@@ -3,12 +3,12 @@
 use std::ops::{Index, IndexMut};
 
 pub const BLOCK: usize = 512;
-/// The fewest and the most blocks a disk has.
+// The fewest and the most blocks a disk has.
 pub const FEWEST_BLOCKS: usize = 5;
 pub const MOST_BLOCKS: usize = 65_535;
 
-/// The root block, and where its fields are.
-pub const ROOT_BLOCK: usize = 2;
+// The root block, and where its fields are.
+pub const ROOT_BLOCK: u16 = 2;
 pub const DISK_TYPE: [u8; 4] = *b"PFS\0";
 pub const ROOT_DAY: usize = 12;
 pub const ROOT_MINUTE: usize = 14;
@@ -20,7 +20,7 @@ pub const ROOT_LAST_RESERVED: usize = 54;
 pub const ROOT_SLOTS: usize = 96;
 pub const LONGEST_DISK_NAME: usize = 31;
 
-/// Anode blocks.
+// Anode blocks.
 pub const ANODE_MARK: [u8; 2] = *b"AB";
 pub const ANODE_SEQUENCE: usize = 10;
 pub const FIRST_ANODE: usize = 16;
@@ -29,7 +29,7 @@ pub const ANODES_IN_BLOCK: usize = 82;
 pub const SLOTS: usize = 42;
 pub const ANODES: usize = SLOTS * ANODES_IN_BLOCK;
 
-/// Directory blocks.
+// Directory blocks.
 pub const DIRECTORY_MARK: [u8; 2] = *b"DB";
 pub const DIRECTORY_OWNER: usize = 12;
 pub const DIRECTORY_PARENT: usize = 14;
@@ -37,7 +37,7 @@ pub const FIRST_ENTRY: usize = 16;
 /// The end mark is at this byte of the block or before.
 pub const LAST_END_MARK: usize = 510;
 
-/// Entries.
+// Entries.
 pub const ENTRY_TYPE: usize = 1;
 pub const ENTRY_ANODE: usize = 2;
 pub const ENTRY_SIZE: usize = 4;
@@ -52,7 +52,7 @@ pub const LONGEST_COMMENT: usize = 79;
 pub const FILE: u8 = 253;
 pub const DIRECTORY: u8 = 2;
 
-/// Anodes with a meaning of their own.
+// Anodes with a meaning of their own.
 pub const FREE_LIST: u16 = 1;
 pub const RESERVED: u16 = 2;
 pub const TO_BE_FREED: u16 = 3;
@@ -60,7 +60,7 @@ pub const BAD_BLOCKS: u16 = 4;
 pub const ROOT_DIRECTORY: u16 = 5;
 pub const FIRST_USER: u16 = 6;
 
-/// Owners in the block table that are no chain.
+// Owners in the block table that are no chain.
 pub const OWNER_START: u16 = 65_535;
 pub const OWNER_ANODES: u16 = 65_534;
 
@@ -99,7 +99,7 @@ pub fn disk_size(image: &[u8]) -> Option<usize> {
 }
 
 pub fn root(image: &[u8]) -> &[u8] {
-    block(image, ROOT_BLOCK as u16)
+    block(image, ROOT_BLOCK)
 }
 
 pub fn last_reserved(image: &[u8]) -> u16 {
@@ -112,8 +112,13 @@ pub fn slots(image: &[u8]) -> [u16; SLOTS] {
     std::array::from_fn(|slot| word(root, ROOT_SLOTS + 2 * slot))
 }
 
+/// The slots with anodes, and the block that each holds.
+pub fn used_slots(slots: &[u16; SLOTS]) -> impl Iterator<Item = (usize, u16)> + '_ {
+    slots.iter().copied().enumerate().filter(|&(_, number)| number != 0)
+}
+
 /// A run of blocks, and the anode where its chain goes on.
-#[derive(Clone, Copy, Debug, Default, PartialEq, Eq)]
+#[derive(Clone, Copy, Debug, PartialEq, Eq)]
 pub struct Anode {
     pub count: u16,
     pub block: u16,
@@ -142,6 +147,12 @@ impl Anode {
     }
 }
 
+pub fn put_anode(bytes: &mut [u8], at: usize, anode: Anode) {
+    put_word(bytes, at, anode.count);
+    put_word(bytes, at + 2, anode.block);
+    put_word(bytes, at + 4, anode.next);
+}
+
 /// All anodes of a disk, by number. Missing ones are held as zero.
 #[derive(Clone, Debug)]
 pub struct AnodeTable {
@@ -151,9 +162,10 @@ pub struct AnodeTable {
 
 impl AnodeTable {
     /// Reads the anodes; the block of every used slot must be on the disk.
-    pub fn read(image: &[u8], slots: [u16; SLOTS]) -> Self {
+    pub fn read(image: &[u8]) -> Self {
+        let slots = slots(image);
         let mut anodes = vec![Anode::ZERO; ANODES];
-        for (slot, &number) in slots.iter().enumerate().filter(|(_, &number)| number != 0) {
+        for (slot, number) in used_slots(&slots) {
             let fields = &block(image, number)[FIRST_ANODE..FIRST_ANODE + ANODES_IN_BLOCK * ANODE_BYTES];
             let places = &mut anodes[slot * ANODES_IN_BLOCK..(slot + 1) * ANODES_IN_BLOCK];
             for (anode, bytes) in places.iter_mut().zip(fields.chunks_exact(ANODE_BYTES)) {
@@ -165,14 +177,11 @@ impl AnodeTable {
 
     /// Writes every existing anode back; those that were not changed get the bytes they had.
     pub fn write(&self, image: &mut [u8]) {
-        for (slot, &number) in self.slots.iter().enumerate().filter(|(_, &number)| number != 0) {
+        for (slot, number) in used_slots(&self.slots) {
             let bytes = block_mut(image, number);
             for place in 0..ANODES_IN_BLOCK {
                 let anode = self.anodes[slot * ANODES_IN_BLOCK + place];
-                let at = FIRST_ANODE + place * ANODE_BYTES;
-                put_word(bytes, at, anode.count);
-                put_word(bytes, at + 2, anode.block);
-                put_word(bytes, at + 4, anode.next);
+                put_anode(bytes, FIRST_ANODE + place * ANODE_BYTES, anode);
             }
         }
     }
@@ -191,10 +200,7 @@ impl AnodeTable {
 
     /// The numbers of existing anodes, upward.
     pub fn existing(&self) -> impl Iterator<Item = u16> + '_ {
-        self.slots
-            .iter()
-            .enumerate()
-            .filter(|(_, &block)| block != 0)
+        used_slots(&self.slots)
             .flat_map(|(slot, _)| slot * ANODES_IN_BLOCK..(slot + 1) * ANODES_IN_BLOCK)
             .map(|number| number as u16)
     }

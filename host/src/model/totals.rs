@@ -33,12 +33,11 @@ pub fn totals(image: &[u8]) -> Option<Totals> {
     if super::check(image, &mut blocks, &mut anodes) != 0 {
         return None;
     }
-    let slots = slots(image);
-    let table = AnodeTable::read(image, slots);
+    let table = AnodeTable::read(image);
     let owned = |head: u16| table.chain(head).map(|(_, anode)| usize::from(anode.count)).sum::<usize>();
     let mut totals = Totals {
         free: owned(FREE_LIST),
-        anode_blocks: slots.iter().filter(|&&number| number != 0).count(),
+        anode_blocks: used_slots(table.slots()).count(),
         start: 3,
         to_be_freed: owned(TO_BE_FREED),
         bad: owned(BAD_BLOCKS),

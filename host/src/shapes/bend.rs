@@ -10,7 +10,7 @@ use crate::model::layout::*;
 use crate::model::{survey, Survey};
 use crate::rng::Rng;
 
-/// An entry of the disk; `place` is its first byte in the image.
+/// An entry of the disk; `place` is its first byte in the image, `name` and `comment` are lengths.
 #[derive(Clone, Copy, Debug)]
 pub(super) struct Named {
     pub place: usize,
@@ -103,8 +103,7 @@ impl<'a> Bender<'a> {
     }
 
     fn any_examined_block(&self, rng: &mut Rng) -> u16 {
-        let anode_blocks: Vec<u16> =
-            self.survey.table.slots().iter().copied().filter(|&number| number != 0).collect();
+        let anode_blocks = self.anode_blocks();
         let directory = rng.pick(&self.directories).copied().unwrap_or(ROOT_DIRECTORY);
         let directory_blocks: Vec<u16> = self.survey.table.chain_blocks(directory).collect();
         let found = match rng.below(5) {
@@ -112,7 +111,7 @@ impl<'a> Bender<'a> {
             1 | 2 => rng.pick(&anode_blocks),
             _ => rng.pick(&directory_blocks),
         };
-        found.copied().unwrap_or(ROOT_BLOCK as u16)
+        found.copied().unwrap_or(ROOT_BLOCK)
     }
 
     /// The image with some fields of anodes and entries set to numbers that have a meaning elsewhere.
@@ -126,10 +125,10 @@ impl<'a> Bender<'a> {
                     put_word(&mut image, entry.place + field, value);
                 }
                 _ => {
-                    let live: Vec<u16> = self.survey.table.existing().collect();
+                    let existing: Vec<u16> = self.survey.table.existing().collect();
                     let number = match rng.percent(70) {
                         true => self.any_in_use(rng, |_, _| true).unwrap_or(0),
-                        false => rng.pick(&live).copied().unwrap_or(0),
+                        false => rng.pick(&existing).copied().unwrap_or(0),
                     };
                     let at = self.anode_place(number) + 2 * rng.below(3);
                     put_word(&mut image, at, value);
@@ -139,6 +138,7 @@ impl<'a> Bender<'a> {
         image
     }
 
+    /// A number that has a meaning on this disk, or any.
     fn telling_number(&self, rng: &mut Rng) -> u16 {
         let table = &self.survey.table;
         let anode = self.any_in_use(rng, |_, _| true).unwrap_or(0);
@@ -158,6 +158,10 @@ impl<'a> Bender<'a> {
 
     // What the faults ask for.
 
+    pub(super) fn anode_blocks(&self) -> Vec<u16> {
+        used_slots(self.survey.table.slots()).map(|(_, number)| number).collect()
+    }
+
     /// The place of an existing anode in the image.
     pub(super) fn anode_place(&self, number: u16) -> usize {
         let number = usize::from(number);
@@ -166,16 +170,26 @@ impl<'a> Bender<'a> {
     }
 
     pub(super) fn put_anode(&self, image: &mut [u8], number: u16, anode: Anode) {
-        let at = self.anode_place(number);
-        put_word(image, at, anode.count);
-        put_word(image, at + 2, anode.block);
-        put_word(image, at + 4, anode.next);
+        put_anode(image, self.anode_place(number), anode);
+    }
+
+    pub(super) fn put_count(&self, image: &mut [u8], number: u16, count: u16) {
+        self.put_anode(image, number, Anode { count, ..self.anode(number) });
+    }
+
+    pub(super) fn put_block(&self, image: &mut [u8], number: u16, block: u16) {
+        self.put_anode(image, number, Anode { block, ..self.anode(number) });
+    }
+
+    pub(super) fn put_next(&self, image: &mut [u8], number: u16, next: u16) {
+        self.put_anode(image, number, Anode { next, ..self.anode(number) });
     }
 
     pub(super) fn anode(&self, number: u16) -> Anode {
         self.survey.table[number]
     }
 
+    /// The disk's size in blocks, which fits into two bytes.
     pub(super) fn size16(&self) -> u16 {
         self.survey.blocks as u16
     }
@@ -190,6 +204,13 @@ impl<'a> Bender<'a> {
         rng.pick(&fitting).copied()
     }
 
+    /// One of the anodes from 6 up that end a chain of several, and fit.
+    pub(super) fn any_tail(&self, rng: &mut Rng, fits: impl Fn(Anode) -> bool) -> Option<u16> {
+        self.any_in_use(rng, |number, anode| {
+            number >= FIRST_USER && anode.next == 0 && self.predecessor(number).is_some() && fits(anode)
+        })
+    }
+
     /// One of the free anodes from this number up.
     pub(super) fn any_free(&self, rng: &mut Rng, from: u16) -> Option<u16> {
         let table = &self.survey.table;
@@ -198,7 +219,7 @@ impl<'a> Bender<'a> {
         rng.pick(&free).copied()
     }
 
-    /// A number from which no anode can be read.
+    /// A number from 6 up of no existing anode.
     pub(super) fn any_missing(&self, rng: &mut Rng) -> u16 {
         for _ in 0..8 {
             let number = rng.within16(FIRST_USER..=ANODES as u16);
@@ -224,6 +245,7 @@ impl<'a> Bender<'a> {
         (list[..place].to_vec(), list[place..].to_vec())
     }
 
+    /// One of these anodes that has blocks.
     pub(super) fn with_blocks(&self, numbers: Vec<u16>, rng: &mut Rng) -> Option<u16> {
         let held: Vec<u16> = numbers.into_iter().filter(|&number| self.anode(number).count > 0).collect();
         rng.pick(&held).copied()

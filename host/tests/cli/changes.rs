@@ -88,6 +88,18 @@ fn names_of_any_bytes() {
     folder.fails(2, &["get", "disk.adf", ".."]);
 }
 
+#[cfg(unix)]
+#[test]
+fn comments_of_any_bytes() {
+    use std::os::unix::ffi::OsStrExt;
+    let folder = Folder::with_disk("comments");
+    let words = [&b"--comment=a=\xff"[..], b"--date=1978-01-01"].map(std::ffi::OsStr::from_bytes);
+    let output = folder.command(&["mkdir", "disk.adf", "new"]).args(words).output().expect("it runs");
+    assert_eq!((output.status.code(), output.stderr), (Some(0), Vec::new()));
+    let line = "dir           -  ----rwed  1978-01-01 00:00:00.00  new  \"a=\\xff\"";
+    assert_eq!(folder.done(&["ls", "disk.adf"]).lines().last(), Some(line));
+}
+
 #[test]
 fn mkdir_resize_and_rm() {
     let folder = Folder::with_disk("mkdir_resize_rm");

@@ -3,14 +3,13 @@
 use std::fs;
 use std::io::Write;
 use std::path::{Path, PathBuf};
-use std::process::{Command, Output, Stdio};
+use std::process::{Child, Command, Stdio};
 
 pub struct Folder {
     path: PathBuf,
 }
 
 /// What a run of the program gave.
-#[derive(Debug, PartialEq, Eq)]
 pub struct Run {
     pub status: i32,
     pub out: String,
@@ -18,7 +17,9 @@ pub struct Run {
 }
 
 impl Run {
-    fn of(output: Output) -> Self {
+    /// Waits for the program's end.
+    fn of(child: Child) -> Self {
+        let output = child.wait_with_output().expect("the program ends");
         let text = |bytes: Vec<u8>| String::from_utf8(bytes).expect("the program prints UTF-8");
         Run {
             status: output.status.code().expect("the program ends by itself"),
@@ -56,37 +57,33 @@ impl Folder {
         folder
     }
 
-    fn command(&self, words: &[&str]) -> Command {
+    pub fn command(&self, words: &[&str]) -> Command {
         let mut command = Command::new(env!("CARGO_BIN_EXE_pfs"));
         command.args(words).current_dir(&self.path);
         command
     }
 
+    fn start(&self, words: &[&str], input: Stdio) -> Child {
+        let mut command = self.command(words);
+        command.stdin(input).stdout(Stdio::piped()).stderr(Stdio::piped());
+        command.spawn().expect("the program runs")
+    }
+
     pub fn run(&self, words: &[&str]) -> Run {
-        Run::of(self.command(words).stdin(Stdio::null()).output().expect("the program runs"))
+        Run::of(self.start(words, Stdio::null()))
     }
 
     /// Runs it with these bytes on standard input.
     pub fn run_with_input(&self, words: &[&str], input: &[u8]) -> Run {
-        let mut command = self.command(words);
-        command.stdin(Stdio::piped()).stdout(Stdio::piped()).stderr(Stdio::piped());
-        let mut child = command.spawn().expect("the program runs");
+        let mut child = self.start(words, Stdio::piped());
         child.stdin.take().expect("it has an input").write_all(input).expect("it reads its input");
-        Run::of(child.wait_with_output().expect("the program ends"))
+        Run::of(child)
     }
 
     /// Runs all of these at the same time, and gives what each gave.
     pub fn run_together(&self, commands: &[Vec<&str>]) -> Vec<Run> {
-        let start = |words: &Vec<&str>| {
-            let mut command = self.command(words);
-            command.stdin(Stdio::null()).stdout(Stdio::piped()).stderr(Stdio::piped());
-            command.spawn().expect("the program runs")
-        };
-        let children: Vec<_> = commands.iter().map(start).collect();
-        children
-            .into_iter()
-            .map(|child| Run::of(child.wait_with_output().expect("the program ends")))
-            .collect()
+        let children: Vec<Child> = commands.iter().map(|words| self.start(words, Stdio::null())).collect();
+        children.into_iter().map(Run::of).collect()
     }
 
     /// Runs a command that must be done, and gives what it printed.
@@ -108,11 +105,11 @@ impl Folder {
     }
 
     pub fn write(&self, name: &str, bytes: &[u8]) {
-        fs::write(self.path.join(name), bytes).expect("the file is written");
+        fs::write(self.path(name), bytes).expect("the file is written");
     }
 
     pub fn read(&self, name: &str) -> Vec<u8> {
-        fs::read(self.path.join(name)).expect("the file is read")
+        fs::read(self.path(name)).expect("the file is read")
     }
 
     pub fn path(&self, name: &str) -> PathBuf {
@@ -120,15 +117,12 @@ impl Folder {
     }
 
     /// All files with their bytes, so that a temporary file that stays is seen.
-    pub fn files(&self) -> Vec<(String, Vec<u8>)> {
+    fn files(&self) -> Vec<(String, Vec<u8>)> {
         let entries = fs::read_dir(&self.path).expect("the folder is read");
         let names = entries.map(|entry| entry.expect("the entry is read").file_name());
         let mut names: Vec<String> = names.map(|name| name.to_string_lossy().into_owned()).collect();
         names.sort();
-        names
-            .into_iter()
-            .map(|name| (name.clone(), fs::read(self.path.join(&name)).unwrap_or_default()))
-            .collect()
+        names.into_iter().map(|name| (name.clone(), fs::read(self.path(&name)).unwrap_or_default())).collect()
     }
 
     pub fn names(&self) -> Vec<String> {

@@ -121,12 +121,7 @@ fn a_file_without_end_is_refused() {
 fn output_that_cannot_be_written_ends_with_2() {
     let folder = Folder::with_disk("output");
     let full = std::fs::OpenOptions::new().write(true).open("/dev/full").expect("it is opened");
-    let command = std::process::Command::new(env!("CARGO_BIN_EXE_pfs"))
-        .args(["ls", "disk.adf"])
-        .current_dir(folder.path("."))
-        .stdout(full)
-        .output()
-        .expect("the program runs");
-    assert_eq!(command.status.code(), Some(2));
-    assert!(command.stderr.starts_with(b"pfs: standard output: "));
+    let output = folder.command(&["ls", "disk.adf"]).stdout(full).output().expect("the program runs");
+    assert_eq!(output.status.code(), Some(2));
+    assert!(output.stderr.starts_with(b"pfs: standard output: "));
 }

@@ -95,7 +95,7 @@ impl<L: Library> Disk<L> {
     }
 
     pub fn table(&self) -> AnodeTable {
-        AnodeTable::read(&self.image, layout::slots(&self.image))
+        AnodeTable::read(&self.image)
     }
 
     /// Count, block and next of an anode.
@@ -104,6 +104,12 @@ impl<L: Library> Disk<L> {
         (anode.count, anode.block, anode.next)
     }
 
+    /// Sets the size of the root's first entry, where the root directory is in block 4.
+    pub fn set_size(&mut self, size: u32) {
+        layout::put_long(self.block_mut(4), layout::FIRST_ENTRY + layout::ENTRY_SIZE, size);
+    }
+
+    /// Writes count, block and next of these anodes.
     pub fn set(&mut self, anodes: &[(u16, (u16, u16, u16))]) {
         let mut table = self.table();
         for &(number, (count, block, next)) in anodes {

@@ -57,9 +57,9 @@ fn taking_and_giving_back<L: Library>() {
 fn joining_after_the_end<L: Library>() {
     let mut disk = Disk::<L>::format(20, 9, 1);
     assert_eq!(disk.make(ROOT, FILE, b"a"), 0);
-    // The file gets 12 to 14 in two pieces, the last one after the end of the free extent.
+    // The file has 13 and 14; above, 10 and 11 are in 6, 15 to 19 in 8, and 12 in 9, which is the last.
     disk.set(&[(6, (2, 10, 8)), (8, (5, 15, 9)), (9, (1, 12, 2)), (7, (2, 13, 0))]);
-    disk.block_mut(4)[20..24].copy_from_slice(&1024u32.to_be_bytes());
+    disk.set_size(1024);
     assert_eq!(disk.check(), 0);
     // 14 is not beside 12, so a new anode; 13 then joins before the start of the new one.
     assert_eq!(disk.resize(b"a", 512), 0);
@@ -68,7 +68,7 @@ fn joining_after_the_end<L: Library>() {
     assert_eq!((disk.anode(9), disk.anode(10), disk.anode(7)), ((1, 12, 10), (2, 13, 2), (0, 65_535, 0)));
     // With one block only, 13 joins after the end of 9.
     disk.set(&[(9, (1, 12, 2)), (10, (0, 0, 0)), (7, (1, 13, 0)), (8, (6, 14, 9))]);
-    disk.block_mut(4)[20..24].copy_from_slice(&512u32.to_be_bytes());
+    disk.set_size(512);
     assert_eq!(disk.check(), 0);
     assert_eq!(disk.resize(b"a", 0), 0);
     assert_eq!((disk.anode(9), disk.anode(7)), ((2, 12, 2), (0, 65_535, 0)));
@@ -77,7 +77,7 @@ fn joining_after_the_end<L: Library>() {
 fn empty_anodes_keep_their_places<L: Library>() {
     let mut disk = Disk::<L>::format(20, 9, 1);
     assert_eq!(disk.make(ROOT, FILE, b"a"), 0);
-    // Free list: 1, 10 (empty), 6, 11 (empty), 2, 12 (empty). File: 7 (empty), 8 with 12 and 13, 9 (empty).
+    // Free list: 1, 10 (empty), 6, 13, 11 (empty), 2, 12 (empty). File: 7 (empty), 8 with 12 and 13, 9 (empty).
     disk.set(&[
         (1, (0, 65_535, 10)),
         (10, (0, 1, 6)),
@@ -90,7 +90,7 @@ fn empty_anodes_keep_their_places<L: Library>() {
         (8, (2, 12, 9)),
         (9, (0, 12, 0)),
     ]);
-    disk.block_mut(4)[20..24].copy_from_slice(&1024u32.to_be_bytes());
+    disk.set_size(1024);
     assert_eq!(disk.check(), 0);
     // The block goes into the empty last anode, not to the end of 8, and the free list's empty ones stay.
     assert_eq!(disk.resize(b"a", 1025), 0);
@@ -112,7 +112,7 @@ fn shrinking_from_before_an_empty_tail<L: Library>() {
     let mut disk = Disk::<L>::format(20, 9, 1);
     assert_eq!(disk.make(ROOT, FILE, b"a"), 0);
     disk.set(&[(6, (9, 11, 2)), (7, (1, 10, 8)), (8, (0, 77, 0))]);
-    disk.block_mut(4)[20..24].copy_from_slice(&5u32.to_be_bytes());
+    disk.set_size(5);
     assert_eq!(disk.check(), 0);
     // The head is emptied and keeps its next; the block joins before the start of 6.
     assert_eq!(disk.resize(b"a", 0), 0);
@@ -126,7 +126,7 @@ fn the_anode_just_emptied_counts_as_free<L: Library>() {
     assert_eq!(disk.make(ROOT, FILE, b"a"), 0);
     // The file has 12; above, 10 is in 6, 13 to 19 in 8, 11 in 9.
     disk.set(&[(6, (1, 10, 8)), (8, (7, 13, 9)), (9, (1, 11, 2)), (7, (1, 12, 0))]);
-    disk.block_mut(4)[20..24].copy_from_slice(&512u32.to_be_bytes());
+    disk.set_size(512);
     disk.use_up_anodes(&[]);
     assert_eq!(disk.make(ROOT, FILE, b"b"), 28);
     // 10 empties anode 6 and gets it; 13 is not its end and needs an anode more.

@@ -1,0 +1,342 @@
+//! Faults in the root block, the anode blocks and the anodes.
+
+use std::ops::RangeInclusive;
+
+use super::{spoil, Fault};
+use crate::model::layout::*;
+use crate::rng::Rng;
+use crate::shapes::bend::Bender;
+
+/// The faults that are aimed at a number from 3 to 11.
+pub(super) fn faults(number: u32) -> &'static [Fault] {
+    match number {
+        3 => &[other_type],
+        4 => &[first_reserved, low_last_reserved, high_last_reserved, disk_name_length],
+        5 => &[no_slot_0, low_slot, high_slot, anode_mark, sequence, wrong_new_slot],
+        6 => &[anode_0, anode_1_count, anode_1_block, anode_2_free, anode_5_free],
+        7 => &[end_above, wrapped_end, next_missing, next_free],
+        8 => &[next_special, next_itself, second_predecessor, ring],
+        9 => &[cut_before_2, upper_swallowed, lower_bared, upper_moved, lower_moved],
+        10 => &[extent_grown, extent_moved, system_block_owned, free_anode_woken, empty_filled],
+        11 => &[extent_shrunk, start_shrunk, slot_dropped, last_link_cut],
+        _ => &[],
+    }
+}
+
+/// The lowest of these numbers half of the time, else any.
+fn low_or_any(numbers: RangeInclusive<u16>, rng: &mut Rng) -> u16 {
+    match rng.percent(50) {
+        true => *numbers.start(),
+        false => rng.within16(numbers),
+    }
+}
+
+// 3 and 4: the root block.
+
+fn root_mut(image: &mut [u8]) -> &mut [u8] {
+    block_mut(image, ROOT_BLOCK)
+}
+
+fn other_type(_: &Bender, image: &mut [u8], rng: &mut Rng) -> Option<()> {
+    spoil(&mut root_mut(image)[..4], rng);
+    Some(())
+}
+
+fn first_reserved(_: &Bender, image: &mut [u8], rng: &mut Rng) -> Option<()> {
+    put_word(root_mut(image), ROOT_FIRST_RESERVED, rng.within16(1..=65_535));
+    Some(())
+}
+
+fn low_last_reserved(_: &Bender, image: &mut [u8], rng: &mut Rng) -> Option<()> {
+    put_word(root_mut(image), ROOT_LAST_RESERVED, rng.within16(0..=1));
+    Some(())
+}
+
+fn high_last_reserved(bender: &Bender, image: &mut [u8], rng: &mut Rng) -> Option<()> {
+    put_word(root_mut(image), ROOT_LAST_RESERVED, low_or_any(bender.size16()..=65_535, rng));
+    Some(())
+}
+
+fn disk_name_length(_: &Bender, image: &mut [u8], rng: &mut Rng) -> Option<()> {
+    root_mut(image)[ROOT_NAME] = [0, 32, rng.within(32..=255) as u8][rng.below(3)];
+    Some(())
+}
+
+// 5: the slots.
+
+fn put_slot(image: &mut [u8], slot: usize, number: u16) {
+    put_word(root_mut(image), ROOT_SLOTS + 2 * slot, number);
+}
+
+fn any_anode_block(bender: &Bender, rng: &mut Rng) -> Option<u16> {
+    rng.pick(&bender.anode_blocks()).copied()
+}
+
+fn no_slot_0(_: &Bender, image: &mut [u8], _: &mut Rng) -> Option<()> {
+    put_slot(image, 0, 0);
+    Some(())
+}
+
+fn low_slot(_: &Bender, image: &mut [u8], rng: &mut Rng) -> Option<()> {
+    put_slot(image, rng.below(SLOTS), rng.within16(1..=2));
+    Some(())
+}
+
+fn high_slot(bender: &Bender, image: &mut [u8], rng: &mut Rng) -> Option<()> {
+    put_slot(image, rng.below(SLOTS), low_or_any(bender.size16()..=65_535, rng));
+    Some(())
+}
+
+fn anode_mark(bender: &Bender, image: &mut [u8], rng: &mut Rng) -> Option<()> {
+    let number = any_anode_block(bender, rng)?;
+    spoil(&mut block_mut(image, number)[..2], rng);
+    Some(())
+}
+
+fn sequence(bender: &Bender, image: &mut [u8], rng: &mut Rng) -> Option<()> {
+    let number = any_anode_block(bender, rng)?;
+    spoil(&mut block_mut(image, number)[ANODE_SEQUENCE..][..2], rng);
+    Some(())
+}
+
+/// An unused slot gets a block that is not its anode block: one of another slot, or any.
+fn wrong_new_slot(bender: &Bender, image: &mut [u8], rng: &mut Rng) -> Option<()> {
+    let slots = bender.survey.table.slots();
+    let unused: Vec<usize> = (0..SLOTS).filter(|&slot| slots[slot] == 0).collect();
+    let slot = *rng.pick(&unused)?;
+    let number = match rng.percent(50) {
+        true => any_anode_block(bender, rng)?,
+        false => rng.within16(3..=bender.size16() - 1),
+    };
+    let bytes = block(bender.image, number);
+    if bytes[..2] == ANODE_MARK && usize::from(word(bytes, ANODE_SEQUENCE)) == slot {
+        return None;
+    }
+    put_slot(image, slot, number);
+    Some(())
+}
+
+// 6: the fixed anodes.
+
+fn anode_0(bender: &Bender, image: &mut [u8], rng: &mut Rng) -> Option<()> {
+    spoil(&mut image[bender.anode_place(0)..][..ANODE_BYTES], rng);
+    Some(())
+}
+
+fn anode_1_count(bender: &Bender, image: &mut [u8], rng: &mut Rng) -> Option<()> {
+    bender.put_count(image, FREE_LIST, rng.within16(1..=65_535));
+    Some(())
+}
+
+fn anode_1_block(bender: &Bender, image: &mut [u8], rng: &mut Rng) -> Option<()> {
+    bender.put_block(image, FREE_LIST, rng.within16(0..=65_534));
+    Some(())
+}
+
+fn anode_2_free(bender: &Bender, image: &mut [u8], _: &mut Rng) -> Option<()> {
+    bender.put_block(image, RESERVED, 0);
+    Some(())
+}
+
+fn anode_5_free(bender: &Bender, image: &mut [u8], _: &mut Rng) -> Option<()> {
+    bender.put_block(image, ROOT_DIRECTORY, 0);
+    Some(())
+}
+
+// 7: the fields of anodes in use.
+
+fn end_above(bender: &Bender, image: &mut [u8], rng: &mut Rng) -> Option<()> {
+    let number = bender.any_in_use(rng, |number, _| number != FREE_LIST)?;
+    let start = bender.anode(number).block;
+    let least = bender.size16().saturating_sub(start).max(1) + u16::from(start < bender.size16());
+    bender.put_count(image, number, low_or_any(least..=65_535, rng));
+    Some(())
+}
+
+/// The end is past 65,535, so that sixteen bits would take it for a small number.
+fn wrapped_end(bender: &Bender, image: &mut [u8], rng: &mut Rng) -> Option<()> {
+    let number = bender.any_in_use(rng, |number, _| number != FREE_LIST)?;
+    let least = 65_536 - usize::from(bender.anode(number).block);
+    bender.put_count(image, number, rng.within(least..=65_535) as u16);
+    Some(())
+}
+
+fn next_missing(bender: &Bender, image: &mut [u8], rng: &mut Rng) -> Option<()> {
+    let number = bender.any_in_use(rng, |_, _| true)?;
+    bender.put_next(image, number, bender.any_missing(rng));
+    Some(())
+}
+
+fn next_free(bender: &Bender, image: &mut [u8], rng: &mut Rng) -> Option<()> {
+    let number = bender.any_in_use(rng, |_, _| true)?;
+    bender.put_next(image, number, bender.any_free(rng, TO_BE_FREED)?);
+    Some(())
+}
+
+// 8: predecessors and rings.
+
+fn next_special(bender: &Bender, image: &mut [u8], rng: &mut Rng) -> Option<()> {
+    let special = [FREE_LIST, TO_BE_FREED, BAD_BLOCKS, ROOT_DIRECTORY][rng.below(4)];
+    if !bender.survey.table.in_use(special) {
+        return None;
+    }
+    let number = bender.any_in_use(rng, |_, _| true)?;
+    bender.put_next(image, number, special);
+    Some(())
+}
+
+fn next_itself(bender: &Bender, image: &mut [u8], rng: &mut Rng) -> Option<()> {
+    let number = bender.any_in_use(rng, |_, _| true)?;
+    bender.put_next(image, number, number);
+    Some(())
+}
+
+fn second_predecessor(bender: &Bender, image: &mut [u8], rng: &mut Rng) -> Option<()> {
+    let follower = bender.any_in_use(rng, |number, _| bender.predecessor(number).is_some())?;
+    let number = bender.any_in_use(rng, |_, anode| anode.next != follower)?;
+    bender.put_next(image, number, follower);
+    Some(())
+}
+
+/// An anode leads back to one at or before it in its chain.
+fn ring(bender: &Bender, image: &mut [u8], rng: &mut Rng) -> Option<()> {
+    let number = bender.any_in_use(rng, |_, _| true)?;
+    let chain = bender.survey.table.chain(bender.heads[usize::from(number)]);
+    let before: Vec<u16> = chain.map(|(number, _)| number).take_while(|&other| other != number).collect();
+    let back = rng.pick(&before).copied().unwrap_or(number);
+    bender.put_next(image, number, back);
+    Some(())
+}
+
+// 9: the free list.
+
+fn cut_before_2(bender: &Bender, image: &mut [u8], _: &mut Rng) -> Option<()> {
+    let before = bender.predecessor(RESERVED)?;
+    bender.put_next(image, before, 0);
+    Some(())
+}
+
+/// Last reserved goes up into an upper extent.
+fn upper_swallowed(bender: &Bender, image: &mut [u8], rng: &mut Rng) -> Option<()> {
+    let number = bender.with_blocks(bender.sides().0, rng)?;
+    let last = low_or_any(bender.anode(number).block..=bender.size16() - 1, rng);
+    put_word(root_mut(image), ROOT_LAST_RESERVED, last);
+    Some(())
+}
+
+/// Last reserved goes down before the last block of a lower extent.
+fn lower_bared(bender: &Bender, image: &mut [u8], rng: &mut Rng) -> Option<()> {
+    let number = bender.with_blocks(bender.sides().1, rng)?;
+    let highest = bender.anode(number).end() - 2;
+    let last = if rng.percent(50) { highest } else { rng.within(2..=highest) };
+    put_word(root_mut(image), ROOT_LAST_RESERVED, last as u16);
+    Some(())
+}
+
+fn upper_moved(bender: &Bender, image: &mut [u8], rng: &mut Rng) -> Option<()> {
+    let number = bender.with_blocks(bender.sides().0, rng)?;
+    bender.put_block(image, number, rng.within16(1..=bender.survey.last_reserved));
+    Some(())
+}
+
+fn lower_moved(bender: &Bender, image: &mut [u8], rng: &mut Rng) -> Option<()> {
+    let number = bender.with_blocks(bender.sides().1, rng)?;
+    let count = usize::from(bender.anode(number).count);
+    let lowest = (usize::from(bender.survey.last_reserved) + 2).saturating_sub(count).max(1);
+    let highest = bender.survey.blocks - count;
+    if lowest > highest {
+        return None;
+    }
+    bender.put_block(image, number, rng.within(lowest..=highest) as u16);
+    Some(())
+}
+
+// 10: two owners. Every block has an owner already, so whatever is owned besides is owned twice.
+
+fn extent_grown(bender: &Bender, image: &mut [u8], rng: &mut Rng) -> Option<()> {
+    let fits = |number, anode: Anode| {
+        !bender.on_free_list(number) && anode.count > 0 && anode.end() < bender.survey.blocks
+    };
+    let number = bender.any_in_use(rng, fits)?;
+    bender.put_count(image, number, bender.anode(number).count + 1);
+    Some(())
+}
+
+fn extent_moved(bender: &Bender, image: &mut [u8], rng: &mut Rng) -> Option<()> {
+    let fits = |number, anode: Anode| !bender.on_free_list(number) && anode.count > 0;
+    let number = bender.any_in_use(rng, fits)?;
+    let anode = bender.anode(number);
+    let start = rng.within16(1..=bender.size16() - anode.count);
+    if start == anode.block {
+        return None;
+    }
+    bender.put_block(image, number, start);
+    Some(())
+}
+
+fn system_block_owned(bender: &Bender, image: &mut [u8], rng: &mut Rng) -> Option<()> {
+    let upper = bender.sides().0;
+    let number = bender.any_in_use(rng, |number, anode| anode.count > 0 && !upper.contains(&number))?;
+    bender.put_block(image, number, rng.within16(1..=2));
+    Some(())
+}
+
+fn free_anode_woken(bender: &Bender, image: &mut [u8], rng: &mut Rng) -> Option<()> {
+    let number = bender.any_free(rng, TO_BE_FREED)?;
+    let start = rng.within16(1..=bender.size16() - 1);
+    bender.put_anode(image, number, Anode::new(1, start, 0));
+    Some(())
+}
+
+fn empty_filled(bender: &Bender, image: &mut [u8], rng: &mut Rng) -> Option<()> {
+    let number = bender.any_in_use(rng, |number, anode| number != FREE_LIST && anode.count == 0)?;
+    let (upper, lower) = bender.sides();
+    let (lowest, highest) = if upper.contains(&number) {
+        (bender.survey.last_reserved + 1, bender.size16() - 1)
+    } else if lower.contains(&number) {
+        (1, bender.survey.last_reserved)
+    } else {
+        (1, bender.size16() - 1)
+    };
+    if lowest > highest {
+        return None;
+    }
+    let next = bender.anode(number).next;
+    bender.put_anode(image, number, Anode::new(1, rng.within16(lowest..=highest), next));
+    Some(())
+}
+
+// 11: no owner.
+
+fn extent_shrunk(bender: &Bender, image: &mut [u8], rng: &mut Rng) -> Option<()> {
+    let number = bender.any_in_use(rng, |_, anode| anode.count > 0)?;
+    bender.put_count(image, number, bender.anode(number).count - 1);
+    Some(())
+}
+
+fn start_shrunk(bender: &Bender, image: &mut [u8], rng: &mut Rng) -> Option<()> {
+    let number = bender.any_in_use(rng, |_, anode| anode.count > 0)?;
+    let anode = bender.anode(number);
+    bender.put_anode(image, number, Anode::new(anode.count - 1, anode.block + 1, anode.next));
+    Some(())
+}
+
+fn slot_dropped(bender: &Bender, image: &mut [u8], rng: &mut Rng) -> Option<()> {
+    let table = &bender.survey.table;
+    let unused = |&slot: &usize| {
+        let first = slot * ANODES_IN_BLOCK;
+        slot != 0
+            && table.slots()[slot] != 0
+            && (first..first + ANODES_IN_BLOCK).all(|number| !table.in_use(number as u16))
+    };
+    let slots: Vec<usize> = (0..SLOTS).filter(unused).collect();
+    put_slot(image, *rng.pick(&slots)?, 0);
+    Some(())
+}
+
+fn last_link_cut(bender: &Bender, image: &mut [u8], rng: &mut Rng) -> Option<()> {
+    let number = bender.any_tail(rng, |anode| anode.count > 0)?;
+    bender.put_next(image, bender.predecessor(number)?, 0);
+    bender.put_anode(image, number, Anode::ZERO);
+    Some(())
+}

@@ -1,0 +1,305 @@
+//! Random histories of calls on the model against a plain tree in memory.
+
+use ovenknit_host::calls::{run, tables, Call, Outcome, DIRECTORY, UNREAD};
+use ovenknit_host::compare::{junk_tables, totals, Histogram};
+use ovenknit_host::histories::{head_of, random_call, Mood, NO_ANODE, REFUSALS};
+use ovenknit_host::model::layout::{self, AnodeTable, BLOCK};
+use ovenknit_host::model::{self, Model};
+use ovenknit_host::rng::{seeded, Rng};
+use ovenknit_host::shapes::{disk_blocks, shaped, Recipe, Shaped};
+use ovenknit_host::starts::Start;
+use ovenknit_host::tree::{entry_length, Tree};
+
+use crate::checks::compare_with_junk;
+
+/// A disk under a history of calls, with the tree that it must hold.
+struct History {
+    image: Vec<u8>,
+    tree: Tree,
+    rng: Rng,
+    answers: Histogram,
+}
+
+impl History {
+    fn new(disk: Shaped, seed: u64) -> Self {
+        let Shaped { image, tree } = disk;
+        History { image, tree, rng: Rng::new(!seed), answers: Histogram::default() }
+    }
+
+    fn blocks(&self) -> usize {
+        self.image.len() / BLOCK
+    }
+
+    fn free_blocks(&self) -> usize {
+        totals(&self.image, &self.tree).free
+    }
+
+    /// Makes random calls.
+    fn go_on(&mut self, calls: usize) {
+        let mut mood = Mood::random(&mut self.rng);
+        let mut free = self.free_blocks();
+        for _ in 0..calls {
+            mood = mood.next(&mut self.rng);
+            let call = random_call(&self.tree, mood, self.blocks(), free, &mut self.rng);
+            self.call(&call);
+            free = self.free_blocks();
+        }
+    }
+
+    /// Runs a call and compares all that it leaves with what it must leave.
+    fn call(&mut self, call: &Call) {
+        let before = self.image.clone();
+        let (mut blocks, mut anodes) = junk_tables(self.blocks(), false, &mut self.rng);
+        if self.rng.percent(1) {
+            self.call_with_short_tables(call);
+        }
+        let lent = (blocks.clone(), anodes.clone());
+        let outcome = run::<Model>(call, &mut self.image, &mut blocks, &mut anodes);
+        let answer = outcome.answer;
+        self.answers.add(answer, call.label());
+        self.compare_answer(call, answer, &before);
+        if answer != 0 || !call.changes() {
+            assert_eq!(self.image, before, "the image changed by {call:?}, answered {answer}");
+        }
+        if let Call::Format { .. } = call {
+            assert_eq!((blocks, anodes), lent, "format is lent no tables");
+        } else {
+            self.compare_tables(&lent, &blocks, &anodes);
+        }
+        self.compare_output(call, &outcome);
+        if answer == 0 && call.changes() {
+            self.compare_change(call, &before);
+        }
+        if self.rng.percent(2) {
+            assert_eq!(compare_with_junk(&self.image, &mut self.rng), 0);
+        }
+    }
+
+    /// With a table too short every call but format answers 2 and touches nothing.
+    fn call_with_short_tables(&mut self, call: &Call) {
+        if let Call::Format { .. } = call {
+            return;
+        }
+        let (mut blocks, mut anodes) = junk_tables(self.blocks(), true, &mut self.rng);
+        let lent = (self.image.clone(), blocks.clone(), anodes.clone());
+        let outcome = run::<Model>(call, &mut self.image, &mut blocks, &mut anodes);
+        assert_eq!(outcome.answer, 2);
+        self.compare_refused_output(call, &outcome);
+        assert_eq!((&self.image, blocks, anodes), (&lent.0, lent.1, lent.2));
+    }
+
+    fn compare_answer(&self, call: &Call, answer: u32, before: &[u8]) {
+        let possible = match self.tree.refusal(call, self.blocks()) {
+            Some(number) => vec![number],
+            None => self.possible_answers(call, before),
+        };
+        assert!(possible.contains(&answer), "{answer}, not one of {possible:?}, for {call:?}");
+    }
+
+    /// What a call that only space can stop may answer, from counts of free blocks and free anodes alone.
+    fn possible_answers(&self, call: &Call, before: &[u8]) -> Vec<u32> {
+        let table = AnodeTable::read(before);
+        let anodes = table.existing().filter(|&number| number >= 6 && !table[number].in_use()).count();
+        let free = model::totals(before).expect("the disk was accepted").free;
+        match call {
+            Call::Make { directory, kind, name, comment, .. } => {
+                let length = entry_length(name.len(), comment.len());
+                let more = !self.tree.directories[directory].has_room(length);
+                let blocks = usize::from(*kind == DIRECTORY) + usize::from(more);
+                match (anodes, free) {
+                    (0, _) => vec![28],
+                    (_, free) if free < blocks => vec![27],
+                    // A second anode is needed, but taking blocks may free one.
+                    (1, _) if more => vec![0, 28],
+                    _ => vec![0],
+                }
+            }
+            Call::Resize { directory, name, size } => {
+                let old = self.tree.size(*directory, name).div_ceil(BLOCK) as u64;
+                let new = size.div_ceil(BLOCK as u64);
+                match new.saturating_sub(old) {
+                    0 if old == new => vec![0],
+                    0 if anodes as u64 >= old - new => vec![0],
+                    0 => vec![0, 28],
+                    blocks if blocks > free as u64 => vec![27, 28],
+                    blocks if anodes as u64 >= blocks => vec![0],
+                    _ => vec![0, 28],
+                }
+            }
+            Call::Remove { directory, name } => {
+                let head = self.tree.find(*directory, name).map_or(0, |node| node.entry.anode);
+                match table.chain_blocks(head).count() {
+                    blocks if blocks <= anodes => vec![0],
+                    _ => vec![0, 28],
+                }
+            }
+            _ => vec![0],
+        }
+    }
+
+    /// The tables are those that the check leaves for the image as it is now.
+    fn compare_tables(&self, lent: &(Vec<u16>, Vec<u16>), blocks: &[u16], anodes: &[u16]) {
+        let (mut checked_blocks, mut checked_anodes) = lent.clone();
+        assert_eq!(model::check(&self.image, &mut checked_blocks, &mut checked_anodes), 0);
+        assert_eq!(checked_blocks, blocks);
+        assert_eq!(checked_anodes, anodes);
+    }
+
+    fn compare_output(&self, call: &Call, outcome: &Outcome) {
+        if outcome.answer != 0 {
+            return self.compare_refused_output(call, outcome);
+        }
+        let output = &outcome.output;
+        match call {
+            Call::Read { directory, name, offset, .. } => {
+                assert_eq!(output.bytes, self.tree.content(*directory, name, *offset, output.bytes.len()));
+            }
+            Call::List { directory, place } => self.compare_entry(*directory, *place, &output.entry),
+            Call::Summary => {
+                let (files, directories) = self.tree.counts();
+                let counts = [self.blocks(), self.free_blocks(), files, directories];
+                assert_eq!(output.counts, counts.map(|count| count as u32));
+            }
+            _ => {}
+        }
+    }
+
+    fn compare_refused_output(&self, call: &Call, outcome: &Outcome) {
+        assert!(outcome.output.bytes.iter().all(|&byte| byte == UNREAD));
+        match call {
+            Call::List { .. } => assert_eq!(outcome.output.entry, [0; 11]),
+            Call::Summary => assert_eq!(outcome.output.counts, [0; 4]),
+            _ => {}
+        }
+    }
+
+    fn compare_entry(&self, directory: u16, place: u64, fields: &[u32; 11]) {
+        let node = self.tree.listed(directory, place).expect("the place is there");
+        let numbers = [
+            u32::from(node.entry.kind.type_byte()),
+            u32::from(node.entry.anode),
+            node.entry.size,
+            u32::from(node.entry.stamp.day),
+            u32::from(node.entry.stamp.minute),
+            u32::from(node.entry.stamp.tick),
+            u32::from(node.entry.protection),
+        ];
+        assert_eq!(fields[..7], numbers);
+        let part = |at: u32, length: u32| &self.image[at as usize..(at + length) as usize];
+        assert_eq!(part(fields[7], fields[8]), node.entry.name);
+        assert_eq!(part(fields[9], fields[10]), node.entry.comment);
+        assert_eq!(fields[9], fields[7] + fields[8] + 1);
+    }
+
+    /// After a done change: only what the change is about has changed, and the tree follows.
+    fn compare_change(&mut self, call: &Call, before: &[u8]) {
+        let mut made = 0;
+        if let Call::Make { directory, name, .. } = call {
+            made = head_of(&self.image, *directory, name);
+            let old = AnodeTable::read(before);
+            let lowest = old.existing().find(|&number| number >= 6 && !old[number].in_use());
+            assert_eq!(lowest, Some(made), "the head is the lowest free anode");
+        }
+        if !matches!(call, Call::Format { .. }) {
+            self.compare_untouched(call, before, made);
+        }
+        self.tree.apply(call, made);
+    }
+
+    /// Bytes that the change is not about are as they were: other blocks, what no rule examines in anode
+    /// blocks, and anodes that were free and still are.
+    fn compare_untouched(&self, call: &Call, before: &[u8], made: u16) {
+        let (mut owners, mut heads) = tables(&self.image);
+        assert_eq!(model::check(&self.image, &mut owners, &mut heads), 0);
+        let head =
+            |directory: u16, name: &[u8]| self.tree.find(directory, name).map_or(0, |node| node.entry.anode);
+        let touched = match call {
+            Call::Make { directory, .. } => [*directory, made],
+            Call::Resize { directory, name, .. } => [*directory, head(*directory, name)],
+            Call::Write { directory, name, .. } => [head(*directory, name); 2],
+            Call::Remove { directory, .. } => [*directory; 2],
+            _ => [0; 2],
+        };
+        for (number, &owner) in owners.iter().enumerate() {
+            let range = number * BLOCK..(number + 1) * BLOCK;
+            let (old, new) = (&before[range.clone()], &self.image[range]);
+            if owner == layout::OWNER_ANODES {
+                assert_eq!((&old[..16], &old[508..]), (&new[..16], &new[508..]), "anode block {number}");
+            } else if !touched.contains(&owner) {
+                assert_eq!(old, new, "block {number} changed by {call:?}");
+            }
+        }
+        let old = AnodeTable::read(before);
+        let new = AnodeTable::read(&self.image);
+        for number in old.existing().filter(|&number| !old[number].in_use() && !new[number].in_use()) {
+            assert_eq!(old[number], new[number], "free anode {number} changed by {call:?}");
+        }
+    }
+
+    /// Lists and reads all that the tree has.
+    fn read_everything(&mut self) {
+        let tree = self.tree.clone();
+        self.call(&Call::Summary);
+        for (&directory, entries) in &tree.directories {
+            for place in 0..=entries.nodes().count() as u64 {
+                self.call(&Call::List { directory, place });
+            }
+            for node in entries.nodes() {
+                let length = node.content.len();
+                self.call(&Call::Read { directory, name: node.entry.name.clone(), offset: 0, length });
+            }
+        }
+    }
+}
+
+#[test]
+fn shaped_disks_read_back_as_planned() {
+    for mut case in seeded("shaped_disks_read_back_as_planned", 0..400) {
+        let rng = &mut case.rng;
+        let blocks = disk_blocks(400, rng);
+        let disk = shaped(&Recipe::random(blocks, rng), rng);
+        History::new(disk, case.seed).read_everything();
+    }
+}
+
+/// Runs histories from one kind of disk and gathers their answers.
+fn histories(start: Start, seeds: u64, calls: usize) -> Histogram {
+    let mut answers = Histogram::default();
+    for mut case in seeded("histories", 0..seeds) {
+        let mut history = History::new(start.disk(&mut case.rng), case.seed);
+        history.go_on(calls);
+        history.read_everything();
+        answers.merge(&history.answers);
+    }
+    answers.print(&format!("histories, {start:?}"));
+    answers
+}
+
+#[test]
+fn histories_from_formatted_disks() {
+    let answers = histories(Start::Formatted, 120, 250);
+    answers.assert_met(&REFUSALS);
+    answers.assert_answered([28]);
+}
+
+#[test]
+fn histories_from_shaped_disks() {
+    let answers = histories(Start::Shaped, 250, 150);
+    answers.assert_met(&REFUSALS);
+    answers.assert_met(&NO_ANODE);
+}
+
+#[test]
+fn histories_with_full_anode_tables() {
+    histories(Start::FullAnodes, 250, 100).assert_met(&NO_ANODE);
+}
+
+#[test]
+fn histories_on_full_disks() {
+    histories(Start::FullBlocks, 150, 100).assert_met(&[(27, "make"), (27, "resize")]);
+}
+
+#[test]
+fn histories_on_larger_disks() {
+    histories(Start::Larger, 4, 120).assert_answered([0, 22]);
+}
