@@ -1,4 +1,4 @@
--- What a caller has once the tests find nothing, and what the table of heads says.
+-- 6, one test after the other, and what the table of heads says.
 use Prim.Native.Nat.{ℕ, _<_}
 use mathlib.Core.Path.{_≡_, refl, sym, _∙_}
 use mathlib.Core.Logic.{_≢_, _⊎_, inl, inr}
@@ -19,7 +19,6 @@ use Rattle.laws.specs.Heads.{headOf-heads, heads-cases, head-of-is}
 
 -- ---- 6
 
--- one test after the other
 pub fixed-tests : (s : Anodes)
     → wrongFixed s
     ≡ (not (eqb (s .count 0) 0 && eqb (s .block 0) 65535) || (not (eqb (s .next 0) 0) || (not (eqb (s .count 1) 0 && eqb (s .block 1) 65535) || (eqb (s .block 2) 0 || eqb (s .block 5) 0))))

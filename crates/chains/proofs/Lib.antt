@@ -1,4 +1,4 @@
--- Laws of the tests of chains, and what a caller has when they find nothing.
+-- Laws of the tests of chains, and of the tables that they fill.
 pub mod FreeList
 pub mod Predecessors
 pub mod Storing

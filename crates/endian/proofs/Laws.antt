@@ -1,4 +1,4 @@
--- What a reader of bytes gets after a store, and the steps of the loops that store a run. Assumes nothing.
+-- What a reader of bytes gets after a store, numbers and zeros as runs, and the steps of the loops that store a run. Assumes nothing.
 use mathlib.Core.Path.{_≡_, refl, sym, ap, _∙_}
 use Prim.Native.Nat.{ℕ, zero, suc, _+_, _/_, _%_, _-_, _<_, _≤_}
 use mathlib.Core.List.{List, [], _∷_, _++_, append-nil}

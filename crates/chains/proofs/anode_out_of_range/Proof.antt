@@ -1,4 +1,7 @@
-use mathlib.Core.Path.{sym}
+use mathlib.Core.Path.{_≡_, sym, _∙_}
+use mathlib.Core.Bool.{not, _&&_}
+use lib.Dec.{eqb}
+use lib.ListN.{getD}
 use borrow.Author.Tests.{eq-eqb, ne-eqb}
 use borrow.Author.Needs.{needs}
 use Rattle.rules.specs.Accepted.{outOfRange}
@@ -26,9 +29,14 @@ returns-2 c = simp (ne-eqb _ _ (c .before .before .before .before .if1 .left), s
 entry-requires-3 : tie.Need-entry-requires-3
 entry-requires-3 c κs = search needs
 
-returns-3 : tie.Need-returns-3
+-- the next is left behind the test of the extent
+next-left : (c : tie.After-entry3) → let g = c .before .before .before .before .before .before .before .before .before .args in let n = c .entry3 .result in
+    outOfRange (anodesFrom (g .counts .now) (g .firsts .now) (g .nexts .now)) (g .size) (g .a) ≡ (not (eqb n 0) && eqb (getD (g .firsts .now) n 0) 0)
 unfolding outOfRange anodesFrom
-returns-3 c = simp (ne-eqb _ _ (c .before .before .before .before .before .before .if1 .left), sym (c .before .before .before .before .before .entry .ensures), sym (c .before .before .before .before .entry2 .ensures), sym (c .before .before .before .ends-past .ensures), c .before .before .if2 .left, sym (c .before .entry3 .ensures), eq-eqb _ _ (c .if3 .taken))
+next-left c = rw (ne-eqb _ _ (c .before .before .before .before .before .if1 .left), ← c .before .before .before .before .entry .ensures, ← c .before .before .before .entry2 .ensures, ← c .before .before .ends-past .ensures, c .before .if2 .left, ← c .entry3 .ensures)
+
+returns-3 : tie.Need-returns-3
+returns-3 c = sym (next-left (c .before) ∙ rw (eq-eqb _ _ (c .if3 .taken)))
 
 cast-entry : tie.Need-cast-entry
 cast-entry c = search needs
@@ -37,8 +45,7 @@ entry-requires-4 : tie.Need-entry-requires-4
 entry-requires-4 c κs = search needs
 
 returns-4 : tie.Need-returns-4
-unfolding outOfRange anodesFrom
-returns-4 c = simp (ne-eqb _ _ (c .before .before .before .before .before .before .before .if1 .left), sym (c .before .before .before .before .before .before .entry .ensures), sym (c .before .before .before .before .before .entry2 .ensures), sym (c .before .before .before .before .ends-past .ensures), c .before .before .before .if2 .left, sym (c .before .before .entry3 .ensures), ne-eqb _ _ (c .before .if3 .left), c .entry4 .ensures)
+returns-4 c = sym (next-left (c .before .before) ∙ rw (ne-eqb _ _ (c .before .if3 .left), c .entry4 .ensures))
 
 pub anode-out-of-range-spec : {M : Type 1} → statement M
 anode-out-of-range-spec =

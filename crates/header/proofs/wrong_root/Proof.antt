@@ -1,3 +1,6 @@
+use mathlib.Core.Path.{_≡_, sym, _∙_}
+use mathlib.Core.Bool.{_||_}
+use lib.Dec.{eqb, ltb}
 use Rattle.rules.specs.Accepted.{lastReserved, wrongRoot}
 use borrow.Author.Tests.{lt-ltb, le-ltb, ne-eqb, eq-eqb, le-leb, lt-leb}
 use borrow.Author.Needs.{needs}
@@ -28,13 +31,16 @@ returns-3 : tie.Need-returns-3
 unfolding wrongRoot lastReserved
 returns-3 c = rw (lastReserved, ← c .before .before .before .before .before .before .block-part .ensures, ← c .before .before .before .before .before .root-in .ensures, eq-eqb _ _ (c .before .before .before .if1 .left), le-ltb _ 2 (c .before .before .if2 .left), ← c .before .disk-size .ensures, le-leb _ _ (c .if3 .taken))
 
-returns-4 : tie.Need-returns-4
+-- the name's length is left behind the tests of the reserved blocks
+name-left : (c : tie.Else3) → let r = c .before .before .before .before .before .root-in .result in wrongRoot (c .before .before .before .before .before .before .before .before .args .image .now) ≡ (eqb (r .name) 0 || ltb 31 (r .name))
 unfolding wrongRoot lastReserved
-returns-4 c = rw (lastReserved, ← c .before .before .before .before .before .before .before .before .block-part .ensures, ← c .before .before .before .before .before .before .before .root-in .ensures, eq-eqb _ _ (c .before .before .before .before .before .if1 .left), le-ltb _ 2 (c .before .before .before .before .if2 .left), ← c .before .before .before .disk-size .ensures, lt-leb _ _ (c .before .before .if3 .left), eq-eqb _ _ (c .if4 .taken))
+name-left c = rw (lastReserved, ← c .before .before .before .before .before .before .block-part .ensures, ← c .before .before .before .before .before .root-in .ensures, eq-eqb _ _ (c .before .before .before .if1 .left), le-ltb _ 2 (c .before .before .if2 .left), ← c .before .disk-size .ensures, lt-leb _ _ (c .if3 .left))
+
+returns-4 : tie.Need-returns-4
+returns-4 c = sym (name-left (c .before .before) ∙ rw (eq-eqb _ _ (c .if4 .taken)))
 
 returns-5 : tie.Need-returns-5
-unfolding wrongRoot lastReserved
-returns-5 c = rw (lastReserved, ← c .before .before .before .before .before .before .before .before .before .block-part .ensures, ← c .before .before .before .before .before .before .before .before .root-in .ensures, eq-eqb _ _ (c .before .before .before .before .before .before .if1 .left), le-ltb _ 2 (c .before .before .before .before .before .if2 .left), ← c .before .before .before .before .disk-size .ensures, lt-leb _ _ (c .before .before .before .if3 .left), ne-eqb _ _ (c .before .if4 .left))
+returns-5 c = sym (name-left (c .before .before .before) ∙ rw (ne-eqb _ _ (c .before .if4 .left)))
 
 pub wrong-root-spec : {M : Type 1} → statement M
 wrong-root-spec =

@@ -1,3 +1,7 @@
+use mathlib.Core.Path.{_≡_, sym, _∙_}
+use mathlib.Core.Bool.{not, _||_}
+use lib.Dec.{eqb}
+use Rattle.disk.specs.AnodeBlocks.{anodeMark}
 use Rattle.rules.specs.Accepted.{wrongSlot}
 use borrow.Author.Tests.{lt-ltb, le-ltb, ne-eqb, eq-eqb, le-leb, lt-leb}
 use borrow.Author.Needs.{needs}
@@ -31,16 +35,19 @@ block-part-requires c κs = search needs
 anode-head-in-requires : tie.Need-anode-head-in-requires
 anode-head-in-requires c κs = search needs
 
-returns-4 : tie.Need-returns-4
+-- the block's head is left behind the tests of its number
+head-left : (c : tie.After-anode-head-in) → let h = c .anode-head-in .result in wrongSlot (c .before .before .before .before .before .before .before .before .before .before .before .args .image .now) (c .before .before .before .before .before .before .before .before .before .before .before .args .s) ≡ (not (eqb (h .mark) anodeMark) || not (eqb (h .sequence) (c .before .before .before .before .before .before .before .before .before .before .before .args .s)))
 unfolding wrongSlot
-returns-4 c = rw (← c .before .before .before .before .before .before .before .before .before .before .before .slot-of .ensures, ne-eqb _ _ (c .before .before .before .before .before .before .before .before .before .if1 .left), le-ltb _ 3 (c .before .before .before .before .before .before .before .if2 .left), ← c .before .before .before .before .before .before .disk-size .ensures, lt-leb _ _ (c .before .before .before .before .if3 .left), ← c .before .before .before .block-part .ensures, ← c .before .before .anode-head-in .ensures, ne-eqb _ _ (c .if4 .taken))
+head-left c = rw (← c .before .before .before .before .before .before .before .before .before .slot-of .ensures, ne-eqb _ _ (c .before .before .before .before .before .before .before .if1 .left), le-ltb _ 3 (c .before .before .before .before .before .if2 .left), ← c .before .before .before .before .disk-size .ensures, lt-leb _ _ (c .before .before .if3 .left), ← c .before .block-part .ensures, ← c .anode-head-in .ensures)
+
+returns-4 : tie.Need-returns-4
+returns-4 c = sym (head-left (c .before .before) ∙ rw (ne-eqb _ _ (c .if4 .taken)))
 
 cast-result : tie.Need-cast-result
 cast-result c = search needs
 
 returns-5 : tie.Need-returns-5
-unfolding wrongSlot
-returns-5 c = rw (← c .before .before .before .before .before .before .before .before .before .before .before .before .slot-of .ensures, ne-eqb _ _ (c .before .before .before .before .before .before .before .before .before .before .if1 .left), le-ltb _ 3 (c .before .before .before .before .before .before .before .before .if2 .left), ← c .before .before .before .before .before .before .before .disk-size .ensures, lt-leb _ _ (c .before .before .before .before .before .if3 .left), ← c .before .before .before .before .block-part .ensures, ← c .before .before .before .anode-head-in .ensures, eq-eqb _ _ (c .before .if4 .left))
+returns-5 c = sym (head-left (c .before .before .before) ∙ rw (eq-eqb _ _ (c .before .if4 .left)))
 
 pub wrong-slot-spec : {M : Type 1} → statement M
 wrong-slot-spec =
