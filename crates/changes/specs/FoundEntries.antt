@@ -22,7 +22,7 @@ use Rattle.directory.proofs.Laws.{FoundAt, found-at, end-at}
 use Rattle.rules.specs.Counting.{anyIn}
 use Rattle.rules.specs.Walk.{Entered, withRest, entriesFrom}
 use Rattle.rules.specs.Changes.{endFrom, entriesEnd}
-use Rattle.changes.specs.Members.{Member, no-member}
+use Rattle.laws.specs.Members.{Member, no-member}
 pub use Rattle.laws.specs.Entries.{enteredAt, entries-more, entries-end}
 
 -- parts of two lists of bytes that agree byte for byte

@@ -15,7 +15,7 @@ use Rattle.rules.specs.Counting.{anyIn}
 use Rattle.rules.specs.Walk.{Entered, entriesFrom}
 use Rattle.rules.specs.Changes.{endFrom, entriesEnd, gapClosed}
 use Rattle.changes.specs.FoundEntries.{part-same, head-same, walked-same, entry-standing, entries-more, entries-end, unbroken-cases, end-more, end-here, end-bounds, place-after, place-order, reaches, BlockEntry, block-standing, end-within}
-use Rattle.changes.specs.Members.{Member}
+use Rattle.laws.specs.Members.{Member}
 
 -- the same entry, so many bytes earlier
 abbrev pub lowered : ℕ → Entered → Entered

@@ -28,10 +28,10 @@ use Rattle.laws.specs.Acceptance.{Passed, passed-of, passed-accepted, Tested, p
 use Rattle.laws.specs.ImageAnodes.{reading-of}
 use Rattle.laws.specs.Damage.{Faulted, walk-faulted}
 use Rattle.laws.specs.OneOwner.{naming-sum, passes, accepted-one-owner, good}
+use Rattle.laws.specs.Members.{times-none}
 use Rattle.frames.specs.Kept.{Unheld, Kept, HeadsKept, kept-all, kept-both, diskSize-kept, wrongSize-kept, shortTables-kept, slotOf-kept, lastReserved-kept, wrongType-kept, wrongRoot-kept, systemOwns-kept, anodesOf-kept, wrongSlots-kept}
 use Rattle.frames.specs.StoredAnodes.{AnodesStored, root-unheld, withAnodes-stored, anodesOf-withAnodes}
 use Rattle.frames.specs.DisjointBlocks.{DataBlock}
-use Rattle.changes.specs.Members.{none-in}
 
 -- the whole state of an image with the anodes s: what the laws ask of anodes, blocks and directories
 abbrev pub WholeImage : List ℕ → Anodes → (ℕ → ℕ) → (ℕ → ℕ) → List Dir → Type 0
@@ -130,7 +130,7 @@ pub not-one : {img : List ℕ} {b : ℕ} → DataBlock img b → (y : ℕ) → (
 not-one d y n e = n (rw e d)
 
 pub not-among : {img : List ℕ} (ys : List ℕ) → ((y : ℕ) → 0 < times y ys → DataBlock img y) → (y : ℕ) → (DataBlock img y → ⊥) → times y ys ≡ 0
-not-among ys d y n = none-in y ys (λ p. n (d y p))
+not-among ys d y n = times-none y ys (λ p. n (d y p))
 
 -- stores that keep all but data blocks
 module _ {img i j : List ℕ} {t : Anodes} {on : ℕ → Type 0} (d : DiskWith img t i) (k : Kept on i j) (others : (y : ℕ) → (DataBlock img y → ⊥) → on y) where

@@ -11,9 +11,9 @@ use Rattle.rules.specs.Walk.{Entered, entriesIn}
 use Rattle.rules.specs.Lookup.{entriesOf, bytesOf, contents}
 use Rattle.laws.specs.Bags.{gather-kept}
 use Rattle.laws.specs.ChainBlocks.{extent, kept-blocks}
+use Rattle.laws.specs.Members.{Member, gather-congr}
 use Rattle.frames.specs.StoredBytes.{BlocksKept, bytesOf-kept}
 use Rattle.changes.specs.Image.{ReachedDir}
-use Rattle.changes.specs.Members.{Member, gather-congr}
 use Rattle.changes.specs.Reached.{EntryIn, block-on, dir-block, entry-facts}
 use Rattle.changes.specs.EntryBytes.{entryBytes}
 

@@ -27,11 +27,11 @@ use Rattle.laws.specs.RefusedSteps.{take-refused}
 use Rattle.laws.specs.Entries.{weighEntry, itemsAt-whole}
 use Rattle.laws.specs.Whole.{Whole}
 use Rattle.laws.specs.Make.{enter-file, enter-directory}
+use Rattle.laws.specs.NewDirectory.{entries-new, new-marked}
 use Rattle.changes.specs.Image.{whole-accepted, reached-sum, ReachedDir}
 use Rattle.changes.specs.FoundEntries.{enteredAt}
 use Rattle.changes.specs.Reached.{reached-head}
-use Rattle.laws.specs.NewDirectory.{entries-new}
-use Rattle.changes.specs.MadeImage.{Making, spare, parent, new-marked, first-in, once, plan, before, own-new, orphan, spot, made-disk, entries-made, marks-made, entry-other, its-head, other-entries}
+use Rattle.changes.specs.MadeImage.{Making, spare, parent, first-in, once, plan, before, own-new, orphan, spot, made-disk, entries-made, marks-made, entry-other, its-head, other-entries}
 
 module _ {img : List ℕ} {blocks anodes h : ℕ} {new : NewEntry} {f : ℕ} {room : Option ℕ} {ys : List ℕ} {t : Anodes} {zs : List ℕ} (m : Making img blocks anodes h new f room ys t zs) where
   abbrev s : Anodes

@@ -30,15 +30,15 @@ use Rattle.laws.specs.TreeChanges.{headed}
 use Rattle.laws.specs.ChainBlocks.{gather-append, stands-once}
 use Rattle.laws.specs.Each.{OneMore}
 use Rattle.laws.specs.DirectoryTakes.{dir-head}
+use Rattle.laws.specs.Members.{Member, times-none, member-first, member-times, times-member, gather-congr}
+use Rattle.laws.specs.NewDirectory.{entries-new}
 use Rattle.frames.specs.DisjointBlocks.{chains-apart, chain-block}
 use Rattle.frames.specs.StoredBytes.{BlocksKept}
 use Rattle.changes.specs.Image.{headIn, headed-reached, headed-same, ReachedDir}
 use Rattle.changes.specs.FoundEntries.{part-same, enteredAt, BlockEntry, block-standing}
-use Rattle.changes.specs.Members.{Member, none-in, member-first, member-times, times-member, gather-congr}
 use Rattle.changes.specs.Reached.{EntryIn, entry-not-1, block-on, reached-not-1, reached-head, dir-block, entry-facts, not-file}
 use Rattle.changes.specs.KeptChains.{SameChain, same-blocks, contents-same, entries-same}
 use Rattle.changes.specs.EntryBytes.{entryBytes, bytes-at, with-length}
-use Rattle.laws.specs.NewDirectory.{entries-new}
 use Rattle.changes.specs.NewEntry.{comment-put}
 use Rattle.changes.specs.MadeImage.{Making, spare, parent, w, once, plan, grown, own-block, parent-block, before, kept-block, parent-new, cont, old-block, orphan, spot, inside-before, spot-data, in-block, at-end, entry-kept, entry-block, entry-other, made-disk, entries-made, other-entries}
 use Rattle.changes.specs.Make.{made-dirs}
@@ -209,8 +209,8 @@ module _ {img : List ℕ} {blocks anodes h : ℕ} {new : NewEntry} {f : ℕ} {ro
     block-same : (y : ℕ) → 0 < times y (blocksOf t k) → blockOf j y ≡ blockOf img y
     block-same y p =
         entry-kept m .block-kept y (λ e. apart-h (spot m .anode) (spot m .on) (rw (← e) p))
-        ∙ kept-block m y (chain-block img (orphan m .2 .good) k now-head y p) (none-in y ys (apart-f y p))
-        (none-in y zs (λ q. let b = parent-block m y q in
+        ∙ kept-block m y (chain-block img (orphan m .2 .good) k now-head y p) (times-none y ys (apart-f y p))
+        (times-none y zs (λ q. let b = parent-block m y q in
         apart-h (b .0) (omega (arith, b .1, ap (times (b .0)) (grown m .chain), times-append (b .0) (chainOf (s .next) limit h) (grown m .new))) (rw (← (b .2)) p)))
 
     blocks-kept : BlocksKept img j s k

@@ -22,7 +22,7 @@ use Rattle.laws.specs.Heads.{Head, head-of-is, times-on-chain}
 use Rattle.laws.specs.Space.{Good}
 use Rattle.laws.specs.Arriving.{free-is, planned-same}
 use Rattle.laws.specs.Take.{take-good}
-use Rattle.laws.specs.Frame.{Shift, take-shift}
+use Rattle.laws.specs.Frame.{Shift, take-shift, shift-none}
 use Rattle.laws.specs.ChainBlocks.{shift-chain}
 use Rattle.laws.specs.Each.{Each}
 use Rattle.laws.specs.TreeChanges.{headed}
@@ -83,15 +83,6 @@ pub record MadePlan (img : List ℕ) (s : Anodes) (hd : ℕ → ℕ) (f h : ℕ)
   pub own-blocks : ys ≡ cond dir (t .block f ∷ []) []
   pub grown : ParentGrown s hd h needed zs t
   pub not-own : (a : ℕ) → 0 < times a (grown .new) → a ≢ f
-
--- no step
-shift-none : (s : Anodes) (hd : ℕ → ℕ) (h : ℕ) → Shift s hd s hd h
-shift-none s hd h = record {
-  stays = λ m d. d;
-  no-new = λ m d. d;
-  apart = λ a u q i. record { same-count = refl; same-block = refl; same-next = refl };
-  same-hd = λ a u q i. refl;
-}
 
 module _ (img : List ℕ) {s : Anodes} {hd sd : ℕ → ℕ} {entries : ℕ → List Entered} {marked : Dir → ℕ → Bool} {dirs : List Dir}
     (w : Whole (exists img) (diskSize img) (lastReserved img) s (systemOwns img) hd sd entries marked dirs)

@@ -15,7 +15,6 @@ use Rattle.rules.specs.Anodes.{Anodes, limit, anodesOf}
 use Rattle.rules.specs.Chains.{chainOf, heads, run, blocksOf, blockCount}
 use Rattle.rules.specs.Walk.{Dir, Entered, Item, entriesIn, isBlockOf, blocksFor, itemOf, broken, itemsAt, itemsBy, reachedDirs}
 use Rattle.rules.specs.Lookup.{entriesOf, isNamed, firstNamed, entryNamed, nth}
-use Rattle.counting.specs.Laws.{none-or}
 use Rattle.laws.specs.Tests.{T-true}
 use Rattle.laws.specs.Sums.{oneAt-cases, oneAt-same, oneAt-some}
 use Rattle.laws.specs.Bags.{list-one, list-some, gather-sum, map-sum}
@@ -27,10 +26,10 @@ use Rattle.laws.specs.TreeChanges.{headed}
 use Rattle.laws.specs.Totals.{file-size}
 use Rattle.laws.specs.Entries.{broken-wrong, item-fine, item-anode, item-dir, items-sum, itemsAt-cases}
 use Rattle.laws.specs.Whole.{Whole, counts-head, not-dir, dir-heads, named-heads}
+use Rattle.laws.specs.Members.{Member, member-later, member-each, member-sum, none-pass, member-gather, member-times}
 use Rattle.frames.specs.DisjointBlocks.{DataBlock, chain-block}
 use Rattle.changes.specs.Image.{WholeImage, headIn, sideIn, AcceptedImage, accepted-whole, headed-named, headed-reached, reached-some, ReachedDir}
 use Rattle.changes.specs.FoundEntries.{Standing, entry-place, BlockEntry}
-use Rattle.changes.specs.Members.{Member, member-first, member-later, member-each, member-sum, member-gather, member-times}
 
 -- ---- lookups
 
@@ -172,12 +171,6 @@ module _ {img : List ℕ} {h : ℕ} {e : Entered} (f : EntryFacts img h e) where
   unfolding entriesIn
   block-entry = record { whole = rw (f .in-block) (f .block-facts .whole); unbroken = rw (f .in-block) (f .block-facts .unbroken); parted = rw (f .in-block) (f .member); place = omega arith }
 
--- a list whose members keep the entry rules
-none-broken : (l : List Entered) → ((e : Entered) → Member e l → e .broken ≡ false) → anyIn (λ e. e .broken) l ≡ false
-unfolding anyIn
-none-broken [] f = refl
-none-broken (e ∷ l) f = none-or (e .broken) (anyIn (λ e. e .broken) l) (f e (member-first e l)) (none-broken l (λ x m. f x (member-later x e l m)))
-
 -- the one block of an anode with count 1 is a block of its chain
 pub block-on : (s : Anodes) (h a : ℕ) → Member a (chainOf (s .next) limit h) → s .count a ≡ 1 → 0 < times (s .block a) (blocksOf s h)
 unfolding blocksOf times run
@@ -225,7 +218,7 @@ module _ {img : List ℕ} {h : ℕ} (r : ReachedDir img h) where
         one = t .0;
         is-data = b;
         whole = length-blockOf img y (b .inside);
-        unbroken = none-broken (entriesIn img y) (λ e m. fine w (reached-dir .0) (reached-dir .1) a c e m .0);
+        unbroken = none-pass (λ e. e .broken) (entriesIn img y) (λ e m. fine w (reached-dir .0) (reached-dir .1) a c e m .0);
         dir = reached-dir .0;
         dir-head = reached-dir .2;
         reached = reached-dir .1;
@@ -283,7 +276,7 @@ module _ {img : List ℕ} {h : ℕ} (r : ReachedDir img h) where
 
   -- no entry of it breaks the entry rules
   pub reached-unbroken : anyIn (λ e. e .broken) (entriesOf img (anodesOf img) h) ≡ false
-  reached-unbroken = none-broken (entriesOf img (anodesOf img) h) (λ e m. facts-of e m .unbroken)
+  reached-unbroken = none-pass (λ e. e .broken) (entriesOf img (anodesOf img) h) (λ e m. facts-of e m .unbroken)
 
 pub entry-facts : {img : List ℕ} {h : ℕ} {e : Entered} → EntryIn img h e → EntryFacts img h e
 entry-facts {e = e} m = facts-of (m .directory) e (m .member)

@@ -17,8 +17,8 @@ use Rattle.rules.specs.Changes.{resizePlan, resizedImage, resized}
 use Rattle.laws.specs.Tests.{same?}
 use Rattle.laws.specs.Whole.{Whole}
 use Rattle.laws.specs.Resize as Laws
+use Rattle.laws.specs.Members.{Member, member-times, gather-congr, map-kept}
 use Rattle.changes.specs.Image.{accepted-whole, whole-accepted, ReachedDir}
-use Rattle.changes.specs.Members.{Member, member-times, gather-congr, map-kept}
 use Rattle.changes.specs.Reached.{member-reached, EntryIn, entry-not-1, entry-facts}
 use Rattle.changes.specs.NamedOnce.{only-here, only-this}
 use Rattle.changes.specs.SameItems.{whole-same}

@@ -25,18 +25,18 @@ use Rattle.laws.specs.Tests.{same?}
 use Rattle.laws.specs.Sums.{oneAt-same}
 use Rattle.laws.specs.Bags.{times-cons, times-append, times-here, times-later, gather-kept}
 use Rattle.laws.specs.Whole.{blocks-count}
-use Rattle.laws.specs.ChainBlocks.{gather-append}
+use Rattle.laws.specs.ChainBlocks.{gather-append, length-blocksOf}
+use Rattle.laws.specs.Members.{member-times}
 use Rattle.frames.specs.StoredBlocks.{inBlock-kept, blockOf-inBlock}
 use Rattle.frames.specs.StoredBytes.{length-gather, blockOf-withBlocks}
 use Rattle.frames.specs.DisjointBlocks.{chain-once, chain-block}
-use Rattle.changes.specs.Members.{member-times}
 use Rattle.changes.specs.Reached.{EntryIn, entry-not-1, entry-facts, not-file}
 use Rattle.changes.specs.KeptChains.{contents-same}
 use Rattle.changes.specs.Read.{bytes-long, file-long}
 use Rattle.changes.specs.NewSize.{sized}
 use Rattle.changes.specs.ResizePlan.{handed-data, plan-longer, plan-shorter}
 use Rattle.changes.specs.PlannedChange.{w, facts, not-1}
-use Rattle.changes.specs.ResizeStores.{PlannedResize, steps, stored, taken-kept, tail-in, tail-kept, size-kept, others-same, others-kept, home-alone, length-blocksOf}
+use Rattle.changes.specs.ResizeStores.{PlannedResize, steps, stored, taken-kept, tail-in, tail-kept, size-kept, others-same, others-kept, home-alone}
 
 -- the rest of a block cleared
 cleared-rest : (b : List ℕ) (r : ℕ) → length b ≡ 512 → r ≤ 512 → cleared b r (512 - r) ≡ take r b ++ replicate (512 - r) 0

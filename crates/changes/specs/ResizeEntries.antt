@@ -18,8 +18,8 @@ use Rattle.rules.specs.Lookup.{noDirectory, entriesOf}
 use Rattle.rules.specs.Changes.{resizedImage}
 use Rattle.laws.specs.Tests.{same?}
 use Rattle.laws.specs.TreeChanges.{headed}
+use Rattle.laws.specs.Members.{Member, member-cons, member-append, gather-congr}
 use Rattle.changes.specs.Image.{reached-sum, headed-same, ReachedDir}
-use Rattle.changes.specs.Members.{Member, member-cons, member-append, gather-congr}
 use Rattle.changes.specs.FoundEntries.{part-same, place-order}
 use Rattle.changes.specs.Reached.{EntryIn, EntryFacts, block-entry, reached-dir, entry-facts}
 use Rattle.changes.specs.KeptChains.{entries-along, entries-same}

@@ -26,8 +26,8 @@ use Rattle.laws.specs.RefusedSteps.{takes-refused, gives-refused}
 use Rattle.laws.specs.TakenBlocks.{takes-blocks}
 use Rattle.laws.specs.GivenBlocks.{gives-blocks}
 use Rattle.laws.specs.OwnerTable.{held-data}
+use Rattle.laws.specs.Members.{times-none}
 use Rattle.frames.specs.DisjointBlocks.{DataBlock, times-held, chains-apart, chain-block}
-use Rattle.changes.specs.Members.{none-in}
 
 -- the chain of h has so many blocks now; those of ys came from 1's chain, or went to it
 pub record Resizing (img : List ℕ) (s : Anodes) (hd : ℕ → ℕ) (h size : ℕ) (t : Anodes) (ys : List ℕ) : Type 0 where
@@ -97,7 +97,7 @@ module _ (img : List ℕ) {s : Anodes} {hd sd : ℕ → ℕ} (g : Good limit (ex
 
     -- so no block of a chain but 1's and h's did
     pub handed-apart : (k : ℕ) → Head (s .next) (s .block) k → k ≢ 1 → k ≢ h → (y : ℕ) → 0 < times y (blocksOf s k) → times y ys ≡ 0
-    handed-apart k c k1 kh y p = none-in y ys (λ q. omega (arith, was-there y q, chains-apart g k (r .from) c from-head (other (r .from-is)) y p))
+    handed-apart k c k1 kh y p = times-none y ys (λ q. omega (arith, was-there y q, chains-apart g k (r .from) c from-head (other (r .from-is)) y p))
       where
         other : (r .from ≡ 1) ⊎ (r .from ≡ h) → k ≢ r .from
         other (inl e) q = k1 (q ∙ e)

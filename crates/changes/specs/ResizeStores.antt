@@ -1,5 +1,5 @@
 -- The stores of a resize, one after the other, and what they leave of an accepted image.
-use Prim.Native.Nat.{ℕ, zero, suc, _+_, _-_, _/_, _%_, _<_}
+use Prim.Native.Nat.{ℕ, suc, _+_, _-_, _/_, _%_, _<_}
 use mathlib.Core.Path.{_≡_, refl, sym, ap, _∙_}
 use mathlib.Core.Logic.{_≢_}
 use mathlib.Core.Bool.{Bool, true, false, cond, not, _&&_, and-eq-true-iff}
@@ -13,22 +13,21 @@ use borrow.Author.Tests.{eqb-false, not-true}
 use Rattle.endian.specs.Bytes.{put32, cleared}
 use Rattle.endian.proofs.Laws.{length-put32, length-cleared}
 use Rattle.disk.specs.Blocks.{blockOf}
-use Rattle.rules.specs.Counting.{sumList, times, gather}
+use Rattle.rules.specs.Counting.{times}
 use Rattle.rules.specs.Anodes.{Anodes, limit, anodesOf, withAnodes}
-use Rattle.rules.specs.Chains.{chainOf, run, blocksOf, blockCount}
+use Rattle.rules.specs.Chains.{chainOf, blocksOf}
 use Rattle.rules.specs.Walk.{Entered, blocksFor}
 use Rattle.rules.specs.Space.{planned}
 use Rattle.rules.specs.Format.{zeroBlock}
 use Rattle.rules.specs.Changes.{inBlock, withBlocks, resizePlan, zeroTail, withSize, zeroTaken, resizedImage}
-use Rattle.laws.specs.Bags.{list-congr, list-length, gather-sum}
 use Rattle.laws.specs.Heads.{Head}
-use Rattle.laws.specs.ChainBlocks.{shift-alike, shift-chain}
+use Rattle.laws.specs.ChainBlocks.{length-blocksOf, shift-alike, shift-chain}
+use Rattle.laws.specs.Members.{Member, member-times}
 use Rattle.frames.specs.Kept.{Unheld, Kept, kept-all, kept-both}
 use Rattle.frames.specs.StoredBlocks.{inBlock-kept, blockOf-inBlock, withBlocks-kept}
 use Rattle.frames.specs.DisjointBlocks.{DataBlock, chains-apart, chain-block}
 use Rattle.frames.specs.StoredBytes.{BlocksKept}
 use Rattle.changes.specs.Image.{headIn, DiskWith, stored-kept, disk-stored, not-one, not-among, disk-then, ReachedDir}
-use Rattle.changes.specs.Members.{Member, member-times}
 use Rattle.changes.specs.Reached.{DirBlock, block-on, reached-not-1, reached-head, dir-block, block-data, not-file}
 use Rattle.changes.specs.KeptChains.{SameChain}
 use Rattle.changes.specs.PlannedChange.{PlannedChange, image, w, facts, not-1, off-chain, off-anode}
@@ -43,18 +42,6 @@ abbrev pub PlannedResize : List ℕ → Entered → ℕ → Anodes → List ℕ 
 PlannedResize img e new t ys = PlannedChange img e (FilePlan img e new t ys)
 
 -- ---- the last block of a file
-
-length-run : (b c : ℕ) → length (run b c) ≡ c
-unfolding run
-length-run b zero = refl
-length-run b (suc c) = ap suc (length-run (suc b) c)
-
-pub length-blocksOf : (s : Anodes) (h : ℕ) → length (blocksOf s h) ≡ blockCount s h
-unfolding blocksOf blockCount
-length-blocksOf s h =
-    let chain = chainOf (s .next) limit h in
-    sym (list-length (gather (λ a. run (s .block a) (s .count a)) chain)) ∙ gather-sum (λ a. run (s .block a) (s .count a)) (λ y. 1) chain
-    ∙ list-congr (λ a. sumList (λ y. 1) (run (s .block a) (s .count a))) (s .count) chain (λ a. list-length (run (s .block a) (s .count a)) ∙ length-run (s .block a) (s .count a))
 
 nth-in : (l : List ℕ) (i : ℕ) → i < length l → Member (getD l i 0) l
 nth-in l i p = (take i l, drop (suc i) l, split-at l i 0 p)

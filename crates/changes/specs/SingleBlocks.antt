@@ -11,8 +11,8 @@ use Rattle.rules.specs.Accepted.{diskSize}
 use Rattle.laws.specs.Ownership.{covers-in, disjoint}
 use Rattle.laws.specs.Heads.{head-of-is, on-own}
 use Rattle.laws.specs.Space.{Good}
+use Rattle.laws.specs.Members.{times-member}
 use Rattle.frames.specs.DisjointBlocks.{DataBlock, chain-block}
-use Rattle.changes.specs.Members.{times-member}
 use Rattle.changes.specs.Reached.{block-on}
 
 module _ {ex : ℕ → Bool} {n last : ℕ} {s : Anodes} {system hd sd : ℕ → ℕ} (g : Good limit ex n last s system hd sd) where

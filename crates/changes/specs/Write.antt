@@ -18,12 +18,12 @@ use Rattle.rules.specs.Lookup.{entriesOf, bytesOf, contents}
 use Rattle.rules.specs.Changes.{written}
 use Rattle.laws.specs.Tests.{less?}
 use Rattle.laws.specs.Whole.{Whole}
+use Rattle.laws.specs.Members.{Member, gather-congr}
 use Rattle.frames.specs.Kept.{Kept}
 use Rattle.frames.specs.DisjointBlocks.{DataBlock, chains-apart, chain-block}
 use Rattle.frames.specs.StoredBytes.{BlocksKept, written-kept, bytesOf-written, bytesOf-written-other}
 use Rattle.changes.specs.Image.{WholeImage, headIn, sideIn, AcceptedImage, accepted-whole, accepted-walk, DiskWith, disk-own, not-among, disk-then, whole-accepted, ReachedDir}
 use Rattle.changes.specs.SameItems.{whole-same, walk-same}
-use Rattle.changes.specs.Members.{Member, gather-congr}
 use Rattle.changes.specs.EntryBytes.{entryBytes}
 use Rattle.changes.specs.KeptChains.{same-chain-own, block-same, entries-same, entry-bytes-same}
 use Rattle.changes.specs.Reached.{EntryIn, EntryFacts, member-reached, reached-head, entry-facts, not-file}

@@ -5,39 +5,16 @@ use mathlib.Core.Logic.{_≢_, inl, inr}
 use mathlib.Core.List.{List}
 use native.Mathlib.Omega.{arith}
 use borrow.Author.Tests.{lt-ltb, le-ltb, ne-eqb}
-use Rattle.rules.specs.Counting.{oneAt, sumBelow, changed}
+use Rattle.rules.specs.Counting.{oneAt, sumBelow}
 use Rattle.rules.specs.Anodes.{Anodes, limit}
 use Rattle.rules.specs.Chains.{covers, holds, systemOwns, owners}
 use Rattle.rules.specs.Format.{formatted}
 use Rattle.laws.specs.Tests.{less?}
-use Rattle.laws.specs.Sums.{oneAt-same, oneAt-other, changed-cases, changed-same, changed-other, sum-zero, sum-single, sum-update}
+use Rattle.laws.specs.Sums.{oneAt-same, oneAt-other, sum-zero, sum-single, sum-three}
 use Rattle.laws.specs.Ownership.{covers-in, covers-over, covers-none, covers-join}
 use Rattle.format.proofs.Laws.{Taken, slotOf-formatted-some, slotOf-formatted-none}
 use Rattle.format_laws.specs.Anodes.{Which, is-0, is-1, is-2, is-5, is-6, free, Owns, Laid}
 use Rattle.format_laws.specs.Links.{count-1}
-
--- a sum where all but three vanish
-sum-three : (f : ℕ → ℕ) (i j l n : ℕ) → i < n → j < n → l < n → i ≢ j → i ≢ l → j ≢ l → ((a : ℕ) → a ≢ i → a ≢ j → a ≢ l → f a ≡ 0) → sumBelow f n ≡ f i + f j + f l
-sum-three f i j l n i< j< l< ij il jl z =
-    let g = changed f i 0 in
-    let h = changed g j 0 in
-    omega (
-      arith,
-      sum-update f g i n i< (λ a m e. sym (changed-other f i 0 a e)),
-      changed-same f i 0,
-      sum-update g h j n j< (λ a m e. sym (changed-other g j 0 a e)),
-      changed-same g j 0,
-      changed-other f i 0 j (λ e. ij (sym e)),
-      sum-single h l n l< rest,
-      changed-other g j 0 l (λ e. jl (sym e)),
-      changed-other f i 0 l (λ e. il (sym e)),
-    )
-  where
-    rest : (a : ℕ) → a < n → a ≢ l → changed (changed f i 0) j 0 a ≡ 0
-    rest a m al = elim (changed-cases (changed f i 0) j 0 a) [
-      | inl e ↦ e .1
-      | inr e ↦ e .1 ∙ elim (changed-cases f i 0 a) [ inl d ↦ d .1 | inr d ↦ d .1 ∙ z a (d .0) (e .0) al ]
-    ]
 
 module _ {s : Anodes} {n last k : ℕ} (m : Laid s n last k) where
   owned : (a c b x : ℕ) → Owns s a c b → covers (s .count a) (s .block a) x ≡ covers c b x

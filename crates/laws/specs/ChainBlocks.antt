@@ -1,18 +1,19 @@
 -- The blocks of a chain in its order: which changes leave the lists of other chains as they are, and what an anode of a chain is to it.
-use Prim.Native.Nat.{ℕ, _≤_, _<_}
+use Prim.Native.Nat.{ℕ, zero, suc, _≤_, _<_}
 use mathlib.Core.Path.{_≡_, refl, sym, ap, _∙_}
 use mathlib.Core.Logic.{_≢_}
 use mathlib.Core.Bool.{Bool}
 use mathlib.Core.List.{List, [], _∷_, _++_, append-assoc}
 use native.Mathlib.Omega.{arith}
 use lib.Dec.{T}
-use Rattle.rules.specs.Counting.{times, gather}
+use lib.ListN.{length}
+use Rattle.rules.specs.Counting.{sumList, times, gather}
 use Rattle.rules.specs.Anodes.{Anodes, limit}
 use Rattle.rules.specs.Chains.{chainOf, run, blocksOf, blockCount}
 use Rattle.rules.specs.Space.{rewritten, onChain, dropped, insertedAfter}
 use Rattle.laws.specs.Tests.{T-false}
 use Rattle.laws.specs.Sums.{oneAt-same, changed-other, changed-pos}
-use Rattle.laws.specs.Bags.{times-cons, times-append, gather-kept}
+use Rattle.laws.specs.Bags.{list-congr, list-length, gather-sum, times-cons, times-append, gather-kept}
 use Rattle.laws.specs.LinkChanges.{without, drop-apart, insertAfter, insert-view, insert-linked, insert-after}
 use Rattle.laws.specs.Segments.{Chain}
 use Rattle.laws.specs.Links.{the-chain, chain-the, seg-once}
@@ -45,6 +46,19 @@ extent-alike e = rw (e .same-block, e .same-count)
 pub blocksOf-extents : (s : Anodes) (h : ℕ) → blocksOf s h ≡ gather (extent s) (chainOf (s .next) limit h)
 unfolding blocksOf extent
 blocksOf-extents s h = refl
+
+-- a run has as many blocks as its count says, and so has a chain
+length-run : (b c : ℕ) → length (run b c) ≡ c
+unfolding run
+length-run b zero = refl
+length-run b (suc c) = ap suc (length-run (suc b) c)
+
+pub length-blocksOf : (s : Anodes) (h : ℕ) → length (blocksOf s h) ≡ blockCount s h
+unfolding blocksOf blockCount
+length-blocksOf s h =
+    let chain = chainOf (s .next) limit h in
+    sym (list-length (gather (λ a. run (s .block a) (s .count a)) chain)) ∙ gather-sum (λ a. run (s .block a) (s .count a)) (λ y. 1) chain
+    ∙ list-congr (λ a. sumList (λ y. 1) (run (s .block a) (s .count a))) (s .count) chain (λ a. list-length (run (s .block a) (s .count a)) ∙ length-run (s .block a) (s .count a))
 
 -- a chain of the same anodes with the same extents has the same blocks
 pub kept-blocks : (s t : Anodes) (m : ℕ) → chainOf (t .next) limit m ≡ chainOf (s .next) limit m → ((a : ℕ) → 0 < times a (chainOf (s .next) limit m) → extent t a ≡ extent s a) → blocksOf t m ≡ blocksOf s m

@@ -1,6 +1,6 @@
 -- What a change for the chain of one head leaves alone: every other chain is the same list of anodes, with the same blocks.
 use Prim.Native.Nat.{ℕ, _<_}
-use mathlib.Core.Path.{_≡_, sym, ap, _∙_}
+use mathlib.Core.Path.{_≡_, refl, sym, ap, _∙_}
 use mathlib.Core.Logic.{_≢_, inl, inr}
 use mathlib.Core.Bool.{Bool}
 use mathlib.Core.List.{List}
@@ -76,7 +76,15 @@ module _ {A : ℕ} {ex : ℕ → Bool} {n last : ℕ} {s : Anodes} {system hd sd
   pub give-shift : {t : Anodes} {h : ℕ} {ys : List ℕ} → (w : Moved A ex n last s system hd h 1 ys t) → Shift s hd t (w .hd′) h
   give-shift {h = h} w = shift-of (w .good) h (moved-stays w) (w .no-new) (λ a u q i. w .apart a u i q)
 
--- one change after another
+-- no change, and one after another
+pub shift-none : (s : Anodes) (hd : ℕ → ℕ) (h : ℕ) → Shift s hd s hd h
+shift-none s hd h = record {
+  stays = λ m d. d;
+  no-new = λ m d. d;
+  apart = λ a u q i. record { same-count = refl; same-block = refl; same-next = refl };
+  same-hd = λ a u q i. refl;
+}
+
 pub shift-trans : {s t r : Anodes} {hd hd′ hd″ : ℕ → ℕ} {h : ℕ} → Shift s hd t hd′ h → Shift t hd′ r hd″ h → Shift s hd r hd″ h
 shift-trans a b = record {
   stays = λ m d. b .stays m (a .stays m d);

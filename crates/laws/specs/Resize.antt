@@ -19,7 +19,7 @@ use Rattle.laws.specs.Moves.{Moved}
 use Rattle.laws.specs.Repeated.{repeated-none, repeated-done}
 use Rattle.laws.specs.Take.{take-good}
 use Rattle.laws.specs.Give.{give-good}
-use Rattle.laws.specs.Frame.{Shift, moved-stays, take-shift, give-shift, shift-trans}
+use Rattle.laws.specs.Frame.{Shift, moved-stays, take-shift, give-shift, shift-none, shift-trans}
 use Rattle.laws.specs.Totals.{file-size}
 use Rattle.laws.specs.Whole.{Whole, blocks-count, file-head, change-file}
 
@@ -41,7 +41,7 @@ module _ {A : ℕ} {ex : ℕ → Bool} {n last : ℕ} where
     sd′ = sd;
     good = g;
     has = refl;
-    shift = record { stays = λ m d. d; no-new = λ m d. d; apart = λ a u q i. record { same-count = refl; same-block = refl; same-next = refl }; same-hd = λ a u q i. refl };
+    shift = shift-none s hd h;
     passed = λ m y. rw (times-nil y) (omega arith);
   }
 
