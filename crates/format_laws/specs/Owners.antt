@@ -34,17 +34,17 @@ module _ {s : Anodes} {n last k : ℕ} (m : Laid s n last k) where
   others x _ is-6 n2 n5 n6 = absurd (n6 refl)
   others x _ (free a f) n2 n5 n6 = none-owned a x (f .count)
 
-  pub one-owner : (system : ℕ → ℕ) (x : ℕ) → system x ≡ covers (3 + k) 0 x → 3 + k ≤ last → last < n → x < n → owners limit (s .count) (s .block) system x ≡ 1
+  pub one-owner : (system : ℕ → ℕ) (x : ℕ) → system x ≡ covers (3 + k) 0 x → x < n → owners limit (s .count) (s .block) system x ≡ 1
   unfolding owners
-  one-owner system x sys room there l = omega (
+  one-owner system x sys l = omega (
     arith,
     sum-three (λ a. covers (s .count a) (s .block a) x) 2 5 6 limit (omega arith) (omega arith) (omega arith) (omega arith) (omega arith) (omega arith) (λ a. others x a (m .which a)),
     owned 2 (last - (3 + k)) (4 + k) x (m .owns-2),
     owned 5 1 (3 + k) x (record { count = m .at-5 .count; start = λ p. m .at-5 .block }),
     owned 6 (n - (last + 1)) (last + 1) x (m .owns-6),
     covers-join (3 + k) 1 0 (4 + k) (3 + k) x (omega arith) (omega arith),
-    covers-join (4 + k) (last - (3 + k)) 0 (last + 1) (4 + k) x (omega arith) (omega arith),
-    covers-join (last + 1) (n - (last + 1)) 0 n (last + 1) x (omega arith) (omega arith),
+    covers-join (4 + k) (last - (3 + k)) 0 (last + 1) (4 + k) x (omega arith) (omega (arith, m .room)),
+    covers-join (last + 1) (n - (last + 1)) 0 n (last + 1) x (omega arith) (omega (arith, m .there)),
     covers-in n 0 x (omega arith) (omega arith),
   )
 
