@@ -80,7 +80,7 @@ module _ {img : List ℕ} {blocks anodes h : ℕ} {new : NewEntry} {f : ℕ} {ro
   abbrev dirs : List Dir
   dirs = reachedDirs img s
 
-  pub spare : (6 ≤ f) × (anodesOf img .block f ≡ 0) × T (exists img f)
+  pub spare : (6 ≤ f) × (s .block f ≡ 0) × T (exists img f)
   spare = fresh-free (m .fresh)
 
   -- the directory that gets the entry
@@ -294,7 +294,7 @@ module _ {img : List ℕ} {blocks anodes h : ℕ} {new : NewEntry} {f : ℕ} {ro
       ∙ blockOf-inBlock before (place / 512) (λ b. putEntry b (place % 512) (entryOf new f) (new .name) (new .comment)) (length-putEntry (blockOf before (place / 512)) (place % 512) (entryOf new f) (new .name) (new .comment))
       ∙ ap₂ (λ (y e : ℕ). putEntry (blockOf before y) e (entryOf new f) (new .name) (new .comment)) in-block at-end
 
-  pub made-disk : DiskWith img t (madeImage img (anodesOf img) h new f room ys t zs)
+  pub made-disk : DiskWith img t j
   made-disk = disk-then before-disk entry-kept (not-one spot-data)
 
   pub entries-made : entriesIn j (t .block (spot .anode)) ≡ entriesIn before (t .block (spot .anode)) ++ (entered ∷ [])

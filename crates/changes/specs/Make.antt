@@ -63,7 +63,7 @@ module _ {img : List ℕ} {blocks anodes h : ℕ} {new : NewEntry} {f : ℕ} {ro
     | inr q ↦ rw (entry-other m a one q)
   ]
 
-  -- which is not the new chain's
+  -- the block that gains it is not the new chain's
   not-spot : f ≢ spot m .anode
   not-spot e = reached-head (parent m) .in-use
       (ap (s .block) (sym (its-head m) ∙ ap (orphan m .0) (sym e) ∙ orphan m .2 .good .heads .at-head f (orphan m .2 .head)) ∙ spare m .1)
@@ -105,12 +105,11 @@ module _ {img : List ℕ} {blocks anodes h : ℕ} {new : NewEntry} {f : ℕ} {ro
       go false d = enter-file entered (orphan m .2) (spare m .0) refl (inr (none-yet d)) (spot m .anode) h (once m) (its-head m) (entriesIn j) (isBlockOf j)
           (λ a i q v. gained a i v) (λ a i q c. same-marks a i c) (is-dir (new .dir) ∙ d)
 
-  pub image-accepted : checkAnswer (madeImage img (anodesOf img) h new f room ys t zs) blocks anodes ≡ 0
+  image-accepted : checkAnswer j blocks anodes ≡ 0
   image-accepted = whole-accepted (parent m .image) (made-disk m) made-whole
 
   -- the directories that were reached are, and the new one
-  pub made-dirs : (weight : Dir → ℕ) → sumList weight (reachedDirs (madeImage img (anodesOf img) h new f room ys t zs) (anodesOf (madeImage img (anodesOf img) h new f room ys t zs)))
-      ≡ sumList weight (reachedDirs img (anodesOf img)) + cond (new .dir) (weight (record { head = f; parent = h })) 0
+  pub made-dirs : (weight : Dir → ℕ) → sumList weight (reachedDirs j (anodesOf j)) ≡ sumList weight dirs + cond (new .dir) (weight (record { head = f; parent = h })) 0
   made-dirs weight = reached-sum (parent m .image) (made-disk m) made-whole weight ∙ go (new .dir)
     where
       go : (b : Bool) → sumList weight (grown b) ≡ sumList weight dirs + cond b (weight (record { head = f; parent = h })) 0
@@ -134,15 +133,13 @@ module _ (img : List ℕ) (s : Anodes) (h : ℕ) (new : NewEntry) where
 
   -- refused with 27 or 28, or done by steps that are
   module _ (P : Left → Type 0) (full : P (left 27 img)) (no-anode : P (left 28 img))
-      (done : lowestFree limit (exists img) (lastReserved img) s < limit → (r : Anodes) (ys : List ℕ) →
-      neededBlock img (new .dir) (rewritten s (lowestFree limit (exists img) (lastReserved img) s) 0 65535) (lowestFree limit (exists img) (lastReserved img) s) ≡ planned r ys → (t : Anodes) (zs : List ℕ) →
-      neededBlock img (noRoom (firstRoom img (entryLength (length (new .name)) (length (new .comment))) (blocksOf s h))) r h ≡ planned t zs →
-      P (left 0 (madeImage img s h new (lowestFree limit (exists img) (lastReserved img) s) (firstRoom img (entryLength (length (new .name)) (length (new .comment))) (blocksOf s h)) ys t zs))) where
+      (done : first < limit → (r : Anodes) (ys : List ℕ) → neededBlock img (new .dir) (rewritten s first 0 65535) first ≡ planned r ys → (t : Anodes) (zs : List ℕ) →
+      neededBlock img (noRoom space) r h ≡ planned t zs → P (left 0 (madeImage img s h new first space ys t zs))) where
     refused-with : (n : ℕ) → (n ≡ 27) ⊎ (n ≡ 28) → P (left n img)
     refused-with n (inl e) = rw e full
     refused-with n (inr e) = rw e no-anode
 
-    pub made-cases : P (made img s h new)
+    made-cases : P (made img s h new)
     unfolding made madeWith
     made-cases = elim (less? first limit) [
       | inr l ↦ rw (le-ltb first limit l) no-anode

@@ -136,11 +136,10 @@ module _ {img : List ℕ} {blocks anodes h : ℕ} {new : NewEntry} {f : ℕ} {ro
   now-was l part none = gather-kept was now l (λ a p. other-entries m a (ones a (omega (arith, p, part a))) (λ e. omega (arith, p, none, ap (λ (x : ℕ). times x l) e)))
 
   -- the directory has its entries and the new one
-  pub entry-added : OneMore (enteredAt (entryOf new f) (entryPlace room zs)) (entriesOf img (anodesOf img) h)
-      (entriesOf (madeImage img (anodesOf img) h new f room ys t zs) (anodesOf (madeImage img (anodesOf img) h new f room ys t zs)) h)
+  pub entry-added : OneMore entered (entriesOf img s h) (entriesOf j (anodesOf j) h)
   entry-added = go (times-member (spot m .anode) (chainOf (t .next) limit h) (spot m .on))
     where
-      go : Member (spot m .anode) (chainOf (t .next) limit h) → OneMore (enteredAt (entryOf new f) (entryPlace room zs)) (entriesOf img s h) (entriesOf j (anodesOf j) h)
+      go : Member (spot m .anode) (chainOf (t .next) limit h) → OneMore entered (entriesOf img s h) (entriesOf j (anodesOf j) h)
       go (front, back, parted) =
           let a = spot m .anode in
           let alone = stands-once (orphan m .2 .good) h head-now a front back parted in
@@ -163,7 +162,7 @@ module _ {img : List ℕ} {blocks anodes h : ℕ} {new : NewEntry} {f : ℕ} {ro
   headed-made x = made-dirs m (λ d. oneAt (d .head) x)
 
   -- those that were reached are reached, and but for the new one no other
-  pub reached-kept : (x : ℕ) → x ≢ f → noDirectory (madeImage img (anodesOf img) h new f room ys t zs) (anodesOf (madeImage img (anodesOf img) h new f room ys t zs)) x ≡ noDirectory img (anodesOf img) x
+  pub reached-kept : (x : ℕ) → x ≢ f → noDirectory j (anodesOf j) x ≡ noDirectory img s x
   reached-kept x o = headed-same img j s (anodesOf j) x (omega (arith, headed-made x, none (new .dir)))
     where
       none : (b : Bool) → cond b (oneAt f x) 0 ≡ 0
@@ -171,7 +170,7 @@ module _ {img : List ℕ} {blocks anodes h : ℕ} {new : NewEntry} {f : ℕ} {ro
       none false = refl
 
   -- a new directory is reached
-  pub new-reached : new .dir ≡ true → noDirectory (madeImage img (anodesOf img) h new f room ys t zs) (anodesOf (madeImage img (anodesOf img) h new f room ys t zs)) f ≡ false
+  pub new-reached : new .dir ≡ true → noDirectory j (anodesOf j) f ≡ false
   new-reached d = headed-reached j (anodesOf j) f (omega (arith, headed-made f, ap (λ (b : Bool). cond b (oneAt f f) 0) d, oneAt-same f f refl))
 
   -- ---- other chains
@@ -217,16 +216,14 @@ module _ {img : List ℕ} {blocks anodes h : ℕ} {new : NewEntry} {f : ℕ} {ro
     blocks-kept y p = block-same y (rw (same-blocks same-chain) p)
 
   -- every file that was there has the bytes that it had
-  pub contents-kept : {k : ℕ} {e : Entered} → EntryIn img k e → e .dir ≡ false →
-      contents (madeImage img (anodesOf img) h new f room ys t zs) (anodesOf (madeImage img (anodesOf img) h new f room ys t zs)) e ≡ contents img (anodesOf img) e
+  pub contents-kept : {k : ℕ} {e : Entered} → EntryIn img k e → e .dir ≡ false → contents j (anodesOf j) e ≡ contents img s e
   contents-kept {e = e} n file =
       let g = entry-facts n in
       let eh : e .anode ≢ h = λ q. not-file (parent m) g file (sym q) in
       rw (made-disk m .anodes) (contents-same img j e (same-chain (e .anode) (g .head) (entry-not-1 g) eh) (blocks-kept (e .anode) (g .head) (entry-not-1 g) eh))
 
   -- every other directory has the entries that it had
-  pub entries-kept : {k : ℕ} → ReachedDir img k → k ≢ h →
-      entriesOf (madeImage img (anodesOf img) h new f room ys t zs) (anodesOf (madeImage img (anodesOf img) h new f room ys t zs)) k ≡ entriesOf img (anodesOf img) k
+  pub entries-kept : {k : ℕ} → ReachedDir img k → k ≢ h → entriesOf j (anodesOf j) k ≡ entriesOf img s k
   entries-kept {k} r kh =
       rw (made-disk m .anodes) (entries-same r j (blocks-kept k (reached-head r) (reached-not-1 r) kh) (same-chain k (reached-head r) (reached-not-1 r) kh))
 
@@ -241,7 +238,7 @@ module _ {img : List ℕ} {blocks anodes h : ℕ} {new : NewEntry} {f : ℕ} {ro
       ∙ ap (λ (b : List ℕ). putEntry b (entriesEnd b) (entryOf new f) (new .name) (new .comment)) (ap (blockOf (before m)) same ∙ old)
 
   -- those of an entry that was there are the same
-  pub bytes-kept : {k : ℕ} {e : Entered} → EntryIn img k e → entryBytes (madeImage img (anodesOf img) h new f room ys t zs) (e .place) ≡ entryBytes img (e .place)
+  pub bytes-kept : {k : ℕ} {e : Entered} → EntryIn img k e → entryBytes j (e .place) ≡ entryBytes img (e .place)
   unfolding entriesIn
   bytes-kept {e = e} n =
       let g = entry-facts n in
@@ -260,20 +257,20 @@ module _ {img : List ℕ} {blocks anodes h : ℕ} {new : NewEntry} {f : ℕ} {ro
   new-whole = length-blockOf (before m) (t .block (spot m .anode)) (inside-before m (t .block (spot m .anode)) (spot-data m))
 
   -- the new one is found there with its fields
-  pub new-found : walkedAt (blockOf (madeImage img (anodesOf img) h new f room ys t zs) (entryPlace room zs / 512)) (entryPlace room zs % 512) ≡ Found (entryOf new f)
+  pub new-found : walkedAt (blockOf j (entryPlace room zs / 512)) (entryPlace room zs % 512) ≡ Found (entryOf new f)
   unfolding entryOf goodComment
   new-found = rw (in-block m, at-end m, entry-block m)
       (walkedAt-putEntry (blockOf (before m) (t .block (spot m .anode))) (entriesEnd (blockOf (before m) (t .block (spot m .anode)))) (entryOf new f) (new .name) (new .comment) refl refl new-whole (spot m .fits) (m .named)
       (leb-true (length (new .comment)) 79 (m .commented)))
 
   -- with its name
-  pub new-name : nameAt (madeImage img (anodesOf img) h new f room ys t zs) (entryPlace room zs) ≡ new .name
+  pub new-name : nameAt j (entryPlace room zs) ≡ new .name
   unfolding nameAt entryOf
   new-name = rw (in-block m, at-end m, entry-block m)
       (nameIn-putEntry (blockOf (before m) (t .block (spot m .anode))) (entriesEnd (blockOf (before m) (t .block (spot m .anode)))) (entryOf new f) (new .name) (new .comment) refl refl new-whole (spot m .fits))
 
   -- and with its comment, behind the name and the comment's length byte
-  pub new-comment : take (length (new .comment)) (drop (entryPlace room zs + 17 + length (new .name)) (madeImage img (anodesOf img) h new f room ys t zs)) ≡ new .comment
+  pub new-comment : take (length (new .comment)) (drop (entryPlace room zs + 17 + length (new .name)) j) ≡ new .comment
   unfolding entryOf entryLength
   new-comment =
       let y = t .block (spot m .anode) in

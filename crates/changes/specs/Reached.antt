@@ -195,7 +195,7 @@ module _ {img : List ℕ} {h : ℕ} (r : ReachedDir img h) where
   unfolding headed
   reached-dir = headed-member h (reachedDirs img (anodesOf img)) some-dir
 
-  pub reached-from-5 : 5 ≤ h
+  reached-from-5 : 5 ≤ h
   reached-from-5 = head-from-5 w h some-dir
 
   pub reached-not-1 : h ≢ 1
@@ -269,7 +269,7 @@ module _ {img : List ℕ} {h : ℕ} (r : ReachedDir img h) where
         file-one : e .dir ≡ false → file-size (λ x. oneAt x (e .anode)) (itemOf (anodesOf img) e) ≡ 1
         file-one i = rw (item-dir (anodesOf img) e ∙ i, item-anode (anodesOf img) e) (oneAt-same (e .anode) (e .anode) refl)
 
-  -- it is no file's
+  -- its head is no file's
   pub not-file : {k : ℕ} {e : Entered} → EntryFacts img k e → e .dir ≡ false → h ≢ e .anode
   not-file {e = e} f i q =
       member-each (λ d. d .head ≢ e .anode) (reached-dir .0) (reachedDirs img (anodesOf img)) (reached-dir .1) (not-dir w (e .anode) (f .file i)) (reached-dir .2 ∙ q)

@@ -88,7 +88,7 @@ module _ {img : List ℕ} {e : Entered} {t : Anodes} {ys : List ℕ} (p : Planne
     unfolding entriesOf
     left-whole = Laws.removed (w p) e (e .anode) refl (facts p .a₀) (p .home) (reached-headed (p .entry .directory)) (facts p .block-facts .on-chain) (entriesIn j) cont no-entry (Stores.ran p) (isBlockOf j) same-marks
 
-    pub planned-accepted : checkAnswer (removedImage img e t ys) (image p .blocks) (image p .anodes) ≡ 0
+    pub planned-accepted : checkAnswer j (image p .blocks) (image p .anodes) ≡ 0
     planned-accepted = whole-accepted (image p) (Stores.removed-disk p) (left-whole .1)
 
 module _ {img : List ℕ} {h : ℕ} {e : Entered} (m : EntryIn img h e) where

@@ -92,7 +92,7 @@ module _ {img : List ℕ} {e : Entered} {t : Anodes} {ys : List ℕ} (p : Planne
   unfolding removedImage withoutEntry closer
   block-left = blockOf-inBlock stored y closer long ∙ ap closer same-block
 
-  pub removed-disk : DiskWith img (dropped limit t (e .anode)) (removedImage img e t ys)
+  pub removed-disk : DiskWith img (dropped limit t (e .anode)) j
   removed-disk = disk-then (disk-stored (image p) end end-good) kept-last (not-one (block-data (facts p)))
 
   -- ---- the entries and marks of the blocks

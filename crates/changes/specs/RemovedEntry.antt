@@ -189,7 +189,7 @@ module _ {img : List ℕ} {e : Entered} {t : Anodes} {ys : List ℕ} (p : Planne
         ∙ rw (same-along front in-front, same-along back in-back, ← (facts p .in-block), entries-left p) (joined (map (lowered len) later) (gather old back)))
 
     -- its own directory has one entry less
-    pub entry-gone : EntryGone img (removedImage img e t ys) e (entriesOf img s (p .home)) (entriesOf (removedImage img e t ys) (anodesOf (removedImage img e t ys)) (p .home))
+    pub entry-gone : EntryGone img j e (entriesOf img s (p .home)) (entriesOf j (anodesOf j) (p .home))
     entry-gone = record {
       before = were;
       behind = behind;

@@ -19,13 +19,13 @@ use Rattle.laws.specs.Whole.{Whole}
 use Rattle.laws.specs.Resize as Laws
 use Rattle.laws.specs.Members.{Member, member-times, gather-congr, map-kept}
 use Rattle.changes.specs.Image.{accepted-whole, whole-accepted, ReachedDir}
-use Rattle.changes.specs.Reached.{member-reached, EntryIn, entry-not-1, entry-facts}
+use Rattle.changes.specs.Reached.{member-reached, EntryIn, entry-not-1, dir-block, entry-facts}
 use Rattle.changes.specs.NamedOnce.{only-here, only-this}
 use Rattle.changes.specs.SameItems.{whole-same}
 use Rattle.changes.specs.NewSize.{sized, head-sized, entries-sized}
 use Rattle.changes.specs.ResizePlan.{plan-refused}
 use Rattle.changes.specs.PlannedChange.{left-cases, image, w, facts}
-use Rattle.changes.specs.ResizeStores.{PlannedResize, steps, dir-same, its-block, other-block, this-block, resized-disk}
+use Rattle.changes.specs.ResizeStores.{PlannedResize, steps, dir-same, other-block, this-block, resized-disk}
 
 -- ---- the entries
 
@@ -84,7 +84,7 @@ module _ {img : List ℕ} {e : Entered} {new : ℕ} {t : Anodes} {ys : List ℕ}
     this-entries i before after parted =
         let y = s .block a in
         let its-own : e .place / 512 ≡ y = facts p .in-block ∙ ap (s .block) (sym i) in
-        let here = its-block p r a on in
+        let here = dir-block r a on in
         rw (this-block p r a on i) (entries-sized (blockOf img y) y (e .place % 512) new (here .whole) e after (omega arith) before 28 16 parted
         (here .unbroken))
 

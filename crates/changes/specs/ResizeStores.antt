@@ -28,7 +28,7 @@ use Rattle.frames.specs.StoredBlocks.{inBlock-kept, blockOf-inBlock, withBlocks
 use Rattle.frames.specs.DisjointBlocks.{DataBlock, chains-apart, chain-block}
 use Rattle.frames.specs.StoredBytes.{BlocksKept}
 use Rattle.changes.specs.Image.{headIn, DiskWith, stored-kept, disk-stored, not-one, not-among, disk-then, ReachedDir}
-use Rattle.changes.specs.Reached.{DirBlock, block-on, reached-not-1, reached-head, dir-block, block-data, not-file}
+use Rattle.changes.specs.Reached.{block-on, reached-not-1, reached-head, dir-block, block-data, not-file}
 use Rattle.changes.specs.KeptChains.{SameChain}
 use Rattle.changes.specs.PlannedChange.{PlannedChange, image, w, facts, not-1, off-chain, off-anode}
 use Rattle.changes.specs.ResizePlan.{Resizing, plan-runs, handed-data, handed-apart}
@@ -171,20 +171,17 @@ module _ {img : List ℕ} {e : Entered} {new : ℕ} {t : Anodes} {ys : List ℕ}
     dir-kept = others-kept k (reached-head r) (reached-not-1 r) head-not-file
 
     module _ (a : ℕ) (on : Member a (chainOf (s .next) limit k)) where
-      pub its-block : DirBlock img k a
-      its-block = dir-block r a on
-
       left-alone : Left-alone (s .block a)
-      left-alone = alone k (reached-head r) (reached-not-1 r) head-not-file (s .block a) (block-on s k a on (its-block .one))
+      left-alone = alone k (reached-head r) (reached-not-1 r) head-not-file (s .block a) (block-on s k a on (dir-block r a on .one))
 
       -- up to the entry's new size it has the bytes that it had
       before-size : blockOf tailed (s .block a) ≡ blockOf img (s .block a)
-      before-size = zeros-kept .block-kept (s .block a) left-alone ∙ stored .block-kept (s .block a) (its-block .is-data .unheld)
+      before-size = zeros-kept .block-kept (s .block a) left-alone ∙ stored .block-kept (s .block a) (dir-block r a on .is-data .unheld)
 
       pub other-block : a ≢ facts p .a₀ → blockOf (resizedImage img s e new t ys) (s .block a) ≡ blockOf img (s .block a)
       unfolding resizedImage
       other-block n =
-          size-kept .block-kept (s .block a) (off-anode p a (its-block .one) n) ∙ before-size
+          size-kept .block-kept (s .block a) (off-anode p a (dir-block r a on .one) n) ∙ before-size
 
       pub this-block : a ≡ facts p .a₀ → blockOf (resizedImage img s e new t ys) (s .block a) ≡ put32 (blockOf img (s .block a)) (e .place % 512 + 4) new
       unfolding resizedImage withSize

@@ -29,6 +29,7 @@ module _ {ex : ℕ → Bool} {n last : ℕ} {s : Anodes} {system hd sd : ℕ →
   heldBy h y = held limit hd (s .count) (s .block) h y
 
   module _ (h : ℕ) (d : Head (s .next) (s .block) h) (y : ℕ) where
+    -- it stands in the chain as often as it is held under its head
     pub times-held : y < n → times y (blocksOf s h) ≡ heldBy h y
     unfolding times
     times-held l =
@@ -36,7 +37,7 @@ module _ {ex : ℕ → Bool} {n last : ℕ} {s : Anodes} {system hd sd : ℕ →
         ∙ sum-single (λ z. heldBy h z * oneAt z y) y n l (λ z m o. rw (oneAt-other z y o) (omega arith))
         ∙ rw (oneAt-same y y refl) (omega arith)
 
-    pub chain-below : 0 < times y (blocksOf s h) → y < n
+    chain-below : 0 < times y (blocksOf s h) → y < n
     unfolding times
     chain-below p = elim (less? y n) [
       | inl l ↦ l
