@@ -270,6 +270,7 @@ module _ {img : List ℕ} {blocks anodes h : ℕ} {new : NewEntry} {f : ℕ} {ro
   abbrev entered : Entered
   entered = enteredAt (entryOf new f) (entryPlace room zs)
 
+  -- the image that a make leaves
   abbrev j : List ℕ
   j = madeImage img (anodesOf img) h new f room ys t zs
 

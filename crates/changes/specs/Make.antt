@@ -40,6 +40,7 @@ module _ {img : List ℕ} {blocks anodes h : ℕ} {new : NewEntry} {f : ℕ} {ro
   abbrev dirs : List Dir
   dirs = reachedDirs img s
 
+  -- the image that a make leaves
   abbrev j : List ℕ
   j = madeImage img s h new f room ys t zs
 

@@ -63,6 +63,7 @@ module _ {img : List ℕ} {e : Entered} {t : Anodes} {ys : List ℕ} (p : Planne
   abbrev stored : List ℕ
   stored = withAnodes img end
 
+  -- the image that a removal leaves
   abbrev j : List ℕ
   j = removedImage img e t ys
 

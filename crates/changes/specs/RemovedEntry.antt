@@ -46,6 +46,7 @@ module _ {img : List ℕ} {e : Entered} {t : Anodes} {ys : List ℕ} (p : Planne
   abbrev s : Anodes
   s = anodesOf img
 
+  -- the image that a removal leaves
   abbrev j : List ℕ
   j = removedImage img e t ys
 

@@ -68,6 +68,7 @@ module _ {img : List ℕ} {e : Entered} {new : ℕ} {t : Anodes} {ys : List ℕ}
   abbrev dirs : List Dir
   dirs = reachedDirs img s
 
+  -- the image that a resize leaves
   abbrev j : List ℕ
   j = resizedImage img s e new t ys
 

@@ -66,6 +66,7 @@ module _ {img : List ℕ} {e : Entered} {new : ℕ} {t : Anodes} {ys : List ℕ}
   abbrev chain : List ℕ
   chain = blocksOf s (e .anode)
 
+  -- the image that a resize leaves
   abbrev j : List ℕ
   j = resizedImage img s e new t ys
 

@@ -60,6 +60,7 @@ module _ {img : List ℕ} {e : Entered} {new : ℕ} {t : Anodes} {ys : List ℕ}
   abbrev s : Anodes
   s = anodesOf img
 
+  -- the image that a resize leaves
   abbrev j : List ℕ
   j = resizedImage img s e new t ys
 

@@ -69,6 +69,7 @@ module _ {img : List ℕ} {e : Entered} {new : ℕ} {t : Anodes} {ys : List ℕ}
   abbrev tailed : List ℕ
   tailed = zeroTail zeroed s e new
 
+  -- the image that a resize leaves
   abbrev j : List ℕ
   j = withSize tailed (e .place) new
 

@@ -54,6 +54,7 @@ module _ {img : List ℕ} {h : ℕ} {e : Entered} (m : EntryIn img h e) (file : 
   abbrev s : Anodes
   s = anodesOf img
 
+  -- the image that a write leaves
   abbrev j : List ℕ
   j = written img s e offset bytes
 
