@@ -36,8 +36,8 @@ use Rattle.frames.specs.DisjointBlocks.{chains-apart, chain-block}
 use Rattle.frames.specs.StoredBytes.{BlocksKept}
 use Rattle.changes.specs.Image.{headIn, headed-reached, headed-same, ReachedDir}
 use Rattle.changes.specs.FoundEntries.{part-same, enteredAt, BlockEntry, block-standing}
-use Rattle.changes.specs.Reached.{EntryIn, entry-not-1, block-on, reached-not-1, reached-head, dir-block, entry-facts, not-file}
-use Rattle.changes.specs.KeptChains.{SameChain, same-blocks, contents-same, entries-same}
+use Rattle.changes.specs.Reached.{EntryIn, block-on, reached-not-1, dir-block, entry-facts, not-file}
+use Rattle.changes.specs.KeptChains.{SameChain, same-blocks, OthersLeft, contents-left, entries-left}
 use Rattle.changes.specs.EntryBytes.{entryBytes, bytes-at, with-length}
 use Rattle.changes.specs.NewEntry.{comment-put}
 use Rattle.changes.specs.MadeImage.{Making, spare, parent, w, once, plan, grown, own-block, parent-block, before, kept-block, parent-new, cont, old-block, orphan, spot, inside-before, spot-data, in-block, at-end, entry-kept, entry-block, entry-other, made-disk, entries-made, other-entries}
@@ -216,17 +216,16 @@ module _ {img : List ℕ} {blocks anodes h : ℕ} {new : NewEntry} {f : ℕ} {ro
     blocks-kept : BlocksKept img j s k
     blocks-kept y p = block-same y (rw (same-blocks same-chain) p)
 
+  others-left : OthersLeft img j t h h
+  others-left = record { same-chains = same-chain; blocks-kept = λ k d k1 kh again. blocks-kept k d k1 kh }
+
   -- every file that was there has the bytes that it had
   pub contents-kept : {k : ℕ} {e : Entered} → EntryIn img k e → e .dir ≡ false → contents j (anodesOf j) e ≡ contents img s e
-  contents-kept {e = e} n file =
-      let g = entry-facts n in
-      let eh : e .anode ≢ h = λ q. not-file (parent m) g file (sym q) in
-      rw (made-disk m .anodes) (contents-same img j e (same-chain (e .anode) (g .head) (entry-not-1 g) eh) (blocks-kept (e .anode) (g .head) (entry-not-1 g) eh))
+  contents-kept n file = rw (made-disk m .anodes) (contents-left others-left (parent m) n file (λ q. not-file (parent m) (entry-facts n) file (sym q)))
 
   -- every other directory has the entries that it had
   pub entries-kept : {k : ℕ} → ReachedDir img k → k ≢ h → entriesOf j (anodesOf j) k ≡ entriesOf img s k
-  entries-kept {k} r kh =
-      rw (made-disk m .anodes) (entries-same r j (blocks-kept k (reached-head r) (reached-not-1 r) kh) (same-chain k (reached-head r) (reached-not-1 r) kh))
+  entries-kept r kh = rw (made-disk m .anodes) (entries-left others-left r kh kh)
 
   -- ---- the bytes of entries
 

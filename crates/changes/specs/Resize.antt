@@ -90,8 +90,8 @@ module _ {img : List ℕ} {e : Entered} {new : ℕ} {t : Anodes} {ys : List ℕ}
         (here .unbroken))
 
     -- its entries: the size is new where the file is named
-    pub entries-left : entriesIn j (s .block a) ≡ map (resizedEntry (e .anode) new) (entriesIn img (s .block a))
-    entries-left = elim (same? a (facts p .a₀)) [
+    pub block-left : entriesIn j (s .block a) ≡ map (resizedEntry (e .anode) new) (entriesIn img (s .block a))
+    block-left = elim (same? a (facts p .a₀)) [
       | inr n ↦ other-entries n ∙ sym (others-stay (e .anode) new (entriesIn img (s .block a)) (only-here (image p) (facts p) d in-tree a on n))
       | inl i ↦ (let m : Member e (entriesIn img (s .block a)) = rw i (facts p .member) in
           this-entries i (m .0) (m .1) (m .2)
@@ -107,7 +107,7 @@ module _ {img : List ℕ} {e : Entered} {new : ℕ} {t : Anodes} {ys : List ℕ}
 
     items-left : itemsAt (entriesIn j) (isBlockOf j) t d a ≡ itemsAt (λ y. map (resizedEntry (e .anode) new) (entriesIn img y)) (isBlockOf img) t d a
     unfolding itemsAt
-    items-left = rw (dir-same p r .same-extents a (member-times a (chainOf (s .next) limit (d .head)) on) .1, marks-left, entries-left)
+    items-left = rw (dir-same p r .same-extents a (member-times a (chainOf (s .next) limit (d .head)) on) .1, marks-left, block-left)
 
   -- the state after the steps is whole where the entries have the new size
   sizes-whole : Whole (exists img) (diskSize img) (lastReserved img) t (systemOwns img) (steps p .ran .hd′) (steps p .ran .sd′)

@@ -29,7 +29,7 @@ use Rattle.frames.specs.DisjointBlocks.{DataBlock, chains-apart, chain-block}
 use Rattle.frames.specs.StoredBytes.{BlocksKept}
 use Rattle.changes.specs.Image.{headIn, DiskWith, stored-kept, disk-stored, not-one, not-among, disk-then, ReachedDir}
 use Rattle.changes.specs.Reached.{block-on, reached-not-1, reached-head, dir-block, block-data, not-file}
-use Rattle.changes.specs.KeptChains.{SameChain}
+use Rattle.changes.specs.KeptChains.{SameChain, OthersLeft}
 use Rattle.changes.specs.PlannedChange.{PlannedChange, image, w, facts, not-1, off-chain, off-anode}
 use Rattle.changes.specs.ResizePlan.{Resizing, plan-runs, handed-data, handed-apart}
 
@@ -142,7 +142,7 @@ module _ {img : List ℕ} {e : Entered} {new : ℕ} {t : Anodes} {ys : List ℕ}
 
   module _ (m : ℕ) (head : Head (s .next) (s .block) m) (m1 : m ≢ 1) (other : m ≢ e .anode) where
     -- each has its anodes
-    pub others-same : SameChain s t m
+    others-same : SameChain s t m
     others-same = record {
       same-anodes = shift-chain (w p .good) (steps .ran .good) (steps .ran .shift) m head m1 other;
       same-extents = λ a q. let k = shift-alike (w p .good) (steps .ran .good) (steps .ran .shift) m head m1 other a q in (k .same-count, k .same-block);
@@ -155,21 +155,21 @@ module _ {img : List ℕ} {e : Entered} {new : ℕ} {t : Anodes} {ys : List ℕ}
     )
 
     -- and the blocks of each but its own directory's are kept
-    pub others-kept : m ≢ p .home → BlocksKept img (resizedImage img s e new t ys) s m
+    others-kept : m ≢ p .home → BlocksKept img (resizedImage img s e new t ys) s m
     others-kept o y q = left-kept .block-kept y (chain-block img (w p .good) m head y q .unheld, (alone y q, off-chain p m head o y q))
+
+  pub others-left : OthersLeft img (resizedImage img s e new t ys) t (e .anode) (p .home)
+  others-left = record { same-chains = others-same; blocks-kept = others-kept }
 
   -- ---- the blocks of the directories
 
   module _ {k : ℕ} (r : ReachedDir img k) where
-    head-not-file : k ≢ e .anode
+    pub head-not-file : k ≢ e .anode
     head-not-file = not-file r (facts p) (p .plan .file)
 
     -- its chain stays
     pub dir-same : SameChain s t k
     dir-same = others-same k (reached-head r) (reached-not-1 r) head-not-file
-
-    pub dir-kept : k ≢ p .home → BlocksKept img (resizedImage img s e new t ys) s k
-    dir-kept = others-kept k (reached-head r) (reached-not-1 r) head-not-file
 
     module _ (a : ℕ) (on : Member a (chainOf (s .next) limit k)) where
       left-alone : Left-alone (s .block a)
