@@ -107,7 +107,7 @@ same-stored {img} right w = record {
   heads-kept = w .heads-kept;
 }
 
--- and has the anodes t
+-- j is the same disk, with the anodes t
 pub record DiskWith (img : List ℕ) (t : Anodes) (j : List ℕ) : Type 0 where
   pub same : SameDisk img j
   pub anodes : anodesOf j ≡ t

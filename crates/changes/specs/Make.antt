@@ -109,7 +109,7 @@ module _ {img : List ℕ} {blocks anodes h : ℕ} {new : NewEntry} {f : ℕ} {ro
   image-accepted : checkAnswer j blocks anodes ≡ 0
   image-accepted = whole-accepted (parent m .image) (made-disk m) made-whole
 
-  -- the directories that were reached are, and the new one
+  -- the directories that were reached are reached, and the new one
   pub made-dirs : (weight : Dir → ℕ) → sumList weight (reachedDirs j (anodesOf j)) ≡ sumList weight dirs + cond (new .dir) (weight (record { head = f; parent = h })) 0
   made-dirs weight = reached-sum (parent m .image) (made-disk m) made-whole weight ∙ go (new .dir)
     where

@@ -14,7 +14,7 @@ use Rattle.disk.proofs.Store.{getD-blockOf}
 use Rattle.directory.specs.declared.Walked.the-variants.{Found}
 use Rattle.directory.specs.declared.Entry.{Entry}
 use Rattle.directory.specs.Entries.{goodComment, entryLength, walkedAt, putEntry}
-use Rattle.directory.proofs.Laws.{length-putEntry, getD-putEntry-before, nameIn-putEntry, walkedAt-putEntry, found-at}
+use Rattle.directory.proofs.Laws.{length-putEntry, getD-putEntry-before, nameIn-putEntry, walkedAt-putEntry}
 use Rattle.rules.specs.Counting.{oneAt, times, gather}
 use Rattle.rules.specs.Anodes.{Anodes, limit, anodesOf}
 use Rattle.rules.specs.Chains.{chainOf, blocksOf}
@@ -35,7 +35,7 @@ use Rattle.laws.specs.NewDirectory.{entries-new}
 use Rattle.frames.specs.DisjointBlocks.{chains-apart, chain-block}
 use Rattle.frames.specs.StoredBytes.{BlocksKept}
 use Rattle.changes.specs.Image.{headIn, headed-reached, headed-same, ReachedDir}
-use Rattle.changes.specs.FoundEntries.{part-same, enteredAt, BlockEntry, block-standing}
+use Rattle.changes.specs.FoundEntries.{part-same, enteredAt, standing-found, BlockEntry, block-standing}
 use Rattle.changes.specs.Reached.{EntryIn, block-on, reached-not-1, dir-block, entry-facts, not-file}
 use Rattle.changes.specs.KeptChains.{SameChain, same-blocks, OthersLeft, contents-left, entries-left}
 use Rattle.changes.specs.EntryBytes.{entryBytes, bytes-at, with-length}
@@ -63,7 +63,7 @@ bytes-put : {b : List ℕ} {y at : ℕ} {e : Entered} → BlockEntry b y at e �
     take (getD (putEntry b (entriesEnd b) x name comment) at 0) (drop at (putEntry b (entriesEnd b) x name comment)) ≡ take (getD b at 0) (drop at b)
 bytes-put {b} {y} {at} u x name comment =
     let st = block-standing u in
-    let found = found-at b at (st .entry) (st .walked) in
+    let found = standing-found st in
     let b′ = putEntry b (entriesEnd b) x name comment in
     with-length b′ b at at (omega (arith, found .long))
     (part-same b′ b at at (getD b at 0) (omega (arith, length-putEntry b (entriesEnd b) x name comment, u .whole, found .room)) (omega (arith, u .whole, found .room))

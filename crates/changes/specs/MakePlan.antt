@@ -96,6 +96,7 @@ module _ (img : List ℕ) {s : Anodes} {hd sd : ℕ → ℕ} {entries : ℕ → 
 
   -- ---- the own block
 
+  -- the fresh head alone in its chain, with a block if it is a directory's
   record OwnStep (dir : Bool) (t : Anodes) (ys : List ℕ) : Type 0 where
     hd′ : ℕ → ℕ
     sd′ : ℕ → ℕ

@@ -23,6 +23,7 @@ use Rattle.changes.specs.Reached.{its-items, EntryFacts}
 unfoldable namesOf : ℕ → List Entered → ℕ
 namesOf x l = sumList (λ e. oneAt (e .anode) x) l
 
+-- where they never name it, none of them does
 none-names : (x : ℕ) (l : List Entered) → namesOf x l ≡ 0 → (e : Entered) → Member e l → e .anode ≢ x
 unfolding namesOf
 none-names x l z e m q = omega (arith, z, member-sum (λ e. oneAt (e .anode) x) e l m, oneAt-same (e .anode) x q)

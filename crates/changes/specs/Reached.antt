@@ -9,7 +9,7 @@ use native.Mathlib.Omega.{arith}
 use lib.ListN.{length}
 use Rattle.disk.specs.Blocks.{blockOf}
 use Rattle.disk.proofs.Laws.{length-blockOf}
-use Rattle.directory.proofs.Laws.{FoundAt, found-at}
+use Rattle.directory.proofs.Laws.{FoundAt}
 use Rattle.rules.specs.Counting.{oneAt, sumList, times, anyIn}
 use Rattle.rules.specs.Anodes.{Anodes, limit, anodesOf}
 use Rattle.rules.specs.Chains.{chainOf, heads, run, blocksOf, blockCount}
@@ -29,7 +29,7 @@ use Rattle.laws.specs.Whole.{Whole, counts-head, not-dir, dir-heads, named-head
 use Rattle.laws.specs.Members.{Member, member-later, member-each, member-sum, none-pass, member-gather, member-times}
 use Rattle.frames.specs.DisjointBlocks.{DataBlock, chain-block}
 use Rattle.changes.specs.Image.{WholeImage, headIn, sideIn, AcceptedImage, accepted-whole, headed-named, headed-reached, reached-some, ReachedDir}
-use Rattle.changes.specs.FoundEntries.{Standing, entry-place, BlockEntry}
+use Rattle.changes.specs.FoundEntries.{Standing, standing-found, entry-place, BlockEntry}
 
 -- ---- lookups
 
@@ -82,6 +82,7 @@ module _ {ex : ℕ → Bool} {n last : ℕ} {s : Anodes} {system hd sd : ℕ →
         member-each (λ d. faults items d ≡ 0) d dirs in-tree (each-zero (faults items) dirs (w .tree .faultless)),
       )
 
+      -- it has one block, marked as the directory's, whose entries give its items
       pub its-items : (s .count a ≡ 1) × (marked d (s .block a) ≡ true) × (itemsAt entries marked s d a ≡ map (itemOf s) (entries (s .block a)))
       its-items = elim (itemsAt-cases entries marked s d a) [
         | inl q ↦ (q .0, T-true (marked d (s .block a)) (q .1), q .2)
@@ -232,7 +233,7 @@ module _ {img : List ℕ} {h : ℕ} (r : ReachedDir img h) where
   place-in a on e m =
       let y = anodesOf img .block a in
       let p = entry-place (blockOf img y) y 28 16 e m (dir-block a on .unbroken) in
-      (p .0, ap (λ (c : Entered). c .place) (p .2 .is), found-at (blockOf img y) (p .0) (p .2 .entry) (p .2 .walked))
+      (p .0, ap (λ (c : Entered). c .place) (p .2 .is), standing-found (p .2))
 
   module _ (e : Entered) (member : Member e (entriesOf img (anodesOf img) h)) where
     -- an entry of it

@@ -43,9 +43,11 @@ module _ {img : List ℕ} {e : Entered} {t : Anodes} {ys : List ℕ} (p : Planne
   abbrev j : List ℕ
   j = removedImage img e t ys
 
+  -- the anode whose block has it
   in-y : (a : ℕ) → a ≡ facts p .a₀ → s .block a ≡ y
   in-y a q = ap (s .block) q ∙ sym (facts p .in-block)
 
+  -- its block has one entry less
   one-less : (v : Bool → Bool → ℕ → ℕ → ℕ) → sumList (weighEntry v) (entriesIn img y) ≡ sumList (weighEntry v) (entriesIn j y) + weighEntry v e
   unfolding entriesIn
   one-less v =
@@ -60,6 +62,7 @@ module _ {img : List ℕ} {e : Entered} {t : Anodes} {ys : List ℕ} (p : Planne
         map-sum low (weighEntry v) (here p .parted .1),
       )
 
+  -- the block of one anode has lost the entry
   cont : (a : ℕ) → s .count a ≡ 1 → headIn img a ≢ 1 → (v : Bool → Bool → ℕ → ℕ → ℕ) →
       sumList (weighEntry v) (entriesIn img (s .block a)) ≡ sumList (weighEntry v) (entriesIn j (s .block a)) + oneAt a (facts p .a₀) * weighEntry v e
   cont a one q v = elim (same? a (facts p .a₀)) [
@@ -67,6 +70,7 @@ module _ {img : List ℕ} {e : Entered} {t : Anodes} {ys : List ℕ} (p : Planne
     | inr i ↦ rw (entriesIn-kept (kept-data p) (s .block a) (apart p a one i), oneAt-other a (facts p .a₀) i) (omega arith)
   ]
 
+  -- and all have the marks that they had
   same-marks : (a : ℕ) → s .count a ≡ 1 → headIn img a ≢ 1 → (d : Dir) → isBlockOf j d (s .block a) ≡ isBlockOf img d (s .block a)
   same-marks a one q d = elim (same? a (facts p .a₀)) [
     | inl i ↦ rw (in-y a i) (marks-left p d)
@@ -74,6 +78,7 @@ module _ {img : List ℕ} {e : Entered} {t : Anodes} {ys : List ℕ} (p : Planne
   ]
 
   module _ (empty : e .dir ≡ true → notEmpty img s e ≡ false) where
+    -- a directory that goes has no entry
     pub no-entry : e .dir ≡ true → entriesOf img s (e .anode) ≡ []
     unfolding notEmpty nth
     no-entry i = go (entriesOf img s (e .anode)) (empty i)

@@ -9,7 +9,6 @@ use lib.Seq.{take-set-lt, drop-set-add}
 use Rattle.endian.specs.Bytes.{put16, put32}
 use Rattle.endian.proofs.Laws.{length-put32}
 use Rattle.disk.specs.Blocks.{blockOf}
-use Rattle.directory.proofs.Laws.{found-at}
 use Rattle.rules.specs.Counting.{oneAt, gather}
 use Rattle.rules.specs.Anodes.{Anodes, limit, anodesOf}
 use Rattle.rules.specs.Chains.{chainOf}
@@ -20,7 +19,7 @@ use Rattle.laws.specs.Tests.{same?}
 use Rattle.laws.specs.TreeChanges.{headed}
 use Rattle.laws.specs.Members.{Member, member-cons, member-append, gather-congr}
 use Rattle.changes.specs.Image.{reached-sum, headed-same, ReachedDir}
-use Rattle.changes.specs.FoundEntries.{part-same, place-order}
+use Rattle.changes.specs.FoundEntries.{part-same, standing-found, place-order}
 use Rattle.changes.specs.Reached.{EntryIn, EntryFacts, block-entry, reached-dir, entry-facts}
 use Rattle.changes.specs.KeptChains.{entries-along, entries-left}
 use Rattle.changes.specs.NamedOnce.{only-home}
@@ -103,7 +102,7 @@ module _ {img : List ℕ} {e : Entered} {new : ℕ} {t : Anodes} {ys : List ℕ}
       (this-block p (p .entry .directory) (facts p .a₀) (facts p .member-chain) refl)
 
   long : 18 ≤ getD (blockOf img y) pos 0
-  long = found-at (blockOf img y) pos (facts p .stands .entry) (facts p .stands .walked) .long
+  long = standing-found (facts p .stands) .long
 
   -- of an entry that ends before the size, or starts behind it
   apart-bytes : (b : List ℕ) (at len pos : ℕ) → length b ≡ 512 → at + len ≤ 510 → (at + len ≤ pos) ⊎ (pos + 8 ≤ at) →

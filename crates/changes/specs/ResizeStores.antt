@@ -113,22 +113,22 @@ module _ {img : List ℕ} {e : Entered} {new : ℕ} {t : Anodes} {ys : List ℕ}
   unfolding withSize
   size-kept = inBlock-kept tailed (e .place / 512) setSize (length-put32 (blockOf tailed (e .place / 512)) (e .place % 512 + 4) new)
 
-  -- all of them
-  abbrev Left-alone : ℕ → Type 0
-  Left-alone y = (times y ys ≡ 0) × (times y chain ≡ 0)
+  -- a block that was not taken and is not the file's
+  abbrev LeftAlone : ℕ → Type 0
+  LeftAlone y = (times y ys ≡ 0) × (times y chain ≡ 0)
 
-  zeros-kept : Kept Left-alone anodesIn tailed
+  zeros-kept : Kept LeftAlone anodesIn tailed
   zeros-kept = kept-both (λ y o. o .0) (λ y o. o .1) taken-kept tail-kept
 
-  stores-kept : Kept (λ y. Left-alone y × (y ≢ e .place / 512)) anodesIn j
+  stores-kept : Kept (λ y. LeftAlone y × (y ≢ e .place / 512)) anodesIn j
   stores-kept = kept-both (λ y o. o .0) (λ y o. o .1) zeros-kept size-kept
 
   -- from the image on: what no slot holds and none of the stores names is kept
-  left-kept : Kept (λ y. Unheld img y × (Left-alone y × (y ≢ e .place / 512))) img (resizedImage img s e new t ys)
+  left-kept : Kept (λ y. Unheld img y × (LeftAlone y × (y ≢ e .place / 512))) img (resizedImage img s e new t ys)
   unfolding resizedImage
   left-kept = kept-both (λ y o. o .0) (λ y o. o .1) stored stores-kept
 
-  only-data : (y : ℕ) → (DataBlock img y → ⊥) → Left-alone y × (y ≢ e .place / 512)
+  only-data : (y : ℕ) → (DataBlock img y → ⊥) → LeftAlone y × (y ≢ e .place / 512)
   only-data y n = (
     (not-among ys (handed-data img (w p .good) (e .anode) (facts p .head) (not-1 p) steps) y n, not-among chain (chain-block img (w p .good) (e .anode) (facts p .head)) y n),
     not-one (block-data (facts p)) y n,
@@ -148,7 +148,7 @@ module _ {img : List ℕ} {e : Entered} {new : ℕ} {t : Anodes} {ys : List ℕ}
       same-extents = λ a q. let k = shift-alike (w p .good) (steps .ran .good) (steps .ran .shift) m head m1 other a q in (k .same-count, k .same-block);
     }
 
-    alone : (y : ℕ) → 0 < times y (blocksOf s m) → Left-alone y
+    alone : (y : ℕ) → 0 < times y (blocksOf s m) → LeftAlone y
     alone y q = (
       handed-apart img (w p .good) (e .anode) (facts p .head) (not-1 p) steps m head m1 other y q,
       chains-apart (w p .good) m (e .anode) head (facts p .head) other y q,
@@ -172,7 +172,7 @@ module _ {img : List ℕ} {e : Entered} {new : ℕ} {t : Anodes} {ys : List ℕ}
     dir-same = others-same k (reached-head r) (reached-not-1 r) head-not-file
 
     module _ (a : ℕ) (on : Member a (chainOf (s .next) limit k)) where
-      left-alone : Left-alone (s .block a)
+      left-alone : LeftAlone (s .block a)
       left-alone = alone k (reached-head r) (reached-not-1 r) head-not-file (s .block a) (block-on s k a on (dir-block r a on .one))
 
       -- up to the entry's new size it has the bytes that it had
@@ -191,5 +191,5 @@ module _ {img : List ℕ} {e : Entered} {new : ℕ} {t : Anodes} {ys : List ℕ}
           rw (← before-size, ← here) (blockOf-inBlock tailed (e .place / 512) setSize (length-put32 (blockOf tailed (e .place / 512)) (e .place % 512 + 4) new))
 
   -- the block that has the entry
-  pub home-alone : Left-alone (e .place / 512)
+  pub home-alone : LeftAlone (e .place / 512)
   home-alone = rw (facts p .in-block) (left-alone (p .entry .directory) (facts p .a₀) (facts p .member-chain))

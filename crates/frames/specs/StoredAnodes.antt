@@ -74,6 +74,7 @@ alike-read img j a e = record {
   same-next = ap (λ (x : Anode). cond (eqb (x .block .0) 0) 0 (x .next .0)) e;
 }
 
+-- anodes that the test finds the same
 alike-same : (s t : Anodes) (a : ℕ) → sameAnode s t a ≡ true → Alike t s a
 unfolding sameAnode
 alike-same s t a e =
