@@ -33,9 +33,17 @@ use Rattle.frames.specs.Kept.{Unheld, Kept, HeadsKept, kept-all, kept-both, dis
 use Rattle.frames.specs.StoredAnodes.{AnodesStored, root-unheld, withAnodes-stored, anodesOf-withAnodes}
 use Rattle.frames.specs.DisjointBlocks.{DataBlock}
 
--- the whole state of an image with the anodes s: what the laws ask of anodes, blocks and directories
+-- what the laws ask of anodes t on the disk of img, and of their blocks
+abbrev pub GoodOn : List ℕ → Anodes → (ℕ → ℕ) → (ℕ → ℕ) → Type 0
+GoodOn img t hd sd = Good limit (exists img) (diskSize img) (lastReserved img) t (systemOwns img) hd sd
+
+-- and of the directories of j, an image of that disk
+abbrev pub WholeOn : List ℕ → List ℕ → Anodes → (ℕ → ℕ) → (ℕ → ℕ) → List Dir → Type 0
+WholeOn img j t hd sd dirs = Whole (exists img) (diskSize img) (lastReserved img) t (systemOwns img) hd sd (entriesIn j) (isBlockOf j) dirs
+
+-- the whole state of an image with the anodes s
 abbrev pub WholeImage : List ℕ → Anodes → (ℕ → ℕ) → (ℕ → ℕ) → List Dir → Type 0
-WholeImage img s hd sd dirs = Whole (exists img) (diskSize img) (lastReserved img) s (systemOwns img) hd sd (entriesIn img) (isBlockOf img) dirs
+WholeImage img s hd sd dirs = WholeOn img img s hd sd dirs
 
 -- the head of an anode's chain
 abbrev pub headIn : List ℕ → ℕ → ℕ
@@ -152,8 +160,8 @@ module _ {img i j : List ℕ} {t : Anodes} {on : ℕ → Type 0} (d : DiskWith i
 -- ---- back to the check's answer
 
 module _ {img j : List ℕ} (a : AcceptedImage img) {t : Anodes} (d : DiskWith img t j) {hd sd : ℕ → ℕ} {dirs : List Dir}
-    (left : Whole (exists img) (diskSize img) (lastReserved img) t (systemOwns img) hd sd (entriesIn j) (isBlockOf j) dirs) where
-  w : Whole (exists img) (diskSize img) (lastReserved img) (anodesOf j) (systemOwns img) hd sd (entriesIn j) (isBlockOf j) dirs
+    (left : WholeOn img j t hd sd dirs) where
+  w : WholeOn img j (anodesOf j) hd sd dirs
   w = rw (d .anodes) left
 
   found : (Q : List Dir) × Accepted (exists img) (diskSize img) (lastReserved img) (anodesOf j) (systemOwns img) (entriesIn j) (isBlockOf j) Q

@@ -15,17 +15,15 @@ use Rattle.directory.specs.Entries.{goodName, goodComment, entryLength, putEntr
 use Rattle.directory.proofs.Laws.{goodName-length, length-putEntry}
 use Rattle.rules.specs.Counting.{oneAt, times, anyIn}
 use Rattle.rules.specs.Anodes.{Anodes, limit, exists, anodesOf, withAnodes}
-use Rattle.rules.specs.Chains.{chainOf, run, blocksOf, systemOwns}
+use Rattle.rules.specs.Chains.{chainOf, run, blocksOf}
 use Rattle.rules.specs.Walk.{Dir, Entered, entriesFrom, entriesIn, isBlockOf, reachedDirs}
-use Rattle.rules.specs.Accepted.{diskSize, lastReserved}
 use Rattle.rules.specs.Format.{newDirectoryBlock}
 use Rattle.rules.specs.Changes.{withBlocks, entriesEnd, noRoom, parentOf, entryPlace, NewEntry, entryOf, madeImage}
 use Rattle.laws.specs.Sums.{oneAt-cases, oneAt-some}
 use Rattle.laws.specs.Bags.{list-cons, list-some, map-sum, times-nil, times-cons, times-append, times-here}
-use Rattle.laws.specs.Space.{Good, on-chain}
+use Rattle.laws.specs.Space.{on-chain}
 use Rattle.laws.specs.Each.{Each, each-map}
 use Rattle.laws.specs.TreeChanges.{headed, none-headed}
-use Rattle.laws.specs.Orphan.{Orphaned}
 use Rattle.laws.specs.DirectoryTakes.{dir-head}
 use Rattle.laws.specs.Members.{Member, times-none, no-member, member-cons, member-gather, member-times, times-member}
 use Rattle.laws.specs.NewDirectory.{length-new, entries-new, new-marked}
@@ -33,12 +31,12 @@ use Rattle.frames.specs.Kept.{Kept}
 use Rattle.frames.specs.StoredBlocks.{inBlock-kept, blockOf-inBlock, withBlocks-kept}
 use Rattle.frames.specs.StoredBytes.{blockOf-withBlocks}
 use Rattle.frames.specs.DisjointBlocks.{DataBlock}
-use Rattle.changes.specs.Image.{WholeImage, headIn, sideIn, accepted-whole, DiskWith, stored-kept, disk-stored, disk-then, not-one, not-among, ReachedDir, reached-headed}
+use Rattle.changes.specs.Image.{GoodOn, WholeImage, headIn, sideIn, accepted-whole, DiskWith, stored-kept, disk-stored, disk-then, not-one, not-among, ReachedDir, reached-headed}
 use Rattle.changes.specs.FoundEntries.{enteredAt, end-bounds}
 use Rattle.changes.specs.Reached.{DirBlock, reached-not-1, dir-block}
 use Rattle.changes.specs.SingleBlocks.{single-used, single-apart, single-data}
 use Rattle.changes.specs.NewEntry.{entries-put, head-put, end-new, room-found}
-use Rattle.changes.specs.MakePlan.{Fresh, fresh-dir, fresh-free, MakeSteps, ParentGrown, MadePlan, made-plan, made-orphan}
+use Rattle.changes.specs.MakePlan.{OrphanedOn, Fresh, fresh-dir, fresh-free, MakeSteps, ParentGrown, MadePlan, made-plan, made-orphan}
 
 -- what stands among the numbers that g gives for a list
 times-map : (g : ℕ → ℕ) (l : List ℕ) (y : ℕ) → 0 < times y (map g l) → (a : ℕ) × (0 < times a l) × (y ≡ g a)
@@ -99,7 +97,7 @@ module _ {img : List ℕ} {blocks anodes h : ℕ} {new : NewEntry} {f : ℕ} {ro
   abbrev pub grown : ParentGrown s (headIn img) h (noRoom room) zs t
   grown = plan .grown
 
-  pub good : Good limit (exists img) (diskSize img) (lastReserved img) t (systemOwns img) (plan .hd′) (plan .sd′)
+  pub good : GoodOn img t (plan .hd′) (plan .sd′)
   good = plan .good
 
   -- ---- the new blocks
@@ -189,7 +187,7 @@ module _ {img : List ℕ} {blocks anodes h : ℕ} {new : NewEntry} {f : ℕ} {ro
   unfolding entriesIn isBlockOf
   cont a one q = (rw (old-block a one q), λ d. rw (old-block a one q))
 
-  pub orphan : (hd′ : ℕ → ℕ) × (sd′ : ℕ → ℕ) × Orphaned (exists img) (diskSize img) (lastReserved img) f t (systemOwns img) hd′ sd′ (entriesIn before) (isBlockOf before) dirs
+  pub orphan : (hd′ : ℕ → ℕ) × (sd′ : ℕ → ℕ) × OrphanedOn img f t hd′ sd′ (entriesIn before) (isBlockOf before) dirs
   unfolding entriesIn
   orphan = made-orphan img w f (spare .0) (spare .2) (m .fresh .below) (spare .1) h once (new .dir) (m .steps .between) ys (m .steps .own) (noRoom room) t zs (m .steps .parent) (entriesIn before) (isBlockOf before) cont
       (λ y e. rw (parent-new y (first-in y zs e)) (entries-new h (parentOf dirs h) y))

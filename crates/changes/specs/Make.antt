@@ -13,9 +13,9 @@ use Rattle.directory.specs.declared.Kind.the-variants.{File, Directory}
 use Rattle.directory.specs.Entries.{goodName, goodComment, entryLength, isDir}
 use Rattle.rules.specs.Counting.{oneAt, sumList, times, gather}
 use Rattle.rules.specs.Anodes.{Anodes, limit, exists, anodesOf}
-use Rattle.rules.specs.Chains.{blocksOf, blockCount, systemOwns}
+use Rattle.rules.specs.Chains.{blocksOf, blockCount}
 use Rattle.rules.specs.Walk.{Dir, Entered, entriesIn, isBlockOf, blocksFor, itemsBy, reachedDirs}
-use Rattle.rules.specs.Accepted.{diskSize, lastReserved, checkAnswer}
+use Rattle.rules.specs.Accepted.{lastReserved, checkAnswer}
 use Rattle.rules.specs.Space.{Plan, refused, planned, rewritten, lowestFree}
 use Rattle.rules.specs.Format.{newDirectoryBlock}
 use Rattle.rules.specs.Changes.{firstRoom, noRoom, neededBlock, entryPlace, NewEntry, entryOf, madeImage, Left, left, leftBy, madeIn, madeWith, made}
@@ -25,10 +25,9 @@ use Rattle.laws.specs.Bags.{list-cons, list-append, list-one}
 use Rattle.laws.specs.Refusals.{planned≢refused}
 use Rattle.laws.specs.RefusedSteps.{take-refused}
 use Rattle.laws.specs.Entries.{weighEntry, itemsAt-whole}
-use Rattle.laws.specs.Whole.{Whole}
 use Rattle.laws.specs.Make.{enter-file, enter-directory}
 use Rattle.laws.specs.NewDirectory.{entries-new, new-marked}
-use Rattle.changes.specs.Image.{whole-accepted, reached-sum, ReachedDir}
+use Rattle.changes.specs.Image.{WholeOn, whole-accepted, reached-sum, ReachedDir}
 use Rattle.changes.specs.FoundEntries.{enteredAt}
 use Rattle.changes.specs.Reached.{reached-head}
 use Rattle.changes.specs.MadeImage.{Making, spare, parent, first-in, once, plan, before, own-new, orphan, spot, made-disk, entries-made, marks-made, entry-other, its-head, other-entries}
@@ -92,7 +91,7 @@ module _ {img : List ℕ} {blocks anodes h : ℕ} {new : NewEntry} {f : ℕ} {ro
   abbrev grown : Bool → List Dir
   grown b = cond b (record { head = f; parent = h } ∷ dirs) dirs
 
-  made-whole : Whole (exists img) (diskSize img) (lastReserved img) t (systemOwns img) (orphan m .0) (orphan m .1) (entriesIn j) (isBlockOf j) (grown (new .dir))
+  made-whole : WholeOn img j t (orphan m .0) (orphan m .1) (grown (new .dir))
   unfolding entryOf
   made-whole = go (new .dir) refl
     where
@@ -100,7 +99,7 @@ module _ {img : List ℕ} {blocks anodes h : ℕ} {new : NewEntry} {f : ℕ} {ro
       is-dir true = refl
       is-dir false = refl
 
-      go : (b : Bool) → new .dir ≡ b → Whole (exists img) (diskSize img) (lastReserved img) t (systemOwns img) (orphan m .0) (orphan m .1) (entriesIn j) (isBlockOf j) (grown b)
+      go : (b : Bool) → new .dir ≡ b → WholeOn img j t (orphan m .0) (orphan m .1) (grown b)
       go true d = enter-directory entered (orphan m .2) (spare m .0) refl (inl (is-dir (new .dir) ∙ d)) (spot m .anode) h (once m) (its-head m) (entriesIn j) (isBlockOf j)
           (λ a i q v. gained a i v) (λ a i q c. same-marks a i c) (is-dir (new .dir) ∙ d) (own-empty d)
       go false d = enter-file entered (orphan m .2) (spare m .0) refl (inr (none-yet d)) (spot m .anode) h (once m) (its-head m) (entriesIn j) (isBlockOf j)

@@ -11,7 +11,7 @@ use Rattle.rules.specs.Counting.{oneAt, sumList}
 use Rattle.rules.specs.Anodes.{Anodes, limit, exists, anodesOf}
 use Rattle.rules.specs.Chains.{blockCount, systemOwns}
 use Rattle.rules.specs.Walk.{Dir, Entered, entriesIn, isBlockOf, reachedDirs}
-use Rattle.rules.specs.Accepted.{diskSize, lastReserved, checkAnswer}
+use Rattle.rules.specs.Accepted.{lastReserved, checkAnswer}
 use Rattle.rules.specs.Lookup.{entriesOf, nth, isThere, notEmpty}
 use Rattle.rules.specs.Space.{Plan, refused, giveMany, onChain, dropped}
 use Rattle.rules.specs.Changes.{removedImage, removed}
@@ -21,11 +21,11 @@ use Rattle.laws.specs.Bags.{list-cons, list-append, map-sum}
 use Rattle.laws.specs.LinkChanges.{without}
 use Rattle.laws.specs.TreeChanges.{headed}
 use Rattle.laws.specs.Entries.{weighEntry}
-use Rattle.laws.specs.Whole.{Whole, blocks-count}
+use Rattle.laws.specs.Whole.{blocks-count}
 use Rattle.laws.specs.RefusedSteps.{gives-refused}
 use Rattle.laws.specs.Remove as Laws
 use Rattle.frames.specs.Kept.{entriesIn-kept, isBlockOf-kept}
-use Rattle.changes.specs.Image.{headIn, sideIn, accepted-whole, whole-accepted, reached-headed}
+use Rattle.changes.specs.Image.{WholeOn, headIn, sideIn, accepted-whole, whole-accepted, reached-headed}
 use Rattle.changes.specs.Reached.{EntryIn, entry-not-1, entry-facts}
 use Rattle.changes.specs.Gap.{lowered}
 use Rattle.changes.specs.PlannedChange.{left-cases, image, w, facts}
@@ -89,7 +89,7 @@ module _ {img : List ℕ} {e : Entered} {t : Anodes} {ys : List ℕ} (p : Planne
 
     -- the state that is left is whole, and every other directory is still in it
     pub left-whole : let dead = onChain limit t (e .anode) in (dirs : List Dir)
-        × Whole (exists img) (diskSize img) (lastReserved img) (dropped limit t (e .anode)) (systemOwns img) (without dead (Stores.ran p .hd′)) (without dead (Stores.ran p .sd′)) (entriesIn j) (isBlockOf j) dirs
+        × WholeOn img j (dropped limit t (e .anode)) (without dead (Stores.ran p .hd′)) (without dead (Stores.ran p .sd′)) dirs
         × ((x : ℕ) → x ≢ e .anode → headed x dirs ≡ headed x (reachedDirs img s))
     unfolding entriesOf
     left-whole = Laws.removed (w p) e (e .anode) refl (facts p .a₀) (p .home) (reached-headed (p .entry .directory)) (facts p .block-facts .on-chain) (entriesIn j) cont no-entry (Stores.ran p) (isBlockOf j) same-marks

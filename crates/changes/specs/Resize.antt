@@ -18,7 +18,7 @@ use Rattle.laws.specs.Tests.{same?}
 use Rattle.laws.specs.Whole.{Whole}
 use Rattle.laws.specs.Resize as Laws
 use Rattle.laws.specs.Members.{Member, member-times, gather-congr, map-kept}
-use Rattle.changes.specs.Image.{accepted-whole, whole-accepted, ReachedDir}
+use Rattle.changes.specs.Image.{WholeOn, accepted-whole, whole-accepted, ReachedDir}
 use Rattle.changes.specs.Reached.{member-reached, EntryIn, entry-not-1, dir-block, entry-facts}
 use Rattle.changes.specs.NamedOnce.{only-here, only-this}
 use Rattle.changes.specs.SameItems.{whole-same}
@@ -116,7 +116,7 @@ module _ {img : List ℕ} {e : Entered} {new : ℕ} {t : Anodes} {ys : List ℕ}
       (resized-fields (e .anode) new) (λ x n. ap (λ (c : Entered). c .size) (resized-other (e .anode) new x n))
       (λ x i. ap (λ (c : Entered). blocksFor (c .size)) (resized-it (e .anode) new x i)) (λ a c q r. (refl, λ d. refl))
 
-  pub still-whole : Whole (exists img) (diskSize img) (lastReserved img) t (systemOwns img) (steps p .ran .hd′) (steps p .ran .sd′) (entriesIn j) (isBlockOf j) dirs
+  pub still-whole : WholeOn img j t (steps p .ran .hd′) (steps p .ran .sd′) dirs
   unfolding itemsBy
   still-whole = whole-same sizes-whole (entriesIn j) (isBlockOf j) (λ d m.
       gather-congr (itemsAt (entriesIn j) (isBlockOf j) t d) (itemsAt (λ y. map (resizedEntry (e .anode) new) (entriesIn img y)) (isBlockOf img) t d) (chainOf (t .next) limit (d .head))
