@@ -8,16 +8,15 @@ use lib.ListN.{length, take, length-take}
 use Rattle.rules.specs.Anodes.{Anodes, limit, exists, anodesOf}
 use Rattle.rules.specs.Chains.{systemOwns, blockCount}
 use Rattle.rules.specs.Walk.{Entered}
-use Rattle.rules.specs.Accepted.{diskSize, wrongSize, lastReserved}
+use Rattle.rules.specs.Accepted.{wrongSize, lastReserved}
 use Rattle.rules.specs.Space.{planned, giveMany}
-use Rattle.laws.specs.Space.{Good}
 use Rattle.laws.specs.GivenBlocks.{gives-blocks}
 use Rattle.anodes.specs.Loaded.{anodesFrom, Loaded}
 use Rattle.tree.specs.Steps.{sumFrom}
 use Rattle.tree.proofs.Rules.{sumFrom-count}
 use Rattle.space.specs.Steps.{Ready}
 use Rattle.space.proofs.Many.{count-small}
-use Rattle.changes.specs.Image.{headIn, sideIn, AcceptedImage, accepted-own, image-passed, accepted-whole}
+use Rattle.changes.specs.Image.{GoodOn, headIn, sideIn, AcceptedImage, accepted-own, image-passed, accepted-whole}
 use Rattle.changes.specs.Reached.{EntryIn, EntryFacts, entry-not-1, entry-facts}
 use Rattle.changes.specs.PlannedChange.{PlannedChange}
 use Rattle.changed.specs.Leaves.{ReachedEntry}
@@ -29,10 +28,10 @@ module _ {img counts firsts nexts : List ℕ} (l : Loaded img counts firsts next
   pub loaded-size : wrongSize img ≡ false
   loaded-size = image-passed image .size-right
 
-  pub image-good : Good limit (exists img) (diskSize img) (lastReserved img) (anodesOf img) (systemOwns img) (headIn img) (sideIn img)
+  pub image-good : GoodOn img (anodesOf img) (headIn img) (sideIn img)
   image-good = accepted-whole image .good
 
-  pub loaded-good : Good limit (exists img) (diskSize img) (lastReserved img) (anodesFrom counts firsts nexts) (systemOwns img) (headIn img) (sideIn img)
+  pub loaded-good : GoodOn img (anodesFrom counts firsts nexts) (headIn img) (sideIn img)
   loaded-good = rw (l .is-loaded) image-good
 
   -- the steps may be planned on copies of the tables

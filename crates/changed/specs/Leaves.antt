@@ -9,7 +9,7 @@ use Rattle.rules.specs.Tables.{blocksLeft, anodesLeft}
 use Rattle.rules.specs.Lookup.{noDirectory, entriesOf}
 use Rattle.rules.specs.Changes.{Left}
 use Rattle.rules.specs.Calls.{outcomeOf, settled}
-use Rattle.changes.specs.Members.{Member}
+use Rattle.laws.specs.Each.{Member}
 
 -- a change answers r and leaves img′, b′ and a′ of an image and its two tables as l settles them, where the tables showed the image
 abbrev pub Leaves : ℕ → List ℕ → List ℕ → List ℕ → List ℕ → List ℕ → List ℕ → Left → Type 0

@@ -46,10 +46,12 @@ module _ (img : List ℕ) where
 abbrev pub searchNumber : Bool → Option Entered → ℕ
 searchNumber missing o = 21 if missing else 22 if not (isThere o) else 0
 
+-- a row in front of a table and its last rows
 row-first : (n : ℕ) (t : Bool) (a b c : ℕ) → 1 ≤ n → c ≡ firstOf a b → (n if t else c) ≡ firstOf (n if t else a) b
 row-first n true a b c l e = sym (firstOf-some n b n refl l)
 row-first n false a b c l e = e
 
+-- a table answers 0 where it does without its last row, and that row's test fails
 both-passed : (a c n : ℕ) (t : Bool) → c ≡ firstOf a (n if t else 0) → 1 ≤ n → c ≡ 0 → (a ≡ 0) × (t ≡ false)
 both-passed a c n t is l e =
     let z = firstOf-zero a (n if t else 0) (sym is ∙ e) in

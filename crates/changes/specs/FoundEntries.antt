@@ -22,7 +22,7 @@ use Rattle.directory.proofs.Laws.{FoundAt, found-at, end-at}
 use Rattle.rules.specs.Counting.{anyIn}
 use Rattle.rules.specs.Walk.{Entered, withRest, entriesFrom}
 use Rattle.rules.specs.Changes.{endFrom, entriesEnd}
-use Rattle.changes.specs.Members.{Member, no-member}
+use Rattle.laws.specs.Members.{Member, no-member}
 pub use Rattle.laws.specs.Entries.{enteredAt, entries-more, entries-end}
 
 -- parts of two lists of bytes that agree byte for byte
@@ -134,7 +134,11 @@ pub record Standing (b : List ℕ) (y at end : ℕ) (e : Entered) : Type 0 where
   pub is : e ≡ enteredAt entry (y * 512 + at)
   pub before : at + getD b at 0 ≤ end
 
--- and before a later mark
+-- what its bytes say
+pub standing-found : {b : List ℕ} {y at end : ℕ} {e : Entered} → Standing b y at end e → FoundAt b at
+standing-found {b} {at = at} s = found-at b at (s .entry) (s .walked)
+
+-- it ends before a later mark too
 stands-before : {b : List ℕ} {y at end : ℕ} {e : Entered} → Standing b y at end e → (further : ℕ) → end ≤ further → Standing b y at further e
 stands-before s further l = record { entry = s .entry; walked = s .walked; is = s .is; before = omega (arith, s .before, l) }
 
@@ -151,11 +155,11 @@ first-found b y m at e l i u = elim (unbroken-cases b y m at u) [
       record { stands = record { entry = o .0; walked = o .1; is = sym (head-eq-of-cons-eq c); before = omega arith }; rest = tail-eq-of-cons-eq c; unbroken = o .2 })
 ]
 
--- by its place
+-- it stands at the place that it says
 first-here : {b : List ℕ} {y m p : ℕ} {e : Entered} {l : List Entered} → FirstFound b y m p e l → (at : ℕ) → e .place ≡ y * 512 + at → p ≡ at
 first-here o at place = omega (arith, ap (λ (d : Entered). d .place) (o .stands .is), place)
 
--- the places grow
+-- no entry stands before the place where they start
 pub place-after : (b : List ℕ) (y : ℕ) (xs : List Entered) (e : Entered) (ys : List Entered) (k at : ℕ) → entriesFrom k b y at ≡ xs ++ (e ∷ ys) →
     anyIn (λ f. f .broken) (entriesFrom k b y at) ≡ false → y * 512 + at ≤ e .place
 unfolding entriesFrom
@@ -185,7 +189,7 @@ reaches b y at e place ys [] (suc m) p i u =
 reaches b y at e place ys (z ∷ zs) (suc m) p i u =
     let o = first-found b y m p z (zs ++ (e ∷ ys)) i u in
     let s = o .stands in
-    let g = found-at b p (s .entry) (s .walked) in
+    let g = standing-found s in
     let r = reaches b y at e place ys zs m (p + getD b p 0) (o .rest) (o .unbroken) in
     let before : p + getD b p 0 ≤ at = omega (arith, place, place-after b y zs e ys m (p + getD b p 0) (o .rest) (o .unbroken)) in
     record {
@@ -204,7 +208,7 @@ entry-place b y k p e (xs, ys, i) u =
     let l = place-after b y xs e ys k p i u in
     let at = e .place - y * 512 in
     let s = reaches b y at e (omega arith) ys xs k p i u .found .stands in
-    (at, omega arith, stands-before s 510 (found-at b at (s .entry) (s .walked) .room))
+    (at, omega arith, stands-before s 510 (standing-found s .room))
 
 -- an entry ends before the next begins
 pub place-order : (b : List ℕ) (y at : ℕ) (f e : Entered) → f .place ≡ y * 512 + at → (vs ys us : List Entered) (k p : ℕ) → entriesFrom k b y p ≡ us ++ (f ∷ (vs ++ (e ∷ ys))) →
@@ -219,7 +223,7 @@ pub entry-standing : (b : List ℕ) (y at : ℕ) (e : Entered) → e .place ≡ 
 entry-standing b y at e place ys xs k p i u f =
     let r = reaches b y at e place ys xs k p i u in
     let s = r .found .stands in
-    let g = found-at b at (s .entry) (s .walked) in
+    let g = standing-found s in
     stands-before s (endFrom k b p)
     (omega (arith, r .end, end-more b (r .m) at (s .entry) (s .walked), end-bounds b y (r .m) (at + getD b at 0) (r .found .unbroken) (g .room) (omega (arith, f, r .fuel, g .long)) .0))
 

@@ -14,8 +14,8 @@ use Rattle.directory.proofs.Laws.{found-at}
 use Rattle.rules.specs.Counting.{anyIn}
 use Rattle.rules.specs.Walk.{Entered, entriesFrom}
 use Rattle.rules.specs.Changes.{endFrom, entriesEnd, gapClosed}
-use Rattle.changes.specs.FoundEntries.{part-same, head-same, walked-same, entry-standing, entries-more, entries-end, unbroken-cases, end-more, end-here, end-bounds, place-after, place-order, reaches, BlockEntry, block-standing, end-within}
-use Rattle.changes.specs.Members.{Member}
+use Rattle.changes.specs.FoundEntries.{part-same, head-same, walked-same, entry-standing, entries-more, entries-end, unbroken-cases, end-more, end-here, end-bounds, standing-found, place-after, place-order, reaches, BlockEntry, block-standing, end-within}
+use Rattle.laws.specs.Members.{Member}
 
 -- the same entry, so many bytes earlier
 abbrev pub lowered : ℕ → Entered → Entered
@@ -67,7 +67,7 @@ module _ (b b′ : List ℕ) (y at len end : ℕ) (whole : length b ≡ 512) (wh
         let r = reaches b y at e place ys xs k p i u in
         let o = r .found in
         let s = o .stands in
-        let g = found-at b at (s .entry) (s .walked) in
+        let g = standing-found s in
         let next : at + getD b at 0 ≡ at + len = ap (λ (n : ℕ). at + n) its-length in
         r .front b′ whole whole′ front
         ∙ ap (λ (l : List Entered). xs ++ l) (moved (r .m) at (omega arith) (rw next at (o .unbroken)) (omega (arith, g .room, next)) (omega (arith, f, r .fuel, g .long, next))
@@ -162,9 +162,8 @@ module _ {b : List ℕ} {y at : ℕ} {e : Entered} (u : BlockEntry b y at e) whe
       let len = getD b at 0 in
       let end = entriesEnd b in
       let within = end-within u in
-      let s = block-standing u in
       closed b (gapClosed b at len end) y at len end (u .whole) length-closed (gap-front b at len end (u .whole) fits within) (gap-behind b at len end (u .whole) fits within)
-      (gap-zeros b at len end (u .whole) fits within) (omega (arith, found-at b at (s .entry) (s .walked) .long)) e (u .parted .1) (u .place) refl (u .parted .0) 28 16 (u .parted .2) (u .unbroken) (omega arith) refl
+      (gap-zeros b at len end (u .whole) fits within) (omega (arith, standing-found (block-standing u) .long)) e (u .parted .1) (u .place) refl (u .parted .0) 28 16 (u .parted .2) (u .unbroken) (omega arith) refl
 
   -- the bytes of an entry that stays
   pub bytes-earlier : (f : Entered) → Member f (u .parted .0) → (k : ℕ) → f .place ≡ y * 512 + k → take (getD b k 0) (drop k (gapClosed b at (getD b at 0) (entriesEnd b))) ≡ take (getD b k 0) (drop k b)

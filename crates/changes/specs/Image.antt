@@ -28,14 +28,22 @@ use Rattle.laws.specs.Acceptance.{Passed, passed-of, passed-accepted, Tested, p
 use Rattle.laws.specs.ImageAnodes.{reading-of}
 use Rattle.laws.specs.Damage.{Faulted, walk-faulted}
 use Rattle.laws.specs.OneOwner.{naming-sum, passes, accepted-one-owner, good}
+use Rattle.laws.specs.Members.{times-none}
 use Rattle.frames.specs.Kept.{Unheld, Kept, HeadsKept, kept-all, kept-both, diskSize-kept, wrongSize-kept, shortTables-kept, slotOf-kept, lastReserved-kept, wrongType-kept, wrongRoot-kept, systemOwns-kept, anodesOf-kept, wrongSlots-kept}
 use Rattle.frames.specs.StoredAnodes.{AnodesStored, root-unheld, withAnodes-stored, anodesOf-withAnodes}
 use Rattle.frames.specs.DisjointBlocks.{DataBlock}
-use Rattle.changes.specs.Members.{none-in}
 
--- the whole state of an image with the anodes s: what the laws ask of anodes, blocks and directories
+-- what the laws ask of anodes t on the disk of img, and of their blocks
+abbrev pub GoodOn : List ℕ → Anodes → (ℕ → ℕ) → (ℕ → ℕ) → Type 0
+GoodOn img t hd sd = Good limit (exists img) (diskSize img) (lastReserved img) t (systemOwns img) hd sd
+
+-- and of the directories of j, an image of that disk
+abbrev pub WholeOn : List ℕ → List ℕ → Anodes → (ℕ → ℕ) → (ℕ → ℕ) → List Dir → Type 0
+WholeOn img j t hd sd dirs = Whole (exists img) (diskSize img) (lastReserved img) t (systemOwns img) hd sd (entriesIn j) (isBlockOf j) dirs
+
+-- the whole state of an image with the anodes s
 abbrev pub WholeImage : List ℕ → Anodes → (ℕ → ℕ) → (ℕ → ℕ) → List Dir → Type 0
-WholeImage img s hd sd dirs = Whole (exists img) (diskSize img) (lastReserved img) s (systemOwns img) hd sd (entriesIn img) (isBlockOf img) dirs
+WholeImage img s hd sd dirs = WholeOn img img s hd sd dirs
 
 -- the head of an anode's chain
 abbrev pub headIn : List ℕ → ℕ → ℕ
@@ -107,7 +115,7 @@ same-stored {img} right w = record {
   heads-kept = w .heads-kept;
 }
 
--- and has the anodes t
+-- j is the same disk, with the anodes t
 pub record DiskWith (img : List ℕ) (t : Anodes) (j : List ℕ) : Type 0 where
   pub same : SameDisk img j
   pub anodes : anodesOf j ≡ t
@@ -130,7 +138,7 @@ pub not-one : {img : List ℕ} {b : ℕ} → DataBlock img b → (y : ℕ) → (
 not-one d y n e = n (rw e d)
 
 pub not-among : {img : List ℕ} (ys : List ℕ) → ((y : ℕ) → 0 < times y ys → DataBlock img y) → (y : ℕ) → (DataBlock img y → ⊥) → times y ys ≡ 0
-not-among ys d y n = none-in y ys (λ p. n (d y p))
+not-among ys d y n = times-none y ys (λ p. n (d y p))
 
 -- stores that keep all but data blocks
 module _ {img i j : List ℕ} {t : Anodes} {on : ℕ → Type 0} (d : DiskWith img t i) (k : Kept on i j) (others : (y : ℕ) → (DataBlock img y → ⊥) → on y) where
@@ -152,8 +160,8 @@ module _ {img i j : List ℕ} {t : Anodes} {on : ℕ → Type 0} (d : DiskWith i
 -- ---- back to the check's answer
 
 module _ {img j : List ℕ} (a : AcceptedImage img) {t : Anodes} (d : DiskWith img t j) {hd sd : ℕ → ℕ} {dirs : List Dir}
-    (left : Whole (exists img) (diskSize img) (lastReserved img) t (systemOwns img) hd sd (entriesIn j) (isBlockOf j) dirs) where
-  w : Whole (exists img) (diskSize img) (lastReserved img) (anodesOf j) (systemOwns img) hd sd (entriesIn j) (isBlockOf j) dirs
+    (left : WholeOn img j t hd sd dirs) where
+  w : WholeOn img j (anodesOf j) hd sd dirs
   w = rw (d .anodes) left
 
   found : (Q : List Dir) × Accepted (exists img) (diskSize img) (lastReserved img) (anodesOf j) (systemOwns img) (entriesIn j) (isBlockOf j) Q

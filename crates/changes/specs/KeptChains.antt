@@ -1,6 +1,8 @@
 -- A chain that a change leaves as it is: the same anodes with the same extents, and the same bytes in its blocks. So a directory has the entries that it had, and a file the bytes.
 use Prim.Native.Nat.{ℕ, _<_}
-use mathlib.Core.Path.{_≡_, refl, ap, _∙_}
+use mathlib.Core.Path.{_≡_, refl, sym, ap, _∙_}
+use mathlib.Core.Logic.{_≢_}
+use mathlib.Core.Bool.{false}
 use mathlib.Core.List.{List}
 use lib.ListN.{take}
 use Rattle.disk.specs.Blocks.{blockOf}
@@ -10,11 +12,12 @@ use Rattle.rules.specs.Chains.{chainOf, blocksOf}
 use Rattle.rules.specs.Walk.{Entered, entriesIn}
 use Rattle.rules.specs.Lookup.{entriesOf, bytesOf, contents}
 use Rattle.laws.specs.Bags.{gather-kept}
+use Rattle.laws.specs.Heads.{Head}
 use Rattle.laws.specs.ChainBlocks.{extent, kept-blocks}
+use Rattle.laws.specs.Members.{Member, gather-congr}
 use Rattle.frames.specs.StoredBytes.{BlocksKept, bytesOf-kept}
 use Rattle.changes.specs.Image.{ReachedDir}
-use Rattle.changes.specs.Members.{Member, gather-congr}
-use Rattle.changes.specs.Reached.{EntryIn, block-on, dir-block, entry-facts}
+use Rattle.changes.specs.Reached.{EntryIn, entry-not-1, block-on, reached-not-1, reached-head, dir-block, not-file, entry-facts}
 use Rattle.changes.specs.EntryBytes.{entryBytes}
 
 -- the chain of h has the anodes in t that it has in s, and they the extents
@@ -59,3 +62,20 @@ module _ {img : List ℕ} {h : ℕ} (r : ReachedDir img h) (j : List ℕ) (kept 
   entry-bytes-same m =
       let f = entry-facts m in
       rw (f .in-block, block-same (f .a₀) (f .member-chain))
+
+-- a change leaves j with the anodes t, and leaves alone every chain but 1's and that of own, and their blocks but home's
+pub record OthersLeft (img j : List ℕ) (t : Anodes) (own home : ℕ) : Type 0 where
+  pub same-chains : (m : ℕ) → Head (anodesOf img .next) (anodesOf img .block) m → m ≢ 1 → m ≢ own → SameChain (anodesOf img) t m
+  pub blocks-kept : (m : ℕ) → Head (anodesOf img .next) (anodesOf img .block) m → m ≢ 1 → m ≢ own → m ≢ home → BlocksKept img j (anodesOf img) m
+
+module _ {img j : List ℕ} {t : Anodes} {own home : ℕ} (o : OthersLeft img j t own home) where
+  -- a file of another chain has the bytes that it had
+  pub contents-left : ReachedDir img home → {k : ℕ} {f : Entered} → EntryIn img k f → f .dir ≡ false → f .anode ≢ own → contents j t f ≡ contents img (anodesOf img) f
+  contents-left r {f = f} m file apart =
+      let g = entry-facts m in
+      contents-same img j f (o .same-chains (f .anode) (g .head) (entry-not-1 g) apart) (o .blocks-kept (f .anode) (g .head) (entry-not-1 g) apart (λ i. not-file r g file (sym i)))
+
+  -- another directory has the entries that it had
+  pub entries-left : {k : ℕ} → ReachedDir img k → k ≢ own → k ≢ home → entriesOf j t k ≡ entriesOf img (anodesOf img) k
+  entries-left {k} r not-own not-home =
+      entries-same r j (o .blocks-kept k (reached-head r) (reached-not-1 r) not-own not-home) (o .same-chains k (reached-head r) (reached-not-1 r) not-own)

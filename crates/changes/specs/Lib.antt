@@ -1,6 +1,5 @@
 -- What the calls leave of an accepted image.
 pub mod Answers
-pub mod Members
 pub mod Image
 pub mod FoundEntries
 pub mod Reached

@@ -2,44 +2,41 @@
 use Prim.Native.Nat.{ℕ, _+_, _*_, _/_, _%_, _≤_, _<_}
 use mathlib.Core.Path.{_≡_, refl, sym, ap, ap₂, _∙_, subst}
 use mathlib.Core.Logic.{_≢_, inl, inr}
-use mathlib.Core.Bool.{Bool, true, false, cond, _&&_, _||_}
+use mathlib.Core.Bool.{Bool, true, false, cond}
 use mathlib.Core.List.{List, [], _∷_, _++_, map}
 use mathlib.Core.Option.{Option, none, some}
 use native.Mathlib.Omega.{arith}
-use lib.Dec.{T, eqb}
+use lib.Dec.{T}
 use lib.ListN.{length}
 use borrow.Author.Tests.{leb-true, eq-eqb, ne-eqb}
 use Rattle.disk.specs.Blocks.{blockOf}
 use Rattle.disk.proofs.Laws.{length-blockOf}
-use Rattle.directory.specs.Entries.{directoryMark, goodName, goodComment, entryLength, putEntry}
+use Rattle.directory.specs.Entries.{goodName, goodComment, entryLength, putEntry}
 use Rattle.directory.proofs.Laws.{goodName-length, length-putEntry}
 use Rattle.rules.specs.Counting.{oneAt, times, anyIn}
 use Rattle.rules.specs.Anodes.{Anodes, limit, exists, anodesOf, withAnodes}
-use Rattle.rules.specs.Chains.{chainOf, run, blocksOf, systemOwns}
+use Rattle.rules.specs.Chains.{chainOf, run, blocksOf}
 use Rattle.rules.specs.Walk.{Dir, Entered, entriesFrom, entriesIn, isBlockOf, reachedDirs}
-use Rattle.rules.specs.Accepted.{diskSize, lastReserved}
 use Rattle.rules.specs.Format.{newDirectoryBlock}
 use Rattle.rules.specs.Changes.{withBlocks, entriesEnd, noRoom, parentOf, entryPlace, NewEntry, entryOf, madeImage}
-use Rattle.laws.specs.Tests.{eq→eqb, and, or-right}
 use Rattle.laws.specs.Sums.{oneAt-cases, oneAt-some}
 use Rattle.laws.specs.Bags.{list-cons, list-some, map-sum, times-nil, times-cons, times-append, times-here}
-use Rattle.laws.specs.Space.{Good, on-chain}
+use Rattle.laws.specs.Space.{on-chain}
 use Rattle.laws.specs.Each.{Each, each-map}
 use Rattle.laws.specs.TreeChanges.{headed, none-headed}
-use Rattle.laws.specs.Orphan.{Orphaned}
 use Rattle.laws.specs.DirectoryTakes.{dir-head}
+use Rattle.laws.specs.Members.{Member, times-none, no-member, member-cons, member-gather, member-times, times-member}
+use Rattle.laws.specs.NewDirectory.{length-new, entries-new, new-marked}
 use Rattle.frames.specs.Kept.{Kept}
 use Rattle.frames.specs.StoredBlocks.{inBlock-kept, blockOf-inBlock, withBlocks-kept}
 use Rattle.frames.specs.StoredBytes.{blockOf-withBlocks}
 use Rattle.frames.specs.DisjointBlocks.{DataBlock}
-use Rattle.changes.specs.Image.{WholeImage, headIn, sideIn, accepted-whole, DiskWith, stored-kept, disk-stored, disk-then, not-one, not-among, ReachedDir, reached-headed}
+use Rattle.changes.specs.Image.{GoodOn, WholeImage, headIn, sideIn, accepted-whole, DiskWith, stored-kept, disk-stored, disk-then, not-one, not-among, ReachedDir, reached-headed}
 use Rattle.changes.specs.FoundEntries.{enteredAt, end-bounds}
-use Rattle.changes.specs.Members.{Member, none-in, no-member, member-cons, member-gather, member-times, times-member}
 use Rattle.changes.specs.Reached.{DirBlock, reached-not-1, dir-block}
 use Rattle.changes.specs.SingleBlocks.{single-used, single-apart, single-data}
-use Rattle.laws.specs.NewDirectory.{length-new, entries-new, head-new}
 use Rattle.changes.specs.NewEntry.{entries-put, head-put, end-new, room-found}
-use Rattle.changes.specs.MakePlan.{Fresh, fresh-dir, fresh-free, MakeSteps, ParentGrown, MadePlan, made-plan, made-orphan}
+use Rattle.changes.specs.MakePlan.{OrphanedOn, Fresh, fresh-dir, fresh-free, MakeSteps, ParentGrown, MadePlan, made-plan, made-orphan}
 
 -- what stands among the numbers that g gives for a list
 times-map : (g : ℕ → ℕ) (l : List ℕ) (y : ℕ) → 0 < times y (map g l) → (a : ℕ) × (0 < times a l) × (y ≡ g a)
@@ -50,14 +47,6 @@ times-map g l y p =
 
 pub first-in : (y : ℕ) (l : List ℕ) → l ≡ y ∷ [] → 0 < times y l
 first-in y l e = rw e (times-here y [])
-
--- a new directory block is marked as its directory's
-pub new-marked : (i : List ℕ) (y owner parent : ℕ) → blockOf i y ≡ newDirectoryBlock owner parent → (d : Dir) → d .head ≡ owner → d .parent ≡ parent → T (isBlockOf i d y)
-unfolding isBlockOf
-new-marked i y owner parent e d p q =
-    rw (e, head-new owner parent)
-    (and (eqb directoryMark directoryMark) (eqb owner (d .head) && (eqb (d .head) 5 || eqb parent (d .parent))) (eq→eqb directoryMark directoryMark refl)
-    (and (eqb owner (d .head)) (eqb (d .head) 5 || eqb parent (d .parent)) (eq→eqb owner (d .head) (sym p)) (or-right (eqb (d .head) 5) (eqb parent (d .parent)) (eq→eqb parent (d .parent) (sym q)))))
 
 -- where one directory alone has the head h, its parent is found
 parents-right : (h : ℕ) (l : List Dir) → headed h l ≡ 1 → Each (λ d. d .head ≡ h → d .parent ≡ parentOf l h) l
@@ -89,7 +78,7 @@ module _ {img : List ℕ} {blocks anodes h : ℕ} {new : NewEntry} {f : ℕ} {ro
   abbrev dirs : List Dir
   dirs = reachedDirs img s
 
-  pub spare : (6 ≤ f) × (anodesOf img .block f ≡ 0) × T (exists img f)
+  pub spare : (6 ≤ f) × (s .block f ≡ 0) × T (exists img f)
   spare = fresh-free (m .fresh)
 
   -- the directory that gets the entry
@@ -108,7 +97,7 @@ module _ {img : List ℕ} {blocks anodes h : ℕ} {new : NewEntry} {f : ℕ} {ro
   abbrev pub grown : ParentGrown s (headIn img) h (noRoom room) zs t
   grown = plan .grown
 
-  pub good : Good limit (exists img) (diskSize img) (lastReserved img) t (systemOwns img) (plan .hd′) (plan .sd′)
+  pub good : GoodOn img t (plan .hd′) (plan .sd′)
   good = plan .good
 
   -- ---- the new blocks
@@ -138,16 +127,16 @@ module _ {img : List ℕ} {blocks anodes h : ℕ} {new : NewEntry} {f : ℕ} {ro
       let u = single-used (w .good) a one in
       let k = grown .kept a u q in
       let now : t .count a ≡ 1 = k .0 ∙ one in (
-        none-in (s .block a) ys (λ p. let o = own-block (s .block a) p in
+        times-none (s .block a) ys (λ p. let o = own-block (s .block a) p in
             single-apart good a now f (o .0) (λ i. u (ap (s .block) i ∙ spare .1)) (k .1 ∙ o .1)),
-        none-in (s .block a) zs (λ p. let o = parent-block (s .block a) p in
+        times-none (s .block a) zs (λ p. let o = parent-block (s .block a) p in
             single-apart good a now (o .0) (grown .ones (o .0) (o .1)) (λ i. grown .apart (o .0) (o .1) (rw (← i) u) (rw (← i) q)) (k .1 ∙ o .2)),
       )
 
   new-apart : (y : ℕ) → 0 < times y ys → times y zs ≡ 0
   new-apart y p =
       let o = own-block y p in
-      none-in y zs (λ q. let b = parent-block y q in
+      times-none y zs (λ q. let b = parent-block y q in
       single-apart good f (o .0) (b .0) (grown .ones (b .0) (b .1)) (λ i. plan .not-own (b .0) (b .1) (sym i)) (sym (o .1) ∙ b .2))
 
   -- ---- the image before the entry
@@ -198,7 +187,7 @@ module _ {img : List ℕ} {blocks anodes h : ℕ} {new : NewEntry} {f : ℕ} {ro
   unfolding entriesIn isBlockOf
   cont a one q = (rw (old-block a one q), λ d. rw (old-block a one q))
 
-  pub orphan : (hd′ : ℕ → ℕ) × (sd′ : ℕ → ℕ) × Orphaned (exists img) (diskSize img) (lastReserved img) f t (systemOwns img) hd′ sd′ (entriesIn before) (isBlockOf before) dirs
+  pub orphan : (hd′ : ℕ → ℕ) × (sd′ : ℕ → ℕ) × OrphanedOn img f t hd′ sd′ (entriesIn before) (isBlockOf before) dirs
   unfolding entriesIn
   orphan = made-orphan img w f (spare .0) (spare .2) (m .fresh .below) (spare .1) h once (new .dir) (m .steps .between) ys (m .steps .own) (noRoom room) t zs (m .steps .parent) (entriesIn before) (isBlockOf before) cont
       (λ y e. rw (parent-new y (first-in y zs e)) (entries-new h (parentOf dirs h) y))
@@ -279,6 +268,7 @@ module _ {img : List ℕ} {blocks anodes h : ℕ} {new : NewEntry} {f : ℕ} {ro
   abbrev entered : Entered
   entered = enteredAt (entryOf new f) (entryPlace room zs)
 
+  -- the image that a make leaves
   abbrev j : List ℕ
   j = madeImage img (anodesOf img) h new f room ys t zs
 
@@ -303,7 +293,7 @@ module _ {img : List ℕ} {blocks anodes h : ℕ} {new : NewEntry} {f : ℕ} {ro
       ∙ blockOf-inBlock before (place / 512) (λ b. putEntry b (place % 512) (entryOf new f) (new .name) (new .comment)) (length-putEntry (blockOf before (place / 512)) (place % 512) (entryOf new f) (new .name) (new .comment))
       ∙ ap₂ (λ (y e : ℕ). putEntry (blockOf before y) e (entryOf new f) (new .name) (new .comment)) in-block at-end
 
-  pub made-disk : DiskWith img t (madeImage img (anodesOf img) h new f room ys t zs)
+  pub made-disk : DiskWith img t j
   made-disk = disk-then before-disk entry-kept (not-one spot-data)
 
   pub entries-made : entriesIn j (t .block (spot .anode)) ≡ entriesIn before (t .block (spot .anode)) ++ (entered ∷ [])

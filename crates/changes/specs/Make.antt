@@ -13,9 +13,9 @@ use Rattle.directory.specs.declared.Kind.the-variants.{File, Directory}
 use Rattle.directory.specs.Entries.{goodName, goodComment, entryLength, isDir}
 use Rattle.rules.specs.Counting.{oneAt, sumList, times, gather}
 use Rattle.rules.specs.Anodes.{Anodes, limit, exists, anodesOf}
-use Rattle.rules.specs.Chains.{blocksOf, blockCount, systemOwns}
+use Rattle.rules.specs.Chains.{blocksOf, blockCount}
 use Rattle.rules.specs.Walk.{Dir, Entered, entriesIn, isBlockOf, blocksFor, itemsBy, reachedDirs}
-use Rattle.rules.specs.Accepted.{diskSize, lastReserved, checkAnswer}
+use Rattle.rules.specs.Accepted.{lastReserved, checkAnswer}
 use Rattle.rules.specs.Space.{Plan, refused, planned, rewritten, lowestFree}
 use Rattle.rules.specs.Format.{newDirectoryBlock}
 use Rattle.rules.specs.Changes.{firstRoom, noRoom, neededBlock, entryPlace, NewEntry, entryOf, madeImage, Left, left, leftBy, madeWith, made}
@@ -25,13 +25,12 @@ use Rattle.laws.specs.Bags.{list-cons, list-append, list-one}
 use Rattle.laws.specs.Plans.{planned≢refused}
 use Rattle.laws.specs.RefusedSteps.{take-refused}
 use Rattle.laws.specs.Entries.{weighEntry, itemsAt-whole}
-use Rattle.laws.specs.Whole.{Whole}
 use Rattle.laws.specs.Make.{enter-file, enter-directory}
-use Rattle.changes.specs.Image.{whole-accepted, reached-sum, ReachedDir}
+use Rattle.laws.specs.NewDirectory.{entries-new, new-marked}
+use Rattle.changes.specs.Image.{WholeOn, whole-accepted, reached-sum, ReachedDir}
 use Rattle.changes.specs.FoundEntries.{enteredAt}
 use Rattle.changes.specs.Reached.{reached-head}
-use Rattle.laws.specs.NewDirectory.{entries-new}
-use Rattle.changes.specs.MadeImage.{Making, spare, parent, new-marked, first-in, once, plan, before, own-new, orphan, spot, made-disk, entries-made, marks-made, entry-other, its-head, other-entries}
+use Rattle.changes.specs.MadeImage.{Making, spare, parent, first-in, once, plan, before, own-new, orphan, spot, made-disk, entries-made, marks-made, entry-other, its-head, other-entries}
 
 module _ {img : List ℕ} {blocks anodes h : ℕ} {new : NewEntry} {f : ℕ} {room : Option ℕ} {ys : List ℕ} {t : Anodes} {zs : List ℕ} (m : Making img blocks anodes h new f room ys t zs) where
   abbrev s : Anodes
@@ -40,6 +39,7 @@ module _ {img : List ℕ} {blocks anodes h : ℕ} {new : NewEntry} {f : ℕ} {ro
   abbrev dirs : List Dir
   dirs = reachedDirs img s
 
+  -- the image that a make leaves
   abbrev j : List ℕ
   j = madeImage img s h new f room ys t zs
 
@@ -63,7 +63,7 @@ module _ {img : List ℕ} {blocks anodes h : ℕ} {new : NewEntry} {f : ℕ} {ro
     | inr q ↦ rw (entry-other m a one q)
   ]
 
-  -- which is not the new chain's
+  -- the block that gains it is not the new chain's
   not-spot : f ≢ spot m .anode
   not-spot e = reached-head (parent m) .in-use
       (ap (s .block) (sym (its-head m) ∙ ap (orphan m .0) (sym e) ∙ orphan m .2 .good .heads .at-head f (orphan m .2 .head)) ∙ spare m .1)
@@ -91,7 +91,7 @@ module _ {img : List ℕ} {blocks anodes h : ℕ} {new : NewEntry} {f : ℕ} {ro
   abbrev grown : Bool → List Dir
   grown b = cond b (record { head = f; parent = h } ∷ dirs) dirs
 
-  made-whole : Whole (exists img) (diskSize img) (lastReserved img) t (systemOwns img) (orphan m .0) (orphan m .1) (entriesIn j) (isBlockOf j) (grown (new .dir))
+  made-whole : WholeOn img j t (orphan m .0) (orphan m .1) (grown (new .dir))
   unfolding entryOf
   made-whole = go (new .dir) refl
     where
@@ -99,18 +99,17 @@ module _ {img : List ℕ} {blocks anodes h : ℕ} {new : NewEntry} {f : ℕ} {ro
       is-dir true = refl
       is-dir false = refl
 
-      go : (b : Bool) → new .dir ≡ b → Whole (exists img) (diskSize img) (lastReserved img) t (systemOwns img) (orphan m .0) (orphan m .1) (entriesIn j) (isBlockOf j) (grown b)
+      go : (b : Bool) → new .dir ≡ b → WholeOn img j t (orphan m .0) (orphan m .1) (grown b)
       go true d = enter-directory entered (orphan m .2) (spare m .0) refl (inl (is-dir (new .dir) ∙ d)) (spot m .anode) h (once m) (its-head m) (entriesIn j) (isBlockOf j)
           (λ a i q v. gained a i v) (λ a i q c. same-marks a i c) (is-dir (new .dir) ∙ d) (own-empty d)
       go false d = enter-file entered (orphan m .2) (spare m .0) refl (inr (none-yet d)) (spot m .anode) h (once m) (its-head m) (entriesIn j) (isBlockOf j)
           (λ a i q v. gained a i v) (λ a i q c. same-marks a i c) (is-dir (new .dir) ∙ d)
 
-  pub image-accepted : checkAnswer (madeImage img (anodesOf img) h new f room ys t zs) blocks anodes ≡ 0
+  image-accepted : checkAnswer j blocks anodes ≡ 0
   image-accepted = whole-accepted (parent m .image) (made-disk m) made-whole
 
-  -- the directories that were reached are, and the new one
-  pub made-dirs : (weight : Dir → ℕ) → sumList weight (reachedDirs (madeImage img (anodesOf img) h new f room ys t zs) (anodesOf (madeImage img (anodesOf img) h new f room ys t zs)))
-      ≡ sumList weight (reachedDirs img (anodesOf img)) + cond (new .dir) (weight (record { head = f; parent = h })) 0
+  -- the directories that were reached are reached, and the new one
+  pub made-dirs : (weight : Dir → ℕ) → sumList weight (reachedDirs j (anodesOf j)) ≡ sumList weight dirs + cond (new .dir) (weight (record { head = f; parent = h })) 0
   made-dirs weight = reached-sum (parent m .image) (made-disk m) made-whole weight ∙ go (new .dir)
     where
       go : (b : Bool) → sumList weight (grown b) ≡ sumList weight dirs + cond b (weight (record { head = f; parent = h })) 0
@@ -134,15 +133,13 @@ module _ (img : List ℕ) (s : Anodes) (h : ℕ) (new : NewEntry) where
 
   -- refused with 27 or 28, or done by steps that are
   module _ (P : Left → Type 0) (full : P (left 27 img)) (no-anode : P (left 28 img))
-      (done : lowestFree limit (exists img) (lastReserved img) s < limit → (r : Anodes) (ys : List ℕ) →
-      neededBlock img (new .dir) (rewritten s (lowestFree limit (exists img) (lastReserved img) s) 0 65535) (lowestFree limit (exists img) (lastReserved img) s) ≡ planned r ys → (t : Anodes) (zs : List ℕ) →
-      neededBlock img (noRoom (firstRoom img (entryLength (length (new .name)) (length (new .comment))) (blocksOf s h))) r h ≡ planned t zs →
-      P (left 0 (madeImage img s h new (lowestFree limit (exists img) (lastReserved img) s) (firstRoom img (entryLength (length (new .name)) (length (new .comment))) (blocksOf s h)) ys t zs))) where
+      (done : first < limit → (r : Anodes) (ys : List ℕ) → neededBlock img (new .dir) (rewritten s first 0 65535) first ≡ planned r ys → (t : Anodes) (zs : List ℕ) →
+      neededBlock img (noRoom space) r h ≡ planned t zs → P (left 0 (madeImage img s h new first space ys t zs))) where
     refused-with : (n : ℕ) → (n ≡ 27) ⊎ (n ≡ 28) → P (left n img)
     refused-with n (inl e) = rw e full
     refused-with n (inr e) = rw e no-anode
 
-    pub made-cases : P (made img s h new)
+    made-cases : P (made img s h new)
     unfolding made madeWith
     made-cases = elim (less? first limit) [
       | inr l ↦ rw (le-ltb first limit l) no-anode

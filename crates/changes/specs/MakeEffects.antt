@@ -14,7 +14,7 @@ use Rattle.disk.proofs.Store.{getD-blockOf}
 use Rattle.directory.specs.declared.Walked.the-variants.{Found}
 use Rattle.directory.specs.declared.Entry.{Entry}
 use Rattle.directory.specs.Entries.{goodComment, entryLength, walkedAt, putEntry}
-use Rattle.directory.proofs.Laws.{length-putEntry, getD-putEntry-before, nameIn-putEntry, walkedAt-putEntry, found-at}
+use Rattle.directory.proofs.Laws.{length-putEntry, getD-putEntry-before, nameIn-putEntry, walkedAt-putEntry}
 use Rattle.rules.specs.Counting.{oneAt, times, gather}
 use Rattle.rules.specs.Anodes.{Anodes, limit, anodesOf}
 use Rattle.rules.specs.Chains.{chainOf, blocksOf}
@@ -30,15 +30,15 @@ use Rattle.laws.specs.TreeChanges.{headed}
 use Rattle.laws.specs.ChainBlocks.{stands-once}
 use Rattle.laws.specs.Each.{OneMore}
 use Rattle.laws.specs.DirectoryTakes.{dir-head}
+use Rattle.laws.specs.Members.{Member, times-none, member-first, member-times, times-member, gather-congr}
+use Rattle.laws.specs.NewDirectory.{entries-new}
 use Rattle.frames.specs.DisjointBlocks.{chains-apart, chain-block}
 use Rattle.frames.specs.StoredBytes.{BlocksKept}
 use Rattle.changes.specs.Image.{headIn, headed-reached, headed-same, ReachedDir}
-use Rattle.changes.specs.FoundEntries.{part-same, enteredAt, BlockEntry, block-standing}
-use Rattle.changes.specs.Members.{Member, none-in, member-first, member-times, times-member, gather-congr}
-use Rattle.changes.specs.Reached.{EntryIn, entry-not-1, block-on, reached-not-1, reached-head, dir-block, entry-facts, not-file}
-use Rattle.changes.specs.KeptChains.{SameChain, same-blocks, contents-same, entries-same}
+use Rattle.changes.specs.FoundEntries.{part-same, enteredAt, standing-found, BlockEntry, block-standing}
+use Rattle.changes.specs.Reached.{EntryIn, block-on, reached-not-1, dir-block, entry-facts, not-file}
+use Rattle.changes.specs.KeptChains.{SameChain, same-blocks, OthersLeft, contents-left, entries-left}
 use Rattle.changes.specs.EntryBytes.{entryBytes, bytes-at, with-length}
-use Rattle.laws.specs.NewDirectory.{entries-new}
 use Rattle.changes.specs.NewEntry.{comment-put}
 use Rattle.changes.specs.MadeImage.{Making, spare, parent, w, once, plan, grown, own-block, parent-block, before, kept-block, parent-new, cont, old-block, orphan, spot, inside-before, spot-data, in-block, at-end, entry-kept, entry-block, entry-other, made-disk, entries-made, other-entries}
 use Rattle.changes.specs.Make.{made-dirs}
@@ -63,7 +63,7 @@ bytes-put : {b : List ℕ} {y at : ℕ} {e : Entered} → BlockEntry b y at e �
     take (getD (putEntry b (entriesEnd b) x name comment) at 0) (drop at (putEntry b (entriesEnd b) x name comment)) ≡ take (getD b at 0) (drop at b)
 bytes-put {b} {y} {at} u x name comment =
     let st = block-standing u in
-    let found = found-at b at (st .entry) (st .walked) in
+    let found = standing-found st in
     let b′ = putEntry b (entriesEnd b) x name comment in
     with-length b′ b at at (omega (arith, found .long))
     (part-same b′ b at at (getD b at 0) (omega (arith, length-putEntry b (entriesEnd b) x name comment, u .whole, found .room)) (omega (arith, u .whole, found .room))
@@ -73,6 +73,7 @@ module _ {img : List ℕ} {blocks anodes h : ℕ} {new : NewEntry} {f : ℕ} {ro
   abbrev s : Anodes
   s = anodesOf img
 
+  -- the image that a make leaves
   abbrev j : List ℕ
   j = madeImage img s h new f room ys t zs
 
@@ -136,11 +137,10 @@ module _ {img : List ℕ} {blocks anodes h : ℕ} {new : NewEntry} {f : ℕ} {ro
   now-was l part none = gather-kept was now l (λ a p. other-entries m a (ones a (omega (arith, p, part a))) (λ e. omega (arith, p, none, ap (λ (x : ℕ). times x l) e)))
 
   -- the directory has its entries and the new one
-  pub entry-added : OneMore (enteredAt (entryOf new f) (entryPlace room zs)) (entriesOf img (anodesOf img) h)
-      (entriesOf (madeImage img (anodesOf img) h new f room ys t zs) (anodesOf (madeImage img (anodesOf img) h new f room ys t zs)) h)
+  pub entry-added : OneMore entered (entriesOf img s h) (entriesOf j (anodesOf j) h)
   entry-added = go (times-member (spot m .anode) (chainOf (t .next) limit h) (spot m .on))
     where
-      go : Member (spot m .anode) (chainOf (t .next) limit h) → OneMore (enteredAt (entryOf new f) (entryPlace room zs)) (entriesOf img s h) (entriesOf j (anodesOf j) h)
+      go : Member (spot m .anode) (chainOf (t .next) limit h) → OneMore entered (entriesOf img s h) (entriesOf j (anodesOf j) h)
       go (front, back, parted) =
           let a = spot m .anode in
           let alone = stands-once (orphan m .2 .good) h head-now a front back parted in
@@ -163,7 +163,7 @@ module _ {img : List ℕ} {blocks anodes h : ℕ} {new : NewEntry} {f : ℕ} {ro
   headed-made x = made-dirs m (λ d. oneAt (d .head) x)
 
   -- those that were reached are reached, and but for the new one no other
-  pub reached-kept : (x : ℕ) → x ≢ f → noDirectory (madeImage img (anodesOf img) h new f room ys t zs) (anodesOf (madeImage img (anodesOf img) h new f room ys t zs)) x ≡ noDirectory img (anodesOf img) x
+  pub reached-kept : (x : ℕ) → x ≢ f → noDirectory j (anodesOf j) x ≡ noDirectory img s x
   reached-kept x o = headed-same img j s (anodesOf j) x (omega (arith, headed-made x, none (new .dir)))
     where
       none : (b : Bool) → cond b (oneAt f x) 0 ≡ 0
@@ -171,7 +171,7 @@ module _ {img : List ℕ} {blocks anodes h : ℕ} {new : NewEntry} {f : ℕ} {ro
       none false = refl
 
   -- a new directory is reached
-  pub new-reached : new .dir ≡ true → noDirectory (madeImage img (anodesOf img) h new f room ys t zs) (anodesOf (madeImage img (anodesOf img) h new f room ys t zs)) f ≡ false
+  pub new-reached : new .dir ≡ true → noDirectory j (anodesOf j) f ≡ false
   new-reached d = headed-reached j (anodesOf j) f (omega (arith, headed-made f, ap (λ (b : Bool). cond b (oneAt f f) 0) d, oneAt-same f f refl))
 
   -- ---- other chains
@@ -209,26 +209,23 @@ module _ {img : List ℕ} {blocks anodes h : ℕ} {new : NewEntry} {f : ℕ} {ro
     block-same : (y : ℕ) → 0 < times y (blocksOf t k) → blockOf j y ≡ blockOf img y
     block-same y p =
         entry-kept m .block-kept y (λ e. apart-h (spot m .anode) (spot m .on) (rw (← e) p))
-        ∙ kept-block m y (chain-block img (orphan m .2 .good) k now-head y p) (none-in y ys (apart-f y p))
-        (none-in y zs (λ q. let b = parent-block m y q in
+        ∙ kept-block m y (chain-block img (orphan m .2 .good) k now-head y p) (times-none y ys (apart-f y p))
+        (times-none y zs (λ q. let b = parent-block m y q in
         apart-h (b .0) (omega (arith, b .1, ap (times (b .0)) (grown m .chain), times-append (b .0) (chainOf (s .next) limit h) (grown m .new))) (rw (← (b .2)) p)))
 
     blocks-kept : BlocksKept img j s k
     blocks-kept y p = block-same y (rw (same-blocks same-chain) p)
 
+  others-left : OthersLeft img j t h h
+  others-left = record { same-chains = same-chain; blocks-kept = λ k d k1 kh again. blocks-kept k d k1 kh }
+
   -- every file that was there has the bytes that it had
-  pub contents-kept : {k : ℕ} {e : Entered} → EntryIn img k e → e .dir ≡ false →
-      contents (madeImage img (anodesOf img) h new f room ys t zs) (anodesOf (madeImage img (anodesOf img) h new f room ys t zs)) e ≡ contents img (anodesOf img) e
-  contents-kept {e = e} n file =
-      let g = entry-facts n in
-      let eh : e .anode ≢ h = λ q. not-file (parent m) g file (sym q) in
-      rw (made-disk m .anodes) (contents-same img j e (same-chain (e .anode) (g .head) (entry-not-1 g) eh) (blocks-kept (e .anode) (g .head) (entry-not-1 g) eh))
+  pub contents-kept : {k : ℕ} {e : Entered} → EntryIn img k e → e .dir ≡ false → contents j (anodesOf j) e ≡ contents img s e
+  contents-kept n file = rw (made-disk m .anodes) (contents-left others-left (parent m) n file (λ q. not-file (parent m) (entry-facts n) file (sym q)))
 
   -- every other directory has the entries that it had
-  pub entries-kept : {k : ℕ} → ReachedDir img k → k ≢ h →
-      entriesOf (madeImage img (anodesOf img) h new f room ys t zs) (anodesOf (madeImage img (anodesOf img) h new f room ys t zs)) k ≡ entriesOf img (anodesOf img) k
-  entries-kept {k} r kh =
-      rw (made-disk m .anodes) (entries-same r j (blocks-kept k (reached-head r) (reached-not-1 r) kh) (same-chain k (reached-head r) (reached-not-1 r) kh))
+  pub entries-kept : {k : ℕ} → ReachedDir img k → k ≢ h → entriesOf j (anodesOf j) k ≡ entriesOf img s k
+  entries-kept r kh = rw (made-disk m .anodes) (entries-left others-left r kh kh)
 
   -- ---- the bytes of entries
 
@@ -241,7 +238,7 @@ module _ {img : List ℕ} {blocks anodes h : ℕ} {new : NewEntry} {f : ℕ} {ro
       ∙ ap (λ (b : List ℕ). putEntry b (entriesEnd b) (entryOf new f) (new .name) (new .comment)) (ap (blockOf (before m)) same ∙ old)
 
   -- those of an entry that was there are the same
-  pub bytes-kept : {k : ℕ} {e : Entered} → EntryIn img k e → entryBytes (madeImage img (anodesOf img) h new f room ys t zs) (e .place) ≡ entryBytes img (e .place)
+  pub bytes-kept : {k : ℕ} {e : Entered} → EntryIn img k e → entryBytes j (e .place) ≡ entryBytes img (e .place)
   unfolding entriesIn
   bytes-kept {e = e} n =
       let g = entry-facts n in
@@ -260,20 +257,20 @@ module _ {img : List ℕ} {blocks anodes h : ℕ} {new : NewEntry} {f : ℕ} {ro
   new-whole = length-blockOf (before m) (t .block (spot m .anode)) (inside-before m (t .block (spot m .anode)) (spot-data m))
 
   -- the new one is found there with its fields
-  pub new-found : walkedAt (blockOf (madeImage img (anodesOf img) h new f room ys t zs) (entryPlace room zs / 512)) (entryPlace room zs % 512) ≡ Found (entryOf new f)
+  pub new-found : walkedAt (blockOf j (entryPlace room zs / 512)) (entryPlace room zs % 512) ≡ Found (entryOf new f)
   unfolding entryOf goodComment
   new-found = rw (in-block m, at-end m, entry-block m)
       (walkedAt-putEntry (blockOf (before m) (t .block (spot m .anode))) (entriesEnd (blockOf (before m) (t .block (spot m .anode)))) (entryOf new f) (new .name) (new .comment) refl refl new-whole (spot m .fits) (m .named)
       (leb-true (length (new .comment)) 79 (m .commented)))
 
   -- with its name
-  pub new-name : nameAt (madeImage img (anodesOf img) h new f room ys t zs) (entryPlace room zs) ≡ new .name
+  pub new-name : nameAt j (entryPlace room zs) ≡ new .name
   unfolding nameAt entryOf
   new-name = rw (in-block m, at-end m, entry-block m)
       (nameIn-putEntry (blockOf (before m) (t .block (spot m .anode))) (entriesEnd (blockOf (before m) (t .block (spot m .anode)))) (entryOf new f) (new .name) (new .comment) refl refl new-whole (spot m .fits))
 
   -- and with its comment, behind the name and the comment's length byte
-  pub new-comment : take (length (new .comment)) (drop (entryPlace room zs + 17 + length (new .name)) (madeImage img (anodesOf img) h new f room ys t zs)) ≡ new .comment
+  pub new-comment : take (length (new .comment)) (drop (entryPlace room zs + 17 + length (new .name)) j) ≡ new .comment
   unfolding entryOf entryLength
   new-comment =
       let y = t .block (spot m .anode) in

@@ -19,7 +19,6 @@ use Rattle.laws.specs.Tests.{same?}
 use Rattle.laws.specs.Sums.{oneAt-cases, oneAt-same, oneAt-other, oneAt-le, changed-same, changed-other, least-cases}
 use Rattle.laws.specs.Bags.{times-nil, times-cons, times-append}
 use Rattle.laws.specs.Heads.{Head, head-of-is, times-on-chain}
-use Rattle.laws.specs.Space.{Good}
 use Rattle.laws.specs.Plans.{planned-same}
 use Rattle.laws.specs.Arriving.{free-is}
 use Rattle.laws.specs.Take.{take-good}
@@ -32,7 +31,11 @@ use Rattle.laws.specs.OwnBlock.{own-filled}
 use Rattle.laws.specs.Orphan.{Orphaned, not-dir, orphan-changed}
 use Rattle.laws.specs.DirectoryTakes.{find-headed, dir-head, dir-not-1, dir-taken, directory-takes}
 use Rattle.laws.specs.Make.{fresh-stays, fresh-chain, fresh-orphan}
-use Rattle.changes.specs.Image.{ReachedDir}
+use Rattle.changes.specs.Image.{GoodOn, ReachedDir}
+
+-- anodes t on the disk of img, where no entry names the chain of f
+abbrev pub OrphanedOn : List ℕ → ℕ → Anodes → (ℕ → ℕ) → (ℕ → ℕ) → (ℕ → List Entered) → (Dir → ℕ → Bool) → List Dir → Type 0
+OrphanedOn img f t hd sd entries marked dirs = Orphaned (exists img) (diskSize img) (lastReserved img) f t (systemOwns img) hd sd entries marked dirs
 
 -- h heads a reached directory of an accepted image, and f is the lowest free anode
 pub record Fresh (img : List ℕ) (blocks anodes h f : ℕ) : Type 0 where
@@ -78,7 +81,7 @@ pub record ParentGrown (s : Anodes) (hd : ℕ → ℕ) (h : ℕ) (needed : Bool)
 pub record MadePlan (img : List ℕ) (s : Anodes) (hd : ℕ → ℕ) (f h : ℕ) (dir needed : Bool) (ys zs : List ℕ) (t : Anodes) : Type 0 where
   pub hd′ : ℕ → ℕ
   pub sd′ : ℕ → ℕ
-  pub good : Good limit (exists img) (diskSize img) (lastReserved img) t (systemOwns img) hd′ sd′
+  pub good : GoodOn img t hd′ sd′
   pub own-chain : chainOf (t .next) limit f ≡ f ∷ []
   pub own-count : t .count f ≡ cond dir 1 0
   pub own-blocks : ys ≡ cond dir (t .block f ∷ []) []
@@ -92,15 +95,16 @@ module _ (img : List ℕ) {s : Anodes} {hd sd : ℕ → ℕ} {entries : ℕ → 
   begun = rewritten s f 0 65535
 
   -- the fresh head, while the directories stay as they are
-  orphan : Orphaned (exists img) (diskSize img) (lastReserved img) f begun (systemOwns img) (changed hd f f) (changed sd f f) entries marked dirs
+  orphan : OrphanedOn img f begun (changed hd f f) (changed sd f f) entries marked dirs
   orphan = fresh-orphan w f f6 there fA fresh entries marked (λ a i q. (refl, λ d. refl))
 
   -- ---- the own block
 
+  -- the fresh head alone in its chain, with a block if it is a directory's
   record OwnStep (dir : Bool) (t : Anodes) (ys : List ℕ) : Type 0 where
     hd′ : ℕ → ℕ
     sd′ : ℕ → ℕ
-    good : Good limit (exists img) (diskSize img) (lastReserved img) t (systemOwns img) hd′ sd′
+    good : GoodOn img t hd′ sd′
     shift : Shift begun (changed hd f f) t hd′ 1 f
     chain : chainOf (t .next) limit f ≡ f ∷ []
     count : t .count f ≡ cond dir 1 0
@@ -135,10 +139,10 @@ module _ (img : List ℕ) {s : Anodes} {hd sd : ℕ → ℕ} {entries : ℕ → 
     -- with other entries and marks that agree with the old in the blocks of directories
     owned : (entries′ : ℕ → List Entered) (marked′ : Dir → ℕ → Bool)
         (cont : (a : ℕ) → s .count a ≡ 1 → hd a ≢ 1 → (entries′ (s .block a) ≡ entries (s .block a)) × ((d : Dir) → marked′ d (s .block a) ≡ marked d (s .block a))) →
-        Orphaned (exists img) (diskSize img) (lastReserved img) f r (systemOwns img) (step .hd′) (step .sd′) entries′ marked′ dirs
+        OrphanedOn img f r (step .hd′) (step .sd′) entries′ marked′ dirs
     owned entries′ marked′ cont = orphan-changed (fresh-orphan w f f6 there fA fresh entries′ marked′ cont) f6 (step .good) (step .shift)
 
-    o : Orphaned (exists img) (diskSize img) (lastReserved img) f r (systemOwns img) (step .hd′) (step .sd′) entries marked dirs
+    o : OrphanedOn img f r (step .hd′) (step .sd′) entries marked dirs
     o = owned entries marked (λ a i q. (refl, λ d. refl))
 
     parent-none : ParentGrown r (step .hd′) h false [] r
@@ -194,19 +198,19 @@ module _ (img : List ℕ) {s : Anodes} {hd sd : ℕ → ℕ} {entries : ℕ → 
         }
 
     parent-good : (needed : Bool) (t : Anodes) (zs : List ℕ) → neededBlock img needed r h ≡ planned t zs →
-        (hd′ : ℕ → ℕ) × (sd′ : ℕ → ℕ) × Good limit (exists img) (diskSize img) (lastReserved img) t (systemOwns img) hd′ sd′
+        (hd′ : ℕ → ℕ) × (sd′ : ℕ → ℕ) × GoodOn img t hd′ sd′
     unfolding neededBlock
     parent-good false t zs e = (step .hd′, step .sd′, rw (sym (planned-same r t [] zs e .0)) (step .good))
     parent-good true t zs e = let m = take-good (o .good) h (dir-head o h reached) (dir-not-1 o h reached) true t zs e in (m .hd′, m .sd′, m .good)
 
     -- nothing names the new chain yet
-    parent-orphan : (entries′ : ℕ → List Entered) (marked′ : Dir → ℕ → Bool) → Orphaned (exists img) (diskSize img) (lastReserved img) f r (systemOwns img) (step .hd′) (step .sd′) entries′ marked′ dirs →
+    parent-orphan : (entries′ : ℕ → List Entered) (marked′ : Dir → ℕ → Bool) → OrphanedOn img f r (step .hd′) (step .sd′) entries′ marked′ dirs →
         (needed : Bool) (t : Anodes) (zs : List ℕ) → neededBlock img needed r h ≡ planned t zs → ((y : ℕ) → zs ≡ y ∷ [] → entries′ y ≡ []) →
         ((y : ℕ) → zs ≡ y ∷ [] → Each (λ d. d .head ≡ h → T (marked′ d y)) dirs) →
-        (hd′ : ℕ → ℕ) × (sd′ : ℕ → ℕ) × Orphaned (exists img) (diskSize img) (lastReserved img) f t (systemOwns img) hd′ sd′ entries′ marked′ dirs
+        (hd′ : ℕ → ℕ) × (sd′ : ℕ → ℕ) × OrphanedOn img f t hd′ sd′ entries′ marked′ dirs
     unfolding neededBlock
     parent-orphan entries′ marked′ p false t zs e empty its = let q = planned-same r t [] zs e in
-        (step .hd′, step .sd′, subst (λ (x : Anodes). Orphaned (exists img) (diskSize img) (lastReserved img) f x (systemOwns img) (step .hd′) (step .sd′) entries′ marked′ dirs) (q .0) p)
+        (step .hd′, step .sd′, subst (λ (x : Anodes). OrphanedOn img f x (step .hd′) (step .sd′) entries′ marked′ dirs) (q .0) p)
     parent-orphan entries′ marked′ p true t zs e empty its = (_, _, directory-takes p h reached t zs e empty its)
 
     -- ---- both
@@ -273,5 +277,5 @@ module _ (img : List ℕ) {s : Anodes} {hd sd : ℕ → ℕ} {entries : ℕ → 
     pub made-orphan : (needed : Bool) (t : Anodes) (zs : List ℕ) → neededBlock img needed r h ≡ planned t zs → (entries′ : ℕ → List Entered) (marked′ : Dir → ℕ → Bool)
         (cont : (a : ℕ) → s .count a ≡ 1 → hd a ≢ 1 → (entries′ (s .block a) ≡ entries (s .block a)) × ((d : Dir) → marked′ d (s .block a) ≡ marked d (s .block a))) →
         ((y : ℕ) → zs ≡ y ∷ [] → entries′ y ≡ []) → ((y : ℕ) → zs ≡ y ∷ [] → Each (λ d. d .head ≡ h → T (marked′ d y)) dirs) →
-        (hd′ : ℕ → ℕ) × (sd′ : ℕ → ℕ) × Orphaned (exists img) (diskSize img) (lastReserved img) f t (systemOwns img) hd′ sd′ entries′ marked′ dirs
+        (hd′ : ℕ → ℕ) × (sd′ : ℕ → ℕ) × OrphanedOn img f t hd′ sd′ entries′ marked′ dirs
     made-orphan needed t zs e entries′ marked′ cont empty its = parent-orphan entries′ marked′ (owned entries′ marked′ cont) needed t zs e empty its

@@ -15,14 +15,15 @@ use Rattle.laws.specs.Bags.{list-cons, list-append, list-congr, gather-sum, map
 use Rattle.laws.specs.Items.{names-sum, namedIn}
 use Rattle.laws.specs.Entries.{item-anode, items-sum}
 use Rattle.laws.specs.Whole.{Whole}
+use Rattle.laws.specs.Members.{Member, member-sum, member-congr, two-members}
 use Rattle.changes.specs.Image.{AcceptedImage, accepted-whole}
-use Rattle.changes.specs.Members.{Member, member-sum, member-congr, two-members}
 use Rattle.changes.specs.Reached.{its-items, EntryFacts}
 
 -- how often the entries of a list name x
 unfoldable namesOf : ℕ → List Entered → ℕ
 namesOf x l = sumList (λ e. oneAt (e .anode) x) l
 
+-- where they never name it, none of them does
 none-names : (x : ℕ) (l : List Entered) → namesOf x l ≡ 0 → (e : Entered) → Member e l → e .anode ≢ x
 unfolding namesOf
 none-names x l z e m q = omega (arith, z, member-sum (λ e. oneAt (e .anode) x) e l m, oneAt-same (e .anode) x q)

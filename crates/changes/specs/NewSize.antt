@@ -21,7 +21,7 @@ use Rattle.directory.specs.Entries.{directoryHeadIn, kindRead, nameLength, comm
 use Rattle.directory.proofs.Laws.{found-at, end-at}
 use Rattle.rules.specs.Counting.{anyIn}
 use Rattle.rules.specs.Walk.{Entered, entriesFrom}
-use Rattle.changes.specs.FoundEntries.{head-same, walked-same, entries-more, entries-end, unbroken-cases, reaches}
+use Rattle.changes.specs.FoundEntries.{head-same, walked-same, entries-more, entries-end, unbroken-cases, standing-found, reaches}
 
 -- the same entry with another size
 abbrev pub sized : ℕ → Entered → Entered
@@ -138,7 +138,7 @@ module _ (b : List ℕ) (y at new : ℕ) (whole : length b ≡ 512) (e : Entered
       let r = reaches b y at e place ys xs k p i u in
       let o = r .found in
       let s = o .stands in
-      let g = found-at b at (s .entry) (s .walked) in
+      let g = standing-found s in
       let c = b′ b at new in
       r .front c whole whole′ (λ i l. others b at new i (inl (omega arith)))
       ∙ ap (λ (l : List Entered). xs ++ l) (entries-more c y (r .m) at (withNew new (s .entry)) (walked-new b at new (omega (arith, whole, g .long, g .room)) ∙ ap (onFound new) (s .walked))

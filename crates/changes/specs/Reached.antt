@@ -9,13 +9,12 @@ use native.Mathlib.Omega.{arith}
 use lib.ListN.{length}
 use Rattle.disk.specs.Blocks.{blockOf}
 use Rattle.disk.proofs.Laws.{length-blockOf}
-use Rattle.directory.proofs.Laws.{FoundAt, found-at}
+use Rattle.directory.proofs.Laws.{FoundAt}
 use Rattle.rules.specs.Counting.{oneAt, sumList, times, anyIn}
 use Rattle.rules.specs.Anodes.{Anodes, limit, anodesOf}
 use Rattle.rules.specs.Chains.{chainOf, heads, run, blocksOf, blockCount}
 use Rattle.rules.specs.Walk.{Dir, Entered, Item, entriesIn, isBlockOf, blocksFor, itemOf, broken, itemsAt, itemsBy, reachedDirs}
 use Rattle.rules.specs.Lookup.{entriesOf, isNamed, firstNamed, entryNamed, nth}
-use Rattle.counting.specs.Laws.{none-or}
 use Rattle.laws.specs.Tests.{T-true}
 use Rattle.laws.specs.Sums.{oneAt-cases, oneAt-same, oneAt-some}
 use Rattle.laws.specs.Bags.{list-one, list-some, gather-sum, map-sum}
@@ -27,10 +26,10 @@ use Rattle.laws.specs.TreeChanges.{headed}
 use Rattle.laws.specs.Totals.{file-size}
 use Rattle.laws.specs.Entries.{broken-wrong, item-fine, item-anode, item-dir, items-sum, itemsAt-cases}
 use Rattle.laws.specs.Whole.{Whole, counts-head, not-dir, dir-heads, named-heads}
+use Rattle.laws.specs.Members.{Member, member-later, member-each, member-sum, none-pass, member-gather, member-times}
 use Rattle.frames.specs.DisjointBlocks.{DataBlock, chain-block}
 use Rattle.changes.specs.Image.{WholeImage, headIn, sideIn, AcceptedImage, accepted-whole, headed-named, headed-reached, reached-some, ReachedDir}
-use Rattle.changes.specs.FoundEntries.{Standing, entry-place, BlockEntry}
-use Rattle.changes.specs.Members.{Member, member-first, member-later, member-each, member-sum, member-gather, member-times}
+use Rattle.changes.specs.FoundEntries.{Standing, standing-found, entry-place, BlockEntry}
 
 -- ---- lookups
 
@@ -83,6 +82,7 @@ module _ {ex : ℕ → Bool} {n last : ℕ} {s : Anodes} {system hd sd : ℕ →
         member-each (λ d. faults items d ≡ 0) d dirs in-tree (each-zero (faults items) dirs (w .tree .faultless)),
       )
 
+      -- it has one block, marked as the directory's, whose entries give its items
       pub its-items : (s .count a ≡ 1) × (marked d (s .block a) ≡ true) × (itemsAt entries marked s d a ≡ map (itemOf s) (entries (s .block a)))
       its-items = elim (itemsAt-cases entries marked s d a) [
         | inl q ↦ (q .0, T-true (marked d (s .block a)) (q .1), q .2)
@@ -172,12 +172,6 @@ module _ {img : List ℕ} {h : ℕ} {e : Entered} (f : EntryFacts img h e) where
   unfolding entriesIn
   block-entry = record { whole = rw (f .in-block) (f .block-facts .whole); unbroken = rw (f .in-block) (f .block-facts .unbroken); parted = rw (f .in-block) (f .member); place = omega arith }
 
--- a list whose members keep the entry rules
-none-broken : (l : List Entered) → ((e : Entered) → Member e l → e .broken ≡ false) → anyIn (λ e. e .broken) l ≡ false
-unfolding anyIn
-none-broken [] f = refl
-none-broken (e ∷ l) f = none-or (e .broken) (anyIn (λ e. e .broken) l) (f e (member-first e l)) (none-broken l (λ x m. f x (member-later x e l m)))
-
 -- the one block of an anode with count 1 is a block of its chain
 pub block-on : (s : Anodes) (h a : ℕ) → Member a (chainOf (s .next) limit h) → s .count a ≡ 1 → 0 < times (s .block a) (blocksOf s h)
 unfolding blocksOf times run
@@ -202,7 +196,7 @@ module _ {img : List ℕ} {h : ℕ} (r : ReachedDir img h) where
   unfolding headed
   reached-dir = headed-member h (reachedDirs img (anodesOf img)) some-dir
 
-  pub reached-from-5 : 5 ≤ h
+  reached-from-5 : 5 ≤ h
   reached-from-5 = head-from-5 w h some-dir
 
   pub reached-not-1 : h ≢ 1
@@ -225,7 +219,7 @@ module _ {img : List ℕ} {h : ℕ} (r : ReachedDir img h) where
         one = t .0;
         is-data = b;
         whole = length-blockOf img y (b .inside);
-        unbroken = none-broken (entriesIn img y) (λ e m. fine w (reached-dir .0) (reached-dir .1) a c e m .0);
+        unbroken = none-pass (λ e. e .broken) (entriesIn img y) (λ e m. fine w (reached-dir .0) (reached-dir .1) a c e m .0);
         dir = reached-dir .0;
         dir-head = reached-dir .2;
         reached = reached-dir .1;
@@ -239,7 +233,7 @@ module _ {img : List ℕ} {h : ℕ} (r : ReachedDir img h) where
   place-in a on e m =
       let y = anodesOf img .block a in
       let p = entry-place (blockOf img y) y 28 16 e m (dir-block a on .unbroken) in
-      (p .0, ap (λ (c : Entered). c .place) (p .2 .is), found-at (blockOf img y) (p .0) (p .2 .entry) (p .2 .walked))
+      (p .0, ap (λ (c : Entered). c .place) (p .2 .is), standing-found (p .2))
 
   module _ (e : Entered) (member : Member e (entriesOf img (anodesOf img) h)) where
     -- an entry of it
@@ -276,14 +270,14 @@ module _ {img : List ℕ} {h : ℕ} (r : ReachedDir img h) where
         file-one : e .dir ≡ false → file-size (λ x. oneAt x (e .anode)) (itemOf (anodesOf img) e) ≡ 1
         file-one i = rw (item-dir (anodesOf img) e ∙ i, item-anode (anodesOf img) e) (oneAt-same (e .anode) (e .anode) refl)
 
-  -- it is no file's
+  -- its head is no file's
   pub not-file : {k : ℕ} {e : Entered} → EntryFacts img k e → e .dir ≡ false → h ≢ e .anode
   not-file {e = e} f i q =
       member-each (λ d. d .head ≢ e .anode) (reached-dir .0) (reachedDirs img (anodesOf img)) (reached-dir .1) (not-dir w (e .anode) (f .file i)) (reached-dir .2 ∙ q)
 
   -- no entry of it breaks the entry rules
   pub reached-unbroken : anyIn (λ e. e .broken) (entriesOf img (anodesOf img) h) ≡ false
-  reached-unbroken = none-broken (entriesOf img (anodesOf img) h) (λ e m. facts-of e m .unbroken)
+  reached-unbroken = none-pass (λ e. e .broken) (entriesOf img (anodesOf img) h) (λ e m. facts-of e m .unbroken)
 
 pub entry-facts : {img : List ℕ} {h : ℕ} {e : Entered} → EntryIn img h e → EntryFacts img h e
 entry-facts {e = e} m = facts-of (m .directory) e (m .member)

@@ -15,11 +15,11 @@ use Rattle.rules.specs.Walk.{Entered, blocksFor}
 use Rattle.rules.specs.Accepted.{checkAnswer}
 use Rattle.rules.specs.Lookup.{noDirectory, entryNamed, bytesOf, contents}
 use Rattle.rules.specs.Calls.{spanAnswer, readAnswer, readOutcome, settled, doneOr}
+use Rattle.laws.specs.ChainBlocks.{length-blocksOf}
 use Rattle.frames.specs.StoredBytes.{length-gather}
 use Rattle.frames.specs.DisjointBlocks.{chain-block}
 use Rattle.changes.specs.Image.{accepted-whole}
 use Rattle.changes.specs.Reached.{named-member, EntryIn, entry-facts}
-use Rattle.changes.specs.ResizeStores.{length-blocksOf}
 
 -- the bytes of a file
 module _ {img : List ℕ} {h : ℕ} {e : Entered} (m : EntryIn img h e) (file : e .dir ≡ false) where

@@ -11,7 +11,7 @@ use Rattle.rules.specs.Counting.{oneAt, sumList}
 use Rattle.rules.specs.Anodes.{Anodes, limit, exists, anodesOf}
 use Rattle.rules.specs.Chains.{blockCount, systemOwns}
 use Rattle.rules.specs.Walk.{Dir, Entered, entriesIn, isBlockOf, reachedDirs}
-use Rattle.rules.specs.Accepted.{diskSize, lastReserved, checkAnswer}
+use Rattle.rules.specs.Accepted.{lastReserved, checkAnswer}
 use Rattle.rules.specs.Lookup.{entriesOf, nth, isThere, notEmpty}
 use Rattle.rules.specs.Space.{Plan, refused, giveMany, onChain, dropped}
 use Rattle.rules.specs.Changes.{removedImage, removed}
@@ -21,11 +21,11 @@ use Rattle.laws.specs.Bags.{list-cons, list-append, map-sum}
 use Rattle.laws.specs.LinkChanges.{without}
 use Rattle.laws.specs.TreeChanges.{headed}
 use Rattle.laws.specs.Entries.{weighEntry}
-use Rattle.laws.specs.Whole.{Whole, blocks-count}
+use Rattle.laws.specs.Whole.{blocks-count}
 use Rattle.laws.specs.RefusedSteps.{gives-refused}
 use Rattle.laws.specs.Remove as Laws
 use Rattle.frames.specs.Kept.{entriesIn-kept, isBlockOf-kept}
-use Rattle.changes.specs.Image.{headIn, sideIn, accepted-whole, whole-accepted, reached-headed}
+use Rattle.changes.specs.Image.{WholeOn, headIn, sideIn, accepted-whole, whole-accepted, reached-headed}
 use Rattle.changes.specs.Reached.{EntryIn, entry-not-1, entry-facts}
 use Rattle.changes.specs.Gap.{lowered}
 use Rattle.changes.specs.PlannedChange.{left-cases, image, w, facts}
@@ -39,12 +39,15 @@ module _ {img : List ℕ} {e : Entered} {t : Anodes} {ys : List ℕ} (p : Planne
   abbrev y : ℕ
   y = e .place / 512
 
+  -- the image that a removal leaves
   abbrev j : List ℕ
   j = removedImage img e t ys
 
+  -- the anode whose block has it
   in-y : (a : ℕ) → a ≡ facts p .a₀ → s .block a ≡ y
   in-y a q = ap (s .block) q ∙ sym (facts p .in-block)
 
+  -- its block has one entry less
   one-less : (v : Bool → Bool → ℕ → ℕ → ℕ) → sumList (weighEntry v) (entriesIn img y) ≡ sumList (weighEntry v) (entriesIn j y) + weighEntry v e
   unfolding entriesIn
   one-less v =
@@ -59,6 +62,7 @@ module _ {img : List ℕ} {e : Entered} {t : Anodes} {ys : List ℕ} (p : Planne
         map-sum low (weighEntry v) (here p .parted .1),
       )
 
+  -- the block of one anode has lost the entry
   cont : (a : ℕ) → s .count a ≡ 1 → headIn img a ≢ 1 → (v : Bool → Bool → ℕ → ℕ → ℕ) →
       sumList (weighEntry v) (entriesIn img (s .block a)) ≡ sumList (weighEntry v) (entriesIn j (s .block a)) + oneAt a (facts p .a₀) * weighEntry v e
   cont a one q v = elim (same? a (facts p .a₀)) [
@@ -66,6 +70,7 @@ module _ {img : List ℕ} {e : Entered} {t : Anodes} {ys : List ℕ} (p : Planne
     | inr i ↦ rw (entriesIn-kept (kept-data p) (s .block a) (apart p a one i), oneAt-other a (facts p .a₀) i) (omega arith)
   ]
 
+  -- and all have the marks that they had
   same-marks : (a : ℕ) → s .count a ≡ 1 → headIn img a ≢ 1 → (d : Dir) → isBlockOf j d (s .block a) ≡ isBlockOf img d (s .block a)
   same-marks a one q d = elim (same? a (facts p .a₀)) [
     | inl i ↦ rw (in-y a i) (marks-left p d)
@@ -73,6 +78,7 @@ module _ {img : List ℕ} {e : Entered} {t : Anodes} {ys : List ℕ} (p : Planne
   ]
 
   module _ (empty : e .dir ≡ true → notEmpty img s e ≡ false) where
+    -- a directory that goes has no entry
     pub no-entry : e .dir ≡ true → entriesOf img s (e .anode) ≡ []
     unfolding notEmpty nth
     no-entry i = go (entriesOf img s (e .anode)) (empty i)
@@ -83,12 +89,12 @@ module _ {img : List ℕ} {e : Entered} {t : Anodes} {ys : List ℕ} (p : Planne
 
     -- the state that is left is whole, and every other directory is still in it
     pub left-whole : let dead = onChain limit t (e .anode) in (dirs : List Dir)
-        × Whole (exists img) (diskSize img) (lastReserved img) (dropped limit t (e .anode)) (systemOwns img) (without dead (Stores.ran p .hd′)) (without dead (Stores.ran p .sd′)) (entriesIn j) (isBlockOf j) dirs
+        × WholeOn img j (dropped limit t (e .anode)) (without dead (Stores.ran p .hd′)) (without dead (Stores.ran p .sd′)) dirs
         × ((x : ℕ) → x ≢ e .anode → headed x dirs ≡ headed x (reachedDirs img s))
     unfolding entriesOf
     left-whole = Laws.removed (w p) e (e .anode) refl (facts p .a₀) (p .home) (reached-headed (p .entry .directory)) (facts p .block-facts .on-chain) (entriesIn j) cont no-entry (Stores.ran p) (isBlockOf j) same-marks
 
-    pub planned-accepted : checkAnswer (removedImage img e t ys) (image p .blocks) (image p .anodes) ≡ 0
+    pub planned-accepted : checkAnswer j (image p .blocks) (image p .anodes) ≡ 0
     planned-accepted = whole-accepted (image p) (Stores.removed-disk p) (left-whole .1)
 
 module _ {img : List ℕ} {h : ℕ} {e : Entered} (m : EntryIn img h e) where

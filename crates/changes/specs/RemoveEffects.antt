@@ -1,6 +1,6 @@
 -- What a removal leaves of all else: every other directory is reached and has its entries, every other file its bytes.
 use Prim.Native.Nat.{ℕ}
-use mathlib.Core.Path.{_≡_, refl, sym, _∙_}
+use mathlib.Core.Path.{_≡_, refl, _∙_}
 use mathlib.Core.Logic.{_≢_}
 use mathlib.Core.Bool.{Bool, true, false}
 use mathlib.Core.List.{List}
@@ -16,9 +16,9 @@ use Rattle.laws.specs.Remove as Laws
 use Rattle.frames.specs.DisjointBlocks.{chain-block}
 use Rattle.frames.specs.StoredBytes.{BlocksKept}
 use Rattle.changes.specs.Image.{headIn, reached-sum, headed-same, ReachedDir}
-use Rattle.changes.specs.Reached.{EntryIn, entry-not-1, reached-not-1, reached-head, entry-facts, not-file}
+use Rattle.changes.specs.Reached.{EntryIn, reached-head}
 use Rattle.changes.specs.EntryBytes.{entryBytes}
-use Rattle.changes.specs.KeptChains.{SameChain, contents-same, entries-same, entry-bytes-same}
+use Rattle.changes.specs.KeptChains.{SameChain, entry-bytes-same, OthersLeft, contents-left, entries-left}
 use Rattle.changes.specs.PlannedChange.{image, w, facts, off-chain}
 use Rattle.changes.specs.RemoveStores.{PlannedRemove, ran, end-good, removed-disk, kept-data}
 use Rattle.changes.specs.Remove.{left-whole, planned-accepted}
@@ -27,6 +27,7 @@ module _ {img : List ℕ} {e : Entered} {t : Anodes} {ys : List ℕ} (p : Planne
   abbrev s : Anodes
   s = anodesOf img
 
+  -- the image that a removal leaves
   abbrev j : List ℕ
   j = removedImage img e t ys
 
@@ -50,21 +51,19 @@ module _ {img : List ℕ} {e : Entered} {t : Anodes} {ys : List ℕ} (p : Planne
     others-kept : m ≢ p .home → BlocksKept img j s m
     others-kept o z q = kept-data p .block-kept z (chain-block img (w p .good) m head z q, off-chain p m head o z q)
 
+  others-left : OthersLeft img j end (e .anode) (p .home)
+  others-left = record { same-chains = others-same; blocks-kept = λ m d m1 other. others-kept m d }
+
   -- every other file has the bytes that it had
-  pub contents-kept : {k : ℕ} {f : Entered} → EntryIn img k f → f .dir ≡ false → f .anode ≢ e .anode →
-      contents (removedImage img e t ys) (anodesOf (removedImage img e t ys)) f ≡ contents img s f
-  contents-kept {f = f} m file o =
-      let g = entry-facts m in
-      let not-home : f .anode ≢ p .home = λ q. not-file (p .entry .directory) g file (sym q) in
-      rw (removed-disk p .anodes) (contents-same img j f (others-same (f .anode) (g .head) (entry-not-1 g) o) (others-kept (f .anode) (g .head) not-home))
+  pub contents-kept : {k : ℕ} {f : Entered} → EntryIn img k f → f .dir ≡ false → f .anode ≢ e .anode → contents j (anodesOf j) f ≡ contents img s f
+  contents-kept m file o = rw (removed-disk p .anodes) (contents-left others-left (p .entry .directory) m file o)
 
   -- every other directory has the entries that it had
-  pub entries-kept : {k : ℕ} → ReachedDir img k → k ≢ p .home → k ≢ e .anode → entriesOf (removedImage img e t ys) (anodesOf (removedImage img e t ys)) k ≡ entriesOf img s k
-  entries-kept {k} r kh o =
-      rw (removed-disk p .anodes) (entries-same r j (others-kept k (reached-head r) kh) (others-same k (reached-head r) (reached-not-1 r) o))
+  pub entries-kept : {k : ℕ} → ReachedDir img k → k ≢ p .home → k ≢ e .anode → entriesOf j (anodesOf j) k ≡ entriesOf img s k
+  entries-kept r kh o = rw (removed-disk p .anodes) (entries-left others-left r o kh)
 
   -- every entry of another directory has the bytes that it had
-  pub bytes-kept : {k : ℕ} {f : Entered} → EntryIn img k f → k ≢ p .home → entryBytes (removedImage img e t ys) (f .place) ≡ entryBytes img (f .place)
+  pub bytes-kept : {k : ℕ} {f : Entered} → EntryIn img k f → k ≢ p .home → entryBytes j (f .place) ≡ entryBytes img (f .place)
   bytes-kept {k} m kh = entry-bytes-same (m .directory) j (others-kept k (reached-head (m .directory)) kh) m
 
   -- ---- the directories
@@ -77,11 +76,11 @@ module _ {img : List ℕ} {e : Entered} {t : Anodes} {ys : List ℕ} (p : Planne
         reached-sum (image p) (removed-disk p) (l .1) (λ d. oneAt (d .head) x) ∙ l .2 x o
 
     -- those that were reached are reached, and no other
-    pub reached-kept : (x : ℕ) → x ≢ e .anode → noDirectory (removedImage img e t ys) (anodesOf (removedImage img e t ys)) x ≡ noDirectory img s x
+    pub reached-kept : (x : ℕ) → x ≢ e .anode → noDirectory j (anodesOf j) x ≡ noDirectory img s x
     reached-kept x o = headed-same img j s (anodesOf j) x (left-headed x o)
 
     -- what went is no directory
-    pub removed-unreached : noDirectory (removedImage img e t ys) (anodesOf (removedImage img e t ys)) (e .anode) ≡ true
+    pub removed-unreached : noDirectory j (anodesOf j) (e .anode) ≡ true
     removed-unreached = go (noDirectory j (anodesOf j) (e .anode)) refl
       where
         go : (b : Bool) → noDirectory j (anodesOf j) (e .anode) ≡ b → noDirectory j (anodesOf j) (e .anode) ≡ true

@@ -13,14 +13,13 @@ use Rattle.rules.specs.Accepted.{diskSize, lastReserved}
 use Rattle.rules.specs.Space.{planned, giveMany, onChain, dropped}
 use Rattle.rules.specs.Changes.{entriesEnd, gapClosed, withoutEntry, removedImage}
 use Rattle.laws.specs.LinkChanges.{without}
-use Rattle.laws.specs.Space.{Good}
 use Rattle.laws.specs.Whole.{blocks-count}
 use Rattle.laws.specs.Resize.{Ran, shrink-ran}
 use Rattle.laws.specs.Remove.{dropped-good}
 use Rattle.frames.specs.Kept.{Kept, kept-both}
 use Rattle.frames.specs.StoredBlocks.{inBlock-kept, blockOf-inBlock}
 use Rattle.frames.specs.DisjointBlocks.{DataBlock}
-use Rattle.changes.specs.Image.{headIn, sideIn, DiskWith, stored-kept, disk-stored, not-one, disk-then}
+use Rattle.changes.specs.Image.{GoodOn, headIn, sideIn, DiskWith, stored-kept, disk-stored, not-one, disk-then}
 use Rattle.changes.specs.FoundEntries.{BlockEntry}
 use Rattle.changes.specs.Reached.{block-data, block-entry}
 use Rattle.changes.specs.SingleBlocks.{single-data}
@@ -63,6 +62,7 @@ module _ {img : List ℕ} {e : Entered} {t : Anodes} {ys : List ℕ} (p : Planne
   abbrev stored : List ℕ
   stored = withAnodes img end
 
+  -- the image that a removal leaves
   abbrev j : List ℕ
   j = removedImage img e t ys
 
@@ -71,7 +71,7 @@ module _ {img : List ℕ} {e : Entered} {t : Anodes} {ys : List ℕ} (p : Planne
       (p .plan)
 
   pub end-good : let dead = onChain limit t (e .anode) in
-      Good limit (exists img) (diskSize img) (lastReserved img) (dropped limit t (e .anode)) (systemOwns img) (without dead (ran .hd′)) (without dead (ran .sd′))
+      GoodOn img (dropped limit t (e .anode)) (without dead (ran .hd′)) (without dead (ran .sd′))
   end-good = dropped-good (e .anode) (facts p .from-6) (facts p .head) ran
 
   same-block : blockOf stored y ≡ b
@@ -92,7 +92,7 @@ module _ {img : List ℕ} {e : Entered} {t : Anodes} {ys : List ℕ} (p : Planne
   unfolding removedImage withoutEntry closer
   block-left = blockOf-inBlock stored y closer long ∙ ap closer same-block
 
-  pub removed-disk : DiskWith img (dropped limit t (e .anode)) (removedImage img e t ys)
+  pub removed-disk : DiskWith img (dropped limit t (e .anode)) j
   removed-disk = disk-then (disk-stored (image p) end end-good) kept-last (not-one (block-data (facts p)))
 
   -- ---- the entries and marks of the blocks

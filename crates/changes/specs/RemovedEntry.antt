@@ -18,9 +18,9 @@ use Rattle.rules.specs.Lookup.{entriesOf, notEmpty}
 use Rattle.rules.specs.Changes.{entriesEnd, gapClosed, removedImage}
 use Rattle.laws.specs.Bags.{gather-append}
 use Rattle.laws.specs.ChainBlocks.{stands-once}
+use Rattle.laws.specs.Members.{Member, no-member, member-later, member-append, member-left, member-right, member-gather, member-times, gather-congr, map-members, map-kept}
 use Rattle.frames.specs.Kept.{entriesIn-kept}
 use Rattle.frames.specs.DisjointBlocks.{DataBlock}
-use Rattle.changes.specs.Members.{Member, no-member, member-append, member-gather, member-times, gather-congr, map-members, map-kept}
 use Rattle.changes.specs.Reached.{reached-not-1, dir-block, place-in, not-file}
 use Rattle.changes.specs.Gap.{lowered, bytes-earlier, bytes-later}
 use Rattle.changes.specs.EntryBytes.{entryBytes, bytes-at, with-length}
@@ -43,20 +43,11 @@ pub record EntryGone (img j : List ℕ) (e : Entered) (old new : List Entered) :
   pub bytes-before : (f : Entered) → Member f before → entryBytes j (f .place) ≡ entryBytes img (f .place)
   pub bytes-behind : (f : Entered) → Member f behind → entryBytes j (movedUp img e f .place) ≡ entryBytes img (f .place)
 
--- ---- lists
-
--- a member of the part before, or behind, another member
-module _ {ℓ} {X : Type ℓ} (x z : X) (l m all : List X) (parted : all ≡ l ++ (z ∷ m)) where
-  member-front : Member x l → Member x all
-  member-front (us, vs, i) = (us, vs ++ (z ∷ m), parted ∙ rw i (append-assoc us (x ∷ vs) (z ∷ m)))
-
-  member-back : Member x m → Member x all
-  member-back (us, vs, i) = (l ++ (z ∷ us), vs, parted ∙ rw i (sym (append-assoc l (z ∷ us) (x ∷ vs))))
-
 module _ {img : List ℕ} {e : Entered} {t : Anodes} {ys : List ℕ} (p : PlannedRemove img e t ys) where
   abbrev s : Anodes
   s = anodesOf img
 
+  -- the image that a removal leaves
   abbrev j : List ℕ
   j = removedImage img e t ys
 
@@ -97,7 +88,7 @@ module _ {img : List ℕ} {e : Entered} {t : Anodes} {ys : List ℕ} (p : Planne
   same-before : (f : Entered) → Member f earlier → entryBytes j (f .place) ≡ entryBytes img (f .place)
   unfolding entriesIn
   same-before f m =
-      let k = in-block f (member-front f e earlier later (entriesIn img y) (here p .parted .2) m) in
+      let k = in-block f (rw (here p .parted .2) (member-left f earlier (e ∷ later) m)) in
       let l : k .0 < 512 = omega (arith, k .2 .room) in
       bytes-at j (f .place) y (k .0) (k .1) l
       ∙ rw (block-left p) (with-length (gapClosed b at len (entriesEnd b)) b (k .0) (k .0) (omega (arith, k .2 .long)) (bytes-earlier (here p) f m (k .0) (k .1)))
@@ -107,7 +98,7 @@ module _ {img : List ℕ} {e : Entered} {t : Anodes} {ys : List ℕ} (p : Planne
   same-behind : (f : Entered) → Member f later → (f .place / 512 ≡ y) × (entryBytes j (lowered len f .place) ≡ entryBytes img (f .place))
   unfolding entriesIn
   same-behind f m =
-      let k = in-block f (member-back f e earlier later (entriesIn img y) (here p .parted .2) m) in
+      let k = in-block f (rw (here p .parted .2) (member-right f earlier (e ∷ later) (member-later f e later m))) in
       let l : k .0 < 512 = omega (arith, k .2 .room) in
       let r = bytes-later (here p) f m (k .0) (k .1) in (
         omega (arith, k .1, l),
@@ -131,10 +122,10 @@ module _ {img : List ℕ} {e : Entered} {t : Anodes} {ys : List ℕ} (p : Planne
   once = stands-once (w p .good) (p .home) (home-head p) (facts p .a₀) front back (facts p .member-chain .2)
 
   in-front : (a : ℕ) → Member a front → Member a chain × (a ≢ facts p .a₀)
-  in-front a m = (member-front a (facts p .a₀) front back chain (facts p .member-chain .2) m, λ q. omega (arith, once .0, member-times (facts p .a₀) front (rw q at m)))
+  in-front a m = (rw (facts p .member-chain .2) (member-left a front (facts p .a₀ ∷ back) m), λ q. omega (arith, once .0, member-times (facts p .a₀) front (rw q at m)))
 
   in-back : (a : ℕ) → Member a back → Member a chain × (a ≢ facts p .a₀)
-  in-back a m = (member-back a (facts p .a₀) front back chain (facts p .member-chain .2) m, λ q. omega (arith, once .1, member-times (facts p .a₀) back (rw q at m)))
+  in-back a m = (rw (facts p .member-chain .2) (member-right a front (facts p .a₀ ∷ back) (member-later a (facts p .a₀) back m)), λ q. omega (arith, once .1, member-times (facts p .a₀) back (rw q at m)))
 
   -- the entries of one of its anodes, before and after the removal
   abbrev old : ℕ → List Entered
@@ -200,7 +191,7 @@ module _ {img : List ℕ} {e : Entered} {t : Anodes} {ys : List ℕ} (p : Planne
         ∙ rw (same-along front in-front, same-along back in-back, ← (facts p .in-block), entries-left p) (joined (map (lowered len) later) (gather old back)))
 
     -- its own directory has one entry less
-    pub entry-gone : EntryGone img (removedImage img e t ys) e (entriesOf img s (p .home)) (entriesOf (removedImage img e t ys) (anodesOf (removedImage img e t ys)) (p .home))
+    pub entry-gone : EntryGone img j e (entriesOf img s (p .home)) (entriesOf j (anodesOf j) (p .home))
     entry-gone = record {
       before = were;
       behind = behind;

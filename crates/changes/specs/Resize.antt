@@ -17,15 +17,15 @@ use Rattle.rules.specs.Changes.{resizePlan, resizedImage, resized}
 use Rattle.laws.specs.Tests.{same?}
 use Rattle.laws.specs.Whole.{Whole}
 use Rattle.laws.specs.Resize as Laws
-use Rattle.changes.specs.Image.{accepted-whole, whole-accepted, ReachedDir}
-use Rattle.changes.specs.Members.{Member, member-times, gather-congr, map-kept}
-use Rattle.changes.specs.Reached.{member-reached, EntryIn, entry-not-1, entry-facts}
+use Rattle.laws.specs.Members.{Member, member-times, gather-congr, map-kept}
+use Rattle.changes.specs.Image.{WholeOn, accepted-whole, whole-accepted, ReachedDir}
+use Rattle.changes.specs.Reached.{member-reached, EntryIn, entry-not-1, dir-block, entry-facts}
 use Rattle.changes.specs.NamedOnce.{only-here, only-this}
 use Rattle.changes.specs.SameItems.{whole-same}
 use Rattle.changes.specs.NewSize.{sized, head-sized, entries-sized}
 use Rattle.changes.specs.ResizePlan.{plan-refused}
 use Rattle.changes.specs.PlannedChange.{left-cases, image, w, facts}
-use Rattle.changes.specs.ResizeStores.{PlannedResize, steps, dir-same, its-block, other-block, this-block, resized-disk}
+use Rattle.changes.specs.ResizeStores.{PlannedResize, steps, dir-same, other-block, this-block, resized-disk}
 
 -- ---- the entries
 
@@ -68,6 +68,7 @@ module _ {img : List ℕ} {e : Entered} {new : ℕ} {t : Anodes} {ys : List ℕ}
   abbrev dirs : List Dir
   dirs = reachedDirs img s
 
+  -- the image that a resize leaves
   abbrev j : List ℕ
   j = resizedImage img s e new t ys
 
@@ -84,13 +85,13 @@ module _ {img : List ℕ} {e : Entered} {new : ℕ} {t : Anodes} {ys : List ℕ}
     this-entries i before after parted =
         let y = s .block a in
         let its-own : e .place / 512 ≡ y = facts p .in-block ∙ ap (s .block) (sym i) in
-        let here = its-block p r a on in
+        let here = dir-block r a on in
         rw (this-block p r a on i) (entries-sized (blockOf img y) y (e .place % 512) new (here .whole) e after (omega arith) before 28 16 parted
         (here .unbroken))
 
     -- its entries: the size is new where the file is named
-    pub entries-left : entriesIn j (s .block a) ≡ map (resizedEntry (e .anode) new) (entriesIn img (s .block a))
-    entries-left = elim (same? a (facts p .a₀)) [
+    pub block-left : entriesIn j (s .block a) ≡ map (resizedEntry (e .anode) new) (entriesIn img (s .block a))
+    block-left = elim (same? a (facts p .a₀)) [
       | inr n ↦ other-entries n ∙ sym (others-stay (e .anode) new (entriesIn img (s .block a)) (only-here (image p) (facts p) d in-tree a on n))
       | inl i ↦ (let m : Member e (entriesIn img (s .block a)) = rw i (facts p .member) in
           this-entries i (m .0) (m .1) (m .2)
@@ -106,7 +107,7 @@ module _ {img : List ℕ} {e : Entered} {new : ℕ} {t : Anodes} {ys : List ℕ}
 
     items-left : itemsAt (entriesIn j) (isBlockOf j) t d a ≡ itemsAt (λ y. map (resizedEntry (e .anode) new) (entriesIn img y)) (isBlockOf img) t d a
     unfolding itemsFor
-    items-left = rw (dir-same p r .same-extents a (member-times a (chainOf (s .next) limit (d .head)) on) .1, marks-left, entries-left)
+    items-left = rw (dir-same p r .same-extents a (member-times a (chainOf (s .next) limit (d .head)) on) .1, marks-left, block-left)
 
   -- the state after the steps is whole where the entries have the new size
   sizes-whole : Whole (exists img) (diskSize img) (lastReserved img) t (systemOwns img) (steps p .ran .hd′) (steps p .ran .sd′)
@@ -115,7 +116,7 @@ module _ {img : List ℕ} {e : Entered} {new : ℕ} {t : Anodes} {ys : List ℕ}
       (resized-fields (e .anode) new) (λ x n. ap (λ (c : Entered). c .size) (resized-other (e .anode) new x n))
       (λ x i. ap (λ (c : Entered). blocksFor (c .size)) (resized-it (e .anode) new x i)) (λ a c q r. (refl, λ d. refl))
 
-  pub still-whole : Whole (exists img) (diskSize img) (lastReserved img) t (systemOwns img) (steps p .ran .hd′) (steps p .ran .sd′) (entriesIn j) (isBlockOf j) dirs
+  pub still-whole : WholeOn img j t (steps p .ran .hd′) (steps p .ran .sd′) dirs
   unfolding itemsBy
   still-whole = whole-same sizes-whole (entriesIn j) (isBlockOf j) (λ d m.
       gather-congr (itemsAt (entriesIn j) (isBlockOf j) t d) (itemsAt (λ y. map (resizedEntry (e .anode) new) (entriesIn img y)) (isBlockOf img) t d) (chainOf (t .next) limit (d .head))

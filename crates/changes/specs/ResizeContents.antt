@@ -25,17 +25,18 @@ use Rattle.laws.specs.Tests.{same?}
 use Rattle.laws.specs.Sums.{oneAt-same}
 use Rattle.laws.specs.Bags.{times-cons, times-append, gather-append, times-here, times-later, gather-kept}
 use Rattle.laws.specs.Whole.{blocks-count}
+use Rattle.laws.specs.ChainBlocks.{length-blocksOf}
+use Rattle.laws.specs.Members.{member-times}
 use Rattle.frames.specs.StoredBlocks.{inBlock-kept, blockOf-inBlock}
 use Rattle.frames.specs.StoredBytes.{length-gather, blockOf-withBlocks}
 use Rattle.frames.specs.DisjointBlocks.{chain-once, chain-block}
-use Rattle.changes.specs.Members.{member-times}
-use Rattle.changes.specs.Reached.{EntryIn, entry-not-1, entry-facts, not-file}
-use Rattle.changes.specs.KeptChains.{contents-same}
+use Rattle.changes.specs.Reached.{EntryIn}
+use Rattle.changes.specs.KeptChains.{contents-left}
 use Rattle.changes.specs.Read.{bytes-long, file-long}
 use Rattle.changes.specs.NewSize.{sized}
 use Rattle.changes.specs.ResizePlan.{handed-data, plan-longer, plan-shorter}
 use Rattle.changes.specs.PlannedChange.{w, facts, not-1}
-use Rattle.changes.specs.ResizeStores.{PlannedResize, steps, stored, taken-kept, tail-in, tail-kept, size-kept, others-same, others-kept, home-alone, length-blocksOf}
+use Rattle.changes.specs.ResizeStores.{PlannedResize, steps, stored, taken-kept, tail-in, tail-kept, size-kept, others-left, home-alone}
 
 -- the rest of a block cleared
 cleared-rest : (b : List ℕ) (r : ℕ) → length b ≡ 512 → r ≤ 512 → cleared b r (512 - r) ≡ take r b ++ replicate (512 - r) 0
@@ -65,6 +66,7 @@ module _ {img : List ℕ} {e : Entered} {new : ℕ} {t : Anodes} {ys : List ℕ}
   abbrev chain : List ℕ
   chain = blocksOf s (e .anode)
 
+  -- the image that a resize leaves
   abbrev j : List ℕ
   j = resizedImage img s e new t ys
 
@@ -72,10 +74,7 @@ module _ {img : List ℕ} {e : Entered} {new : ℕ} {t : Anodes} {ys : List ℕ}
 
   -- every other file has the bytes that it had
   pub contents-resized-other : {k : ℕ} {f : Entered} → EntryIn img k f → f .dir ≡ false → f .anode ≢ e .anode → contents j t f ≡ contents img s f
-  contents-resized-other {f = f} m file apart =
-      let g = entry-facts m in
-      let not-home : f .anode ≢ p .home = λ i. not-file (p .entry .directory) g file (sym i) in
-      contents-same img j f (others-same p (f .anode) (g .head) (entry-not-1 g) apart) (others-kept p (f .anode) (g .head) (entry-not-1 g) apart not-home)
+  contents-resized-other = contents-left (others-left p) (p .entry .directory)
 
   -- ---- the file
 

@@ -9,7 +9,6 @@ use lib.Seq.{take-set-lt, drop-set-add}
 use Rattle.endian.specs.Bytes.{put16, put32}
 use Rattle.endian.proofs.Laws.{length-put32}
 use Rattle.disk.specs.Blocks.{blockOf}
-use Rattle.directory.proofs.Laws.{found-at}
 use Rattle.rules.specs.Counting.{oneAt, gather}
 use Rattle.rules.specs.Anodes.{Anodes, limit, anodesOf}
 use Rattle.rules.specs.Chains.{chainOf}
@@ -18,17 +17,17 @@ use Rattle.rules.specs.Lookup.{noDirectory, entriesOf}
 use Rattle.rules.specs.Changes.{resizedImage}
 use Rattle.laws.specs.Tests.{same?}
 use Rattle.laws.specs.TreeChanges.{headed}
+use Rattle.laws.specs.Members.{Member, member-cons, member-append, gather-congr}
 use Rattle.changes.specs.Image.{reached-sum, headed-same, ReachedDir}
-use Rattle.changes.specs.Members.{Member, member-cons, member-append, gather-congr}
-use Rattle.changes.specs.FoundEntries.{part-same, place-order}
+use Rattle.changes.specs.FoundEntries.{part-same, standing-found, place-order}
 use Rattle.changes.specs.Reached.{EntryIn, EntryFacts, block-entry, reached-dir, entry-facts}
-use Rattle.changes.specs.KeptChains.{entries-along, entries-same}
+use Rattle.changes.specs.KeptChains.{entries-along, entries-left}
 use Rattle.changes.specs.NamedOnce.{only-home}
 use Rattle.changes.specs.EntryBytes.{entryBytes}
 use Rattle.changes.specs.NewSize.{sized, put32-others}
 use Rattle.changes.specs.PlannedChange.{image, facts}
-use Rattle.changes.specs.ResizeStores.{PlannedResize, dir-same, dir-kept, other-block, this-block, resized-disk}
-use Rattle.changes.specs.Resize.{resizedEntry, one-resized, entries-left, still-whole}
+use Rattle.changes.specs.ResizeStores.{PlannedResize, others-left, head-not-file, dir-same, other-block, this-block, resized-disk}
+use Rattle.changes.specs.Resize.{resizedEntry, one-resized, block-left, still-whole}
 
 map-gather : (φ : Entered → Entered) (f : ℕ → List Entered) (l : List ℕ) → map φ (gather f l) ≡ gather (λ a. map φ (f a)) l
 unfolding gather
@@ -60,6 +59,7 @@ module _ {img : List ℕ} {e : Entered} {new : ℕ} {t : Anodes} {ys : List ℕ}
   abbrev s : Anodes
   s = anodesOf img
 
+  -- the image that a resize leaves
   abbrev j : List ℕ
   j = resizedImage img s e new t ys
 
@@ -72,7 +72,7 @@ module _ {img : List ℕ} {e : Entered} {new : ℕ} {t : Anodes} {ys : List ℕ}
   module _ {k : ℕ} (r : ReachedDir img k) where
     -- every other directory has the entries that it had
     pub entries-resized-other : k ≢ p .home → entriesOf j t k ≡ entriesOf img s k
-    entries-resized-other apart = entries-same r j (dir-kept p r apart) (dir-same p r)
+    entries-resized-other = entries-left (others-left p) r (head-not-file p r)
 
     all-entries : entriesOf j t k ≡ map (resizedEntry (e .anode) new) (entriesOf img s k)
     unfolding entriesOf
@@ -80,7 +80,7 @@ module _ {img : List ℕ} {e : Entered} {new : ℕ} {t : Anodes} {ys : List ℕ}
         let d = reached-dir r in
         let chain = chainOf (s .next) limit k in
         entries-along (dir-same p r) j
-        ∙ gather-congr (λ a. entriesIn j (s .block a)) (λ a. map (resizedEntry (e .anode) new) (entriesIn img (s .block a))) chain (λ a on. entries-left p (d .0) (d .1) a (rw (d .2) on))
+        ∙ gather-congr (λ a. entriesIn j (s .block a)) (λ a. map (resizedEntry (e .anode) new) (entriesIn img (s .block a))) chain (λ a on. block-left p (d .0) (d .1) a (rw (d .2) on))
         ∙ sym (map-gather (resizedEntry (e .anode) new) (λ a. entriesIn img (s .block a)) chain)
 
   -- its own has the entry with its new size
@@ -102,7 +102,7 @@ module _ {img : List ℕ} {e : Entered} {new : ℕ} {t : Anodes} {ys : List ℕ}
       (this-block p (p .entry .directory) (facts p .a₀) (facts p .member-chain) refl)
 
   long : 18 ≤ getD (blockOf img y) pos 0
-  long = found-at (blockOf img y) pos (facts p .stands .entry) (facts p .stands .walked) .long
+  long = standing-found (facts p .stands) .long
 
   -- of an entry that ends before the size, or starts behind it
   apart-bytes : (b : List ℕ) (at len pos : ℕ) → length b ≡ 512 → at + len ≤ 510 → (at + len ≤ pos) ⊎ (pos + 8 ≤ at) →

@@ -19,15 +19,16 @@ use Rattle.laws.specs.Sums.{oneAt-same, oneAt-other}
 use Rattle.laws.specs.Heads.{Head}
 use Rattle.laws.specs.Blocks.{blocks}
 use Rattle.laws.specs.Held.{held}
-use Rattle.laws.specs.Space.{Good, head-1}
+use Rattle.laws.specs.Space.{head-1}
 use Rattle.laws.specs.Whole.{blocks-count}
 use Rattle.laws.specs.Resize.{Ran, grow-ran, shrink-ran}
 use Rattle.laws.specs.RefusedSteps.{takes-refused, gives-refused}
 use Rattle.laws.specs.TakenBlocks.{takes-blocks}
 use Rattle.laws.specs.GivenBlocks.{gives-blocks}
 use Rattle.laws.specs.OwnerTable.{held-data}
+use Rattle.laws.specs.Members.{times-none}
 use Rattle.frames.specs.DisjointBlocks.{DataBlock, times-held, chains-apart, chain-block}
-use Rattle.changes.specs.Members.{none-in}
+use Rattle.changes.specs.Image.{GoodOn}
 
 -- the chain of h has so many blocks now; those of ys came from 1's chain, or went to it
 pub record Resizing (img : List ℕ) (s : Anodes) (hd : ℕ → ℕ) (h size : ℕ) (t : Anodes) (ys : List ℕ) : Type 0 where
@@ -38,7 +39,7 @@ pub record Resizing (img : List ℕ) (s : Anodes) (hd : ℕ → ℕ) (h size : �
   pub to-is : to ≡ cond (leb (blockCount s h) size) h 1
   pub ran : Ran limit (exists img) (diskSize img) (lastReserved img) s (systemOwns img) hd from to h size ys t
 
-module _ (img : List ℕ) {s : Anodes} {hd sd : ℕ → ℕ} (g : Good limit (exists img) (diskSize img) (lastReserved img) s (systemOwns img) hd sd)
+module _ (img : List ℕ) {s : Anodes} {hd sd : ℕ → ℕ} (g : GoodOn img s hd sd)
     (h : ℕ) (d : Head (s .next) (s .block) h) (h1 : h ≢ 1) where
   pub plan-runs : (size : ℕ) (t : Anodes) (ys : List ℕ) → resizePlan img s h size ≡ planned t ys → Resizing img s hd h size t ys
   unfolding resizePlan
@@ -97,7 +98,7 @@ module _ (img : List ℕ) {s : Anodes} {hd sd : ℕ → ℕ} (g : Good limit (ex
 
     -- so no block of a chain but 1's and h's did
     pub handed-apart : (k : ℕ) → Head (s .next) (s .block) k → k ≢ 1 → k ≢ h → (y : ℕ) → 0 < times y (blocksOf s k) → times y ys ≡ 0
-    handed-apart k c k1 kh y p = none-in y ys (λ q. omega (arith, was-there y q, chains-apart g k (r .from) c from-head (other (r .from-is)) y p))
+    handed-apart k c k1 kh y p = times-none y ys (λ q. omega (arith, was-there y q, chains-apart g k (r .from) c from-head (other (r .from-is)) y p))
       where
         other : (r .from ≡ 1) ⊎ (r .from ≡ h) → k ≢ r .from
         other (inl e) q = k1 (q ∙ e)

@@ -1,5 +1,5 @@
 -- The stores of a resize, one after the other, and what they leave of an accepted image.
-use Prim.Native.Nat.{ℕ, zero, suc, _+_, _-_, _/_, _%_, _<_}
+use Prim.Native.Nat.{ℕ, suc, _+_, _-_, _/_, _%_, _<_}
 use mathlib.Core.Path.{_≡_, refl, sym, ap, _∙_}
 use mathlib.Core.Logic.{_≢_}
 use mathlib.Core.Bool.{Bool, true, false, cond, not, _&&_, and-eq-true-iff}
@@ -13,24 +13,24 @@ use borrow.Author.Tests.{eqb-false, not-true}
 use Rattle.endian.specs.Bytes.{put32, cleared}
 use Rattle.endian.proofs.Laws.{length-put32, length-cleared}
 use Rattle.disk.specs.Blocks.{blockOf}
-use Rattle.rules.specs.Counting.{sumList, times, gather}
+use Rattle.rules.specs.Counting.{times}
 use Rattle.rules.specs.Anodes.{Anodes, limit, anodesOf, withAnodes}
-use Rattle.rules.specs.Chains.{chainOf, run, blocksOf, blockCount}
+use Rattle.rules.specs.Chains.{chainOf, blocksOf}
 use Rattle.rules.specs.Walk.{Entered, blocksFor}
 use Rattle.rules.specs.Space.{planned}
 use Rattle.rules.specs.Format.{zeroBlock}
 use Rattle.rules.specs.Changes.{inBlock, withBlocks, resizePlan, zeroTail, withSize, zeroTaken, resizedImage}
-use Rattle.laws.specs.Bags.{list-congr, list-length, gather-sum}
 use Rattle.laws.specs.Heads.{Head}
 use Rattle.laws.specs.Frame.{shift-alike, shift-chain}
+use Rattle.laws.specs.ChainBlocks.{length-blocksOf}
+use Rattle.laws.specs.Members.{Member, member-times}
 use Rattle.frames.specs.Kept.{Unheld, Kept, kept-all, kept-both}
 use Rattle.frames.specs.StoredBlocks.{inBlock-kept, blockOf-inBlock, withBlocks-kept}
 use Rattle.frames.specs.DisjointBlocks.{DataBlock, chains-apart, chain-block}
 use Rattle.frames.specs.StoredBytes.{BlocksKept}
 use Rattle.changes.specs.Image.{headIn, DiskWith, stored-kept, disk-stored, not-one, not-among, disk-then, ReachedDir}
-use Rattle.changes.specs.Members.{Member, member-times}
-use Rattle.changes.specs.Reached.{DirBlock, block-on, reached-not-1, reached-head, dir-block, block-data, not-file}
-use Rattle.changes.specs.KeptChains.{SameChain}
+use Rattle.changes.specs.Reached.{block-on, reached-not-1, reached-head, dir-block, block-data, not-file}
+use Rattle.changes.specs.KeptChains.{SameChain, OthersLeft}
 use Rattle.changes.specs.PlannedChange.{PlannedChange, image, w, facts, not-1, off-chain, off-anode}
 use Rattle.changes.specs.ResizePlan.{Resizing, plan-runs, handed-data, handed-apart}
 
@@ -43,18 +43,6 @@ abbrev pub PlannedResize : List ℕ → Entered → ℕ → Anodes → List ℕ 
 PlannedResize img e new t ys = PlannedChange img e (FilePlan img e new t ys)
 
 -- ---- the last block of a file
-
-length-run : (b c : ℕ) → length (run b c) ≡ c
-unfolding run
-length-run b zero = refl
-length-run b (suc c) = ap suc (length-run (suc b) c)
-
-pub length-blocksOf : (s : Anodes) (h : ℕ) → length (blocksOf s h) ≡ blockCount s h
-unfolding blocksOf blockCount
-length-blocksOf s h =
-    let chain = chainOf (s .next) limit h in
-    sym (list-length (gather (λ a. run (s .block a) (s .count a)) chain)) ∙ gather-sum (λ a. run (s .block a) (s .count a)) (λ y. 1) chain
-    ∙ list-congr (λ a. sumList (λ y. 1) (run (s .block a) (s .count a))) (s .count) chain (λ a. list-length (run (s .block a) (s .count a)) ∙ length-run (s .block a) (s .count a))
 
 nth-in : (l : List ℕ) (i : ℕ) → i < length l → Member (getD l i 0) l
 nth-in l i p = (take i l, drop (suc i) l, split-at l i 0 p)
@@ -82,6 +70,7 @@ module _ {img : List ℕ} {e : Entered} {new : ℕ} {t : Anodes} {ys : List ℕ}
   abbrev tailed : List ℕ
   tailed = zeroTail zeroed s e new
 
+  -- the image that a resize leaves
   abbrev j : List ℕ
   j = withSize tailed (e .place) new
 
@@ -125,22 +114,22 @@ module _ {img : List ℕ} {e : Entered} {new : ℕ} {t : Anodes} {ys : List ℕ}
   unfolding withSize
   size-kept = inBlock-kept tailed (e .place / 512) setSize (length-put32 (blockOf tailed (e .place / 512)) (e .place % 512 + 4) new)
 
-  -- all of them
-  abbrev Left-alone : ℕ → Type 0
-  Left-alone y = (times y ys ≡ 0) × (times y chain ≡ 0)
+  -- a block that was not taken and is not the file's
+  abbrev LeftAlone : ℕ → Type 0
+  LeftAlone y = (times y ys ≡ 0) × (times y chain ≡ 0)
 
-  zeros-kept : Kept Left-alone anodesIn tailed
+  zeros-kept : Kept LeftAlone anodesIn tailed
   zeros-kept = kept-both (λ y o. o .0) (λ y o. o .1) taken-kept tail-kept
 
-  stores-kept : Kept (λ y. Left-alone y × (y ≢ e .place / 512)) anodesIn j
+  stores-kept : Kept (λ y. LeftAlone y × (y ≢ e .place / 512)) anodesIn j
   stores-kept = kept-both (λ y o. o .0) (λ y o. o .1) zeros-kept size-kept
 
   -- from the image on: what no slot holds and none of the stores names is kept
-  left-kept : Kept (λ y. Unheld img y × (Left-alone y × (y ≢ e .place / 512))) img (resizedImage img s e new t ys)
+  left-kept : Kept (λ y. Unheld img y × (LeftAlone y × (y ≢ e .place / 512))) img (resizedImage img s e new t ys)
   unfolding resizedImage
   left-kept = kept-both (λ y o. o .0) (λ y o. o .1) stored stores-kept
 
-  only-data : (y : ℕ) → (DataBlock img y → ⊥) → Left-alone y × (y ≢ e .place / 512)
+  only-data : (y : ℕ) → (DataBlock img y → ⊥) → LeftAlone y × (y ≢ e .place / 512)
   only-data y n = (
     (not-among ys (handed-data img (w p .good) (e .anode) (facts p .head) (not-1 p) steps) y n, not-among chain (chain-block img (w p .good) (e .anode) (facts p .head)) y n),
     not-one (block-data (facts p)) y n,
@@ -154,50 +143,47 @@ module _ {img : List ℕ} {e : Entered} {new : ℕ} {t : Anodes} {ys : List ℕ}
 
   module _ (m : ℕ) (head : Head (s .next) (s .block) m) (m1 : m ≢ 1) (other : m ≢ e .anode) where
     -- each has its anodes
-    pub others-same : SameChain s t m
+    others-same : SameChain s t m
     others-same = record {
       same-anodes = shift-chain (w p .good) (steps .ran .good) (steps .ran .shift) m head m1 other;
       same-extents = λ a q. let k = shift-alike (w p .good) (steps .ran .good) (steps .ran .shift) m head m1 other a q in (k .same-count, k .same-block);
     }
 
-    alone : (y : ℕ) → 0 < times y (blocksOf s m) → Left-alone y
+    alone : (y : ℕ) → 0 < times y (blocksOf s m) → LeftAlone y
     alone y q = (
       handed-apart img (w p .good) (e .anode) (facts p .head) (not-1 p) steps m head m1 other y q,
       chains-apart (w p .good) m (e .anode) head (facts p .head) other y q,
     )
 
     -- and the blocks of each but its own directory's are kept
-    pub others-kept : m ≢ p .home → BlocksKept img (resizedImage img s e new t ys) s m
+    others-kept : m ≢ p .home → BlocksKept img (resizedImage img s e new t ys) s m
     others-kept o y q = left-kept .block-kept y (chain-block img (w p .good) m head y q .unheld, (alone y q, off-chain p m head o y q))
+
+  pub others-left : OthersLeft img (resizedImage img s e new t ys) t (e .anode) (p .home)
+  others-left = record { same-chains = others-same; blocks-kept = others-kept }
 
   -- ---- the blocks of the directories
 
   module _ {k : ℕ} (r : ReachedDir img k) where
-    head-not-file : k ≢ e .anode
+    pub head-not-file : k ≢ e .anode
     head-not-file = not-file r (facts p) (p .plan .file)
 
     -- its chain stays
     pub dir-same : SameChain s t k
     dir-same = others-same k (reached-head r) (reached-not-1 r) head-not-file
 
-    pub dir-kept : k ≢ p .home → BlocksKept img (resizedImage img s e new t ys) s k
-    dir-kept = others-kept k (reached-head r) (reached-not-1 r) head-not-file
-
     module _ (a : ℕ) (on : Member a (chainOf (s .next) limit k)) where
-      pub its-block : DirBlock img k a
-      its-block = dir-block r a on
-
-      left-alone : Left-alone (s .block a)
-      left-alone = alone k (reached-head r) (reached-not-1 r) head-not-file (s .block a) (block-on s k a on (its-block .one))
+      left-alone : LeftAlone (s .block a)
+      left-alone = alone k (reached-head r) (reached-not-1 r) head-not-file (s .block a) (block-on s k a on (dir-block r a on .one))
 
       -- up to the entry's new size it has the bytes that it had
       before-size : blockOf tailed (s .block a) ≡ blockOf img (s .block a)
-      before-size = zeros-kept .block-kept (s .block a) left-alone ∙ stored .block-kept (s .block a) (its-block .is-data .unheld)
+      before-size = zeros-kept .block-kept (s .block a) left-alone ∙ stored .block-kept (s .block a) (dir-block r a on .is-data .unheld)
 
       pub other-block : a ≢ facts p .a₀ → blockOf (resizedImage img s e new t ys) (s .block a) ≡ blockOf img (s .block a)
       unfolding resizedImage
       other-block n =
-          size-kept .block-kept (s .block a) (off-anode p a (its-block .one) n) ∙ before-size
+          size-kept .block-kept (s .block a) (off-anode p a (dir-block r a on .one) n) ∙ before-size
 
       pub this-block : a ≡ facts p .a₀ → blockOf (resizedImage img s e new t ys) (s .block a) ≡ put32 (blockOf img (s .block a)) (e .place % 512 + 4) new
       unfolding resizedImage withSize
@@ -206,5 +192,5 @@ module _ {img : List ℕ} {e : Entered} {new : ℕ} {t : Anodes} {ys : List ℕ}
           rw (← before-size, ← here) (blockOf-inBlock tailed (e .place / 512) setSize (length-put32 (blockOf tailed (e .place / 512)) (e .place % 512 + 4) new))
 
   -- the block that has the entry
-  pub home-alone : Left-alone (e .place / 512)
+  pub home-alone : LeftAlone (e .place / 512)
   home-alone = rw (facts p .in-block) (left-alone (p .entry .directory) (facts p .a₀) (facts p .member-chain))

@@ -10,7 +10,7 @@ use Rattle.rules.specs.Walk.{Dir, Entered, Item, itemsBy, subDirs, Scanned, fau
 use Rattle.laws.specs.Items.{wrong, names, subs}
 use Rattle.laws.specs.Trees.{not-lower}
 use Rattle.laws.specs.Whole.{Whole}
-use Rattle.changes.specs.Members.{Member, member-first, member-later, member-congr}
+use Rattle.laws.specs.Members.{Member, member-first, member-later, member-congr}
 
 module _ {ex : ℕ → Bool} {n last : ℕ} {s : Anodes} {system hd sd : ℕ → ℕ} {entries : ℕ → List Entered} {marked : Dir → ℕ → Bool} {dirs : List Dir}
     (w : Whole ex n last s system hd sd entries marked dirs) (entries′ : ℕ → List Entered) (marked′ : Dir → ℕ → Bool)

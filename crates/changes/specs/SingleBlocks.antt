@@ -11,14 +11,16 @@ use Rattle.rules.specs.Accepted.{diskSize}
 use Rattle.laws.specs.Ownership.{covers-in, disjoint}
 use Rattle.laws.specs.Heads.{head-of-is, on-own}
 use Rattle.laws.specs.Space.{Good}
+use Rattle.laws.specs.Members.{times-member}
 use Rattle.frames.specs.DisjointBlocks.{DataBlock, chain-block}
-use Rattle.changes.specs.Members.{times-member}
 use Rattle.changes.specs.Reached.{block-on}
 
 module _ {ex : ℕ → Bool} {n last : ℕ} {s : Anodes} {system hd sd : ℕ → ℕ} (g : Good limit ex n last s system hd sd) where
+  -- it is in use
   pub single-used : (a : ℕ) → s .count a ≡ 1 → s .block a ≢ 0
   single-used a one z = omega (arith, one, g .present .free-none a z)
 
+  -- two such anodes have different blocks
   pub single-apart : (a : ℕ) → s .count a ≡ 1 → (c : ℕ) → s .count c ≡ 1 → a ≢ c → s .block a ≢ s .block c
   single-apart a one c one-c ne e =
       let below = g .linked .view .below a (single-used a one) in
@@ -29,6 +31,7 @@ module _ {ex : ℕ → Bool} {n last : ℕ} {s : Anodes} {system hd sd : ℕ →
         covers-in (s .count c) (s .block c) (s .block a) (omega (arith, e)) (omega (arith, e, one-c)),
       )
 
+-- its block is a data block
 pub single-data : {ex : ℕ → Bool} {last : ℕ} {s : Anodes} {hd sd : ℕ → ℕ} (img : List ℕ) → Good limit ex (diskSize img) last s (systemOwns img) hd sd →
     (a : ℕ) → s .count a ≡ 1 → DataBlock img (s .block a)
 single-data {s = s} {hd = hd} img g a one =

@@ -26,8 +26,8 @@ use Rattle.laws.specs.Items.{giving, below, namedIn, names-sum, below-items}
 use Rattle.laws.specs.Totals.{file-size, filesOf, dirsOf}
 use Rattle.laws.specs.Whole.{blocks-count, named-heads, whole-total}
 use Rattle.laws.specs.TestsPassed.{right-slot}
+use Rattle.laws.specs.Members.{Member, member-sum, member-congr}
 use Rattle.changes.specs.Image.{WholeImage, headIn, sideIn, AcceptedImage, image-passed, accepted-slots, accepted-whole}
-use Rattle.changes.specs.Members.{Member, member-sum, member-congr}
 
 -- ---- the system's blocks
 

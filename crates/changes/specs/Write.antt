@@ -10,20 +10,19 @@ use lib.Seq.{getD-take, ext-getD}
 use Rattle.endian.specs.Bytes.{stored}
 use Rattle.endian.proofs.Laws.{length-stored, getD-stored-before, getD-stored-in, getD-stored-after}
 use Rattle.rules.specs.Counting.{times}
-use Rattle.rules.specs.Anodes.{Anodes, limit, exists, anodesOf}
-use Rattle.rules.specs.Chains.{chainOf, systemOwns, blocksOf}
+use Rattle.rules.specs.Anodes.{Anodes, limit, anodesOf}
+use Rattle.rules.specs.Chains.{chainOf, blocksOf}
 use Rattle.rules.specs.Walk.{Dir, root, Entered, entriesIn, isBlockOf, itemsFor, itemsAt, itemsBy, itemsOf, done, walk, walkOf, dirsIn, reachedDirs}
-use Rattle.rules.specs.Accepted.{diskSize, lastReserved, checkAnswer}
+use Rattle.rules.specs.Accepted.{checkAnswer}
 use Rattle.rules.specs.Lookup.{entriesOf, bytesOf, contents}
 use Rattle.rules.specs.Changes.{written}
 use Rattle.laws.specs.Tests.{less?}
-use Rattle.laws.specs.Whole.{Whole}
+use Rattle.laws.specs.Members.{Member, gather-congr}
 use Rattle.frames.specs.Kept.{Kept}
 use Rattle.frames.specs.DisjointBlocks.{DataBlock, chains-apart, chain-block}
 use Rattle.frames.specs.StoredBytes.{BlocksKept, written-kept, bytesOf-written, bytesOf-written-other}
-use Rattle.changes.specs.Image.{WholeImage, headIn, sideIn, AcceptedImage, accepted-whole, accepted-walk, DiskWith, disk-own, not-among, disk-then, whole-accepted, ReachedDir}
+use Rattle.changes.specs.Image.{WholeOn, WholeImage, headIn, sideIn, AcceptedImage, accepted-whole, accepted-walk, DiskWith, disk-own, not-among, disk-then, whole-accepted, ReachedDir}
 use Rattle.changes.specs.SameItems.{whole-same, walk-same}
-use Rattle.changes.specs.Members.{Member, gather-congr}
 use Rattle.changes.specs.EntryBytes.{entryBytes}
 use Rattle.changes.specs.KeptChains.{same-chain-own, block-same, entries-same, entry-bytes-same}
 use Rattle.changes.specs.Reached.{EntryIn, EntryFacts, member-reached, reached-head, entry-facts, not-file}
@@ -54,6 +53,7 @@ module _ {img : List ℕ} {h : ℕ} {e : Entered} (m : EntryIn img h e) (file : 
   abbrev s : Anodes
   s = anodesOf img
 
+  -- the image that a write leaves
   abbrev j : List ℕ
   j = written img s e offset bytes
 
@@ -104,7 +104,7 @@ module _ {img : List ℕ} {h : ℕ} {e : Entered} (m : EntryIn img h e) (file : 
   unfolding reachedDirs walkOf itemsOf
   written-dirs = ap dirsIn same-walk
 
-  still-whole : Whole (exists img) (diskSize img) (lastReserved img) s (systemOwns img) (headIn img) (sideIn img) (entriesIn j) (isBlockOf j) (reachedDirs img s)
+  still-whole : WholeOn img j s (headIn img) (sideIn img) (reachedDirs img s)
   still-whole = whole-same w (entriesIn j) (isBlockOf j) same-items
 
   -- what a write leaves of an accepted image is accepted

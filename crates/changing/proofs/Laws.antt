@@ -26,7 +26,7 @@ use Rattle.counting.specs.Laws.{neither}
 use Rattle.laws.specs.Tests.{same?, less?}
 use Rattle.frames.specs.DisjointBlocks.{chain-block, chain-once}
 use Rattle.changes.specs.Answers.{Late}
-use Rattle.changes.specs.Members.{Member}
+use Rattle.laws.specs.Each.{Member}
 use Rattle.changes.specs.Image.{accepted-own, accepted-whole}
 use Rattle.changes.specs.Reached.{entry-facts}
 use Rattle.changes.specs.Write.{written-disk}

@@ -36,7 +36,7 @@ module _ (img : List ℕ) (last k : ℕ) (name : List ℕ) (day minute tick prot
 
   tested : Tested s (diskSize img) last (systemOwns disk)
   tested = passes-tested s (diskSize img) last (systemOwns disk)
-      (laid-passes anodes-laid (args .room) (args .there) (systemOwns disk) (system-owns img last k name day minute tick protection args))
+      (laid-passes anodes-laid (systemOwns disk) (system-owns img last k name day minute tick protection args))
 
   named : (x : ℕ) → x < limit → unnamedChain disk s x ≡ false
   unfolding unnamedChain
@@ -62,7 +62,7 @@ module _ (img : List ℕ) (last k : ℕ) (name : List ℕ) (day minute tick prot
 
   -- the blocks from 4 + k on are free
   pub formatted-free : blockCount s 1 ≡ diskSize img - (4 + k)
-  formatted-free = free-blocks anodes-laid (args .room) (args .there)
+  formatted-free = free-blocks anodes-laid
 
   -- the root directory alone
   pub formatted-dirs : reachedDirs disk s ≡ root ∷ []

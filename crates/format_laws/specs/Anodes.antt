@@ -1,17 +1,16 @@
 -- The anodes of a formatted image: in use are 0, 1, 2, 5 and, where blocks lie above last reserved, 6.
-use Prim.Native.Nat.{ℕ, _+_, _-_, _<_}
-use mathlib.Core.Path.{_≡_, ap, _∙_}
+use Prim.Native.Nat.{ℕ, _+_, _-_, _≤_, _<_}
+use mathlib.Core.Path.{_≡_, refl, _∙_}
 use mathlib.Core.Logic.{_≢_, _⊎_, inl, inr}
 use mathlib.Core.List.{List}
 use native.Mathlib.Omega.{arith}
 use borrow.Author.Tests.{eq-eqb, ne-eqb}
-use Rattle.disk.specs.declared.Anode.{Anode}
 use Rattle.disk.specs.AnodeBlocks.{anodeMade, anodeOf}
 use Rattle.rules.specs.Anodes.{Anodes, anodesOf}
 use Rattle.rules.specs.Accepted.{diskSize}
 use Rattle.rules.specs.Format.{lowerAnode, upperAnode, listHead, formatted}
 use Rattle.laws.specs.Tests.{same?}
-use Rattle.laws.specs.ImageAnodes.{block-at, count-at, next-at, reading-of}
+use Rattle.laws.specs.ImageAnodes.{read-stored}
 use Rattle.format.proofs.Laws.{Taken, anodeOf-formatted-0, anodeOf-formatted-1, anodeOf-formatted-2, anodeOf-formatted-5, anodeOf-formatted-6, anodeOf-formatted-other}
 
 -- the three fields of an anode
@@ -41,6 +40,8 @@ pub record Owns (s : Anodes) (a c b : ℕ) : Type 0 where
 
 -- what the anodes of a formatted image are: free blocks are 2's and 6's, the root directory's is 5's
 pub record Laid (s : Anodes) (n last k : ℕ) : Type 0 where
+  pub room : 3 + k ≤ last
+  pub there : last < n
   pub at-0 : At s 0 0 65535 0
   pub owns-2 : Owns s 2 (last - (3 + k)) (4 + k)
   pub block-2 : s .block 2 ≢ 0
@@ -53,17 +54,14 @@ pub record Laid (s : Anodes) (n last k : ℕ) : Type 0 where
 -- ---- the fields by what is stored
 
 module _ (img : List ℕ) (a : ℕ) where
+  at-stored : (c b m : ℕ) → anodeOf img a ≡ anodeMade c b m → (b ≡ 0 → (c ≡ 0) × (m ≡ 0)) → At (anodesOf img) a c b m
+  at-stored c b m e zeros = let r = read-stored img a c b m e zeros in record { count = r .0; block = r .1; next = r .2 }
+
   at-used : (c b m : ℕ) → anodeOf img a ≡ anodeMade c b m → b ≢ 0 → At (anodesOf img) a c b m
-  at-used c b m e u =
-      let is : anodesOf img .block a ≡ b = block-at img a ∙ ap (λ (x : Anode). x .block .0) e in
-      let v : anodesOf img .block a ≢ 0 = rw is u in
-      record { count = count-at img a v ∙ ap (λ (x : Anode). x .count) e; block = is; next = next-at img a v ∙ ap (λ (x : Anode). x .next .0) e }
+  at-used c b m e u = at-stored c b m e (λ z. absurd (u z))
 
   at-free : anodeOf img a ≡ anodeMade 0 0 0 → At (anodesOf img) a 0 0 0
-  at-free e =
-      let is : anodesOf img .block a ≡ 0 = block-at img a ∙ ap (λ (x : Anode). x .block .0) e in
-      let r = reading-of img in
-      record { count = r .present .free-none a is; block = is; next = r .view .free-end a is }
+  at-free e = at-stored 0 0 0 e (λ z. (refl, refl))
 
 module _ (img : List ℕ) (last k : ℕ) (name : List ℕ) (day minute tick protection : ℕ) (args : Taken img last k name) where
   abbrev disk : List ℕ
@@ -118,6 +116,8 @@ module _ (img : List ℕ) (last k : ℕ) (name : List ℕ) (day minute tick prot
 
   pub laid : Laid (anodesOf disk) (diskSize img) last k
   laid = record {
+    room = args .room;
+    there = args .there;
     at-0 = at-used disk 0 0 65535 0 (anodeOf-formatted-0 img last k name day minute tick protection args) (omega arith);
     owns-2 = elim lower [
       | inl e ↦ record { count = omega (arith, e .0 .count, e .1); start = λ p. absurd (omega (arith, e .1)) }

@@ -139,13 +139,13 @@ module _ {s : Anodes} {n last k : ℕ} (m : Laid s n last k) where
   high _ is-6 p c = omega (arith, m .owns-6 .start (omega (arith, m .owns-6 .count)))
   high _ (free a f) p c = absurd (omega (arith, f .count))
 
-  pub low : 3 + k ≤ last → (a : ℕ) → Which s a → 0 < times a (chainOf (s .next) limit 2) → 0 < s .count a → s .block a + s .count a ≤ suc last
-  low room _ is-0 p c = absurd (omega (arith, m .at-0 .count))
-  low room _ is-1 p c = absurd (omega (arith, count-1))
-  low room _ is-2 p c = omega (arith, m .owns-2 .count, m .owns-2 .start (omega (arith, m .owns-2 .count)))
-  low room _ is-5 p c = absurd (omega (arith, lower-none 5 (omega arith)))
-  low room _ is-6 p c = absurd (omega (arith, lower-none 6 (omega arith)))
-  low room _ (free a f) p c = absurd (omega (arith, f .count))
+  pub low : (a : ℕ) → Which s a → 0 < times a (chainOf (s .next) limit 2) → 0 < s .count a → s .block a + s .count a ≤ suc last
+  low _ is-0 p c = absurd (omega (arith, m .at-0 .count))
+  low _ is-1 p c = absurd (omega (arith, count-1))
+  low _ is-2 p c = omega (arith, m .room, m .owns-2 .count, m .owns-2 .start (omega (arith, m .owns-2 .count)))
+  low _ is-5 p c = absurd (omega (arith, lower-none 5 (omega arith)))
+  low _ is-6 p c = absurd (omega (arith, lower-none 6 (omega arith)))
+  low _ (free a f) p c = absurd (omega (arith, f .count))
 
   -- ---- heads, and the free blocks
 
@@ -164,10 +164,10 @@ module _ {s : Anodes} {n last k : ℕ} (m : Laid s n last k) where
       go _ is-6 (over f v g) h u = λ z. omega (arith, z, sum-member (λ p. oneAt (s .next p) 6) 1 limit (omega arith), oneAt-same (s .next 1) 6 (f .next))
       go _ (free a f) l h u = absurd (u (f .block))
 
-  pub free-blocks : 3 + k ≤ last → last < n → blockCount s 1 ≡ n - (4 + k)
+  pub free-blocks : blockCount s 1 ≡ n - (4 + k)
   unfolding blockCount sumList
-  free-blocks room there = rw list-is (go (m .linking))
+  free-blocks = rw list-is (go (m .linking))
     where
       go : (l : Linking s) → sumList (s .count) (freeList l) ≡ n - (4 + k)
-      go (plain f g) = omega (arith, f .count, m .owns-2 .count, m .owns-6 .count, g .count)
-      go (over f u g) = omega (arith, f .count, m .owns-2 .count, m .owns-6 .count)
+      go (plain f g) = omega (arith, m .room, m .there, f .count, m .owns-2 .count, m .owns-6 .count, g .count)
+      go (over f u g) = omega (arith, m .room, m .there, f .count, m .owns-2 .count, m .owns-6 .count)

@@ -5,39 +5,16 @@ use mathlib.Core.Logic.{_≢_, inl, inr}
 use mathlib.Core.List.{List}
 use native.Mathlib.Omega.{arith}
 use borrow.Author.Tests.{lt-ltb, le-ltb, ne-eqb}
-use Rattle.rules.specs.Counting.{oneAt, sumBelow, changed}
+use Rattle.rules.specs.Counting.{oneAt, sumBelow}
 use Rattle.rules.specs.Anodes.{Anodes, limit}
 use Rattle.rules.specs.Chains.{covers, holds, systemOwns, owners}
 use Rattle.rules.specs.Format.{formatted}
 use Rattle.laws.specs.Tests.{less?}
-use Rattle.laws.specs.Sums.{oneAt-same, oneAt-other, changed-cases, changed-same, changed-other, sum-zero, sum-single, sum-update}
+use Rattle.laws.specs.Sums.{oneAt-same, oneAt-other, sum-zero, sum-single, sum-three}
 use Rattle.laws.specs.Ownership.{covers-in, covers-over, covers-none, covers-join}
 use Rattle.format.proofs.Laws.{Taken, slotOf-formatted-some, slotOf-formatted-none}
 use Rattle.format_laws.specs.Anodes.{Which, is-0, is-1, is-2, is-5, is-6, free, Owns, Laid}
 use Rattle.format_laws.specs.Links.{count-1}
-
--- a sum where all but three vanish
-sum-three : (f : ℕ → ℕ) (i j l n : ℕ) → i < n → j < n → l < n → i ≢ j → i ≢ l → j ≢ l → ((a : ℕ) → a ≢ i → a ≢ j → a ≢ l → f a ≡ 0) → sumBelow f n ≡ f i + f j + f l
-sum-three f i j l n i< j< l< ij il jl z =
-    let g = changed f i 0 in
-    let h = changed g j 0 in
-    omega (
-      arith,
-      sum-update f g i n i< (λ a m e. sym (changed-other f i 0 a e)),
-      changed-same f i 0,
-      sum-update g h j n j< (λ a m e. sym (changed-other g j 0 a e)),
-      changed-same g j 0,
-      changed-other f i 0 j (λ e. ij (sym e)),
-      sum-single h l n l< rest,
-      changed-other g j 0 l (λ e. jl (sym e)),
-      changed-other f i 0 l (λ e. il (sym e)),
-    )
-  where
-    rest : (a : ℕ) → a < n → a ≢ l → changed (changed f i 0) j 0 a ≡ 0
-    rest a m al = elim (changed-cases (changed f i 0) j 0 a) [
-      | inl e ↦ e .1
-      | inr e ↦ e .1 ∙ elim (changed-cases f i 0 a) [ inl d ↦ d .1 | inr d ↦ d .1 ∙ z a (d .0) (e .0) al ]
-    ]
 
 module _ {s : Anodes} {n last k : ℕ} (m : Laid s n last k) where
   owned : (a c b x : ℕ) → Owns s a c b → covers (s .count a) (s .block a) x ≡ covers c b x
@@ -57,17 +34,17 @@ module _ {s : Anodes} {n last k : ℕ} (m : Laid s n last k) where
   others x _ is-6 n2 n5 n6 = absurd (n6 refl)
   others x _ (free a f) n2 n5 n6 = none-owned a x (f .count)
 
-  pub one-owner : (system : ℕ → ℕ) (x : ℕ) → system x ≡ covers (3 + k) 0 x → 3 + k ≤ last → last < n → x < n → owners limit (s .count) (s .block) system x ≡ 1
+  pub one-owner : (system : ℕ → ℕ) (x : ℕ) → system x ≡ covers (3 + k) 0 x → x < n → owners limit (s .count) (s .block) system x ≡ 1
   unfolding owners
-  one-owner system x sys room there l = omega (
+  one-owner system x sys l = omega (
     arith,
     sum-three (λ a. covers (s .count a) (s .block a) x) 2 5 6 limit (omega arith) (omega arith) (omega arith) (omega arith) (omega arith) (omega arith) (λ a. others x a (m .which a)),
     owned 2 (last - (3 + k)) (4 + k) x (m .owns-2),
     owned 5 1 (3 + k) x (record { count = m .at-5 .count; start = λ p. m .at-5 .block }),
     owned 6 (n - (last + 1)) (last + 1) x (m .owns-6),
     covers-join (3 + k) 1 0 (4 + k) (3 + k) x (omega arith) (omega arith),
-    covers-join (4 + k) (last - (3 + k)) 0 (last + 1) (4 + k) x (omega arith) (omega arith),
-    covers-join (last + 1) (n - (last + 1)) 0 n (last + 1) x (omega arith) (omega arith),
+    covers-join (4 + k) (last - (3 + k)) 0 (last + 1) (4 + k) x (omega arith) (omega (arith, m .room)),
+    covers-join (last + 1) (n - (last + 1)) 0 n (last + 1) x (omega arith) (omega (arith, m .there)),
     covers-in n 0 x (omega arith) (omega arith),
   )
 

@@ -29,6 +29,7 @@ module _ {ex : ℕ → Bool} {n last : ℕ} {s : Anodes} {system hd sd : ℕ →
   heldBy h y = held limit hd (s .count) (s .block) h y
 
   module _ (h : ℕ) (d : Head (s .next) (s .block) h) (y : ℕ) where
+    -- it stands in the chain as often as it is held under its head
     pub times-held : y < n → times y (blocksOf s h) ≡ heldBy h y
     unfolding times
     times-held l =
@@ -36,13 +37,15 @@ module _ {ex : ℕ → Bool} {n last : ℕ} {s : Anodes} {system hd sd : ℕ →
         ∙ sum-single (λ z. heldBy h z * oneAt z y) y n l (λ z m o. rw (oneAt-other z y o) (omega arith))
         ∙ rw (oneAt-same y y refl) (omega arith)
 
-    pub chain-below : 0 < times y (blocksOf s h) → y < n
+    -- a block of the chain is on the disk
+    chain-below : 0 < times y (blocksOf s h) → y < n
     unfolding times
     chain-below p = elim (less? y n) [
       | inl l ↦ l
       | inr l ↦ absurd (omega (arith, p, blocks-sum g (λ z. oneAt z y) h d, sum-zero (λ z. heldBy h z * oneAt z y) n (λ z m. rw (oneAt-other z y (λ e. omega (arith, e, l, m))) (omega arith))))
     ]
 
+    -- the system and the chain have it at most once together
     one-holder : y < n → system y + times y (blocksOf s h) ≤ 1
     one-holder l = omega (arith, times-held l, total-held g y l, sum-member (λ m. heldBy m y) h limit (g .linked .view .below h (d .in-use)))
 
@@ -50,6 +53,7 @@ module _ {ex : ℕ → Bool} {n last : ℕ} {s : Anodes} {system hd sd : ℕ →
     pub chain-once : times y (blocksOf s h) ≤ 1
     chain-once = elim (less? 0 (times y (blocksOf s h))) [ inl p ↦ omega (arith, one-holder (chain-below p)) | inr p ↦ omega arith ]
 
+    -- a block of the chain is not the system's
     chain-data : 0 < times y (blocksOf s h) → system y ≡ 0
     chain-data p = omega (arith, one-holder (chain-below p))
 

@@ -97,7 +97,7 @@ module _ {on : ℕ → Type 0} {img j : List ℕ} (k : Kept on img j) where
 
     -- the anode blocks
     module _ (slots : (s : ℕ) → slotOf img s ≢ 0 → on (slotOf img s)) where
-      pub anodeSlots-kept : anodeSlots j ≡ anodeSlots img
+      anodeSlots-kept : anodeSlots j ≡ anodeSlots img
       unfolding anodeSlots
       anodeSlots-kept = ap (λ (f : ℕ → List Anode). listed f 0 42) (fun-ext (λ s. rw (slotOf-kept s) (anodes-same img j (slotOf img s) (λ u. k .block-kept (slotOf img s) (slots s u)))))
 

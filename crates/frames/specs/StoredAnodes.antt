@@ -18,7 +18,7 @@ use Rattle.rules.specs.Accepted.{wrongSlots}
 use Rattle.laws.specs.Tests.{same?, less?}
 use Rattle.laws.specs.Space.{Alike, alike-trans}
 use Rattle.laws.specs.Passes.{Reading}
-use Rattle.laws.specs.ImageAnodes.{block-at, count-at, next-at, reading-of, slot-missing}
+use Rattle.laws.specs.ImageAnodes.{block-at, slot-missing, reading-of, read-stored}
 use Rattle.laws.specs.TestsPassed.{right-slot, one-slot}
 use Rattle.frames.specs.Kept.{Unheld, HeadsKept, kept-all, kept-both, slotOf-kept, unheld-kept, wrongSlots-kept}
 
@@ -74,6 +74,7 @@ alike-read img j a e = record {
   same-next = ap (λ (x : Anode). cond (eqb (x .block .0) 0) 0 (x .next .0)) e;
 }
 
+-- anodes that the test finds the same
 alike-same : (s t : Anodes) (a : ℕ) → sameAnode s t a ≡ true → Alike t s a
 unfolding sameAnode
 alike-same s t a e =
@@ -94,12 +95,8 @@ module _ {ex : ℕ → Bool} (t : Anodes) (r : Reading limit ex t) (j : List ℕ
 
   alike-stored : anodeOf j a ≡ anodeFrom t a → Alike t (anodesOf j) a
   alike-stored e =
-      let b : anodesOf j .block a ≡ t .block a = block-at j a ∙ rw e in
-      elim (same? (t .block a) 0) [
-        | inl z ↦ alike-free (b ∙ z) z
-        | inr u ↦ (let v : anodesOf j .block a ≢ 0 = λ z. u (sym b ∙ z) in
-            record { same-count = count-at j a v ∙ rw e; same-block = b; same-next = next-at j a v ∙ rw e })
-      ]
+      let k = read-stored j a (t .count a) (t .block a) (t .next a) e (λ z. (r .present .free-none a z, r .view .free-end a z)) in
+      record { same-count = k .0; same-block = k .1; same-next = k .2 }
 
 module _ (img : List ℕ) (right : wrongSlots img ≡ false) (a : ℕ) (x : Anode) where
   not-root : slotOf img (a / 82) ≢ 2

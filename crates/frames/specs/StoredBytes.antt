@@ -31,12 +31,14 @@ use Rattle.frames.specs.DisjointBlocks.{chain-once, chains-apart, chain-
 
 -- ---- the bytes of some blocks
 
+-- 512 each
 pub length-gather : (img ys : List ℕ) → Inside img ys → length (gather (blockOf img) ys) ≡ length ys * 512
 unfolding gather
 length-gather img [] i = refl
 length-gather img (y ∷ ys) i =
     omega (arith, length-append (blockOf img y) (gather (blockOf img) ys), length-blockOf img y (i y (times-here y ys)), length-gather img ys (λ z p. i z (times-later z y ys p)))
 
+-- a block in which the same bytes are stored as in the others has them
 pub blockOf-withBlocks : (img ys new : List ℕ) (y : ℕ) → length new ≡ 512 → 0 < times y ys → y * 512 + 512 ≤ length img → blockOf (withBlocks img ys new) y ≡ new
 unfolding withBlocks
 blockOf-withBlocks img [] new y long p i = absurd (omega (arith, p, times-nil y))
@@ -51,7 +53,8 @@ blockOf-withBlocks img (z ∷ ys) new y long p i =
     here (inl e) q = rw (e .0) (blockOf-withBlock-same img y new (long ∙ sym (length-blockOf img y i)))
     here (inr e) q = absurd (omega (arith, p, q, times-cons y z ys, e .1))
 
-pub gather-spread : (img ys bytes : List ℕ) → length bytes ≡ length ys * 512 → Inside img ys → ((y : ℕ) → times y ys ≤ 1) → gather (blockOf (spread img ys bytes)) ys ≡ bytes
+-- bytes spread over some blocks, each of which stands among them once, are the bytes of those blocks
+gather-spread : (img ys bytes : List ℕ) → length bytes ≡ length ys * 512 → Inside img ys → ((y : ℕ) → times y ys ≤ 1) → gather (blockOf (spread img ys bytes)) ys ≡ bytes
 unfolding gather spread
 gather-spread img [] bytes long i once = sym (drop-of-length-le bytes {i = 0} (omega arith))
 gather-spread img (y ∷ ys) bytes long i once =

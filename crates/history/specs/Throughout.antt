@@ -46,9 +46,9 @@ steps-harmless n (inr (inl e)) d = omega (arith, e, d .1)
 steps-harmless n (inr (inr e)) d = omega (arith, e, d .1)
 
 -- what a call leaves: an accepted image, and an answer that reports no damage
-pub record Kept (answer : ℕ) (img : List ℕ) : Type 0 where
-  pub accepted : checkAnswer img (diskSize img) limit ≡ 0
-  pub harmless : Harmless answer
+record AcceptedAfter (l : Left) : Type 0 where
+  accepted : checkAnswer (l .image) (diskSize (l .image)) limit ≡ 0
+  harmless : Harmless (l .answer)
 
 module _ (img : List ℕ) (ok : checkAnswer img (diskSize img) limit ≡ 0) where
   abbrev s : Anodes
@@ -58,59 +58,57 @@ module _ (img : List ℕ) (ok : checkAnswer img (diskSize img) limit ≡ 0) wher
   image = accepted-own img ok
 
   -- the image stays
-  stays : (n : ℕ) → Harmless n → Kept n img
+  stays : (n : ℕ) → Harmless n → AcceptedAfter (left n img)
   stays n h = record { accepted = ok; harmless = h }
 
-  -- or becomes j
-  becomes : (n : ℕ) (j : List ℕ) → checkAnswer j (diskSize img) limit ≡ 0 → Harmless n → Kept n j
-  becomes n j e h = record { accepted = own-tables j (diskSize img) limit e; harmless = h }
+  -- or becomes another
+  becomes : (l : Left) → checkAnswer (l .image) (diskSize img) limit ≡ 0 → Harmless (l .answer) → AcceptedAfter l
+  becomes l e h = record { accepted = own-tables (l .image) (diskSize img) limit e; harmless = h }
 
+  -- the check's answer, or a late one behind it
   answers : (blocks anodes b : ℕ) → Late b → Harmless (firstOf (checkAnswer img blocks anodes) b)
   unfolding firstOf
   answers blocks anodes b l = elim (any-tables img ok blocks anodes) [ inl e ↦ rw e (late-harmless b l) | inr e ↦ rw e (λ d. omega (arith, d .0)) ]
 
-  check-kept : (blocks anodes : ℕ) → Kept (checkAnswer img blocks anodes) img
+  check-kept : (blocks anodes : ℕ) → AcceptedAfter (left (checkAnswer img blocks anodes) img)
   check-kept blocks anodes = stays _ (elim (any-tables img ok blocks anodes) [ inl e ↦ (λ d. omega (arith, e, d .0)) | inr e ↦ (λ d. omega (arith, e, d .0)) ])
 
-  read-kept : (blocks anodes : List ℕ) (h : ℕ) (name : List ℕ) (offset len : ℕ) → Kept (readAnswer img blocks anodes h name offset len) img
+  read-kept : (blocks anodes : List ℕ) (h : ℕ) (name : List ℕ) (offset len : ℕ) → AcceptedAfter (left (readAnswer img blocks anodes h name offset len) img)
   unfolding readAnswer
   read-kept blocks anodes h name offset len = stays _ (answers (length blocks) (length anodes) _ (span-late img s h name offset len))
 
-  list-kept : (blocks anodes : List ℕ) (h n : ℕ) → Kept (listAnswered img blocks anodes h n) img
+  list-kept : (blocks anodes : List ℕ) (h n : ℕ) → AcceptedAfter (left (listAnswered img blocks anodes h n) img)
   unfolding listAnswered
   list-kept blocks anodes h n = stays _ (answers (length blocks) (length anodes) _ (list-late img s h n))
 
   -- format leaves the image, or a formatted one
-  format-kept : (last k : ℕ) (name : List ℕ) (day minute tick protection : ℕ) →
-      let l = formatOutcome img last k name day minute tick protection in Kept (l .answer) (l .image)
+  format-kept : (last k : ℕ) (name : List ℕ) (day minute tick protection : ℕ) → AcceptedAfter (formatOutcome img last k name day minute tick protection)
   unfolding formatOutcome formatAnswer doneOr
   format-kept last k name day minute tick protection = go (wrongSize img) (wrongFormat img last k name) refl refl
     where
       new : List ℕ
       new = formatted img last k name day minute tick protection
 
-      go : (a b : Bool) → wrongSize img ≡ a → wrongFormat img last k name ≡ b →
-          let l = leftAfter (1 if a else 20 if b else 0) img (left 0 new) in Kept (l .answer) (l .image)
+      go : (a b : Bool) → wrongSize img ≡ a → wrongFormat img last k name ≡ b → AcceptedAfter (leftAfter (1 if a else 20 if b else 0) img (left 0 new))
       go true b p q = stays 1 (λ d. omega (arith, d .0))
       go false true p q = stays 20 (λ d. omega (arith, d .1))
-      go false false p q = becomes 0 new (formatted-accepted img last k name day minute tick protection p q (diskSize img) limit (omega arith) (omega arith)) (λ d. omega (arith, d .0))
+      go false false p q = becomes (left 0 new) (formatted-accepted img last k name day minute tick protection p q (diskSize img) limit (omega arith) (omega arith)) (λ d. omega (arith, d .0))
 
   -- a change: refused by the check or by its own table, or made
-  change-kept : (blocks anodes : List ℕ) (m : ℕ) → Late m → (done : Left) → (m ≡ 0 → Kept (done .answer) (done .image)) →
-      let l = leftAfter (checkedFirst img blocks anodes m) img done in Kept (l .answer) (l .image)
+  change-kept : (blocks anodes : List ℕ) (m : ℕ) → Late m → (done : Left) → (m ≡ 0 → AcceptedAfter done) → AcceptedAfter (leftAfter (checkedFirst img blocks anodes m) img done)
   unfolding doneOr
   change-kept blocks anodes m late done made = go (checkedFirst img blocks anodes m) refl
     where
-      go : (n : ℕ) → checkedFirst img blocks anodes m ≡ n → let l = leftAfter n img done in Kept (l .answer) (l .image)
+      go : (n : ℕ) → checkedFirst img blocks anodes m ≡ n → AcceptedAfter (leftAfter n img done)
       go zero e = made (firstOf-zero (checkAnswer img (length blocks) (length anodes)) m e .1)
       go (suc n) e = stays (suc n) (rw e at (answers (length blocks) (length anodes) m late))
 
   -- of a named entry
-  named-kept : (blocks anodes : List ℕ) (m : ℕ) → Late m → (o : Option Entered) (f : Entered → Left) → (m ≡ 0 → (e : Entered) → o ≡ some e → Kept (f e .answer) (f e .image)) →
-      let l = changeNamed (checkedFirst img blocks anodes m) img o f in Kept (l .answer) (l .image)
+  named-kept : (blocks anodes : List ℕ) (m : ℕ) → Late m → (o : Option Entered) (f : Entered → Left) → (m ≡ 0 → (e : Entered) → o ≡ some e → AcceptedAfter (f e)) →
+      AcceptedAfter (changeNamed (checkedFirst img blocks anodes m) img o f)
   named-kept blocks anodes m late o f made = change-kept blocks anodes m late (ofEntry o f (left 22 img)) (λ z. found o (made z))
     where
-      found : (o : Option Entered) → ((e : Entered) → o ≡ some e → Kept (f e .answer) (f e .image)) → let l = ofEntry o f (left 22 img) in Kept (l .answer) (l .image)
+      found : (o : Option Entered) → ((e : Entered) → o ≡ some e → AcceptedAfter (f e)) → AcceptedAfter (ofEntry o f (left 22 img))
       found none k = stays 22 (λ d. omega (arith, d .1))
       found (some e) k = k e refl
 
@@ -119,36 +117,36 @@ module _ (img : List ℕ) (ok : checkAnswer img (diskSize img) limit ≡ 0) wher
   named-in h name e r q = record { directory = record { image = image; reached = r }; member = named-member img s h name e q }
 
   write-kept : (blocks anodes : List ℕ) (h : ℕ) (name : List ℕ) (offset : ℕ) (bytes : List ℕ) →
-      let l = changeNamed (readAnswer img blocks anodes h name offset (length bytes)) img (entryNamed img s h name) (λ e. left 0 (written img s e offset bytes)) in Kept (l .answer) (l .image)
+      AcceptedAfter (changeNamed (readAnswer img blocks anodes h name offset (length bytes)) img (entryNamed img s h name) (λ e. left 0 (written img s e offset bytes)))
   unfolding readAnswer
   write-kept blocks anodes h name offset bytes =
       named-kept blocks anodes (spanAnswer img s h name offset (length bytes)) (span-late img s h name offset (length bytes)) (entryNamed img s h name) (λ e. left 0 (written img s e offset bytes))
       (λ z e q.
       let f = span-found img s h name e q offset (length bytes) z in
-      becomes 0 (written img s e offset bytes) (write-accepted (named-in h name e (f .0) q) (f .1) offset bytes) (λ d. omega (arith, d .0)))
+      becomes (left 0 (written img s e offset bytes)) (write-accepted (named-in h name e (f .0) q) (f .1) offset bytes) (λ d. omega (arith, d .0)))
 
   resize-kept : (blocks anodes : List ℕ) (h : ℕ) (name : List ℕ) (new : ℕ) →
-      let l = changeNamed (checkedFirst img blocks anodes (resizeAnswer img s h name)) img (entryNamed img s h name) (λ e. resized img s e new) in Kept (l .answer) (l .image)
+      AcceptedAfter (changeNamed (checkedFirst img blocks anodes (resizeAnswer img s h name)) img (entryNamed img s h name) (λ e. resized img s e new))
   resize-kept blocks anodes h name new =
       named-kept blocks anodes (resizeAnswer img s h name) (resize-late img s h name) (entryNamed img s h name) (λ e. resized img s e new)
       (λ z e q.
       let f = file-found img s h name e q z in
       let m = named-in h name e (f .0) q in
-      becomes (resized img s e new .answer) (resized img s e new .image) (resize-accepted m new (f .1)) (steps-harmless _ (resize-answers m new)))
+      becomes (resized img s e new) (resize-accepted m new (f .1)) (steps-harmless _ (resize-answers m new)))
 
   remove-kept : (blocks anodes : List ℕ) (h : ℕ) (name : List ℕ) →
-      let l = changeNamed (checkedFirst img blocks anodes (removeAnswer img s h name)) img (entryNamed img s h name) (λ e. removed img s e) in Kept (l .answer) (l .image)
+      AcceptedAfter (changeNamed (checkedFirst img blocks anodes (removeAnswer img s h name)) img (entryNamed img s h name) (λ e. removed img s e))
   unfolding notEmpty
   remove-kept blocks anodes h name =
       named-kept blocks anodes (removeAnswer img s h name) (remove-late img s h name) (entryNamed img s h name) (λ e. removed img s e)
       (λ z e q.
       let f = removable-found img s h name e q z in
       let m = named-in h name e (f .0) q in
-      becomes (removed img s e .answer) (removed img s e .image) (remove-accepted m (λ d. rw d at (f .1)))
+      becomes (removed img s e) (remove-accepted m (λ d. rw d at (f .1)))
       (steps-harmless _ (elim (remove-answers m) [ inl z ↦ inl z | inr k ↦ inr (inr k) ])))
 
   make-kept : (blocks anodes : List ℕ) (h type : ℕ) (name comment : List ℕ) (new : NewEntry) → new .name ≡ name → new .comment ≡ comment →
-      let l = leftAfter (checkedFirst img blocks anodes (makeAnswer img s h type name comment)) img (made img s h new) in Kept (l .answer) (l .image)
+      AcceptedAfter (leftAfter (checkedFirst img blocks anodes (makeAnswer img s h type name comment)) img (made img s h new))
   unfolding makeAnswer wrongEntry
   make-kept blocks anodes h type name comment new en ec =
       change-kept blocks anodes (makeAnswer img s h type name comment) (make-late img s h type name comment) (made img s h new)
@@ -156,10 +154,10 @@ module _ (img : List ℕ) (ok : checkAnswer img (diskSize img) limit ≡ 0) wher
       let w = if-zero 20 (wrongEntry type name comment) _ (omega arith) z in
       let r = if-zero 21 (noDirectory img s h) _ (omega arith) (w .1) in
       let n = neither (not (goodName name)) (not (goodComment comment)) (neither (not (eqb type 253 || eqb type 2)) (not (goodName name) || not (goodComment comment)) (w .0) .1) in
-      becomes (made img s h new .answer) (made img s h new .image) (make-accepted (record { image = image; reached = r .0 }) new (rw en (not-false _ (n .0))) (rw ec (not-false _ (n .1)))) (steps-harmless _ (made-answer img s h new)))
+      becomes (made img s h new) (make-accepted (record { image = image; reached = r .0 }) new (rw en (not-false _ (n .0))) (rw ec (not-false _ (n .1)))) (steps-harmless _ (made-answer img s h new)))
 
   -- every call leaves an accepted image and reports no damage
-  call-kept : (c : Call) → Kept (outcome img c .answer) (outcome img c .image)
+  call-kept : (c : Call) → AcceptedAfter (left (outcome img c .answer) (outcome img c .image))
   unfolding outcome settled checkOutcome summaryOutcome readOutcome listOutcome makeOutcome resizeOutcome writeOutcome removeOutcome
   call-kept (check blocks anodes) = check-kept (length blocks) (length anodes)
   call-kept (summary blocks anodes) = check-kept (length blocks) (length anodes)

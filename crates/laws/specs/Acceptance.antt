@@ -15,8 +15,9 @@ use Rattle.rules.specs.Walk.{walkOf, faultIn}
 use Rattle.rules.specs.Accepted.{diskSize, wrongSize, shortTables, wrongType, lastReserved, wrongRoot, wrongSlots, wrongFixed, outOfRange, wrongLink, wrongAt, hasPred, wrongLinks, notAbove, notUpTo, wrongFreeList, ownersOf, twoOwners, noOwner, unnamedChain, treeFault, damageIn, checkAnswer}
 use Rattle.counting.specs.Laws.{neither, none-or, and-none, none-and, anyBelow-each, anyBelow-all}
 use Rattle.laws.specs.Each.{Each}
-use Rattle.laws.specs.Bags.{times-here, times-later, each-at}
+use Rattle.laws.specs.Bags.{each-at}
 use Rattle.laws.specs.Tests.{same, if-zero, firstOf-zero, firstOf-none}
+use Rattle.laws.specs.Members.{none-pass, member-times}
 use Rattle.laws.specs.TestsPassed.{fixed-anodes, extent-inside, tested-checked}
 use Rattle.laws.specs.Links.{View}
 use Rattle.laws.specs.Space.{FixedHead}
@@ -32,10 +33,7 @@ in-none test l e = each-at (λ x. test x ≡ false) l (each l e)
     each (y ∷ l) e = let o = neither (test y) (anyIn test l) e in (o .0, each l (o .1))
 
 pub none-in : (test : ℕ → Bool) (l : List ℕ) → ((x : ℕ) → 0 < times x l → test x ≡ false) → anyIn test l ≡ false
-unfolding anyIn
-none-in test [] f = refl
-none-in test (y ∷ l) f =
-    none-or (test y) (anyIn test l) (f y (times-here y l)) (none-in test l (λ x p. f x (times-later x y l p)))
+none-in test l f = none-pass test l (λ x m. f x (member-times x l m))
 
 -- ---- 6 to 11
 

@@ -1,5 +1,5 @@
 -- The blocks of a chain in its order: which changes leave the lists of other chains as they are, and what an anode of a chain is to it.
-use Prim.Native.Nat.{ℕ, suc, _+_, _-_, _≤_, _<_}
+use Prim.Native.Nat.{ℕ, suc, _+_, _-_, _≤_, _<_, zero}
 use mathlib.Core.Path.{_≡_, refl, sym, ap, _∙_}
 use mathlib.Core.Logic.{_≢_}
 use mathlib.Core.Bool.{Bool}
@@ -7,13 +7,14 @@ use mathlib.Core.List.{List, [], _∷_, _++_, append-assoc}
 use native.Mathlib.Omega.{arith}
 use native.Mathlib.Numerals.{add-one}
 use lib.Dec.{T}
-use Rattle.rules.specs.Counting.{times, gather, lastOf}
+use Rattle.rules.specs.Counting.{times, gather, lastOf, sumList}
+use lib.ListN.{length}
 use Rattle.rules.specs.Anodes.{Anodes, limit}
 use Rattle.rules.specs.Chains.{chainOf, run, blocksOf, blockCount}
 use Rattle.rules.specs.Space.{rewritten, onChain, dropped, insertedAfter, unlinked}
 use Rattle.laws.specs.Tests.{T-false}
 use Rattle.laws.specs.Sums.{oneAt-same, changed-other, changed-pos}
-use Rattle.laws.specs.Bags.{times-cons, times-append, gather-kept, last-split}
+use Rattle.laws.specs.Bags.{times-cons, times-append, gather-kept, last-split, list-congr, list-length, gather-sum}
 use Rattle.laws.specs.LinkChanges.{without, drop-apart, insertAfter, insert-linked, insert-after, unlink, unlink-linked, unlink-after}
 use Rattle.laws.specs.Segments.{Seg, Chain, seg-split, seg-last, chain-end}
 use Rattle.laws.specs.Chains.{run-end}
@@ -52,6 +53,18 @@ extent-before s a y e = rw (← e, add-one (s .count a), add-one y)
 pub extent-shorter : (s : Anodes) (x : ℕ) → 0 < s .count x → extent s x ≡ run (s .block x) (s .count x - 1) ++ ((s .block x + (s .count x - 1)) ∷ [])
 unfolding extent
 extent-shorter s x full = let e : s .count x ≡ suc (s .count x - 1) = omega arith in ap (run (s .block x)) e ∙ run-end (s .block x) (s .count x - 1)
+-- a run has as many blocks as its count says, and so has a chain
+length-run : (b c : ℕ) → length (run b c) ≡ c
+unfolding run
+length-run b zero = refl
+length-run b (suc c) = ap suc (length-run (suc b) c)
+
+pub length-blocksOf : (s : Anodes) (h : ℕ) → length (blocksOf s h) ≡ blockCount s h
+unfolding blocksOf blockCount
+length-blocksOf s h =
+    let chain = chainOf (s .next) limit h in
+    sym (list-length (gather (λ a. run (s .block a) (s .count a)) chain)) ∙ gather-sum (λ a. run (s .block a) (s .count a)) (λ y. 1) chain
+    ∙ list-congr (λ a. sumList (λ y. 1) (run (s .block a) (s .count a))) (s .count) chain (λ a. list-length (run (s .block a) (s .count a)) ∙ length-run (s .block a) (s .count a))
 
 -- a chain of the same anodes with the same extents has the same blocks
 pub kept-blocks : (s t : Anodes) (m : ℕ) → chainOf (t .next) limit m ≡ chainOf (s .next) limit m → ((a : ℕ) → 0 < times a (chainOf (s .next) limit m) → extent t a ≡ extent s a) → blocksOf t m ≡ blocksOf s m

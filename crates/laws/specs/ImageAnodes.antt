@@ -1,6 +1,6 @@
 -- What the anodes of an image are, whatever the image: free and missing ones read (0, 0, 0), and one in use exists.
 use Prim.Native.Nat.{ℕ, zero, suc, _/_, _%_}
-use mathlib.Core.Path.{_≡_, refl, _∙_}
+use mathlib.Core.Path.{_≡_, refl, sym, _∙_}
 use mathlib.Core.Logic.{_≢_, inl, inr}
 use mathlib.Core.Bool.{true, false}
 use mathlib.Core.List.{List}
@@ -8,10 +8,10 @@ use native.Mathlib.Omega.{arith}
 use borrow.Author.Tests.{le-ltb, lt-ltb, eq-eqb, ne-eqb}
 use Rattle.disk.specs.Blocks.{blockOf}
 use Rattle.disk.specs.Root.{slotOf}
-use Rattle.disk.specs.AnodeBlocks.{anodeIn, anodesIn, anodeSlots, anodeAt, anodeOf}
+use Rattle.disk.specs.AnodeBlocks.{anodeMade, anodeIn, anodesIn, anodeSlots, anodeAt, anodeOf}
 use Rattle.disk.proofs.Laws.{slotOf-high, anodeOf-missing, anodeSlots-at, length-listed}
 use Rattle.rules.specs.Anodes.{limit, fieldsOf, existsIn, exists, inUse, anodesOf}
-use Rattle.laws.specs.Tests.{less?}
+use Rattle.laws.specs.Tests.{same?, less?}
 use Rattle.laws.specs.Passes.{Reading}
 
 module _ (img : List ℕ) where
@@ -56,3 +56,12 @@ module _ (img : List ℕ) where
 
       free-end : (a : ℕ) → anodesOf img .block a ≡ 0 → anodesOf img .next a ≡ 0
       free-end a z = unfold anodesOf inUse in rw (eq-eqb (fieldsOf (anodeSlots img) .block a) 0 z)
+
+  -- an anode reads as it is stored, where a free one is stored without count and next
+  pub read-stored : (a c b m : ℕ) → anodeOf img a ≡ anodeMade c b m → (b ≡ 0 → (c ≡ 0) × (m ≡ 0)) → (anodesOf img .count a ≡ c) × (anodesOf img .block a ≡ b) × (anodesOf img .next a ≡ m)
+  read-stored a c b m e free =
+      let is : anodesOf img .block a ≡ b = block-at a ∙ rw e in
+      elim (same? b 0) [
+        | inl z ↦ (reading-of .present .free-none a (is ∙ z) ∙ sym (free z .0), is, reading-of .view .free-end a (is ∙ z) ∙ sym (free z .1))
+        | inr u ↦ (let v : anodesOf img .block a ≢ 0 = rw is u in (count-at a v ∙ rw e, is, next-at a v ∙ rw e))
+      ]

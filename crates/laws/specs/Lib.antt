@@ -3,6 +3,7 @@ pub mod Tests
 pub mod Sums
 pub mod Each
 pub mod Bags
+pub mod Members
 pub mod Ownership
 pub mod Segments
 pub mod Chains

@@ -1,14 +1,18 @@
--- A directory block with no entry: its length, its head, and its end mark at byte 16.
+-- A directory block with no entry: its length, its head, its end mark at byte 16, and whose block it is.
 use Prim.Native.Nat.{ℕ}
-use mathlib.Core.Path.{_≡_, _∙_}
-use mathlib.Core.List.{[]}
+use mathlib.Core.Path.{_≡_, refl, sym, _∙_}
+use mathlib.Core.Bool.{_&&_, _||_}
+use mathlib.Core.List.{List, []}
 use native.Mathlib.Omega.{arith}
+use lib.Dec.{T, eqb}
 use lib.ListN.{length, getD, length-replicate, getD-replicate}
+use Rattle.disk.specs.Blocks.{blockOf}
 use Rattle.directory.specs.declared.Walked.the-variants.{End}
 use Rattle.directory.specs.Entries.{directoryMark, directoryHeadIn, walkedAt}
 use Rattle.directory.proofs.Laws.{length-putDirectoryHead, getD-putDirectoryHead-after, directoryHeadIn-putDirectoryHead}
-use Rattle.rules.specs.Walk.{entriesFrom}
+use Rattle.rules.specs.Walk.{Dir, entriesFrom, isBlockOf}
 use Rattle.rules.specs.Format.{zeroBlock, newDirectoryBlock}
+use Rattle.laws.specs.Tests.{eq→eqb, and, or-right}
 use Rattle.laws.specs.Entries.{entries-end}
 
 module _ (owner parent : ℕ) where
@@ -30,3 +34,11 @@ module _ (owner parent : ℕ) where
 
   pub entries-new : (y : ℕ) → entriesFrom 28 (newDirectoryBlock owner parent) y 16 ≡ []
   entries-new y = entries-end (newDirectoryBlock owner parent) y 28 16 mark-new
+
+-- a new directory block is marked as its directory's
+pub new-marked : (i : List ℕ) (y owner parent : ℕ) → blockOf i y ≡ newDirectoryBlock owner parent → (d : Dir) → d .head ≡ owner → d .parent ≡ parent → T (isBlockOf i d y)
+unfolding isBlockOf
+new-marked i y owner parent e d p q =
+    rw (e, head-new owner parent)
+    (and (eqb directoryMark directoryMark) (eqb owner (d .head) && (eqb (d .head) 5 || eqb parent (d .parent))) (eq→eqb directoryMark directoryMark refl)
+    (and (eqb owner (d .head)) (eqb (d .head) 5 || eqb parent (d .parent)) (eq→eqb owner (d .head) (sym p)) (or-right (eqb (d .head) 5) (eqb parent (d .parent)) (eq→eqb parent (d .parent) (sym q)))))

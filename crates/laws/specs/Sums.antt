@@ -163,6 +163,29 @@ pub sum-single : (f : ℕ → ℕ) (i k : ℕ) → i < k → ((j : ℕ) → j < 
 sum-single f i k l h =
     omega (arith, sum-update (λ j. 0) f i k l (λ j m e. sym (h j m e)), sum-zero (λ j. 0) k (λ j m. refl))
 
+-- a sum where all but three vanish
+pub sum-three : (f : ℕ → ℕ) (i j l n : ℕ) → i < n → j < n → l < n → i ≢ j → i ≢ l → j ≢ l → ((a : ℕ) → a ≢ i → a ≢ j → a ≢ l → f a ≡ 0) → sumBelow f n ≡ f i + f j + f l
+sum-three f i j l n i< j< l< ij il jl z =
+    let g = changed f i 0 in
+    let h = changed g j 0 in
+    omega (
+      arith,
+      sum-update f g i n i< (λ a m e. sym (changed-other f i 0 a e)),
+      changed-same f i 0,
+      sum-update g h j n j< (λ a m e. sym (changed-other g j 0 a e)),
+      changed-same g j 0,
+      changed-other f i 0 j (λ e. ij (sym e)),
+      sum-single h l n l< rest,
+      changed-other g j 0 l (λ e. jl (sym e)),
+      changed-other f i 0 l (λ e. il (sym e)),
+    )
+  where
+    rest : (a : ℕ) → a < n → a ≢ l → changed (changed f i 0) j 0 a ≡ 0
+    rest a m al = elim (changed-cases (changed f i 0) j 0 a) [
+      | inl e ↦ e .1
+      | inr e ↦ e .1 ∙ elim (changed-cases f i 0 a) [ inl d ↦ d .1 | inr d ↦ d .1 ∙ z a (d .0) (e .0) al ]
+    ]
+
 pub sum-oneAt : (x k : ℕ) → x < k → sumBelow (oneAt x) k ≡ 1
 sum-oneAt x k l = sum-single (oneAt x) x k l (λ j m e. oneAt-other x j (λ q. e (sym q))) ∙ oneAt-same x x refl
 

@@ -23,7 +23,7 @@ use Rattle.laws.specs.Bags.{times-nil}
 use Rattle.laws.specs.Links.{Linked}
 use Rattle.laws.specs.OwnerTable.{setAll, fresh-owner}
 use Rattle.anodes.specs.Loaded.{anodesFrom, Loaded}
-use Rattle.changes.specs.Members.{times-member}
+use Rattle.laws.specs.Bags.{times-member}
 use Rattle.changes.specs.Image.{accepted-own}
 use Rattle.changes.specs.Reached.{dir-block}
 use Rattle.changes.specs.MakePlan.{Fresh}

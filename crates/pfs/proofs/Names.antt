@@ -8,7 +8,6 @@ use lib.ListN.{length, take, drop}
 use lib.Seq.{drop-drop}
 use Rattle.disk.specs.Blocks.{blockOf}
 use Rattle.directory.specs.Entries.{nameIn, nameLength, entryIn, entryLength}
-use Rattle.directory.proofs.Laws.{found-at}
 use Rattle.rules.specs.Anodes.{anodesOf}
 use Rattle.rules.specs.Walk.{Entered}
 use Rattle.rules.specs.Accepted.{checkAnswer}
@@ -16,6 +15,7 @@ use Rattle.rules.specs.Lookup.{entriesOf, nameAt, nth}
 use Rattle.rules.specs.Calls.{Outcome, outcomeOf, settled, doneOr, fieldList, fieldsAt, fieldsListed, nameListed, listAnswer, listAnswered, listOutcome}
 use Rattle.laws.specs.Tests.{firstOf-zero}
 use Rattle.changes.specs.Image.{AcceptedImage}
+use Rattle.changes.specs.FoundEntries.{standing-found}
 use Rattle.changes.specs.Reached.{entry-facts, nth-member}
 use Rattle.changes.specs.Answers.{list-reached}
 use Rattle.reading.proofs.Laws.{take-within}
@@ -37,7 +37,7 @@ module _ (img b₀ a₀ : List ℕ) (h n : ℕ) where
   found-name accepted listed x is =
       let image : AcceptedImage img = record { blocks = length b₀; anodes = length a₀; accepted = accepted } in
       let f = entry-facts (record { directory = record { image = image; reached = list-reached img (anodesOf img) h n listed }; member = nth-member _ n x is }) in
-      let w = found-at (blockOf img (x .place / 512)) (x .place % 512) (f .stands .entry) (f .stands .walked) in
+      let w = standing-found (f .stands) in
       named-part img (x .place) (omega (arith, w .exact, w .room))
 
   of-answer : (k : ℕ) → k ≡ listAnswered img b₀ a₀ h n → (o : Option Entered) → nth (entriesOf img (anodesOf img) h) n ≡ o → nameListed k img o ≡ nameGiven img (fieldsListed k img o)

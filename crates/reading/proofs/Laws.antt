@@ -11,7 +11,7 @@ use Rattle.rules.specs.Walk.{Entered, blocksFor}
 use Rattle.rules.specs.Lookup.{noDirectory, entriesOf, bytesOf, contents}
 use Rattle.rules.specs.Calls.{doneOr, bytesRead}
 use Rattle.laws.specs.Acceptance.{size-bounds}
-use Rattle.changes.specs.Members.{Member}
+use Rattle.laws.specs.Each.{Member}
 use Rattle.changes.specs.Image.{accepted-own, image-passed}
 use Rattle.changes.specs.Reached.{EntryIn, entry-facts}
 use Rattle.changes.specs.Read.{bytes-long}

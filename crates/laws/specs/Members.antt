@@ -2,15 +2,17 @@
 use Prim.Native.Nat.{ℕ, zero, suc, _+_, _*_, _≤_, _<_}
 use mathlib.Core.Path.{_≡_, refl, sym, ap, ap₂, _∙_}
 use mathlib.Core.Logic.{_≢_, _⊎_, inl, inr}
-use mathlib.Core.List.{List, [], _∷_, _++_, map, map-id}
+use mathlib.Core.Bool.{Bool, false}
+use mathlib.Core.List.{List, [], _∷_, _++_, map, map-id, append-assoc}
 use native.Mathlib.Omega.{arith}
-use Rattle.rules.specs.Counting.{sumList, times, gather, oneAt}
+use Rattle.rules.specs.Counting.{sumList, times, gather, oneAt, anyIn}
+use Rattle.counting.specs.Laws.{none-or}
 use Rattle.laws.specs.Tests.{less?}
 use Rattle.laws.specs.Sums.{oneAt-same, oneAt-other, oneAt-cases}
 use Rattle.laws.specs.Bags.{list-cons, list-append, list-add, list-mono, list-scale}
 use Rattle.laws.specs.Each.{Each, each-right, list-congr-each, gather-congr-each}
 pub use Rattle.laws.specs.Each.{Member}
 pub use Rattle.laws.specs.Bags.{times-member}
 
 module _ {ℓ} {X : Type ℓ} where
   pub no-member : (x : X) → Member x [] → ⊥
@@ -34,6 +36,12 @@ module _ {ℓ} {X : Type ℓ} where
     | inr q ↦ elim (member-append x l m q) [ inl r ↦ inl (member-later x y l r) | inr r ↦ inr r ]
   ]
 
+  pub member-left : (x : X) (l m : List X) → Member x l → Member x (l ++ m)
+  member-left x l m (before, after, e) = (before, after ++ m, rw e (append-assoc before (x ∷ after) m))
+
+  pub member-right : (x : X) (l m : List X) → Member x m → Member x (l ++ m)
+  member-right x l m (before, after, e) = (l ++ before, after, rw e (sym (append-assoc l before (x ∷ after))))
+
   -- what holds of each holds of a member, and its weight is no more than the sum
   pub member-each : (P : X → Type 0) (x : X) (l : List X) → Member x l → Each P l → P x
   member-each P x l (before, after, e) p = each-right P before (x ∷ after) (rw e at p) .0
@@ -52,6 +60,12 @@ module _ {ℓ} {X : Type ℓ} where
 
   pub gather-congr : {Y : Type 0} (f g : X → List Y) (l : List X) → ((x : X) → Member x l → f x ≡ g x) → gather f l ≡ gather g l
   gather-congr f g l e = gather-congr-each f g l (each-members (λ x. f x ≡ g x) l e)
+
+  -- a test that no member passes
+  pub none-pass : (test : X → Bool) (l : List X) → ((x : X) → Member x l → test x ≡ false) → anyIn test l ≡ false
+  unfolding anyIn
+  none-pass test [] f = refl
+  none-pass test (x ∷ l) f = none-or (test x) (anyIn test l) (f x (member-first x l)) (none-pass test l (λ y m. f y (member-later y x l m)))
 
 -- a member of what f gives for the members of a list
 pub member-gather {ℓ κ} : {X : Type ℓ} {Y : Type κ} (f : X → List Y) (l : List X) (y : Y) → Member y (gather f l) → (x : X) × Member x l × Member y (f x)
@@ -74,8 +88,8 @@ unfolding times
 member-times x l p = omega (arith, member-sum (λ y. oneAt y x) x l p, oneAt-same x x refl)
 
 -- what does not stand in a list
-pub none-in : (x : ℕ) (l : List ℕ) → (0 < times x l → ⊥) → times x l ≡ 0
-none-in x l n = elim (less? 0 (times x l)) [ inl p ↦ absurd (n p) | inr p ↦ omega arith ]
+pub times-none : (x : ℕ) (l : List ℕ) → (0 < times x l → ⊥) → times x l ≡ 0
+times-none x l n = elim (less? 0 (times x l)) [ inl p ↦ absurd (n p) | inr p ↦ omega arith ]
 
 -- two numbers of a list weigh no more than the list
 pub two-members : (w : ℕ → ℕ) (l : List ℕ) (a b : ℕ) → a ≢ b → 0 < times a l → 0 < times b l → w a + w b ≤ sumList w l
