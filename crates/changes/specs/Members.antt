@@ -8,8 +8,8 @@ use Rattle.rules.specs.Counting.{sumList, times, gather, oneAt}
 use Rattle.laws.specs.Tests.{less?}
 use Rattle.laws.specs.Sums.{oneAt-same, oneAt-other, oneAt-cases}
 use Rattle.laws.specs.Bags.{list-cons, list-append, list-add, list-mono, list-scale}
-use Rattle.laws.specs.Each.{Each, each-right, list-congr-each, gather-congr-each}
-pub use Rattle.laws.specs.Each.{Member}
+use Rattle.laws.specs.Each.{Each, list-congr-each, gather-congr-each}
+pub use Rattle.laws.specs.Each.{Member, member-each}
 pub use Rattle.laws.specs.Bags.{times-member}
 
 module _ {ℓ} {X : Type ℓ} where
@@ -34,14 +34,11 @@ module _ {ℓ} {X : Type ℓ} where
     | inr q ↦ elim (member-append x l m q) [ inl r ↦ inl (member-later x y l r) | inr r ↦ inr r ]
   ]
 
-  -- what holds of each holds of a member, and its weight is no more than the sum
-  pub member-each : (P : X → Type 0) (x : X) (l : List X) → Member x l → Each P l → P x
-  member-each P x l (before, after, e) p = each-right P before (x ∷ after) (rw e at p) .0
-
+  -- a member's weight is no more than the sum
   pub member-sum : (w : X → ℕ) (x : X) (l : List X) → Member x l → w x ≤ sumList w l
   member-sum w x l (before, after, e) = rw e (omega (arith, list-append w before (x ∷ after), list-cons w x after))
 
-  -- and what holds of each member holds of each
+  -- what holds of each member holds of each
   pub each-members : (P : X → Type 0) (l : List X) → ((x : X) → Member x l → P x) → Each P l
   each-members P [] f = tt
   each-members P (x ∷ l) f = (f x (member-first x l), each-members P l (λ y m. f y (member-later y x l m)))

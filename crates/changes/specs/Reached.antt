@@ -19,12 +19,12 @@ use Rattle.rules.specs.Lookup.{noDirectory, entriesOf, isNamed, firstNamed, ent
 use Rattle.counting.specs.Laws.{none-or}
 use Rattle.laws.specs.Tests.{T-true}
 use Rattle.laws.specs.Sums.{oneAt-cases, oneAt-same}
-use Rattle.laws.specs.Bags.{list-nil, list-cons, list-one, gather-sum, map-sum}
+use Rattle.laws.specs.Bags.{list-one, gather-sum, map-sum}
 use Rattle.laws.specs.Heads.{Head}
 use Rattle.laws.specs.Space.{on-chain}
 use Rattle.laws.specs.Each.{each-zero}
 use Rattle.laws.specs.Items.{wrong, namedIn, faults}
-use Rattle.laws.specs.TreeChanges.{headed}
+use Rattle.laws.specs.TreeChanges.{headed, headed-member}
 use Rattle.laws.specs.Totals.{file-size}
 use Rattle.laws.specs.Entries.{broken-wrong, item-fine, item-anode, item-dir, items-sum, itemsAt-cases}
 use Rattle.laws.specs.Whole.{Whole, counts-head, not-dir, dir-heads, named-heads}
@@ -55,13 +55,6 @@ nth-member (x ∷ l) zero e is = ([], l, cc)
 nth-member (x ∷ l) (suc n) e is = member-later e x l (nth-member l n e is)
 
 -- ---- a reached directory
-
-headed-member : (h : ℕ) (l : List Dir) → 0 < sumList (λ d. oneAt (d .head) h) l → (d : Dir) × Member d l × (d .head ≡ h)
-headed-member h [] p = absurd (omega (arith, p, list-nil {X = Dir} (λ d. oneAt (d .head) h)))
-headed-member h (x ∷ l) p = elim (oneAt-cases (x .head) h) [
-  | inl c ↦ (x, member-first x l, c .0)
-  | inr c ↦ (let r = headed-member h l (omega (arith, p, c .1, list-cons {X = Dir} (λ d. oneAt (d .head) h) x l)) in (r .0, member-later (r .0) x l (r .1), r .2))
-]
 
 module _ {ex : ℕ → Bool} {n last : ℕ} {s : Anodes} {system hd sd : ℕ → ℕ} {entries : ℕ → List Entered} {marked : Dir → ℕ → Bool} {dirs : List Dir}
     (w : Whole ex n last s system hd sd entries marked dirs) where
@@ -191,7 +184,6 @@ module _ (img : List ℕ) (blocks anodes : ℕ) (accepted : checkAnswer img bloc
   some-dir = reached-some img (anodesOf img) h reached
 
   pub reached-dir : (d : Dir) × Member d (reachedDirs img (anodesOf img)) × (d .head ≡ h)
-  unfolding headed
   reached-dir = headed-member h (reachedDirs img (anodesOf img)) some-dir
 
   pub reached-from-5 : 5 ≤ h

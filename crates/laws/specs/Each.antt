@@ -82,3 +82,7 @@ Member {X = X} x l = (before : List X) × (after : List X) × (l ≡ before ++ (
 -- a list with one more element somewhere in it
 abbrev pub OneMore {ℓ} : {X : Type ℓ} → X → List X → List X → Type ℓ
 OneMore {X = X} x l more = (front : List X) × (back : List X) × (l ≡ front ++ back) × (more ≡ front ++ (x ∷ back))
+
+-- what holds of each holds of a member
+pub member-each {ℓ} : {X : Type ℓ} (P : X → Type 0) (x : X) (l : List X) → Member x l → Each P l → P x
+member-each P x l (before, after, e) p = each-right P before (x ∷ after) (rw e at p) .0

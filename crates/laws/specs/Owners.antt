@@ -6,14 +6,13 @@ use mathlib.Core.Bool.{Bool}
 use native.Mathlib.Omega.{arith}
 use Rattle.rules.specs.Counting.{oneAt, sumBelow, sumList, lastOf}
 use Rattle.rules.specs.Anodes.{Anodes}
-use Rattle.rules.specs.Chains.{chainOf, covers, owners}
+use Rattle.rules.specs.Chains.{chainOf, owners}
 use Rattle.laws.specs.Tests.{same?}
-use Rattle.laws.specs.Sums.{oneAt-cases, oneAt-other, sum-zero, sum-some, sum-one}
+use Rattle.laws.specs.Sums.{oneAt-other, sum-zero, sum-one}
 use Rattle.laws.specs.Bags.{last-on}
-use Rattle.laws.specs.Ownership.{covers-none}
 use Rattle.laws.specs.Heads.{Head, head-of-is, chain-sum}
 use Rattle.laws.specs.Blocks.{blocks}
-use Rattle.laws.specs.Held.{held, held-all}
+use Rattle.laws.specs.Held.{held, held-all, held-some}
 use Rattle.laws.specs.Space.{Good, on-chain}
 
 module _ {A : ℕ} {ex : ℕ → Bool} {n last : ℕ} {s : Anodes} {system hd sd : ℕ → ℕ} (g : Good A ex n last s system hd sd) where
@@ -74,20 +73,10 @@ module _ {A : ℕ} {ex : ℕ → Bool} {n last : ℕ} {s : Anodes} {system hd sd
 
   -- who holds a block is a head
   pub holder : (m y : ℕ) → 0 < held A hd (s .count) (s .block) m y → Head (s .next) (s .block) m
-  unfolding held blocks
   holder m y p =
-      let q = sum-some (λ a. oneAt (hd a) m * covers (s .count a) (s .block a) y) A p in
-      at (q .0) (q .2)
-    where
-      at : (a : ℕ) → 0 < oneAt (hd a) m * covers (s .count a) (s .block a) y → Head (s .next) (s .block) m
-      at a i = elim (oneAt-cases (hd a) m) [
-        | inr e ↦ absurd (omega (arith, rw (e .1) at i))
-        | inl e ↦ rw (e .0) at (head-of-is (g .linked) (g .heads) a
-            (λ z. none (ap (s .count) z ∙ g .fixed .count-0)) (λ z. none (g .present .free-none a z)))
-      ]
-        where
-          none : s .count a ≡ 0 → ⊥
-          none z = omega (arith, rw (z, covers-none (s .block a) y) at i)
+      let (a, l, e, from, to) = held-some A hd (s .count) (s .block) m y p in
+      let some : s .count a ≢ 0 = λ z. omega (arith, from, to, z) in
+      rw e at (head-of-is (g .linked) (g .heads) a (λ z. some (ap (s .count) z ∙ g .fixed .count-0)) (λ z. some (g .present .free-none a z)))
 
   -- a block that is not the system's has one owner
   pub owner : (y : ℕ) → y < n → system y ≡ 0 →

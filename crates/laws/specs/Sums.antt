@@ -113,6 +113,12 @@ unfolding sumBelow
 sum-scale f c zero = omega arith
 sum-scale f c (suc k) = omega (arith, sum-scale f c k)
 
+-- a factor of each term, taken out
+pub sum-factor : (f g : ℕ → ℕ) (c k : ℕ) → sumBelow (λ i. f i * (g i * c)) k ≡ sumBelow (λ i. f i * g i) k * c
+unfolding sumBelow
+sum-factor f g c zero = omega arith
+sum-factor f g c (suc k) = omega (arith, sum-factor f g c k)
+
 pub sum-swap : (f : ℕ → ℕ → ℕ) (m k : ℕ) → sumBelow (λ i. sumBelow (f i) k) m ≡ sumBelow (λ j. sumBelow (λ i. f i j) m) k
 unfolding sumBelow
 sum-swap f zero k = sym (sum-zero (λ j. 0) k (λ i l. refl))

@@ -3,7 +3,7 @@ use Prim.Native.Nat.{ℕ, zero, suc, _+_, _*_, _≤_, _<_}
 use mathlib.Core.Path.{_≡_, refl, sym, ap, _∙_}
 use mathlib.Core.Logic.{inl, inr}
 use mathlib.Core.Bool.{Bool, true, false, cond}
-use mathlib.Core.List.{List, [], _∷_}
+use mathlib.Core.List.{List}
 use native.Mathlib.Omega.{arith}
 use Rattle.rules.specs.Counting.{oneAt, sumBelow, sumList, times}
 use Rattle.rules.specs.Anodes.{Anodes}
@@ -16,7 +16,7 @@ use Rattle.laws.specs.Heads.{Head}
 use Rattle.laws.specs.Blocks.{blocks, blocks-all}
 use Rattle.laws.specs.Space.{Good}
 use Rattle.laws.specs.Owners.{hd-below, blocks-none}
-use Rattle.laws.specs.Each.{Each, list-congr-each, each-none}
+use Rattle.laws.specs.Each.{each-map, list-congr-each, each-none}
 use Rattle.laws.specs.Items.{names, giving, below, namedIn, below-items}
 use Rattle.laws.specs.Trees.{Tree}
 
@@ -115,16 +115,13 @@ module _ {A : ℕ} {ex : ℕ → Bool} {n last : ℕ} {s : Anodes} {system hd sd
 
   by-dirs : sumBelow (λ x. namings x * f x) A ≡ sumList (λ d. sumList f (names (items d))) dirs
   by-dirs = sym (
-      list-congr-each (λ d. sumList f (names (items d))) (λ d. sumBelow (λ x. namedIn items x d * f x) A) dirs (at-each dirs (each-none (namedIn items) (λ x. A ≤ x) dirs high-none))
+      list-congr-each (λ d. sumList f (names (items d))) (λ d. sumBelow (λ x. namedIn items x d * f x) A) dirs (each-map (λ d. (x : ℕ) → A ≤ x → namedIn items x d ≡ 0) (λ d. sumList f (names (items d)) ≡ sumBelow (λ x. namedIn items x d * f x) A) dirs
+      (λ d e. sum-by-times f (names (items d)) A e) (each-none (namedIn items) (λ x. A ≤ x) dirs high-none))
       ∙ list-swap (λ d x. namedIn items x d * f x) dirs A
       ∙ sum-congr (λ x. sumList (λ d. namedIn items x d * f x) dirs) (λ x. namings x * f x) A (λ x l. list-scale (namedIn items x) (f x) dirs))
     where
       high-none : (x : ℕ) → A ≤ x → namings x ≡ 0
       high-none x l = elim (less? 0 (namings x)) [ inl p ↦ absurd (omega (arith, names-heads x p .1)) | inr p ↦ omega arith ]
-
-      at-each : (l : List Dir) → Each (λ d. (x : ℕ) → A ≤ x → namedIn items x d ≡ 0) l → Each (λ d. sumList f (names (items d)) ≡ sumBelow (λ x. namedIn items x d * f x) A) l
-      at-each [] e = tt
-      at-each (d ∷ l) e = (sum-by-times f (names (items d)) A (e .0), at-each l (e .1))
 
   -- the sum
   pub tree-total : sumBelow system n + (blocks A hd (s .count) 1 + filesOf items (blocks A hd (s .count)) dirs + dirsOf (blocks A hd (s .count)) dirs + blocks A hd (s .count) 3 + blocks A hd (s .count) 4) ≡ n
