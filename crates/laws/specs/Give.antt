@@ -12,11 +12,10 @@ use Rattle.rules.specs.Chains.{chainOf, side}
 use Rattle.rules.specs.Space.{refused, planned, withoutLast, Found, nowhere, found, lastFull, sideOf, release, giveFrom, giveBack}
 use Rattle.laws.specs.Tests.{less?}
 use Rattle.laws.specs.Ownership.{hand}
-use Rattle.laws.specs.Links.{the-chain}
-use Rattle.laws.specs.Heads.{Head}
+use Rattle.laws.specs.Heads.{Head, head-chain}
 use Rattle.laws.specs.Space.{Good, on-chain}
 use Rattle.laws.specs.Sides.{SideHead, side-free, side-last, side-last-used, side-last-0}
-use Rattle.laws.specs.Searches.{FoundIn, lastFull-found}
+use Rattle.laws.specs.Searches.{FoundIn, found-after, lastFull-found}
 use Rattle.laws.specs.Moves.{InHand, Placed, Moved, moved-by}
 use Rattle.laws.specs.Leaving.{last-gone, full-used, full-inside, withoutBlock-out}
 use Rattle.laws.specs.Plans.{refused≢planned}
@@ -29,17 +28,13 @@ module _ {A : ℕ} {ex : ℕ → Bool} {n last : ℕ} {s : Anodes} {system hd sd
   on-h : hd x ≡ h
   on-h = on-chain g h d x (f .on) .0
 
-  -- one that is not the head stands after p
-  after-p : x ≢ h → s .next p ≡ x
-  after-p q = elim (f .before) [ inl c ↦ absurd (q (c .0)) | inr c ↦ c ]
-
   not-2 : x ≢ 2
   not-2 e = h1 (sym on-h ∙ ap hd e ∙ g .two-on)
 
   pub withoutLast-out : InHand A ex n last s system hd h (s .block x + (s .count x - 1)) (withoutLast s h p x)
   unfolding withoutLast
   withoutLast-out = rw on-h at
-      (withoutBlock-out g x (f .full) h p (s .block x) (s .block x + (s .count x - 1)) (full-used g x (f .full)) (omega arith, omega arith) (λ w. last-gone (s .count x) (s .block x) w (f .full)) (λ e. omega arith) (λ e. (after-p e, not-2)))
+      (withoutBlock-out g x (f .full) h p (s .block x) (s .block x + (s .count x - 1)) (full-used g x (f .full)) (omega arith, omega arith) (λ w. last-gone (s .count x) (s .block x) w (f .full)) (λ e. omega arith) (λ e. (found-after f e, not-2)))
 
 -- ---- into the free list
 
@@ -102,7 +97,7 @@ pub record Gives (A : ℕ) (ex : ℕ → Bool) (n last : ℕ) (s : Anodes) (syst
 module _ {A : ℕ} {ex : ℕ → Bool} {n last : ℕ} {s : Anodes} {system hd sd : ℕ → ℕ} (g : Good A ex n last s system hd sd) (h : ℕ) (d : Head (s .next) (s .block) h) where
   -- what the search for the last block finds stands on the chain
   pub given-found : (p x : ℕ) → lastFull (s .count) 0 (chainOf (s .next) A h) ≡ found p x → FoundIn (s .count) (s .next) h (chainOf (s .next) A h) 0 p x
-  given-found = lastFull-found (s .count) (s .next) h 0 0 (chainOf (s .next) A h) (the-chain (g .linked) h (λ q. d .in-use))
+  given-found = lastFull-found (s .count) (s .next) h 0 0 (chainOf (s .next) A h) (head-chain (g .linked) h d)
 
   module _ (h1 : h ≢ 1) (t : Anodes) (ys : List ℕ) (e : giveBack A ex last s h ≡ planned t ys) where
     -- a give that is done has made these steps

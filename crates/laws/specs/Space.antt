@@ -9,7 +9,7 @@ use Rattle.rules.specs.Counting.{times, changed}
 use Rattle.rules.specs.Anodes.{Anodes}
 use Rattle.rules.specs.Chains.{chainOf, covers, cut}
 use Rattle.rules.specs.Space.{rewritten, insertedAfter, unlinked, onChain, dropped}
-use Rattle.laws.specs.Tests.{same?, T-same}
+use Rattle.laws.specs.Tests.{same?, less?, T-same}
 use Rattle.laws.specs.Sums.{oneAt-cases, oneAt-same, changed-cases, changed-same, changed-other}
 use Rattle.laws.specs.Ownership.{covers-none, EachOnce, own-same, move}
 use Rattle.laws.specs.Links.{Linked}
@@ -225,6 +225,10 @@ module _ {A : ℕ} {ex : ℕ → Bool} {n last : ℕ} {s : Anodes} {system hd sd
     | inl e ↦ (e .0, λ z. d .pos (sym (e .0) ∙ g .heads .off a z))
     | inr e ↦ absurd (omega (arith, p, times-on-chain (g .linked) (g .heads) m d a, e .1))
   ]
+
+  -- so a free anode does not stand on it
+  pub free-off : (m : ℕ) → Head (s .next) (s .block) m → (f : ℕ) → s .block f ≡ 0 → times f (chainOf (s .next) A m) ≡ 0
+  free-off m d f z = elim (less? 0 (times f (chainOf (s .next) A m))) [ inl p ↦ absurd (on-chain m d f p .1 z) | inr p ↦ omega arith ]
 
   -- the chain of the head h, from 6 up and with no block, is dropped
   module _ (h : ℕ) (h6 : 6 ≤ h) (d : Head (s .next) (s .block) h) (none : (a : ℕ) → hd a ≡ h → s .count a ≡ 0) where
