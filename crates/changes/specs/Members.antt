@@ -5,7 +5,7 @@ use mathlib.Core.Logic.{_≢_, _⊎_, inl, inr}
 use mathlib.Core.List.{List, [], _∷_, _++_, map, map-id}
 use native.Mathlib.Omega.{arith}
 use Rattle.rules.specs.Counting.{sumList, times, gather, oneAt}
-use Rattle.laws.specs.Tests.{less?}
+use Rattle.laws.specs.Tests.{not-above}
 use Rattle.laws.specs.Sums.{oneAt-same, oneAt-other, oneAt-cases}
 use Rattle.laws.specs.Bags.{list-cons, list-append, list-add, list-mono, list-scale}
 use Rattle.laws.specs.Each.{Each, list-congr-each, gather-congr-each}
@@ -72,7 +72,7 @@ member-times x l p = omega (arith, member-sum (λ y. oneAt y x) x l p, oneAt-sam
 
 -- what does not stand in a list
 pub none-in : (x : ℕ) (l : List ℕ) → (0 < times x l → ⊥) → times x l ≡ 0
-none-in x l n = elim (less? 0 (times x l)) [ inl p ↦ absurd (n p) | inr p ↦ omega arith ]
+none-in x l n = not-above (times x l) n
 
 -- two numbers of a list weigh no more than the list
 pub two-members : (w : ℕ → ℕ) (l : List ℕ) (a b : ℕ) → a ≢ b → 0 < times a l → 0 < times b l → w a + w b ≤ sumList w l

@@ -1,4 +1,4 @@
--- The blocks of a chain in its order: which changes leave the lists of other chains as they are, and what an anode of a chain is to it.
+-- The blocks of a chain in its order: the extents of its anodes, which changes leave other chains' blocks as they are, and a chain with an anode more or less.
 use Prim.Native.Nat.{ℕ, suc, _+_, _-_, _≤_, _<_}
 use mathlib.Core.Path.{_≡_, refl, sym, ap, _∙_}
 use mathlib.Core.Logic.{_≢_}

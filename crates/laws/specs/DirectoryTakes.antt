@@ -6,7 +6,7 @@ use mathlib.Core.Bool.{Bool, true}
 use mathlib.Core.List.{List, [], _∷_, map, map-id}
 use native.Mathlib.Omega.{arith}
 use lib.Dec.{T}
-use Rattle.rules.specs.Counting.{oneAt, sumList, times}
+use Rattle.rules.specs.Counting.{sumList, times}
 use Rattle.rules.specs.Anodes.{limit, Anodes}
 use Rattle.rules.specs.Chains.{chainOf}
 use Rattle.rules.specs.Walk.{Dir, Entered, Item, itemOf, itemsAt, itemsBy}
@@ -19,7 +19,7 @@ use Rattle.laws.specs.OwnBlock.{Appended, own-appended}
 use Rattle.laws.specs.Each.{Each, each-both, each-pair, member-each, each-zero}
 use Rattle.laws.specs.Items.{wrong, faults}
 use Rattle.laws.specs.TreeChanges.{headed, headed-member, AlikeItems}
-use Rattle.laws.specs.Totals.{file-size}
+use Rattle.laws.specs.Totals.{namedByFiles}
 use Rattle.laws.specs.Entries.{broken-wrong, items-sum, itemsAt-whole, anodes-fine, at-alike}
 use Rattle.laws.specs.Whole.{DirHead, tree-heads}
 use Rattle.laws.specs.Orphan.{Orphaned, amiss, still-fine, none-amiss, orphan-shift, dir-no-file}
@@ -33,7 +33,7 @@ module _ {ex : ℕ → Bool} {n last f : ℕ} {s : Anodes} {system hd sd : ℕ �
   abbrev items : Dir → List Item
   items = itemsBy entries marked s
 
-  no-file : sumList (λ d. sumList (file-size (λ x. oneAt x h)) (items d)) dirs ≡ 0
+  no-file : namedByFiles items h dirs ≡ 0
   no-file = dir-no-file o h reached
 
   the-dir : (d : Dir) × (d .head ≡ h) × (DirHead s d × (faults items d ≡ 0))

@@ -9,7 +9,7 @@ use Rattle.rules.specs.Counting.{times, changed}
 use Rattle.rules.specs.Anodes.{Anodes}
 use Rattle.rules.specs.Chains.{chainOf, covers, cut}
 use Rattle.rules.specs.Space.{rewritten, insertedAfter, unlinked, onChain, dropped}
-use Rattle.laws.specs.Tests.{same?, less?, T-same}
+use Rattle.laws.specs.Tests.{same?, not-above, T-same}
 use Rattle.laws.specs.Sums.{oneAt-cases, oneAt-same, changed-cases, changed-same, changed-other}
 use Rattle.laws.specs.Ownership.{covers-none, EachOnce, own-same, move}
 use Rattle.laws.specs.Links.{Linked}
@@ -228,7 +228,7 @@ module _ {A : ℕ} {ex : ℕ → Bool} {n last : ℕ} {s : Anodes} {system hd sd
 
   -- so a free anode does not stand on it
   pub free-off : (m : ℕ) → Head (s .next) (s .block) m → (f : ℕ) → s .block f ≡ 0 → times f (chainOf (s .next) A m) ≡ 0
-  free-off m d f z = elim (less? 0 (times f (chainOf (s .next) A m))) [ inl p ↦ absurd (on-chain m d f p .1 z) | inr p ↦ omega arith ]
+  free-off m d f z = not-above (times f (chainOf (s .next) A m)) (λ p. on-chain m d f p .1 z)
 
   -- the chain of the head h, from 6 up and with no block, is dropped
   module _ (h : ℕ) (h6 : 6 ≤ h) (d : Head (s .next) (s .block) h) (none : (a : ℕ) → hd a ≡ h → s .count a ≡ 0) where

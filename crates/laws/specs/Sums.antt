@@ -6,7 +6,7 @@ use mathlib.Core.Bool.{Bool, cond}
 use native.Mathlib.Omega.{arith}
 use lib.Dec.{T, ltb, leb→le, le→leb}
 use Rattle.rules.specs.Counting.{oneAt, sumBelow, least, changed}
-use Rattle.laws.specs.Tests.{same?, less?, cond-cases, eqb-cases}
+use Rattle.laws.specs.Tests.{same?, less?, not-above, cond-cases, eqb-cases}
 
 pub oneAt-cases : (a b : ℕ) → ((a ≡ b) × (oneAt a b ≡ 1)) ⊎ ((a ≢ b) × (oneAt a b ≡ 0))
 unfolding oneAt
@@ -180,7 +180,7 @@ sum-le-one f k small once = elim (less? 0 (sumBelow f k)) [
 ]
   where
     others : (i : ℕ) → i < k → 0 < f i → (j : ℕ) → j < k → j ≢ i → f j ≡ 0
-    others i li p j l ne = elim (less? 0 (f j)) [ inl q ↦ absurd (ne (once j i l li q p)) | inr q ↦ omega arith ]
+    others i li p j l ne = not-above (f j) (λ q. ne (once j i l li q p))
 
 -- the one term that is picked
 pub sum-pick : (f : ℕ → ℕ) (j k : ℕ) → j < k → sumBelow (λ x. oneAt j x * f x) k ≡ f j

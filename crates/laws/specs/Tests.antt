@@ -10,6 +10,10 @@ use Rattle.rules.specs.Counting.{_if_else_, firstOf, anyBelow}
 use Rattle.counting.specs.Laws.{anyBelow-hit}
 pub use Rattle.endian.proofs.Laws.{same?, less?}
 
+-- what is not above 0 is 0
+pub not-above : (n : ℕ) → (0 < n → ⊥) → n ≡ 0
+not-above n h = elim (less? 0 n) [ inl p ↦ absurd (h p) | inr p ↦ omega arith ]
+
 pub cond-cases {ℓ} : {A : Type ℓ} (t : Bool) (x y : A) → (T t × (cond t x y ≡ x)) ⊎ ((T t → ⊥) × (cond t x y ≡ y))
 cond-cases true x y = inl (tt, refl)
 cond-cases false x y = inr ((λ h. h), refl)

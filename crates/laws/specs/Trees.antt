@@ -7,7 +7,7 @@ use native.Mathlib.Omega.{arith}
 use lib.ListN.{length}
 use Rattle.rules.specs.Counting.{oneAt, sumBelow, sumList, times, changed}
 use Rattle.rules.specs.Walk.{Dir, Item, done, walk}
-use Rattle.laws.specs.Tests.{less?}
+use Rattle.laws.specs.Tests.{not-above}
 use Rattle.laws.specs.Sums.{oneAt-cases, oneAt-same, oneBelow, oneBelow-cases, oneBelow-none, oneBelow-suc, changed-same, changed-other, sum-congr, sum-mono, sum-const, sum-add, sum-oneAt}
 use Rattle.laws.specs.Bags.{list-nil, list-cons, list-append, list-one, list-add, list-mono, list-mono-where, list-congr-where, list-zero, list-length, list-swap, times-nil, sum-by-times}
 use Rattle.laws.specs.Items.{names, subs, below, namedIn, faults, subs-named, subs-few}
@@ -182,8 +182,8 @@ module _ (items : Dir → List Item) where
       top-unnamed dirs z x h = omega (arith, list-mono-where (faults items) (namedIn items x) (λ d. 0) dirs z (λ d g. none d g h), list-zero {X = Dir} (λ d. 0) dirs (λ d. refl))
         where
           none : (d : Dir) → (faults items) d ≡ 0 → (x ≡ top .head) ⊎ (A ≤ x) → namedIn items x d ≤ 0
-          none d g (inl e) = elim (less? 0 (namedIn items x d)) [ inl p ↦ absurd (range d x g p .0 e) | inr p ↦ p ]
-          none d g (inr e) = elim (less? 0 (namedIn items x d)) [ inl p ↦ absurd (omega (arith, range d x g p .1)) | inr p ↦ p ]
+          none d g (inl e) = omega (arith, not-above (namedIn items x d) (λ p. range d x g p .0 e))
+          none d g (inr e) = omega (arith, not-above (namedIn items x d) (λ p. omega (arith, range d x g p .1)))
 
       -- no two directories of the tree have one head
       pub heads-once : (dirs : List Dir) → Exact dirs → sumList (faults items) dirs ≡ 0 → ((x : ℕ) → sumList (namedIn items x) dirs ≤ 1) →
@@ -226,7 +226,7 @@ module _ (items : Dir → List Item) where
           )
             where
               high : (x : ℕ) → A ≤ x → namedIn items x d ≡ 0
-              high x l = elim (less? 0 (namedIn items x d)) [ inl p ↦ absurd (omega (arith, range d x g p .1)) | inr p ↦ omega arith ]
+              high x l = not-above (namedIn items x d) (λ p. omega (arith, range d x g p .1))
 
           each : (x : ℕ) → sumList (namedIn items x) dirs + oneAt (top .head) x ≤ 1
           each x = elim (oneAt-cases (top .head) x) [

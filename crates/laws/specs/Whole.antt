@@ -25,7 +25,7 @@ use Rattle.laws.specs.Each.{Each, each-map, each-both, each-pair, each-z
 use Rattle.laws.specs.Items.{wrong, names-sum, giving, giving-le, below, namedIn, faults, below-items}
 use Rattle.laws.specs.Trees.{Tree}
 use Rattle.laws.specs.TreeChanges.{none-headed, AlikeItems, alike-named, alike-tree}
-use Rattle.laws.specs.Totals.{file-size, named-by-kind, filesOf, dirsOf, tree-total}
+use Rattle.laws.specs.Totals.{namedByFiles, named-by-kind, filesOf, dirsOf, tree-total}
 use Rattle.laws.specs.Entries.{broken-wrong, Sized, item-fine, fine-item, item-anode, items-mono, items-alike}
 
 -- 1 for a directory whose head is below 5 or heads no chain
@@ -90,7 +90,7 @@ module _ (ex : ℕ → Bool) (n last : ℕ) where
     pub tree : Tree (itemsBy entries marked s) root dirs
     pub all-named : AllNamed s entries marked dirs
 
--- entries under φ: sizes alone change, and only of those that name h; in the blocks of directories stand those, and the marks stay
+-- φ changes entries in their sizes alone, and only those that name h; the blocks of directories then hold the entries under φ, and are marked as before
 pub record SizesChanged (s : Anodes) (hd : ℕ → ℕ) (h : ℕ) (φ : Entered → Entered) (entries entries′ : ℕ → List Entered) (marked marked′ : Dir → ℕ → Bool) : Type 0 where
   pub keeps : (e : Entered) → (φ e .broken ≡ e .broken) × (φ e .dir ≡ e .dir) × (φ e .anode ≡ e .anode)
   pub other : (e : Entered) → e .anode ≢ h → φ e .size ≡ e .size
@@ -179,7 +179,7 @@ module _ {ex : ℕ → Bool} {n last : ℕ} {s : Anodes} {system hd sd : ℕ →
   whole-total = tree-total (w .good) (itemsBy entries marked s) root dirs (w .tree) refl named-heads (w .all-named)
 
   -- h is a file's: some reached entry of a file names it
-  module _ (h : ℕ) (file : 1 ≤ sumList (λ d. sumList (file-size (λ x. oneAt x h)) (itemsBy entries marked s d)) dirs) where
+  module _ (h : ℕ) (file : 1 ≤ namedByFiles (itemsBy entries marked s) h dirs) where
     pub file-head : (6 ≤ h) × (h < limit) × Head (s .next) (s .block) h
     file-head = named-heads h (omega (arith, named-by-kind items h dirs, file))
 
