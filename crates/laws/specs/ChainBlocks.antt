@@ -28,7 +28,7 @@ use Rattle.laws.specs.Frame.{kept-count, shift-alike, shift-chain}
 unfoldable pub extent : Anodes → ℕ → List ℕ
 extent s a = run (s .block a) (s .count a)
 
-pub extent-alike : {s t : Anodes} {a : ℕ} → Alike s t a → extent t a ≡ extent s a
+extent-alike : {s t : Anodes} {a : ℕ} → Alike s t a → extent t a ≡ extent s a
 unfolding extent
 extent-alike e = rw (e .same-block, e .same-count)
 

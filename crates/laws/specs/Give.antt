@@ -78,7 +78,7 @@ module _ {A : ℕ} {ex : ℕ → Bool} {n last : ℕ} {s : Anodes} (system : ℕ
   pub side-last-head : hd (lastOf (sideOf last y) (side A s (sideOf last y))) ≡ 1
   side-last-head = side-free g m (sideOf-head last y) end e0 u end-side
 
-  pub release-placed : (t : Anodes) (ys : List ℕ) → release A ex last s y ≡ planned t ys → Placed A ex n last s system hd 1 y t × (ys ≡ y ∷ [])
+  release-placed : (t : Anodes) (ys : List ℕ) → release A ex last s y ≡ planned t ys → Placed A ex n last s system hd 1 y t × (ys ≡ y ∷ [])
   unfolding release
   release-placed t ys e = rw side-last-head at (join-placed system y g y0 yn end e0 u high low t ys e)
 

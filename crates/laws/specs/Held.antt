@@ -56,7 +56,7 @@ module _ (A : ℕ) (hd count block : ℕ → ℕ) where
 
 -- ---- the blocks of a chain in its order
 
-pub run-sum : (f : ℕ → ℕ) (b c n : ℕ) → b + c ≤ n → sumList f (run b c) ≡ sumBelow (λ y. covers c b y * f y) n
+run-sum : (f : ℕ → ℕ) (b c n : ℕ) → b + c ≤ n → sumList f (run b c) ≡ sumBelow (λ y. covers c b y * f y) n
 unfolding run sumList
 run-sum f b zero n l = sym (sum-zero (λ y. covers 0 b y * f y) n (λ y q. rw (covers-none b y) (omega arith)))
 run-sum f b (suc c) n l =

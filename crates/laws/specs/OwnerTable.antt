@@ -31,7 +31,7 @@ use Rattle.laws.specs.Owners.{hd-below, holder, owner}
 use Rattle.laws.specs.Resize.{Ran}
 
 -- the list of a function's values below k, by its entries
-pub listed-at : (f : ℕ → ℕ) (k i : ℕ) → i < k → getD (listed f 0 k) i 0 ≡ f i
+listed-at : (f : ℕ → ℕ) (k i : ℕ) → i < k → getD (listed f 0 k) i 0 ≡ f i
 listed-at f k i l = getD-listed f 0 k i 0 l ∙ ap f (zero-add i)
 
 pub listed-is : (f : ℕ → ℕ) (k : ℕ) (l : List ℕ) → length l ≡ k → ((i : ℕ) → i < k → f i ≡ getD l i 0) → listed f 0 k ≡ l

@@ -56,7 +56,7 @@ pub covers-front : (c b x : ℕ) → covers (suc c) b x ≡ oneAt b x + covers c
 covers-front c b x = omega (arith, covers-join 1 c b (suc c) (suc b) x (omega arith) (omega arith), covers-one b x)
 
 -- how many it covers
-pub covers-sum : (c b n : ℕ) → b + c ≤ n → sumBelow (covers c b) n ≡ c
+covers-sum : (c b n : ℕ) → b + c ≤ n → sumBelow (covers c b) n ≡ c
 covers-sum zero b n l = sum-zero (covers 0 b) n (λ i m. covers-none b i)
 covers-sum (suc c) b n l =
     omega (
@@ -98,7 +98,7 @@ module _ (A : ℕ) where
       ]
 
   -- one anode a is rewritten to (c, b): x's owners change by what a covered and covers
-  pub owners-changed : (count block system : ℕ → ℕ) (a c b x : ℕ) → a < A → owners A (changed count a c) (changed block a b) system x + covers (count a) (block a) x ≡ owners A count block system x + covers c b x
+  owners-changed : (count block system : ℕ → ℕ) (a c b x : ℕ) → a < A → owners A (changed count a c) (changed block a b) system x + covers (count a) (block a) x ≡ owners A count block system x + covers c b x
   unfolding owners
   owners-changed count block system a c b x l =
       omega (

@@ -83,7 +83,7 @@ module _ (A : ℕ) (ex : ℕ → Bool) (last : ℕ) where
 
 module _ {A : ℕ} {ex : ℕ → Bool} {n last : ℕ} where
   -- a head with a block has a last anode with one
-  pub last-block : {s : Anodes} {system hd sd : ℕ → ℕ} → Good A ex n last s system hd sd → (h : ℕ) → Head (s .next) (s .block) h → 0 < blocks A hd (s .count) h →
+  last-block : {s : Anodes} {system hd sd : ℕ → ℕ} → Good A ex n last s system hd sd → (h : ℕ) → Head (s .next) (s .block) h → 0 < blocks A hd (s .count) h →
       (p : ℕ) × (x : ℕ) × (lastFull (s .count) 0 (chainOf (s .next) A h) ≡ found p x)
   last-block {s} {hd = hd} g h d some = go (lastFull (s .count) 0 (chainOf (s .next) A h)) refl
     where
@@ -92,7 +92,7 @@ module _ {A : ℕ} {ex : ℕ → Bool} {n last : ℕ} where
       go (found p x) e = (p, x, e)
 
   -- so a give is refused with 28 alone
-  pub give-refused : {s : Anodes} {system hd sd : ℕ → ℕ} → Good A ex n last s system hd sd → (h : ℕ) → Head (s .next) (s .block) h → 0 < blocks A hd (s .count) h →
+  give-refused : {s : Anodes} {system hd sd : ℕ → ℕ} → Good A ex n last s system hd sd → (h : ℕ) → Head (s .next) (s .block) h → 0 < blocks A hd (s .count) h →
       (k : ℕ) → giveBack A ex last s h ≡ refused k → k ≡ 28
   unfolding giveBack giveFrom release
   give-refused {s} g h d some k e =

@@ -26,7 +26,7 @@ module _ {A : ℕ} {ex : ℕ → Bool} {n last : ℕ} {s : Anodes} {system hd sd
   head-of-1 = g .heads .at-head 1 (head-1 g)
 
   -- an anode has its side's head for head
-  pub side-head : (a : ℕ) → a ≢ 0 → s .block a ≢ 0 → hd a ≡ hd (sd a)
+  side-head : (a : ℕ) → a ≢ 0 → s .block a ≢ 0 → hd a ≡ hd (sd a)
   side-head = chain-ind ck (λ a. hd a ≡ hd (sd a))
       (λ a d. ap hd (sym (g .sides .at-head a d)))
       (λ a h q. elim (cut-cases (s .next) a) [

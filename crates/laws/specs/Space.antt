@@ -45,7 +45,7 @@ pub record FixedAnodes (s : Anodes) : Type 0 where
 abbrev pub FixedHead : ℕ → Type 0
 FixedHead m = (m ≡ 1) ⊎ ((m ≡ 3) ⊎ ((m ≡ 4) ⊎ (m ≡ 5)))
 
-pub fixed-low : (m : ℕ) → FixedHead m → (1 ≤ m) × (m < 6)
+fixed-low : (m : ℕ) → FixedHead m → (1 ≤ m) × (m < 6)
 fixed-low m (inl e) = (omega arith, omega arith)
 fixed-low m (inr (inl e)) = (omega arith, omega arith)
 fixed-low m (inr (inr (inl e))) = (omega arith, omega arith)

@@ -58,7 +58,7 @@ odd-item s h e = elim (less? 0 (wrong (itemOf s e))) [
 ]
 
 -- an item with nothing wrong names no anode that is no head from 6 up
-pub named-item : (s : Anodes) (x : ℕ) → (6 ≤ x → heads limit (s .next) (s .block) x ≡ 1 → ⊥) → (e : Entered) → oneAt ((itemOf s e) .anode) x ≤ wrong (itemOf s e)
+named-item : (s : Anodes) (x : ℕ) → (6 ≤ x → heads limit (s .next) (s .block) x ≡ 1 → ⊥) → (e : Entered) → oneAt ((itemOf s e) .anode) x ≤ wrong (itemOf s e)
 named-item s x k e = elim (oneAt-cases ((itemOf s e) .anode) x) [
   | inr c ↦ omega (arith, c .1)
   | inl c ↦ elim (less? 0 (wrong (itemOf s e))) [
