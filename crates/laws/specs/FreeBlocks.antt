@@ -17,8 +17,8 @@ use Rattle.laws.specs.Heads.{Head, times-on-chain}
 use Rattle.laws.specs.Space.{Good, head-1, free-off}
 use Rattle.laws.specs.Sides.{SideHead}
 use Rattle.laws.specs.Searches.{FoundIn}
-use Rattle.laws.specs.Owners.{headed-used}
-use Rattle.laws.specs.Leaving.{full-0, full-1, withoutBlock-cases}
+use Rattle.laws.specs.Owners.{full-0, full-1, headed-used}
+use Rattle.laws.specs.Leaving.{withoutBlock-cases}
 use Rattle.laws.specs.Plans.{refused≢planned, planned-same}
 use Rattle.laws.specs.Arriving.{fills, ends, starts, behind, free-is, append-cases, join-cases}
 use Rattle.laws.specs.Take.{free-head, free-after, take-steps, take-placed}

@@ -14,10 +14,11 @@ use Rattle.laws.specs.Tests.{less?}
 use Rattle.laws.specs.Ownership.{hand}
 use Rattle.laws.specs.Heads.{Head, head-chain}
 use Rattle.laws.specs.Space.{Good, on-chain}
+use Rattle.laws.specs.Owners.{full-used, full-inside}
 use Rattle.laws.specs.Sides.{SideHead, side-free, side-last, side-last-used, side-last-0}
 use Rattle.laws.specs.Searches.{FoundIn, found-after, lastFull-found}
 use Rattle.laws.specs.Moves.{InHand, Placed, Moved, moved-by}
-use Rattle.laws.specs.Leaving.{last-gone, full-used, full-inside, withoutBlock-out}
+use Rattle.laws.specs.Leaving.{last-gone, withoutBlock-out}
 use Rattle.laws.specs.Plans.{refused≢planned}
 use Rattle.laws.specs.Arriving.{join-placed}
 

@@ -14,8 +14,9 @@ use Rattle.laws.specs.Bags.{none-at, gather-none, gather-skip, gather-la
 use Rattle.laws.specs.LinkChanges.{first, second, third}
 use Rattle.laws.specs.Heads.{Head}
 use Rattle.laws.specs.Space.{Good}
+use Rattle.laws.specs.Owners.{full-0}
 use Rattle.laws.specs.Searches.{FoundIn, found-after, lastFull-split}
-use Rattle.laws.specs.Leaving.{full-0, withoutBlock-cases}
+use Rattle.laws.specs.Leaving.{withoutBlock-cases}
 use Rattle.laws.specs.Give.{given-found, give-steps, give-placed, give-good}
 use Rattle.laws.specs.Plans.{repeated-none, repeated-done}
 use Rattle.laws.specs.ChainBlocks.{extent, extent-here, extent-other, blocksOf-extents, extent-shorter, shift-blocks, stands-once, unlinked-chain}

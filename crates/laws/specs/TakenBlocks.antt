@@ -56,8 +56,8 @@ module _ {ex : ℕ → Bool} {n last : ℕ} {s : Anodes} {system hd sd : ℕ →
     | second c ↦ by (rewritten s end (s .count end + 1) (s .block end)) (sym (c .3) ∙ e) (gained (s .count end + 1) (s .block end) (extent-longer s end y (c .2)))
     | third c ↦ elim (append-cases limit ex last s end y) [
       | inl f ↦ (let i = free-is limit ex last s (lowestFree limit ex last s) (f .1) in
-          by (insertedAfter s end (lowestFree limit ex last s) 1 y) (sym (f .2) ∙ sym (c .2) ∙ e) (appended (lowestFree limit ex last s) (f .0) (i .0) (i .1)))
-      | inr f ↦ absurd (refused≢planned 28 t ys (sym (f .0) ∙ sym (c .2) ∙ e))
+          by (insertedAfter s end (lowestFree limit ex last s) 1 y) (sym (f .2) ∙ sym (c .1) ∙ e) (appended (lowestFree limit ex last s) (f .0) (i .0) (i .1)))
+      | inr f ↦ absurd (refused≢planned 28 t ys (sym (f .0) ∙ sym (c .1) ∙ e))
     ]
   ]
     where
