@@ -10,7 +10,7 @@ use Rattle.rules.specs.Counting.{oneAt, times, anyIn}
 use Rattle.rules.specs.Anodes.{Anodes}
 use Rattle.rules.specs.Chains.{chainOf, cut, side}
 use Rattle.rules.specs.Accepted.{notAbove, notUpTo, wrongFreeList}
-use Rattle.laws.specs.Chains.{chain-none, chain-zero, chain-step}
+use Rattle.laws.specs.Chains.{chain-none, chain-end, chain-step}
 use Rattle.laws.specs.Sums.{oneAt-same, oneAt-other}
 use Rattle.laws.specs.Bags.{times-nil, times-cons}
 use Rattle.chains.specs.FreeList.{wrongBefore}
@@ -20,11 +20,11 @@ use Rattle.chains.specs.FreeList.{wrongBefore}
 module _ (t : ℕ → Bool) (next : ℕ → ℕ) where
   pub any-none : (k a : ℕ) → k ≡ 0 → anyIn t (chainOf next k a) ≡ false
   unfolding anyIn
-  any-none k a e = rw (e, chain-none next a)
+  any-none k a e = rw (chain-none next k a e)
 
   pub any-end : (k a : ℕ) → a ≡ 0 → anyIn t (chainOf next k a) ≡ false
   unfolding anyIn
-  any-end k a e = rw (e, chain-zero next k)
+  any-end k a e = rw (chain-end next k a e)
 
   pub any-step : (k m a : ℕ) → k ≡ m + 1 → a ≢ 0 → (b : Bool) → t a ≡ b → anyIn t (chainOf next k a) ≡ (b || anyIn t (chainOf next m (next a)))
   unfolding anyIn
@@ -35,11 +35,11 @@ module _ (t : ℕ → Bool) (next : ℕ → ℕ) where
 module _ (s : Anodes) (last : ℕ) where
   pub before-none : (k a : ℕ) → k ≡ 0 → wrongBefore s last k a ≡ true
   unfolding wrongBefore
-  before-none k a e = rw (e, chain-none (s .next) a, times-nil 2)
+  before-none k a e = rw (chain-none (s .next) k a e, times-nil 2)
 
   pub before-end : (k a : ℕ) → a ≡ 0 → wrongBefore s last k a ≡ true
   unfolding wrongBefore
-  before-end k a e = rw (e, chain-zero (s .next) k, times-nil 2)
+  before-end k a e = rw (chain-end (s .next) k a e, times-nil 2)
 
   pub before-two : (k m a : ℕ) → k ≡ m + 1 → a ≡ 2 → wrongBefore s last k a ≡ false
   unfolding wrongBefore

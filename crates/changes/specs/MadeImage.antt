@@ -42,8 +42,8 @@ use Rattle.changes.specs.MakePlan.{OrphanedOn, Fresh, fresh-dir, fresh-f
 times-map : (g : ℕ → ℕ) (l : List ℕ) (y : ℕ) → 0 < times y (map g l) → (a : ℕ) × (0 < times a l) × (y ≡ g a)
 unfolding times
 times-map g l y p =
-    let (a, before, after, parted, q) = list-some (λ x. oneAt (g x) y) l (omega (arith, p, map-sum g (λ z. oneAt z y) l)) in
-    (a, member-times a l (before, after, parted), sym (oneAt-some (g a) y q))
+    let (a, m, q) = list-some (λ x. oneAt (g x) y) l (omega (arith, p, map-sum g (λ z. oneAt z y) l)) in
+    (a, member-times a l m, sym (oneAt-some (g a) y q))
 
 pub first-in : (y : ℕ) (l : List ℕ) → l ≡ y ∷ [] → 0 < times y l
 first-in y l e = rw e (times-here y [])

@@ -16,13 +16,13 @@ use Rattle.rules.specs.Chains.{chainOf, heads, run, blocksOf, blockCount}
 use Rattle.rules.specs.Walk.{Dir, Entered, Item, entriesIn, isBlockOf, blocksFor, itemOf, broken, itemsAt, itemsBy, reachedDirs}
 use Rattle.rules.specs.Lookup.{entriesOf, isNamed, firstNamed, entryNamed, nth}
 use Rattle.laws.specs.Tests.{T-true}
-use Rattle.laws.specs.Sums.{oneAt-cases, oneAt-same, oneAt-some}
-use Rattle.laws.specs.Bags.{list-one, list-some, gather-sum, map-sum}
+use Rattle.laws.specs.Sums.{oneAt-cases, oneAt-same}
+use Rattle.laws.specs.Bags.{list-one, gather-sum, map-sum}
 use Rattle.laws.specs.Heads.{Head}
 use Rattle.laws.specs.Space.{on-chain}
 use Rattle.laws.specs.Each.{each-zero}
 use Rattle.laws.specs.Items.{wrong, namedIn, faults}
-use Rattle.laws.specs.TreeChanges.{headed}
+use Rattle.laws.specs.TreeChanges.{headed, headed-member}
 use Rattle.laws.specs.Totals.{file-size}
 use Rattle.laws.specs.Entries.{broken-wrong, item-fine, item-anode, item-dir, items-sum, itemsAt-cases}
 use Rattle.laws.specs.Whole.{Whole, counts-head, not-dir, dir-heads, named-heads}
@@ -53,11 +53,6 @@ nth-member (x ∷ l) zero e is = ([], l, cc)
 nth-member (x ∷ l) (suc n) e is = member-later e x l (nth-member l n e is)
 
 -- ---- a reached directory
-
-headed-member : (h : ℕ) (l : List Dir) → 0 < sumList (λ d. oneAt (d .head) h) l → (d : Dir) × Member d l × (d .head ≡ h)
-headed-member h l p =
-    let (d, before, after, parted, q) = list-some {X = Dir} (λ d. oneAt (d .head) h) l p in
-    (d, (before, after, parted), oneAt-some (d .head) h q)
 
 module _ {ex : ℕ → Bool} {n last : ℕ} {s : Anodes} {system hd sd : ℕ → ℕ} {entries : ℕ → List Entered} {marked : Dir → ℕ → Bool} {dirs : List Dir}
     (w : Whole ex n last s system hd sd entries marked dirs) where
@@ -193,7 +188,6 @@ module _ {img : List ℕ} {h : ℕ} (r : ReachedDir img h) where
   some-dir = reached-some img (anodesOf img) h (r .reached)
 
   pub reached-dir : (d : Dir) × Member d (reachedDirs img (anodesOf img)) × (d .head ≡ h)
-  unfolding headed
   reached-dir = headed-member h (reachedDirs img (anodesOf img)) some-dir
 
   reached-from-5 : 5 ≤ h

@@ -113,8 +113,8 @@ module _ {img : List ℕ} {e : Entered} {new : ℕ} {t : Anodes} {ys : List ℕ}
   sizes-whole : Whole (exists img) (diskSize img) (lastReserved img) t (systemOwns img) (steps p .ran .hd′) (steps p .ran .sd′)
       (λ y. map (resizedEntry (e .anode) new) (entriesIn img y)) (isBlockOf img) dirs
   sizes-whole = Laws.resized (w p) (e .anode) (facts p .file (p .plan .file)) (steps p .ran) (resizedEntry (e .anode) new) (λ y. map (resizedEntry (e .anode) new) (entriesIn img y)) (isBlockOf img)
-      (resized-fields (e .anode) new) (λ x n. ap (λ (c : Entered). c .size) (resized-other (e .anode) new x n))
-      (λ x i. ap (λ (c : Entered). blocksFor (c .size)) (resized-it (e .anode) new x i)) (λ a c q r. (refl, λ d. refl))
+      (record { keeps = resized-fields (e .anode) new; other = λ x n. ap (λ (c : Entered). c .size) (resized-other (e .anode) new x n); there = λ a c q r. (refl, λ d. refl) })
+      (λ x i. ap (λ (c : Entered). blocksFor (c .size)) (resized-it (e .anode) new x i))
 
   pub still-whole : WholeOn img j t (steps p .ran .hd′) (steps p .ran .sd′) dirs
   unfolding itemsBy

@@ -24,7 +24,7 @@ use Rattle.laws.specs.Space.{FixedHead}
 use Rattle.laws.specs.Passes.{Passes}
 
 -- no number of a list passes
-pub in-none : (test : ℕ → Bool) (l : List ℕ) → anyIn test l ≡ false → (x : ℕ) → 0 < times x l → test x ≡ false
+in-none : (test : ℕ → Bool) (l : List ℕ) → anyIn test l ≡ false → (x : ℕ) → 0 < times x l → test x ≡ false
 unfolding anyIn
 in-none test l e = each-at (λ x. test x ≡ false) l (each l e)
   where
@@ -32,7 +32,7 @@ in-none test l e = each-at (λ x. test x ≡ false) l (each l e)
     each [] e = tt
     each (y ∷ l) e = let o = neither (test y) (anyIn test l) e in (o .0, each l (o .1))
 
-pub none-in : (test : ℕ → Bool) (l : List ℕ) → ((x : ℕ) → 0 < times x l → test x ≡ false) → anyIn test l ≡ false
+none-in : (test : ℕ → Bool) (l : List ℕ) → ((x : ℕ) → 0 < times x l → test x ≡ false) → anyIn test l ≡ false
 none-in test l f = none-pass test l (λ x m. f x (member-times x l m))
 
 -- ---- 6 to 11

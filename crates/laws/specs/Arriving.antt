@@ -23,12 +23,24 @@ use Rattle.laws.specs.Plans.{refused≢planned, planned-same}
 use Rattle.laws.specs.Owners.{self-headed}
 use Rattle.laws.specs.Moves.{rewrite-shift, Placed}
 
+-- the taker's last anode z cannot have block y: it has blocks, and directory blocks (own) get an anode of their own or y is not its end
+abbrev pub NeedsAnode : Bool → Anodes → ℕ → ℕ → Type 0
+NeedsAnode own s z y = (s .count z ≢ 0) × ((own ≡ true) ⊎ (s .block z + s .count z ≢ y))
+
+-- the last anode z of the side of block y cannot have it: z is anode 1, or it has blocks and y neither follows its end nor precedes its start
+abbrev pub JoinsNone : Anodes → ℕ → ℕ → Type 0
+JoinsNone s z y = (z ≡ 1) ⊎ ((s .count z ≢ 0) × (s .block z + s .count z ≢ y) × (y + 1 ≢ s .block z))
+
+-- no anode from 6 up is free
+abbrev pub NoneFree : ℕ → (ℕ → Bool) → ℕ → Anodes → Type 0
+NoneFree A ex last s = (a : ℕ) → a < A → T (free A ex last s a) → ⊥
+
 -- block y and the last anode z of its side: z is filled, grows at its end or before its start, or y gets an anode behind it
 pub data Joins (A : ℕ) (ex : ℕ → Bool) (last : ℕ) (s : Anodes) (z y : ℕ) : Type 0 where
   fills : (z ≢ 1) × (s .count z ≡ 0) × (join A ex last s z y ≡ planned (rewritten s z 1 y) (y ∷ [])) → Joins A ex last s z y
   ends : (z ≢ 1) × (s .count z ≢ 0) × (s .block z + s .count z ≡ y) × (join A ex last s z y ≡ planned (rewritten s z (s .count z + 1) (s .block z)) (y ∷ [])) → Joins A ex last s z y
   starts : (z ≢ 1) × (s .count z ≢ 0) × (y + 1 ≡ s .block z) × (join A ex last s z y ≡ planned (rewritten s z (s .count z + 1) y) (y ∷ [])) → Joins A ex last s z y
-  behind : ((z ≡ 1) ⊎ ((s .count z ≢ 0) × (s .block z + s .count z ≢ y) × (y + 1 ≢ s .block z))) × (join A ex last s z y ≡ append A ex last s z y) → Joins A ex last s z y
+  behind : JoinsNone s z y × (join A ex last s z y ≡ append A ex last s z y) → Joins A ex last s z y
 
 module _ (A : ℕ) (ex : ℕ → Bool) (last : ℕ) where
   pub free-is : (s : Anodes) (f : ℕ) → T (free A ex last s f) → (6 ≤ f) × (s .block f ≡ 0) × T (ex f)
@@ -41,7 +53,7 @@ module _ (A : ℕ) (ex : ℕ → Bool) (last : ℕ) where
   -- an append is done with a free anode, the lowest, or refused with 28 where there is none
   pub append-cases : (s : Anodes) (z y : ℕ) →
       ((lowestFree A ex last s < A) × T (free A ex last s (lowestFree A ex last s)) × (append A ex last s z y ≡ planned (insertedAfter s z (lowestFree A ex last s) 1 y) (y ∷ [])))
-      ⊎ ((append A ex last s z y ≡ refused 28) × ((f : ℕ) → f < A → T (free A ex last s f) → ⊥))
+      ⊎ ((append A ex last s z y ≡ refused 28) × NoneFree A ex last s)
   unfolding append lowestFree
   append-cases s z y =
       elim (cond-cases (ltb (lowestFree A ex last s) A) (planned (insertedAfter s z (lowestFree A ex last s) 1 y) (y ∷ [])) (refused 28)) [
@@ -59,7 +71,7 @@ module _ (A : ℕ) (ex : ℕ → Bool) (last : ℕ) where
   pub put-cases : (own : Bool) (s : Anodes) (z y : ℕ) → Which
       ((s .count z ≡ 0) × (put A ex last own s z y ≡ planned (rewritten s z 1 y) (y ∷ [])))
       ((s .count z ≢ 0) × (own ≡ false) × (s .block z + s .count z ≡ y) × (put A ex last own s z y ≡ planned (rewritten s z (s .count z + 1) (s .block z)) (y ∷ [])))
-      ((s .count z ≢ 0) × ((own ≡ true) ⊎ (s .block z + s .count z ≢ y)) × (put A ex last own s z y ≡ append A ex last s z y))
+      (NeedsAnode own s z y × (put A ex last own s z y ≡ append A ex last s z y))
   unfolding put fillOr growOr
   put-cases own s z y = elim (cond-cases (eqb (s .count z) 0) (planned (rewritten s z 1 y) (y ∷ [])) (cond own (append A ex last s z y) (growOr s z y (append A ex last s z y)))) [
     | inl c ↦ first (eqb→eq (s .count z) 0 (c .0), c .1)
@@ -69,11 +81,11 @@ module _ (A : ℕ) (ex : ℕ → Bool) (last : ℕ) where
       behind-it : (b : Bool) → s .count z ≢ 0 → put A ex last own s z y ≡ cond b (append A ex last s z y) (growOr s z y (append A ex last s z y)) → Which
           ((s .count z ≡ 0) × (put A ex last own s z y ≡ planned (rewritten s z 1 y) (y ∷ [])))
           ((s .count z ≢ 0) × (b ≡ false) × (s .block z + s .count z ≡ y) × (put A ex last own s z y ≡ planned (rewritten s z (s .count z + 1) (s .block z)) (y ∷ [])))
-          ((s .count z ≢ 0) × ((b ≡ true) ⊎ (s .block z + s .count z ≢ y)) × (put A ex last own s z y ≡ append A ex last s z y))
-      behind-it true c0 e = third (c0, inl refl, e)
+          (NeedsAnode b s z y × (put A ex last own s z y ≡ append A ex last s z y))
+      behind-it true c0 e = third ((c0, inl refl), e)
       behind-it false c0 e = elim (cond-cases (eqb (s .block z + s .count z) y) (planned (rewritten s z (s .count z + 1) (s .block z)) (y ∷ [])) (append A ex last s z y)) [
         | inl d ↦ second (c0, refl, eqb→eq (s .block z + s .count z) y (d .0), e ∙ d .1)
-        | inr d ↦ third (c0, inr (λ q. d .0 (eq→eqb (s .block z + s .count z) y q)), e ∙ d .1)
+        | inr d ↦ third ((c0, inr (λ q. d .0 (eq→eqb (s .block z + s .count z) y q))), e ∙ d .1)
       ]
 
   -- which of these a join is
@@ -171,7 +183,7 @@ module _ {A : ℕ} {ex : ℕ → Bool} {n last : ℕ} {s : Anodes} (system : ℕ
   put-placed z1 own t ys e = elim (put-cases A ex last own s z y) [
     | first c ↦ placed-by (rewritten s z 1 y) t ys (sym (c .1) ∙ e) (filled z1 (c .0))
     | second c ↦ placed-by (rewritten s z (s .count z + 1) (s .block z)) t ys (sym (c .3) ∙ e) (grown z1 (c .0) (c .2))
-    | third c ↦ append-placed t ys (sym (c .2) ∙ e)
+    | third c ↦ append-placed t ys (sym (c .1) ∙ e)
   ]
 
   pub join-placed : (t : Anodes) (ys : List ℕ) → join A ex last s z y ≡ planned t ys → Placed A ex n last s system hd (hd z) y t × (ys ≡ y ∷ [])

@@ -32,12 +32,12 @@ module _ {ℓ} {X : Type ℓ} where
   unfolding sumList
   list-one w x = omega arith
 
-  -- a sum above 0 has a term above 0: the list parted there
-  pub list-some : (w : X → ℕ) (l : List X) → 0 < sumList w l → (x : X) × (before : List X) × (after : List X) × (l ≡ before ++ (x ∷ after)) × (0 < w x)
+  -- a sum above 0 has a member whose weight is above 0
+  pub list-some : (w : X → ℕ) (l : List X) → 0 < sumList w l → (x : X) × Member x l × (0 < w x)
   list-some w [] p = absurd (omega (arith, p, list-nil w))
   list-some w (x ∷ l) p = elim (less? 0 (w x)) [
-    | inl q ↦ (x, [], l, refl, q)
-    | inr q ↦ (let r = list-some w l (omega (arith, p, list-cons w x l)) in (r .0, x ∷ r .1, r .2, ap (λ (m : List X). x ∷ m) (r .3), r .4))
+    | inl q ↦ (x, ([], l, refl), q)
+    | inr q ↦ (let (y, (before, after, e), r) = list-some w l (omega (arith, p, list-cons w x l)) in (y, (x ∷ before, after, ap (λ (m : List X). x ∷ m) e), r))
   ]
 
   pub list-add : (w u : X → ℕ) (l : List X) → sumList (λ x. w x + u x) l ≡ sumList w l + sumList u l
@@ -173,7 +173,7 @@ gather-last f f′ pre post x y same i j none lost =
 pub times-member : (x : ℕ) (l : List ℕ) → 0 < times x l → Member x l
 unfolding times
 times-member x l p =
-    let (y, before, after, parted, q) = list-some (λ y. oneAt y x) l p in
+    let (y, (before, after, parted), q) = list-some (λ y. oneAt y x) l p in
     elim (oneAt-cases y x) [ inl c ↦ (before, after, rw (c .0) at parted) | inr c ↦ absurd (omega (arith, q, c .1)) ]
 
 -- a weight's sum over a list of numbers below k, by how often each number stands there

@@ -1,5 +1,5 @@
--- The blocks of a chain in its order: which changes leave the lists of other chains as they are, and what an anode of a chain is to it.
-use Prim.Native.Nat.{ℕ, suc, _+_, _-_, _≤_, _<_, zero}
+-- The blocks of a chain in its order: the extents of its anodes, which changes leave other chains' blocks as they are, and a chain with an anode more or less.
+use Prim.Native.Nat.{ℕ, zero, suc, _+_, _-_, _≤_, _<_}
 use mathlib.Core.Path.{_≡_, refl, sym, ap, _∙_}
 use mathlib.Core.Logic.{_≢_}
 use mathlib.Core.Bool.{Bool}
@@ -7,18 +7,18 @@ use mathlib.Core.List.{List, [], _∷_, _++_, append-assoc}
 use native.Mathlib.Omega.{arith}
 use native.Mathlib.Numerals.{add-one}
 use lib.Dec.{T}
-use Rattle.rules.specs.Counting.{times, gather, lastOf, sumList}
+use Rattle.rules.specs.Counting.{times, gather, lastOf, sumList, changed}
 use lib.ListN.{length}
 use Rattle.rules.specs.Anodes.{Anodes, limit}
 use Rattle.rules.specs.Chains.{chainOf, run, blocksOf, blockCount}
 use Rattle.rules.specs.Space.{rewritten, onChain, dropped, insertedAfter, unlinked}
 use Rattle.laws.specs.Tests.{T-false}
-use Rattle.laws.specs.Sums.{oneAt-same, changed-other, changed-pos}
+use Rattle.laws.specs.Sums.{oneAt-same, changed-other, changed-pos, changed-same}
 use Rattle.laws.specs.Bags.{times-cons, times-append, gather-kept, last-split, list-congr, list-length, gather-sum}
 use Rattle.laws.specs.LinkChanges.{without, drop-apart, insertAfter, insert-linked, insert-after, unlink, unlink-linked, unlink-after}
 use Rattle.laws.specs.Segments.{Seg, Chain, seg-split, seg-last, chain-end}
 use Rattle.laws.specs.Chains.{run-end}
-use Rattle.laws.specs.Links.{the-chain, chain-the, seg-once}
+use Rattle.laws.specs.Links.{chain-the, seg-once}
 use Rattle.laws.specs.Heads.{Head, head-chain}
 use Rattle.laws.specs.Space.{Alike, Good, on-chain, dead-head, dead-along, drop-good}
 use Rattle.laws.specs.Owners.{last-used, last-0}
@@ -29,9 +29,19 @@ use Rattle.laws.specs.Frame.{kept-count, shift-alike, shift-chain}
 unfoldable pub extent : Anodes → ℕ → List ℕ
 extent s a = run (s .block a) (s .count a)
 
-pub extent-alike : {s t : Anodes} {a : ℕ} → Alike s t a → extent t a ≡ extent s a
+extent-alike : {s t : Anodes} {a : ℕ} → Alike s t a → extent t a ≡ extent s a
 unfolding extent
 extent-alike e = rw (e .same-block, e .same-count)
+
+-- where x alone becomes (c, b): its extent, and the others
+module _ (s t : Anodes) (x c b : ℕ) (counts : t .count ≡ changed (s .count) x c) (firsts : t .block ≡ changed (s .block) x b) where
+  pub extent-here : extent t x ≡ run b c
+  unfolding extent
+  extent-here = rw (counts, firsts, changed-same (s .count) x c, changed-same (s .block) x b)
+
+  pub extent-other : (a : ℕ) → a ≢ x → extent t a ≡ extent s a
+  unfolding extent
+  extent-other a i = rw (counts, firsts, changed-other (s .count) x c a i, changed-other (s .block) x b a i)
 
 pub blocksOf-extents : (s : Anodes) (h : ℕ) → blocksOf s h ≡ gather (extent s) (chainOf (s .next) limit h)
 unfolding blocksOf extent
@@ -85,9 +95,9 @@ module _ {ex : ℕ → Bool} {n last : ℕ} {s : Anodes} {system hd sd : ℕ →
   module _ (f : ℕ) (fresh : s .block f ≡ 0) where
     -- leaves the blocks of every other chain
     pub fresh-others : (m : ℕ) → Head (s .next) (s .block) m → blocksOf (rewritten s f 0 65535) m ≡ blocksOf s m
-    unfolding rewritten extent
+    unfolding rewritten
     fresh-others m d = kept-blocks s (rewritten s f 0 65535) m refl
-        (λ a p. (let other : a ≢ f = λ e. on-chain g m d a p .1 (ap (s .block) e ∙ fresh) in rw (changed-other (s .count) f 0 a other, changed-other (s .block) f 65535 a other)))
+        (λ a p. extent-other s (rewritten s f 0 65535) f 0 65535 refl refl a (λ e. on-chain g m d a p .1 (ap (s .block) e ∙ fresh)))
 
   -- the chain of h, with no block, dropped
   module _ (h : ℕ) (h6 : 6 ≤ h) (d : Head (s .next) (s .block) h) (none : (a : ℕ) → hd a ≡ h → s .count a ≡ 0) (m : ℕ) (c : Head (s .next) (s .block) m) (mh : m ≢ h) where
@@ -99,7 +109,7 @@ module _ {ex : ℕ → Bool} {n last : ℕ} {s : Anodes} {system hd sd : ℕ →
     unfolding dropped without
     dropped-chain = chain-the (drop-good g h h6 d none .linked) m (chainOf (s .next) limit m)
         (λ q. rw (T-false (onChain limit s h m) (alive m (g .heads .at-head m c))) (c .in-use))
-        (drop-apart (g .linked) (onChain limit s h) (dead-along g h h6 d none) m 0 (chainOf (s .next) limit m) (the-chain (g .linked) m (λ q. c .in-use))
+        (drop-apart (g .linked) (onChain limit s h) (dead-along g h h6 d none) m 0 (chainOf (s .next) limit m) (head-chain (g .linked) m c)
         (λ a p. alive a (on-chain g m c a p .0)))
 
     -- and the blocks of it

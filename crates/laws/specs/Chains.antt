@@ -11,14 +11,14 @@ use Rattle.rules.specs.Anodes.{Anodes, limit}
 use Rattle.rules.specs.Chains.{chainOf, heads, run}
 
 module _ (next : ℕ → ℕ) where
-  pub chain-none : (a : ℕ) → chainOf next 0 a ≡ []
+  pub chain-none : (k a : ℕ) → k ≡ 0 → chainOf next k a ≡ []
   unfolding chainOf
-  chain-none a = refl
+  chain-none k a e = rw e
 
-  pub chain-zero : (k : ℕ) → chainOf next k 0 ≡ []
+  pub chain-end : (k a : ℕ) → a ≡ 0 → chainOf next k a ≡ []
   unfolding chainOf
-  chain-zero zero = refl
-  chain-zero (suc k) = refl
+  chain-end zero a e = refl
+  chain-end (suc k) a e = rw e
 
   pub chain-step : (k m a : ℕ) → k ≡ m + 1 → a ≢ 0 → chainOf next k a ≡ a ∷ chainOf next m (next a)
   unfolding chainOf
@@ -29,11 +29,11 @@ module _ (next : ℕ → ℕ) where
 module _ {ℓ} {X : Type ℓ} (f : ℕ → List X) (next : ℕ → ℕ) where
   pub gathered-none : (k a : ℕ) → k ≡ 0 → gather f (chainOf next k a) ≡ []
   unfolding gather
-  gathered-none k a e = rw (e, chain-none next a)
+  gathered-none k a e = rw (chain-none next k a e)
 
   pub gathered-end : (k a : ℕ) → a ≡ 0 → gather f (chainOf next k a) ≡ []
   unfolding gather
-  gathered-end k a e = rw (e, chain-zero next k)
+  gathered-end k a e = rw (chain-end next k a e)
 
   pub gathered-step : (k m a : ℕ) → k ≡ m + 1 → a ≢ 0 → gather f (chainOf next k a) ≡ f a ++ gather f (chainOf next m (next a))
   unfolding gather

@@ -6,36 +6,34 @@ use mathlib.Core.Bool.{Bool, true}
 use mathlib.Core.List.{List, [], _∷_, map, map-id}
 use native.Mathlib.Omega.{arith}
 use lib.Dec.{T}
-use Rattle.rules.specs.Counting.{oneAt, sumList, times}
+use Rattle.rules.specs.Counting.{sumList, times}
 use Rattle.rules.specs.Anodes.{limit, Anodes}
 use Rattle.rules.specs.Chains.{chainOf}
 use Rattle.rules.specs.Walk.{Dir, Entered, Item, itemOf, itemsAt, itemsBy}
 use Rattle.rules.specs.Space.{planned, takeBlock}
-use Rattle.laws.specs.Sums.{oneAt-some}
-use Rattle.laws.specs.Bags.{list-nil, list-append, list-some, list-one, list-zero, kept-sum-where}
+use Rattle.laws.specs.Bags.{list-nil, list-append, list-one, list-zero, kept-sum-where}
 use Rattle.laws.specs.Heads.{Head}
 use Rattle.laws.specs.Moves.{Moved}
 use Rattle.laws.specs.Take.{take-good}
 use Rattle.laws.specs.OwnBlock.{Appended, own-appended}
-use Rattle.laws.specs.Each.{Each, each-both, each-pair, each-right, each-zero}
+use Rattle.laws.specs.Each.{Each, each-both, each-pair, member-each, each-zero}
 use Rattle.laws.specs.Items.{wrong, faults}
-use Rattle.laws.specs.TreeChanges.{headed, AlikeItems}
-use Rattle.laws.specs.Totals.{file-size}
+use Rattle.laws.specs.TreeChanges.{headed, headed-member, AlikeItems}
+use Rattle.laws.specs.Totals.{namedByFiles}
 use Rattle.laws.specs.Entries.{broken-wrong, items-sum, itemsAt-whole, anodes-fine, at-alike}
 use Rattle.laws.specs.Whole.{DirHead, tree-heads}
 use Rattle.laws.specs.Orphan.{Orphaned, amiss, still-fine, none-amiss, orphan-shift, dir-no-file}
 
--- one of the directories has the head h
+-- one of the directories has the head h, and what holds of each
 pub find-headed : (P : Dir → Type 0) (h : ℕ) (l : List Dir) → Each P l → 0 < headed h l → (d : Dir) × (d .head ≡ h) × P d
-unfolding headed
-find-headed P h l e p = let r = list-some (λ d. oneAt (d .head) h) l p in (r .0, oneAt-some (r .0 .head) h (r .4), each-right P (r .1) (r .0 ∷ r .2) (rw (r .3) at e) .0)
+find-headed P h l e p = let (d, m, q) = headed-member h l p in (d, q, member-each P d l m e)
 
 module _ {ex : ℕ → Bool} {n last f : ℕ} {s : Anodes} {system hd sd : ℕ → ℕ} {entries : ℕ → List Entered} {marked : Dir → ℕ → Bool} {dirs : List Dir}
     (o : Orphaned ex n last f s system hd sd entries marked dirs) (h : ℕ) (reached : headed h dirs ≡ 1) where
   abbrev items : Dir → List Item
   items = itemsBy entries marked s
 
-  no-file : sumList (λ d. sumList (file-size (λ x. oneAt x h)) (items d)) dirs ≡ 0
+  no-file : namedByFiles items h dirs ≡ 0
   no-file = dir-no-file o h reached
 
   the-dir : (d : Dir) × (d .head ≡ h) × (DirHead s d × (faults items d ≡ 0))

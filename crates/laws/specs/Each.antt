@@ -29,7 +29,7 @@ pub each-given {ℓ κ} : {X : Type ℓ} {Y : Type κ} (P : Y → Type 0) (f : X
 each-given P f h [] = tt
 each-given P f h (x ∷ l) = (h x, each-given P f h l)
 
-pub each-append {ℓ} : {X : Type ℓ} (P : X → Type 0) (l m : List X) → Each P l → Each P m → Each P (l ++ m)
+each-append {ℓ} : {X : Type ℓ} (P : X → Type 0) (l m : List X) → Each P l → Each P m → Each P (l ++ m)
 each-append P [] m p q = q
 each-append P (x ∷ l) m p q = (p .0, each-append P l m (p .1) q)
 
@@ -38,7 +38,7 @@ unfolding gather
 each-gather P f h [] = tt
 each-gather P f h (x ∷ l) = each-append P (f x) (gather f l) (h x) (each-gather P f h l)
 
-pub each-right {ℓ} : {X : Type ℓ} (P : X → Type 0) (l m : List X) → Each P (l ++ m) → Each P m
+each-right {ℓ} : {X : Type ℓ} (P : X → Type 0) (l m : List X) → Each P (l ++ m) → Each P m
 each-right P [] m e = e
 each-right P (x ∷ l) m e = each-right P l m (e .1)
 
@@ -82,3 +82,7 @@ Member {X = X} x l = (before : List X) × (after : List X) × (l ≡ before ++ (
 -- a list with one more element somewhere in it
 abbrev pub OneMore {ℓ} : {X : Type ℓ} → X → List X → List X → Type ℓ
 OneMore {X = X} x l more = (front : List X) × (back : List X) × (l ≡ front ++ back) × (more ≡ front ++ (x ∷ back))
+
+-- what holds of each holds of a member
+pub member-each {ℓ} : {X : Type ℓ} (P : X → Type 0) (x : X) (l : List X) → Member x l → Each P l → P x
+member-each P x l (before, after, e) p = each-right P before (x ∷ after) (rw e at p) .0

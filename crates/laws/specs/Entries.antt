@@ -7,8 +7,8 @@ use mathlib.Core.List.{List, [], _∷_, map}
 use native.Mathlib.Omega.{arith}
 use native.Mathlib.Numerals.{add-one}
 use lib.ListN.{getD}
-use lib.Dec.{T, eqb, leb, eqb→eq, leb→le}
-use borrow.Author.Tests.{le-leb, eq-eqb}
+use lib.Dec.{T, eqb, eqb→eq}
+use borrow.Author.Tests.{eq-eqb}
 use Rattle.disk.specs.declared.Refusal.{Refusal}
 use Rattle.disk.specs.Blocks.{blockOf}
 use Rattle.directory.specs.declared.Entry.{Entry}
@@ -18,7 +18,7 @@ use Rattle.rules.specs.Counting.{sumList, times}
 use Rattle.rules.specs.Anodes.{limit, Anodes}
 use Rattle.rules.specs.Chains.{chainOf, heads, blockCount}
 use Rattle.rules.specs.Walk.{Dir, Entered, entriesFrom, Item, blocksFor, wrongAnode, wrongFileSize, itemOf, broken, itemsFor, itemsAt, itemsBy, entriesIn}
-use Rattle.laws.specs.Tests.{cond-cases, T-true, both}
+use Rattle.laws.specs.Tests.{cond-cases, T-true, both, tested-from}
 use Rattle.laws.specs.Bags.{list-one, list-mono, list-congr, list-congr-where, list-zero, gather-sum, map-sum, none-at, kept-sum-where}
 use Rattle.laws.specs.Space.{Alike}
 use Rattle.laws.specs.Items.{wrong, weighItem}
@@ -81,14 +81,11 @@ sized-still s t e c (inr q) = inr (c ∙ q)
 module _ (s : Anodes) where
   right-anode : (a : ℕ) → wrongAnode s a ≡ 0 → (6 ≤ a) × (heads limit (s .next) (s .block) a ≡ 1)
   unfolding wrongAnode
-  right-anode a z = elim (cond-cases {A = ℕ} (leb 6 a && eqb (heads limit (s .next) (s .block) a) 1) 0 13) [
-    | inl q ↦ (let b = both (leb 6 a) (eqb (heads limit (s .next) (s .block) a) 1) (q .0) in (leb→le 6 a (b .0), eqb→eq (heads limit (s .next) (s .block) a) 1 (b .1)))
-    | inr q ↦ absurd (omega (arith, z, q .1))
-  ]
+  right-anode a z = elim (tested-from 6 a (heads limit (s .next) (s .block) a) 13) [ inl q ↦ (q .0, q .1) | inr q ↦ absurd (omega (arith, z, q .1)) ]
 
   anode-right : (a : ℕ) → 6 ≤ a → heads limit (s .next) (s .block) a ≡ 1 → wrongAnode s a ≡ 0
   unfolding wrongAnode
-  anode-right a l e = rw (le-leb 6 a l, eq-eqb (heads limit (s .next) (s .block) a) 1 e)
+  anode-right a l e = elim (tested-from 6 a (heads limit (s .next) (s .block) a) 13) [ inl q ↦ q .2 | inr q ↦ absurd (q .0 l e) ]
 
   right-size : (e : Entered) → wrongFileSize s e ≡ 0 → Sized s e
   unfolding wrongFileSize

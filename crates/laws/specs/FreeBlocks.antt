@@ -11,21 +11,20 @@ use Rattle.rules.specs.Anodes.{Anodes, limit}
 use Rattle.rules.specs.Chains.{chainOf, run, blocksOf, cut, side}
 use Rattle.rules.specs.Space.{planned, rewritten, insertedAfter, unlinked, withoutFirst, withoutLast, sideOf, lowestFree, append, takeBlock, join, release, giveBack}
 use Rattle.laws.specs.LinkChanges.{first, second, third}
-use Rattle.laws.specs.Sums.{oneAt-same, changed-same, changed-other}
+use Rattle.laws.specs.Sums.{oneAt-same}
 use Rattle.laws.specs.Bags.{times-append, gather-append, gather-off, gather-skip, times-member}
-use Rattle.laws.specs.Links.{the-chain, seg-used}
 use Rattle.laws.specs.Heads.{Head, times-on-chain}
-use Rattle.laws.specs.Space.{Good, head-1}
+use Rattle.laws.specs.Space.{Good, head-1, free-off}
 use Rattle.laws.specs.Sides.{SideHead}
 use Rattle.laws.specs.Searches.{FoundIn}
-use Rattle.laws.specs.Owners.{headed-used}
-use Rattle.laws.specs.Leaving.{full-0, full-1, withoutBlock-cases}
+use Rattle.laws.specs.Owners.{full-0, full-1, headed-used}
+use Rattle.laws.specs.Leaving.{withoutBlock-cases}
 use Rattle.laws.specs.Plans.{refused≢planned, planned-same}
 use Rattle.laws.specs.Arriving.{fills, ends, starts, behind, free-is, append-cases, join-cases}
 use Rattle.laws.specs.Take.{free-head, free-after, take-steps, take-placed}
 use Rattle.laws.specs.Give.{side-last-head, give-steps, give-placed}
 use Rattle.laws.specs.Each.{OneMore}
-use Rattle.laws.specs.ChainBlocks.{extent, blocksOf-extents, extent-filled, extent-longer, extent-before, shift-blocks, stands-once, inserted-chain, unlinked-chain}
+use Rattle.laws.specs.ChainBlocks.{extent, extent-here, extent-other, blocksOf-extents, extent-filled, extent-longer, extent-before, shift-blocks, stands-once, inserted-chain, unlinked-chain}
 
 one-around : (y : ℕ) (p l l′ q : List ℕ) → OneMore y l l′ → OneMore y (p ++ (l ++ q)) (p ++ (l′ ++ q))
 one-around y p l l′ q o = (
@@ -61,30 +60,25 @@ module _ {ex : ℕ → Bool} {n last : ℕ} {s : Anodes} {system hd sd : ℕ →
     unfolding rewritten
     now = blocksOf-extents (rewritten s x c b) 1 ∙ ap (gather (extent (rewritten s x c b))) (split .2)
 
-    at-x : extent (rewritten s x c b) x ≡ run b c
-    unfolding rewritten extent
-    at-x = rw (changed-same (s .count) x c, changed-same (s .block) x b)
-
-    same : (a : ℕ) → a ≢ x → extent (rewritten s x c b) a ≡ extent s a
-    unfolding rewritten extent
-    same a i = rw (changed-other (s .count) x c a i, changed-other (s .block) x b a i)
-
     rewritten-less : OneMore y (run b c) (extent s x) → OneMore y (blocksOf (rewritten s x c b) 1) (blocksOf s 1)
-    rewritten-less o = rw (was, now)
-        (one-anode (extent (rewritten s x c b)) (extent s) (split .0) (split .1) x y (λ a i. sym (same a i)) (once .0) (once .1) (rw at-x o))
+    unfolding rewritten
+    rewritten-less o = rw (was, now) (one-anode (extent (rewritten s x c b)) (extent s) (split .0) (split .1) x y
+        (λ a i. sym (extent-other s (rewritten s x c b) x c b refl refl a i)) (once .0) (once .1) (rw (extent-here s (rewritten s x c b) x c b refl refl) o))
 
     rewritten-more : OneMore y (extent s x) (run b c) → OneMore y (blocksOf s 1) (blocksOf (rewritten s x c b) 1)
-    rewritten-more o = rw (was, now) (one-anode (extent s) (extent (rewritten s x c b)) (split .0) (split .1) x y same (once .0) (once .1) (rw at-x o))
+    unfolding rewritten
+    rewritten-more o = rw (was, now) (one-anode (extent s) (extent (rewritten s x c b)) (split .0) (split .1) x y
+        (extent-other s (rewritten s x c b) x c b refl refl) (once .0) (once .1) (rw (extent-here s (rewritten s x c b) x c b refl refl) o))
 
   -- it is unlinked with its only block
   unlinked-less : (p : ℕ) → s .next p ≡ x → x ≢ 0 → x ≢ 1 → OneMore y [] (extent s x) → OneMore y (blocksOf (unlinked s p x) 1) (blocksOf s 1)
-  unfolding unlinked extent run
+  unfolding unlinked run
   unlinked-less p px x0 x1 o =
       let r = unlinked s p x in
-      let none : extent r x ≡ [] = rw (changed-same (s .count) x 0) in
+      let none : extent r x ≡ [] = extent-here s r x 0 0 refl refl in
       let left : blocksOf r 1 ≡ gather (extent r) (split .0 ++ (x ∷ split .1)) =
       blocksOf-extents r 1 ∙ ap (gather (extent r)) (unlinked-chain g 1 (head-1 g) x (split .0) (split .1) (split .2) p px x0 x1) ∙ sym (gather-skip (extent r) (split .0) (split .1) x none) in
-      rw (was, left) (one-anode (extent r) (extent s) (split .0) (split .1) x y (λ a i. sym (rw (changed-other (s .count) x 0 a i, changed-other (s .block) x 0 a i))) (once .0) (once .1) (rw none o))
+      rw (was, left) (one-anode (extent r) (extent s) (split .0) (split .1) x y (λ a i. sym (extent-other s r x 0 0 refl refl a i)) (once .0) (once .1) (rw none o))
 
   -- a fresh anode after it has y
   inserted-more : x ≢ 0 → s .block x ≢ 0 → y ≢ 0 → (f : ℕ) → f ≢ 0 → s .block f ≡ 0 → f < limit → OneMore y (blocksOf s 1) (blocksOf (insertedAfter s x f 1 y) 1)
@@ -94,13 +88,12 @@ module _ {ex : ℕ → Bool} {n last : ℕ} {s : Anodes} {system hd sd : ℕ →
       let pre = split .0 ++ (x ∷ []) in
       let parts : (l : List ℕ) → split .0 ++ (x ∷ l) ≡ pre ++ l = λ l. sym (append-assoc (split .0) (x ∷ []) l) in
       let none : extent s f ≡ [] = rw (g .present .free-none f fresh) in
-      let new : extent t f ≡ y ∷ [] = rw (changed-same (s .count) f 1, changed-same (s .block) f y) in
-      let away : times f (pre ++ split .1) ≡ 0 = rw (split .2 ∙ parts (split .1)) at
-      (seg-used (g .linked) 1 0 (chainOf (s .next) limit 1) f (λ q. head-1 g .in-use) (the-chain (g .linked) 1 (λ q. head-1 g .in-use)) fresh) in
+      let new : extent t f ≡ y ∷ [] = extent-here s t f 1 y refl refl in
+      let away : times f (pre ++ split .1) ≡ 0 = rw (split .2 ∙ parts (split .1)) at (free-off g 1 (head-1 g) f fresh) in
       let before : blocksOf s 1 ≡ gather (extent s) (pre ++ (f ∷ split .1)) = was ∙ ap (gather (extent s)) (parts (split .1)) ∙ sym (gather-skip (extent s) pre (split .1) f none) in
       let after : blocksOf t 1 ≡ gather (extent t) (pre ++ (f ∷ split .1)) =
       blocksOf-extents t 1 ∙ ap (gather (extent t)) (inserted-chain g 1 (head-1 g) x (split .0) (split .1) (split .2) x0 u f 1 y f0 fresh fA y0 ∙ parts (f ∷ split .1)) in
-      rw (before, after) (one-anode (extent s) (extent t) pre (split .1) f y (λ a i. rw (changed-other (s .count) f 1 a i, changed-other (s .block) f y a i))
+      rw (before, after) (one-anode (extent s) (extent t) pre (split .1) f y (extent-other s t f 1 y refl refl)
       (omega (arith, away, times-append f pre (split .1))) (omega (arith, away, times-append f pre (split .1))) (rw (none, new) ([], [], refl, refl)))
 
 -- ---- the steps

@@ -11,15 +11,14 @@ use Rattle.rules.specs.Anodes.{Anodes}
 use Rattle.rules.specs.Chains.{chainOf, side}
 use Rattle.rules.specs.Space.{refused, planned, withoutLast, Found, nowhere, found, lastFull, sideOf, release, giveFrom, giveBack}
 use Rattle.laws.specs.Tests.{less?}
-use Rattle.laws.specs.Bags.{last-on}
 use Rattle.laws.specs.Ownership.{hand}
-use Rattle.laws.specs.Links.{the-chain}
-use Rattle.laws.specs.Heads.{Head}
+use Rattle.laws.specs.Heads.{Head, head-chain}
 use Rattle.laws.specs.Space.{Good, on-chain}
-use Rattle.laws.specs.Sides.{SideHead, side-free, side-start, side-sd}
-use Rattle.laws.specs.Searches.{FoundIn, lastFull-found}
+use Rattle.laws.specs.Owners.{full-used, full-inside}
+use Rattle.laws.specs.Sides.{SideHead, side-free, side-last, side-last-used, side-last-0}
+use Rattle.laws.specs.Searches.{FoundIn, found-after, lastFull-found}
 use Rattle.laws.specs.Moves.{InHand, Placed, Moved, moved-by}
-use Rattle.laws.specs.Leaving.{last-gone, full-used, full-inside, withoutBlock-out}
+use Rattle.laws.specs.Leaving.{last-gone, withoutBlock-out}
 use Rattle.laws.specs.Plans.{refused≢planned}
 use Rattle.laws.specs.Arriving.{join-placed}
 
@@ -30,17 +29,13 @@ module _ {A : ℕ} {ex : ℕ → Bool} {n last : ℕ} {s : Anodes} {system hd sd
   on-h : hd x ≡ h
   on-h = on-chain g h d x (f .on) .0
 
-  -- one that is not the head stands after p
-  after-p : x ≢ h → s .next p ≡ x
-  after-p q = elim (f .before) [ inl c ↦ absurd (q (c .0)) | inr c ↦ c ]
-
   not-2 : x ≢ 2
   not-2 e = h1 (sym on-h ∙ ap hd e ∙ g .two-on)
 
   pub withoutLast-out : InHand A ex n last s system hd h (s .block x + (s .count x - 1)) (withoutLast s h p x)
   unfolding withoutLast
   withoutLast-out = rw on-h at
-      (withoutBlock-out g x (f .full) h p (s .block x) (s .block x + (s .count x - 1)) (full-used g x (f .full)) (omega arith, omega arith) (λ w. last-gone (s .count x) (s .block x) w (f .full)) (λ e. omega arith) (λ e. (after-p e, not-2)))
+      (withoutBlock-out g x (f .full) h p (s .block x) (s .block x + (s .count x - 1)) (full-used g x (f .full)) (omega arith, omega arith) (λ w. last-gone (s .count x) (s .block x) w (f .full)) (λ e. omega arith) (λ e. (found-after f e, not-2)))
 
 -- ---- into the free list
 
@@ -55,52 +50,38 @@ side-up-to last y h = rw (le-ltb last y h)
 pub sideOf-cases : (last y : ℕ) → ((last < y) × (sideOf last y ≡ 1)) ⊎ ((y ≤ last) × (sideOf last y ≡ 2))
 sideOf-cases last y = elim (less? last y) [ inl l ↦ inl (l, side-above last y l) | inr l ↦ inr (l, side-up-to last y l) ]
 
+pub sideOf-head : (last y : ℕ) → SideHead (sideOf last y)
+sideOf-head last y = elim (sideOf-cases last y) [ inl c ↦ inl (c .1) | inr c ↦ inr (c .1) ]
+
 module _ {A : ℕ} {ex : ℕ → Bool} {n last : ℕ} {s : Anodes} (system : ℕ → ℕ) {hd sd : ℕ → ℕ} (y : ℕ) (g : Good A ex n last s (hand system y) hd sd) (y0 : y ≢ 0) (yn : y < n) where
-  m : ℕ
+  abbrev m : ℕ
   m = sideOf last y
 
-  end : ℕ
+  abbrev end : ℕ
   end = lastOf (sideOf last y) (side A s (sideOf last y))
 
-  one-side : SideHead m
-  unfolding m
-  one-side = elim (sideOf-cases last y) [ inl c ↦ inl (c .1) | inr c ↦ inr (c .1) ]
-
   end-side : sd end ≡ m
-  unfolding m end
-  end-side = elim (last-on m (side A s m)) [
-    | inl c ↦ ap sd c ∙ g .sides .at-head m (side-start g m one-side)
-    | inr c ↦ side-sd g m one-side (lastOf m (side A s m)) c
-  ]
-
-  m0 : m ≢ 0
-  m0 q = elim one-side [ inl c ↦ omega (arith, q, c) | inr c ↦ omega (arith, q, c) ]
+  end-side = side-last g m (sideOf-head last y)
 
   e0 : end ≢ 0
-  e0 q = m0 (sym end-side ∙ ap sd q ∙ g .sides .off-zero)
+  e0 = side-last-0 g m (sideOf-head last y)
 
   u : s .block end ≢ 0
-  u q = m0 (sym end-side ∙ g .sides .off end q)
-
-  e-head : hd end ≡ 1
-  e-head = side-free g m one-side end e0 u end-side
+  u = side-last-used g m (sideOf-head last y)
 
   high : sd end ≡ 1 → last < y
-  unfolding m
   high q = elim (sideOf-cases last y) [ inl c ↦ c .0 | inr c ↦ absurd (omega (arith, q, end-side, c .1)) ]
 
   low : sd end ≡ 2 → y ≤ last
-  unfolding m
   low q = elim (sideOf-cases last y) [ inl c ↦ absurd (omega (arith, q, end-side, c .1)) | inr c ↦ c .0 ]
 
   -- the last anode of the block's side is on the free list
   pub side-last-head : hd (lastOf (sideOf last y) (side A s (sideOf last y))) ≡ 1
-  unfolding end
-  side-last-head = e-head
+  side-last-head = side-free g m (sideOf-head last y) end e0 u end-side
 
-  pub release-placed : (t : Anodes) (ys : List ℕ) → release A ex last s y ≡ planned t ys → Placed A ex n last s system hd 1 y t × (ys ≡ y ∷ [])
-  unfolding release end
-  release-placed t ys e = rw e-head at (join-placed system y g y0 yn end e0 u high low t ys e)
+  release-placed : (t : Anodes) (ys : List ℕ) → release A ex last s y ≡ planned t ys → Placed A ex n last s system hd 1 y t × (ys ≡ y ∷ [])
+  unfolding release
+  release-placed t ys e = rw side-last-head at (join-placed system y g y0 yn end e0 u high low t ys e)
 
 -- ---- the whole
 
@@ -117,7 +98,7 @@ pub record Gives (A : ℕ) (ex : ℕ → Bool) (n last : ℕ) (s : Anodes) (syst
 module _ {A : ℕ} {ex : ℕ → Bool} {n last : ℕ} {s : Anodes} {system hd sd : ℕ → ℕ} (g : Good A ex n last s system hd sd) (h : ℕ) (d : Head (s .next) (s .block) h) where
   -- what the search for the last block finds stands on the chain
   pub given-found : (p x : ℕ) → lastFull (s .count) 0 (chainOf (s .next) A h) ≡ found p x → FoundIn (s .count) (s .next) h (chainOf (s .next) A h) 0 p x
-  given-found = lastFull-found (s .count) (s .next) h 0 0 (chainOf (s .next) A h) (the-chain (g .linked) h (λ q. d .in-use))
+  given-found = lastFull-found (s .count) (s .next) h 0 0 (chainOf (s .next) A h) (head-chain (g .linked) h d)
 
   module _ (h1 : h ≢ 1) (t : Anodes) (ys : List ℕ) (e : giveBack A ex last s h ≡ planned t ys) where
     -- a give that is done has made these steps

@@ -1,7 +1,7 @@
 -- A give takes the last block off the giver's chain.
 use Prim.Native.Nat.{ℕ, zero, suc, _+_, _-_}
 use mathlib.Core.Path.{_≡_, refl, sym, ap, _∙_}
-use mathlib.Core.Logic.{_≢_, inl, inr}
+use mathlib.Core.Logic.{_≢_}
 use mathlib.Core.Bool.{Bool}
 use mathlib.Core.List.{List, [], _∷_, _++_, reverse, append-nil, append-assoc, reverse-cons}
 use native.Mathlib.Omega.{arith}
@@ -10,16 +10,16 @@ use Rattle.rules.specs.Counting.{sumList, gather}
 use Rattle.rules.specs.Anodes.{Anodes, limit}
 use Rattle.rules.specs.Chains.{chainOf, run, blocksOf}
 use Rattle.rules.specs.Space.{planned, rewritten, unlinked, withoutLast, found, lastFull, giveBack, giveMany}
-use Rattle.laws.specs.Sums.{changed-same, changed-other}
 use Rattle.laws.specs.Bags.{none-at, gather-none, gather-skip, gather-last}
 use Rattle.laws.specs.LinkChanges.{first, second, third}
 use Rattle.laws.specs.Heads.{Head}
 use Rattle.laws.specs.Space.{Good}
-use Rattle.laws.specs.Searches.{FoundIn, lastFull-split}
-use Rattle.laws.specs.Leaving.{full-0, withoutBlock-cases}
+use Rattle.laws.specs.Owners.{full-0}
+use Rattle.laws.specs.Searches.{FoundIn, found-after, lastFull-split}
+use Rattle.laws.specs.Leaving.{withoutBlock-cases}
 use Rattle.laws.specs.Give.{given-found, give-steps, give-placed, give-good}
 use Rattle.laws.specs.Plans.{repeated-none, repeated-done}
-use Rattle.laws.specs.ChainBlocks.{extent, blocksOf-extents, extent-shorter, shift-blocks, stands-once, unlinked-chain}
+use Rattle.laws.specs.ChainBlocks.{extent, extent-here, extent-other, blocksOf-extents, extent-shorter, shift-blocks, stands-once, unlinked-chain}
 
 -- ---- out of the giver's chain
 
@@ -43,25 +43,23 @@ module _ {ex : ℕ → Bool} {n last : ℕ} {s : Anodes} {system hd sd : ℕ →
       ∙ gather-last (extent s) (extent r) (split .0) (split .1) x y same (once .0) (once .1) (gather-none (extent s) (split .1) (λ a p. rw (none-at (s .count) (split .1) (split .3) a p))) less
 
   rewritten-blocks : (c b : ℕ) → s .count x - 1 ≡ c → run b c ≡ run (s .block x) c → blocksOf s h ≡ blocksOf (rewritten s x c b) h ++ (y ∷ [])
-  unfolding rewritten extent y
+  unfolding rewritten y
   rewritten-blocks c b left keeps =
       let r = rewritten s x c b in
-      lost r (λ a i. rw (changed-other (s .count) x c a i, changed-other (s .block) x b a i))
-      (extent-shorter s x (is-found .full) ∙ rw (changed-same (s .count) x c, changed-same (s .block) x b, keeps, left))
+      lost r (extent-other s r x c b refl refl) (extent-shorter s x (is-found .full) ∙ rw (extent-here s r x c b refl refl, keeps, left))
       ∙ ap (λ (l : List ℕ). l ++ (y ∷ [])) (sym (blocksOf-extents r h ∙ ap (gather (extent r)) (split .2)))
 
   -- x, not the head, has left the chain
   unlinked-blocks : x ≢ h → s .count x ≡ 1 → blocksOf s h ≡ blocksOf (unlinked s q x) h ++ (y ∷ [])
-  unfolding unlinked extent y run
+  unfolding unlinked y run
   unlinked-blocks xh one =
       let r = unlinked s q x in
       let z : s .count x - 1 ≡ 0 = omega arith in
-      let before : s .next q ≡ x = elim (is-found .before) [ inl c ↦ absurd (xh (c .0)) | inr c ↦ c ] in
-      let none : extent r x ≡ [] = rw (changed-same (s .count) x 0) in
-      lost r (λ a i. rw (changed-other (s .count) x 0 a i, changed-other (s .block) x 0 a i)) (extent-shorter s x (is-found .full) ∙ rw (none, z))
+      let none : extent r x ≡ [] = extent-here s r x 0 0 refl refl in
+      lost r (extent-other s r x 0 0 refl refl) (extent-shorter s x (is-found .full) ∙ rw (none, z))
       ∙ ap (λ (l : List ℕ). l ++ (y ∷ []))
       (gather-skip (extent r) (split .0) (split .1) x none
-      ∙ sym (blocksOf-extents r h ∙ ap (gather (extent r)) (unlinked-chain g h d x (split .0) (split .1) (split .2) q before (full-0 g x (is-found .full)) xh)))
+      ∙ sym (blocksOf-extents r h ∙ ap (gather (extent r)) (unlinked-chain g h d x (split .0) (split .1) (split .2) q (found-after is-found xh) (full-0 g x (is-found .full)) xh)))
 
   withoutLast-blocks : blocksOf s h ≡ blocksOf (withoutLast s h q x) h ++ ((s .block x + (s .count x - 1)) ∷ [])
   unfolding withoutLast y run

@@ -33,7 +33,7 @@ pub record Heads (next block hd : ℕ → ℕ) : Type 0 where
 
 module _ {A : ℕ} {next block : ℕ → ℕ} (k : Linked A next block) where
   -- an anode has a predecessor, or is nobody's next
-  pub pred? : (a : ℕ) → a ≢ 0 → ((p : ℕ) × (next p ≡ a)) ⊎ ((p : ℕ) → next p ≢ a)
+  pred? : (a : ℕ) → a ≢ 0 → ((p : ℕ) × (next p ≡ a)) ⊎ ((p : ℕ) → next p ≢ a)
   unfolding preds
   pred? a h = elim (less? 0 (preds A next a)) [
     | inl l ↦ (let s = sum-some (λ p. oneAt (next p) a) A l in inl (s .0, oneAt-some (next (s .0)) a (s .2)))
@@ -71,7 +71,7 @@ module _ {A : ℕ} {next block : ℕ → ℕ} (k : Linked A next block) where
 
   -- ---- how often an anode stands on a chain
 
-  pub times-next : (h : ℕ) (l : List ℕ) → Chain next h l → (a : ℕ) → next a ≢ 0 → times (next a) l ≡ oneAt h (next a) + times a l
+  times-next : (h : ℕ) (l : List ℕ) → Chain next h l → (a : ℕ) → next a ≢ 0 → times (next a) l ≡ oneAt h (next a) + times a l
   times-next h [] c a n = omega (arith, times-nil (next a), times-nil a, oneAt-other h (next a) (λ e. n (sym e ∙ c)))
   times-next h (b ∷ l) c a n =
       omega (arith, times-cons (next a) b l, times-cons a b l, times-next (next b) l (c .2) a n, same, ap (λ (x : ℕ). oneAt x (next a)) (c .0))
@@ -82,7 +82,7 @@ module _ {A : ℕ} {next block : ℕ → ℕ} (k : Linked A next block) where
         | inr e ↦ oneAt-other (next b) (next a) (λ q. e .0 (sym (k .uniq a b n (sym q)))) ∙ sym (e .1)
       ]
 
-  pub times-head : (h : ℕ) (l : List ℕ) → Chain next h l → (a : ℕ) → Head next block a → times a l ≡ oneAt h a
+  times-head : (h : ℕ) (l : List ℕ) → Chain next h l → (a : ℕ) → Head next block a → times a l ≡ oneAt h a
   times-head h [] c a d = omega (arith, times-nil a, oneAt-other h a (λ e. d .pos (sym e ∙ c)))
   times-head h (b ∷ l) c a d =
       omega (arith, times-cons a b l, times-head (next b) l (c .2) a d, oneAt-other (next b) a (d .no-pred b), ap (λ (x : ℕ). oneAt x a) (c .0))
@@ -110,7 +110,7 @@ module _ {A : ℕ} {next block : ℕ → ℕ} (k : Linked A next block) where
     )
   ]
 
-  pub head-below : (h : ℕ) → Head next block h → h < A
+  head-below : (h : ℕ) → Head next block h → h < A
   head-below h d = k .view .below h (d .in-use)
 
   pub headOf-heads : Heads next block (headOf A next block)

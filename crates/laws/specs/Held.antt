@@ -6,9 +6,9 @@ use native.Mathlib.Omega.{arith}
 use Rattle.rules.specs.Counting.{oneAt, sumBelow, sumList, gather, changed}
 use Rattle.rules.specs.Chains.{chainOf, covers, run}
 use Rattle.laws.specs.Tests.{less?}
-use Rattle.laws.specs.Sums.{changed-same, changed-other, sum-congr, sum-zero, sum-add, sum-scale, sum-swap, sum-pick}
+use Rattle.laws.specs.Sums.{oneAt-cases, changed-same, changed-other, sum-congr, sum-zero, sum-add, sum-scale, sum-factor, sum-swap, sum-some, sum-pick}
 use Rattle.laws.specs.Bags.{gather-sum}
-use Rattle.laws.specs.Ownership.{covers-none, covers-front}
+use Rattle.laws.specs.Ownership.{covers-cases, covers-none, covers-front}
 use Rattle.laws.specs.Links.{Linked}
 use Rattle.laws.specs.Heads.{Head, Heads, chain-sum}
 use Rattle.laws.specs.Blocks.{blocks, blocks-changed, blocks-all}
@@ -44,9 +44,19 @@ module _ (A : ℕ) (hd count block : ℕ → ℕ) where
   unfolding held
   held-all low y = blocks-all A hd (λ a. covers (count a) (block a) y) low
 
+  -- what is held is covered by an anode of that head
+  pub held-some : (m y : ℕ) → 0 < held A hd count block m y → (a : ℕ) × (a < A) × (hd a ≡ m) × (block a ≤ y) × (y < block a + count a)
+  unfolding held blocks
+  held-some m y p =
+      let (a, l, q) = sum-some (λ a. oneAt (hd a) m * covers (count a) (block a) y) A p in
+      elim (oneAt-cases (hd a) m) [
+        | inr e ↦ absurd (omega (arith, rw (e .1) at q))
+        | inl e ↦ elim (covers-cases (count a) (block a) y) [ inl c ↦ (a, l, e .0, c .0, c .1) | inr c ↦ absurd (omega (arith, rw (c .1) at q)) ]
+      ]
+
 -- ---- the blocks of a chain in its order
 
-pub run-sum : (f : ℕ → ℕ) (b c n : ℕ) → b + c ≤ n → sumList f (run b c) ≡ sumBelow (λ y. covers c b y * f y) n
+run-sum : (f : ℕ → ℕ) (b c n : ℕ) → b + c ≤ n → sumList f (run b c) ≡ sumBelow (λ y. covers c b y * f y) n
 unfolding run sumList
 run-sum f b zero n l = sym (sum-zero (λ y. covers 0 b y * f y) n (λ y q. rw (covers-none b y) (omega arith)))
 run-sum f b (suc c) n l =
@@ -77,10 +87,4 @@ module _ {A : ℕ} {next block : ℕ → ℕ} (k : Linked A next block) {hd : �
       ∙ sum-congr (λ a. oneAt (hd a) h * sumList f (run (block a) (count a))) (λ a. sumBelow (λ y. oneAt (hd a) h * (covers (count a) (block a) y * f y)) n) A
       (λ a l. ap (λ (q : ℕ). oneAt (hd a) h * q) (each-run f a l) ∙ sym (sum-scale (λ y. covers (count a) (block a) y * f y) (oneAt (hd a) h) n))
       ∙ sum-swap (λ a y. oneAt (hd a) h * (covers (count a) (block a) y * f y)) A n
-      ∙ sum-congr (λ y. sumBelow (λ a. oneAt (hd a) h * (covers (count a) (block a) y * f y)) A) (λ y. sumBelow (λ a. oneAt (hd a) h * covers (count a) (block a) y) A * f y) n (λ y q. each-block y)
-    where
-      each-block : (y : ℕ) → sumBelow (λ a. oneAt (hd a) h * (covers (count a) (block a) y * f y)) A ≡ sumBelow (λ a. oneAt (hd a) h * covers (count a) (block a) y) A * f y
-      each-block y =
-          sum-congr (λ a. oneAt (hd a) h * (covers (count a) (block a) y * f y)) (λ a. f y * (oneAt (hd a) h * covers (count a) (block a) y)) A (λ a l. omega arith)
-          ∙ sum-scale (λ a. oneAt (hd a) h * covers (count a) (block a) y) (f y) A
-          ∙ omega arith
+      ∙ sum-congr (λ y. sumBelow (λ a. oneAt (hd a) h * (covers (count a) (block a) y * f y)) A) (λ y. sumBelow (λ a. oneAt (hd a) h * covers (count a) (block a) y) A * f y) n (λ y q. sum-factor (λ a. oneAt (hd a) h) (λ a. covers (count a) (block a) y) (f y) A)

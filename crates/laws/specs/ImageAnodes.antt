@@ -29,7 +29,7 @@ module _ (img : List ℕ) where
   next-at a u = rw (ne-eqb ((anodeAt (anodeSlots img) a) .block .0) 0 u)
 
   -- a slot that holds 0 has no anode in use
-  pub slot-there : (a : ℕ) → anodesOf img .block a ≢ 0 → slotOf img (a / 82) ≢ 0
+  slot-there : (a : ℕ) → anodesOf img .block a ≢ 0 → slotOf img (a / 82) ≢ 0
   slot-there a u z = u (block-at a ∙ rw (anodeOf-missing img a z))
 
   pub slot-exists : (a s : ℕ) → slotOf img (a / 82) ≡ s → s ≢ 0 → exists img a ≡ true

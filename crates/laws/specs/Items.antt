@@ -47,7 +47,7 @@ giving-le w h i = go (i .dir)
     go false = omega arith
 
 -- the directories that items name, one by one
-pub dirs-sum : (w : Dir → ℕ) (d : Dir) (is : List Item) → sumList w (gather (subDirs d) is) ≡ sumList (giving w (d .head)) is
+dirs-sum : (w : Dir → ℕ) (d : Dir) (is : List Item) → sumList w (gather (subDirs d) is) ≡ sumList (giving w (d .head)) is
 unfolding subDirs
 dirs-sum w d is = gather-sum (subDirs d) w is ∙ list-congr (λ i. sumList w (subDirs d i)) (giving w (d .head)) is (λ i. one (i .dir) (record { head = i .anode; parent = d .head }))
   where
@@ -55,21 +55,13 @@ dirs-sum w d is = gather-sum (subDirs d) w is ∙ list-congr (λ i. sumList w (s
     one true e = list-one w e
     one false e = list-nil w
 
--- a directory is named by its head
-pub dirs-named : (d : Dir) (x : ℕ) (is : List Item) → sumList (λ e. oneAt (e .head) x) (gather (subDirs d) is) ≤ times x (names is)
-dirs-named d x is = omega (
+-- a weight that is at most one of the head is at most that of the names
+dirs-named : (w : Dir → ℕ) (u : ℕ → ℕ) → ((e : Dir) → w e ≤ u (e .head)) → (d : Dir) (is : List Item) → sumList w (gather (subDirs d) is) ≤ sumList u (names is)
+dirs-named w u le d is = omega (
   arith,
-  dirs-sum (λ e. oneAt (e .head) x) d is,
-  names-sum x is,
-  list-mono (giving (λ e. oneAt (e .head) x) (d .head)) (λ i. oneAt (i .anode) x) is (λ i. giving-le (λ e. oneAt (e .head) x) (d .head) i),
-)
-
-pub dirs-few : (d : Dir) (is : List Item) → sumList (λ e. 1) (gather (subDirs d) is) ≤ sumList (λ x. 1) (names is)
-dirs-few d is = omega (
-  arith,
-  dirs-sum (λ e. 1) d is,
-  map-sum (λ i. i .anode) (λ x. 1) is,
-  list-mono (giving (λ e. 1) (d .head)) (λ i. 1) is (λ i. giving-le (λ e. 1) (d .head) i),
+  dirs-sum w d is,
+  map-sum (λ i. i .anode) u is,
+  list-mono (giving w (d .head)) (λ i. u (i .anode)) is (λ i. omega (arith, giving-le w (d .head) i, le (record { head = i .anode; parent = d .head }))),
 )
 
 module _ (items : Dir → List Item) where
@@ -91,10 +83,11 @@ module _ (items : Dir → List Item) where
   unfolding subs
   below-items w d = dirs-sum w d (items d)
 
+  -- each is named by its head
   pub subs-named : (x : ℕ) (d : Dir) → sumList (λ e. oneAt (e .head) x) (subs d) ≤ namedIn x d
-  unfolding subs
-  subs-named x d = dirs-named d x (items d)
+  unfolding subs times
+  subs-named x d = dirs-named (λ e. oneAt (e .head) x) (λ y. oneAt y x) (λ e. omega arith) d (items d)
 
   pub subs-few : (d : Dir) → sumList (λ e. 1) (subs d) ≤ sumList (λ x. 1) (names (items d))
   unfolding subs
-  subs-few d = dirs-few d (items d)
+  subs-few d = dirs-named (λ e. 1) (λ x. 1) (λ e. omega arith) d (items d)

@@ -18,7 +18,7 @@ use Rattle.laws.specs.HeadChanges.{unlink-head-was}
 use Rattle.laws.specs.Blocks.{blocks, blocks-rewrite, blocks-fresh}
 use Rattle.laws.specs.Held.{held, held-rewrite, held-fresh}
 use Rattle.laws.specs.Space.{Good, rewrite-good, unlink-good}
-use Rattle.laws.specs.Owners.{self-headed}
+use Rattle.laws.specs.Owners.{full-used, full-inside, full-0, full-1, self-headed}
 use Rattle.laws.specs.Moves.{rewrite-shift, InHand}
 
 from-6 : (x : ℕ) → x ≢ 0 → x ≢ 1 → x ≢ 2 → x ≢ 3 → x ≢ 4 → x ≢ 5 → 6 ≤ x
@@ -43,40 +43,27 @@ last-gone zero b x l = absurd (omega arith)
 last-gone (suc c) b x l = rw (one-less c) (omega (arith, covers-end c b x))
 
 module _ {A : ℕ} {ex : ℕ → Bool} {n last : ℕ} {s : Anodes} {system hd sd : ℕ → ℕ} (g : Good A ex n last s system hd sd) (x : ℕ) (full : 0 < s .count x) where
-  pub full-used : s .block x ≢ 0
-  full-used z = omega (arith, full, g .present .free-none x z)
-
-  -- its blocks are on the disk
-  pub full-inside : s .block x + s .count x ≤ n
-  full-inside = g .own .fits x (g .linked .view .below x full-used) full
-
-  pub full-0 : x ≢ 0
-  full-0 e = omega (arith, full, ap (s .count) e, g .fixed .count-0)
-
-  pub full-1 : x ≢ 1
-  full-1 e = omega (arith, full, ap (s .count) e, g .fixed .count-1)
-
   -- one that is another's next, and not 2, is from 6 up
   full-6 : (p : ℕ) → s .next p ≡ x → x ≢ 2 → 6 ≤ x
-  full-6 p e x2 = from-6 x full-0 full-1 x2 (λ q. g .first 3 (inr (inl refl)) p (e ∙ q)) (λ q. g .first 4 (inr (inr (inl refl))) p (e ∙ q)) (λ q. g .first 5 (inr (inr (inr refl))) p (e ∙ q))
+  full-6 p e x2 = from-6 x (full-0 g x full) (full-1 g x full) x2 (λ q. g .first 3 (inr (inl refl)) p (e ∙ q)) (λ q. g .first 4 (inr (inr (inl refl))) p (e ∙ q)) (λ q. g .first 5 (inr (inr (inr refl))) p (e ∙ q))
 
   -- x becomes (c, b), within its old extent, and has lost the block y
   module _ (c b y : ℕ) (e : s .count x ≡ suc c) (b0 : b ≢ 0) (left : (w : ℕ) → covers (s .count x) (s .block x) w ≡ oneAt y w + covers c b w)
       (within : 0 < c → (s .block x ≤ b) × (b + c ≤ s .block x + s .count x)) where
     shrunk-good : Good A ex n last (rewritten s x c b) (hand system y) hd sd
-    shrunk-good = rewrite-good g x c b (hand system y) full-used b0 full-0 full-1 (λ w. omega (arith, left w))
-        (λ l. omega (arith, within l .1, full-inside))
+    shrunk-good = rewrite-good g x c b (hand system y) (full-used g x full) b0 (full-0 g x full) (full-1 g x full) (λ w. omega (arith, left w))
+        (λ l. omega (arith, within l .1, full-inside g x full))
         (λ q l. omega (arith, within l .0, g .high x q full))
         (λ q l. omega (arith, within l .1, g .low x q full))
 
     shrunk-fewer : (h : ℕ) → blocks A hd (changed (s .count) x c) h + oneAt (hd x) h ≡ blocks A hd (s .count) h
     shrunk-fewer h =
         let r : blocks A hd (changed (s .count) x c) h + oneAt (hd x) h * suc c ≡ blocks A hd (s .count) h + oneAt (hd x) h * c
-        = rw e at (blocks-rewrite A hd (s .count) x c (g .linked .view .below x full-used) h) in
+        = rw e at (blocks-rewrite A hd (s .count) x c (g .linked .view .below x (full-used g x full)) h) in
         omega arith
 
     shrunk-lost : (h w : ℕ) → held A hd (changed (s .count) x c) (changed (s .block) x b) h w + oneAt (hd x) h * oneAt y w ≡ held A hd (s .count) (s .block) h w
-    shrunk-lost h w = omega (arith, held-rewrite A hd (s .count) (s .block) x c b (g .linked .view .below x full-used) h w, ap (λ (i : ℕ). oneAt (hd x) h * i) (left w))
+    shrunk-lost h w = omega (arith, held-rewrite A hd (s .count) (s .block) x c b (g .linked .view .below x (full-used g x full)) h w, ap (λ (i : ℕ). oneAt (hd x) h * i) (left w))
 
     shrunk : InHand A ex n last s system hd (hd x) y (rewritten s x c b)
     unfolding rewritten
@@ -84,7 +71,7 @@ module _ {A : ℕ} {ex : ℕ → Bool} {n last : ℕ} {s : Anodes} {system hd sd
       hd′ = hd;
       sd′ = sd;
       good = shrunk-good;
-      shift = rewrite-shift s hd x c b full-used b0;
+      shift = rewrite-shift s hd x c b (full-used g x full) b0;
       fewer = shrunk-fewer;
       lost = shrunk-lost;
     }
@@ -99,13 +86,13 @@ module _ {A : ℕ} {ex : ℕ → Bool} {n last : ℕ} {s : Anodes} {system hd sd
       good = good;
       shift = record {
         stays = λ a d. self-headed good a (d .pos) (changed-other hd x 0 a (λ i. d .no-pred p (px ∙ sym i)) ∙ g .heads .at-head a d);
-        no-new = λ a d. unlink-head-was (g .linked) p x full-0 px a d .1;
+        no-new = λ a d. unlink-head-was (g .linked) p x (full-0 g x full) px a d .1;
         apart = λ a u q i. record {
           same-count = changed-other (s .count) x 0 a (λ i. q (ap hd i));
           same-block = changed-other (s .block) x 0 a (λ i. q (ap hd i));
           same-next = elim (unlink-cases (s .next) p x a) [
             | first c ↦ absurd (q (ap hd (c .0)))
-            | second c ↦ absurd (q (ap hd (c .1) ∙ sym (g .heads .along p (λ z. full-0 (sym px ∙ z))) ∙ ap hd px))
+            | second c ↦ absurd (q (ap hd (c .1) ∙ sym (g .heads .along p (λ z. full-0 g x full (sym px ∙ z))) ∙ ap hd px))
             | third c ↦ c .2
           ];
         };
@@ -125,14 +112,14 @@ module _ {A : ℕ} {ex : ℕ → Bool} {n last : ℕ} {s : Anodes} {system hd sd
         off : (h : ℕ) → blocks A (changed hd x 0) (changed (s .count) x 0) h ≡ blocks A hd (changed (s .count) x 0) h
         off h =
             let r : blocks A (changed hd x 0) (changed (s .count) x 0) h ≡ blocks A hd (changed (s .count) x 0) h + oneAt 0 h * 0
-            = rw (changed-twice (s .count) x 0 0) at (blocks-fresh A hd (changed (s .count) x 0) x 0 0 (g .linked .view .below x full-used) (changed-same (s .count) x 0) h) in
+            = rw (changed-twice (s .count) x 0 0) at (blocks-fresh A hd (changed (s .count) x 0) x 0 0 (g .linked .view .below x (full-used g x full)) (changed-same (s .count) x 0) h) in
             omega arith
 
         away : (h w : ℕ) → held A (changed hd x 0) (changed (s .count) x 0) (changed (s .block) x 0) h w ≡ held A hd (changed (s .count) x 0) (changed (s .block) x 65535) h w
         away h w =
             let r : held A (changed hd x 0) (changed (s .count) x 0) (changed (s .block) x 0) h w ≡ held A hd (changed (s .count) x 0) (changed (s .block) x 65535) h w + oneAt 0 h * covers 0 0 w
             = rw (changed-twice (s .count) x 0 0, changed-twice (s .block) x 65535 0) at
-            (held-fresh A hd (changed (s .count) x 0) (changed (s .block) x 65535) x 0 0 0 (g .linked .view .below x full-used) (changed-same (s .count) x 0) h w) in
+            (held-fresh A hd (changed (s .count) x 0) (changed (s .block) x 65535) x 0 0 0 (g .linked .view .below x (full-used g x full)) (changed-same (s .count) x 0) h w) in
             omega (arith, r, ap (λ (i : ℕ). oneAt 0 h * i) (covers-none 0 w))
 
 -- ---- an anode x with a block less

@@ -1,4 +1,4 @@
--- Theorems about the rules.
+-- Theorems about the rules, each file below those that it uses.
 pub mod Tests
 pub mod Sums
 pub mod Each

@@ -142,7 +142,7 @@ module _ {A : ℕ} {next block : ℕ → ℕ} (k : Linked A next block) where
     at-f = changed-other (changed next f (next p)) p f f (λ e. not-f (sym e)) ∙ changed-same next f (next p)
 
     -- what a chain becomes: one without p stays, and f comes after p in the other
-    pub insert-apart : (a z : ℕ) (l : List ℕ) → (a ≢ 0 → block a ≢ 0) → Seg next a l z → times p l ≡ 0 → Seg (insertAfter next p f) a l z
+    insert-apart : (a z : ℕ) (l : List ℕ) → (a ≢ 0 → block a ≢ 0) → Seg next a l z → times p l ≡ 0 → Seg (insertAfter next p f) a l z
     insert-apart a z l u c h = seg-keep next (insertAfter next p f) a z l keep c
       where
         keep : (x : ℕ) → 0 < times x l → insertAfter next p f x ≡ next x
@@ -166,13 +166,13 @@ module _ {A : ℕ} {next block : ℕ → ℕ} (k : Linked A next block) where
     pub next-there : next p ≢ 0
     next-there e = x0 (sym px ∙ e)
 
-    pub pred-used : block p ≢ 0
+    pred-used : block p ≢ 0
     pred-used = used (k .view) p next-there
 
     pub unlink-used : block x ≢ 0
     unlink-used = rw px at (k .closed p next-there)
 
-    pub pred-pos : p ≢ 0
+    pred-pos : p ≢ 0
     pred-pos = next-pos k p next-there
 
     ranked : k .rank x < k .rank p
@@ -225,7 +225,7 @@ module _ {A : ℕ} {next block : ℕ → ℕ} (k : Linked A next block) where
       ];
     }
 
-    pub unlink-apart : (a z : ℕ) (l : List ℕ) → Seg next a l z → times p l ≡ 0 → times x l ≡ 0 → Seg (unlink next p x) a l z
+    unlink-apart : (a z : ℕ) (l : List ℕ) → Seg next a l z → times p l ≡ 0 → times x l ≡ 0 → Seg (unlink next p x) a l z
     unlink-apart a z l c h g = seg-keep next (unlink next p x) a z l keep c
       where
         keep : (y : ℕ) → 0 < times y l → unlink next p x y ≡ next y

@@ -109,7 +109,7 @@ module _ {A : ℕ} {next block : ℕ → ℕ} (k : Linked A next block) where
   next-pos a h e = h (rw e (k .zero-end))
 
   -- the chain from an anode in use, found by its rank
-  pub chain-found : (r a : ℕ) → (a ≢ 0 → block a ≢ 0) → k .rank a < r → (l : List ℕ) × Chain next a l
+  chain-found : (r a : ℕ) → (a ≢ 0 → block a ≢ 0) → k .rank a < r → (l : List ℕ) × Chain next a l
   chain-found zero a u h = absurd (omega arith)
   chain-found (suc r) a u h = go (same? a 0) (chain-found r (next a))
     where

@@ -11,7 +11,7 @@ use Rattle.rules.specs.Anodes.{limit, Anodes}
 use Rattle.rules.specs.Chains.{chainOf}
 use Rattle.rules.specs.Walk.{Dir, root, Entered, Item, itemOf, broken, itemsAt, itemsBy}
 use Rattle.rules.specs.Space.{rewritten}
-use Rattle.laws.specs.Tests.{same?, less?}
+use Rattle.laws.specs.Tests.{same?, not-above}
 use Rattle.laws.specs.Sums.{oneAt-same, changed-same, changed-other}
 use Rattle.laws.specs.Bags.{list-cons, list-gain, each-in}
 use Rattle.laws.specs.Links.{chain-the}
@@ -23,7 +23,7 @@ use Rattle.laws.specs.Each.{Each, each-both, each-zero}
 use Rattle.laws.specs.Items.{wrong, weighItem, namedIn, faults}
 use Rattle.laws.specs.TreeChanges.{headed, Gain, sum-named, add-file, add-dir, AlikeItems, alike-named, alike-tree}
 use Rattle.laws.specs.Entries.{weighEntry, broken-wrong, Sized, sized-still, fine-item, item-anode, asEntry, weigh-item, entries-sum, items-sum, anodes-fine, itemsAt-whole, items-alike}
-use Rattle.laws.specs.Whole.{DirHead, Whole, head-counts, fine-still, on-dir, tree-heads, dir-heads, named-heads}
+use Rattle.laws.specs.Whole.{DirHead, AllNamed, Whole, head-counts, fine-still, on-dir, tree-heads, dir-heads, named-heads}
 use Rattle.laws.specs.Orphan.{Orphaned}
 
 -- of two tables of entries, `more` has e more in the block of the anode a₀, and the same in the blocks of the other anodes of chains but 1's
@@ -115,7 +115,7 @@ module _ {ex : ℕ → Bool} {n last : ℕ} {s : Anodes} {system hd sd : ℕ →
     alikes = each-both (DirHead s) (λ d. faults items d ≡ 0) (AlikeItems items items′) dirs one (dir-heads w) (each-zero (faults items) dirs (w .tree .faultless))
 
     unnamed : sumList (namedIn items f) dirs ≡ 0
-    unnamed = elim (less? 0 (sumList (namedIn items f) dirs)) [ inl p ↦ absurd (named-heads w f p .2 .in-use fresh) | inr p ↦ omega arith ]
+    unnamed = not-above (sumList (namedIn items f) dirs) (λ p. named-heads w f p .2 .in-use fresh)
 
     pub fresh-orphan : Orphaned ex n last f (rewritten s f 0 65535) system (changed hd f f) (changed sd f f) entries′ marked′ dirs
     fresh-orphan = record {
@@ -152,7 +152,7 @@ module _ {ex : ℕ → Bool} {n last : ℕ} {s : Anodes} {system hd sd : ℕ →
       gain (tree-heads (o .good) entries marked (o .tree)) (each-zero (faults before) dirs (o .tree .faultless))
 
   -- each head is named then
-  named : (x : ℕ) → 6 ≤ x → Head (s .next) (s .block) x → 1 ≤ sumList (namedIn after x) dirs
+  named : AllNamed s entries′ marked′ dirs
   named x l d = elim (same? x (e .anode)) [
     | inl i ↦ omega (arith, sum-named before after h₀ (itemOf s e) dirs reached gains x, oneAt-same ((itemOf s e) .anode) x (item-anode s e ∙ sym i))
     | inr i ↦ omega (arith, sum-named before after h₀ (itemOf s e) dirs reached gains x, o .all-named x l i d)

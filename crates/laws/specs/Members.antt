@@ -7,11 +7,11 @@ use mathlib.Core.List.{List, [], _∷_, _++_, map, map-id, append-assoc}
 use native.Mathlib.Omega.{arith}
 use Rattle.rules.specs.Counting.{sumList, times, gather, oneAt, anyIn}
 use Rattle.counting.specs.Laws.{none-or}
-use Rattle.laws.specs.Tests.{less?}
+use Rattle.laws.specs.Tests.{not-above}
 use Rattle.laws.specs.Sums.{oneAt-same, oneAt-other, oneAt-cases}
 use Rattle.laws.specs.Bags.{list-cons, list-append, list-add, list-mono, list-scale}
-use Rattle.laws.specs.Each.{Each, each-right, list-congr-each, gather-congr-each}
-pub use Rattle.laws.specs.Each.{Member}
+use Rattle.laws.specs.Each.{Each, list-congr-each, gather-congr-each}
+pub use Rattle.laws.specs.Each.{Member, member-each}
 pub use Rattle.laws.specs.Bags.{times-member}
 
 module _ {ℓ} {X : Type ℓ} where
@@ -42,14 +42,11 @@ module _ {ℓ} {X : Type ℓ} where
   pub member-right : (x : X) (l m : List X) → Member x m → Member x (l ++ m)
   member-right x l m (before, after, e) = (l ++ before, after, rw e (sym (append-assoc l before (x ∷ after))))
 
-  -- what holds of each holds of a member, and its weight is no more than the sum
-  pub member-each : (P : X → Type 0) (x : X) (l : List X) → Member x l → Each P l → P x
-  member-each P x l (before, after, e) p = each-right P before (x ∷ after) (rw e at p) .0
-
+  -- a member's weight is no more than the sum
   pub member-sum : (w : X → ℕ) (x : X) (l : List X) → Member x l → w x ≤ sumList w l
   member-sum w x l (before, after, e) = rw e (omega (arith, list-append w before (x ∷ after), list-cons w x after))
 
-  -- and what holds of each member holds of each
+  -- what holds of each member holds of each
   pub each-members : (P : X → Type 0) (l : List X) → ((x : X) → Member x l → P x) → Each P l
   each-members P [] f = tt
   each-members P (x ∷ l) f = (f x (member-first x l), each-members P l (λ y m. f y (member-later y x l m)))
@@ -89,7 +86,7 @@ member-times x l p = omega (arith, member-sum (λ y. oneAt y x) x l p, oneAt-sam
 
 -- what does not stand in a list
 pub times-none : (x : ℕ) (l : List ℕ) → (0 < times x l → ⊥) → times x l ≡ 0
-times-none x l n = elim (less? 0 (times x l)) [ inl p ↦ absurd (n p) | inr p ↦ omega arith ]
+times-none x l n = not-above (times x l) n
 
 -- two numbers of a list weigh no more than the list
 pub two-members : (w : ℕ → ℕ) (l : List ℕ) (a b : ℕ) → a ≢ b → 0 < times a l → 0 < times b l → w a + w b ≤ sumList w l

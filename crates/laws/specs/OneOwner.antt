@@ -79,7 +79,7 @@ module _ (img : List ℕ) (blocks anodes : ℕ) (p : Passed img blocks anodes) w
     ]
   ]
 
-  pub one-owner-of : OneOwner img
+  one-owner-of : OneOwner img
   unfolding ownersOf
   one-owner-of = record {
     one-owner = λ x l. omega (arith, passes .own .not-two x l, passes .own .not-none x l);

@@ -20,7 +20,7 @@ use Rattle.laws.specs.Each.{Each, each-map, each-both, each-pair, each-z
 use Rattle.laws.specs.Items.{wrong, namedIn, faults}
 use Rattle.laws.specs.Trees.{Tree}
 use Rattle.laws.specs.TreeChanges.{headed, tree-unnamed, AlikeItems, alike-named, alike-tree}
-use Rattle.laws.specs.Totals.{file-size, named-by-kind}
+use Rattle.laws.specs.Totals.{file-size, namedByFiles, named-by-kind}
 use Rattle.laws.specs.Entries.{broken-wrong, Sized, sized-still, item-anode, item-dir, items-alike}
 use Rattle.laws.specs.Whole.{named-le, DirHead, fine-still, tree-heads}
 
@@ -40,7 +40,7 @@ module _ (ex : ℕ → Bool) (n last : ℕ) where
 -- the steps on the chain of a head h that no file's entry names
 module _ {ex : ℕ → Bool} {n last f : ℕ} {s : Anodes} {system hd sd : ℕ → ℕ} {entries : ℕ → List Entered} {marked : Dir → ℕ → Bool} {dirs : List Dir}
     (o : Orphaned ex n last f s system hd sd entries marked dirs)
-    (h : ℕ) (no-file : sumList (λ d. sumList (file-size (λ x. oneAt x h)) (itemsBy entries marked s d)) dirs ≡ 0)
+    (h : ℕ) (no-file : namedByFiles (itemsBy entries marked s) h dirs ≡ 0)
     {t : Anodes} {hd′ sd′ : ℕ → ℕ} (g′ : Good limit ex n last t system hd′ sd′) (sh : Shift s hd t hd′ 1 h) where
   abbrev items : Dir → List Item
   items = itemsBy entries marked s
@@ -104,7 +104,7 @@ module _ {ex : ℕ → Bool} {n last f : ℕ} {s : Anodes} {system hd sd : ℕ �
       (each-map (λ d. d .head ≢ f) (λ d. d .head ≡ f → AlikeItems given (itemsBy entries marked t) d) dirs (λ d q e. absurd (q e)) (not-dir f6))
 
   -- no file's entry names a directory of the tree
-  pub dir-no-file : (h : ℕ) → headed h dirs ≡ 1 → sumList (λ d. sumList (file-size (λ x. oneAt x h)) (given d)) dirs ≡ 0
+  pub dir-no-file : (h : ℕ) → headed h dirs ≡ 1 → namedByFiles given h dirs ≡ 0
   unfolding headed
   dir-no-file h once = elim (oneAt-cases 5 h) [
     | inr c ↦ omega (arith, once, o .tree .exact (λ d. oneAt (d .head) h), c .1, named-by-kind given h dirs, o .tree .once h)

@@ -19,20 +19,20 @@ use Rattle.rules.specs.Accepted.{diskSize}
 use Rattle.rules.specs.Space.{rewritten, onChain, dropped}
 use Rattle.rules.specs.Tables.{chainHead, anodeEntry, anodeTable, headWhere, ownerHead, blockEntry, blockTable, entryOr}
 use Rattle.laws.specs.Tests.{same?, less?}
-use Rattle.laws.specs.Sums.{oneAt-cases, oneAt-same, oneAt-other, sum-congr, sum-scale, sum-swap, sum-member, sum-some, sum-single, sum-pick}
+use Rattle.laws.specs.Sums.{oneAt-cases, oneAt-same, oneAt-other, sum-congr, sum-factor, sum-swap, sum-member, sum-single, sum-pick}
 use Rattle.laws.specs.Bags.{times-nil, times-cons, times-here, times-later}
-use Rattle.laws.specs.Ownership.{covers-cases, covers-none}
+use Rattle.laws.specs.Ownership.{covers-cases, covers-in, covers-none}
 use Rattle.laws.specs.LinkChanges.{without, without-cases, without-other}
 use Rattle.laws.specs.Links.{Linked}
 use Rattle.laws.specs.Heads.{Head, heads-one, headOf-heads}
 use Rattle.laws.specs.Blocks.{blocks}
-use Rattle.laws.specs.Held.{held, held-fresh}
+use Rattle.laws.specs.Held.{held, held-some, held-fresh}
 use Rattle.laws.specs.Space.{Good, head-good, dead-head, drop-good}
 use Rattle.laws.specs.Owners.{hd-below, holder, owner}
 use Rattle.laws.specs.Resize.{Ran}
 
 -- the list of a function's values below k, by its entries
-pub listed-at : (f : ℕ → ℕ) (k i : ℕ) → i < k → getD (listed f 0 k) i 0 ≡ f i
+listed-at : (f : ℕ → ℕ) (k i : ℕ) → i < k → getD (listed f 0 k) i 0 ≡ f i
 listed-at f k i l = getD-listed f 0 k i 0 l ∙ ap f (zero-add i)
 
 pub listed-is : (f : ℕ → ℕ) (k : ℕ) (l : List ℕ) → length l ≡ k → ((i : ℕ) → i < k → f i ≡ getD l i 0) → listed f 0 k ≡ l
@@ -111,27 +111,15 @@ module _ {ex : ℕ → Bool} {n last : ℕ} {s : Anodes} {system hd sd : ℕ →
       sum-congr (headWhere s x) (λ a. sumBelow (λ m. oneAt (hd a) m * (covers (s .count a) (s .block a) x * m)) limit) limit
       (λ a l. headWhere-is x a ∙ sym (sum-pick (λ m. covers (s .count a) (s .block a) x * m) (hd a) limit (hd-below g a)))
       ∙ sum-swap (λ a m. oneAt (hd a) m * (covers (s .count a) (s .block a) x * m)) limit limit
-      ∙ sum-congr (λ m. sumBelow (λ a. oneAt (hd a) m * (covers (s .count a) (s .block a) x * m)) limit) (λ m. held limit hd (s .count) (s .block) m x * m) limit (λ m l. together m)
-    where
-      together : (m : ℕ) → sumBelow (λ a. oneAt (hd a) m * (covers (s .count a) (s .block a) x * m)) limit ≡ sumBelow (λ a. oneAt (hd a) m * covers (s .count a) (s .block a) x) limit * m
-      together m =
-          sum-congr (λ a. oneAt (hd a) m * (covers (s .count a) (s .block a) x * m)) (λ a. m * (oneAt (hd a) m * covers (s .count a) (s .block a) x)) limit (λ a l. omega arith)
-          ∙ sum-scale (λ a. oneAt (hd a) m * covers (s .count a) (s .block a) x) m limit
-          ∙ omega arith
+      ∙ sum-congr (λ m. sumBelow (λ a. oneAt (hd a) m * (covers (s .count a) (s .block a) x * m)) limit) (λ m. held limit hd (s .count) (s .block) m x * m) limit (λ m l. sum-factor (λ a. oneAt (hd a) m) (λ a. covers (s .count a) (s .block a) x) m limit)
 
-  -- a block that a head holds is on the disk, not the system's, and that head's
+  -- a block that a head holds is on the disk and not the system's
   pub held-data : (m x : ℕ) → 0 < held limit hd (s .count) (s .block) m x → (x < n) × (system x ≡ 0)
-  unfolding held blocks owners
+  unfolding owners
   held-data m x p =
-      let q = sum-some (λ a. oneAt (hd a) m * covers (s .count a) (s .block a) x) limit p in
-      at (q .0) (q .1) (q .2)
-    where
-      at : (a : ℕ) → a < limit → 0 < oneAt (hd a) m * covers (s .count a) (s .block a) x → (x < n) × (system x ≡ 0)
-      at a l i = elim (covers-cases (s .count a) (s .block a) x) [
-        | inr c ↦ absurd (omega (arith, rw (c .1) at i))
-        | inl c ↦ (let y : x < n = omega (arith, c .0, c .1, g .own .fits a l (omega arith)) in
-            (y, omega (arith, g .own .not-two x y, c .2, sum-member (λ a. covers (s .count a) (s .block a) x) a limit l)))
-      ]
+      let (a, l, e, from, to) = held-some limit hd (s .count) (s .block) m x p in
+      let inside : x < n = omega (arith, to, g .own .fits a l (omega arith)) in
+      (inside, omega (arith, g .own .not-two x inside, covers-in (s .count a) (s .block a) x from to, sum-member (λ a. covers (s .count a) (s .block a) x) a limit l))
 
   ownerHead-is : (m x : ℕ) → 0 < held limit hd (s .count) (s .block) m x → ownerHead s x ≡ m
   ownerHead-is m x p =

@@ -1,19 +1,18 @@
 -- Heads and their blocks in a good state: how many each has, and that each block is the system's or stands in the chain of exactly one head.
-use Prim.Native.Nat.{ℕ, _+_, _*_, _<_}
+use Prim.Native.Nat.{ℕ, _+_, _*_, _≤_, _<_}
 use mathlib.Core.Path.{_≡_, sym, ap, _∙_}
 use mathlib.Core.Logic.{_≢_, inl, inr}
 use mathlib.Core.Bool.{Bool}
 use native.Mathlib.Omega.{arith}
 use Rattle.rules.specs.Counting.{oneAt, sumBelow, sumList, lastOf}
 use Rattle.rules.specs.Anodes.{Anodes}
-use Rattle.rules.specs.Chains.{chainOf, covers, owners}
-use Rattle.laws.specs.Tests.{same?}
-use Rattle.laws.specs.Sums.{oneAt-cases, oneAt-other, sum-zero, sum-some, sum-one}
+use Rattle.rules.specs.Chains.{chainOf, owners}
+use Rattle.laws.specs.Tests.{same?, less?}
+use Rattle.laws.specs.Sums.{oneAt-other, sum-zero, sum-one}
 use Rattle.laws.specs.Bags.{last-on}
-use Rattle.laws.specs.Ownership.{covers-none}
 use Rattle.laws.specs.Heads.{Head, head-of-is, chain-sum}
 use Rattle.laws.specs.Blocks.{blocks}
-use Rattle.laws.specs.Held.{held, held-all}
+use Rattle.laws.specs.Held.{held, held-all, held-some}
 use Rattle.laws.specs.Space.{Good, on-chain}
 
 module _ {A : ℕ} {ex : ℕ → Bool} {n last : ℕ} {s : Anodes} {system hd sd : ℕ → ℕ} (g : Good A ex n last s system hd sd) where
@@ -28,6 +27,20 @@ module _ {A : ℕ} {ex : ℕ → Bool} {n last : ℕ} {s : Anodes} {system hd sd
     where
       some : 0 < A
       some = omega (arith, g .linked .view .below 5 (g .fixed .block-5))
+
+  -- an anode x with a block is in use, its blocks are on the disk, and it is neither 0 nor 1
+  module _ (x : ℕ) (full : 0 < s .count x) where
+    pub full-used : s .block x ≢ 0
+    full-used z = omega (arith, full, g .present .free-none x z)
+
+    pub full-inside : s .block x + s .count x ≤ n
+    full-inside = g .own .fits x (g .linked .view .below x full-used) full
+
+    pub full-0 : x ≢ 0
+    full-0 e = omega (arith, full, ap (s .count) e, g .fixed .count-0)
+
+    pub full-1 : x ≢ 1
+    full-1 e = omega (arith, full, ap (s .count) e, g .fixed .count-1)
 
   -- what has a head is in use
   pub headed-used : (a : ℕ) → hd a ≢ 0 → s .block a ≢ 0
@@ -54,12 +67,9 @@ module _ {A : ℕ} {ex : ℕ → Bool} {n last : ℕ} {s : Anodes} {system hd sd
   -- what is no head has no blocks
   pub blocks-none : (h : ℕ) → (Head (s .next) (s .block) h → ⊥) → blocks A hd (s .count) h ≡ 0
   unfolding blocks
-  blocks-none h none = sum-zero (λ a. oneAt (hd a) h * s .count a) A (λ a l. elim (same? a 0) [
-    | inl e ↦ rw (e, g .fixed .count-0) (omega arith)
-    | inr e ↦ elim (same? (s .block a) 0) [
-      | inl u ↦ rw (g .present .free-none a u) (omega arith)
-      | inr u ↦ rw (oneAt-other (hd a) h (λ q. none (rw q at (head-of-is (g .linked) (g .heads) a e u)))) (omega arith)
-    ]
+  blocks-none h none = sum-zero (λ a. oneAt (hd a) h * s .count a) A (λ a l. elim (less? 0 (s .count a)) [
+    | inl p ↦ rw (oneAt-other (hd a) h (λ q. none (rw q at (head-of-is (g .linked) (g .heads) a (full-0 a p) (full-used a p))))) (omega arith)
+    | inr p ↦ (let z : s .count a ≡ 0 = omega arith in rw z (omega arith))
   ])
 
   -- and a head's are those of its chain
@@ -74,20 +84,10 @@ module _ {A : ℕ} {ex : ℕ → Bool} {n last : ℕ} {s : Anodes} {system hd sd
 
   -- who holds a block is a head
   pub holder : (m y : ℕ) → 0 < held A hd (s .count) (s .block) m y → Head (s .next) (s .block) m
-  unfolding held blocks
   holder m y p =
-      let q = sum-some (λ a. oneAt (hd a) m * covers (s .count a) (s .block a) y) A p in
-      at (q .0) (q .2)
-    where
-      at : (a : ℕ) → 0 < oneAt (hd a) m * covers (s .count a) (s .block a) y → Head (s .next) (s .block) m
-      at a i = elim (oneAt-cases (hd a) m) [
-        | inr e ↦ absurd (omega (arith, rw (e .1) at i))
-        | inl e ↦ rw (e .0) at (head-of-is (g .linked) (g .heads) a
-            (λ z. none (ap (s .count) z ∙ g .fixed .count-0)) (λ z. none (g .present .free-none a z)))
-      ]
-        where
-          none : s .count a ≡ 0 → ⊥
-          none z = omega (arith, rw (z, covers-none (s .block a) y) at i)
+      let (a, l, e, from, to) = held-some A hd (s .count) (s .block) m y p in
+      let full : 0 < s .count a = omega (arith, from, to) in
+      rw e at (head-of-is (g .linked) (g .heads) a (full-0 a full) (full-used a full))
 
   -- a block that is not the system's has one owner
   pub owner : (y : ℕ) → y < n → system y ≡ 0 →

@@ -98,7 +98,7 @@ module _ (A : ℕ) where
       ]
 
   -- one anode a is rewritten to (c, b): x's owners change by what a covered and covers
-  pub owners-changed : (count block system : ℕ → ℕ) (a c b x : ℕ) → a < A → owners A (changed count a c) (changed block a b) system x + covers (count a) (block a) x ≡ owners A count block system x + covers c b x
+  owners-changed : (count block system : ℕ → ℕ) (a c b x : ℕ) → a < A → owners A (changed count a c) (changed block a b) system x + covers (count a) (block a) x ≡ owners A count block system x + covers c b x
   unfolding owners
   owners-changed count block system a c b x l =
       omega (

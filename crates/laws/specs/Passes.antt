@@ -38,7 +38,7 @@ pub record Passes (A n last : ℕ) (s : Anodes) (system : ℕ → ℕ) : Type 0 
   pub own : EachOnce A (s .count) (s .block) system n
 
 -- from 2 on the cut links are the links
-pub from-two : {A : ℕ} {next block : ℕ → ℕ} → Linked A next block → block 2 ≢ 0 → chainOf (cut next) A 2 ≡ chainOf next A 2
+from-two : {A : ℕ} {next block : ℕ → ℕ} → Linked A next block → block 2 ≢ 0 → chainOf (cut next) A 2 ≡ chainOf next A 2
 from-two {A} {next} {block} k u =
     chain-the (cut-linked k) 2 (chainOf next A 2) (λ q. u)
     (seg-keep next (cut next) 2 0 (chainOf next A 2) (λ x p. cut-other next x (λ e. omega (arith, p, after x e))) (the-chain k 2 (λ q. u)))

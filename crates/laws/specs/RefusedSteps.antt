@@ -1,16 +1,15 @@
 -- When steps are refused, and with which number: a take with 27 or 28, a give of a block that is there only with 28.
 use Prim.Native.Nat.{ℕ, _+_, _-_, _*_, _≤_, _<_}
-use mathlib.Core.Path.{_≡_, refl, sym, ap, _∙_}
+use mathlib.Core.Path.{_≡_, refl, sym, _∙_}
 use mathlib.Core.Logic.{_≢_, _⊎_, inl, inr, _↔_}
-use mathlib.Core.Bool.{Bool, true, true≢false}
+use mathlib.Core.Bool.{Bool, true≢false}
 use mathlib.Core.List.{[], _∷_}
 use native.Mathlib.Omega.{arith}
-use lib.Dec.{T}
 use Rattle.rules.specs.Counting.{oneAt, lastOf}
 use Rattle.rules.specs.Anodes.{Anodes}
 use Rattle.rules.specs.Chains.{chainOf, side}
-use Rattle.rules.specs.Space.{refused, rewritten, insertedAfter, withoutFirst, withoutLast, Found, nowhere, found, firstFull, lastFull, freeExtent, sideOf, free, lowestFree, append, put, takeFrom, takeBlock, join, release, giveFrom, giveBack, takeMany, giveMany}
-use Rattle.laws.specs.Tests.{same?}
+use Rattle.rules.specs.Space.{refused, rewritten, insertedAfter, withoutFirst, withoutLast, Found, nowhere, found, firstFull, lastFull, freeExtent, sideOf, lowestFree, append, put, takeFrom, takeBlock, join, release, giveFrom, giveBack, takeMany, giveMany}
+use Rattle.laws.specs.Tests.{not-above}
 use Rattle.laws.specs.Sums.{oneAt-cases, oneAt-same, oneAt-other, sum-zero}
 use Rattle.laws.specs.LinkChanges.{first, second, third}
 use Rattle.laws.specs.Heads.{Head, on-own}
@@ -18,25 +17,13 @@ use Rattle.laws.specs.Blocks.{blocks}
 use Rattle.laws.specs.Cut.{cut-linked}
 use Rattle.laws.specs.Space.{Good}
 use Rattle.laws.specs.Sides.{SideHead, on-side}
-use Rattle.laws.specs.Owners.{blocks-chain}
+use Rattle.laws.specs.Owners.{full-used, full-0, blocks-chain}
 use Rattle.laws.specs.Searches.{firstFull-none, lastFull-none}
 use Rattle.laws.specs.FreeExtent.{extent-found, extent-nowhere, take-found, take-cases}
 use Rattle.laws.specs.Plans.{refused-same, planned≢refused, repeated-refused}
-use Rattle.laws.specs.Arriving.{fills, ends, starts, behind, append-cases, put-cases, join-cases}
+use Rattle.laws.specs.Arriving.{NeedsAnode, JoinsNone, NoneFree, fills, ends, starts, behind, append-cases, put-cases, join-cases}
 use Rattle.laws.specs.Take.{withoutFirst-out}
 use Rattle.laws.specs.Give.{give-good}
-
--- the taker's last anode z cannot have block y: it has blocks, and directory blocks (own) get an anode of their own or y is not its end
-abbrev pub NeedsAnode : Bool → Anodes → ℕ → ℕ → Type 0
-NeedsAnode own s z y = (s .count z ≢ 0) × ((own ≡ true) ⊎ (s .block z + s .count z ≢ y))
-
--- the last anode z of the side of block y cannot have it: z is anode 1, or it has blocks and y neither follows its end nor precedes its start
-abbrev pub JoinsNone : Anodes → ℕ → ℕ → Type 0
-JoinsNone s z y = (z ≡ 1) ⊎ ((s .count z ≢ 0) × (s .block z + s .count z ≢ y) × (y + 1 ≢ s .block z))
-
--- no anode from 6 up is free
-abbrev pub NoneFree : ℕ → (ℕ → Bool) → ℕ → Anodes → Type 0
-NoneFree A ex last s = (a : ℕ) → a < A → T (free A ex last s a) → ⊥
 
 -- ---- with which number
 
@@ -53,7 +40,7 @@ module _ (A : ℕ) (ex : ℕ → Bool) (last : ℕ) where
   put-refused own s z y k e = elim (put-cases A ex last own s z y) [
     | first c ↦ absurd (planned≢refused (rewritten s z 1 y) (y ∷ []) k (sym (c .1) ∙ e))
     | second c ↦ absurd (planned≢refused (rewritten s z (s .count z + 1) (s .block z)) (y ∷ []) k (sym (c .3) ∙ e))
-    | third c ↦ (let r = append-refused s z y k (sym (c .2) ∙ e) in (r .0, (c .0, c .1), r .1))
+    | third c ↦ (let r = append-refused s z y k (sym (c .1) ∙ e) in (r .0, c .0, r .1))
   ]
 
   -- x after p has a free block: 28 alone
@@ -83,7 +70,7 @@ module _ (A : ℕ) (ex : ℕ → Bool) (last : ℕ) where
 
 module _ {A : ℕ} {ex : ℕ → Bool} {n last : ℕ} where
   -- a head with a block has a last anode with one
-  pub last-block : {s : Anodes} {system hd sd : ℕ → ℕ} → Good A ex n last s system hd sd → (h : ℕ) → Head (s .next) (s .block) h → 0 < blocks A hd (s .count) h →
+  last-block : {s : Anodes} {system hd sd : ℕ → ℕ} → Good A ex n last s system hd sd → (h : ℕ) → Head (s .next) (s .block) h → 0 < blocks A hd (s .count) h →
       (p : ℕ) × (x : ℕ) × (lastFull (s .count) 0 (chainOf (s .next) A h) ≡ found p x)
   last-block {s} {hd = hd} g h d some = go (lastFull (s .count) 0 (chainOf (s .next) A h)) refl
     where
@@ -92,7 +79,7 @@ module _ {A : ℕ} {ex : ℕ → Bool} {n last : ℕ} where
       go (found p x) e = (p, x, e)
 
   -- so a give is refused with 28 alone
-  pub give-refused : {s : Anodes} {system hd sd : ℕ → ℕ} → Good A ex n last s system hd sd → (h : ℕ) → Head (s .next) (s .block) h → 0 < blocks A hd (s .count) h →
+  give-refused : {s : Anodes} {system hd sd : ℕ → ℕ} → Good A ex n last s system hd sd → (h : ℕ) → Head (s .next) (s .block) h → 0 < blocks A hd (s .count) h →
       (k : ℕ) → giveBack A ex last s h ≡ refused k → k ≡ 28
   unfolding giveBack giveFrom release
   give-refused {s} g h d some k e =
@@ -125,7 +112,7 @@ module _ (A : ℕ) (ex : ℕ → Bool) (last : ℕ) (s : Anodes) (z y : ℕ) whe
     λ n. elim (put-cases A ex last own s z y) [
       | first c ↦ absurd (n .0 .0 (c .0))
       | second c ↦ absurd (elim (n .0 .1) [ inl i ↦ true≢false (sym i ∙ c .1) | inr i ↦ i (c .2) ])
-      | third c ↦ c .2 ∙ none-append (n .1)
+      | third c ↦ c .1 ∙ none-append (n .1)
     ],
   )
 
@@ -167,13 +154,10 @@ module _ {A : ℕ} {ex : ℕ → Bool} {n last : ℕ} {s : Anodes} {system hd sd
   ])
     where
       empty : (a : ℕ) → hd a ≡ 1 → s .count a ≡ 0
-      empty a q = elim (same? a 0) [
-        | inl i ↦ ap (s .count) i ∙ g .fixed .count-0
-        | inr i ↦ elim (same? (s .block a) 0) [
-          | inl u ↦ g .present .free-none a u
-          | inr u ↦ firstFull-none (s .count) 0 (side A s (sd a)) (e (sd a) (on-side g a i u q)) a (omega (arith, on-own (cut-linked (g .linked)) (g .sides) a i u))
-        ]
-      ]
+      empty a q = not-above (s .count a) (λ p.
+          let a0 = full-0 g a p in
+          let u = full-used g a p in
+          omega (arith, p, firstFull-none (s .count) 0 (side A s (sd a)) (e (sd a) (on-side g a a0 u q)) a (omega (arith, on-own (cut-linked (g .linked)) (g .sides) a a0 u))))
 
   -- a take is refused with 27 exactly if no free block is left
   pub take-27-exactly : (own : Bool) (h : ℕ) → (takeBlock A ex last own s h ≡ refused 27) ↔ (blocks A hd (s .count) 1 ≡ 0)

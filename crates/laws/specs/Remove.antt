@@ -19,7 +19,7 @@ use Rattle.laws.specs.LinkChanges.{without, without-cases, without-other
 use Rattle.laws.specs.HeadChanges.{drop-head-was}
 use Rattle.laws.specs.Space.{Alike, alike-trans, Good, on-chain, dead-head, head-dead, dead-along, drop-good}
 use Rattle.laws.specs.Frame.{kept-count, apart-alike, apart-chain}
-use Rattle.laws.specs.Each.{Each, each-both, each-pair, each-right, each-less, each-zero}
+use Rattle.laws.specs.Each.{Each, Member, each-both, each-pair, member-each, each-less, each-zero}
 use Rattle.laws.specs.Items.{wrong, names-sum, namedIn, faults}
 use Rattle.laws.specs.Trees.{Tree}
 use Rattle.laws.specs.TreeChanges.{headed, tree-unnamed, Gain, sum-named, dir-there, remove-file, remove-dir, AlikeItems, alike-named, alike-tree}
@@ -163,7 +163,10 @@ module _ {ex : ℕ → Bool} {n last : ℕ} {s : Anodes} {system hd sd : ℕ →
       is-h : (itemOf s e) .anode ≡ h
       is-h = item-anode s e ∙ names-h
 
-      there : (l₁ : List Dir) × (l₂ : List Dir) × (dirs ≡ l₁ ++ (record { head = (itemOf s e) .anode; parent = h₀ } ∷ l₂))
+      c : Dir
+      c = record { head = (itemOf s e) .anode; parent = h₀ }
+
+      there : Member c dirs
       there = dir-there items between h₀ (itemOf s e) root dirs reached gains (w .tree) (item-dir s e ∙ isdir)
 
       l₁ : List Dir
@@ -172,15 +175,12 @@ module _ {ex : ℕ → Bool} {n last : ℕ} {s : Anodes} {system hd sd : ℕ →
       l₂ : List Dir
       l₂ = there .1
 
-      c : Dir
-      c = record { head = (itemOf s e) .anode; parent = h₀ }
-
       parted : dirs ≡ l₁ ++ (c ∷ l₂)
       parted = there .2
 
       none-in : items c ≡ []
       none-in = no-items entries marked s c
-          (each-right (λ d. faults items d ≡ 0) l₁ (c ∷ l₂) (subst (Each (λ d. faults items d ≡ 0)) parted (each-zero (faults items) dirs (w .tree .faultless))) .0) (rw is-h (empty isdir))
+          (member-each (λ d. faults items d ≡ 0) c dirs there (each-zero (faults items) dirs (w .tree .faultless))) (rw is-h (empty isdir))
 
       split : (f : Dir → ℕ) → sumList f dirs ≡ sumList f (l₁ ++ l₂) + f c
       split f = ap (sumList f) parted ∙ list-without f l₁ c l₂
@@ -189,7 +189,7 @@ module _ {ex : ℕ → Bool} {n last : ℕ} {s : Anodes} {system hd sd : ℕ →
       gone-named x = omega (
         arith,
         names-sum x (between c),
-        each-right (Gain between items h₀ (itemOf s e)) l₁ (c ∷ l₂) (subst (Each (Gain between items h₀ (itemOf s e))) parted gains) .0 (λ f b a. oneAt a x),
+        member-each (Gain between items h₀ (itemOf s e)) c dirs there gains (λ f b a. oneAt a x),
         ap (sumList (λ i. oneAt (i .anode) x)) none-in,
         list-nil {X = Item} (λ i. oneAt (i .anode) x),
       )

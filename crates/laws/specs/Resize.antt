@@ -3,9 +3,9 @@ use Prim.Native.Nat.{ℕ, zero, suc, _+_, _*_, _≤_}
 use mathlib.Core.Path.{_≡_, refl, sym, ap, _∙_}
 use mathlib.Core.Logic.{_≢_}
 use mathlib.Core.Bool.{Bool}
-use mathlib.Core.List.{List, [], _++_, map}
+use mathlib.Core.List.{List, [], _++_}
 use native.Mathlib.Omega.{arith}
-use Rattle.rules.specs.Counting.{oneAt, sumList, times}
+use Rattle.rules.specs.Counting.{oneAt, times}
 use Rattle.rules.specs.Anodes.{limit, Anodes}
 use Rattle.rules.specs.Walk.{Dir, Entered, blocksFor, itemsBy}
 use Rattle.rules.specs.Space.{Plan, planned, repeated, takeBlock, giveBack, takeMany, giveMany}
@@ -19,8 +19,8 @@ use Rattle.laws.specs.Moves.{Shift, shift-none, shift-trans, shift-swap,
 use Rattle.laws.specs.Plans.{repeated-none, repeated-done}
 use Rattle.laws.specs.Take.{take-good}
 use Rattle.laws.specs.Give.{give-good}
-use Rattle.laws.specs.Totals.{file-size}
-use Rattle.laws.specs.Whole.{Whole, blocks-count, file-head, change-file}
+use Rattle.laws.specs.Totals.{namedByFiles}
+use Rattle.laws.specs.Whole.{Whole, SizesChanged, blocks-count, file-head, change-file}
 
 -- from s to t by steps on the chain of h, which now has so many blocks: those of ys have gone from one head's chain to another's, and other chains are the same
 module _ (A : ℕ) (ex : ℕ → Bool) (n last : ℕ) where
@@ -93,11 +93,9 @@ module _ {A : ℕ} {ex : ℕ → Bool} {n last : ℕ} where
 
 -- a file resized leaves an accepted state: after the steps its chain has as many blocks as its entry's new size asks for
 pub resized : {ex : ℕ → Bool} {n last : ℕ} {s : Anodes} {system hd sd : ℕ → ℕ} {entries : ℕ → List Entered} {marked : Dir → ℕ → Bool} {dirs : List Dir} →
-    Whole ex n last s system hd sd entries marked dirs → (h : ℕ) → 1 ≤ sumList (λ d. sumList (file-size (λ x. oneAt x h)) (itemsBy entries marked s d)) dirs →
+    Whole ex n last s system hd sd entries marked dirs → (h : ℕ) → 1 ≤ namedByFiles (itemsBy entries marked s) h dirs →
     {from to size : ℕ} {ys : List ℕ} {t : Anodes} → (ran : Ran limit ex n last s system hd from to h size ys t) → (φ : Entered → Entered) (entries′ : ℕ → List Entered) (marked′ : Dir → ℕ → Bool) →
-    ((e : Entered) → (φ e .broken ≡ e .broken) × (φ e .dir ≡ e .dir) × (φ e .anode ≡ e .anode)) → ((e : Entered) → e .anode ≢ h → φ e .size ≡ e .size) →
-    ((e : Entered) → e .anode ≡ h → blocksFor (φ e .size) ≡ size) →
-    ((a : ℕ) → s .count a ≡ 1 → hd a ≢ 1 → hd a ≢ h → (entries′ (s .block a) ≡ map φ (entries (s .block a))) × ((d : Dir) → marked′ d (s .block a) ≡ marked d (s .block a))) →
+    SizesChanged s hd h φ entries entries′ marked marked′ → ((e : Entered) → e .anode ≡ h → blocksFor (φ e .size) ≡ size) →
     Whole ex n last t system (ran .hd′) (ran .sd′) entries′ marked′ dirs
-resized w h file ran φ entries′ marked′ keeps other mine cont =
-    change-file w h file (ran .good) (ran .shift) φ entries′ marked′ keeps other (λ e i. sym (blocks-count (ran .good) h (ran .shift .stays h (file-head w h file .2))) ∙ ran .has ∙ sym (mine e i)) cont
+resized w h file ran φ entries′ marked′ c mine =
+    change-file w h file (ran .good) (ran .shift) φ entries′ marked′ c (λ e i. sym (blocks-count (ran .good) h (ran .shift .stays h (file-head w h file .2))) ∙ ran .has ∙ sym (mine e i))

@@ -17,7 +17,11 @@ pub record FoundIn (count next : ℕ → ℕ) (a : ℕ) (l : List ℕ) (p q x : 
   pub on : 0 < times x l
   pub before : ((x ≡ a) × (q ≡ p)) ⊎ (next q ≡ x)
 
-pub nowhere≢found : (q x : ℕ) → nowhere ≡ found q x → ⊥
+-- one that is not a itself stands after q
+pub found-after : {count next : ℕ → ℕ} {a : ℕ} {l : List ℕ} {p q x : ℕ} → FoundIn count next a l p q x → x ≢ a → next q ≡ x
+found-after f n = elim (f .before) [ inl c ↦ absurd (n (c .0)) | inr c ↦ c ]
+
+nowhere≢found : (q x : ℕ) → nowhere ≡ found q x → ⊥
 nowhere≢found q x e = let z : _≡_ {A = ℕ} 0 1 = cc in omega arith
 
 pub one-found : (a b : Found) (p x : ℕ) → firstFound a b ≡ found p x → (a ≡ found p x) ⊎ (b ≡ found p x)

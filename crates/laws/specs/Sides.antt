@@ -3,10 +3,11 @@ use Prim.Native.Nat.{ℕ, _<_}
 use mathlib.Core.Path.{_≡_, sym, ap, _∙_}
 use mathlib.Core.Logic.{_≢_, _⊎_, inl, inr}
 use mathlib.Core.Bool.{Bool}
-use Rattle.rules.specs.Counting.{times}
+use Rattle.rules.specs.Counting.{times, lastOf}
 use Rattle.rules.specs.Anodes.{Anodes}
 use Rattle.rules.specs.Chains.{cut, side}
 use Rattle.laws.specs.Tests.{same?}
+use Rattle.laws.specs.Bags.{last-on}
 use Rattle.laws.specs.Segments.{Chain}
 use Rattle.laws.specs.Links.{Linked}
 use Rattle.laws.specs.Heads.{Head, chain-ind, head-chain, head-of-is, seg-head}
@@ -25,7 +26,7 @@ module _ {A : ℕ} {ex : ℕ → Bool} {n last : ℕ} {s : Anodes} {system hd sd
   head-of-1 = g .heads .at-head 1 (head-1 g)
 
   -- an anode has its side's head for head
-  pub side-head : (a : ℕ) → a ≢ 0 → s .block a ≢ 0 → hd a ≡ hd (sd a)
+  side-head : (a : ℕ) → a ≢ 0 → s .block a ≢ 0 → hd a ≡ hd (sd a)
   side-head = chain-ind ck (λ a. hd a ≡ hd (sd a))
       (λ a d. ap hd (sym (g .sides .at-head a d)))
       (λ a h q. elim (cut-cases (s .next) a) [
@@ -63,3 +64,17 @@ module _ {A : ℕ} {ex : ℕ → Bool} {n last : ℕ} {s : Anodes} {system hd sd
   side-sd m o x c =
       let d = side-start m o in
       seg-head ck (g .sides) m 0 (side A s m) (head-chain ck m d) x c ∙ g .sides .at-head m d
+
+  -- the last anode of a side is on it, and so in use and not 0
+  module _ (m : ℕ) (o : SideHead m) where
+    pub side-last : sd (lastOf m (side A s m)) ≡ m
+    side-last = elim (last-on m (side A s m)) [
+      | inl c ↦ ap sd c ∙ g .sides .at-head m (side-start m o)
+      | inr c ↦ side-sd m o (lastOf m (side A s m)) c
+    ]
+
+    pub side-last-used : s .block (lastOf m (side A s m)) ≢ 0
+    side-last-used q = side-start m o .pos (sym side-last ∙ g .sides .off (lastOf m (side A s m)) q)
+
+    pub side-last-0 : lastOf m (side A s m) ≢ 0
+    side-last-0 q = side-start m o .pos (sym side-last ∙ ap sd q ∙ g .sides .off-zero)

@@ -9,7 +9,7 @@ use Rattle.rules.specs.Counting.{times, changed}
 use Rattle.rules.specs.Anodes.{Anodes}
 use Rattle.rules.specs.Chains.{chainOf, covers, cut}
 use Rattle.rules.specs.Space.{rewritten, insertedAfter, unlinked, onChain, dropped}
-use Rattle.laws.specs.Tests.{same?, T-same}
+use Rattle.laws.specs.Tests.{same?, not-above, T-same}
 use Rattle.laws.specs.Sums.{oneAt-cases, oneAt-same, changed-cases, changed-same, changed-other}
 use Rattle.laws.specs.Ownership.{covers-none, EachOnce, own-same, move}
 use Rattle.laws.specs.Links.{Linked}
@@ -45,7 +45,7 @@ pub record FixedAnodes (s : Anodes) : Type 0 where
 abbrev pub FixedHead : ℕ → Type 0
 FixedHead m = (m ≡ 1) ⊎ ((m ≡ 3) ⊎ ((m ≡ 4) ⊎ (m ≡ 5)))
 
-pub fixed-low : (m : ℕ) → FixedHead m → (1 ≤ m) × (m < 6)
+fixed-low : (m : ℕ) → FixedHead m → (1 ≤ m) × (m < 6)
 fixed-low m (inl e) = (omega arith, omega arith)
 fixed-low m (inr (inl e)) = (omega arith, omega arith)
 fixed-low m (inr (inr (inl e))) = (omega arith, omega arith)
@@ -226,6 +226,10 @@ module _ {A : ℕ} {ex : ℕ → Bool} {n last : ℕ} {s : Anodes} {system hd sd
     | inr e ↦ absurd (omega (arith, p, times-on-chain (g .linked) (g .heads) m d a, e .1))
   ]
 
+  -- so a free anode does not stand on it
+  pub free-off : (m : ℕ) → Head (s .next) (s .block) m → (f : ℕ) → s .block f ≡ 0 → times f (chainOf (s .next) A m) ≡ 0
+  free-off m d f z = not-above (times f (chainOf (s .next) A m)) (λ p. on-chain m d f p .1 z)
+
   -- the chain of the head h, from 6 up and with no block, is dropped
   module _ (h : ℕ) (h6 : 6 ≤ h) (d : Head (s .next) (s .block) h) (none : (a : ℕ) → hd a ≡ h → s .count a ≡ 0) where
     abbrev dead : ℕ → Bool
@@ -272,18 +276,19 @@ module _ {A : ℕ} {ex : ℕ → Bool} {n last : ℕ} {s : Anodes} {system hd sd
       heads = drop-heads dead dead-along (g .heads);
       two-on = without-other dead hd 2 dead-2 ∙ g .two-on;
       sides = rw (cut-drop (s .next) dead) at (drop-heads dead cut-along (g .sides));
-      high = λ a q. elim (without-cases dead sd a) [
-        | inl e ↦ absurd (omega (arith, q, e .1))
-        | inr e ↦ rw (without-other dead (s .count) a (e .0), without-other dead (s .block) a (e .0)) (g .high a (sym (e .1) ∙ q))
-      ];
-      low = λ a q. elim (without-cases dead sd a) [
-        | inl e ↦ absurd (omega (arith, q, e .1))
-        | inr e ↦ rw (without-other dead (s .count) a (e .0), without-other dead (s .block) a (e .0)) (g .low a (sym (e .1) ∙ q))
-      ];
+      high = side-left (λ c b. 0 < c → last < b) 1 (omega arith) (g .high);
+      low = side-left (λ c b. 0 < c → b + c ≤ suc last) 2 (omega arith) (g .low);
     }
       where
         cut-along : (a : ℕ) → cut (s .next) a ≢ 0 → dead (cut (s .next) a) ≡ dead a
         cut-along a q = elim (cut-cases (s .next) a) [ inl c ↦ absurd (q (c .1)) | inr c ↦ rw (c .1) (dead-along a (rw (c .1) at q)) ]
+
+        -- what holds of every extent of the side m still does
+        side-left : (P : ℕ → ℕ → Type 0) (m : ℕ) → m ≢ 0 → ((a : ℕ) → sd a ≡ m → P (s .count a) (s .block a)) → (a : ℕ) → without dead sd a ≡ m → P (without dead (s .count) a) (without dead (s .block) a)
+        side-left P m m0 was a q = elim (without-cases dead sd a) [
+          | inl e ↦ absurd (m0 (sym q ∙ e .1))
+          | inr e ↦ rw (without-other dead (s .count) a (e .0), without-other dead (s .block) a (e .0)) (was a (sym (e .1) ∙ q))
+        ]
 
         live : (a m : ℕ) → hd a ≡ m → m < 6 → T (dead a) → ⊥
         live a m e l t = omega (arith, dead-head a t)

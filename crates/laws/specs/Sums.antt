@@ -6,7 +6,7 @@ use mathlib.Core.Bool.{Bool, cond}
 use native.Mathlib.Omega.{arith}
 use lib.Dec.{T, ltb, leb→le, le→leb}
 use Rattle.rules.specs.Counting.{oneAt, sumBelow, least, changed}
-use Rattle.laws.specs.Tests.{same?, less?, cond-cases, eqb-cases}
+use Rattle.laws.specs.Tests.{same?, less?, not-above, cond-cases, eqb-cases}
 
 pub oneAt-cases : (a b : ℕ) → ((a ≡ b) × (oneAt a b ≡ 1)) ⊎ ((a ≢ b) × (oneAt a b ≡ 0))
 unfolding oneAt
@@ -113,6 +113,12 @@ unfolding sumBelow
 sum-scale f c zero = omega arith
 sum-scale f c (suc k) = omega (arith, sum-scale f c k)
 
+-- a factor of each term, taken out
+pub sum-factor : (f g : ℕ → ℕ) (c k : ℕ) → sumBelow (λ i. f i * (g i * c)) k ≡ sumBelow (λ i. f i * g i) k * c
+unfolding sumBelow
+sum-factor f g c zero = omega arith
+sum-factor f g c (suc k) = omega (arith, sum-factor f g c k)
+
 pub sum-swap : (f : ℕ → ℕ → ℕ) (m k : ℕ) → sumBelow (λ i. sumBelow (f i) k) m ≡ sumBelow (λ j. sumBelow (λ i. f i j) m) k
 unfolding sumBelow
 sum-swap f zero k = sym (sum-zero (λ j. 0) k (λ i l. refl))
@@ -197,7 +203,7 @@ sum-le-one f k small once = elim (less? 0 (sumBelow f k)) [
 ]
   where
     others : (i : ℕ) → i < k → 0 < f i → (j : ℕ) → j < k → j ≢ i → f j ≡ 0
-    others i li p j l ne = elim (less? 0 (f j)) [ inl q ↦ absurd (ne (once j i l li q p)) | inr q ↦ omega arith ]
+    others i li p j l ne = not-above (f j) (λ q. ne (once j i l li q p))
 
 -- the one term that is picked
 pub sum-pick : (f : ℕ → ℕ) (j k : ℕ) → j < k → sumBelow (λ x. oneAt j x * f x) k ≡ f j

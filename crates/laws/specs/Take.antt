@@ -13,11 +13,11 @@ use Rattle.laws.specs.Ownership.{hand}
 use Rattle.laws.specs.Heads.{Head}
 use Rattle.laws.specs.Cut.{cut-cases}
 use Rattle.laws.specs.Space.{Good}
-use Rattle.laws.specs.Owners.{last-head, last-used, last-0}
+use Rattle.laws.specs.Owners.{full-used, full-inside, full-0, full-1, last-head, last-used, last-0}
 use Rattle.laws.specs.Sides.{SideHead, head-of-1, side-free, side-sd}
 use Rattle.laws.specs.Searches.{FoundIn}
 use Rattle.laws.specs.Moves.{InHand, Placed, Moved, moved-by}
-use Rattle.laws.specs.Leaving.{first-gone, full-used, full-inside, full-0, full-1, withoutBlock-out}
+use Rattle.laws.specs.Leaving.{first-gone, withoutBlock-out}
 use Rattle.laws.specs.FreeExtent.{extent-found, take-cases}
 use Rattle.laws.specs.Plans.{refused≢planned}
 use Rattle.laws.specs.Arriving.{put-placed}

@@ -10,17 +10,15 @@ use Rattle.rules.specs.Counting.{gather, lastOf}
 use Rattle.rules.specs.Anodes.{Anodes, limit}
 use Rattle.rules.specs.Chains.{chainOf, run, blocksOf}
 use Rattle.rules.specs.Space.{planned, rewritten, insertedAfter, lowestFree, put, takeBlock, takeMany}
-use Rattle.laws.specs.Sums.{changed-same, changed-other}
 use Rattle.laws.specs.Bags.{times-nil, gather-append, gather-off, gather-last}
 use Rattle.laws.specs.Segments.{chain-end}
-use Rattle.laws.specs.Links.{the-chain, seg-used}
 use Rattle.laws.specs.LinkChanges.{first, second, third}
-use Rattle.laws.specs.Heads.{Head}
-use Rattle.laws.specs.Space.{Good}
+use Rattle.laws.specs.Heads.{Head, head-chain}
+use Rattle.laws.specs.Space.{Good, free-off}
 use Rattle.laws.specs.Plans.{refused≢planned, planned-same, repeated-none, repeated-done}
 use Rattle.laws.specs.Arriving.{free-is, append-cases, put-cases}
 use Rattle.laws.specs.Take.{take-steps, take-good}
-use Rattle.laws.specs.ChainBlocks.{extent, blocksOf-extents, extent-filled, extent-longer, shift-blocks, stands-once, appended-chain}
+use Rattle.laws.specs.ChainBlocks.{extent, extent-here, extent-other, blocksOf-extents, extent-filled, extent-longer, shift-blocks, stands-once, appended-chain}
 
 -- ---- into the taker's chain
 
@@ -29,28 +27,26 @@ module _ {ex : ℕ → Bool} {n last : ℕ} {s : Anodes} {system hd sd : ℕ →
   end = lastOf h (chainOf (s .next) limit h)
 
   split : (pre : List ℕ) × (chainOf (s .next) limit h ≡ pre ++ (end ∷ []))
-  split = chain-end (s .next) h (chainOf (s .next) limit h) (d .pos) (the-chain (g .linked) h (λ q. d .in-use))
+  split = chain-end (s .next) h (chainOf (s .next) limit h) (d .pos) (head-chain (g .linked) h d)
 
   -- the last anode gains the block
   gained : (c b : ℕ) → run b c ≡ extent s end ++ (y ∷ []) → blocksOf (rewritten s end c b) h ≡ blocksOf s h ++ (y ∷ [])
-  unfolding rewritten extent gather
+  unfolding rewritten gather
   gained c b more =
       blocksOf-extents (rewritten s end c b) h ∙ ap (gather (extent (rewritten s end c b))) (split .1)
-      ∙ gather-last (extent (rewritten s end c b)) (extent s) (split .0) [] end y
-      (λ a i. rw (changed-other (s .count) end c a i, changed-other (s .block) end b a i)) (stands-once g h d end (split .0) [] (split .1) .0) (times-nil end) refl
-      (rw (changed-same (s .count) end c, changed-same (s .block) end b) more)
+      ∙ gather-last (extent (rewritten s end c b)) (extent s) (split .0) [] end y (λ a i. sym (extent-other s (rewritten s end c b) end c b refl refl a i))
+      (stands-once g h d end (split .0) [] (split .1) .0) (times-nil end) refl (extent-here s (rewritten s end c b) end c b refl refl ∙ more)
       ∙ ap (λ (l : List ℕ). l ++ (y ∷ [])) (sym (blocksOf-extents s h ∙ ap (gather (extent s)) (split .1)))
 
   -- or a fresh anode after it has the block
   appended : (f : ℕ) → f < limit → 6 ≤ f → s .block f ≡ 0 → blocksOf (insertedAfter s end f 1 y) h ≡ blocksOf s h ++ (y ∷ [])
-  unfolding insertedAfter extent gather run
+  unfolding insertedAfter gather run
   appended f fA f6 fresh =
       let t = insertedAfter s end f 1 y in
       let l = chainOf (s .next) limit h in
       let chain : chainOf (t .next) limit h ≡ l ++ (f ∷ []) = appended-chain g h d f 1 y (omega arith) fresh fA y0 in
-      let same : gather (extent t) l ≡ gather (extent s) l = gather-off (extent s) (extent t) f (λ a i. rw (changed-other (s .count) f 1 a i, changed-other (s .block) f y a i)) l
-      (seg-used (g .linked) h 0 l f (λ q. d .in-use) (the-chain (g .linked) h (λ q. d .in-use)) fresh) in
-      let new : extent t f ≡ y ∷ [] = rw (changed-same (s .count) f 1, changed-same (s .block) f y) in
+      let same : gather (extent t) l ≡ gather (extent s) l = gather-off (extent s) (extent t) f (extent-other s t f 1 y refl refl) l (free-off g h d f fresh) in
+      let new : extent t f ≡ y ∷ [] = extent-here s t f 1 y refl refl in
       blocksOf-extents t h ∙ ap (gather (extent t)) chain ∙ gather-append (extent t) l (f ∷ [])
       ∙ ap (λ (k : List ℕ). k ++ (extent t f ++ [])) same ∙ ap (λ (k : List ℕ). gather (extent s) l ++ (k ++ [])) new ∙ ap (λ (k : List ℕ). k ++ (y ∷ [])) (sym (blocksOf-extents s h))
 
@@ -60,8 +56,8 @@ module _ {ex : ℕ → Bool} {n last : ℕ} {s : Anodes} {system hd sd : ℕ →
     | second c ↦ by (rewritten s end (s .count end + 1) (s .block end)) (sym (c .3) ∙ e) (gained (s .count end + 1) (s .block end) (extent-longer s end y (c .2)))
     | third c ↦ elim (append-cases limit ex last s end y) [
       | inl f ↦ (let i = free-is limit ex last s (lowestFree limit ex last s) (f .1) in
-          by (insertedAfter s end (lowestFree limit ex last s) 1 y) (sym (f .2) ∙ sym (c .2) ∙ e) (appended (lowestFree limit ex last s) (f .0) (i .0) (i .1)))
-      | inr f ↦ absurd (refused≢planned 28 t ys (sym (f .0) ∙ sym (c .2) ∙ e))
+          by (insertedAfter s end (lowestFree limit ex last s) 1 y) (sym (f .2) ∙ sym (c .1) ∙ e) (appended (lowestFree limit ex last s) (f .0) (i .0) (i .1)))
+      | inr f ↦ absurd (refused≢planned 28 t ys (sym (f .0) ∙ sym (c .1) ∙ e))
     ]
   ]
     where

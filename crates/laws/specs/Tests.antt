@@ -4,11 +4,15 @@ use mathlib.Core.Path.{_≡_, refl}
 use mathlib.Core.Logic.{_≢_, _⊎_, inl, inr}
 use mathlib.Core.Bool.{Bool, true, false, cond, not, _&&_, _||_}
 use native.Mathlib.Omega.{arith}
-use lib.Dec.{T, eqb, eqb-refl, eqb→eq}
+use lib.Dec.{T, eqb, leb, eqb-refl, eqb→eq, leb→le, le→leb}
 use borrow.Author.Tests.{eq-eqb, ne-eqb}
 use Rattle.rules.specs.Counting.{_if_else_, firstOf, anyBelow}
 use Rattle.counting.specs.Laws.{anyBelow-hit}
 pub use Rattle.endian.proofs.Laws.{same?, less?}
+
+-- what is not above 0 is 0
+pub not-above : (n : ℕ) → (0 < n → ⊥) → n ≡ 0
+not-above n h = elim (less? 0 n) [ inl p ↦ absurd (h p) | inr p ↦ omega arith ]
 
 pub cond-cases {ℓ} : {A : Type ℓ} (t : Bool) (x y : A) → (T t × (cond t x y ≡ x)) ⊎ ((T t → ⊥) × (cond t x y ≡ y))
 cond-cases true x y = inl (tt, refl)
@@ -40,6 +44,13 @@ both false b h = absurd h
 pub and : (a b : Bool) → T a → T b → T (a && b)
 and true b p q = q
 and false b p q = p
+
+-- 0 where a is from k up and m is 1, else c
+pub tested-from : (k a m c : ℕ) → ((k ≤ a) × (m ≡ 1) × (cond (leb k a && eqb m 1) 0 c ≡ 0)) ⊎ ((k ≤ a → m ≡ 1 → ⊥) × (cond (leb k a && eqb m 1) 0 c ≡ c))
+tested-from k a m c = elim (cond-cases {A = ℕ} (leb k a && eqb m 1) 0 c) [
+  | inl h ↦ (let p = both (leb k a) (eqb m 1) (h .0) in inl (leb→le k a (p .0), eqb→eq m 1 (p .1), h .1))
+  | inr h ↦ inr (λ l e. h .0 (and (leb k a) (eqb m 1) (le→leb k a l) (eq→eqb m 1 e)), h .1)
+]
 
 pub either : (a b : Bool) → T (a || b) → T a ⊎ T b
 either true b h = inl tt

@@ -3,12 +3,12 @@ use Prim.Native.Nat.{ℕ, zero, suc, _+_, _*_, _≤_, _<_}
 use mathlib.Core.Path.{_≡_, refl, sym, ap, _∙_}
 use mathlib.Core.Logic.{inl, inr}
 use mathlib.Core.Bool.{Bool, true, false, cond}
-use mathlib.Core.List.{List, [], _∷_}
+use mathlib.Core.List.{List}
 use native.Mathlib.Omega.{arith}
 use Rattle.rules.specs.Counting.{oneAt, sumBelow, sumList, times}
 use Rattle.rules.specs.Anodes.{Anodes}
 use Rattle.rules.specs.Walk.{Dir, Item}
-use Rattle.laws.specs.Tests.{less?}
+use Rattle.laws.specs.Tests.{less?, not-above}
 use Rattle.laws.specs.Sums.{oneAt-other, sum-congr, sum-add, sum-at}
 use Rattle.laws.specs.Bags.{list-add, list-congr, list-scale, list-swap, map-sum, sum-by-times}
 use Rattle.laws.specs.Ownership.{total}
@@ -16,7 +16,7 @@ use Rattle.laws.specs.Heads.{Head}
 use Rattle.laws.specs.Blocks.{blocks, blocks-all}
 use Rattle.laws.specs.Space.{Good}
 use Rattle.laws.specs.Owners.{hd-below, blocks-none}
-use Rattle.laws.specs.Each.{Each, list-congr-each, each-none}
+use Rattle.laws.specs.Each.{each-map, list-congr-each, each-none}
 use Rattle.laws.specs.Items.{names, giving, below, namedIn, below-items}
 use Rattle.laws.specs.Trees.{Tree}
 
@@ -42,9 +42,13 @@ by-kind items f dirs =
     list-congr (λ d. sumList f (names (items d))) (λ d. sumList (file-size f) (items d) + below items (λ e. f (e .head)) d) dirs (names-parts items f)
     ∙ list-add (λ d. sumList (file-size f) (items d)) (below items (λ e. f (e .head))) dirs
 
+-- how often files name an anode
+abbrev pub namedByFiles : (Dir → List Item) → ℕ → List Dir → ℕ
+namedByFiles items h dirs = sumList (λ d. sumList (file-size (λ x. oneAt x h)) (items d)) dirs
+
 -- an anode is named by files and by directories
 pub named-by-kind : (items : Dir → List Item) (h : ℕ) (dirs : List Dir) →
-    sumList (namedIn items h) dirs ≡ sumList (λ d. sumList (file-size (λ x. oneAt x h)) (items d)) dirs + sumList (below items (λ e. oneAt (e .head) h)) dirs
+    sumList (namedIn items h) dirs ≡ namedByFiles items h dirs + sumList (below items (λ e. oneAt (e .head) h)) dirs
 unfolding times
 named-by-kind items h dirs = by-kind items (λ x. oneAt x h) dirs
 
@@ -72,7 +76,7 @@ module _ {A : ℕ} {ex : ℕ → Bool} {n last : ℕ} {s : Anodes} {system hd sd
   by-name x = namings x * f x + (oneAt 1 x * f 1 + oneAt 3 x * f 3 + oneAt 4 x * f 4 + oneAt 5 x * f 5)
 
   low-unnamed : (x : ℕ) → x < 6 → namings x ≡ 0
-  low-unnamed x l = elim (less? 0 (namings x)) [ inl p ↦ absurd (omega (arith, names-heads x p .0)) | inr p ↦ omega arith ]
+  low-unnamed x l = not-above (namings x) (λ p. omega (arith, names-heads x p .0))
 
   high : (x : ℕ) → 6 ≤ x → f x ≡ by-name x
   unfolding f
@@ -115,16 +119,13 @@ module _ {A : ℕ} {ex : ℕ → Bool} {n last : ℕ} {s : Anodes} {system hd sd
 
   by-dirs : sumBelow (λ x. namings x * f x) A ≡ sumList (λ d. sumList f (names (items d))) dirs
   by-dirs = sym (
-      list-congr-each (λ d. sumList f (names (items d))) (λ d. sumBelow (λ x. namedIn items x d * f x) A) dirs (at-each dirs (each-none (namedIn items) (λ x. A ≤ x) dirs high-none))
+      list-congr-each (λ d. sumList f (names (items d))) (λ d. sumBelow (λ x. namedIn items x d * f x) A) dirs (each-map (λ d. (x : ℕ) → A ≤ x → namedIn items x d ≡ 0) (λ d. sumList f (names (items d)) ≡ sumBelow (λ x. namedIn items x d * f x) A) dirs
+      (λ d e. sum-by-times f (names (items d)) A e) (each-none (namedIn items) (λ x. A ≤ x) dirs high-none))
       ∙ list-swap (λ d x. namedIn items x d * f x) dirs A
       ∙ sum-congr (λ x. sumList (λ d. namedIn items x d * f x) dirs) (λ x. namings x * f x) A (λ x l. list-scale (namedIn items x) (f x) dirs))
     where
       high-none : (x : ℕ) → A ≤ x → namings x ≡ 0
-      high-none x l = elim (less? 0 (namings x)) [ inl p ↦ absurd (omega (arith, names-heads x p .1)) | inr p ↦ omega arith ]
-
-      at-each : (l : List Dir) → Each (λ d. (x : ℕ) → A ≤ x → namedIn items x d ≡ 0) l → Each (λ d. sumList f (names (items d)) ≡ sumBelow (λ x. namedIn items x d * f x) A) l
-      at-each [] e = tt
-      at-each (d ∷ l) e = (sum-by-times f (names (items d)) A (e .0), at-each l (e .1))
+      high-none x l = not-above (namings x) (λ p. omega (arith, names-heads x p .1))
 
   -- the sum
   pub tree-total : sumBelow system n + (blocks A hd (s .count) 1 + filesOf items (blocks A hd (s .count)) dirs + dirsOf (blocks A hd (s .count)) dirs + blocks A hd (s .count) 3 + blocks A hd (s .count) 4) ≡ n

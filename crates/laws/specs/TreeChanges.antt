@@ -9,7 +9,7 @@ use Rattle.rules.specs.Counting.{oneAt, sumList, times, changed}
 use Rattle.rules.specs.Walk.{Dir, Item}
 use Rattle.laws.specs.Sums.{oneAt-cases, oneAt-same, oneAt-some, oneAt-other, oneBelow, oneBelow-none, oneBelow-suc, changed-same, changed-other}
 use Rattle.laws.specs.Bags.{list-nil, list-cons, list-without, list-some, list-add, list-gain, list-mono, list-congr-where, list-zero}
-use Rattle.laws.specs.Each.{Each, each-map, each-both, each-right, list-congr-each, list-mono-each, each-zero}
+use Rattle.laws.specs.Each.{Each, Member, each-map, each-both, member-each, list-congr-each, list-mono-each, each-zero}
 use Rattle.laws.specs.Items.{wrong, weighItem, names, names-sum, giving, subs, below, namedIn, faults, below-items, subs-named}
 use Rattle.laws.specs.Trees.{not-lower, lowering, Tree}
 
@@ -31,6 +31,11 @@ nothing-below items w d empty = below-items items w d ∙ ap (sumList (giving w 
 -- how many have the head h
 unfoldable pub headed : ℕ → List Dir → ℕ
 headed h l = sumList (λ d. oneAt (d .head) h) l
+
+-- one of them is a member
+pub headed-member : (h : ℕ) (l : List Dir) → 0 < headed h l → (d : Dir) × Member d l × (d .head ≡ h)
+unfolding headed
+headed-member h l p = let (d, m, q) = list-some (λ d. oneAt (d .head) h) l p in (d, m, oneAt-some (d .head) h q)
 
 pub none-headed : (h : ℕ) (l : List Dir) → sumList (λ d. oneAt (d .head) h) l ≡ 0 → Each (λ d. d .head ≢ h) l
 none-headed h l z = each-map (λ d. oneAt (d .head) h ≡ 0) (λ d. d .head ≢ h) l (λ d y e. omega (arith, y, oneAt-same (d .head) h e)) (each-zero (λ d. oneAt (d .head) h) l z)
@@ -163,13 +168,12 @@ module _ (items items′ : Dir → List Item) (h : ℕ) (i : Item) where
 
 -- ---- a directory loses an item: under items it has what it has under items′, and i too
 
--- a member of a list, and the list parted there
-pub find-dir : (x p : ℕ) (l : List Dir) → 0 < sumList (λ d. oneAt (d .head) x * oneAt (d .parent) p) l →
-    (l₁ : List Dir) × (l₂ : List Dir) × (l ≡ l₁ ++ (record { head = x; parent = p } ∷ l₂))
+-- a directory by its head and its parent
+find-dir : (x p : ℕ) (l : List Dir) → 0 < sumList (λ d. oneAt (d .head) x * oneAt (d .parent) p) l → Member (record { head = x; parent = p }) l
 find-dir x p l h =
-    let r = list-some (λ d. oneAt (d .head) x * oneAt (d .parent) p) l h in
-    let is = both (r .0) (r .4) in
-    (r .1, r .2, r .3 ∙ ap (λ (e : Dir). r .1 ++ (e ∷ r .2)) (λ j. record { head = is .0 j; parent = is .1 j }))
+    let (d, (l₁, l₂, parted), q) = list-some (λ d. oneAt (d .head) x * oneAt (d .parent) p) l h in
+    let is = both d q in
+    (l₁, l₂, parted ∙ ap (λ (e : Dir). l₁ ++ (e ∷ l₂)) (λ j. record { head = is .0 j; parent = is .1 j }))
   where
     both : (d : Dir) → 0 < oneAt (d .head) x * oneAt (d .parent) p → (d .head ≡ x) × (d .parent ≡ p)
     both d q = elim (oneAt-cases (d .head) x) [
@@ -179,8 +183,7 @@ find-dir x p l h =
 
 module _ (items items′ : Dir → List Item) (h : ℕ) (i : Item) (top : Dir) where
   -- what the item names is in the tree
-  pub dir-there : (dirs : List Dir) → headed h dirs ≡ 1 → Each (Gain items′ items h i) dirs → Tree items top dirs → i .dir ≡ true →
-      (l₁ : List Dir) × (l₂ : List Dir) × (dirs ≡ l₁ ++ (record { head = i .anode; parent = h } ∷ l₂))
+  pub dir-there : (dirs : List Dir) → headed h dirs ≡ 1 → Each (Gain items′ items h i) dirs → Tree items top dirs → i .dir ≡ true → Member (record { head = i .anode; parent = h }) dirs
   dir-there dirs one gains t isdir =
       find-dir (i .anode) h dirs (omega (arith, t .exact w, sum-below items′ items h i dirs one gains w, given))
     where
@@ -230,7 +233,7 @@ module _ (items items′ : Dir → List Item) (h : ℕ) (i : Item) (top : Dir) w
       split w = list-without w l₁ e l₂
 
       below-e : (w : Dir → ℕ) → below items′ w e ≡ 0
-      below-e w = omega (arith, less-below w e (each-right (Gain items′ items h i) l₁ (e ∷ l₂) gains .0), nothing-below items w e empty)
+      below-e w = omega (arith, less-below w e (member-each (Gain items′ items h i) e dirs (l₁, l₂, refl) gains), nothing-below items w e empty)
 
 -- ---- the items stay, but for the numbers of their faults: a size changes
 

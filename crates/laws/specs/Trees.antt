@@ -7,7 +7,7 @@ use native.Mathlib.Omega.{arith}
 use lib.ListN.{length}
 use Rattle.rules.specs.Counting.{oneAt, sumBelow, sumList, times, changed}
 use Rattle.rules.specs.Walk.{Dir, Item, done, walk}
-use Rattle.laws.specs.Tests.{less?}
+use Rattle.laws.specs.Tests.{not-above}
 use Rattle.laws.specs.Sums.{oneAt-cases, oneAt-same, oneBelow, oneBelow-cases, oneBelow-none, oneBelow-suc, changed-same, changed-other, sum-congr, sum-mono, sum-const, sum-add, sum-oneAt}
 use Rattle.laws.specs.Bags.{list-nil, list-cons, list-append, list-one, list-add, list-mono, list-mono-where, list-congr-where, list-zero, list-length, list-swap, times-nil, sum-by-times}
 use Rattle.laws.specs.Items.{names, subs, below, namedIn, faults, subs-named, subs-few}
@@ -17,7 +17,7 @@ use Rattle.laws.specs.Walks.{namedAfter, times-namedAfter, Order, walk-f
 unfoldable pub not-lower : (ℕ → ℕ) → ℕ → Dir → ℕ
 not-lower height h e = oneBelow h (suc (height (e .head)))
 
-pub lower-is : (height : ℕ → ℕ) (h : ℕ) (e : Dir) → not-lower height h e ≡ 0 → height (e .head) < h
+lower-is : (height : ℕ → ℕ) (h : ℕ) (e : Dir) → not-lower height h e ≡ 0 → height (e .head) < h
 unfolding not-lower
 lower-is height h e z = elim (oneBelow-cases h (suc (height (e .head)))) [ inl c ↦ absurd (omega arith) | inr c ↦ c .0 ]
 
@@ -35,7 +35,7 @@ module _ (items : Dir → List Item) where
   lowering height d = below items (not-lower height (height (d .head))) d
 
   -- where no two of the directories have one head, the order in which they are taken gives heights
-  pub order-heights : (Q q : List Dir) → Order items q Q → ((x : ℕ) → sumList (λ d. oneAt (d .head) x) Q ≤ 1) → (height : ℕ → ℕ) × (sumList (lowering height) Q ≡ 0)
+  order-heights : (Q q : List Dir) → Order items q Q → ((x : ℕ) → sumList (λ d. oneAt (d .head) x) Q ≤ 1) → (height : ℕ → ℕ) × (sumList (lowering height) Q ≡ 0)
   unfolding not-lower
   order-heights [] q r h = ((λ x. 0), list-nil (lowering (λ x. 0)))
   order-heights (d ∷ Q) q r h = go (order-heights Q (r .0 ++ subs items d) (r .2) (λ x. omega (arith, h x, list-cons (λ d. oneAt (d .head) x) d Q)))
@@ -95,7 +95,7 @@ module _ (items : Dir → List Item) where
 
     -- ---- a tree is walked through
 
-    pub walk-runs : (dirs : List Dir) → Tree dirs → (k : ℕ) (P q : List Dir) (s : List ℕ) → ((w : Dir → ℕ) → sumList w P + sumList w q ≡ w top + sumList (below items w) P) →
+    walk-runs : (dirs : List Dir) → Tree dirs → (k : ℕ) (P q : List Dir) (s : List ℕ) → ((w : Dir → ℕ) → sumList w P + sumList w q ≡ w top + sumList (below items w) P) →
         ((w : Dir → ℕ) → sumList w P + sumList w q ≤ sumList w dirs) → ((x : ℕ) → times x s ≡ sumList (namedIn items x) P) → length dirs ≤ k + length P →
         (Q : List Dir) × (walk items k q s ≡ done Q)
     unfolding walk
@@ -118,12 +118,12 @@ module _ (items : Dir → List Item) where
 
     -- ---- two trees of one top are one bag
 
-    unfoldable pub level : ℕ → (Dir → ℕ) → Dir → ℕ
+    unfoldable level : ℕ → (Dir → ℕ) → Dir → ℕ
     level zero w d = w d
     level (suc k) w d = below items (level k w) d
 
     -- the levels one after another
-    pub levels : (dirs : List Dir) → Exact dirs → (w : Dir → ℕ) (k : ℕ) →
+    levels : (dirs : List Dir) → Exact dirs → (w : Dir → ℕ) (k : ℕ) →
         sumList w dirs ≡ sumBelow (λ i. level i w top) k + sumList (level k w) dirs
     unfolding level sumBelow
     levels dirs e w zero = omega arith
@@ -153,7 +153,7 @@ module _ (items : Dir → List Item) where
               ]
 
       -- so the levels of any other list that is the top one and what it names hold this one
-      pub tree-within : (others : List Dir) → Exact others → sumList w dirs ≤ sumList w others
+      tree-within : (others : List Dir) → Exact others → sumList w dirs ≤ sumList w others
       unfolding deep
       tree-within others e =
           let K : ℕ = sumList (λ d. t .height (d .head)) dirs in
@@ -182,8 +182,8 @@ module _ (items : Dir → List Item) where
       top-unnamed dirs z x h = omega (arith, list-mono-where (faults items) (namedIn items x) (λ d. 0) dirs z (λ d g. none d g h), list-zero {X = Dir} (λ d. 0) dirs (λ d. refl))
         where
           none : (d : Dir) → (faults items) d ≡ 0 → (x ≡ top .head) ⊎ (A ≤ x) → namedIn items x d ≤ 0
-          none d g (inl e) = elim (less? 0 (namedIn items x d)) [ inl p ↦ absurd (range d x g p .0 e) | inr p ↦ p ]
-          none d g (inr e) = elim (less? 0 (namedIn items x d)) [ inl p ↦ absurd (omega (arith, range d x g p .1)) | inr p ↦ p ]
+          none d g (inl e) = omega (arith, not-above (namedIn items x d) (λ p. range d x g p .0 e))
+          none d g (inr e) = omega (arith, not-above (namedIn items x d) (λ p. omega (arith, range d x g p .1)))
 
       -- no two directories of the tree have one head
       pub heads-once : (dirs : List Dir) → Exact dirs → sumList (faults items) dirs ≡ 0 → ((x : ℕ) → sumList (namedIn items x) dirs ≤ 1) →
@@ -203,7 +203,7 @@ module _ (items : Dir → List Item) where
           record { exact = exact; faultless = f .faultless; once = once; height = h .0; lower = h .1 }
 
       -- a tree has at most A directories
-      pub tree-short : (dirs : List Dir) → Tree dirs → length dirs ≤ A
+      tree-short : (dirs : List Dir) → Tree dirs → length dirs ≤ A
       tree-short dirs t =
           omega (
             arith,
@@ -226,7 +226,7 @@ module _ (items : Dir → List Item) where
           )
             where
               high : (x : ℕ) → A ≤ x → namedIn items x d ≡ 0
-              high x l = elim (less? 0 (namedIn items x d)) [ inl p ↦ absurd (omega (arith, range d x g p .1)) | inr p ↦ omega arith ]
+              high x l = not-above (namedIn items x d) (λ p. omega (arith, range d x g p .1))
 
           each : (x : ℕ) → sumList (namedIn items x) dirs + oneAt (top .head) x ≤ 1
           each x = elim (oneAt-cases (top .head) x) [

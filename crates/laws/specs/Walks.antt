@@ -20,14 +20,14 @@ unfoldable pub namedAfter : List Item → List ℕ → List ℕ
 namedAfter [] s = s
 namedAfter (i ∷ is) s = namedAfter is (i .anode ∷ s)
 
-pub fault-none : (i : Item) (s : List ℕ) → faultOf i s ≡ 0 → (wrong i ≡ 0) × (times (i .anode) s ≡ 0)
+fault-none : (i : Item) (s : List ℕ) → faultOf i s ≡ 0 → (wrong i ≡ 0) × (times (i .anode) s ≡ 0)
 unfolding faultOf wrong
 fault-none i s h =
     let f = firstOf-zero (i .early) (14 if leb 1 (times (i .anode) s) else i .late) h in
     let late = if-zero 14 (leb 1 (times (i .anode) s)) (i .late) (omega arith) (f .1) in
     (omega (arith, f .0, late .1), omega (arith, leb-false 1 (times (i .anode) s) (late .0)))
 
-pub none-fault : (i : Item) (s : List ℕ) → wrong i ≡ 0 → times (i .anode) s ≡ 0 → faultOf i s ≡ 0
+none-fault : (i : Item) (s : List ℕ) → wrong i ≡ 0 → times (i .anode) s ≡ 0 → faultOf i s ≡ 0
 unfolding faultOf firstOf wrong
 none-fault i s w c =
     let e : i .early ≡ 0 = omega arith in
@@ -51,7 +51,7 @@ times-namedAfter x [] s = omega (arith, times-nil x)
 times-namedAfter x (i ∷ is) s = omega (arith, times-namedAfter x is (i .anode ∷ s), times-cons x (i .anode) s, times-cons x (i .anode) (names is))
 
 -- where nothing is wrong and no anode is named twice, the scan goes through
-pub scan-runs : (d : Dir) (is : List Item) (q : List Dir) (s : List ℕ) → sumList wrong is ≡ 0 → ((x : ℕ) → times x s + times x (names is) ≤ 1) →
+scan-runs : (d : Dir) (is : List Item) (q : List Dir) (s : List ℕ) → sumList wrong is ≡ 0 → ((x : ℕ) → times x s + times x (names is) ≤ 1) →
     scan d is q s ≡ fine (q ++ gather (subDirs d) is) (namedAfter is s)
 unfolding gather namedAfter scan
 scan-runs d [] q s w o = rw append-nil
@@ -68,7 +68,7 @@ pub record ScanFound (d : Dir) (is : List Item) (q : List Dir) (s : List ℕ) (q
   pub faultless : sumList wrong is ≡ 0
   pub once : (x : ℕ) → times x s ≤ 1 → times x s′ ≤ 1
 
-pub scan-found : (d : Dir) (is : List Item) (q : List Dir) (s : List ℕ) (q′ : List Dir) (s′ : List ℕ) → scan d is q s ≡ fine q′ s′ → ScanFound d is q s q′ s′
+scan-found : (d : Dir) (is : List Item) (q : List Dir) (s : List ℕ) (q′ : List Dir) (s′ : List ℕ) → scan d is q s ≡ fine q′ s′ → ScanFound d is q s q′ s′
 unfolding gather scan
 scan-found d [] q s q′ s′ e = record {
   queue = let f : q ≡ q′ = cc in sym f ∙ sym (append-nil q);
@@ -155,7 +155,7 @@ module _ (items : Dir → List Item) where
   walk-through k d q s Q w o e = walk-next k d q s (q ++ subs items d) (namedAfter (items d) s) (scan-runs d (items d) q s w o) ∙ ap (visited d) e
 
   -- so Q is q and what Q names
-  pub order-list : (Q q : List Dir) → Order q Q → Q ≡ q ++ gather (subs items) Q
+  order-list : (Q q : List Dir) → Order q Q → Q ≡ q ++ gather (subs items) Q
   unfolding gather
   order-list [] q r = rw r refl
   order-list (d ∷ Q) q r = rw (r .1) (ap (λ (l : List Dir). d ∷ l) (order-list Q (r .0 ++ subs items d) (r .2) ∙ append-assoc (r .0) (subs items d) (gather (subs items) Q)))

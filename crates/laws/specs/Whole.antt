@@ -5,13 +5,12 @@ use mathlib.Core.Logic.{_≢_, _⊎_, inl, inr}
 use mathlib.Core.Bool.{Bool, cond, _&&_}
 use mathlib.Core.List.{List, map}
 use native.Mathlib.Omega.{arith}
-use lib.Dec.{eqb, leb, eqb→eq, leb→le}
-use borrow.Author.Tests.{le-leb, eq-eqb}
+use lib.Dec.{eqb, leb}
 use Rattle.rules.specs.Counting.{oneAt, sumBelow, sumList, times}
 use Rattle.rules.specs.Anodes.{limit, Anodes}
 use Rattle.rules.specs.Chains.{chainOf, heads, blocksOf, blockCount}
 use Rattle.rules.specs.Walk.{Dir, root, Entered, Item, blocksFor, itemOf, itemsBy}
-use Rattle.laws.specs.Tests.{same?, less?, cond-cases, both}
+use Rattle.laws.specs.Tests.{same?, less?, tested-from}
 use Rattle.laws.specs.Sums.{oneAt-cases, oneAt-same, oneAt-other, oneAt-le}
 use Rattle.laws.specs.Bags.{list-mono}
 use Rattle.laws.specs.Heads.{Head, heads-cases, times-on-chain}
@@ -26,7 +25,7 @@ use Rattle.laws.specs.Each.{Each, each-map, each-both, each-pair, each-z
 use Rattle.laws.specs.Items.{wrong, names-sum, giving, giving-le, below, namedIn, faults, below-items}
 use Rattle.laws.specs.Trees.{Tree}
 use Rattle.laws.specs.TreeChanges.{none-headed, AlikeItems, alike-named, alike-tree}
-use Rattle.laws.specs.Totals.{file-size, named-by-kind, filesOf, dirsOf, tree-total}
+use Rattle.laws.specs.Totals.{namedByFiles, named-by-kind, filesOf, dirsOf, tree-total}
 use Rattle.laws.specs.Entries.{broken-wrong, Sized, item-fine, fine-item, item-anode, items-mono, items-alike}
 
 -- 1 for a directory whose head is below 5 or heads no chain
@@ -35,19 +34,15 @@ odd s d = cond (leb 5 (d .head) && eqb (heads limit (s .next) (s .block) (d .hea
 
 odd-none : (s : Anodes) (d : Dir) → 5 ≤ d .head → heads limit (s .next) (s .block) (d .head) ≡ 1 → odd s d ≡ 0
 unfolding odd
-odd-none s d l e = rw (le-leb 5 (d .head) l, eq-eqb (heads limit (s .next) (s .block) (d .head)) 1 e)
+odd-none s d l e = elim (tested-from 5 (d .head) (heads limit (s .next) (s .block) (d .head)) 1) [ inl q ↦ q .2 | inr q ↦ absurd (q .0 l e) ]
 
 none-odd : (s : Anodes) (d : Dir) → odd s d ≡ 0 → (5 ≤ d .head) × (heads limit (s .next) (s .block) (d .head) ≡ 1)
 unfolding odd
-none-odd s d z = elim (cond-cases {A = ℕ} (leb 5 (d .head) && eqb (heads limit (s .next) (s .block) (d .head)) 1) 0 1) [
-  | inl q ↦ (let b = both (leb 5 (d .head)) (eqb (heads limit (s .next) (s .block) (d .head)) 1) (q .0) in
-      (leb→le 5 (d .head) (b .0), eqb→eq (heads limit (s .next) (s .block) (d .head)) 1 (b .1)))
-  | inr q ↦ absurd (omega (arith, z, q .1))
-]
+none-odd s d z = elim (tested-from 5 (d .head) (heads limit (s .next) (s .block) (d .head)) 1) [ inl q ↦ (q .0, q .1) | inr q ↦ absurd (omega (arith, z, q .1)) ]
 
 odd-le : (s : Anodes) (d : Dir) → odd s d ≤ 1
 unfolding odd
-odd-le s d = elim (cond-cases {A = ℕ} (leb 5 (d .head) && eqb (heads limit (s .next) (s .block) (d .head)) 1) 0 1) [ inl q ↦ omega (arith, q .1) | inr q ↦ omega (arith, q .1) ]
+odd-le s d = elim (tested-from 5 (d .head) (heads limit (s .next) (s .block) (d .head)) 1) [ inl q ↦ omega (arith, q .2) | inr q ↦ omega (arith, q .1) ]
 
 -- what an entry with nothing wrong names is a head from 6 up
 odd-item : (s : Anodes) (h : ℕ) (e : Entered) → giving (odd s) h (itemOf s e) ≤ wrong (itemOf s e)
@@ -63,7 +58,7 @@ odd-item s h e = elim (less? 0 (wrong (itemOf s e))) [
 ]
 
 -- an item with nothing wrong names no anode that is no head from 6 up
-pub named-item : (s : Anodes) (x : ℕ) → (6 ≤ x → heads limit (s .next) (s .block) x ≡ 1 → ⊥) → (e : Entered) → oneAt ((itemOf s e) .anode) x ≤ wrong (itemOf s e)
+named-item : (s : Anodes) (x : ℕ) → (6 ≤ x → heads limit (s .next) (s .block) x ≡ 1 → ⊥) → (e : Entered) → oneAt ((itemOf s e) .anode) x ≤ wrong (itemOf s e)
 named-item s x k e = elim (oneAt-cases ((itemOf s e) .anode) x) [
   | inr c ↦ omega (arith, c .1)
   | inl c ↦ elim (less? 0 (wrong (itemOf s e))) [
@@ -94,6 +89,12 @@ module _ (ex : ℕ → Bool) (n last : ℕ) where
     pub good : Good limit ex n last s system hd sd
     pub tree : Tree (itemsBy entries marked s) root dirs
     pub all-named : AllNamed s entries marked dirs
+
+-- φ changes entries in their sizes alone, and only those that name h; the blocks of directories then hold the entries under φ, and are marked as before
+pub record SizesChanged (s : Anodes) (hd : ℕ → ℕ) (h : ℕ) (φ : Entered → Entered) (entries entries′ : ℕ → List Entered) (marked marked′ : Dir → ℕ → Bool) : Type 0 where
+  pub keeps : (e : Entered) → (φ e .broken ≡ e .broken) × (φ e .dir ≡ e .dir) × (φ e .anode ≡ e .anode)
+  pub other : (e : Entered) → e .anode ≢ h → φ e .size ≡ e .size
+  pub there : (a : ℕ) → s .count a ≡ 1 → hd a ≢ 1 → hd a ≢ h → (entries′ (s .block a) ≡ map φ (entries (s .block a))) × ((d : Dir) → marked′ d (s .block a) ≡ marked d (s .block a))
 
 -- a head, counted and said
 module _ {ex : ℕ → Bool} {n last : ℕ} {s : Anodes} {system hd sd : ℕ → ℕ} (g : Good limit ex n last s system hd sd) where
@@ -178,7 +179,7 @@ module _ {ex : ℕ → Bool} {n last : ℕ} {s : Anodes} {system hd sd : ℕ →
   whole-total = tree-total (w .good) (itemsBy entries marked s) root dirs (w .tree) refl named-heads (w .all-named)
 
   -- h is a file's: some reached entry of a file names it
-  module _ (h : ℕ) (file : 1 ≤ sumList (λ d. sumList (file-size (λ x. oneAt x h)) (itemsBy entries marked s d)) dirs) where
+  module _ (h : ℕ) (file : 1 ≤ namedByFiles (itemsBy entries marked s) h dirs) where
     pub file-head : (6 ≤ h) × (h < limit) × Head (s .next) (s .block) h
     file-head = named-heads h (omega (arith, named-by-kind items h dirs, file))
 
@@ -187,13 +188,9 @@ module _ {ex : ℕ → Bool} {n last : ℕ} {s : Anodes} {system hd sd : ℕ →
 
     -- a file's chain is changed, by takes or gives, its entry's size with it, and nothing else of the directories
     pub change-file : {t : Anodes} {hd′ sd′ : ℕ → ℕ} → Good limit ex n last t system hd′ sd′ → Shift s hd t hd′ 1 h →
-        (φ : Entered → Entered) (entries′ : ℕ → List Entered) (marked′ : Dir → ℕ → Bool) →
-        ((e : Entered) → (φ e .broken ≡ e .broken) × (φ e .dir ≡ e .dir) × (φ e .anode ≡ e .anode)) →
-        ((e : Entered) → e .anode ≢ h → φ e .size ≡ e .size) →
-        ((e : Entered) → e .anode ≡ h → blockCount t h ≡ blocksFor (φ e .size)) →
-        ((a : ℕ) → s .count a ≡ 1 → hd a ≢ 1 → hd a ≢ h → (entries′ (s .block a) ≡ map φ (entries (s .block a))) × ((d : Dir) → marked′ d (s .block a) ≡ marked d (s .block a))) →
-        Whole ex n last t system hd′ sd′ entries′ marked′ dirs
-    change-file {t} {hd′} {sd′} g′ sh φ entries′ marked′ keeps other mine cont = record {
+        (φ : Entered → Entered) (entries′ : ℕ → List Entered) (marked′ : Dir → ℕ → Bool) → SizesChanged s hd h φ entries entries′ marked marked′ →
+        ((e : Entered) → e .anode ≡ h → blockCount t h ≡ blocksFor (φ e .size)) → Whole ex n last t system hd′ sd′ entries′ marked′ dirs
+    change-file {t} {hd′} {sd′} g′ sh φ entries′ marked′ c mine = record {
       good = g′;
       tree = alike-tree items items′ root dirs alikes (w .tree);
       all-named = λ x l d. omega (arith, w .all-named x l (sh .no-new x d), alike-named items items′ dirs alikes x);
@@ -203,19 +200,19 @@ module _ {ex : ℕ → Bool} {n last : ℕ} {s : Anodes} {system hd sd : ℕ →
         items′ = itemsBy entries′ marked′ t
 
         size : (e : Entered) → 6 ≤ e .anode → Head (s .next) (s .block) (e .anode) → Sized s e → Sized t (φ e)
-        size e l d (inl q) = inl (keeps e .1 ∙ q)
+        size e l d (inl q) = inl (c .keeps e .1 ∙ q)
         size e l d (inr q) = elim (same? (e .anode) h) [
-          | inl i ↦ inr (ap (blockCount t) (keeps e .2 ∙ i) ∙ mine e i)
-          | inr i ↦ inr (ap (blockCount t) (keeps e .2) ∙ shift-count (w .good) g′ sh (e .anode) d (omega arith) i ∙ q ∙ ap blocksFor (sym (other e i)))
+          | inl i ↦ inr (ap (blockCount t) (c .keeps e .2 ∙ i) ∙ mine e i)
+          | inr i ↦ inr (ap (blockCount t) (c .keeps e .2) ∙ shift-count (w .good) g′ sh (e .anode) d (omega arith) i ∙ q ∙ ap blocksFor (sym (c .other e i)))
         ]
 
         like : (e : Entered) → wrong (itemOf s e) ≡ 0 → (φ e .dir ≡ e .dir) × (φ e .anode ≡ e .anode) × (wrong (itemOf t (φ e)) ≡ 0)
-        like e z = (keeps e .1, keeps e .2, fine-still (w .good) g′ e (φ e) (keeps e .0) (keeps e .2) z (λ l d q. (sh .stays (e .anode) d, size e l d q)))
+        like e z = (c .keeps e .1, c .keeps e .2, fine-still (w .good) g′ e (φ e) (c .keeps e .0) (c .keeps e .2) z (λ l d q. (sh .stays (e .anode) d, size e l d q)))
 
         one : (d : Dir) → DirHead s d → (d .head ≢ h) × (faults items d ≡ 0) → AlikeItems items items′ d
         one d p q = items-alike s t φ wrong (λ z. omega (arith, z, broken-wrong)) like entries entries′ marked marked′ d
             (shift-chain (w .good) g′ sh (d .head) (p .0) (p .1) (q .0)) (shift-alike (w .good) g′ sh (d .head) (p .0) (p .1) (q .0))
-            (λ a k i. let o = on-other (w .good) (d .head) (p .0) (p .1) (q .0) a k in let e = cont a i (o .1) (o .2) in (e .0, e .1 d)) (q .1)
+            (λ a k i. let o = on-other (w .good) (d .head) (p .0) (p .1) (q .0) a k in let e = c .there a i (o .1) (o .2) in (e .0, e .1 d)) (q .1)
 
         alikes : Each (AlikeItems items items′) dirs
         alikes = each-both (DirHead s) (λ d. (d .head ≢ h) × (faults items d ≡ 0)) (AlikeItems items items′) dirs one dir-heads

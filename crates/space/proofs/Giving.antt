@@ -1,8 +1,8 @@
 -- What a give meets in a good state: where its anodes are, and that its sums fit.
 use Prim.Native.Nat.{ℕ, _+_, _-_, _≤_, _<_}
 use mathlib.Core.Path.{_≡_, sym, ap, _∙_}
-use mathlib.Core.Logic.{_≢_, _⊎_, inl, inr}
-use mathlib.Core.Bool.{Bool, false}
+use mathlib.Core.Logic.{_≢_}
+use mathlib.Core.Bool.{false}
 use mathlib.Core.List.{List}
 use native.Mathlib.Omega.{arith}
 use lib.ListN.{getD}
@@ -12,14 +12,11 @@ use Rattle.rules.specs.Chains.{chainOf, cut, systemOwns, side, blockCount}
 use Rattle.rules.specs.Accepted.{diskSize, wrongSize, lastReserved}
 use Rattle.rules.specs.Space.{nowhere, found, lastFull, withoutLast, sideOf, join, release, giveFrom, giveBack}
 use Rattle.laws.specs.Acceptance.{size-bounds}
-use Rattle.laws.specs.Links.{the-chain}
 use Rattle.laws.specs.Heads.{Head}
-use Rattle.laws.specs.Space.{Good}
-use Rattle.laws.specs.Sides.{side-start, side-sd}
-use Rattle.laws.specs.Bags.{last-on}
-use Rattle.laws.specs.Searches.{FoundIn, lastFull-found}
+use Rattle.laws.specs.Sides.{side-last-used}
+use Rattle.laws.specs.Searches.{FoundIn}
 use Rattle.laws.specs.Moves.{InHand}
-use Rattle.laws.specs.Give.{sideOf-cases, withoutLast-out}
+use Rattle.laws.specs.Give.{sideOf-head, given-found, withoutLast-out}
 use Rattle.anodes.specs.Loaded.{anodesFrom}
 use Rattle.laws.specs.Searches.{lastFull-none}
 use Rattle.space.specs.Steps.{GoodAnodes}
@@ -31,23 +28,11 @@ pub full-there : (s : Anodes) (h : ℕ) → 0 < blockCount s h → lastFull (s .
 unfolding blockCount
 full-there s h some e = omega (arith, some, lastFull-none (s .count) 0 (chainOf (s .next) 3444 h) e)
 
--- ---- the end of a side
-
-module _ {A : ℕ} {ex : ℕ → Bool} {n last : ℕ} {s : Anodes} {system hd sd : ℕ → ℕ} (g : Good A ex n last s system hd sd) where
-  end-of-side : (m : ℕ) → (m ≡ 1) ⊎ (m ≡ 2) → s .block (lastOf m (side A s m)) ≢ 0
-  end-of-side m o q = elim (last-on m (side A s m)) [
-    | inl c ↦ side-start g m o .in-use (ap (s .block) (sym c) ∙ q)
-    | inr c ↦ side-start g m o .pos (sym (side-sd g m o (lastOf m (side A s m)) c) ∙ g .sides .off (lastOf m (side A s m)) q)
-  ]
-
-one-side : (last y : ℕ) → (sideOf last y ≡ 1) ⊎ (sideOf last y ≡ 2)
-one-side last y = elim (sideOf-cases last y) [ inl c ↦ inl (c .1) | inr c ↦ inr (c .1) ]
-
 -- ---- the sums fit
 
 module _ (img : List ℕ) (s : Anodes) (good : GoodAnodes img s) (h : ℕ) (d : Head (s .next) (s .block) h) (p x : ℕ) (e : lastFull (s .count) 0 (chainOf (s .next) 3444 h) ≡ found p x) where
   pub last-found : FoundIn (s .count) (s .next) h (chainOf (s .next) 3444 h) 0 p x
-  last-found = let g = good .2 in lastFull-found (s .count) (s .next) h 0 0 (chainOf (s .next) 3444 h) (the-chain (g .linked) h (λ q. d .in-use)) p x e
+  last-found = given-found (good .2) h d p x e
 
   -- once its last block y is out, in other tables, the end z of that block's side
   module _ (size : wrongSize img ≡ false) (h1 : h ≢ 1) (c f n : List ℕ) (left : anodesFrom c f n ≡ withoutLast s h p x)
@@ -65,7 +50,7 @@ module _ (img : List ℕ) (s : Anodes) (good : GoodAnodes img s) (h : ℕ) (d : 
     side-end =
         let b = ap (λ (t : Anodes). t .block z) left in
         let k = ap (λ (t : Anodes). t .count z) left in
-        let used : getD f z 0 ≢ 0 = λ q. end-of-side (out .good) m (rw start (one-side (lastReserved img) y)) (rw (← is-end) (sym b ∙ q)) in
+        let used : getD f z 0 ≢ 0 = λ q. side-last-used (out .good) m (rw start (sideOf-head (lastReserved img) y)) (rw (← is-end) (sym b ∙ q)) in
         let below = used-below (out .good .linked .view) c f n left z used in
         (below, used, λ l. rw (b, k) (omega (arith, size-bounds img size .1, out .good .own .fits z below (rw k at l))))
 

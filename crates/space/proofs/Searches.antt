@@ -13,7 +13,7 @@ use Rattle.rules.specs.Counting.{least, lastOf}
 use Rattle.rules.specs.Anodes.{exists}
 use Rattle.rules.specs.Chains.{chainOf}
 use Rattle.rules.specs.Space.{Found, nowhere, found, firstFound, firstFull, lastFull, free, lowestFree}
-use Rattle.laws.specs.Chains.{chain-none, chain-zero, chain-step}
+use Rattle.laws.specs.Chains.{chain-none, chain-end, chain-step}
 use Rattle.laws.specs.Tests.{less?}
 use Rattle.laws.specs.Sums.{least-cases}
 use Rattle.laws.specs.Searches.{full-at, nowhere-at}
@@ -72,13 +72,13 @@ module _ (img firsts c n : List ℕ) (last : ℕ) where
 -- ---- the first anode with a block
 
 module _ (count next : ℕ → ℕ) where
-  pub first-none : (p a : ℕ) → firstFull count p (chainOf next 0 a) ≡ nowhere
+  pub first-none : (k p a : ℕ) → k ≡ 0 → firstFull count p (chainOf next k a) ≡ nowhere
   unfolding firstFull
-  first-none p a = rw (chain-none next a)
+  first-none k p a e = rw (chain-none next k a e)
 
-  pub first-zero : (k p : ℕ) → firstFull count p (chainOf next k 0) ≡ nowhere
+  pub first-end : (k p a : ℕ) → a ≡ 0 → firstFull count p (chainOf next k a) ≡ nowhere
   unfolding firstFull
-  first-zero k p = rw (chain-zero next k)
+  first-end k p a e = rw (chain-end next k a e)
 
   module _ (k m p a : ℕ) (fuel : k ≡ m + 1) (some : a ≢ 0) where
     pub first-hit : count a ≢ 0 → firstFull count p (chainOf next k a) ≡ found p a
@@ -102,13 +102,13 @@ or-assoc nowhere g h = refl
 or-assoc (found p x) g h = refl
 
 module _ (count next : ℕ → ℕ) where
-  pub last-none : (p a : ℕ) (b : Found) → firstFound (lastFull count p (chainOf next 0 a)) b ≡ b
+  pub last-none : (k p a : ℕ) (b : Found) → k ≡ 0 → firstFound (lastFull count p (chainOf next k a)) b ≡ b
   unfolding lastFull firstFound
-  last-none p a b = rw (chain-none next a)
+  last-none k p a b e = rw (chain-none next k a e)
 
-  pub last-zero : (k p : ℕ) (b : Found) → firstFound (lastFull count p (chainOf next k 0)) b ≡ b
+  pub last-end : (k p a : ℕ) (b : Found) → a ≡ 0 → firstFound (lastFull count p (chainOf next k a)) b ≡ b
   unfolding lastFull firstFound
-  last-zero k p b = rw (chain-zero next k)
+  last-end k p a b e = rw (chain-end next k a e)
 
   module _ (k m p a : ℕ) (b : Found) (fuel : k ≡ m + 1) (some : a ≢ 0) where
     pub last-hit : count a ≢ 0 → firstFound (lastFull count p (chainOf next k a)) b ≡ firstFound (lastFull count a (chainOf next m (next a))) (found p a)
@@ -122,13 +122,13 @@ module _ (count next : ℕ → ℕ) where
 -- ---- the last anode
 
 module _ (next : ℕ → ℕ) where
-  pub end-none : (z a : ℕ) → lastOf z (chainOf next 0 a) ≡ z
+  pub end-none : (k z a : ℕ) → k ≡ 0 → lastOf z (chainOf next k a) ≡ z
   unfolding lastOf
-  end-none z a = rw (chain-none next a)
+  end-none k z a e = rw (chain-none next k a e)
 
-  pub end-zero : (k z : ℕ) → lastOf z (chainOf next k 0) ≡ z
+  pub end-at-zero : (k z a : ℕ) → a ≡ 0 → lastOf z (chainOf next k a) ≡ z
   unfolding lastOf
-  end-zero k z = rw (chain-zero next k)
+  end-at-zero k z a e = rw (chain-end next k a e)
 
   pub end-step : (k m z a : ℕ) → k ≡ m + 1 → a ≢ 0 → lastOf z (chainOf next k a) ≡ lastOf a (chainOf next m (next a))
   unfolding lastOf

@@ -18,10 +18,9 @@ use Rattle.laws.specs.Heads.{Head}
 use Rattle.laws.specs.Cut.{cut-cases, cut-other, cut-linked}
 use Rattle.laws.specs.Space.{Good, on-chain}
 use Rattle.laws.specs.Searches.{FoundIn}
-use Rattle.laws.specs.Owners.{last-used}
+use Rattle.laws.specs.Owners.{full-used, full-0, last-used}
 use Rattle.laws.specs.Moves.{InHand}
 use Rattle.laws.specs.FreeExtent.{extent-found, take-found}
-use Rattle.laws.specs.Leaving.{full-used, full-0}
 use Rattle.laws.specs.Take.{withoutFirst-out}
 use Rattle.anodes.specs.Loaded.{anodesFrom}
 use Rattle.space.specs.Steps.{GoodAnodes}

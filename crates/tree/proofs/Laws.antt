@@ -19,7 +19,7 @@ use Rattle.rules.specs.Counting.{sumList}
 use Rattle.rules.specs.Anodes.{Anodes, limit}
 use Rattle.rules.specs.Walk.{Dir, Entered, Item, entriesFrom, entriesIn, isBlockOf, itemsFor, blocksFor}
 use Rattle.laws.specs.Entries.{enteredAt, entries-fault, entries-step}
-use Rattle.laws.specs.Chains.{chain-none, chain-zero, chain-step, gathered-step}
+use Rattle.laws.specs.Chains.{chain-none, chain-step, gathered-step, chain-end}
 use Rattle.tree.specs.Steps.{dirMade, sumFrom, headAt, itemIn, Progress, stopped, going, refuse, enterItem, onward, enterAll, itemsFrom, itemsAlong, halted, ended, afterDir, runFrom, dirsFrom, queueOf, marked}
 
 -- ---- the sum along a chain
@@ -27,11 +27,11 @@ use Rattle.tree.specs.Steps.{dirMade, sumFrom, headAt, itemIn, Progress,
 module _ (counts nexts : List ℕ) where
   pub sum-none : (k a : ℕ) → k ≡ 0 → sumFrom counts nexts k a ≡ 0
   unfolding sumFrom sumList
-  sum-none k a e = rw (e, chain-none (λ x. getD nexts x 0) a)
+  sum-none k a e = rw (chain-none (λ x. getD nexts x 0) k a e)
 
   pub sum-end : (k a : ℕ) → a ≡ 0 → sumFrom counts nexts k a ≡ 0
   unfolding sumFrom sumList
-  sum-end k a e = rw (e, chain-zero (λ x. getD nexts x 0) k)
+  sum-end k a e = rw (chain-end (λ x. getD nexts x 0) k a e)
 
   pub sum-step : (k m a : ℕ) → k ≡ m + 1 → (a ≡ 0 → ⊥) → sumFrom counts nexts k a ≡ getD counts a 0 + sumFrom counts nexts m (getD nexts a 0)
   unfolding sumFrom sumList

@@ -5,7 +5,7 @@ use lib.ListN.{getD}
 use borrow.Author.Needs.{needs}
 use Rattle.rules.specs.Chains.{chainOf, cut}
 use Rattle.rules.specs.Space.{firstFull}
-use Rattle.space.proofs.Searches.{first-none, first-zero, first-hit, first-step}
+use Rattle.space.proofs.Searches.{first-none, first-end, first-hit, first-step}
 use Rattle.space.proofs.first_full.Statement.{statement}
 use Rattle.space.proofs.first_full.Tie as tie
 
@@ -19,7 +19,7 @@ loop-holds : tie.Need-loop-holds Inv-loop μ-loop
 loop-holds c = search needs
 
 returns : tie.Need-returns Inv-loop μ-loop
-returns c = let l = c .before .before .loop in sym (first-zero _ _ (l .fuel) (l .before)) ∙ rw (c .if1 .taken) at (l .inv)
+returns c = let l = c .before .before .loop in sym (first-end _ _ (l .fuel) (l .before) (l .at) (c .if1 .taken)) ∙ l .inv
 
 entry-requires : tie.Need-entry-requires Inv-loop μ-loop
 entry-requires c κs = search needs
@@ -40,7 +40,7 @@ loop-again : tie.Need-loop-again Inv-loop μ-loop
 loop-again c = let l = c .before .before .before .before .before .loop in rw (c .next-before-two .ensures) (sym (first-step _ _ (l .fuel) (l .fuel - 1) (l .before) (l .at) (omega arith) (c .before .before .before .if1 .left) (sym (c .before .before .entry .ensures) ∙ c .before .if2 .left)) ∙ l .inv)
 
 returns-3 : tie.Need-returns-3 Inv-loop μ-loop
-returns-3 c = let e : c .before .loop .fuel ≡ 0 = omega arith in sym (first-none _ _ (c .before .loop .before) (c .before .loop .at)) ∙ rw e at (c .before .loop .inv)
+returns-3 c = let l = c .before .loop in sym (first-none _ _ (l .fuel) (l .before) (l .at) (omega arith)) ∙ l .inv
 
 pub first-full-spec : {M : Type 1} → statement M
 first-full-spec =

@@ -5,7 +5,7 @@ use lib.ListN.{getD}
 use borrow.Author.Needs.{needs}
 use Rattle.rules.specs.Counting.{lastOf}
 use Rattle.rules.specs.Chains.{chainOf, cut}
-use Rattle.space.proofs.Searches.{end-none, end-zero, end-step}
+use Rattle.space.proofs.Searches.{end-none, end-at-zero, end-step}
 use Rattle.space.proofs.last_anode.Statement.{statement}
 use Rattle.space.proofs.last_anode.Tie as tie
 
@@ -19,7 +19,7 @@ loop-holds : tie.Need-loop-holds Inv-loop μ-loop
 loop-holds c = search needs
 
 returns : tie.Need-returns Inv-loop μ-loop
-returns c = let l = c .before .before .loop in sym (end-zero _ (l .fuel) (l .last)) ∙ rw (c .if1 .taken) at (l .inv)
+returns c = let l = c .before .before .loop in sym (end-at-zero _ (l .fuel) (l .last) (l .at) (c .if1 .taken)) ∙ l .inv
 
 next-before-two-requires : tie.Need-next-before-two-requires Inv-loop μ-loop
 next-before-two-requires c κs = search needs
@@ -34,7 +34,7 @@ loop-again : tie.Need-loop-again Inv-loop μ-loop
 loop-again c = let l = c .before .before .before .loop in rw (c .next-before-two .ensures) (sym (end-step _ (l .fuel) (l .fuel - 1) (l .last) (l .at) (omega arith) (c .before .if1 .left)) ∙ l .inv)
 
 returns-2 : tie.Need-returns-2 Inv-loop μ-loop
-returns-2 c = let e : c .before .loop .fuel ≡ 0 = omega arith in sym (end-none _ (c .before .loop .last) (c .before .loop .at)) ∙ rw e at (c .before .loop .inv)
+returns-2 c = let l = c .before .loop in sym (end-none _ (l .fuel) (l .last) (l .at) (omega arith)) ∙ l .inv
 
 pub last-anode-spec : {M : Type 1} → statement M
 last-anode-spec =

@@ -7,7 +7,7 @@ use borrow.Author.Needs.{needs}
 use Rattle.rules.specs.Chains.{chainOf}
 use Rattle.rules.specs.Space.{firstFound, lastFull}
 use Rattle.space.specs.Steps.{foundOf}
-use Rattle.space.proofs.Searches.{or-nowhere, last-none, last-zero, last-hit, last-step}
+use Rattle.space.proofs.Searches.{or-nowhere, last-none, last-end, last-hit, last-step}
 use Rattle.space.proofs.last_full.Statement.{statement}
 use Rattle.space.proofs.last_full.Tie as tie
 
@@ -21,7 +21,7 @@ loop-holds : tie.Need-loop-holds Inv-loop μ-loop
 loop-holds c = or-nowhere _
 
 returns : tie.Need-returns Inv-loop μ-loop
-returns c = let l = c .before .before .loop in sym (last-zero _ _ (l .fuel) (l .before) _) ∙ rw (c .if1 .taken) at (l .inv)
+returns c = let l = c .before .before .loop in sym (last-end _ _ (l .fuel) (l .before) (l .at) _ (c .if1 .taken)) ∙ l .inv
 
 entry-requires : tie.Need-entry-requires Inv-loop μ-loop
 entry-requires c κs = search needs
@@ -47,7 +47,7 @@ loop-again c = let l = c .before .before .before .before .before .loop in
     (c .before .if2 .came))
 
 returns-2 : tie.Need-returns-2 Inv-loop μ-loop
-returns-2 c = let e : c .before .loop .fuel ≡ 0 = omega arith in sym (last-none _ _ (c .before .loop .before) (c .before .loop .at) _) ∙ rw e at (c .before .loop .inv)
+returns-2 c = let l = c .before .loop in sym (last-none _ _ (l .fuel) (l .before) (l .at) _ (omega arith)) ∙ l .inv
 
 pub last-full-spec : {M : Type 1} → statement M
 last-full-spec =
