@@ -205,16 +205,6 @@ module _ (img : List ℕ) {s : Anodes} {hd sd : ℕ → ℕ} {entries : ℕ → 
     parent-good false t zs e = (step .hd′, step .sd′, rw (sym (planned-same r t [] zs e .0)) (step .good))
     parent-good true t zs e = let m = take-good (o .good) h (dir-head o h reached) (dir-not-1 o h reached) true t zs e in (m .hd′, m .sd′, m .good)
 
-    -- nothing names the new chain yet
-    parent-orphan : (entries′ : ℕ → List Entered) (marked′ : Dir → ℕ → Bool) → OrphanedOn img f r (step .hd′) (step .sd′) entries′ marked′ dirs →
-        (needed : Bool) (t : Anodes) (zs : List ℕ) → neededBlock img needed r h ≡ planned t zs → ((y : ℕ) → zs ≡ y ∷ [] → entries′ y ≡ []) →
-        ((y : ℕ) → zs ≡ y ∷ [] → Each (λ d. d .head ≡ h → T (marked′ d y)) dirs) →
-        (hd′ : ℕ → ℕ) × (sd′ : ℕ → ℕ) × OrphanedOn img f t hd′ sd′ entries′ marked′ dirs
-    unfolding neededBlock
-    parent-orphan entries′ marked′ p false t zs e empty its = let q = planned-same r t [] zs e in
-        (step .hd′, step .sd′, subst (λ (x : Anodes). OrphanedOn img f x (step .hd′) (step .sd′) entries′ marked′ dirs) (q .0) p)
-    parent-orphan entries′ marked′ p true t zs e empty its = (_, _, directory-takes p h reached t zs e empty its)
-
     -- ---- both
 
     not-own : h ≢ f
@@ -280,4 +270,7 @@ module _ (img : List ℕ) {s : Anodes} {hd sd : ℕ → ℕ} {entries : ℕ → 
         SameContents s hd entries marked entries′ marked′ →
         ((y : ℕ) → zs ≡ y ∷ [] → entries′ y ≡ []) → ((y : ℕ) → zs ≡ y ∷ [] → Each (λ d. d .head ≡ h → T (marked′ d y)) dirs) →
         (hd′ : ℕ → ℕ) × (sd′ : ℕ → ℕ) × OrphanedOn img f t hd′ sd′ entries′ marked′ dirs
-    made-orphan needed t zs e entries′ marked′ cont empty its = parent-orphan entries′ marked′ (owned entries′ marked′ cont) needed t zs e empty its
+    unfolding neededBlock
+    made-orphan false t zs e entries′ marked′ same empty its =
+        (step .hd′, step .sd′, rw (sym (planned-same r t [] zs e .0)) (owned entries′ marked′ same))
+    made-orphan true t zs e entries′ marked′ same empty its = (_, _, directory-takes (owned entries′ marked′ same) h reached t zs e empty its)
