@@ -13,6 +13,7 @@ use Rattle.rules.specs.Walk.{Entered, entriesIn}
 use Rattle.rules.specs.Lookup.{entriesOf, bytesOf, contents}
 use Rattle.laws.specs.Bags.{gather-kept}
 use Rattle.laws.specs.Heads.{Head}
+use Rattle.laws.specs.Space.{Alike}
 use Rattle.laws.specs.ChainBlocks.{extent, kept-blocks}
 use Rattle.laws.specs.Members.{Member, gather-congr}
 use Rattle.frames.specs.StoredBytes.{BlocksKept, bytesOf-kept}
@@ -24,6 +25,9 @@ use Rattle.changes.specs.EntryBytes.{entryBytes}
 pub record SameChain (s t : Anodes) (h : ℕ) : Type 0 where
   pub same-anodes : chainOf (t .next) limit h ≡ chainOf (s .next) limit h
   pub same-extents : (a : ℕ) → 0 < times a (chainOf (s .next) limit h) → (t .count a ≡ s .count a) × (t .block a ≡ s .block a)
+
+pub same-chain-alike : {s t : Anodes} {h : ℕ} → chainOf (t .next) limit h ≡ chainOf (s .next) limit h → ((a : ℕ) → 0 < times a (chainOf (s .next) limit h) → Alike s t a) → SameChain s t h
+same-chain-alike e alike = record { same-anodes = e; same-extents = λ a q. let k = alike a q in (k .same-count, k .same-block) }
 
 pub same-chain-own : (s : Anodes) (h : ℕ) → SameChain s s h
 same-chain-own s h = record { same-anodes = refl; same-extents = λ a p. (refl, refl) }

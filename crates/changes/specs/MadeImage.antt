@@ -36,7 +36,7 @@ use Rattle.changes.specs.FoundEntries.{enteredAt, end-bounds}
 use Rattle.changes.specs.Reached.{DirBlock, reached-not-1, dir-block}
 use Rattle.changes.specs.SingleBlocks.{single-used, single-apart, single-data}
 use Rattle.changes.specs.NewEntry.{entries-put, head-put, end-new, room-found}
-use Rattle.changes.specs.MakePlan.{OrphanedOn, Fresh, fresh-dir, fresh-free, MakeSteps, ParentGrown, MadePlan, made-plan, made-orphan}
+use Rattle.changes.specs.MakePlan.{OrphanedOn, SameContents, Fresh, fresh-dir, fresh-free, MakeSteps, ParentGrown, MadePlan, made-plan, made-orphan}
 
 -- what stands among the numbers that g gives for a list
 times-map : (g : ℕ → ℕ) (l : List ℕ) (y : ℕ) → 0 < times y (map g l) → (a : ℕ) × (0 < times a l) × (y ≡ g a)
@@ -183,7 +183,7 @@ module _ {img : List ℕ} {blocks anodes h : ℕ} {new : NewEntry} {f : ℕ} {ro
 
   -- ---- the directories of that image
 
-  pub cont : (a : ℕ) → s .count a ≡ 1 → headIn img a ≢ 1 → (entriesIn before (s .block a) ≡ entriesIn img (s .block a)) × ((d : Dir) → isBlockOf before d (s .block a) ≡ isBlockOf img d (s .block a))
+  pub cont : SameContents s (headIn img) (entriesIn img) (isBlockOf img) (entriesIn before) (isBlockOf before)
   unfolding entriesIn isBlockOf
   cont a one q = (rw (old-block a one q), λ d. rw (old-block a one q))
 

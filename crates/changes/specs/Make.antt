@@ -11,7 +11,7 @@ use borrow.Author.Tests.{lt-ltb, le-ltb}
 use Rattle.disk.specs.Blocks.{blockOf}
 use Rattle.directory.specs.declared.Kind.the-variants.{File, Directory}
 use Rattle.directory.specs.Entries.{goodName, goodComment, entryLength, isDir}
-use Rattle.rules.specs.Counting.{oneAt, sumList, times, gather}
+use Rattle.rules.specs.Counting.{sumList, times, gather}
 use Rattle.rules.specs.Anodes.{Anodes, limit, exists, anodesOf}
 use Rattle.rules.specs.Chains.{blocksOf, blockCount}
 use Rattle.rules.specs.Walk.{Dir, Entered, entriesIn, isBlockOf, blocksFor, itemsBy, reachedDirs}
@@ -25,7 +25,7 @@ use Rattle.laws.specs.Bags.{list-cons, list-append, list-one}
 use Rattle.laws.specs.Plans.{planned≢refused}
 use Rattle.laws.specs.RefusedSteps.{take-refused}
 use Rattle.laws.specs.Entries.{weighEntry, itemsAt-whole}
-use Rattle.laws.specs.Make.{enter-file, enter-directory}
+use Rattle.laws.specs.Make.{EntryMore, enter-file, enter-directory}
 use Rattle.laws.specs.NewDirectory.{entries-new, new-marked}
 use Rattle.changes.specs.Image.{WholeOn, whole-accepted, reached-sum, ReachedDir}
 use Rattle.changes.specs.FoundEntries.{enteredAt}
@@ -47,20 +47,19 @@ module _ {img : List ℕ} {blocks anodes h : ℕ} {new : NewEntry} {f : ℕ} {ro
   entered = enteredAt (entryOf new f) (entryPlace room zs)
 
   -- the block of one anode has gained the entry
-  gained : (a : ℕ) → t .count a ≡ 1 → (v : Bool → Bool → ℕ → ℕ → ℕ) →
-      sumList (weighEntry v) (entriesIn j (t .block a)) ≡ sumList (weighEntry v) (entriesIn (before m) (t .block a)) + oneAt a (spot m .anode) * weighEntry v entered
-  gained a one v = elim (oneAt-cases a (spot m .anode)) [
-    | inl q ↦ rw (q .0) (ap (sumList (weighEntry v)) (entries-made m) ∙ list-append (weighEntry v) (entriesIn (before m) (t .block (spot m .anode))) (entered ∷ [])
+  gained : EntryMore t (orphan m .0) entered (spot m .anode) (entriesIn (before m)) (entriesIn j)
+  gained a one q v = elim (oneAt-cases a (spot m .anode)) [
+    | inl i ↦ rw (i .0) (ap (sumList (weighEntry v)) (entries-made m) ∙ list-append (weighEntry v) (entriesIn (before m) (t .block (spot m .anode))) (entered ∷ [])
         ∙ omega (arith, list-one (weighEntry v) entered, ap (λ (k : ℕ). k * weighEntry v entered) (oneAt-same (spot m .anode) (spot m .anode) refl)))
-    | inr q ↦ ap (sumList (weighEntry v)) (other-entries m a one (q .0)) ∙ omega (arith, ap (λ (k : ℕ). k * weighEntry v entered) (q .1))
+    | inr i ↦ ap (sumList (weighEntry v)) (other-entries m a one (i .0)) ∙ omega (arith, ap (λ (k : ℕ). k * weighEntry v entered) (i .1))
   ]
 
   -- and all have the marks that they had
-  same-marks : (a : ℕ) → t .count a ≡ 1 → (d : Dir) → isBlockOf j d (t .block a) ≡ isBlockOf (before m) d (t .block a)
+  same-marks : (a : ℕ) → t .count a ≡ 1 → orphan m .0 a ≢ 1 → (d : Dir) → isBlockOf j d (t .block a) ≡ isBlockOf (before m) d (t .block a)
   unfolding isBlockOf
-  same-marks a one d = elim (same? a (spot m .anode)) [
-    | inl q ↦ rw q (marks-made m d)
-    | inr q ↦ rw (entry-other m a one q)
+  same-marks a one q d = elim (same? a (spot m .anode)) [
+    | inl i ↦ rw i (marks-made m d)
+    | inr i ↦ rw (entry-other m a one i)
   ]
 
   -- the block that gains it is not the new chain's
@@ -101,9 +100,9 @@ module _ {img : List ℕ} {blocks anodes h : ℕ} {new : NewEntry} {f : ℕ} {ro
 
       go : (b : Bool) → new .dir ≡ b → WholeOn img j t (orphan m .0) (orphan m .1) (grown b)
       go true d = enter-directory entered (orphan m .2) (spare m .0) refl (inl (is-dir (new .dir) ∙ d)) (spot m .anode) h (once m) (its-head m) (entriesIn j) (isBlockOf j)
-          (λ a i q v. gained a i v) (λ a i q c. same-marks a i c) (is-dir (new .dir) ∙ d) (own-empty d)
+          gained same-marks (is-dir (new .dir) ∙ d) (own-empty d)
       go false d = enter-file entered (orphan m .2) (spare m .0) refl (inr (none-yet d)) (spot m .anode) h (once m) (its-head m) (entriesIn j) (isBlockOf j)
-          (λ a i q v. gained a i v) (λ a i q c. same-marks a i c) (is-dir (new .dir) ∙ d)
+          gained same-marks (is-dir (new .dir) ∙ d)
 
   image-accepted : checkAnswer j blocks anodes ≡ 0
   image-accepted = whole-accepted (parent m .image) (made-disk m) made-whole

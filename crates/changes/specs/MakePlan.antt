@@ -37,6 +37,11 @@ use Rattle.changes.specs.Image.{GoodOn, ReachedDir}
 abbrev pub OrphanedOn : List ℕ → ℕ → Anodes → (ℕ → ℕ) → (ℕ → ℕ) → (ℕ → List Entered) → (Dir → ℕ → Bool) → List Dir → Type 0
 OrphanedOn img f t hd sd entries marked dirs = Orphaned (exists img) (diskSize img) (lastReserved img) f t (systemOwns img) hd sd entries marked dirs
 
+-- other entries and marks that agree with the old in the blocks of directories
+abbrev pub SameContents : Anodes → (ℕ → ℕ) → (ℕ → List Entered) → (Dir → ℕ → Bool) → (ℕ → List Entered) → (Dir → ℕ → Bool) → Type 0
+SameContents s hd entries marked entries′ marked′ =
+    (a : ℕ) → s .count a ≡ 1 → hd a ≢ 1 → (entries′ (s .block a) ≡ entries (s .block a)) × ((d : Dir) → marked′ d (s .block a) ≡ marked d (s .block a))
+
 -- h heads a reached directory of an accepted image, and f is the lowest free anode
 pub record Fresh (img : List ℕ) (blocks anodes h f : ℕ) : Type 0 where
   pub accepted : checkAnswer img blocks anodes ≡ 0
@@ -70,7 +75,7 @@ pub record ParentGrown (s : Anodes) (hd : ℕ → ℕ) (h : ℕ) (needed : Bool)
   pub ones : (a : ℕ) → 0 < times a new → t .count a ≡ 1
   pub blocks : zs ≡ map (t .block) new
   pub took : needed ≡ true → (y : ℕ) × (zs ≡ y ∷ [])
-  -- which was free, or the free list's
+  -- the new anode was free, or the free list's
   pub apart : (a : ℕ) → 0 < times a new → s .block a ≢ 0 → hd a ≢ 1 → ⊥
   -- no anode but the free list's gets other blocks, and every other chain stays
   pub kept : (a : ℕ) → s .block a ≢ 0 → hd a ≢ 1 → (t .count a ≡ s .count a) × (t .block a ≡ s .block a)
@@ -136,9 +141,7 @@ module _ (img : List ℕ) {s : Anodes} {hd sd : ℕ → ℕ} {entries : ℕ → 
     abbrev step : OwnStep dir r ys
     step = own-step dir r ys own
 
-    -- with other entries and marks that agree with the old in the blocks of directories
-    owned : (entries′ : ℕ → List Entered) (marked′ : Dir → ℕ → Bool)
-        (cont : (a : ℕ) → s .count a ≡ 1 → hd a ≢ 1 → (entries′ (s .block a) ≡ entries (s .block a)) × ((d : Dir) → marked′ d (s .block a) ≡ marked d (s .block a))) →
+    owned : (entries′ : ℕ → List Entered) (marked′ : Dir → ℕ → Bool) → SameContents s hd entries marked entries′ marked′ →
         OrphanedOn img f r (step .hd′) (step .sd′) entries′ marked′ dirs
     owned entries′ marked′ cont = orphan-changed (fresh-orphan w f f6 there fA fresh entries′ marked′ cont) f6 (step .good) (step .shift)
 
@@ -203,16 +206,6 @@ module _ (img : List ℕ) {s : Anodes} {hd sd : ℕ → ℕ} {entries : ℕ → 
     parent-good false t zs e = (step .hd′, step .sd′, rw (sym (planned-same r t [] zs e .0)) (step .good))
     parent-good true t zs e = let m = take-good (o .good) h (dir-head o h reached) (dir-not-1 o h reached) true t zs e in (m .hd′, m .sd′, m .good)
 
-    -- nothing names the new chain yet
-    parent-orphan : (entries′ : ℕ → List Entered) (marked′ : Dir → ℕ → Bool) → OrphanedOn img f r (step .hd′) (step .sd′) entries′ marked′ dirs →
-        (needed : Bool) (t : Anodes) (zs : List ℕ) → neededBlock img needed r h ≡ planned t zs → ((y : ℕ) → zs ≡ y ∷ [] → entries′ y ≡ []) →
-        ((y : ℕ) → zs ≡ y ∷ [] → Each (λ d. d .head ≡ h → T (marked′ d y)) dirs) →
-        (hd′ : ℕ → ℕ) × (sd′ : ℕ → ℕ) × OrphanedOn img f t hd′ sd′ entries′ marked′ dirs
-    unfolding neededBlock
-    parent-orphan entries′ marked′ p false t zs e empty its = let q = planned-same r t [] zs e in
-        (step .hd′, step .sd′, subst (λ (x : Anodes). OrphanedOn img f x (step .hd′) (step .sd′) entries′ marked′ dirs) (q .0) p)
-    parent-orphan entries′ marked′ p true t zs e empty its = (_, _, directory-takes p h reached t zs e empty its)
-
     -- ---- both
 
     not-own : h ≢ f
@@ -273,9 +266,12 @@ module _ (img : List ℕ) {s : Anodes} {hd sd : ℕ → ℕ} {entries : ℕ → 
           not-own = λ a n i. p .apart a n (rw i (own-head .in-use)) (λ q. omega (arith, f6, step .good .heads .at-head f own-head, ap (step .hd′) (sym i) ∙ q));
         }
 
-    -- the chain of f is not named yet, with any entries and marks that agree with the old in the blocks of directories
-    pub made-orphan : (needed : Bool) (t : Anodes) (zs : List ℕ) → neededBlock img needed r h ≡ planned t zs → (entries′ : ℕ → List Entered) (marked′ : Dir → ℕ → Bool)
-        (cont : (a : ℕ) → s .count a ≡ 1 → hd a ≢ 1 → (entries′ (s .block a) ≡ entries (s .block a)) × ((d : Dir) → marked′ d (s .block a) ≡ marked d (s .block a))) →
+    -- the chain of f is not named yet
+    pub made-orphan : (needed : Bool) (t : Anodes) (zs : List ℕ) → neededBlock img needed r h ≡ planned t zs → (entries′ : ℕ → List Entered) (marked′ : Dir → ℕ → Bool) →
+        SameContents s hd entries marked entries′ marked′ →
         ((y : ℕ) → zs ≡ y ∷ [] → entries′ y ≡ []) → ((y : ℕ) → zs ≡ y ∷ [] → Each (λ d. d .head ≡ h → T (marked′ d y)) dirs) →
         (hd′ : ℕ → ℕ) × (sd′ : ℕ → ℕ) × OrphanedOn img f t hd′ sd′ entries′ marked′ dirs
-    made-orphan needed t zs e entries′ marked′ cont empty its = parent-orphan entries′ marked′ (owned entries′ marked′ cont) needed t zs e empty its
+    unfolding neededBlock
+    made-orphan false t zs e entries′ marked′ same empty its =
+        (step .hd′, step .sd′, rw (sym (planned-same r t [] zs e .0)) (owned entries′ marked′ same))
+    made-orphan true t zs e entries′ marked′ same empty its = (_, _, directory-takes (owned entries′ marked′ same) h reached t zs e empty its)

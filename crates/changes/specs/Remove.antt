@@ -1,5 +1,5 @@
 -- Remove: an accepted image stays accepted, and its answers.
-use Prim.Native.Nat.{ℕ, _+_, _*_, _/_, _%_}
+use Prim.Native.Nat.{ℕ, _+_, _/_, _%_}
 use mathlib.Core.Path.{_≡_, refl, sym, ap, _∙_}
 use mathlib.Core.Logic.{_≢_, _⊎_, inl, inr}
 use mathlib.Core.Bool.{Bool, true, false, true≢false}
@@ -7,7 +7,7 @@ use mathlib.Core.List.{List, [], _∷_, map}
 use native.Mathlib.Omega.{arith}
 use lib.ListN.{getD}
 use Rattle.disk.specs.Blocks.{blockOf}
-use Rattle.rules.specs.Counting.{oneAt, sumList}
+use Rattle.rules.specs.Counting.{sumList}
 use Rattle.rules.specs.Anodes.{Anodes, limit, exists, anodesOf}
 use Rattle.rules.specs.Chains.{blockCount, systemOwns}
 use Rattle.rules.specs.Walk.{Dir, Entered, entriesIn, isBlockOf, reachedDirs}
@@ -23,6 +23,7 @@ use Rattle.laws.specs.TreeChanges.{headed}
 use Rattle.laws.specs.Entries.{weighEntry}
 use Rattle.laws.specs.Whole.{blocks-count}
 use Rattle.laws.specs.RefusedSteps.{gives-refused}
+use Rattle.laws.specs.Make.{EntryMore}
 use Rattle.laws.specs.Remove as Laws
 use Rattle.frames.specs.Kept.{entriesIn-kept, isBlockOf-kept}
 use Rattle.changes.specs.Image.{WholeOn, headIn, sideIn, accepted-whole, whole-accepted, reached-headed}
@@ -63,9 +64,8 @@ module _ {img : List ℕ} {e : Entered} {t : Anodes} {ys : List ℕ} (p : Planne
       )
 
   -- the block of one anode has lost the entry
-  cont : (a : ℕ) → s .count a ≡ 1 → headIn img a ≢ 1 → (v : Bool → Bool → ℕ → ℕ → ℕ) →
-      sumList (weighEntry v) (entriesIn img (s .block a)) ≡ sumList (weighEntry v) (entriesIn j (s .block a)) + oneAt a (facts p .a₀) * weighEntry v e
-  cont a one q v = elim (same? a (facts p .a₀)) [
+  lost : EntryMore s (headIn img) e (facts p .a₀) (entriesIn j) (entriesIn img)
+  lost a one q v = elim (same? a (facts p .a₀)) [
     | inl i ↦ rw (in-y a i, oneAt-same a (facts p .a₀) i) (one-less v ∙ omega arith)
     | inr i ↦ rw (entriesIn-kept (kept-data p) (s .block a) (apart p a one i), oneAt-other a (facts p .a₀) i) (omega arith)
   ]
@@ -92,7 +92,7 @@ module _ {img : List ℕ} {e : Entered} {t : Anodes} {ys : List ℕ} (p : Planne
         × WholeOn img j (dropped limit t (e .anode)) (without dead (Stores.ran p .hd′)) (without dead (Stores.ran p .sd′)) dirs
         × ((x : ℕ) → x ≢ e .anode → headed x dirs ≡ headed x (reachedDirs img s))
     unfolding entriesOf
-    left-whole = Laws.removed (w p) e (e .anode) refl (facts p .a₀) (p .home) (reached-headed (p .entry .directory)) (facts p .block-facts .on-chain) (entriesIn j) cont no-entry (Stores.ran p) (isBlockOf j) same-marks
+    left-whole = Laws.removed (w p) e (e .anode) refl (facts p .a₀) (p .home) (reached-headed (p .entry .directory)) (facts p .block-facts .on-chain) (entriesIn j) lost no-entry (Stores.ran p) (isBlockOf j) same-marks
 
     pub planned-accepted : checkAnswer j (image p .blocks) (image p .anodes) ≡ 0
     planned-accepted = whole-accepted (image p) (Stores.removed-disk p) (left-whole .1)

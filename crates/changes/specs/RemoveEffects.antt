@@ -18,7 +18,7 @@ use Rattle.frames.specs.StoredBytes.{BlocksKept}
 use Rattle.changes.specs.Image.{headIn, reached-sum, headed-same, ReachedDir}
 use Rattle.changes.specs.Reached.{EntryIn, reached-head}
 use Rattle.changes.specs.EntryBytes.{entryBytes}
-use Rattle.changes.specs.KeptChains.{SameChain, entry-bytes-same, OthersLeft, contents-left, entries-left}
+use Rattle.changes.specs.KeptChains.{SameChain, same-chain-alike, entry-bytes-same, OthersLeft, contents-left, entries-left}
 use Rattle.changes.specs.PlannedChange.{image, w, facts, off-chain}
 use Rattle.changes.specs.RemoveStores.{PlannedRemove, ran, end-good, removed-disk, kept-data}
 use Rattle.changes.specs.Remove.{left-whole, planned-accepted}
@@ -42,10 +42,7 @@ module _ {img : List ℕ} {e : Entered} {t : Anodes} {ys : List ℕ} (p : Planne
   module _ (m : ℕ) (head : Head (s .next) (s .block) m) where
     -- every other chain has its anodes
     pub others-same : m ≢ 1 → m ≢ e .anode → SameChain s end m
-    others-same m1 other = record {
-      same-anodes = Laws.gone-chain (w p .good) (end-good p) (e .anode) gone m m1 other head;
-      same-extents = λ a q. let k = Laws.gone-alike (w p .good) (end-good p) (e .anode) gone m m1 other head a q in (k .same-count, k .same-block);
-    }
+    others-same m1 other = same-chain-alike (Laws.gone-chain (w p .good) (end-good p) (e .anode) gone m m1 other head) (Laws.gone-alike (w p .good) (end-good p) (e .anode) gone m m1 other head)
 
     -- and the blocks of every chain but its own directory's are kept
     others-kept : m ≢ p .home → BlocksKept img j s m

@@ -1,5 +1,5 @@
 -- The directory that had the removed entry: the others stay, in their order, and have the bytes that they had.
-use Prim.Native.Nat.{ℕ, _+_, _-_, _*_, _/_, _%_, _<_}
+use Prim.Native.Nat.{ℕ, _+_, _-_, _*_, _/_, _%_, _≤_}
 use mathlib.Core.Path.{_≡_, refl, sym, ap, ap₂, _∙_}
 use mathlib.Core.Logic.{_≢_, inl, inr}
 use mathlib.Core.Bool.{Bool, true, false, cond}
@@ -7,7 +7,7 @@ use mathlib.Core.List.{List, _∷_, _++_, map, append-assoc, map-append}
 use native.Mathlib.Omega.{arith}
 use lib.Dec.{eqb}
 use borrow.Author.Tests.{eq-eqb, ne-eqb}
-use lib.ListN.{getD}
+use lib.ListN.{getD, take, drop}
 use Rattle.disk.specs.Blocks.{blockOf}
 use Rattle.directory.proofs.Laws.{FoundAt}
 use Rattle.rules.specs.Counting.{times, gather}
@@ -84,28 +84,28 @@ module _ {img : List ℕ} {e : Entered} {t : Anodes} {ys : List ℕ} (p : Planne
   in-block : (f : Entered) → Member f (entriesIn img y) → (k : ℕ) × (f .place ≡ y * 512 + k) × FoundAt b k
   in-block f m = rw (← (facts p .in-block)) at (place-in (p .entry .directory) (facts p .a₀) (facts p .member-chain) f (rw (facts p .in-block) at m))
 
+  -- an entry whose bytes the closed block has, at its place or an earlier one
+  bytes-moved : (place place′ k k′ : ℕ) → place ≡ y * 512 + k → place′ ≡ y * 512 + k′ → k′ ≤ k → FoundAt b k →
+      take (getD b k 0) (drop k′ (gapClosed b at len (entriesEnd b))) ≡ take (getD b k 0) (drop k b) → entryBytes j place′ ≡ entryBytes img place
+  bytes-moved place place′ k k′ is is′ l found same =
+      bytes-at j place′ y k′ is′ (omega (arith, l, found .room))
+      ∙ rw (block-left p) (with-length (gapClosed b at len (entriesEnd b)) b k′ k (omega (arith, found .long)) same)
+      ∙ sym (bytes-at img place y k is (omega (arith, found .room)))
+
   -- an entry before it keeps its bytes and its place
   same-before : (f : Entered) → Member f earlier → entryBytes j (f .place) ≡ entryBytes img (f .place)
   unfolding entriesIn
   same-before f m =
       let k = in-block f (rw (here p .parted .2) (member-left f earlier (e ∷ later) m)) in
-      let l : k .0 < 512 = omega (arith, k .2 .room) in
-      bytes-at j (f .place) y (k .0) (k .1) l
-      ∙ rw (block-left p) (with-length (gapClosed b at len (entriesEnd b)) b (k .0) (k .0) (omega (arith, k .2 .long)) (bytes-earlier (here p) f m (k .0) (k .1)))
-      ∙ sym (bytes-at img (f .place) y (k .0) (k .1) l)
+      bytes-moved (f .place) (f .place) (k .0) (k .0) (k .1) (k .1) (omega arith) (k .2) (bytes-earlier (here p) f m (k .0) (k .1))
 
   -- one behind it keeps its bytes and stands earlier
   same-behind : (f : Entered) → Member f later → (f .place / 512 ≡ y) × (entryBytes j (lowered len f .place) ≡ entryBytes img (f .place))
   unfolding entriesIn
   same-behind f m =
       let k = in-block f (rw (here p .parted .2) (member-right f earlier (e ∷ later) (member-later f e later m))) in
-      let l : k .0 < 512 = omega (arith, k .2 .room) in
-      let r = bytes-later (here p) f m (k .0) (k .1) in (
-        omega (arith, k .1, l),
-        bytes-at j (f .place - len) y (k .0 - len) (omega (arith, k .1, r .0)) (omega arith)
-            ∙ rw (block-left p) (with-length (gapClosed b at len (entriesEnd b)) b (k .0 - len) (k .0) (omega (arith, k .2 .long)) (r .1))
-            ∙ sym (bytes-at img (f .place) y (k .0) (k .1) l),
-      )
+      let r = bytes-later (here p) f m (k .0) (k .1) in
+      (omega (arith, k .1, k .2 .room), bytes-moved (f .place) (f .place - len) (k .0) (k .0 - len) (k .1) (omega (arith, k .1, r .0)) (omega arith) (k .2) (r .1))
 
   -- the anodes of its chain before the entry's and behind it
   abbrev front : List ℕ

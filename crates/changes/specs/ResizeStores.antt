@@ -30,7 +30,7 @@ use Rattle.frames.specs.DisjointBlocks.{DataBlock, chains-apart, chain-block}
 use Rattle.frames.specs.StoredBytes.{BlocksKept}
 use Rattle.changes.specs.Image.{headIn, DiskWith, stored-kept, disk-stored, not-one, not-among, disk-then, ReachedDir}
 use Rattle.changes.specs.Reached.{block-on, reached-not-1, reached-head, dir-block, block-data, not-file}
-use Rattle.changes.specs.KeptChains.{SameChain, OthersLeft}
+use Rattle.changes.specs.KeptChains.{SameChain, same-chain-alike, OthersLeft}
 use Rattle.changes.specs.PlannedChange.{PlannedChange, image, w, facts, not-1, off-chain, off-anode}
 use Rattle.changes.specs.ResizePlan.{Resizing, plan-runs, handed-data, handed-apart}
 
@@ -144,10 +144,7 @@ module _ {img : List ℕ} {e : Entered} {new : ℕ} {t : Anodes} {ys : List ℕ}
   module _ (m : ℕ) (head : Head (s .next) (s .block) m) (m1 : m ≢ 1) (other : m ≢ e .anode) where
     -- each has its anodes
     others-same : SameChain s t m
-    others-same = record {
-      same-anodes = shift-chain (w p .good) (steps .ran .good) (steps .ran .shift) m head m1 other;
-      same-extents = λ a q. let k = shift-alike (w p .good) (steps .ran .good) (steps .ran .shift) m head m1 other a q in (k .same-count, k .same-block);
-    }
+    others-same = same-chain-alike (shift-chain (w p .good) (steps .ran .good) (steps .ran .shift) m head m1 other) (shift-alike (w p .good) (steps .ran .good) (steps .ran .shift) m head m1 other)
 
     alone : (y : ℕ) → 0 < times y (blocksOf s m) → LeftAlone y
     alone y q = (
