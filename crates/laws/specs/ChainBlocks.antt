@@ -63,6 +63,7 @@ extent-before s a y e = rw (← e, add-one (s .count a), add-one y)
 pub extent-shorter : (s : Anodes) (x : ℕ) → 0 < s .count x → extent s x ≡ run (s .block x) (s .count x - 1) ++ ((s .block x + (s .count x - 1)) ∷ [])
 unfolding extent
 extent-shorter s x full = let e : s .count x ≡ suc (s .count x - 1) = omega arith in ap (run (s .block x)) e ∙ run-end (s .block x) (s .count x - 1)
+
 -- a run has as many blocks as its count says, and so has a chain
 length-run : (b c : ℕ) → length (run b c) ≡ c
 unfolding run
