@@ -7,7 +7,6 @@ use native.Mathlib.Omega.{arith}
 use lib.Dec.{T, eqb, leb, eqb-refl, eqb→eq, leb→le, le→leb}
 use borrow.Author.Tests.{eq-eqb, ne-eqb}
 use Rattle.rules.specs.Counting.{_if_else_, firstOf, anyBelow}
-use Rattle.counting.specs.Laws.{anyBelow-hit}
 pub use Rattle.endian.proofs.Laws.{same?, less?}
 
 -- what is not above 0 is 0
@@ -68,9 +67,6 @@ any-some t (suc k) h = go (any-some t k) (either (anyBelow t k) (t k) h)
     go : (T (anyBelow t k) → (i : ℕ) × (i < k) × T (t i)) → T (anyBelow t k) ⊎ T (t k) → (i : ℕ) × (i < suc k) × T (t i)
     go r (inl h) = let s = r h in (s .0, omega arith, s .2)
     go r (inr h) = (k, omega arith, h)
-
-pub some-any : (t : ℕ → Bool) (k i : ℕ) → i < k → T (t i) → T (anyBelow t k)
-some-any t k i l h = rw (anyBelow-hit t i k l (T-true (t i) h)) tt
 
 -- a number that is another, and one that is the same
 pub other : (a b : ℕ) → a ≢ b → not (eqb a b) ≡ true
