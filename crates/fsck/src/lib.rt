@@ -2,14 +2,14 @@
 ghost use mathlib.Core.Bool.{false};
 ghost use mathlib.Core.List.{[]};
 ghost use mathlib.Core.Path.{_≡_};
-ghost use Prim.Native.Nat.{ℕ, _<_, _≤_};
-ghost use lib.ListN.{length, getD};
+ghost use Prim.Native.Nat.{_≤_};
+ghost use lib.ListN.{length};
 ghost use Rattle.rules.specs.Counting.{_if_else_};
 ghost use Rattle.rules.specs.Anodes.{anodesOf};
 ghost use Rattle.rules.specs.Accepted.{diskSize, wrongSize, wrongSlots, damageIn};
 ghost use Rattle.rules.specs.Calls.{outcomeOf, checkOutcome};
 ghost use Rattle.anodes.specs.Loaded.{anodesFrom, AnodeTables};
-ghost use Rattle.fsck.specs.Answers.{checkedNumber, Tallied, HeaderTested, SpaceTested, TablesAfter, TablesLeft, Sized, Opened};
+ghost use Rattle.fsck.specs.Answers.{checkedNumber, Tallied, HeaderTested, SpaceTested, TablesAfter, TablesLeft, Zeroed, Sized, Opened};
 use anodes::load;
 use chains::fill_heads;
 use chains::out_of_range;
@@ -84,8 +84,7 @@ fn test_space(
     requires { ⌜ AnodeTables (now counts) (now firsts) (now nexts) ⌝ }
     requires { ⌜ anodesFrom (now counts) (now firsts) (now nexts) ≡ anodesOf (now image) ⌝ }
     requires { ⌜ (wrongSize (now image) ≡ false) × (wrongSlots (now image) ≡ false) × (diskSize (now image) ≤ length (now blocks)) × (3444 ≤ length (now anodes)) ⌝ }
-    requires { ⌜ ((x : ℕ) → x < diskSize (now image) → getD (now blocks) x 0 ≡ 0) ⌝ }
-    requires { ⌜ ((a : ℕ) → a < 3444 → getD (now anodes) a 0 ≡ 0) ⌝ }
+    requires { ⌜ Zeroed (now image) (now blocks) (now anodes) ⌝ }
     ensures answer { λ r. ⌜ SpaceTested r (now (image .entry)) (anodesOf (now (image .entry))) ⌝ }
     ensures tables { λ r. ⌜ TablesAfter r (now (image .entry)) (anodesOf (now (image .entry))) (now (blocks .entry)) (now (anodes .entry)) (now (blocks .exit)) (now (anodes .exit)) ⌝ }
 {
@@ -128,8 +127,7 @@ fn test_all(
     requires { ⌜ Sized (now counts) (now firsts) (now nexts) (now queue) (now parents) ⌝ }
     requires { ⌜ anodesFrom (now counts) (now firsts) (now nexts) ≡ anodesOf (now image) ⌝ }
     requires { ⌜ (wrongSize (now image) ≡ false) × (wrongSlots (now image) ≡ false) × (diskSize (now image) ≤ length (now blocks)) × (3444 ≤ length (now anodes)) ⌝ }
-    requires { ⌜ ((x : ℕ) → x < diskSize (now image) → getD (now blocks) x 0 ≡ 0) ⌝ }
-    requires { ⌜ ((a : ℕ) → a < 3444 → getD (now anodes) a 0 ≡ 0) ⌝ }
+    requires { ⌜ Zeroed (now image) (now blocks) (now anodes) ⌝ }
     ensures answer { λ r. ⌜ checkedNumber r ≡ damageIn (now (image .entry)) (anodesOf (now (image .entry))) ⌝ }
     ensures tally { λ r. ⌜ Tallied r (now (image .entry)) (anodesOf (now (image .entry))) ⌝ }
     ensures tables { λ r. ⌜ TablesLeft r (now (image .entry)) (anodesOf (now (image .entry))) (now (blocks .entry)) (now (anodes .entry)) (now (blocks .exit)) (now (anodes .exit)) ⌝ }
@@ -162,8 +160,7 @@ fn examine(
 ) -> Checked
     requires { ⌜ Sized (now counts) (now firsts) (now nexts) (now queue) (now parents) ⌝ }
     requires { ⌜ (wrongSize (now image) ≡ false) × (diskSize (now image) ≤ length (now blocks)) × (3444 ≤ length (now anodes)) ⌝ }
-    requires { ⌜ ((x : ℕ) → x < diskSize (now image) → getD (now blocks) x 0 ≡ 0) ⌝ }
-    requires { ⌜ ((a : ℕ) → a < 3444 → getD (now anodes) a 0 ≡ 0) ⌝ }
+    requires { ⌜ Zeroed (now image) (now blocks) (now anodes) ⌝ }
     ensures answer { λ r. ⌜ checkedNumber r ≡ (5 if wrongSlots (now (image .entry)) else damageIn (now (image .entry)) (anodesOf (now (image .entry)))) ⌝ }
     ensures tally { λ r. ⌜ Tallied r (now (image .entry)) (anodesOf (now (image .entry))) ⌝ }
     ensures tables { λ r. ⌜ TablesLeft r (now (image .entry)) (anodesOf (now (image .entry))) (now (blocks .entry)) (now (anodes .entry)) (now (blocks .exit)) (now (anodes .exit)) ⌝ }

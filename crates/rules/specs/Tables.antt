@@ -1,5 +1,5 @@
 -- 01, after the refusal table: what the block table and the anode table hold after a call.
-use Prim.Native.Nat.{ℕ, _+_}
+use Prim.Native.Nat.{ℕ}
 use mathlib.Core.Bool.{cond, _&&_}
 use mathlib.Core.List.{List, _++_}
 use lib.ListN.{drop, replicate}
