@@ -95,14 +95,14 @@ module _ {img : List ℕ} (image : AcceptedImage img) where
   )) .2)
 
   files : filesOf items has dirs ≡ fileBlocks img s
-  unfolding filesOf fileBlocks reached itemsOf
+  unfolding fileBlocks reached itemsOf
   files =
       member-congr (λ d. sumList (file-size has) (items d)) (λ d. sumList (file-size (blockCount s)) (items d)) dirs
       (λ d m. member-congr (file-size has) (file-size (blockCount s)) (items d) (λ i n. ap (λ (k : ℕ). cond (i .dir) 0 k) (item-blocks d m i n)))
       ∙ sym (gather-sum items (file-size (blockCount s)) dirs)
 
   directories : dirsOf has dirs ≡ directoryBlocks img s
-  unfolding dirsOf directoryBlocks reached itemsOf
+  unfolding directoryBlocks reached itemsOf
   directories = omega (
     arith,
     w .tree .exact (λ d. has (d .head)),

@@ -35,29 +35,29 @@ names-parts items f d =
     one true m = omega arith
     one false m = omega arith
 
+-- a sum over the files that some directories name, and over these directories
+abbrev pub filesOf : (Dir → List Item) → (ℕ → ℕ) → List Dir → ℕ
+filesOf items f dirs = sumList (λ d. sumList (file-size f) (items d)) dirs
+
+abbrev pub dirsOf : (ℕ → ℕ) → List Dir → ℕ
+dirsOf f dirs = sumList (λ d. f (d .head)) dirs
+
 -- and so a sum over what some directories name
 by-kind : (items : Dir → List Item) (f : ℕ → ℕ) (dirs : List Dir) →
-    sumList (λ d. sumList f (names (items d))) dirs ≡ sumList (λ d. sumList (file-size f) (items d)) dirs + sumList (below items (λ e. f (e .head))) dirs
+    sumList (λ d. sumList f (names (items d))) dirs ≡ filesOf items f dirs + sumList (below items (λ e. f (e .head))) dirs
 by-kind items f dirs =
     list-congr (λ d. sumList f (names (items d))) (λ d. sumList (file-size f) (items d) + below items (λ e. f (e .head)) d) dirs (names-parts items f)
     ∙ list-add (λ d. sumList (file-size f) (items d)) (below items (λ e. f (e .head))) dirs
 
 -- how often files name an anode
 abbrev pub namedByFiles : (Dir → List Item) → ℕ → List Dir → ℕ
-namedByFiles items h dirs = sumList (λ d. sumList (file-size (λ x. oneAt x h)) (items d)) dirs
+namedByFiles items h dirs = filesOf items (λ x. oneAt x h) dirs
 
 -- an anode is named by files and by directories
 pub named-by-kind : (items : Dir → List Item) (h : ℕ) (dirs : List Dir) →
     sumList (namedIn items h) dirs ≡ namedByFiles items h dirs + sumList (below items (λ e. oneAt (e .head) h)) dirs
 unfolding times
 named-by-kind items h dirs = by-kind items (λ x. oneAt x h) dirs
-
--- the blocks of the files and of the directories that the tree's directories name, f giving a head's
-unfoldable pub filesOf : (Dir → List Item) → (ℕ → ℕ) → List Dir → ℕ
-filesOf items f dirs = sumList (λ d. sumList (file-size f) (items d)) dirs
-
-unfoldable pub dirsOf : (ℕ → ℕ) → List Dir → ℕ
-dirsOf f dirs = sumList (λ d. f (d .head)) dirs
 
 -- ---- the whole
 
@@ -129,7 +129,7 @@ module _ {A : ℕ} {ex : ℕ → Bool} {n last : ℕ} {s : Anodes} {system hd sd
 
   -- the sum
   pub tree-total : sumBelow system n + (blocks A hd (s .count) 1 + filesOf items (blocks A hd (s .count)) dirs + dirsOf (blocks A hd (s .count)) dirs + blocks A hd (s .count) 3 + blocks A hd (s .count) 4) ≡ n
-  unfolding f filesOf dirsOf
+  unfolding f
   tree-total =
       omega (
         arith,
