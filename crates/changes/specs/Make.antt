@@ -25,7 +25,7 @@ use Rattle.laws.specs.Bags.{list-cons, list-append, list-one}
 use Rattle.laws.specs.Plans.{planned≢refused}
 use Rattle.laws.specs.RefusedSteps.{take-refused}
 use Rattle.laws.specs.Entries.{weighEntry, itemsAt-whole}
-use Rattle.laws.specs.Make.{EntryMore, enter-file, enter-directory}
+use Rattle.laws.specs.Make.{SameMarks, EntryMore, enter-file, enter-directory}
 use Rattle.laws.specs.NewDirectory.{entries-new, new-marked}
 use Rattle.changes.specs.Image.{WholeOn, whole-accepted, reached-sum, ReachedDir}
 use Rattle.changes.specs.FoundEntries.{enteredAt}
@@ -55,7 +55,7 @@ module _ {img : List ℕ} {blocks anodes h : ℕ} {new : NewEntry} {f : ℕ} {ro
   ]
 
   -- and all have the marks that they had
-  same-marks : (a : ℕ) → t .count a ≡ 1 → orphan m .0 a ≢ 1 → (d : Dir) → isBlockOf j d (t .block a) ≡ isBlockOf (before m) d (t .block a)
+  same-marks : SameMarks t (orphan m .0) (isBlockOf (before m)) (isBlockOf j)
   unfolding isBlockOf
   same-marks a one q d = elim (same? a (spot m .anode)) [
     | inl i ↦ rw i (marks-made m d)

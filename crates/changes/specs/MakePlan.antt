@@ -30,17 +30,12 @@ use Rattle.laws.specs.Whole.{Whole}
 use Rattle.laws.specs.OwnBlock.{own-filled}
 use Rattle.laws.specs.Orphan.{Orphaned, not-dir, orphan-changed}
 use Rattle.laws.specs.DirectoryTakes.{find-headed, dir-head, dir-not-1, dir-taken, directory-takes}
-use Rattle.laws.specs.Make.{fresh-stays, fresh-chain, fresh-orphan}
+use Rattle.laws.specs.Make.{SameContents, fresh-stays, fresh-chain, fresh-orphan}
 use Rattle.changes.specs.Image.{GoodOn, ReachedDir}
 
 -- anodes t on the disk of img, where no entry names the chain of f
 abbrev pub OrphanedOn : List ℕ → ℕ → Anodes → (ℕ → ℕ) → (ℕ → ℕ) → (ℕ → List Entered) → (Dir → ℕ → Bool) → List Dir → Type 0
 OrphanedOn img f t hd sd entries marked dirs = Orphaned (exists img) (diskSize img) (lastReserved img) f t (systemOwns img) hd sd entries marked dirs
-
--- other entries and marks that agree with the old in the blocks of directories
-abbrev pub SameContents : Anodes → (ℕ → ℕ) → (ℕ → List Entered) → (Dir → ℕ → Bool) → (ℕ → List Entered) → (Dir → ℕ → Bool) → Type 0
-SameContents s hd entries marked entries′ marked′ =
-    (a : ℕ) → s .count a ≡ 1 → hd a ≢ 1 → (entries′ (s .block a) ≡ entries (s .block a)) × ((d : Dir) → marked′ d (s .block a) ≡ marked d (s .block a))
 
 -- h heads a reached directory of an accepted image, and f is the lowest free anode
 pub record Fresh (img : List ℕ) (blocks anodes h f : ℕ) : Type 0 where

@@ -23,7 +23,7 @@ use Rattle.laws.specs.TreeChanges.{headed}
 use Rattle.laws.specs.Entries.{weighEntry}
 use Rattle.laws.specs.Whole.{blocks-count}
 use Rattle.laws.specs.RefusedSteps.{gives-refused}
-use Rattle.laws.specs.Make.{EntryMore}
+use Rattle.laws.specs.Make.{SameMarks, EntryMore}
 use Rattle.laws.specs.Remove as Laws
 use Rattle.frames.specs.Kept.{entriesIn-kept, isBlockOf-kept}
 use Rattle.changes.specs.Image.{WholeOn, headIn, sideIn, accepted-whole, whole-accepted, reached-headed}
@@ -71,7 +71,7 @@ module _ {img : List ℕ} {e : Entered} {t : Anodes} {ys : List ℕ} (p : Planne
   ]
 
   -- and all have the marks that they had
-  same-marks : (a : ℕ) → s .count a ≡ 1 → headIn img a ≢ 1 → (d : Dir) → isBlockOf j d (s .block a) ≡ isBlockOf img d (s .block a)
+  same-marks : SameMarks s (headIn img) (isBlockOf img) (isBlockOf j)
   same-marks a one q d = elim (same? a (facts p .a₀)) [
     | inl i ↦ rw (in-y a i) (marks-left p d)
     | inr i ↦ isBlockOf-kept (kept-data p) d (s .block a) (apart p a one i)

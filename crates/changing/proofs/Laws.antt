@@ -48,7 +48,7 @@ module _ {img counts firsts nexts queue parents heads : List ℕ} {dirs : ℕ} (
 -- ---- a change of a named entry
 
 -- a refusal of a call's own table comes after the damage numbers
-pub late-some : (n k : ℕ) → Late n → n ≡ k → 1 ≤ k → 17 ≤ k
+late-some : (n k : ℕ) → Late n → n ≡ k → 1 ≤ k → 17 ≤ k
 late-some n k (inl z) e l = absurd (omega (arith, z, e, l))
 late-some n k (inr z) e l = omega (arith, z, e)
 

@@ -117,7 +117,7 @@ entryHead e =
 
 -- ---- reading an entry that was stored
 
-pub kindRead-typeOf : (k : Kind) → kindRead (typeOf k) ≡ Is k
+kindRead-typeOf : (k : Kind) → kindRead (typeOf k) ≡ Is k
 unfolding kindRead
 kindRead-typeOf File = refl
 kindRead-typeOf Directory = refl
@@ -172,7 +172,7 @@ module _ (b : List ℕ) (at : ℕ) (e : Entry) (name comment : List ℕ) where
   getD-putEntry-before i h = getD-headed i (omega arith) ∙ getD-stored-before b at (entryHead e) i h
 
   -- the byte after the entry becomes 0
-  pub getD-putEntry-end : getD (putEntry b at e name comment) (at + entryLength (e .name) (e .comment)) 0 ≡ 0
+  getD-putEntry-end : getD (putEntry b at e name comment) (at + entryLength (e .name) (e .comment)) 0 ≡ 0
   unfolding entryLength
   getD-putEntry-end = rw putEntry-run (getD-cleared-in commented _ _ _ (omega arith) (omega arith))
 
@@ -183,7 +183,7 @@ module _ (b : List ℕ) (at : ℕ) (e : Entry) (name comment : List ℕ) where
 
   module _ (name-fits : length name ≡ e .name) (comment-fits : length comment ≡ e .comment) where
     -- every byte past that one is left
-    pub getD-putEntry-after : (i : ℕ) → at + entryLength (e .name) (e .comment) < i → getD (putEntry b at e name comment) i 0 ≡ getD b i 0
+    getD-putEntry-after : (i : ℕ) → at + entryLength (e .name) (e .comment) < i → getD (putEntry b at e name comment) i 0 ≡ getD b i 0
     unfolding entryLength entryHead
     getD-putEntry-after i h =
         rw putEntry-run

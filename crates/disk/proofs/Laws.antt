@@ -102,7 +102,7 @@ unfolding listed
 length-listed f k zero = refl
 length-listed f k (suc n) = ap suc (length-listed f (suc k) n)
 
-pub getD-listed-out {ℓ} : {A : Type ℓ} (f : ℕ → A) (k n i : ℕ) (d : A) → n ≤ i → getD (listed f k n) i d ≡ d
+getD-listed-out {ℓ} : {A : Type ℓ} (f : ℕ → A) (k n i : ℕ) (d : A) → n ≤ i → getD (listed f k n) i d ≡ d
 getD-listed-out f k n i d h = List·getD-eq-default (listed f k n) d (rw (length-listed f k n) h)
 
 anodesIn-none : (img : List ℕ) → anodesIn img 0 ≡ []

@@ -267,7 +267,7 @@ blockOf-withBlock-same img b new same =
 
 -- ---- a slot of an image
 
-pub slotOf-withBlock-root : (img new : List ℕ) (s : ℕ) → length new ≡ length (blockOf img 2) → s < 42 → slotOf (withBlock img 2 new) s ≡ slotIn new s
+slotOf-withBlock-root : (img new : List ℕ) (s : ℕ) → length new ≡ length (blockOf img 2) → s < 42 → slotOf (withBlock img 2 new) s ≡ slotIn new s
 slotOf-withBlock-root img new s same h =
     slotOf-there (withBlock img 2 new) s h ∙ rw (blockOf-withBlock-same img 2 new same)
 
@@ -296,7 +296,7 @@ module _ (img : List ℕ) (s v : ℕ) where
 -- ---- an anode of an image
 
 -- the same slot and the same block have the same anode
-pub anodeOf-same : (img j : List ℕ) (a s : ℕ) → slotOf img (a / 82) ≡ s → slotOf j (a / 82) ≡ s → ((s ≡ 0 → ⊥) → blockOf j s ≡ blockOf img s)
+anodeOf-same : (img j : List ℕ) (a s : ℕ) → slotOf img (a / 82) ≡ s → slotOf j (a / 82) ≡ s → ((s ≡ 0 → ⊥) → blockOf j s ≡ blockOf img s)
     → anodeOf j a ≡ anodeOf img a
 anodeOf-same img j a s p q same =
     ⊎-elim
@@ -337,7 +337,7 @@ module _ (img : List ℕ) (a : ℕ) (x : Anode) where
 
   -- an anode's block is not the root
   module _ (root : slotOf img (a / 82) ≡ 2 → ⊥) where
-    pub slotOf-setAnode : (t : ℕ) → slotOf (setAnode img a x) t ≡ slotOf img t
+    slotOf-setAnode : (t : ℕ) → slotOf (setAnode img a x) t ≡ slotOf img t
     unfolding slotOf
     slotOf-setAnode t = rw (blockOf-setAnode-other 2 root)
 

@@ -110,7 +110,7 @@ pub stored-none : (l : List ℕ) (at : ℕ) → stored l at [] ≡ l
 unfolding stored
 stored-none l at = refl
 
-pub stored-cons : (l : List ℕ) (at v : ℕ) (s : List ℕ) → stored l at (v ∷ s) ≡ stored (set l at v) (at + 1) s
+stored-cons : (l : List ℕ) (at v : ℕ) (s : List ℕ) → stored l at (v ∷ s) ≡ stored (set l at v) (at + 1) s
 unfolding stored
 stored-cons l at v s = rw (add-one at)
 

@@ -163,7 +163,7 @@ module _ (img : List ℕ) (last k : ℕ) (name : List ℕ) (day minute tick prot
     blockOf-formatted-other : (b : ℕ) → (b ≡ 3 + k → ⊥) → blockOf disk b ≡ blockOf based b
     blockOf-formatted-other b h = rw disk-based (blockOf-other based (3 + k) (newDirectoryBlock 5 0) (length-new 5 0) b h)
 
-    pub blockOf-formatted-root : blockOf disk 2 ≡ root
+    blockOf-formatted-root : blockOf disk 2 ≡ root
     blockOf-formatted-root =
         let m = length-started (length img) in
         blockOf-formatted-other 2 (omega arith)

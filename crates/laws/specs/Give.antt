@@ -47,7 +47,7 @@ pub side-up-to : (last y : ℕ) → y ≤ last → sideOf last y ≡ 2
 unfolding sideOf
 side-up-to last y h = rw (le-ltb last y h)
 
-pub sideOf-cases : (last y : ℕ) → ((last < y) × (sideOf last y ≡ 1)) ⊎ ((y ≤ last) × (sideOf last y ≡ 2))
+sideOf-cases : (last y : ℕ) → ((last < y) × (sideOf last y ≡ 1)) ⊎ ((y ≤ last) × (sideOf last y ≡ 2))
 sideOf-cases last y = elim (less? last y) [ inl l ↦ inl (l, side-above last y l) | inr l ↦ inr (l, side-up-to last y l) ]
 
 pub sideOf-head : (last y : ℕ) → SideHead (sideOf last y)

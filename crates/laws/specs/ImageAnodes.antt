@@ -20,11 +20,11 @@ module _ (img : List ℕ) where
   unfolding anodesOf inUse fieldsOf anodeOf
   block-at a = refl
 
-  pub count-at : (a : ℕ) → anodesOf img .block a ≢ 0 → anodesOf img .count a ≡ (anodeOf img a) .count
+  count-at : (a : ℕ) → anodesOf img .block a ≢ 0 → anodesOf img .count a ≡ (anodeOf img a) .count
   unfolding anodesOf inUse fieldsOf anodeOf
   count-at a u = rw (ne-eqb ((anodeAt (anodeSlots img) a) .block .0) 0 u)
 
-  pub next-at : (a : ℕ) → anodesOf img .block a ≢ 0 → anodesOf img .next a ≡ (anodeOf img a) .next .0
+  next-at : (a : ℕ) → anodesOf img .block a ≢ 0 → anodesOf img .next a ≡ (anodeOf img a) .next .0
   unfolding anodesOf inUse fieldsOf anodeOf
   next-at a u = rw (ne-eqb ((anodeAt (anodeSlots img) a) .block .0) 0 u)
 

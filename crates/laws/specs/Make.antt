@@ -26,6 +26,15 @@ use Rattle.laws.specs.Entries.{weighEntry, broken-wrong, Sized, sized-st
 use Rattle.laws.specs.Whole.{DirHead, AllNamed, Whole, head-counts, fine-still, on-dir, tree-heads, dir-heads, named-heads}
 use Rattle.laws.specs.Orphan.{Orphaned}
 
+-- other marks that agree with the old in the blocks of directories
+abbrev pub SameMarks : Anodes → (ℕ → ℕ) → (Dir → ℕ → Bool) → (Dir → ℕ → Bool) → Type 0
+SameMarks s hd marked marked′ = (a : ℕ) → s .count a ≡ 1 → hd a ≢ 1 → (d : Dir) → marked′ d (s .block a) ≡ marked d (s .block a)
+
+-- other entries and marks that do
+abbrev pub SameContents : Anodes → (ℕ → ℕ) → (ℕ → List Entered) → (Dir → ℕ → Bool) → (ℕ → List Entered) → (Dir → ℕ → Bool) → Type 0
+SameContents s hd entries marked entries′ marked′ =
+    (a : ℕ) → s .count a ≡ 1 → hd a ≢ 1 → (entries′ (s .block a) ≡ entries (s .block a)) × ((d : Dir) → marked′ d (s .block a) ≡ marked d (s .block a))
+
 -- of two tables of entries, `more` has e more in the block of the anode a₀, and the same in the blocks of the other anodes of chains but 1's
 abbrev pub EntryMore : Anodes → (ℕ → ℕ) → Entered → ℕ → (ℕ → List Entered) → (ℕ → List Entered) → Type 0
 EntryMore s hd e a₀ less more = (a : ℕ) → s .count a ≡ 1 → hd a ≢ 1 → (v : Bool → Bool → ℕ → ℕ → ℕ) →
@@ -98,7 +107,7 @@ module _ {ex : ℕ → Bool} {n last : ℕ} {s : Anodes} {system hd sd : ℕ →
   fresh-chain = chain-the (good .linked) f (f ∷ []) (λ q. head-f .in-use) (refl, f0, w .good .linked .view .free-end f fresh)
 
   module _ (entries′ : ℕ → List Entered) (marked′ : Dir → ℕ → Bool)
-      (cont : (a : ℕ) → s .count a ≡ 1 → hd a ≢ 1 → (entries′ (s .block a) ≡ entries (s .block a)) × ((d : Dir) → marked′ d (s .block a) ≡ marked d (s .block a))) where
+      (cont : SameContents s hd entries marked entries′ marked′) where
     abbrev items : Dir → List Item
     items = itemsBy entries marked s
 
@@ -133,7 +142,7 @@ module _ {ex : ℕ → Bool} {n last : ℕ} {s : Anodes} {system hd sd : ℕ →
     (sized : Sized s e)
     (a₀ h₀ : ℕ) (reached : headed h₀ dirs ≡ 1) (at₀ : hd a₀ ≡ h₀) (entries′ : ℕ → List Entered) (marked′ : Dir → ℕ → Bool)
     (cont : EntryMore s hd e a₀ entries entries′)
-    (same-marks : (a : ℕ) → s .count a ≡ 1 → hd a ≢ 1 → (d : Dir) → marked′ d (s .block a) ≡ marked d (s .block a)) where
+    (same-marks : SameMarks s hd marked marked′) where
   abbrev before : Dir → List Item
   before = itemsBy entries marked s
 

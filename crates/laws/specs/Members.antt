@@ -47,7 +47,7 @@ module _ {ℓ} {X : Type ℓ} where
   member-sum w x l (before, after, e) = rw e (omega (arith, list-append w before (x ∷ after), list-cons w x after))
 
   -- what holds of each member holds of each
-  pub each-members : (P : X → Type 0) (l : List X) → ((x : X) → Member x l → P x) → Each P l
+  each-members : (P : X → Type 0) (l : List X) → ((x : X) → Member x l → P x) → Each P l
   each-members P [] f = tt
   each-members P (x ∷ l) f = (f x (member-first x l), each-members P l (λ y m. f y (member-later y x l m)))
 

@@ -35,7 +35,7 @@ use Rattle.laws.specs.Resize.{Ran}
 listed-at : (f : ℕ → ℕ) (k i : ℕ) → i < k → getD (listed f 0 k) i 0 ≡ f i
 listed-at f k i l = getD-listed f 0 k i 0 l ∙ ap f (zero-add i)
 
-pub listed-is : (f : ℕ → ℕ) (k : ℕ) (l : List ℕ) → length l ≡ k → ((i : ℕ) → i < k → f i ≡ getD l i 0) → listed f 0 k ≡ l
+listed-is : (f : ℕ → ℕ) (k : ℕ) (l : List ℕ) → length l ≡ k → ((i : ℕ) → i < k → f i ≡ getD l i 0) → listed f 0 k ≡ l
 listed-is f k l e h =
     ext-getD 0 (listed f 0 k) l (length-listed f 0 k ∙ sym e) (λ i b. (let c : i < k = rw (length-listed f 0 k) at b in listed-at f k i c ∙ h i c))
 

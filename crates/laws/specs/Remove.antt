@@ -25,7 +25,7 @@ use Rattle.laws.specs.Trees.{Tree}
 use Rattle.laws.specs.TreeChanges.{headed, tree-unnamed, Gain, sum-named, dir-there, remove-file, remove-dir, AlikeItems, alike-named, alike-tree}
 use Rattle.laws.specs.Entries.{broken-wrong, sized-still, item-anode, item-dir, items-sum, itemsAt-fine, anodes-fine, items-alike}
 use Rattle.laws.specs.Whole.{DirHead, Whole, fine-still, dir-heads, named-heads}
-use Rattle.laws.specs.Make.{EntryMore, entry-gain}
+use Rattle.laws.specs.Make.{SameMarks, EntryMore, entry-gain}
 use Rattle.laws.specs.Resize.{Ran}
 
 -- a directory with nothing wrong and no entry has no item
@@ -83,7 +83,7 @@ module _ {ex : ℕ → Bool} {n last : ℕ} {s : Anodes} {system hd : ℕ → �
   unfolding dropped without
   alike a q = record { same-count = alive (t .count) a q; same-block = alive (t .block) a q; same-next = alive (t .next) a q }
 
-  pub dropped-gone : Gone s hd left h
+  dropped-gone : Gone s hd left h
   unfolding dropped without
   dropped-gone = record {
     stays = λ m q i. let j = ran .shift .stays m i in
@@ -100,10 +100,10 @@ module _ {ex : ℕ → Bool} {n last : ℕ} {s : Anodes} {system hd : ℕ → �
 -- every other chain but 1's is the same
 module _ {ex : ℕ → Bool} {n last : ℕ} {s t : Anodes} {system hd sd hd′ sd′ : ℕ → ℕ} (g : Good limit ex n last s system hd sd) (g′ : Good limit ex n last t system hd′ sd′)
     (h : ℕ) (gone : Gone s hd t h) (m : ℕ) (m1 : m ≢ 1) (mh : m ≢ h) (d : Head (s .next) (s .block) m) where
-  pub gone-alike : (a : ℕ) → 0 < times a (chainOf (s .next) limit m) → Alike s t a
+  gone-alike : (a : ℕ) → 0 < times a (chainOf (s .next) limit m) → Alike s t a
   gone-alike = apart-alike g (gone .apart) m d m1 mh
 
-  pub gone-chain : chainOf (t .next) limit m ≡ chainOf (s .next) limit m
+  gone-chain : chainOf (t .next) limit m ≡ chainOf (s .next) limit m
   gone-chain = apart-chain g (gone .apart) m d m1 mh g′ (gone .stays m mh d)
 
 -- ---- the entry goes while the chain is still there
@@ -210,7 +210,7 @@ module _ {ex : ℕ → Bool} {n last : ℕ} {s : Anodes} {system hd sd : ℕ →
   -- ---- the chain goes, which nothing names
 
   module _ {ys : List ℕ} {t : Anodes} (ran : Ran limit ex n last s system hd h 1 h 0 ys t) (marked′ : Dir → ℕ → Bool)
-      (same-marks : (a : ℕ) → s .count a ≡ 1 → hd a ≢ 1 → (d : Dir) → marked′ d (s .block a) ≡ marked d (s .block a)) where
+      (same-marks : SameMarks s hd marked marked′) where
     abbrev end : Anodes
     end = dropped limit t h
 

@@ -51,7 +51,7 @@ module _ {A : ℕ} {ex : ℕ → Bool} {n last : ℕ} {s : Anodes} {system hd sd
       d = head-of-is ck (g .sides) a a0 u
 
   -- the two sides
-  pub side-start : (m : ℕ) → SideHead m → Head (cut (s .next)) (s .block) m
+  side-start : (m : ℕ) → SideHead m → Head (cut (s .next)) (s .block) m
   side-start m (inl e) = rw e (cut-head (head-1 g))
   side-start m (inr e) = rw e (cut-head-2 (s .next) (g .fixed .block-2))
 

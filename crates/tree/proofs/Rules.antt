@@ -32,17 +32,18 @@ use Rattle.tree.proofs.Matching.{namings, filesIn, Agree, agree-same, I
 
 -- ---- the items by tables are those of the rules
 
-module _ (counts nexts heads : List ℕ) where
-  early-range : (b : Bool) (a : ℕ) → _≡_ {A = ℕ} (cond b 12 (cond (headAt heads a) 0 13)) 0 → (6 ≤ a) × (a < limit)
-  early-range true a e = absurd (omega arith)
-  early-range false a e = go (headAt heads a) refl e where
-    go : (h : Bool) → headAt heads a ≡ h → _≡_ {A = ℕ} (cond h 0 13) 0 → (6 ≤ a) × (a < limit)
-    go true h e = head-range heads a h
-    go false h e = absurd (omega arith)
+-- an entry that passes 12 and 13 names an anode from 6 up
+early-range : (heads : List ℕ) (b : Bool) (a : ℕ) → _≡_ {A = ℕ} (cond b 12 (cond (headAt heads a) 0 13)) 0 → (6 ≤ a) × (a < limit)
+early-range heads true a e = absurd (omega arith)
+early-range heads false a e = go (headAt heads a) refl e where
+  go : (h : Bool) → headAt heads a ≡ h → _≡_ {A = ℕ} (cond h 0 13) 0 → (6 ≤ a) × (a < limit)
+  go true h e = head-range heads a h
+  go false h e = absurd (omega arith)
 
+module _ (counts nexts heads : List ℕ) where
   range-item : (e : Entered) → InRange (itemIn counts nexts heads e)
   unfolding itemIn
-  range-item e = early-range (e .broken) (e .anode)
+  range-item e = early-range heads (e .broken) (e .anode)
 
   module _ (img : List ℕ) (s : Anodes) where
     range-items : (d : Dir) → Each InRange (itemsWith (itemIn counts nexts heads) img s d)
