@@ -83,7 +83,7 @@ module _ {ex : ℕ → Bool} {n last : ℕ} {s : Anodes} {system hd : ℕ → �
   unfolding dropped without
   alike a q = record { same-count = alive (t .count) a q; same-block = alive (t .block) a q; same-next = alive (t .next) a q }
 
-  dropped-gone : Gone s hd left h
+  pub dropped-gone : Gone s hd left h
   unfolding dropped without
   dropped-gone = record {
     stays = λ m q i. let j = ran .shift .stays m i in
@@ -100,10 +100,10 @@ module _ {ex : ℕ → Bool} {n last : ℕ} {s : Anodes} {system hd : ℕ → �
 -- every other chain but 1's is the same
 module _ {ex : ℕ → Bool} {n last : ℕ} {s t : Anodes} {system hd sd hd′ sd′ : ℕ → ℕ} (g : Good limit ex n last s system hd sd) (g′ : Good limit ex n last t system hd′ sd′)
     (h : ℕ) (gone : Gone s hd t h) (m : ℕ) (m1 : m ≢ 1) (mh : m ≢ h) (d : Head (s .next) (s .block) m) where
-  gone-alike : (a : ℕ) → 0 < times a (chainOf (s .next) limit m) → Alike s t a
+  pub gone-alike : (a : ℕ) → 0 < times a (chainOf (s .next) limit m) → Alike s t a
   gone-alike = apart-alike g (gone .apart) m d m1 mh
 
-  gone-chain : chainOf (t .next) limit m ≡ chainOf (s .next) limit m
+  pub gone-chain : chainOf (t .next) limit m ≡ chainOf (s .next) limit m
   gone-chain = apart-chain g (gone .apart) m d m1 mh g′ (gone .stays m mh d)
 
 -- ---- the entry goes while the chain is still there

@@ -79,11 +79,10 @@ new-owner-requires c κs = search needs
 
 commit-resize-requires : tie.Need-commit-resize-requires
 commit-resize-requires c κs =
-    let l = c .before .before .before .before .before .before .before .before .before .before .before .before .before .before .before in
-    let g = l .before .before .before .before .before .before .before .before .before .before .before .before .before .before .before .before .before .args in
-    let pre = l .before .before .before .before .before .before .before .before .before .before .before .before .before .before .before .before .before .pre in
-    let p = l .plan-resize in
-    (pre .0, ((pre .1 .0, pre .1 .1, search needs, search needs), (rw (c .before .moves-count .ensures) (planned-as l ∙ moves-done _ (p .last .1 .1 .1 .1 .1 .1 .1 .0) (p .result) (sym (c .before .before .before .before .before .before .before .before .before .before .moves-number .ensures) ∙ c .before .before .before .before .before .before .before .before .before .if1 .taken)), owner-is (pre .0 .0) (entered (g .e)) (pre .0 .1) (g .size) _ _ _ (l .before .before .before .before .before .before .before .before .before .before .chain-sum .ensures) (l .before .before .before .before .before .before .before .before .before .blocks-for .ensures) (c .new-owner .ensures))))
+    let pre = c .before .before .before .before .before .before .before .before .before .before .before .before .before .before .before .before .before .before .before .before .before .before .before .before .before .before .before .before .before .before .before .before .pre in
+    let g = c .before .before .before .before .before .before .before .before .before .before .before .before .before .before .before .before .before .before .before .before .before .before .before .before .before .before .before .before .before .before .before .before .args in
+    let p = c .before .before .before .before .before .before .before .before .before .before .before .before .before .before .before .plan-resize in
+    (pre .0, ((pre .1 .0, pre .1 .1, search needs, search needs), (rw (c .before .moves-count .ensures) (planned-as (c .before .before .before .before .before .before .before .before .before .before .before .before .before .before .before) ∙ moves-done _ (p .last .1 .1 .1 .1 .1 .1 .1 .0) (p .result) (sym (c .before .before .before .before .before .before .before .before .before .before .moves-number .ensures) ∙ c .before .before .before .before .before .before .before .before .before .if1 .taken)), owner-is (pre .0 .0) (entered (g .e)) (pre .0 .1) (g .size) _ _ _ (c .before .before .before .before .before .before .before .before .before .before .before .before .before .before .before .before .before .before .before .before .before .before .before .before .before .chain-sum .ensures) (c .before .before .before .before .before .before .before .before .before .before .before .before .before .before .before .before .before .before .before .before .before .before .before .before .blocks-for .ensures) (c .new-owner .ensures))))
 
 same-length : tie.Need-same-length
 same-length c = search needs
