@@ -15,7 +15,7 @@ use Rattle.rules.specs.Counting.{sumList, times, gather}
 use Rattle.rules.specs.Anodes.{Anodes, limit, exists, anodesOf}
 use Rattle.rules.specs.Chains.{blocksOf, blockCount}
 use Rattle.rules.specs.Walk.{Dir, Entered, entriesIn, isBlockOf, blocksFor, itemsBy, reachedDirs}
-use Rattle.rules.specs.Accepted.{lastReserved, checkAnswer}
+use Rattle.rules.specs.Accepted.{checkAnswer}
 use Rattle.rules.specs.Space.{Plan, refused, planned, rewritten, lowestFree}
 use Rattle.rules.specs.Format.{newDirectoryBlock}
 use Rattle.rules.specs.Changes.{firstRoom, noRoom, neededBlock, entryPlace, NewEntry, entryOf, madeImage, Left, left, leftBy, madeWith, made}
@@ -120,12 +120,12 @@ module _ {img : List ℕ} {blocks anodes h : ℕ} {new : NewEntry} {f : ℕ} {ro
 -- the step for a directory block is refused with 27 or 28
 pub needed-refused : (img : List ℕ) (needed : Bool) (s : Anodes) (h n : ℕ) → neededBlock img needed s h ≡ refused n → (n ≡ 27) ⊎ (n ≡ 28)
 unfolding neededBlock
-needed-refused img true s h n e = take-refused limit (exists img) (lastReserved img) true s h n e
+needed-refused img true s h n e = take-refused limit (exists img) true s h n e
 needed-refused img false s h n e = absurd (planned≢refused s [] n e)
 
 module _ (img : List ℕ) (s : Anodes) (h : ℕ) (new : NewEntry) where
   abbrev first : ℕ
-  first = lowestFree limit (exists img) (lastReserved img) s
+  first = lowestFree limit (exists img) s
 
   abbrev space : Option ℕ
   space = firstRoom img (entryLength (length (new .name)) (length (new .comment))) (blocksOf s h)

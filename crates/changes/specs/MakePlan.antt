@@ -41,7 +41,7 @@ OrphanedOn img f t hd sd entries marked dirs = Orphaned (exists img) (diskSize i
 pub record Fresh (img : List ℕ) (blocks anodes h f : ℕ) : Type 0 where
   pub accepted : checkAnswer img blocks anodes ≡ 0
   pub reached : noDirectory img (anodesOf img) h ≡ false
-  pub lowest : lowestFree limit (exists img) (lastReserved img) (anodesOf img) ≡ f
+  pub lowest : lowestFree limit (exists img) (anodesOf img) ≡ f
   pub below : f < limit
 
 abbrev pub fresh-dir : {img : List ℕ} {blocks anodes h f : ℕ} → Fresh img blocks anodes h f → ReachedDir img h
@@ -50,8 +50,8 @@ fresh-dir {blocks = blocks} {anodes = anodes} x = record { image = record { bloc
 -- the lowest free anode is free
 pub fresh-free : {img : List ℕ} {blocks anodes h f : ℕ} → Fresh img blocks anodes h f → (6 ≤ f) × (anodesOf img .block f ≡ 0) × T (exists img f)
 unfolding lowestFree
-fresh-free {img} {f = f} x = free-is limit (exists img) (lastReserved img) (anodesOf img) f (elim (least-cases (free limit (exists img) (lastReserved img) (anodesOf img)) limit) [
-  | inl i ↦ subst (λ (a : ℕ). T (free limit (exists img) (lastReserved img) (anodesOf img) a)) (x .lowest) (i .1)
+fresh-free {img} {f = f} x = free-is (exists img) (anodesOf img) f (elim (least-cases (free (exists img) (anodesOf img)) limit) [
+  | inl i ↦ subst (λ (a : ℕ). T (free (exists img) (anodesOf img) a)) (x .lowest) (i .1)
   | inr i ↦ absurd (omega (arith, i .0, x .lowest, x .below))
 ])
 

@@ -67,7 +67,7 @@ module _ (img : List ℕ) {s : Anodes} {hd sd : ℕ → ℕ} (g : GoodOn img s h
   unfolding resizePlan
   plan-refused size k plan = elim (less? size (blockCount s h)) [
     | inl l ↦ inr (gives-refused (blockCount s h - size) h h1 k s (systemOwns img) hd sd g d (omega (arith, blocks-count g h d)) (rw (lt-leb (blockCount s h) size l) at plan))
-    | inr l ↦ takes-refused limit (exists img) (lastReserved img) false (size - blockCount s h) s h k (rw (le-leb (blockCount s h) size l) at plan)
+    | inr l ↦ takes-refused limit (exists img) false (size - blockCount s h) s h k (rw (le-leb (blockCount s h) size l) at plan)
   ]
 
   -- the list of blocks of the chain: more of them behind, or fewer

@@ -32,74 +32,75 @@ abbrev pub JoinsNone : Anodes → ℕ → ℕ → Type 0
 JoinsNone s z y = (z ≡ 1) ⊎ ((s .count z ≢ 0) × (s .block z + s .count z ≢ y) × (y + 1 ≢ s .block z))
 
 -- no anode from 6 up is free
-abbrev pub NoneFree : ℕ → (ℕ → Bool) → ℕ → Anodes → Type 0
-NoneFree A ex last s = (a : ℕ) → a < A → T (free A ex last s a) → ⊥
+abbrev pub NoneFree : ℕ → (ℕ → Bool) → Anodes → Type 0
+NoneFree A ex s = (a : ℕ) → a < A → T (free ex s a) → ⊥
 
 -- block y and the last anode z of its side: z is filled, grows at its end or before its start, or y gets an anode behind it
-pub data Joins (A : ℕ) (ex : ℕ → Bool) (last : ℕ) (s : Anodes) (z y : ℕ) : Type 0 where
-  fills : (z ≢ 1) × (s .count z ≡ 0) × (join A ex last s z y ≡ planned (rewritten s z 1 y) (y ∷ [])) → Joins A ex last s z y
-  ends : (z ≢ 1) × (s .count z ≢ 0) × (s .block z + s .count z ≡ y) × (join A ex last s z y ≡ planned (rewritten s z (s .count z + 1) (s .block z)) (y ∷ [])) → Joins A ex last s z y
-  starts : (z ≢ 1) × (s .count z ≢ 0) × (y + 1 ≡ s .block z) × (join A ex last s z y ≡ planned (rewritten s z (s .count z + 1) y) (y ∷ [])) → Joins A ex last s z y
-  behind : JoinsNone s z y × (join A ex last s z y ≡ append A ex last s z y) → Joins A ex last s z y
+pub data Joins (A : ℕ) (ex : ℕ → Bool) (s : Anodes) (z y : ℕ) : Type 0 where
+  fills : (z ≢ 1) × (s .count z ≡ 0) × (join A ex s z y ≡ planned (rewritten s z 1 y) (y ∷ [])) → Joins A ex s z y
+  ends : (z ≢ 1) × (s .count z ≢ 0) × (s .block z + s .count z ≡ y) × (join A ex s z y ≡ planned (rewritten s z (s .count z + 1) (s .block z)) (y ∷ [])) → Joins A ex s z y
+  starts : (z ≢ 1) × (s .count z ≢ 0) × (y + 1 ≡ s .block z) × (join A ex s z y ≡ planned (rewritten s z (s .count z + 1) y) (y ∷ [])) → Joins A ex s z y
+  behind : JoinsNone s z y × (join A ex s z y ≡ append A ex s z y) → Joins A ex s z y
 
-module _ (A : ℕ) (ex : ℕ → Bool) (last : ℕ) where
-  pub free-is : (s : Anodes) (f : ℕ) → T (free A ex last s f) → (6 ≤ f) × (s .block f ≡ 0) × T (ex f)
-  unfolding free
-  free-is s f t =
-      let a = both (leb 6 f) (eqb (s .block f) 0 && ex f) t in
-      let b = both (eqb (s .block f) 0) (ex f) (a .1) in
-      (leb→le 6 f (a .0), eqb→eq (s .block f) 0 (b .0), b .1)
+-- what a free anode is
+pub free-is : (ex : ℕ → Bool) (s : Anodes) (f : ℕ) → T (free ex s f) → (6 ≤ f) × (s .block f ≡ 0) × T (ex f)
+unfolding free
+free-is ex s f t =
+    let a = both (leb 6 f) (eqb (s .block f) 0 && ex f) t in
+    let b = both (eqb (s .block f) 0) (ex f) (a .1) in
+    (leb→le 6 f (a .0), eqb→eq (s .block f) 0 (b .0), b .1)
 
+module _ (A : ℕ) (ex : ℕ → Bool) where
   -- an append is done with a free anode, the lowest, or refused with 28 where there is none
   pub append-cases : (s : Anodes) (z y : ℕ) →
-      ((lowestFree A ex last s < A) × T (free A ex last s (lowestFree A ex last s)) × (append A ex last s z y ≡ planned (insertedAfter s z (lowestFree A ex last s) 1 y) (y ∷ [])))
-      ⊎ ((append A ex last s z y ≡ refused 28) × NoneFree A ex last s)
+      ((lowestFree A ex s < A) × T (free ex s (lowestFree A ex s)) × (append A ex s z y ≡ planned (insertedAfter s z (lowestFree A ex s) 1 y) (y ∷ [])))
+      ⊎ ((append A ex s z y ≡ refused 28) × NoneFree A ex s)
   unfolding append lowestFree
   append-cases s z y =
-      elim (cond-cases (ltb (lowestFree A ex last s) A) (planned (insertedAfter s z (lowestFree A ex last s) 1 y) (y ∷ [])) (refused 28)) [
-        | inl c ↦ elim (least-cases (free A ex last s) A) [
+      elim (cond-cases (ltb (lowestFree A ex s) A) (planned (insertedAfter s z (lowestFree A ex s) 1 y) (y ∷ [])) (refused 28)) [
+        | inl c ↦ elim (least-cases (free ex s) A) [
           | inl d ↦ inl (d .0, d .1, c .1)
-          | inr d ↦ absurd (omega (arith, ltb→lt (least (free A ex last s) A) A (c .0), d .0))
+          | inr d ↦ absurd (omega (arith, ltb→lt (least (free ex s) A) A (c .0), d .0))
         ]
-        | inr c ↦ elim (least-cases (free A ex last s) A) [
-          | inl d ↦ absurd (c .0 (lt→ltb (least (free A ex last s) A) A (d .0)))
+        | inr c ↦ elim (least-cases (free ex s) A) [
+          | inl d ↦ absurd (c .0 (lt→ltb (least (free ex s) A) A (d .0)))
           | inr d ↦ inr (c .1, d .1)
         ]
       ]
 
   -- block y and the taker's last anode z: z is filled, grows at its end, or y gets an anode behind it
   pub put-cases : (own : Bool) (s : Anodes) (z y : ℕ) → Which
-      ((s .count z ≡ 0) × (put A ex last own s z y ≡ planned (rewritten s z 1 y) (y ∷ [])))
-      ((s .count z ≢ 0) × (own ≡ false) × (s .block z + s .count z ≡ y) × (put A ex last own s z y ≡ planned (rewritten s z (s .count z + 1) (s .block z)) (y ∷ [])))
-      (NeedsAnode own s z y × (put A ex last own s z y ≡ append A ex last s z y))
+      ((s .count z ≡ 0) × (put A ex own s z y ≡ planned (rewritten s z 1 y) (y ∷ [])))
+      ((s .count z ≢ 0) × (own ≡ false) × (s .block z + s .count z ≡ y) × (put A ex own s z y ≡ planned (rewritten s z (s .count z + 1) (s .block z)) (y ∷ [])))
+      (NeedsAnode own s z y × (put A ex own s z y ≡ append A ex s z y))
   unfolding put fillOr growOr
-  put-cases own s z y = elim (cond-cases (eqb (s .count z) 0) (planned (rewritten s z 1 y) (y ∷ [])) (cond own (append A ex last s z y) (growOr s z y (append A ex last s z y)))) [
+  put-cases own s z y = elim (cond-cases (eqb (s .count z) 0) (planned (rewritten s z 1 y) (y ∷ [])) (cond own (append A ex s z y) (growOr s z y (append A ex s z y)))) [
     | inl c ↦ first (eqb→eq (s .count z) 0 (c .0), c .1)
     | inr c ↦ behind-it own (λ q. c .0 (eq→eqb (s .count z) 0 q)) (c .1)
   ]
     where
-      behind-it : (b : Bool) → s .count z ≢ 0 → put A ex last own s z y ≡ cond b (append A ex last s z y) (growOr s z y (append A ex last s z y)) → Which
-          ((s .count z ≡ 0) × (put A ex last own s z y ≡ planned (rewritten s z 1 y) (y ∷ [])))
-          ((s .count z ≢ 0) × (b ≡ false) × (s .block z + s .count z ≡ y) × (put A ex last own s z y ≡ planned (rewritten s z (s .count z + 1) (s .block z)) (y ∷ [])))
-          (NeedsAnode b s z y × (put A ex last own s z y ≡ append A ex last s z y))
+      behind-it : (b : Bool) → s .count z ≢ 0 → put A ex own s z y ≡ cond b (append A ex s z y) (growOr s z y (append A ex s z y)) → Which
+          ((s .count z ≡ 0) × (put A ex own s z y ≡ planned (rewritten s z 1 y) (y ∷ [])))
+          ((s .count z ≢ 0) × (b ≡ false) × (s .block z + s .count z ≡ y) × (put A ex own s z y ≡ planned (rewritten s z (s .count z + 1) (s .block z)) (y ∷ [])))
+          (NeedsAnode b s z y × (put A ex own s z y ≡ append A ex s z y))
       behind-it true c0 e = third ((c0, inl refl), e)
-      behind-it false c0 e = elim (cond-cases (eqb (s .block z + s .count z) y) (planned (rewritten s z (s .count z + 1) (s .block z)) (y ∷ [])) (append A ex last s z y)) [
+      behind-it false c0 e = elim (cond-cases (eqb (s .block z + s .count z) y) (planned (rewritten s z (s .count z + 1) (s .block z)) (y ∷ [])) (append A ex s z y)) [
         | inl d ↦ second (c0, refl, eqb→eq (s .block z + s .count z) y (d .0), e ∙ d .1)
         | inr d ↦ third ((c0, inr (λ q. d .0 (eq→eqb (s .block z + s .count z) y q))), e ∙ d .1)
       ]
 
   -- which of these a join is
-  pub join-cases : (s : Anodes) (z y : ℕ) → Joins A ex last s z y
+  pub join-cases : (s : Anodes) (z y : ℕ) → Joins A ex s z y
   unfolding join fillOr growOr growBeforeOr
-  join-cases s z y = elim (cond-cases (eqb z 1) (append A ex last s z y) (fillOr s z y (growOr s z y (growBeforeOr s z y (append A ex last s z y))))) [
+  join-cases s z y = elim (cond-cases (eqb z 1) (append A ex s z y) (fillOr s z y (growOr s z y (growBeforeOr s z y (append A ex s z y))))) [
     | inl c ↦ behind (inl (eqb→eq z 1 (c .0)), c .1)
     | inr c ↦ (let z1 : z ≢ 1 = λ q. c .0 (eq→eqb z 1 q) in
-        elim (cond-cases (eqb (s .count z) 0) (planned (rewritten s z 1 y) (y ∷ [])) (growOr s z y (growBeforeOr s z y (append A ex last s z y)))) [
+        elim (cond-cases (eqb (s .count z) 0) (planned (rewritten s z 1 y) (y ∷ [])) (growOr s z y (growBeforeOr s z y (append A ex s z y)))) [
           | inl d ↦ fills (z1, eqb→eq (s .count z) 0 (d .0), c .1 ∙ d .1)
           | inr d ↦ (let c0 : s .count z ≢ 0 = λ q. d .0 (eq→eqb (s .count z) 0 q) in
-              elim (cond-cases (eqb (s .block z + s .count z) y) (planned (rewritten s z (s .count z + 1) (s .block z)) (y ∷ [])) (growBeforeOr s z y (append A ex last s z y))) [
+              elim (cond-cases (eqb (s .block z + s .count z) y) (planned (rewritten s z (s .count z + 1) (s .block z)) (y ∷ [])) (growBeforeOr s z y (append A ex s z y))) [
                 | inl f ↦ ends (z1, c0, eqb→eq (s .block z + s .count z) y (f .0), c .1 ∙ d .1 ∙ f .1)
-                | inr f ↦ elim (cond-cases (eqb (y + 1) (s .block z)) (planned (rewritten s z (s .count z + 1) y) (y ∷ [])) (append A ex last s z y)) [
+                | inr f ↦ elim (cond-cases (eqb (y + 1) (s .block z)) (planned (rewritten s z (s .count z + 1) y) (y ∷ [])) (append A ex s z y)) [
                   | inl i ↦ starts (z1, c0, eqb→eq (y + 1) (s .block z) (i .0), c .1 ∙ d .1 ∙ f .1 ∙ i .1)
                   | inr i ↦ behind (inr (c0, λ q. f .0 (eq→eqb (s .block z + s .count z) y q), λ q. i .0 (eq→eqb (y + 1) (s .block z) q)), c .1 ∙ d .1 ∙ f .1 ∙ i .1)
                 ]
@@ -145,10 +146,10 @@ module _ {A : ℕ} {ex : ℕ → Bool} {n last : ℕ} {s : Anodes} (system : ℕ
       next-is = omega arith
 
   -- a fresh anode after z has y alone
-  appended : (f : ℕ) → f < A → T (free A ex last s f) → Placed A ex n last s system hd (hd z) y (insertedAfter s z f 1 y)
+  appended : (f : ℕ) → f < A → T (free ex s f) → Placed A ex n last s system hd (hd z) y (insertedAfter s z f 1 y)
   unfolding insertedAfter insertAfter
   appended f fA t =
-      let i = free-is A ex last s f t in
+      let i = free-is ex s f t in
       let good = insert-good g z f 1 y system z0 u (i .0) (i .2) fA (i .1) y0 (λ x. omega (arith, covers-one y x)) (λ p. omega arith) (λ q l. high q) (λ q l. omega (arith, low q)) in
       let kept : (a : ℕ) → s .block a ≢ 0 → changed hd f (hd z) a ≡ hd a = λ a v. changed-other hd f (hd z) a (λ e. v (ap (s .block) e ∙ i .1)) in
       record {
@@ -173,21 +174,21 @@ module _ {A : ℕ} {ex : ℕ → Bool} {n last : ℕ} {s : Anodes} (system : ℕ
   placed-by : (r t : Anodes) (ys : List ℕ) → planned r (y ∷ []) ≡ planned t ys → Placed A ex n last s system hd (hd z) y r → Placed A ex n last s system hd (hd z) y t × (ys ≡ y ∷ [])
   placed-by r t ys e w = let q = planned-same r t (y ∷ []) ys e in (rw (q .0) at w, q .1)
 
-  append-placed : (t : Anodes) (ys : List ℕ) → append A ex last s z y ≡ planned t ys → Placed A ex n last s system hd (hd z) y t × (ys ≡ y ∷ [])
-  append-placed t ys e = elim (append-cases A ex last s z y) [
-    | inl c ↦ placed-by (insertedAfter s z (lowestFree A ex last s) 1 y) t ys (sym (c .2) ∙ e) (appended (lowestFree A ex last s) (c .0) (c .1))
+  append-placed : (t : Anodes) (ys : List ℕ) → append A ex s z y ≡ planned t ys → Placed A ex n last s system hd (hd z) y t × (ys ≡ y ∷ [])
+  append-placed t ys e = elim (append-cases A ex s z y) [
+    | inl c ↦ placed-by (insertedAfter s z (lowestFree A ex s) 1 y) t ys (sym (c .2) ∙ e) (appended (lowestFree A ex s) (c .0) (c .1))
     | inr c ↦ absurd (refused≢planned 28 t ys (sym (c .0) ∙ e))
   ]
 
-  pub put-placed : z ≢ 1 → (own : Bool) (t : Anodes) (ys : List ℕ) → put A ex last own s z y ≡ planned t ys → Placed A ex n last s system hd (hd z) y t × (ys ≡ y ∷ [])
-  put-placed z1 own t ys e = elim (put-cases A ex last own s z y) [
+  pub put-placed : z ≢ 1 → (own : Bool) (t : Anodes) (ys : List ℕ) → put A ex own s z y ≡ planned t ys → Placed A ex n last s system hd (hd z) y t × (ys ≡ y ∷ [])
+  put-placed z1 own t ys e = elim (put-cases A ex own s z y) [
     | first c ↦ placed-by (rewritten s z 1 y) t ys (sym (c .1) ∙ e) (filled z1 (c .0))
     | second c ↦ placed-by (rewritten s z (s .count z + 1) (s .block z)) t ys (sym (c .3) ∙ e) (grown z1 (c .0) (c .2))
     | third c ↦ append-placed t ys (sym (c .1) ∙ e)
   ]
 
-  pub join-placed : (t : Anodes) (ys : List ℕ) → join A ex last s z y ≡ planned t ys → Placed A ex n last s system hd (hd z) y t × (ys ≡ y ∷ [])
-  join-placed t ys e = elim (join-cases A ex last s z y) [
+  pub join-placed : (t : Anodes) (ys : List ℕ) → join A ex s z y ≡ planned t ys → Placed A ex n last s system hd (hd z) y t × (ys ≡ y ∷ [])
+  join-placed t ys e = elim (join-cases A ex s z y) [
     | fills c ↦ placed-by (rewritten s z 1 y) t ys (sym (c .2) ∙ e) (filled (c .0) (c .1))
     | ends c ↦ placed-by (rewritten s z (s .count z + 1) (s .block z)) t ys (sym (c .3) ∙ e) (grown (c .0) (c .1) (c .2))
     | starts c ↦ placed-by (rewritten s z (s .count z + 1) y) t ys (sym (c .3) ∙ e) (grown-before (c .0) (c .1) (c .2))

@@ -50,7 +50,7 @@ module _ {ex : ℕ → Bool} {n last f : ℕ} {s : Anodes} {system hd sd : ℕ �
   dir-ones : (a : ℕ) → 0 < times a (chainOf (s .next) limit h) → s .count a ≡ 1
   dir-ones a p = anodes-fine entries marked s (the-dir .0) (the-dir .2 .1) a (rw (the-dir .1) p) .0
 
-  module _ (t : Anodes) (ys : List ℕ) (e : takeBlock limit ex last true s h ≡ planned t ys) where
+  module _ (t : Anodes) (ys : List ℕ) (e : takeBlock limit ex true s h ≡ planned t ys) where
     pub dir-taken : (y : ℕ) × (ys ≡ y ∷ []) × Appended limit s t h y
     dir-taken = own-appended (o .good) h dir-head dir-not-1 dir-ones t ys e
 

@@ -120,17 +120,17 @@ module _ {ex : ℕ → Bool} {n last : ℕ} {s : Anodes} {system hd sd : ℕ →
 
 -- block y, in hand, joins the last anode of its side or gets an anode behind it
 module _ {ex : ℕ → Bool} {n last : ℕ} {s : Anodes} {system hd sd : ℕ → ℕ} (g : Good limit ex n last s system hd sd) (y : ℕ) (y0 : y ≢ 0) (z : ℕ) (free : hd z ≡ 1) where
-  appended : (t : Anodes) (ys : List ℕ) → append limit ex last s z y ≡ planned t ys → OneMore y (blocksOf s 1) (blocksOf t 1)
-  appended t ys e = elim (append-cases limit ex last s z y) [
+  appended : (t : Anodes) (ys : List ℕ) → append limit ex s z y ≡ planned t ys → OneMore y (blocksOf s 1) (blocksOf t 1)
+  appended t ys e = elim (append-cases limit ex s z y) [
     | inr c ↦ absurd (refused≢planned 28 t ys (sym (c .0) ∙ e))
-    | inl c ↦ (let f = lowestFree limit ex last s in
-        let i = free-is limit ex last s f (c .1) in
+    | inl c ↦ (let f = lowestFree limit ex s in
+        let i = free-is ex s f (c .1) in
         let w = inserted-more g z free y (λ q. omega (arith, free, ap hd q, g .heads .off-zero)) (headed-used g z (λ q. omega (arith, free, q))) y0 f (λ q. omega (arith, q, i .0)) (i .1) (c .0) in
         rw (planned-same (insertedAfter s z f 1 y) t (y ∷ []) ys (sym (c .2) ∙ e) .0) at w)
   ]
 
-  join-more : (t : Anodes) (ys : List ℕ) → join limit ex last s z y ≡ planned t ys → OneMore y (blocksOf s 1) (blocksOf t 1)
-  join-more t ys e = elim (join-cases limit ex last s z y) [
+  join-more : (t : Anodes) (ys : List ℕ) → join limit ex s z y ≡ planned t ys → OneMore y (blocksOf s 1) (blocksOf t 1)
+  join-more t ys e = elim (join-cases limit ex s z y) [
     | fills c ↦ by 1 y (sym (c .2) ∙ e) (at-end 1 y (extent-filled s z y (c .1)))
     | ends c ↦ by (s .count z + 1) (s .block z) (sym (c .3) ∙ e) (at-end (s .count z + 1) (s .block z) (extent-longer s z y (c .2)))
     | starts c ↦ by (s .count z + 1) y (sym (c .3) ∙ e) ([], extent s z, refl, extent-before s z y (c .2))
@@ -145,7 +145,7 @@ module _ {ex : ℕ → Bool} {n last : ℕ} {s : Anodes} {system hd sd : ℕ →
 
 module _ {ex : ℕ → Bool} {n last : ℕ} {s : Anodes} {system hd sd : ℕ → ℕ} (g : Good limit ex n last s system hd sd) (h : ℕ) (d : Head (s .next) (s .block) h) (h1 : h ≢ 1) where
   -- a take takes one block out of the free list's
-  pub take-free : (own : Bool) (t : Anodes) (ys : List ℕ) → takeBlock limit ex last own s h ≡ planned t ys → (y : ℕ) × (ys ≡ y ∷ []) × OneMore y (blocksOf t 1) (blocksOf s 1)
+  pub take-free : (own : Bool) (t : Anodes) (ys : List ℕ) → takeBlock limit ex own s h ≡ planned t ys → (y : ℕ) × (ys ≡ y ∷ []) × OneMore y (blocksOf t 1) (blocksOf s 1)
   take-free own t ys e =
       let k = take-steps g h own t ys e in
       let w = take-placed g h d h1 k in

@@ -44,23 +44,23 @@ module _ (A : ℕ) (own : Bool) (s : Anodes) where
       either false p q (inl i) = rw i p
       either false p q (inr i) = rw i q
 
-  module _ (ex : ℕ → Bool) (last h : ℕ) where
+  module _ (ex : ℕ → Bool) (h : ℕ) where
     -- a take without it is refused with 27
-    pub take-nowhere : freeExtent A own s ≡ nowhere → takeBlock A ex last own s h ≡ refused 27
+    pub take-nowhere : freeExtent A own s ≡ nowhere → takeBlock A ex own s h ≡ refused 27
     unfolding takeBlock
     take-nowhere e = rw (e, takeBlock)
 
     -- and with it takes its first block
-    pub take-found : (p x : ℕ) → freeExtent A own s ≡ found p x → takeBlock A ex last own s h ≡ takeFrom A ex last own s h p x
+    pub take-found : (p x : ℕ) → freeExtent A own s ≡ found p x → takeBlock A ex own s h ≡ takeFrom A ex own s h p x
     unfolding takeBlock
     take-found p x e = rw (e, takeBlock)
 
     -- which of the two a take is
-    pub take-cases : ((freeExtent A own s ≡ nowhere) × (takeBlock A ex last own s h ≡ refused 27))
-        ⊎ ((p : ℕ) × (x : ℕ) × (freeExtent A own s ≡ found p x) × (takeBlock A ex last own s h ≡ takeFrom A ex last own s h p x))
+    pub take-cases : ((freeExtent A own s ≡ nowhere) × (takeBlock A ex own s h ≡ refused 27))
+        ⊎ ((p : ℕ) × (x : ℕ) × (freeExtent A own s ≡ found p x) × (takeBlock A ex own s h ≡ takeFrom A ex own s h p x))
     take-cases = go (freeExtent A own s) refl
       where
-        go : (c : Found) → freeExtent A own s ≡ c → ((freeExtent A own s ≡ nowhere) × (takeBlock A ex last own s h ≡ refused 27))
-            ⊎ ((p : ℕ) × (x : ℕ) × (freeExtent A own s ≡ found p x) × (takeBlock A ex last own s h ≡ takeFrom A ex last own s h p x))
+        go : (c : Found) → freeExtent A own s ≡ c → ((freeExtent A own s ≡ nowhere) × (takeBlock A ex own s h ≡ refused 27))
+            ⊎ ((p : ℕ) × (x : ℕ) × (freeExtent A own s ≡ found p x) × (takeBlock A ex own s h ≡ takeFrom A ex own s h p x))
         go nowhere e = inl (e, take-nowhere e)
         go (found p x) e = inr (p, x, e, take-found p x e)

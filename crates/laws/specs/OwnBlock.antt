@@ -53,7 +53,7 @@ module _ {A : ℕ} {ex : ℕ → Bool} {n last : ℕ} {s : Anodes} {system hd sd
       | inl e ↦ rw e (omega (arith, times-on-chain (g .linked) (g .heads) h d h, oneAt-same (hd h) h (g .heads .at-head h d)))
     ]
 
-    put-filled : chainOf (s .next) A h ≡ h ∷ [] → s .count h ≡ 0 → (t : Anodes) (ys : List ℕ) → put A ex last true r (lastOf h (chainOf (r .next) A h)) y ≡ planned t ys →
+    put-filled : chainOf (s .next) A h ≡ h ∷ [] → s .count h ≡ 0 → (t : Anodes) (ys : List ℕ) → put A ex true r (lastOf h (chainOf (r .next) A h)) y ≡ planned t ys →
         (ys ≡ y ∷ []) × Filled A t h y
     unfolding put fillOr rewritten lastOf
     put-filled alone none t ys e =
@@ -65,12 +65,12 @@ module _ {A : ℕ} {ex : ℕ → Bool} {n last : ℕ} {s : Anodes} {system hd sd
         (q .1, rw (q .0) at filled)
 
     -- an anode f that was free, behind the last
-    module _ (f : ℕ) (fA : f < A) (is-free : T (free A ex last r f)) (y0 : y ≢ 0) where
+    module _ (f : ℕ) (fA : f < A) (is-free : T (free ex r f)) (y0 : y ≢ 0) where
       abbrev end : ℕ
       end = lastOf h (chainOf (s .next) A h)
 
       fresh : (6 ≤ f) × (r .block f ≡ 0) × T (ex f)
-      fresh = free-is A ex last r f is-free
+      fresh = free-is ex r f is-free
 
       not-f : (a : ℕ) → 0 < times a (chainOf (s .next) A h) → a ≢ f
       not-f a p e = on-chain g h d a p .1 (sym (on-h a p .same-block) ∙ ap (r .block) e ∙ fresh .1)
@@ -85,25 +85,25 @@ module _ {A : ℕ} {ex : ℕ → Bool} {n last : ℕ} {s : Anodes} {system hd sd
         kept = λ a p. (changed-other (r .count) f 1 a (not-f a p) ∙ on-h a p .same-count, changed-other (r .block) f y a (not-f a p) ∙ on-h a p .same-block);
       }
 
-    put-behind : y ≢ 0 → ((a : ℕ) → 0 < times a (chainOf (s .next) A h) → s .count a ≡ 1) → (t : Anodes) (ys : List ℕ) → put A ex last true r (lastOf h (chainOf (r .next) A h)) y ≡ planned t ys →
+    put-behind : y ≢ 0 → ((a : ℕ) → 0 < times a (chainOf (s .next) A h) → s .count a ≡ 1) → (t : Anodes) (ys : List ℕ) → put A ex true r (lastOf h (chainOf (r .next) A h)) y ≡ planned t ys →
         (ys ≡ y ∷ []) × Appended A s t h y
     unfolding put fillOr
     put-behind y0 ones t ys e =
         let z = lastOf h (chainOf (s .next) A h) in
         let full : r .count z ≡ 1 = on-h z end-on .same-count ∙ ones z end-on in
-        let p : append A ex last r z y ≡ planned t ys = rw (hand-chain, full) at e in
-        elim (append-cases A ex last r z y) [
+        let p : append A ex r z y ≡ planned t ys = rw (hand-chain, full) at e in
+        elim (append-cases A ex r z y) [
           | inr c ↦ absurd (refused≢planned 28 t ys (sym (c .0) ∙ p))
-          | inl c ↦ (let q = planned-same (insertedAfter r z (lowestFree A ex last r) 1 y) t (y ∷ []) ys (sym (c .2) ∙ p) in
-              (q .1, rw (q .0) at (put-appended (lowestFree A ex last r) (c .0) (c .1) y0)))
+          | inl c ↦ (let q = planned-same (insertedAfter r z (lowestFree A ex r) 1 y) t (y ∷ []) ys (sym (c .2) ∙ p) in
+              (q .1, rw (q .0) at (put-appended (lowestFree A ex r) (c .0) (c .1) y0)))
         ]
 
   -- a chain with no block, and so of its head alone
-  pub own-filled : chainOf (s .next) A h ≡ h ∷ [] → s .count h ≡ 0 → (t : Anodes) (ys : List ℕ) → takeBlock A ex last true s h ≡ planned t ys →
+  pub own-filled : chainOf (s .next) A h ≡ h ∷ [] → s .count h ≡ 0 → (t : Anodes) (ys : List ℕ) → takeBlock A ex true s h ≡ planned t ys →
       (y : ℕ) × (ys ≡ y ∷ []) × Filled A t h y
   own-filled alone none t ys e = let w = take-steps g h true t ys e in let f = put-filled (w .out) alone none t ys (w .puts) in (s .block (w .x), f .0, f .1)
 
   -- a chain with a block in each anode
-  pub own-appended : ((a : ℕ) → 0 < times a (chainOf (s .next) A h) → s .count a ≡ 1) → (t : Anodes) (ys : List ℕ) → takeBlock A ex last true s h ≡ planned t ys →
+  pub own-appended : ((a : ℕ) → 0 < times a (chainOf (s .next) A h) → s .count a ≡ 1) → (t : Anodes) (ys : List ℕ) → takeBlock A ex true s h ≡ planned t ys →
       (y : ℕ) × (ys ≡ y ∷ []) × Appended A s t h y
   own-appended ones t ys e = let w = take-steps g h true t ys e in let f = put-behind (w .out) (w .some) ones t ys (w .puts) in (s .block (w .x), f .0, f .1)

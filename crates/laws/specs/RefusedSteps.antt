@@ -27,41 +27,41 @@ use Rattle.laws.specs.Give.{give-good}
 
 -- ---- with which number
 
-module _ (A : ℕ) (ex : ℕ → Bool) (last : ℕ) where
-  append-refused : (s : Anodes) (z y k : ℕ) → append A ex last s z y ≡ refused k → (k ≡ 28) × NoneFree A ex last s
-  append-refused s z y k e = elim (append-cases A ex last s z y) [
-    | inl c ↦ absurd (planned≢refused (insertedAfter s z (lowestFree A ex last s) 1 y) (y ∷ []) k (sym (c .2) ∙ e))
+module _ (A : ℕ) (ex : ℕ → Bool) where
+  append-refused : (s : Anodes) (z y k : ℕ) → append A ex s z y ≡ refused k → (k ≡ 28) × NoneFree A ex s
+  append-refused s z y k e = elim (append-cases A ex s z y) [
+    | inl c ↦ absurd (planned≢refused (insertedAfter s z (lowestFree A ex s) 1 y) (y ∷ []) k (sym (c .2) ∙ e))
     | inr c ↦ (refused-same k 28 (sym e ∙ c .0), c .1)
   ]
 
   -- ---- take
 
-  put-refused : (own : Bool) (s : Anodes) (z y k : ℕ) → put A ex last own s z y ≡ refused k → (k ≡ 28) × NeedsAnode own s z y × NoneFree A ex last s
-  put-refused own s z y k e = elim (put-cases A ex last own s z y) [
+  put-refused : (own : Bool) (s : Anodes) (z y k : ℕ) → put A ex own s z y ≡ refused k → (k ≡ 28) × NeedsAnode own s z y × NoneFree A ex s
+  put-refused own s z y k e = elim (put-cases A ex own s z y) [
     | first c ↦ absurd (planned≢refused (rewritten s z 1 y) (y ∷ []) k (sym (c .1) ∙ e))
     | second c ↦ absurd (planned≢refused (rewritten s z (s .count z + 1) (s .block z)) (y ∷ []) k (sym (c .3) ∙ e))
     | third c ↦ (let r = append-refused s z y k (sym (c .1) ∙ e) in (r .0, c .0, r .1))
   ]
 
   -- x after p has a free block: 28 alone
-  found-refused : (own : Bool) (s : Anodes) (h p x k : ℕ) → takeFrom A ex last own s h p x ≡ refused k → k ≡ 28
+  found-refused : (own : Bool) (s : Anodes) (h p x k : ℕ) → takeFrom A ex own s h p x ≡ refused k → k ≡ 28
   unfolding takeFrom
   found-refused own s h p x k e = put-refused own (withoutFirst s p x) (lastOf h (chainOf (withoutFirst s p x .next) A h)) (s .block x) k e .0
 
-  pub take-refused : (own : Bool) (s : Anodes) (h k : ℕ) → takeBlock A ex last own s h ≡ refused k → (k ≡ 27) ⊎ (k ≡ 28)
-  take-refused own s h k e = elim (take-cases A own s ex last h) [
+  pub take-refused : (own : Bool) (s : Anodes) (h k : ℕ) → takeBlock A ex own s h ≡ refused k → (k ≡ 27) ⊎ (k ≡ 28)
+  take-refused own s h k e = elim (take-cases A own s ex h) [
     | inl c ↦ inl (refused-same k 27 (sym e ∙ c .1))
     | inr (p, x, q, i) ↦ inr (found-refused own s h p x k (sym i ∙ e))
   ]
 
-  pub takes-refused : (own : Bool) (i : ℕ) (s : Anodes) (h k : ℕ) → takeMany A ex last own i s h ≡ refused k → (k ≡ 27) ⊎ (k ≡ 28)
+  pub takes-refused : (own : Bool) (i : ℕ) (s : Anodes) (h k : ℕ) → takeMany A ex own i s h ≡ refused k → (k ≡ 27) ⊎ (k ≡ 28)
   unfolding takeMany
-  takes-refused own i s h k e = let (j, r, at, q) = repeated-refused (λ s. takeBlock A ex last own s h) (λ i s. Unit {0}) (λ i s t ys at q. tt) i s k tt e in take-refused own r h k q
+  takes-refused own i s h k e = let (j, r, at, q) = repeated-refused (λ s. takeBlock A ex own s h) (λ i s. Unit {0}) (λ i s t ys at q. tt) i s k tt e in take-refused own r h k q
 
   -- ---- give
 
-  join-refused : (s : Anodes) (z y k : ℕ) → join A ex last s z y ≡ refused k → (k ≡ 28) × JoinsNone s z y × NoneFree A ex last s
-  join-refused s z y k e = elim (join-cases A ex last s z y) [
+  join-refused : (s : Anodes) (z y k : ℕ) → join A ex s z y ≡ refused k → (k ≡ 28) × JoinsNone s z y × NoneFree A ex s
+  join-refused s z y k e = elim (join-cases A ex s z y) [
     | fills c ↦ absurd (planned≢refused (rewritten s z 1 y) (y ∷ []) k (sym (c .2) ∙ e))
     | ends c ↦ absurd (planned≢refused (rewritten s z (s .count z + 1) (s .block z)) (y ∷ []) k (sym (c .3) ∙ e))
     | starts c ↦ absurd (planned≢refused (rewritten s z (s .count z + 1) y) (y ∷ []) k (sym (c .3) ∙ e))
@@ -86,7 +86,7 @@ module _ {A : ℕ} {ex : ℕ → Bool} {n last : ℕ} where
       let f = last-block g h d some in
       let r = withoutLast s h (f .0) (f .1) in
       let y = s .block (f .1) + (s .count (f .1) - 1) in
-      join-refused A ex last r (lastOf (sideOf last y) (side A r (sideOf last y))) y k (rw (f .2, giveBack) at e) .0
+      join-refused A ex r (lastOf (sideOf last y) (side A r (sideOf last y))) y k (rw (f .2, giveBack) at e) .0
 
   -- as many as it has
   pub gives-refused : (i h : ℕ) → h ≢ 1 → (k : ℕ) (s : Anodes) (system hd sd : ℕ → ℕ) → Good A ex n last s system hd sd → Head (s .next) (s .block) h → i ≤ blocks A hd (s .count) h →
@@ -102,24 +102,24 @@ module _ {A : ℕ} {ex : ℕ → Bool} {n last : ℕ} where
 
 -- ---- exactly when
 
-module _ (A : ℕ) (ex : ℕ → Bool) (last : ℕ) (s : Anodes) (z y : ℕ) where
-  none-append : NoneFree A ex last s → append A ex last s z y ≡ refused 28
-  none-append none = elim (append-cases A ex last s z y) [ inl c ↦ absurd (none (lowestFree A ex last s) (c .0) (c .1)) | inr c ↦ c .0 ]
+module _ (A : ℕ) (ex : ℕ → Bool) (s : Anodes) (z y : ℕ) where
+  none-append : NoneFree A ex s → append A ex s z y ≡ refused 28
+  none-append none = elim (append-cases A ex s z y) [ inl c ↦ absurd (none (lowestFree A ex s) (c .0) (c .1)) | inr c ↦ c .0 ]
 
-  put-28 : (own : Bool) → (put A ex last own s z y ≡ refused 28) ↔ (NeedsAnode own s z y × NoneFree A ex last s)
+  put-28 : (own : Bool) → (put A ex own s z y ≡ refused 28) ↔ (NeedsAnode own s z y × NoneFree A ex s)
   put-28 own = (
-    λ e. (let r = put-refused A ex last own s z y 28 e in (r .1, r .2)),
-    λ n. elim (put-cases A ex last own s z y) [
+    λ e. (let r = put-refused A ex own s z y 28 e in (r .1, r .2)),
+    λ n. elim (put-cases A ex own s z y) [
       | first c ↦ absurd (n .0 .0 (c .0))
       | second c ↦ absurd (elim (n .0 .1) [ inl i ↦ true≢false (sym i ∙ c .1) | inr i ↦ i (c .2) ])
       | third c ↦ c .1 ∙ none-append (n .1)
     ],
   )
 
-  join-28 : (join A ex last s z y ≡ refused 28) ↔ (JoinsNone s z y × NoneFree A ex last s)
+  join-28 : (join A ex s z y ≡ refused 28) ↔ (JoinsNone s z y × NoneFree A ex s)
   join-28 = (
-    λ e. (let r = join-refused A ex last s z y 28 e in (r .1, r .2)),
-    λ n. elim (join-cases A ex last s z y) [
+    λ e. (let r = join-refused A ex s z y 28 e in (r .1, r .2)),
+    λ n. elim (join-cases A ex s z y) [
       | fills c ↦ absurd (elim (n .0) [ inl i ↦ c .0 i | inr i ↦ i .0 (c .1) ])
       | ends c ↦ absurd (elim (n .0) [ inl i ↦ c .0 i | inr i ↦ i .1 (c .2) ])
       | starts c ↦ absurd (elim (n .0) [ inl i ↦ c .0 i | inr i ↦ i .2 (c .2) ])
@@ -127,22 +127,22 @@ module _ (A : ℕ) (ex : ℕ → Bool) (last : ℕ) (s : Anodes) (z y : ℕ) whe
     ],
   )
 
-module _ (A : ℕ) (ex : ℕ → Bool) (last : ℕ) (s : Anodes) (h p x : ℕ) where
+module _ (A : ℕ) (ex : ℕ → Bool) (s : Anodes) (h p x : ℕ) where
   -- with a free block there, x after p the first extent that has one, a take is refused with 28 exactly if an anode is needed and none is free, the one just emptied counted
   pub take-28-exactly : (own : Bool) → freeExtent A own s ≡ found p x →
-      (takeBlock A ex last own s h ≡ refused 28)
-      ↔ (NeedsAnode own (withoutFirst s p x) (lastOf h (chainOf (withoutFirst s p x .next) A h)) (s .block x) × NoneFree A ex last (withoutFirst s p x))
+      (takeBlock A ex own s h ≡ refused 28)
+      ↔ (NeedsAnode own (withoutFirst s p x) (lastOf h (chainOf (withoutFirst s p x .next) A h)) (s .block x) × NoneFree A ex (withoutFirst s p x))
   unfolding takeFrom
   take-28-exactly own e =
-      let b = put-28 A ex last (withoutFirst s p x) (lastOf h (chainOf (withoutFirst s p x .next) A h)) (s .block x) own in
-      (λ q. b .0 (sym (take-found A own s ex last h p x e) ∙ q), λ n. take-found A own s ex last h p x e ∙ b .1 n)
+      let b = put-28 A ex (withoutFirst s p x) (lastOf h (chainOf (withoutFirst s p x .next) A h)) (s .block x) own in
+      (λ q. b .0 (sym (take-found A own s ex h p x e) ∙ q), λ n. take-found A own s ex h p x e ∙ b .1 n)
 
   -- a give of the last block y of x, after p the last extent that has one, exactly if y can join the last anode of its side in no way and none is free, the one just emptied counted
-  pub give-28-exactly : (y z : ℕ) → lastFull (s .count) 0 (chainOf (s .next) A h) ≡ found p x → y ≡ s .block x + (s .count x - 1) →
+  pub give-28-exactly : (last y z : ℕ) → lastFull (s .count) 0 (chainOf (s .next) A h) ≡ found p x → y ≡ s .block x + (s .count x - 1) →
       z ≡ lastOf (sideOf last y) (side A (withoutLast s h p x) (sideOf last y)) →
-      (giveBack A ex last s h ≡ refused 28) ↔ (JoinsNone (withoutLast s h p x) z y × NoneFree A ex last (withoutLast s h p x))
+      (giveBack A ex last s h ≡ refused 28) ↔ (JoinsNone (withoutLast s h p x) z y × NoneFree A ex (withoutLast s h p x))
   unfolding giveBack giveFrom release
-  give-28-exactly y z e f i = rw (e, giveBack, ← f, ← i) (join-28 A ex last (withoutLast s h p x) z y)
+  give-28-exactly last y z e f i = rw (e, giveBack, ← f, ← i) (join-28 A ex (withoutLast s h p x) z y)
 
 module _ {A : ℕ} {ex : ℕ → Bool} {n last : ℕ} {s : Anodes} {system hd sd : ℕ → ℕ} (g : Good A ex n last s system hd sd) where
   -- no anode of either side has a block: the free chain has none
@@ -160,11 +160,11 @@ module _ {A : ℕ} {ex : ℕ → Bool} {n last : ℕ} {s : Anodes} {system hd sd
           omega (arith, p, firstFull-none (s .count) 0 (side A s (sd a)) (e (sd a) (on-side g a a0 u q)) a (omega (arith, on-own (cut-linked (g .linked)) (g .sides) a a0 u))))
 
   -- a take is refused with 27 exactly if no free block is left
-  pub take-27-exactly : (own : Bool) (h : ℕ) → (takeBlock A ex last own s h ≡ refused 27) ↔ (blocks A hd (s .count) 1 ≡ 0)
-  take-27-exactly own h = elim (take-cases A own s ex last h) [
+  pub take-27-exactly : (own : Bool) (h : ℕ) → (takeBlock A ex own s h ≡ refused 27) ↔ (blocks A hd (s .count) 1 ≡ 0)
+  take-27-exactly own h = elim (take-cases A own s ex h) [
     | inl c ↦ (λ e. no-block (extent-nowhere A own s (c .0)), λ z. c .1)
     | inr (p, x, q, i) ↦ (
-      λ e. absurd (omega (arith, found-refused A ex last own s h p x 27 (sym i ∙ e))),
+      λ e. absurd (omega (arith, found-refused A ex own s h p x 27 (sym i ∙ e))),
       λ z. (let (m, o, f) = extent-found A own s g p x q in absurd (omega (arith, z, withoutFirst-out g m o p x f .fewer 1, oneAt-same 1 1 refl))),
     )
   ]

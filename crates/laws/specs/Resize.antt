@@ -75,10 +75,10 @@ module _ {A : ℕ} {ex : ℕ → Bool} {n last : ℕ} where
 
   -- k takes that are done
   pub grow-ran : (k h : ℕ) → h ≢ 1 → (own : Bool) (t : Anodes) (zs : List ℕ) (s : Anodes) (system hd sd : ℕ → ℕ) → Good A ex n last s system hd sd → Head (s .next) (s .block) h →
-      takeMany A ex last own k s h ≡ planned t zs → Ran A ex n last s system hd 1 h h (blocks A hd (s .count) h + k) zs t
+      takeMany A ex own k s h ≡ planned t zs → Ran A ex n last s system hd 1 h h (blocks A hd (s .count) h + k) zs t
   unfolding takeMany
   grow-ran k h h1 own t zs s system hd sd g d e =
-      steps-ran 1 h h system (λ s. takeBlock A ex last own s h) (λ s hd sd g d t ys q. let w = take-good g h d h1 own t ys q in (w, w .shift))
+      steps-ran 1 h h system (λ s. takeBlock A ex own s h) (λ s hd sd g d t ys q. let w = take-good g h d h1 own t ys q in (w, w .shift))
       (blocks A hd (s .count) h + k) (λ i b. b + i ≡ blocks A hd (s .count) h + k) (λ b l. omega arith)
       (λ i b b′ m l. omega (arith, m, l, oneAt-same h h refl, oneAt-other 1 h (λ q. h1 (sym q)))) k t zs s hd sd g d refl e
 

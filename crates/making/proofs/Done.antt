@@ -14,7 +14,7 @@ use Rattle.directory.specs.Entries.{goodName, goodComment, entryLength}
 use Rattle.rules.specs.Counting.{times}
 use Rattle.rules.specs.Anodes.{Anodes, limit, exists, anodesOf}
 use Rattle.rules.specs.Chains.{chainOf, blocksOf}
-use Rattle.rules.specs.Accepted.{diskSize, lastReserved}
+use Rattle.rules.specs.Accepted.{diskSize}
 use Rattle.rules.specs.Lookup.{noDirectory}
 use Rattle.rules.specs.Space.{rewritten, lowestFree}
 use Rattle.rules.specs.Tables.{anodeTable}
@@ -36,14 +36,14 @@ use Rattle.making.specs.Steps.{someBlock, Plans, PlanOf}
 use Rattle.making.proofs.Steps.{no-block, one-block, step-shows, free-f, whole, first-ready, next-ready}
 
 module _ {img counts firsts nexts : List ℕ} (l : Loaded img counts firsts nexts) where
-  pub lowest-is : (f : ℕ) → ((c n : List ℕ) (last : ℕ) → f ≡ lowestFree 3444 (exists img) last (anodesFrom c firsts n)) → lowestFree limit (exists img) (lastReserved img) (anodesOf img) ≡ f
-  lowest-is f e = sym (e counts nexts (lastReserved img) ∙ ap (lowestFree limit (exists img) (lastReserved img)) (l .is-loaded))
+  pub lowest-is : (f : ℕ) → ((c n : List ℕ) → f ≡ lowestFree 3444 (exists img) (anodesFrom c firsts n)) → lowestFree limit (exists img) (anodesOf img) ≡ f
+  lowest-is f e = sym (e counts nexts ∙ ap (lowestFree limit (exists img)) (l .is-loaded))
 
   pub begun-is : (f : ℕ) (s : Anodes) → s ≡ rewritten (anodesFrom counts firsts nexts) f 0 65535 → s ≡ rewritten (anodesOf img) f 0 65535
   begun-is f s e = e ∙ ap (λ (u : Anodes). rewritten u f 0 65535) (l .is-loaded)
 
   module _ (h : ℕ) (reached : noDirectory img (anodesOf img) h ≡ false) where
-    pub lowest-fresh : (f : ℕ) → lowestFree limit (exists img) (lastReserved img) (anodesOf img) ≡ f → f < limit → Fresh img (diskSize img) limit h f
+    pub lowest-fresh : (f : ℕ) → lowestFree limit (exists img) (anodesOf img) ≡ f → f < limit → Fresh img (diskSize img) limit h f
     lowest-fresh f e below = record { accepted = l .accepted; reached = reached; lowest = e; below = below }
 
     -- each anode of the directory has one block
@@ -62,7 +62,7 @@ module _ {img counts firsts nexts : List ℕ} (l : Loaded img counts firsts next
 -- ---- the ends of a make
 
 -- with no free anode it is refused
-pub no-anode : (img : List ℕ) (dir : Bool) (len h f : ℕ) → lowestFree limit (exists img) (lastReserved img) (anodesOf img) ≡ f → limit ≤ f →
+pub no-anode : (img : List ℕ) (dir : Bool) (len h f : ℕ) → lowestFree limit (exists img) (anodesOf img) ≡ f → limit ≤ f →
     PlanOf (Stopped NoFreeAnode) img dir len h (anodesOf img)
 unfolding made
 no-anode img dir len h f lowest l = (omega arith, λ new d n. rw (lowest, le-ltb f limit l))

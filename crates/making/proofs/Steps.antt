@@ -52,7 +52,7 @@ one-block y n = rw (ne-eqb y 0 n)
 
 -- a step takes as many blocks as it needs
 own-many : (img : List ℕ) (needed : Bool) (s : Anodes) (h : ℕ) (t : Anodes) (ys : List ℕ) → neededBlock img needed s h ≡ planned t ys →
-    takeMany limit (exists img) (lastReserved img) true (cond needed 1 0) s h ≡ planned t ys
+    takeMany limit (exists img) true (cond needed 1 0) s h ≡ planned t ys
 unfolding neededBlock takeMany repeated after
 own-many img true s h t ys e = rw (repeated, e) (ap (planned t) (append-nil ys))
 own-many img false s h t ys e = e
@@ -75,7 +75,7 @@ module _ (img : List ℕ) {s : Anodes} {hd sd : ℕ → ℕ} (g : Good limit (ex
   step-shows needed t ys e b r p = shows-ran img s t g (step-ran needed t ys e) (λ i. h1 (sym i)) b r p
 
   -- a block that was taken is not 0
-  pub step-taken : (x : Step) (t : Anodes) → stepPlan x t ≡ takeBlock limit (exists img) (lastReserved img) true s h → neededPlan x t ≡ neededBlock img true s h
+  pub step-taken : (x : Step) (t : Anodes) → stepPlan x t ≡ takeBlock limit (exists img) true s h → neededPlan x t ≡ neededBlock img true s h
   unfolding neededBlock systemOwns
   step-taken (Refused r) t e = e
   step-taken (Moved y) t e =

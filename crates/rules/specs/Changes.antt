@@ -48,7 +48,7 @@ withBlocks img (y ∷ ys) new = withBlocks (withBlock img y new) ys new
 unfoldable pub resizePlan : List ℕ → Anodes → ℕ → ℕ → Plan
 resizePlan img s h blocks =
     cond (leb (blockCount s h) blocks)
-    (Space.takeMany limit (exists img) (lastReserved img) false (blocks - blockCount s h) s h)
+    (Space.takeMany limit (exists img) false (blocks - blockCount s h) s h)
     (Space.giveMany limit (exists img) (lastReserved img) (blockCount s h - blocks) s h)
 
 -- when the size grows, the old last block is zeroed from the old size to its end
@@ -98,7 +98,7 @@ noRoom (some place) = false
 
 -- a new directory takes one block into its head, and the parent takes one where it has no room
 unfoldable pub neededBlock : List ℕ → Bool → Anodes → ℕ → Plan
-neededBlock img true s h = Space.takeBlock limit (exists img) (lastReserved img) true s h
+neededBlock img true s h = Space.takeBlock limit (exists img) true s h
 neededBlock img false s h = planned s []
 
 -- the head of a reached directory's parent; the root's is 0
@@ -165,8 +165,8 @@ madeWith img s h new f = madeIn img s h new f (firstRoom img (entryLength (lengt
 -- Make: 28 if there is no free anode, else its steps with the lowest one as head
 unfoldable pub made : List ℕ → Anodes → ℕ → NewEntry → Left
 made img s h new =
-    cond (ltb (Space.lowestFree limit (exists img) (lastReserved img) s) limit)
-    (madeWith img s h new (Space.lowestFree limit (exists img) (lastReserved img) s))
+    cond (ltb (Space.lowestFree limit (exists img) s) limit)
+    (madeWith img s h new (Space.lowestFree limit (exists img) s))
     (left 28 img)
 
 -- ---- Write

@@ -102,15 +102,15 @@ unfoldable pub repeated : (Anodes → Plan) → ℕ → Anodes → Plan
 repeated step zero s = planned s []
 repeated step (suc k) s = elim (step s) [ refused n ↦ refused n | planned t ys ↦ after ys (repeated step k t) ]
 
--- A: how many anodes there may be; ex: those that exist; last: last reserved
-module _ (A : ℕ) (ex : ℕ → Bool) (last : ℕ) where
-  -- an anode to be had: from 6 up, free, existing
-  unfoldable pub free : Anodes → ℕ → Bool
-  free s a = leb 6 a && (eqb (s .block a) 0 && ex a)
+-- an anode to be had: from 6 up, free, existing
+unfoldable pub free : (ℕ → Bool) → Anodes → ℕ → Bool
+free ex s a = leb 6 a && (eqb (s .block a) 0 && ex a)
 
+-- A: how many anodes there may be; ex: those that exist
+module _ (A : ℕ) (ex : ℕ → Bool) where
   -- the lowest free anode from 6 up, or A where there is none
   unfoldable pub lowestFree : Anodes → ℕ
-  lowestFree s = least (free s) A
+  lowestFree s = least (free ex s) A
 
   -- block y in the lowest free anode, behind anode z; 28 if there is none
   unfoldable pub append : Anodes → ℕ → ℕ → Plan
@@ -128,29 +128,31 @@ module _ (A : ℕ) (ex : ℕ → Bool) (last : ℕ) where
   unfoldable pub takeBlock : Bool → Anodes → ℕ → Plan
   takeBlock own s h = elim (freeExtent A own s) [ nowhere ↦ refused 27 | found p x ↦ takeFrom own s h p x ]
 
-  -- block y joins the last anode z of its side, unless that is anode 1: by filling an empty one, after its end, or before its start; otherwise it goes in an anode behind it
-  unfoldable pub join : Anodes → ℕ → ℕ → Plan
-  join s z y = cond (eqb z 1) (append s z y) (fillOr s z y (growOr s z y (growBeforeOr s z y (append s z y))))
-
-  -- block y, now nobody's, joins its side
-  unfoldable pub release : Anodes → ℕ → Plan
-  release s y = join s (lastOf (sideOf last y) (side A s (sideOf last y))) y
-
-  -- the last block of anode x goes back
-  unfoldable pub giveFrom : Anodes → ℕ → ℕ → ℕ → Plan
-  giveFrom s h p x = release (withoutLast s h p x) (s .block x + (s .count x - 1))
-
-  -- GIVE BACK A BLOCK of h's chain: the last block of the last non-empty extent (a chain with no block is never asked)
-  unfoldable pub giveBack : Anodes → ℕ → Plan
-  giveBack s h = elim (lastFull (s .count) 0 (chainOf (s .next) A h)) [ nowhere ↦ refused 0 | found p x ↦ giveFrom s h p x ]
-
   -- k takes
   unfoldable pub takeMany : Bool → ℕ → Anodes → ℕ → Plan
   takeMany own k s h = repeated (λ t. takeBlock own t h) k s
 
-  -- k gives
-  unfoldable pub giveMany : ℕ → Anodes → ℕ → Plan
-  giveMany k s h = repeated (λ t. giveBack t h) k s
+  -- block y joins the last anode z of its side, unless that is anode 1: by filling an empty one, after its end, or before its start; otherwise it goes in an anode behind it
+  unfoldable pub join : Anodes → ℕ → ℕ → Plan
+  join s z y = cond (eqb z 1) (append s z y) (fillOr s z y (growOr s z y (growBeforeOr s z y (append s z y))))
+
+  -- last: last reserved
+  module _ (last : ℕ) where
+    -- block y, now nobody's, joins its side
+    unfoldable pub release : Anodes → ℕ → Plan
+    release s y = join s (lastOf (sideOf last y) (side A s (sideOf last y))) y
+
+    -- the last block of anode x goes back
+    unfoldable pub giveFrom : Anodes → ℕ → ℕ → ℕ → Plan
+    giveFrom s h p x = release (withoutLast s h p x) (s .block x + (s .count x - 1))
+
+    -- GIVE BACK A BLOCK of h's chain: the last block of the last non-empty extent (a chain with no block is never asked)
+    unfoldable pub giveBack : Anodes → ℕ → Plan
+    giveBack s h = elim (lastFull (s .count) 0 (chainOf (s .next) A h)) [ nowhere ↦ refused 0 | found p x ↦ giveFrom s h p x ]
+
+    -- k gives
+    unfoldable pub giveMany : ℕ → Anodes → ℕ → Plan
+    giveMany k s h = repeated (λ t. giveBack t h) k s
 
 -- anode a is in h's chain
 unfoldable pub onChain : ℕ → Anodes → ℕ → ℕ → Bool

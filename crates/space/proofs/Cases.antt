@@ -40,35 +40,35 @@ module _ (s : Anodes) (p x b : ℕ) where
   unfolding withoutLast
   last-out h e = rw e
 
-module _ (ex : ℕ → Bool) (last : ℕ) (c f n : List ℕ) where
+module _ (ex : ℕ → Bool) (c f n : List ℕ) where
   abbrev s : Anodes
   s = anodesFrom c f n
 
   -- ---- a block behind anode z
 
   module _ (z y : ℕ) where
-    pub append-none : (a : ℕ) → a ≡ lowestFree 3444 ex last s → 3444 ≤ a → append 3444 ex last s z y ≡ refused 28
+    pub append-none : (a : ℕ) → a ≡ lowestFree 3444 ex s → 3444 ≤ a → append 3444 ex s z y ≡ refused 28
     unfolding append
     append-none a e h = rw (← e, le-ltb a 3444 h)
 
-    pub append-some : (a : ℕ) → a ≡ lowestFree 3444 ex last s → a < 3444 → append 3444 ex last s z y ≡ planned (insertedAfter s z a 1 y) (y ∷ [])
+    pub append-some : (a : ℕ) → a ≡ lowestFree 3444 ex s → a < 3444 → append 3444 ex s z y ≡ planned (insertedAfter s z a 1 y) (y ∷ [])
     unfolding append
     append-some a e h = rw (← e, lt-ltb a 3444 h)
 
-    pub put-empty : (own : Bool) → getD c z 0 ≡ 0 → put 3444 ex last own s z y ≡ planned (rewritten s z 1 y) (y ∷ [])
+    pub put-empty : (own : Bool) → getD c z 0 ≡ 0 → put 3444 ex own s z y ≡ planned (rewritten s z 1 y) (y ∷ [])
     unfolding put fillOr anodesFrom
     put-empty own e = rw (eq-eqb (getD c z 0) 0 e)
 
     module _ (some : getD c z 0 ≢ 0) where
-      pub put-grown : (own : Bool) → own ≡ false → getD f z 0 + getD c z 0 ≡ y → put 3444 ex last own s z y ≡ planned (rewritten s z (getD c z 0 + 1) (getD f z 0)) (y ∷ [])
+      pub put-grown : (own : Bool) → own ≡ false → getD f z 0 + getD c z 0 ≡ y → put 3444 ex own s z y ≡ planned (rewritten s z (getD c z 0 + 1) (getD f z 0)) (y ∷ [])
       unfolding put fillOr growOr anodesFrom
       put-grown own o e = rw (o, ne-eqb (getD c z 0) 0 some, eq-eqb (getD f z 0 + getD c z 0) y e)
 
-      pub put-own : (own : Bool) → own ≡ true → put 3444 ex last own s z y ≡ append 3444 ex last s z y
+      pub put-own : (own : Bool) → own ≡ true → put 3444 ex own s z y ≡ append 3444 ex s z y
       unfolding put fillOr growOr anodesFrom
       put-own own o = rw (o, ne-eqb (getD c z 0) 0 some)
 
-      pub put-apart : (own : Bool) → getD f z 0 + getD c z 0 ≢ y → put 3444 ex last own s z y ≡ append 3444 ex last s z y
+      pub put-apart : (own : Bool) → getD f z 0 + getD c z 0 ≢ y → put 3444 ex own s z y ≡ append 3444 ex s z y
       unfolding put fillOr growOr anodesFrom
       put-apart true e = rw (ne-eqb (getD c z 0) 0 some)
       put-apart false e = rw (ne-eqb (getD c z 0) 0 some, ne-eqb (getD f z 0 + getD c z 0) y e)
@@ -76,20 +76,20 @@ module _ (ex : ℕ → Bool) (last : ℕ) (c f n : List ℕ) where
   -- ---- a block to the end of its side
 
   module _ (z y : ℕ) where
-    pub join-one : z ≡ 1 → join 3444 ex last s z y ≡ append 3444 ex last s z y
+    pub join-one : z ≡ 1 → join 3444 ex s z y ≡ append 3444 ex s z y
     unfolding join
     join-one e = rw (eq-eqb z 1 e)
 
     module _ (other : z ≢ 1) where
-      pub join-start : getD c z 0 ≢ 0 → y + 1 ≡ getD f z 0 → join 3444 ex last s z y ≡ planned (rewritten s z (getD c z 0 + 1) y) (y ∷ [])
+      pub join-start : getD c z 0 ≢ 0 → y + 1 ≡ getD f z 0 → join 3444 ex s z y ≡ planned (rewritten s z (getD c z 0 + 1) y) (y ∷ [])
       unfolding join fillOr growOr growBeforeOr anodesFrom
       join-start some e = rw (ne-eqb z 1 other, ne-eqb (getD c z 0) 0 some, ne-eqb (getD f z 0 + getD c z 0) y (λ q. omega arith), eq-eqb (y + 1) (getD f z 0) e)
 
       -- else as a block is put behind the last anode of a chain
-      pub join-empty : getD c z 0 ≡ 0 → join 3444 ex last s z y ≡ put 3444 ex last false s z y
+      pub join-empty : getD c z 0 ≡ 0 → join 3444 ex s z y ≡ put 3444 ex false s z y
       unfolding join fillOr put anodesFrom
       join-empty e = rw (ne-eqb z 1 other, eq-eqb (getD c z 0) 0 e)
 
-      pub join-other : y + 1 ≢ getD f z 0 → join 3444 ex last s z y ≡ put 3444 ex last false s z y
+      pub join-other : y + 1 ≢ getD f z 0 → join 3444 ex s z y ≡ put 3444 ex false s z y
       unfolding join fillOr growOr growBeforeOr put anodesFrom
       join-other e = rw (ne-eqb z 1 other, ne-eqb (y + 1) (getD f z 0) e)

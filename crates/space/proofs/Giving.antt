@@ -54,6 +54,6 @@ module _ (img : List ℕ) (s : Anodes) (good : GoodAnodes img s) (h : ℕ) (d : 
         let below = used-below (out .good .linked .view) c f n left z used in
         (below, used, λ l. rw (b, k) (omega (arith, size-bounds img size .1, out .good .own .fits z below (rw k at l))))
 
-    pub given-back : join 3444 (exists img) (lastReserved img) (anodesFrom c f n) z y ≡ giveBack 3444 (exists img) (lastReserved img) s h
+    pub given-back : join 3444 (exists img) (anodesFrom c f n) z y ≡ giveBack 3444 (exists img) (lastReserved img) s h
     unfolding giveBack giveFrom release
     given-back = rw (is-end, left, start, block, e, giveBack)

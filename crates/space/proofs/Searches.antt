@@ -27,9 +27,9 @@ pub exists-by-slot : (img : List ℕ) (a s : ℕ) → s ≡ slotOf img (a / 82) 
 exists-by-slot img a zero e = sym (slot-missing img a (sym e))
 exists-by-slot img a (suc s) e = rw (ne-eqb (suc s) 0 (λ z. omega arith)) (sym (slot-exists img a (suc s) (sym e) (λ z. omega arith)))
 
-module _ (img firsts c n : List ℕ) (last : ℕ) where
+module _ (img firsts c n : List ℕ) where
   abbrev isFree : ℕ → Bool
-  isFree = free 3444 (exists img) last (anodesFrom c firsts n)
+  isFree = free (exists img) (anodesFrom c firsts n)
 
   free-from-6 : (a : ℕ) → 6 ≤ a → (eqb (getD firsts a 0) 0 && exists img a) ≡ isFree a
   unfolding free anodesFrom
@@ -48,14 +48,14 @@ module _ (img firsts c n : List ℕ) (last : ℕ) where
     ]
 
     -- so the lowest is not below a
-    not-below : a ≤ lowestFree 3444 (exists img) last (anodesFrom c firsts n)
+    not-below : a ≤ lowestFree 3444 (exists img) (anodesFrom c firsts n)
     unfolding lowestFree
     not-below = elim (least-cases isFree 3444) [
       | inl d ↦ elim (less? (least isFree 3444) a) [ inl q ↦ absurd (none-below (least isFree 3444) q (d .1)) | inr q ↦ q ]
       | inr d ↦ omega (arith, up, d .0)
     ]
 
-    pub lowest-hit : 6 ≤ a → a < 3444 → (eqb (getD firsts a 0) 0 && exists img a) ≡ true → a ≡ lowestFree 3444 (exists img) last (anodesFrom c firsts n)
+    pub lowest-hit : 6 ≤ a → a < 3444 → (eqb (getD firsts a 0) 0 && exists img a) ≡ true → a ≡ lowestFree 3444 (exists img) (anodesFrom c firsts n)
     unfolding lowestFree
     lowest-hit l k h = elim (least-cases isFree 3444) [
       | inl d ↦ elim (less? a (least isFree 3444)) [ inl q ↦ absurd (d .2 a q here) | inr q ↦ omega (arith, q, not-below) ]
@@ -65,7 +65,7 @@ module _ (img firsts c n : List ℕ) (last : ℕ) where
         here : T (isFree a)
         here = rw (sym (free-from-6 a l) ∙ h) tt
 
-    pub lowest-none : a ≡ 3444 → 3444 ≡ lowestFree 3444 (exists img) last (anodesFrom c firsts n)
+    pub lowest-none : a ≡ 3444 → 3444 ≡ lowestFree 3444 (exists img) (anodesFrom c firsts n)
     unfolding lowestFree
     lowest-none e = elim (least-cases isFree 3444) [ inl d ↦ omega (arith, d .0, e, not-below) | inr d ↦ sym (d .0) ]
 

@@ -94,6 +94,6 @@ module _ (img : List ℕ) (s : Anodes) (good : GoodAnodes img s) where
           let used : getD f z 0 ≢ 0 = λ q. end-used (out .good) h (out .shift .stays h d) h1 (rw (← is-end) (sym (ap (λ (t : Anodes). t .block z) left) ∙ q)) in
           (used-below (out .good .linked .view) c f n left z used, used)
 
-      pub taken-from : (y : ℕ) → y ≡ s .block x → put 3444 (exists img) (lastReserved img) own (anodesFrom c f n) z y ≡ takeBlock 3444 (exists img) (lastReserved img) own s h
+      pub taken-from : (y : ℕ) → y ≡ s .block x → put 3444 (exists img) own (anodesFrom c f n) z y ≡ takeBlock 3444 (exists img) own s h
       unfolding takeFrom
-      taken-from y b = rw (b, is-end, left, last-before-two (out .good) h (out .shift .stays h d) h1) (sym (take-found 3444 own s (exists img) (lastReserved img) h p x e))
+      taken-from y b = rw (b, is-end, left, last-before-two (out .good) h (out .shift .stays h d) h1) (sym (take-found 3444 own s (exists img) h p x e))

@@ -46,7 +46,7 @@ movesCount (Stopped r) = 0
 
 -- a step of a resize or a removal: a block of data taken for the chain of h, or its last block given back
 unfoldable pub moveBlock : List ℕ → Bool → Anodes → ℕ → Plan
-moveBlock img taking s h = cond taking (takeBlock limit (exists img) (lastReserved img) false s h) (giveBack limit (exists img) (lastReserved img) s h)
+moveBlock img taking s h = cond taking (takeBlock limit (exists img) false s h) (giveBack limit (exists img) (lastReserved img) s h)
 
 -- k of them, one at a time
 unfoldable pub moveMany : List ℕ → Bool → ℕ → Anodes → ℕ → Plan

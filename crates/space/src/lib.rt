@@ -55,7 +55,7 @@ fn is_free(image: &[u8], firsts: &[u16], a: usize) -> bool
 
 // The lowest free anode from 6 up, or 3,444 where there is none.
 pub fn lowest_free(image: &[u8], firsts: &[u16]) -> usize
-    ensures { λ r. ⌜ ((c n : List ℕ) (last : ℕ) → r ≡ lowestFree 3444 (exists (now (image .entry))) last (anodesFrom c (now (firsts .entry)) n)) ⌝ }
+    ensures { λ r. ⌜ ((c n : List ℕ) → r ≡ lowestFree 3444 (exists (now (image .entry))) (anodesFrom c (now (firsts .entry)) n)) ⌝ }
 {
     for a in 6..3444 {
         if is_free(image, firsts, a) {
@@ -206,7 +206,7 @@ fn append(
     nexts: &mut [u16],
 ) -> Step
     requires { ⌜ (z < 3444) × AnodeTables (now counts) (now firsts) (now nexts) ⌝ }
-    ensures { λ r. ⌜ ((last : ℕ) → stepPlan r (anodesFrom (now (counts .exit)) (now (firsts .exit)) (now (nexts .exit))) ≡ append 3444 (exists (now (image .entry))) last (anodesFrom (now (counts .entry)) (now (firsts .entry)) (now (nexts .entry))) z (y .0)) ⌝ }
+    ensures { λ r. ⌜ stepPlan r (anodesFrom (now (counts .exit)) (now (firsts .exit)) (now (nexts .exit))) ≡ append 3444 (exists (now (image .entry))) (anodesFrom (now (counts .entry)) (now (firsts .entry)) (now (nexts .entry))) z (y .0) ⌝ }
 {
     let f = lowest_free(image, firsts);
     if 3444 <= f {
@@ -227,7 +227,7 @@ fn put(
     nexts: &mut [u16],
 ) -> Step
     requires { ⌜ (z < 3444) × AnodeTables (now counts) (now firsts) (now nexts) × (getD (now firsts) z 0 ≢ 0) ⌝ }
-    ensures { λ r. ⌜ ((last : ℕ) → stepPlan r (anodesFrom (now (counts .exit)) (now (firsts .exit)) (now (nexts .exit))) ≡ put 3444 (exists (now (image .entry))) last own (anodesFrom (now (counts .entry)) (now (firsts .entry)) (now (nexts .entry))) z (y .0)) ⌝ }
+    ensures { λ r. ⌜ stepPlan r (anodesFrom (now (counts .exit)) (now (firsts .exit)) (now (nexts .exit))) ≡ put 3444 (exists (now (image .entry))) own (anodesFrom (now (counts .entry)) (now (firsts .entry)) (now (nexts .entry))) z (y .0) ⌝ }
 {
     let count = entry(counts, z);
     if count == 0 {
@@ -279,7 +279,7 @@ pub fn take_block(
 ) -> Step
     requires { ⌜ AnodeTables (now counts) (now firsts) (now nexts) ⌝ }
     requires { ⌜ Ready (now image) (anodesFrom (now counts) (now firsts) (now nexts)) (head .0) ⌝ }
-    ensures { λ r. ⌜ stepPlan r (anodesFrom (now (counts .exit)) (now (firsts .exit)) (now (nexts .exit))) ≡ takeBlock 3444 (exists (now (image .entry))) (lastReserved (now (image .entry))) own (anodesFrom (now (counts .entry)) (now (firsts .entry)) (now (nexts .entry))) (head .0) ⌝ }
+    ensures { λ r. ⌜ stepPlan r (anodesFrom (now (counts .exit)) (now (firsts .exit)) (now (nexts .exit))) ≡ takeBlock 3444 (exists (now (image .entry))) own (anodesFrom (now (counts .entry)) (now (firsts .entry)) (now (nexts .entry))) (head .0) ⌝ }
 {
     let found = free_extent(own, counts, nexts);
     let Extent::At(p, x) = found else {
@@ -313,7 +313,7 @@ fn join(
 ) -> Step
     requires { ⌜ (z < 3444) × AnodeTables (now counts) (now firsts) (now nexts) ⌝ }
     requires { ⌜ (getD (now firsts) z 0 ≢ 0) × (0 < getD (now counts) z 0 → getD (now firsts) z 0 + getD (now counts) z 0 ≤ 65535) ⌝ }
-    ensures { λ r. ⌜ ((last : ℕ) → stepPlan r (anodesFrom (now (counts .exit)) (now (firsts .exit)) (now (nexts .exit))) ≡ join 3444 (exists (now (image .entry))) last (anodesFrom (now (counts .entry)) (now (firsts .entry)) (now (nexts .entry))) z (y .0)) ⌝ }
+    ensures { λ r. ⌜ stepPlan r (anodesFrom (now (counts .exit)) (now (firsts .exit)) (now (nexts .exit))) ≡ join 3444 (exists (now (image .entry))) (anodesFrom (now (counts .entry)) (now (firsts .entry)) (now (nexts .entry))) z (y .0) ⌝ }
 {
     if z == 1 {
         return append(image, z, y, counts, firsts, nexts);

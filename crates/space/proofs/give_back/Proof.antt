@@ -3,7 +3,6 @@ use mathlib.Core.Path.{_≡_, refl, sym, ap, _∙_}
 use native.Mathlib.Omega.{arith}
 use lib.ListN.{getD}
 use Rattle.rules.specs.Chains.{chainOf}
-use Rattle.rules.specs.Accepted.{lastReserved}
 use Rattle.rules.specs.Space.{withoutLast, nowhere, found, lastFull}
 use Rattle.anodes.specs.Loaded.{anodesFrom}
 use Rattle.space.specs.Steps.{foundOf}
@@ -125,7 +124,7 @@ returns-2 c =
     let g = f .before .before .before .before .before .before .before .before .before .before .args in
     let pre = f .before .before .before .before .before .before .before .before .before .before .pre in
     let w = l .before .before .before .before .before .before .before .before .before .without-block in
-    c .before .before .before .before .before .before .join .ensures (lastReserved (g .image .now))
+    c .before .before .before .before .before .before .join .ensures
     ∙ given-back _ _ (pre .1 .0 .0 .1) _ (pre .1 .0 .1 .0) _ _ (extent f) (pre .1 .0 .0 .0) (pre .1 .0 .1 .1) (w .last .0) (w .last .1 .0) (w .last .1 .1 .0) (left l) _ _ _ (last-block l) (l .before .side-of .ensures) (l .last-anode .ensures)
 
 pub give-back-spec : {M : Type 1} → statement M

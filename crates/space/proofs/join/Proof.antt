@@ -21,7 +21,7 @@ same-length-3 : tie.Need-same-length-3
 same-length-3 c = search needs
 
 returns : tie.Need-returns
-returns c = λ last. c .before .before .before .before .before .before .append .ensures last ∙ sym (join-one _ last _ _ _ _ _ (c .before .before .before .before .before .before .before .before .before .before .if1 .taken))
+returns c = c .before .before .before .before .before .before .append .ensures ∙ sym (join-one _ _ _ _ _ _ (c .before .before .before .before .before .before .before .before .before .before .if1 .taken))
 
 entry-requires : tie.Need-entry-requires
 entry-requires c κs = search needs
@@ -58,7 +58,7 @@ returns-2 c =
     let n = c .before .before .before .before .before .before .before .before .before .before .before .before .entry in
     let f = c .before .before .before .before .before .before .before .before .before .before .entry2 in
     let e : c .before .before .before .before .before .before .before .before .before .before .before .before .before .before .before .before .before .before .before .args .y .0 + 1 ≡ f .result = eqb-true _ _ (c .before .before .before .before .before .before .before .if3 .taken) in
-    λ last. rw (c .before .before .before .before .rewrite .ensures _, n .ensures) (sym (join-start _ last _ _ _ _ _ (c .before .before .before .before .before .before .before .before .before .before .before .before .before .before .if1 .left) (rw (n .ensures) at (c .before .before .before .before .before .before .before .before .before .if2 .taken)) (e ∙ f .ensures)))
+    rw (c .before .before .before .before .rewrite .ensures _, n .ensures) (sym (join-start _ _ _ _ _ _ (c .before .before .before .before .before .before .before .before .before .before .before .before .before .before .if1 .left) (rw (n .ensures) at (c .before .before .before .before .before .before .before .before .before .if2 .taken)) (e ∙ f .ensures)))
 
 put-requires : tie.Need-put-requires
 put-requires c κs = search needs
@@ -73,9 +73,9 @@ same-length-8 : tie.Need-same-length-8
 same-length-8 c = search needs
 
 returns-3 : tie.Need-returns-3
-returns-3 c = λ last. c .before .before .before .before .before .before .put .ensures last ∙ ⊎-elim
-    (λ w. let e : c .before .before .before .before .before .before .before .before .before .before .before .before .before .before .before .before .before .before .before .before .args .y .0 + 1 ≢ c .before .before .before .before .before .before .before .before .before .before .before .entry2 .result = eqb-false _ _ (w .2 .left) in sym (join-other _ last _ _ _ _ _ (c .before .before .before .before .before .before .before .before .before .before .before .before .before .before .before .if1 .left) (rw (c .before .before .before .before .before .before .before .before .before .before .before .entry2 .ensures) at e)))
-    (λ w. sym (join-empty _ last _ _ _ _ _ (c .before .before .before .before .before .before .before .before .before .before .before .before .before .before .before .if1 .left) (sym (c .before .before .before .before .before .before .before .before .before .before .before .before .before .entry .ensures) ∙ w .left)))
+returns-3 c = c .before .before .before .before .before .before .put .ensures ∙ ⊎-elim
+    (λ w. let e : c .before .before .before .before .before .before .before .before .before .before .before .before .before .before .before .before .before .before .before .before .args .y .0 + 1 ≢ c .before .before .before .before .before .before .before .before .before .before .before .entry2 .result = eqb-false _ _ (w .2 .left) in sym (join-other _ _ _ _ _ _ (c .before .before .before .before .before .before .before .before .before .before .before .before .before .before .before .if1 .left) (rw (c .before .before .before .before .before .before .before .before .before .before .before .entry2 .ensures) at e)))
+    (λ w. sym (join-empty _ _ _ _ _ _ (c .before .before .before .before .before .before .before .before .before .before .before .before .before .before .before .if1 .left) (sym (c .before .before .before .before .before .before .before .before .before .before .before .before .before .entry .ensures) ∙ w .left)))
     (c .before .before .before .before .before .before .before .before .before .before .if2 .came)
 
 pub join-spec : {M : Type 1} → statement M

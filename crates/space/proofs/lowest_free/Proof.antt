@@ -25,7 +25,7 @@ is-free-requires : tie.Need-is-free-requires Inv-loop μ-loop
 is-free-requires c κs = search needs
 
 returns : tie.Need-returns Inv-loop μ-loop
-returns c = λ x n last. lowest-hit _ _ x n last (c .before .before .before .loop .a) (c .before .before .before .loop .inv .1) (c .before .before .before .loop .inv .2) (c .before .before .before .loop .inv .0) (c .before .before .loop-test .taken) (sym (c .before .is-free .ensures) ∙ c .if1 .taken)
+returns c = λ x n. lowest-hit _ _ x n (c .before .before .before .loop .a) (c .before .before .before .loop .inv .1) (c .before .before .before .loop .inv .2) (c .before .before .before .loop .inv .0) (c .before .before .loop-test .taken) (sym (c .before .is-free .ensures) ∙ c .if1 .taken)
 
 add-a : tie.Need-add-a Inv-loop μ-loop
 add-a c = search needs
@@ -37,7 +37,7 @@ loop-again : tie.Need-loop-again Inv-loop μ-loop
 loop-again c = (search needs, search needs, λ j l h. elim (same? j (c .before .before .before .loop .a)) [ inl e ↦ rw e (sym (c .before .is-free .ensures) ∙ c .if1 .left) | inr e ↦ c .before .before .before .loop .inv .2 j l (omega arith) ])
 
 returns-2 : tie.Need-returns-2 Inv-loop μ-loop
-returns-2 c = λ x n last. lowest-none _ _ x n last (c .before .loop .a) (c .before .loop .inv .1) (c .before .loop .inv .2) (omega arith)
+returns-2 c = λ x n. lowest-none _ _ x n (c .before .loop .a) (c .before .loop .inv .1) (c .before .loop .inv .2) (omega arith)
 
 pub lowest-free-spec : {M : Type 1} → statement M
 lowest-free-spec =

@@ -21,7 +21,7 @@ same-length-2 : tie.Need-same-length-2
 same-length-2 c = search needs
 
 returns : tie.Need-returns
-returns c = λ last. rw (c .before .before .before .before .rewrite .ensures _) (sym (put-empty _ last _ _ _ _ _ _ (sym (c .before .before .before .before .before .before .before .before .entry .ensures) ∙ c .before .before .before .before .before .before .before .if1 .taken)))
+returns c = rw (c .before .before .before .before .rewrite .ensures _) (sym (put-empty _ _ _ _ _ _ _ (sym (c .before .before .before .before .before .before .before .before .entry .ensures) ∙ c .before .before .before .before .before .before .before .if1 .taken)))
 
 entry-requires-2 : tie.Need-entry-requires-2
 entry-requires-2 c κs = search needs
@@ -51,7 +51,7 @@ same-length-4 : tie.Need-same-length-4
 same-length-4 c = search needs
 
 returns-2 : tie.Need-returns-2
-returns-2 c = λ last. let e : c .before .before .before .before .before .before .before .before .before .before .entry2 .result + c .before .before .before .before .before .before .before .before .before .before .before .before .before .entry .result ≡ c .before .before .before .before .before .before .before .before .before .before .before .before .before .before .before .before .before .before .before .args .y .0 = eqb-true _ _ (c .before .before .before .before .before .before .before .if3 .taken) in rw (c .before .before .before .before .rewrite2 .ensures _, c .before .before .before .before .before .before .before .before .before .before .entry2 .ensures, c .before .before .before .before .before .before .before .before .before .before .before .before .before .entry .ensures) (sym (put-grown _ last _ _ _ _ _ (rw (c .before .before .before .before .before .before .before .before .before .before .before .before .before .entry .ensures) at (c .before .before .before .before .before .before .before .before .before .before .before .before .if1 .left)) _ (not-true _ (c .before .before .before .before .before .before .before .before .before .if2 .taken)) (rw (c .before .before .before .before .before .before .before .before .before .before .entry2 .ensures, c .before .before .before .before .before .before .before .before .before .before .before .before .before .entry .ensures) at e)))
+returns-2 c = let e : c .before .before .before .before .before .before .before .before .before .before .entry2 .result + c .before .before .before .before .before .before .before .before .before .before .before .before .before .entry .result ≡ c .before .before .before .before .before .before .before .before .before .before .before .before .before .before .before .before .before .before .before .args .y .0 = eqb-true _ _ (c .before .before .before .before .before .before .before .if3 .taken) in rw (c .before .before .before .before .rewrite2 .ensures _, c .before .before .before .before .before .before .before .before .before .before .entry2 .ensures, c .before .before .before .before .before .before .before .before .before .before .before .before .before .entry .ensures) (sym (put-grown _ _ _ _ _ _ (rw (c .before .before .before .before .before .before .before .before .before .before .before .before .before .entry .ensures) at (c .before .before .before .before .before .before .before .before .before .before .before .before .if1 .left)) _ (not-true _ (c .before .before .before .before .before .before .before .before .before .if2 .taken)) (rw (c .before .before .before .before .before .before .before .before .before .before .entry2 .ensures, c .before .before .before .before .before .before .before .before .before .before .before .before .before .entry .ensures) at e)))
 
 append-requires : tie.Need-append-requires
 append-requires c κs = search needs
@@ -66,9 +66,9 @@ same-length-7 : tie.Need-same-length-7
 same-length-7 c = search needs
 
 returns-3 : tie.Need-returns-3
-returns-3 c = λ last. c .before .before .before .before .before .before .append .ensures last ∙ ⊎-elim
-    (λ w. let e : c .before .before .before .before .before .before .before .before .before .before .before .entry2 .result + c .before .before .before .before .before .before .before .before .before .before .before .before .before .before .entry .result ≢ c .before .before .before .before .before .before .before .before .before .before .before .before .before .before .before .before .before .before .before .before .args .y .0 = eqb-false _ _ (w .2 .left) in sym (put-apart _ last _ _ _ _ _ (rw (c .before .before .before .before .before .before .before .before .before .before .before .before .before .before .entry .ensures) at (c .before .before .before .before .before .before .before .before .before .before .before .before .before .if1 .left)) _ (rw (c .before .before .before .before .before .before .before .before .before .before .before .entry2 .ensures, c .before .before .before .before .before .before .before .before .before .before .before .before .before .before .entry .ensures) at e)))
-    (λ w. sym (put-own _ last _ _ _ _ _ (rw (c .before .before .before .before .before .before .before .before .before .before .before .before .before .before .entry .ensures) at (c .before .before .before .before .before .before .before .before .before .before .before .before .before .if1 .left)) _ (not-false _ (w .left))))
+returns-3 c = c .before .before .before .before .before .before .append .ensures ∙ ⊎-elim
+    (λ w. let e : c .before .before .before .before .before .before .before .before .before .before .before .entry2 .result + c .before .before .before .before .before .before .before .before .before .before .before .before .before .before .entry .result ≢ c .before .before .before .before .before .before .before .before .before .before .before .before .before .before .before .before .before .before .before .before .args .y .0 = eqb-false _ _ (w .2 .left) in sym (put-apart _ _ _ _ _ _ (rw (c .before .before .before .before .before .before .before .before .before .before .before .before .before .before .entry .ensures) at (c .before .before .before .before .before .before .before .before .before .before .before .before .before .if1 .left)) _ (rw (c .before .before .before .before .before .before .before .before .before .before .before .entry2 .ensures, c .before .before .before .before .before .before .before .before .before .before .before .before .before .before .entry .ensures) at e)))
+    (λ w. sym (put-own _ _ _ _ _ _ (rw (c .before .before .before .before .before .before .before .before .before .before .before .before .before .before .entry .ensures) at (c .before .before .before .before .before .before .before .before .before .before .before .before .before .if1 .left)) _ (not-false _ (w .left))))
     (c .before .before .before .before .before .before .before .before .before .before .if2 .came)
 
 pub put-spec : {M : Type 1} → statement M

@@ -3,7 +3,6 @@ use mathlib.Core.Path.{_≡_, sym, ap, _∙_}
 use native.Mathlib.Omega.{arith}
 use lib.ListN.{getD}
 use Rattle.rules.specs.Chains.{cut}
-use Rattle.rules.specs.Accepted.{lastReserved}
 use Rattle.rules.specs.Space.{withoutFirst, nowhere, found, freeExtent}
 use Rattle.anodes.specs.Loaded.{anodesFrom}
 use Rattle.space.specs.Steps.{foundOf}
@@ -55,7 +54,7 @@ returns c =
     let a = c .before .before .before .before .before .before .before .before .before .args in
     let s = anodesFrom (a .counts .now) (a .firsts .now) (a .nexts .now) in
     let e : freeExtent 3444 (a .own) s ≡ nowhere = sym (c .before .before .free-extent .ensures (a .firsts .now)) ∙ ap foundOf (c .enum-told .given .1) in
-    sym (take-nowhere 3444 (a .own) s _ _ _ e)
+    sym (take-nowhere 3444 (a .own) s _ _ e)
 
 entry-requires : tie.Need-entry-requires
 entry-requires c κs = search needs
@@ -108,7 +107,7 @@ returns-2 c =
     let g = f .before .before .before .before .before .before .before .before .before .args in
     let pre = f .before .before .before .before .before .before .before .before .before .pre in
     let w = l .before .before .before .before .before .before .before .before .before .without-block in
-    c .before .before .before .before .before .before .put .ensures (lastReserved (g .image .now))
+    c .before .before .before .before .before .before .put .ensures
     ∙ taken-from _ _ (pre .1 .0 .1) _ _ _ (extent f) _ (pre .1 .1 .0) (pre .1 .1 .1) (w .last .0) (w .last .1 .0) (w .last .1 .1 .0) (left l) _ (l .last-anode .ensures) _ (l .before .before .before .before .before .before .before .before .before .before .before .before .before .before .entry .ensures)
 
 pub take-block-spec : {M : Type 1} → statement M
