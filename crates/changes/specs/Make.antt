@@ -11,7 +11,7 @@ use borrow.Author.Tests.{lt-ltb, le-ltb}
 use Rattle.disk.specs.Blocks.{blockOf}
 use Rattle.directory.specs.declared.Kind.the-variants.{File, Directory}
 use Rattle.directory.specs.Entries.{goodName, goodComment, entryLength, isDir}
-use Rattle.rules.specs.Counting.{sumList, times, gather}
+use Rattle.rules.specs.Counting.{sumList, times}
 use Rattle.rules.specs.Anodes.{Anodes, limit, exists, anodesOf}
 use Rattle.rules.specs.Chains.{blocksOf, blockCount}
 use Rattle.rules.specs.Walk.{Dir, Entered, entriesIn, isBlockOf, blocksFor, itemsBy, reachedDirs}
@@ -24,9 +24,9 @@ use Rattle.laws.specs.Sums.{oneAt-cases, oneAt-same}
 use Rattle.laws.specs.Bags.{list-cons, list-append, list-one}
 use Rattle.laws.specs.Plans.{planned≢refused}
 use Rattle.laws.specs.RefusedSteps.{take-refused}
-use Rattle.laws.specs.Entries.{weighEntry, itemsAt-whole}
+use Rattle.laws.specs.Entries.{weighEntry}
 use Rattle.laws.specs.Make.{SameMarks, EntryMore, enter-file, enter-directory}
-use Rattle.laws.specs.NewDirectory.{entries-new, new-marked}
+use Rattle.laws.specs.NewDirectory.{none-new}
 use Rattle.changes.specs.Image.{WholeOn, whole-accepted, reached-sum, ReachedDir}
 use Rattle.changes.specs.FoundEntries.{enteredAt}
 use Rattle.changes.specs.Reached.{reached-head}
@@ -69,17 +69,11 @@ module _ {img : List ℕ} {blocks anodes h : ℕ} {new : NewEntry} {f : ℕ} {ro
 
   -- the new directory has no entry
   own-empty : new .dir ≡ true → itemsBy (entriesIn j) (isBlockOf j) t (record { head = f; parent = h }) ≡ []
-  unfolding itemsBy gather entriesIn
   own-empty d =
       let one : t .count f ≡ 1 = plan m .own-count ∙ ap (λ (b : Bool). cond {A = ℕ} b 1 0) d in
       let p : 0 < times (t .block f) ys = first-in (t .block f) ys (plan m .own-blocks ∙ ap (λ (b : Bool). cond b (t .block f ∷ []) []) d) in
       let block : blockOf j (t .block f) ≡ newDirectoryBlock f h = entry-other m f one not-spot ∙ own-new m (t .block f) p in
-      rw (
-        plan m .own-chain,
-        itemsAt-whole (entriesIn j) (isBlockOf j) t (record { head = f; parent = h }) f one (new-marked j (t .block f) f h block (record { head = f; parent = h }) refl refl),
-        block,
-        entries-new f h (t .block f),
-      )
+      none-new j t (record { head = f; parent = h }) (plan m .own-chain) one block
 
   -- a new file has no block
   none-yet : new .dir ≡ false → blockCount t f ≡ blocksFor 0

@@ -11,6 +11,7 @@ use Rattle.rules.specs.Accepted.{diskSize}
 use Rattle.laws.specs.Ownership.{covers-in, disjoint}
 use Rattle.laws.specs.Heads.{head-of-is, on-own}
 use Rattle.laws.specs.Space.{Good}
+use Rattle.laws.specs.Owners.{full-used}
 use Rattle.laws.specs.Members.{times-member}
 use Rattle.frames.specs.DisjointBlocks.{DataBlock, chain-block}
 use Rattle.changes.specs.Reached.{block-on}
@@ -18,7 +19,7 @@ use Rattle.changes.specs.Reached.{block-on}
 module _ {ex : ℕ → Bool} {n last : ℕ} {s : Anodes} {system hd sd : ℕ → ℕ} (g : Good limit ex n last s system hd sd) where
   -- it is in use
   pub single-used : (a : ℕ) → s .count a ≡ 1 → s .block a ≢ 0
-  single-used a one z = omega (arith, one, g .present .free-none a z)
+  single-used a one = full-used g a (omega (arith, one))
 
   -- two such anodes have different blocks
   pub single-apart : (a : ℕ) → s .count a ≡ 1 → (c : ℕ) → s .count c ≡ 1 → a ≢ c → s .block a ≢ s .block c

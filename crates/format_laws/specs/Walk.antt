@@ -1,15 +1,13 @@
 -- The walk over a formatted image: the root directory alone, with no entry.
-use Prim.Native.Nat.{ℕ, zero, suc, _+_}
-use mathlib.Core.Path.{_≡_, refl}
+use Prim.Native.Nat.{ℕ, zero, suc}
+use mathlib.Core.Path.{_≡_, refl, ap, _∙_}
 use mathlib.Core.List.{List, [], _∷_}
-use lib.Dec.{T}
-use Rattle.rules.specs.Counting.{gather}
+use Rattle.disk.specs.Blocks.{blockOf}
 use Rattle.rules.specs.Anodes.{Anodes}
 use Rattle.rules.specs.Accepted.{diskSize}
-use Rattle.rules.specs.Walk.{Dir, root, Item, entriesIn, isBlockOf, itemsBy, itemsOf, scan, done, visited, walk, walkOf}
+use Rattle.rules.specs.Walk.{Dir, root, Item, itemsOf, scan, done, visited, walk, walkOf}
 use Rattle.rules.specs.Format.{formatted}
-use Rattle.laws.specs.Entries.{itemsAt-whole}
-use Rattle.laws.specs.NewDirectory.{entries-new, new-marked}
+use Rattle.laws.specs.NewDirectory.{none-new}
 use Rattle.format.proofs.Laws.{Taken, blockOf-formatted-directory}
 use Rattle.format_laws.specs.Anodes.{Laid}
 use Rattle.format_laws.specs.Links.{root-is}
@@ -30,22 +28,10 @@ module _ (img : List ℕ) (last k : ℕ) (name : List ℕ) (day minute tick prot
   abbrev disk : List ℕ
   disk = formatted img last k name day minute tick protection
 
-  no-entries : entriesIn disk (3 + k) ≡ []
-  unfolding entriesIn
-  no-entries = rw (blockOf-formatted-directory img last k name day minute tick protection args) (entries-new 5 0 (3 + k))
-
-  marked : T (isBlockOf disk root (3 + k))
-  marked = new-marked disk (3 + k) 5 0 (blockOf-formatted-directory img last k name day minute tick protection args) root refl refl
-
   module _ (s : Anodes) (m : Laid s (diskSize img) last k) where
     pub no-items : itemsOf disk s root ≡ []
-    unfolding itemsOf itemsBy gather
-    no-items = rw (
-      root-is m,
-      itemsAt-whole (entriesIn disk) (isBlockOf disk) s root 5 (m .at-5 .count) (rw (m .at-5 .block) marked),
-      m .at-5 .block,
-      no-entries,
-    )
+    unfolding itemsOf
+    no-items = none-new disk s root (root-is m) (m .at-5 .count) (ap (blockOf disk) (m .at-5 .block) ∙ blockOf-formatted-directory img last k name day minute tick protection args)
 
     pub walked : walkOf disk s ≡ done (root ∷ [])
     unfolding walkOf

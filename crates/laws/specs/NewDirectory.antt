@@ -2,7 +2,7 @@
 use Prim.Native.Nat.{ℕ}
 use mathlib.Core.Path.{_≡_, refl, sym, _∙_}
 use mathlib.Core.Bool.{_&&_, _||_}
-use mathlib.Core.List.{List, []}
+use mathlib.Core.List.{List, [], _∷_}
 use native.Mathlib.Omega.{arith}
 use lib.Dec.{T, eqb}
 use lib.ListN.{length, getD, length-replicate, getD-replicate}
@@ -10,10 +10,13 @@ use Rattle.disk.specs.Blocks.{blockOf}
 use Rattle.directory.specs.declared.Walked.the-variants.{End}
 use Rattle.directory.specs.Entries.{directoryMark, directoryHeadIn, walkedAt}
 use Rattle.directory.proofs.Laws.{length-putDirectoryHead, getD-putDirectoryHead-after, directoryHeadIn-putDirectoryHead}
-use Rattle.rules.specs.Walk.{Dir, entriesFrom, isBlockOf}
+use Rattle.rules.specs.Counting.{gather}
+use Rattle.rules.specs.Anodes.{Anodes, limit}
+use Rattle.rules.specs.Chains.{chainOf}
+use Rattle.rules.specs.Walk.{Dir, entriesFrom, entriesIn, isBlockOf, itemsBy}
 use Rattle.rules.specs.Format.{zeroBlock, newDirectoryBlock}
 use Rattle.laws.specs.Tests.{eq→eqb, and, or-right}
-use Rattle.laws.specs.Entries.{entries-end}
+use Rattle.laws.specs.Entries.{entries-end, itemsAt-whole}
 
 module _ (owner parent : ℕ) where
   pub length-new : length (newDirectoryBlock owner parent) ≡ 512
@@ -42,3 +45,15 @@ new-marked i y owner parent e d p q =
     rw (e, head-new owner parent)
     (and (eqb directoryMark directoryMark) (eqb owner (d .head) && (eqb (d .head) 5 || eqb parent (d .parent))) (eq→eqb directoryMark directoryMark refl)
     (and (eqb owner (d .head)) (eqb (d .head) 5 || eqb parent (d .parent)) (eq→eqb owner (d .head) (sym p)) (or-right (eqb (d .head) 5) (eqb parent (d .parent)) (eq→eqb parent (d .parent) (sym q)))))
+
+-- a directory whose chain is one anode with one new block gives nothing
+pub none-new : (i : List ℕ) (s : Anodes) (d : Dir) → chainOf (s .next) limit (d .head) ≡ d .head ∷ [] → s .count (d .head) ≡ 1 → blockOf i (s .block (d .head)) ≡ newDirectoryBlock (d .head) (d .parent) →
+    itemsBy (entriesIn i) (isBlockOf i) s d ≡ []
+unfolding itemsBy gather entriesIn
+none-new i s d chain one block =
+    rw (
+      chain,
+      itemsAt-whole (entriesIn i) (isBlockOf i) s d (d .head) one (new-marked i (s .block (d .head)) (d .head) (d .parent) block d refl refl),
+      block,
+      entries-new (d .head) (d .parent) (s .block (d .head)),
+    )

@@ -1,7 +1,7 @@
 -- Laws of the steps of a make: what each starts from, and what both answer.
 use Prim.Native.Nat.{ℕ, _+_, _≤_}
 use mathlib.Core.Path.{_≡_, refl, sym, ap, _∙_}
-use mathlib.Core.Logic.{_≢_, inl, inr}
+use mathlib.Core.Logic.{_≢_}
 use mathlib.Core.Bool.{Bool, true, false, cond}
 use mathlib.Core.List.{List, [], _∷_, append-nil}
 use mathlib.Core.Option.{Option}
@@ -33,7 +33,7 @@ use Rattle.changes.specs.Image.{WholeImage, headIn, sideIn, accepted-whole, rea
 use Rattle.changes.specs.MakePlan.{Fresh, fresh-dir, fresh-free, made-orphan}
 use Rattle.changes.specs.Make.{needed-refused}
 use Rattle.changes.specs.MadeImage.{first-in}
-use Rattle.changed.specs.Laws.{Shows, shows-ran}
+use Rattle.changed.specs.Laws.{step-late, Shows, shows-ran}
 use Rattle.space.specs.declared.Step.{Step}
 use Rattle.space.specs.declared.Step.the-variants.{Moved, Refused}
 use Rattle.space.specs.Steps.{stepPlan, Ready}
@@ -62,7 +62,7 @@ unfolding neededBlock
 step-none img s h = ap (planned s) (no-block 0 refl)
 
 late : (img : List ℕ) (needed : Bool) (s : Anodes) (h k : ℕ) → neededBlock img needed s h ≡ refused k → 17 ≤ k
-late img needed s h k e = elim (needed-refused img needed s h k e) [ inl i ↦ omega arith | inr i ↦ omega arith ]
+late img needed s h k e = step-late k (needed-refused img needed s h k e)
 
 module _ (img : List ℕ) {s : Anodes} {hd sd : ℕ → ℕ} (g : Good limit (exists img) (diskSize img) (lastReserved img) s (systemOwns img) hd sd)
     (h : ℕ) (d : Head (s .next) (s .block) h) (h1 : h ≢ 1) where

@@ -1,7 +1,7 @@
 -- A resize by its plan: how much it asks for, and what it leaves of an accepted image and of its two tables.
 use Prim.Native.Nat.{ℕ, _-_, _<_, _≤_}
 use mathlib.Core.Path.{_≡_, refl, sym, _∙_}
-use mathlib.Core.Logic.{_⊎_, inl, inr}
+use mathlib.Core.Logic.{inl, inr}
 use mathlib.Core.Bool.{true, false, cond}
 use mathlib.Core.List.{List, _++_}
 use native.Mathlib.Omega.{arith}
@@ -27,7 +27,7 @@ use Rattle.tree.specs.Steps.{sumFrom}
 use Rattle.space.specs.Steps.{moveBlock, moveMany}
 use Rattle.space.proofs.Many.{count-small}
 use Rattle.changed.specs.Leaves.{Leaves, ReachedEntry}
-use Rattle.changed.specs.Laws.{Shows, leaves-refused, shows-ran, leaves-done}
+use Rattle.changed.specs.Laws.{step-late, Shows, leaves-refused, shows-ran, leaves-done}
 use Rattle.changed.specs.Chains.{loaded-size, image-good, entry-known, loaded-copies, chain-counted, planned-change, gave-few}
 
 module _ {img counts firsts nexts : List ℕ} (l : Loaded img counts firsts nexts) (e : Entered) (r : ReachedEntry img e) (size : ℕ) where
@@ -46,11 +46,7 @@ module _ {img counts firsts nexts : List ℕ} (l : Loaded img counts firsts next
   -- refused it leaves everything
   pub refused-leaves : (k : ℕ) → resizePlan img s (e .anode) (blocksFor size) ≡ refused k → (b a : List ℕ) → Leaves k img b a img b a (resized img s e size)
   unfolding resized
-  refused-leaves k plan b a = rw plan (leaves-refused k (late (plan-refused img (image-good l) (e .anode) (entry-known l e r .head) (entry-not-1 (entry-known l e r)) (blocksFor size) k plan)) img b a)
-    where
-      late : (k ≡ 27) ⊎ (k ≡ 28) → 17 ≤ k
-      late (inl i) = omega (arith, i)
-      late (inr i) = omega (arith, i)
+  refused-leaves k plan b a = rw plan (leaves-refused k (step-late k (plan-refused img (image-good l) (e .anode) (entry-known l e r .head) (entry-not-1 (entry-known l e r)) (blocksFor size) k plan)) img b a)
 
   module _ (file : e .dir ≡ false) (t : Anodes) (ys : List ℕ) (plan : resizePlan img s (e .anode) (blocksFor size) ≡ planned t ys) where
     p : PlannedResize img e size t ys
