@@ -1,15 +1,14 @@
 -- A directory block with another size in one of its entries: that entry has the size, and nothing else changes.
-use Prim.Native.Nat.{ℕ, zero, suc, _+_, _*_, _/_, _%_, _≤_, _<_}
+use Prim.Native.Nat.{ℕ, zero, suc, _+_, _*_, _≤_, _<_}
 use mathlib.Core.Path.{_≡_, refl, sym, ap, ap₂, _∙_}
 use mathlib.Core.Logic.{_⊎_, inl, inr}
 use mathlib.Core.Bool.{Bool, true, false, cond}
 use mathlib.Core.List.{List, _∷_, _++_}
 use native.Mathlib.Omega.{arith}
 use lib.Dec.{eqb}
-use lib.ListN.{length, getD, drop}
-use lib.Seq.{drop-set-lt}
-use Rattle.endian.specs.Bytes.{be16, put16, put32}
-use Rattle.endian.proofs.Laws.{be16-bytes, length-put32, getD-put16-other, be32-put32-same}
+use lib.ListN.{length, getD}
+use Rattle.endian.specs.Bytes.{be16, put32}
+use Rattle.endian.proofs.Laws.{be16-bytes, length-put32, getD-put32-other, drop-put32, be32-put32-same}
 use Rattle.disk.specs.declared.Refusal.the-variants.{DirectoryBlock}
 use Rattle.directory.specs.declared.Entry.{Entry}
 use Rattle.directory.specs.declared.Kind.{Kind}
@@ -49,23 +48,13 @@ onFound new (Fault r) = Fault r
 
 -- ---- the bytes
 
-module _ (b : List ℕ) (at v : ℕ) where
-  pub put32-others : (i : ℕ) → (i < at) ⊎ (at + 4 ≤ i) → getD (put32 b at v) i 0 ≡ getD b i 0
-  unfolding put32
-  put32-others i (inl l) = getD-put16-other (put16 b at (v / 65536)) (at + 2) (v % 65536) i (omega arith) (omega arith) ∙ getD-put16-other b at (v / 65536) i (omega arith) (omega arith)
-  put32-others i (inr l) = getD-put16-other (put16 b at (v / 65536)) (at + 2) (v % 65536) i (omega arith) (omega arith) ∙ getD-put16-other b at (v / 65536) i (omega arith) (omega arith)
-
-  drop-put32 : (n : ℕ) → at + 4 ≤ n → drop n (put32 b at v) ≡ drop n b
-  unfolding put32 put16
-  drop-put32 n l = drop-set-lt n _ (at + 2 + 1) _ (omega arith) ∙ drop-set-lt n _ (at + 2) _ (omega arith) ∙ drop-set-lt n _ (at + 1) _ (omega arith) ∙ drop-set-lt n b at _ (omega arith)
-
 module _ (b : List ℕ) (at new : ℕ) where
   abbrev b′ : List ℕ
   b′ = put32 b (at + 4) new
 
   others : (i : ℕ) → (i < at + 4) ⊎ (at + 8 ≤ i) → getD b′ i 0 ≡ getD b i 0
-  others i (inl l) = put32-others b (at + 4) new i (inl l)
-  others i (inr l) = put32-others b (at + 4) new i (inr (omega arith))
+  others i (inl l) = getD-put32-other b (at + 4) new i (inl l)
+  others i (inr l) = getD-put32-other b (at + 4) new i (inr (omega arith))
 
   others16 : (i : ℕ) → (i + 1 < at + 4) ⊎ (at + 8 ≤ i) → be16 b′ i ≡ be16 b i
   others16 i (inl l) = be16-bytes b′ b i i (others i (inl (omega arith))) (others (i + 1) (inl (omega arith)))

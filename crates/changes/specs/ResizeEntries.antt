@@ -7,7 +7,7 @@ use native.Mathlib.Omega.{arith}
 use lib.ListN.{length, getD, set, take, drop}
 use lib.Seq.{take-set-lt, drop-set-add}
 use Rattle.endian.specs.Bytes.{put16, put32}
-use Rattle.endian.proofs.Laws.{length-put32}
+use Rattle.endian.proofs.Laws.{length-put32, getD-put32-other}
 use Rattle.disk.specs.Blocks.{blockOf}
 use Rattle.rules.specs.Counting.{oneAt, gather}
 use Rattle.rules.specs.Anodes.{Anodes, limit, anodesOf}
@@ -24,7 +24,7 @@ use Rattle.changes.specs.Reached.{EntryIn, EntryFacts, block-entry, reac
 use Rattle.changes.specs.KeptChains.{entries-along, entries-left}
 use Rattle.changes.specs.NamedOnce.{only-home}
 use Rattle.changes.specs.EntryBytes.{entryBytes}
-use Rattle.changes.specs.NewSize.{sized, put32-others}
+use Rattle.changes.specs.NewSize.{sized}
 use Rattle.changes.specs.PlannedChange.{image, facts}
 use Rattle.changes.specs.ResizeStores.{PlannedResize, others-left, head-not-file, dir-same, other-block, this-block, resized-disk}
 use Rattle.changes.specs.Resize.{resizedEntry, one-resized, block-left, still-whole}
@@ -108,7 +108,7 @@ module _ {img : List ℕ} {e : Entered} {new : ℕ} {t : Anodes} {ys : List ℕ}
   apart-bytes : (b : List ℕ) (at len pos : ℕ) → length b ≡ 512 → at + len ≤ 510 → (at + len ≤ pos) ⊎ (pos + 8 ≤ at) →
       take len (drop at (put32 b (pos + 4) new)) ≡ take len (drop at b)
   apart-bytes b at len pos whole room apart =
-      part-same (put32 b (pos + 4) new) b at at len (omega (arith, length-put32 b (pos + 4) new)) (omega arith) (λ i l. put32-others b (pos + 4) new (at + i) (elim apart [
+      part-same (put32 b (pos + 4) new) b at at len (omega (arith, length-put32 b (pos + 4) new)) (omega arith) (λ i l. getD-put32-other b (pos + 4) new (at + i) (elim apart [
         | inl q ↦ inl (omega arith)
         | inr q ↦ inr (omega arith)
       ]))
@@ -153,11 +153,11 @@ module _ {img : List ℕ} {e : Entered} {new : ℕ} {t : Anodes} {ys : List ℕ}
       | inl i ↦ (let same : f .place / 512 ≡ y = g .in-block ∙ ap (s .block) i ∙ sym (facts p .in-block) in
           let at = f .place % 512 in
           let o = order i in
-          let first : getD (put32 (blockOf img y) (pos + 4) new) at 0 ≡ getD (blockOf img y) at 0 = put32-others (blockOf img y) (pos + 4) new at (elim o [ inl q ↦ inl (omega arith) | inr q ↦ inr (omega arith) ]) in
+          let first : getD (put32 (blockOf img y) (pos + 4) new) at 0 ≡ getD (blockOf img y) at 0 = getD-put32-other (blockOf img y) (pos + 4) new at (elim o [ inl q ↦ inl (omega arith) | inr q ↦ inr (omega arith) ]) in
           rw (same, home-block, first) (apart-bytes (blockOf img y) at (getD (blockOf img y) at 0) pos (block-entry (facts p) .whole) (rw same at (g .stands .before)) o))
     ]
 
   -- of the entry only the size changes
   pub bytes-resized : entryBytes j (e .place) ≡ put32 (entryBytes img (e .place)) 4 new
   unfolding entryBytes
-  bytes-resized = rw (home-block, put32-others (blockOf img y) (pos + 4) new pos (inl (omega arith))) (part-put32 (blockOf img y) pos (getD (blockOf img y) pos 0) new (omega (arith, long)))
+  bytes-resized = rw (home-block, getD-put32-other (blockOf img y) (pos + 4) new pos (inl (omega arith))) (part-put32 (blockOf img y) pos (getD (blockOf img y) pos 0) new (omega (arith, long)))

@@ -1,14 +1,12 @@
 -- A write into a file of an accepted image: the image is accepted again, its directories and other files are the same, and the file has the bytes.
-use Prim.Native.Nat.{ℕ, _+_, _-_, _≤_, _<_}
-use mathlib.Core.Path.{_≡_, sym, ap, _∙_}
-use mathlib.Core.Logic.{_≢_, inl, inr}
+use Prim.Native.Nat.{ℕ, _+_, _≤_, _<_}
+use mathlib.Core.Path.{_≡_, ap}
+use mathlib.Core.Logic.{_≢_}
 use mathlib.Core.Bool.{false}
 use mathlib.Core.List.{List, [], _∷_}
-use native.Mathlib.Omega.{arith}
-use lib.ListN.{length, getD, take, length-take}
-use lib.Seq.{getD-take, ext-getD}
+use lib.ListN.{length, take}
 use Rattle.endian.specs.Bytes.{stored}
-use Rattle.endian.proofs.Laws.{length-stored, getD-stored-before, getD-stored-in, getD-stored-after}
+use Rattle.endian.proofs.Laws.{take-stored}
 use Rattle.rules.specs.Counting.{times}
 use Rattle.rules.specs.Anodes.{Anodes, limit, anodesOf}
 use Rattle.rules.specs.Chains.{chainOf, blocksOf}
@@ -16,7 +14,6 @@ use Rattle.rules.specs.Walk.{Dir, root, Entered, entriesIn, isBlockOf, itemsFor
 use Rattle.rules.specs.Accepted.{checkAnswer}
 use Rattle.rules.specs.Lookup.{entriesOf, bytesOf, contents}
 use Rattle.rules.specs.Changes.{written}
-use Rattle.laws.specs.Tests.{less?}
 use Rattle.laws.specs.Members.{Member, gather-congr}
 use Rattle.frames.specs.Kept.{Kept}
 use Rattle.frames.specs.DisjointBlocks.{DataBlock, chains-apart, chain-block}
@@ -26,26 +23,6 @@ use Rattle.changes.specs.SameItems.{whole-same, walk-same}
 use Rattle.changes.specs.EntryBytes.{entryBytes}
 use Rattle.changes.specs.KeptChains.{same-chain-own, block-same, entries-same, entry-bytes-same}
 use Rattle.changes.specs.Reached.{EntryIn, EntryFacts, member-reached, reached-head, entry-facts, not-file}
-
--- ---- the file's bytes
-
-take-stored : (n : ℕ) (l : List ℕ) (at : ℕ) (bytes : List ℕ) → at + length bytes ≤ n → take n (stored l at bytes) ≡ stored (take n l) at bytes
-take-stored n l at bytes within =
-    ext-getD 0 (take n (stored l at bytes)) (stored (take n l) at bytes) long (λ i m. each i (omega (arith, m, length-take n (stored l at bytes))) (omega (arith, m, length-take n (stored l at bytes), length-stored l at bytes)))
-  where
-    long : length (take n (stored l at bytes)) ≡ length (stored (take n l) at bytes)
-    long = omega (arith, length-take n (stored l at bytes), length-stored l at bytes, length-stored (take n l) at bytes, length-take n l)
-
-    each : (i : ℕ) → i < n → i < length l → getD (take n (stored l at bytes)) i 0 ≡ getD (stored (take n l) at bytes) i 0
-    each i m q =
-        getD-take n (stored l at bytes) i 0 m ∙ elim (less? i at) [
-          | inl b ↦ getD-stored-before l at bytes i b ∙ sym (getD-stored-before (take n l) at bytes i b ∙ getD-take n l i 0 m)
-          | inr b ↦ elim (less? i (at + length bytes)) [
-            | inl c ↦ getD-stored-in l at bytes i (i - at) (omega arith) (omega arith) q
-                ∙ sym (getD-stored-in (take n l) at bytes i (i - at) (omega arith) (omega arith) (omega (arith, length-take n l)))
-            | inr c ↦ getD-stored-after l at bytes i c ∙ sym (getD-stored-after (take n l) at bytes i c ∙ getD-take n l i 0 m)
-          ]
-        ]
 
 -- ---- the image after the write
 

@@ -9,8 +9,8 @@ use borrow.Author.Tests.{ltb-true, ltb-false, eqb-true, eqb-false}
 use native.Mathlib.Omega.{arith}
 use native.Mathlib.Numerals.{add-one}
 use native.Mathlib.Nat.{not-suc-le-zero}
-use lib.ListN.{length, getD, set, take, drop, replicate, length-set, length-replicate, getD-replicate, drop-of-length-le, List·getD-eq-default}
-use lib.Seq.{set-out, getD-set-same, getD-set-other, drop-cons, drop-nil, length-take-le, length-sets, sets-eq}
+use lib.ListN.{length, getD, set, take, drop, replicate, length-set, length-take, length-replicate, getD-replicate, drop-of-length-le, List·getD-eq-default}
+use lib.Seq.{set-out, getD-set-same, getD-set-other, getD-take, ext-getD, drop-set-lt, drop-cons, drop-nil, length-take-le, length-sets, sets-eq}
 use Rattle.endian.specs.Bytes.{be16, be32, put16, put32, stored, cleared}
 
 -- ---- cases
@@ -100,6 +100,16 @@ module _ (l : List ℕ) (at v : ℕ) where
       )
       (omega arith)
 
+  -- the bytes beside a number, and those behind it
+  pub getD-put32-other : (i : ℕ) → (i < at) ⊎ (at + 4 ≤ i) → getD (put32 l at v) i 0 ≡ getD l i 0
+  unfolding put32
+  getD-put32-other i (inl h) = getD-put16-other (put16 l at (v / 65536)) (at + 2) (v % 65536) i (omega arith) (omega arith) ∙ getD-put16-other l at (v / 65536) i (omega arith) (omega arith)
+  getD-put32-other i (inr h) = getD-put16-other (put16 l at (v / 65536)) (at + 2) (v % 65536) i (omega arith) (omega arith) ∙ getD-put16-other l at (v / 65536) i (omega arith) (omega arith)
+
+  pub drop-put32 : (n : ℕ) → at + 4 ≤ n → drop n (put32 l at v) ≡ drop n l
+  unfolding put32 put16
+  drop-put32 n h = drop-set-lt n _ (at + 2 + 1) _ (omega arith) ∙ drop-set-lt n _ (at + 2) _ (omega arith) ∙ drop-set-lt n _ (at + 1) _ (omega arith) ∙ drop-set-lt n l at _ (omega arith)
+
 -- ---- runs
 
 pub length-stored : (l : List ℕ) (at : ℕ) (s : List ℕ) → length (stored l at s) ≡ length l
@@ -153,6 +163,25 @@ getD-stored-in l at (v ∷ s) i zero e h g =
     rw (stored-cons l at v s, getD-stored-before (set l at v) (at + 1) s i (omega arith), a) (getD-set-same l at v 0 (omega arith))
 getD-stored-in l at (v ∷ s) i (suc k) e h g =
     rw (stored-cons l at v s) (getD-stored-in (set l at v) (at + 1) s i k (omega arith) (omega arith) (simp length-set g))
+
+-- a run within the first bytes of a list
+pub take-stored : (n : ℕ) (l : List ℕ) (at : ℕ) (bytes : List ℕ) → at + length bytes ≤ n → take n (stored l at bytes) ≡ stored (take n l) at bytes
+take-stored n l at bytes within =
+    ext-getD 0 (take n (stored l at bytes)) (stored (take n l) at bytes) long (λ i m. each i (omega (arith, m, length-take n (stored l at bytes))) (omega (arith, m, length-take n (stored l at bytes), length-stored l at bytes)))
+  where
+    long : length (take n (stored l at bytes)) ≡ length (stored (take n l) at bytes)
+    long = omega (arith, length-take n (stored l at bytes), length-stored l at bytes, length-stored (take n l) at bytes, length-take n l)
+
+    each : (i : ℕ) → i < n → i < length l → getD (take n (stored l at bytes)) i 0 ≡ getD (stored (take n l) at bytes) i 0
+    each i m q =
+        getD-take n (stored l at bytes) i 0 m ∙ elim (less? i at) [
+          | inl b ↦ getD-stored-before l at bytes i b ∙ sym (getD-stored-before (take n l) at bytes i b ∙ getD-take n l i 0 m)
+          | inr b ↦ elim (less? i (at + length bytes)) [
+            | inl c ↦ getD-stored-in l at bytes i (i - at) (omega arith) (omega arith) q
+                ∙ sym (getD-stored-in (take n l) at bytes i (i - at) (omega arith) (omega arith) (omega (arith, length-take n l)))
+            | inr c ↦ getD-stored-after l at bytes i c ∙ sym (getD-stored-after (take n l) at bytes i c ∙ getD-take n l i 0 m)
+          ]
+        ]
 
 -- a number with no byte of the run
 pub be16-stored-other : (l : List ℕ) (at : ℕ) (s : List ℕ) (k : ℕ) → ((j : ℕ) → j < length s + 1 → k + 1 ≡ at + j → ⊥) → be16 (stored l at s) k ≡ be16 l k
