@@ -183,7 +183,7 @@ module _ (b : List ℕ) (at : ℕ) (e : Entry) (name comment : List ℕ) where
 
   module _ (name-fits : length name ≡ e .name) (comment-fits : length comment ≡ e .comment) where
     -- every byte past that one is left
-    getD-putEntry-after : (i : ℕ) → at + entryLength (e .name) (e .comment) < i → getD (putEntry b at e name comment) i 0 ≡ getD b i 0
+    pub getD-putEntry-after : (i : ℕ) → at + entryLength (e .name) (e .comment) < i → getD (putEntry b at e name comment) i 0 ≡ getD b i 0
     unfolding entryLength entryHead
     getD-putEntry-after i h =
         rw putEntry-run
