@@ -100,12 +100,6 @@ module _ (l : List ℕ) (at v : ℕ) where
       )
       (omega arith)
 
-  -- the bytes beside a number, and those behind it
-  pub getD-put32-other : (i : ℕ) → (i < at) ⊎ (at + 4 ≤ i) → getD (put32 l at v) i 0 ≡ getD l i 0
-  unfolding put32
-  getD-put32-other i (inl h) = getD-put16-other (put16 l at (v / 65536)) (at + 2) (v % 65536) i (omega arith) (omega arith) ∙ getD-put16-other l at (v / 65536) i (omega arith) (omega arith)
-  getD-put32-other i (inr h) = getD-put16-other (put16 l at (v / 65536)) (at + 2) (v % 65536) i (omega arith) (omega arith) ∙ getD-put16-other l at (v / 65536) i (omega arith) (omega arith)
-
   pub drop-put32 : (n : ℕ) → at + 4 ≤ n → drop n (put32 l at v) ≡ drop n l
   unfolding put32 put16
   drop-put32 n h = drop-set-lt n _ (at + 2 + 1) _ (omega arith) ∙ drop-set-lt n _ (at + 2) _ (omega arith) ∙ drop-set-lt n _ (at + 1) _ (omega arith) ∙ drop-set-lt n l at _ (omega arith)
@@ -212,6 +206,10 @@ pub put32-run : (l : List ℕ) (at v : ℕ)
     → put32 l at v ≡ stored l at (v / 65536 / 256 ∷ v / 65536 % 256 ∷ v % 65536 / 256 ∷ v % 65536 % 256 ∷ [])
 unfolding put32
 put32-run l at v = put16-run _ (at + 2) (v % 65536) ∙ run-on l at _ _ (put16-run l at (v / 65536)) (at + 2) _ (omega arith)
+
+-- the bytes beside a four-byte number
+pub getD-put32-other : (l : List ℕ) (at v i : ℕ) → (i < at) ⊎ (at + 4 ≤ i) → getD (put32 l at v) i 0 ≡ getD l i 0
+getD-put32-other l at v i h = rw (put32-run l at v) (getD-stored-other l at _ i (λ j m e. elim h [ inl b ↦ omega arith | inr b ↦ omega arith ]))
 
 -- a run stored behind the first byte
 stored-later : (x : ℕ) (l : List ℕ) (at : ℕ) (s : List ℕ) → stored (x ∷ l) (suc at) s ≡ x ∷ stored l at s
