@@ -59,11 +59,10 @@ module _ (img : List ℕ) (b a : ℕ) where
         pub header-none : wrongRoot img ≡ false → Headed img b a
         unfolding checkAnswer shortTables
         header-none t =
-            let room = neither (ltb b (diskSize img)) (ltb a limit) tables in
+            let enough = neither (ltb b (diskSize img)) (ltb a limit) tables in
             record {
               size-right = size;
-              blocks-room = ltb-false b (diskSize img) (room .0);
-              anodes-room = ltb-false a limit (room .1);
+              room = record { for-blocks = ltb-false b (diskSize img) (enough .0); for-anodes = ltb-false a limit (enough .1) };
               answered = rw (size, tables, type, t);
             }
 

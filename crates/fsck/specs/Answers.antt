@@ -31,11 +31,15 @@ abbrev pub Tallied : Checked → List ℕ → Anodes → Type 0
 Tallied (Accepted t) img s = (t .free ≡ blockCount s 1) × (t .files ≡ fileCount img s) × (t .dirs ≡ dirCount img s)
 Tallied (Refused r) img s = Unit {0}
 
+-- tables of so many entries have one for each block and one for each anode
+pub record Room (img : List ℕ) (blocks anodes : ℕ) : Type 0 where
+  pub for-blocks : diskSize img ≤ blocks
+  pub for-anodes : limit ≤ anodes
+
 -- what 1 to 4 say where none holds: the image's size is a disk's, the tables have room, and the rest of the table is the answer
 pub record Headed (img : List ℕ) (blocks anodes : ℕ) : Type 0 where
   pub size-right : wrongSize img ≡ false
-  pub blocks-room : diskSize img ≤ blocks
-  pub anodes-room : limit ≤ anodes
+  pub room : Room img blocks anodes
   pub answered : checkAnswer img blocks anodes ≡ (5 if wrongSlots img else damageIn img (anodesOf img))
 
 -- what 1 to 4 say, which touch no table
@@ -68,9 +72,11 @@ abbrev pub TablesLeft : Checked → List ℕ → Anodes → List ℕ → List �
 TablesLeft (Accepted t) img s b₀ a₀ b a = Filled img s b₀ a₀ b a
 TablesLeft (Refused r) img s b₀ a₀ b a = Kept img b₀ a₀ b a
 
--- the block table and the anode table are zero in their ranges
-abbrev pub Zeroed : List ℕ → List ℕ → List ℕ → Type 0
-Zeroed img blocks anodes = HeldBelow (λ x. 0) blocks (diskSize img) × HeldBelow (λ a. 0) anodes limit
+-- the block table and the anode table have room, and are zero in their ranges
+pub record Zeroed (img blocks anodes : List ℕ) : Type 0 where
+  pub room : Room img (length blocks) (length anodes)
+  pub blocks-zero : HeldBelow (λ x. 0) blocks (diskSize img)
+  pub anodes-zero : HeldBelow (λ a. 0) anodes limit
 
 -- five tables with an entry for each anode
 abbrev pub Sized : List ℕ → List ℕ → List ℕ → List ℕ → List ℕ → Type 0

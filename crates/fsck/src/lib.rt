@@ -83,7 +83,7 @@ fn test_space(
 ) -> Test
     requires { ⌜ AnodeTables (now counts) (now firsts) (now nexts) ⌝ }
     requires { ⌜ anodesFrom (now counts) (now firsts) (now nexts) ≡ anodesOf (now image) ⌝ }
-    requires { ⌜ (wrongSize (now image) ≡ false) × (wrongSlots (now image) ≡ false) × (diskSize (now image) ≤ length (now blocks)) × (3444 ≤ length (now anodes)) ⌝ }
+    requires { ⌜ (wrongSize (now image) ≡ false) × (wrongSlots (now image) ≡ false) ⌝ }
     requires { ⌜ Zeroed (now image) (now blocks) (now anodes) ⌝ }
     ensures answer { λ r. ⌜ SpaceTested r (now (image .entry)) (anodesOf (now (image .entry))) ⌝ }
     ensures tables { λ r. ⌜ TablesAfter r (now (image .entry)) (anodesOf (now (image .entry))) (now (blocks .entry)) (now (anodes .entry)) (now (blocks .exit)) (now (anodes .exit)) ⌝ }
@@ -126,7 +126,7 @@ fn test_all(
 ) -> Checked
     requires { ⌜ Sized (now counts) (now firsts) (now nexts) (now queue) (now parents) ⌝ }
     requires { ⌜ anodesFrom (now counts) (now firsts) (now nexts) ≡ anodesOf (now image) ⌝ }
-    requires { ⌜ (wrongSize (now image) ≡ false) × (wrongSlots (now image) ≡ false) × (diskSize (now image) ≤ length (now blocks)) × (3444 ≤ length (now anodes)) ⌝ }
+    requires { ⌜ (wrongSize (now image) ≡ false) × (wrongSlots (now image) ≡ false) ⌝ }
     requires { ⌜ Zeroed (now image) (now blocks) (now anodes) ⌝ }
     ensures answer { λ r. ⌜ checkedNumber r ≡ damageIn (now (image .entry)) (anodesOf (now (image .entry))) ⌝ }
     ensures tally { λ r. ⌜ Tallied r (now (image .entry)) (anodesOf (now (image .entry))) ⌝ }
@@ -159,7 +159,7 @@ fn examine(
     parents: &mut [u16],
 ) -> Checked
     requires { ⌜ Sized (now counts) (now firsts) (now nexts) (now queue) (now parents) ⌝ }
-    requires { ⌜ (wrongSize (now image) ≡ false) × (diskSize (now image) ≤ length (now blocks)) × (3444 ≤ length (now anodes)) ⌝ }
+    requires { ⌜ wrongSize (now image) ≡ false ⌝ }
     requires { ⌜ Zeroed (now image) (now blocks) (now anodes) ⌝ }
     ensures answer { λ r. ⌜ checkedNumber r ≡ (5 if wrongSlots (now (image .entry)) else damageIn (now (image .entry)) (anodesOf (now (image .entry)))) ⌝ }
     ensures tally { λ r. ⌜ Tallied r (now (image .entry)) (anodesOf (now (image .entry))) ⌝ }

@@ -16,7 +16,7 @@ load-requires c κs = search needs
 test-all-requires : tie.Need-test-all-requires
 test-all-requires c κs =
     let p = c .before .before .before .before .before .before .before .before .before .before .before .before .before .before .before .before .before .before .before .before .before .before .before .before .before .before .before .pre .1 in
-    (((search needs, search needs, search needs), search needs, search needs), (c .before .before .before .before .before .before .before .before .before .before .before .before .before .load .ensures, ((p .0 .0, sym (c .before .before .before .before .before .before .before .before .before .before .before .before .before .before .before .before .before .before .wrong-slots .ensures) ∙ c .before .before .before .before .before .before .before .before .before .before .before .before .before .before .before .before .before .if1 .left, p .0 .1, p .0 .2), (p .1 .0, p .1 .1))))
+    (((search needs, search needs, search needs), search needs, search needs), (c .before .before .before .before .before .before .before .before .before .before .before .before .before .load .ensures, ((p .0, sym (c .before .before .before .before .before .before .before .before .before .before .before .before .before .before .before .before .before .before .wrong-slots .ensures) ∙ c .before .before .before .before .before .before .before .before .before .before .before .before .before .before .before .before .before .if1 .left), p .1)))
 
 same-length : tie.Need-same-length
 same-length c = search needs

@@ -35,10 +35,10 @@ disk-size-requires : tie.Need-disk-size-requires
 disk-size-requires c κs = search needs
 
 zero-first-requires : tie.Need-zero-first-requires
-zero-first-requires c κs = omega (arith, headed-at (c .before) .blocks-room, c .before .disk-size .ensures)
+zero-first-requires c κs = omega (arith, headed-at (c .before) .room .for-blocks, c .before .disk-size .ensures)
 
 zero-first-requires-2 : tie.Need-zero-first-requires-2
-zero-first-requires-2 c κs = headed-at (c .before .before .before .before .before) .anodes-room
+zero-first-requires-2 c κs = headed-at (c .before .before .before .before .before) .room .for-anodes
 
 examine-requires : tie.Need-examine-requires
 examine-requires c κs =
@@ -48,8 +48,12 @@ examine-requires c κs =
     let a = c .before .before .before .before .before .before .before .before .before .zero-first2 in (
       c .before .before .before .before .before .before .before .before .before .before .before .before .before .before .before .before .before .before .before .before .before .before .before .before .before .before .before .pre,
       (
-        (h .size-right, omega (arith, h .blocks-room, b .kept .0), omega (arith, h .anodes-room, a .kept .0)),
-        (λ x l. zeroed-below (d .disk-size .result) _ _ (b .ensures) x (omega (arith, l, d .disk-size .ensures)), zeroed-below _ (c .before .before .before .before .before .before .before .before .before .before .before .before .before .before .before .before .before .before .before .before .before .before .before .before .before .before .before .args .anodes .now) _ (a .ensures)),
+        h .size-right,
+        record {
+          room = record { for-blocks = omega (arith, h .room .for-blocks, b .kept .0); for-anodes = omega (arith, h .room .for-anodes, a .kept .0) };
+          blocks-zero = λ x l. zeroed-below (d .disk-size .result) _ _ (b .ensures) x (omega (arith, l, d .disk-size .ensures));
+          anodes-zero = zeroed-below _ (c .before .before .before .before .before .before .before .before .before .before .before .before .before .before .before .before .before .before .before .before .before .before .before .before .before .before .before .args .anodes .now) _ (a .ensures);
+        },
       ),
     )
 
@@ -57,10 +61,10 @@ enum-told-2 : tie.Need-enum-told-2
 enum-told-2 c = search needs
 
 zero-first-requires-3 : tie.Need-zero-first-requires-3
-zero-first-requires-3 c κs = let x = c .before .before .before .before .before .before .before .before .before .before .before .before .before .before .before .before .before in omega (arith, headed-at (sized x) .blocks-room, sized x .disk-size .ensures, x .before .before .before .before .before .before .before .before .before .before .before .before .before .before .zero-first .kept .0, x .examine .kept .1 .0)
+zero-first-requires-3 c κs = let x = c .before .before .before .before .before .before .before .before .before .before .before .before .before .before .before .before .before in omega (arith, headed-at (sized x) .room .for-blocks, sized x .disk-size .ensures, x .before .before .before .before .before .before .before .before .before .before .before .before .before .before .zero-first .kept .0, x .examine .kept .1 .0)
 
 zero-first-requires-4 : tie.Need-zero-first-requires-4
-zero-first-requires-4 c κs = let x = c .before .before .before .before .before .before .before .before .before .before .before .before .before .before .before .before .before .before .before .before .before in omega (arith, headed-at (sized x) .anodes-room, x .before .before .before .before .before .before .before .before .before .before .zero-first2 .kept .0, x .examine .kept .1 .1 .0)
+zero-first-requires-4 c κs = let x = c .before .before .before .before .before .before .before .before .before .before .before .before .before .before .before .before .before .before .before .before .before in omega (arith, headed-at (sized x) .room .for-anodes, x .before .before .before .before .before .before .before .before .before .before .zero-first2 .kept .0, x .examine .kept .1 .1 .0)
 
 enum-told-3 : tie.Need-enum-told-3
 enum-told-3 c = search needs

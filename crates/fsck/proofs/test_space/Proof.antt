@@ -87,7 +87,7 @@ fill-heads-requires : tie.Need-fill-heads-requires
 fill-heads-requires c κs =
     let p = passed-8 (c .before .before) in
     let s = start-3 (c .before .before) in
-    (s .pre .1 .1 .0 .3, s .pre .1 .1 .1 .1, links p, c .before .before .before .before .wrong-links .ensures .1 (c .before .before .if3 .left))
+    (s .pre .1 .1 .1 .room .for-anodes, s .pre .1 .1 .1 .anodes-zero, links p, c .before .before .before .before .wrong-links .ensures .1 (c .before .before .if3 .left))
 
 block-part-requires : tie.Need-block-part-requires
 block-part-requires c κs = search needs
@@ -110,10 +110,10 @@ mark-owners-requires : tie.Need-mark-owners-requires
 mark-owners-requires c κs =
     let p = passed-9 (c .before .before) .eight in
     let s = start-4 (c .before .before) in (
-      (s .pre .0 .0, s .pre .0 .1, omega (arith, s .pre .1 .1 .0 .3, c .before .before .before .before .before .before .before .before .fill-heads .kept .1 .1 .1 .0)),
+      (s .pre .0 .0, s .pre .0 .1, omega (arith, s .pre .1 .1 .1 .room .for-anodes, c .before .before .before .before .before .before .before .before .fill-heads .kept .1 .1 .1 .0)),
       (
-        (s .pre .1 .1 .0 .0, s .pre .1 .1 .0 .1, s .pre .1 .1 .0 .2),
-        (s .pre .1 .1 .1 .0, ((_, p .seven .six .fixed-right, p .seven .in-range), heads-some p _ (s .args .anodes .now) (c .before .before .before .before .before .before .before .before .fill-heads .ensures _))),
+        (s .pre .1 .1 .0 .0, s .pre .1 .1 .0 .1, s .pre .1 .1 .1 .room .for-blocks),
+        (s .pre .1 .1 .1 .blocks-zero, ((_, p .seven .six .fixed-right, p .seven .in-range), heads-some p _ (s .args .anodes .now) (c .before .before .before .before .before .before .before .before .fill-heads .ensures _))),
       ),
     )
 
@@ -129,7 +129,7 @@ returns-5 c =
     (space-10 (passed-9 (c .before .before .before .before .before .before)) (sym (m .ensures .0 _) ∙ c .if5 .taken), record { blocks-kept = m .ensures .1 .1; anodes-kept = heads-past _ _ (start-4 (c .before .before .before .before .before .before) .args .anodes .now) (c .before .before .before .before .before .before .before .before .before .before .before .before .fill-heads .ensures []) })
 
 no-owner-requires : tie.Need-no-owner-requires
-no-owner-requires c κs = omega (arith, start-5 (c .before) .pre .1 .1 .0 .2, c .before .before .before .before .before .before .before .before .before .before .before .before .before .before .before .before .before .before .before .before .before .before .before .before .disk-size .ensures, c .before .before .before .before .mark-owners .kept .1 .1 .1 .1 .0)
+no-owner-requires c κs = omega (arith, start-5 (c .before) .pre .1 .1 .1 .room .for-blocks, c .before .before .before .before .before .before .before .before .before .before .before .before .before .before .before .before .before .before .before .before .before .before .before .before .disk-size .ensures, c .before .before .before .before .mark-owners .kept .1 .1 .1 .1 .0)
 
 same-length-4 : tie.Need-same-length-4
 same-length-4 c = search needs
@@ -156,7 +156,7 @@ returns-7 c =
     let s = start-5 (c .before .before .before) in
     let p = passed-10 (c .before .before .before) in
     let t = sym (none-of _ _ _ _ _ (c .before .before .before .before .before .before .before .before .before .before .before .before .before .before .before .before .before .before .before .before .before .before .before .before .before .before .disk-size .ensures) marked) ∙ sym (c .before .no-owner .ensures) ∙ c .if6 .left in
-    (space-none p t, shown (p .nine .eight) _ (s .args .anodes .now) (c .before .before .before .before .before .before .before .before .before .before .before .before .before .before .before .fill-heads .ensures _) _ _ (m .ensures .1 .1) (omega (arith, s .pre .1 .1 .0 .2, m .kept .1 .1 .1 .1 .0)) marked)
+    (space-none p t, shown (p .nine .eight) _ (s .args .anodes .now) (c .before .before .before .before .before .before .before .before .before .before .before .before .before .before .before .fill-heads .ensures _) _ _ (m .ensures .1 .1) (omega (arith, s .pre .1 .1 .1 .room .for-blocks, m .kept .1 .1 .1 .1 .0)) marked)
 
 pub test-space-spec : {M : Type 1} → statement M
 test-space-spec =
