@@ -21,7 +21,7 @@ use Rattle.rules.specs.Format.{newDirectoryBlock}
 use Rattle.rules.specs.Changes.{withBlocks, entriesEnd, noRoom, parentOf, entryPlace, NewEntry, entryOf, madeImage}
 use Rattle.laws.specs.Sums.{oneAt-cases, oneAt-some}
 use Rattle.laws.specs.Bags.{list-cons, list-some, map-sum, times-nil, times-cons, times-append, times-here}
-use Rattle.laws.specs.Space.{on-chain}
+use Rattle.laws.specs.Space.{FreeAnode, on-chain}
 use Rattle.laws.specs.Each.{Each, each-map}
 use Rattle.laws.specs.TreeChanges.{headed, none-headed}
 use Rattle.laws.specs.DirectoryTakes.{dir-head}
@@ -79,7 +79,7 @@ module _ {img : List ℕ} {blocks anodes h : ℕ} {new : NewEntry} {f : ℕ} {ro
   abbrev dirs : List Dir
   dirs = reachedDirs img s
 
-  pub spare : (6 ≤ f) × (s .block f ≡ 0) × T (exists img f)
+  pub spare : FreeAnode (exists img) s f
   spare = fresh-free (m .fresh)
 
   -- the directory that gets the entry
@@ -93,7 +93,7 @@ module _ {img : List ℕ} {blocks anodes h : ℕ} {new : NewEntry} {f : ℕ} {ro
   once = reached-headed parent
 
   pub plan : MadePlan img s (headIn img) f h (new .dir) (noRoom room) ys zs t
-  plan = made-plan img w f (spare .0) (spare .2) (m .fresh .below) (spare .1) h once (new .dir) (m .steps .between) ys (m .steps .own) (noRoom room) t zs (m .steps .parent)
+  plan = made-plan img w f (m .fresh .below) spare h once (new .dir) (m .steps .between) ys (m .steps .own) (noRoom room) t zs (m .steps .parent)
 
   abbrev pub grown : ParentGrown s (headIn img) h (noRoom room) zs t
   grown = plan .grown
@@ -129,7 +129,7 @@ module _ {img : List ℕ} {blocks anodes h : ℕ} {new : NewEntry} {f : ℕ} {ro
       let k = grown .kept a u q in
       let now : t .count a ≡ 1 = k .0 ∙ one in (
         times-none (s .block a) ys (λ p. let o = own-block (s .block a) p in
-            single-apart good a now f (o .0) (λ i. u (ap (s .block) i ∙ spare .1)) (k .1 ∙ o .1)),
+            single-apart good a now f (o .0) (λ i. u (ap (s .block) i ∙ spare .unused)) (k .1 ∙ o .1)),
         times-none (s .block a) zs (λ p. let o = parent-block (s .block a) p in
             single-apart good a now (o .0) (grown .ones (o .0) (o .1)) (λ i. grown .apart (o .0) (o .1) (rw (← i) u) (rw (← i) q)) (k .1 ∙ o .2)),
       )
@@ -186,11 +186,11 @@ module _ {img : List ℕ} {blocks anodes h : ℕ} {new : NewEntry} {f : ℕ} {ro
 
   pub cont : SameContents s (headIn img) (entriesIn img) (isBlockOf img) (entriesIn before) (isBlockOf before)
   unfolding entriesIn isBlockOf
-  cont a one q = (rw (old-block a one q), λ d. rw (old-block a one q))
+  cont = record { same-entries = λ a one q. rw (old-block a one q); same-marks = λ a one q d. rw (old-block a one q) }
 
   pub orphan : (hd′ : ℕ → ℕ) × (sd′ : ℕ → ℕ) × OrphanedOn img f t hd′ sd′ (entriesIn before) (isBlockOf before) dirs
   unfolding entriesIn
-  orphan = made-orphan img w f (spare .0) (spare .2) (m .fresh .below) (spare .1) h once (new .dir) (m .steps .between) ys (m .steps .own) (noRoom room) t zs (m .steps .parent) (entriesIn before) (isBlockOf before) cont
+  orphan = made-orphan img w f (m .fresh .below) spare h once (new .dir) (m .steps .between) ys (m .steps .own) (noRoom room) t zs (m .steps .parent) (entriesIn before) (isBlockOf before) cont
       (λ y e. rw (parent-new y (first-in y zs e)) (entries-new h (parentOf dirs h) y))
       (λ y e. each-map (λ d. d .head ≡ h → d .parent ≡ parentOf dirs h) (λ d. d .head ≡ h → T (isBlockOf before d y)) dirs
       (λ d p q. new-marked before y h (parentOf dirs h) (parent-new y (first-in y zs e)) d q (p q)) (parents-right h dirs once))
@@ -234,7 +234,7 @@ module _ {img : List ℕ} {blocks anodes h : ℕ} {new : NewEntry} {f : ℕ} {ro
         on = omega (arith, ap (times a) (grown .chain), times-append a (chainOf (s .next) limit h) (grown .new), member-times a (chainOf (s .next) limit h) (b .1));
         at = omega (arith, ap (λ (o : Option ℕ). entryPlace o zs) e, found .2, ap entriesEnd same, k .1, b .3);
         fits = rw same (found .3);
-        unbroken = rw (k .1, cont a one q .0) (b .2 .unbroken);
+        unbroken = rw (k .1, cont .same-entries a one q) (b .2 .unbroken);
       }
 
   in-new : room ≡ none → Spot

@@ -65,7 +65,7 @@ module _ {img : List ℕ} {blocks anodes h : ℕ} {new : NewEntry} {f : ℕ} {ro
   -- the block that gains it is not the new chain's
   not-spot : f ≢ spot m .anode
   not-spot e = reached-head (parent m) .in-use
-      (ap (s .block) (sym (its-head m) ∙ ap (orphan m .0) (sym e) ∙ orphan m .2 .good .heads .at-head f (orphan m .2 .head)) ∙ spare m .1)
+      (ap (s .block) (sym (its-head m) ∙ ap (orphan m .0) (sym e) ∙ orphan m .2 .good .heads .at-head f (orphan m .2 .head)) ∙ spare m .unused)
 
   -- the new directory has no entry
   own-empty : new .dir ≡ true → itemsBy (entriesIn j) (isBlockOf j) t (record { head = f; parent = h }) ≡ []
@@ -93,9 +93,9 @@ module _ {img : List ℕ} {blocks anodes h : ℕ} {new : NewEntry} {f : ℕ} {ro
       is-dir false = refl
 
       go : (b : Bool) → new .dir ≡ b → WholeOn img j t (orphan m .0) (orphan m .1) (grown b)
-      go true d = enter-directory entered (orphan m .2) (spare m .0) refl (inl (is-dir (new .dir) ∙ d)) (spot m .anode) h (once m) (its-head m) (entriesIn j) (isBlockOf j)
+      go true d = enter-directory entered (orphan m .2) (spare m .from-6) refl (inl (is-dir (new .dir) ∙ d)) (spot m .anode) h (once m) (its-head m) (entriesIn j) (isBlockOf j)
           gained same-marks (is-dir (new .dir) ∙ d) (own-empty d)
-      go false d = enter-file entered (orphan m .2) (spare m .0) refl (inr (none-yet d)) (spot m .anode) h (once m) (its-head m) (entriesIn j) (isBlockOf j)
+      go false d = enter-file entered (orphan m .2) (spare m .from-6) refl (inr (none-yet d)) (spot m .anode) h (once m) (its-head m) (entriesIn j) (isBlockOf j)
           gained same-marks (is-dir (new .dir) ∙ d)
 
   image-accepted : checkAnswer j blocks anodes ≡ 0

@@ -92,7 +92,7 @@ module _ {img : List ℕ} {blocks anodes h : ℕ} {new : NewEntry} {f : ℕ} {ro
     same-place = grown m .kept a (dir-block r a on .in-use) head-not-1
 
     before-same : entriesIn (before m) (t .block a) ≡ entriesIn img (s .block a)
-    before-same = ap (entriesIn (before m)) (same-place .1) ∙ cont m a one head-not-1 .0
+    before-same = ap (entriesIn (before m)) (same-place .1) ∙ cont m .same-entries a one head-not-1
 
   head-now : Head (t .next) (t .block) h
   head-now = dir-head (orphan m .2) h (once m)
@@ -187,7 +187,7 @@ module _ {img : List ℕ} {blocks anodes h : ℕ} {new : NewEntry} {f : ℕ} {ro
     now-head = grown m .stays k d
 
     not-f : k ≢ f
-    not-f e = d .in-use (ap (s .block) e ∙ spare m .1)
+    not-f e = d .in-use (ap (s .block) e ∙ spare m .unused)
 
     -- its blocks are none of the new ones, and not the one that has the entry
     apart-f : (y : ℕ) → 0 < times y (blocksOf t k) → 0 < times y ys → ⊥

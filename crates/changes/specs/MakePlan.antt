@@ -19,8 +19,8 @@ use Rattle.laws.specs.Tests.{same?}
 use Rattle.laws.specs.Sums.{oneAt-cases, oneAt-same, oneAt-other, oneAt-le, changed-same, changed-other, least-cases}
 use Rattle.laws.specs.Bags.{times-nil, times-cons, times-append}
 use Rattle.laws.specs.Heads.{Head, head-of-is, times-on-chain}
+use Rattle.laws.specs.Space.{FreeAnode, free-is}
 use Rattle.laws.specs.Plans.{planned-same}
-use Rattle.laws.specs.Arriving.{free-is}
 use Rattle.laws.specs.Take.{take-good}
 use Rattle.laws.specs.Moves.{Shift, shift-none}
 use Rattle.laws.specs.Frame.{shift-chain}
@@ -30,7 +30,7 @@ use Rattle.laws.specs.Whole.{Whole}
 use Rattle.laws.specs.OwnBlock.{own-filled}
 use Rattle.laws.specs.Orphan.{Orphaned, not-dir, orphan-changed}
 use Rattle.laws.specs.DirectoryTakes.{find-headed, dir-head, dir-not-1, dir-taken, directory-takes}
-use Rattle.laws.specs.Make.{SameContents, fresh-stays, fresh-chain, fresh-orphan}
+use Rattle.laws.specs.Make.{SameContents, contents-same, fresh-stays, fresh-chain, fresh-orphan}
 use Rattle.changes.specs.Image.{GoodOn, ReachedDir}
 
 -- anodes t on the disk of img, where no entry names the chain of f
@@ -48,7 +48,7 @@ abbrev pub fresh-dir : {img : List ℕ} {blocks anodes h f : ℕ} → Fresh img 
 fresh-dir {blocks = blocks} {anodes = anodes} x = record { image = record { blocks = blocks; anodes = anodes; accepted = x .accepted }; reached = x .reached }
 
 -- the lowest free anode is free
-pub fresh-free : {img : List ℕ} {blocks anodes h f : ℕ} → Fresh img blocks anodes h f → (6 ≤ f) × (anodesOf img .block f ≡ 0) × T (exists img f)
+pub fresh-free : {img : List ℕ} {blocks anodes h f : ℕ} → Fresh img blocks anodes h f → FreeAnode (exists img) (anodesOf img) f
 unfolding lowestFree
 fresh-free {img} {f = f} x = free-is (exists img) (anodesOf img) f (elim (least-cases (free (exists img) (anodesOf img)) limit) [
   | inl i ↦ subst (λ (a : ℕ). T (free (exists img) (anodesOf img) a)) (x .lowest) (i .1)
@@ -90,13 +90,13 @@ pub record MadePlan (img : List ℕ) (s : Anodes) (hd : ℕ → ℕ) (f h : ℕ)
 
 module _ (img : List ℕ) {s : Anodes} {hd sd : ℕ → ℕ} {entries : ℕ → List Entered} {marked : Dir → ℕ → Bool} {dirs : List Dir}
     (w : Whole (exists img) (diskSize img) (lastReserved img) s (systemOwns img) hd sd entries marked dirs)
-    (f : ℕ) (f6 : 6 ≤ f) (there : T (exists img f)) (fA : f < limit) (fresh : s .block f ≡ 0) where
+    (f : ℕ) (fA : f < limit) (is-free : FreeAnode (exists img) s f) where
   abbrev begun : Anodes
   begun = rewritten s f 0 65535
 
   -- the fresh head, while the directories stay as they are
   orphan : OrphanedOn img f begun (changed hd f f) (changed sd f f) entries marked dirs
-  orphan = fresh-orphan w f f6 there fA fresh entries marked (λ a i q. (refl, λ d. refl))
+  orphan = fresh-orphan w f fA is-free entries marked (contents-same s hd entries marked)
 
   -- ---- the own block
 
@@ -117,7 +117,7 @@ module _ (img : List ℕ) {s : Anodes} {hd sd : ℕ → ℕ} {entries : ℕ → 
     sd′ = changed sd f f;
     good = orphan .good;
     shift = shift-none begun (changed hd f f) 1 f;
-    chain = fresh-chain w f f6 there fA fresh;
+    chain = fresh-chain w f fA is-free;
     count = changed-same (s .count) f 0;
     blocks = refl;
   }
@@ -125,8 +125,8 @@ module _ (img : List ℕ) {s : Anodes} {hd sd : ℕ → ℕ} {entries : ℕ → 
   own-step : (dir : Bool) (t : Anodes) (ys : List ℕ) → neededBlock img dir begun f ≡ planned t ys → OwnStep dir t ys
   unfolding neededBlock
   own-step true t ys e =
-      let m = take-good (orphan .good) f (orphan .head) (λ q. omega (arith, f6, q)) true t ys e in
-      let q = own-filled (orphan .good) f (orphan .head) (λ q. omega (arith, f6, q)) (own-none .chain) (own-none .count) t ys e in
+      let m = take-good (orphan .good) f (orphan .head) (λ q. omega (arith, is-free .from-6, q)) true t ys e in
+      let q = own-filled (orphan .good) f (orphan .head) (λ q. omega (arith, is-free .from-6, q)) (own-none .chain) (own-none .count) t ys e in
       record { hd′ = m .hd′; sd′ = m .sd′; good = m .good; shift = m .shift; chain = q .2 .chain; count = q .2 .one; blocks = q .1 ∙ ap (λ (y : ℕ). y ∷ []) (sym (q .2 .at)) }
   own-step false t ys e = let q = planned-same begun t [] ys e in rw (q .0, sym (q .1)) at own-none
 
@@ -138,10 +138,10 @@ module _ (img : List ℕ) {s : Anodes} {hd sd : ℕ → ℕ} {entries : ℕ → 
 
     owned : (entries′ : ℕ → List Entered) (marked′ : Dir → ℕ → Bool) → SameContents s hd entries marked entries′ marked′ →
         OrphanedOn img f r (step .hd′) (step .sd′) entries′ marked′ dirs
-    owned entries′ marked′ cont = orphan-changed (fresh-orphan w f f6 there fA fresh entries′ marked′ cont) f6 (step .good) (step .shift)
+    owned entries′ marked′ cont = orphan-changed (fresh-orphan w f fA is-free entries′ marked′ cont) (is-free .from-6) (step .good) (step .shift)
 
     o : OrphanedOn img f r (step .hd′) (step .sd′) entries marked dirs
-    o = owned entries marked (λ a i q. (refl, λ d. refl))
+    o = owned entries marked (contents-same s hd entries marked)
 
     parent-none : ParentGrown r (step .hd′) h false [] r
     parent-none = record {
@@ -204,7 +204,7 @@ module _ (img : List ℕ) {s : Anodes} {hd sd : ℕ → ℕ} {entries : ℕ → 
     -- ---- both
 
     not-own : h ≢ f
-    not-own = let d = find-headed (λ d. d .head ≢ f) h dirs (not-dir orphan f6) (omega (arith, reached)) in λ e. d .2 (d .1 ∙ e)
+    not-own = let d = find-headed (λ d. d .head ≢ f) h dirs (not-dir orphan (is-free .from-6)) (omega (arith, reached)) in λ e. d .2 (d .1 ∙ e)
 
     own-head : Head (r .next) (r .block) f
     own-head = step .shift .stays f (orphan .head)
@@ -216,15 +216,15 @@ module _ (img : List ℕ) {s : Anodes} {hd sd : ℕ → ℕ} {entries : ℕ → 
     -- the head of an anode in use is not the fresh one
     head-used : (a : ℕ) → s .block a ≢ 0 → hd a ≢ f
     head-used a u e = elim (same? a 0) [
-      | inl z ↦ omega (arith, f6, e, ap hd z, w .good .heads .off-zero)
-      | inr z ↦ head-of-is (w .good .linked) (w .good .heads) a z u .in-use (ap (s .block) e ∙ fresh)
+      | inl z ↦ omega (arith, is-free .from-6, e, ap hd z, w .good .heads .off-zero)
+      | inr z ↦ head-of-is (w .good .linked) (w .good .heads) a z u .in-use (ap (s .block) e ∙ is-free .unused)
     ]
 
     -- an anode in use, not the free list's, through the first steps
     through : (a : ℕ) → s .block a ≢ 0 → hd a ≢ 1 → (r .count a ≡ s .count a) × (r .block a ≡ s .block a) × (step .hd′ a ≡ hd a)
     unfolding rewritten
     through a u q =
-        let af : a ≢ f = λ i. u (ap (s .block) i ∙ fresh) in
+        let af : a ≢ f = λ i. u (ap (s .block) i ∙ is-free .unused) in
         let b = changed-other (s .block) f 65535 a af in
         let k = changed-other hd f f a af in
         let used : begun .block a ≢ 0 = λ z. u (sym b ∙ z) in
@@ -238,12 +238,12 @@ module _ (img : List ℕ) {s : Anodes} {hd sd : ℕ → ℕ} {entries : ℕ → 
     made-plan needed t zs e =
         let p = parent-grown needed t zs e in
         let now = parent-good needed t zs e in
-        let mine = p .kept f (own-head .in-use) (λ q. omega (arith, f6, step .good .heads .at-head f own-head, q)) in
+        let mine = p .kept f (own-head .in-use) (λ q. omega (arith, is-free .from-6, step .good .heads .at-head f own-head, q)) in
         record {
           hd′ = now .0;
           sd′ = now .1;
           good = now .2;
-          own-chain = p .others f own-head (λ q. omega (arith, f6, q)) (λ q. not-own (sym q)) ∙ step .chain;
+          own-chain = p .others f own-head (λ q. omega (arith, is-free .from-6, q)) (λ q. not-own (sym q)) ∙ step .chain;
           own-count = mine .0 ∙ step .count;
           own-blocks = step .blocks ∙ ap (λ (y : ℕ). cond dir (y ∷ []) []) (sym (mine .1));
           grown = record {
@@ -254,11 +254,11 @@ module _ (img : List ℕ) {s : Anodes} {hd sd : ℕ → ℕ} {entries : ℕ → 
             took = p .took;
             apart = λ a n u q. let c = through a u q in p .apart a n (λ z. u (sym (c .1) ∙ z)) (λ i. q (sym (c .2) ∙ i));
             kept = λ a u q. let c = through a u q in let y = p .kept a (λ z. u (sym (c .1) ∙ z)) (λ i. q (sym (c .2) ∙ i)) in (y .0 ∙ c .0, y .1 ∙ c .1);
-            stays = λ m d. p .stays m (step .shift .stays m (fresh-stays w f f6 there fA fresh m d));
-            others = λ m d m1 mh. let d′ = fresh-stays w f f6 there fA fresh m d in
-                p .others m (step .shift .stays m d′) m1 mh ∙ own-kept m d′ m1 (λ i. d .in-use (ap (s .block) i ∙ fresh));
+            stays = λ m d. p .stays m (step .shift .stays m (fresh-stays w f fA is-free m d));
+            others = λ m d m1 mh. let d′ = fresh-stays w f fA is-free m d in
+                p .others m (step .shift .stays m d′) m1 mh ∙ own-kept m d′ m1 (λ i. d .in-use (ap (s .block) i ∙ is-free .unused));
           };
-          not-own = λ a n i. p .apart a n (rw i (own-head .in-use)) (λ q. omega (arith, f6, step .good .heads .at-head f own-head, ap (step .hd′) (sym i) ∙ q));
+          not-own = λ a n i. p .apart a n (rw i (own-head .in-use)) (λ q. omega (arith, is-free .from-6, step .good .heads .at-head f own-head, ap (step .hd′) (sym i) ∙ q));
         }
 
     -- the chain of f is not named yet

@@ -36,19 +36,19 @@ module _ {img : List ℕ} {e : Entered} {t : Anodes} {ys : List ℕ} (p : Planne
 
   -- ---- the block that the entry stands in, and where
 
-  abbrev y : ℕ
+  abbrev pub y : ℕ
   y = e .place / 512
 
-  abbrev b : List ℕ
+  abbrev pub b : List ℕ
   b = blockOf img y
 
   abbrev at : ℕ
   at = e .place % 512
 
-  abbrev len : ℕ
+  abbrev pub len : ℕ
   len = getD b at 0
 
-  abbrev closed : List ℕ
+  abbrev pub closed : List ℕ
   closed = gapClosed b at len (entriesEnd b)
 
   abbrev pub here : BlockEntry b y at e

@@ -15,7 +15,7 @@ use Rattle.rules.specs.Anodes.{Anodes, limit, anodesOf}
 use Rattle.rules.specs.Chains.{chainOf}
 use Rattle.rules.specs.Walk.{Entered, entriesIn}
 use Rattle.rules.specs.Lookup.{entriesOf, notEmpty}
-use Rattle.rules.specs.Changes.{entriesEnd, gapClosed, removedImage}
+use Rattle.rules.specs.Changes.{removedImage}
 use Rattle.laws.specs.Bags.{gather-append}
 use Rattle.laws.specs.ChainBlocks.{stands-once}
 use Rattle.laws.specs.Members.{Member, no-member, member-later, member-append, member-left, member-right, member-gather, member-times, gather-congr, map-members, map-kept}
@@ -25,7 +25,7 @@ use Rattle.changes.specs.Reached.{reached-not-1, dir-block, place-in, no
 use Rattle.changes.specs.Gap.{lowered, bytes-earlier, bytes-later}
 use Rattle.changes.specs.EntryBytes.{entryBytes, bytes-at, with-length}
 use Rattle.changes.specs.PlannedChange.{w, facts, home-head}
-use Rattle.changes.specs.RemoveStores.{PlannedRemove, here, block-left, removed-disk, kept-data, entries-left, apart}
+use Rattle.changes.specs.RemoveStores.{PlannedRemove, y, b, len, closed, here, block-left, removed-disk, kept-data, entries-left, apart}
 use Rattle.changes.specs.Remove.{no-entry}
 use Rattle.changes.specs.KeptChains.{entries-along}
 use Rattle.changes.specs.RemoveEffects.{others-same}
@@ -53,18 +53,6 @@ module _ {img : List ℕ} {e : Entered} {t : Anodes} {ys : List ℕ} (p : Planne
 
   -- ---- the directory that had the entry
 
-  abbrev y : ℕ
-  y = e .place / 512
-
-  abbrev b : List ℕ
-  b = blockOf img y
-
-  abbrev at : ℕ
-  at = e .place % 512
-
-  abbrev len : ℕ
-  len = getD b at 0
-
   -- its entries in the block before the entry, and behind it
   abbrev earlier : List Entered
   earlier = here p .parted .0
@@ -72,25 +60,25 @@ module _ {img : List ℕ} {e : Entered} {t : Anodes} {ys : List ℕ} (p : Planne
   abbrev later : List Entered
   later = here p .parted .1
 
-  not-moved : (f : Entered) → f .place / 512 ≢ y → movedUp img e f ≡ f
+  not-moved : (f : Entered) → f .place / 512 ≢ y p → movedUp img e f ≡ f
   unfolding movedUp
-  not-moved f o = rw (ne-eqb (f .place / 512) y o)
+  not-moved f o = rw (ne-eqb (f .place / 512) (y p) o)
 
-  is-moved : (f : Entered) → f .place / 512 ≡ y → movedUp img e f ≡ lowered len f
+  is-moved : (f : Entered) → f .place / 512 ≡ y p → movedUp img e f ≡ lowered (len p) f
   unfolding movedUp
-  is-moved f q = rw (eq-eqb (f .place / 512) y q)
+  is-moved f q = rw (eq-eqb (f .place / 512) (y p) q)
 
   -- an entry of the block
-  in-block : (f : Entered) → Member f (entriesIn img y) → (k : ℕ) × (f .place ≡ y * 512 + k) × FoundAt b k
+  in-block : (f : Entered) → Member f (entriesIn img (y p)) → (k : ℕ) × (f .place ≡ y p * 512 + k) × FoundAt (b p) k
   in-block f m = rw (← (facts p .in-block)) at (place-in (p .entry .directory) (facts p .a₀) (facts p .member-chain) f (rw (facts p .in-block) at m))
 
   -- an entry whose bytes the closed block has, at its place or an earlier one
-  bytes-moved : (place place′ k k′ : ℕ) → place ≡ y * 512 + k → place′ ≡ y * 512 + k′ → k′ ≤ k → FoundAt b k →
-      take (getD b k 0) (drop k′ (gapClosed b at len (entriesEnd b))) ≡ take (getD b k 0) (drop k b) → entryBytes j place′ ≡ entryBytes img place
+  bytes-moved : (place place′ k k′ : ℕ) → place ≡ y p * 512 + k → place′ ≡ y p * 512 + k′ → k′ ≤ k → FoundAt (b p) k →
+      take (getD (b p) k 0) (drop k′ (closed p)) ≡ take (getD (b p) k 0) (drop k (b p)) → entryBytes j place′ ≡ entryBytes img place
   bytes-moved place place′ k k′ is is′ l found same =
-      bytes-at j place′ y k′ is′ (omega (arith, l, found .room))
-      ∙ rw (block-left p) (with-length (gapClosed b at len (entriesEnd b)) b k′ k (omega (arith, found .long)) same)
-      ∙ sym (bytes-at img place y k is (omega (arith, found .room)))
+      bytes-at j place′ (y p) k′ is′ (omega (arith, l, found .room))
+      ∙ rw (block-left p) (with-length (closed p) (b p) k′ k (omega (arith, found .long)) same)
+      ∙ sym (bytes-at img place (y p) k is (omega (arith, found .room)))
 
   -- an entry before it keeps its bytes and its place
   same-before : (f : Entered) → Member f earlier → entryBytes j (f .place) ≡ entryBytes img (f .place)
@@ -100,12 +88,12 @@ module _ {img : List ℕ} {e : Entered} {t : Anodes} {ys : List ℕ} (p : Planne
       bytes-moved (f .place) (f .place) (k .0) (k .0) (k .1) (k .1) (omega arith) (k .2) (bytes-earlier (here p) f m (k .0) (k .1))
 
   -- one behind it keeps its bytes and stands earlier
-  same-behind : (f : Entered) → Member f later → (f .place / 512 ≡ y) × (entryBytes j (lowered len f .place) ≡ entryBytes img (f .place))
+  same-behind : (f : Entered) → Member f later → (f .place / 512 ≡ y p) × (entryBytes j (lowered (len p) f .place) ≡ entryBytes img (f .place))
   unfolding entriesIn
   same-behind f m =
       let k = in-block f (rw (here p .parted .2) (member-right f earlier (e ∷ later) (member-later f e later m))) in
       let r = bytes-later (here p) f m (k .0) (k .1) in
-      (omega (arith, k .1, k .2 .room), bytes-moved (f .place) (f .place - len) (k .0) (k .0 - len) (k .1) (omega (arith, k .1, r .0)) (omega arith) (k .2) (r .1))
+      (omega (arith, k .1, k .2 .room), bytes-moved (f .place) (f .place - len p) (k .0) (k .0 - len p) (k .1) (omega (arith, k .1, r .0)) (omega arith) (k .2) (r .1))
 
   -- the anodes of its chain before the entry's and behind it
   abbrev front : List ℕ
@@ -134,14 +122,14 @@ module _ {img : List ℕ} {e : Entered} {t : Anodes} {ys : List ℕ} (p : Planne
   abbrev new : ℕ → List Entered
   new a = entriesIn j (s .block a)
 
-  other-anode : (a : ℕ) → Member a chain × (a ≢ facts p .a₀) → DataBlock img (s .block a) × (s .block a ≢ y)
+  other-anode : (a : ℕ) → Member a chain × (a ≢ facts p .a₀) → DataBlock img (s .block a) × (s .block a ≢ y p)
   other-anode a u = apart p a (dir-block (p .entry .directory) a (u .0) .one) (u .1)
 
   same-along : (l : List ℕ) → ((a : ℕ) → Member a l → Member a chain × (a ≢ facts p .a₀)) → gather new l ≡ gather old l
   same-along l o = gather-congr new old l (λ a m. entriesIn-kept (kept-data p) (s .block a) (other-anode a (o a m)))
 
   along : (l : List ℕ) → ((a : ℕ) → Member a l → Member a chain × (a ≢ facts p .a₀)) → (f : Entered) → Member f (gather old l) →
-      (f .place / 512 ≢ y) × (entryBytes j (f .place) ≡ entryBytes img (f .place))
+      (f .place / 512 ≢ y p) × (entryBytes j (f .place) ≡ entryBytes img (f .place))
   unfolding entryBytes
   along l o f m =
       let q = member-gather old l f m in
@@ -168,10 +156,10 @@ module _ {img : List ℕ} {e : Entered} {t : Anodes} {ys : List ℕ} (p : Planne
       ∙ ap (λ (k : List Entered). gather old front ++ (k ++ gather old back)) (ap (entriesIn img) (sym (facts p .in-block)) ∙ here p .parted .2)
       ∙ joined (e ∷ later) (gather old back)
 
-  all-moved : map (movedUp img e) behind ≡ map (lowered len) later ++ gather old back
+  all-moved : map (movedUp img e) behind ≡ map (lowered (len p)) later ++ gather old back
   all-moved =
       map-append (movedUp img e) later (gather old back)
-      ∙ ap₂ _++_ (map-members (movedUp img e) (lowered len) later (λ f m. is-moved f (same-behind f m .0)))
+      ∙ ap₂ _++_ (map-members (movedUp img e) (lowered (len p)) later (λ f m. is-moved f (same-behind f m .0)))
       (map-kept (movedUp img e) (gather old back) (λ f m. not-moved f (along back in-back f m .0)))
 
   module _ (empty : e .dir ≡ true → notEmpty img s e ≡ false) where
@@ -188,7 +176,7 @@ module _ {img : List ℕ} {e : Entered} {t : Anodes} {ys : List ℕ} (p : Planne
     new-entries = rw (removed-disk p .anodes, all-moved)
         (entries-along (others-same p (p .home) (home-head p) (reached-not-1 (p .entry .directory)) not-itself) j
         ∙ ap (gather new) (facts p .member-chain .2) ∙ gather-append new front (facts p .a₀ ∷ back)
-        ∙ rw (same-along front in-front, same-along back in-back, ← (facts p .in-block), entries-left p) (joined (map (lowered len) later) (gather old back)))
+        ∙ rw (same-along front in-front, same-along back in-back, ← (facts p .in-block), entries-left p) (joined (map (lowered (len p)) later) (gather old back)))
 
     -- its own directory has one entry less
     pub entry-gone : EntryGone img j e (entriesOf img s (p .home)) (entriesOf j (anodesOf j) (p .home))

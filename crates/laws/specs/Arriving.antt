@@ -18,7 +18,7 @@ use Rattle.laws.specs.LinkChanges.{Which, first, second, third, insertAf
 use Rattle.laws.specs.HeadChanges.{insert-head-was}
 use Rattle.laws.specs.Blocks.{blocks-rewrite, blocks-fresh}
 use Rattle.laws.specs.Held.{held-rewrite, held-fresh}
-use Rattle.laws.specs.Space.{Good, rewrite-good, insert-good}
+use Rattle.laws.specs.Space.{Good, free-is, rewrite-good, insert-good}
 use Rattle.laws.specs.Plans.{refused≢planned, planned-same}
 use Rattle.laws.specs.Owners.{self-headed}
 use Rattle.laws.specs.Moves.{rewrite-shift, Placed}
@@ -41,14 +41,6 @@ pub data Joins (A : ℕ) (ex : ℕ → Bool) (s : Anodes) (z y : ℕ) : Type 0 w
   ends : (z ≢ 1) × (s .count z ≢ 0) × (s .block z + s .count z ≡ y) × (join A ex s z y ≡ planned (rewritten s z (s .count z + 1) (s .block z)) (y ∷ [])) → Joins A ex s z y
   starts : (z ≢ 1) × (s .count z ≢ 0) × (y + 1 ≡ s .block z) × (join A ex s z y ≡ planned (rewritten s z (s .count z + 1) y) (y ∷ [])) → Joins A ex s z y
   behind : JoinsNone s z y × (join A ex s z y ≡ append A ex s z y) → Joins A ex s z y
-
--- what a free anode is
-pub free-is : (ex : ℕ → Bool) (s : Anodes) (f : ℕ) → T (free ex s f) → (6 ≤ f) × (s .block f ≡ 0) × T (ex f)
-unfolding free
-free-is ex s f t =
-    let a = both (leb 6 f) (eqb (s .block f) 0 && ex f) t in
-    let b = both (eqb (s .block f) 0) (ex f) (a .1) in
-    (leb→le 6 f (a .0), eqb→eq (s .block f) 0 (b .0), b .1)
 
 module _ (A : ℕ) (ex : ℕ → Bool) where
   -- an append is done with a free anode, the lowest, or refused with 28 where there is none
@@ -150,24 +142,24 @@ module _ {A : ℕ} {ex : ℕ → Bool} {n last : ℕ} {s : Anodes} (system : ℕ
   unfolding insertedAfter insertAfter
   appended f fA t =
       let i = free-is ex s f t in
-      let good = insert-good g z f 1 y system z0 u (i .0) (i .2) fA (i .1) y0 (λ x. omega (arith, covers-one y x)) (λ p. omega arith) (λ q l. high q) (λ q l. omega (arith, low q)) in
-      let kept : (a : ℕ) → s .block a ≢ 0 → changed hd f (hd z) a ≡ hd a = λ a v. changed-other hd f (hd z) a (λ e. v (ap (s .block) e ∙ i .1)) in
+      let good = insert-good g z f 1 y system z0 u fA i y0 (λ x. omega (arith, covers-one y x)) (λ p. omega arith) (λ q l. high q) (λ q l. omega (arith, low q)) in
+      let kept : (a : ℕ) → s .block a ≢ 0 → changed hd f (hd z) a ≡ hd a = λ a v. changed-other hd f (hd z) a (λ e. v (ap (s .block) e ∙ i .unused)) in
       record {
         hd′ = changed hd f (hd z);
         sd′ = changed sd f (sd z);
         good = good;
         shift = record {
           stays = λ a d. self-headed good a (d .pos) (kept a (d .in-use) ∙ g .heads .at-head a d);
-          no-new = λ a d. insert-head-was (g .linked) z f y u (i .1) a d .1;
+          no-new = λ a d. insert-head-was (g .linked) z f y u (i .unused) a d .1;
           apart = λ a v q j. record {
-            same-count = changed-other (s .count) f 1 a (λ e. v (ap (s .block) e ∙ i .1));
-            same-block = changed-other (s .block) f y a (λ e. v (ap (s .block) e ∙ i .1));
-            same-next = elim (insertAfter-cases (s .next) z f a) [ first c ↦ absurd (q (ap hd (c .0))) | second c ↦ absurd (v (ap (s .block) (c .1) ∙ i .1)) | third c ↦ c .2 ];
+            same-count = changed-other (s .count) f 1 a (λ e. v (ap (s .block) e ∙ i .unused));
+            same-block = changed-other (s .block) f y a (λ e. v (ap (s .block) e ∙ i .unused));
+            same-next = elim (insertAfter-cases (s .next) z f a) [ first c ↦ absurd (q (ap hd (c .0))) | second c ↦ absurd (v (ap (s .block) (c .1) ∙ i .unused)) | third c ↦ c .2 ];
           };
           same-hd = λ a v q j. kept a v;
         };
-        more = λ h. omega (arith, blocks-fresh A hd (s .count) f (hd z) 1 fA (g .present .free-none f (i .1)) h);
-        got = λ h x. omega (arith, held-fresh A hd (s .count) (s .block) f (hd z) 1 y fA (g .present .free-none f (i .1)) h x, ap (λ (k : ℕ). oneAt (hd z) h * k) (covers-one y x));
+        more = λ h. omega (arith, blocks-fresh A hd (s .count) f (hd z) 1 fA (g .present .free-none f (i .unused)) h);
+        got = λ h x. omega (arith, held-fresh A hd (s .count) (s .block) f (hd z) 1 y fA (g .present .free-none f (i .unused)) h x, ap (λ (k : ℕ). oneAt (hd z) h * k) (covers-one y x));
       }
 
   -- a plan for y that is done

@@ -14,13 +14,13 @@ use Rattle.laws.specs.LinkChanges.{first, second, third}
 use Rattle.laws.specs.Sums.{oneAt-same}
 use Rattle.laws.specs.Bags.{times-append, gather-append, gather-off, gather-skip, times-member}
 use Rattle.laws.specs.Heads.{Head, times-on-chain}
-use Rattle.laws.specs.Space.{Good, head-1, free-off}
+use Rattle.laws.specs.Space.{Good, head-1, free-off, free-is}
 use Rattle.laws.specs.Sides.{SideHead}
 use Rattle.laws.specs.Searches.{FoundIn}
 use Rattle.laws.specs.Owners.{full-0, full-1, headed-used}
 use Rattle.laws.specs.Leaving.{withoutBlock-cases}
 use Rattle.laws.specs.Plans.{refused≢planned, planned-same}
-use Rattle.laws.specs.Arriving.{fills, ends, starts, behind, free-is, append-cases, join-cases}
+use Rattle.laws.specs.Arriving.{fills, ends, starts, behind, append-cases, join-cases}
 use Rattle.laws.specs.Take.{free-head, free-after, take-steps, take-placed}
 use Rattle.laws.specs.Give.{side-last-head, give-steps, give-placed}
 use Rattle.laws.specs.Each.{OneMore}
@@ -125,7 +125,7 @@ module _ {ex : ℕ → Bool} {n last : ℕ} {s : Anodes} {system hd sd : ℕ →
     | inr c ↦ absurd (refused≢planned 28 t ys (sym (c .0) ∙ e))
     | inl c ↦ (let f = lowestFree limit ex s in
         let i = free-is ex s f (c .1) in
-        let w = inserted-more g z free y (λ q. omega (arith, free, ap hd q, g .heads .off-zero)) (headed-used g z (λ q. omega (arith, free, q))) y0 f (λ q. omega (arith, q, i .0)) (i .1) (c .0) in
+        let w = inserted-more g z free y (λ q. omega (arith, free, ap hd q, g .heads .off-zero)) (headed-used g z (λ q. omega (arith, free, q))) y0 f (λ q. omega (arith, q, i .from-6)) (i .unused) (c .0) in
         rw (planned-same (insertedAfter s z f 1 y) t (y ∷ []) ys (sym (c .2) ∙ e) .0) at w)
   ]
 

@@ -17,7 +17,7 @@ use Rattle.laws.specs.Bags.{list-cons, list-gain, each-in}
 use Rattle.laws.specs.Links.{chain-the}
 use Rattle.laws.specs.Heads.{Head, head-while}
 use Rattle.laws.specs.LinkChanges.{used-not-free, fresh-no-next}
-use Rattle.laws.specs.Space.{Alike, Good, head-good, on-chain}
+use Rattle.laws.specs.Space.{Alike, FreeAnode, free-pos, Good, head-good, on-chain}
 use Rattle.laws.specs.Frame.{kept-count}
 use Rattle.laws.specs.Each.{Each, each-both, each-zero}
 use Rattle.laws.specs.Items.{wrong, weighItem, namedIn, faults}
@@ -31,9 +31,12 @@ abbrev pub SameMarks : Anodes → (ℕ → ℕ) → (Dir → ℕ → Bool) → (
 SameMarks s hd marked marked′ = (a : ℕ) → s .count a ≡ 1 → hd a ≢ 1 → (d : Dir) → marked′ d (s .block a) ≡ marked d (s .block a)
 
 -- other entries and marks that do
-abbrev pub SameContents : Anodes → (ℕ → ℕ) → (ℕ → List Entered) → (Dir → ℕ → Bool) → (ℕ → List Entered) → (Dir → ℕ → Bool) → Type 0
-SameContents s hd entries marked entries′ marked′ =
-    (a : ℕ) → s .count a ≡ 1 → hd a ≢ 1 → (entries′ (s .block a) ≡ entries (s .block a)) × ((d : Dir) → marked′ d (s .block a) ≡ marked d (s .block a))
+pub record SameContents (s : Anodes) (hd : ℕ → ℕ) (entries : ℕ → List Entered) (marked : Dir → ℕ → Bool) (entries′ : ℕ → List Entered) (marked′ : Dir → ℕ → Bool) : Type 0 where
+  pub same-entries : (a : ℕ) → s .count a ≡ 1 → hd a ≢ 1 → entries′ (s .block a) ≡ entries (s .block a)
+  pub same-marks : SameMarks s hd marked marked′
+
+pub contents-same : (s : Anodes) (hd : ℕ → ℕ) (entries : ℕ → List Entered) (marked : Dir → ℕ → Bool) → SameContents s hd entries marked entries marked
+contents-same s hd entries marked = record { same-entries = λ a i q. refl; same-marks = λ a i q d. refl }
 
 -- of two tables of entries, `more` has e more in the block of the anode a₀, and the same in the blocks of the other anodes of chains but 1's
 abbrev pub EntryMore : Anodes → (ℕ → ℕ) → Entered → ℕ → (ℕ → List Entered) → (ℕ → List Entered) → Type 0
@@ -66,21 +69,18 @@ module _ {ex : ℕ → Bool} {n last : ℕ} {s : Anodes} {system hd sd : ℕ →
 -- ---- a fresh head, which nothing names
 
 module _ {ex : ℕ → Bool} {n last : ℕ} {s : Anodes} {system hd sd : ℕ → ℕ} {entries : ℕ → List Entered} {marked : Dir → ℕ → Bool} {dirs : List Dir}
-    (w : Whole ex n last s system hd sd entries marked dirs) (f : ℕ) (f6 : 6 ≤ f) (there : T (ex f)) (fA : f < limit) (fresh : s .block f ≡ 0) where
+    (w : Whole ex n last s system hd sd entries marked dirs) (f : ℕ) (fA : f < limit) (is-free : FreeAnode ex s f) where
   abbrev made : Anodes
   made = rewritten s f 0 65535
 
   good : Good limit ex n last made system (changed hd f f) (changed sd f f)
-  good = head-good (w .good) f 65535 f6 there fA fresh (omega arith)
-
-  f0 : f ≢ 0
-  f0 = omega arith
+  good = head-good (w .good) f 65535 fA is-free (omega arith)
 
   -- an anode in use is untouched
   like-a : (a : ℕ) → s .block a ≢ 0 → Alike s made a
   unfolding rewritten
   like-a a u =
-      let not-f = used-not-free (s .block) a f u fresh in
+      let not-f = used-not-free (s .block) a f u (is-free .unused) in
       record { same-count = changed-other (s .count) f 0 a not-f; same-block = changed-other (s .block) f 65535 a not-f; same-next = refl }
 
   pub fresh-stays : (m : ℕ) → Head (s .next) (s .block) m → Head (made .next) (made .block) m
@@ -93,7 +93,7 @@ module _ {ex : ℕ → Bool} {n last : ℕ} {s : Anodes} {system hd sd : ℕ →
 
   head-f : Head (made .next) (made .block) f
   unfolding rewritten
-  head-f = record { pos = f0; in-use = rw (changed-same (s .block) f 65535) (λ z. omega arith); no-pred = fresh-no-next (w .good .linked) f f0 fresh }
+  head-f = record { pos = free-pos is-free; in-use = rw (changed-same (s .block) f 65535) (λ z. omega arith); no-pred = fresh-no-next (w .good .linked) f (free-pos is-free) (is-free .unused) }
 
   -- an entry with nothing wrong stays so
   still-fine : (e : Entered) → wrong (itemOf s e) ≡ 0 → wrong (itemOf made e) ≡ 0
@@ -104,7 +104,7 @@ module _ {ex : ℕ → Bool} {n last : ℕ} {s : Anodes} {system hd sd : ℕ →
   -- the new chain is its head alone, with no block
   pub fresh-chain : chainOf (rewritten s f 0 65535 .next) limit f ≡ f ∷ []
   unfolding rewritten
-  fresh-chain = chain-the (good .linked) f (f ∷ []) (λ q. head-f .in-use) (refl, f0, w .good .linked .view .free-end f fresh)
+  fresh-chain = chain-the (good .linked) f (f ∷ []) (λ q. head-f .in-use) (refl, free-pos is-free, w .good .linked .view .free-end f (is-free .unused))
 
   module _ (entries′ : ℕ → List Entered) (marked′ : Dir → ℕ → Bool)
       (cont : SameContents s hd entries marked entries′ marked′) where
@@ -118,13 +118,13 @@ module _ {ex : ℕ → Bool} {n last : ℕ} {s : Anodes} {system hd sd : ℕ →
     unfolding rewritten
     one d p z = items-alike s made (λ j. j) wrong (λ q. omega (arith, q, broken-wrong)) (λ j q. (refl, refl, still-fine j q)) entries entries′ marked marked′ d refl
         (λ a k. like-a a (on-chain (w .good) (d .head) (p .0) a k .1))
-        (λ a k i. let c = cont a i (λ q. p .1 (sym (on-chain (w .good) (d .head) (p .0) a k .0) ∙ q)) in (c .0 ∙ sym (map-id (entries (s .block a))), c .1 d)) z
+        (λ a k i. let not-1 : hd a ≢ 1 = λ q. p .1 (sym (on-chain (w .good) (d .head) (p .0) a k .0) ∙ q) in (cont .same-entries a i not-1 ∙ sym (map-id (entries (s .block a))), cont .same-marks a i not-1 d)) z
 
     alikes : Each (AlikeItems items items′) dirs
     alikes = each-both (DirHead s) (λ d. faults items d ≡ 0) (AlikeItems items items′) dirs one (dir-heads w) (each-zero (faults items) dirs (w .tree .faultless))
 
     unnamed : sumList (namedIn items f) dirs ≡ 0
-    unnamed = not-above (sumList (namedIn items f) dirs) (λ p. named-heads w f p .2 .in-use fresh)
+    unnamed = not-above (sumList (namedIn items f) dirs) (λ p. named-heads w f p .2 .in-use (is-free .unused))
 
     pub fresh-orphan : Orphaned ex n last f (rewritten s f 0 65535) system (changed hd f f) (changed sd f f) entries′ marked′ dirs
     fresh-orphan = record {

@@ -13,11 +13,11 @@ use Rattle.rules.specs.Space.{planned, rewritten, insertedAfter, free, lowestFr
 use Rattle.laws.specs.Sums.{oneAt-same, changed-same, changed-other}
 use Rattle.laws.specs.Bags.{times-here}
 use Rattle.laws.specs.Heads.{Head, times-on-chain}
-use Rattle.laws.specs.Space.{Alike, Good, on-chain}
+use Rattle.laws.specs.Space.{Alike, FreeAnode, Good, free-is, on-chain}
 use Rattle.laws.specs.Bags.{last-on}
 use Rattle.laws.specs.Moves.{InHand}
 use Rattle.laws.specs.Plans.{refused≢planned, planned-same}
-use Rattle.laws.specs.Arriving.{free-is, append-cases}
+use Rattle.laws.specs.Arriving.{append-cases}
 use Rattle.laws.specs.Take.{take-steps}
 use Rattle.laws.specs.Frame.{shift-alike, shift-chain}
 use Rattle.laws.specs.ChainBlocks.{appended-chain}
@@ -69,17 +69,17 @@ module _ {A : ℕ} {ex : ℕ → Bool} {n last : ℕ} {s : Anodes} {system hd sd
       abbrev end : ℕ
       end = lastOf h (chainOf (s .next) A h)
 
-      fresh : (6 ≤ f) × (r .block f ≡ 0) × T (ex f)
+      fresh : FreeAnode ex r f
       fresh = free-is ex r f is-free
 
       not-f : (a : ℕ) → 0 < times a (chainOf (s .next) A h) → a ≢ f
-      not-f a p e = on-chain g h d a p .1 (sym (on-h a p .same-block) ∙ ap (r .block) e ∙ fresh .1)
+      not-f a p e = on-chain g h d a p .1 (sym (on-h a p .same-block) ∙ ap (r .block) e ∙ fresh .unused)
 
       put-appended : Appended A s (insertedAfter r end f 1 y) h y
       unfolding insertedAfter
       put-appended = record {
         anode = f;
-        chain = rw hand-chain at (appended-chain (i .good) h (i .shift .stays h d) f 1 y (λ e. omega (arith, e, fresh .0)) (fresh .1) fA y0);
+        chain = rw hand-chain at (appended-chain (i .good) h (i .shift .stays h d) f 1 y (λ e. omega (arith, e, fresh .from-6)) (fresh .unused) fA y0);
         one = changed-same (r .count) f 1;
         at = changed-same (r .block) f y;
         kept = λ a p. (changed-other (r .count) f 1 a (not-f a p) ∙ on-h a p .same-count, changed-other (r .block) f y a (not-f a p) ∙ on-h a p .same-block);

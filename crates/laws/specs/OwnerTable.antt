@@ -27,7 +27,7 @@ use Rattle.laws.specs.Links.{Linked}
 use Rattle.laws.specs.Heads.{Head, heads-one, headOf-heads}
 use Rattle.laws.specs.Blocks.{blocks}
 use Rattle.laws.specs.Held.{held, held-some, held-fresh}
-use Rattle.laws.specs.Space.{Good, head-good, dead-head, drop-good}
+use Rattle.laws.specs.Space.{Good, head-good, dead-head, drop-good, FreeAnode}
 use Rattle.laws.specs.Owners.{hd-below, holder, owner}
 use Rattle.laws.specs.Resize.{Ran}
 
@@ -172,10 +172,10 @@ module _ {ex : ℕ → Bool} {n last : ℕ} {s : Anodes} {system hd sd : ℕ →
     ]
 
   -- a fresh head with no block
-  pub fresh-owner : (f : ℕ) → 6 ≤ f → T (ex f) → f < limit → s .block f ≡ 0 → (x : ℕ) → ownerHead (rewritten s f 0 65535) x ≡ ownerHead s x
+  pub fresh-owner : (f : ℕ) → f < limit → FreeAnode ex s f → (x : ℕ) → ownerHead (rewritten s f 0 65535) x ≡ ownerHead s x
   unfolding rewritten
-  fresh-owner f f6 there fA fresh x = same-owner g (head-good g f 65535 f6 there fA fresh (omega arith)) x
-      (λ m. omega (arith, held-fresh limit hd (s .count) (s .block) f f 0 65535 fA (g .present .free-none f fresh) m x, ap (λ (k : ℕ). oneAt f m * k) (covers-none 65535 x)))
+  fresh-owner f fA u x = same-owner g (head-good g f 65535 fA u (omega arith)) x
+      (λ m. omega (arith, held-fresh limit hd (s .count) (s .block) f f 0 65535 fA (g .present .free-none f (u .unused)) m x, ap (λ (k : ℕ). oneAt f m * k) (covers-none 65535 x)))
 
   -- a chain with no block dropped
   pub dropped-owner : (h : ℕ) → 6 ≤ h → (d : Head (s .next) (s .block) h) → (none : (a : ℕ) → hd a ≡ h → s .count a ≡ 0) → (x : ℕ) → ownerHead (dropped limit s h) x ≡ ownerHead s x

@@ -2,14 +2,14 @@
 use Prim.Native.Nat.{ℕ, suc, _+_, _≤_, _<_}
 use mathlib.Core.Path.{_≡_, refl, sym, ap, _∙_}
 use mathlib.Core.Logic.{_≢_, _⊎_, inl, inr}
-use mathlib.Core.Bool.{Bool}
+use mathlib.Core.Bool.{Bool, _&&_}
 use native.Mathlib.Omega.{arith}
-use lib.Dec.{T, leb→le, le→leb}
+use lib.Dec.{T, eqb, leb, eqb→eq, leb→le, le→leb}
 use Rattle.rules.specs.Counting.{times, changed}
 use Rattle.rules.specs.Anodes.{Anodes}
 use Rattle.rules.specs.Chains.{chainOf, covers, cut}
-use Rattle.rules.specs.Space.{rewritten, insertedAfter, unlinked, onChain, dropped}
-use Rattle.laws.specs.Tests.{same?, not-above, T-same}
+use Rattle.rules.specs.Space.{rewritten, insertedAfter, unlinked, onChain, dropped, free}
+use Rattle.laws.specs.Tests.{same?, not-above, T-same, both}
 use Rattle.laws.specs.Sums.{oneAt-cases, oneAt-same, changed-cases, changed-same, changed-other}
 use Rattle.laws.specs.Ownership.{covers-none, EachOnce, own-same, move}
 use Rattle.laws.specs.Links.{Linked}
@@ -31,6 +31,22 @@ alike-trans e f = record { same-count = f .same-count ∙ e .same-count; same-bl
 pub record Present (ex : ℕ → Bool) (s : Anodes) : Type 0 where
   pub exist : (a : ℕ) → s .block a ≢ 0 → T (ex a)
   pub free-none : (a : ℕ) → s .block a ≡ 0 → s .count a ≡ 0
+
+-- an anode to be had: from 6 up, free, existing
+pub record FreeAnode (ex : ℕ → Bool) (s : Anodes) (f : ℕ) : Type 0 where
+  pub from-6 : 6 ≤ f
+  pub unused : s .block f ≡ 0
+  pub there : T (ex f)
+
+pub free-is : (ex : ℕ → Bool) (s : Anodes) (f : ℕ) → T (free ex s f) → FreeAnode ex s f
+unfolding free
+free-is ex s f t =
+    let a = both (leb 6 f) (eqb (s .block f) 0 && ex f) t in
+    let b = both (eqb (s .block f) 0) (ex f) (a .1) in
+    record { from-6 = leb→le 6 f (a .0); unused = eqb→eq (s .block f) 0 (b .0); there = b .1 }
+
+pub free-pos : {ex : ℕ → Bool} {s : Anodes} {f : ℕ} → FreeAnode ex s f → f ≢ 0
+free-pos u z = omega (arith, u .from-6, z)
 
 -- the fields of anodes 0, 1, 2 and 5 that the rules fix
 pub record FixedAnodes (s : Anodes) : Type 0 where
@@ -168,53 +184,50 @@ module _ {A : ℕ} {ex : ℕ → Bool} {n last : ℕ} {s : Anodes} {system hd sd
         ]
 
   -- a fresh anode f is made (c, b) after p
-  module _ (p f c b : ℕ) (system′ : ℕ → ℕ) (p0 : p ≢ 0) (up : s .block p ≢ 0) (f6 : 6 ≤ f) (there : T (ex f)) (fA : f < A) (fresh : s .block f ≡ 0) (b0 : b ≢ 0)
+  module _ (p f c b : ℕ) (system′ : ℕ → ℕ) (p0 : p ≢ 0) (up : s .block p ≢ 0) (fA : f < A) (u : FreeAnode ex s f) (b0 : b ≢ 0)
       (moved : (y : ℕ) → system y ≡ system′ y + covers c b y) (fits : 0 < c → b + c ≤ n)
       (is-high : sd p ≡ 1 → 0 < c → last < b) (is-low : sd p ≡ 2 → 0 < c → b + c ≤ suc last) where
-    f0 : f ≢ 0
-    f0 = omega arith
-
     pub insert-good : Good A ex n last (insertedAfter s p f c b) system′ (changed hd f (hd p)) (changed sd f (sd p))
     unfolding insertedAfter insertAfter
     insert-good = record {
-      linked = insert-linked (g .linked) p f b p0 up f0 fresh fA b0;
+      linked = insert-linked (g .linked) p f b p0 up (free-pos u) (u .unused) fA b0;
       present = record {
-        exist = λ a h. elim (changed-cases (s .block) f b a) [ inl e ↦ rw (e .0) there | inr e ↦ g .present .exist a (rw (e .1) at h) ];
+        exist = λ a h. elim (changed-cases (s .block) f b a) [ inl e ↦ rw (e .0) (u .there) | inr e ↦ g .present .exist a (rw (e .1) at h) ];
         free-none = λ a h. elim (changed-cases (s .block) f b a) [ inl e ↦ absurd (b0 (sym (e .1) ∙ h)) | inr e ↦ changed-other (s .count) f c a (e .0) ∙ g .present .free-none a (sym (e .1) ∙ h) ];
       };
-      own = move A (s .count) (s .block) system n f fA c b system′ (λ y. rw (g .present .free-none f fresh) (omega (arith, covers-none (s .block f) y, moved y))) fits (g .own);
-      fixed = low-fixed f c b _ f6;
+      own = move A (s .count) (s .block) system n f fA c b system′ (λ y. rw (g .present .free-none f (u .unused)) (omega (arith, covers-none (s .block f) y, moved y))) fits (g .own);
+      fixed = low-fixed f c b _ (u .from-6);
       first = λ m i. first-of m (fixed-low m i .1) (g .first m i);
-      heads = insert-heads (g .linked) p f b up fresh f0 b0 (g .heads);
-      two-on = changed-other hd f (hd p) 2 (omega arith) ∙ g .two-on;
-      sides = rw (cut-insertAfter (s .next) p f (omega arith)) at (insert-heads (cut-linked (g .linked)) p f b up fresh f0 b0 (g .sides));
+      heads = insert-heads (g .linked) p f b up (u .unused) (free-pos u) b0 (g .heads);
+      two-on = changed-other hd f (hd p) 2 (λ e. omega (arith, u .from-6, e)) ∙ g .two-on;
+      sides = rw (cut-insertAfter (s .next) p f (λ e. omega (arith, u .from-6, e))) at (insert-heads (cut-linked (g .linked)) p f b up (u .unused) (free-pos u) b0 (g .sides));
       high = high-kept f c b (changed sd f (sd p)) (changed-other sd f (sd p)) (λ q. is-high (sym (changed-same sd f (sd p)) ∙ q));
       low = low-kept f c b (changed sd f (sd p)) (changed-other sd f (sd p)) (λ q. is-low (sym (changed-same sd f (sd p)) ∙ q));
     }
       where
         first-of : (m : ℕ) → m < 6 → ((q : ℕ) → s .next q ≢ m) → (q : ℕ) → insertAfter (s .next) p f q ≢ m
         first-of m l t q e = elim (insertAfter-cases (s .next) p f q) [
-          | first d ↦ omega (arith, d .1, e)
+          | first d ↦ omega (arith, u .from-6, d .1, e)
           | second d ↦ t p (sym (d .2) ∙ e)
           | third d ↦ t q (sym (d .2) ∙ e)
         ]
 
   -- a fresh anode f is made a head with no block
-  module _ (f b : ℕ) (f6 : 6 ≤ f) (there : T (ex f)) (fA : f < A) (fresh : s .block f ≡ 0) (b0 : b ≢ 0) where
+  module _ (f b : ℕ) (fA : f < A) (u : FreeAnode ex s f) (b0 : b ≢ 0) where
     pub head-good : Good A ex n last (rewritten s f 0 b) system (changed hd f f) (changed sd f f)
     unfolding rewritten
     head-good = record {
-      linked = head-linked (g .linked) f b (omega arith) fresh fA b0;
+      linked = head-linked (g .linked) f b (free-pos u) (u .unused) fA b0;
       present = record {
-        exist = λ a h. elim (changed-cases (s .block) f b a) [ inl e ↦ rw (e .0) there | inr e ↦ g .present .exist a (rw (e .1) at h) ];
+        exist = λ a h. elim (changed-cases (s .block) f b a) [ inl e ↦ rw (e .0) (u .there) | inr e ↦ g .present .exist a (rw (e .1) at h) ];
         free-none = λ a h. elim (changed-cases (s .count) f 0 a) [ inl e ↦ e .1 | inr e ↦ e .1 ∙ g .present .free-none a (sym (changed-other (s .block) f b a (e .0)) ∙ h) ];
       };
-      own = move A (s .count) (s .block) system n f fA 0 b system (λ y. rw (g .present .free-none f fresh) (omega (arith, covers-none (s .block f) y, covers-none b y))) (λ q. absurd (omega arith)) (g .own);
-      fixed = low-fixed f 0 b _ f6;
+      own = move A (s .count) (s .block) system n f fA 0 b system (λ y. rw (g .present .free-none f (u .unused)) (omega (arith, covers-none (s .block f) y, covers-none b y))) (λ q. absurd (omega arith)) (g .own);
+      fixed = low-fixed f 0 b _ (u .from-6);
       first = g .first;
-      heads = fresh-heads (g .linked) f b (omega arith) fresh b0 (g .heads);
-      two-on = changed-other hd f f 2 (omega arith) ∙ g .two-on;
-      sides = fresh-heads (cut-linked (g .linked)) f b (omega arith) fresh b0 (g .sides);
+      heads = fresh-heads (g .linked) f b (free-pos u) (u .unused) b0 (g .heads);
+      two-on = changed-other hd f f 2 (λ e. omega (arith, u .from-6, e)) ∙ g .two-on;
+      sides = fresh-heads (cut-linked (g .linked)) f b (free-pos u) (u .unused) b0 (g .sides);
       high = high-kept f 0 b (changed sd f f) (changed-other sd f f) (λ q p. absurd (omega arith));
       low = low-kept f 0 b (changed sd f f) (changed-other sd f f) (λ q p. absurd (omega arith));
     }

@@ -14,9 +14,9 @@ use Rattle.laws.specs.Bags.{times-nil, gather-append, gather-off, gather
 use Rattle.laws.specs.Segments.{chain-end}
 use Rattle.laws.specs.LinkChanges.{first, second, third}
 use Rattle.laws.specs.Heads.{Head, head-chain}
-use Rattle.laws.specs.Space.{Good, free-off}
+use Rattle.laws.specs.Space.{Good, free-off, FreeAnode, free-is}
 use Rattle.laws.specs.Plans.{refused≢planned, planned-same, repeated-none, repeated-done}
-use Rattle.laws.specs.Arriving.{free-is, append-cases, put-cases}
+use Rattle.laws.specs.Arriving.{append-cases, put-cases}
 use Rattle.laws.specs.Take.{take-steps, take-good}
 use Rattle.laws.specs.ChainBlocks.{extent, extent-here, extent-other, blocksOf-extents, extent-filled, extent-longer, shift-blocks, stands-once, appended-chain}
 
@@ -39,13 +39,13 @@ module _ {ex : ℕ → Bool} {n last : ℕ} {s : Anodes} {system hd sd : ℕ →
       ∙ ap (λ (l : List ℕ). l ++ (y ∷ [])) (sym (blocksOf-extents s h ∙ ap (gather (extent s)) (split .1)))
 
   -- or a fresh anode after it has the block
-  appended : (f : ℕ) → f < limit → 6 ≤ f → s .block f ≡ 0 → blocksOf (insertedAfter s end f 1 y) h ≡ blocksOf s h ++ (y ∷ [])
+  appended : (f : ℕ) → f < limit → FreeAnode ex s f → blocksOf (insertedAfter s end f 1 y) h ≡ blocksOf s h ++ (y ∷ [])
   unfolding insertedAfter gather run
-  appended f fA f6 fresh =
+  appended f fA u =
       let t = insertedAfter s end f 1 y in
       let l = chainOf (s .next) limit h in
-      let chain : chainOf (t .next) limit h ≡ l ++ (f ∷ []) = appended-chain g h d f 1 y (omega arith) fresh fA y0 in
-      let same : gather (extent t) l ≡ gather (extent s) l = gather-off (extent s) (extent t) f (extent-other s t f 1 y refl refl) l (free-off g h d f fresh) in
+      let chain : chainOf (t .next) limit h ≡ l ++ (f ∷ []) = appended-chain g h d f 1 y (λ q. omega (arith, q, u .from-6)) (u .unused) fA y0 in
+      let same : gather (extent t) l ≡ gather (extent s) l = gather-off (extent s) (extent t) f (extent-other s t f 1 y refl refl) l (free-off g h d f (u .unused)) in
       let new : extent t f ≡ y ∷ [] = extent-here s t f 1 y refl refl in
       blocksOf-extents t h ∙ ap (gather (extent t)) chain ∙ gather-append (extent t) l (f ∷ [])
       ∙ ap (λ (k : List ℕ). k ++ (extent t f ++ [])) same ∙ ap (λ (k : List ℕ). gather (extent s) l ++ (k ++ [])) new ∙ ap (λ (k : List ℕ). k ++ (y ∷ [])) (sym (blocksOf-extents s h))
@@ -55,8 +55,7 @@ module _ {ex : ℕ → Bool} {n last : ℕ} {s : Anodes} {system hd sd : ℕ →
     | first c ↦ by (rewritten s end 1 y) (sym (c .1) ∙ e) (gained 1 y (extent-filled s end y (c .0)))
     | second c ↦ by (rewritten s end (s .count end + 1) (s .block end)) (sym (c .3) ∙ e) (gained (s .count end + 1) (s .block end) (extent-longer s end y (c .2)))
     | third c ↦ elim (append-cases limit ex s end y) [
-      | inl f ↦ (let i = free-is ex s (lowestFree limit ex s) (f .1) in
-          by (insertedAfter s end (lowestFree limit ex s) 1 y) (sym (f .2) ∙ sym (c .1) ∙ e) (appended (lowestFree limit ex s) (f .0) (i .0) (i .1)))
+      | inl f ↦ by (insertedAfter s end (lowestFree limit ex s) 1 y) (sym (f .2) ∙ sym (c .1) ∙ e) (appended (lowestFree limit ex s) (f .0) (free-is ex s (lowestFree limit ex s) (f .1)))
       | inr f ↦ absurd (refused≢planned 28 t ys (sym (f .0) ∙ sym (c .1) ∙ e))
     ]
   ]

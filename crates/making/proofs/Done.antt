@@ -102,7 +102,7 @@ module _ (img : List ℕ) (h : ℕ) (new : NewEntry) (m : MakePlan) (t : Anodes)
       let two = next-ready x u refl (new .dir) (m .own) (p .steps .between) (sym (p .steps .own)) in
       step-shows img (two .0 .1 .2) h (two .1 .0) (two .1 .1) (noRoom (p .room)) t zs (p .steps .parent) (setAll b ys f) r
       (step-shows img (one .0 .1 .2) f (one .1 .0) (one .1 .1) (new .dir) (p .steps .between) ys (p .steps .own) b r
-      (shows-kept img (anodesOf img) u (fresh-owner (whole x .good) f (free-f x .0) (free-f x .2) (x .below) (free-f x .1)) b r q))
+      (shows-kept img (anodesOf img) u (fresh-owner (whole x .good) f (x .below) (free-f x)) b r q))
 
   -- with no room the parent has a new block
   pub placed : m .place ≡ entryPlace (p .room) zs

@@ -23,12 +23,12 @@ use Rattle.laws.specs.Bags.{times-nil}
 use Rattle.laws.specs.Acceptance.{passed-of}
 use Rattle.laws.specs.Heads.{Head}
 use Rattle.laws.specs.Blocks.{blocks}
-use Rattle.laws.specs.Space.{Good}
+use Rattle.laws.specs.Space.{FreeAnode, Good}
 use Rattle.laws.specs.Resize.{Ran, grow-ran}
 use Rattle.laws.specs.OwnerTable.{ran-data, setAll}
 use Rattle.laws.specs.TreeChanges.{headed}
 use Rattle.laws.specs.DirectoryTakes.{dir-head, dir-not-1}
-use Rattle.laws.specs.Make.{fresh-orphan}
+use Rattle.laws.specs.Make.{contents-same, fresh-orphan}
 use Rattle.changes.specs.Image.{WholeImage, headIn, sideIn, accepted-whole, reached-headed}
 use Rattle.changes.specs.MakePlan.{Fresh, fresh-dir, fresh-free, made-orphan}
 use Rattle.changes.specs.Make.{needed-refused}
@@ -85,7 +85,7 @@ module _ (img : List ℕ) {s : Anodes} {hd sd : ℕ → ℕ} (g : Good limit (ex
 -- ---- both steps
 
 module _ {img : List ℕ} {h f : ℕ} (x : Fresh img (diskSize img) limit h f) where
-  pub free-f : (6 ≤ f) × (anodesOf img .block f ≡ 0) × T (exists img f)
+  pub free-f : FreeAnode (exists img) (anodesOf img) f
   free-f = fresh-free x
 
   pub whole : WholeImage img (anodesOf img) (headIn img) (sideIn img) (reachedDirs img (anodesOf img))
@@ -96,14 +96,14 @@ module _ {img : List ℕ} {h f : ℕ} (x : Fresh img (diskSize img) limit h f) w
 
   pub first-ready : (s : Anodes) → s ≡ rewritten (anodesOf img) f 0 65535 → Ready img s f
   first-ready s e =
-      let o = fresh-orphan whole f (free-f .0) (free-f .2) (x .below) (free-f .1) (entriesIn img) (isBlockOf img) (λ a i q. (refl, λ d. refl)) in
-      rw e ((passed-of img (diskSize img) limit (x .accepted) .size-right, (_, _, o .good)), (o .head, λ q. omega (arith, free-f .0, q)))
+      let o = fresh-orphan whole f (x .below) free-f (entriesIn img) (isBlockOf img) (contents-same _ _ _ _) in
+      rw e ((passed-of img (diskSize img) limit (x .accepted) .size-right, (_, _, o .good)), (o .head, λ q. omega (arith, free-f .from-6, q)))
 
   pub next-ready : (s : Anodes) → s ≡ rewritten (anodesOf img) f 0 65535 → (dir : Bool) (y : BlockNo) (r : Anodes) → neededPlan (Moved y) r ≡ neededBlock img dir s f → Ready img r h
   unfolding neededBlock
   next-ready s e dir y r p =
-      let o = made-orphan img whole f (free-f .0) (free-f .2) (x .below) (free-f .1) h once dir r (someBlock (y .0)) (sym (p ∙ ap (λ (u : Anodes). neededBlock img dir u f) e)) false r [] refl
-      (entriesIn img) (isBlockOf img) (λ a i q. (refl, λ d. refl)) (λ z i. absurd (omega (arith, first-in z [] i, times-nil z))) (λ z i. absurd (omega (arith, first-in z [] i, times-nil z))) in
+      let o = made-orphan img whole f (x .below) free-f h once dir r (someBlock (y .0)) (sym (p ∙ ap (λ (u : Anodes). neededBlock img dir u f) e)) false r [] refl
+      (entriesIn img) (isBlockOf img) (contents-same _ _ _ _) (λ z i. absurd (omega (arith, first-in z [] i, times-nil z))) (λ z i. absurd (omega (arith, first-in z [] i, times-nil z))) in
       ((passed-of img (diskSize img) limit (x .accepted) .size-right, (o .0, o .1, o .2 .good)), (dir-head (o .2) h once, dir-not-1 (o .2) h once))
 
   -- s the anodes that the steps start from
