@@ -16,6 +16,7 @@ use Rattle.rules.specs.Walk.{Dir, Entered, root, entriesIn, isBlockOf, itemsBy,
 use Rattle.rules.specs.Accepted.{diskSize, lastReserved, wrongSlots, unnamed, unnamedChain, checkAnswer}
 use Rattle.rules.specs.Lookup.{noDirectory}
 use Rattle.counting.specs.Laws.{none-and, anyBelow-all}
+use Rattle.laws.specs.Tests.{not-above}
 use Rattle.laws.specs.Bags.{list-mono, map-sum}
 use Rattle.laws.specs.Items.{below, namedIn, subs-named}
 use Rattle.laws.specs.Trees.{heads-once, tree-one}
@@ -28,7 +29,6 @@ use Rattle.laws.specs.Acceptance.{Passed, passed-of, passed-accepted, Tested, p
 use Rattle.laws.specs.ImageAnodes.{reading-of}
 use Rattle.laws.specs.Damage.{Faulted, walk-faulted}
 use Rattle.laws.specs.OneOwner.{naming-sum, passes, accepted-one-owner, good}
-use Rattle.laws.specs.Members.{times-none}
 use Rattle.frames.specs.Kept.{Unheld, Kept, HeadsKept, kept-all, kept-both, diskSize-kept, wrongSize-kept, shortTables-kept, slotOf-kept, lastReserved-kept, wrongType-kept, wrongRoot-kept, systemOwns-kept, anodesOf-kept, wrongSlots-kept}
 use Rattle.frames.specs.StoredAnodes.{AnodesStored, root-unheld, withAnodes-stored, anodesOf-withAnodes}
 use Rattle.frames.specs.DisjointBlocks.{DataBlock}
@@ -138,7 +138,7 @@ pub not-one : {img : List ℕ} {b : ℕ} → DataBlock img b → (y : ℕ) → (
 not-one d y n e = n (rw e d)
 
 pub not-among : {img : List ℕ} (ys : List ℕ) → ((y : ℕ) → 0 < times y ys → DataBlock img y) → (y : ℕ) → (DataBlock img y → ⊥) → times y ys ≡ 0
-not-among ys d y n = times-none y ys (λ p. n (d y p))
+not-among ys d y n = not-above (times y ys) (λ p. n (d y p))
 
 -- stores that keep all but data blocks
 module _ {img i j : List ℕ} {t : Anodes} {on : ℕ → Type 0} (d : DiskWith img t i) (k : Kept on i j) (others : (y : ℕ) → (DataBlock img y → ⊥) → on y) where

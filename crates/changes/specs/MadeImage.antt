@@ -19,13 +19,14 @@ use Rattle.rules.specs.Chains.{chainOf, run, blocksOf}
 use Rattle.rules.specs.Walk.{Dir, Entered, entriesFrom, entriesIn, isBlockOf, reachedDirs}
 use Rattle.rules.specs.Format.{newDirectoryBlock}
 use Rattle.rules.specs.Changes.{withBlocks, entriesEnd, noRoom, parentOf, entryPlace, NewEntry, entryOf, madeImage}
+use Rattle.laws.specs.Tests.{not-above}
 use Rattle.laws.specs.Sums.{oneAt-cases, oneAt-some}
 use Rattle.laws.specs.Bags.{list-cons, list-some, map-sum, times-nil, times-cons, times-append, times-here}
 use Rattle.laws.specs.Space.{FreeAnode, on-chain}
 use Rattle.laws.specs.Each.{Each, each-map}
 use Rattle.laws.specs.TreeChanges.{headed, none-headed}
 use Rattle.laws.specs.DirectoryTakes.{dir-head}
-use Rattle.laws.specs.Members.{Member, times-none, no-member, member-cons, member-gather, member-times, times-member}
+use Rattle.laws.specs.Members.{Member, no-member, member-cons, member-gather, member-times, times-member}
 use Rattle.laws.specs.NewDirectory.{length-new, entries-new, new-marked}
 use Rattle.frames.specs.Kept.{Kept}
 use Rattle.frames.specs.StoredBlocks.{inBlock-kept, blockOf-inBlock, withBlocks-kept}
@@ -128,16 +129,16 @@ module _ {img : List ℕ} {blocks anodes h : ℕ} {new : NewEntry} {f : ℕ} {ro
       let u = single-used (w .good) a one in
       let k = grown .kept a u q in
       let now : t .count a ≡ 1 = k .0 ∙ one in (
-        times-none (s .block a) ys (λ p. let o = own-block (s .block a) p in
+        not-above (times (s .block a) ys) (λ p. let o = own-block (s .block a) p in
             single-apart good a now f (o .0) (λ i. u (ap (s .block) i ∙ spare .unused)) (k .1 ∙ o .1)),
-        times-none (s .block a) zs (λ p. let o = parent-block (s .block a) p in
+        not-above (times (s .block a) zs) (λ p. let o = parent-block (s .block a) p in
             single-apart good a now (o .0) (grown .ones (o .0) (o .1)) (λ i. grown .apart (o .0) (o .1) (rw (← i) u) (rw (← i) q)) (k .1 ∙ o .2)),
       )
 
   new-apart : (y : ℕ) → 0 < times y ys → times y zs ≡ 0
   new-apart y p =
       let o = own-block y p in
-      times-none y zs (λ q. let b = parent-block y q in
+      not-above (times y zs) (λ q. let b = parent-block y q in
       single-apart good f (o .0) (b .0) (grown .ones (b .0) (b .1)) (λ i. plan .not-own (b .0) (b .1) (sym i)) (sym (o .1) ∙ b .2))
 
   -- ---- the image before the entry

@@ -21,7 +21,7 @@ use Rattle.rules.specs.Chains.{chainOf, blocksOf}
 use Rattle.rules.specs.Walk.{Entered, entriesIn, reachedDirs}
 use Rattle.rules.specs.Lookup.{noDirectory, entriesOf, nameAt, contents}
 use Rattle.rules.specs.Changes.{entriesEnd, parentOf, entryPlace, NewEntry, entryOf, madeImage}
-use Rattle.laws.specs.Tests.{same?, less?}
+use Rattle.laws.specs.Tests.{same?, less?, not-above}
 use Rattle.laws.specs.Sums.{oneAt-same, oneAt-other}
 use Rattle.laws.specs.Bags.{times-cons, times-append, gather-none, gather-append, gather-kept}
 use Rattle.laws.specs.Heads.{Head}
@@ -30,7 +30,7 @@ use Rattle.laws.specs.TreeChanges.{headed}
 use Rattle.laws.specs.ChainBlocks.{stands-once}
 use Rattle.laws.specs.Each.{OneMore}
 use Rattle.laws.specs.DirectoryTakes.{dir-head}
-use Rattle.laws.specs.Members.{Member, times-none, member-first, member-times, times-member, gather-congr}
+use Rattle.laws.specs.Members.{Member, member-first, member-times, times-member, gather-congr}
 use Rattle.laws.specs.NewDirectory.{entries-new}
 use Rattle.frames.specs.DisjointBlocks.{chains-apart, chain-block}
 use Rattle.frames.specs.StoredBytes.{BlocksKept}
@@ -209,8 +209,8 @@ module _ {img : List ℕ} {blocks anodes h : ℕ} {new : NewEntry} {f : ℕ} {ro
     block-same : (y : ℕ) → 0 < times y (blocksOf t k) → blockOf j y ≡ blockOf img y
     block-same y p =
         entry-kept m .block-kept y (λ e. apart-h (spot m .anode) (spot m .on) (rw (← e) p))
-        ∙ kept-block m y (chain-block img (orphan m .2 .good) k now-head y p) (times-none y ys (apart-f y p))
-        (times-none y zs (λ q. let b = parent-block m y q in
+        ∙ kept-block m y (chain-block img (orphan m .2 .good) k now-head y p) (not-above (times y ys) (apart-f y p))
+        (not-above (times y zs) (λ q. let b = parent-block m y q in
         apart-h (b .0) (omega (arith, b .1, ap (times (b .0)) (grown m .chain), times-append (b .0) (chainOf (s .next) limit h) (grown m .new))) (rw (← (b .2)) p)))
 
     blocks-kept : BlocksKept img j s k

@@ -42,7 +42,7 @@ module _ {img : List ℕ} {e : Entered} {t : Anodes} {ys : List ℕ} (p : Planne
 
   -- the image that a removal leaves
   abbrev j : List ℕ
-  j = removedImage img e t ys
+  j = removedImage img e t
 
   -- the anode whose block has it
   in-y : (a : ℕ) → a ≡ facts p .a₀ → s .block a ≡ y
@@ -116,10 +116,10 @@ module _ {img : List ℕ} {h : ℕ} {e : Entered} (m : EntryIn img h e) where
   unfolding removed
   remove-accepted empty =
       let a = m .directory .image in
-      left-cases (λ l. checkAnswer (l .image) (a .blocks) (a .anodes) ≡ 0) img (removedImage img e) gives (λ k q. a .accepted)
+      left-cases (λ l. checkAnswer (l .image) (a .blocks) (a .anodes) ≡ 0) img (λ t ys. removedImage img e t) gives (λ k q. a .accepted)
       (λ t ys q. planned-accepted (record { home = h; entry = m; plan = q }) empty)
 
   -- it answers 0 or 28
   pub remove-answers : (removed img (anodesOf img) e .answer ≡ 0) ⊎ (removed img (anodesOf img) e .answer ≡ 28)
   unfolding removed
-  remove-answers = left-cases (λ l. (l .answer ≡ 0) ⊎ (l .answer ≡ 28)) img (removedImage img e) gives (λ k q. inr (remove-refused k q)) (λ t ys q. inl refl)
+  remove-answers = left-cases (λ l. (l .answer ≡ 0) ⊎ (l .answer ≡ 28)) img (λ t ys. removedImage img e t) gives (λ k q. inr (remove-refused k q)) (λ t ys q. inl refl)

@@ -29,7 +29,7 @@ module _ {img : List ℕ} {e : Entered} {t : Anodes} {ys : List ℕ} (p : Planne
 
   -- the image that a removal leaves
   abbrev j : List ℕ
-  j = removedImage img e t ys
+  j = removedImage img e t
 
   abbrev end : Anodes
   end = dropped limit t (e .anode)

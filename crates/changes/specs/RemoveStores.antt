@@ -64,7 +64,7 @@ module _ {img : List ℕ} {e : Entered} {t : Anodes} {ys : List ℕ} (p : Planne
 
   -- the image that a removal leaves
   abbrev j : List ℕ
-  j = removedImage img e t ys
+  j = removedImage img e t
 
   pub ran : Ran limit (exists img) (diskSize img) (lastReserved img) s (systemOwns img) (headIn img) (e .anode) 1 (e .anode) 0 ys t
   ran = shrink-ran (blockCount s (e .anode)) (e .anode) (not-1 p) t ys s (systemOwns img) (headIn img) (sideIn img) 0 (omega (arith, blocks-count (w p .good) (e .anode) (facts p .head))) (w p .good) (facts p .head)

@@ -14,7 +14,7 @@ use Rattle.rules.specs.Chains.{systemOwns, blocksOf, blockCount}
 use Rattle.rules.specs.Accepted.{diskSize, lastReserved}
 use Rattle.rules.specs.Space.{refused, planned}
 use Rattle.rules.specs.Changes.{resizePlan}
-use Rattle.laws.specs.Tests.{less?}
+use Rattle.laws.specs.Tests.{less?, not-above}
 use Rattle.laws.specs.Sums.{oneAt-same, oneAt-other}
 use Rattle.laws.specs.Heads.{Head}
 use Rattle.laws.specs.Blocks.{blocks}
@@ -26,7 +26,6 @@ use Rattle.laws.specs.RefusedSteps.{takes-refused, gives-refused}
 use Rattle.laws.specs.TakenBlocks.{takes-blocks}
 use Rattle.laws.specs.GivenBlocks.{gives-blocks}
 use Rattle.laws.specs.OwnerTable.{held-data}
-use Rattle.laws.specs.Members.{times-none}
 use Rattle.frames.specs.DisjointBlocks.{DataBlock, times-held, chains-apart, chain-block}
 use Rattle.changes.specs.Image.{GoodOn}
 
@@ -98,7 +97,7 @@ module _ (img : List ℕ) {s : Anodes} {hd sd : ℕ → ℕ} (g : GoodOn img s h
 
     -- so no block of a chain but 1's and h's did
     pub handed-apart : (k : ℕ) → Head (s .next) (s .block) k → k ≢ 1 → k ≢ h → (y : ℕ) → 0 < times y (blocksOf s k) → times y ys ≡ 0
-    handed-apart k c k1 kh y p = times-none y ys (λ q. omega (arith, was-there y q, chains-apart g k (r .from) c from-head (other (r .from-is)) y p))
+    handed-apart k c k1 kh y p = not-above (times y ys) (λ q. omega (arith, was-there y q, chains-apart g k (r .from) c from-head (other (r .from-is)) y p))
       where
         other : (r .from ≡ 1) ⊎ (r .from ≡ h) → k ≢ r .from
         other (inl e) q = k1 (q ∙ e)

@@ -154,11 +154,11 @@ module _ {A : ℕ} {next block : ℕ → ℕ} (k : Linked A next block) where
 
     pub insert-after : (a : ℕ) (l m : List ℕ) → (a ≢ 0 → block a ≢ 0) → Chain next a (l ++ (p ∷ m)) → Chain (insertAfter next p f) a (l ++ (p ∷ (f ∷ m)))
     insert-after a l m u c =
-        let once = seg-once k a 0 (l ++ (p ∷ m)) p u c in
+        let alone : times p l + times p m ≡ 0 = omega (arith, seg-once k a 0 (l ++ (p ∷ m)) p u c, times-append p l (p ∷ m), times-cons p p m, oneAt-same p p refl) in
         let s = seg-split next a 0 l (p ∷ m) c in
         seg-append (insertAfter next p f) a (s .0) 0 l (p ∷ (f ∷ m))
-        (insert-apart a (s .0) l u (s .1) (omega (arith, once, times-append p l (p ∷ m), times-cons p p m, oneAt-same p p refl)))
-        (s .2 .0, s .2 .1, (at-p, f0, rw at-f (insert-apart (next p) 0 m (k .closed p) (s .2 .2) (omega (arith, once, times-append p l (p ∷ m), times-cons p p m, oneAt-same p p refl)))))
+        (insert-apart a (s .0) l u (s .1) (omega arith))
+        (s .2 .0, s .2 .1, (at-p, f0, rw at-f (insert-apart (next p) 0 m (k .closed p) (s .2 .2) (omega arith))))
 
   -- ---- x unlinked after p
 
@@ -242,9 +242,11 @@ module _ {A : ℕ} {next block : ℕ → ℕ} (k : Linked A next block) where
     pub unlink-after : (a : ℕ) (l m : List ℕ) → (a ≢ 0 → block a ≢ 0) → Chain next a (l ++ (p ∷ (x ∷ m))) → Chain (unlink next p x) a (l ++ (p ∷ m))
     unlink-after a l m u c =
         let s = seg-split next a 0 l (p ∷ (x ∷ m)) c in
+        let no-p : times p l + times p m ≡ 0 = omega (arith, once p, oneAt-same p p refl) in
+        let no-x : times x l + times x m ≡ 0 = omega (arith, once x, oneAt-same x x refl) in
         seg-append (unlink next p x) a (s .0) 0 l (p ∷ m)
-        (unlink-apart a (s .0) l (s .1) (omega (arith, once p, oneAt-same p p refl)) (omega (arith, once x, oneAt-same x x refl)))
-        (s .2 .0, s .2 .1, rw un-p (unlink-apart (next x) 0 m (s .2 .2 .2) (omega (arith, once p, oneAt-same p p refl)) (omega (arith, once x, oneAt-same x x refl))))
+        (unlink-apart a (s .0) l (s .1) (omega arith) (omega arith))
+        (s .2 .0, s .2 .1, rw un-p (unlink-apart (next x) 0 m (s .2 .2 .2) (omega arith) (omega arith)))
       where
         once : (y : ℕ) → times y l + (oneAt p y + (oneAt x y + times y m)) ≤ 1
         once y = omega (arith, seg-once k a 0 (l ++ (p ∷ (x ∷ m))) y u c, times-append y l (p ∷ (x ∷ m)), times-cons y p (x ∷ m), times-cons y x m)

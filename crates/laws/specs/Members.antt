@@ -7,7 +7,6 @@ use mathlib.Core.List.{List, [], _∷_, _++_, map, map-id, append-assoc}
 use native.Mathlib.Omega.{arith}
 use Rattle.rules.specs.Counting.{sumList, times, gather, oneAt, anyIn}
 use Rattle.counting.specs.Laws.{none-or}
-use Rattle.laws.specs.Tests.{not-above}
 use Rattle.laws.specs.Sums.{oneAt-same, oneAt-other, oneAt-cases}
 use Rattle.laws.specs.Bags.{list-cons, list-append, list-add, list-mono, list-scale}
 use Rattle.laws.specs.Each.{Each, list-congr-each, gather-congr-each}
@@ -83,10 +82,6 @@ map-kept f l e = map-members f (λ x. x) l e ∙ map-id l
 pub member-times : (x : ℕ) (l : List ℕ) → Member x l → 0 < times x l
 unfolding times
 member-times x l p = omega (arith, member-sum (λ y. oneAt y x) x l p, oneAt-same x x refl)
-
--- what does not stand in a list
-pub times-none : (x : ℕ) (l : List ℕ) → (0 < times x l → ⊥) → times x l ≡ 0
-times-none x l n = not-above (times x l) n
 
 -- two numbers of a list weigh no more than the list
 pub two-members : (w : ℕ → ℕ) (l : List ℕ) (a b : ℕ) → a ≢ b → 0 < times a l → 0 < times b l → w a + w b ≤ sumList w l

@@ -11,7 +11,6 @@ use Rattle.laws.specs.Sums.{oneAt-other}
 use Rattle.laws.specs.Bags.{times-nil, times-cons, times-here, times-later, last-split}
 
 -- from a, following next, the anodes of l are met, none of them 0, and then z
-
 abbrev pub Seg : (ℕ → ℕ) → ℕ → List ℕ → ℕ → Type 0
 Seg next a [] z = a ≡ z
 Seg next a (b ∷ l) z = (a ≡ b) × (b ≢ 0) × Seg next (next b) l z

@@ -74,10 +74,10 @@ module _ {img counts firsts nexts : List ℕ} (l : Loaded img counts firsts next
         rw (kept .length-kept, kept .block-kept y (block-data facts .unheld)) (block-data facts .inside, block-standing (block-entry facts) .before, end-within (block-entry facts))
 
     -- what it leaves of the image and the tables
-    pub done-leaves : (b a : List ℕ) → Leaves 0 img b a (removedImage img e t ys) (setAll b ys 1) (anodeTable end ++ drop limit a) (removed img s e)
+    pub done-leaves : (b a : List ℕ) → Leaves 0 img b a (removedImage img e t) (setAll b ys 1) (anodeTable end ++ drop limit a) (removed img s e)
     unfolding removed
     done-leaves b a =
         let h6 = entry-known l e r .from-6 in
         let d = entry-known l e r .head in
-        rw gives (leaves-done img (removedImage img e t ys) (removed-disk p) b a (setAll b ys 1) (anodeTable end ++ drop limit a)
+        rw gives (leaves-done img (removedImage img e t) (removed-disk p) b a (setAll b ys 1) (anodeTable end ++ drop limit a)
         (λ rest q. shows-kept img t end (dropped-owner (ran p .good) (e .anode) h6 (still (e .anode) h6 d (ran p)) (none-left (e .anode) h6 d (ran p))) (setAll b ys 1) rest (shows-ran img s t (image-good l) (ran p) (entry-not-1 (entry-known l e r)) b rest q)) refl)

@@ -29,11 +29,11 @@ pub record Outcome : Type 0 where
   pub output : List ℕ
   pub name : List ℕ
 
--- the same, field by field in one line
+-- its fields in one line
 abbrev pub outcomeOf : ℕ → List ℕ → List ℕ → List ℕ → List ℕ → List ℕ → Outcome
 outcomeOf answer image blocks anodes output name = record { answer = answer; image = image; blocks = blocks; anodes = anodes; output = output; name = name }
 
--- what is left of image and tables settles the rest
+-- a call's outcome by its answer and the image that it leaves: both settle the tables
 unfoldable pub settled : Left → List ℕ → List ℕ → List ℕ → List ℕ → Outcome
 settled l blocks anodes output name =
     outcomeOf (l .answer) (l .image) (blocksLeft (l .answer) (l .image) blocks) (anodesLeft (l .answer) (l .image) anodes) output name
@@ -55,19 +55,19 @@ foundOr n e f x = doneOr n (ofEntry e f x) x
 unfoldable pub checkOutcome : List ℕ → List ℕ → List ℕ → Outcome
 checkOutcome img blocks anodes = settled (left (checkAnswer img (length blocks) (length anodes)) img) blocks anodes [] []
 
--- Summary: N, free blocks (those of 1's chain), files, directories with the root; zeros where the check refuses
+-- the files: the reached entries of type 253
 unfoldable pub fileCount : List ℕ → Anodes → ℕ
 fileCount img s = sumList (λ i. cond (i .dir) 0 1) (reached img s)
 
--- the reached directories, the root among them
+-- the directories: the reached ones, the root among them
 unfoldable pub dirCount : List ℕ → Anodes → ℕ
 dirCount img s = length (reachedDirs img s)
 
--- the four numbers of an accepted image
+-- the four numbers of an accepted image: N, free blocks (those of 1's chain), files, directories
 unfoldable pub summaryOf : List ℕ → Anodes → List ℕ
 summaryOf img s = diskSize img ∷ blockCount s 1 ∷ fileCount img s ∷ dirCount img s ∷ []
 
--- Summary: the check's outcome with the four numbers as output
+-- Summary: the check's outcome, with the four numbers as output, or zeros where the check refuses
 unfoldable pub summaryOutcome : List ℕ → List ℕ → List ℕ → Outcome
 summaryOutcome img blocks anodes =
     settled (left (checkAnswer img (length blocks) (length anodes)) img) blocks anodes
@@ -107,11 +107,11 @@ removeAnswer img s h name =
     else 25 if fullDir img s (entryNamed img s h name)
     else 0
 
--- make: type, name or comment against the entry rules 20, then 21, 23, then 27 and 28 by its steps
+-- 20: type, name or comment against the entry rules
 unfoldable pub wrongEntry : ℕ → List ℕ → List ℕ → Bool
 wrongEntry type name comment = not (eqb type 253 || eqb type 2) || (not (goodName name) || not (goodComment comment))
 
--- make: 20, 21, 23 in order
+-- make: 20, 21, 23, then 27 and 28 by its steps
 unfoldable pub makeAnswer : List ℕ → Anodes → ℕ → ℕ → List ℕ → List ℕ → ℕ
 makeAnswer img s h type name comment =
     20 if wrongEntry type name comment
@@ -144,7 +144,7 @@ readOutcome img blocks anodes h name offset out =
     settled (left (readAnswer img blocks anodes h name offset (length out)) img) blocks anodes
     (bytesRead (readAnswer img blocks anodes h name offset (length out)) img (anodesOf img) (entryNamed img (anodesOf img) h name) offset out) []
 
--- List: type, anode, size, day, minute, tick, protection, the name's offset in the image and length, the comment's; zero fields and an empty name after a refusal
+-- the fields that list hands back: type, anode, size, day, minute, tick, protection, the name's offset in the image and length, the comment's
 unfoldable pub fieldList : Entry → ℕ → ℕ → List ℕ
 fieldList e type place =
     type ∷ e .anode .0 ∷ e .size ∷ e .day ∷ e .minute ∷ e .tick ∷ e .protection

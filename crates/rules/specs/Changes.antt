@@ -24,7 +24,7 @@ pub record Left : Type 0 where
   pub answer : ℕ
   pub image : List ℕ
 
--- the same in one line
+-- both in one line
 abbrev pub left : ℕ → List ℕ → Left
 left answer image = record { answer = answer; image = image }
 
@@ -190,11 +190,11 @@ gapClosed b at len end = take at b ++ (take (end - (at + len)) (drop (at + len) 
 unfoldable pub withoutEntry : List ℕ → ℕ → List ℕ
 withoutEntry img place = inBlock img (place / 512) (λ b. gapClosed b (place % 512) (getD b (place % 512) 0) (entriesEnd b))
 
--- gives back all blocks, last first, zeroes the anodes still in its chain
-unfoldable pub removedImage : List ℕ → Entered → Anodes → List ℕ → List ℕ
-removedImage img e t ys = withoutEntry (withAnodes img (Space.dropped limit t (e .anode))) (e .place)
+-- the image after a removal whose steps, which give back all blocks, last first, left the anodes t: those still in the chain are zeroed, and the entry goes
+unfoldable pub removedImage : List ℕ → Entered → Anodes → List ℕ
+removedImage img e t = withoutEntry (withAnodes img (Space.dropped limit t (e .anode))) (e .place)
 
 -- Remove: refused by its first step that fails, else that image
 unfoldable pub removed : List ℕ → Anodes → Entered → Left
 removed img s e =
-    leftBy (Space.giveMany limit (exists img) (lastReserved img) (blockCount s (e .anode)) s (e .anode)) img (λ t ys. left 0 (removedImage img e t ys))
+    leftBy (Space.giveMany limit (exists img) (lastReserved img) (blockCount s (e .anode)) s (e .anode)) img (λ t ys. left 0 (removedImage img e t))

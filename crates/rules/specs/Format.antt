@@ -14,7 +14,7 @@ use Rattle.directory.specs.Entries.{directoryMark, putDirectoryHead}
 use Rattle.rules.specs.Counting.{_if_else_}
 use Rattle.rules.specs.Accepted.{diskSize, wrongSize}
 
--- number 1 first; 20 unless k is 1 to 42, 3 + k <= L < N and the name length is 1 to 31
+-- 20 unless k is 1 to 42, 3 + k <= L < N and the name length is 1 to 31
 unfoldable pub wrongFormat : List ℕ → ℕ → ℕ → List ℕ → Bool
 wrongFormat img last k name =
     ltb k 1
@@ -24,7 +24,7 @@ wrongFormat img last k name =
     || (eqb (length name) 0
     || ltb 31 (length name)))))
 
--- format's refusals in order: 1, 20
+-- number 1 first, then 20
 unfoldable pub formatAnswer : List ℕ → ℕ → ℕ → List ℕ → ℕ
 formatAnswer img last k name =
     1 if wrongSize img

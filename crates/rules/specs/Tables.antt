@@ -10,11 +10,11 @@ use Rattle.rules.specs.Anodes.{Anodes, limit, anodesOf}
 use Rattle.rules.specs.Chains.{headOf, covers, systemOwns}
 use Rattle.rules.specs.Accepted.{diskSize}
 
--- each anode's chain head, or 0 for anode 0, free and missing ones
+-- the head of anode a's chain
 unfoldable pub chainHead : Anodes → ℕ → ℕ
 chainHead s a = headOf limit (s .next) (s .block) a
 
--- the entry of anode a in the anode table
+-- the entry of anode a in the anode table: its chain's head, or 0 for anode 0, free and missing ones
 unfoldable pub anodeEntry : Anodes → ℕ → ℕ
 anodeEntry s a = cond (eqb a 0) 0 (cond (eqb (s .block a) 0) 0 (chainHead s a))
 

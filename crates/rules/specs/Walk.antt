@@ -71,7 +71,7 @@ wrongAnode s a = cond (leb 6 a && eqb (heads limit (s .next) (s .block) a) 1) 0 
 unfoldable pub wrongFileSize : Anodes → Entered → ℕ
 wrongFileSize s e = cond (e .dir) 0 (cond (eqb (blockCount s (e .anode)) (blocksFor (e .size))) 0 15)
 
--- an entry under the eyes of the walk: 12 where it breaks the rules, else 13, else (after 14) 15
+-- what the walk makes of an entry: 12 where it breaks the rules, else 13, else (after 14) 15
 unfoldable pub itemOf : Anodes → Entered → Item
 itemOf s e = record {
   early = cond (e .broken) 12 (wrongAnode s (e .anode));
@@ -90,7 +90,7 @@ unfoldable pub itemsFor : (Entered → Item) → (ℕ → List Entered) → (Dir
 itemsFor item entries marked s d a =
     cond (eqb (s .count a) 1 && marked d (s .block a)) (map item (entries (s .block a))) (broken ∷ [])
 
--- what anode a of directory d gives under the eyes of the walk
+-- what anode a of directory d gives the walk
 abbrev pub itemsAt : (ℕ → List Entered) → (Dir → ℕ → Bool) → Anodes → Dir → ℕ → List Item
 itemsAt entries marked s d a = itemsFor (itemOf s) entries marked s d a
 
@@ -153,7 +153,7 @@ abbrev pub dirsIn : Walk → List Dir
 dirsIn (fault n) = []
 dirsIn (done ds) = ds
 
--- the reached directories, and the items of all of them in the walk's order
+-- the reached directories, in the walk's order
 unfoldable pub reachedDirs : List ℕ → Anodes → List Dir
 reachedDirs img s = dirsIn (walkOf img s)
 
