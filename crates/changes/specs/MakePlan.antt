@@ -30,7 +30,7 @@ use Rattle.laws.specs.Whole.{Whole}
 use Rattle.laws.specs.OwnBlock.{own-filled}
 use Rattle.laws.specs.Orphan.{Orphaned, not-dir, orphan-changed}
 use Rattle.laws.specs.DirectoryTakes.{find-headed, dir-head, dir-not-1, dir-taken, directory-takes}
-use Rattle.laws.specs.Make.{SameContents, contents-same, fresh-stays, fresh-chain, fresh-orphan}
+use Rattle.laws.specs.Make.{SameContents, contents-unchanged, fresh-stays, fresh-chain, fresh-orphan}
 use Rattle.changes.specs.Image.{GoodOn, ReachedDir}
 
 -- anodes t on the disk of img, where no entry names the chain of f
@@ -96,7 +96,7 @@ module _ (img : List ℕ) {s : Anodes} {hd sd : ℕ → ℕ} {entries : ℕ → 
 
   -- the fresh head, while the directories stay as they are
   orphan : OrphanedOn img f begun (changed hd f f) (changed sd f f) entries marked dirs
-  orphan = fresh-orphan w f fA is-free entries marked (contents-same s hd entries marked)
+  orphan = fresh-orphan w f fA is-free entries marked (contents-unchanged s hd entries marked)
 
   -- ---- the own block
 
@@ -141,7 +141,7 @@ module _ (img : List ℕ) {s : Anodes} {hd sd : ℕ → ℕ} {entries : ℕ → 
     owned entries′ marked′ cont = orphan-changed (fresh-orphan w f fA is-free entries′ marked′ cont) (is-free .from-6) (step .good) (step .shift)
 
     o : OrphanedOn img f r (step .hd′) (step .sd′) entries marked dirs
-    o = owned entries marked (contents-same s hd entries marked)
+    o = owned entries marked (contents-unchanged s hd entries marked)
 
     parent-none : ParentGrown r (step .hd′) h false [] r
     parent-none = record {

@@ -32,14 +32,14 @@ Tallied (Accepted t) img s = (t .free ≡ blockCount s 1) × (t .files ≡ fileC
 Tallied (Refused r) img s = Unit {0}
 
 -- tables of so many entries have one for each block and one for each anode
-pub record Room (img : List ℕ) (blocks anodes : ℕ) : Type 0 where
+pub record TableRoom (img : List ℕ) (blocks anodes : ℕ) : Type 0 where
   pub for-blocks : diskSize img ≤ blocks
   pub for-anodes : limit ≤ anodes
 
 -- what 1 to 4 say where none holds: the image's size is a disk's, the tables have room, and the rest of the table is the answer
 pub record Headed (img : List ℕ) (blocks anodes : ℕ) : Type 0 where
   pub size-right : wrongSize img ≡ false
-  pub room : Room img blocks anodes
+  pub room : TableRoom img blocks anodes
   pub answered : checkAnswer img blocks anodes ≡ (5 if wrongSlots img else damageIn img (anodesOf img))
 
 -- what 1 to 4 say, which touch no table
@@ -74,7 +74,7 @@ TablesLeft (Refused r) img s b₀ a₀ b a = Kept img b₀ a₀ b a
 
 -- the block table and the anode table have room, and are zero in their ranges
 pub record Zeroed (img blocks anodes : List ℕ) : Type 0 where
-  pub room : Room img (length blocks) (length anodes)
+  pub room : TableRoom img (length blocks) (length anodes)
   pub blocks-zero : HeldBelow (λ x. 0) blocks (diskSize img)
   pub anodes-zero : HeldBelow (λ a. 0) anodes limit
 

@@ -11,7 +11,7 @@ use Rattle.rules.specs.Counting.{times, gather, lastOf, sumList, changed}
 use lib.ListN.{length}
 use Rattle.rules.specs.Anodes.{Anodes, limit}
 use Rattle.rules.specs.Chains.{chainOf, run, blocksOf, blockCount}
-use Rattle.rules.specs.Space.{rewritten, onChain, dropped, insertedAfter, unlinked}
+use Rattle.rules.specs.Space.{rewritten, onChain, dropped, insertedAfter, unlinked, lastBlock}
 use Rattle.laws.specs.Tests.{T-false}
 use Rattle.laws.specs.Sums.{oneAt-same, changed-other, changed-pos, changed-same}
 use Rattle.laws.specs.Bags.{times-cons, times-append, gather-kept, last-split, list-congr, list-length, gather-sum}
@@ -20,7 +20,7 @@ use Rattle.laws.specs.Segments.{Seg, Chain, seg-split, seg-last, chain-e
 use Rattle.laws.specs.Chains.{run-end}
 use Rattle.laws.specs.Links.{chain-the, seg-once}
 use Rattle.laws.specs.Heads.{Head, head-chain}
-use Rattle.laws.specs.Space.{Alike, Good, on-chain, dead-head, dead-along, drop-good}
+use Rattle.laws.specs.Space.{Alike, Good, on-chain, dead-head, dead-along, drop-good, FreeAnode, free-pos}
 use Rattle.laws.specs.Owners.{last-used, last-0}
 use Rattle.laws.specs.Moves.{Shift}
 use Rattle.laws.specs.Frame.{kept-count, shift-alike, shift-chain}
@@ -60,7 +60,7 @@ pub extent-before : (s : Anodes) (a y : ℕ) → y + 1 ≡ s .block a → run y 
 unfolding extent run
 extent-before s a y e = rw (← e, add-one (s .count a), add-one y)
 
-pub extent-shorter : (s : Anodes) (x : ℕ) → 0 < s .count x → extent s x ≡ run (s .block x) (s .count x - 1) ++ ((s .block x + (s .count x - 1)) ∷ [])
+pub extent-shorter : (s : Anodes) (x : ℕ) → 0 < s .count x → extent s x ≡ run (s .block x) (s .count x - 1) ++ (lastBlock s x ∷ [])
 unfolding extent
 extent-shorter s x full = let e : s .count x ≡ suc (s .count x - 1) = omega arith in ap (run (s .block x)) e ∙ run-end (s .block x) (s .count x - 1)
 
@@ -128,16 +128,17 @@ module _ {A : ℕ} {ex : ℕ → Bool} {n last : ℕ} {s : Anodes} {system hd sd
   -- x stands in the chain once
   pub stands-once : (times x pre ≡ 0) × (times x post ≡ 0)
   stands-once =
-      let once = seg-once (g .linked) m 0 (pre ++ (x ∷ post)) x (λ q. d .in-use) chain in
-      (omega (arith, once, times-append x pre (x ∷ post), times-cons x x post, oneAt-same x x refl), omega (arith, once, times-append x pre (x ∷ post), times-cons x x post, oneAt-same x x refl))
+      let alone : times x pre + times x post ≡ 0 =
+      omega (arith, seg-once (g .linked) m 0 (pre ++ (x ∷ post)) x (λ q. d .in-use) chain, times-append x pre (x ∷ post), times-cons x x post, oneAt-same x x refl) in
+      (omega arith, omega arith)
 
   -- a fresh anode f after x
-  pub inserted-chain : x ≢ 0 → s .block x ≢ 0 → (f c b : ℕ) → f ≢ 0 → s .block f ≡ 0 → f < A → b ≢ 0 → chainOf (insertedAfter s x f c b .next) A m ≡ pre ++ (x ∷ (f ∷ post))
+  pub inserted-chain : x ≢ 0 → s .block x ≢ 0 → (f c b : ℕ) → f < A → FreeAnode ex s f → b ≢ 0 → chainOf (insertedAfter s x f c b .next) A m ≡ pre ++ (x ∷ (f ∷ post))
   unfolding insertedAfter insertAfter
-  inserted-chain x0 u f c b f0 fresh fA b0 =
-      chain-the (insert-linked (g .linked) x f b x0 u f0 fresh fA b0)
+  inserted-chain x0 u f c b fA is-free b0 =
+      chain-the (insert-linked (g .linked) x f b x0 u (free-pos is-free) (is-free .unused) fA b0)
       m (pre ++ (x ∷ (f ∷ post))) (λ q. changed-pos (s .block) f b m b0 (d .in-use))
-      (insert-after (g .linked) x f b x0 u f0 fresh fA b0 m pre post (λ q. d .in-use) chain)
+      (insert-after (g .linked) x f b x0 u (free-pos is-free) (is-free .unused) fA b0 m pre post (λ q. d .in-use) chain)
 
   -- x, not the head, unlinked after p
   pub unlinked-chain : (p : ℕ) → s .next p ≡ x → x ≢ 0 → x ≢ m → chainOf (unlinked s p x .next) A m ≡ pre ++ post
@@ -161,9 +162,9 @@ module _ {A : ℕ} {ex : ℕ → Bool} {n last : ℕ} {s : Anodes} {system hd sd
 
 -- a fresh anode f behind the last of the chain of h
 pub appended-chain : {A : ℕ} {ex : ℕ → Bool} {n last : ℕ} {s : Anodes} {system hd sd : ℕ → ℕ} → Good A ex n last s system hd sd → (h : ℕ) → Head (s .next) (s .block) h → (f c b : ℕ) →
-    f ≢ 0 → s .block f ≡ 0 → f < A → b ≢ 0 → chainOf (insertedAfter s (lastOf h (chainOf (s .next) A h)) f c b .next) A h ≡ chainOf (s .next) A h ++ (f ∷ [])
-appended-chain {A} {s = s} g h d f c b f0 fresh fA b0 =
+    f < A → FreeAnode ex s f → b ≢ 0 → chainOf (insertedAfter s (lastOf h (chainOf (s .next) A h)) f c b .next) A h ≡ chainOf (s .next) A h ++ (f ∷ [])
+appended-chain {A} {s = s} g h d f c b fA is-free b0 =
     let end = lastOf h (chainOf (s .next) A h) in
     let split = chain-end (s .next) h (chainOf (s .next) A h) (d .pos) (head-chain (g .linked) h d) in
-    inserted-chain g h d end (split .0) [] (split .1) (last-0 g h d) (last-used g h d) f c b f0 fresh fA b0
+    inserted-chain g h d end (split .0) [] (split .1) (last-0 g h d) (last-used g h d) f c b fA is-free b0
     ∙ sym (ap (λ (l : List ℕ). l ++ (f ∷ [])) (split .1) ∙ append-assoc (split .0) (end ∷ []) (f ∷ []))

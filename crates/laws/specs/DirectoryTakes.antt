@@ -17,8 +17,8 @@ use Rattle.laws.specs.Moves.{Moved}
 use Rattle.laws.specs.Take.{take-good}
 use Rattle.laws.specs.OwnBlock.{Appended, own-appended}
 use Rattle.laws.specs.Each.{Each, each-both, each-pair, member-each, each-zero}
-use Rattle.laws.specs.Items.{wrong, faults}
-use Rattle.laws.specs.TreeChanges.{headed, headed-member, AlikeItems}
+use Rattle.laws.specs.Items.{wrong, faults, headed}
+use Rattle.laws.specs.TreeChanges.{headed-member, AlikeItems}
 use Rattle.laws.specs.Totals.{namedByFiles}
 use Rattle.laws.specs.Entries.{broken-wrong, items-sum, itemsAt-whole, anodes-fine, at-alike}
 use Rattle.laws.specs.Whole.{DirHead, tree-heads}

@@ -9,12 +9,12 @@ use native.Mathlib.Numerals.{add-one}
 use Rattle.rules.specs.Counting.{times, gather, lastOf}
 use Rattle.rules.specs.Anodes.{Anodes, limit}
 use Rattle.rules.specs.Chains.{chainOf, run, blocksOf, cut, side}
-use Rattle.rules.specs.Space.{planned, rewritten, insertedAfter, unlinked, withoutFirst, withoutLast, sideOf, lowestFree, append, takeBlock, join, release, giveBack}
+use Rattle.rules.specs.Space.{planned, rewritten, insertedAfter, unlinked, withoutFirst, withoutLast, sideOf, lowestFree, append, takeBlock, join, release, giveBack, lastBlock}
 use Rattle.laws.specs.LinkChanges.{first, second, third}
 use Rattle.laws.specs.Sums.{oneAt-same}
 use Rattle.laws.specs.Bags.{times-append, gather-append, gather-off, gather-skip, times-member}
 use Rattle.laws.specs.Heads.{Head, times-on-chain}
-use Rattle.laws.specs.Space.{Good, head-1, free-off, free-is}
+use Rattle.laws.specs.Space.{Good, head-1, free-off, free-is, FreeAnode}
 use Rattle.laws.specs.Sides.{SideHead}
 use Rattle.laws.specs.Searches.{FoundIn}
 use Rattle.laws.specs.Owners.{full-0, full-1, headed-used}
@@ -81,20 +81,20 @@ module _ {ex : ℕ → Bool} {n last : ℕ} {s : Anodes} {system hd sd : ℕ →
       rw (was, left) (one-anode (extent r) (extent s) (split .0) (split .1) x y (λ a i. sym (extent-other s r x 0 0 refl refl a i)) (once .0) (once .1) (rw none o))
 
   -- a fresh anode after it has y
-  inserted-more : x ≢ 0 → s .block x ≢ 0 → y ≢ 0 → (f : ℕ) → f ≢ 0 → s .block f ≡ 0 → f < limit → OneMore y (blocksOf s 1) (blocksOf (insertedAfter s x f 1 y) 1)
+  inserted-more : x ≢ 0 → s .block x ≢ 0 → y ≢ 0 → (f : ℕ) → f < limit → FreeAnode ex s f → OneMore y (blocksOf s 1) (blocksOf (insertedAfter s x f 1 y) 1)
   unfolding insertedAfter extent run
-  inserted-more x0 u y0 f f0 fresh fA =
+  inserted-more x0 u y0 f fA is-free =
       let t = insertedAfter s x f 1 y in
       let pre = split .0 ++ (x ∷ []) in
       let parts : (l : List ℕ) → split .0 ++ (x ∷ l) ≡ pre ++ l = λ l. sym (append-assoc (split .0) (x ∷ []) l) in
-      let none : extent s f ≡ [] = rw (g .present .free-none f fresh) in
+      let none : extent s f ≡ [] = rw (g .present .free-none f (is-free .unused)) in
       let new : extent t f ≡ y ∷ [] = extent-here s t f 1 y refl refl in
-      let away : times f (pre ++ split .1) ≡ 0 = rw (split .2 ∙ parts (split .1)) at (free-off g 1 (head-1 g) f fresh) in
+      let away : times f pre + times f (split .1) ≡ 0 = sym (times-append f pre (split .1)) ∙ rw (split .2 ∙ parts (split .1)) at (free-off g 1 (head-1 g) f (is-free .unused)) in
       let before : blocksOf s 1 ≡ gather (extent s) (pre ++ (f ∷ split .1)) = was ∙ ap (gather (extent s)) (parts (split .1)) ∙ sym (gather-skip (extent s) pre (split .1) f none) in
       let after : blocksOf t 1 ≡ gather (extent t) (pre ++ (f ∷ split .1)) =
-      blocksOf-extents t 1 ∙ ap (gather (extent t)) (inserted-chain g 1 (head-1 g) x (split .0) (split .1) (split .2) x0 u f 1 y f0 fresh fA y0 ∙ parts (f ∷ split .1)) in
+      blocksOf-extents t 1 ∙ ap (gather (extent t)) (inserted-chain g 1 (head-1 g) x (split .0) (split .1) (split .2) x0 u f 1 y fA is-free y0 ∙ parts (f ∷ split .1)) in
       rw (before, after) (one-anode (extent s) (extent t) pre (split .1) f y (extent-other s t f 1 y refl refl)
-      (omega (arith, away, times-append f pre (split .1))) (omega (arith, away, times-append f pre (split .1))) (rw (none, new) ([], [], refl, refl)))
+      (omega arith) (omega arith) (rw (none, new) ([], [], refl, refl)))
 
 -- ---- the steps
 
@@ -124,8 +124,7 @@ module _ {ex : ℕ → Bool} {n last : ℕ} {s : Anodes} {system hd sd : ℕ →
   appended t ys e = elim (append-cases limit ex s z y) [
     | inr c ↦ absurd (refused≢planned 28 t ys (sym (c .0) ∙ e))
     | inl c ↦ (let f = lowestFree limit ex s in
-        let i = free-is ex s f (c .1) in
-        let w = inserted-more g z free y (λ q. omega (arith, free, ap hd q, g .heads .off-zero)) (headed-used g z (λ q. omega (arith, free, q))) y0 f (λ q. omega (arith, q, i .from-6)) (i .unused) (c .0) in
+        let w = inserted-more g z free y (λ q. omega (arith, free, ap hd q, g .heads .off-zero)) (headed-used g z (λ q. omega (arith, free, q))) y0 f (c .0) (free-is ex s f (c .1)) in
         rw (planned-same (insertedAfter s z f 1 y) t (y ∷ []) ys (sym (c .2) ∙ e) .0) at w)
   ]
 
@@ -158,6 +157,6 @@ module _ {ex : ℕ → Bool} {n last : ℕ} {s : Anodes} {system hd sd : ℕ →
       let k = give-steps g h d h1 t ys e in
       let w = give-placed g h d h1 t ys e in
       let r = withoutLast s h (k .p) (k .x) in
-      let y = s .block (k .x) + (s .count (k .x) - 1) in
+      let y = lastBlock s (k .x) in
       let m = join-more (k .out .good) y (k .some) (lastOf (sideOf last y) (side limit r (sideOf last y))) (side-last-head system y (k .out .good) (k .some) (k .inside)) t ys (k .joins) in
       (y, w .1, rw (shift-blocks g (k .out .good) (k .out .shift) 1 (head-1 g) (λ q. h1 (sym q)) (λ q. h1 (sym q))) at m)

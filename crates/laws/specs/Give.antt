@@ -9,7 +9,7 @@ use borrow.Author.Tests.{lt-ltb, le-ltb}
 use Rattle.rules.specs.Counting.{lastOf}
 use Rattle.rules.specs.Anodes.{Anodes}
 use Rattle.rules.specs.Chains.{chainOf, side}
-use Rattle.rules.specs.Space.{refused, planned, withoutLast, Found, nowhere, found, lastFull, sideOf, release, giveFrom, giveBack}
+use Rattle.rules.specs.Space.{refused, planned, withoutLast, Found, nowhere, found, lastFull, sideOf, release, giveFrom, giveBack, lastBlock}
 use Rattle.laws.specs.Tests.{less?}
 use Rattle.laws.specs.Ownership.{hand}
 use Rattle.laws.specs.Heads.{Head, head-chain}
@@ -32,10 +32,10 @@ module _ {A : ℕ} {ex : ℕ → Bool} {n last : ℕ} {s : Anodes} {system hd sd
   not-2 : x ≢ 2
   not-2 e = h1 (sym on-h ∙ ap hd e ∙ g .two-on)
 
-  pub withoutLast-out : InHand A ex n last s system hd h (s .block x + (s .count x - 1)) (withoutLast s h p x)
+  pub withoutLast-out : InHand A ex n last s system hd h (lastBlock s x) (withoutLast s h p x)
   unfolding withoutLast
   withoutLast-out = rw on-h at
-      (withoutBlock-out g x (f .full) h p (s .block x) (s .block x + (s .count x - 1)) (full-used g x (f .full)) (omega arith, omega arith) (λ w. last-gone (s .count x) (s .block x) w (f .full)) (λ e. omega arith) (λ e. (found-after f e, not-2)))
+      (withoutBlock-out g x (f .full) h p (s .block x) (lastBlock s x) (full-used g x (f .full)) (omega arith, omega arith) (λ w. last-gone (s .count x) (s .block x) w (f .full)) (λ e. omega arith) (λ e. (found-after f e, not-2)))
 
 -- ---- into the free list
 
@@ -90,10 +90,10 @@ pub record Gives (A : ℕ) (ex : ℕ → Bool) (n last : ℕ) (s : Anodes) (syst
   pub p : ℕ
   pub x : ℕ
   pub is-last : lastFull (s .count) 0 (chainOf (s .next) A h) ≡ found p x
-  pub some : s .block x + (s .count x - 1) ≢ 0
-  pub inside : s .block x + (s .count x - 1) < n
-  pub out : InHand A ex n last s system hd h (s .block x + (s .count x - 1)) (withoutLast s h p x)
-  pub joins : release A ex last (withoutLast s h p x) (s .block x + (s .count x - 1)) ≡ planned t ys
+  pub some : lastBlock s x ≢ 0
+  pub inside : lastBlock s x < n
+  pub out : InHand A ex n last s system hd h (lastBlock s x) (withoutLast s h p x)
+  pub joins : release A ex last (withoutLast s h p x) (lastBlock s x) ≡ planned t ys
 
 module _ {A : ℕ} {ex : ℕ → Bool} {n last : ℕ} {s : Anodes} {system hd sd : ℕ → ℕ} (g : Good A ex n last s system hd sd) (h : ℕ) (d : Head (s .next) (s .block) h) where
   -- what the search for the last block finds stands on the chain
@@ -122,9 +122,9 @@ module _ {A : ℕ} {ex : ℕ → Bool} {n last : ℕ} {s : Anodes} {system hd sd
             }
 
     -- the block in hand has come to the free list
-    pub give-placed : Placed A ex n last (withoutLast s h (give-steps .p) (give-steps .x)) system (give-steps .out .hd′) 1 (s .block (give-steps .x) + (s .count (give-steps .x) - 1)) t
-        × (ys ≡ (s .block (give-steps .x) + (s .count (give-steps .x) - 1)) ∷ [])
-    give-placed = let k = give-steps in release-placed system (s .block (k .x) + (s .count (k .x) - 1)) (k .out .good) (k .some) (k .inside) t ys (k .joins)
+    pub give-placed : Placed A ex n last (withoutLast s h (give-steps .p) (give-steps .x)) system (give-steps .out .hd′) 1 (lastBlock s (give-steps .x)) t
+        × (ys ≡ lastBlock s (give-steps .x) ∷ [])
+    give-placed = let k = give-steps in release-placed system (lastBlock s (k .x)) (k .out .good) (k .some) (k .inside) t ys (k .joins)
 
     -- a give moves one block from the chain of h to the free list
     pub give-good : Moved A ex n last s system hd h 1 ys t

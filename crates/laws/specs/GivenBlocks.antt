@@ -9,7 +9,7 @@ use lib.ListN.{length}
 use Rattle.rules.specs.Counting.{sumList, gather}
 use Rattle.rules.specs.Anodes.{Anodes, limit}
 use Rattle.rules.specs.Chains.{chainOf, run, blocksOf}
-use Rattle.rules.specs.Space.{planned, rewritten, unlinked, withoutLast, found, lastFull, giveBack, giveMany}
+use Rattle.rules.specs.Space.{planned, rewritten, unlinked, withoutLast, found, lastFull, giveBack, giveMany, lastBlock}
 use Rattle.laws.specs.Bags.{none-at, gather-none, gather-skip, gather-last}
 use Rattle.laws.specs.LinkChanges.{first, second, third}
 use Rattle.laws.specs.Heads.{Head}
@@ -32,7 +32,7 @@ module _ {ex : ℕ → Bool} {n last : ℕ} {s : Anodes} {system hd sd : ℕ →
   split = lastFull-split (s .count) 0 (chainOf (s .next) limit h) q x e
 
   y : ℕ
-  y = s .block x + (s .count x - 1)
+  y = lastBlock s x
 
   -- x alone has lost its last block
   lost : (r : Anodes) → ((a : ℕ) → a ≢ x → extent r a ≡ extent s a) → extent s x ≡ extent r x ++ (y ∷ []) → blocksOf s h ≡ gather (extent r) (split .0 ++ (x ∷ split .1)) ++ (y ∷ [])
@@ -61,7 +61,7 @@ module _ {ex : ℕ → Bool} {n last : ℕ} {s : Anodes} {system hd sd : ℕ →
       (gather-skip (extent r) (split .0) (split .1) x none
       ∙ sym (blocksOf-extents r h ∙ ap (gather (extent r)) (unlinked-chain g h d x (split .0) (split .1) (split .2) q (found-after is-found xh) (full-0 g x (is-found .full)) xh)))
 
-  withoutLast-blocks : blocksOf s h ≡ blocksOf (withoutLast s h q x) h ++ ((s .block x + (s .count x - 1)) ∷ [])
+  withoutLast-blocks : blocksOf s h ≡ blocksOf (withoutLast s h q x) h ++ (lastBlock s x ∷ [])
   unfolding withoutLast y run
   withoutLast-blocks = elim (withoutBlock-cases s h q x (s .block x)) [
     | first c ↦ rw (c .1) (rewritten-blocks (s .count x - 1) (s .block x) refl refl)
@@ -78,7 +78,7 @@ module _ {ex : ℕ → Bool} {n last : ℕ} {s : Anodes} {system hd sd : ℕ →
       let k = give-steps g h d h1 t ys e in
       let w = give-placed g h d h1 t ys e in
       withoutLast-blocks g h d (k .p) (k .x) (k .is-last)
-      ∙ ap (λ (l : List ℕ). l ++ ((s .block (k .x) + (s .count (k .x) - 1)) ∷ [])) (sym (shift-blocks (k .out .good) (w .0 .good) (w .0 .shift) h (k .out .shift .stays h d) h1 h1))
+      ∙ ap (λ (l : List ℕ). l ++ (lastBlock s (k .x) ∷ [])) (sym (shift-blocks (k .out .good) (w .0 .good) (w .0 .shift) h (k .out .shift .stays h d) h1 h1))
       ∙ ap (λ (l : List ℕ). blocksOf t h ++ l) (sym (w .1))
 
 -- k gives, one after the other: the last of the chain's blocks, last first

@@ -7,7 +7,7 @@ use native.Mathlib.Omega.{arith}
 use lib.Dec.{eqb}
 use Rattle.rules.specs.Counting.{oneAt, sumList, times, gather}
 use Rattle.rules.specs.Anodes.{Anodes}
-use Rattle.rules.specs.Walk.{Dir, Entered, Item, broken, itemsFor, subDirs}
+use Rattle.rules.specs.Walk.{Dir, dirMade, Entered, Item, broken, itemsFor, subDirs}
 use Rattle.laws.specs.Bags.{list-nil, list-one, list-mono, list-congr, gather-sum, map-sum}
 use Rattle.laws.specs.Each.{Each, each-given}
 
@@ -37,19 +37,23 @@ names-sum x is = map-sum (λ i. i .anode) (λ y. oneAt y x) is
 
 -- the weight of the directory that an item names, in the directory with head h
 abbrev pub giving : (Dir → ℕ) → ℕ → Item → ℕ
-giving w h i = cond (i .dir) (w (record { head = i .anode; parent = h })) 0
+giving w h i = cond (i .dir) (w (dirMade (i .anode) h)) 0
 
-pub giving-le : (w : Dir → ℕ) (h : ℕ) (i : Item) → giving w h i ≤ w (record { head = i .anode; parent = h })
+pub giving-le : (w : Dir → ℕ) (h : ℕ) (i : Item) → giving w h i ≤ w (dirMade (i .anode) h)
 giving-le w h i = go (i .dir)
   where
-    go : (b : Bool) → cond b (w (record { head = i .anode; parent = h })) 0 ≤ w (record { head = i .anode; parent = h })
+    go : (b : Bool) → cond b (w (dirMade (i .anode) h)) 0 ≤ w (dirMade (i .anode) h)
     go true = omega arith
     go false = omega arith
+
+-- how many directories have the head h
+abbrev pub headed : ℕ → List Dir → ℕ
+headed h l = sumList (λ d. oneAt (d .head) h) l
 
 -- the directories that items name, one by one
 dirs-sum : (w : Dir → ℕ) (d : Dir) (is : List Item) → sumList w (gather (subDirs d) is) ≡ sumList (giving w (d .head)) is
 unfolding subDirs
-dirs-sum w d is = gather-sum (subDirs d) w is ∙ list-congr (λ i. sumList w (subDirs d i)) (giving w (d .head)) is (λ i. one (i .dir) (record { head = i .anode; parent = d .head }))
+dirs-sum w d is = gather-sum (subDirs d) w is ∙ list-congr (λ i. sumList w (subDirs d i)) (giving w (d .head)) is (λ i. one (i .dir) (dirMade (i .anode) (d .head)))
   where
     one : (b : Bool) (e : Dir) → sumList w (cond b (e ∷ []) []) ≡ cond b (w e) 0
     one true e = list-one w e
@@ -61,7 +65,7 @@ dirs-named w u le d is = omega (
   arith,
   dirs-sum w d is,
   map-sum (λ i. i .anode) u is,
-  list-mono (giving w (d .head)) (λ i. u (i .anode)) is (λ i. omega (arith, giving-le w (d .head) i, le (record { head = i .anode; parent = d .head }))),
+  list-mono (giving w (d .head)) (λ i. u (i .anode)) is (λ i. omega (arith, giving-le w (d .head) i, le (dirMade (i .anode) (d .head)))),
 )
 
 module _ (items : Dir → List Item) where
@@ -84,7 +88,7 @@ module _ (items : Dir → List Item) where
   below-items w d = dirs-sum w d (items d)
 
   -- each is named by its head
-  pub subs-named : (x : ℕ) (d : Dir) → sumList (λ e. oneAt (e .head) x) (subs d) ≤ namedIn x d
+  pub subs-named : (x : ℕ) (d : Dir) → headed x (subs d) ≤ namedIn x d
   unfolding subs times
   subs-named x d = dirs-named (λ e. oneAt (e .head) x) (λ y. oneAt y x) (λ e. omega arith) d (items d)
 

@@ -9,7 +9,7 @@ use lib.Dec.{T}
 use Rattle.rules.specs.Counting.{oneAt, sumList, times, changed}
 use Rattle.rules.specs.Anodes.{limit, Anodes}
 use Rattle.rules.specs.Chains.{chainOf}
-use Rattle.rules.specs.Walk.{Dir, root, Entered, Item, itemOf, broken, itemsAt, itemsBy}
+use Rattle.rules.specs.Walk.{Dir, dirMade, root, Entered, Item, itemOf, broken, itemsAt, itemsBy}
 use Rattle.rules.specs.Space.{rewritten}
 use Rattle.laws.specs.Tests.{same?, not-above}
 use Rattle.laws.specs.Sums.{oneAt-same, changed-same, changed-other}
@@ -20,8 +20,8 @@ use Rattle.laws.specs.LinkChanges.{used-not-free, fresh-no-next}
 use Rattle.laws.specs.Space.{Alike, FreeAnode, free-pos, Good, head-good, on-chain}
 use Rattle.laws.specs.Frame.{kept-count}
 use Rattle.laws.specs.Each.{Each, each-both, each-zero}
-use Rattle.laws.specs.Items.{wrong, weighItem, namedIn, faults}
-use Rattle.laws.specs.TreeChanges.{headed, Gain, sum-named, add-file, add-dir, AlikeItems, alike-named, alike-tree}
+use Rattle.laws.specs.Items.{wrong, weighItem, namedIn, faults, headed}
+use Rattle.laws.specs.TreeChanges.{Gain, sum-named, add-file, add-dir, AlikeItems, alike-named, alike-tree}
 use Rattle.laws.specs.Entries.{weighEntry, broken-wrong, Sized, sized-still, fine-item, item-anode, asEntry, weigh-item, entries-sum, items-sum, anodes-fine, itemsAt-whole, items-alike}
 use Rattle.laws.specs.Whole.{DirHead, AllNamed, Whole, head-counts, fine-still, on-dir, tree-heads, dir-heads, named-heads}
 use Rattle.laws.specs.Orphan.{Orphaned}
@@ -35,8 +35,8 @@ pub record SameContents (s : Anodes) (hd : ℕ → ℕ) (entries : ℕ → List 
   pub same-entries : (a : ℕ) → s .count a ≡ 1 → hd a ≢ 1 → entries′ (s .block a) ≡ entries (s .block a)
   pub same-marks : SameMarks s hd marked marked′
 
-pub contents-same : (s : Anodes) (hd : ℕ → ℕ) (entries : ℕ → List Entered) (marked : Dir → ℕ → Bool) → SameContents s hd entries marked entries marked
-contents-same s hd entries marked = record { same-entries = λ a i q. refl; same-marks = λ a i q d. refl }
+pub contents-unchanged : (s : Anodes) (hd : ℕ → ℕ) (entries : ℕ → List Entered) (marked : Dir → ℕ → Bool) → SameContents s hd entries marked entries marked
+contents-unchanged s hd entries marked = record { same-entries = λ a i q. refl; same-marks = λ a i q d. refl }
 
 -- of two tables of entries, `more` has e more in the block of the anode a₀, and the same in the blocks of the other anodes of chains but 1's
 abbrev pub EntryMore : Anodes → (ℕ → ℕ) → Entered → ℕ → (ℕ → List Entered) → (ℕ → List Entered) → Type 0
@@ -177,11 +177,11 @@ module _ {ex : ℕ → Bool} {n last : ℕ} {s : Anodes} {system hd sd : ℕ →
   }
 
   -- and so with the entry of a directory that has no item
-  pub enter-directory : e .dir ≡ true → itemsBy entries′ marked′ s (record { head = e .anode; parent = h₀ }) ≡ [] →
-      Whole ex n last s system hd sd entries′ marked′ (record { head = e .anode; parent = h₀ } ∷ dirs)
+  pub enter-directory : e .dir ≡ true → itemsBy entries′ marked′ s (dirMade (e .anode) h₀) ≡ [] →
+      Whole ex n last s system hd sd entries′ marked′ (dirMade (e .anode) h₀ ∷ dirs)
   unfolding itemOf
   enter-directory directory empty = record {
     good = o .good;
     tree = add-dir before after h₀ (itemOf s e) dirs reached gains root (o .tree) directory new-fine (o .not-named) (λ i. omega (arith, from-6, i)) empty;
-    all-named = λ x l d. omega (arith, named x l d, list-cons (namedIn after x) (record { head = e .anode; parent = h₀ }) dirs);
+    all-named = λ x l d. omega (arith, named x l d, list-cons (namedIn after x) (dirMade (e .anode) h₀) dirs);
   }

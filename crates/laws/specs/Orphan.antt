@@ -17,9 +17,9 @@ use Rattle.laws.specs.Moves.{Shift}
 use Rattle.laws.specs.Frame.{shift-alike, shift-chain}
 use Rattle.laws.specs.ChainBlocks.{shift-count}
 use Rattle.laws.specs.Each.{Each, each-map, each-both, each-pair, each-zero}
-use Rattle.laws.specs.Items.{wrong, namedIn, faults}
+use Rattle.laws.specs.Items.{wrong, namedIn, faults, headed}
 use Rattle.laws.specs.Trees.{Tree}
-use Rattle.laws.specs.TreeChanges.{headed, tree-unnamed, AlikeItems, alike-named, alike-tree}
+use Rattle.laws.specs.TreeChanges.{tree-unnamed, AlikeItems, alike-named, alike-tree}
 use Rattle.laws.specs.Totals.{file-size, namedByFiles, named-by-kind}
 use Rattle.laws.specs.Entries.{broken-wrong, Sized, sized-still, item-anode, item-dir, items-alike}
 use Rattle.laws.specs.Whole.{named-le, DirHead, fine-still, tree-heads}
@@ -105,7 +105,6 @@ module _ {ex : ℕ → Bool} {n last f : ℕ} {s : Anodes} {system hd sd : ℕ �
 
   -- no file's entry names a directory of the tree
   pub dir-no-file : (h : ℕ) → headed h dirs ≡ 1 → namedByFiles given h dirs ≡ 0
-  unfolding headed
   dir-no-file h once = elim (oneAt-cases 5 h) [
     | inr c ↦ omega (arith, once, o .tree .exact (λ d. oneAt (d .head) h), c .1, named-by-kind given h dirs, o .tree .once h)
     | inl c ↦ omega (

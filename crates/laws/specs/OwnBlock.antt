@@ -79,7 +79,7 @@ module _ {A : ℕ} {ex : ℕ → Bool} {n last : ℕ} {s : Anodes} {system hd sd
       unfolding insertedAfter
       put-appended = record {
         anode = f;
-        chain = rw hand-chain at (appended-chain (i .good) h (i .shift .stays h d) f 1 y (λ e. omega (arith, e, fresh .from-6)) (fresh .unused) fA y0);
+        chain = rw hand-chain at (appended-chain (i .good) h (i .shift .stays h d) f 1 y fA fresh y0);
         one = changed-same (r .count) f 1;
         at = changed-same (r .block) f y;
         kept = λ a p. (changed-other (r .count) f 1 a (not-f a p) ∙ on-h a p .same-count, changed-other (r .block) f y a (not-f a p) ∙ on-h a p .same-block);

@@ -96,7 +96,6 @@ module _ {ex : ℕ → Bool} {n last : ℕ} {s : Anodes} {system hd sd : ℕ →
   anodeTable-is = listed-same (anodeEntry s) hd limit (λ a l. anodeEntry-is a)
 
   -- what an anode adds to a block's owner: its head, where it covers the block
-
   headWhere-is : (x a : ℕ) → headWhere s x a ≡ covers (s .count a) (s .block a) x * hd a
   unfolding headWhere
   headWhere-is x a = elim (covers-cases (s .count a) (s .block a) x) [

@@ -13,7 +13,7 @@ use Rattle.laws.specs.Segments.{seg-keep}
 use Rattle.laws.specs.Links.{View, Checked, Linked, preds-none, used, next-pos, no-preds, linked, seg-rank, the-chain, chain-the, checked}
 use Rattle.laws.specs.Heads.{Head, headOf-heads, times-on-chain}
 use Rattle.laws.specs.Cut.{cut-other, cut-linked, cut-head, cut-head-2}
-use Rattle.laws.specs.Space.{Present, FixedAnodes, FixedHead, fixed-pos, Good, head-1}
+use Rattle.laws.specs.Space.{Present, FixedAnodes, FixedHead, fixed-pos, Good, head-1, fixed-head-1}
 use Rattle.laws.specs.Sides.{side-sd}
 
 -- what reading an image gives, whatever the image: free and missing anodes read 0, 0, 0
@@ -75,7 +75,7 @@ module _ {A : ℕ} {ex : ℕ → Bool} {n last : ℕ} {s : Anodes} {system : ℕ
       sd = headOf A (cut (s .next)) (s .block)
 
       head-1 : Head (s .next) (s .block) 1
-      head-1 = record { pos = omega arith; in-use = λ z. omega (arith, z, c .fixed .block-1); no-pred = no-preds (r .view) 1 (omega arith) (c .first 1 (inl refl)) }
+      head-1 = fixed-head-1 s (c .fixed) (no-preds (r .view) 1 (omega arith) (c .first 1 (inl refl)))
 
       on-one : headOf A (s .next) (s .block) 2 ≡ 1
       on-one = elim (oneAt-cases (headOf A (s .next) (s .block) 2) 1) [

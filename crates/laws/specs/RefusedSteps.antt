@@ -8,7 +8,7 @@ use native.Mathlib.Omega.{arith}
 use Rattle.rules.specs.Counting.{oneAt, lastOf}
 use Rattle.rules.specs.Anodes.{Anodes}
 use Rattle.rules.specs.Chains.{chainOf, side}
-use Rattle.rules.specs.Space.{refused, rewritten, insertedAfter, withoutFirst, withoutLast, Found, nowhere, found, firstFull, lastFull, freeExtent, sideOf, lowestFree, append, put, takeFrom, takeBlock, join, release, giveFrom, giveBack, takeMany, giveMany}
+use Rattle.rules.specs.Space.{refused, rewritten, insertedAfter, withoutFirst, withoutLast, Found, nowhere, found, firstFull, lastFull, freeExtent, sideOf, lowestFree, append, put, takeFrom, takeBlock, join, release, giveFrom, giveBack, takeMany, giveMany, lastBlock}
 use Rattle.laws.specs.Tests.{not-above}
 use Rattle.laws.specs.Sums.{oneAt-cases, oneAt-same, oneAt-other, sum-zero}
 use Rattle.laws.specs.LinkChanges.{first, second, third}
@@ -85,7 +85,7 @@ module _ {A : ℕ} {ex : ℕ → Bool} {n last : ℕ} where
   give-refused {s} g h d some k e =
       let f = last-block g h d some in
       let r = withoutLast s h (f .0) (f .1) in
-      let y = s .block (f .1) + (s .count (f .1) - 1) in
+      let y = lastBlock s (f .1) in
       join-refused A ex r (lastOf (sideOf last y) (side A r (sideOf last y))) y k (rw (f .2, giveBack) at e) .0
 
   -- as many as it has
@@ -138,7 +138,7 @@ module _ (A : ℕ) (ex : ℕ → Bool) (s : Anodes) (h p x : ℕ) where
       (λ q. b .0 (sym (take-found A own s ex h p x e) ∙ q), λ n. take-found A own s ex h p x e ∙ b .1 n)
 
   -- a give of the last block y of x, after p the last extent that has one, exactly if y can join the last anode of its side in no way and none is free, the one just emptied counted
-  pub give-28-exactly : (last y z : ℕ) → lastFull (s .count) 0 (chainOf (s .next) A h) ≡ found p x → y ≡ s .block x + (s .count x - 1) →
+  pub give-28-exactly : (last y z : ℕ) → lastFull (s .count) 0 (chainOf (s .next) A h) ≡ found p x → y ≡ lastBlock s x →
       z ≡ lastOf (sideOf last y) (side A (withoutLast s h p x) (sideOf last y)) →
       (giveBack A ex last s h ≡ refused 28) ↔ (JoinsNone (withoutLast s h p x) z y × NoneFree A ex (withoutLast s h p x))
   unfolding giveBack giveFrom release

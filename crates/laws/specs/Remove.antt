@@ -8,7 +8,7 @@ use native.Mathlib.Omega.{arith}
 use Rattle.rules.specs.Counting.{oneAt, sumList, times, gather}
 use Rattle.rules.specs.Anodes.{limit, Anodes}
 use Rattle.rules.specs.Chains.{chainOf}
-use Rattle.rules.specs.Walk.{Dir, root, Entered, Item, itemOf, itemsAt, itemsBy}
+use Rattle.rules.specs.Walk.{Dir, dirMade, root, Entered, Item, itemOf, itemsAt, itemsBy}
 use Rattle.rules.specs.Space.{onChain, dropped}
 use Rattle.laws.specs.Tests.{same?, less?}
 use Rattle.laws.specs.Sums.{oneAt-same, oneAt-other, sum-none}
@@ -20,9 +20,9 @@ use Rattle.laws.specs.HeadChanges.{drop-head-was}
 use Rattle.laws.specs.Space.{Alike, alike-trans, Good, on-chain, dead-head, head-dead, dead-along, drop-good}
 use Rattle.laws.specs.Frame.{kept-count, apart-alike, apart-chain}
 use Rattle.laws.specs.Each.{Each, Member, each-both, each-pair, member-each, each-less, each-zero}
-use Rattle.laws.specs.Items.{wrong, names-sum, namedIn, faults}
+use Rattle.laws.specs.Items.{wrong, names-sum, namedIn, faults, headed}
 use Rattle.laws.specs.Trees.{Tree}
-use Rattle.laws.specs.TreeChanges.{headed, tree-unnamed, Gain, sum-named, dir-there, remove-file, remove-dir, AlikeItems, alike-named, alike-tree}
+use Rattle.laws.specs.TreeChanges.{tree-unnamed, Gain, sum-named, dir-there, remove-file, remove-dir, AlikeItems, alike-named, alike-tree}
 use Rattle.laws.specs.Entries.{broken-wrong, sized-still, item-anode, item-dir, items-sum, itemsAt-fine, anodes-fine, items-alike}
 use Rattle.laws.specs.Whole.{DirHead, Whole, fine-still, dir-heads, named-heads}
 use Rattle.laws.specs.Make.{SameMarks, EntryMore, entry-gain}
@@ -151,7 +151,6 @@ module _ {ex : ℕ → Bool} {n last : ℕ} {s : Anodes} {system hd sd : ℕ →
   }
 
   rest-dir : e .dir ≡ true → Rest
-  unfolding headed
   rest-dir isdir = record {
     dirs′ = l₁ ++ l₂;
     tree = remove-dir items between h₀ (itemOf s e) root l₁ l₂ (rw parted at reached) (rw parted at gains) (rw parted at (w .tree)) (item-dir s e ∙ isdir) none-in;
@@ -164,7 +163,7 @@ module _ {ex : ℕ → Bool} {n last : ℕ} {s : Anodes} {system hd sd : ℕ →
       is-h = item-anode s e ∙ names-h
 
       c : Dir
-      c = record { head = (itemOf s e) .anode; parent = h₀ }
+      c = dirMade ((itemOf s e) .anode) h₀
 
       there : Member c dirs
       there = dir-there items between h₀ (itemOf s e) root dirs reached gains (w .tree) (item-dir s e ∙ isdir)

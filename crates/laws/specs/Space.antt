@@ -57,6 +57,10 @@ pub record FixedAnodes (s : Anodes) : Type 0 where
   pub block-2 : s .block 2 ≢ 0
   pub block-5 : s .block 5 ≢ 0
 
+-- anode 1 heads a chain
+pub fixed-head-1 : (s : Anodes) → FixedAnodes s → ((p : ℕ) → s .next p ≢ 1) → Head (s .next) (s .block) 1
+fixed-head-1 s f none = record { pos = omega arith; in-use = λ z. omega (arith, z, f .block-1); no-pred = none }
+
 -- the anodes that have no predecessor
 abbrev pub FixedHead : ℕ → Type 0
 FixedHead m = (m ≡ 1) ⊎ ((m ≡ 3) ⊎ ((m ≡ 4) ⊎ (m ≡ 5)))
@@ -87,7 +91,7 @@ module _ (A : ℕ) (ex : ℕ → Bool) (n last : ℕ) where
 
 module _ {A : ℕ} {ex : ℕ → Bool} {n last : ℕ} {s : Anodes} {system hd sd : ℕ → ℕ} (g : Good A ex n last s system hd sd) where
   pub head-1 : Head (s .next) (s .block) 1
-  head-1 = record { pos = omega arith; in-use = λ z. omega (arith, z, g .fixed .block-1); no-pred = g .first 1 (inl refl) }
+  head-1 = fixed-head-1 s (g .fixed) (g .first 1 (inl refl))
 
   pub head-5 : Head (s .next) (s .block) 5
   head-5 = record { pos = omega arith; in-use = g .fixed .block-5; no-pred = g .first 5 (inr (inr (inr refl))) }

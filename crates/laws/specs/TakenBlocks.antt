@@ -44,7 +44,7 @@ module _ {ex : ℕ → Bool} {n last : ℕ} {s : Anodes} {system hd sd : ℕ →
   appended f fA u =
       let t = insertedAfter s end f 1 y in
       let l = chainOf (s .next) limit h in
-      let chain : chainOf (t .next) limit h ≡ l ++ (f ∷ []) = appended-chain g h d f 1 y (λ q. omega (arith, q, u .from-6)) (u .unused) fA y0 in
+      let chain : chainOf (t .next) limit h ≡ l ++ (f ∷ []) = appended-chain g h d f 1 y fA u y0 in
       let same : gather (extent t) l ≡ gather (extent s) l = gather-off (extent s) (extent t) f (extent-other s t f 1 y refl refl) l (free-off g h d f (u .unused)) in
       let new : extent t f ≡ y ∷ [] = extent-here s t f 1 y refl refl in
       blocksOf-extents t h ∙ ap (gather (extent t)) chain ∙ gather-append (extent t) l (f ∷ [])

@@ -6,11 +6,11 @@ use mathlib.Core.Bool.{Bool, true, false, cond}
 use mathlib.Core.List.{List, [], _∷_, _++_}
 use native.Mathlib.Omega.{arith}
 use Rattle.rules.specs.Counting.{oneAt, sumList, times, changed}
-use Rattle.rules.specs.Walk.{Dir, Item}
+use Rattle.rules.specs.Walk.{Dir, dirMade, Item}
 use Rattle.laws.specs.Sums.{oneAt-cases, oneAt-same, oneAt-some, oneAt-other, oneBelow, oneBelow-none, oneBelow-suc, changed-same, changed-other}
 use Rattle.laws.specs.Bags.{list-nil, list-cons, list-without, list-some, list-add, list-gain, list-mono, list-congr-where, list-zero}
 use Rattle.laws.specs.Each.{Each, Member, each-map, each-both, member-each, list-congr-each, list-mono-each, each-zero}
-use Rattle.laws.specs.Items.{wrong, weighItem, names, names-sum, giving, subs, below, namedIn, faults, below-items, subs-named}
+use Rattle.laws.specs.Items.{wrong, weighItem, names, names-sum, giving, subs, below, namedIn, faults, below-items, subs-named, headed}
 use Rattle.laws.specs.Trees.{not-lower, lowering, Tree}
 
 not-lower-is : (height : ℕ → ℕ) (m : ℕ) (e : Dir) → not-lower height m e ≡ oneBelow m (suc (height (e .head)))
@@ -21,23 +21,18 @@ not-lower-is height m e = refl
 giving-file : (w : Dir → ℕ) (h : ℕ) (i : Item) → i .dir ≡ false → giving w h i ≡ 0
 giving-file w h i file = rw file
 
-giving-dir : (w : Dir → ℕ) (h : ℕ) (i : Item) → i .dir ≡ true → giving w h i ≡ w (record { head = i .anode; parent = h })
+giving-dir : (w : Dir → ℕ) (h : ℕ) (i : Item) → i .dir ≡ true → giving w h i ≡ w (dirMade (i .anode) h)
 giving-dir w h i isdir = rw isdir
 
 -- a directory with no item has nothing below it
 nothing-below : (items : Dir → List Item) (w : Dir → ℕ) (d : Dir) → items d ≡ [] → below items w d ≡ 0
 nothing-below items w d empty = below-items items w d ∙ ap (sumList (giving w (d .head))) empty ∙ list-nil (giving w (d .head))
 
--- how many have the head h
-unfoldable pub headed : ℕ → List Dir → ℕ
-headed h l = sumList (λ d. oneAt (d .head) h) l
-
--- one of them is a member
+-- one of the directories that have the head h is a member
 pub headed-member : (h : ℕ) (l : List Dir) → 0 < headed h l → (d : Dir) × Member d l × (d .head ≡ h)
-unfolding headed
 headed-member h l p = let (d, m, q) = list-some (λ d. oneAt (d .head) h) l p in (d, m, oneAt-some (d .head) h q)
 
-pub none-headed : (h : ℕ) (l : List Dir) → sumList (λ d. oneAt (d .head) h) l ≡ 0 → Each (λ d. d .head ≢ h) l
+pub none-headed : (h : ℕ) (l : List Dir) → headed h l ≡ 0 → Each (λ d. d .head ≢ h) l
 none-headed h l z = each-map (λ d. oneAt (d .head) h ≡ 0) (λ d. d .head ≢ h) l (λ d y e. omega (arith, y, oneAt-same (d .head) h e)) (each-zero (λ d. oneAt (d .head) h) l z)
 
 -- what nothing names is no directory of the tree, but for the top one
@@ -57,7 +52,7 @@ Gain items items′ h i d = (w : ℕ → Bool → ℕ → ℕ) → sumList (weig
 module _ (items items′ : Dir → List Item) (h : ℕ) (i : Item) where
   gain-below : (w : Dir → ℕ) (d : Dir) → Gain items items′ h i d → below items′ w d ≡ below items w d + oneAt (d .head) h * giving w h i
   gain-below w d g =
-      below-items items′ w d ∙ g (λ f b a. cond b (w (record { head = a; parent = d .head })) 0) ∙ omega (arith, below-items items w d, at-h)
+      below-items items′ w d ∙ g (λ f b a. cond b (w (dirMade a (d .head))) 0) ∙ omega (arith, below-items items w d, at-h)
     where
       at-h : oneAt (d .head) h * giving w (d .head) i ≡ oneAt (d .head) h * giving w h i
       at-h = elim (oneAt-cases (d .head) h) [
@@ -71,7 +66,6 @@ module _ (items items′ : Dir → List Item) (h : ℕ) (i : Item) where
   module _ (dirs : List Dir) (once : headed h dirs ≡ 1) (gains : Each (Gain items items′ h i) dirs) where
     -- a weight that the item adds in the directory with the head h
     sum-gain : (w u : Dir → ℕ) (c : ℕ) → ((d : Dir) → Gain items items′ h i d → u d ≡ w d + oneAt (d .head) h * c) → sumList u dirs ≡ sumList w dirs + c
-    unfolding headed
     sum-gain w u c at = omega (
       arith,
       list-gain w u (λ d. oneAt (d .head) h) c dirs (each-map (Gain items items′ h i) (λ d. u d ≡ w d + oneAt (d .head) h * c) dirs at gains),
@@ -109,7 +103,7 @@ module _ (items items′ : Dir → List Item) (h : ℕ) (i : Item) where
 
       -- a directory gains a directory with nothing in it
       pub add-dir : Tree items top dirs → i .dir ≡ true → wrong i ≡ 0 → sumList (namedIn items (i .anode)) dirs ≡ 0 → i .anode ≢ top .head →
-          items′ (record { head = i .anode; parent = h }) ≡ [] → Tree items′ top (record { head = i .anode; parent = h } ∷ dirs)
+          items′ (dirMade (i .anode) h) ≡ [] → Tree items′ top (dirMade (i .anode) h ∷ dirs)
       add-dir t isdir fine free other empty = record {
         exact = λ w. omega (arith, t .exact w, sum-below w, giving-dir w h i isdir, list-cons w e dirs, list-cons (below items′ w) e dirs, nothing-below items′ w e empty);
         faultless = omega (arith, sum-faults, t .faultless, list-cons (faults items′) e dirs, ap (sumList wrong) empty, list-nil wrong);
@@ -126,7 +120,7 @@ module _ (items items′ : Dir → List Item) (h : ℕ) (i : Item) where
       }
         where
           e : Dir
-          e = record { head = i .anode; parent = h }
+          e = dirMade (i .anode) h
 
           ht : ℕ → ℕ
           ht = changed (λ x. suc (t .height x)) (i .anode) 0
@@ -169,7 +163,7 @@ module _ (items items′ : Dir → List Item) (h : ℕ) (i : Item) where
 -- ---- a directory loses an item: under items it has what it has under items′, and i too
 
 -- a directory by its head and its parent
-find-dir : (x p : ℕ) (l : List Dir) → 0 < sumList (λ d. oneAt (d .head) x * oneAt (d .parent) p) l → Member (record { head = x; parent = p }) l
+find-dir : (x p : ℕ) (l : List Dir) → 0 < sumList (λ d. oneAt (d .head) x * oneAt (d .parent) p) l → Member (dirMade x p) l
 find-dir x p l h =
     let (d, (l₁, l₂, parted), q) = list-some (λ d. oneAt (d .head) x * oneAt (d .parent) p) l h in
     let is = both d q in
@@ -183,7 +177,7 @@ find-dir x p l h =
 
 module _ (items items′ : Dir → List Item) (h : ℕ) (i : Item) (top : Dir) where
   -- what the item names is in the tree
-  pub dir-there : (dirs : List Dir) → headed h dirs ≡ 1 → Each (Gain items′ items h i) dirs → Tree items top dirs → i .dir ≡ true → Member (record { head = i .anode; parent = h }) dirs
+  pub dir-there : (dirs : List Dir) → headed h dirs ≡ 1 → Each (Gain items′ items h i) dirs → Tree items top dirs → i .dir ≡ true → Member (dirMade (i .anode) h) dirs
   dir-there dirs one gains t isdir =
       find-dir (i .anode) h dirs (omega (arith, t .exact w, sum-below items′ items h i dirs one gains w, given))
     where
@@ -212,9 +206,9 @@ module _ (items items′ : Dir → List Item) (h : ℕ) (i : Item) (top : Dir) w
   }
 
   -- a directory with nothing in it goes, with the item that names it
-  pub remove-dir : (l₁ l₂ : List Dir) → headed h (l₁ ++ (record { head = i .anode; parent = h } ∷ l₂)) ≡ 1 →
-      Each (Gain items′ items h i) (l₁ ++ (record { head = i .anode; parent = h } ∷ l₂)) → Tree items top (l₁ ++ (record { head = i .anode; parent = h } ∷ l₂)) →
-      i .dir ≡ true → items (record { head = i .anode; parent = h }) ≡ [] → Tree items′ top (l₁ ++ l₂)
+  pub remove-dir : (l₁ l₂ : List Dir) → headed h (l₁ ++ (dirMade (i .anode) h ∷ l₂)) ≡ 1 →
+      Each (Gain items′ items h i) (l₁ ++ (dirMade (i .anode) h ∷ l₂)) → Tree items top (l₁ ++ (dirMade (i .anode) h ∷ l₂)) →
+      i .dir ≡ true → items (dirMade (i .anode) h) ≡ [] → Tree items′ top (l₁ ++ l₂)
   remove-dir l₁ l₂ one gains t isdir empty = record {
     exact = λ w. omega (arith, t .exact w, sum-below items′ items h i dirs one gains w, giving-dir w h i isdir, split w, split (below items′ w), below-e w);
     faultless = omega (arith, t .faultless, sum-faults items′ items h i dirs one gains, split (faults items′));
@@ -224,7 +218,7 @@ module _ (items items′ : Dir → List Item) (h : ℕ) (i : Item) (top : Dir) w
   }
     where
       e : Dir
-      e = record { head = i .anode; parent = h }
+      e = dirMade (i .anode) h
 
       dirs : List Dir
       dirs = l₁ ++ (e ∷ l₂)
@@ -259,4 +253,4 @@ alike-tree items items′ top dirs each t = record {
     to Q f = each-map (AlikeItems items items′) Q dirs f each
 
     at : (w : Dir → ℕ) (d : Dir) → AlikeItems items items′ d → below items′ w d ≡ below items w d
-    at w d g = below-items items′ w d ∙ g .0 (λ b a. cond b (w (record { head = a; parent = d .head })) 0) ∙ sym (below-items items w d)
+    at w d g = below-items items′ w d ∙ g .0 (λ b a. cond b (w (dirMade a (d .head))) 0) ∙ sym (below-items items w d)

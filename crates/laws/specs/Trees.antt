@@ -10,7 +10,7 @@ use Rattle.rules.specs.Walk.{Dir, Item, done, walk}
 use Rattle.laws.specs.Tests.{not-above}
 use Rattle.laws.specs.Sums.{oneAt-cases, oneAt-same, oneBelow, oneBelow-cases, oneBelow-none, oneBelow-suc, changed-same, changed-other, sum-congr, sum-mono, sum-const, sum-add, sum-oneAt}
 use Rattle.laws.specs.Bags.{list-nil, list-cons, list-append, list-one, list-add, list-mono, list-mono-where, list-congr-where, list-zero, list-length, list-swap, times-nil, sum-by-times}
-use Rattle.laws.specs.Items.{names, subs, below, namedIn, faults, subs-named, subs-few}
+use Rattle.laws.specs.Items.{names, subs, below, namedIn, faults, subs-named, subs-few, headed}
 use Rattle.laws.specs.Walks.{namedAfter, times-namedAfter, Order, walk-found, walk-through, order-sum}
 
 -- 1 where e is not lower than h
@@ -35,7 +35,7 @@ module _ (items : Dir → List Item) where
   lowering height d = below items (not-lower height (height (d .head))) d
 
   -- where no two of the directories have one head, the order in which they are taken gives heights
-  order-heights : (Q q : List Dir) → Order items q Q → ((x : ℕ) → sumList (λ d. oneAt (d .head) x) Q ≤ 1) → (height : ℕ → ℕ) × (sumList (lowering height) Q ≡ 0)
+  order-heights : (Q q : List Dir) → Order items q Q → ((x : ℕ) → headed x Q ≤ 1) → (height : ℕ → ℕ) × (sumList (lowering height) Q ≡ 0)
   unfolding not-lower
   order-heights [] q r h = ((λ x. 0), list-nil (lowering (λ x. 0)))
   order-heights (d ∷ Q) q r h = go (order-heights Q (r .0 ++ subs items d) (r .2) (λ x. omega (arith, h x, list-cons (λ d. oneAt (d .head) x) d Q)))
@@ -176,18 +176,18 @@ module _ (items : Dir → List Item) where
 
     -- ---- the walk and the tree, where an item with no fault names an anode below A other than the top one's
 
-    module _ (A : ℕ) (top-in : top .head < A) (range : (d : Dir) (x : ℕ) → (faults items) d ≡ 0 → 0 < namedIn items x d → (x ≢ top .head) × (x < A)) where
+    module _ (A : ℕ) (top-in : top .head < A) (range : (d : Dir) (x : ℕ) → faults items d ≡ 0 → 0 < namedIn items x d → (x ≢ top .head) × (x < A)) where
       -- the top one is named nowhere, and nothing from A up
       top-unnamed : (dirs : List Dir) → sumList (faults items) dirs ≡ 0 → (x : ℕ) → (x ≡ top .head) ⊎ (A ≤ x) → sumList (namedIn items x) dirs ≡ 0
       top-unnamed dirs z x h = omega (arith, list-mono-where (faults items) (namedIn items x) (λ d. 0) dirs z (λ d g. none d g h), list-zero {X = Dir} (λ d. 0) dirs (λ d. refl))
         where
-          none : (d : Dir) → (faults items) d ≡ 0 → (x ≡ top .head) ⊎ (A ≤ x) → namedIn items x d ≤ 0
+          none : (d : Dir) → faults items d ≡ 0 → (x ≡ top .head) ⊎ (A ≤ x) → namedIn items x d ≤ 0
           none d g (inl e) = omega (arith, not-above (namedIn items x d) (λ p. range d x g p .0 e))
           none d g (inr e) = omega (arith, not-above (namedIn items x d) (λ p. omega (arith, range d x g p .1)))
 
       -- no two directories of the tree have one head
       pub heads-once : (dirs : List Dir) → Exact dirs → sumList (faults items) dirs ≡ 0 → ((x : ℕ) → sumList (namedIn items x) dirs ≤ 1) →
-          (x : ℕ) → sumList (λ d. oneAt (d .head) x) dirs ≤ 1
+          (x : ℕ) → headed x dirs ≤ 1
       heads-once dirs e z o x = elim (oneAt-cases (top .head) x) [
         | inl c ↦ omega (arith, e (λ d. oneAt (d .head) x), list-mono (below items (λ d. oneAt (d .head) x)) (namedIn items x) dirs (λ d. subs-named items x d), top-unnamed dirs z x (inl (sym (c .0))))
         | inr c ↦ omega (arith, e (λ d. oneAt (d .head) x), list-mono (below items (λ d. oneAt (d .head) x)) (namedIn items x) dirs (λ d. subs-named items x d), o x)
@@ -218,7 +218,7 @@ module _ (items : Dir → List Item) where
             sum-const 1 A,
           )
         where
-          per : (d : Dir) → (faults items) d ≡ 0 → sumList (λ x. 1) (names (items d)) ≤ sumBelow (λ x. namedIn items x d) A
+          per : (d : Dir) → faults items d ≡ 0 → sumList (λ x. 1) (names (items d)) ≤ sumBelow (λ x. namedIn items x d) A
           per d g = omega (
             arith,
             sum-by-times (λ x. 1) (names (items d)) A (λ x l. high x l),

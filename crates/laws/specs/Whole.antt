@@ -9,7 +9,7 @@ use lib.Dec.{eqb, leb}
 use Rattle.rules.specs.Counting.{oneAt, sumBelow, sumList, times}
 use Rattle.rules.specs.Anodes.{limit, Anodes}
 use Rattle.rules.specs.Chains.{chainOf, heads, blocksOf, blockCount}
-use Rattle.rules.specs.Walk.{Dir, root, Entered, Item, blocksFor, itemOf, itemsBy}
+use Rattle.rules.specs.Walk.{Dir, dirMade, root, Entered, Item, blocksFor, itemOf, itemsBy}
 use Rattle.laws.specs.Tests.{same?, less?, tested-from}
 use Rattle.laws.specs.Sums.{oneAt-cases, oneAt-same, oneAt-other, oneAt-le}
 use Rattle.laws.specs.Bags.{list-mono}
@@ -47,12 +47,12 @@ odd-le s d = elim (tested-from 5 (d .head) (heads limit (s .next) (s .block) (d 
 -- what an entry with nothing wrong names is a head from 6 up
 odd-item : (s : Anodes) (h : ℕ) (e : Entered) → giving (odd s) h (itemOf s e) ≤ wrong (itemOf s e)
 odd-item s h e = elim (less? 0 (wrong (itemOf s e))) [
-  | inl p ↦ omega (arith, giving-le (odd s) h (itemOf s e), odd-le s (record { head = (itemOf s e) .anode; parent = h }))
+  | inl p ↦ omega (arith, giving-le (odd s) h (itemOf s e), odd-le s (dirMade ((itemOf s e) .anode) h))
   | inr p ↦ (let f = item-fine s e (omega arith) in
       omega (
         arith,
         giving-le (odd s) h (itemOf s e),
-        odd-none s (record { head = (itemOf s e) .anode; parent = h })
+        odd-none s (dirMade ((itemOf s e) .anode) h)
             (rw (item-anode s e) (omega (arith, f .1))) (rw (item-anode s e) (f .2)),
       ))
 ]

@@ -28,7 +28,7 @@ use Rattle.laws.specs.Resize.{Ran, grow-ran}
 use Rattle.laws.specs.OwnerTable.{ran-data, setAll}
 use Rattle.laws.specs.TreeChanges.{headed}
 use Rattle.laws.specs.DirectoryTakes.{dir-head, dir-not-1}
-use Rattle.laws.specs.Make.{contents-same, fresh-orphan}
+use Rattle.laws.specs.Make.{contents-unchanged, fresh-orphan}
 use Rattle.changes.specs.Image.{WholeImage, headIn, sideIn, accepted-whole, reached-headed}
 use Rattle.changes.specs.MakePlan.{Fresh, fresh-dir, fresh-free, made-orphan}
 use Rattle.changes.specs.Make.{needed-refused}
@@ -96,14 +96,14 @@ module _ {img : List ℕ} {h f : ℕ} (x : Fresh img (diskSize img) limit h f) w
 
   pub first-ready : (s : Anodes) → s ≡ rewritten (anodesOf img) f 0 65535 → Ready img s f
   first-ready s e =
-      let o = fresh-orphan whole f (x .below) free-f (entriesIn img) (isBlockOf img) (contents-same _ _ _ _) in
+      let o = fresh-orphan whole f (x .below) free-f (entriesIn img) (isBlockOf img) (contents-unchanged _ _ _ _) in
       rw e ((passed-of img (diskSize img) limit (x .accepted) .size-right, (_, _, o .good)), (o .head, λ q. omega (arith, free-f .from-6, q)))
 
   pub next-ready : (s : Anodes) → s ≡ rewritten (anodesOf img) f 0 65535 → (dir : Bool) (y : BlockNo) (r : Anodes) → neededPlan (Moved y) r ≡ neededBlock img dir s f → Ready img r h
   unfolding neededBlock
   next-ready s e dir y r p =
       let o = made-orphan img whole f (x .below) free-f h once dir r (someBlock (y .0)) (sym (p ∙ ap (λ (u : Anodes). neededBlock img dir u f) e)) false r [] refl
-      (entriesIn img) (isBlockOf img) (contents-same _ _ _ _) (λ z i. absurd (omega (arith, first-in z [] i, times-nil z))) (λ z i. absurd (omega (arith, first-in z [] i, times-nil z))) in
+      (entriesIn img) (isBlockOf img) (contents-unchanged _ _ _ _) (λ z i. absurd (omega (arith, first-in z [] i, times-nil z))) (λ z i. absurd (omega (arith, first-in z [] i, times-nil z))) in
       ((passed-of img (diskSize img) limit (x .accepted) .size-right, (o .0, o .1, o .2 .good)), (dir-head (o .2) h once, dir-not-1 (o .2) h once))
 
   -- s the anodes that the steps start from

@@ -48,6 +48,10 @@ withoutFirst s p x = withoutBlock s 2 p x (s .block x + 1)
 unfoldable pub withoutLast : Anodes → ℕ → ℕ → ℕ → Anodes
 withoutLast s h p x = withoutBlock s h p x (s .block x)
 
+-- the last block of anode x
+abbrev pub lastBlock : Anodes → ℕ → ℕ
+lastBlock s x = s .block x + (s .count x - 1)
+
 -- an anode with a block, and the one before it, of a list
 pub data Found : Type 0 where
   nowhere : Found
@@ -142,9 +146,9 @@ module _ (A : ℕ) (ex : ℕ → Bool) where
     unfoldable pub release : Anodes → ℕ → Plan
     release s y = join s (lastOf (sideOf last y) (side A s (sideOf last y))) y
 
-    -- the last block of anode x goes back
+    -- the last block of anode x of h's chain, after p, goes back
     unfoldable pub giveFrom : Anodes → ℕ → ℕ → ℕ → Plan
-    giveFrom s h p x = release (withoutLast s h p x) (s .block x + (s .count x - 1))
+    giveFrom s h p x = release (withoutLast s h p x) (lastBlock s x)
 
     -- GIVE BACK A BLOCK of h's chain: the last block of the last non-empty extent (a chain with no block is never asked)
     unfoldable pub giveBack : Anodes → ℕ → Plan

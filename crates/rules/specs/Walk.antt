@@ -17,9 +17,13 @@ pub record Dir : Type 0 where
   pub head : ℕ
   pub parent : ℕ
 
+-- the same in one line
+abbrev pub dirMade : ℕ → ℕ → Dir
+dirMade head parent = record { head = head; parent = parent }
+
 -- 5 heads the root directory
 abbrev pub root : Dir
-root = record { head = 5; parent = 0 }
+root = dirMade 5 0
 
 -- an entry as it stands in a directory block: whether it breaks the entry rules, whether it names a directory, its anode and size, its first byte's place in the image
 pub record Entered : Type 0 where
@@ -104,7 +108,7 @@ itemsOf img s = itemsBy (entriesIn img) (isBlockOf img) s
 
 -- the directory that an item of d names
 unfoldable pub subDirs : Dir → Item → List Dir
-subDirs d i = cond (i .dir) (record { head = i .anode; parent = d .head } ∷ []) []
+subDirs d i = cond (i .dir) (dirMade (i .anode) (d .head) ∷ []) []
 
 -- the first fault of an item, after these anodes were named: 14 where its anode is one of them
 unfoldable pub faultOf : Item → List ℕ → ℕ
