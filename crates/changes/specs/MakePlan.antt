@@ -1,5 +1,5 @@
 -- The anodes that a make plans: a fresh head, a block of its own for a directory, and a block for the parent where it has no room.
-use Prim.Native.Nat.{ℕ, _≤_, _<_}
+use Prim.Native.Nat.{ℕ, _<_}
 use mathlib.Core.Path.{_≡_, refl, sym, ap, _∙_, subst}
 use mathlib.Core.Logic.{_≢_, inl, inr}
 use mathlib.Core.Bool.{Bool, true, false, cond, true≢false}

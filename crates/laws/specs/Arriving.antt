@@ -2,16 +2,16 @@
 use Prim.Native.Nat.{ℕ, suc, _+_, _*_, _≤_, _<_}
 use mathlib.Core.Path.{_≡_, refl, sym, ap, _∙_}
 use mathlib.Core.Logic.{_≢_, _⊎_, inl, inr}
-use mathlib.Core.Bool.{Bool, true, false, cond, _&&_}
+use mathlib.Core.Bool.{Bool, true, false, cond}
 use mathlib.Core.List.{List, [], _∷_}
 use native.Mathlib.Omega.{arith}
 use native.Mathlib.Numerals.{add-one}
-use lib.Dec.{T, eqb, leb, ltb, eqb→eq, leb→le, ltb→lt, lt→ltb}
+use lib.Dec.{T, eqb, ltb, eqb→eq, ltb→lt, lt→ltb}
 use Rattle.rules.specs.Counting.{oneAt, least, changed}
 use Rattle.rules.specs.Anodes.{Anodes}
 use Rattle.rules.specs.Chains.{covers}
 use Rattle.rules.specs.Space.{refused, planned, rewritten, insertedAfter, fillOr, growOr, growBeforeOr, free, lowestFree, append, put, join}
-use Rattle.laws.specs.Tests.{cond-cases, eq→eqb, both}
+use Rattle.laws.specs.Tests.{cond-cases, eq→eqb}
 use Rattle.laws.specs.Sums.{changed-other, least-cases}
 use Rattle.laws.specs.Ownership.{covers-none, covers-one, covers-end, covers-front, hand}
 use Rattle.laws.specs.LinkChanges.{Which, first, second, third, insertAfter, insertAfter-cases}

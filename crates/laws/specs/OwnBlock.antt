@@ -1,5 +1,5 @@
 -- A block taken into an anode of its own: a chain with no block fills its head, one with a block in every anode gets one more anode behind its last.
-use Prim.Native.Nat.{ℕ, _≤_, _<_}
+use Prim.Native.Nat.{ℕ, _<_}
 use mathlib.Core.Path.{_≡_, sym, ap, _∙_}
 use mathlib.Core.Logic.{_≢_, inl, inr}
 use mathlib.Core.Bool.{Bool, true}
