@@ -64,7 +64,7 @@ fn same_anode(x: Anode, y: Anode) -> bool
     x.next.0 == y.next.0
 }
 
-// True if the 82 numbers from `from` on are the same in two tables that have them.
+// True only if the 82 numbers from `from` on are the same in both tables.
 fn same_numbers(old: &[u16], new: &[u16], from: usize) -> bool
     requires { ⌜ from + 82 ≤ 3444 ⌝ }
     ensures { λ r. ⌜ (r ≡ true → (a : ℕ) → from ≤ a → a < from + 82 → getD (now (old .entry)) a 0 ≡ getD (now (new .entry)) a 0) ⌝ }
@@ -87,7 +87,7 @@ fn same_numbers(old: &[u16], new: &[u16], from: usize) -> bool
     other == 0
 }
 
-// True if the 82 anodes from `from` on have the same fields as before.
+// True only if the 82 anodes from `from` on have the same fields as before.
 fn same_run(
     counts: &[u16],
     firsts: &[u16],
