@@ -64,14 +64,18 @@ module _ (b : List ℕ) where
 
 -- ---- the first block with room
 
-module _ (img : List ℕ) (len y : ℕ) (ys : List ℕ) where
-  pub room-here : entriesEnd (blockOf img y) + len ≤ 510 → firstRoom img len (y ∷ ys) ≡ some (y * 512 + entriesEnd (blockOf img y))
-  unfolding firstRoom
-  room-here h = rw (le-leb (entriesEnd (blockOf img y) + len) 510 h, firstRoom)
+-- part: the bytes of block y; end: its end mark's place
+module _ (img part : List ℕ) (len y end : ℕ) (is : part ≡ blockOf img y) (found : end ≡ entriesEnd part) (ys : List ℕ) where
+  ends : end ≡ entriesEnd (blockOf img y)
+  ends = found ∙ ap entriesEnd is
 
-  pub room-later : 510 < entriesEnd (blockOf img y) + len → firstRoom img len (y ∷ ys) ≡ firstRoom img len ys
+  pub room-here : end + len ≤ 510 → firstRoom img len (y ∷ ys) ≡ some (y * 512 + end)
   unfolding firstRoom
-  room-later h = rw (lt-leb (entriesEnd (blockOf img y) + len) 510 h, firstRoom)
+  room-here h = rw (ends, le-leb (entriesEnd (blockOf img y) + len) 510 (rw ends at h), firstRoom)
+
+  pub room-later : 510 < end + len → firstRoom img len (y ∷ ys) ≡ firstRoom img len ys
+  unfolding firstRoom
+  room-later h = rw (lt-leb (entriesEnd (blockOf img y) + len) 510 (rw ends at h), firstRoom)
 
 -- the first blocks of at most k anodes from a on
 unfoldable pub firstsAlong : List ℕ → List ℕ → ℕ → ℕ → List ℕ
