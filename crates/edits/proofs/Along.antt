@@ -16,6 +16,7 @@ use Rattle.laws.specs.Bags.{times-here, times-later}
 use Rattle.laws.specs.Chains.{gathered-step}
 use Rattle.laws.specs.ChainBlocks.{extent}
 use Rattle.anodes.specs.Loaded.{anodesFrom}
+use Rattle.edits.specs.Entries.{OneBlockEach}
 
 -- ---- the i-th block
 
@@ -99,7 +100,7 @@ module _ (img : List ℕ) (len : ℕ) where
     unfolding firstsAlong
     room-step k m a y fuel n is = rw (gathered-step (λ x. getD firsts x 0 ∷ []) (λ x. getD nexts x 0) k m a fuel n, is)
 
-    pub room-whole : (counts : List ℕ) (h : ℕ) → ((a : ℕ) → 0 < times a (chainOf (λ x. getD nexts x 0) 3444 h) → getD counts a 0 ≡ 1)
+    pub room-whole : (counts : List ℕ) (h : ℕ) → OneBlockEach counts nexts h
         → firstRoom img len (firstsAlong firsts nexts 3444 h) ≡ firstRoom img len (blocksOf (anodesFrom counts firsts nexts) h)
     unfolding blocksOf anodesFrom firstsAlong
     room-whole counts h one = ap (firstRoom img len) (sym (single-blocks (λ x. getD firsts x 0) (λ x. getD counts x 0) (chainOf (λ x. getD nexts x 0) 3444 h) one))

@@ -11,7 +11,6 @@ use Rattle.disk.specs.declared.Refusal.{Refusal}
 use Rattle.disk.specs.declared.Refusal.the-variants.{NoFreeAnode}
 use Rattle.disk.specs.Refusals.{numberOf}
 use Rattle.directory.specs.Entries.{goodName, goodComment, entryLength}
-use Rattle.rules.specs.Counting.{times}
 use Rattle.rules.specs.Anodes.{Anodes, limit, exists, anodesOf}
 use Rattle.rules.specs.Chains.{chainOf, blocksOf}
 use Rattle.rules.specs.Accepted.{diskSize}
@@ -19,11 +18,11 @@ use Rattle.rules.specs.Lookup.{noDirectory}
 use Rattle.rules.specs.Space.{rewritten, lowestFree}
 use Rattle.rules.specs.Tables.{anodeTable}
 use Rattle.rules.specs.Changes.{firstRoom, noRoom, entryPlace, NewEntry, madeImage, madeWith, made}
-use Rattle.laws.specs.Bags.{times-nil}
+use Rattle.laws.specs.Bags.{times-nil, times-member}
 use Rattle.laws.specs.Links.{Linked}
 use Rattle.laws.specs.OwnerTable.{setAll, fresh-owner}
 use Rattle.anodes.specs.Loaded.{anodesFrom, Loaded}
-use Rattle.laws.specs.Bags.{times-member}
+use Rattle.edits.specs.Entries.{OneBlockEach}
 use Rattle.changes.specs.Image.{accepted-own}
 use Rattle.changes.specs.Reached.{dir-block}
 use Rattle.changes.specs.MakePlan.{Fresh}
@@ -47,7 +46,7 @@ module _ {img counts firsts nexts : List ℕ} (l : Loaded img counts firsts next
     lowest-fresh f e below = record { accepted = l .accepted; reached = reached; lowest = e; below = below }
 
     -- each anode of the directory has one block
-    ones : (a : ℕ) → 0 < times a (chainOf (λ x. getD nexts x 0) 3444 h) → getD counts a 0 ≡ 1
+    ones : OneBlockEach counts nexts h
     unfolding anodesFrom
     ones a p =
         let next : (λ x. getD nexts x 0) ≡ anodesOf img .next = ap (λ (s : Anodes). s .next) (l .is-loaded) in
@@ -55,7 +54,7 @@ module _ {img counts firsts nexts : List ℕ} (l : Loaded img counts firsts next
         ∙ dir-block (record { image = accepted-own img (l .accepted); reached = reached }) a (times-member a (chainOf (anodesOf img .next) limit h) (rw next at p)) .one
 
     pub room-is : (room : Option ℕ) (len : ℕ) →
-        ((c : List ℕ) → ((a : ℕ) → 0 < times a (chainOf (λ x. getD nexts x 0) 3444 h) → getD c a 0 ≡ 1) → room ≡ firstRoom img len (blocksOf (anodesFrom c firsts nexts) h)) →
+        ((c : List ℕ) → OneBlockEach c nexts h → room ≡ firstRoom img len (blocksOf (anodesFrom c firsts nexts) h)) →
         room ≡ firstRoom img len (blocksOf (anodesOf img) h)
     room-is room len found = rw (l .is-loaded) at (found counts ones)
 
