@@ -22,14 +22,14 @@ use Rattle.changes.specs.PlannedChange.{PlannedChange}
 use Rattle.changed.specs.Leaves.{ReachedEntry}
 
 module _ {img counts firsts nexts : List ℕ} (l : Loaded img counts firsts nexts) where
-  abbrev image : AcceptedImage img
-  image = accepted-own img (l .accepted)
+  abbrev pub loaded-image : AcceptedImage img
+  loaded-image = accepted-own img (l .accepted)
 
   pub loaded-size : wrongSize img ≡ false
-  loaded-size = image-passed image .size-right
+  loaded-size = image-passed loaded-image .size-right
 
   pub image-good : GoodOn img (anodesOf img) (headIn img) (sideIn img)
-  image-good = accepted-whole image .good
+  image-good = accepted-whole loaded-image .good
 
   pub loaded-good : GoodOn img (anodesFrom counts firsts nexts) (headIn img) (sideIn img)
   loaded-good = rw (l .is-loaded) image-good
@@ -44,15 +44,15 @@ module _ {img counts firsts nexts : List ℕ} (l : Loaded img counts firsts next
 
   -- the chain that a reached entry names
   module _ (e : Entered) (r : ReachedEntry img e) where
-    abbrev entry : EntryIn img (r .0) e
-    entry = record { directory = record { image = image; reached = r .1 }; member = r .2 }
+    abbrev pub reached-entry : EntryIn img (r .0) e
+    reached-entry = record { directory = record { image = loaded-image; reached = r .1 }; member = r .2 }
 
     pub entry-known : EntryFacts img (r .0) e
-    entry-known = entry-facts entry
+    entry-known = entry-facts reached-entry
 
     -- a change of the entry with its plan
     pub planned-change : {Plans : Type 0} → Plans → PlannedChange img e Plans
-    planned-change plan = record { home = r .0; entry = entry; plan = plan }
+    planned-change plan = record { home = r .0; entry = reached-entry; plan = plan }
 
     -- what the steps on it ask of the copies, and the count that was read off the tables
     pub plan-ready : (nc nf nn : List ℕ) → nc ≡ counts → nf ≡ firsts → nn ≡ nexts → (have : ℕ) → have ≡ sumFrom counts nexts limit (e .anode) →

@@ -23,12 +23,12 @@ use Rattle.laws.specs.Links.{Linked}
 use Rattle.laws.specs.OwnerTable.{setAll, fresh-owner}
 use Rattle.anodes.specs.Loaded.{anodesFrom, Loaded}
 use Rattle.edits.specs.Entries.{OneBlockEach}
-use Rattle.changes.specs.Image.{accepted-own}
 use Rattle.changes.specs.Reached.{dir-block}
 use Rattle.changes.specs.MakePlan.{Fresh}
 use Rattle.changes.specs.MadeImage.{Making, first-in, grown, good, made-disk}
 use Rattle.changed.specs.Leaves.{Leaves}
 use Rattle.changed.specs.Laws.{Shows, shows-kept, leaves-refused, leaves-done}
+use Rattle.changed.specs.Chains.{loaded-image}
 use Rattle.making.specs.declared.MakePlan.{MakePlan}
 use Rattle.making.specs.declared.Planned.the-variants.{Stopped}
 use Rattle.making.specs.Steps.{someBlock, Plans, PlanOf}
@@ -51,7 +51,7 @@ module _ {img counts firsts nexts : List ℕ} (l : Loaded img counts firsts next
     ones a p =
         let next : (λ x. getD nexts x 0) ≡ anodesOf img .next = ap (λ (s : Anodes). s .next) (l .is-loaded) in
         ap (λ (s : Anodes). s .count a) (l .is-loaded)
-        ∙ dir-block (record { image = accepted-own img (l .accepted); reached = reached }) a (times-member a (chainOf (anodesOf img .next) limit h) (rw next at p)) .one
+        ∙ dir-block (record { image = loaded-image l; reached = reached }) a (times-member a (chainOf (anodesOf img .next) limit h) (rw next at p)) .one
 
     pub room-is : (room : Option ℕ) (len : ℕ) →
         ((c : List ℕ) → OneBlockEach c nexts h → room ≡ firstRoom img len (blocksOf (anodesFrom c firsts nexts) h)) →

@@ -17,7 +17,7 @@ use Rattle.laws.specs.Links.{Linked}
 use Rattle.laws.specs.Remove.{still, none-left}
 use Rattle.laws.specs.OwnerTable.{dropped-owner, setAll}
 use Rattle.frames.specs.StoredAnodes.{withAnodes-stored}
-use Rattle.changes.specs.Image.{accepted-own, accepted-slots}
+use Rattle.changes.specs.Image.{accepted-slots}
 use Rattle.changes.specs.FoundEntries.{block-standing, end-within}
 use Rattle.changes.specs.Reached.{entry-not-1, block-data, block-entry}
 use Rattle.changes.specs.Remove.{remove-refused}
@@ -28,7 +28,7 @@ use Rattle.tree.specs.Steps.{sumFrom}
 use Rattle.space.specs.Steps.{moveBlock, moveMany}
 use Rattle.changed.specs.Leaves.{Leaves, ReachedEntry}
 use Rattle.changed.specs.Laws.{leaves-refused, shows-kept, shows-ran, leaves-done}
-use Rattle.changed.specs.Chains.{image-good, entry-known, loaded-copies, chain-counted, planned-change}
+use Rattle.changed.specs.Chains.{loaded-image, image-good, reached-entry, entry-known, loaded-copies, chain-counted, planned-change}
 
 module _ {img counts firsts nexts : List ℕ} (l : Loaded img counts firsts nexts) (e : Entered) (r : ReachedEntry img e) where
   abbrev s : Anodes
@@ -43,7 +43,7 @@ module _ {img counts firsts nexts : List ℕ} (l : Loaded img counts firsts next
   -- refused it leaves everything
   pub refused-leaves : (k : ℕ) → giveMany limit (exists img) (lastReserved img) (blockCount s (e .anode)) s (e .anode) ≡ refused k → (b a : List ℕ) → Leaves k img b a img b a (removed img s e)
   unfolding removed
-  refused-leaves k gives b a = rw gives (leaves-refused k (omega (arith, remove-refused (record { directory = record { image = accepted-own img (l .accepted); reached = r .1 }; member = r .2 }) k gives)) img b a)
+  refused-leaves k gives b a = rw gives (leaves-refused k (omega (arith, remove-refused (reached-entry l e r) k gives)) img b a)
 
   module _ (t : Anodes) (ys : List ℕ) (gives : giveMany limit (exists img) (lastReserved img) (blockCount s (e .anode)) s (e .anode) ≡ planned t ys) where
     abbrev end : Anodes
@@ -64,7 +64,7 @@ module _ {img counts firsts nexts : List ℕ} (l : Loaded img counts firsts next
     pub stands : EntryStands (withAnodes img end) (e .place)
     stands =
         let facts = entry-known l e r in
-        let kept = withAnodes-stored img (accepted-slots (accepted-own img (l .accepted))) end .kept in
+        let kept = withAnodes-stored img (accepted-slots (loaded-image l)) end .kept in
         rw (kept .length-kept, kept .block-kept (e .place / 512) (block-data facts .unheld)) (block-data facts .inside, block-standing (block-entry facts) .before, end-within (block-entry facts))
 
     -- what it leaves of the image and the tables
