@@ -2,7 +2,7 @@
 use Prim.Native.Nat.{ℕ, _≤_, _<_}
 use mathlib.Core.Path.{_≡_, refl, sym, ap, _∙_}
 use mathlib.Core.Bool.{Bool, true, false}
-use mathlib.Core.List.{List, [], _∷_, _++_}
+use mathlib.Core.List.{List, [], _∷_, _++_, nil≢cons}
 use mathlib.Core.Option.{Option, none, some}
 use native.Mathlib.Omega.{arith}
 use lib.ListN.{length, getD, drop}
@@ -18,14 +18,14 @@ use Rattle.rules.specs.Lookup.{noDirectory}
 use Rattle.rules.specs.Space.{rewritten, lowestFree}
 use Rattle.rules.specs.Tables.{anodeTable}
 use Rattle.rules.specs.Changes.{firstRoom, noRoom, entryPlace, NewEntry, madeImage, madeWith, made}
-use Rattle.laws.specs.Bags.{times-nil, times-member}
+use Rattle.laws.specs.Bags.{times-member}
 use Rattle.laws.specs.Links.{Linked}
 use Rattle.laws.specs.OwnerTable.{setAll, fresh-owner}
 use Rattle.anodes.specs.Loaded.{anodesFrom, Loaded}
 use Rattle.edits.specs.Entries.{OneBlockEach}
 use Rattle.changes.specs.Reached.{dir-block}
 use Rattle.changes.specs.MakePlan.{Fresh}
-use Rattle.changes.specs.MadeImage.{Making, first-in, grown, good, made-disk}
+use Rattle.changes.specs.MadeImage.{Making, grown, good, made-disk}
 use Rattle.changed.specs.Leaves.{Leaves}
 use Rattle.changed.specs.Laws.{Shows, shows-kept, leaves-refused, leaves-done}
 use Rattle.changed.specs.Chains.{loaded-image}
@@ -111,7 +111,7 @@ module _ (img : List ℕ) (h : ℕ) (new : NewEntry) (m : MakePlan) (t : Anodes)
       go (some place) e = refl
       go none e =
           let q = grown making .took (ap noRoom e) in
-          ap (entryPlace none) (sym (one-block (m .parents .0) (λ z. omega (arith, first-in (q .0) [] (sym (no-block (m .parents .0) z) ∙ q .1), times-nil (q .0)))))
+          ap (entryPlace none) (sym (one-block (m .parents .0) (λ z. nil≢cons (sym (no-block (m .parents .0) z) ∙ q .1))))
 
   -- what it leaves of the image and the tables
   pub done-leaves : (b a : List ℕ) →
