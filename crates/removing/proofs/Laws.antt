@@ -34,18 +34,21 @@ module _ {img counts firsts nexts : List ℕ} (l : Loaded img counts firsts next
   abbrev s : Anodes
   s = anodesOf img
 
+  -- the plan: all blocks of the entry's chain are given back
+  abbrev plan : Plan
+  plan = giveMany limit (exists img) (lastReserved img) (blockCount s (e .anode)) s (e .anode)
+
   -- the plan on copies of the tables is that of the image
-  pub gives-made : (nc nf nn : List ℕ) → nc ≡ counts → nf ≡ firsts → nn ≡ nexts → (have : ℕ) → have ≡ sumFrom counts nexts limit (e .anode) → (p : Plan) → p ≡ moveMany img false have (anodesFrom nc nf nn) (e .anode) →
-      giveMany limit (exists img) (lastReserved img) (blockCount s (e .anode)) s (e .anode) ≡ p
+  pub gives-made : (nc nf nn : List ℕ) → nc ≡ counts → nf ≡ firsts → nn ≡ nexts → (have : ℕ) → have ≡ sumFrom counts nexts limit (e .anode) → (p : Plan) → p ≡ moveMany img false have (anodesFrom nc nf nn) (e .anode) → plan ≡ p
   unfolding moveMany moveBlock giveMany
   gives-made nc nf nn c f n have all p made = sym (made ∙ rw (loaded-copies l nc nf nn c f n .is-loaded, chain-counted l (e .anode) have all))
 
   -- refused it leaves everything
-  pub refused-leaves : (k : ℕ) → giveMany limit (exists img) (lastReserved img) (blockCount s (e .anode)) s (e .anode) ≡ refused k → (b a : List ℕ) → Leaves k img b a img b a (removed img s e)
+  pub refused-leaves : (k : ℕ) → plan ≡ refused k → (b a : List ℕ) → Leaves k img b a img b a (removed img s e)
   unfolding removed
   refused-leaves k gives b a = rw gives (leaves-refused k (omega (arith, remove-refused (reached-entry l e r) k gives)) img b a)
 
-  module _ (t : Anodes) (ys : List ℕ) (gives : giveMany limit (exists img) (lastReserved img) (blockCount s (e .anode)) s (e .anode) ≡ planned t ys) where
+  module _ (t : Anodes) (ys : List ℕ) (gives : plan ≡ planned t ys) where
     abbrev end : Anodes
     end = dropped limit t (e .anode)
 
