@@ -1,4 +1,4 @@
--- What a make leaves of the image and of its tables, from what its parts leave.
+-- What the planning of a make finds in the tables, and what a make leaves of the image and of its tables.
 use Prim.Native.Nat.{ℕ, _≤_, _<_}
 use mathlib.Core.Path.{_≡_, refl, sym, ap, _∙_}
 use mathlib.Core.Bool.{Bool, true, false}
@@ -35,13 +35,16 @@ use Rattle.making.specs.Steps.{someBlock, Plans, PlanOf}
 use Rattle.making.proofs.Steps.{no-block, one-block, step-shows, free-f, whole, first-ready, next-ready}
 
 module _ {img counts firsts nexts : List ℕ} (l : Loaded img counts firsts nexts) where
+  -- the lowest free anode in the tables is the image's
   pub lowest-is : (f : ℕ) → ((c n : List ℕ) → f ≡ lowestFree 3444 (exists img) (anodesFrom c firsts n)) → lowestFree limit (exists img) (anodesOf img) ≡ f
   lowest-is f e = sym (e counts nexts ∙ ap (lowestFree limit (exists img)) (l .is-loaded))
 
+  -- and with it as an empty head the tables hold the anodes that the steps start from
   pub begun-is : (f : ℕ) (s : Anodes) → s ≡ rewritten (anodesFrom counts firsts nexts) f 0 65535 → s ≡ rewritten (anodesOf img) f 0 65535
   begun-is f s e = e ∙ ap (λ (u : Anodes). rewritten u f 0 65535) (l .is-loaded)
 
   module _ (h : ℕ) (reached : noDirectory img (anodesOf img) h ≡ false) where
+    -- it is a fresh head, where there is one
     pub lowest-fresh : (f : ℕ) → lowestFree limit (exists img) (anodesOf img) ≡ f → f < limit → Fresh img (diskSize img) limit h f
     lowest-fresh f e below = record { accepted = l .accepted; reached = reached; lowest = e; below = below }
 
@@ -53,6 +56,7 @@ module _ {img counts firsts nexts : List ℕ} (l : Loaded img counts firsts next
         ap (λ (s : Anodes). s .count a) (l .is-loaded)
         ∙ dir-block (record { image = loaded-image l; reached = reached }) a (times-member a (chainOf (anodesOf img .next) limit h) (rw next at p)) .one
 
+    -- the room found by the tables is the directory's
     pub room-is : (room : Option ℕ) (len : ℕ) →
         ((c : List ℕ) → OneBlockEach c nexts h → room ≡ firstRoom img len (blocksOf (anodesFrom c firsts nexts) h)) →
         room ≡ firstRoom img len (blocksOf (anodesOf img) h)

@@ -54,10 +54,12 @@ unfolding neededBlock takeMany repeated after
 own-many img true s h t ys e = rw (repeated, e) (ap (planned t) (append-nil ys))
 own-many img false s h t ys e = e
 
+-- a step that needs no block
 pub step-none : (img : List ℕ) (s : Anodes) (h : ℕ) → planned s (someBlock 0) ≡ neededBlock img false s h
 unfolding neededBlock
 step-none img s h = ap (planned s) (no-block 0 refl)
 
+-- a step's refusal comes after the damage numbers
 late : (img : List ℕ) (needed : Bool) (s : Anodes) (h k : ℕ) → neededBlock img needed s h ≡ refused k → 17 ≤ k
 late img needed s h k e = step-late k (needed-refused img needed s h k e)
 
@@ -93,11 +95,13 @@ module _ {img : List ℕ} {h f : ℕ} (x : Fresh img (diskSize img) limit h f) w
   right-size : wrongSize img ≡ false
   right-size = image-passed (fresh-dir x .image) .size-right
 
+  -- what the first step asks: a block for the fresh head
   pub first-ready : (s : Anodes) → s ≡ rewritten (anodesOf img) f 0 65535 → Ready img s f
   first-ready s e =
       let o = fresh-orphan whole f (free-f .0) (free-f .2) (x .below) (free-f .1) (entriesIn img) (isBlockOf img) (λ a i q. (refl, λ d. refl)) in
       rw e ((right-size, (_, _, o .good)), (o .head, λ q. omega (arith, free-f .0, q)))
 
+  -- what the second step asks after it: a block for the parent
   pub next-ready : (s : Anodes) → s ≡ rewritten (anodesOf img) f 0 65535 → (dir : Bool) (y : BlockNo) (r : Anodes) → neededPlan (Moved y) r ≡ neededBlock img dir s f → Ready img r h
   unfolding neededBlock
   next-ready s e dir y r p =
@@ -107,18 +111,22 @@ module _ {img : List ℕ} {h f : ℕ} (x : Fresh img (diskSize img) limit h f) w
 
   -- s the anodes that the steps start from
   module _ (dir : Bool) (len : ℕ) (room : Option ℕ) (found : room ≡ firstRoom img len (blocksOf (anodesOf img) h)) (s : Anodes) (begun : s ≡ rewritten (anodesOf img) f 0 65535) where
+    -- the make by its two steps
     made-is : (new : NewEntry) → new .dir ≡ dir → entryLength (length (new .name)) (length (new .comment)) ≡ len →
         made img (anodesOf img) h new ≡ leftBy (neededBlock img dir s f) img (λ r ys. leftBy (neededBlock img (noRoom room) r h) img (λ t zs. left 0 (madeImage img (anodesOf img) h new f room ys t zs)))
     unfolding made madeWith
     made-is new d n = rw (x .lowest, lt-ltb f limit (x .below), begun, found, sym d, sym n)
 
+    -- the first step refused
     pub first-stopped : (k : Refusal) → refused (numberOf k) ≡ neededBlock img dir s f → PlanOf (Stopped k) img dir len h s
     first-stopped k e = (late img dir s f (numberOf k) (sym e), λ new d n. made-is new d n ∙ rw (sym e))
 
     module _ (y : BlockNo) (r : Anodes) (first : neededPlan (Moved y) r ≡ neededBlock img dir s f) where
+      -- the second step refused
       pub next-stopped : (k : Refusal) → refused (numberOf k) ≡ neededBlock img (noRoom room) r h → PlanOf (Stopped k) img dir len h s
       next-stopped k e = (late img (noRoom room) r h (numberOf k) (sym e), λ new d n. made-is new d n ∙ rw (sym first, sym e))
 
+      -- both done
       pub both-taken : (z : BlockNo) (t : Anodes) → neededPlan (Moved z) t ≡ neededBlock img (noRoom room) r h → (place : ℕ) → place ≡ entryPlace room (z .0 ∷ []) →
           PlanOf (Make (record { fresh = record { 0 = f }; place = place; own = y; parents = z })) img dir len h t
       both-taken z t e place at = record {
