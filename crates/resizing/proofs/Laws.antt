@@ -59,6 +59,7 @@ module _ {img counts firsts nexts : List ℕ} (l : Loaded img counts firsts next
     pub resized-linked : Linked limit (t .next) (t .block)
     resized-linked = steps p .ran .good .linked
 
+    -- a planned resize asks for fewer than 65,535 blocks
     asked-less : blocksFor size < 65535
     asked-less =
         let ran = steps p .ran in
