@@ -45,7 +45,7 @@
  *   15  a file's chain does not hold as many blocks as its size needs
  *   16  a chain that no entry names
  *
- *   Refused, on a sound disk:
+ *   Other refusals:
  *   20  an argument is against the rules (format: any; make: type, name or comment)
  *   21  the directory's number is not that of a directory
  *   22  the name or place is not there

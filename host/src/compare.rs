@@ -4,7 +4,7 @@
 use std::collections::BTreeMap;
 
 use crate::calls::{run, Call, Library, Outcome, ANODES, BLOCK};
-use crate::histories::{follow, random_call, Mood};
+use crate::histories::{follow, random_call, Trend};
 use crate::model::{self, Model, Totals};
 use crate::rng::Rng;
 use crate::shapes::Shaped;
@@ -119,11 +119,11 @@ impl<'a> History<'a> {
     /// Makes random calls. After each one the disk is accepted, and its seven kinds of blocks add up to its size.
     pub fn run<L: Library>(&mut self, calls: usize) {
         let blocks = self.disk.image.len() / BLOCK;
-        let mut mood = Mood::random(self.rng);
+        let mut trend = Trend::random(self.rng);
         let mut free = self.free_blocks();
         for _ in 0..calls {
-            mood = mood.next(self.rng);
-            let call = random_call(&self.disk.tree, mood, blocks, free, self.rng);
+            trend = trend.next(self.rng);
+            let call = random_call(&self.disk.tree, trend, blocks, free, self.rng);
             self.call::<L>(&call);
             free = self.free_blocks();
         }

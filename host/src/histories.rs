@@ -8,9 +8,9 @@ use crate::rng::Rng;
 use crate::shapes::format_call;
 use crate::tree::{Node, Tree};
 
-/// What a history is after.
+/// What most calls of a history do.
 #[derive(Clone, Copy, Debug, PartialEq, Eq)]
-pub enum Mood {
+pub enum Trend {
     Mixed,
     /// Fills the disk with bytes.
     Growing,
@@ -20,15 +20,15 @@ pub enum Mood {
     Shrinking,
 }
 
-impl Mood {
+impl Trend {
     pub fn random(rng: &mut Rng) -> Self {
-        [Mood::Mixed, Mood::Growing, Mood::Making, Mood::Shrinking][rng.below(4)]
+        [Trend::Mixed, Trend::Growing, Trend::Making, Trend::Shrinking][rng.below(4)]
     }
 
-    /// The mood of the next call: mostly the same.
+    /// The trend of the next call: mostly the same.
     pub fn next(self, rng: &mut Rng) -> Self {
         match rng.percent(3) {
-            true => Mood::random(rng),
+            true => Trend::random(rng),
             false => self,
         }
     }
@@ -36,23 +36,23 @@ impl Mood {
     /// How many calls in a hundred are make, resize and remove; the others look, write or, rarely, format.
     fn shares(self) -> [usize; 3] {
         match self {
-            Mood::Mixed => [20, 25, 12],
-            Mood::Growing => [12, 60, 4],
-            Mood::Making => [70, 10, 4],
-            Mood::Shrinking => [4, 30, 45],
+            Trend::Mixed => [20, 25, 12],
+            Trend::Growing => [12, 60, 4],
+            Trend::Making => [70, 10, 4],
+            Trend::Shrinking => [4, 30, 45],
         }
     }
 }
 
 /// A call on a disk of `blocks` blocks that holds this tree and has this many blocks free.
-pub fn random_call(tree: &Tree, mood: Mood, blocks: usize, free: usize, rng: &mut Rng) -> Call {
-    let [make, resize, remove] = mood.shares();
+pub fn random_call(tree: &Tree, trend: Trend, blocks: usize, free: usize, rng: &mut Rng) -> Call {
+    let [make, resize, remove] = trend.shares();
     let throw = rng.below(100);
     let bare = tree.counts().0 == 0;
     if throw < make || (bare && rng.percent(60)) {
         make_call(tree, rng)
     } else if throw < make + resize {
-        resize_call(tree, mood, free, rng)
+        resize_call(tree, trend, free, rng)
     } else if throw < make + resize + remove {
         let (directory, name) = any_entry(tree, |_| true, rng);
         Call::Remove { directory, name }
@@ -161,7 +161,7 @@ fn make_call(tree: &Tree, rng: &mut Rng) -> Call {
     }
 }
 
-fn resize_call(tree: &Tree, mood: Mood, free: usize, rng: &mut Rng) -> Call {
+fn resize_call(tree: &Tree, trend: Trend, free: usize, rng: &mut Rng) -> Call {
     let (directory, name) = any_file(tree, rng);
     let old = tree.size(directory, &name);
     let held = old.next_multiple_of(BLOCK);
@@ -173,9 +173,9 @@ fn resize_call(tree: &Tree, mood: Mood, free: usize, rng: &mut Rng) -> Call {
         3 => most as u64,
         4 => most as u64 + 1,
         5 => impossible_size(rng),
-        6 | 7 if mood != Mood::Growing => rng.within(0..=old) as u64,
-        8 if mood != Mood::Growing => 0,
-        _ if mood == Mood::Shrinking => rng.within(0..=old) as u64,
+        6 | 7 if trend != Trend::Growing => rng.within(0..=old) as u64,
+        8 if trend != Trend::Growing => 0,
+        _ if trend == Trend::Shrinking => rng.within(0..=old) as u64,
         _ => rng.within(old..=(old + 2_000).min(most.max(old))) as u64,
     };
     Call::Resize { directory, name, size }

@@ -7,7 +7,7 @@ use std::env;
 use ovenknit_host::calls::{Call, BLOCK};
 use ovenknit_host::compare::{compare, junk_tables, Histogram, History};
 use ovenknit_host::ffi::Proved;
-use ovenknit_host::histories::{random_call, Mood, NO_ANODE, REFUSALS};
+use ovenknit_host::histories::{random_call, Trend, NO_ANODE, REFUSALS};
 use ovenknit_host::rng::{seeded, Rng};
 use ovenknit_host::shapes::{accepted, formatted, random_bytes, shaped, Bender, Recipe, Shaped};
 use ovenknit_host::starts::Start;
@@ -34,8 +34,8 @@ fn compare_disk(image: &mut [u8], turns: usize, cases: &mut Histogram, rng: &mut
             }
         }
         for _ in 0..6 {
-            compare_case(&mut bender.scuffed(rng), cases, rng);
-            compare_case(&mut bender.jolted(rng), cases, rng);
+            compare_case(&mut bender.with_random_bytes(rng), cases, rng);
+            compare_case(&mut bender.with_misplaced_numbers(rng), cases, rng);
         }
     }
 }
@@ -127,7 +127,7 @@ fn every_call_refuses_damage_like_the_model() {
             let Some(mut bent) = bender.bend(number, rng) else {
                 continue;
             };
-            let call = random_call(&tree, Mood::random(rng), image.len() / BLOCK, 3, rng);
+            let call = random_call(&tree, Trend::random(rng), image.len() / BLOCK, 3, rng);
             let (mut blocks, mut anodes) = junk_tables(bent.len() / BLOCK, false, rng);
             let answer = compare::<Proved>(&call, &mut bent, &mut blocks, &mut anodes).answer;
             answers.add(answer, call.label());

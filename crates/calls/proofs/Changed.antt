@@ -7,19 +7,16 @@ use lib.Dec.{eqb}
 use lib.ListN.{length}
 use Rattle.disk.specs.declared.Refusal.{Refusal}
 use Rattle.disk.specs.Refusals.{numberOf}
-use Rattle.rules.specs.Counting.{firstOf}
 use Rattle.rules.specs.Anodes.{anodesOf}
 use Rattle.rules.specs.Walk.{Entered}
-use Rattle.rules.specs.Accepted.{checkAnswer}
-use Rattle.rules.specs.Lookup.{entryNamed}
+use Rattle.rules.specs.Lookup.{entryNamed, ofEntry}
 use Rattle.rules.specs.Changes.{Left, left, newEntry, resized, made, written, removed}
-use Rattle.rules.specs.Calls.{outcomeOf, settled, checkOutcome, spanAnswer, readAnswer, resizeAnswer, removeAnswer, makeAnswer, leftAfter, changeNamed, makeOutcome, resizeOutcome, writeOutcome, removeOutcome}
+use Rattle.rules.specs.Calls.{outcomeOf, settled, checkOutcome, checkedFirst, spanAnswer, readAnswer, resizeAnswer, removeAnswer, makeAnswer, leftAfter, changeNamed, makeOutcome, resizeOutcome, writeOutcome, removeOutcome}
 use Rattle.fsck.specs.declared.Tally.{Tally}
 use Rattle.fsck.specs.declared.Checked.{Checked}
 use Rattle.fsck.specs.declared.Checked.the-variants.{Accepted, Refused}
 use Rattle.fsck.specs.Answers.{checkedNumber}
 use Rattle.changed.specs.Leaves.{Leaves}
-use Rattle.find.proofs.Laws.{refused-some, not-done}
 use Rattle.calls.proofs.Opened.{change-refused, change-answered}
 
 module _ (img b₀ a₀ b a : List ℕ) (x : Checked) (e : outcomeOf (checkedNumber x) img b a [] [] ≡ checkOutcome img b₀ a₀) where
@@ -27,8 +24,8 @@ module _ (img b₀ a₀ b a : List ℕ) (x : Checked) (e : outcomeOf (checkedNum
 
   module _ (r : Refusal) (is : x ≡ Refused r) (k : ℕ) (n : k ≡ numberOf r) where
     -- a change by name
-    named-not-made : (m : ℕ) (o : Option Entered) (f : Entered → Left) → outcomeOf k img b a [] [] ≡ settled (changeNamed (firstOf (checkAnswer img (length b₀) (length a₀)) m) img o f) b₀ a₀ [] []
-    named-not-made m o f = change-refused img b₀ a₀ b a x e r is k n m (λ l. changeNamed l img o f) (not-done k (refused-some r k n) _ (left k img))
+    named-not-made : (m : ℕ) (o : Option Entered) (f : Entered → Left) → outcomeOf k img b a [] [] ≡ settled (changeNamed (checkedFirst img b₀ a₀ m) img o f) b₀ a₀ [] []
+    named-not-made m o f = change-refused img b₀ a₀ b a x e r is k n m (ofEntry o f (left 22 img))
 
     pub write-refused : (h : ℕ) (name : List ℕ) (offset : ℕ) (bytes : List ℕ) → outcomeOf k img b a [] [] ≡ writeOutcome img b₀ a₀ h name offset bytes
     unfolding writeOutcome readAnswer
@@ -45,14 +42,14 @@ module _ (img b₀ a₀ b a : List ℕ) (x : Checked) (e : outcomeOf (checkedNum
     pub make-refused : (h type : ℕ) (name comment : List ℕ) (day minute tick protection : ℕ) → outcomeOf k img b a [] [] ≡ makeOutcome img b₀ a₀ h type name comment day minute tick protection
     unfolding makeOutcome
     make-refused h type name comment day minute tick protection = change-refused img b₀ a₀ b a x e r is k n (makeAnswer img (anodesOf img) h type name comment)
-        (λ m. leftAfter m img (made img (anodesOf img) h (newEntry (eqb type 2) name comment day minute tick protection))) (not-done k (refused-some r k n) _ (left k img))
+        (made img (anodesOf img) h (newEntry (eqb type 2) name comment day minute tick protection))
 
   -- ---- the check accepted
 
   module _ (t : Tally) (is : x ≡ Accepted t) (r : ℕ) (img′ b′ a′ : List ℕ) where
     -- a change by name
-    named-answered : (m : ℕ) (o : Option Entered) (f : Entered → Left) → Leaves r img b a img′ b′ a′ (changeNamed m img o f) → outcomeOf r img′ b′ a′ [] [] ≡ settled (changeNamed (firstOf (checkAnswer img (length b₀) (length a₀)) m) img o f) b₀ a₀ [] []
-    named-answered m o f l = change-answered img b₀ a₀ b a x e t is m (λ k. changeNamed k img o f) r img′ b′ a′ l
+    named-answered : (m : ℕ) (o : Option Entered) (f : Entered → Left) → Leaves r img b a img′ b′ a′ (changeNamed m img o f) → outcomeOf r img′ b′ a′ [] [] ≡ settled (changeNamed (checkedFirst img b₀ a₀ m) img o f) b₀ a₀ [] []
+    named-answered m o f l = change-answered img b₀ a₀ b a x e t is m (ofEntry o f (left 22 img)) r img′ b′ a′ l
 
     pub write-answered : (h : ℕ) (name : List ℕ) (offset : ℕ) (bytes : List ℕ) →
         Leaves r img b a img′ b′ a′ (changeNamed (spanAnswer img (anodesOf img) h name offset (length bytes)) img (entryNamed img (anodesOf img) h name) (λ y. left 0 (written img (anodesOf img) y offset bytes))) →
@@ -75,4 +72,4 @@ module _ (img b₀ a₀ b a : List ℕ) (x : Checked) (e : outcomeOf (checkedNum
         outcomeOf r img′ b′ a′ [] [] ≡ makeOutcome img b₀ a₀ h type name comment day minute tick protection
     unfolding makeOutcome
     make-answered h type name comment day minute tick protection l = change-answered img b₀ a₀ b a x e t is (makeAnswer img (anodesOf img) h type name comment)
-        (λ m. leftAfter m img (made img (anodesOf img) h (newEntry (eqb type 2) name comment day minute tick protection))) r img′ b′ a′ l
+        (made img (anodesOf img) h (newEntry (eqb type 2) name comment day minute tick protection)) r img′ b′ a′ l

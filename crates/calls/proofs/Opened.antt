@@ -8,13 +8,12 @@ use borrow.Author.Tests.{ltb-false}
 use lib.ListN.{length, getD, drop, replicate}
 use Rattle.disk.specs.declared.Refusal.{Refusal}
 use Rattle.disk.specs.Refusals.{numberOf}
-use Rattle.rules.specs.Counting.{firstOf}
 use Rattle.rules.specs.Anodes.{limit, anodesOf}
 use Rattle.rules.specs.Accepted.{diskSize, shortTables, checkAnswer}
 use Rattle.rules.specs.Changes.{Left, left}
 use Rattle.rules.specs.Tables.{anodeEntry, anodeTable, blockTable, tableLeft, blocksLeft, anodesLeft}
 use Rattle.rules.specs.Lookup.{entryNamed, entriesOf, nth}
-use Rattle.rules.specs.Calls.{Outcome, outcomeOf, settled, checkOutcome, summaryOf, doneOr, summaryOutcome, spanAnswer, bytesRead, readAnswer, readOutcome, listAnswer, listAnswered, fieldsListed, nameListed, listOutcome}
+use Rattle.rules.specs.Calls.{Outcome, outcomeOf, settled, checkOutcome, summaryOf, doneOr, leftAfter, summaryOutcome, checkedFirst, spanAnswer, bytesRead, readAnswer, readOutcome, listAnswer, listAnswered, fieldsListed, nameListed, listOutcome}
 use Rattle.fsck.specs.declared.Tally.{Tally}
 use Rattle.fsck.specs.declared.Checked.{Checked}
 use Rattle.fsck.specs.declared.Checked.the-variants.{Accepted, Refused}
@@ -61,6 +60,10 @@ module _ (img b₀ a₀ b a : List ℕ) (x : Checked) (e : outcomeOf (checkedNum
     some : 1 ≤ k
     some = refused-some r k n
 
+    -- its number comes before the call's own
+    first-k : (m : ℕ) → checkedFirst img b₀ a₀ m ≡ k
+    first-k m = firstOf-some (checkAnswer img (length b₀) (length a₀)) m k answers-k some
+
     -- a refused call leaves the image and the tables as the check does
     settled-k : (output name : List ℕ) → outcomeOf k img b a output name ≡ settled (left k img) b₀ a₀ output name
     unfolding settled
@@ -76,26 +79,21 @@ module _ (img b₀ a₀ b a : List ℕ) (x : Checked) (e : outcomeOf (checkedNum
 
     pub read-refused : (h : ℕ) (name : List ℕ) (offset : ℕ) (out : List ℕ) → outcomeOf k img b a out [] ≡ readOutcome img b₀ a₀ h name offset out
     unfolding readOutcome readAnswer
-    read-refused h name offset out =
-        rw (
-          firstOf-some (checkAnswer img (length b₀) (length a₀)) (spanAnswer img (anodesOf img) h name offset (length out)) k answers-k some,
-          not-done k some _ out,
-        )
-        (settled-k out [])
+    read-refused h name offset out = rw (first-k (spanAnswer img (anodesOf img) h name offset (length out)), not-done k some _ out) (settled-k out [])
 
     pub list-refused : (h n : ℕ) → outcomeOf k img b a (replicate 11 0) [] ≡ listOutcome img b₀ a₀ h n
     unfolding listOutcome listAnswered
     list-refused h n =
         rw (
-          firstOf-some (checkAnswer img (length b₀) (length a₀)) (listAnswer img (anodesOf img) h n) k answers-k some,
+          first-k (listAnswer img (anodesOf img) h n),
           not-done {X = List ℕ} k some _ (replicate 11 0),
           not-done {X = List ℕ} k some _ [],
         )
         (settled-k (replicate 11 0) [])
 
     -- a change is not made
-    pub change-refused : (n : ℕ) (f : ℕ → Left) → f k ≡ left k img → outcomeOf k img b a [] [] ≡ settled (f (firstOf (checkAnswer img (length b₀) (length a₀)) n)) b₀ a₀ [] []
-    change-refused n f e = rw (firstOf-some (checkAnswer img (length b₀) (length a₀)) n k answers-k some, e) (settled-k [] [])
+    pub change-refused : (m : ℕ) (done : Left) → outcomeOf k img b a [] [] ≡ settled (leftAfter (checkedFirst img b₀ a₀ m) img done) b₀ a₀ [] []
+    change-refused m done = rw (first-k m, not-done k some done (left k img)) (settled-k [] [])
 
   -- ---- accepted
 
@@ -105,6 +103,10 @@ module _ (img b₀ a₀ b a : List ℕ) (x : Checked) (e : outcomeOf (checkedNum
 
     answers-0 : checkAnswer img (length b₀) (length a₀) ≡ 0
     answers-0 = answers 0 number-0
+
+    -- the call's own number is its answer
+    first-0 : (m : ℕ) → checkedFirst img b₀ a₀ m ≡ m
+    first-0 m = firstOf-none (checkAnswer img (length b₀) (length a₀)) m answers-0
 
     accepted-answer : checkAnswer img (diskSize img) limit ≡ 0
     accepted-answer = own-tables img (length b₀) (length a₀) answers-0
@@ -148,20 +150,19 @@ module _ (img b₀ a₀ b a : List ℕ) (x : Checked) (e : outcomeOf (checkedNum
         out′ ≡ bytesRead k img (anodesOf img) (entryNamed img (anodesOf img) h name) offset out → outcomeOf k img b a out′ [] ≡ readOutcome img b₀ a₀ h name offset out
     unfolding readOutcome readAnswer
     read-answered h name offset out out′ k span bytes =
-        rw (firstOf-none (checkAnswer img (length b₀) (length a₀)) (spanAnswer img (anodesOf img) h name offset (length out)) answers-0, ← span, ← bytes)
+        rw (first-0 (spanAnswer img (anodesOf img) h name offset (length out)), ← span, ← bytes)
         (settled-late k (rw span (span-late img (anodesOf img) h name offset (length out))) out′ [])
 
     pub list-answered : (h n : ℕ) (fields name : List ℕ) (k : ℕ) → k ≡ listAnswer img (anodesOf img) h n → fields ≡ fieldsListed k img (nth (entriesOf img (anodesOf img) h) n) →
         name ≡ nameListed k img (nth (entriesOf img (anodesOf img) h) n) → outcomeOf k img b a fields name ≡ listOutcome img b₀ a₀ h n
     unfolding listOutcome listAnswered
     list-answered h n fields name k is-k f m =
-        rw (firstOf-none (checkAnswer img (length b₀) (length a₀)) (listAnswer img (anodesOf img) h n) answers-0, ← is-k, ← f, ← m)
+        rw (first-0 (listAnswer img (anodesOf img) h n), ← is-k, ← f, ← m)
         (settled-late k (rw is-k (list-late img (anodesOf img) h n)) fields name)
 
     -- a change by name, as it leaves the image and the tables
-    pub change-answered : (n : ℕ) (f : ℕ → Left) (r : ℕ) (img′ b′ a′ : List ℕ) → Leaves r img b a img′ b′ a′ (f n) → outcomeOf r img′ b′ a′ [] [] ≡ settled (f (firstOf (checkAnswer img (length b₀) (length a₀)) n)) b₀ a₀ [] []
-    change-answered n f r img′ b′ a′ l =
-        l b₀ a₀ (blocks-left 0 number-0) (anodes-left 0 number-0) ∙ ap (λ (m : ℕ). settled (f m) b₀ a₀ [] []) (sym (firstOf-none (checkAnswer img (length b₀) (length a₀)) n answers-0))
+    pub change-answered : (m : ℕ) (done : Left) (r : ℕ) (img′ b′ a′ : List ℕ) → Leaves r img b a img′ b′ a′ (leftAfter m img done) → outcomeOf r img′ b′ a′ [] [] ≡ settled (leftAfter (checkedFirst img b₀ a₀ m) img done) b₀ a₀ [] []
+    change-answered m done r img′ b′ a′ l = rw (first-0 m) (l b₀ a₀ (blocks-left 0 number-0) (anodes-left 0 number-0))
 
     -- the anode table is as long as 2 asks
     pub heads-long : length a ≡ length a₀ → limit ≤ length a

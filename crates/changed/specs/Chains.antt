@@ -14,7 +14,7 @@ use Rattle.laws.specs.GivenBlocks.{gives-blocks}
 use Rattle.anodes.specs.Loaded.{anodesFrom, Loaded}
 use Rattle.tree.specs.Steps.{sumFrom}
 use Rattle.tree.proofs.Rules.{sumFrom-count}
-use Rattle.space.specs.Steps.{Ready}
+use Rattle.space.specs.Steps.{GoodAnodes, Ready}
 use Rattle.space.proofs.Many.{count-small}
 use Rattle.changes.specs.Image.{GoodOn, headIn, sideIn, AcceptedImage, accepted-own, image-passed, accepted-whole}
 use Rattle.changes.specs.Reached.{EntryIn, EntryFacts, entry-not-1, entry-facts}
@@ -22,14 +22,17 @@ use Rattle.changes.specs.PlannedChange.{PlannedChange}
 use Rattle.changed.specs.Leaves.{ReachedEntry}
 
 module _ {img counts firsts nexts : List ℕ} (l : Loaded img counts firsts nexts) where
-  abbrev image : AcceptedImage img
-  image = accepted-own img (l .accepted)
+  abbrev pub loaded-image : AcceptedImage img
+  loaded-image = accepted-own img (l .accepted)
 
   pub loaded-size : wrongSize img ≡ false
-  loaded-size = image-passed image .size-right
+  loaded-size = image-passed loaded-image .size-right
 
   pub image-good : GoodOn img (anodesOf img) (headIn img) (sideIn img)
-  image-good = accepted-whole image .good
+  image-good = accepted-whole loaded-image .good
+
+  good-anodes : GoodAnodes img (anodesOf img)
+  good-anodes = (headIn img, sideIn img, image-good)
 
   pub loaded-good : GoodOn img (anodesFrom counts firsts nexts) (headIn img) (sideIn img)
   loaded-good = rw (l .is-loaded) image-good
@@ -44,24 +47,24 @@ module _ {img counts firsts nexts : List ℕ} (l : Loaded img counts firsts next
 
   -- the chain that a reached entry names
   module _ (e : Entered) (r : ReachedEntry img e) where
-    abbrev entry : EntryIn img (r .0) e
-    entry = record { directory = record { image = image; reached = r .1 }; member = r .2 }
+    abbrev pub reached-entry : EntryIn img (r .0) e
+    reached-entry = record { directory = record { image = loaded-image; reached = r .1 }; member = r .2 }
 
     pub entry-known : EntryFacts img (r .0) e
-    entry-known = entry-facts entry
+    entry-known = entry-facts reached-entry
 
     -- a change of the entry with its plan
     pub planned-change : {Plans : Type 0} → Plans → PlannedChange img e Plans
-    planned-change plan = record { home = r .0; entry = entry; plan = plan }
+    planned-change plan = record { home = r .0; entry = reached-entry; plan = plan }
 
     -- what the steps on it ask of the copies, and the count that was read off the tables
     pub plan-ready : (nc nf nn : List ℕ) → nc ≡ counts → nf ≡ firsts → nn ≡ nexts → (have : ℕ) → have ≡ sumFrom counts nexts limit (e .anode) →
         Ready img (anodesFrom nc nf nn) (e .anode) × (have ≡ blockCount (anodesFrom nc nf nn) (e .anode))
-    plan-ready nc nf nn c f n have all = rw (loaded-copies nc nf nn c f n .is-loaded) (((loaded-size, (headIn img, sideIn img, image-good)), (entry-known .head, entry-not-1 entry-known)), chain-counted (e .anode) have all)
+    plan-ready nc nf nn c f n have all = rw (loaded-copies nc nf nn c f n .is-loaded) (((loaded-size, good-anodes), (entry-known .head, entry-not-1 entry-known)), chain-counted (e .anode) have all)
 
     -- fewer blocks can be given back than a table of 65,535 numbers holds
     pub gave-few : (k : ℕ) (t : Anodes) (ys : List ℕ) → giveMany limit (exists img) (lastReserved img) k (anodesOf img) (e .anode) ≡ planned t ys → k ≤ blockCount (anodesOf img) (e .anode) → length ys < 65535
-    gave-few k t ys p fits = omega (arith, count-small img (anodesOf img) (headIn img, sideIn img, image-good) (e .anode) (entry-known .head) loaded-size, gives-blocks k (e .anode) (entry-not-1 entry-known) t ys (anodesOf img) (systemOwns img) (headIn img) (sideIn img) image-good (entry-known .head) p .1)
+    gave-few k t ys p fits = omega (arith, count-small img (anodesOf img) good-anodes (e .anode) (entry-known .head) loaded-size, gives-blocks k (e .anode) (entry-not-1 entry-known) t ys (anodesOf img) (systemOwns img) (headIn img) (sideIn img) image-good (entry-known .head) p .1)
 
 -- a table of 65,535 numbers has all that were noted, where they are fewer
 pub noted-all : (n : ℕ) (moved : List ℕ) → length moved ≡ 65535 → length (take n moved) < 65535 → n ≤ length moved

@@ -27,7 +27,7 @@ unfolding tableLeft
 late-table zero l range shown old = absurd (omega arith)
 late-table (suc k) l range shown old = rw (le-leb 1 (suc k) (omega arith), le-leb 5 (suc k) (omega arith), lt-leb (suc k) 4 (omega arith), lt-leb (suc k) 16 (omega arith))
 
--- and so do those of the steps
+-- the refusals of the steps are such answers
 pub step-late : (k : ℕ) → (k ≡ 27) ⊎ (k ≡ 28) → 17 ≤ k
 step-late k (inl e) = omega (arith, e)
 step-late k (inr e) = omega (arith, e)

@@ -15,35 +15,37 @@ use Rattle.directory.specs.declared.Kind.the-variants.{File, Directory}
 use Rattle.directory.specs.declared.KindRead.{KindRead}
 use Rattle.directory.specs.declared.KindRead.the-variants.{Is, Neither}
 use Rattle.directory.specs.Entries.{isDir, kindRead, goodName, goodComment}
-use Rattle.rules.specs.Anodes.{Anodes, limit, anodesOf}
+use Rattle.rules.specs.Anodes.{Anodes, anodesOf}
 use Rattle.rules.specs.Chains.{blocksOf}
 use Rattle.rules.specs.Walk.{Entered}
-use Rattle.rules.specs.Accepted.{diskSize, checkAnswer}
-use Rattle.rules.specs.Lookup.{noDirectory, entriesOf, entryNamed}
+use Rattle.rules.specs.Lookup.{noDirectory, entryNamed}
 use Rattle.rules.specs.Changes.{Left, left, NewEntry, made, written}
 use Rattle.rules.specs.Calls.{makeAnswer, wrongEntry, doneOr, leftAfter, changeNamed}
 use Rattle.counting.specs.Laws.{neither}
 use Rattle.laws.specs.Tests.{same?, less?}
 use Rattle.frames.specs.DisjointBlocks.{chain-block, chain-once}
 use Rattle.changes.specs.Answers.{Late}
-use Rattle.laws.specs.Each.{Member}
-use Rattle.changes.specs.Image.{accepted-own, accepted-whole}
-use Rattle.changes.specs.Reached.{entry-facts}
 use Rattle.changes.specs.Write.{written-disk}
-use Rattle.changed.specs.Leaves.{Leaves}
+use Rattle.anodes.specs.Loaded.{Loaded}
+use Rattle.changed.specs.Leaves.{Leaves, ReachedEntry}
 use Rattle.changed.specs.Laws.{leaves-refused, leaves-same}
+use Rattle.changed.specs.Chains.{image-good, reached-entry, entry-known}
 use Rattle.contents.specs.Written.{InsideOnce}
-use Rattle.find.specs.Open.{Open}
 use Rattle.find.proofs.Laws.{refused-some, not-done}
 
-module _ {img counts firsts nexts queue parents heads : List ℕ} {dirs : ℕ} (o : Open img counts firsts nexts queue parents heads dirs) where
-  -- the blocks of the chain that an entry names are inside the image, each once
-  pub chain-inside : (h : ℕ) → noDirectory img (anodesOf img) h ≡ false → (e : Entered) → Member e (entriesOf img (anodesOf img) h) → InsideOnce img (blocksOf (anodesOf img) (e .anode))
-  chain-inside h r e m =
-      let image = accepted-own img (o .loaded .accepted) in
-      let w = accepted-whole image in
-      let d = entry-facts (record { directory = record { image = image; reached = r }; member = m }) .head in
-      (λ y p. chain-block img (w .good) (e .anode) d y p .inside, chain-once (w .good) (e .anode) d)
+-- ---- a write to a reached entry
+
+module _ {img counts firsts nexts : List ℕ} (l : Loaded img counts firsts nexts) (e : Entered) (r : ReachedEntry img e) where
+  -- the blocks of the chain that it names are inside the image, each once
+  pub chain-inside : InsideOnce img (blocksOf (anodesOf img) (e .anode))
+  chain-inside =
+      let d = entry-known l e r .head in
+      (λ y p. chain-block img (image-good l) (e .anode) d y p .inside, chain-once (image-good l) (e .anode) d)
+
+  -- no anode changes, so both tables stay
+  pub leaves-written : e .dir ≡ false → (offset : ℕ) (bytes j : List ℕ) → j ≡ written img (anodesOf img) e offset bytes → (b a : List ℕ) → Leaves 0 img b a j b a (left 0 (written img (anodesOf img) e offset bytes))
+  leaves-written file offset bytes j is b a = rw is
+      (leaves-same img (written img (anodesOf img) e offset bytes) (written-disk (reached-entry l e r) file offset bytes) b a)
 
 -- ---- a change of a named entry
 
@@ -52,7 +54,7 @@ late-some : (n k : ℕ) → Late n → n ≡ k → 1 ≤ k → 17 ≤ k
 late-some n k (inl z) e l = absurd (omega (arith, z, e, l))
 late-some n k (inr z) e l = omega (arith, z, e)
 
--- a done change of it
+-- the search found it, so what is left is what the change of it leaves
 pub leaves-named : (img : List ℕ) (o : Option Entered) (f : Entered → Left) (n : ℕ) (x : Entered) → n ≡ 0 → o ≡ some x → (r : ℕ) (b a img′ b′ a′ : List ℕ) → Leaves r img b a img′ b′ a′ (f x) →
     Leaves r img b a img′ b′ a′ (changeNamed n img o f)
 unfolding doneOr
@@ -67,13 +69,6 @@ module _ (img : List ℕ) (done : Left) where
   leaves-unchanged n late r k number is b a =
       let e : n ≡ k = is ∙ sym number in
       leaves-unmade n k (late-some n k late e (refused-some r k number)) e b a
-
--- a write changes no anode, so it leaves both tables
-pub leaves-written : (img : List ℕ) → checkAnswer img (diskSize img) limit ≡ 0 → (h : ℕ) → noDirectory img (anodesOf img) h ≡ false → (e : Entered) → Member e (entriesOf img (anodesOf img) h) → e .dir ≡ false →
-    (offset : ℕ) (bytes j : List ℕ) → j ≡ written img (anodesOf img) e offset bytes → (b a : List ℕ) → Leaves 0 img b a j b a (left 0 (written img (anodesOf img) e offset bytes))
-leaves-written img accepted h reached e member file offset bytes j is b a = rw is
-    (leaves-same img (written img (anodesOf img) e offset bytes)
-    (written-disk (record { directory = record { image = accepted-own img accepted; reached = reached }; member = member }) file offset bytes) b a)
 
 -- ---- make
 

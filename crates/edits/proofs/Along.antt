@@ -16,6 +16,7 @@ use Rattle.laws.specs.Bags.{times-here, times-later}
 use Rattle.laws.specs.Chains.{gathered-step}
 use Rattle.laws.specs.ChainBlocks.{extent}
 use Rattle.anodes.specs.Loaded.{anodesFrom}
+use Rattle.edits.specs.Entries.{OneBlockEach}
 
 -- ---- the i-th block
 
@@ -64,14 +65,18 @@ module _ (b : List ℕ) where
 
 -- ---- the first block with room
 
-module _ (img : List ℕ) (len y : ℕ) (ys : List ℕ) where
-  pub room-here : entriesEnd (blockOf img y) + len ≤ 510 → firstRoom img len (y ∷ ys) ≡ some (y * 512 + entriesEnd (blockOf img y))
-  unfolding firstRoom
-  room-here h = rw (le-leb (entriesEnd (blockOf img y) + len) 510 h, firstRoom)
+-- part: the bytes of block y; end: its end mark's place
+module _ (img part : List ℕ) (len y end : ℕ) (is : part ≡ blockOf img y) (found : end ≡ entriesEnd part) (ys : List ℕ) where
+  ends : end ≡ entriesEnd (blockOf img y)
+  ends = found ∙ ap entriesEnd is
 
-  pub room-later : 510 < entriesEnd (blockOf img y) + len → firstRoom img len (y ∷ ys) ≡ firstRoom img len ys
+  pub room-here : end + len ≤ 510 → firstRoom img len (y ∷ ys) ≡ some (y * 512 + end)
   unfolding firstRoom
-  room-later h = rw (lt-leb (entriesEnd (blockOf img y) + len) 510 h, firstRoom)
+  room-here h = rw (ends, le-leb (entriesEnd (blockOf img y) + len) 510 (rw ends at h), firstRoom)
+
+  pub room-later : 510 < end + len → firstRoom img len (y ∷ ys) ≡ firstRoom img len ys
+  unfolding firstRoom
+  room-later h = rw (lt-leb (entriesEnd (blockOf img y) + len) 510 (rw ends at h), firstRoom)
 
 -- the first blocks of at most k anodes from a on
 unfoldable pub firstsAlong : List ℕ → List ℕ → ℕ → ℕ → List ℕ
@@ -95,7 +100,7 @@ module _ (img : List ℕ) (len : ℕ) where
     unfolding firstsAlong
     room-step k m a y fuel n is = rw (gathered-step (λ x. getD firsts x 0 ∷ []) (λ x. getD nexts x 0) k m a fuel n, is)
 
-    pub room-whole : (counts : List ℕ) (h : ℕ) → ((a : ℕ) → 0 < times a (chainOf (λ x. getD nexts x 0) 3444 h) → getD counts a 0 ≡ 1)
+    pub room-whole : (counts : List ℕ) (h : ℕ) → OneBlockEach counts nexts h
         → firstRoom img len (firstsAlong firsts nexts 3444 h) ≡ firstRoom img len (blocksOf (anodesFrom counts firsts nexts) h)
     unfolding blocksOf anodesFrom firstsAlong
     room-whole counts h one = ap (firstRoom img len) (sym (single-blocks (λ x. getD firsts x 0) (λ x. getD counts x 0) (chainOf (λ x. getD nexts x 0) 3444 h) one))

@@ -1,4 +1,4 @@
--- The same bytes in some blocks, and the anodes stored one after the other. Assumes nothing.
+-- Blocks that are stored, the anodes stored one after the other, the zeroed tail of a growing file and the type of a new entry. Assumes nothing.
 use Prim.Native.Nat.{ℕ, zero, suc, _+_, _-_, _*_, _/_, _%_, _<_, _≤_}
 use mathlib.Core.Path.{_≡_, refl, sym, _∙_}
 use mathlib.Core.Logic.{⊎-elim}

@@ -2,21 +2,19 @@
 ghost use mathlib.Core.Bool.{_&&_, true};
 ghost use mathlib.Core.List.{List, [], _∷_};
 ghost use mathlib.Core.Path.{_≡_};
-ghost use Prim.Native.Nat.{ℕ, _+_, _*_, _/_, _%_, _<_, _≤_};
+ghost use Prim.Native.Nat.{ℕ, _+_, _/_, _%_, _<_, _≤_};
 ghost use lib.Dec.{eqb};
 ghost use lib.ListN.{length, getD, take};
 ghost use Rattle.disk.specs.AnodeBlocks.{anodeMade};
-ghost use Rattle.disk.specs.Blocks.{blockOf};
 ghost use Rattle.directory.specs.Entries.{goodName, goodComment, isDir, putEntry};
-ghost use Rattle.rules.specs.Counting.{times};
 ghost use Rattle.rules.specs.Anodes.{anodesOf, sameAnode, storeChanged, withAnodes};
-ghost use Rattle.rules.specs.Chains.{chainOf, blocksOf};
+ghost use Rattle.rules.specs.Chains.{blocksOf};
 ghost use Rattle.rules.specs.Walk.{Entered};
 ghost use Rattle.rules.specs.Format.{zeroBlock, newDirectoryBlock};
 ghost use Rattle.rules.specs.Changes.{inBlock, withBlocks, zeroTail, withSize, entriesEnd, firstRoom, newEntry, entryOf, gapClosed, withoutEntry};
 ghost use Rattle.laws.specs.OwnerTable.{setAll};
 ghost use Rattle.anodes.specs.Loaded.{anodesFrom};
-ghost use Rattle.edits.specs.Entries.{roomOf, orRest, movedDown};
+ghost use Rattle.edits.specs.Entries.{roomOf, orRest, movedDown, EntryStands, ExtentsFit, OneBlockEach};
 use directory::DirectoryHead;
 use directory::Entry;
 use directory::Kind;
@@ -64,7 +62,7 @@ fn same_anode(x: Anode, y: Anode) -> bool
     x.next.0 == y.next.0
 }
 
-// True if the 82 numbers from `from` on are the same in two tables that have them.
+// True only if the 82 numbers from `from` on are the same in both tables.
 fn same_numbers(old: &[u16], new: &[u16], from: usize) -> bool
     requires { ⌜ from + 82 ≤ 3444 ⌝ }
     ensures { λ r. ⌜ (r ≡ true → (a : ℕ) → from ≤ a → a < from + 82 → getD (now (old .entry)) a 0 ≡ getD (now (new .entry)) a 0) ⌝ }
@@ -87,7 +85,7 @@ fn same_numbers(old: &[u16], new: &[u16], from: usize) -> bool
     other == 0
 }
 
-// True if the 82 anodes from `from` on have the same fields as before.
+// True only if the 82 anodes from `from` on have the same fields as before.
 fn same_run(
     counts: &[u16],
     firsts: &[u16],
@@ -212,7 +210,7 @@ pub fn head_block(image: &mut [u8], b: BlockNo, owner: AnodeNo, parent: AnodeNo)
 
 // Block `i`, from 0, of the chain that `head` heads; 0 where the chain ends before it.
 fn nth_block(counts: &[u16], firsts: &[u16], nexts: &[u16], head: AnodeNo, i: u64) -> u16
-    requires { ⌜ ((a : ℕ) → 0 < getD (now counts) a 0 → getD (now firsts) a 0 + getD (now counts) a 0 ≤ 65535) ⌝ }
+    requires { ⌜ ExtentsFit (now counts) (now firsts) ⌝ }
     ensures { λ r. ⌜ r ≡ getD (blocksOf (anodesFrom (now (counts .entry)) (now (firsts .entry)) (now (nexts .entry))) (head .0)) i 0 ⌝ }
 {
     let mut left = i;
@@ -243,7 +241,7 @@ pub fn zero_tail(
     size: u32,
     new: u64,
 )
-    requires { ⌜ ((a : ℕ) → 0 < getD (now counts) a 0 → getD (now firsts) a 0 + getD (now counts) a 0 ≤ 65535) ⌝ }
+    requires { ⌜ ExtentsFit (now counts) (now firsts) ⌝ }
     ensures { λ _. ⌜ ((e : Entered) → e .anode ≡ head .0 → e .size ≡ size → now (image .exit) ≡ zeroTail (now (image .entry)) (anodesFrom (now (counts .entry)) (now (firsts .entry)) (now (nexts .entry))) e new) ⌝ }
 {
     let at = (size % 512) as usize;
@@ -342,7 +340,7 @@ fn room_in(image: &[u8], b: BlockNo, len: usize) -> Room
 
 // The place for an entry of `len` bytes in the first block of the directory with room for it and the end mark.
 pub fn first_room(image: &[u8], firsts: &[u16], nexts: &[u16], head: AnodeNo, len: usize) -> Room
-    ensures { λ r. ⌜ ((c : List ℕ) → ((a : ℕ) → 0 < times a (chainOf (λ x. getD (now (nexts .entry)) x 0) 3444 (head .0)) → getD c a 0 ≡ 1) → roomOf r ≡ firstRoom (now (image .entry)) len (blocksOf (anodesFrom c (now (firsts .entry)) (now (nexts .entry))) (head .0))) ⌝ }
+    ensures { λ r. ⌜ ((c : List ℕ) → OneBlockEach c (now (nexts .entry)) (head .0) → roomOf r ≡ firstRoom (now (image .entry)) len (blocksOf (anodesFrom c (now (firsts .entry)) (now (nexts .entry))) (head .0))) ⌝ }
 {
     let mut at = head.0 as usize;
     let mut fuel: usize = 3444;
@@ -383,7 +381,7 @@ fn close_gap(block: &mut [u8], at: usize, len: usize, end: usize)
 
 // Takes the entry at a place out of its directory block.
 pub fn take_out(image: &mut [u8], place: usize)
-    requires { ⌜ (place / 512 * 512 + 512 ≤ length (now image)) × (place % 512 + getD (blockOf (now image) (place / 512)) (place % 512) 0 ≤ entriesEnd (blockOf (now image) (place / 512))) × (entriesEnd (blockOf (now image) (place / 512)) ≤ 512) ⌝ }
+    requires { ⌜ EntryStands (now image) place ⌝ }
     ensures { λ _. ⌜ now (image .exit) ≡ withoutEntry (now (image .entry)) place ⌝ }
 {
     let at = place % 512;

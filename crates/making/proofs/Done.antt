@@ -1,8 +1,8 @@
--- What a make leaves of the image and of its tables, from what its parts leave.
+-- What the planning of a make finds in the tables, and what a make leaves of the image and of its tables.
 use Prim.Native.Nat.{ℕ, _≤_, _<_}
 use mathlib.Core.Path.{_≡_, refl, sym, ap, _∙_}
 use mathlib.Core.Bool.{Bool, true, false}
-use mathlib.Core.List.{List, [], _∷_, _++_}
+use mathlib.Core.List.{List, [], _∷_, _++_, nil≢cons}
 use mathlib.Core.Option.{Option, none, some}
 use native.Mathlib.Omega.{arith}
 use lib.ListN.{length, getD, drop}
@@ -11,7 +11,6 @@ use Rattle.disk.specs.declared.Refusal.{Refusal}
 use Rattle.disk.specs.declared.Refusal.the-variants.{NoFreeAnode}
 use Rattle.disk.specs.Refusals.{numberOf}
 use Rattle.directory.specs.Entries.{goodName, goodComment, entryLength}
-use Rattle.rules.specs.Counting.{times}
 use Rattle.rules.specs.Anodes.{Anodes, limit, exists, anodesOf}
 use Rattle.rules.specs.Chains.{chainOf, blocksOf}
 use Rattle.rules.specs.Accepted.{diskSize}
@@ -19,43 +18,47 @@ use Rattle.rules.specs.Lookup.{noDirectory}
 use Rattle.rules.specs.Space.{rewritten, lowestFree}
 use Rattle.rules.specs.Tables.{anodeTable}
 use Rattle.rules.specs.Changes.{firstRoom, noRoom, entryPlace, NewEntry, madeImage, madeWith, made}
-use Rattle.laws.specs.Bags.{times-nil}
+use Rattle.laws.specs.Bags.{times-member}
 use Rattle.laws.specs.Links.{Linked}
 use Rattle.laws.specs.OwnerTable.{setAll, fresh-owner}
 use Rattle.anodes.specs.Loaded.{anodesFrom, Loaded}
-use Rattle.laws.specs.Bags.{times-member}
-use Rattle.changes.specs.Image.{accepted-own}
+use Rattle.edits.specs.Entries.{OneBlockEach}
 use Rattle.changes.specs.Reached.{dir-block}
 use Rattle.changes.specs.MakePlan.{Fresh}
-use Rattle.changes.specs.MadeImage.{Making, first-in, grown, good, made-disk}
+use Rattle.changes.specs.MadeImage.{Making, grown, good, made-disk}
 use Rattle.changed.specs.Leaves.{Leaves}
 use Rattle.changed.specs.Laws.{Shows, shows-kept, leaves-refused, leaves-done}
+use Rattle.changed.specs.Chains.{loaded-image}
 use Rattle.making.specs.declared.MakePlan.{MakePlan}
 use Rattle.making.specs.declared.Planned.the-variants.{Stopped}
 use Rattle.making.specs.Steps.{someBlock, Plans, PlanOf}
 use Rattle.making.proofs.Steps.{no-block, one-block, step-shows, free-f, whole, first-ready, next-ready}
 
 module _ {img counts firsts nexts : List ℕ} (l : Loaded img counts firsts nexts) where
+  -- the lowest free anode in the tables is the image's
   pub lowest-is : (f : ℕ) → ((c n : List ℕ) → f ≡ lowestFree 3444 (exists img) (anodesFrom c firsts n)) → lowestFree limit (exists img) (anodesOf img) ≡ f
   lowest-is f e = sym (e counts nexts ∙ ap (lowestFree limit (exists img)) (l .is-loaded))
 
+  -- and with it as an empty head the tables hold the anodes that the steps start from
   pub begun-is : (f : ℕ) (s : Anodes) → s ≡ rewritten (anodesFrom counts firsts nexts) f 0 65535 → s ≡ rewritten (anodesOf img) f 0 65535
   begun-is f s e = e ∙ ap (λ (u : Anodes). rewritten u f 0 65535) (l .is-loaded)
 
   module _ (h : ℕ) (reached : noDirectory img (anodesOf img) h ≡ false) where
+    -- it is a fresh head, where there is one
     pub lowest-fresh : (f : ℕ) → lowestFree limit (exists img) (anodesOf img) ≡ f → f < limit → Fresh img (diskSize img) limit h f
     lowest-fresh f e below = record { accepted = l .accepted; reached = reached; lowest = e; below = below }
 
     -- each anode of the directory has one block
-    ones : (a : ℕ) → 0 < times a (chainOf (λ x. getD nexts x 0) 3444 h) → getD counts a 0 ≡ 1
+    ones : OneBlockEach counts nexts h
     unfolding anodesFrom
     ones a p =
         let next : (λ x. getD nexts x 0) ≡ anodesOf img .next = ap (λ (s : Anodes). s .next) (l .is-loaded) in
         ap (λ (s : Anodes). s .count a) (l .is-loaded)
-        ∙ dir-block (record { image = accepted-own img (l .accepted); reached = reached }) a (times-member a (chainOf (anodesOf img .next) limit h) (rw next at p)) .one
+        ∙ dir-block (record { image = loaded-image l; reached = reached }) a (times-member a (chainOf (anodesOf img .next) limit h) (rw next at p)) .one
 
+    -- the room found by the tables is the directory's
     pub room-is : (room : Option ℕ) (len : ℕ) →
-        ((c : List ℕ) → ((a : ℕ) → 0 < times a (chainOf (λ x. getD nexts x 0) 3444 h) → getD c a 0 ≡ 1) → room ≡ firstRoom img len (blocksOf (anodesFrom c firsts nexts) h)) →
+        ((c : List ℕ) → OneBlockEach c nexts h → room ≡ firstRoom img len (blocksOf (anodesFrom c firsts nexts) h)) →
         room ≡ firstRoom img len (blocksOf (anodesOf img) h)
     room-is room len found = rw (l .is-loaded) at (found counts ones)
 
@@ -112,7 +115,7 @@ module _ (img : List ℕ) (h : ℕ) (new : NewEntry) (m : MakePlan) (t : Anodes)
       go (some place) e = refl
       go none e =
           let q = grown making .took (ap noRoom e) in
-          ap (entryPlace none) (sym (one-block (m .parents .0) (λ z. omega (arith, first-in (q .0) [] (sym (no-block (m .parents .0) z) ∙ q .1), times-nil (q .0)))))
+          ap (entryPlace none) (sym (one-block (m .parents .0) (λ z. nil≢cons (sym (no-block (m .parents .0) z) ∙ q .1))))
 
   -- what it leaves of the image and the tables
   pub done-leaves : (b a : List ℕ) →

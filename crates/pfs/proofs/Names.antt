@@ -31,7 +31,7 @@ named-part img place l =
     ∙ ap (take (nameLength (blockOf img (place / 512)) (place % 512))) (drop-drop (place % 512 + 16) (place / 512 * 512) img ∙ ap (λ (n : ℕ). drop n img) e)
 
 module _ (img b₀ a₀ : List ℕ) (h n : ℕ) where
-  -- of the entry that is listed
+  -- the name of the entry that is listed is the one that its fields give
   found-name : checkAnswer img (length b₀) (length a₀) ≡ 0 → listAnswer img (anodesOf img) h n ≡ 0 → (x : Entered) → nth (entriesOf img (anodesOf img) h) n ≡ some x → nameAt img (x .place) ≡ nameGiven img (fieldsAt img (x .place))
   unfolding nameGiven fieldsAt fieldList entryIn entryLength
   found-name accepted listed x is =
@@ -40,6 +40,7 @@ module _ (img b₀ a₀ : List ℕ) (h n : ℕ) where
       let w = standing-found (f .stands) in
       named-part img (x .place) (omega (arith, w .exact, w .room))
 
+  -- and so it is for every answer: a refused list gives zero fields and an empty name
   of-answer : (k : ℕ) → k ≡ listAnswered img b₀ a₀ h n → (o : Option Entered) → nth (entriesOf img (anodesOf img) h) n ≡ o → nameListed k img o ≡ nameGiven img (fieldsListed k img o)
   unfolding nameGiven listAnswered doneOr
   of-answer (suc k) e o is = refl

@@ -68,7 +68,7 @@ pub extern "C" fn pfs_read(
     calls::read(image, blocks, anodes, directory, name, offset, out)
 }
 
-// The fields of the n-th entry of a directory, from 0; the name and the comment by offset in the image and length.
+// The fields of the n-th entry of a directory, from 0; the name and the comment by offset in the image and length; zero fields after a refusal.
 #[no_mangle]
 pub extern "C" fn pfs_list(
     image: &[u8],

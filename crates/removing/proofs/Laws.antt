@@ -1,51 +1,54 @@
 -- A removal by its plan: what it leaves of an accepted image and of its two tables.
-use Prim.Native.Nat.{ℕ, _+_, _*_, _/_, _%_, _≤_}
+use Prim.Native.Nat.{ℕ, _/_}
 use mathlib.Core.Path.{_≡_, refl, sym, _∙_}
 use mathlib.Core.Logic.{_≢_}
 use mathlib.Core.Bool.{false}
 use mathlib.Core.List.{List, _++_}
 use native.Mathlib.Omega.{arith}
-use lib.ListN.{length, getD, drop}
-use Rattle.disk.specs.Blocks.{blockOf}
+use lib.ListN.{drop}
 use Rattle.rules.specs.Anodes.{Anodes, limit, exists, anodesOf, withAnodes}
 use Rattle.rules.specs.Chains.{blockCount}
 use Rattle.rules.specs.Walk.{Entered}
 use Rattle.rules.specs.Accepted.{lastReserved}
 use Rattle.rules.specs.Tables.{anodeTable}
 use Rattle.rules.specs.Space.{Plan, refused, planned, giveMany, dropped}
-use Rattle.rules.specs.Changes.{entriesEnd, removedImage, removed}
+use Rattle.rules.specs.Changes.{removedImage, removed}
 use Rattle.laws.specs.Links.{Linked}
 use Rattle.laws.specs.Remove.{still, none-left}
 use Rattle.laws.specs.OwnerTable.{dropped-owner, setAll}
 use Rattle.frames.specs.StoredAnodes.{withAnodes-stored}
-use Rattle.changes.specs.Image.{accepted-own, accepted-slots}
+use Rattle.changes.specs.Image.{accepted-slots}
 use Rattle.changes.specs.FoundEntries.{block-standing, end-within}
 use Rattle.changes.specs.Reached.{entry-not-1, block-data, block-entry}
 use Rattle.changes.specs.Remove.{remove-refused}
 use Rattle.changes.specs.RemoveStores.{PlannedRemove, ran, end-good, removed-disk}
 use Rattle.anodes.specs.Loaded.{anodesFrom, Loaded}
+use Rattle.edits.specs.Entries.{EntryStands}
 use Rattle.tree.specs.Steps.{sumFrom}
 use Rattle.space.specs.Steps.{moveBlock, moveMany}
 use Rattle.changed.specs.Leaves.{Leaves, ReachedEntry}
 use Rattle.changed.specs.Laws.{leaves-refused, shows-kept, shows-ran, leaves-done}
-use Rattle.changed.specs.Chains.{image-good, entry-known, loaded-copies, chain-counted, planned-change}
+use Rattle.changed.specs.Chains.{loaded-image, image-good, reached-entry, entry-known, loaded-copies, chain-counted, planned-change}
 
 module _ {img counts firsts nexts : List ℕ} (l : Loaded img counts firsts nexts) (e : Entered) (r : ReachedEntry img e) where
   abbrev s : Anodes
   s = anodesOf img
 
+  -- the plan: all blocks of the entry's chain are given back
+  abbrev plan : Plan
+  plan = giveMany limit (exists img) (lastReserved img) (blockCount s (e .anode)) s (e .anode)
+
   -- the plan on copies of the tables is that of the image
-  pub gives-made : (nc nf nn : List ℕ) → nc ≡ counts → nf ≡ firsts → nn ≡ nexts → (have : ℕ) → have ≡ sumFrom counts nexts limit (e .anode) → (p : Plan) → p ≡ moveMany img false have (anodesFrom nc nf nn) (e .anode) →
-      giveMany limit (exists img) (lastReserved img) (blockCount s (e .anode)) s (e .anode) ≡ p
+  pub gives-made : (nc nf nn : List ℕ) → nc ≡ counts → nf ≡ firsts → nn ≡ nexts → (have : ℕ) → have ≡ sumFrom counts nexts limit (e .anode) → (p : Plan) → p ≡ moveMany img false have (anodesFrom nc nf nn) (e .anode) → plan ≡ p
   unfolding moveMany moveBlock giveMany
   gives-made nc nf nn c f n have all p made = sym (made ∙ rw (loaded-copies l nc nf nn c f n .is-loaded, chain-counted l (e .anode) have all))
 
   -- refused it leaves everything
-  pub refused-leaves : (k : ℕ) → giveMany limit (exists img) (lastReserved img) (blockCount s (e .anode)) s (e .anode) ≡ refused k → (b a : List ℕ) → Leaves k img b a img b a (removed img s e)
+  pub refused-leaves : (k : ℕ) → plan ≡ refused k → (b a : List ℕ) → Leaves k img b a img b a (removed img s e)
   unfolding removed
-  refused-leaves k gives b a = rw gives (leaves-refused k (omega (arith, remove-refused (record { directory = record { image = accepted-own img (l .accepted); reached = r .1 }; member = r .2 }) k gives)) img b a)
+  refused-leaves k gives b a = rw gives (leaves-refused k (omega (arith, remove-refused (reached-entry l e r) k gives)) img b a)
 
-  module _ (t : Anodes) (ys : List ℕ) (gives : giveMany limit (exists img) (lastReserved img) (blockCount s (e .anode)) s (e .anode) ≡ planned t ys) where
+  module _ (t : Anodes) (ys : List ℕ) (gives : plan ≡ planned t ys) where
     abbrev end : Anodes
     end = dropped limit t (e .anode)
 
@@ -60,18 +63,12 @@ module _ {img counts firsts nexts : List ℕ} (l : Loaded img counts firsts next
     pub removed-links : (x : Anodes) → x ≡ end → Linked limit (x .next) (x .block)
     removed-links x i = rw i (end-good p .linked)
 
-    -- where the entry stands, also after the anodes are stored
-    abbrev y : ℕ
-    y = e .place / 512
-
-    abbrev at : ℕ
-    at = e .place % 512
-
-    pub stands : let i = withAnodes img end in (y * 512 + 512 ≤ length i) × (at + getD (blockOf i y) at 0 ≤ entriesEnd (blockOf i y)) × (entriesEnd (blockOf i y) ≤ 512)
+    -- the entry stands where it did, after the anodes are stored
+    pub stands : EntryStands (withAnodes img end) (e .place)
     stands =
         let facts = entry-known l e r in
-        let kept = withAnodes-stored img (accepted-slots (accepted-own img (l .accepted))) end .kept in
-        rw (kept .length-kept, kept .block-kept y (block-data facts .unheld)) (block-data facts .inside, block-standing (block-entry facts) .before, end-within (block-entry facts))
+        let kept = withAnodes-stored img (accepted-slots (loaded-image l)) end .kept in
+        rw (kept .length-kept, kept .block-kept (e .place / 512) (block-data facts .unheld)) (block-data facts .inside, block-standing (block-entry facts) .before, end-within (block-entry facts))
 
     -- what it leaves of the image and the tables
     pub done-leaves : (b a : List ℕ) → Leaves 0 img b a (removedImage img e t) (setAll b ys 1) (anodeTable end ++ drop limit a) (removed img s e)

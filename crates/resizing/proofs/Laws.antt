@@ -34,13 +34,16 @@ module _ {img counts firsts nexts : List ℕ} (l : Loaded img counts firsts next
   abbrev s : Anodes
   s = anodesOf img
 
+  -- the head that the moved blocks come to: the file's where it has not shrunk, else the free list's
+  abbrev owner : ℕ
+  owner = cond (leb (blockCount s (e .anode)) (blocksFor size)) (e .anode) 1
+
   -- the plan on copies of the tables is that of the image
   pub plan-made : (nc nf nn : List ℕ) → nc ≡ counts → nf ≡ firsts → nn ≡ nexts → (want : ℕ) → want ≡ blocksFor size → (p : Plan) → p ≡ resizePlan img (anodesFrom nc nf nn) (e .anode) want → resizePlan img s (e .anode) (blocksFor size) ≡ p
   plan-made nc nf nn c f n want q p made = sym (made ∙ rw (loaded-copies l nc nf nn c f n .is-loaded, q))
 
-  -- the head that the moved blocks come to, by what was counted
-  pub owner-is : (have want o : ℕ) → have ≡ sumFrom counts nexts limit (e .anode) → want ≡ blocksFor size → o ≡ cond (leb have want) (e .anode) 1 →
-      o ≡ cond (leb (blockCount s (e .anode)) (blocksFor size)) (e .anode) 1
+  -- by what was counted it is the same
+  pub owner-is : (have want o : ℕ) → have ≡ sumFrom counts nexts limit (e .anode) → want ≡ blocksFor size → o ≡ cond (leb have want) (e .anode) 1 → o ≡ owner
   owner-is have want o i q is = is ∙ rw (chain-counted l (e .anode) have i, q)
 
   -- refused it leaves everything
@@ -56,6 +59,7 @@ module _ {img counts firsts nexts : List ℕ} (l : Loaded img counts firsts next
     pub resized-linked : Linked limit (t .next) (t .block)
     resized-linked = steps p .ran .good .linked
 
+    -- a planned resize asks for fewer than 65,535 blocks
     asked-less : blocksFor size < 65535
     asked-less =
         let ran = steps p .ran in
@@ -75,16 +79,16 @@ module _ {img counts firsts nexts : List ℕ} (l : Loaded img counts firsts next
       | inr m ↦ omega (arith, asked-less, plan-longer img (image-good l) (e .anode) (entry-known l e r .head) (entry-not-1 (entry-known l e r)) (blocksFor size) t ys plan m .1)
     ]
 
-    -- the moved blocks are the file's where it has not shrunk, else the free list's
-    owners-shown : (b rest : List ℕ) → Shows img s b rest → Shows img t (setAll b ys (cond (leb (blockCount s (e .anode)) (blocksFor size)) (e .anode) 1)) rest
+    -- the block table with the moved blocks under their new head
+    owners-shown : (b rest : List ℕ) → Shows img s b rest → Shows img t (setAll b ys owner) rest
     owners-shown b rest q = rw (← (steps p .to-is)) (shows-ran img s t (image-good l) (steps p .ran) (steps p .apart) b rest q)
 
     -- what it leaves of the image and the tables
-    pub done-leaves : (o : ℕ) → o ≡ cond (leb (blockCount s (e .anode)) (blocksFor size)) (e .anode) 1 → (b a : List ℕ) →
+    pub done-leaves : (o : ℕ) → o ≡ owner → (b a : List ℕ) →
         Leaves 0 img b a (resizedImage img s e size t ys) (setAll b ys o) (anodeTable t ++ drop limit a) (resized img s e size)
     unfolding resized
     done-leaves o i b a = rw (plan, i)
-        (leaves-done img (resizedImage img s e size t ys) (resized-disk p) b a (setAll b ys (cond (leb (blockCount s (e .anode)) (blocksFor size)) (e .anode) 1)) (anodeTable t ++ drop limit a)
+        (leaves-done img (resizedImage img s e size t ys) (resized-disk p) b a (setAll b ys owner) (anodeTable t ++ drop limit a)
         (owners-shown b) refl)
 
 -- ---- the plan by its two ways

@@ -88,7 +88,7 @@ impl<'a> Bender<'a> {
     }
 
     /// The image with some bytes of the root block, anode blocks and directory blocks changed at random.
-    pub fn scuffed(&self, rng: &mut Rng) -> Vec<u8> {
+    pub fn with_random_bytes(&self, rng: &mut Rng) -> Vec<u8> {
         let mut image = self.image.to_vec();
         for _ in 0..rng.within(1..=4) {
             let start = usize::from(self.any_examined_block(rng)) * BLOCK;
@@ -115,7 +115,7 @@ impl<'a> Bender<'a> {
     }
 
     /// The image with some fields of anodes and entries set to numbers that have a meaning elsewhere.
-    pub fn jolted(&self, rng: &mut Rng) -> Vec<u8> {
+    pub fn with_misplaced_numbers(&self, rng: &mut Rng) -> Vec<u8> {
         let mut image = self.image.to_vec();
         for _ in 0..rng.within(1..=3) {
             let value = self.telling_number(rng);

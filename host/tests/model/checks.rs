@@ -34,8 +34,8 @@ fn compare_bent(image: &[u8], histogram: &mut Histogram, rng: &mut Rng) {
         }
     }
     for _ in 0..3 {
-        histogram.add(compare_with_junk(&bender.scuffed(rng), rng), "check");
-        histogram.add(compare_with_junk(&bender.jolted(rng), rng), "check");
+        histogram.add(compare_with_junk(&bender.with_random_bytes(rng), rng), "check");
+        histogram.add(compare_with_junk(&bender.with_misplaced_numbers(rng), rng), "check");
     }
     let (blocks, anodes) = junk_tables(image.len() / BLOCK, true, rng);
     let answer = compare_checks(image, blocks, anodes);

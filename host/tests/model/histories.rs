@@ -2,7 +2,7 @@
 
 use ovenknit_host::calls::{run, tables, Call, Outcome, DIRECTORY, UNREAD};
 use ovenknit_host::compare::{junk_tables, totals, Histogram};
-use ovenknit_host::histories::{head_of, random_call, Mood, NO_ANODE, REFUSALS};
+use ovenknit_host::histories::{head_of, random_call, Trend, NO_ANODE, REFUSALS};
 use ovenknit_host::model::layout::{self, AnodeTable, BLOCK};
 use ovenknit_host::model::{self, Model};
 use ovenknit_host::rng::{seeded, Rng};
@@ -36,11 +36,11 @@ impl History {
 
     /// Makes random calls.
     fn go_on(&mut self, calls: usize) {
-        let mut mood = Mood::random(&mut self.rng);
+        let mut trend = Trend::random(&mut self.rng);
         let mut free = self.free_blocks();
         for _ in 0..calls {
-            mood = mood.next(&mut self.rng);
-            let call = random_call(&self.tree, mood, self.blocks(), free, &mut self.rng);
+            trend = trend.next(&mut self.rng);
+            let call = random_call(&self.tree, trend, self.blocks(), free, &mut self.rng);
             self.call(&call);
             free = self.free_blocks();
         }

@@ -32,8 +32,8 @@ returns c =
 write-along-requires : tie.Need-write-along-requires
 write-along-requires c κs =
     let f = rw (c .before .before .found .given .1) at (c .before .before .before .before .find-span .ensures) in
-    let o = c .before .before .before .before .before .before .before .before .before .before .before .before .before .before .pre .1 in
-    rw (o .loaded .is-loaded) (chain-inside o _ (span-found _ _ _ _ _ (f .1) _ _ (f .0) .0) _ (named-member _ _ _ _ _ (f .1)))
+    let l = c .before .before .before .before .before .before .before .before .before .before .before .before .before .before .pre .1 .loaded in
+    rw (l .is-loaded) (chain-inside l (entered (c .before .before .found .given .0 .0)) (_, span-found _ _ _ _ _ (f .1) _ _ (f .0) .0, named-member _ _ _ _ _ (f .1)))
 
 same-length-2 : tie.Need-same-length-2
 same-length-2 c = search needs
@@ -46,7 +46,7 @@ returns-2 c =
     let e = entered (c .before .before .before .before .before .found .given .0 .0) in
     let d = span-found _ _ _ _ _ (f .1) _ _ (f .0) in
     let is = c .before .before .write-along .ensures e refl ∙ ap (λ (s : Anodes). written (a .image .now) s e (a .offset) (a .bytes .now)) (l .is-loaded) in
-    λ b h. leaves-named _ _ _ _ _ (f .0) (f .1) _ _ _ _ _ _ (leaves-written _ (l .accepted) _ (d .0) e (named-member _ _ _ _ _ (f .1)) (d .1) _ _ _ is b h)
+    λ b h. leaves-named _ _ _ _ _ (f .0) (f .1) _ _ _ _ _ _ (leaves-written l e (_, d .0, named-member _ _ _ _ _ (f .1)) (d .1) _ _ _ is b h)
 
 pub write-named-spec : {M : Type 1} → statement M
 write-named-spec =

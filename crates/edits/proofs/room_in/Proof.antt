@@ -1,7 +1,5 @@
-use mathlib.Core.Path.{_≡_, sym, ap, _∙_}
+use mathlib.Core.Path.{sym}
 use native.Mathlib.Omega.{arith}
-use Rattle.disk.specs.Blocks.{blockOf}
-use Rattle.rules.specs.Changes.{entriesEnd}
 use Rattle.edits.proofs.Along.{room-here, room-later}
 use borrow.Author.Needs.{needs}
 use Rattle.edits.proofs.room_in.Statement.{statement}
@@ -14,14 +12,10 @@ entries-end-requires : tie.Need-entries-end-requires
 entries-end-requires c κs = search needs
 
 returns : tie.Need-returns
-returns c =
-    let e : c .before .entries-end .result ≡ entriesEnd (blockOf (c .before .before .before .before .args .image .now) (c .before .before .before .before .args .b .0)) = c .before .entries-end .ensures ∙ ap entriesEnd (c .before .before .block-part .ensures) in
-    λ ys. sym (room-later _ _ _ ys (omega (arith, e)))
+returns c = λ ys. sym (room-later _ _ _ _ _ (c .before .before .block-part .ensures) (c .before .entries-end .ensures) ys (omega arith))
 
 returns-2 : tie.Need-returns-2
-returns-2 c =
-    let e : c .before .before .entries-end .result ≡ entriesEnd (blockOf (c .before .before .before .before .before .args .image .now) (c .before .before .before .before .before .args .b .0)) = c .before .before .entries-end .ensures ∙ ap entriesEnd (c .before .before .before .block-part .ensures) in
-    λ ys. sym (room-later _ _ _ ys (omega (arith, e)))
+returns-2 c = λ ys. sym (room-later _ _ _ _ _ (c .before .before .before .block-part .ensures) (c .before .before .entries-end .ensures) ys (omega arith))
 
 cast-t7 : tie.Need-cast-t7
 cast-t7 c = search needs
@@ -33,9 +27,7 @@ add-t9 : tie.Need-add-t9
 add-t9 c = search needs
 
 returns-3 : tie.Need-returns-3
-returns-3 c =
-    let e : c .before .before .before .entries-end .result ≡ entriesEnd (blockOf (c .before .before .before .before .before .before .args .image .now) (c .before .before .before .before .before .before .args .b .0)) = c .before .before .before .entries-end .ensures ∙ ap entriesEnd (c .before .before .before .before .block-part .ensures) in
-    λ ys. rw e (sym (room-here _ _ _ ys (omega (arith, e))))
+returns-3 c = λ ys. sym (room-here _ _ _ _ _ (c .before .before .before .before .block-part .ensures) (c .before .before .before .entries-end .ensures) ys (omega arith))
 
 pub room-in-spec : {M : Type 1} → statement M
 room-in-spec =

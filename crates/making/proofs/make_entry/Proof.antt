@@ -39,7 +39,9 @@ slice-aggregate-plan-make-3 : tie.Need-slice-aggregate-plan-make-3
 slice-aggregate-plan-make-3 c = search needs
 
 plan-make-requires : tie.Need-plan-make-requires
-plan-make-requires c κs = (loaded-copies (c .before .before .before .before .before .before .before .before .before .before .before .before .before .before .before .before .pre .0 .0) _ _ _ (c .before .before .before .before .before .before .before .copied .ensures) (c .before .before .before .before .before .before .copied2 .ensures) (c .before .before .before .before .before .copied3 .ensures), c .before .before .before .before .before .before .before .before .before .before .before .before .before .before .before .before .pre .1 .0 .0)
+plan-make-requires c κs =
+    let pre = c .before .before .before .before .before .before .before .before .before .before .before .before .before .before .before .before .pre in
+    (loaded-copies (pre .0 .0) _ _ _ (c .before .before .before .before .before .before .before .copied .ensures) (c .before .before .before .before .before .before .copied2 .ensures) (c .before .before .before .before .before .copied3 .ensures), pre .1 .0 .0)
 
 enum-known-planned : tie.Need-enum-known-planned
 enum-known-planned c = search needs

@@ -28,9 +28,10 @@ cast-t24 c = search needs
 
 take-blocks-requires : tie.Need-take-blocks-requires
 take-blocks-requires c κs =
+    let f = c .before .before .before .before .before .before .before .before .before .before .before .before .before .before .before .lowest-free in
     let a = c .before .before .before .before .before .before .before .before .before .before .before .before .before .before .before .before .before .before .before .before .before .args in
     let l = c .before .before .before .before .before .before .before .before .before .before .before .before .before .before .before .before .before .before .before .before .before .pre .0 in
-    ((search needs, search needs, search needs), (lowest-fresh l _ (c .before .before .before .before .before .before .before .before .before .before .before .before .before .before .before .before .before .before .before .before .before .pre .1) _ (lowest-is l _ (c .before .before .before .before .before .before .before .before .before .before .before .before .before .before .before .lowest-free .ensures)) (c .before .before .before .before .before .before .before .before .before .before .before .before .before .before .if1 .left), rw (c .before .before .before .before .before .before .before .before .before .set-entry .ensures, c .before .before .before .before .before .set-entry2 .ensures) (begun-is l _ _ (rewritten-tables (a .counts .now) (a .firsts .now) (a .nexts .now) (c .before .before .before .before .before .before .before .before .before .before .before .before .before .before .before .lowest-free .result) 0 65535 (omega arith) (omega arith)))))
+    ((search needs, search needs, search needs), (lowest-fresh l _ (c .before .before .before .before .before .before .before .before .before .before .before .before .before .before .before .before .before .before .before .before .before .pre .1) _ (lowest-is l _ (f .ensures)) (c .before .before .before .before .before .before .before .before .before .before .before .before .before .before .if1 .left), rw (c .before .before .before .before .before .before .before .before .before .set-entry .ensures, c .before .before .before .before .before .set-entry2 .ensures) (begun-is l _ _ (rewritten-tables (a .counts .now) (a .firsts .now) (a .nexts .now) (f .result) 0 65535 (omega arith) (omega arith)))))
 
 same-length-2 : tie.Need-same-length-2
 same-length-2 c = search needs
@@ -42,7 +43,9 @@ same-length-4 : tie.Need-same-length-4
 same-length-4 c = search needs
 
 returns-2 : tie.Need-returns-2
-returns-2 c = c .before .before .before .before .before .before .take-blocks .ensures _ (room-is (c .before .before .before .before .before .before .before .before .before .before .before .before .before .before .before .before .before .before .before .before .before .before .before .before .before .before .before .before .pre .0) _ (c .before .before .before .before .before .before .before .before .before .before .before .before .before .before .before .before .before .before .before .before .before .before .before .before .before .before .before .before .pre .1) _ _ (c .before .before .before .before .before .before .before .before .before .before .before .before .before .before .before .before .before .before .first-room .ensures))
+returns-2 c =
+    let pre = c .before .before .before .before .before .before .before .before .before .before .before .before .before .before .before .before .before .before .before .before .before .before .before .before .before .before .before .before .pre in
+    c .before .before .before .before .before .before .take-blocks .ensures _ (room-is (pre .0) _ (pre .1) _ _ (c .before .before .before .before .before .before .before .before .before .before .before .before .before .before .before .before .before .before .first-room .ensures))
 
 pub plan-make-spec : {M : Type 1} → statement M
 plan-make-spec =

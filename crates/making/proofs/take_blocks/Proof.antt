@@ -7,7 +7,9 @@ is-directory-requires : tie.Need-is-directory-requires
 is-directory-requires c κs = search needs
 
 take-needed-requires : tie.Need-take-needed-requires
-take-needed-requires c κs = ((search needs, search needs, search needs), first-ready (c .before .before .before .before .before .before .before .before .pre .1 .0) _ (c .before .before .before .before .before .before .before .before .pre .1 .1))
+take-needed-requires c κs =
+    let begun = c .before .before .before .before .before .before .before .before .pre .1 in
+    ((search needs, search needs, search needs), first-ready (begun .0) _ (begun .1))
 
 enum-known-first : tie.Need-enum-known-first
 enum-known-first c = search needs
@@ -25,13 +27,19 @@ same-length-3 : tie.Need-same-length-3
 same-length-3 c = search needs
 
 returns : tie.Need-returns
-returns c = λ len found. first-stopped (c .before .before .before .before .before .before .before .before .before .before .before .before .before .before .before .before .before .before .pre .1 .0) _ len _ found _ (c .before .before .before .before .before .before .before .before .before .before .before .before .before .before .before .before .before .before .pre .1 .1) (c .before .first2 .given .0 .0) (rw (c .before .first2 .given .1, c .before .before .before .before .before .before .before .before .before .before .before .before .before .is-directory .ensures) at (c .before .before .before .before .before .before .before .before .before .take-needed .ensures))
+returns c =
+    let begun = c .before .before .before .before .before .before .before .before .before .before .before .before .before .before .before .before .before .before .pre .1 in
+    let told = c .before .first2 .given in
+    λ len found. first-stopped (begun .0) _ len _ found _ (begun .1) (told .0 .0) (rw (told .1, c .before .before .before .before .before .before .before .before .before .before .before .before .before .is-directory .ensures) at (c .before .before .before .before .before .before .before .before .before .take-needed .ensures))
 
 no-room-requires : tie.Need-no-room-requires
 no-room-requires c κs = search needs
 
 take-needed-requires-2 : tie.Need-take-needed-requires-2
-take-needed-requires-2 c κs = ((search needs, search needs, search needs), next-ready (c .before .before .before .before .before .before .before .before .before .before .before .before .before .before .before .before .before .before .before .before .before .before .pre .1 .0) _ (c .before .before .before .before .before .before .before .before .before .before .before .before .before .before .before .before .before .before .before .before .before .before .pre .1 .1) _ (c .before .before .before .before .before .first .given .0 .0) _ (rw (c .before .before .before .before .before .first .given .1) at (c .before .before .before .before .before .before .before .before .before .before .before .before .before .take-needed .ensures)))
+take-needed-requires-2 c κs =
+    let begun = c .before .before .before .before .before .before .before .before .before .before .before .before .before .before .before .before .before .before .before .before .before .before .pre .1 in
+    let told = c .before .before .before .before .before .first .given in
+    ((search needs, search needs, search needs), next-ready (begun .0) _ (begun .1) _ (told .0 .0) _ (rw (told .1) at (c .before .before .before .before .before .before .before .before .before .before .before .before .before .take-needed .ensures)))
 
 enum-known-second : tie.Need-enum-known-second
 enum-known-second c = search needs
@@ -49,9 +57,13 @@ same-length-6 : tie.Need-same-length-6
 same-length-6 c = search needs
 
 returns-2 : tie.Need-returns-2
-returns-2 c = λ len found.
-    next-stopped (c .before .before .before .before .before .before .before .before .before .before .before .before .before .before .before .before .before .before .before .before .before .before .before .before .before .before .before .before .before .before .before .before .pre .1 .0) _ len _ found _ (c .before .before .before .before .before .before .before .before .before .before .before .before .before .before .before .before .before .before .before .before .before .before .before .before .before .before .before .before .before .before .before .before .pre .1 .1) (c .before .before .before .before .before .before .before .before .before .before .before .before .before .before .before .first .given .0 .0) _ (rw (c .before .before .before .before .before .before .before .before .before .before .before .before .before .before .before .first .given .1, c .before .before .before .before .before .before .before .before .before .before .before .before .before .before .before .before .before .before .before .before .before .before .before .before .before .before .before .is-directory .ensures) at (c .before .before .before .before .before .before .before .before .before .before .before .before .before .before .before .before .before .before .before .before .before .before .before .take-needed .ensures))
-    (c .before .second2 .given .0 .0) (rw (c .before .second2 .given .1, c .before .before .before .before .before .before .before .before .before .before .before .before .before .no-room .ensures) at (c .before .before .before .before .before .before .before .before .before .take-needed2 .ensures))
+returns-2 c =
+    let begun = c .before .before .before .before .before .before .before .before .before .before .before .before .before .before .before .before .before .before .before .before .before .before .before .before .before .before .before .before .before .before .before .before .pre .1 in
+    let own = c .before .before .before .before .before .before .before .before .before .before .before .before .before .before .before .first .given in
+    let told = c .before .second2 .given in
+    λ len found.
+    next-stopped (begun .0) _ len _ found _ (begun .1) (own .0 .0) _ (rw (own .1, c .before .before .before .before .before .before .before .before .before .before .before .before .before .before .before .before .before .before .before .before .before .before .before .before .before .before .before .is-directory .ensures) at (c .before .before .before .before .before .before .before .before .before .before .before .before .before .before .before .before .before .before .before .before .before .before .before .take-needed .ensures))
+    (told .0 .0) (rw (told .1, c .before .before .before .before .before .before .before .before .before .before .before .before .before .no-room .ensures) at (c .before .before .before .before .before .before .before .before .before .take-needed2 .ensures))
 
 place-for-requires : tie.Need-place-for-requires
 place-for-requires c κs = search needs
@@ -66,9 +78,13 @@ same-length-9 : tie.Need-same-length-9
 same-length-9 c = search needs
 
 returns-3 : tie.Need-returns-3
-returns-3 c = λ len found.
-    both-taken (c .before .before .before .before .before .before .before .before .before .before .before .before .before .before .before .before .before .before .before .before .before .before .before .before .before .before .before .before .before .before .before .before .before .pre .1 .0) _ len _ found _ (c .before .before .before .before .before .before .before .before .before .before .before .before .before .before .before .before .before .before .before .before .before .before .before .before .before .before .before .before .before .before .before .before .before .pre .1 .1) (c .before .before .before .before .before .before .before .before .before .before .before .before .before .before .before .before .first .given .0 .0) _ (rw (c .before .before .before .before .before .before .before .before .before .before .before .before .before .before .before .before .first .given .1, c .before .before .before .before .before .before .before .before .before .before .before .before .before .before .before .before .before .before .before .before .before .before .before .before .before .before .before .before .is-directory .ensures) at (c .before .before .before .before .before .before .before .before .before .before .before .before .before .before .before .before .before .before .before .before .before .before .before .before .take-needed .ensures))
-    (c .before .before .second .given .0 .0) _ (rw (c .before .before .second .given .1, c .before .before .before .before .before .before .before .before .before .before .before .before .before .before .no-room .ensures) at (c .before .before .before .before .before .before .before .before .before .before .take-needed2 .ensures)) _ (c .place-for .ensures)
+returns-3 c =
+    let begun = c .before .before .before .before .before .before .before .before .before .before .before .before .before .before .before .before .before .before .before .before .before .before .before .before .before .before .before .before .before .before .before .before .before .pre .1 in
+    let own = c .before .before .before .before .before .before .before .before .before .before .before .before .before .before .before .before .first .given in
+    let parents = c .before .before .second .given in
+    λ len found.
+    both-taken (begun .0) _ len _ found _ (begun .1) (own .0 .0) _ (rw (own .1, c .before .before .before .before .before .before .before .before .before .before .before .before .before .before .before .before .before .before .before .before .before .before .before .before .before .before .before .before .is-directory .ensures) at (c .before .before .before .before .before .before .before .before .before .before .before .before .before .before .before .before .before .before .before .before .before .before .before .before .take-needed .ensures))
+    (parents .0 .0) _ (rw (parents .1, c .before .before .before .before .before .before .before .before .before .before .before .before .before .before .no-room .ensures) at (c .before .before .before .before .before .before .before .before .before .before .take-needed2 .ensures)) _ (c .place-for .ensures)
 
 pub take-blocks-spec : {M : Type 1} → statement M
 take-blocks-spec =

@@ -10,25 +10,30 @@ use Rattle.removing.proofs.commit_remove.Statement.{statement}
 use Rattle.removing.proofs.commit_remove.Tie as tie
 
 drop-chain-requires : tie.Need-drop-chain-requires
-drop-chain-requires c κs = drops-ready (c .before .before .before .before .before .before .before .before .before .before .before .before .before .pre .0 .0) (entered (c .before .before .before .before .before .before .before .before .before .before .before .before .before .args .e)) (c .before .before .before .before .before .before .before .before .before .before .before .before .before .pre .0 .1) _ _ (c .before .before .before .before .before .before .before .before .before .before .before .before .before .pre .1 .1)
+drop-chain-requires c κs =
+    let g = c .before .before .before .before .before .before .before .before .before .before .before .before .before in
+    drops-ready (g .pre .0 .0) (entered (g .args .e)) (g .pre .0 .1) _ _ (g .pre .1 .1)
 
 store-anodes-requires : tie.Need-store-anodes-requires
 store-anodes-requires c κs = search needs
 
 take-out-requires : tie.Need-take-out-requires
 take-out-requires c κs =
-    rw (c .before .before .before .store-anodes .ensures, c .before .before .before .before .before .before .before .before .before .before .before .before .before .before .drop-chain .ensures) (stands (c .before .before .before .before .before .before .before .before .before .before .before .before .before .before .before .before .before .before .before .before .before .before .before .before .before .before .before .before .pre .0 .0) (entered (c .before .before .before .before .before .before .before .before .before .before .before .before .before .before .before .before .before .before .before .before .before .before .before .before .before .before .before .before .args .e)) (c .before .before .before .before .before .before .before .before .before .before .before .before .before .before .before .before .before .before .before .before .before .before .before .before .before .before .before .before .pre .0 .1) _ _ (c .before .before .before .before .before .before .before .before .before .before .before .before .before .before .before .before .before .before .before .before .before .before .before .before .before .before .before .before .pre .1 .1))
+    let g = c .before .before .before .before .before .before .before .before .before .before .before .before .before .before .before .before .before .before .before .before .before .before .before .before .before .before .before .before in
+    rw (c .before .before .before .store-anodes .ensures, c .before .before .before .before .before .before .before .before .before .before .before .before .before .before .drop-chain .ensures) (stands (g .pre .0 .0) (entered (g .args .e)) (g .pre .0 .1) _ _ (g .pre .1 .1))
 
 set-owners-requires : tie.Need-set-owners-requires
 set-owners-requires c κs =
-    let pre = c .before .before .before .before .before .before .before .before .before .before .before .before .before .before .before .before .before .before .before .before .before .before .before .before .before .before .before .before .before .before .before .before .pre in
-    noted-all _ _ (pre .1 .0 .2) (gave-few (pre .0 .0) (entered (c .before .before .before .before .before .before .before .before .before .before .before .before .before .before .before .before .before .before .before .before .before .before .before .before .before .before .before .before .before .before .before .before .args .e)) (pre .0 .1) _ _ _ (pre .1 .1) (omega arith))
+    let g = c .before .before .before .before .before .before .before .before .before .before .before .before .before .before .before .before .before .before .before .before .before .before .before .before .before .before .before .before .before .before .before .before in
+    noted-all _ _ (g .pre .1 .0 .2) (gave-few (g .pre .0 .0) (entered (g .args .e)) (g .pre .0 .1) _ _ _ (g .pre .1 .1) (omega arith))
 
 show-heads-requires : tie.Need-show-heads-requires
 unfolding anodesFrom
 show-heads-requires c κs =
-    let links = removed-links (c .before .before .before .before .before .before .before .before .before .before .before .before .before .before .before .before .before .before .before .before .before .before .before .before .before .before .before .before .before .before .before .before .before .before .before .before .before .before .pre .0 .0) (entered (c .before .before .before .before .before .before .before .before .before .before .before .before .before .before .before .before .before .before .before .before .before .before .before .before .before .before .before .before .before .before .before .before .before .before .before .before .before .before .args .e)) (c .before .before .before .before .before .before .before .before .before .before .before .before .before .before .before .before .before .before .before .before .before .before .before .before .before .before .before .before .before .before .before .before .before .before .before .before .before .before .pre .0 .1) _ _ (c .before .before .before .before .before .before .before .before .before .before .before .before .before .before .before .before .before .before .before .before .before .before .before .before .before .before .before .before .before .before .before .before .before .before .before .before .before .before .pre .1 .1) _ (c .before .before .before .before .before .before .before .before .before .before .before .before .before .before .before .before .before .before .before .before .before .before .before .before .drop-chain .ensures) in
-    (c .before .before .before .before .before .before .before .before .before .before .before .before .before .before .before .before .before .before .before .before .before .before .before .before .before .before .before .before .before .before .before .before .before .before .before .before .before .before .pre .1 .0 .0, c .before .before .before .before .before .before .before .before .before .before .before .before .before .before .before .before .before .before .before .before .before .before .before .before .drop-chain .kept .1 .1 .1 .0 ∙ c .before .before .before .before .before .before .before .before .before .before .before .before .before .before .before .before .before .before .before .before .before .before .before .before .before .before .before .before .before .before .before .before .before .before .before .before .before .before .pre .1 .0 .1, links)
+    let g = c .before .before .before .before .before .before .before .before .before .before .before .before .before .before .before .before .before .before .before .before .before .before .before .before .before .before .before .before .before .before .before .before .before .before .before .before .before .before in
+    let dropped = c .before .before .before .before .before .before .before .before .before .before .before .before .before .before .before .before .before .before .before .before .before .before .before .before .drop-chain in
+    let links = removed-links (g .pre .0 .0) (entered (g .args .e)) (g .pre .0 .1) _ _ (g .pre .1 .1) _ (dropped .ensures) in
+    (g .pre .1 .0 .0, dropped .kept .1 .1 .1 .0 ∙ g .pre .1 .0 .1, links)
 
 same-length : tie.Need-same-length
 same-length c = search needs
@@ -51,8 +56,10 @@ same-length-6 c = search needs
 returns : tie.Need-returns
 unfolding removedImage
 returns c =
-    rw (c .before .before .before .before .before .before .before .before .before .before .before .before .take-out .ensures, c .before .before .before .before .before .before .before .before .before .before .before .before .before .before .before .before .store-anodes .ensures, c .before .before .before .before .before .before .before .before .set-owners .ensures, c .before .before .show-heads .ensures (c .before .before .before .before .before .before .before .before .before .before .before .before .before .before .before .before .before .before .before .before .before .before .before .before .before .before .before .drop-chain .last .1 .0), c .before .before .before .before .before .before .before .before .before .before .before .before .before .before .before .before .before .before .before .before .before .before .before .before .before .before .before .drop-chain .ensures)
-    (done-leaves (c .before .before .before .before .before .before .before .before .before .before .before .before .before .before .before .before .before .before .before .before .before .before .before .before .before .before .before .before .before .before .before .before .before .before .before .before .before .before .before .before .before .pre .0 .0) (entered (c .before .before .before .before .before .before .before .before .before .before .before .before .before .before .before .before .before .before .before .before .before .before .before .before .before .before .before .before .before .before .before .before .before .before .before .before .before .before .before .before .before .args .e)) (c .before .before .before .before .before .before .before .before .before .before .before .before .before .before .before .before .before .before .before .before .before .before .before .before .before .before .before .before .before .before .before .before .before .before .before .before .before .before .before .before .before .pre .0 .1) _ _ (c .before .before .before .before .before .before .before .before .before .before .before .before .before .before .before .before .before .before .before .before .before .before .before .before .before .before .before .before .before .before .before .before .before .before .before .before .before .before .before .before .before .pre .1 .1) _ _)
+    let g = c .before .before .before .before .before .before .before .before .before .before .before .before .before .before .before .before .before .before .before .before .before .before .before .before .before .before .before .before .before .before .before .before .before .before .before .before .before .before .before .before .before in
+    let dropped = c .before .before .before .before .before .before .before .before .before .before .before .before .before .before .before .before .before .before .before .before .before .before .before .before .before .before .before .drop-chain in
+    rw (c .before .before .before .before .before .before .before .before .before .before .before .before .take-out .ensures, c .before .before .before .before .before .before .before .before .before .before .before .before .before .before .before .before .store-anodes .ensures, c .before .before .before .before .before .before .before .before .set-owners .ensures, c .before .before .show-heads .ensures (dropped .last .1 .0), dropped .ensures)
+    (done-leaves (g .pre .0 .0) (entered (g .args .e)) (g .pre .0 .1) _ _ (g .pre .1 .1) _ _)
 
 pub commit-remove-spec : {M : Type 1} → statement M
 commit-remove-spec =

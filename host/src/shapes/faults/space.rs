@@ -16,8 +16,8 @@ pub(super) fn faults(number: u32) -> &'static [Fault] {
         6 => &[anode_0, anode_1_count, anode_1_block, anode_2_free, anode_5_free],
         7 => &[end_above, wrapped_end, next_missing, next_free],
         8 => &[next_special, next_itself, second_predecessor, ring],
-        9 => &[cut_before_2, upper_swallowed, lower_bared, upper_moved, lower_moved],
-        10 => &[extent_grown, extent_moved, system_block_owned, free_anode_woken, empty_filled],
+        9 => &[cut_before_2, last_reserved_raised, last_reserved_lowered, upper_moved, lower_moved],
+        10 => &[extent_grown, extent_moved, system_block_owned, free_anode_given_a_block, empty_filled],
         11 => &[extent_shrunk, start_shrunk, slot_dropped, last_link_cut],
         _ => &[],
     }
@@ -217,7 +217,7 @@ fn cut_before_2(bender: &Bender, image: &mut [u8], _: &mut Rng) -> Option<()> {
 }
 
 /// Last reserved goes up into an upper extent.
-fn upper_swallowed(bender: &Bender, image: &mut [u8], rng: &mut Rng) -> Option<()> {
+fn last_reserved_raised(bender: &Bender, image: &mut [u8], rng: &mut Rng) -> Option<()> {
     let number = bender.with_blocks(bender.sides().0, rng)?;
     let last = low_or_any(bender.anode(number).block..=bender.size16() - 1, rng);
     put_word(root_mut(image), ROOT_LAST_RESERVED, last);
@@ -225,7 +225,7 @@ fn upper_swallowed(bender: &Bender, image: &mut [u8], rng: &mut Rng) -> Option<(
 }
 
 /// Last reserved goes down before the last block of a lower extent.
-fn lower_bared(bender: &Bender, image: &mut [u8], rng: &mut Rng) -> Option<()> {
+fn last_reserved_lowered(bender: &Bender, image: &mut [u8], rng: &mut Rng) -> Option<()> {
     let number = bender.with_blocks(bender.sides().1, rng)?;
     let highest = bender.anode(number).end() - 2;
     let last = if rng.percent(50) { highest } else { rng.within(2..=highest) };
@@ -281,7 +281,7 @@ fn system_block_owned(bender: &Bender, image: &mut [u8], rng: &mut Rng) -> Optio
     Some(())
 }
 
-fn free_anode_woken(bender: &Bender, image: &mut [u8], rng: &mut Rng) -> Option<()> {
+fn free_anode_given_a_block(bender: &Bender, image: &mut [u8], rng: &mut Rng) -> Option<()> {
     let number = bender.any_free(rng, TO_BE_FREED)?;
     let start = rng.within16(1..=bender.size16() - 1);
     bender.put_anode(image, number, Anode::new(1, start, 0));
