@@ -194,7 +194,7 @@ pub fn entry_named(
     Lookup::Missing
 }
 
-// Passes n entries of block `b`, as far as it has them.
+// The n-th entry, from 0, of block `b`, or how many are still to be passed after the block.
 fn nth_in(image: &[u8], b: BlockNo, n: u64) -> Passed
     requires { ⌜ Unbroken (entriesIn (now image) (b .0)) ⌝ }
     ensures { λ r. ⌜ ((rest : List Entered) → orRest r rest ≡ nth (entriesIn (now (image .entry)) (b .0) ++ rest) n) ⌝ }

@@ -69,7 +69,7 @@ fn name_part(image: &[u8], place: usize) -> &[u8]
     part(block, at + 16, read8(block, at + 15) as usize)
 }
 
-// The fields of the entry at a place of the image.
+// Stores the fields of the entry at a place of the image in the lent array.
 fn put_fields(image: &[u8], place: usize, fields: &mut [u32; 11])
     requires { ⌜ place < 65536 * 512 ⌝ }
     ensures { λ _. ⌜ now (fields .exit) ≡ fieldsAt (now (image .entry)) place ⌝ }

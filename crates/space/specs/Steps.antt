@@ -52,7 +52,7 @@ moveBlock img taking s h = cond taking (takeBlock limit (exists img) false s h) 
 unfoldable pub moveMany : List ℕ → Bool → ℕ → Anodes → ℕ → Plan
 moveMany img taking k s h = repeated (λ t. moveBlock img taking t h) k s
 
--- the anodes of a disk in good order: refusals 6 to 11 hold, with some table of heads and of sides
+-- the anodes of a disk in good order: none of the refusals 6 to 11 is given; with some table of heads and of sides
 abbrev pub GoodAnodes : List ℕ → Anodes → Type 0
 GoodAnodes img s = (hd : ℕ → ℕ) × (sd : ℕ → ℕ) × Good limit (exists img) (diskSize img) (lastReserved img) s (systemOwns img) hd sd
 

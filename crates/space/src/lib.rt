@@ -1,4 +1,4 @@
-// Takes and gives back blocks one at a time, on the anodes in three lent tables. What a refused step leaves in the tables is free.
+// Takes and gives back blocks one at a time, on the anodes in three lent tables. The contracts do not say what a refused step leaves in the tables.
 ghost use mathlib.Core.Bool.{false, cond, _&&_};
 ghost use mathlib.Core.List.{List};
 ghost use mathlib.Core.Logic.{_≢_};
@@ -97,7 +97,7 @@ fn first_full(counts: &[u16], nexts: &[u16], from: usize) -> Extent
     Extent::Nowhere
 }
 
-// The anode where the side of the free list starts at which directories (`own`) or data look first.
+// The anode that starts the side of the free list where directories (`own`) or data look first.
 fn near_side(own: bool) -> usize
     ensures { λ r. ⌜ r ≡ cond own 2 1 ⌝ }
 {
@@ -268,7 +268,7 @@ fn without_block(
     unlink(counts, firsts, nexts, p, x);
 }
 
-// Takes a block for the chain of `head`: data looks above last reserved first, directories (`own`) up to it first and into an anode of its own.
+// Takes a block for the chain of `head`: data looks above last reserved first, directories (`own`) up to it first. A directory block gets an anode of its own.
 pub fn take_block(
     image: &[u8],
     own: bool,
