@@ -8,8 +8,9 @@ ghost use Rattle.rules.specs.Counting.{sameBytes};
 ghost use Rattle.rules.specs.Walk.{Entered, entriesIn};
 ghost use Rattle.rules.specs.Changes.{parentOf};
 ghost use Rattle.rules.specs.Lookup.{firstNamed, entryNamed, entriesOf, nth};
+ghost use Rattle.laws.specs.Entries.{enteredAt};
 ghost use Rattle.anodes.specs.Loaded.{anodesFrom};
-ghost use Rattle.lookup.specs.Answers.{entered, entryOf, orElse, onlyIf, placed, Unbroken, orRest};
+ghost use Rattle.lookup.specs.Answers.{entryOf, orElse, onlyIf, placed, Unbroken, orRest};
 ghost use Rattle.lookup.specs.Queued.{placeOf, noneHeaded, OwnHeads};
 ghost use Rattle.tree.specs.Steps.{queueOf};
 use directory::Entry;
@@ -133,7 +134,7 @@ fn first_of(one: Lookup, later: Lookup) -> Lookup
 // The entry at a place of block `b`, if it has that name.
 fn named_at(block: &[u8], b: BlockNo, at: usize, e: Entry, name: &[u8]) -> Lookup
     requires { ⌜ at ≤ 65535 ⌝ }
-    ensures { λ r. ⌜ entryOf r ≡ onlyIf (sameBytes (nameIn (now (block .entry)) at) (now (name .entry))) (entered (placed e (b .0 * 512 + at))) ⌝ }
+    ensures { λ r. ⌜ entryOf r ≡ onlyIf (sameBytes (nameIn (now (block .entry)) at) (now (name .entry))) (enteredAt e (b .0 * 512 + at)) ⌝ }
 {
     if has_name(block, at, name) {
         return Lookup::Found(entry_in_image(b, at, e));
