@@ -2,9 +2,10 @@
 use Prim.Native.Nat.{ℕ}
 use mathlib.Core.Path.{_≡_}
 use mathlib.Core.Logic.{_≢_}
-use mathlib.Core.Bool.{Bool, false, cond}
+use mathlib.Core.Bool.{Bool, false, cond, _&&_}
 use mathlib.Core.List.{List, [], _∷_}
-use lib.ListN.{take}
+use lib.Dec.{eqb}
+use lib.ListN.{getD, take}
 use Rattle.disk.specs.Refusals.{numberOf}
 use Rattle.rules.specs.Anodes.{Anodes, limit, exists}
 use Rattle.rules.specs.Chains.{systemOwns}
@@ -18,6 +19,10 @@ use Rattle.space.specs.declared.Moves.{Moves}
 use Rattle.space.specs.declared.Moves.the-variants.{Done, Stopped}
 use Rattle.space.specs.declared.Extent.{Extent}
 use Rattle.space.specs.declared.Extent.the-variants.{Nowhere, At}
+
+-- anode a exists and is free, by a table of the anodes' blocks
+abbrev pub freeIn : List ℕ → List ℕ → ℕ → Bool
+freeIn img firsts a = eqb (getD firsts a 0) 0 && exists img a
 
 -- the plan that a step answers: the block that changed hands, or the refusal
 abbrev pub stepPlan : Step → Anodes → Plan

@@ -1,10 +1,9 @@
 // Takes and gives back blocks one at a time, on the anodes in three lent tables. The contracts do not say what a refused step leaves in the tables.
-ghost use mathlib.Core.Bool.{false, cond, _&&_};
+ghost use mathlib.Core.Bool.{false, cond};
 ghost use mathlib.Core.List.{List};
 ghost use mathlib.Core.Logic.{_≢_};
 ghost use mathlib.Core.Path.{_≡_};
 ghost use Prim.Native.Nat.{ℕ, _+_, _<_, _≤_};
-ghost use lib.Dec.{eqb};
 ghost use lib.ListN.{length, getD};
 ghost use Rattle.rules.specs.Counting.{lastOf};
 ghost use Rattle.rules.specs.Anodes.{exists};
@@ -13,7 +12,7 @@ ghost use Rattle.rules.specs.Accepted.{lastReserved};
 ghost use Rattle.rules.specs.Space.{rewritten, insertedAfter, unlinked, withoutBlock, firstFull, lastFull, freeExtent, sideOf, lowestFree, append, put, takeBlock, join, giveBack, dropped};
 ghost use Rattle.laws.specs.Links.{Linked};
 ghost use Rattle.anodes.specs.Loaded.{anodesFrom, AnodeTables};
-ghost use Rattle.space.specs.Steps.{stepPlan, manyPlan, stoppedBy, movesNumber, movesCount, moveBlock, moveMany, Ready, foundOf};
+ghost use Rattle.space.specs.Steps.{freeIn, stepPlan, manyPlan, stoppedBy, movesNumber, movesCount, moveBlock, moveMany, Ready, foundOf};
 use disk::AnodeNo;
 use disk::BlockNo;
 use disk::Refusal;
@@ -45,7 +44,7 @@ enum Extent {
 
 // Whether anode `a` exists and is free.
 fn is_free(image: &[u8], firsts: &[u16], a: usize) -> bool
-    ensures { λ r. ⌜ r ≡ (eqb (getD (now (firsts .entry)) a 0) 0 && exists (now (image .entry)) a) ⌝ }
+    ensures { λ r. ⌜ r ≡ freeIn (now (image .entry)) (now (firsts .entry)) a ⌝ }
 {
     if entry(firsts, a) != 0 {
         return false;
