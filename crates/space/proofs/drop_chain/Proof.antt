@@ -56,9 +56,9 @@ loop-less c = search needs
 
 loop-again : tie.Need-loop-again Inv-loop μ-loop
 loop-again c = let l = c .before .before .before .before .before .before .before .before .before .before .before .before .before .before .before .before .loop in (
-  c .before .before .before .before .before .before .before .before .before .before .set-entry .kept .0 ∙ l .inv .0,
-  c .before .before .before .before .before .before .set-entry2 .kept .0 ∙ l .inv .1,
-  c .before .before .set-entry3 .kept .0 ∙ l .inv .2,
+  search needs,
+  search needs,
+  search needs,
   rw (c .before .before .before .before .before .before .before .before .before .before .set-entry .ensures, c .before .before .before .before .before .before .set-entry2 .ensures, c .before .before .set-entry3 .ensures, c .before .before .before .before .before .before .before .before .before .before .before .before .entry .ensures) (sym (zeroed-tables (l .fuel) (l .fuel - 1) _ _ _ (l .at) (omega (arith, c .before .before .before .before .before .before .before .before .before .before .before .before .before .before .before .loop-test .taken)) (c .before .before .before .before .before .before .before .before .before .before .before .before .before .before .if1 .left)) ∙ l .inv .3),
 )
 

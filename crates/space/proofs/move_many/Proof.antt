@@ -80,8 +80,8 @@ loop-again c =
     let pre = c .before .before .before .before .before .before .before .before .before .before .before .before .before .before .before .before .before .before .before .before .before .before .before .before .pre in
     let t = anodesFrom (w .last .1 .1 .1 .0) (w .last .1 .1 .1 .1 .0) (w .last .1 .1 .1 .1 .1 .0) in
     let step = c .before .before .before .before .before .step .given in (
-      (w .kept .1 .1 .1 .0 ∙ l .inv .0 .0, w .kept .1 .1 .1 .1 .0 ∙ l .inv .0 .1, w .kept .1 .1 .1 .1 .1 .0 ∙ l .inv .0 .2),
-      c .before .before .set-entry .kept .0 ∙ l .inv .1,
+      search needs,
+      search needs,
       rw (c .before .before .set-entry .ensures) (run-next _ _ _ (pre .1 .0 .0 .0) _ _ _ _ _ (l .inv .2) (c .before .before .before .before .before .before .before .before .before .before .before .before .before .before .before .before .before .loop-test .taken) (pre .1 .0 .1 .1) (l .inv .1) t (step .0 .0 .0) (sym (w .ensures) ∙ ap (λ (z : Step). stepPlan z t) (step .1))),
     )
 

@@ -88,7 +88,7 @@ put-requires c κs =
     let pre = f .before .before .before .before .before .before .before .before .before .pre in
     let w = l .before .before .before .before .before .before .before .before .before .without-block in
     let end = chain-end _ _ (pre .1 .0 .1) _ _ _ (extent f) _ (pre .1 .1 .0) (pre .1 .1 .1) (w .last .0) (w .last .1 .0) (w .last .1 .1 .0) (left l) _ (l .last-anode .ensures) in
-    (end .0, (w .kept .0 ∙ pre .0 .0, w .kept .1 .0 ∙ pre .0 .1, w .kept .1 .1 .0 ∙ pre .0 .2), end .1)
+    (end .0, search needs, end .1)
 
 same-length-3 : tie.Need-same-length-3
 same-length-3 c = search needs
