@@ -14,11 +14,10 @@ use Rattle.rules.specs.Space.{nowhere, found, lastFull, withoutLast, sideOf, jo
 use Rattle.laws.specs.Acceptance.{size-bounds}
 use Rattle.laws.specs.Heads.{Head}
 use Rattle.laws.specs.Sides.{side-last-used}
-use Rattle.laws.specs.Searches.{FoundIn}
+use Rattle.laws.specs.Searches.{FoundIn, lastFull-none}
 use Rattle.laws.specs.Moves.{InHand}
 use Rattle.laws.specs.Give.{sideOf-head, given-found, withoutLast-out}
 use Rattle.anodes.specs.Loaded.{anodesFrom}
-use Rattle.laws.specs.Searches.{lastFull-none}
 use Rattle.space.specs.Steps.{GoodAnodes}
 use Rattle.space.proofs.Taking.{used-below}
 
