@@ -96,12 +96,12 @@ pub refused-before : (a b c : ℕ) → c ≡ firstOf a b → (r : Refusal) → a
 refused-before a b c is r e = is ∙ firstOf-some a b (numberOf r) e (number-some r)
 
 -- what it passed, the row behind it refuses or passes by the test of the entry that was found
-module _ (test : Option Entered → Bool) (o : Option Entered) (x : Entered) (found : o ≡ some x) (a c n : ℕ) (is : c ≡ firstOf a (n if test o else 0)) (passed : a ≡ 0) (r : Bool) (tested : test (some x) ≡ r) where
-  row : c ≡ (n if r else 0)
-  row = is ∙ firstOf-none a (n if test o else 0) passed ∙ ap (λ (b : Bool). n if b else 0) (ap test found ∙ tested)
+module _ (test : Option Entered → Bool) (o : Option Entered) (x : Entered) (a c n : ℕ) (is : c ≡ firstOf a (n if test o else 0)) (passed : (a ≡ 0) × (o ≡ some x)) (r : Bool) (tested : test (some x) ≡ r) where
+  row : (v : Bool) → r ≡ v → c ≡ (n if v else 0)
+  row v e = is ∙ firstOf-none a (n if test o else 0) (passed .0) ∙ ap (λ (b : Bool). n if b else 0) (ap test (passed .1) ∙ tested ∙ e)
 
   pub refused-now : r ≡ true → c ≡ n
-  refused-now e = row ∙ ap (λ (b : Bool). n if b else 0) e
+  refused-now e = row true e
 
-  pub passed-now : r ≡ false → c ≡ 0
-  passed-now e = row ∙ ap (λ (b : Bool). n if b else 0) e
+  pub passed-now : r ≡ false → (c ≡ 0) × (o ≡ some x)
+  passed-now e = (row false e, passed .1)
