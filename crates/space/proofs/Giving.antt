@@ -23,6 +23,7 @@ use Rattle.space.proofs.Taking.{used-below}
 
 -- ---- which extent
 
+-- a chain with a block has an anode with one
 pub full-there : (s : Anodes) (h : ℕ) → 0 < blockCount s h → lastFull (s .count) 0 (chainOf (s .next) 3444 h) ≡ nowhere → ⊥
 unfolding blockCount
 full-there s h some e = omega (arith, some, lastFull-none (s .count) 0 (chainOf (s .next) 3444 h) e)

@@ -61,7 +61,7 @@ moveMany img taking k s h = repeated (λ t. moveBlock img taking t h) k s
 abbrev pub GoodAnodes : List ℕ → Anodes → Type 0
 GoodAnodes img s = (hd : ℕ → ℕ) × (sd : ℕ → ℕ) × Good limit (exists img) (diskSize img) (lastReserved img) s (systemOwns img) hd sd
 
--- what a step on the chain of h asks of the anodes s: h heads a chain other than the free list
+-- what a step on the chain of h asks: a disk of a right size, its anodes s in good order, and that h heads a chain other than the free list
 abbrev pub Ready : List ℕ → Anodes → ℕ → Type 0
 Ready img s h = ((wrongSize img ≡ false) × GoodAnodes img s) × (Head (s .next) (s .block) h × (h ≢ 1))
 
