@@ -11,6 +11,7 @@ use Rattle.rules.specs.Anodes.{Anodes, limit, exists}
 use Rattle.rules.specs.Chains.{systemOwns}
 use Rattle.rules.specs.Accepted.{diskSize, wrongSize, lastReserved}
 use Rattle.rules.specs.Space.{Plan, refused, planned, Found, nowhere, found, repeated, takeBlock, giveBack}
+use Rattle.laws.specs.Links.{Linked}
 use Rattle.laws.specs.Heads.{Head}
 use Rattle.laws.specs.Space.{Good}
 use Rattle.space.specs.declared.Step.{Step}
@@ -64,6 +65,10 @@ GoodAnodes img s = (hd : ℕ → ℕ) × (sd : ℕ → ℕ) × Good limit (exist
 -- what a step on the chain of h asks: a disk of a right size, its anodes s in good order, and that h heads a chain other than the free list
 abbrev pub Ready : List ℕ → Anodes → ℕ → Type 0
 Ready img s h = ((wrongSize img ≡ false) × GoodAnodes img s) × (Head (s .next) (s .block) h × (h ≢ 1))
+
+-- what is asked where the chain of h is zeroed: the anodes s are linked as the rules ask, and h is in use
+abbrev pub LinkedFrom : Anodes → ℕ → Type 0
+LinkedFrom s h = Linked limit (s .next) (s .block) × (s .block h ≢ 0)
 
 -- an extent found in the tables
 abbrev pub foundOf : Extent → Found

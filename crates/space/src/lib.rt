@@ -10,9 +10,8 @@ ghost use Rattle.rules.specs.Anodes.{exists};
 ghost use Rattle.rules.specs.Chains.{chainOf, cut, blockCount};
 ghost use Rattle.rules.specs.Accepted.{lastReserved};
 ghost use Rattle.rules.specs.Space.{rewritten, insertedAfter, unlinked, withoutBlock, firstFull, lastFull, freeExtent, sideOf, lowestFree, append, put, takeBlock, join, giveBack, dropped};
-ghost use Rattle.laws.specs.Links.{Linked};
 ghost use Rattle.anodes.specs.Loaded.{anodesFrom, AnodeTables};
-ghost use Rattle.space.specs.Steps.{freeIn, stepPlan, manyPlan, stoppedBy, movesNumber, movesCount, moveBlock, moveMany, Ready, foundOf};
+ghost use Rattle.space.specs.Steps.{freeIn, stepPlan, manyPlan, stoppedBy, movesNumber, movesCount, moveBlock, moveMany, Ready, LinkedFrom, foundOf};
 use disk::AnodeNo;
 use disk::BlockNo;
 use disk::Refusal;
@@ -444,7 +443,7 @@ pub fn move_many(
 
 // Zeroes the anodes of the chain of `head`.
 pub fn drop_chain(head: AnodeNo, counts: &mut [u16], firsts: &mut [u16], nexts: &mut [u16])
-    requires { ⌜ Linked 3444 (anodesFrom (now counts) (now firsts) (now nexts) .next) (anodesFrom (now counts) (now firsts) (now nexts) .block) × (anodesFrom (now counts) (now firsts) (now nexts) .block (head .0) ≢ 0) ⌝ }
+    requires { ⌜ LinkedFrom (anodesFrom (now counts) (now firsts) (now nexts)) (head .0) ⌝ }
     ensures { λ _. ⌜ anodesFrom (now (counts .exit)) (now (firsts .exit)) (now (nexts .exit)) ≡ dropped 3444 (anodesFrom (now (counts .entry)) (now (firsts .entry)) (now (nexts .entry))) (head .0) ⌝ }
 {
     let mut at = head.0 as usize;
