@@ -10,7 +10,7 @@ ghost use Rattle.rules.specs.Anodes.{anodesOf};
 ghost use Rattle.rules.specs.Lookup.{entryNamed};
 ghost use Rattle.rules.specs.Changes.{left, newEntry, made, written, resized, removed};
 ghost use Rattle.rules.specs.Calls.{spanAnswer, resizeAnswer, removeAnswer, makeAnswer, leftAfter, changeNamed};
-ghost use Rattle.find.specs.Open.{Open};
+ghost use Rattle.find.specs.Open.{Open, OpenAnodes};
 ghost use Rattle.changed.specs.Leaves.{Leaves};
 use contents::write_along;
 use directory::KindRead;
@@ -45,7 +45,7 @@ pub fn write_named(
     offset: u64,
     bytes: &[u8],
 ) -> u32
-    requires { ⌜ ((parents : List ℕ) × Open (now image) (now counts) (now firsts) (now nexts) (now queue) parents (now heads) dirs) ⌝ }
+    requires { ⌜ OpenAnodes (now image) (now counts) (now firsts) (now nexts) (now queue) (now heads) dirs ⌝ }
     ensures { λ r. ⌜ ((b a : List ℕ) → Leaves r (now (image .entry)) b a (now (image .exit)) b a (changeNamed (spanAnswer (now (image .entry)) (anodesOf (now (image .entry))) (head .0) (now (name .entry)) offset (length (now (bytes .entry)))) (now (image .entry)) (entryNamed (now (image .entry)) (anodesOf (now (image .entry))) (head .0) (now (name .entry))) (λ e. left 0 (written (now (image .entry)) (anodesOf (now (image .entry))) e offset (now (bytes .entry)))))) ⌝ }
 {
     let len = bytes.len();
@@ -83,7 +83,7 @@ pub fn resize_named(
     name: &[u8],
     size: u64,
 ) -> u32
-    requires { ⌜ ((parents : List ℕ) × Open (now image) (now counts) (now firsts) (now nexts) (now queue) parents (now heads) dirs) × (3444 ≤ length (now heads)) ⌝ }
+    requires { ⌜ OpenAnodes (now image) (now counts) (now firsts) (now nexts) (now queue) (now heads) dirs × (3444 ≤ length (now heads)) ⌝ }
     ensures { λ r. ⌜ Leaves r (now (image .entry)) (now (blocks .entry)) (now (heads .entry)) (now (image .exit)) (now (blocks .exit)) (now (heads .exit)) (changeNamed (resizeAnswer (now (image .entry)) (anodesOf (now (image .entry))) (head .0) (now (name .entry))) (now (image .entry)) (entryNamed (now (image .entry)) (anodesOf (now (image .entry))) (head .0) (now (name .entry))) (λ e. resized (now (image .entry)) (anodesOf (now (image .entry))) e size)) ⌝ }
 {
     let found = find_file(image, firsts, nexts, queue, heads, dirs, head, name);
@@ -107,7 +107,7 @@ pub fn remove_named(
     head: AnodeNo,
     name: &[u8],
 ) -> u32
-    requires { ⌜ ((parents : List ℕ) × Open (now image) (now counts) (now firsts) (now nexts) (now queue) parents (now heads) dirs) × (3444 ≤ length (now heads)) ⌝ }
+    requires { ⌜ OpenAnodes (now image) (now counts) (now firsts) (now nexts) (now queue) (now heads) dirs × (3444 ≤ length (now heads)) ⌝ }
     ensures { λ r. ⌜ Leaves r (now (image .entry)) (now (blocks .entry)) (now (heads .entry)) (now (image .exit)) (now (blocks .exit)) (now (heads .exit)) (changeNamed (removeAnswer (now (image .entry)) (anodesOf (now (image .entry))) (head .0) (now (name .entry))) (now (image .entry)) (entryNamed (now (image .entry)) (anodesOf (now (image .entry))) (head .0) (now (name .entry))) (λ e. removed (now (image .entry)) (anodesOf (now (image .entry))) e)) ⌝ }
 {
     let found = find_removable(image, firsts, nexts, queue, heads, dirs, head, name);

@@ -2,16 +2,16 @@
 use Prim.Native.Nat.{ℕ, zero, suc, _≤_, _<_}
 use mathlib.Core.Path.{_≡_, refl, sym, ap, _∙_}
 use mathlib.Core.Bool.{Bool, true, false, cond, not}
-use mathlib.Core.List.{List, [], map}
+use mathlib.Core.List.{List, []}
 use mathlib.Core.Option.{Option, some}
 use native.Mathlib.Omega.{arith}
-use lib.Dec.{eqb, ltb}
+use lib.Dec.{ltb}
 use lib.ListN.{getD}
 use borrow.Author.Tests.{lt-ltb}
 use Rattle.disk.specs.declared.Refusal.{Refusal}
 use Rattle.disk.specs.Refusals.{numberOf}
 use Rattle.disk.proofs.Laws.{number-some}
-use Rattle.rules.specs.Counting.{_if_else_, firstOf, times, anyIn}
+use Rattle.rules.specs.Counting.{_if_else_, firstOf}
 use Rattle.rules.specs.Anodes.{Anodes, anodesOf}
 use Rattle.rules.specs.Walk.{Entered, Dir}
 use Rattle.rules.specs.Lookup.{noDirectory, entriesOf, nth, isThere, notEmpty, fullDir}
@@ -24,8 +24,8 @@ use Rattle.changes.specs.Answers.{searchNumber}
 use Rattle.changes.specs.Image.{accepted-own, accepted-whole}
 use Rattle.changes.specs.Reached.{reached-head, reached-unbroken}
 use Rattle.lookup.specs.declared.Lookup.{Lookup}
-use Rattle.lookup.specs.Answers.{entryOf}
-use Rattle.lookup.specs.Queued.{placeOf}
+use Rattle.lookup.specs.Answers.{entryOf, Unbroken}
+use Rattle.lookup.specs.Queued.{placeOf, noneHeaded, OwnHeads}
 use Rattle.lookup.proofs.Queue.{place-found, place-times}
 use Rattle.find.specs.Open.{Open}
 use Rattle.find.specs.declared.Search.{Search}
@@ -33,9 +33,9 @@ use Rattle.find.specs.Found.{Finds}
 
 module _ {img counts firsts nexts queue parents heads : List ℕ} {dirs : ℕ} (o : Open img counts firsts nexts queue parents heads dirs) where
   -- the test of 21 is the search in the queue
-  pub reached-queued : (h : ℕ) (r : Bool) → ((p : List ℕ) → not r ≡ eqb (times h (map (λ d. d .head) (queueOf queue p dirs))) 0) → noDirectory img (anodesOf img) h ≡ not r
+  pub reached-queued : (h : ℕ) (r : Bool) → ((p : List ℕ) → not r ≡ noneHeaded (queueOf queue p dirs) h) → noDirectory img (anodesOf img) h ≡ not r
   unfolding noDirectory
-  reached-queued h r e = sym (e parents ∙ ap (λ (l : List Dir). eqb (times h (map (λ d. d .head) l)) 0) (o .queued))
+  reached-queued h r e = sym (e parents ∙ ap (λ (l : List Dir). noneHeaded l h) (o .queued))
 
   queued-reached : (i : ℕ) → i < dirs → noDirectory img (anodesOf img) (getD queue i 0) ≡ false
   queued-reached i l =
@@ -44,7 +44,7 @@ module _ {img counts firsts nexts queue parents heads : List ℕ} {dirs : ℕ} (
       reached-queued h (ltb (placeOf queue h 0 dirs) dirs) (λ p. place-times queue h p dirs) ∙ ap not (lt-ltb (placeOf queue h 0 dirs) dirs (omega (arith, found)))
 
   -- a reached directory's head is its own head in the table that the check filled
-  pub own-heads : (i : ℕ) → i < dirs → getD heads (getD queue i 0) 0 ≡ getD queue i 0
+  pub own-heads : OwnHeads heads queue dirs
   own-heads i l =
       let image = accepted-own img (o .loaded .accepted) in
       let w = accepted-whole image in
@@ -52,7 +52,7 @@ module _ {img counts firsts nexts queue parents heads : List ℕ} {dirs : ℕ} (
       o .shown (getD queue i 0) (w .good .linked .view .below (getD queue i 0) (d .in-use)) ∙ anodeEntry-is (w .good) (getD queue i 0) ∙ w .good .heads .at-head (getD queue i 0) d
 
   -- its entries are unbroken, by the blocks and nexts alone
-  pub open-unbroken : (h : ℕ) → noDirectory img (anodesOf img) h ≡ false → anyIn (λ e. e .broken) (entriesOf img (anodesFrom [] firsts nexts) h) ≡ false
+  pub open-unbroken : (h : ℕ) → noDirectory img (anodesOf img) h ≡ false → Unbroken (entriesOf img (anodesFrom [] firsts nexts) h)
   unfolding entriesOf anodesFrom
   open-unbroken h e = rw (← (o .loaded .is-loaded)) at (reached-unbroken (record { image = accepted-own img (o .loaded .accepted); reached = e }))
 
@@ -96,12 +96,12 @@ pub refused-before : (a b c : ℕ) → c ≡ firstOf a b → (r : Refusal) → a
 refused-before a b c is r e = is ∙ firstOf-some a b (numberOf r) e (number-some r)
 
 -- what it passed, the row behind it refuses or passes by the test of the entry that was found
-module _ (test : Option Entered → Bool) (o : Option Entered) (x : Entered) (found : o ≡ some x) (a c n : ℕ) (is : c ≡ firstOf a (n if test o else 0)) (passed : a ≡ 0) (r : Bool) (tested : test (some x) ≡ r) where
-  row : c ≡ (n if r else 0)
-  row = is ∙ firstOf-none a (n if test o else 0) passed ∙ ap (λ (b : Bool). n if b else 0) (ap test found ∙ tested)
+module _ (test : Option Entered → Bool) (o : Option Entered) (x : Entered) (a c n : ℕ) (is : c ≡ firstOf a (n if test o else 0)) (passed : (a ≡ 0) × (o ≡ some x)) (r : Bool) (tested : test (some x) ≡ r) where
+  row : (v : Bool) → r ≡ v → c ≡ (n if v else 0)
+  row v e = is ∙ firstOf-none a (n if test o else 0) (passed .0) ∙ ap (λ (b : Bool). n if b else 0) (ap test (passed .1) ∙ tested ∙ e)
 
   pub refused-now : r ≡ true → c ≡ n
-  refused-now e = row ∙ ap (λ (b : Bool). n if b else 0) e
+  refused-now e = row true e
 
-  pub passed-now : r ≡ false → c ≡ 0
-  passed-now e = row ∙ ap (λ (b : Bool). n if b else 0) e
+  pub passed-now : r ≡ false → (c ≡ 0) × (o ≡ some x)
+  passed-now e = (row false e, passed .1)

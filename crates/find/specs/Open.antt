@@ -15,6 +15,10 @@ pub record Open (img counts firsts nexts queue parents heads : List ℕ) (dirs :
   pub queued : queueOf queue parents dirs ≡ reachedDirs img (anodesOf img)
   pub shown : (a : ℕ) → a < limit → getD heads a 0 ≡ anodeEntry (anodesOf img) a
 
+-- where the parents are not lent on
+abbrev pub OpenAnodes : List ℕ → List ℕ → List ℕ → List ℕ → List ℕ → List ℕ → ℕ → Type 0
+OpenAnodes img counts firsts nexts queue heads dirs = (parents : List ℕ) × Open img counts firsts nexts queue parents heads dirs
+
 -- where the counts and the parents are not lent on
 abbrev pub OpenFor : List ℕ → List ℕ → List ℕ → List ℕ → List ℕ → ℕ → Type 0
 OpenFor img firsts nexts queue heads dirs = (counts : List ℕ) × (parents : List ℕ) × Open img counts firsts nexts queue parents heads dirs

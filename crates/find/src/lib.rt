@@ -1,4 +1,4 @@
-// Finds an entry, by its name or by its place, in a directory of an accepted image, and tries the refusals 21 to 26 of the call that asks for it.
+// Finds an entry, by its name or by its place, in a directory of an accepted image, and tries the refusals 21, 22 and 24 to 26 of the call that asks for it.
 ghost use mathlib.Core.Bool.{cond, false};
 ghost use mathlib.Core.List.{List};
 ghost use mathlib.Core.Path.{_≡_};

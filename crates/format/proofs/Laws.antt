@@ -90,7 +90,7 @@ root-lent img z h e =
     rw e (block-lent (started z) 2 (omega arith) ∙ blockOf-started z 2 (omega arith) h)
 
 -- the root directory's head
-abbrev pub rootHead : DirectoryHead
+abbrev rootHead : DirectoryHead
 rootHead = record { mark = directoryMark; owner = record { 0 = 5 }; parent = record { 0 = 0 } }
 
 module _ (img : List ℕ) (last k : ℕ) (name : List ℕ) (day minute tick protection : ℕ) where

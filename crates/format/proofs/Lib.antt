@@ -1,3 +1,3 @@
--- The laws that the proofs cite.
+-- Laws of the parts that format stores, and of a formatted image.
 pub mod Parts
 pub mod Laws

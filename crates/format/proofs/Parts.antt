@@ -177,6 +177,7 @@ module _ (n last k : ℕ) where
 
   -- the first block's anodes, over those of the block that it is stored in
   module _ (b : List ℕ) (whole : 512 ≤ length b) where
+    -- the block once anode 0 is stored, then 1, 2 and 5
     abbrev b0 : List ℕ
     b0 = putAnode b 0 (anodeMade 0 65535 0)
 

@@ -133,7 +133,7 @@ fn upper_anode(n: u16, last: u16) -> Anode
     anode(n - (last + 1), last + 1, 2)
 }
 
-// Anode 1: the head of the list of free blocks.
+// Anode 1: the head of the free list.
 fn list_head(n: u16, last: u16) -> Anode
     requires { ⌜ last < n ⌝ }
     ensures { λ r. ⌜ r ≡ listHead n last ⌝ }
@@ -190,7 +190,7 @@ fn put_anode_blocks(image: &mut [u8], n: u16, last: u16, slots: u16)
     }
 }
 
-// Makes an empty disk, by arguments that are not refused.
+// Makes an empty disk from arguments that are not refused.
 fn make(
     image: &mut [u8],
     last: u16,
@@ -229,7 +229,7 @@ fn make(
     );
 }
 
-// Makes an empty disk with last reserved `last` and so many anode blocks; a refused call leaves the image.
+// Makes an empty disk with last reserved `last` and so many anode blocks; a refused call leaves the image as it is; 1, 20.
 pub fn format(
     image: &mut [u8],
     last: u16,

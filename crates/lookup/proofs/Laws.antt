@@ -23,9 +23,9 @@ use Rattle.rules.specs.Chains.{chainOf}
 use Rattle.rules.specs.Walk.{Entered, entriesFrom, entriesIn}
 use Rattle.rules.specs.Lookup.{nameAt, isNamed, firstNamed, entryNamed, entriesOf, nth}
 use Rattle.anodes.specs.Loaded.{anodesFrom}
-use Rattle.laws.specs.Entries.{entries-fault, entries-step}
+use Rattle.laws.specs.Entries.{enteredAt, entries-fault, entries-step}
 use Rattle.laws.specs.Chains.{gathered-step}
-use Rattle.lookup.specs.Answers.{placed, entered, orElse, onlyIf, Unbroken}
+use Rattle.lookup.specs.Answers.{orElse, onlyIf, Unbroken}
 
 -- ---- bytes from `i` on
 
@@ -52,7 +52,7 @@ module _ (l m : List ℕ) (i : ℕ) (whole : length l ≡ length m) where
 -- ---- the entries of a block, from a place on
 
 is-named : (img : List ℕ) (y : ℕ) (block : List ℕ) (at : ℕ) (name : List ℕ) (e : Entry) → block ≡ blockOf img y → at < 512
-    → isNamed img name (entered (placed e (y * 512 + at))) ≡ sameBytes (nameIn block at) name
+    → isNamed img name (enteredAt e (y * 512 + at)) ≡ sameBytes (nameIn block at) name
 unfolding isNamed nameAt
 is-named img y block at name e is h =
     let p : (y * 512 + at) / 512 ≡ y = omega arith in
@@ -87,11 +87,11 @@ module _ (block : List ℕ) (y k m at : ℕ) (fuel : k ≡ m + 1) where
     module _ (img name : List ℕ) (part : block ≡ blockOf img y) where
       -- an entry passed: the first found so far with the entries from the place on, and with the one at the place before those behind it
       pub named-passed : (found : Option Entered)
-          → orElse (orElse found (onlyIf (sameBytes (nameIn block at) name) (entered (placed e (y * 512 + at))))) (firstNamed img name (entriesFrom m block y (at + getD block at 0)))
+          → orElse (orElse found (onlyIf (sameBytes (nameIn block at) name) (enteredAt e (y * 512 + at)))) (firstNamed img name (entriesFrom m block y (at + getD block at 0)))
           ≡ orElse found (firstNamed img name (entriesFrom k block y at))
       named-passed found =
-          rw (entries-step block y k m at fuel e is, first-step img name (entered (placed e (y * 512 + at))) (entriesFrom m block y (at + getD block at 0)), is-named img y block at name e part (omega (arith, found-at block at e is .room)))
-          (or-assoc found (onlyIf (sameBytes (nameIn block at) name) (entered (placed e (y * 512 + at)))) (firstNamed img name (entriesFrom m block y (at + getD block at 0))))
+          rw (entries-step block y k m at fuel e is, first-step img name (enteredAt e (y * 512 + at)) (entriesFrom m block y (at + getD block at 0)), is-named img y block at name e part (omega (arith, found-at block at e is .room)))
+          (or-assoc found (onlyIf (sameBytes (nameIn block at) name) (enteredAt e (y * 512 + at))) (firstNamed img name (entriesFrom m block y (at + getD block at 0))))
 
 pub named-none : (img name : List ℕ) (es : List Entered) → es ≡ [] → firstNamed img name es ≡ none
 unfolding firstNamed
@@ -106,7 +106,7 @@ pub nth-none : (es rest : List Entered) (n : ℕ) → es ≡ [] → nth (es ++ r
 nth-none es rest n e = rw e
 
 module _ (block : List ℕ) (y k m at : ℕ) (fuel : k ≡ m + 1) (e : Entry) (is : walkedAt block at ≡ Found e) (rest : List Entered) (n : ℕ) where
-  pub nth-here : n ≡ 0 → nth (entriesFrom k block y at ++ rest) n ≡ some (entered (placed e (y * 512 + at)))
+  pub nth-here : n ≡ 0 → nth (entriesFrom k block y at ++ rest) n ≡ some (enteredAt e (y * 512 + at))
   unfolding nth
   nth-here z = rw (entries-step block y k m at fuel e is, z)
 

@@ -7,7 +7,7 @@ use mathlib.Core.List.{List, map}
 use native.Mathlib.Nat.{zero-add}
 use native.Mathlib.Numerals.{add-one}
 use native.Mathlib.Omega.{arith}
-use lib.Dec.{eqb, ltb}
+use lib.Dec.{ltb}
 use lib.ListN.{getD}
 use borrow.Author.Tests.{eq-eqb, ne-eqb, lt-ltb, le-ltb}
 use Rattle.endian.proofs.Laws.{less?, same?}
@@ -16,7 +16,7 @@ use Rattle.rules.specs.Changes.{parentOf}
 use Rattle.laws.specs.Sums.{oneAt-same, oneAt-other}
 use Rattle.laws.specs.Bags.{times-nil, times-cons}
 use Rattle.tree.specs.Steps.{dirsFrom, queueOf}
-use Rattle.lookup.specs.Queued.{placeOf}
+use Rattle.lookup.specs.Queued.{placeOf, noneHeaded, OwnHeads}
 
 module _ (queue : List ℕ) (h : ℕ) where
   pub place-hit : (i n m : ℕ) → n ≡ suc m → getD queue i 0 ≡ h → placeOf queue h i n ≡ i
@@ -51,27 +51,28 @@ module _ (queue : List ℕ) (h : ℕ) where
       after is = elim (same? i j) [ inl q ↦ absurd (is (ap (λ (x : ℕ). getD queue x 0) q ∙ e)) | inr q ↦ omega (arith, a, q) ]
 
   -- none is found for a number that is not its own head in the table, where all queued ones are
-  pub place-out : (heads : List ℕ) (n : ℕ) → ((i : ℕ) → i < n → getD heads (getD queue i 0) 0 ≡ getD queue i 0) → (getD heads h 0 ≡ h → ⊥) → n ≤ placeOf queue h 0 n
+  pub place-out : (heads : List ℕ) (n : ℕ) → OwnHeads heads queue n → (getD heads h 0 ≡ h → ⊥) → n ≤ placeOf queue h 0 n
   place-out heads n own is = elim (less? (placeOf queue h 0 n) n) [
     | inl l ↦ (let at = place-at 0 n (omega (arith, l)) in absurd (is (ap (λ (x : ℕ). getD heads x 0) (sym at) ∙ own (placeOf queue h 0 n) l ∙ at)))
     | inr l ↦ l
   ]
 
   module _ (parents : List ℕ) where
-    times-from : (i n : ℕ) → not (ltb (placeOf queue h i n) (i + n)) ≡ eqb (times h (map (λ d. d .head) (dirsFrom queue parents i n))) 0
+    times-from : (i n : ℕ) → not (ltb (placeOf queue h i n) (i + n)) ≡ noneHeaded (dirsFrom queue parents i n) h
     unfolding dirsFrom
     times-from i zero = rw (place-none i 0 refl, le-ltb i (i + 0) (omega arith), times-nil h)
     times-from i (suc n) =
-        let rest = times h (map (λ d. d .head) (dirsFrom queue parents (suc i) n)) in
+        let heads = map (λ d. d .head) (dirsFrom queue parents (suc i) n) in
+        let rest = times h heads in
         let behind : i + suc n ≡ suc i + n = omega arith in
         let none : 0 + rest ≡ rest = omega arith in
         elim (same? (getD queue i 0) h) [
-          | inl is ↦ rw (place-hit i (suc n) n refl is, lt-ltb i (i + suc n) (omega arith), times-cons h (getD queue i 0) (map (λ d. d .head) (dirsFrom queue parents (suc i) n)), oneAt-same (getD queue i 0) h is, ne-eqb (1 + rest) 0 (λ z. omega arith))
-          | inr is ↦ rw (place-pass i (suc n) n refl is, add-one i, behind, times-cons h (getD queue i 0) (map (λ d. d .head) (dirsFrom queue parents (suc i) n)), oneAt-other (getD queue i 0) h is, none) (times-from (suc i) n)
+          | inl is ↦ rw (place-hit i (suc n) n refl is, lt-ltb i (i + suc n) (omega arith), times-cons h (getD queue i 0) heads, oneAt-same (getD queue i 0) h is, ne-eqb (1 + rest) 0 (λ z. omega arith))
+          | inr is ↦ rw (place-pass i (suc n) n refl is, add-one i, behind, times-cons h (getD queue i 0) heads, oneAt-other (getD queue i 0) h is, none) (times-from (suc i) n)
         ]
 
     -- as the rules count the directories with that head
-    pub place-times : (n : ℕ) → not (ltb (placeOf queue h 0 n) n) ≡ eqb (times h (map (λ d. d .head) (queueOf queue parents n))) 0
+    pub place-times : (n : ℕ) → not (ltb (placeOf queue h 0 n) n) ≡ noneHeaded (queueOf queue parents n) h
     unfolding queueOf
     place-times n = rw (zero-add n) at (times-from 0 n)
 

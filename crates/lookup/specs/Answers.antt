@@ -1,4 +1,4 @@
--- The answer of a lookup: the entry that stands for each case.
+-- The answers of the lookups, in the terms of the rules.
 use Prim.Native.Nat.{ℕ}
 use mathlib.Core.Path.{_≡_}
 use mathlib.Core.Bool.{Bool, true, false}

@@ -1,3 +1,3 @@
--- What a lookup answers, and what the queue holds.
+-- What a lookup answers, and where a head stands in the queue.
 pub mod Answers
 pub mod Queued

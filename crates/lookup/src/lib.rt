@@ -1,18 +1,17 @@
 // Looks up the entries of a directory in an accepted image.
 ghost use mathlib.Core.Bool.{not};
-ghost use mathlib.Core.List.{List, [], _++_, map};
+ghost use mathlib.Core.List.{List, [], _++_};
 ghost use mathlib.Core.Path.{_≡_};
 ghost use Prim.Native.Nat.{ℕ, _+_, _*_, _<_, _≤_};
-ghost use lib.Dec.{eqb};
-ghost use lib.ListN.{getD};
 ghost use Rattle.directory.specs.Entries.{nameIn};
-ghost use Rattle.rules.specs.Counting.{times, sameBytes};
+ghost use Rattle.rules.specs.Counting.{sameBytes};
 ghost use Rattle.rules.specs.Walk.{Entered, entriesIn};
 ghost use Rattle.rules.specs.Changes.{parentOf};
 ghost use Rattle.rules.specs.Lookup.{firstNamed, entryNamed, entriesOf, nth};
+ghost use Rattle.laws.specs.Entries.{enteredAt};
 ghost use Rattle.anodes.specs.Loaded.{anodesFrom};
-ghost use Rattle.lookup.specs.Answers.{entered, entryOf, orElse, onlyIf, placed, Unbroken, orRest};
-ghost use Rattle.lookup.specs.Queued.{placeOf};
+ghost use Rattle.lookup.specs.Answers.{entryOf, orElse, onlyIf, placed, Unbroken, orRest};
+ghost use Rattle.lookup.specs.Queued.{placeOf, noneHeaded, OwnHeads};
 ghost use Rattle.tree.specs.Steps.{queueOf};
 use directory::Entry;
 use directory::Kind;
@@ -61,8 +60,8 @@ fn place_in_queue(queue: &[u16], dirs: u16, head: AnodeNo) -> u16
 
 // Whether `head` heads a reached directory: its chain's head is itself in the table that the check filled, and the walk queued it.
 pub fn is_reached(heads: &[u16], queue: &[u16], dirs: u16, head: AnodeNo) -> bool
-    requires { ⌜ ((i : ℕ) → i < dirs → getD (now heads) (getD (now queue) i 0) 0 ≡ getD (now queue) i 0) ⌝ }
-    ensures { λ r. ⌜ ((parents : List ℕ) → not r ≡ eqb (times (head .0) (map (λ d. d .head) (queueOf (now (queue .entry)) parents dirs))) 0) ⌝ }
+    requires { ⌜ OwnHeads (now heads) (now queue) dirs ⌝ }
+    ensures { λ r. ⌜ ((parents : List ℕ) → not r ≡ noneHeaded (queueOf (now (queue .entry)) parents dirs) (head .0)) ⌝ }
 {
     if entry(heads, head.0 as usize) != head.0 {
         return false;
@@ -135,7 +134,7 @@ fn first_of(one: Lookup, later: Lookup) -> Lookup
 // The entry at a place of block `b`, if it has that name.
 fn named_at(block: &[u8], b: BlockNo, at: usize, e: Entry, name: &[u8]) -> Lookup
     requires { ⌜ at ≤ 65535 ⌝ }
-    ensures { λ r. ⌜ entryOf r ≡ onlyIf (sameBytes (nameIn (now (block .entry)) at) (now (name .entry))) (entered (placed e (b .0 * 512 + at))) ⌝ }
+    ensures { λ r. ⌜ entryOf r ≡ onlyIf (sameBytes (nameIn (now (block .entry)) at) (now (name .entry))) (enteredAt e (b .0 * 512 + at)) ⌝ }
 {
     if has_name(block, at, name) {
         return Lookup::Found(entry_in_image(b, at, e));
@@ -194,7 +193,7 @@ pub fn entry_named(
     Lookup::Missing
 }
 
-// Passes n entries of block `b`, as far as it has them.
+// The n-th entry, from 0, of block `b`, or how many are still to be passed after the block.
 fn nth_in(image: &[u8], b: BlockNo, n: u64) -> Passed
     requires { ⌜ Unbroken (entriesIn (now image) (b .0)) ⌝ }
     ensures { λ r. ⌜ ((rest : List Entered) → orRest r rest ≡ nth (entriesIn (now (image .entry)) (b .0) ++ rest) n) ⌝ }

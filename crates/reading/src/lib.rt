@@ -1,12 +1,11 @@
 // Reads a file and lists an entry in an accepted image.
-ghost use mathlib.Core.List.{List};
 ghost use mathlib.Core.Path.{_≡_};
-ghost use Prim.Native.Nat.{ℕ, _*_, _<_};
+ghost use Prim.Native.Nat.{_*_, _<_};
 ghost use lib.ListN.{length};
 ghost use Rattle.rules.specs.Anodes.{anodesOf};
 ghost use Rattle.rules.specs.Lookup.{entryNamed, entriesOf, nameAt, nth};
 ghost use Rattle.rules.specs.Calls.{spanAnswer, bytesRead, listAnswer, fieldsAt, fieldsListed, nameListed};
-ghost use Rattle.find.specs.Open.{Open, OpenFor};
+ghost use Rattle.find.specs.Open.{OpenAnodes, OpenFor};
 use contents::copy_out;
 use disk::AnodeNo;
 use disk::BlockNo;
@@ -34,7 +33,7 @@ pub fn read_named(
     offset: u64,
     out: &mut [u8],
 ) -> u32
-    requires { ⌜ ((parents : List ℕ) × Open (now image) (now counts) (now firsts) (now nexts) (now queue) parents (now heads) dirs) ⌝ }
+    requires { ⌜ OpenAnodes (now image) (now counts) (now firsts) (now nexts) (now queue) (now heads) dirs ⌝ }
     ensures answer { λ r. ⌜ r ≡ spanAnswer (now (image .entry)) (anodesOf (now (image .entry))) (head .0) (now (name .entry)) offset (length (now (out .entry))) ⌝ }
     ensures output { λ r. ⌜ now (out .exit) ≡ bytesRead r (now (image .entry)) (anodesOf (now (image .entry))) (entryNamed (now (image .entry)) (anodesOf (now (image .entry))) (head .0) (now (name .entry))) offset (now (out .entry)) ⌝ }
 {
@@ -69,7 +68,7 @@ fn name_part(image: &[u8], place: usize) -> &[u8]
     part(block, at + 16, read8(block, at + 15) as usize)
 }
 
-// The fields of the entry at a place of the image.
+// Stores the fields of the entry at a place of the image in the lent array.
 fn put_fields(image: &[u8], place: usize, fields: &mut [u32; 11])
     requires { ⌜ place < 65536 * 512 ⌝ }
     ensures { λ _. ⌜ now (fields .exit) ≡ fieldsAt (now (image .entry)) place ⌝ }

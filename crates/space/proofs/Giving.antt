@@ -14,21 +14,28 @@ use Rattle.rules.specs.Space.{nowhere, found, lastFull, withoutLast, sideOf, jo
 use Rattle.laws.specs.Acceptance.{size-bounds}
 use Rattle.laws.specs.Heads.{Head}
 use Rattle.laws.specs.Sides.{side-last-used}
-use Rattle.laws.specs.Searches.{FoundIn}
+use Rattle.laws.specs.Searches.{FoundIn, lastFull-none}
 use Rattle.laws.specs.Moves.{InHand}
 use Rattle.laws.specs.Give.{sideOf-head, given-found, withoutLast-out}
 use Rattle.anodes.specs.Loaded.{anodesFrom}
-use Rattle.laws.specs.Searches.{lastFull-none}
 use Rattle.space.specs.Steps.{GoodAnodes}
 use Rattle.space.proofs.Taking.{used-below}
 
 -- ---- which extent
 
+-- a chain with a block has an anode with one
 pub full-there : (s : Anodes) (h : ℕ) → 0 < blockCount s h → lastFull (s .count) 0 (chainOf (s .next) 3444 h) ≡ nowhere → ⊥
 unfolding blockCount
 full-there s h some e = omega (arith, some, lastFull-none (s .count) 0 (chainOf (s .next) 3444 h) e)
 
 -- ---- the sums fit
+
+-- anode z, where block y goes back to its side: the tables c, f, n hold the anodes once the chain of h has lost it
+pub record SideEnd (img : List ℕ) (s : Anodes) (h : ℕ) (c f n : List ℕ) (y z : ℕ) : Type 0 where
+  pub below : z < 3444
+  pub used : getD f z 0 ≢ 0
+  pub fits : 0 < getD c z 0 → getD f z 0 + getD c z 0 ≤ 65535
+  pub joined : join 3444 (exists img) (anodesFrom c f n) z y ≡ giveBack 3444 (exists img) (lastReserved img) s h
 
 module _ (img : List ℕ) (s : Anodes) (good : GoodAnodes img s) (h : ℕ) (d : Head (s .next) (s .block) h) (p x : ℕ) (e : lastFull (s .count) 0 (chainOf (s .next) 3444 h) ≡ found p x) where
   pub last-found : FoundIn (s .count) (s .next) h (chainOf (s .next) 3444 h) 0 p x
@@ -44,16 +51,15 @@ module _ (img : List ℕ) (s : Anodes) (good : GoodAnodes img s) (h : ℕ) (d : 
     unfolding side anodesFrom
     is-end = end ∙ ap (λ (t : Anodes). lastOf m (chainOf (cut (t .next)) 3444 m)) left
 
-    -- it is in use, and its sum fits
-    pub side-end : (z < 3444) × (getD f z 0 ≢ 0) × (0 < getD c z 0 → getD f z 0 + getD c z 0 ≤ 65535)
+    given-back : join 3444 (exists img) (anodesFrom c f n) z y ≡ giveBack 3444 (exists img) (lastReserved img) s h
+    unfolding giveBack giveFrom release
+    given-back = rw (is-end, left, start, block, e, giveBack)
+
+    pub side-end : SideEnd img s h c f n y z
     unfolding anodesFrom
     side-end =
         let b = ap (λ (t : Anodes). t .block z) left in
         let k = ap (λ (t : Anodes). t .count z) left in
         let used : getD f z 0 ≢ 0 = λ q. side-last-used (out .good) m (rw start (sideOf-head (lastReserved img) y)) (rw (← is-end) (sym b ∙ q)) in
         let below = used-below (out .good .linked .view) c f n left z used in
-        (below, used, λ l. rw (b, k) (omega (arith, size-bounds img size .1, out .good .own .fits z below (rw k at l))))
-
-    pub given-back : join 3444 (exists img) (anodesFrom c f n) z y ≡ giveBack 3444 (exists img) (lastReserved img) s h
-    unfolding giveBack giveFrom release
-    given-back = rw (is-end, left, start, block, e, giveBack)
+        record { below = below; used = used; fits = λ l. rw (b, k) (omega (arith, size-bounds img size .1, out .good .own .fits z below (rw k at l))); joined = given-back }

@@ -1,4 +1,4 @@
--- Laws of the one-block steps.
+-- Laws of the searches, of the one-block steps, of many of them, and of a chain zeroed.
 pub mod Searches
 pub mod Tables
 pub mod Cases

@@ -51,7 +51,7 @@ module _ (img : List ℕ) (s : Anodes) (good : GoodAnodes img s) (h : ℕ) (d : 
 
 -- ---- the run up to a step
 
--- the table of moved blocks has room: those taken are on the chain, and those to be given are, beside those that were
+-- the table of moved blocks has room: the blocks taken so far are on the chain; those still to be given are on it too, and with those given before they are at most 65,535
 unfoldable pub Room : Bool → ℕ → ℕ → ℕ → Type 0
 Room true left done count = done ≤ count
 Room false left done count = (left ≤ count) × (count + done ≤ 65535)

@@ -2,11 +2,10 @@
 use Prim.Native.Nat.{ℕ, zero, suc, _+_, _/_, _≤_, _<_}
 use mathlib.Core.Path.{_≡_, refl, sym, _∙_}
 use mathlib.Core.Logic.{_≢_, inl, inr}
-use mathlib.Core.Bool.{Bool, true, false, not, _&&_}
+use mathlib.Core.Bool.{Bool, true, false, not}
 use mathlib.Core.List.{List}
 use native.Mathlib.Omega.{arith}
 use lib.Dec.{T, eqb}
-use lib.ListN.{getD}
 use borrow.Author.Tests.{le-leb, lt-leb, ne-eqb}
 use Rattle.disk.specs.Root.{slotOf}
 use Rattle.rules.specs.Counting.{least, lastOf}
@@ -19,6 +18,7 @@ use Rattle.laws.specs.Sums.{least-cases}
 use Rattle.laws.specs.Searches.{full-at, nowhere-at}
 use Rattle.laws.specs.ImageAnodes.{slot-exists, slot-missing}
 use Rattle.anodes.specs.Loaded.{anodesFrom}
+use Rattle.space.specs.Steps.{freeIn}
 
 -- ---- free anodes
 
@@ -31,7 +31,7 @@ module _ (img firsts c n : List ℕ) where
   abbrev isFree : ℕ → Bool
   isFree = free (exists img) (anodesFrom c firsts n)
 
-  free-from-6 : (a : ℕ) → 6 ≤ a → (eqb (getD firsts a 0) 0 && exists img a) ≡ isFree a
+  free-from-6 : (a : ℕ) → 6 ≤ a → freeIn img firsts a ≡ isFree a
   unfolding free anodesFrom
   free-from-6 a l = rw (le-leb 6 a l)
 
@@ -40,7 +40,7 @@ module _ (img firsts c n : List ℕ) where
   none-below-6 a l = rw (lt-leb 6 a l)
 
   -- none of the anodes from 6 to a is free
-  module _ (a : ℕ) (up : a ≤ 3444) (none : (j : ℕ) → 6 ≤ j → j < a → (eqb (getD firsts j 0) 0 && exists img j) ≡ false) where
+  module _ (a : ℕ) (up : a ≤ 3444) (none : (j : ℕ) → 6 ≤ j → j < a → freeIn img firsts j ≡ false) where
     none-below : (j : ℕ) → j < a → T (isFree j) → ⊥
     none-below j l t = elim (less? j 6) [
       | inl q ↦ rw (none-below-6 j q) at t
@@ -55,7 +55,7 @@ module _ (img firsts c n : List ℕ) where
       | inr d ↦ omega (arith, up, d .0)
     ]
 
-    pub lowest-hit : 6 ≤ a → a < 3444 → (eqb (getD firsts a 0) 0 && exists img a) ≡ true → a ≡ lowestFree 3444 (exists img) (anodesFrom c firsts n)
+    pub lowest-hit : 6 ≤ a → a < 3444 → freeIn img firsts a ≡ true → a ≡ lowestFree 3444 (exists img) (anodesFrom c firsts n)
     unfolding lowestFree
     lowest-hit l k h = elim (least-cases isFree 3444) [
       | inl d ↦ elim (less? a (least isFree 3444)) [ inl q ↦ absurd (d .2 a q here) | inr q ↦ omega (arith, q, not-below) ]

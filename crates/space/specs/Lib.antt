@@ -1,2 +1,2 @@
--- What the one-block steps answer.
+-- What the steps answer, and the state that they start from.
 pub mod Steps

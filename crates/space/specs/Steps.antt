@@ -2,14 +2,16 @@
 use Prim.Native.Nat.{ℕ}
 use mathlib.Core.Path.{_≡_}
 use mathlib.Core.Logic.{_≢_}
-use mathlib.Core.Bool.{Bool, false, cond}
+use mathlib.Core.Bool.{Bool, false, cond, _&&_}
 use mathlib.Core.List.{List, [], _∷_}
-use lib.ListN.{take}
+use lib.Dec.{eqb}
+use lib.ListN.{getD, take}
 use Rattle.disk.specs.Refusals.{numberOf}
 use Rattle.rules.specs.Anodes.{Anodes, limit, exists}
 use Rattle.rules.specs.Chains.{systemOwns}
 use Rattle.rules.specs.Accepted.{diskSize, wrongSize, lastReserved}
 use Rattle.rules.specs.Space.{Plan, refused, planned, Found, nowhere, found, repeated, takeBlock, giveBack}
+use Rattle.laws.specs.Links.{Linked}
 use Rattle.laws.specs.Heads.{Head}
 use Rattle.laws.specs.Space.{Good}
 use Rattle.space.specs.declared.Step.{Step}
@@ -18,6 +20,10 @@ use Rattle.space.specs.declared.Moves.{Moves}
 use Rattle.space.specs.declared.Moves.the-variants.{Done, Stopped}
 use Rattle.space.specs.declared.Extent.{Extent}
 use Rattle.space.specs.declared.Extent.the-variants.{Nowhere, At}
+
+-- anode a exists and is free, by a table of the anodes' blocks
+abbrev pub freeIn : List ℕ → List ℕ → ℕ → Bool
+freeIn img firsts a = eqb (getD firsts a 0) 0 && exists img a
 
 -- the plan that a step answers: the block that changed hands, or the refusal
 abbrev pub stepPlan : Step → Anodes → Plan
@@ -52,13 +58,17 @@ moveBlock img taking s h = cond taking (takeBlock limit (exists img) false s h) 
 unfoldable pub moveMany : List ℕ → Bool → ℕ → Anodes → ℕ → Plan
 moveMany img taking k s h = repeated (λ t. moveBlock img taking t h) k s
 
--- the anodes of a disk in good order: refusals 6 to 11 hold, with some table of heads and of sides
+-- the anodes of a disk in good order: none of the refusals 6 to 11 is given; with some table of heads and of sides
 abbrev pub GoodAnodes : List ℕ → Anodes → Type 0
 GoodAnodes img s = (hd : ℕ → ℕ) × (sd : ℕ → ℕ) × Good limit (exists img) (diskSize img) (lastReserved img) s (systemOwns img) hd sd
 
--- what a step on the chain of h asks of the anodes s: h heads a chain other than the free list
+-- what a step on the chain of h asks: a disk of a right size, its anodes s in good order, and that h heads a chain other than the free list
 abbrev pub Ready : List ℕ → Anodes → ℕ → Type 0
 Ready img s h = ((wrongSize img ≡ false) × GoodAnodes img s) × (Head (s .next) (s .block) h × (h ≢ 1))
+
+-- what is asked where the chain of h is zeroed: the anodes s are linked as the rules ask, and h is in use
+abbrev pub LinkedFrom : Anodes → ℕ → Type 0
+LinkedFrom s h = Linked limit (s .next) (s .block) × (s .block h ≢ 0)
 
 -- an extent found in the tables
 abbrev pub foundOf : Extent → Found

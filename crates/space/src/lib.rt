@@ -1,19 +1,17 @@
-// Takes and gives back blocks one at a time, on the anodes in three lent tables. What a refused step leaves in the tables is free.
-ghost use mathlib.Core.Bool.{false, cond, _&&_};
+// Takes and gives back blocks one at a time, on the anodes in three lent tables. The contracts do not say what a refused step leaves in the tables.
+ghost use mathlib.Core.Bool.{false, cond};
 ghost use mathlib.Core.List.{List};
 ghost use mathlib.Core.Logic.{_≢_};
 ghost use mathlib.Core.Path.{_≡_};
 ghost use Prim.Native.Nat.{ℕ, _+_, _<_, _≤_};
-ghost use lib.Dec.{eqb};
 ghost use lib.ListN.{length, getD};
 ghost use Rattle.rules.specs.Counting.{lastOf};
 ghost use Rattle.rules.specs.Anodes.{exists};
 ghost use Rattle.rules.specs.Chains.{chainOf, cut, blockCount};
 ghost use Rattle.rules.specs.Accepted.{lastReserved};
 ghost use Rattle.rules.specs.Space.{rewritten, insertedAfter, unlinked, withoutBlock, firstFull, lastFull, freeExtent, sideOf, lowestFree, append, put, takeBlock, join, giveBack, dropped};
-ghost use Rattle.laws.specs.Links.{Linked};
 ghost use Rattle.anodes.specs.Loaded.{anodesFrom, AnodeTables};
-ghost use Rattle.space.specs.Steps.{stepPlan, manyPlan, stoppedBy, movesNumber, movesCount, moveBlock, moveMany, Ready, foundOf};
+ghost use Rattle.space.specs.Steps.{freeIn, stepPlan, manyPlan, stoppedBy, movesNumber, movesCount, moveBlock, moveMany, Ready, LinkedFrom, foundOf};
 use disk::AnodeNo;
 use disk::BlockNo;
 use disk::Refusal;
@@ -45,7 +43,7 @@ enum Extent {
 
 // Whether anode `a` exists and is free.
 fn is_free(image: &[u8], firsts: &[u16], a: usize) -> bool
-    ensures { λ r. ⌜ r ≡ (eqb (getD (now (firsts .entry)) a 0) 0 && exists (now (image .entry)) a) ⌝ }
+    ensures { λ r. ⌜ r ≡ freeIn (now (image .entry)) (now (firsts .entry)) a ⌝ }
 {
     if entry(firsts, a) != 0 {
         return false;
@@ -97,7 +95,7 @@ fn first_full(counts: &[u16], nexts: &[u16], from: usize) -> Extent
     Extent::Nowhere
 }
 
-// The anode where the side of the free list starts at which directories (`own`) or data look first.
+// The anode that starts the side of the free list where directories (`own`) or data look first.
 fn near_side(own: bool) -> usize
     ensures { λ r. ⌜ r ≡ cond own 2 1 ⌝ }
 {
@@ -268,7 +266,7 @@ fn without_block(
     unlink(counts, firsts, nexts, p, x);
 }
 
-// Takes a block for the chain of `head`: data looks above last reserved first, directories (`own`) up to it first and into an anode of its own.
+// Takes a block for the chain of `head`: data looks above last reserved first, directories (`own`) up to it first. A directory block gets an anode of its own.
 pub fn take_block(
     image: &[u8],
     own: bool,
@@ -445,7 +443,7 @@ pub fn move_many(
 
 // Zeroes the anodes of the chain of `head`.
 pub fn drop_chain(head: AnodeNo, counts: &mut [u16], firsts: &mut [u16], nexts: &mut [u16])
-    requires { ⌜ Linked 3444 (anodesFrom (now counts) (now firsts) (now nexts) .next) (anodesFrom (now counts) (now firsts) (now nexts) .block) × (anodesFrom (now counts) (now firsts) (now nexts) .block (head .0) ≢ 0) ⌝ }
+    requires { ⌜ LinkedFrom (anodesFrom (now counts) (now firsts) (now nexts)) (head .0) ⌝ }
     ensures { λ _. ⌜ anodesFrom (now (counts .exit)) (now (firsts .exit)) (now (nexts .exit)) ≡ dropped 3444 (anodesFrom (now (counts .entry)) (now (firsts .entry)) (now (nexts .entry))) (head .0) ⌝ }
 {
     let mut at = head.0 as usize;

@@ -22,14 +22,10 @@ is-directory-requires : tie.Need-is-directory-requires
 is-directory-requires c κs = search needs
 
 returns-2 : tie.Need-returns-2
-returns-2 c =
-    let f = rw (c .before .before .before .found .given .1) at (c .before .before .before .before .before .find-named .ensures) in
-    refused-now namesDir _ _ (f .1) _ _ _ (file-row _ _ _ _) (f .0) _ (sym (c .before .is-directory .ensures)) (c .if1 .taken)
+returns-2 c = refused-now namesDir _ _ _ _ _ (file-row _ _ _ _) (rw (c .before .before .before .found .given .1) at (c .before .before .before .before .before .find-named .ensures)) _ (sym (c .before .is-directory .ensures)) (c .if1 .taken)
 
 returns-3 : tie.Need-returns-3
-returns-3 c =
-    let f = rw (c .before .before .before .found .given .1) at (c .before .before .before .before .before .find-named .ensures) in
-    (passed-now namesDir _ _ (f .1) _ _ _ (file-row _ _ _ _) (f .0) _ (sym (c .before .is-directory .ensures)) (c .if1 .left), f .1)
+returns-3 c = passed-now namesDir _ _ _ _ _ (file-row _ _ _ _) (rw (c .before .before .before .found .given .1) at (c .before .before .before .before .before .find-named .ensures)) _ (sym (c .before .is-directory .ensures)) (c .if1 .left)
 
 pub find-file-spec : {M : Type 1} → statement M
 find-file-spec =

@@ -1,3 +1,5 @@
+use mathlib.Core.Path.{_≡_}
+use mathlib.Core.Option.{some}
 use Rattle.changes.specs.Answers.{full-row}
 use Rattle.find.proofs.Laws.{full-by, refused-before, refused-now, passed-now}
 use Rattle.rules.specs.Anodes.{anodesOf}
@@ -6,6 +8,10 @@ use Rattle.lookup.specs.Answers.{entered}
 use borrow.Author.Needs.{needs}
 use Rattle.find.proofs.find_removable.Statement.{statement}
 use Rattle.find.proofs.find_removable.Tie as tie
+
+-- the test of 25
+full-as : (c : tie.After-is-full) → let i = c .before .before .before .before .before .before .before .before .before .before .before .args .image .now in fullDir i (anodesOf i) (some (entered (c .before .before .found .given .0 .0))) ≡ c .is-full .result
+full-as c = full-by (c .before .before .before .before .before .before .before .before .before .before .before .pre .2) (entered (c .before .before .found .given .0 .0)) _ (c .is-full .ensures)
 
 find-named-requires : tie.Need-find-named-requires
 find-named-requires c κs = search needs
@@ -24,15 +30,13 @@ is-full-requires c κs = search needs
 
 returns-2 : tie.Need-returns-2
 returns-2 c =
-    let f = rw (c .before .before .before .found .given .1) at (c .before .before .before .before .before .find-named .ensures) in
     let i = c .before .before .before .before .before .before .before .before .before .before .before .before .args .image .now in
-    refused-now (fullDir i (anodesOf i)) _ _ (f .1) _ _ _ (full-row _ _ _ _) (f .0) _ (full-by (c .before .before .before .before .before .before .before .before .before .before .before .before .pre .2) (entered (c .before .before .before .found .given .0 .0)) _ (c .before .is-full .ensures)) (c .if1 .taken)
+    refused-now (fullDir i (anodesOf i)) _ _ _ _ _ (full-row _ _ _ _) (rw (c .before .before .before .found .given .1) at (c .before .before .before .before .before .find-named .ensures)) _ (full-as (c .before)) (c .if1 .taken)
 
 returns-3 : tie.Need-returns-3
 returns-3 c =
-    let f = rw (c .before .before .before .found .given .1) at (c .before .before .before .before .before .find-named .ensures) in
     let i = c .before .before .before .before .before .before .before .before .before .before .before .before .args .image .now in
-    (passed-now (fullDir i (anodesOf i)) _ _ (f .1) _ _ _ (full-row _ _ _ _) (f .0) _ (full-by (c .before .before .before .before .before .before .before .before .before .before .before .before .pre .2) (entered (c .before .before .before .found .given .0 .0)) _ (c .before .is-full .ensures)) (c .if1 .left), f .1)
+    passed-now (fullDir i (anodesOf i)) _ _ _ _ _ (full-row _ _ _ _) (rw (c .before .before .before .found .given .1) at (c .before .before .before .before .before .find-named .ensures)) _ (full-as (c .before)) (c .if1 .left)
 
 pub find-removable-spec : {M : Type 1} → statement M
 find-removable-spec =

@@ -23,15 +23,13 @@ past-end-requires c κs = search needs
 
 returns-2 : tie.Need-returns-2
 returns-2 c =
-    let f = rw (c .before .before .before .found .given .1) at (c .before .before .before .before .before .find-file .ensures) in
     let a = c .before .before .before .before .before .before .before .before .before .before .before .before .args in
-    refused-now (λ o. pastEnd o (a .offset) (a .len)) _ _ (f .1) _ _ _ (span-row _ _ _ _ _ _) (f .0) _ (sym (c .before .past-end .ensures)) (c .if1 .taken)
+    refused-now (λ o. pastEnd o (a .offset) (a .len)) _ _ _ _ _ (span-row _ _ _ _ _ _) (rw (c .before .before .before .found .given .1) at (c .before .before .before .before .before .find-file .ensures)) _ (sym (c .before .past-end .ensures)) (c .if1 .taken)
 
 returns-3 : tie.Need-returns-3
 returns-3 c =
-    let f = rw (c .before .before .before .found .given .1) at (c .before .before .before .before .before .find-file .ensures) in
     let a = c .before .before .before .before .before .before .before .before .before .before .before .before .args in
-    (passed-now (λ o. pastEnd o (a .offset) (a .len)) _ _ (f .1) _ _ _ (span-row _ _ _ _ _ _) (f .0) _ (sym (c .before .past-end .ensures)) (c .if1 .left), f .1)
+    passed-now (λ o. pastEnd o (a .offset) (a .len)) _ _ _ _ _ (span-row _ _ _ _ _ _) (rw (c .before .before .before .found .given .1) at (c .before .before .before .before .before .find-file .ensures)) _ (sym (c .before .past-end .ensures)) (c .if1 .left)
 
 pub find-span-spec : {M : Type 1} → statement M
 find-span-spec =

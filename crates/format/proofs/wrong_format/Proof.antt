@@ -1,8 +1,17 @@
+use mathlib.Core.Path.{_≡_}
+use mathlib.Core.Bool.{_||_}
+use lib.Dec.{eqb, leb, ltb}
+use lib.ListN.{length}
 use borrow.Author.Tests.{lt-ltb, le-ltb, le-leb, lt-leb, ne-eqb, eq-eqb}
 use Rattle.rules.specs.Format.{wrongFormat}
 use borrow.Author.Needs.{needs}
 use Rattle.format.proofs.wrong_format.Statement.{statement}
 use Rattle.format.proofs.wrong_format.Tie as tie
+
+-- what the tests before that of last reserved against the disk's size leave
+size-left : (c : tie.After-disk-size) → let g = c .before .before .before .before .before .before .args in wrongFormat (g .image .now) (g .last) (g .slots) (g .name .now) ≡ (leb (c .disk-size .result) (g .last) || (eqb (length (g .name .now)) 0 || ltb 31 (length (g .name .now))))
+unfolding wrongFormat
+size-left c = rw (le-ltb _ 1 (c .before .before .before .if1 .left), le-ltb 42 _ (c .before .before .if2 .left), le-ltb _ _ (c .before .if3 .left), ← c .disk-size .ensures)
 
 returns : tie.Need-returns
 unfolding wrongFormat
@@ -23,16 +32,13 @@ disk-size-requires : tie.Need-disk-size-requires
 disk-size-requires c κs = search needs
 
 returns-4 : tie.Need-returns-4
-unfolding wrongFormat
-returns-4 c = rw (le-ltb _ 1 (c .before .before .before .before .if1 .left), le-ltb 42 _ (c .before .before .before .if2 .left), le-ltb _ _ (c .before .before .if3 .left), ← c .before .disk-size .ensures, le-leb _ _ (c .if4 .taken))
+returns-4 c = rw (size-left (c .before), le-leb _ _ (c .if4 .taken))
 
 returns-5 : tie.Need-returns-5
-unfolding wrongFormat
-returns-5 c = rw (le-ltb _ 1 (c .before .before .before .before .before .if1 .left), le-ltb 42 _ (c .before .before .before .before .if2 .left), le-ltb _ _ (c .before .before .before .if3 .left), ← c .before .before .disk-size .ensures, lt-leb _ _ (c .before .if4 .left), eq-eqb _ _ (c .if5 .taken))
+returns-5 c = rw (size-left (c .before .before), lt-leb _ _ (c .before .if4 .left), eq-eqb _ _ (c .if5 .taken))
 
 returns-6 : tie.Need-returns-6
-unfolding wrongFormat
-returns-6 c = rw (le-ltb _ 1 (c .before .before .before .before .before .if1 .left), le-ltb 42 _ (c .before .before .before .before .if2 .left), le-ltb _ _ (c .before .before .before .if3 .left), ← c .before .before .disk-size .ensures, lt-leb _ _ (c .before .if4 .left), ne-eqb _ _ (c .if5 .left))
+returns-6 c = rw (size-left (c .before .before), lt-leb _ _ (c .before .if4 .left), ne-eqb _ _ (c .if5 .left))
 
 pub wrong-format-spec : {M : Type 1} → statement M
 wrong-format-spec =

@@ -1,12 +1,19 @@
 use Rattle.changes.specs.Answers.{list-reached}
 use Rattle.rules.specs.Calls.{doneOr}
 use Rattle.find.proofs.Laws.{refused-some, not-done}
+use Prim.Native.Nat.{_*_, _<_}
 use mathlib.Core.Path.{sym, _∙_}
 use Rattle.changes.specs.Reached.{nth-member}
 use Rattle.reading.proofs.Laws.{place-low}
 use borrow.Author.Needs.{needs}
 use Rattle.reading.proofs.list_nth.Statement.{statement}
 use Rattle.reading.proofs.list_nth.Tie as tie
+
+-- the entry that was found stands on the disk
+low : (c : tie.After-found) → c .found .given .0 .0 .place < 65536 * 512
+low c =
+    let f = rw (c .found .given .1) at (c .before .before .find-nth .ensures) in
+    place-low (c .before .before .before .before .before .before .before .before .pre .2) _ (list-reached _ _ _ _ (f .0)) _ (nth-member _ _ _ (f .1))
 
 find-nth-requires : tie.Need-find-nth-requires
 find-nth-requires c κs = search needs
@@ -15,14 +22,10 @@ enum-known-found : tie.Need-enum-known-found
 enum-known-found c = search needs
 
 put-fields-requires : tie.Need-put-fields-requires
-put-fields-requires c κs =
-    let f = rw (c .before .before .found .given .1) at (c .before .before .before .before .find-nth .ensures) in
-    place-low (c .before .before .before .before .before .before .before .before .before .before .pre .2) _ (list-reached _ _ _ _ (f .0)) _ (nth-member _ _ _ (f .1))
+put-fields-requires c κs = low (c .before .before)
 
 name-part-requires : tie.Need-name-part-requires
-name-part-requires c κs =
-    let f = rw (c .before .before .before .found .given .1) at (c .before .before .before .before .before .find-nth .ensures) in
-    place-low (c .before .before .before .before .before .before .before .before .before .before .before .pre .2) _ (list-reached _ _ _ _ (f .0)) _ (nth-member _ _ _ (f .1))
+name-part-requires c κs = low (c .before .before .before)
 
 enum-known-found-2 : tie.Need-enum-known-found-2
 enum-known-found-2 c = search needs

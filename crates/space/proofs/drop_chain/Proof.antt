@@ -1,15 +1,16 @@
 use Prim.Native.Nat.{_-_}
-use mathlib.Core.Path.{_≡_, sym, _∙_}
+use mathlib.Core.Path.{_≡_, refl, sym, _∙_}
 use native.Mathlib.Omega.{arith}
 use lib.ListN.{length}
 use borrow.Author.Needs.{needs}
+use Rattle.rules.specs.Space.{dropped}
 use Rattle.anodes.specs.Loaded.{anodesFrom}
 use Rattle.space.proofs.Dropping.{zeroedFrom, zeroed-none, zeroed-end, zeroed-tables, zeroed-chain}
 use Rattle.space.proofs.drop_chain.Statement.{statement}
 use Rattle.space.proofs.drop_chain.Tie as tie
 
 abbrev Inv-loop : tie.InvT-loop
-Inv-loop counts₀ firsts₀ nexts₀ at₀ fuel₀ counts firsts nexts at fuel = (length counts ≡ length counts₀) × (length firsts ≡ length firsts₀) × (length nexts ≡ length nexts₀) × (zeroedFrom fuel (anodesFrom counts firsts nexts) at ≡ zeroedFrom 3444 (anodesFrom counts₀ firsts₀ nexts₀) at₀)
+Inv-loop counts₀ firsts₀ nexts₀ at₀ fuel₀ counts firsts nexts at fuel = (length counts ≡ length counts₀) × (length firsts ≡ length firsts₀) × (length nexts ≡ length nexts₀) × (zeroedFrom fuel (anodesFrom counts firsts nexts) at ≡ dropped 3444 (anodesFrom counts₀ firsts₀ nexts₀) at₀)
 
 abbrev μ-loop : tie.MeasureT-loop
 μ-loop counts₀ firsts₀ nexts₀ at₀ fuel₀ counts firsts nexts at fuel = fuel
@@ -18,7 +19,7 @@ cast-at : tie.Need-cast-at Inv-loop μ-loop
 cast-at c = search needs
 
 loop-holds : tie.Need-loop-holds Inv-loop μ-loop
-loop-holds c = search needs
+loop-holds c = let pre = c .before .before .before .before .pre in (refl, refl, refl, zeroed-chain _ (pre .0) _ (pre .1))
 
 same-length : tie.Need-same-length Inv-loop μ-loop
 same-length c = search needs
@@ -30,7 +31,7 @@ same-length-3 : tie.Need-same-length-3 Inv-loop μ-loop
 same-length-3 c = search needs
 
 returns : tie.Need-returns Inv-loop μ-loop
-returns c = let l = c .before .before .loop in let pre = c .before .before .before .before .before .before .before .pre in sym (zeroed-end (l .fuel) _) ∙ rw (c .if1 .taken) at (l .inv .3) ∙ zeroed-chain _ (pre .0) _ (pre .1)
+returns c = let l = c .before .before .loop in sym (zeroed-end (l .fuel) _) ∙ rw (c .if1 .taken) at (l .inv .3)
 
 entry-requires : tie.Need-entry-requires Inv-loop μ-loop
 entry-requires c κs = search needs
@@ -55,9 +56,9 @@ loop-less c = search needs
 
 loop-again : tie.Need-loop-again Inv-loop μ-loop
 loop-again c = let l = c .before .before .before .before .before .before .before .before .before .before .before .before .before .before .before .before .loop in (
-  c .before .before .before .before .before .before .before .before .before .before .set-entry .kept .0 ∙ l .inv .0,
-  c .before .before .before .before .before .before .set-entry2 .kept .0 ∙ l .inv .1,
-  c .before .before .set-entry3 .kept .0 ∙ l .inv .2,
+  search needs,
+  search needs,
+  search needs,
   rw (c .before .before .before .before .before .before .before .before .before .before .set-entry .ensures, c .before .before .before .before .before .before .set-entry2 .ensures, c .before .before .set-entry3 .ensures, c .before .before .before .before .before .before .before .before .before .before .before .before .entry .ensures) (sym (zeroed-tables (l .fuel) (l .fuel - 1) _ _ _ (l .at) (omega (arith, c .before .before .before .before .before .before .before .before .before .before .before .before .before .before .before .loop-test .taken)) (c .before .before .before .before .before .before .before .before .before .before .before .before .before .before .if1 .left)) ∙ l .inv .3),
 )
 
@@ -71,7 +72,7 @@ same-length-6 : tie.Need-same-length-6 Inv-loop μ-loop
 same-length-6 c = search needs
 
 returns-2 : tie.Need-returns-2 Inv-loop μ-loop
-returns-2 c = let l = c .before .loop in let pre = c .before .before .before .before .before .before .pre in let e : l .fuel ≡ 0 = omega arith in sym (zeroed-none _ (l .at)) ∙ rw e at (l .inv .3) ∙ zeroed-chain _ (pre .0) _ (pre .1)
+returns-2 c = let l = c .before .loop in let e : l .fuel ≡ 0 = omega arith in sym (zeroed-none _ (l .at)) ∙ rw e at (l .inv .3)
 
 pub drop-chain-spec : {M : Type 1} → statement M
 drop-chain-spec =

@@ -1,4 +1,5 @@
 use Prim.Native.Nat.{_+_}
+use lib.ListN.{getD}
 use mathlib.Core.Path.{_≡_, sym, _∙_}
 use mathlib.Core.Logic.{_≢_, ⊎-elim}
 use native.Mathlib.Omega.{arith}
@@ -7,6 +8,10 @@ use Rattle.space.proofs.Cases.{join-one, join-start, join-empty, join-o
 use borrow.Author.Needs.{needs}
 use Rattle.space.proofs.join.Statement.{statement}
 use Rattle.space.proofs.join.Tie as tie
+
+-- the anode has a block
+full : (c : tie.Then2) → let g = c .before .before .before .before .before .before .before .before .before .before .args in getD (g .counts .now) (g .z) 0 ≢ 0
+full c = rw (c .before .before .before .entry .ensures) at (c .if2 .taken)
 
 append-requires : tie.Need-append-requires
 append-requires c κs = search needs
@@ -40,9 +45,9 @@ cast-if3-2 c = search needs
 
 add-rewrite : tie.Need-add-rewrite
 add-rewrite c =
-    let n = c .before .before .before .before .before .before .before .entry in
-    let some = rw (n .ensures) at (c .before .before .before .before .if2 .taken) in
-    record { fits = omega (arith, n .ensures, some, c .before .before .before .before .before .before .before .before .before .before .before .before .before .before .pre .1 .0, c .before .before .before .before .before .before .before .before .before .before .before .before .before .before .pre .1 .1 (omega (arith, some))) }
+    let some = full (c .before .before .before .before) in
+    let pre = c .before .before .before .before .before .before .before .before .before .before .before .before .before .before .pre in
+    record { fits = omega (arith, c .before .before .before .before .before .before .before .entry .ensures, some, pre .1 .0, pre .1 .1 (omega (arith, some))) }
 
 rewrite-requires : tie.Need-rewrite-requires
 rewrite-requires c κs = search needs
@@ -58,7 +63,7 @@ returns-2 c =
     let n = c .before .before .before .before .before .before .before .before .before .before .before .before .entry in
     let f = c .before .before .before .before .before .before .before .before .before .before .entry2 in
     let e : c .before .before .before .before .before .before .before .before .before .before .before .before .before .before .before .before .before .before .before .args .y .0 + 1 ≡ f .result = eqb-true _ _ (c .before .before .before .before .before .before .before .if3 .taken) in
-    rw (c .before .before .before .before .rewrite .ensures _, n .ensures) (sym (join-start _ _ _ _ _ _ (c .before .before .before .before .before .before .before .before .before .before .before .before .before .before .if1 .left) (rw (n .ensures) at (c .before .before .before .before .before .before .before .before .before .if2 .taken)) (e ∙ f .ensures)))
+    rw (c .before .before .before .before .rewrite .ensures _, n .ensures) (sym (join-start _ _ _ _ _ _ (c .before .before .before .before .before .before .before .before .before .before .before .before .before .before .if1 .left) (full (c .before .before .before .before .before .before .before .before .before)) (e ∙ f .ensures)))
 
 put-requires : tie.Need-put-requires
 put-requires c κs = search needs

@@ -2,18 +2,16 @@ use mathlib.Core.Logic.{inl, inr}
 use Rattle.laws.specs.Tests.{same?}
 use Prim.Native.Nat.{ℕ, _-_, _≤_, _<_}
 use mathlib.Core.Path.{_≡_, sym, _∙_}
-use mathlib.Core.Bool.{false, _&&_}
+use mathlib.Core.Bool.{false}
 use native.Mathlib.Omega.{arith}
-use lib.Dec.{eqb}
-use lib.ListN.{getD}
 use borrow.Author.Needs.{needs}
-use Rattle.rules.specs.Anodes.{exists}
+use Rattle.space.specs.Steps.{freeIn}
 use Rattle.space.proofs.Searches.{lowest-hit, lowest-none}
 use Rattle.space.proofs.lowest_free.Statement.{statement}
 use Rattle.space.proofs.lowest_free.Tie as tie
 
 abbrev Inv-loop : tie.InvT-loop
-Inv-loop image firsts a₀ a = (6 ≤ a) × (a ≤ 3444) × ((j : ℕ) → 6 ≤ j → j < a → (eqb (getD firsts j 0) 0 && exists image j) ≡ false)
+Inv-loop image firsts a₀ a = (6 ≤ a) × (a ≤ 3444) × ((j : ℕ) → 6 ≤ j → j < a → freeIn image firsts j ≡ false)
 
 abbrev μ-loop : tie.MeasureT-loop
 μ-loop image firsts a₀ a = 3444 - a

@@ -7,6 +7,11 @@ use borrow.Author.Needs.{needs}
 use Rattle.space.proofs.side_of.Statement.{statement}
 use Rattle.space.proofs.side_of.Tie as tie
 
+-- last reserved, as it was read
+root-last : (c : tie.After-root-in) → c .root-in .result .last .0 ≡ lastReserved (c .before .before .before .args .image .now)
+unfolding lastReserved
+root-last c = ap (λ (r : Root). r .last .0) (c .root-in .ensures ∙ ap rootIn (c .before .block-part .ensures))
+
 block-part-requires : tie.Need-block-part-requires
 block-part-requires c κs = search needs
 
@@ -14,10 +19,10 @@ root-in-requires : tie.Need-root-in-requires
 root-in-requires c κs = search needs
 
 returns : tie.Need-returns
-returns c = let e : c .before .before .before .root-in .result .last .0 ≡ lastReserved (c .before .before .before .before .before .before .args .image .now) = unfold lastReserved in ap (λ (r : Root). r .last .0) (c .before .before .before .root-in .ensures ∙ ap rootIn (c .before .before .before .before .block-part .ensures)) in sym (side-above _ _ (rw e at (c .if1 .taken)))
+returns c = sym (side-above _ _ (rw (root-last (c .before .before .before)) at (c .if1 .taken)))
 
 returns-2 : tie.Need-returns-2
-returns-2 c = let e : c .before .before .before .root-in .result .last .0 ≡ lastReserved (c .before .before .before .before .before .before .args .image .now) = unfold lastReserved in ap (λ (r : Root). r .last .0) (c .before .before .before .root-in .ensures ∙ ap rootIn (c .before .before .before .before .block-part .ensures)) in sym (side-up-to _ _ (rw e at (c .if1 .left)))
+returns-2 c = sym (side-up-to _ _ (rw (root-last (c .before .before .before)) at (c .if1 .left)))
 
 pub side-of-spec : {M : Type 1} → statement M
 side-of-spec = tie.close (tie.spec block-part-requires root-in-requires returns returns-2)

@@ -1,1 +1,0 @@
--- The definitions that the contracts cite.
