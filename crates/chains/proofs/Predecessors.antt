@@ -28,9 +28,9 @@ module _ (t n : List ℕ) (a : ℕ) (w : NotedBelow t n a) where
     only = λ p l h. elim (same? p a) [ inl e ↦ absurd (h (ap (λ (q : ℕ). getD n q 0) e ∙ z)) | inr e ↦ w .only p (omega arith) h ];
   }
 
-  module _ (x : ℕ) (is : getD n a 0 ≡ x) (some : x ≢ 0) where
-    pub noted-twice : a < 3444 → getD t x 0 ≢ 0 → Twice n
-    noted-twice l h = record {
+  module _ (x : ℕ) (is : getD n a 0 ≡ x) where
+    pub noted-twice : x ≢ 0 → a < 3444 → getD t x 0 ≢ 0 → Twice n
+    noted-twice some l h = record {
       anode = x;
       before = a;
       some = some;
