@@ -72,6 +72,10 @@ module _ (img : List ℕ) (b a : ℕ) where
 
 -- ---- 6 to 16
 
+-- tables that are not touched are kept
+pub kept-all : (img b a : List ℕ) → Kept img b a b a
+kept-all img b a = record { blocks-kept = refl; anodes-kept = refl }
+
 module _ (img : List ℕ) (s : Anodes) where
   -- tables that show the image keep what stands behind it
   filled-kept : (b₀ a₀ b a : List ℕ) → Filled img s b₀ a₀ b a → Kept img b₀ a₀ b a

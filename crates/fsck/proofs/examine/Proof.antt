@@ -1,5 +1,5 @@
-use mathlib.Core.Path.{refl, sym, _∙_}
-use Rattle.fsck.proofs.Laws.{slots-wrong, slots-right}
+use mathlib.Core.Path.{sym, _∙_}
+use Rattle.fsck.proofs.Laws.{kept-all, slots-wrong, slots-right}
 use borrow.Author.Needs.{needs}
 use Rattle.fsck.proofs.examine.Statement.{statement}
 use Rattle.fsck.proofs.examine.Tie as tie
@@ -8,7 +8,7 @@ wrong-slots-requires : tie.Need-wrong-slots-requires
 wrong-slots-requires c κs = search needs
 
 returns : tie.Need-returns
-returns c = (slots-wrong _ _ (sym (c .before .wrong-slots .ensures) ∙ c .if1 .taken), (tt, (record { blocks-kept = refl; anodes-kept = refl }, tt)))
+returns c = (slots-wrong _ _ (sym (c .before .wrong-slots .ensures) ∙ c .if1 .taken), (tt, (kept-all _ _ _, tt)))
 
 load-requires : tie.Need-load-requires
 load-requires c κs = search needs
