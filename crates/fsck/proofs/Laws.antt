@@ -20,6 +20,7 @@ use Rattle.rules.specs.Calls.{Outcome, outcomeOf, settled, checkOutcome, fileCo
 use Rattle.counting.specs.Laws.{neither}
 use Rattle.laws.specs.Acceptance.{passed-of, size-bounds}
 use Rattle.laws.specs.Damage.{NoneOr, if-number, damage-range, wider}
+use Rattle.tables.specs.Held.{zeroedFirst}
 use Rattle.tables.proofs.Laws.{zeroed-past}
 use Rattle.laws.specs.Chains.{HeadTable}
 use Rattle.tree.specs.Tree.{treeNumber, Counts, Queued}
@@ -116,7 +117,7 @@ module _ (range : ℕ) (shown old : List ℕ) where
   unfolding tableLeft
   left-early k l m = rw (le-leb 1 k l, le-leb k 4 m)
 
-  left-zeroed : (k : ℕ) → 5 ≤ k → k ≤ 16 → tableLeft k range shown old ≡ replicate range 0 ++ drop range old
+  left-zeroed : (k : ℕ) → 5 ≤ k → k ≤ 16 → tableLeft k range shown old ≡ zeroedFirst range old
   unfolding tableLeft
   left-zeroed k l m = rw (le-leb 1 k (omega arith), lt-leb k 4 (omega arith), le-leb 5 k l, le-leb k 16 m)
 
@@ -125,7 +126,7 @@ module _ (range : ℕ) (shown old : List ℕ) where
   left-shown = refl
 
 -- zeroed, changed in its range alone, and shown
-once : (n : ℕ) (t₀ t₁ t₂ shown t₃ : List ℕ) → t₁ ≡ replicate n 0 ++ drop n t₀ → drop n t₂ ≡ drop n t₁ → t₃ ≡ shown ++ drop n t₂ → t₃ ≡ shown ++ drop n t₀
+once : (n : ℕ) (t₀ t₁ t₂ shown t₃ : List ℕ) → t₁ ≡ zeroedFirst n t₀ → drop n t₂ ≡ drop n t₁ → t₃ ≡ shown ++ drop n t₂ → t₃ ≡ shown ++ drop n t₀
 once n t₀ t₁ t₂ shown t₃ z k e =
     e ∙ ap (λ (l : List ℕ). shown ++ l) (k ∙ zeroed-past n t₀ t₁ z)
 
@@ -158,7 +159,7 @@ module _ (img b₀ a₀ : List ℕ) where
       (sym (left-early (diskSize img) _ b₀ (numberOf r) (number-some r) (n .1))) (sym (left-early limit _ a₀ (numberOf r) (number-some r) (n .1)))
 
   module _ (n : ℕ) (size : n ≡ diskSize img) (h : Headed img (length b₀) (length a₀)) (b₁ a₁ b₂ a₂ : List ℕ)
-      (zb : b₁ ≡ replicate n 0 ++ drop n b₀) (za : a₁ ≡ replicate 3444 0 ++ drop 3444 a₀)
+      (zb : b₁ ≡ zeroedFirst n b₀) (za : a₁ ≡ zeroedFirst limit a₀)
       (x : Checked) (e : checkedNumber x ≡ (5 if wrongSlots img else damageIn img (anodesOf img))) (left : TablesLeft x img (anodesOf img) b₁ a₁ b₂ a₂) where
     pub outcome-accepted : (t : Tally) → x ≡ Accepted t → outcomeOf (checkedNumber x) img b₂ a₂ [] [] ≡ checkOutcome img b₀ a₀
     unfolding blocksLeft anodesLeft
@@ -169,7 +170,7 @@ module _ (img b₀ a₀ : List ℕ) where
         (once (diskSize img) b₀ b₁ b₁ (blockTable img (anodesOf img)) b₂ (rw size at zb) refl (f .blocks-shown) ∙ sym (left-shown (diskSize img) (blockTable img (anodesOf img)) b₀))
         (once limit a₀ a₁ a₁ (anodeTable (anodesOf img)) a₂ za refl (f .anodes-shown) ∙ sym (left-shown limit (anodeTable (anodesOf img)) a₀)))
 
-    pub outcome-refused : (r : Refusal) → x ≡ Refused r → (b₃ a₃ : List ℕ) → b₃ ≡ replicate n 0 ++ drop n b₂ → a₃ ≡ replicate 3444 0 ++ drop 3444 a₂
+    pub outcome-refused : (r : Refusal) → x ≡ Refused r → (b₃ a₃ : List ℕ) → b₃ ≡ zeroedFirst n b₂ → a₃ ≡ zeroedFirst limit a₂
         → outcomeOf (checkedNumber x) img b₃ a₃ [] [] ≡ checkOutcome img b₀ a₀
     unfolding blocksLeft anodesLeft
     outcome-refused r is b₃ a₃ wb wa =
