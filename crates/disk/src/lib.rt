@@ -1,10 +1,9 @@
 // The vocabulary of a PFS disk: the two kinds of number, anodes and refusals, and readers and writers of the root block and of an anode block.
 ghost use mathlib.Core.Path.{_≡_};
-ghost use Prim.Native.Nat.{_+_, _*_, _<_, min};
-ghost use Rattle.endian.specs.Bytes.{put16};
+ghost use Prim.Native.Nat.{_+_, _<_, min};
 ghost use Rattle.disk.specs.Refusals.{numberOf};
 ghost use Rattle.disk.specs.Blocks.{blockOf};
-ghost use Rattle.disk.specs.Root.{rootIn, putRoot, slotIn, slotOf};
+ghost use Rattle.disk.specs.Root.{rootIn, putRoot, slotIn, putSlot, slotOf};
 ghost use Rattle.disk.specs.AnodeBlocks.{anodeMade, anodeHeadIn, putAnodeHead, anodeIn, putAnode, anodeOf, setAnode};
 use endian::part;
 use endian::read8;
@@ -170,7 +169,7 @@ pub fn slot_in(block: &[u8], s: usize) -> BlockNo
 // Stores an anode block number in slot `s` of the root block.
 pub fn put_slot(block: &mut [u8], s: usize, b: BlockNo)
     requires { ⌜ s < 42 ⌝ }
-    ensures { λ _. ⌜ now (block .exit) ≡ put16 (now (block .entry)) (96 + 2 * s) (b .0) ⌝ }
+    ensures { λ _. ⌜ now (block .exit) ≡ putSlot (now (block .entry)) s (b .0) ⌝ }
 {
     write16(block, 96 + 2 * s, b.0);
 }
