@@ -202,7 +202,7 @@ pub fn put_anode_head(block: &mut [u8], head: AnodeHead)
     write16(block, 10, head.sequence);
 }
 
-// The anode that a missing slot reads as.
+// What a missing anode reads as: (0, 0, 0).
 pub fn no_anode() -> Anode
     ensures { λ r. ⌜ r ≡ anodeMade 0 0 0 ⌝ }
 {
@@ -249,7 +249,7 @@ pub fn anode_of(image: &[u8], a: AnodeNo) -> Anode
     anode_in(block_part(image, slot), n % 82)
 }
 
-// Stores anode `a` of the image; nothing changes where its slot is missing.
+// Stores anode `a` of the image; nothing changes where it is missing.
 pub fn set_anode(image: &mut [u8], a: AnodeNo, x: Anode)
     ensures { λ _. ⌜ now (image .exit) ≡ setAnode (now (image .entry)) (a .0) x ⌝ }
 {
