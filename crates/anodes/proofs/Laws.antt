@@ -1,4 +1,4 @@
--- What an anode is seen as, and the tables with one more of them. Assumes nothing.
+-- What an anode is seen as, and the tables with one more of them: `c`, `b` and `n` are those of counts, of first blocks and of nexts. Assumes nothing.
 use mathlib.Core.Path.{_≡_, refl, sym, ap, _∙_}
 use mathlib.Core.Logic.{⊎-elim}
 use Prim.Native.Nat.{ℕ, _+_, _*_, _/_, _%_, _-_, _<_, _≤_}

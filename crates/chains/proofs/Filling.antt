@@ -1,4 +1,4 @@
--- The table of chain heads, one head after the other, and what it is in the end.
+-- The table of chain heads, one head after the other, and what it is in the end. `m` is that table; `n`, `b`, `t` and `c` are those of nexts, of first blocks, of predecessors and of counts.
 use Prim.Native.Nat.{ℕ, zero, suc, _+_, _≤_, _<_}
 use mathlib.Core.Path.{_≡_, refl, sym, ap, _∙_}
 use mathlib.Core.Logic.{_≢_, _⊎_, inl, inr}

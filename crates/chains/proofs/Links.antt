@@ -1,4 +1,4 @@
--- 8 by what its parts find.
+-- 8 by what its parts find. `c`, `b`, `n` and `t` are the tables of counts, of first blocks, of nexts and of predecessors.
 use Prim.Native.Nat.{ℕ, _<_}
 use mathlib.Core.Path.{_≡_, sym, _∙_}
 use mathlib.Core.Logic.{_≢_, inl, inr}

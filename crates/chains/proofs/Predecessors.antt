@@ -1,4 +1,4 @@
--- The table of predecessors, one anode after the other.
+-- The table of predecessors, one anode after the other. `t` is that table, `n` the table of nexts.
 use Prim.Native.Nat.{ℕ, _+_, _≤_, _<_}
 use mathlib.Core.Path.{_≡_, sym, ap, _∙_}
 use mathlib.Core.Logic.{_≢_, inl, inr}

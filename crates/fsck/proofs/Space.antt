@@ -24,7 +24,7 @@ use Rattle.owners.proofs.Shown.{marked-no-owner, marked-table}
 use Rattle.laws.specs.Chains.{HeadTable}
 use Rattle.fsck.specs.Answers.{Filled}
 
--- ---- the tests that are passed so far, over the anodes loaded in three tables
+-- ---- the tests that are passed so far, over the anodes loaded in three tables: `c` counts, `b` first blocks, `n` nexts
 
 -- 6
 pub record Passed6 (img c b n : List ℕ) : Type 0 where

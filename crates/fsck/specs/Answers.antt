@@ -1,4 +1,4 @@
--- The check's answer: the number and values of each case, what its parts leave in the tables, and what it lends out.
+-- The check's answer: the number and values of each case, what its parts leave in the tables, and what it loads.
 use Prim.Native.Nat.{ℕ, _≤_}
 use mathlib.Core.Path.{_≡_}
 use mathlib.Core.Bool.{false}

@@ -73,7 +73,7 @@ pub any-kept : (test : ℕ → Bool) (b : Bool) (i : ℕ) → b ≡ anyBelow tes
 unfolding anyBelow
 any-kept test b i e p = rw (add-one i, p, or-false (anyBelow test i)) e
 
--- ---- a marked table
+-- ---- a marked table: block x has `N x` owners, and `E x` is its entry in `t`
 
 -- an entry that is not 0 has an owner
 marked-owner : (n : ℕ) (N E : ℕ → ℕ) (t : List ℕ) → Marked n N E t → (x : ℕ) → x < n → getD t x 0 ≢ 0 → N x ≢ 0

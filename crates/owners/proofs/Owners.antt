@@ -134,7 +134,7 @@ module _ (img : List ℕ) (n : ℕ) where
       marked-same n (systemBelow img 42) (systemEntryBelow img 42) (systemOwns img) (entryOr img 0) t m
       (λ x l. (system-owners img x (m .once x l), system-entry img x (m .once x l)))
 
--- ---- the anodes' blocks
+-- ---- the anodes' blocks: `c`, `f` and `h` are the tables of counts, of first blocks and of chain heads
 
 -- 1 where anode a covers block x
 abbrev coverOf : List ℕ → List ℕ → ℕ → ℕ → ℕ

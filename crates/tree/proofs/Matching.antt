@@ -56,7 +56,7 @@ agree-more marks a named whole room h x lo hi =
 abbrev pub InRange : Item → Type 0
 InRange i = i .early ≡ 0 → (6 ≤ i .anode) × (i .anode < limit)
 
--- what is behind the items: one fault in both walks, or one queue, marks for the named anodes and the files counted
+-- what both walks come to after the items: one fault, or one queue, with marks for the named anodes and the files counted
 abbrev ScanMatch : List Item → ℕ → List ℕ → Progress → Scanned → Type 0
 ScanMatch is files named (stopped n) (faulty m) = (n ≡ m) × (1 ≤ n)
 ScanMatch is files named (stopped n) (fine q l) = ⊥

@@ -42,7 +42,7 @@ enum Step {
     Fault(Refusal),
 }
 
-// The blocks that the chain from `a` owns.
+// How many blocks the chain from `a` owns.
 pub fn chain_sum(counts: &[u16], nexts: &[u16], a: AnodeNo) -> u32
     ensures { λ r. ⌜ r ≡ sumFrom (now (counts .entry)) (now (nexts .entry)) 3444 (a .0) ⌝ }
 {
@@ -60,7 +60,7 @@ pub fn chain_sum(counts: &[u16], nexts: &[u16], a: AnodeNo) -> u32
     sum
 }
 
-// The blocks that a file of this size asks for.
+// How many blocks a file of this size asks for.
 pub fn blocks_for(size: u64) -> u64
     ensures { λ r. ⌜ r ≡ blocksFor size ⌝ }
 {

@@ -7,13 +7,13 @@ use borrow.Author.Needs.{needs}
 use Rattle.fsck.proofs.open_disk.Statement.{statement}
 use Rattle.fsck.proofs.open_disk.Tie as tie
 
--- ---- what is known behind 1 to 4
+-- ---- what is known once 1 to 4 are passed
 
--- they are passed
+-- what they say then
 headed-at : (c : tie.After-disk-size) → Headed (c .before .before .before .before .before .before .before .before .before .before .before .before .args .image .now) (length (c .before .before .before .before .before .before .before .before .before .before .before .before .args .blocks .now)) (length (c .before .before .before .before .before .before .before .before .before .before .before .before .args .anodes .now))
 headed-at c = headed _ _ _ _ (c .before .enum-told .given .1) (c .before .before .before .test-header .ensures)
 
--- the place where the disk's size is known, from the one behind 5 to 16
+-- the place where the disk's size is known, from the one after 5 to 16
 abbrev sized : tie.After-examine → tie.After-disk-size
 sized x = x .before .before .before .before .before .before .before .before .before .before .before .before .before .before .before .before
 
