@@ -132,6 +132,17 @@ once n t₀ t₁ t₂ shown t₃ z k e =
 
 -- ---- the outcome
 
+-- what is known once 5 to 16 are tried: what 1 to 4 said, both tables as they were zeroed before, the answer, and both tables as they are left
+pub record Examined (img b₀ a₀ : List ℕ) (n : ℕ) (b₂ a₂ : List ℕ) (x : Checked) : Type 0 where
+  pub size : n ≡ diskSize img
+  pub header : Headed img (length b₀) (length a₀)
+  pub b₁ : List ℕ
+  pub a₁ : List ℕ
+  pub blocks-zeroed : b₁ ≡ zeroedFirst n b₀
+  pub anodes-zeroed : a₁ ≡ zeroedFirst limit a₀
+  pub answer : checkedNumber x ≡ (5 if wrongSlots img else damageIn img (anodesOf img))
+  pub left : TablesLeft x img (anodesOf img) b₁ a₁ b₂ a₂
+
 late-range : (img : List ℕ) → NoneOr 5 16 (5 if wrongSlots img else damageIn img (anodesOf img))
 late-range img =
     if-number 5 (wrongSlots img) 5 16 (damageIn img (anodesOf img)) (omega arith) (omega arith)
@@ -158,26 +169,24 @@ module _ (img b₀ a₀ : List ℕ) where
       outcome (numberOf r) b₀ a₀ (n .0)
       (sym (left-early (diskSize img) _ b₀ (numberOf r) (number-some r) (n .1))) (sym (left-early limit _ a₀ (numberOf r) (number-some r) (n .1)))
 
-  module _ (n : ℕ) (size : n ≡ diskSize img) (h : Headed img (length b₀) (length a₀)) (b₁ a₁ b₂ a₂ : List ℕ)
-      (zb : b₁ ≡ zeroedFirst n b₀) (za : a₁ ≡ zeroedFirst limit a₀)
-      (x : Checked) (e : checkedNumber x ≡ (5 if wrongSlots img else damageIn img (anodesOf img))) (left : TablesLeft x img (anodesOf img) b₁ a₁ b₂ a₂) where
+  module _ {n : ℕ} {b₂ a₂ : List ℕ} {x : Checked} (w : Examined img b₀ a₀ n b₂ a₂ x) where
     pub outcome-accepted : (t : Tally) → x ≡ Accepted t → outcomeOf (checkedNumber x) img b₂ a₂ [] [] ≡ checkOutcome img b₀ a₀
     unfolding blocksLeft anodesLeft
     outcome-accepted t is =
-        let f : Filled img (anodesOf img) b₁ a₁ b₂ a₂ = rw is at left in
-        let z : 0 ≡ (5 if wrongSlots img else damageIn img (anodesOf img)) = rw is at e in
-        rw is (outcome 0 b₂ a₂ (h .answered ∙ sym z)
-        (once (diskSize img) b₀ b₁ b₁ (blockTable img (anodesOf img)) b₂ (rw size at zb) refl (f .blocks-shown) ∙ sym (left-shown (diskSize img) (blockTable img (anodesOf img)) b₀))
-        (once limit a₀ a₁ a₁ (anodeTable (anodesOf img)) a₂ za refl (f .anodes-shown) ∙ sym (left-shown limit (anodeTable (anodesOf img)) a₀)))
+        let f : Filled img (anodesOf img) (w .b₁) (w .a₁) b₂ a₂ = rw is at (w .left) in
+        let z : 0 ≡ (5 if wrongSlots img else damageIn img (anodesOf img)) = rw is at (w .answer) in
+        rw is (outcome 0 b₂ a₂ (w .header .answered ∙ sym z)
+        (once (diskSize img) b₀ (w .b₁) (w .b₁) (blockTable img (anodesOf img)) b₂ (rw (w .size) at (w .blocks-zeroed)) refl (f .blocks-shown) ∙ sym (left-shown (diskSize img) (blockTable img (anodesOf img)) b₀))
+        (once limit a₀ (w .a₁) (w .a₁) (anodeTable (anodesOf img)) a₂ (w .anodes-zeroed) refl (f .anodes-shown) ∙ sym (left-shown limit (anodeTable (anodesOf img)) a₀)))
 
     pub outcome-refused : (r : Refusal) → x ≡ Refused r → (b₃ a₃ : List ℕ) → b₃ ≡ zeroedFirst n b₂ → a₃ ≡ zeroedFirst limit a₂
         → outcomeOf (checkedNumber x) img b₃ a₃ [] [] ≡ checkOutcome img b₀ a₀
     unfolding blocksLeft anodesLeft
     outcome-refused r is b₃ a₃ wb wa =
-        let k : Kept img b₁ a₁ b₂ a₂ = rw is at left in
-        let m : numberOf r ≡ (5 if wrongSlots img else damageIn img (anodesOf img)) = rw is at e in
+        let k : Kept img (w .b₁) (w .a₁) b₂ a₂ = rw is at (w .left) in
+        let m : numberOf r ≡ (5 if wrongSlots img else damageIn img (anodesOf img)) = rw is at (w .answer) in
         let some = number-some r in
         let within : (5 ≤ numberOf r) × (numberOf r ≤ 16) = elim (late-range img) [ inl z ↦ absurd (omega arith) | inr l ↦ (omega (arith, l .0), omega (arith, l .1)) ] in
-        rw is (outcome (numberOf r) b₃ a₃ (h .answered ∙ sym m)
-        (once (diskSize img) b₀ b₁ b₂ (replicate (diskSize img) 0) b₃ (rw size at zb) (k .blocks-kept) (rw size at wb) ∙ sym (left-zeroed (diskSize img) (blockTable img (anodesOf img)) b₀ (numberOf r) (within .0) (within .1)))
-        (once limit a₀ a₁ a₂ (replicate limit 0) a₃ za (k .anodes-kept) wa ∙ sym (left-zeroed limit (anodeTable (anodesOf img)) a₀ (numberOf r) (within .0) (within .1))))
+        rw is (outcome (numberOf r) b₃ a₃ (w .header .answered ∙ sym m)
+        (once (diskSize img) b₀ (w .b₁) b₂ (replicate (diskSize img) 0) b₃ (rw (w .size) at (w .blocks-zeroed)) (k .blocks-kept) (rw (w .size) at wb) ∙ sym (left-zeroed (diskSize img) (blockTable img (anodesOf img)) b₀ (numberOf r) (within .0) (within .1)))
+        (once limit a₀ (w .a₁) a₂ (replicate limit 0) a₃ (w .anodes-zeroed) (k .anodes-kept) wa ∙ sym (left-zeroed limit (anodeTable (anodesOf img)) a₀ (numberOf r) (within .0) (within .1))))
