@@ -1,4 +1,6 @@
-use mathlib.Core.Path.{sym, _∙_}
+use mathlib.Core.Path.{_≡_, sym, _∙_}
+use mathlib.Core.Bool.{false}
+use Rattle.rules.specs.Accepted.{wrongSlots}
 use Rattle.fsck.proofs.Laws.{kept-all, slots-wrong, slots-right}
 use borrow.Author.Needs.{needs}
 use Rattle.fsck.proofs.examine.Statement.{statement}
@@ -10,13 +12,17 @@ wrong-slots-requires c κs = search needs
 returns : tie.Need-returns
 returns c = (slots-wrong _ _ (sym (c .before .wrong-slots .ensures) ∙ c .if1 .taken), (tt, (kept-all _ _ _, tt)))
 
+-- 5 is passed
+right-slots : (c : tie.Else1) → wrongSlots (c .before .before .before .before .before .before .before .before .before .before .args .image .now) ≡ false
+right-slots c = sym (c .before .wrong-slots .ensures) ∙ c .if1 .left
+
 load-requires : tie.Need-load-requires
 load-requires c κs = search needs
 
 test-all-requires : tie.Need-test-all-requires
 test-all-requires c κs =
     let p = c .before .before .before .before .before .before .before .before .before .before .before .before .before .before .before .before .before .before .before .before .before .before .before .before .before .before .before .pre .1 in
-    (((search needs, search needs, search needs), search needs, search needs), (c .before .before .before .before .before .before .before .before .before .before .before .before .before .load .ensures, ((p .0 .0, sym (c .before .before .before .before .before .before .before .before .before .before .before .before .before .before .before .before .before .before .wrong-slots .ensures) ∙ c .before .before .before .before .before .before .before .before .before .before .before .before .before .before .before .before .before .if1 .left, p .0 .1, p .0 .2), (p .1 .0, p .1 .1))))
+    (((search needs, search needs, search needs), search needs, search needs), (c .before .before .before .before .before .before .before .before .before .before .before .before .before .load .ensures, ((p .0 .0, right-slots (c .before .before .before .before .before .before .before .before .before .before .before .before .before .before .before .before .before), p .0 .1, p .0 .2), (p .1 .0, p .1 .1))))
 
 same-length : tie.Need-same-length
 same-length c = search needs
@@ -40,7 +46,7 @@ same-length-7 : tie.Need-same-length-7
 same-length-7 c = search needs
 
 returns-2 : tie.Need-returns-2
-returns-2 c = (slots-right _ _ _ (sym (c .before .before .before .before .before .before .before .before .before .before .before .before .before .before .before .before .before .before .before .before .before .before .before .before .before .before .before .wrong-slots .ensures) ∙ c .before .before .before .before .before .before .before .before .before .before .before .before .before .before .before .before .before .before .before .before .before .before .before .before .before .before .if1 .left) (c .before .before .before .before .before .before .before .before .test-all .ensures .0), c .before .before .before .before .before .before .before .before .test-all .ensures .1)
+returns-2 c = (slots-right _ _ _ (right-slots (c .before .before .before .before .before .before .before .before .before .before .before .before .before .before .before .before .before .before .before .before .before .before .before .before .before .before)) (c .before .before .before .before .before .before .before .before .test-all .ensures .0), c .before .before .before .before .before .before .before .before .test-all .ensures .1)
 
 pub examine-spec : {M : Type 1} → statement M
 examine-spec =
