@@ -48,7 +48,7 @@ abbrev pub SpaceTested : Test → List ℕ → Anodes → Type 0
 SpaceTested Passed img s = damageIn img s ≡ treeFault img s
 SpaceTested (Failed r) img s = damageIn img s ≡ numberOf r
 
--- the tables after the tests of anodes and blocks: filled where they passed; entries past the ranges kept
+-- both tables show the image; entries past the ranges are kept
 pub record Filled (img : List ℕ) (s : Anodes) (blocks₀ anodes₀ blocks anodes : List ℕ) : Type 0 where
   pub blocks-shown : blocks ≡ blockTable img s ++ drop (diskSize img) blocks₀
   pub anodes-shown : anodes ≡ anodeTable s ++ drop limit anodes₀
