@@ -82,15 +82,15 @@ module _ (img : List ℕ) (s : Anodes) where
   filled-kept : (b₀ a₀ b a : List ℕ) → Filled img s b₀ a₀ b a → Kept img b₀ a₀ b a
   filled-kept b₀ a₀ b a f = record { blocks-kept = blocks-past img s b b₀ (f .blocks-shown); anodes-kept = heads-past s a a₀ (f .anodes-shown) }
 
-  module _ (b₀ a₀ b a : List ℕ) (t : Test) (e : SpaceTested t img s) (left : TablesAfter t img s b₀ a₀ b a) where
-    pub all-failed : (r : Refusal) → t ≡ Failed r → (numberOf r ≡ damageIn img s) × Kept img b₀ a₀ b a
-    all-failed r is = (sym (rw is at e), rw is at left)
+  module _ (b₀ a₀ b a : List ℕ) (t : Test) (left : TablesAfter t img s b₀ a₀ b a) where
+    pub all-heads : t ≡ Passed → (s₁ : Anodes) → s₁ ≡ s → HeadTable a s₁
+    all-heads is s₁ same = rw same ((rw is at left) .1)
 
-    module _ (is : t ≡ Passed) (s₁ : Anodes) (same : s₁ ≡ s) where
-      pub all-heads : HeadTable a s₁
-      all-heads = rw same ((rw is at left) .1)
+    module _ (e : SpaceTested t img s) where
+      pub all-failed : (r : Refusal) → t ≡ Failed r → (numberOf r ≡ damageIn img s) × Kept img b₀ a₀ b a
+      all-failed r is = (sym (rw is at e), rw is at left)
 
-      module _ (w : TreeRead) (n : treeNumber w ≡ treeFault img s₁) where
+      module _ (is : t ≡ Passed) (s₁ : Anodes) (same : s₁ ≡ s) (w : TreeRead) (n : treeNumber w ≡ treeFault img s₁) where
         damaged : damageIn img s ≡ treeNumber w
         damaged = rw is at e ∙ sym (rw same at n)
 
