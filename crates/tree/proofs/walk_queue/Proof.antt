@@ -2,9 +2,9 @@ use mathlib.Core.Path.{_≡_, sym, _∙_}
 use Prim.Native.Nat.{_+_, _-_, _≤_}
 use native.Mathlib.Omega.{arith}
 use mathlib.Core.List.{[]}
-use lib.ListN.{take, drop}
+use lib.ListN.{getD, take, drop}
 use Rattle.anodes.specs.Loaded.{anodesFrom}
-use Rattle.tree.specs.Steps.{itemIn, itemsWith, runFrom, queueOf, tallyMade, Room}
+use Rattle.tree.specs.Steps.{dirMade, itemIn, itemsWith, runFrom, queueOf, entering, progress, tallyMade, Room}
 use Rattle.tree.proofs.Laws.{SameLengths, same-lengths, marked-most, run-end, run-stop, run-step}
 use borrow.Author.Needs.{needs}
 use Rattle.tree.proofs.walk_queue.Statement.{statement}
@@ -22,6 +22,12 @@ abbrev μ-loop : tie.MeasureT-loop
 -- the tables in the loop are as long as those that were lent
 lengths : (c : tie.At-loop Inv-loop μ-loop) → let g = c .before .before .before .before .before .before .before .before .before .args in let l = c .loop in SameLengths (l .marks) (l .queue) (l .parents) (g .marks .now) (g .queue .now) (g .parents .now)
 lengths c = same-lengths (c .loop .tally) (tallyMade 1 0) (c .loop .inv .0) (c .before .before .before .before .before .before .before .before .before .pre)
+
+-- what the directory first in the queue comes to
+entered : (c : tie.After-enter-directory Inv-loop μ-loop) → let g = c .before .before .before .before .before .before .before .before .before .before .before .before .before .before .before .before .before .before .before .args in let l = c .before .before .before .before .before .before .before .before .before .before .loop in let r = c .enter-directory in let head = getD (l .queue) (l .first) 0 in
+    entering (l .tally) (l .marks) (l .queue) (l .parents) head (itemsWith (itemIn (g .counts .now) (g .nexts .now) (g .heads .now)) (g .image .now) (anodesFrom (g .counts .now) (g .firsts .now) (g .nexts .now)) (dirMade head (getD (l .parents) (l .first) 0)))
+    ≡ progress (r .result) (r .last .1 .1 .1 .1 .1 .0) (r .last .1 .1 .1 .1 .1 .1 .0) (r .last .1 .1 .1 .1 .1 .1 .1 .0)
+entered c = rw (c .before .before .before .before .before .before .entry .ensures, c .before .before .before .before .entry2 .ensures) at (sym (c .enter-directory .ensures .0))
 
 loop-holds : tie.Need-loop-holds Inv-loop μ-loop
 loop-holds c = search needs
@@ -55,7 +61,7 @@ returns c =
     let l = c .before .before .before .before .before .before .before .before .before .before .before .before .before .before .before .before .before .before .before .loop in
     let g = c .before .step2 .given in
     let room = marked-most (l .marks) in
-    let e = rw (c .before .before .before .before .before .before .before .before .before .before .before .before .before .before .before .entry .ensures, c .before .before .before .before .before .before .before .before .before .before .before .before .before .entry2 .ensures, g .1) at (sym (c .before .before .before .before .before .before .before .before .before .enter-directory .ensures .0)) in
+    let e = rw (g .1) at (entered (c .before .before .before .before .before .before .before .before .before)) in
     sym (run-stop _ _ _ _ _ _ _ _ (3444 - (l .first + 1)) (omega arith) (c .before .before .before .before .before .before .before .before .before .before .before .before .before .before .before .before .before .if1 .taken) _ e) ∙ l .inv .2
 
 add-first : tie.Need-add-first Inv-loop μ-loop
@@ -71,7 +77,7 @@ loop-again c =
     let l = c .before .before .before .before .before .before .before .before .before .before .before .before .before .before .before .before .before .before .before .loop in
     let g = c .before .step .given in
     let room = marked-most (l .marks) in
-    let e = rw (c .before .before .before .before .before .before .before .before .before .before .before .before .before .before .before .entry .ensures, c .before .before .before .before .before .before .before .before .before .before .before .before .before .entry2 .ensures, g .1) at (sym (c .before .before .before .before .before .before .before .before .before .enter-directory .ensures .0)) in (
+    let e = rw (g .1) at (entered (c .before .before .before .before .before .before .before .before .before)) in (
       (search needs, search needs, search needs, rw (g .1) at (c .before .before .before .before .before .before .before .before .before .enter-directory .ensures .1)),
       omega arith,
       sym (run-step _ _ _ _ _ _ _ _ (3444 - (l .first + 1)) (omega arith) (c .before .before .before .before .before .before .before .before .before .before .before .before .before .before .before .before .before .if1 .taken) _ _ _ e) ∙ l .inv .2,
