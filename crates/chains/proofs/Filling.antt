@@ -8,6 +8,7 @@ use lib.ListN.{length, getD, set, drop, length-set}
 use lib.Seq.{getD-set-same, getD-set-other, drop-set-lt}
 use Rattle.rules.specs.Chains.{followed, headOf}
 use Rattle.rules.specs.Tables.{chainHead, anodeEntry, anodeTable}
+use Rattle.tables.specs.Held.{ZeroBelow}
 use Rattle.anodes.specs.Loaded.{anodesFrom}
 use Rattle.laws.specs.Tests.{same?}
 use Rattle.laws.specs.OwnerTable.{listed-front, anodeEntry-head}
@@ -113,7 +114,7 @@ module _ (n b : List ℕ) (k : Linked 3444 (λ a. getD n a 0) (λ a. getD b a 0)
 
   -- ---- the whole table
 
-  pub fill-none : (m : List ℕ) → 3444 ≤ length m → ((a : ℕ) → a < 3444 → getD m a 0 ≡ 0) → FilledBelow m n b 1
+  pub fill-none : (m : List ℕ) → 3444 ≤ length m → ZeroBelow m 3444 → FilledBelow m n b 1
   fill-none m long zeroed = record {
     long = long;
     right = λ x l h. absurd (h (zeroed x l));

@@ -10,6 +10,7 @@ ghost use Rattle.rules.specs.Chains.{chainOf};
 ghost use Rattle.rules.specs.Accepted.{wrongFixed, outOfRange, wrongLinks, notUpTo, wrongFreeList};
 ghost use Rattle.rules.specs.Tables.{anodeTable};
 ghost use Rattle.laws.specs.Links.{View, Closed, Linked};
+ghost use Rattle.tables.specs.Held.{ZeroBelow};
 ghost use Rattle.anodes.specs.Loaded.{anodesFrom};
 ghost use Rattle.chains.specs.Predecessors.{PredTable, NotedBelow, Noted, fixedNoted};
 ghost use Rattle.chains.specs.Storing.{storedAlong};
@@ -241,7 +242,7 @@ fn fill_head(firsts: &[u16], nexts: &[u16], preds: &[u16], heads: &mut [u16], a:
 
 // The head of each anode's chain, or 0 for anode 0 and free ones, in the first 3,444 entries of the lent table.
 pub fn fill_heads(firsts: &[u16], nexts: &[u16], preds: &[u16], heads: &mut [u16])
-    requires { ⌜ (3444 ≤ length (now heads)) × ((a : ℕ) → a < 3444 → getD (now heads) a 0 ≡ 0) × Linked 3444 (λ a. getD (now nexts) a 0) (λ a. getD (now firsts) a 0) × PredTable (now preds) (now nexts) ⌝ }
+    requires { ⌜ (3444 ≤ length (now heads)) × ZeroBelow (now heads) 3444 × Linked 3444 (λ a. getD (now nexts) a 0) (λ a. getD (now firsts) a 0) × PredTable (now preds) (now nexts) ⌝ }
     ensures { λ _. ⌜ ((c : List ℕ) → now (heads .exit) ≡ anodeTable (anodesFrom c (now (firsts .entry)) (now (nexts .entry))) ++ drop 3444 (now (heads .entry))) ⌝ }
 {
     for a in 1..3444 {

@@ -12,7 +12,7 @@ use Rattle.rules.specs.Walk.{reachedDirs}
 use Rattle.rules.specs.Accepted.{diskSize, wrongSize, wrongSlots, treeFault, damageIn, checkAnswer}
 use Rattle.rules.specs.Tables.{blockTable, anodeTable}
 use Rattle.rules.specs.Calls.{fileCount, dirCount}
-use Rattle.tables.specs.Held.{HeldBelow}
+use Rattle.tables.specs.Held.{ZeroBelow}
 use Rattle.anodes.specs.Loaded.{anodesFrom, AnodeTables}
 use Rattle.laws.specs.Chains.{HeadTable}
 use Rattle.tree.specs.Steps.{queueOf}
@@ -70,7 +70,7 @@ TablesLeft (Refused r) img s b₀ a₀ b a = Kept img b₀ a₀ b a
 
 -- the block table and the anode table are zero in their ranges
 abbrev pub Zeroed : List ℕ → List ℕ → List ℕ → Type 0
-Zeroed img blocks anodes = HeldBelow (λ x. 0) blocks (diskSize img) × HeldBelow (λ a. 0) anodes limit
+Zeroed img blocks anodes = ZeroBelow blocks (diskSize img) × ZeroBelow anodes limit
 
 -- five tables with an entry for each anode
 abbrev pub Sized : List ℕ → List ℕ → List ℕ → List ℕ → List ℕ → Type 0

@@ -14,6 +14,7 @@ use Rattle.endian.proofs.Laws.{same?}
 use Rattle.rules.specs.Counting.{anyBelow}
 use Rattle.rules.specs.Chains.{covers}
 use Rattle.laws.specs.Ownership.{covers-cases, covers-in}
+use Rattle.tables.specs.Held.{ZeroBelow}
 use Rattle.owners.specs.Marks.{KeptOutside, RunFilled, RunHit, RunHolds, RunTested, Marked, OwnedTwice}
 
 -- ---- a run
@@ -91,7 +92,7 @@ marked-same n N E N′ E′ t m same = record {
   zeros = λ x l. rw (same x l .0) (m .zeros x l);
 }
 
-pub marked-none : (n : ℕ) (t : List ℕ) → ((x : ℕ) → x < n → getD t x 0 ≡ 0) → Marked n (λ x. 0) (λ x. 0) t
+pub marked-none : (n : ℕ) (t : List ℕ) → ZeroBelow t n → Marked n (λ x. 0) (λ x. 0) t
 marked-none n t zeros = record { once = λ x l. omega arith; entries = zeros; zeros = λ x l. rw (zeros x l) }
 
 module _ (n : ℕ) (N E : ℕ → ℕ) (t : List ℕ) (m : Marked n N E t) (first count : ℕ) where

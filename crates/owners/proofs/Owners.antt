@@ -20,6 +20,7 @@ use Rattle.laws.specs.Acceptance.{size-bounds}
 use Rattle.laws.specs.Tests.{same?, less?}
 use Rattle.laws.specs.Sums.{oneAt-same, oneAt-other, sum-zero, sum-none}
 use Rattle.laws.specs.Ownership.{covers-cases, covers-in, covers-under, covers-over}
+use Rattle.tables.specs.Held.{ZeroBelow}
 use Rattle.anodes.specs.Loaded.{anodesFrom}
 use Rattle.owners.specs.Marks.{KeptOutside, RunFilled, RunHit, Marked, OwnedTwice, headMark, ownerEntry}
 use Rattle.owners.proofs.Laws.{marked-free, marked-same, marked-none, marked-run, marked-hit, owned-more}
@@ -87,7 +88,7 @@ system-entry img x once = elim (less? x 3) [
 
 module _ (img : List ℕ) (n : ℕ) where
   -- blocks 0 to 2 in a table of zeros
-  pub system-first : (t t′ : List ℕ) → ((x : ℕ) → x < n → getD t x 0 ≡ 0) → RunFilled t t′ 0 3 65535 → KeptOutside t t′ 0 3
+  pub system-first : (t t′ : List ℕ) → ZeroBelow t n → RunFilled t t′ 0 3 65535 → KeptOutside t t′ 0 3
       → Marked n (systemBelow img 0) (systemEntryBelow img 0) t′
   unfolding systemBelow systemEntryBelow
   system-first t t′ zeros run kept =

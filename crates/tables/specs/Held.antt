@@ -8,6 +8,10 @@ use lib.ListN.{getD, drop, replicate}
 abbrev pub HeldBelow : (ℕ → ℕ) → List ℕ → ℕ → Type 0
 HeldBelow f l k = (a : ℕ) → a < k → getD l a 0 ≡ f a
 
+-- the numbers below k are 0
+abbrev pub ZeroBelow : List ℕ → ℕ → Type 0
+ZeroBelow l k = HeldBelow (λ a. 0) l k
+
 -- the first n numbers become 0, those behind them stay
 abbrev pub zeroedFirst : ℕ → List ℕ → List ℕ
 zeroedFirst n l = replicate n 0 ++ drop n l
