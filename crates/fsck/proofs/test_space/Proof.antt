@@ -16,7 +16,7 @@ use Rattle.fsck.proofs.test_space.Tie as tie
 
 -- ---- the tests passed before a place
 
--- the place at the start, from those behind a passed test
+-- the place at the start, from those where a test is passed
 abbrev start-1 : tie.Else1 → tie.Start
 start-1 c = c .before .before .before .before .before .before .before .before .before
 
