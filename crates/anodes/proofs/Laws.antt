@@ -1,4 +1,4 @@
--- What an anode is seen as, and the tables with one more of them. Assumes nothing.
+-- What an anode is seen as, and the tables with one more of them: `c`, `b` and `n` are those of counts, of first blocks and of nexts. Assumes nothing.
 use mathlib.Core.Path.{_≡_, refl, sym, ap, _∙_}
 use mathlib.Core.Logic.{⊎-elim}
 use Prim.Native.Nat.{ℕ, _+_, _*_, _/_, _%_, _-_, _<_, _≤_}
@@ -16,7 +16,7 @@ use Rattle.disk.specs.Blocks.{blockOf}
 use Rattle.disk.specs.AnodeBlocks.{anodeMade, anodeIn, anodeOf}
 use Rattle.disk.proofs.Laws.{slotOf-high, anodeOf-missing, anodeOf-there}
 use Rattle.rules.specs.Anodes.{Anodes, fieldsOf, inUse, anodesOf}
-use Rattle.tables.specs.Held.{HeldBelow}
+use Rattle.tables.specs.Held.{HeldBelow, zeroedFirst}
 use Rattle.tables.proofs.Laws.{held-more}
 use Rattle.anodes.specs.Loaded.{anodesFrom, asSeen, LoadedBelow}
 
@@ -69,7 +69,7 @@ module _ (s : Anodes) (c b n : List ℕ) where
 
 -- the part of a list from k up to e, with its first 82 numbers zeroed
 abbrev zeroed : List ℕ → ℕ → ℕ → List ℕ
-zeroed l k e = replicate 82 0 ++ drop 82 (take (e - k) (drop k l))
+zeroed l k e = zeroedFirst 82 (take (e - k) (drop k l))
 
 -- a list that holds f below k, where f is 0 from there to e, with that part back and zeroed
 held-zeroed : (f : ℕ → ℕ) (l new : List ℕ) (k e : ℕ) → e ≡ k + 82 → e ≤ length l → new ≡ zeroed l k e

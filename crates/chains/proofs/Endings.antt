@@ -1,4 +1,4 @@
--- The walk back from a chain's end, and what the marks then say.
+-- The walk back from a chain's end, and what the marks then say. `t`, `n`, `b` and `m` are the tables of predecessors, of nexts, of first blocks and of marks.
 use Prim.Native.Nat.{ℕ, zero, suc, _+_, _≤_, _<_}
 use mathlib.Core.Path.{_≡_, refl, sym, ap, _∙_}
 use mathlib.Core.Logic.{_≢_, inl, inr}

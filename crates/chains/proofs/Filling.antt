@@ -1,4 +1,4 @@
--- The table of chain heads, one head after the other, and what it is in the end.
+-- The table of chain heads, one head after the other, and what it is in the end. `m` is that table; `n`, `b`, `t` and `c` are those of nexts, of first blocks, of predecessors and of counts.
 use Prim.Native.Nat.{ℕ, zero, suc, _+_, _≤_, _<_}
 use mathlib.Core.Path.{_≡_, refl, sym, ap, _∙_}
 use mathlib.Core.Logic.{_≢_, _⊎_, inl, inr}
@@ -8,6 +8,7 @@ use lib.ListN.{length, getD, set, drop, length-set}
 use lib.Seq.{getD-set-same, getD-set-other, drop-set-lt}
 use Rattle.rules.specs.Chains.{followed, headOf}
 use Rattle.rules.specs.Tables.{chainHead, anodeEntry, anodeTable}
+use Rattle.tables.specs.Held.{ZeroBelow}
 use Rattle.anodes.specs.Loaded.{anodesFrom}
 use Rattle.laws.specs.Tests.{same?}
 use Rattle.laws.specs.OwnerTable.{listed-front, anodeEntry-head}
@@ -32,7 +33,7 @@ fill-skip n b m a w off = record {
 module _ (n b : List ℕ) (k : Linked 3444 (λ a. getD n a 0) (λ a. getD b a 0)) where
   -- ---- a head stored along its chain
 
-  module _ (h : ℕ) (some : h ≢ 0) where
+  module _ (h : ℕ) where
     -- the walk is at 0, or on the chain of h
     onChain : ℕ → Type 0
     onChain a = a ≢ 0 → (getD b a 0 ≢ 0) × (headOf 3444 (λ x. getD n x 0) (λ x. getD b x 0) a ≡ h)
@@ -65,14 +66,14 @@ module _ (n b : List ℕ) (k : Linked 3444 (λ a. getD n a 0) (λ a. getD b a 0)
           | inr q ↦ rw (getD-set-other m (suc a) x h 0 q) (r x l (rw (getD-set-other m (suc a) x h 0 q) at g))
         ]
 
-    stored-along : (f : ℕ) (m : List ℕ) (a : ℕ) → 3444 ≤ length m → onChain a → followed (λ x. getD n x 0) f a ≡ 0
+    stored-along : h ≢ 0 → (f : ℕ) (m : List ℕ) (a : ℕ) → 3444 ≤ length m → onChain a → followed (λ x. getD n x 0) f a ≡ 0
         → ((x : ℕ) → getD m x 0 ≢ 0 → getD n x 0 ≢ 0 → (getD m (getD n x 0) 0 ≢ 0) ⊎ (getD n x 0 ≡ a))
         → (x : ℕ) → getD (storedAlong f n m h a) x 0 ≢ 0 → getD n x 0 ≢ 0 → getD (storedAlong f n m h a) (getD n x 0) 0 ≢ 0
     unfolding storedAlong onChain
-    stored-along zero m a long on e r = λ x p q. elim (r x p q) [ inl y ↦ y | inr y ↦ absurd (q (y ∙ sym (followed-none (λ x. getD n x 0) a) ∙ e)) ]
-    stored-along (suc f) m zero long on e r = λ x p q. elim (r x p q) [ inl y ↦ y | inr y ↦ absurd (q y) ]
-    stored-along (suc f) m (suc a) long on e r =
-        stored-along f (set m (suc a) h) (getD n (suc a) 0) (rw (length-set m (suc a) h) long) (on-next (suc a) (λ z. omega arith) on) (sym (followed-one (λ x. getD n x 0) f (suc a)) ∙ e) new
+    stored-along some zero m a long on e r = λ x p q. elim (r x p q) [ inl y ↦ y | inr y ↦ absurd (q (y ∙ sym (followed-none (λ x. getD n x 0) a) ∙ e)) ]
+    stored-along some (suc f) m zero long on e r = λ x p q. elim (r x p q) [ inl y ↦ y | inr y ↦ absurd (q y) ]
+    stored-along some (suc f) m (suc a) long on e r =
+        stored-along some f (set m (suc a) h) (getD n (suc a) 0) (rw (length-set m (suc a) h) long) (on-next (suc a) (λ z. omega arith) on) (sym (followed-one (λ x. getD n x 0) f (suc a)) ∙ e) new
       where
         here : getD (set m (suc a) h) (suc a) 0 ≡ h
         here = getD-set-same m (suc a) h 0 (omega (arith, k .view .below (suc a) (on (λ z. omega arith) .0)))
@@ -92,17 +93,17 @@ module _ (n b : List ℕ) (k : Linked 3444 (λ a. getD n a 0) (λ a. getD b a 0)
   head-at t p a h u z = record { pos = h; in-use = u; no-pred = no-pred t n p (k .zero-end) a h z }
 
   module _ (m : List ℕ) (a : ℕ) (w : FilledBelow m n b a) (d : Head (λ x. getD n x 0) (λ x. getD b x 0) a) where
-    on-head : onChain a (d .pos) a
+    on-head : onChain a a
     unfolding onChain
     on-head q = (d .in-use, headOf-heads k .at-head a d)
 
     pub fill-rest : drop 3444 (storedAlong 3444 n m a a) ≡ drop 3444 m
-    fill-rest = stored-rest a (d .pos) 3444 m a on-head
+    fill-rest = stored-rest a 3444 m a on-head
 
     pub fill-more : FilledBelow (storedAlong 3444 n m a a) n b (a + 1)
     fill-more = record {
       long = rw (stored-length n a 3444 m a) (w .long);
-      right = stored-right a (d .pos) 3444 m a (w .long) on-head (w .right);
+      right = stored-right a 3444 m a (w .long) on-head (w .right);
       along = stored-along a (d .pos) 3444 m a (w .long) on-head (checked k .ends a (d .in-use)) (λ x p q. inl (w .along x p q));
       filled = λ h l g. elim (same? h a) [
         | inl e ↦ rw (e, stored-step n a 3444 3443 a m refl (d .pos))
@@ -113,7 +114,7 @@ module _ (n b : List ℕ) (k : Linked 3444 (λ a. getD n a 0) (λ a. getD b a 0)
 
   -- ---- the whole table
 
-  pub fill-none : (m : List ℕ) → 3444 ≤ length m → ((a : ℕ) → a < 3444 → getD m a 0 ≡ 0) → FilledBelow m n b 1
+  pub fill-none : (m : List ℕ) → 3444 ≤ length m → ZeroBelow m 3444 → FilledBelow m n b 1
   fill-none m long zeroed = record {
     long = long;
     right = λ x l h. absurd (h (zeroed x l));

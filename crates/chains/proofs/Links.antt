@@ -1,4 +1,4 @@
--- 8 by what its parts find.
+-- 8 by what its parts find. `c`, `b`, `n` and `t` are the tables of counts, of first blocks, of nexts and of predecessors.
 use Prim.Native.Nat.{ℕ, _<_}
 use mathlib.Core.Path.{_≡_, sym, _∙_}
 use mathlib.Core.Logic.{_≢_, inl, inr}
@@ -23,12 +23,14 @@ use Rattle.chains.proofs.Predecessors.{preds-none, preds-some, preds-on
 pub next-in : (b n : List ℕ) → View 3444 (λ a. getD n a 0) (λ a. getD b a 0) → Closed (λ a. getD n a 0) (λ a. getD b a 0) → (a : ℕ) → getD n a 0 < 3444
 next-in b n v closed a = elim (same? (getD n a 0) 0) [ inl z ↦ omega arith | inr h ↦ v .below (getD n a 0) (closed a h) ]
 
+-- an anode with two predecessors is in use
+twice-used : (b n : List ℕ) → Closed (λ a. getD n a 0) (λ a. getD b a 0) → (w : Twice n) → getD b (w .anode) 0 ≢ 0
+twice-used b n closed w = rw (w .leads) at (closed (w .before) (λ z. w .some (sym (w .leads) ∙ z)))
+
 -- by links in order no second predecessor is found
 pub noted-once : (b n : List ℕ) → Linked 3444 (λ a. getD n a 0) (λ a. getD b a 0)
     → (r : Bool) (t : List ℕ) → Noted r t n 3444 → NotedBelow t n 3444
-noted-once b n k true t w =
-    let u : getD b (w .anode) 0 ≢ 0 = rw (w .leads) at (k .closed (w .before) (λ z. w .some (sym (w .leads) ∙ z))) in
-    absurd (omega (arith, w .two, checked k .one-pred (w .anode) (w .some) u))
+noted-once b n k true t w = absurd (omega (arith, w .two, checked k .one-pred (w .anode) (w .some) (twice-used b n (k .closed) w)))
 noted-once b n k false t w = w
 
 module _ (c b n : List ℕ) where
@@ -40,7 +42,7 @@ module _ (c b n : List ℕ) where
   unfolding wrongAt wrongLink anodesFrom
   links-twice v closed w =
       let x = w .anode in
-      let u : getD b x 0 ≢ 0 = rw (w .leads) at (closed (w .before) (λ z. w .some (sym (w .leads) ∙ z))) in
+      let u = twice-used b n closed w in
       links-at x (v .below x u) (rw (ne-eqb x 0 (w .some), ne-eqb (getD b x 0) 0 u, lt-ltb 1 (preds 3444 (λ a. getD n a 0) x) (w .two)))
 
   links-endless : View 3444 (λ a. getD n a 0) (λ a. getD b a 0) → Endless n b → wrongLinks (anodesFrom c b n) ≡ true

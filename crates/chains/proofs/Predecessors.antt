@@ -1,4 +1,4 @@
--- The table of predecessors, one anode after the other.
+-- The table of predecessors, one anode after the other. `t` is that table, `n` the table of nexts.
 use Prim.Native.Nat.{ℕ, _+_, _≤_, _<_}
 use mathlib.Core.Path.{_≡_, sym, ap, _∙_}
 use mathlib.Core.Logic.{_≢_, inl, inr}
@@ -28,9 +28,9 @@ module _ (t n : List ℕ) (a : ℕ) (w : NotedBelow t n a) where
     only = λ p l h. elim (same? p a) [ inl e ↦ absurd (h (ap (λ (q : ℕ). getD n q 0) e ∙ z)) | inr e ↦ w .only p (omega arith) h ];
   }
 
-  module _ (x : ℕ) (is : getD n a 0 ≡ x) (some : x ≢ 0) where
-    pub noted-twice : a < 3444 → getD t x 0 ≢ 0 → Twice n
-    noted-twice l h = record {
+  module _ (x : ℕ) (is : getD n a 0 ≡ x) where
+    pub noted-twice : x ≢ 0 → a < 3444 → getD t x 0 ≢ 0 → Twice n
+    noted-twice some l h = record {
       anode = x;
       before = a;
       some = some;

@@ -10,6 +10,7 @@ ghost use Rattle.rules.specs.Chains.{chainOf};
 ghost use Rattle.rules.specs.Accepted.{wrongFixed, outOfRange, wrongLinks, notUpTo, wrongFreeList};
 ghost use Rattle.rules.specs.Tables.{anodeTable};
 ghost use Rattle.laws.specs.Links.{View, Closed, Linked};
+ghost use Rattle.tables.specs.Held.{ZeroBelow};
 ghost use Rattle.anodes.specs.Loaded.{anodesFrom};
 ghost use Rattle.chains.specs.Predecessors.{PredTable, NotedBelow, Noted, fixedNoted};
 ghost use Rattle.chains.specs.Storing.{storedAlong};
@@ -134,7 +135,7 @@ fn fixed_has_pred(preds: &[u16]) -> bool
     entry(preds, 5) != 0
 }
 
-// Stores `v` at `from` and along the links from there, until 0.
+// Stores `v` at `from` and along the links from there, until 0 and at most 3,444 times.
 fn store_along(links: &[u16], table: &mut [u16], v: u16, from: usize)
     ensures { λ _. ⌜ now (table .exit) ≡ storedAlong 3444 (now (links .entry)) (now (table .entry)) v from ⌝ }
 {
@@ -209,7 +210,7 @@ fn some_endless(firsts: &[u16], nexts: &[u16], preds: &[u16]) -> bool
     some_unmarked(firsts, &marks)
 }
 
-// 8: two predecessors, a chain that never ends, or a predecessor of 1, 3, 4 or 5; where there is none, `preds` holds each anode's predecessor.
+// 8: two predecessors, a chain that never ends, or a predecessor of 1, 3, 4 or 5. Where none of these is found, `preds` holds each anode's predecessor, or 0.
 pub fn wrong_links(firsts: &[u16], nexts: &[u16], preds: &mut [u16]) -> bool
     requires { ⌜ (now preds ≡ replicate 3444 0) × (length (now firsts) ≡ 3444) × (length (now nexts) ≡ 3444) × View 3444 (λ a. getD (now nexts) a 0) (λ a. getD (now firsts) a 0) × (getD (now nexts) 0 0 ≡ 0) × Closed (λ a. getD (now nexts) a 0) (λ a. getD (now firsts) a 0) ⌝ }
     ensures answer { λ r. ⌜ ((c : List ℕ) → r ≡ wrongLinks (anodesFrom c (now (firsts .entry)) (now (nexts .entry)))) ⌝ }
@@ -241,7 +242,7 @@ fn fill_head(firsts: &[u16], nexts: &[u16], preds: &[u16], heads: &mut [u16], a:
 
 // The head of each anode's chain, or 0 for anode 0 and free ones, in the first 3,444 entries of the lent table.
 pub fn fill_heads(firsts: &[u16], nexts: &[u16], preds: &[u16], heads: &mut [u16])
-    requires { ⌜ (3444 ≤ length (now heads)) × ((a : ℕ) → a < 3444 → getD (now heads) a 0 ≡ 0) × Linked 3444 (λ a. getD (now nexts) a 0) (λ a. getD (now firsts) a 0) × PredTable (now preds) (now nexts) ⌝ }
+    requires { ⌜ (3444 ≤ length (now heads)) × ZeroBelow (now heads) 3444 × Linked 3444 (λ a. getD (now nexts) a 0) (λ a. getD (now firsts) a 0) × PredTable (now preds) (now nexts) ⌝ }
     ensures { λ _. ⌜ ((c : List ℕ) → now (heads .exit) ≡ anodeTable (anodesFrom c (now (firsts .entry)) (now (nexts .entry))) ++ drop 3444 (now (heads .entry))) ⌝ }
 {
     for a in 1..3444 {
@@ -249,7 +250,7 @@ pub fn fill_heads(firsts: &[u16], nexts: &[u16], preds: &[u16], heads: &mut [u16
     }
 }
 
-// The head of every anode's chain, by anodes whose links are in order.
+// The same table by the links alone, where they are in order: notes the predecessors and zeroes the entries first.
 pub fn show_heads(firsts: &[u16], nexts: &[u16], heads: &mut [u16])
     requires { ⌜ (3444 ≤ length (now heads)) × (length (now nexts) ≡ 3444) × Linked 3444 (λ a. getD (now nexts) a 0) (λ a. getD (now firsts) a 0) ⌝ }
     ensures { λ _. ⌜ ((c : List ℕ) → now (heads .exit) ≡ anodeTable (anodesFrom c (now (firsts .entry)) (now (nexts .entry))) ++ drop 3444 (now (heads .entry))) ⌝ }

@@ -20,14 +20,14 @@ use Rattle.disk.specs.declared.Anode.{Anode}
 
 -- ---- blocks
 
-pub length-blockOf : (img : List ℕ) (b : ℕ) → b * 512 + 512 ≤ length img → length (blockOf img b) ≡ 512
-unfolding blockOf
-length-blockOf img b h = simp (length-take, length-drop) (omega arith)
-
 -- as many bytes as the image has from the block's start on, 512 at most
 pub length-blockOf-min : (img : List ℕ) (b : ℕ) → length (blockOf img b) ≡ min 512 (length img - b * 512)
 unfolding blockOf
 length-blockOf-min img b = simp (length-take, length-drop)
+
+-- so all 512 where the image has them
+pub length-blockOf : (img : List ℕ) (b : ℕ) → b * 512 + 512 ≤ length img → length (blockOf img b) ≡ 512
+length-blockOf img b h = omega (arith, length-blockOf-min img b)
 
 pub withBlock-out : (img : List ℕ) (b : ℕ) (new : List ℕ) → length img ≤ b * 512 → withBlock img b new ≡ img
 unfolding withBlock

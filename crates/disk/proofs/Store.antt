@@ -10,8 +10,8 @@ use lib.Seq.{getD-set-same, getD-take, getD-drop, length-take-le, take-all, ext-
 use Rattle.endian.specs.Bytes.{be16, put16, put32, stored}
 use Rattle.endian.proofs.Laws.{less?, same?, length-put16, length-put32, length-stored, be32-halves, be16-put16-same, be16-put16-other, be32-put32-same, be16-set-other, getD-put16-other, stored-out, stored-take, be16-stored-other, getD-stored-other, getD-stored-before, getD-stored-in}
 use Rattle.disk.specs.Blocks.{blockOf, withBlock}
-use Rattle.disk.specs.Root.{rootIn, putRoot, slotIn, slotOf}
-use Rattle.disk.specs.AnodeBlocks.{anodeHeadIn, putAnodeHead, anodeIn, putAnode, anodeOf, setAnode}
+use Rattle.disk.specs.Root.{rootIn, putRoot, slotByte, slotIn, putSlot, slotOf}
+use Rattle.disk.specs.AnodeBlocks.{anodeHeadIn, putAnodeHead, anodeByte, anodeIn, putAnode, anodeOf, setAnode}
 use Rattle.disk.specs.declared.Anode.{Anode}
 use Rattle.disk.specs.declared.AnodeHead.{AnodeHead}
 use Rattle.disk.specs.declared.Root.{Root}
@@ -23,7 +23,7 @@ module _ (l : List ℕ) (p : ℕ) (x : Anode) where
   pub anodeIn-putAnode-same : p < 82 → 512 ≤ length l → anodeIn (putAnode l p x) p ≡ x
   unfolding anodeIn putAnode
   anodeIn-putAnode-same h k =
-      let at = 16 + 6 * p in
+      let at = anodeByte p in
       let l1 = put16 l at (x .count) in
       let l2 = put16 l1 (at + 2) (x .block .0) in
       rw (
@@ -36,20 +36,20 @@ module _ (l : List ℕ) (p : ℕ) (x : Anode) where
       )
 
   -- a number with no byte among the six of the place
-  be16-putAnode-other : (k : ℕ) → ((j : ℕ) → j < 7 → k + 1 ≡ 16 + 6 * p + j → ⊥) → be16 (putAnode l p x) k ≡ be16 l k
+  be16-putAnode-other : (k : ℕ) → ((j : ℕ) → j < 7 → k + 1 ≡ anodeByte p + j → ⊥) → be16 (putAnode l p x) k ≡ be16 l k
   unfolding putAnode
   be16-putAnode-other k n =
-      be16-put16-other _ (16 + 6 * p + 4) _ k (λ j m e. n (j + 4) (omega arith) (omega arith))
-      ∙ be16-put16-other _ (16 + 6 * p + 2) _ k (λ j m e. n (j + 2) (omega arith) (omega arith))
-      ∙ be16-put16-other _ (16 + 6 * p) _ k (λ j m e. n j (omega arith) e)
+      be16-put16-other _ (anodeByte p + 4) _ k (λ j m e. n (j + 4) (omega arith) (omega arith))
+      ∙ be16-put16-other _ (anodeByte p + 2) _ k (λ j m e. n (j + 2) (omega arith) (omega arith))
+      ∙ be16-put16-other _ (anodeByte p) _ k (λ j m e. n j (omega arith) e)
 
   pub anodeIn-putAnode-other : (q : ℕ) → (q ≡ p → ⊥) → anodeIn (putAnode l p x) q ≡ anodeIn l q
   unfolding anodeIn
   anodeIn-putAnode-other q n =
       rw (
-        be16-putAnode-other (16 + 6 * q) (λ j h e. omega arith),
-        be16-putAnode-other (16 + 6 * q + 2) (λ j h e. omega arith),
-        be16-putAnode-other (16 + 6 * q + 4) (λ j h e. omega arith),
+        be16-putAnode-other (anodeByte q) (λ j h e. omega arith),
+        be16-putAnode-other (anodeByte q + 2) (λ j h e. omega arith),
+        be16-putAnode-other (anodeByte q + 4) (λ j h e. omega arith),
       )
 
   pub anodeHeadIn-putAnode : anodeHeadIn (putAnode l p x) ≡ anodeHeadIn l
@@ -79,7 +79,7 @@ module _ (l : List ℕ) (h : AnodeHead) where
   pub anodeIn-putAnodeHead : (p : ℕ) → anodeIn (putAnodeHead l h) p ≡ anodeIn l p
   unfolding anodeIn
   anodeIn-putAnodeHead p =
-      rw (be16-putAnodeHead (16 + 6 * p) (omega arith), be16-putAnodeHead (16 + 6 * p + 2) (omega arith), be16-putAnodeHead (16 + 6 * p + 4) (omega arith))
+      rw (be16-putAnodeHead (anodeByte p) (omega arith), be16-putAnodeHead (anodeByte p + 2) (omega arith), be16-putAnodeHead (anodeByte p + 4) (omega arith))
 
 -- ---- the root block
 
@@ -173,33 +173,33 @@ module _ (b : List ℕ) (r : Root) (name : List ℕ) where
 
   pub slotIn-putRoot : (s : ℕ) → length name ≤ 31 → slotIn (putRoot b r name) s ≡ slotIn b s
   unfolding slotIn
-  slotIn-putRoot s short = be16-putRoot-after (96 + 2 * s) short (omega arith)
+  slotIn-putRoot s short = be16-putRoot-after (slotByte s) short (omega arith)
 
 module _ (b : List ℕ) (s v : ℕ) where
-  pub slotIn-put16-same : s < 42 → 512 ≤ length b → slotIn (put16 b (96 + 2 * s) v) s ≡ v
+  pub slotIn-putSlot-same : s < 42 → 512 ≤ length b → slotIn (putSlot b s v) s ≡ v
   unfolding slotIn
-  slotIn-put16-same h long = be16-put16-same b (96 + 2 * s) v (omega arith)
+  slotIn-putSlot-same h long = be16-put16-same b (slotByte s) v (omega arith)
 
-  pub slotIn-put16-other : (t : ℕ) → (t ≡ s → ⊥) → slotIn (put16 b (96 + 2 * s) v) t ≡ slotIn b t
+  pub slotIn-putSlot-other : (t : ℕ) → (t ≡ s → ⊥) → slotIn (putSlot b s v) t ≡ slotIn b t
   unfolding slotIn
-  slotIn-put16-other t n = be16-put16-other b (96 + 2 * s) v (96 + 2 * t) (λ j m e. omega arith)
+  slotIn-putSlot-other t n = be16-put16-other b (slotByte s) v (slotByte t) (λ j m e. omega arith)
 
   -- the fields end before the slots
-  be16-put16-slot : (k : ℕ) → k < 95 → be16 (put16 b (96 + 2 * s) v) k ≡ be16 b k
-  be16-put16-slot k h = be16-put16-other b (96 + 2 * s) v k (λ j m e. omega arith)
+  be16-putSlot : (k : ℕ) → k < 95 → be16 (putSlot b s v) k ≡ be16 b k
+  be16-putSlot k h = be16-put16-other b (slotByte s) v k (λ j m e. omega arith)
 
-  pub rootIn-put16-slot : rootIn (put16 b (96 + 2 * s) v) ≡ rootIn b
+  pub rootIn-putSlot : rootIn (putSlot b s v) ≡ rootIn b
   unfolding rootIn
-  rootIn-put16-slot =
+  rootIn-putSlot =
       rw (
-        be32-halves (put16 b (96 + 2 * s) v) b 0 0 (be16-put16-slot 0 (omega arith)) (be16-put16-slot 2 (omega arith)),
-        be16-put16-slot 12 (omega arith),
-        be16-put16-slot 14 (omega arith),
-        be16-put16-slot 16 (omega arith),
-        be16-put16-slot 18 (omega arith),
-        getD-put16-other b (96 + 2 * s) v 20 (omega arith) (omega arith),
-        be16-put16-slot 52 (omega arith),
-        be16-put16-slot 54 (omega arith),
+        be32-halves (putSlot b s v) b 0 0 (be16-putSlot 0 (omega arith)) (be16-putSlot 2 (omega arith)),
+        be16-putSlot 12 (omega arith),
+        be16-putSlot 14 (omega arith),
+        be16-putSlot 16 (omega arith),
+        be16-putSlot 18 (omega arith),
+        getD-put16-other b (slotByte s) v 20 (omega arith) (omega arith),
+        be16-putSlot 52 (omega arith),
+        be16-putSlot 54 (omega arith),
       )
 
 -- ---- a block of an image
@@ -278,18 +278,18 @@ slotOf-withBlock-other img b new s enough n = rw (blockOf-withBlock-other img b 
 
 module _ (img : List ℕ) (s v : ℕ) where
   -- a stored slot keeps the root block's length
-  kept : length (put16 (blockOf img 2) (96 + 2 * s) v) ≡ length (blockOf img 2)
-  kept = length-put16 (blockOf img 2) (96 + 2 * s) v
+  kept : length (putSlot (blockOf img 2) s v) ≡ length (blockOf img 2)
+  kept = length-put16 (blockOf img 2) (slotByte s) v
 
-  pub slotOf-put16-same : s < 42 → 1536 ≤ length img → slotOf (withBlock img 2 (put16 (blockOf img 2) (96 + 2 * s) v)) s ≡ v
-  slotOf-put16-same h there =
+  pub slotOf-putSlot-same : s < 42 → 1536 ≤ length img → slotOf (withBlock img 2 (putSlot (blockOf img 2) s v)) s ≡ v
+  slotOf-putSlot-same h there =
       let n = length-blockOf img 2 there in
-      slotOf-withBlock-root img _ s kept h ∙ slotIn-put16-same (blockOf img 2) s v h (omega arith)
+      slotOf-withBlock-root img _ s kept h ∙ slotIn-putSlot-same (blockOf img 2) s v h (omega arith)
 
-  pub slotOf-put16-other : (t : ℕ) → (t ≡ s → ⊥) → slotOf (withBlock img 2 (put16 (blockOf img 2) (96 + 2 * s) v)) t ≡ slotOf img t
-  slotOf-put16-other t n =
+  pub slotOf-putSlot-other : (t : ℕ) → (t ≡ s → ⊥) → slotOf (withBlock img 2 (putSlot (blockOf img 2) s v)) t ≡ slotOf img t
+  slotOf-putSlot-other t n =
       ⊎-elim
-      (λ h. slotOf-withBlock-root img _ t kept h ∙ slotIn-put16-other (blockOf img 2) s v t n ∙ sym (slotOf-there img t h))
+      (λ h. slotOf-withBlock-root img _ t kept h ∙ slotIn-putSlot-other (blockOf img 2) s v t n ∙ sym (slotOf-there img t h))
       (λ h. slotOf-high _ t h ∙ sym (slotOf-high img t h))
       (less? t 42)
 

@@ -69,7 +69,7 @@ anodeAt slots a = getD (getD slots (slotFor a) []) (placeFor a) (anodeMade 0 0 0
 unfoldable pub anodeOf : List ℕ → ℕ → Anode
 anodeOf img a = anodeAt (anodeSlots img) a
 
--- the image with another anode `a`; unchanged where its slot is missing
+-- the image with another anode `a`; unchanged where that is missing
 unfoldable pub setAnode : List ℕ → ℕ → Anode → List ℕ
 setAnode img a x =
     cond (eqb (slotOf img (slotFor a)) 0) img

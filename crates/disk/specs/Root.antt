@@ -46,9 +46,17 @@ putRoot b r name =
     52 (r .first .0))
     54 (r .last .0)
 
--- the anode block number in slot `s`: 42 of them from 96, two bytes each, unsigned
+-- the byte where slot `s` starts: 42 of them from 96, two bytes each
+abbrev pub slotByte : ℕ → ℕ
+slotByte s = 96 + 2 * s
+
+-- the anode block number in slot `s`, unsigned
 unfoldable pub slotIn : List ℕ → ℕ → ℕ
-slotIn b s = be16 b (96 + 2 * s)
+slotIn b s = be16 b (slotByte s)
+
+-- the block with an anode block number stored in slot `s`
+abbrev pub putSlot : List ℕ → ℕ → ℕ → List ℕ
+putSlot b s v = put16 b (slotByte s) v
 
 -- the number in slot `s` of an image; 0 past the 42 slots
 unfoldable pub slotOf : List ℕ → ℕ → ℕ

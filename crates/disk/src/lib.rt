@@ -1,10 +1,9 @@
 // The vocabulary of a PFS disk: the two kinds of number, anodes and refusals, and readers and writers of the root block and of an anode block.
 ghost use mathlib.Core.Path.{_≡_};
-ghost use Prim.Native.Nat.{_+_, _*_, _<_, min};
-ghost use Rattle.endian.specs.Bytes.{put16};
+ghost use Prim.Native.Nat.{_+_, _<_, min};
 ghost use Rattle.disk.specs.Refusals.{numberOf};
 ghost use Rattle.disk.specs.Blocks.{blockOf};
-ghost use Rattle.disk.specs.Root.{rootIn, putRoot, slotIn, slotOf};
+ghost use Rattle.disk.specs.Root.{rootIn, putRoot, slotIn, putSlot, slotOf};
 ghost use Rattle.disk.specs.AnodeBlocks.{anodeMade, anodeHeadIn, putAnodeHead, anodeIn, putAnode, anodeOf, setAnode};
 use endian::part;
 use endian::read8;
@@ -170,7 +169,7 @@ pub fn slot_in(block: &[u8], s: usize) -> BlockNo
 // Stores an anode block number in slot `s` of the root block.
 pub fn put_slot(block: &mut [u8], s: usize, b: BlockNo)
     requires { ⌜ s < 42 ⌝ }
-    ensures { λ _. ⌜ now (block .exit) ≡ put16 (now (block .entry)) (96 + 2 * s) (b .0) ⌝ }
+    ensures { λ _. ⌜ now (block .exit) ≡ putSlot (now (block .entry)) s (b .0) ⌝ }
 {
     write16(block, 96 + 2 * s, b.0);
 }
@@ -203,7 +202,7 @@ pub fn put_anode_head(block: &mut [u8], head: AnodeHead)
     write16(block, 10, head.sequence);
 }
 
-// The anode that a missing slot reads as.
+// What a missing anode reads as: (0, 0, 0).
 pub fn no_anode() -> Anode
     ensures { λ r. ⌜ r ≡ anodeMade 0 0 0 ⌝ }
 {
@@ -250,7 +249,7 @@ pub fn anode_of(image: &[u8], a: AnodeNo) -> Anode
     anode_in(block_part(image, slot), n % 82)
 }
 
-// Stores anode `a` of the image; nothing changes where its slot is missing.
+// Stores anode `a` of the image; nothing changes where it is missing.
 pub fn set_anode(image: &mut [u8], a: AnodeNo, x: Anode)
     ensures { λ _. ⌜ now (image .exit) ≡ setAnode (now (image .entry)) (a .0) x ⌝ }
 {

@@ -16,7 +16,7 @@ use Rattle.disk.specs.Blocks.{blockOf, withBlock}
 use Rattle.disk.specs.Root.{rootIn, putRoot, slotIn}
 use Rattle.disk.specs.AnodeBlocks.{anodeMade, anodeIn, putAnode}
 use Rattle.disk.proofs.Laws.{length-blockOf, length-blockOf-min, part-block, block-back, length-putAnode}
-use Rattle.disk.proofs.Store.{anodeIn-putAnode-same, anodeIn-putAnode-other, length-putAnodeHead, anodeIn-putAnodeHead, length-putRoot, rootIn-putRoot, slotIn-putRoot, slotIn-put16-same, slotIn-put16-other, rootIn-put16-slot, getD-blockOf, length-withBlock, blockOf-withBlock-same, blockOf-withBlock-other}
+use Rattle.disk.proofs.Store.{anodeIn-putAnode-same, anodeIn-putAnode-other, length-putAnodeHead, anodeIn-putAnodeHead, length-putRoot, rootIn-putRoot, slotIn-putRoot, slotIn-putSlot-same, slotIn-putSlot-other, rootIn-putSlot, getD-blockOf, length-withBlock, blockOf-withBlock-same, blockOf-withBlock-other}
 use Rattle.rules.specs.Format.{zeroBlock, withSlots, rootBlock, lowerAnode, upperAnode, listHead, firstAnodes, emptyAnodeBlock, anodeBlock, withAnodeBlocks, rootMade}
 
 -- ---- zeros
@@ -97,7 +97,7 @@ length-withSlots b (suc s) = length-put16 (withSlots b s) (96 + 2 * s) (3 + s) �
 rootIn-withSlots : (b : List ℕ) (s : ℕ) → rootIn (withSlots b s) ≡ rootIn b
 unfolding withSlots
 rootIn-withSlots b zero = refl
-rootIn-withSlots b (suc s) = rootIn-put16-slot (withSlots b s) s (3 + s) ∙ rootIn-withSlots b s
+rootIn-withSlots b (suc s) = rootIn-putSlot (withSlots b s) s (3 + s) ∙ rootIn-withSlots b s
 
 slotIn-withSlots-some : (b : List ℕ) (s t : ℕ) → t < s → s ≤ 42 → length b ≡ 512 → slotIn (withSlots b s) t ≡ 3 + t
 unfolding withSlots
@@ -105,15 +105,15 @@ slotIn-withSlots-some b zero t h m long = absurd (not-suc-le-zero h)
 slotIn-withSlots-some b (suc s) t h m long =
     let n = length-withSlots b s in
     ⊎-elim
-    (λ e. rw e (slotIn-put16-same (withSlots b s) s (3 + s) (omega arith) (omega arith)))
-    (λ l. slotIn-put16-other (withSlots b s) s (3 + s) t (omega arith) ∙ slotIn-withSlots-some b s t l (omega arith) long)
+    (λ e. rw e (slotIn-putSlot-same (withSlots b s) s (3 + s) (omega arith) (omega arith)))
+    (λ l. slotIn-putSlot-other (withSlots b s) s (3 + s) t (omega arith) ∙ slotIn-withSlots-some b s t l (omega arith) long)
     (eq-or-lt-of-le (le-of-suc-le-suc h))
 
 slotIn-withSlots-none : (b : List ℕ) (s t : ℕ) → s ≤ t → slotIn (withSlots b s) t ≡ slotIn b t
 unfolding withSlots
 slotIn-withSlots-none b zero t h = refl
 slotIn-withSlots-none b (suc s) t h =
-    slotIn-put16-other (withSlots b s) s (3 + s) t (omega arith) ∙ slotIn-withSlots-none b s t (omega arith)
+    slotIn-putSlot-other (withSlots b s) s (3 + s) t (omega arith) ∙ slotIn-withSlots-none b s t (omega arith)
 
 module _ (last k : ℕ) (name : List ℕ) (day minute tick protection : ℕ) where
   -- the root block before its slots

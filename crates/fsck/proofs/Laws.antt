@@ -20,6 +20,7 @@ use Rattle.rules.specs.Calls.{Outcome, outcomeOf, settled, checkOutcome, fileCo
 use Rattle.counting.specs.Laws.{neither}
 use Rattle.laws.specs.Acceptance.{passed-of, size-bounds}
 use Rattle.laws.specs.Damage.{NoneOr, if-number, damage-range, wider}
+use Rattle.tables.specs.Held.{zeroedFirst}
 use Rattle.tables.proofs.Laws.{zeroed-past}
 use Rattle.laws.specs.Chains.{HeadTable}
 use Rattle.tree.specs.Tree.{treeNumber, Counts, Queued}
@@ -71,20 +72,24 @@ module _ (img : List ℕ) (b a : ℕ) where
 
 -- ---- 6 to 16
 
+-- tables that are not touched are kept
+pub kept-all : (img b a : List ℕ) → Kept img b a b a
+kept-all img b a = record { blocks-kept = refl; anodes-kept = refl }
+
 module _ (img : List ℕ) (s : Anodes) where
   -- tables that show the image keep what stands behind it
   filled-kept : (b₀ a₀ b a : List ℕ) → Filled img s b₀ a₀ b a → Kept img b₀ a₀ b a
   filled-kept b₀ a₀ b a f = record { blocks-kept = blocks-past img s b b₀ (f .blocks-shown); anodes-kept = heads-past s a a₀ (f .anodes-shown) }
 
-  module _ (b₀ a₀ b a : List ℕ) (t : Test) (e : SpaceTested t img s) (left : TablesAfter t img s b₀ a₀ b a) where
-    pub all-failed : (r : Refusal) → t ≡ Failed r → (numberOf r ≡ damageIn img s) × Kept img b₀ a₀ b a
-    all-failed r is = (sym (rw is at e), rw is at left)
+  module _ (b₀ a₀ b a : List ℕ) (t : Test) (left : TablesAfter t img s b₀ a₀ b a) where
+    pub all-heads : t ≡ Passed → (s₁ : Anodes) → s₁ ≡ s → HeadTable a s₁
+    all-heads is s₁ same = rw same ((rw is at left) .1)
 
-    module _ (is : t ≡ Passed) (s₁ : Anodes) (same : s₁ ≡ s) where
-      pub all-heads : HeadTable a s₁
-      all-heads = rw same ((rw is at left) .1)
+    module _ (e : SpaceTested t img s) where
+      pub all-failed : (r : Refusal) → t ≡ Failed r → (numberOf r ≡ damageIn img s) × Kept img b₀ a₀ b a
+      all-failed r is = (sym (rw is at e), rw is at left)
 
-      module _ (w : TreeRead) (n : treeNumber w ≡ treeFault img s₁) where
+      module _ (is : t ≡ Passed) (s₁ : Anodes) (same : s₁ ≡ s) (w : TreeRead) (n : treeNumber w ≡ treeFault img s₁) where
         damaged : damageIn img s ≡ treeNumber w
         damaged = rw is at e ∙ sym (rw same at n)
 
@@ -111,7 +116,7 @@ module _ (range : ℕ) (shown old : List ℕ) where
   unfolding tableLeft
   left-early k l m = rw (le-leb 1 k l, le-leb k 4 m)
 
-  left-zeroed : (k : ℕ) → 5 ≤ k → k ≤ 16 → tableLeft k range shown old ≡ replicate range 0 ++ drop range old
+  left-zeroed : (k : ℕ) → 5 ≤ k → k ≤ 16 → tableLeft k range shown old ≡ zeroedFirst range old
   unfolding tableLeft
   left-zeroed k l m = rw (le-leb 1 k (omega arith), lt-leb k 4 (omega arith), le-leb 5 k l, le-leb k 16 m)
 
@@ -120,11 +125,22 @@ module _ (range : ℕ) (shown old : List ℕ) where
   left-shown = refl
 
 -- zeroed, changed in its range alone, and shown
-once : (n : ℕ) (t₀ t₁ t₂ shown t₃ : List ℕ) → t₁ ≡ replicate n 0 ++ drop n t₀ → drop n t₂ ≡ drop n t₁ → t₃ ≡ shown ++ drop n t₂ → t₃ ≡ shown ++ drop n t₀
+once : (n : ℕ) (t₀ t₁ t₂ shown t₃ : List ℕ) → t₁ ≡ zeroedFirst n t₀ → drop n t₂ ≡ drop n t₁ → t₃ ≡ shown ++ drop n t₂ → t₃ ≡ shown ++ drop n t₀
 once n t₀ t₁ t₂ shown t₃ z k e =
     e ∙ ap (λ (l : List ℕ). shown ++ l) (k ∙ zeroed-past n t₀ t₁ z)
 
 -- ---- the outcome
+
+-- what is known once 5 to 16 are tried: what 1 to 4 said, both tables as they were zeroed before, the answer, and both tables as they are left
+pub record Examined (img b₀ a₀ : List ℕ) (n : ℕ) (b₂ a₂ : List ℕ) (x : Checked) : Type 0 where
+  pub size : n ≡ diskSize img
+  pub header : Headed img (length b₀) (length a₀)
+  pub b₁ : List ℕ
+  pub a₁ : List ℕ
+  pub blocks-zeroed : b₁ ≡ zeroedFirst n b₀
+  pub anodes-zeroed : a₁ ≡ zeroedFirst limit a₀
+  pub answer : checkedNumber x ≡ (5 if wrongSlots img else damageIn img (anodesOf img))
+  pub left : TablesLeft x img (anodesOf img) b₁ a₁ b₂ a₂
 
 late-range : (img : List ℕ) → NoneOr 5 16 (5 if wrongSlots img else damageIn img (anodesOf img))
 late-range img =
@@ -152,26 +168,24 @@ module _ (img b₀ a₀ : List ℕ) where
       outcome (numberOf r) b₀ a₀ (n .0)
       (sym (left-early (diskSize img) _ b₀ (numberOf r) (number-some r) (n .1))) (sym (left-early limit _ a₀ (numberOf r) (number-some r) (n .1)))
 
-  module _ (n : ℕ) (size : n ≡ diskSize img) (h : Headed img (length b₀) (length a₀)) (b₁ a₁ b₂ a₂ : List ℕ)
-      (zb : b₁ ≡ replicate n 0 ++ drop n b₀) (za : a₁ ≡ replicate 3444 0 ++ drop 3444 a₀)
-      (x : Checked) (e : checkedNumber x ≡ (5 if wrongSlots img else damageIn img (anodesOf img))) (left : TablesLeft x img (anodesOf img) b₁ a₁ b₂ a₂) where
+  module _ {n : ℕ} {b₂ a₂ : List ℕ} {x : Checked} (w : Examined img b₀ a₀ n b₂ a₂ x) where
     pub outcome-accepted : (t : Tally) → x ≡ Accepted t → outcomeOf (checkedNumber x) img b₂ a₂ [] [] ≡ checkOutcome img b₀ a₀
     unfolding blocksLeft anodesLeft
     outcome-accepted t is =
-        let f : Filled img (anodesOf img) b₁ a₁ b₂ a₂ = rw is at left in
-        let z : 0 ≡ (5 if wrongSlots img else damageIn img (anodesOf img)) = rw is at e in
-        rw is (outcome 0 b₂ a₂ (h .answered ∙ sym z)
-        (once (diskSize img) b₀ b₁ b₁ (blockTable img (anodesOf img)) b₂ (rw size at zb) refl (f .blocks-shown) ∙ sym (left-shown (diskSize img) (blockTable img (anodesOf img)) b₀))
-        (once limit a₀ a₁ a₁ (anodeTable (anodesOf img)) a₂ za refl (f .anodes-shown) ∙ sym (left-shown limit (anodeTable (anodesOf img)) a₀)))
+        let f : Filled img (anodesOf img) (w .b₁) (w .a₁) b₂ a₂ = rw is at (w .left) in
+        let z : 0 ≡ (5 if wrongSlots img else damageIn img (anodesOf img)) = rw is at (w .answer) in
+        rw is (outcome 0 b₂ a₂ (w .header .answered ∙ sym z)
+        (once (diskSize img) b₀ (w .b₁) (w .b₁) (blockTable img (anodesOf img)) b₂ (rw (w .size) at (w .blocks-zeroed)) refl (f .blocks-shown) ∙ sym (left-shown (diskSize img) (blockTable img (anodesOf img)) b₀))
+        (once limit a₀ (w .a₁) (w .a₁) (anodeTable (anodesOf img)) a₂ (w .anodes-zeroed) refl (f .anodes-shown) ∙ sym (left-shown limit (anodeTable (anodesOf img)) a₀)))
 
-    pub outcome-refused : (r : Refusal) → x ≡ Refused r → (b₃ a₃ : List ℕ) → b₃ ≡ replicate n 0 ++ drop n b₂ → a₃ ≡ replicate 3444 0 ++ drop 3444 a₂
+    pub outcome-refused : (r : Refusal) → x ≡ Refused r → (b₃ a₃ : List ℕ) → b₃ ≡ zeroedFirst n b₂ → a₃ ≡ zeroedFirst limit a₂
         → outcomeOf (checkedNumber x) img b₃ a₃ [] [] ≡ checkOutcome img b₀ a₀
     unfolding blocksLeft anodesLeft
     outcome-refused r is b₃ a₃ wb wa =
-        let k : Kept img b₁ a₁ b₂ a₂ = rw is at left in
-        let m : numberOf r ≡ (5 if wrongSlots img else damageIn img (anodesOf img)) = rw is at e in
+        let k : Kept img (w .b₁) (w .a₁) b₂ a₂ = rw is at (w .left) in
+        let m : numberOf r ≡ (5 if wrongSlots img else damageIn img (anodesOf img)) = rw is at (w .answer) in
         let some = number-some r in
         let within : (5 ≤ numberOf r) × (numberOf r ≤ 16) = elim (late-range img) [ inl z ↦ absurd (omega arith) | inr l ↦ (omega (arith, l .0), omega (arith, l .1)) ] in
-        rw is (outcome (numberOf r) b₃ a₃ (h .answered ∙ sym m)
-        (once (diskSize img) b₀ b₁ b₂ (replicate (diskSize img) 0) b₃ (rw size at zb) (k .blocks-kept) (rw size at wb) ∙ sym (left-zeroed (diskSize img) (blockTable img (anodesOf img)) b₀ (numberOf r) (within .0) (within .1)))
-        (once limit a₀ a₁ a₂ (replicate limit 0) a₃ za (k .anodes-kept) wa ∙ sym (left-zeroed limit (anodeTable (anodesOf img)) a₀ (numberOf r) (within .0) (within .1))))
+        rw is (outcome (numberOf r) b₃ a₃ (w .header .answered ∙ sym m)
+        (once (diskSize img) b₀ (w .b₁) b₂ (replicate (diskSize img) 0) b₃ (rw (w .size) at (w .blocks-zeroed)) (k .blocks-kept) (rw (w .size) at wb) ∙ sym (left-zeroed (diskSize img) (blockTable img (anodesOf img)) b₀ (numberOf r) (within .0) (within .1)))
+        (once limit a₀ (w .a₁) a₂ (replicate limit 0) a₃ (w .anodes-zeroed) (k .anodes-kept) wa ∙ sym (left-zeroed limit (anodeTable (anodesOf img)) a₀ (numberOf r) (within .0) (within .1))))

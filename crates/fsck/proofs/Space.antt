@@ -2,7 +2,7 @@
 use Prim.Native.Nat.{ℕ, _≤_, _<_}
 use mathlib.Core.Path.{_≡_, _∙_}
 use mathlib.Core.Logic.{_≢_}
-use mathlib.Core.Bool.{true, false}
+use mathlib.Core.Bool.{Bool, true, false}
 use mathlib.Core.List.{List, _++_}
 use lib.ListN.{length, getD, drop}
 use lib.Dec.{eqb}
@@ -24,7 +24,7 @@ use Rattle.owners.proofs.Shown.{marked-no-owner, marked-table}
 use Rattle.laws.specs.Chains.{HeadTable}
 use Rattle.fsck.specs.Answers.{Filled}
 
--- ---- the tests that are passed so far, over the anodes loaded in three tables
+-- ---- the tests that are passed so far, over the anodes loaded in three tables: `c` counts, `b` first blocks, `n` nexts
 
 -- 6
 pub record Passed6 (img c b n : List ℕ) : Type 0 where
@@ -66,7 +66,7 @@ module _ {img c b n : List ℕ} where
   unfolding damageIn
   space-8 p t = rw (← p .six .loaded, p .six .fixed-right, p .in-range, t)
 
-  -- what is left of the table behind 8
+  -- what is left of the table of refusals after 8
   left-8 : Passed8 img c b n
       → damageIn img (anodesOf img) ≡ (9 if wrongFreeList (anodesFrom c b n) (lastReserved img) else (10 if twoOwners img (anodesFrom c b n) else (11 if noOwner img (anodesFrom c b n) else treeFault img (anodesOf img))))
   unfolding damageIn
@@ -78,11 +78,9 @@ module _ {img c b n : List ℕ} where
   pub space-10 : Passed9 img c b n → twoOwners img (anodesFrom c b n) ≡ true → damageIn img (anodesOf img) ≡ 10
   space-10 p t = left-8 (p .eight) ∙ rw (p .free-right, t)
 
-  pub space-11 : Passed10 img c b n → noOwner img (anodesFrom c b n) ≡ true → damageIn img (anodesOf img) ≡ 11
-  space-11 p t = left-8 (p .nine .eight) ∙ rw (p .nine .free-right, p .none-twice, t)
-
-  pub space-none : Passed10 img c b n → noOwner img (anodesFrom c b n) ≡ false → damageIn img (anodesOf img) ≡ treeFault img (anodesOf img)
-  space-none p t = left-8 (p .nine .eight) ∙ rw (p .nine .free-right, p .none-twice, t)
+  -- 11, or the walk's answer
+  pub space-11 : Passed10 img c b n → (t : Bool) → noOwner img (anodesFrom c b n) ≡ t → damageIn img (anodesOf img) ≡ (11 if t else treeFault img (anodesOf img))
+  space-11 p t e = left-8 (p .nine .eight) ∙ rw (p .nine .free-right, p .none-twice, e)
 
   -- ---- what the next one asks
 

@@ -1,4 +1,4 @@
--- The check's answer: the number and values of each case, what its parts leave in the tables, and what it lends out.
+-- The check's answer: the number and values of each case, what its parts leave in the tables, and what it loads.
 use Prim.Native.Nat.{ℕ, _≤_}
 use mathlib.Core.Path.{_≡_}
 use mathlib.Core.Bool.{false}
@@ -12,7 +12,7 @@ use Rattle.rules.specs.Walk.{reachedDirs}
 use Rattle.rules.specs.Accepted.{diskSize, wrongSize, wrongSlots, treeFault, damageIn, checkAnswer}
 use Rattle.rules.specs.Tables.{blockTable, anodeTable}
 use Rattle.rules.specs.Calls.{fileCount, dirCount}
-use Rattle.tables.specs.Held.{HeldBelow}
+use Rattle.tables.specs.Held.{ZeroBelow}
 use Rattle.anodes.specs.Loaded.{anodesFrom, AnodeTables}
 use Rattle.laws.specs.Chains.{HeadTable}
 use Rattle.tree.specs.Steps.{queueOf}
@@ -52,7 +52,7 @@ abbrev pub SpaceTested : Test → List ℕ → Anodes → Type 0
 SpaceTested Passed img s = damageIn img s ≡ treeFault img s
 SpaceTested (Failed r) img s = damageIn img s ≡ numberOf r
 
--- the tables after the tests of anodes and blocks: filled where they passed; entries past the ranges kept
+-- both tables show the image; entries past the ranges are kept
 pub record Filled (img : List ℕ) (s : Anodes) (blocks₀ anodes₀ blocks anodes : List ℕ) : Type 0 where
   pub blocks-shown : blocks ≡ blockTable img s ++ drop (diskSize img) blocks₀
   pub anodes-shown : anodes ≡ anodeTable s ++ drop limit anodes₀
@@ -75,8 +75,8 @@ TablesLeft (Refused r) img s b₀ a₀ b a = Kept img b₀ a₀ b a
 -- the block table and the anode table have room, and are zero in their ranges
 pub record Zeroed (img blocks anodes : List ℕ) : Type 0 where
   pub room : TableRoom img (length blocks) (length anodes)
-  pub blocks-zero : HeldBelow (λ x. 0) blocks (diskSize img)
-  pub anodes-zero : HeldBelow (λ a. 0) anodes limit
+  pub blocks-zero : ZeroBelow blocks (diskSize img)
+  pub anodes-zero : ZeroBelow anodes limit
 
 -- five tables with an entry for each anode
 abbrev pub Sized : List ℕ → List ℕ → List ℕ → List ℕ → List ℕ → Type 0

@@ -3,9 +3,8 @@ use mathlib.Core.Path.{_≡_, refl, sym, _∙_}
 use mathlib.Core.Logic.{_≢_, ⊎-elim, inl, inr}
 use mathlib.Core.Bool.{Bool, false, not, or-false}
 use mathlib.Core.List.{List}
-use Prim.Native.Nat.{ℕ, _+_, _<_, _≤_}
+use Prim.Native.Nat.{ℕ, _+_, _*_, _<_, _≤_}
 use native.Mathlib.Omega.{arith}
-use native.Mathlib.Nat.{zero-add}
 use native.Mathlib.Numerals.{add-one}
 use lib.Dec.{eqb}
 use lib.ListN.{length, getD, set, drop, length-drop}
@@ -15,6 +14,7 @@ use Rattle.endian.proofs.Laws.{same?}
 use Rattle.rules.specs.Counting.{anyBelow}
 use Rattle.rules.specs.Chains.{covers}
 use Rattle.laws.specs.Ownership.{covers-cases, covers-in}
+use Rattle.tables.specs.Held.{ZeroBelow}
 use Rattle.owners.specs.Marks.{KeptOutside, RunFilled, RunHit, RunHolds, RunTested, Marked, OwnedTwice}
 
 -- ---- a run
@@ -74,7 +74,7 @@ pub any-kept : (test : ℕ → Bool) (b : Bool) (i : ℕ) → b ≡ anyBelow tes
 unfolding anyBelow
 any-kept test b i e p = rw (add-one i, p, or-false (anyBelow test i)) e
 
--- ---- a marked table
+-- ---- a marked table: block x has `N x` owners, and `E x` is its entry in `t`
 
 -- an entry that is not 0 has an owner
 marked-owner : (n : ℕ) (N E : ℕ → ℕ) (t : List ℕ) → Marked n N E t → (x : ℕ) → x < n → getD t x 0 ≢ 0 → N x ≢ 0
@@ -85,26 +85,23 @@ pub marked-free : (n : ℕ) (N E : ℕ → ℕ) (t : List ℕ) → Marked n N E 
 marked-free n N E t m x l e = eqb-true (N x) 0 (sym (m .zeros x l) ∙ eq-eqb (getD t x 0) 0 e)
 
 -- the same owners and entries under other names
-pub marked-same : (n : ℕ) (N E N′ E′ : ℕ → ℕ) (t : List ℕ) → Marked n N E t → ((x : ℕ) → x < n → N′ x ≡ N x) → ((x : ℕ) → x < n → E′ x ≡ E x)
-    → Marked n N′ E′ t
-marked-same n N E N′ E′ t m p q = record {
-  once = λ x l. rw (p x l) (m .once x l);
-  entries = λ x l. m .entries x l ∙ sym (q x l);
-  zeros = λ x l. rw (p x l) (m .zeros x l);
+pub marked-same : (n : ℕ) (N E N′ E′ : ℕ → ℕ) (t : List ℕ) → Marked n N E t → ((x : ℕ) → x < n → (N′ x ≡ N x) × (E′ x ≡ E x)) → Marked n N′ E′ t
+marked-same n N E N′ E′ t m same = record {
+  once = λ x l. rw (same x l .0) (m .once x l);
+  entries = λ x l. m .entries x l ∙ sym (same x l .1);
+  zeros = λ x l. rw (same x l .0) (m .zeros x l);
 }
 
-pub marked-none : (n : ℕ) (t : List ℕ) → ((x : ℕ) → x < n → getD t x 0 ≡ 0) → Marked n (λ x. 0) (λ x. 0) t
+pub marked-none : (n : ℕ) (t : List ℕ) → ZeroBelow t n → Marked n (λ x. 0) (λ x. 0) t
 marked-none n t zeros = record { once = λ x l. omega arith; entries = zeros; zeros = λ x l. rw (zeros x l) }
 
 module _ (n : ℕ) (N E : ℕ → ℕ) (t : List ℕ) (m : Marked n N E t) (first count : ℕ) where
   -- a run of free blocks more
   pub marked-run : (N′ E′ : ℕ → ℕ) (t′ : List ℕ) (mark : ℕ) → RunFilled t t′ first (first + count) mark → KeptOutside t t′ first (first + count)
       → (0 < count → mark ≢ 0)
-      → ((x : ℕ) → x < n → N′ x ≡ N x + covers count first x)
-      → ((x : ℕ) → x < n → covers count first x ≡ 0 → E′ x ≡ E x)
-      → ((x : ℕ) → x < n → covers count first x ≡ 1 → E′ x ≡ E x + mark)
+      → ((x : ℕ) → x < n → (N′ x ≡ N x + covers count first x) × (E′ x ≡ E x + covers count first x * mark))
       → Marked n N′ E′ t′
-  marked-run N′ E′ t′ mark run kept some owners out within = record {
+  marked-run N′ E′ t′ mark run kept some more = record {
     once = λ x l. each x l .0;
     entries = λ x l. each x l .1;
     zeros = λ x l. each x l .2;
@@ -115,14 +112,15 @@ module _ (n : ℕ) (N E : ℕ → ℕ) (t : List ℕ) (m : Marked n N E t) (firs
         | inl c ↦ (
             let e = run .1 .each x (c .0) (c .1) in
             let z = marked-free n N E t m x l (run .0 .each x (c .0) (c .1)) in
-            let o : N′ x ≡ 1 = omega (arith, owners x l, c .2) in
-            let v : E′ x ≡ mark = within x l (c .2) ∙ rw (sym (m .entries x l) ∙ run .0 .each x (c .0) (c .1)) (zero-add mark) in
+            let o : N′ x ≡ 1 = omega (arith, more x l .0, c .2) in
+            let v : E′ x ≡ mark = more x l .1 ∙ rw (sym (m .entries x l) ∙ run .0 .each x (c .0) (c .1), c .2) (omega arith) in
             (omega arith, e ∙ sym v, rw (e, o, ne-eqb mark 0 (some (omega arith))))
             )
         | inr c ↦ (
             let e = kept .outside x (c .0) in
-            let o : N′ x ≡ N x = omega (arith, owners x l, c .1) in
-            (rw o (m .once x l), e ∙ m .entries x l ∙ sym (out x l (c .1)), rw (e, o) (m .zeros x l))
+            let o : N′ x ≡ N x = omega (arith, more x l .0, c .1) in
+            let v : E′ x ≡ E x = more x l .1 ∙ rw (c .1) (omega arith) in
+            (rw o (m .once x l), e ∙ m .entries x l ∙ sym v, rw (e, o) (m .zeros x l))
             )
       ]
 

@@ -20,6 +20,7 @@ use Rattle.laws.specs.Acceptance.{size-bounds}
 use Rattle.laws.specs.Tests.{same?, less?}
 use Rattle.laws.specs.Sums.{oneAt-same, oneAt-other, sum-zero, sum-none}
 use Rattle.laws.specs.Ownership.{covers-cases, covers-in, covers-under, covers-over}
+use Rattle.tables.specs.Held.{ZeroBelow}
 use Rattle.anodes.specs.Loaded.{anodesFrom}
 use Rattle.owners.specs.Marks.{KeptOutside, RunFilled, RunHit, Marked, OwnedTwice, headMark, ownerEntry}
 use Rattle.owners.proofs.Laws.{marked-free, marked-same, marked-none, marked-run, marked-hit, owned-more}
@@ -87,14 +88,12 @@ system-entry img x once = elim (less? x 3) [
 
 module _ (img : List ℕ) (n : ℕ) where
   -- blocks 0 to 2 in a table of zeros
-  pub system-first : (t t′ : List ℕ) → ((x : ℕ) → x < n → getD t x 0 ≡ 0) → RunFilled t t′ 0 3 65535 → KeptOutside t t′ 0 3
+  pub system-first : (t t′ : List ℕ) → ZeroBelow t n → RunFilled t t′ 0 3 65535 → KeptOutside t t′ 0 3
       → Marked n (systemBelow img 0) (systemEntryBelow img 0) t′
   unfolding systemBelow systemEntryBelow
   system-first t t′ zeros run kept =
       marked-run n (λ x. 0) (λ x. 0) t (marked-none n t zeros) 0 3 (systemBelow img 0) (systemEntryBelow img 0) t′ 65535 run kept (λ l e. omega arith)
-      (λ x l. omega (arith, sumBelow-none (holds img x)))
-      (λ x l c. omega (arith, sumBelow-none (holds img x)))
-      (λ x l c. omega (arith, sumBelow-none (holds img x)))
+      (λ x l. let none = sumBelow-none (holds img x) in (omega arith, omega arith))
 
   module _ (s : ℕ) (t : List ℕ) (m : Marked n (systemBelow img s) (systemEntryBelow img s) t) where
     -- an empty slot
@@ -102,8 +101,7 @@ module _ (img : List ℕ) (n : ℕ) where
     unfolding systemBelow systemEntryBelow
     system-skip e =
         marked-same n (systemBelow img s) (systemEntryBelow img s) (systemBelow img (s + 1)) (systemEntryBelow img (s + 1)) t m
-        (λ x l. omega (arith, sumBelow-more (holds img x) s, holds-none img x s e))
-        (λ x l. omega (arith, sumBelow-more (holds img x) s, holds-none img x s e))
+        (λ x l. let more = sumBelow-more (holds img x) s in let none = holds-none img x s e in (omega arith, omega arith))
 
     -- the block of a slot
     pub system-more : (t′ : List ℕ) (b : ℕ) → slotOf img s ≡ b → b ≢ 0 → RunFilled t t′ b (b + 1) 65534 → KeptOutside t t′ b (b + 1)
@@ -111,9 +109,7 @@ module _ (img : List ℕ) (n : ℕ) where
     unfolding systemBelow systemEntryBelow
     system-more t′ b e some run kept =
         marked-run n (systemBelow img s) (systemEntryBelow img s) t m b 1 (systemBelow img (s + 1)) (systemEntryBelow img (s + 1)) t′ 65534 run kept (λ l e. omega arith)
-        (λ x l. omega (arith, sumBelow-more (holds img x) s, holds-covers img x s b e some))
-        (λ x l c. omega (arith, sumBelow-more (holds img x) s, holds-covers img x s b e some))
-        (λ x l c. omega (arith, sumBelow-more (holds img x) s, holds-covers img x s b e some))
+        (λ x l. let more = sumBelow-more (holds img x) s in let one = holds-covers img x s b e some in (omega arith, omega arith))
 
     -- the block of a slot, marked already
     pub system-hit : (b : ℕ) → s < 42 → slotOf img s ≡ b → b ≢ 0 → 3 ≤ b → b + 1 ≤ n → RunHit t b (b + 1) → OwnedTwice n (systemOwns img)
@@ -137,10 +133,9 @@ module _ (img : List ℕ) (n : ℕ) where
   pub system-done : (t : List ℕ) → Marked n (systemBelow img 42) (systemEntryBelow img 42) t → Marked n (systemOwns img) (entryOr img 0) t
   system-done t m =
       marked-same n (systemBelow img 42) (systemEntryBelow img 42) (systemOwns img) (entryOr img 0) t m
-      (λ x l. system-owners img x (m .once x l))
-      (λ x l. system-entry img x (m .once x l))
+      (λ x l. (system-owners img x (m .once x l), system-entry img x (m .once x l)))
 
--- ---- the anodes' blocks
+-- ---- the anodes' blocks: `c`, `f` and `h` are the tables of counts, of first blocks and of chain heads
 
 -- 1 where anode a covers block x
 abbrev coverOf : List ℕ → List ℕ → ℕ → ℕ → ℕ
@@ -149,6 +144,14 @@ coverOf c f x a = covers (getD c a 0) (getD f a 0) x
 -- what anode a marks block x with
 abbrev markOf : List ℕ → List ℕ → List ℕ → ℕ → ℕ → ℕ
 markOf c f h = headMark (anodesFrom c f []) h
+
+-- which is its head where it covers the block
+mark-covers : (c f h : List ℕ) (x a : ℕ) → markOf c f h x a ≡ coverOf c f x a * getD h a 0
+unfolding headMark anodesFrom
+mark-covers c f h x a = elim (covers-cases (getD c a 0) (getD f a 0) x) [
+  | inl k ↦ rw (k .2) (omega arith)
+  | inr k ↦ rw (k .1) (omega arith)
+]
 
 -- the owners of block x that are marked once the anodes below k are
 unfoldable pub ownersBelow : List ℕ → List ℕ → List ℕ → ℕ → ℕ → ℕ
@@ -163,21 +166,18 @@ module _ (img c f h : List ℕ) (n : ℕ) where
   unfolding ownersBelow owners entryBelow
   anode-first t m =
       marked-same n (systemOwns img) (entryOr img 0) (ownersBelow img c f 0) (entryBelow img c f h 0) t m
-      (λ x l. omega (arith, sumBelow-none (coverOf c f x)))
-      (λ x l. omega (arith, sumBelow-none (markOf c f h x)))
+      (λ x l. (omega (arith, sumBelow-none (coverOf c f x)), omega (arith, sumBelow-none (markOf c f h x))))
 
   module _ (a : ℕ) (t : List ℕ) (m : Marked n (ownersBelow img c f a) (entryBelow img c f h a) t) where
     -- the blocks of anode a
     pub anode-more : (t′ : List ℕ) → RunFilled t t′ (getD f a 0) (getD f a 0 + getD c a 0) (getD h a 0)
         → KeptOutside t t′ (getD f a 0) (getD f a 0 + getD c a 0) → (0 < getD c a 0 → getD h a 0 ≢ 0)
         → Marked n (ownersBelow img c f (a + 1)) (entryBelow img c f h (a + 1)) t′
-    unfolding ownersBelow owners entryBelow headMark anodesFrom
+    unfolding ownersBelow owners entryBelow
     anode-more t′ run kept some =
         marked-run n (ownersBelow img c f a) (entryBelow img c f h a) t m (getD f a 0) (getD c a 0)
         (ownersBelow img c f (a + 1)) (entryBelow img c f h (a + 1)) t′ (getD h a 0) run kept some
-        (λ x l. omega (arith, sumBelow-more (coverOf c f x) a))
-        (λ x l e. rw (sumBelow-more (markOf c f h x) a, e) (omega arith))
-        (λ x l e. rw (sumBelow-more (markOf c f h x) a, e) (omega arith))
+        (λ x l. (omega (arith, sumBelow-more (coverOf c f x) a), rw (sumBelow-more (markOf c f h x) a, mark-covers c f h x a) (omega arith)))
 
     -- its mark is not 0: a run from block 0 finds that marked
     pub head-some : (t′ : List ℕ) → RunFilled t t′ (getD f a 0) (getD f a 0 + getD c a 0) (getD h a 0) → 0 < n → getD c 0 0 ≡ 0
@@ -245,5 +245,4 @@ module _ (img c f : List ℕ) where
   unfolding ownersOf owners ownersBelow anodesFrom
   anode-done h nexts t n m =
       marked-same n (ownersBelow img c f 3444) (entryBelow img c f h 3444) (ownersOf img (anodesFrom c f nexts)) (ownerEntry img (anodesFrom c f nexts) h) t m
-      (λ x l. refl)
-      (λ x l. owner-entry h nexts x (m .once x l))
+      (λ x l. (refl, owner-entry h nexts x (m .once x l)))

@@ -11,6 +11,7 @@ ghost use Rattle.rules.specs.Anodes.{limit};
 ghost use Rattle.rules.specs.Chains.{systemOwns};
 ghost use Rattle.rules.specs.Accepted.{diskSize, wrongSize, wrongSlots, wrongFixed, outOfRange, twoOwners};
 ghost use Rattle.rules.specs.Tables.{entryOr};
+ghost use Rattle.tables.specs.Held.{ZeroBelow};
 ghost use Rattle.anodes.specs.Loaded.{anodesFrom};
 ghost use Rattle.owners.specs.Marks.{KeptOutside, RunTested, RunHolds, RunMarked, Answered, OwnersMarked};
 use disk::slot_of;
@@ -60,7 +61,7 @@ fn mark_run(blocks: &mut [u16], first: u16, count: u16, mark: u16) -> bool
 // Marks the system's blocks in a table of zeros: 65535 for blocks 0 to 2, 65534 for the anode blocks; true if one is marked already.
 fn mark_system(image: &[u8], blocks: &mut [u16]) -> bool
     requires { ⌜ (wrongSize (now image) ≡ false) × (wrongSlots (now image) ≡ false) × (diskSize (now image) ≤ length (now blocks)) ⌝ }
-    requires { ⌜ ((x : ℕ) → x < diskSize (now image) → getD (now blocks) x 0 ≡ 0) ⌝ }
+    requires { ⌜ ZeroBelow (now blocks) (diskSize (now image)) ⌝ }
     ensures answer { λ r. ⌜ Answered r (diskSize (now (image .entry))) (systemOwns (now (image .entry))) (entryOr (now (image .entry)) 0) (now (blocks .exit)) ⌝ }
     ensures kept { λ _. ⌜ drop (diskSize (now (image .entry))) (now (blocks .exit)) ≡ drop (diskSize (now (image .entry))) (now (blocks .entry)) ⌝ }
 {
@@ -89,7 +90,7 @@ pub fn mark_owners(
 ) -> bool
     requires { ⌜ (length (now counts) ≡ 3444) × (length (now firsts) ≡ 3444) × (3444 ≤ length (now heads)) ⌝ }
     requires { ⌜ (wrongSize (now image) ≡ false) × (wrongSlots (now image) ≡ false) × (diskSize (now image) ≤ length (now blocks)) ⌝ }
-    requires { ⌜ ((x : ℕ) → x < diskSize (now image) → getD (now blocks) x 0 ≡ 0) ⌝ }
+    requires { ⌜ ZeroBelow (now blocks) (diskSize (now image)) ⌝ }
     requires { ⌜ ((n : List ℕ) × (wrongFixed (anodesFrom (now counts) (now firsts) n) ≡ false) × (anyBelow (outOfRange (anodesFrom (now counts) (now firsts) n) (diskSize (now image))) limit ≡ false)) ⌝ }
     requires { ⌜ ((a : ℕ) → a ≢ 0 → getD (now firsts) a 0 ≢ 0 → getD (now heads) a 0 ≢ 0) ⌝ }
     ensures two { λ r. ⌜ ((n : List ℕ) → r ≡ twoOwners (now (image .entry)) (anodesFrom (now (counts .entry)) (now (firsts .entry)) n)) ⌝ }

@@ -2,12 +2,12 @@
 use Prim.Native.Nat.{ℕ, _+_, _<_, _≤_}
 use mathlib.Core.Path.{_≡_, ap, _∙_}
 use mathlib.Core.Logic.{⊎-elim}
-use mathlib.Core.List.{List, _++_}
+use mathlib.Core.List.{List}
 use native.Mathlib.Omega.{arith}
 use native.Mathlib.Nat.{eq-or-lt-of-le}
 use lib.ListN.{length, getD, set, drop, replicate, length-replicate, List·getD-append, getD-replicate}
 use lib.Seq.{getD-set-same, getD-set-other, drop-at}
-use Rattle.tables.specs.Held.{HeldBelow}
+use Rattle.tables.specs.Held.{HeldBelow, ZeroBelow, zeroedFirst}
 
 -- the number at k too
 pub held-next : (f : ℕ → ℕ) (l : List ℕ) (k : ℕ) → HeldBelow f l k → getD l k 0 ≡ f k → HeldBelow f l (k + 1)
@@ -18,8 +18,8 @@ pub held-more : (f : ℕ → ℕ) (l : List ℕ) (k v : ℕ) → k < length l �
 held-more f l k v room below is =
     held-next f (set l k v) k (λ a h. getD-set-other l k a v 0 (λ e. omega arith) ∙ below a h) (getD-set-same l k v 0 room ∙ is)
 
-module _ (n : ℕ) (old t : List ℕ) (is : t ≡ replicate n 0 ++ drop n old) where
-  pub zeroed-below : HeldBelow (λ a. 0) t n
+module _ (n : ℕ) (old t : List ℕ) (is : t ≡ zeroedFirst n old) where
+  pub zeroed-below : ZeroBelow t n
   zeroed-below a h = rw is (List·getD-append (replicate n 0) (drop n old) 0 a (rw (length-replicate {A = ℕ} n 0) h) ∙ getD-replicate {A = ℕ} n a 0 0 h)
 
   -- the numbers behind them are kept

@@ -1,8 +1,8 @@
 // Tables of two-byte numbers in lent memory. Reading past the end gives 0 and writing past it changes nothing.
-ghost use mathlib.Core.List.{_++_};
 ghost use mathlib.Core.Path.{_≡_};
 ghost use Prim.Native.Nat.{_≤_};
-ghost use lib.ListN.{length, getD, set, drop, replicate};
+ghost use lib.ListN.{length, getD, set};
+ghost use Rattle.tables.specs.Held.{zeroedFirst};
 
 // The number at `i`.
 pub fn entry(table: &[u16], i: usize) -> u16
@@ -27,7 +27,7 @@ pub fn set_entry(table: &mut [u16], i: usize, v: u16)
 // Zeroes the first `n` numbers.
 pub fn zero_first(table: &mut [u16], n: usize)
     requires { ⌜ n ≤ length (now table) ⌝ }
-    ensures { λ _. ⌜ now (table .exit) ≡ replicate n 0 ++ drop n (now (table .entry)) ⌝ }
+    ensures { λ _. ⌜ now (table .exit) ≡ zeroedFirst n (now (table .entry)) ⌝ }
 {
     let mut i = 0;
     while i < n {

@@ -20,7 +20,8 @@ use Rattle.rules.specs.Anodes.{Anodes, limit}
 use Rattle.rules.specs.Walk.{Dir, Entered, Item, entriesFrom, entriesIn, isBlockOf, itemsFor, blocksFor}
 use Rattle.laws.specs.Entries.{enteredAt, entries-fault, entries-step}
 use Rattle.laws.specs.Chains.{chain-none, chain-step, gathered-step, chain-end}
-use Rattle.tree.specs.Steps.{dirMade, sumFrom, headAt, itemIn, Progress, stopped, going, refuse, enterItem, onward, enterAll, itemsFrom, itemsAlong, halted, ended, afterDir, runFrom, dirsFrom, queueOf, marked}
+use Rattle.tree.specs.declared.Tally.{Tally}
+use Rattle.tree.specs.Steps.{dirMade, sumFrom, headAt, itemIn, Progress, stopped, going, refuse, enterItem, onward, enterAll, itemsFrom, itemsAlong, halted, ended, afterDir, runFrom, dirsFrom, queueOf, marked, Room}
 
 -- ---- the sum along a chain
 
@@ -72,6 +73,17 @@ marked-room heads marks a n h e whole fits =
     let most = marked-most (set marks a 1) in
     let same = length-set marks a 1 in
     (omega arith, omega arith)
+
+-- the three tables are as long as they were
+pub record SameLengths (marks queue parents marks₀ queue₀ parents₀ : List ℕ) : Type 0 where
+  pub of-marks : length marks ≡ length marks₀
+  pub of-queue : length queue ≡ length queue₀
+  pub of-parents : length parents ≡ length parents₀
+
+-- as tables that suffice are
+pub same-lengths : {marks queue parents marks₀ queue₀ parents₀ : List ℕ} (t u : Tally) → Room t marks queue parents → Room u marks₀ queue₀ parents₀
+    → SameLengths marks queue parents marks₀ queue₀ parents₀
+same-lengths t u r s = record { of-marks = r .0 ∙ sym (s .0); of-queue = r .1 ∙ sym (s .1); of-parents = r .2 ∙ sym (s .2) }
 
 -- ---- the queue
 

@@ -56,7 +56,7 @@ agree-more marks a named whole room h x lo hi =
 abbrev pub InRange : Item → Type 0
 InRange i = i .early ≡ 0 → (6 ≤ i .anode) × (i .anode < limit)
 
--- what is behind the items: one fault in both walks, or one queue, marks for the named anodes and the files counted
+-- what both walks come to after the items: one fault, or one queue, with marks for the named anodes and the files counted
 abbrev ScanMatch : List Item → ℕ → List ℕ → Progress → Scanned → Type 0
 ScanMatch is files named (stopped n) (faulty m) = (n ≡ m) × (1 ≤ n)
 ScanMatch is files named (stopped n) (fine q l) = ⊥
@@ -165,14 +165,18 @@ module _ (items : Dir → List Item) where
   after-match d k files taken named (going q m f) (fine r l) h ih =
       rw (← h .0) (walk-widen d files f taken named l (runFrom items k q m f (taken ++ (d ∷ []))) (walk items k q l) (h .4) (h .3) (ih q m f (taken ++ (d ∷ [])) l (h .1) (h .2)))
 
+  -- nothing is left in the queue
+  walk-none : (marks : List ℕ) (files : ℕ) (taken : List Dir) (named : List ℕ) → Agree marks (λ x. times x named) → WalkMatch files taken named (ended marks files taken) (done [])
+  unfolding gather namings filesIn sumList
+  walk-none marks files taken named agree =
+      (agree-same marks (λ x. times x named) (λ x. 0 + times x named) (λ x. omega arith) agree, omega arith, sym (append-nil taken))
+
   pub walk-match : ((d : Dir) → Each InRange (items d)) → (k : ℕ) (queue : List Dir) (marks : List ℕ) (files : ℕ) (taken : List Dir) (named : List ℕ)
       → length marks ≡ limit → Agree marks (λ x. times x named) → WalkMatch files taken named (runFrom items k queue marks files taken) (walk items k queue named)
-  unfolding runFrom walk gather namings filesIn sumList
-  walk-match range zero [] marks files taken named whole agree =
-      (agree-same marks (λ x. times x named) (λ x. 0 + times x named) (λ x. omega arith) agree, omega arith, sym (append-nil taken))
+  unfolding runFrom walk
+  walk-match range zero [] marks files taken named whole agree = walk-none marks files taken named agree
   walk-match range zero (d ∷ queue) marks files taken named whole agree = (refl, omega arith)
-  walk-match range (suc k) [] marks files taken named whole agree =
-      (agree-same marks (λ x. times x named) (λ x. 0 + times x named) (λ x. omega arith) agree, omega arith, sym (append-nil taken))
+  walk-match range (suc k) [] marks files taken named whole agree = walk-none marks files taken named agree
   walk-match range (suc k) (d ∷ queue) marks files taken named whole agree =
       after-match d k files taken named (enterAll (d .head) (items d) queue marks files) (scan d (items d) queue named)
       (scan-match d (items d) queue marks files named (range d) whole agree)

@@ -77,7 +77,7 @@ module _ (t : List ℕ) (s : Anodes) (table : HeadTable t s) where
         (less? a limit))
         (less? a 6)
 
--- what the walk's answer, and the marks and the queue behind it, say of the rules
+-- what the walk's answer, with the marks and the queue that it leaves, says by the rules
 abbrev pub Says : List ℕ → Anodes → List ℕ → TreeRead → List ℕ → List ℕ → List ℕ → Type 0
 Says img s t (Counted files n) marks queue parents =
     ((b : Bool) → anyBelow (unnamedAt t marks) limit ≡ b → treeFault img s ≡ 16 if b else 0)

@@ -28,7 +28,7 @@ sumFrom counts nexts k a = sumList (λ x. getD counts x 0) (chainOf (λ x. getD 
 unfoldable pub headAt : List ℕ → ℕ → Bool
 headAt heads a = cond (leb 6 a) (cond (ltb a limit) (eqb (getD heads a 0) a) false) false
 
--- an entry under the eyes of the walk, by the tables
+-- an entry with the numbers that the walk tries on it, by the tables
 unfoldable pub itemIn : List ℕ → List ℕ → List ℕ → Entered → Item
 itemIn counts nexts heads e = record {
   early = cond (e .broken) 12 (cond (headAt heads (e .anode)) 0 13);

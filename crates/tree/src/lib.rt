@@ -42,7 +42,7 @@ enum Step {
     Fault(Refusal),
 }
 
-// The blocks that the chain from `a` owns.
+// How many blocks the chain from `a` owns.
 pub fn chain_sum(counts: &[u16], nexts: &[u16], a: AnodeNo) -> u32
     ensures { λ r. ⌜ r ≡ sumFrom (now (counts .entry)) (now (nexts .entry)) 3444 (a .0) ⌝ }
 {
@@ -60,7 +60,7 @@ pub fn chain_sum(counts: &[u16], nexts: &[u16], a: AnodeNo) -> u32
     sum
 }
 
-// The blocks that a file of this size asks for.
+// How many blocks a file of this size asks for.
 pub fn blocks_for(size: u64) -> u64
     ensures { λ r. ⌜ r ≡ blocksFor size ⌝ }
 {
@@ -120,7 +120,7 @@ fn with_directory(t: Tally) -> Tally
     }
 }
 
-// Holds one entry of the directory with this head to 13, 14 and 15, marks its anode, and counts the file or queues the directory.
+// Tests one entry of the directory with this head by 13, 14 and 15, marks its anode, and counts the file or queues the directory.
 fn enter(
     counts: &[u16],
     nexts: &[u16],
@@ -356,7 +356,7 @@ fn any_unnamed(heads: &[u16], marks: &[u16]) -> bool
     false
 }
 
-// Walks all directories, and leaves them and their parents in two tables; every entry is held to the rules, and every chain from 6 up must be named.
+// Walks all directories: every entry must be within the rules, and every chain from 6 up named. Where that is so, two tables hold the directories and their parents.
 pub fn walk_tree(
     image: &[u8],
     counts: &[u16],

@@ -1,5 +1,5 @@
 use mathlib.Core.Path.{_≡_, sym, _∙_}
-use mathlib.Core.Bool.{not, _&&_}
+use mathlib.Core.Bool.{not, _&&_, _||_}
 use lib.Dec.{eqb}
 use lib.ListN.{getD}
 use borrow.Author.Tests.{eq-eqb, ne-eqb}
@@ -22,21 +22,20 @@ entry-requires-2 c κs = search needs
 ends-past-requires : tie.Need-ends-past-requires
 ends-past-requires c κs = search needs
 
-returns-2 : tie.Need-returns-2
+-- for another anode than 0, its extent and its next decide
+extent-left : (c : tie.After-ends-past) → let g = c .before .before .before .before .before .before .before .args in let n = getD (g .nexts .now) (g .a) 0 in
+    outOfRange (anodesFrom (g .counts .now) (g .firsts .now) (g .nexts .now)) (g .size) (g .a) ≡ (c .ends-past .result || (not (eqb n 0) && eqb (getD (g .firsts .now) n 0) 0))
 unfolding outOfRange anodesFrom
-returns-2 c = simp (ne-eqb _ _ (c .before .before .before .before .if1 .left), sym (c .before .before .before .entry .ensures), sym (c .before .before .entry2 .ensures), sym (c .before .ends-past .ensures), c .if2 .taken)
+extent-left c = rw (ne-eqb _ _ (c .before .before .before .if1 .left), ← c .before .before .entry .ensures, ← c .before .entry2 .ensures, ← c .ends-past .ensures)
+
+returns-2 : tie.Need-returns-2
+returns-2 c = sym (extent-left (c .before) ∙ rw (c .if2 .taken))
 
 entry-requires-3 : tie.Need-entry-requires-3
 entry-requires-3 c κs = search needs
 
--- the next is left behind the test of the extent
-next-left : (c : tie.After-entry3) → let g = c .before .before .before .before .before .before .before .before .before .args in let n = c .entry3 .result in
-    outOfRange (anodesFrom (g .counts .now) (g .firsts .now) (g .nexts .now)) (g .size) (g .a) ≡ (not (eqb n 0) && eqb (getD (g .firsts .now) n 0) 0)
-unfolding outOfRange anodesFrom
-next-left c = rw (ne-eqb _ _ (c .before .before .before .before .before .if1 .left), ← c .before .before .before .before .entry .ensures, ← c .before .before .before .entry2 .ensures, ← c .before .before .ends-past .ensures, c .before .if2 .left, ← c .entry3 .ensures)
-
 returns-3 : tie.Need-returns-3
-returns-3 c = sym (next-left (c .before) ∙ rw (eq-eqb _ _ (c .if3 .taken)))
+returns-3 c = sym (extent-left (c .before .before .before) ∙ rw (c .before .before .if2 .left, ← c .before .entry3 .ensures, eq-eqb _ _ (c .if3 .taken)))
 
 cast-entry : tie.Need-cast-entry
 cast-entry c = search needs
@@ -45,7 +44,7 @@ entry-requires-4 : tie.Need-entry-requires-4
 entry-requires-4 c κs = search needs
 
 returns-4 : tie.Need-returns-4
-returns-4 c = sym (next-left (c .before .before) ∙ rw (ne-eqb _ _ (c .before .if3 .left), c .entry4 .ensures))
+returns-4 c = sym (extent-left (c .before .before .before .before) ∙ rw (c .before .before .before .if2 .left, ← c .before .before .entry3 .ensures, ne-eqb _ _ (c .before .if3 .left), c .entry4 .ensures))
 
 pub anode-out-of-range-spec : {M : Type 1} → statement M
 anode-out-of-range-spec =

@@ -10,7 +10,6 @@ entry-requires c κs = search needs
 
 returns : tie.Need-returns
 returns c =
-    let g = c .before .before .before .before .before .before .args in
     let p = c .before .before .before .before .before .before .pre in
     (refl, fill-skip _ _ _ _ (p .3) (λ d. d .in-use (sym (c .before .entry .ensures) ∙ c .if1 .taken)))
 

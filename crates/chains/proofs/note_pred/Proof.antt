@@ -37,7 +37,7 @@ returns-3 c =
     let e = c .before .before .before .before .before .before .before .before .entry in
     let l : e .result < length (s .args .preds .now) = omega (arith, s .pre .3 (s .args .a)) in
     rw (c .before .before .set-entry .ensures)
-    (noted-set _ _ _ (s .pre .4) _ (sym (e .ensures)) (c .before .before .before .before .before .before .before .if1 .left) l (s .pre .2) (sym (c .before .before .before .before .before .entry2 .ensures) ∙ c .before .before .before .before .if2 .left))
+    (noted-set _ _ _ (s .pre .4) _ (sym (e .ensures)) l (s .pre .2) (sym (c .before .before .before .before .before .entry2 .ensures) ∙ c .before .before .before .before .if2 .left))
 
 pub note-pred-spec : {M : Type 1} → statement M
 note-pred-spec =

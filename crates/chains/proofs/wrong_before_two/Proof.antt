@@ -33,12 +33,15 @@ entry-requires-2 c κs = search needs
 not-above-requires : tie.Need-not-above-requires Inv-loop μ-loop
 not-above-requires c κs = search needs
 
-returns-3 : tie.Need-returns-3 Inv-loop μ-loop
+-- the test of the anode that is looked at, by the rules
+said : (c : tie.After-not-above Inv-loop μ-loop) → let g = c .before .before .before .before .before .before .before .before .before .before .args in notAbove (anodesFrom (g .counts .now) (g .firsts .now) (g .nexts .now)) (g .last) (c .before .before .before .before .before .before .loop .at) ≡ c .not-above .result
 unfolding notAbove anodesFrom
+said c = rw (← c .before .before .entry .ensures, ← c .before .entry2 .ensures) (sym (c .not-above .ensures))
+
+returns-3 : tie.Need-returns-3 Inv-loop μ-loop
 returns-3 c =
     let l = c .before .before .before .before .before .before .before .loop in
-    sym (before-hit _ _ (l .fuel) (l .fuel - 1) (l .at) (omega arith) (c .before .before .before .before .if2 .left) (c .before .before .before .before .before .if1 .left)
-    (rw (← c .before .before .before .entry .ensures, ← c .before .before .entry2 .ensures) (sym (c .before .not-above .ensures) ∙ c .if3 .taken)))
+    sym (before-hit _ _ (l .fuel) (l .fuel - 1) (l .at) (omega arith) (c .before .before .before .before .if2 .left) (c .before .before .before .before .before .if1 .left) (said (c .before) ∙ c .if3 .taken))
     ∙ l .inv
 
 entry-requires-3 : tie.Need-entry-requires-3 Inv-loop μ-loop
@@ -54,12 +57,11 @@ loop-less : tie.Need-loop-less Inv-loop μ-loop
 loop-less c = search needs
 
 loop-again : tie.Need-loop-again Inv-loop μ-loop
-unfolding notAbove anodesFrom
+unfolding anodesFrom
 loop-again c =
     let l = c .before .before .before .before .before .before .before .before .loop in
     rw (c .entry3 .ensures)
-    (sym (before-step _ _ (l .fuel) (l .fuel - 1) (l .at) (omega arith) (c .before .before .before .before .before .if2 .left) (c .before .before .before .before .before .before .if1 .left)
-    (rw (← c .before .before .before .before .entry .ensures, ← c .before .before .before .entry2 .ensures) (sym (c .before .before .not-above .ensures) ∙ c .before .if3 .left)))
+    (sym (before-step _ _ (l .fuel) (l .fuel - 1) (l .at) (omega arith) (c .before .before .before .before .before .if2 .left) (c .before .before .before .before .before .before .if1 .left) (said (c .before .before) ∙ c .before .if3 .left))
     ∙ l .inv)
 
 returns-4 : tie.Need-returns-4 Inv-loop μ-loop

@@ -27,27 +27,25 @@ returns-2 c = rw (fixed-tests _, ← c .before .before .before .not-empty .ensur
 not-empty-requires-2 : tie.Need-not-empty-requires-2
 not-empty-requires-2 c κs = search needs
 
-returns-3 : tie.Need-returns-3
+-- once anode 0 has passed, anodes 1, 2 and 5 decide
+one-left : (c : tie.After-not-empty2) → let g = c .before .before .before .before .before .before .before .before .args in wrongFixed (anodesFrom (g .counts .now) (g .firsts .now) (g .nexts .now)) ≡ (c .not-empty2 .result || (eqb (getD (g .firsts .now) 2 0) 0 || eqb (getD (g .firsts .now) 5 0) 0))
 unfolding anodesFrom
-returns-3 c =
-    rw (fixed-tests _, ← c .before .before .before .before .before .not-empty .ensures, c .before .before .before .before .if1 .left, ← c .before .before .before .entry .ensures, eq-eqb _ 0 (c .before .before .if2 .left), ← c .before .not-empty2 .ensures, c .if3 .taken)
+one-left c = rw (fixed-tests _, ← c .before .before .before .before .not-empty .ensures, c .before .before .before .if1 .left, ← c .before .before .entry .ensures, eq-eqb _ 0 (c .before .if2 .left), ← c .not-empty2 .ensures)
 
--- anodes 2 and 5 are left behind the tests of 0 and 1
-two-left : (c : tie.Else3) → let g = c .before .before .before .before .before .before .before .before .before .args in wrongFixed (anodesFrom (g .counts .now) (g .firsts .now) (g .nexts .now)) ≡ (eqb (getD (g .firsts .now) 2 0) 0 || eqb (getD (g .firsts .now) 5 0) 0)
-unfolding anodesFrom
-two-left c = rw (fixed-tests _, ← c .before .before .before .before .before .not-empty .ensures, c .before .before .before .before .if1 .left, ← c .before .before .before .entry .ensures, eq-eqb _ 0 (c .before .before .if2 .left), ← c .before .not-empty2 .ensures, c .if3 .left)
+returns-3 : tie.Need-returns-3
+returns-3 c = sym (one-left (c .before) ∙ rw (c .if3 .taken))
 
 entry-requires-2 : tie.Need-entry-requires-2
 entry-requires-2 c κs = search needs
 
 returns-4 : tie.Need-returns-4
-returns-4 c = sym (two-left (c .before .before) ∙ rw (← c .before .entry2 .ensures, eq-eqb _ 0 (c .if4 .taken)))
+returns-4 c = sym (one-left (c .before .before .before) ∙ rw (c .before .before .if3 .left, ← c .before .entry2 .ensures, eq-eqb _ 0 (c .if4 .taken)))
 
 entry-requires-3 : tie.Need-entry-requires-3
 entry-requires-3 c κs = search needs
 
 returns-5 : tie.Need-returns-5
-returns-5 c = sym (two-left (c .before .before .before) ∙ rw (← c .before .before .entry2 .ensures, ne-eqb _ 0 (c .before .if4 .left), c .entry3 .ensures))
+returns-5 c = sym (one-left (c .before .before .before .before) ∙ rw (c .before .before .before .if3 .left, ← c .before .before .entry2 .ensures, ne-eqb _ 0 (c .before .if4 .left), c .entry3 .ensures))
 
 pub wrong-fixed-spec : {M : Type 1} → statement M
 wrong-fixed-spec =

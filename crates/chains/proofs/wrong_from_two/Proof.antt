@@ -37,12 +37,15 @@ add-ends-past c = search needs
 ends-past-requires : tie.Need-ends-past-requires Inv-loop μ-loop
 ends-past-requires c κs = search needs
 
-returns-2 : tie.Need-returns-2 Inv-loop μ-loop
+-- the test of the anode that is looked at, by the rules
+said : (c : tie.After-ends-past Inv-loop μ-loop) → let g = c .before .before .before .before .before .before .before .before .before .args in notUpTo (anodesFrom (g .counts .now) (g .firsts .now) (g .nexts .now)) (g .last) (c .before .before .before .before .before .loop .at) ≡ c .ends-past .result
 unfolding notUpTo anodesFrom
+said c = rw (← c .before .before .entry .ensures, ← c .before .entry2 .ensures) (sym (c .ends-past .ensures))
+
+returns-2 : tie.Need-returns-2 Inv-loop μ-loop
 returns-2 c =
     let l = c .before .before .before .before .before .before .loop in
-    sym (any-step _ _ (l .fuel) (l .fuel - 1) (l .at) (omega arith) (c .before .before .before .before .if1 .left) true
-    (rw (← c .before .before .before .entry .ensures, ← c .before .before .entry2 .ensures) (sym (c .before .ends-past .ensures) ∙ c .if2 .taken)))
+    sym (any-step _ _ (l .fuel) (l .fuel - 1) (l .at) (omega arith) (c .before .before .before .before .if1 .left) true (said (c .before) ∙ c .if2 .taken))
     ∙ l .inv
 
 entry-requires-3 : tie.Need-entry-requires-3 Inv-loop μ-loop
@@ -58,12 +61,11 @@ loop-less : tie.Need-loop-less Inv-loop μ-loop
 loop-less c = search needs
 
 loop-again : tie.Need-loop-again Inv-loop μ-loop
-unfolding notUpTo anodesFrom
+unfolding anodesFrom
 loop-again c =
     let l = c .before .before .before .before .before .before .before .loop in
     rw (c .entry3 .ensures)
-    (sym (any-step _ _ (l .fuel) (l .fuel - 1) (l .at) (omega arith) (c .before .before .before .before .before .if1 .left) false
-    (rw (← c .before .before .before .before .entry .ensures, ← c .before .before .before .entry2 .ensures) (sym (c .before .before .ends-past .ensures) ∙ c .before .if2 .left)))
+    (sym (any-step _ _ (l .fuel) (l .fuel - 1) (l .at) (omega arith) (c .before .before .before .before .before .if1 .left) false (said (c .before .before) ∙ c .before .if2 .left))
     ∙ l .inv)
 
 returns-3 : tie.Need-returns-3 Inv-loop μ-loop

@@ -1,10 +1,15 @@
 use mathlib.Core.Path.{sym, _∙_}
 use mathlib.Core.Bool.{false≢true}
 use borrow.Author.Needs.{needs}
+use Rattle.chains.specs.Predecessors.{PredTable}
 use Rattle.chains.proofs.Predecessors.{table-of}
 use Rattle.chains.proofs.Links.{next-in, links-twice, links-fixed, links-ends}
 use Rattle.chains.proofs.wrong_links.Statement.{statement}
 use Rattle.chains.proofs.wrong_links.Tie as tie
+
+-- the table of predecessors, where no anode has two
+noted : (c : tie.Else1) → PredTable (c .before .before .before .note-preds .last .1 .0) (c .before .before .before .before .before .before .before .before .args .nexts .now)
+noted c = table-of _ _ (c .before .before .before .before .before .before .before .before .pre .2) (rw (c .if1 .left) at (c .before .before .before .note-preds .ensures))
 
 note-preds-requires : tie.Need-note-preds-requires
 note-preds-requires c κs =
@@ -29,13 +34,13 @@ same-length-2 c = search needs
 returns-2 : tie.Need-returns-2
 returns-2 c =
     let p = c .before .before .before .before .before .before .before .before .before .before .before .pre in
-    let w = table-of _ _ (p .2) (rw (c .before .before .before .if1 .left) at (c .before .before .before .before .before .before .note-preds .ensures)) in
+    let w = noted (c .before .before .before) in
     (λ k. sym (links-fixed k _ _ _ w (p .4) (sym (c .if2 .taken) ∙ c .before .fixed-has-pred .ensures)), λ e. w)
 
 some-endless-requires : tie.Need-some-endless-requires
 some-endless-requires c κs =
     let p = c .before .before .before .before .before .before .before .before .before .before .before .before .pre in
-    (p .1, p .2, p .4, table-of _ _ (p .2) (rw (c .before .before .before .before .if1 .left) at (c .before .before .before .before .before .before .before .note-preds .ensures)), p .5)
+    (p .1, p .2, p .4, noted (c .before .before .before .before), p .5)
 
 same-length-3 : tie.Need-same-length-3
 same-length-3 c = search needs
@@ -43,7 +48,7 @@ same-length-3 c = search needs
 returns-3 : tie.Need-returns-3
 returns-3 c =
     let p = c .before .before .before .before .before .before .before .before .before .before .before .before .before .pre in
-    let w = table-of _ _ (p .2) (rw (c .before .before .before .before .before .if1 .left) at (c .before .before .before .before .before .before .before .before .note-preds .ensures)) in
+    let w = noted (c .before .before .before .before .before) in
     (λ k. sym (links-ends k _ _ _ w (p .4) (p .3) (sym (c .before .before .if2 .left) ∙ c .before .before .before .fixed-has-pred .ensures) _ (c .some-endless .ensures)), λ e. w)
 
 pub wrong-links-spec : {M : Type 1} → statement M

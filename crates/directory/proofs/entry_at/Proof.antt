@@ -1,7 +1,7 @@
-use mathlib.Core.Path.{sym, _∙_}
+use mathlib.Core.Path.{_≡_, sym, _∙_}
 use borrow.Author.Tests.{eq-eqb, ne-eqb, not-true, not-false}
 use lib.ListN.{List·getD-eq-default}
-use Rattle.directory.specs.Entries.{walkedAt}
+use Rattle.directory.specs.Entries.{entryIn, walkedKind, walkedAt}
 use borrow.Author.Needs.{needs}
 use Rattle.directory.proofs.entry_at.Statement.{statement}
 use Rattle.directory.proofs.entry_at.Tie as tie
@@ -39,16 +39,19 @@ enum-known-read c = search needs
 enum-told : tie.Need-enum-told
 enum-told c = search needs
 
-returns-4 : tie.Need-returns-4
+-- for an entry within the rules, the type byte decides
+kind-left : (c : tie.After-kind-of) → let g = c .before .before .before .before .before .before .before .before .args in walkedAt (g .block .now) (g .at) ≡ walkedKind (c .kind-of .result) (entryIn (g .block .now) (g .at))
 unfolding walkedAt
-returns-4 c = rw (ne-eqb _ _ (c .before .before .before .before .before .before .if2 .left), sym (c .before .before .before .before .before .entry-ok .ensures) ∙ not-false _ (c .before .before .before .before .if3 .left), sym (c .before .before .before .read8 .ensures), sym (c .before .before .kind-of .ensures), c .enum-told .given .1)
+kind-left c = rw (ne-eqb _ _ (c .before .before .before .before .if2 .left), sym (c .before .before .before .entry-ok .ensures) ∙ not-false _ (c .before .before .if3 .left), ← c .before .read8 .ensures, ← c .kind-of .ensures)
+
+returns-4 : tie.Need-returns-4
+returns-4 c = sym (kind-left (c .before .before) ∙ rw (c .enum-told .given .1))
 
 entry-in-requires : tie.Need-entry-in-requires
 entry-in-requires c κs = search needs
 
 returns-5 : tie.Need-returns-5
-unfolding walkedAt
-returns-5 c = rw (ne-eqb _ _ (c .before .before .before .before .before .before .before .before .if2 .left), sym (c .before .before .before .before .before .before .before .entry-ok .ensures) ∙ not-false _ (c .before .before .before .before .before .before .if3 .left), sym (c .before .before .before .before .before .read8 .ensures), sym (c .before .before .before .before .kind-of .ensures), c .before .before .read .given .1, sym (c .entry-in .ensures))
+returns-5 c = sym (kind-left (c .before .before .before .before) ∙ rw (c .before .before .read .given .1, ← c .entry-in .ensures))
 
 pub entry-at-spec : {M : Type 1} → statement M
 entry-at-spec =

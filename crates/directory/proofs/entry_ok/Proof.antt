@@ -1,7 +1,11 @@
-use mathlib.Core.Path.{sym}
+use mathlib.Core.Path.{_≡_, sym, _∙_}
+use mathlib.Core.Bool.{_&&_}
+use Prim.Native.Nat.{_+_}
+use lib.Dec.{leb}
+use lib.ListN.{getD, take, drop}
 use native.Mathlib.Omega.{arith}
 use borrow.Author.Tests.{le-leb, lt-leb, eq-eqb, ne-eqb}
-use Rattle.directory.specs.Entries.{nameLength, commentLength, nameIn, entryShaped}
+use Rattle.directory.specs.Entries.{goodName, nameLength, commentLength, nameIn, entryShaped}
 use borrow.Author.Needs.{needs}
 use Rattle.directory.proofs.entry_ok.Statement.{statement}
 use Rattle.directory.proofs.entry_ok.Tie as tie
@@ -37,16 +41,20 @@ returns : tie.Need-returns
 unfolding nameLength commentLength entryShaped
 returns c = rw (sym (c .before .before .before .read8 .ensures), sym (c .before .before .read82 .ensures), sym (c .before .entry-len .ensures), ne-eqb _ _ (c .if1 .taken))
 
+-- where the length byte is exact, room, comment and name decide
+room-left : (c : tie.Else1) → let g = c .before .before .before .before .before .before .args in let l = g .block .now in
+    entryShaped l (g .at) ≡ (leb (g .at + getD l (g .at) 0) 510 && (leb (c .before .before .read82 .result) 79 && goodName (take (c .before .before .before .read8 .result) (drop (g .at + 16) l))))
+unfolding nameLength commentLength nameIn entryShaped
+room-left c = rw (← c .before .before .before .read8 .ensures, ← c .before .before .read82 .ensures, ← c .before .entry-len .ensures, eq-eqb _ _ (c .if1 .left))
+
 add-if2 : tie.Need-add-if2
 add-if2 c = omega (arith, c .before .before .before .before .shared-slice-known2 .given (c .before .before .before .before .before .before .args .at))
 
 returns-2 : tie.Need-returns-2
-unfolding nameLength commentLength entryShaped
-returns-2 c = rw (sym (c .before .before .before .before .read8 .ensures), sym (c .before .before .before .read82 .ensures), sym (c .before .before .entry-len .ensures), eq-eqb _ _ (c .before .if1 .left), lt-leb _ 510 (c .if2 .taken))
+returns-2 c = sym (room-left (c .before) ∙ rw (lt-leb _ 510 (c .if2 .taken)))
 
 returns-3 : tie.Need-returns-3
-unfolding nameLength commentLength entryShaped
-returns-3 c = rw (sym (c .before .before .before .before .before .read8 .ensures), sym (c .before .before .before .before .read82 .ensures), sym (c .before .before .before .entry-len .ensures), eq-eqb _ _ (c .before .before .if1 .left), le-leb _ 510 (c .before .if2 .left), lt-leb _ 79 (c .if3 .taken))
+returns-3 c = sym (room-left (c .before .before) ∙ rw (le-leb _ 510 (c .before .if2 .left), lt-leb _ 79 (c .if3 .taken)))
 
 add-part : tie.Need-add-part
 add-part c = search needs
@@ -61,8 +69,7 @@ name-ok-requires : tie.Need-name-ok-requires
 name-ok-requires c κs = search needs
 
 returns-4 : tie.Need-returns-4
-unfolding nameLength commentLength nameIn entryShaped
-returns-4 c = rw (sym (c .before .before .before .before .before .before .before .read8 .ensures), sym (c .before .before .before .before .before .before .read82 .ensures), sym (c .before .before .before .before .before .entry-len .ensures), eq-eqb _ _ (c .before .before .before .before .if1 .left), le-leb _ 510 (c .before .before .before .if2 .left), le-leb _ 79 (c .before .before .if3 .left), sym (c .before .part .ensures)) (c .name-ok .ensures)
+returns-4 c = sym (room-left (c .before .before .before .before) ∙ rw (le-leb _ 510 (c .before .before .before .if2 .left), le-leb _ 79 (c .before .before .if3 .left), ← c .before .part .ensures) (sym (c .name-ok .ensures)))
 
 pub entry-ok-spec : {M : Type 1} → statement M
 entry-ok-spec =

@@ -1,5 +1,6 @@
 use mathlib.Core.Path.{_≡_, sym, _∙_}
-use Prim.Native.Nat.{_-_, _≤_}
+use mathlib.Core.Bool.{_&&_}
+use Prim.Native.Nat.{_+_, _-_, _≤_}
 use borrow.Author.Tests.{le-leb, lt-leb, not-true, not-false}
 use lib.ListN.{length, drop}
 use Rattle.directory.specs.Entries.{goodNameByte, allBytes, goodName}
@@ -31,10 +32,12 @@ shared-slice-read-name-byte c = search needs
 name-byte-requires : tie.Need-name-byte-requires Inv-loop μ-loop
 name-byte-requires c κs = search needs
 
+-- the byte that is looked at and those after it decide
+bytes-left : (c : tie.After-name-byte Inv-loop μ-loop) → let name = c .before .before .before .before .before .before .before .args .name .now in (c .name-byte .result && allBytes goodNameByte (drop (c .before .before .before .loop .i + 1) name)) ≡ goodName name
+bytes-left c = rw (allBytes-step goodNameByte (c .before .before .before .before .before .before .before .args .name .now) (c .before .before .before .loop .i) (c .before .before .loop-test .taken), ← c .name-byte .ensures) at (c .before .before .before .loop .inv .2)
+
 returns-3 : tie.Need-returns-3 Inv-loop μ-loop
-returns-3 c =
-    let l = c .before .before .before .before .loop in
-    rw (allBytes-step goodNameByte (c .before .before .before .before .before .before .before .before .args .name .now) (l .i) (c .before .before .before .loop-test .taken), sym (c .before .name-byte .ensures) ∙ not-true _ (c .if3 .taken)) at (l .inv .2)
+returns-3 c = rw (not-true (c .before .name-byte .result) (c .if3 .taken)) at (bytes-left (c .before))
 
 add-i : tie.Need-add-i Inv-loop μ-loop
 add-i c = search needs
@@ -43,9 +46,7 @@ loop-less : tie.Need-loop-less Inv-loop μ-loop
 loop-less c = search needs
 
 loop-again : tie.Need-loop-again Inv-loop μ-loop
-loop-again c =
-    let l = c .before .before .before .before .loop in
-    (search needs, search needs, rw (allBytes-step goodNameByte (c .before .before .before .before .before .before .before .before .args .name .now) (l .i) (c .before .before .before .loop-test .taken), sym (c .before .name-byte .ensures) ∙ not-false _ (c .if3 .left)) at (l .inv .2))
+loop-again c = (search needs, search needs, rw (not-false (c .before .name-byte .result) (c .if3 .left)) at (bytes-left (c .before)))
 
 returns-4 : tie.Need-returns-4 Inv-loop μ-loop
 returns-4 c = sym (allBytes-end goodNameByte (c .before .before .before .before .before .args .name .now) (c .before .loop .i) (c .loop-test .left)) ∙ c .before .loop .inv .2

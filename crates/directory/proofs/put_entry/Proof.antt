@@ -1,4 +1,5 @@
 use mathlib.Core.Path.{ap, _∙_}
+use Prim.Native.Nat.{_+_, _≤_}
 use native.Mathlib.Omega.{arith}
 use lib.ListN.{length}
 use Rattle.directory.specs.Entries.{entryLength}
@@ -104,13 +105,16 @@ store-requires-2 c κs = search needs
 abbrev lengths : tie.After-clear-arg → tie.After-struct-known2
 lengths c = c .before .before .before .before .before .before .before .before .before .before .before .before .before .before .before .before .before .before .before .before .before .before .before .before .before .before .before .before .before .before .before .before .before .before .before .before .before .before .before .before .before .before .before .before .before .before .before .before .before .before
 
-add-clear : tie.Need-add-clear
+-- the entry's end is a small number
+small-end : (c : tie.After-clear-arg) → let k = lengths c in k .before .before .before .before .before .before .args .at + k .before .before .entry-len .result ≤ 1040
 unfolding entryLength
-add-clear c = let k = lengths c in omega (arith, k .before .before .before .before .before .before .pre, k .before .before .entry-len .ensures, k .before .struct-known .given, k .struct-known2 .given)
+small-end c = let k = lengths c in omega (arith, k .before .before .before .before .before .before .pre, k .before .before .entry-len .ensures, k .before .struct-known .given, k .struct-known2 .given)
+
+add-clear : tie.Need-add-clear
+add-clear c = omega (arith, small-end c)
 
 add-clear-2 : tie.Need-add-clear-2
-unfolding entryLength
-add-clear-2 c = let k = lengths c in omega (arith, k .before .before .before .before .before .before .pre, k .before .before .entry-len .ensures, k .before .struct-known .given, k .struct-known2 .given)
+add-clear-2 c = omega (arith, small-end c)
 
 sub-clear : tie.Need-sub-clear
 unfolding entryLength

@@ -1,5 +1,7 @@
-use mathlib.Core.Path.{refl, sym, _∙_}
-use Rattle.fsck.proofs.Laws.{slots-wrong, slots-right}
+use mathlib.Core.Path.{_≡_, sym, _∙_}
+use mathlib.Core.Bool.{false}
+use Rattle.rules.specs.Accepted.{wrongSlots}
+use Rattle.fsck.proofs.Laws.{kept-all, slots-wrong, slots-right}
 use borrow.Author.Needs.{needs}
 use Rattle.fsck.proofs.examine.Statement.{statement}
 use Rattle.fsck.proofs.examine.Tie as tie
@@ -8,7 +10,11 @@ wrong-slots-requires : tie.Need-wrong-slots-requires
 wrong-slots-requires c κs = search needs
 
 returns : tie.Need-returns
-returns c = (slots-wrong _ _ (sym (c .before .wrong-slots .ensures) ∙ c .if1 .taken), (tt, (record { blocks-kept = refl; anodes-kept = refl }, tt)))
+returns c = (slots-wrong _ _ (sym (c .before .wrong-slots .ensures) ∙ c .if1 .taken), (tt, (kept-all _ _ _, tt)))
+
+-- 5 is passed
+right-slots : (c : tie.Else1) → wrongSlots (c .before .before .before .before .before .before .before .before .before .before .args .image .now) ≡ false
+right-slots c = sym (c .before .wrong-slots .ensures) ∙ c .if1 .left
 
 load-requires : tie.Need-load-requires
 load-requires c κs = search needs
@@ -16,7 +22,7 @@ load-requires c κs = search needs
 test-all-requires : tie.Need-test-all-requires
 test-all-requires c κs =
     let p = c .before .before .before .before .before .before .before .before .before .before .before .before .before .before .before .before .before .before .before .before .before .before .before .before .before .before .before .pre .1 in
-    (((search needs, search needs, search needs), search needs, search needs), (c .before .before .before .before .before .before .before .before .before .before .before .before .before .load .ensures, ((p .0, sym (c .before .before .before .before .before .before .before .before .before .before .before .before .before .before .before .before .before .before .wrong-slots .ensures) ∙ c .before .before .before .before .before .before .before .before .before .before .before .before .before .before .before .before .before .if1 .left), p .1)))
+    (((search needs, search needs, search needs), search needs, search needs), (c .before .before .before .before .before .before .before .before .before .before .before .before .before .load .ensures, ((p .0, right-slots (c .before .before .before .before .before .before .before .before .before .before .before .before .before .before .before .before .before)), p .1)))
 
 same-length : tie.Need-same-length
 same-length c = search needs
@@ -40,7 +46,7 @@ same-length-7 : tie.Need-same-length-7
 same-length-7 c = search needs
 
 returns-2 : tie.Need-returns-2
-returns-2 c = (slots-right _ _ _ (sym (c .before .before .before .before .before .before .before .before .before .before .before .before .before .before .before .before .before .before .before .before .before .before .before .before .before .before .before .wrong-slots .ensures) ∙ c .before .before .before .before .before .before .before .before .before .before .before .before .before .before .before .before .before .before .before .before .before .before .before .before .before .before .if1 .left) (c .before .before .before .before .before .before .before .before .test-all .ensures .0), c .before .before .before .before .before .before .before .before .test-all .ensures .1)
+returns-2 c = (slots-right _ _ _ (right-slots (c .before .before .before .before .before .before .before .before .before .before .before .before .before .before .before .before .before .before .before .before .before .before .before .before .before .before)) (c .before .before .before .before .before .before .before .before .test-all .ensures .0), c .before .before .before .before .before .before .before .before .test-all .ensures .1)
 
 pub examine-spec : {M : Type 1} → statement M
 examine-spec =

@@ -2,20 +2,33 @@ use lib.ListN.{length}
 use native.Mathlib.Omega.{arith}
 use Rattle.tables.proofs.Laws.{zeroed-below}
 use Rattle.fsck.specs.Answers.{Headed}
-use Rattle.fsck.proofs.Laws.{headed, outcome-header, outcome-accepted, outcome-refused}
+use Rattle.fsck.proofs.Laws.{headed, Examined, outcome-header, outcome-accepted, outcome-refused}
 use borrow.Author.Needs.{needs}
 use Rattle.fsck.proofs.open_disk.Statement.{statement}
 use Rattle.fsck.proofs.open_disk.Tie as tie
 
--- ---- what is known behind 1 to 4
+-- ---- what is known once 1 to 4 are passed
 
--- they are passed
+-- what they say then
 headed-at : (c : tie.After-disk-size) → Headed (c .before .before .before .before .before .before .before .before .before .before .before .before .args .image .now) (length (c .before .before .before .before .before .before .before .before .before .before .before .before .args .blocks .now)) (length (c .before .before .before .before .before .before .before .before .before .before .before .before .args .anodes .now))
 headed-at c = headed _ _ _ _ (c .before .enum-told .given .1) (c .before .before .before .test-header .ensures)
 
--- the place where the disk's size is known, from the one behind 5 to 16
+-- the place where the disk's size is known, from the one after 5 to 16
 abbrev sized : tie.After-examine → tie.After-disk-size
 sized x = x .before .before .before .before .before .before .before .before .before .before .before .before .before .before .before .before
+
+-- what is known there
+examined : (c : tie.After-examine) → let g = c .before .before .before .before .before .before .before .before .before .before .before .before .before .before .before .before .before .before .before .before .before .before .before .before .before .before .before .before .args in let e = c .examine in Examined (g .image .now) (g .blocks .now) (g .anodes .now) (sized c .disk-size .result) (e .last .1 .0) (e .last .1 .1 .0) (e .result)
+examined c = record {
+  size = sized c .disk-size .ensures;
+  header = headed-at (sized c);
+  b₁ = c .before .before .before .before .before .before .before .before .before .before .before .before .before .before .zero-first .last .0;
+  a₁ = c .before .before .before .before .before .before .before .before .before .before .zero-first2 .last .0;
+  blocks-zeroed = c .before .before .before .before .before .before .before .before .before .before .before .before .before .before .zero-first .ensures;
+  anodes-zeroed = c .before .before .before .before .before .before .before .before .before .before .zero-first2 .ensures;
+  answer = c .examine .ensures .0;
+  left = c .examine .ensures .1 .1 .0;
+}
 
 -- ---- the answers
 
@@ -94,7 +107,7 @@ returns-2 : tie.Need-returns-2
 returns-2 c =
     let x = c .before .before .before .before .before .before .before .before .before .before .before .before .before .before .before .before .before .before .before .before .before .before .before .before in
     let e = x .examine .ensures in
-    (outcome-refused _ _ _ _ (sized x .disk-size .ensures) (headed-at (sized x)) _ _ _ _ (x .before .before .before .before .before .before .before .before .before .before .before .before .before .before .zero-first .ensures) (x .before .before .before .before .before .before .before .before .before .before .zero-first2 .ensures) _ (e .0) (e .1 .1 .0) _ (c .before .before .before .before .before .before .before .before .enum-told2 .given .1) _ _ (c .before .before .before .before .before .before .zero-first3 .ensures) (c .before .before .zero-first4 .ensures), (e .1 .0, e .1 .1 .1))
+    (outcome-refused _ _ _ (examined x) _ (c .before .before .before .before .before .before .before .before .enum-told2 .given .1) _ _ (c .before .before .before .before .before .before .zero-first3 .ensures) (c .before .before .zero-first4 .ensures), (e .1 .0, e .1 .1 .1))
 
 same-length-8 : tie.Need-same-length-8
 same-length-8 c = search needs
@@ -121,7 +134,7 @@ returns-3 : tie.Need-returns-3
 returns-3 c =
     let x = c .before .before .before .before .before .before .before .before .before .before .before .before .before .before .before .before in
     let e = x .examine .ensures in
-    (outcome-accepted _ _ _ _ (sized x .disk-size .ensures) (headed-at (sized x)) _ _ _ _ (x .before .before .before .before .before .before .before .before .before .before .before .before .before .before .zero-first .ensures) (x .before .before .before .before .before .before .before .before .before .before .zero-first2 .ensures) _ (e .0) (e .1 .1 .0) _ (c .enum-told3 .given .1), (e .1 .0, e .1 .1 .1))
+    (outcome-accepted _ _ _ (examined x) _ (c .enum-told3 .given .1), (e .1 .0, e .1 .1 .1))
 
 pub open-disk-spec : {M : Type 1} → statement M
 open-disk-spec =

@@ -20,7 +20,7 @@ same-length-2 c = search needs
 returns : tie.Need-returns
 returns c =
     let t = c .before .before .before .before .before .before .before .test-space in
-    let w = all-failed _ _ _ _ _ _ _ (t .ensures .0) (t .ensures .1) _ (c .before .t .given .1) in
+    let w = all-failed _ _ _ _ _ _ _ (t .ensures .1) (t .ensures .0) _ (c .before .t .given .1) in
     (w .0, (tt, (w .1, tt)))
 
 enum-told : tie.Need-enum-told
@@ -30,7 +30,7 @@ walk-tree-requires : tie.Need-walk-tree-requires
 walk-tree-requires c κs =
     let p = c .before .before .before .before .before .before .before .before .before .before .before .before .before .before .before .before .before .before .before .before .pre in
     let t = c .before .before .before .before .before .before .before .before .before .test-space in
-    ((all-heads _ _ _ _ _ _ _ (t .ensures .0) (t .ensures .1) (c .before .before .before .enum-told .given .1) _ (p .1 .0), p .0 .0), (p .0 .1, p .0 .2))
+    ((all-heads _ _ _ _ _ _ _ (t .ensures .1) (c .before .before .before .enum-told .given .1) _ (p .1 .0), p .0 .0), (p .0 .1, p .0 .2))
 
 enum-known-w : tie.Need-enum-known-w
 enum-known-w c = search needs
@@ -58,7 +58,7 @@ returns-2 c =
     let p = c .before .before .before .before .before .before .before .before .before .before .before .before .before .before .before .before .before .before .before .before .before .before .before .before .before .before .before .before .before .pre in
     let t = c .before .before .before .before .before .before .before .before .before .before .before .before .before .before .before .before .before .before .test-space in
     let k = c .before .before .before .before .before .before .before .before .walk-tree in
-    let w = all-counted _ _ _ _ _ _ _ (t .ensures .0) (t .ensures .1) (c .before .before .before .before .before .before .before .before .before .before .before .before .enum-told .given .1) _ (p .1 .0) _ (k .ensures .0) _ _ (k .ensures .1 .0) (k .ensures .1 .1) _ _ (c .before .before .w .given .1) in
+    let w = all-counted _ _ _ _ _ _ _ (t .ensures .1) (t .ensures .0) (c .before .before .before .before .before .before .before .before .before .before .before .before .enum-told .given .1) _ (p .1 .0) _ (k .ensures .0) _ _ (k .ensures .1 .0) (k .ensures .1 .1) _ _ (c .before .before .w .given .1) in
     (w .0, ((c .chain-sum .ensures ∙ rw (← p .1 .0) (sumFrom-count _ _ _ 1), w .1 .0, w .1 .1), (w .2, (p .1 .0, w .3, (p .0 .0, search needs, search needs)))))
 
 same-length-7 : tie.Need-same-length-7
@@ -76,7 +76,7 @@ same-length-10 c = search needs
 returns-3 : tie.Need-returns-3
 returns-3 c =
     let t = c .before .before .before .before .before .before .before .before .before .before .before .before .before .before .before .before .before .test-space in
-    let w = all-fault _ _ _ _ _ _ _ (t .ensures .0) (t .ensures .1) (c .before .before .before .before .before .before .before .before .before .before .before .enum-told .given .1) _ (c .before .before .before .before .before .before .before .before .before .before .before .before .before .before .before .before .before .before .before .before .before .before .before .before .before .before .before .before .pre .1 .0) _ (c .before .before .before .before .before .before .before .walk-tree .ensures .0) _ (c .before .w2 .given .1) in
+    let w = all-fault _ _ _ _ _ _ _ (t .ensures .1) (t .ensures .0) (c .before .before .before .before .before .before .before .before .before .before .before .enum-told .given .1) _ (c .before .before .before .before .before .before .before .before .before .before .before .before .before .before .before .before .before .before .before .before .before .before .before .before .before .before .before .before .pre .1 .0) _ (c .before .before .before .before .before .before .before .walk-tree .ensures .0) _ (c .before .w2 .given .1) in
     (w .0, (tt, (w .1, tt)))
 
 pub test-all-spec : {M : Type 1} → statement M

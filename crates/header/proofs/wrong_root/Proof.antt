@@ -1,6 +1,6 @@
 use mathlib.Core.Path.{_≡_, sym, _∙_}
 use mathlib.Core.Bool.{_||_}
-use lib.Dec.{eqb, ltb}
+use lib.Dec.{eqb, leb, ltb}
 use Rattle.rules.specs.Accepted.{lastReserved, wrongRoot}
 use borrow.Author.Tests.{lt-ltb, le-ltb, ne-eqb, eq-eqb, le-leb, lt-leb}
 use borrow.Author.Needs.{needs}
@@ -27,20 +27,19 @@ disk-size-requires c κs = search needs
 cast-if3 : tie.Need-cast-if3
 cast-if3 c = search needs
 
-returns-3 : tie.Need-returns-3
+-- once first reserved and the lower bound of last reserved have passed, its upper bound and the name's length decide
+last-left : (c : tie.After-disk-size) → let r = c .before .before .before .before .root-in .result in wrongRoot (c .before .before .before .before .before .before .before .args .image .now) ≡ (leb (c .disk-size .result) (r .last .0) || (eqb (r .name) 0 || ltb 31 (r .name)))
 unfolding wrongRoot lastReserved
-returns-3 c = rw (lastReserved, ← c .before .before .before .before .before .before .block-part .ensures, ← c .before .before .before .before .before .root-in .ensures, eq-eqb _ _ (c .before .before .before .if1 .left), le-ltb _ 2 (c .before .before .if2 .left), ← c .before .disk-size .ensures, le-leb _ _ (c .if3 .taken))
+last-left c = rw (lastReserved, ← c .before .before .before .before .before .block-part .ensures, ← c .before .before .before .before .root-in .ensures, eq-eqb _ _ (c .before .before .if1 .left), le-ltb _ 2 (c .before .if2 .left), ← c .disk-size .ensures)
 
--- the name's length is left behind the tests of the reserved blocks
-name-left : (c : tie.Else3) → let r = c .before .before .before .before .before .root-in .result in wrongRoot (c .before .before .before .before .before .before .before .before .args .image .now) ≡ (eqb (r .name) 0 || ltb 31 (r .name))
-unfolding wrongRoot lastReserved
-name-left c = rw (lastReserved, ← c .before .before .before .before .before .before .block-part .ensures, ← c .before .before .before .before .before .root-in .ensures, eq-eqb _ _ (c .before .before .before .if1 .left), le-ltb _ 2 (c .before .before .if2 .left), ← c .before .disk-size .ensures, lt-leb _ _ (c .if3 .left))
+returns-3 : tie.Need-returns-3
+returns-3 c = sym (last-left (c .before) ∙ rw (le-leb _ _ (c .if3 .taken)))
 
 returns-4 : tie.Need-returns-4
-returns-4 c = sym (name-left (c .before .before) ∙ rw (eq-eqb _ _ (c .if4 .taken)))
+returns-4 c = sym (last-left (c .before .before .before) ∙ rw (lt-leb _ _ (c .before .before .if3 .left), eq-eqb _ _ (c .if4 .taken)))
 
 returns-5 : tie.Need-returns-5
-returns-5 c = sym (name-left (c .before .before .before) ∙ rw (ne-eqb _ _ (c .before .if4 .left)))
+returns-5 c = sym (last-left (c .before .before .before .before) ∙ rw (lt-leb _ _ (c .before .before .before .if3 .left), ne-eqb _ _ (c .before .if4 .left)))
 
 pub wrong-root-spec : {M : Type 1} → statement M
 wrong-root-spec =

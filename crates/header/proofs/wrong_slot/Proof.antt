@@ -1,7 +1,8 @@
 use mathlib.Core.Path.{_≡_, sym, _∙_}
 use mathlib.Core.Bool.{not, _||_}
-use lib.Dec.{eqb}
-use Rattle.disk.specs.AnodeBlocks.{anodeMark}
+use lib.Dec.{eqb, leb}
+use Rattle.disk.specs.Blocks.{blockOf}
+use Rattle.disk.specs.AnodeBlocks.{anodeMark, anodeHeadIn}
 use Rattle.rules.specs.Accepted.{wrongSlot}
 use borrow.Author.Tests.{lt-ltb, le-ltb, ne-eqb, eq-eqb, le-leb, lt-leb}
 use borrow.Author.Needs.{needs}
@@ -25,9 +26,14 @@ disk-size-requires c κs = search needs
 cast-if3 : tie.Need-cast-if3
 cast-if3 c = search needs
 
-returns-3 : tie.Need-returns-3
+-- once the block's lower bound has passed, its upper bound and its head decide
+block-left : (c : tie.After-disk-size) → let g = c .before .before .before .before .before .before .before .args in let k = c .before .before .before .before .before .slot-of .result .0 in let h = anodeHeadIn (blockOf (g .image .now) k) in
+    wrongSlot (g .image .now) (g .s) ≡ (leb (c .disk-size .result) k || (not (eqb (h .mark) anodeMark) || not (eqb (h .sequence) (g .s))))
 unfolding wrongSlot
-returns-3 c = rw (← c .before .before .before .before .before .before .before .slot-of .ensures, ne-eqb _ _ (c .before .before .before .before .before .if1 .left), le-ltb _ 3 (c .before .before .before .if2 .left), ← c .before .before .disk-size .ensures, le-leb _ _ (c .if3 .taken))
+block-left c = rw (← c .before .before .before .before .before .slot-of .ensures, ne-eqb _ _ (c .before .before .before .if1 .left), le-ltb _ 3 (c .before .if2 .left), ← c .disk-size .ensures)
+
+returns-3 : tie.Need-returns-3
+returns-3 c = sym (block-left (c .before .before) ∙ rw (le-leb _ _ (c .if3 .taken)))
 
 block-part-requires : tie.Need-block-part-requires
 block-part-requires c κs = search needs
@@ -35,10 +41,9 @@ block-part-requires c κs = search needs
 anode-head-in-requires : tie.Need-anode-head-in-requires
 anode-head-in-requires c κs = search needs
 
--- the block's head is left behind the tests of its number
-head-left : (c : tie.After-anode-head-in) → let h = c .anode-head-in .result in wrongSlot (c .before .before .before .before .before .before .before .before .before .before .before .args .image .now) (c .before .before .before .before .before .before .before .before .before .before .before .args .s) ≡ (not (eqb (h .mark) anodeMark) || not (eqb (h .sequence) (c .before .before .before .before .before .before .before .before .before .before .before .args .s)))
-unfolding wrongSlot
-head-left c = rw (← c .before .before .before .before .before .before .before .before .before .slot-of .ensures, ne-eqb _ _ (c .before .before .before .before .before .before .before .if1 .left), le-ltb _ 3 (c .before .before .before .before .before .if2 .left), ← c .before .before .before .before .disk-size .ensures, lt-leb _ _ (c .before .before .if3 .left), ← c .before .block-part .ensures, ← c .anode-head-in .ensures)
+-- of a block on the disk, the head decides
+head-left : (c : tie.After-anode-head-in) → let g = c .before .before .before .before .before .before .before .before .before .before .before .args in let h = c .anode-head-in .result in wrongSlot (g .image .now) (g .s) ≡ (not (eqb (h .mark) anodeMark) || not (eqb (h .sequence) (g .s)))
+head-left c = block-left (c .before .before .before .before) ∙ rw (lt-leb _ _ (c .before .before .if3 .left), ← c .before .block-part .ensures, ← c .anode-head-in .ensures)
 
 returns-4 : tie.Need-returns-4
 returns-4 c = sym (head-left (c .before .before) ∙ rw (ne-eqb _ _ (c .if4 .taken)))

@@ -23,6 +23,11 @@ returns : tie.Need-returns Inv-loop μ-loop
 unfolding wrongSlots
 returns c = rw (← c .before .before .slot-of .ensures, eq-eqb _ _ (c .if1 .taken))
 
+-- where slot 0 is not empty, the slots decide
+slots-left : (c : tie.Else1 Inv-loop μ-loop) → let i = c .before .before .before .before .args .image .now in wrongSlots i ≡ anyBelow (wrongSlot i) 42
+unfolding wrongSlots
+slots-left c = rw (← c .before .before .slot-of .ensures, ne-eqb _ _ (c .if1 .left))
+
 loop-holds : tie.Need-loop-holds Inv-loop μ-loop
 loop-holds c = (search needs, anyBelow-none _)
 
@@ -30,8 +35,7 @@ wrong-slot-requires : tie.Need-wrong-slot-requires Inv-loop μ-loop
 wrong-slot-requires c κs = search needs
 
 returns-2 : tie.Need-returns-2 Inv-loop μ-loop
-unfolding wrongSlots
-returns-2 c = rw (← c .before .before .before .before .before .before .slot-of .ensures, ne-eqb _ _ (c .before .before .before .before .if1 .left)) (sym (anyBelow-hit _ _ 42 (c .before .before .loop-test .taken) (sym (c .before .wrong-slot .ensures) ∙ c .if2 .taken)))
+returns-2 c = sym (slots-left (c .before .before .before .before) ∙ anyBelow-hit _ _ 42 (c .before .before .loop-test .taken) (sym (c .before .wrong-slot .ensures) ∙ c .if2 .taken))
 
 add-s : tie.Need-add-s Inv-loop μ-loop
 add-s c = search needs
@@ -43,10 +47,9 @@ loop-again : tie.Need-loop-again Inv-loop μ-loop
 loop-again c = (search needs, anyBelow-more _ _ (c .before .before .before .loop .inv .1) (sym (c .before .wrong-slot .ensures) ∙ c .if2 .left))
 
 returns-3 : tie.Need-returns-3 Inv-loop μ-loop
-unfolding wrongSlots
 returns-3 c =
     let e : c .before .loop .s ≡ 42 = omega arith in
-    rw (← c .before .before .before .before .slot-of .ensures, ne-eqb _ _ (c .before .before .if1 .left)) (sym (rw e at (c .before .loop .inv .1)))
+    sym (slots-left (c .before .before) ∙ rw e at (c .before .loop .inv .1))
 
 pub wrong-slots-spec : {M : Type 1} → statement M
 wrong-slots-spec =

@@ -24,6 +24,10 @@ within : (c : tie.In-loop Inv-loop μ-loop) → let g = c .before .before .befor
 unfolding anodesFrom
 within c = let s = c .before .before .before .before .before .before .before .before .before .before .before .before .pre .1 .1 .1 .0 in extent-inside _ (s .1) _ (s .2) (c .before .loop .a) (c .loop-test .taken)
 
+-- a marked run leaves the table past the disk's size
+kept-run : (c : tie.After-mark-run Inv-loop μ-loop) → let k = diskSize (c .before .before .before .before .before .before .before .before .before .before .before .before .before .before .before .before .before .args .image .now) in drop k (c .mark-run .last .0) ≡ drop k (c .before .before .before .before .before .before .before .before .before .before .mark-system .last .1 .0)
+kept-run c = kept-drop _ _ _ _ _ (c .mark-run .ensures .1) (within (c .before .before .before .before .before)) (search needs) ∙ c .before .before .before .before .before .before .loop .inv .2
+
 mark-system-requires : tie.Need-mark-system-requires Inv-loop μ-loop
 mark-system-requires c κs = search needs
 
@@ -67,7 +71,7 @@ returns-2 c =
     let l = c .before .before .before .before .before .before .before .before .before .loop in
     let m = c .before .before .before .mark-run in
     let o = anode-hit _ _ _ _ _ (l .a) _ (l .inv .3) (c .before .before .before .before .before .before .before .before .loop-test .taken) (rw (c .if2 .taken) at (m .ensures .0)) (within (c .before .before .before .before .before .before .before .before)) in
-    (λ n. sym (two-owners _ _ _ n o), (λ e. absurd (true≢false e), kept-drop _ _ _ _ _ (m .ensures .1) (within (c .before .before .before .before .before .before .before .before)) (search needs) ∙ l .inv .2 ∙ c .before .before .before .before .before .before .before .before .before .before .before .before .before .mark-system .ensures .1))
+    (λ n. sym (two-owners _ _ _ n o), (λ e. absurd (true≢false e), kept-run (c .before .before .before) ∙ c .before .before .before .before .before .before .before .before .before .before .before .before .before .mark-system .ensures .1))
 
 add-a : tie.Need-add-a Inv-loop μ-loop
 add-a c = search needs
@@ -86,7 +90,7 @@ loop-again c =
     let some = head-some _ _ _ _ _ (l .a) _ (l .inv .3) _ run (omega arith) (fixed-anodes _ (p .1 .1 .0 .1) .0 .count-0) (p .1 .1 .1 (l .a)) in (
       search needs,
       search needs,
-      kept-drop _ _ _ _ _ (m .ensures .1) (within (c .before .before .before .before .before .before .before .before)) (search needs) ∙ l .inv .2,
+      kept-run (c .before .before .before),
       anode-more _ _ _ _ _ (l .a) _ (l .inv .3) _ run (m .ensures .1) some,
     )
 

@@ -20,6 +20,14 @@ abbrev μ-loop : tie.MeasureT-loop
 within : (c : tie.Else2 Inv-loop μ-loop) → (3 ≤ c .before .before .slot-of .result .0) × (c .before .before .slot-of .result .0 + 1 ≤ diskSize (c .before .before .before .before .before .before .before .before .before .before .before .before .args .image .now))
 within c = slot-within _ _ _ (c .before .before .before .before .before .before .before .before .before .before .before .before .pre .0 .1) (sym (c .before .before .slot-of .ensures)) (c .if2 .left)
 
+-- the table past the disk's size is left by the mark of blocks 0 to 2
+kept-first : (c : tie.After-mark-run Inv-loop μ-loop) → let g = c .before .before .before .before .args in drop (diskSize (g .image .now)) (c .mark-run .last .0) ≡ drop (diskSize (g .image .now)) (g .blocks .now)
+kept-first c = kept-drop _ _ 0 3 _ (c .mark-run .ensures .1) (λ z. size-some _ (c .before .before .before .before .pre .0 .0)) (search needs)
+
+-- and by the mark of a slot's block
+kept-slot : (c : tie.After-mark-run2 Inv-loop μ-loop) → let k = diskSize (c .before .before .before .before .before .before .before .before .before .before .before .before .before .before .args .image .now) in drop k (c .mark-run2 .last .0) ≡ drop k (c .before .before .before .before .before .before .before .before .before .before .mark-run .last .0)
+kept-slot c = kept-drop _ _ _ 1 _ (c .mark-run2 .ensures .1) (λ z. within (c .before .before) .1) (search needs) ∙ c .before .before .before .before .before .before .loop .inv .2
+
 mark-run-requires : tie.Need-mark-run-requires Inv-loop μ-loop
 mark-run-requires c κs = λ z. let h = size-some _ (c .before .before .before .pre .0 .0) in search needs
 
@@ -59,10 +67,9 @@ returns-2 : tie.Need-returns-2 Inv-loop μ-loop
 returns-2 c =
     let l = c .before .before .before .before .before .before .before .before .before .loop in
     let m = c .before .before .before .mark-run2 in
-    let h = size-some _ (c .before .before .before .before .before .before .before .before .before .before .before .before .before .before .before .before .before .pre .0 .0) in
     let w = within (c .before .before .before .before .before) in (
       system-hit _ _ _ _ (l .inv .3) _ (c .before .before .before .before .before .before .before .before .loop-test .taken) (sym (c .before .before .before .before .before .before .before .slot-of .ensures)) (c .before .before .before .before .before .if2 .left) (w .0) (w .1) (rw (c .if3 .taken) at (m .ensures .0)),
-      kept-drop _ _ _ 1 _ (m .ensures .1) (λ z. w .1) (search needs) ∙ l .inv .2 ∙ kept-drop _ _ 0 3 _ (c .before .before .before .before .before .before .before .before .before .before .before .before .before .mark-run .ensures .1) (λ z. h) (search needs),
+      kept-slot (c .before .before .before) ∙ kept-first (c .before .before .before .before .before .before .before .before .before .before .before .before .before),
     )
 
 add-s-2 : tie.Need-add-s-2 Inv-loop μ-loop
@@ -77,7 +84,7 @@ loop-again-2 c =
     let m = c .before .before .before .mark-run2 in (
       search needs,
       search needs,
-      kept-drop _ _ _ 1 _ (m .ensures .1) (λ z. within (c .before .before .before .before .before) .1) (search needs) ∙ l .inv .2,
+      kept-slot (c .before .before .before),
       system-more _ _ _ _ (l .inv .3) _ _ (sym (c .before .before .before .before .before .before .before .slot-of .ensures)) (c .before .before .before .before .before .if2 .left) (rw (c .if3 .left) at (m .ensures .0)) (m .ensures .1),
     )
 
@@ -87,9 +94,8 @@ same-length-3 c = search needs
 returns-3 : tie.Need-returns-3 Inv-loop μ-loop
 returns-3 c =
     let l = c .before .loop in
-    let h = size-some _ (c .before .before .before .before .before .before .before .before .before .pre .0 .0) in
     let e : l .s ≡ 42 = omega arith in
-    (system-done _ _ _ (rw e at (l .inv .3)), l .inv .2 ∙ kept-drop _ _ 0 3 _ (c .before .before .before .before .before .mark-run .ensures .1) (λ z. h) (search needs))
+    (system-done _ _ _ (rw e at (l .inv .3)), l .inv .2 ∙ kept-first (c .before .before .before .before .before))
 
 pub mark-system-spec : {M : Type 1} → statement M
 mark-system-spec =

@@ -1,15 +1,15 @@
 use mathlib.Core.Path.{_≡_}
-use mathlib.Core.List.{_++_}
 use Prim.Native.Nat.{_-_, _≤_, _<_}
 use native.Mathlib.Omega.{arith}
-use lib.ListN.{length, drop, replicate, length-set}
+use lib.ListN.{length, length-set}
 use borrow.Author.Needs.{needs}
 use borrow.Author.Fill.{fill-none, fill-more}
+use Rattle.tables.specs.Held.{zeroedFirst}
 use Rattle.tables.proofs.zero_first.Statement.{statement}
 use Rattle.tables.proofs.zero_first.Tie as tie
 
 abbrev Inv-loop : tie.InvT-loop
-Inv-loop table₀ n i₀ table i = (i ≤ n) × (length table ≡ length table₀) × (table ≡ replicate i 0 ++ drop i table₀)
+Inv-loop table₀ n i₀ table i = (i ≤ n) × (length table ≡ length table₀) × (table ≡ zeroedFirst i table₀)
 
 abbrev μ-loop : tie.MeasureT-loop
 μ-loop table₀ n i₀ table i = n - i

@@ -10,19 +10,26 @@ use borrow.Author.Needs.{needs}
 use Rattle.tree.proofs.enter.Statement.{statement}
 use Rattle.tree.proofs.enter.Tie as tie
 
--- ---- what is known of the entry's anode behind a passed test
+-- ---- what is known of the entry's anode once a test is passed
+
+-- the place at the start, from those where a test is passed
+abbrev start-1 : tie.Else1 → tie.Start
+start-1 c = c .before .before .before .before .before .before .before .before .before .before
+
+abbrev start-2 : tie.Else2 → tie.Start
+start-2 c = start-1 (c .before .before .before)
 
 -- it is a head
-a-head : (c : tie.Else1) → headAt (c .before .before .before .before .before .before .before .before .before .before .args .heads .now) (c .before .before .before .before .before .before .before .before .before .before .args .e .anode .0) ≡ true
+a-head : (c : tie.Else1) → let g = start-1 c .args in headAt (g .heads .now) (g .e .anode .0) ≡ true
 a-head c = sym (c .before .head-at .ensures) ∙ not-false _ (c .if1 .left)
 
 -- and has no mark
-unmarked : (c : tie.Else2) → getD (c .before .before .before .before .before .before .before .before .before .before .before .before .before .args .marks .now) (c .before .before .before .before .before .before .before .before .before .before .before .before .before .args .e .anode .0) 0 ≡ 0
+unmarked : (c : tie.Else2) → let g = start-2 c .args in getD (g .marks .now) (g .e .anode .0) 0 ≡ 0
 unmarked c = sym (c .before .entry .ensures) ∙ c .if2 .left
 
 -- so that one more fits
-room : (c : tie.Else2) → (c .before .before .before .before .before .before .before .before .before .before .before .before .before .args .t .last + c .before .before .before .before .before .before .before .before .before .before .before .before .before .args .t .files < 3444) × (c .before .before .before .before .before .before .before .before .before .before .before .before .before .args .t .last + c .before .before .before .before .before .before .before .before .before .before .before .before .before .args .t .files + 1 ≤ marked (set (c .before .before .before .before .before .before .before .before .before .before .before .before .before .args .marks .now) (c .before .before .before .before .before .before .before .before .before .before .before .before .before .args .e .anode .0) 1))
-room c = marked-room (c .before .before .before .before .before .before .before .before .before .before .before .before .before .args .heads .now) _ _ _ (a-head (c .before .before .before)) (unmarked c) (c .before .before .before .before .before .before .before .before .before .before .before .before .before .pre .0) (c .before .before .before .before .before .before .before .before .before .before .before .before .before .pre .3)
+room : (c : tie.Else2) → let g = start-2 c .args in (g .t .last + g .t .files < 3444) × (g .t .last + g .t .files + 1 ≤ marked (set (g .marks .now) (g .e .anode .0) 1))
+room c = let s = start-2 c in marked-room (s .args .heads .now) _ _ _ (a-head (c .before .before .before)) (unmarked c) (s .pre .0) (s .pre .3)
 
 -- ---- the answers
 

@@ -1,10 +1,21 @@
-use mathlib.Core.Path.{sym, _∙_}
+use mathlib.Core.Path.{_≡_, sym, _∙_}
+use lib.ListN.{getD}
 use borrow.Author.Tests.{not-true, not-false}
+use Rattle.rules.specs.Walk.{isBlockOf}
 use Rattle.anodes.specs.Loaded.{anodesFrom}
+use Rattle.tree.specs.Steps.{dirMade}
 use Rattle.tree.proofs.Laws.{anode-count, anode-mark, anode-block}
 use borrow.Author.Needs.{needs}
 use Rattle.tree.proofs.enter_anode.Statement.{statement}
 use Rattle.tree.proofs.enter_anode.Tie as tie
+
+-- the anode holds one block
+one-block : (c : tie.Else1) → let g = c .before .before .before .before .before .before .before .before .before .before .args in getD (g .counts .now) (g .a) 0 ≡ 1
+one-block c = sym (c .before .entry .ensures) ∙ c .if1 .left
+
+-- whether that is marked as the directory's
+its-mark : (c : tie.After-is-block-of) → let g = c .before .before .before .before .before .before .before .before .before .before .before .before .args in isBlockOf (g .image .now) (dirMade (g .head .0) (g .parent .0)) (getD (g .firsts .now) (g .a) 0) ≡ c .is-block-of .result
+its-mark c = rw (c .before .entry2 .ensures) at (sym (c .is-block-of .ensures))
 
 entry-requires : tie.Need-entry-requires
 entry-requires c κs = search needs
@@ -21,9 +32,7 @@ is-block-of-requires c κs = search needs
 
 returns-2 : tie.Need-returns-2
 unfolding anodesFrom
-returns-2 c =
-    let m = rw (c .before .before .entry2 .ensures) at (sym (c .before .is-block-of .ensures) ∙ not-true _ (c .if2 .taken)) in
-    (sym (anode-mark _ _ _ _ _ _ _ _ _ (sym (c .before .before .before .before .entry .ensures) ∙ c .before .before .before .if1 .left) m), search needs)
+returns-2 c = (sym (anode-mark _ _ _ _ _ _ _ _ _ (one-block (c .before .before .before)) (its-mark (c .before) ∙ not-true _ (c .if2 .taken))), search needs)
 
 enter-block-requires : tie.Need-enter-block-requires
 enter-block-requires c κs = search needs
@@ -40,9 +49,8 @@ same-length-3 c = search needs
 returns-3 : tie.Need-returns-3
 unfolding anodesFrom
 returns-3 c =
-    let m = rw (c .before .before .before .before .before .before .before .before .before .before .before .before .entry2 .ensures) at (sym (c .before .before .before .before .before .before .before .before .before .before .before .is-block-of .ensures) ∙ not-false _ (c .before .before .before .before .before .before .before .before .before .before .if2 .left)) in
     let e = rw (c .before .before .before .before .before .before .before .before .before .before .before .before .entry2 .ensures) at (c .before .before .before .before .before .before .enter-block .ensures .0) in
-    (e ∙ sym (anode-block _ _ _ _ _ _ _ _ _ (sym (c .before .before .before .before .before .before .before .before .before .before .before .before .before .before .entry .ensures) ∙ c .before .before .before .before .before .before .before .before .before .before .before .before .before .if1 .left) m), c .before .before .before .before .before .before .enter-block .ensures .1)
+    (e ∙ sym (anode-block _ _ _ _ _ _ _ _ _ (one-block (c .before .before .before .before .before .before .before .before .before .before .before .before .before)) (its-mark (c .before .before .before .before .before .before .before .before .before .before .before) ∙ not-false _ (c .before .before .before .before .before .before .before .before .before .before .if2 .left))), c .before .before .before .before .before .before .enter-block .ensures .1)
 
 pub enter-anode-spec : {M : Type 1} → statement M
 enter-anode-spec =

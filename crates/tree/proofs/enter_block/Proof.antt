@@ -2,11 +2,10 @@ use mathlib.Core.Path.{_≡_, sym, ap, _∙_}
 use mathlib.Core.List.{map}
 use Prim.Native.Nat.{ℕ, _+_, _-_, _*_, _≤_}
 use native.Mathlib.Omega.{arith}
-use lib.ListN.{length}
 use Rattle.rules.specs.Walk.{entriesFrom, entriesIn}
 use Rattle.tree.specs.Steps.{itemIn, entering, Room}
 use Rattle.laws.specs.Entries.{entries-end, entries-none, block-whole}
-use Rattle.tree.proofs.Laws.{enter-none, block-broken, block-stop, block-step}
+use Rattle.tree.proofs.Laws.{SameLengths, same-lengths, enter-none, block-broken, block-stop, block-step}
 use borrow.Author.Needs.{needs}
 use Rattle.tree.proofs.enter_block.Statement.{statement}
 use Rattle.tree.proofs.enter_block.Tie as tie
@@ -21,11 +20,8 @@ abbrev μ-loop : tie.MeasureT-loop
 μ-loop image counts nexts heads marks₀ queue₀ parents₀ head block tally₀ at₀ fuel₀ marks queue parents tally at fuel = fuel
 
 -- the tables in the loop are as long as those that were lent
-lengths : (c : tie.At-loop Inv-loop μ-loop) → let g = c .before .before .before .before .before .before .before .before .before .args in let l = c .loop in (length (l .marks) ≡ length (g .marks .now)) × (length (l .queue) ≡ length (g .queue .now)) × (length (l .parents) ≡ length (g .parents .now))
-lengths c =
-    let i = c .loop .inv .0 in
-    let p = c .before .before .before .before .before .before .before .before .before .pre in
-    (i .0 ∙ sym (p .0), i .1 ∙ sym (p .1), i .2 ∙ sym (p .2))
+lengths : (c : tie.At-loop Inv-loop μ-loop) → let g = c .before .before .before .before .before .before .before .before .before .args in let l = c .loop in SameLengths (l .marks) (l .queue) (l .parents) (g .marks .now) (g .queue .now) (g .parents .now)
+lengths c = same-lengths (c .loop .tally) (c .before .before .before .before .before .before .before .before .before .args .t) (c .loop .inv .0) (c .before .before .before .before .before .before .before .before .before .pre)
 
 -- what is left in the loop comes to what the whole block comes to
 left : (c : tie.At-loop Inv-loop μ-loop) → let g = c .before .before .before .before .before .before .before .before .before .args in let l = c .loop in let item = itemIn (g .counts .now) (g .nexts .now) (g .heads .now) in
@@ -85,13 +81,13 @@ enum-told-3 : tie.Need-enum-told-3 Inv-loop μ-loop
 enum-told-3 c = search needs
 
 same-length-7 : tie.Need-same-length-7 Inv-loop μ-loop
-same-length-7 c = c .before .before .before .before .before .before .before .before .enter .kept .1 .1 .1 .0 ∙ lengths (c .before .before .before .before .before .before .before .before .before .before .before .before .before .before .before .before .before) .0
+same-length-7 c = c .before .before .before .before .before .before .before .before .enter .kept .1 .1 .1 .0 ∙ lengths (c .before .before .before .before .before .before .before .before .before .before .before .before .before .before .before .before .before) .of-marks
 
 same-length-8 : tie.Need-same-length-8 Inv-loop μ-loop
-same-length-8 c = c .before .before .before .before .before .before .before .before .enter .kept .1 .1 .1 .1 .0 ∙ lengths (c .before .before .before .before .before .before .before .before .before .before .before .before .before .before .before .before .before) .1
+same-length-8 c = c .before .before .before .before .before .before .before .before .enter .kept .1 .1 .1 .1 .0 ∙ lengths (c .before .before .before .before .before .before .before .before .before .before .before .before .before .before .before .before .before) .of-queue
 
 same-length-9 : tie.Need-same-length-9 Inv-loop μ-loop
-same-length-9 c = c .before .before .before .before .before .before .before .before .enter .kept .1 .1 .1 .1 .1 .0 ∙ lengths (c .before .before .before .before .before .before .before .before .before .before .before .before .before .before .before .before .before) .2
+same-length-9 c = c .before .before .before .before .before .before .before .before .enter .kept .1 .1 .1 .1 .1 .0 ∙ lengths (c .before .before .before .before .before .before .before .before .before .before .before .before .before .before .before .before .before) .of-parents
 
 returns-3 : tie.Need-returns-3 Inv-loop μ-loop
 returns-3 c =

@@ -1,11 +1,10 @@
 use mathlib.Core.Path.{_≡_, sym, _∙_}
 use Prim.Native.Nat.{_-_}
 use native.Mathlib.Omega.{arith}
-use lib.ListN.{length}
 use Rattle.laws.specs.Chains.{gathered-none, gathered-end}
 use Rattle.anodes.specs.Loaded.{anodesFrom}
 use Rattle.tree.specs.Steps.{dirMade, itemIn, itemsAlong, itemsWith, entering, Room}
-use Rattle.tree.proofs.Laws.{enter-none, along-stop, along-step}
+use Rattle.tree.proofs.Laws.{SameLengths, same-lengths, enter-none, along-stop, along-step}
 use borrow.Author.Needs.{needs}
 use Rattle.tree.proofs.enter_directory.Statement.{statement}
 use Rattle.tree.proofs.enter_directory.Tie as tie
@@ -19,11 +18,8 @@ abbrev μ-loop : tie.MeasureT-loop
 μ-loop image counts firsts nexts heads marks₀ queue₀ parents₀ head parent tally₀ at₀ fuel₀ marks queue parents tally at fuel = fuel
 
 -- the tables in the loop are as long as those that were lent
-lengths : (c : tie.At-loop Inv-loop μ-loop) → let g = c .before .before .before .before .before .before .before .before .before .before .args in let l = c .loop in (length (l .marks) ≡ length (g .marks .now)) × (length (l .queue) ≡ length (g .queue .now)) × (length (l .parents) ≡ length (g .parents .now))
-lengths c =
-    let i = c .loop .inv .0 in
-    let p = c .before .before .before .before .before .before .before .before .before .before .pre in
-    (i .0 ∙ sym (p .0), i .1 ∙ sym (p .1), i .2 ∙ sym (p .2))
+lengths : (c : tie.At-loop Inv-loop μ-loop) → let g = c .before .before .before .before .before .before .before .before .before .before .args in let l = c .loop in SameLengths (l .marks) (l .queue) (l .parents) (g .marks .now) (g .queue .now) (g .parents .now)
+lengths c = same-lengths (c .loop .tally) (c .before .before .before .before .before .before .before .before .before .before .args .t) (c .loop .inv .0) (c .before .before .before .before .before .before .before .before .before .before .pre)
 
 cast-at : tie.Need-cast-at Inv-loop μ-loop
 cast-at c = search needs
@@ -56,13 +52,13 @@ enum-told : tie.Need-enum-told Inv-loop μ-loop
 enum-told c = search needs
 
 same-length-4 : tie.Need-same-length-4 Inv-loop μ-loop
-same-length-4 c = c .before .before .before .before .before .before .before .before .enter-anode .kept .1 .1 .1 .1 .1 .0 ∙ lengths (c .before .before .before .before .before .before .before .before .before .before .before .before .before .before) .0
+same-length-4 c = c .before .before .before .before .before .before .before .before .enter-anode .kept .1 .1 .1 .1 .1 .0 ∙ lengths (c .before .before .before .before .before .before .before .before .before .before .before .before .before .before) .of-marks
 
 same-length-5 : tie.Need-same-length-5 Inv-loop μ-loop
-same-length-5 c = c .before .before .before .before .before .before .before .before .enter-anode .kept .1 .1 .1 .1 .1 .1 .0 ∙ lengths (c .before .before .before .before .before .before .before .before .before .before .before .before .before .before) .1
+same-length-5 c = c .before .before .before .before .before .before .before .before .enter-anode .kept .1 .1 .1 .1 .1 .1 .0 ∙ lengths (c .before .before .before .before .before .before .before .before .before .before .before .before .before .before) .of-queue
 
 same-length-6 : tie.Need-same-length-6 Inv-loop μ-loop
-same-length-6 c = c .before .before .before .before .before .before .before .before .enter-anode .kept .1 .1 .1 .1 .1 .1 .1 .0 ∙ lengths (c .before .before .before .before .before .before .before .before .before .before .before .before .before .before) .2
+same-length-6 c = c .before .before .before .before .before .before .before .before .enter-anode .kept .1 .1 .1 .1 .1 .1 .1 .0 ∙ lengths (c .before .before .before .before .before .before .before .before .before .before .before .before .before .before) .of-parents
 
 returns-2 : tie.Need-returns-2 Inv-loop μ-loop
 unfolding itemsWith

@@ -2,10 +2,10 @@ use mathlib.Core.Path.{_≡_, sym, _∙_}
 use Prim.Native.Nat.{_+_, _-_, _≤_}
 use native.Mathlib.Omega.{arith}
 use mathlib.Core.List.{[]}
-use lib.ListN.{length, take, drop}
+use lib.ListN.{getD, take, drop}
 use Rattle.anodes.specs.Loaded.{anodesFrom}
-use Rattle.tree.specs.Steps.{itemIn, itemsWith, runFrom, queueOf, Room}
-use Rattle.tree.proofs.Laws.{marked-most, run-end, run-stop, run-step}
+use Rattle.tree.specs.Steps.{dirMade, itemIn, itemsWith, runFrom, queueOf, entering, progress, tallyMade, Room}
+use Rattle.tree.proofs.Laws.{SameLengths, same-lengths, marked-most, run-end, run-stop, run-step}
 use borrow.Author.Needs.{needs}
 use Rattle.tree.proofs.walk_queue.Statement.{statement}
 use Rattle.tree.proofs.walk_queue.Tie as tie
@@ -20,11 +20,14 @@ abbrev μ-loop : tie.MeasureT-loop
 μ-loop image counts firsts nexts heads marks₀ queue₀ parents₀ tally₀ first₀ marks queue parents tally first = 3444 - first
 
 -- the tables in the loop are as long as those that were lent
-lengths : (c : tie.At-loop Inv-loop μ-loop) → let g = c .before .before .before .before .before .before .before .before .before .args in let l = c .loop in (length (l .marks) ≡ length (g .marks .now)) × (length (l .queue) ≡ length (g .queue .now)) × (length (l .parents) ≡ length (g .parents .now))
-lengths c =
-    let i = c .loop .inv .0 in
-    let p = c .before .before .before .before .before .before .before .before .before .pre in
-    (i .0 ∙ sym (p .0), i .1 ∙ sym (p .1), i .2 ∙ sym (p .2))
+lengths : (c : tie.At-loop Inv-loop μ-loop) → let g = c .before .before .before .before .before .before .before .before .before .args in let l = c .loop in SameLengths (l .marks) (l .queue) (l .parents) (g .marks .now) (g .queue .now) (g .parents .now)
+lengths c = same-lengths (c .loop .tally) (tallyMade 1 0) (c .loop .inv .0) (c .before .before .before .before .before .before .before .before .before .pre)
+
+-- what the directory first in the queue comes to
+entered : (c : tie.After-enter-directory Inv-loop μ-loop) → let g = c .before .before .before .before .before .before .before .before .before .before .before .before .before .before .before .before .before .before .before .args in let l = c .before .before .before .before .before .before .before .before .before .before .loop in let r = c .enter-directory in let head = getD (l .queue) (l .first) 0 in
+    entering (l .tally) (l .marks) (l .queue) (l .parents) head (itemsWith (itemIn (g .counts .now) (g .nexts .now) (g .heads .now)) (g .image .now) (anodesFrom (g .counts .now) (g .firsts .now) (g .nexts .now)) (dirMade head (getD (l .parents) (l .first) 0)))
+    ≡ progress (r .result) (r .last .1 .1 .1 .1 .1 .0) (r .last .1 .1 .1 .1 .1 .1 .0) (r .last .1 .1 .1 .1 .1 .1 .1 .0)
+entered c = rw (c .before .before .before .before .before .before .entry .ensures, c .before .before .before .before .entry2 .ensures) at (sym (c .enter-directory .ensures .0))
 
 loop-holds : tie.Need-loop-holds Inv-loop μ-loop
 loop-holds c = search needs
@@ -45,20 +48,20 @@ enum-known-step-2 : tie.Need-enum-known-step-2 Inv-loop μ-loop
 enum-known-step-2 c = search needs
 
 same-length : tie.Need-same-length Inv-loop μ-loop
-same-length c = c .before .before .before .before .before .before .before .before .before .enter-directory .kept .1 .1 .1 .1 .1 .0 ∙ lengths (c .before .before .before .before .before .before .before .before .before .before .before .before .before .before .before .before .before .before .before) .0
+same-length c = c .before .before .before .before .before .before .before .before .before .enter-directory .kept .1 .1 .1 .1 .1 .0 ∙ lengths (c .before .before .before .before .before .before .before .before .before .before .before .before .before .before .before .before .before .before .before) .of-marks
 
 same-length-2 : tie.Need-same-length-2 Inv-loop μ-loop
-same-length-2 c = c .before .before .before .before .before .before .before .before .before .enter-directory .kept .1 .1 .1 .1 .1 .1 .0 ∙ lengths (c .before .before .before .before .before .before .before .before .before .before .before .before .before .before .before .before .before .before .before) .1
+same-length-2 c = c .before .before .before .before .before .before .before .before .before .enter-directory .kept .1 .1 .1 .1 .1 .1 .0 ∙ lengths (c .before .before .before .before .before .before .before .before .before .before .before .before .before .before .before .before .before .before .before) .of-queue
 
 same-length-3 : tie.Need-same-length-3 Inv-loop μ-loop
-same-length-3 c = c .before .before .before .before .before .before .before .before .before .enter-directory .kept .1 .1 .1 .1 .1 .1 .1 .0 ∙ lengths (c .before .before .before .before .before .before .before .before .before .before .before .before .before .before .before .before .before .before .before) .2
+same-length-3 c = c .before .before .before .before .before .before .before .before .before .enter-directory .kept .1 .1 .1 .1 .1 .1 .1 .0 ∙ lengths (c .before .before .before .before .before .before .before .before .before .before .before .before .before .before .before .before .before .before .before) .of-parents
 
 returns : tie.Need-returns Inv-loop μ-loop
 returns c =
     let l = c .before .before .before .before .before .before .before .before .before .before .before .before .before .before .before .before .before .before .before .loop in
     let g = c .before .step2 .given in
     let room = marked-most (l .marks) in
-    let e = rw (c .before .before .before .before .before .before .before .before .before .before .before .before .before .before .before .entry .ensures, c .before .before .before .before .before .before .before .before .before .before .before .before .before .entry2 .ensures, g .1) at (sym (c .before .before .before .before .before .before .before .before .before .enter-directory .ensures .0)) in
+    let e = rw (g .1) at (entered (c .before .before .before .before .before .before .before .before .before)) in
     sym (run-stop _ _ _ _ _ _ _ _ (3444 - (l .first + 1)) (omega arith) (c .before .before .before .before .before .before .before .before .before .before .before .before .before .before .before .before .before .if1 .taken) _ e) ∙ l .inv .2
 
 add-first : tie.Need-add-first Inv-loop μ-loop
@@ -74,7 +77,7 @@ loop-again c =
     let l = c .before .before .before .before .before .before .before .before .before .before .before .before .before .before .before .before .before .before .before .loop in
     let g = c .before .step .given in
     let room = marked-most (l .marks) in
-    let e = rw (c .before .before .before .before .before .before .before .before .before .before .before .before .before .before .before .entry .ensures, c .before .before .before .before .before .before .before .before .before .before .before .before .before .entry2 .ensures, g .1) at (sym (c .before .before .before .before .before .before .before .before .before .enter-directory .ensures .0)) in (
+    let e = rw (g .1) at (entered (c .before .before .before .before .before .before .before .before .before)) in (
       (search needs, search needs, search needs, rw (g .1) at (c .before .before .before .before .before .before .before .before .before .enter-directory .ensures .1)),
       omega arith,
       sym (run-step _ _ _ _ _ _ _ _ (3444 - (l .first + 1)) (omega arith) (c .before .before .before .before .before .before .before .before .before .before .before .before .before .before .before .before .before .if1 .taken) _ _ _ e) ∙ l .inv .2,

@@ -1,6 +1,6 @@
-use mathlib.Core.Path.{sym, _∙_}
+use mathlib.Core.Path.{_≡_, sym, _∙_}
 use mathlib.Core.Bool.{true, false}
-use lib.ListN.{length-set}
+use lib.ListN.{length, length-set}
 use Rattle.anodes.specs.Loaded.{anodesFrom}
 use Rattle.tree.proofs.Rules.{Says, start-fits, answered}
 use borrow.Author.Needs.{needs}
@@ -13,6 +13,10 @@ said c =
     let s = c .before .before .before .before .before .before .before .before .before .before .before in
     let w = c .walk-queue in
     answered _ _ _ _ _ (s .pre .0 .1 .1) (s .pre .0 .0) (s .args .queue .now) (s .args .parents .now) (s .pre .1 .0) (s .pre .1 .1) (w .result) (w .last .1 .1 .1 .1 .1 .0) (w .last .1 .1 .1 .1 .1 .1 .0) (w .last .1 .1 .1 .1 .1 .1 .1 .0) (w .ensures)
+
+-- both lent tables keep their lengths
+lengths : (c : tie.After-walk-queue) → let g = c .before .before .before .before .before .before .before .before .before .before .before .args in let w = c .walk-queue in (length (w .last .1 .1 .1 .1 .1 .1 .0) ≡ length (g .queue .now)) × (length (w .last .1 .1 .1 .1 .1 .1 .1 .0) ≡ length (g .parents .now))
+lengths c = (c .walk-queue .kept .1 .1 .1 .1 .1 .1 .0 ∙ simp length-set, c .walk-queue .kept .1 .1 .1 .1 .1 .1 .1 .0 ∙ simp length-set)
 
 array-write-marks : tie.Need-array-write-marks
 array-write-marks c = search needs
@@ -33,10 +37,10 @@ enum-told : tie.Need-enum-told
 enum-told c = search needs
 
 same-length : tie.Need-same-length
-same-length c = c .before .before .before .before .before .before .before .walk-queue .kept .1 .1 .1 .1 .1 .1 .0 ∙ simp length-set
+same-length c = lengths (c .before .before .before .before .before .before .before) .0
 
 same-length-2 : tie.Need-same-length-2
-same-length-2 c = c .before .before .before .before .before .before .before .walk-queue .kept .1 .1 .1 .1 .1 .1 .1 .0 ∙ simp length-set
+same-length-2 c = lengths (c .before .before .before .before .before .before .before) .1
 
 returns : tie.Need-returns
 returns c = let e = c .enum-told .given .1 in rw e (rw e at (said (c .before .before .before .before .before .before .before)), (tt, tt))
@@ -51,10 +55,10 @@ any-unnamed-requires : tie.Need-any-unnamed-requires
 any-unnamed-requires c κs = search needs
 
 same-length-3 : tie.Need-same-length-3
-same-length-3 c = c .before .before .before .before .before .before .before .before .before .before .walk-queue .kept .1 .1 .1 .1 .1 .1 .0 ∙ simp length-set
+same-length-3 c = lengths (c .before .before .before .before .before .before .before .before .before .before) .0
 
 same-length-4 : tie.Need-same-length-4
-same-length-4 c = c .before .before .before .before .before .before .before .before .before .before .walk-queue .kept .1 .1 .1 .1 .1 .1 .1 .0 ∙ simp length-set
+same-length-4 c = lengths (c .before .before .before .before .before .before .before .before .before .before) .1
 
 returns-2 : tie.Need-returns-2
 returns-2 c =
@@ -62,10 +66,10 @@ returns-2 c =
     (sym (s .0 true (sym (c .before .any-unnamed .ensures) ∙ c .if1 .taken)), (tt, tt))
 
 same-length-5 : tie.Need-same-length-5
-same-length-5 c = c .before .before .before .before .before .before .before .before .before .before .walk-queue .kept .1 .1 .1 .1 .1 .1 .0 ∙ simp length-set
+same-length-5 c = lengths (c .before .before .before .before .before .before .before .before .before .before) .0
 
 same-length-6 : tie.Need-same-length-6
-same-length-6 c = c .before .before .before .before .before .before .before .before .before .before .walk-queue .kept .1 .1 .1 .1 .1 .1 .1 .0 ∙ simp length-set
+same-length-6 c = lengths (c .before .before .before .before .before .before .before .before .before .before) .1
 
 returns-3 : tie.Need-returns-3
 returns-3 c =
