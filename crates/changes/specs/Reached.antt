@@ -9,8 +9,7 @@ use native.Mathlib.Omega.{arith}
 use lib.ListN.{length}
 use Rattle.disk.specs.Blocks.{blockOf}
 use Rattle.disk.proofs.Laws.{length-blockOf}
-use Rattle.directory.proofs.Laws.{FoundAt}
-use Rattle.rules.specs.Counting.{oneAt, sumList, times, anyIn}
+use Rattle.rules.specs.Counting.{oneAt, sumList, times, anyIn, gather}
 use Rattle.rules.specs.Anodes.{Anodes, limit, anodesOf}
 use Rattle.rules.specs.Chains.{chainOf, heads, run, blocksOf, blockCount}
 use Rattle.rules.specs.Walk.{Dir, Entered, Item, entriesIn, isBlockOf, blocksFor, itemOf, broken, itemsAt, itemsBy, reachedDirs}
@@ -167,13 +166,16 @@ module _ {img : List ℕ} {h : ℕ} {e : Entered} (f : EntryFacts img h e) where
   unfolding entriesIn
   block-entry = record { whole = rw (f .in-block) (f .block-facts .whole); unbroken = rw (f .in-block) (f .block-facts .unbroken); parted = rw (f .in-block) (f .member); place = omega arith }
 
+-- a sum over the list that g gives for a member is within that over all of them
+pub gather-part : {X Y : Type 0} (g : X → List Y) (f : Y → ℕ) (x : X) (l : List X) → Member x l → sumList f (g x) ≤ sumList f (gather g l)
+gather-part g f x l m = omega (arith, gather-sum g f l, member-sum (λ y. sumList f (g y)) x l m)
+
 -- the one block of an anode with count 1 is a block of its chain
 pub block-on : (s : Anodes) (h a : ℕ) → Member a (chainOf (s .next) limit h) → s .count a ≡ 1 → 0 < times (s .block a) (blocksOf s h)
 unfolding blocksOf times run
 block-on s h a on one = omega (
   arith,
-  gather-sum (λ b. run (s .block b) (s .count b)) (λ y. oneAt y (s .block a)) (chainOf (s .next) limit h),
-  member-sum (λ b. sumList (λ y. oneAt y (s .block a)) (run (s .block b) (s .count b))) a (chainOf (s .next) limit h) on,
+  gather-part (λ b. run (s .block b) (s .count b)) (λ y. oneAt y (s .block a)) a (chainOf (s .next) limit h) on,
   here,
 )
   where
