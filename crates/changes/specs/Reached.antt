@@ -4,7 +4,7 @@ use mathlib.Core.Path.{_≡_, refl, sym, ap, _∙_}
 use mathlib.Core.Logic.{_≢_, _⊎_, inl, inr}
 use mathlib.Core.Bool.{Bool, true, false, true≢false}
 use mathlib.Core.List.{List, [], _∷_, map}
-use mathlib.Core.Option.{some}
+use mathlib.Core.Option.{some, Option·none-ne-some}
 use native.Mathlib.Omega.{arith}
 use lib.ListN.{length}
 use Rattle.disk.specs.Blocks.{blockOf}
@@ -34,7 +34,7 @@ use Rattle.changes.specs.FoundEntries.{Standing, standing-found, entry-p
 
 first-member : (img name : List ℕ) (l : List Entered) (e : Entered) → firstNamed img name l ≡ some e → Member e l
 unfolding firstNamed
-first-member img name [] e is = absurd (let z : _≡_ {A = ℕ} 0 1 = cc in omega arith)
+first-member img name [] e is = absurd (Option·none-ne-some e is)
 first-member img name (x ∷ l) e is = go (isNamed img name x) is (first-member img name l e)
   where
     go : (t : Bool) → elim t [ true ↦ some x | false ↦ firstNamed img name l ] ≡ some e → (firstNamed img name l ≡ some e → Member e l) → Member e (x ∷ l)
@@ -47,7 +47,7 @@ named-member img s h name e is = first-member img name (entriesOf img s h) e is
 
 pub nth-member : (l : List Entered) (n : ℕ) (e : Entered) → nth l n ≡ some e → Member e l
 unfolding nth
-nth-member [] n e is = absurd (let z : _≡_ {A = ℕ} 0 1 = cc in omega arith)
+nth-member [] n e is = absurd (Option·none-ne-some e is)
 nth-member (x ∷ l) zero e is = ([], l, cc)
 nth-member (x ∷ l) (suc n) e is = member-later e x l (nth-member l n e is)
 
