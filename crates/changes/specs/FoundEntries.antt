@@ -138,6 +138,10 @@ pub record Standing (b : List ℕ) (y at end : ℕ) (e : Entered) : Type 0 where
 pub standing-found : {b : List ℕ} {y at end : ℕ} {e : Entered} → Standing b y at end e → FoundAt b at
 standing-found {b} {at = at} s = found-at b at (s .entry) (s .walked)
 
+-- its place in the image
+pub standing-place : {b : List ℕ} {y at end : ℕ} {e : Entered} → Standing b y at end e → e .place ≡ y * 512 + at
+standing-place s = ap (λ (e : Entered). e .place) (s .is)
+
 -- it ends before a later mark too
 stands-before : {b : List ℕ} {y at end : ℕ} {e : Entered} → Standing b y at end e → (further : ℕ) → end ≤ further → Standing b y at further e
 stands-before s further l = record { entry = s .entry; walked = s .walked; is = s .is; before = omega (arith, s .before, l) }
@@ -157,14 +161,14 @@ first-found b y m at e l i u = elim (unbroken-cases b y m at u) [
 
 -- it stands at the place that it says
 first-here : {b : List ℕ} {y m p : ℕ} {e : Entered} {l : List Entered} → FirstFound b y m p e l → (at : ℕ) → e .place ≡ y * 512 + at → p ≡ at
-first-here o at place = omega (arith, ap (λ (d : Entered). d .place) (o .stands .is), place)
+first-here o at place = omega (arith, standing-place (o .stands), place)
 
 -- no entry stands before the place where they start
 pub place-after : (b : List ℕ) (y : ℕ) (xs : List Entered) (e : Entered) (ys : List Entered) (k at : ℕ) → entriesFrom k b y at ≡ xs ++ (e ∷ ys) →
     anyIn (λ f. f .broken) (entriesFrom k b y at) ≡ false → y * 512 + at ≤ e .place
 unfolding entriesFrom
 place-after b y xs e ys zero at i u = absurd (no-member e (xs, ys, i))
-place-after b y [] e ys (suc m) at i u = omega (arith, ap (λ (d : Entered). d .place) (first-found b y m at e ys i u .stands .is))
+place-after b y [] e ys (suc m) at i u = omega (arith, standing-place (first-found b y m at e ys i u .stands))
 place-after b y (x ∷ xs) e ys (suc m) at i u = let o = first-found b y m at x (xs ++ (e ∷ ys)) i u in omega (arith, place-after b y xs e ys m (at + getD b at 0) (o .rest) (o .unbroken))
 
 -- the entries from p on, passed up to e at its place

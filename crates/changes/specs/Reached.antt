@@ -1,5 +1,5 @@
 -- Reached directories of an accepted image: what is known of their blocks and of their entries.
-use Prim.Native.Nat.{ℕ, zero, suc, _+_, _*_, _/_, _%_, _≤_, _<_}
+use Prim.Native.Nat.{ℕ, zero, suc, _/_, _%_, _≤_, _<_}
 use mathlib.Core.Path.{_≡_, refl, sym, ap, _∙_}
 use mathlib.Core.Logic.{_≢_, _⊎_, inl, inr}
 use mathlib.Core.Bool.{Bool, true, false, true≢false}
@@ -28,7 +28,7 @@ use Rattle.laws.specs.Whole.{Whole, counts-head, not-dir, dir-heads, named-head
 use Rattle.laws.specs.Members.{Member, member-later, member-each, member-sum, none-pass, member-gather, member-times}
 use Rattle.frames.specs.DisjointBlocks.{DataBlock, chain-block}
 use Rattle.changes.specs.Image.{WholeImage, headIn, sideIn, AcceptedImage, accepted-whole, headed-named, headed-reached, reached-some, ReachedDir}
-use Rattle.changes.specs.FoundEntries.{Standing, standing-found, entry-place, BlockEntry}
+use Rattle.changes.specs.FoundEntries.{Standing, standing-place, entry-place, BlockEntry}
 
 -- ---- lookups
 
@@ -224,17 +224,14 @@ module _ {img : List ℕ} {h : ℕ} (r : ReachedDir img h) where
 
   -- an entry of one of its blocks stands in that block
   pub place-in : (a : ℕ) → Member a (chainOf (anodesOf img .next) limit h) → (e : Entered) → Member e (entriesIn img (anodesOf img .block a)) →
-      (at : ℕ) × (e .place ≡ anodesOf img .block a * 512 + at) × FoundAt (blockOf img (anodesOf img .block a)) at
+      (at : ℕ) × (16 ≤ at) × Standing (blockOf img (anodesOf img .block a)) (anodesOf img .block a) at 510 e
   unfolding entriesIn
-  place-in a on e m =
-      let y = anodesOf img .block a in
-      let p = entry-place (blockOf img y) y 28 16 e m (dir-block a on .unbroken) in
-      (p .0, ap (λ (c : Entered). c .place) (p .2 .is), standing-found (p .2))
+  place-in a on e m = entry-place (blockOf img (anodesOf img .block a)) (anodesOf img .block a) 28 16 e m (dir-block a on .unbroken)
 
   module _ (e : Entered) (member : Member e (entriesOf img (anodesOf img) h)) where
     -- an entry of it
     facts-of : EntryFacts img h e
-    unfolding entriesOf entriesIn
+    unfolding entriesOf
     facts-of =
         let s = anodesOf img in
         let q = member-gather (λ a. entriesIn img (s .block a)) (chainOf (s .next) limit h) e member in
@@ -242,8 +239,8 @@ module _ {img : List ℕ} {h : ℕ} (r : ReachedDir img h) where
         let c : Member a (chainOf (s .next) limit (reached-dir .0 .head)) = rw (reached-dir .2) (q .1) in
         let f = fine w (reached-dir .0) (reached-dir .1) a c e (q .2) in
         let d = counts-head (w .good) (e .anode) (f .2) in
-        let p = entry-place (blockOf img (s .block a)) (s .block a) 28 16 e (q .2) (dir-block a (q .1) .unbroken) in
-        let place : e .place ≡ s .block a * 512 + p .0 = ap (λ (z : Entered). z .place) (p .2 .is) in
+        let p = place-in a (q .1) e (q .2) in
+        let place = standing-place (p .2) in
         let y : e .place / 512 ≡ s .block a = omega (arith, p .2 .before) in
         let at : e .place % 512 ≡ p .0 = omega (arith, p .2 .before) in
         record {

@@ -21,6 +21,7 @@ use Rattle.laws.specs.ChainBlocks.{stands-once}
 use Rattle.laws.specs.Members.{Member, no-member, member-later, member-append, member-left, member-right, member-gather, member-times, gather-congr, map-members, map-kept}
 use Rattle.frames.specs.Kept.{entriesIn-kept}
 use Rattle.frames.specs.DisjointBlocks.{DataBlock}
+use Rattle.changes.specs.FoundEntries.{standing-found, standing-place}
 use Rattle.changes.specs.Reached.{reached-not-1, dir-block, place-in, not-file}
 use Rattle.changes.specs.Gap.{lowered, bytes-earlier, bytes-later}
 use Rattle.changes.specs.EntryBytes.{entryBytes, bytes-at, with-length}
@@ -70,7 +71,9 @@ module _ {img : List ℕ} {e : Entered} {t : Anodes} {ys : List ℕ} (p : Planne
 
   -- an entry of the block
   in-block : (f : Entered) → Member f (entriesIn img (y p)) → (k : ℕ) × (f .place ≡ y p * 512 + k) × FoundAt (b p) k
-  in-block f m = rw (← (facts p .in-block)) at (place-in (p .entry .directory) (facts p .a₀) (facts p .member-chain) f (rw (facts p .in-block) at m))
+  in-block f m =
+      let q = rw (← (facts p .in-block)) at (place-in (p .entry .directory) (facts p .a₀) (facts p .member-chain) f (rw (facts p .in-block) at m)) in
+      (q .0, standing-place (q .2), standing-found (q .2))
 
   -- an entry whose bytes the closed block has, at its place or an earlier one
   bytes-moved : (place place′ k k′ : ℕ) → place ≡ y p * 512 + k → place′ ≡ y p * 512 + k′ → k′ ≤ k → FoundAt (b p) k →
@@ -135,7 +138,7 @@ module _ {img : List ℕ} {e : Entered} {t : Anodes} {ys : List ℕ} (p : Planne
       let q = member-gather old l f m in
       let u = o (q .0) (q .1) in
       let i = place-in (p .entry .directory) (q .0) (u .0) f (q .2) in
-      let in-a : f .place / 512 ≡ s .block (q .0) = omega (arith, i .1, i .2 .room) in
+      let in-a : f .place / 512 ≡ s .block (q .0) = omega (arith, standing-place (i .2), i .2 .before) in
       let k = other-anode (q .0) u in
       rw in-a (k .1, rw (kept-data p .block-kept (s .block (q .0)) k))
 
