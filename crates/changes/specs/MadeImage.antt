@@ -33,7 +33,7 @@ use Rattle.frames.specs.StoredBlocks.{inBlock-kept, blockOf-inBlock, withBlocks
 use Rattle.frames.specs.StoredBytes.{blockOf-withBlocks}
 use Rattle.frames.specs.DisjointBlocks.{DataBlock}
 use Rattle.laws.specs.Make.{SameContents}
-use Rattle.changes.specs.Image.{GoodOn, WholeImage, headIn, sideIn, accepted-whole, DiskWith, stored-kept, disk-stored, disk-then, not-one, not-among, ReachedDir, reached-headed}
+use Rattle.changes.specs.Image.{GoodOn, AcceptedWhole, headIn, accepted-whole, DiskWith, stored-kept, disk-stored, disk-then, not-one, not-among, ReachedDir, reached-headed}
 use Rattle.changes.specs.FoundEntries.{enteredAt, end-bounds}
 use Rattle.changes.specs.Reached.{DirBlock, reached-not-1, dir-block}
 use Rattle.changes.specs.SingleBlocks.{single-used, single-apart, single-data}
@@ -87,7 +87,7 @@ module _ {img : List ℕ} {blocks anodes h : ℕ} {new : NewEntry} {f : ℕ} {ro
   abbrev pub parent : ReachedDir img h
   parent = fresh-dir (m .fresh)
 
-  pub w : WholeImage img s (headIn img) (sideIn img) dirs
+  pub w : AcceptedWhole img
   w = accepted-whole (parent .image)
 
   pub once : headed h dirs ≡ 1

@@ -15,7 +15,6 @@ use Rattle.rules.specs.Counting.{sumList, times}
 use Rattle.rules.specs.Anodes.{Anodes, limit, exists, anodesOf}
 use Rattle.rules.specs.Chains.{blocksOf, blockCount}
 use Rattle.rules.specs.Walk.{Dir, Entered, entriesIn, isBlockOf, blocksFor, itemsBy, reachedDirs}
-use Rattle.rules.specs.Accepted.{checkAnswer}
 use Rattle.rules.specs.Space.{Plan, refused, planned, rewritten, lowestFree}
 use Rattle.rules.specs.Format.{newDirectoryBlock}
 use Rattle.rules.specs.Changes.{firstRoom, noRoom, neededBlock, entryPlace, NewEntry, entryOf, madeImage, Left, left, leftBy, madeWith, made}
@@ -27,7 +26,7 @@ use Rattle.laws.specs.RefusedSteps.{take-refused}
 use Rattle.laws.specs.Entries.{weighEntry}
 use Rattle.laws.specs.Make.{SameMarks, EntryMore, enter-file, enter-directory}
 use Rattle.laws.specs.NewDirectory.{none-new}
-use Rattle.changes.specs.Image.{WholeOn, whole-accepted, reached-sum, ReachedDir}
+use Rattle.changes.specs.Image.{WholeOn, StillAccepted, whole-accepted, reached-sum, ReachedDir}
 use Rattle.changes.specs.FoundEntries.{enteredAt}
 use Rattle.changes.specs.Reached.{reached-head}
 use Rattle.changes.specs.MadeImage.{Making, spare, parent, first-in, once, plan, before, own-new, orphan, spot, made-disk, entries-made, marks-made, entry-other, its-head, other-entries}
@@ -98,7 +97,7 @@ module _ {img : List ℕ} {blocks anodes h : ℕ} {new : NewEntry} {f : ℕ} {ro
       go false d = enter-file entered (orphan m .2) (spare m .from-6) refl (inr (none-yet d)) (spot m .anode) h (once m) (its-head m) (entriesIn j) (isBlockOf j)
           gained same-marks (is-dir (new .dir) ∙ d)
 
-  image-accepted : checkAnswer j blocks anodes ≡ 0
+  image-accepted : StillAccepted (parent m .image) j
   image-accepted = whole-accepted (parent m .image) (made-disk m) made-whole
 
   -- the directories that were reached are reached, and the new one
@@ -153,10 +152,10 @@ module _ (img : List ℕ) (s : Anodes) (h : ℕ) (new : NewEntry) where
 
 -- what a make leaves of an accepted image is accepted
 pub make-accepted : {img : List ℕ} {h : ℕ} (r : ReachedDir img h) (new : NewEntry) → goodName (new .name) ≡ true → goodComment (new .comment) ≡ true →
-    checkAnswer (made img (anodesOf img) h new .image) (r .image .blocks) (r .image .anodes) ≡ 0
+    StillAccepted (r .image) (made img (anodesOf img) h new .image)
 make-accepted {img} {h} r new named commented =
     let a = r .image in
-    made-cases img (anodesOf img) h new (λ o. checkAnswer (o .image) (a .blocks) (a .anodes) ≡ 0) (a .accepted) (a .accepted)
+    made-cases img (anodesOf img) h new (λ o. StillAccepted a (o .image)) (a .accepted) (a .accepted)
     (λ l between ys e t zs q. image-accepted (record {
       fresh = record { accepted = a .accepted; reached = r .reached; lowest = refl; below = l };
       steps = record { between = between; own = e; roomy = refl; parent = q };

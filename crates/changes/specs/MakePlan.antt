@@ -1,5 +1,5 @@
 -- The anodes that a make plans: a fresh head, a block of its own for a directory, and a block for the parent where it has no room.
-use Prim.Native.Nat.{ℕ, _≤_, _<_}
+use Prim.Native.Nat.{ℕ, _<_}
 use mathlib.Core.Path.{_≡_, refl, sym, ap, _∙_, subst}
 use mathlib.Core.Logic.{_≢_, inl, inr}
 use mathlib.Core.Bool.{Bool, true, false, cond, true≢false}
@@ -26,12 +26,11 @@ use Rattle.laws.specs.Moves.{Shift, shift-none}
 use Rattle.laws.specs.Frame.{shift-chain}
 use Rattle.laws.specs.Each.{Each}
 use Rattle.laws.specs.TreeChanges.{headed}
-use Rattle.laws.specs.Whole.{Whole}
 use Rattle.laws.specs.OwnBlock.{own-filled}
 use Rattle.laws.specs.Orphan.{Orphaned, not-dir, orphan-changed}
 use Rattle.laws.specs.DirectoryTakes.{find-headed, dir-head, dir-not-1, dir-taken, directory-takes}
 use Rattle.laws.specs.Make.{SameContents, contents-same, fresh-stays, fresh-chain, fresh-orphan}
-use Rattle.changes.specs.Image.{GoodOn, ReachedDir}
+use Rattle.changes.specs.Image.{GoodOn, WholeWith, ReachedDir}
 
 -- anodes t on the disk of img, where no entry names the chain of f
 abbrev pub OrphanedOn : List ℕ → ℕ → Anodes → (ℕ → ℕ) → (ℕ → ℕ) → (ℕ → List Entered) → (Dir → ℕ → Bool) → List Dir → Type 0
@@ -89,7 +88,7 @@ pub record MadePlan (img : List ℕ) (s : Anodes) (hd : ℕ → ℕ) (f h : ℕ)
   pub not-own : (a : ℕ) → 0 < times a (grown .new) → a ≢ f
 
 module _ (img : List ℕ) {s : Anodes} {hd sd : ℕ → ℕ} {entries : ℕ → List Entered} {marked : Dir → ℕ → Bool} {dirs : List Dir}
-    (w : Whole (exists img) (diskSize img) (lastReserved img) s (systemOwns img) hd sd entries marked dirs)
+    (w : WholeWith img s hd sd entries marked dirs)
     (f : ℕ) (fA : f < limit) (is-free : FreeAnode (exists img) s f) where
   abbrev begun : Anodes
   begun = rewritten s f 0 65535

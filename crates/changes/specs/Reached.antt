@@ -27,7 +27,7 @@ use Rattle.laws.specs.Entries.{broken-wrong, item-fine, item-anode, item-dir, i
 use Rattle.laws.specs.Whole.{Whole, counts-head, not-dir, dir-heads, named-heads}
 use Rattle.laws.specs.Members.{Member, member-later, member-each, member-sum, none-pass, member-gather, member-times}
 use Rattle.frames.specs.DisjointBlocks.{DataBlock, chain-block}
-use Rattle.changes.specs.Image.{WholeImage, headIn, sideIn, AcceptedImage, accepted-whole, headed-named, headed-reached, reached-some, ReachedDir}
+use Rattle.changes.specs.Image.{AcceptedWhole, headIn, AcceptedImage, accepted-whole, headed-named, headed-reached, reached-some, ReachedDir}
 use Rattle.changes.specs.FoundEntries.{Standing, standing-place, entry-place, BlockEntry}
 
 -- ---- lookups
@@ -183,7 +183,7 @@ block-on s h a on one = omega (
     here = rw one (list-one (λ y. oneAt y (s .block a)) (s .block a) ∙ oneAt-same (s .block a) (s .block a) refl)
 
 module _ {img : List ℕ} {h : ℕ} (r : ReachedDir img h) where
-  w : WholeImage img (anodesOf img) (headIn img) (sideIn img) (reachedDirs img (anodesOf img))
+  w : AcceptedWhole img
   w = accepted-whole (r .image)
 
   some-dir : 0 < headed h (reachedDirs img (anodesOf img))

@@ -11,7 +11,7 @@ use Rattle.rules.specs.Counting.{sumList}
 use Rattle.rules.specs.Anodes.{Anodes, limit, exists, anodesOf}
 use Rattle.rules.specs.Chains.{blockCount, systemOwns}
 use Rattle.rules.specs.Walk.{Dir, Entered, entriesIn, isBlockOf, reachedDirs}
-use Rattle.rules.specs.Accepted.{lastReserved, checkAnswer}
+use Rattle.rules.specs.Accepted.{lastReserved}
 use Rattle.rules.specs.Lookup.{entriesOf, nth, isThere, notEmpty}
 use Rattle.rules.specs.Space.{Plan, refused, giveMany, onChain, dropped}
 use Rattle.rules.specs.Changes.{removedImage, removed}
@@ -26,7 +26,7 @@ use Rattle.laws.specs.RefusedSteps.{gives-refused}
 use Rattle.laws.specs.Make.{SameMarks, EntryMore}
 use Rattle.laws.specs.Remove as Laws
 use Rattle.frames.specs.Kept.{entriesIn-kept, isBlockOf-kept}
-use Rattle.changes.specs.Image.{WholeOn, headIn, sideIn, accepted-whole, whole-accepted, reached-headed}
+use Rattle.changes.specs.Image.{WholeOn, StillAccepted, headIn, sideIn, accepted-whole, whole-accepted, reached-headed}
 use Rattle.changes.specs.Reached.{EntryIn, entry-not-1, entry-facts}
 use Rattle.changes.specs.Gap.{lowered}
 use Rattle.changes.specs.PlannedChange.{left-cases, image, w, facts}
@@ -94,7 +94,7 @@ module _ {img : List ℕ} {e : Entered} {t : Anodes} {ys : List ℕ} (p : Planne
     unfolding entriesOf
     left-whole = Laws.removed (w p) e (e .anode) refl (facts p .a₀) (p .home) (reached-headed (p .entry .directory)) (facts p .block-facts .on-chain) (entriesIn j) lost no-entry (Stores.ran p) (isBlockOf j) same-marks
 
-    pub planned-accepted : checkAnswer j (image p .blocks) (image p .anodes) ≡ 0
+    pub planned-accepted : StillAccepted (image p) j
     planned-accepted = whole-accepted (image p) (Stores.removed-disk p) (left-whole .1)
 
 module _ {img : List ℕ} {h : ℕ} {e : Entered} (m : EntryIn img h e) where
@@ -112,11 +112,11 @@ module _ {img : List ℕ} {h : ℕ} {e : Entered} (m : EntryIn img h e) where
   gives = giveMany limit (exists img) (lastReserved img) (blockCount (anodesOf img) (e .anode)) (anodesOf img) (e .anode)
 
   -- what a removal leaves of an accepted image is accepted, where a directory that goes is empty
-  pub remove-accepted : (e .dir ≡ true → notEmpty img (anodesOf img) e ≡ false) → checkAnswer (removed img (anodesOf img) e .image) (m .directory .image .blocks) (m .directory .image .anodes) ≡ 0
+  pub remove-accepted : (e .dir ≡ true → notEmpty img (anodesOf img) e ≡ false) → StillAccepted (m .directory .image) (removed img (anodesOf img) e .image)
   unfolding removed
   remove-accepted empty =
       let a = m .directory .image in
-      left-cases (λ l. checkAnswer (l .image) (a .blocks) (a .anodes) ≡ 0) img (λ t ys. removedImage img e t) gives (λ k q. a .accepted)
+      left-cases (λ l. StillAccepted a (l .image)) img (λ t ys. removedImage img e t) gives (λ k q. a .accepted)
       (λ t ys q. planned-accepted (record { home = h; entry = m; plan = q }) empty)
 
   -- it answers 0 or 28

@@ -11,14 +11,13 @@ use Rattle.rules.specs.Counting.{times}
 use Rattle.rules.specs.Anodes.{Anodes, limit, anodesOf}
 use Rattle.rules.specs.Chains.{chainOf, blocksOf}
 use Rattle.rules.specs.Walk.{Dir, root, Entered, entriesIn, isBlockOf, itemsFor, itemsAt, itemsBy, itemsOf, done, walk, walkOf, dirsIn, reachedDirs}
-use Rattle.rules.specs.Accepted.{checkAnswer}
 use Rattle.rules.specs.Lookup.{entriesOf, bytesOf, contents}
 use Rattle.rules.specs.Changes.{written}
 use Rattle.laws.specs.Members.{Member, gather-congr}
 use Rattle.frames.specs.Kept.{Kept}
 use Rattle.frames.specs.DisjointBlocks.{DataBlock, chains-apart, chain-block}
 use Rattle.frames.specs.StoredBytes.{BlocksKept, written-kept, bytesOf-written, bytesOf-written-other}
-use Rattle.changes.specs.Image.{WholeOn, WholeImage, headIn, sideIn, AcceptedImage, accepted-whole, accepted-walk, DiskWith, disk-own, not-among, disk-then, whole-accepted, ReachedDir}
+use Rattle.changes.specs.Image.{WholeOn, AcceptedWhole, headIn, sideIn, AcceptedImage, StillAccepted, accepted-whole, accepted-walk, DiskWith, disk-own, not-among, disk-then, whole-accepted, ReachedDir}
 use Rattle.changes.specs.SameItems.{whole-same, walk-same}
 use Rattle.changes.specs.EntryBytes.{entryBytes}
 use Rattle.changes.specs.KeptChains.{same-chain-own, block-same, entries-same, entry-bytes-same}
@@ -37,7 +36,7 @@ module _ {img : List ℕ} {h : ℕ} {e : Entered} (m : EntryIn img h e) (file : 
   abbrev image : AcceptedImage img
   image = m .directory .image
 
-  w : WholeImage img s (headIn img) (sideIn img) (reachedDirs img s)
+  w : AcceptedWhole img
   w = accepted-whole image
 
   facts : EntryFacts img h e
@@ -85,7 +84,7 @@ module _ {img : List ℕ} {h : ℕ} {e : Entered} (m : EntryIn img h e) (file : 
   still-whole = whole-same w (entriesIn j) (isBlockOf j) same-items
 
   -- what a write leaves of an accepted image is accepted
-  pub write-accepted : checkAnswer j (m .directory .image .blocks) (m .directory .image .anodes) ≡ 0
+  pub write-accepted : StillAccepted image j
   write-accepted = whole-accepted image written-disk still-whole
 
   -- ---- what the files hold
