@@ -274,3 +274,7 @@ module _ {img : List ℕ} {h : ℕ} (r : ReachedDir img h) where
 
 pub entry-facts : {img : List ℕ} {h : ℕ} {e : Entered} → EntryIn img h e → EntryFacts img h e
 entry-facts {e = e} m = facts-of (m .directory) e (m .member)
+
+-- a block of its chain is a data block
+pub entry-data : {img : List ℕ} {h : ℕ} {e : Entered} → EntryIn img h e → (y : ℕ) → 0 < times y (blocksOf (anodesOf img) (e .anode)) → DataBlock img y
+entry-data {img} {e = e} m = chain-block img (accepted-whole (m .directory .image) .good) (e .anode) (entry-facts m .head)

@@ -29,8 +29,8 @@ use Rattle.laws.specs.ChainBlocks.{length-blocksOf}
 use Rattle.laws.specs.Members.{member-times}
 use Rattle.frames.specs.StoredBlocks.{inBlock-kept, blockOf-inBlock}
 use Rattle.frames.specs.StoredBytes.{length-gather, blockOf-withBlocks}
-use Rattle.frames.specs.DisjointBlocks.{chain-once, chain-block}
-use Rattle.changes.specs.Reached.{EntryIn}
+use Rattle.frames.specs.DisjointBlocks.{chain-once}
+use Rattle.changes.specs.Reached.{EntryIn, entry-data}
 use Rattle.changes.specs.KeptChains.{contents-left}
 use Rattle.changes.specs.Read.{bytes-long, file-long}
 use Rattle.changes.specs.NewSize.{sized}
@@ -83,7 +83,7 @@ module _ {img : List ℕ} {e : Entered} {new : ℕ} {t : Anodes} {ys : List ℕ}
   off-home y q i = omega (arith, rw i at q, home-alone p .1)
 
   inside : Inside img chain
-  inside y q = chain-block img (w p .good) (e .anode) (facts p .head) y q .inside
+  inside y q = entry-data (p .entry) y q .inside
 
   module _ (less : new ≤ e .size) where
     shorter : (rest : List ℕ) × (chain ≡ blocksOf t (e .anode) ++ rest)
@@ -102,7 +102,7 @@ module _ {img : List ℕ} {e : Entered} {new : ℕ} {t : Anodes} {ys : List ℕ}
     block-left y q =
         let small = le-ltb (e .size) new less in
         let c = still-in y q in
-        size-kept p .block-kept y (off-home y c) ∙ rw (small) (stored p .block-kept y (chain-block img (w p .good) (e .anode) (facts p .head) y c .unheld))
+        size-kept p .block-kept y (off-home y c) ∙ rw (small) (stored p .block-kept y (entry-data (p .entry) y c .unheld))
 
     -- a file that shrinks has its bytes up to the new size
     pub contents-shrunk : contents j t (sized new e) ≡ take new (contents img s e)
@@ -148,7 +148,7 @@ module _ {img : List ℕ} {e : Entered} {new : ℕ} {t : Anodes} {ys : List ℕ}
     -- the others keep their bytes, up to the clearing of the last one's end
     before-tail : (y : ℕ) → 0 < times y chain → blockOf (zeroTaken (withAnodes img t) e new ys) y ≡ blockOf img y
     before-tail y q =
-        taken-kept p .block-kept y (omega (arith, once y, q)) ∙ stored p .block-kept y (chain-block img (w p .good) (e .anode) (facts p .head) y q .unheld)
+        taken-kept p .block-kept y (omega (arith, once y, q)) ∙ stored p .block-kept y (entry-data (p .entry) y q .unheld)
 
     zeros : gather (blockOf j) ys ≡ replicate (length ys * 512) 0
     zeros = gather-zeros (blockOf j) ys taken-zero

@@ -29,7 +29,7 @@ use Rattle.frames.specs.StoredBlocks.{inBlock-kept, blockOf-inBlock, withBlocks
 use Rattle.frames.specs.DisjointBlocks.{DataBlock, chains-apart, chain-block}
 use Rattle.frames.specs.StoredBytes.{BlocksKept}
 use Rattle.changes.specs.Image.{headIn, DiskWith, stored-kept, disk-stored, not-one, not-among, disk-then, ReachedDir}
-use Rattle.changes.specs.Reached.{block-on, reached-not-1, reached-head, dir-block, block-data, not-file}
+use Rattle.changes.specs.Reached.{block-on, reached-not-1, reached-head, dir-block, block-data, not-file, entry-data}
 use Rattle.changes.specs.KeptChains.{SameChain, same-chain-alike, OthersLeft}
 use Rattle.changes.specs.PlannedChange.{PlannedChange, image, w, facts, not-1, off-chain, off-anode}
 use Rattle.changes.specs.ResizePlan.{Resizing, plan-runs, handed-data, handed-apart}
@@ -131,7 +131,7 @@ module _ {img : List ℕ} {e : Entered} {new : ℕ} {t : Anodes} {ys : List ℕ}
 
   only-data : (y : ℕ) → (DataBlock img y → ⊥) → LeftAlone y × (y ≢ e .place / 512)
   only-data y n = (
-    (not-among ys (handed-data img (w p .good) (e .anode) (facts p .head) (not-1 p) steps) y n, not-among chain (chain-block img (w p .good) (e .anode) (facts p .head)) y n),
+    (not-among ys (handed-data img (w p .good) (e .anode) (facts p .head) (not-1 p) steps) y n, not-among chain (entry-data (p .entry)) y n),
     not-one (block-data (facts p)) y n,
   )
 

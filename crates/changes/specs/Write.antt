@@ -15,13 +15,13 @@ use Rattle.rules.specs.Lookup.{entriesOf, bytesOf, contents}
 use Rattle.rules.specs.Changes.{written}
 use Rattle.laws.specs.Members.{Member, gather-congr}
 use Rattle.frames.specs.Kept.{Kept}
-use Rattle.frames.specs.DisjointBlocks.{DataBlock, chains-apart, chain-block}
+use Rattle.frames.specs.DisjointBlocks.{chains-apart}
 use Rattle.frames.specs.StoredBytes.{BlocksKept, written-kept, bytesOf-written, bytesOf-written-other}
 use Rattle.changes.specs.Image.{WholeOn, AcceptedWhole, headIn, sideIn, AcceptedImage, StillAccepted, accepted-whole, accepted-walk, DiskWith, disk-own, not-among, disk-then, whole-accepted, ReachedDir}
 use Rattle.changes.specs.SameItems.{whole-same, walk-same}
 use Rattle.changes.specs.EntryBytes.{entryBytes}
 use Rattle.changes.specs.KeptChains.{same-chain-own, block-same, entries-same, entry-bytes-same}
-use Rattle.changes.specs.Reached.{EntryIn, EntryFacts, member-reached, reached-head, entry-facts, not-file}
+use Rattle.changes.specs.Reached.{EntryIn, EntryFacts, member-reached, reached-head, entry-facts, entry-data, not-file}
 
 -- ---- the image after the write
 
@@ -45,11 +45,8 @@ module _ {img : List ℕ} {h : ℕ} {e : Entered} (m : EntryIn img h e) (file : 
   kept : Kept (λ y. times y (blocksOf s (e .anode)) ≡ 0) img j
   kept = written-kept img (w .good) e (facts .head) offset bytes
 
-  only-data : (y : ℕ) → 0 < times y (blocksOf s (e .anode)) → DataBlock img y
-  only-data = chain-block img (w .good) (e .anode) (facts .head)
-
   pub written-disk : DiskWith img s j
-  written-disk = disk-then (disk-own img) kept (not-among (blocksOf s (e .anode)) only-data)
+  written-disk = disk-then (disk-own img) kept (not-among (blocksOf s (e .anode)) (entry-data m))
 
   -- no block of a reached directory is written
   dir-kept : {k : ℕ} → ReachedDir img k → BlocksKept img j s k
