@@ -142,6 +142,10 @@ module _ (b : List ℕ) (at len end : ℕ) (whole : length b ≡ 512) (fits : at
 
 -- ---- an entry of a directory block goes
 
+-- the block with the gap of the entry at a place closed
+abbrev pub entryClosed : List ℕ → ℕ → List ℕ
+entryClosed b at = gapClosed b at (getD b at 0) (entriesEnd b)
+
 module _ {b : List ℕ} {y at : ℕ} {e : Entered} (u : BlockEntry b y at e) where
   from-16 : 16 ≤ at
   from-16 = omega (arith, u .place, place-after b y (u .parted .0) e (u .parted .1) 28 16 (u .parted .2) (u .unbroken))
@@ -149,14 +153,14 @@ module _ {b : List ℕ} {y at : ℕ} {e : Entered} (u : BlockEntry b y at e) whe
   abbrev fits : at + getD b at 0 ≤ entriesEnd b
   fits = block-standing u .before
 
-  pub length-closed : length (gapClosed b at (getD b at 0) (entriesEnd b)) ≡ 512
+  pub length-closed : length (entryClosed b at) ≡ 512
   length-closed = length-gapClosed b at (getD b at 0) (entriesEnd b) (u .whole) fits (end-within u)
 
-  pub head-closed : directoryHeadIn (gapClosed b at (getD b at 0) (entriesEnd b)) ≡ directoryHeadIn b
+  pub head-closed : directoryHeadIn (entryClosed b at) ≡ directoryHeadIn b
   head-closed = gap-head b at (getD b at 0) (entriesEnd b) (u .whole) fits (end-within u) from-16
 
   -- the entries that stay
-  pub entries-closed : entriesFrom 28 (gapClosed b at (getD b at 0) (entriesEnd b)) y 16 ≡ u .parted .0 ++ map (lowered (getD b at 0)) (u .parted .1)
+  pub entries-closed : entriesFrom 28 (entryClosed b at) y 16 ≡ u .parted .0 ++ map (lowered (getD b at 0)) (u .parted .1)
   unfolding entriesEnd
   entries-closed =
       let len = getD b at 0 in
@@ -166,13 +170,13 @@ module _ {b : List ℕ} {y at : ℕ} {e : Entered} (u : BlockEntry b y at e) whe
       (gap-zeros b at len end (u .whole) fits within) (omega (arith, standing-found (block-standing u) .long)) e (u .parted .1) (u .place) refl (u .parted .0) 28 16 (u .parted .2) (u .unbroken) (omega arith) refl
 
   -- the bytes of an entry that stays
-  pub bytes-earlier : (f : Entered) → Member f (u .parted .0) → (k : ℕ) → f .place ≡ y * 512 + k → take (getD b k 0) (drop k (gapClosed b at (getD b at 0) (entriesEnd b))) ≡ take (getD b k 0) (drop k b)
+  pub bytes-earlier : (f : Entered) → Member f (u .parted .0) → (k : ℕ) → f .place ≡ y * 512 + k → take (getD b k 0) (drop k (entryClosed b at)) ≡ take (getD b k 0) (drop k b)
   bytes-earlier f (us, vs, i) k p =
       let before = place-order b y k f e p vs (u .parted .1) us 28 16 (u .parted .2 ∙ rw i (append-assoc us (f ∷ vs) (e ∷ u .parted .1))) (u .unbroken) in
       bytes-before b at (getD b at 0) (entriesEnd b) (u .whole) fits (end-within u) k (getD b k 0) (omega (arith, before, u .place))
 
   pub bytes-later : (f : Entered) → Member f (u .parted .1) → (k : ℕ) → f .place ≡ y * 512 + k →
-      (at + getD b at 0 ≤ k) × (take (getD b k 0) (drop (k - getD b at 0) (gapClosed b at (getD b at 0) (entriesEnd b))) ≡ take (getD b k 0) (drop k b))
+      (at + getD b at 0 ≤ k) × (take (getD b k 0) (drop (k - getD b at 0) (entryClosed b at)) ≡ take (getD b k 0) (drop k b))
   unfolding entriesEnd
   bytes-later f (us, vs, i) k p =
       let xs = u .parted .0 in
