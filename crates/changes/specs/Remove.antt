@@ -8,12 +8,11 @@ use native.Mathlib.Omega.{arith}
 use lib.ListN.{getD}
 use Rattle.disk.specs.Blocks.{blockOf}
 use Rattle.rules.specs.Counting.{sumList}
-use Rattle.rules.specs.Anodes.{Anodes, limit, exists, anodesOf}
+use Rattle.rules.specs.Anodes.{Anodes, limit, anodesOf}
 use Rattle.rules.specs.Chains.{blockCount, systemOwns}
 use Rattle.rules.specs.Walk.{Dir, Entered, entriesIn, isBlockOf, reachedDirs}
-use Rattle.rules.specs.Accepted.{lastReserved}
 use Rattle.rules.specs.Lookup.{entriesOf, nth, isThere, notEmpty}
-use Rattle.rules.specs.Space.{Plan, refused, giveMany, onChain, dropped}
+use Rattle.rules.specs.Space.{refused, onChain, dropped}
 use Rattle.rules.specs.Changes.{removedImage, removed}
 use Rattle.laws.specs.Tests.{same?}
 use Rattle.laws.specs.Sums.{oneAt-same, oneAt-other}
@@ -30,7 +29,7 @@ use Rattle.changes.specs.Image.{WholeOn, StillAccepted, headIn, sideIn, 
 use Rattle.changes.specs.Reached.{EntryIn, entry-not-1, entry-facts}
 use Rattle.changes.specs.Gap.{lowered}
 use Rattle.changes.specs.PlannedChange.{left-cases, image, w, facts}
-use Rattle.changes.specs.RemoveStores.{PlannedRemove, here, kept-data, entries-left, marks-left, apart}
+use Rattle.changes.specs.RemoveStores.{removePlan, PlannedRemove, here, kept-data, entries-left, marks-left, apart}
 use Rattle.changes.specs.RemoveStores as Stores
 
 module _ {img : List ℕ} {e : Entered} {t : Anodes} {ys : List ℕ} (p : PlannedRemove img e t ys) where
@@ -101,25 +100,22 @@ module _ {img : List ℕ} {h : ℕ} {e : Entered} (m : EntryIn img h e) where
   -- ---- the answers
 
   -- a removal is refused with 28 alone
-  pub remove-refused : (k : ℕ) → giveMany limit (exists img) (lastReserved img) (blockCount (anodesOf img) (e .anode)) (anodesOf img) (e .anode) ≡ refused k → k ≡ 28
+  pub remove-refused : (k : ℕ) → removePlan img e ≡ refused k → k ≡ 28
   remove-refused k q =
       let g = accepted-whole (m .directory .image) .good in
       let f = entry-facts m in
       gives-refused (blockCount (anodesOf img) (e .anode)) (e .anode) (entry-not-1 f) k (anodesOf img) (systemOwns img) (headIn img) (sideIn img) g (f .head)
       (omega (arith, blocks-count g (e .anode) (f .head))) q
 
-  abbrev gives : Plan
-  gives = giveMany limit (exists img) (lastReserved img) (blockCount (anodesOf img) (e .anode)) (anodesOf img) (e .anode)
-
   -- what a removal leaves of an accepted image is accepted, where a directory that goes is empty
   pub remove-accepted : (e .dir ≡ true → notEmpty img (anodesOf img) e ≡ false) → StillAccepted (m .directory .image) (removed img (anodesOf img) e .image)
   unfolding removed
   remove-accepted empty =
       let a = m .directory .image in
-      left-cases (λ l. StillAccepted a (l .image)) img (λ t ys. removedImage img e t) gives (λ k q. a .accepted)
+      left-cases (λ l. StillAccepted a (l .image)) img (λ t ys. removedImage img e t) (removePlan img e) (λ k q. a .accepted)
       (λ t ys q. planned-accepted (record { home = h; entry = m; plan = q }) empty)
 
   -- it answers 0 or 28
   pub remove-answers : (removed img (anodesOf img) e .answer ≡ 0) ⊎ (removed img (anodesOf img) e .answer ≡ 28)
   unfolding removed
-  remove-answers = left-cases (λ l. (l .answer ≡ 0) ⊎ (l .answer ≡ 28)) img (λ t ys. removedImage img e t) gives (λ k q. inr (remove-refused k q)) (λ t ys q. inl refl)
+  remove-answers = left-cases (λ l. (l .answer ≡ 0) ⊎ (l .answer ≡ 28)) img (λ t ys. removedImage img e t) (removePlan img e) (λ k q. inr (remove-refused k q)) (λ t ys q. inl refl)

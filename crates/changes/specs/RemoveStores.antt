@@ -32,7 +32,7 @@ removePlan img e = giveMany limit (exists img) (lastReserved img) (blockCount (a
 
 -- a removal of an entry of an accepted image, and the steps that were planned
 abbrev pub PlannedRemove : List ℕ → Entered → Anodes → List ℕ → Type 0
-PlannedRemove img e t ys = PlannedChange img e (giveMany limit (exists img) (lastReserved img) (blockCount (anodesOf img) (e .anode)) (anodesOf img) (e .anode) ≡ planned t ys)
+PlannedRemove img e t ys = PlannedChange img e (removePlan img e ≡ planned t ys)
 
 module _ {img : List ℕ} {e : Entered} {t : Anodes} {ys : List ℕ} (p : PlannedRemove img e t ys) where
   abbrev s : Anodes
