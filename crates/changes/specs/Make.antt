@@ -26,6 +26,7 @@ use Rattle.laws.specs.RefusedSteps.{take-refused}
 use Rattle.laws.specs.Entries.{weighEntry}
 use Rattle.laws.specs.Make.{SameMarks, EntryMore, enter-file, enter-directory}
 use Rattle.laws.specs.NewDirectory.{none-new}
+use Rattle.changes.specs.Answers.{StepsAnswer}
 use Rattle.changes.specs.Image.{WholeOn, StillAccepted, whole-accepted, reached-sum, ReachedDir}
 use Rattle.changes.specs.FoundEntries.{enteredAt}
 use Rattle.changes.specs.Reached.{reached-head}
@@ -147,8 +148,8 @@ module _ (img : List ℕ) (s : Anodes) (h : ℕ) (new : NewEntry) where
             taking (planned t zs) q = done l r ys e t zs q
 
   -- it answers 0, 27 or 28
-  pub made-answer : (made img s h new .answer ≡ 0) ⊎ ((made img s h new .answer ≡ 27) ⊎ (made img s h new .answer ≡ 28))
-  made-answer = made-cases (λ o. (o .answer ≡ 0) ⊎ ((o .answer ≡ 27) ⊎ (o .answer ≡ 28))) (inr (inl refl)) (inr (inr refl)) (λ l r ys e t zs q. inl refl)
+  pub made-answer : StepsAnswer (made img s h new .answer)
+  made-answer = made-cases (λ o. StepsAnswer (o .answer)) (inr (inl refl)) (inr (inr refl)) (λ l r ys e t zs q. inl refl)
 
 -- what a make leaves of an accepted image is accepted
 pub make-accepted : {img : List ℕ} {h : ℕ} (r : ReachedDir img h) (new : NewEntry) → goodName (new .name) ≡ true → goodComment (new .comment) ≡ true →

@@ -16,6 +16,7 @@ use Rattle.rules.specs.Changes.{resizePlan, resizedImage, resized}
 use Rattle.laws.specs.Tests.{same?}
 use Rattle.laws.specs.Resize as Laws
 use Rattle.laws.specs.Members.{Member, member-times, gather-congr, map-kept}
+use Rattle.changes.specs.Answers.{StepsAnswer}
 use Rattle.changes.specs.Image.{WholeWith, WholeOn, StillAccepted, accepted-whole, whole-accepted, ReachedDir}
 use Rattle.changes.specs.Reached.{member-reached, EntryIn, entry-not-1, dir-block, entry-facts}
 use Rattle.changes.specs.NamedOnce.{only-here, only-this}
@@ -135,9 +136,9 @@ module _ {img : List ℕ} {h : ℕ} {e : Entered} (m : EntryIn img h e) (new : �
       (λ t ys q. resized-accepted (record { home = h; entry = m; plan = record { file = file; steps = q } }))
 
   -- it answers 0, 27 or 28
-  pub resize-answers : let r = resized img (anodesOf img) e new .answer in (r ≡ 0) ⊎ ((r ≡ 27) ⊎ (r ≡ 28))
+  pub resize-answers : StepsAnswer (resized img (anodesOf img) e new .answer)
   unfolding resized
   resize-answers =
       let f = entry-facts m in
-      left-cases (λ l. (l .answer ≡ 0) ⊎ ((l .answer ≡ 27) ⊎ (l .answer ≡ 28))) img (resizedImage img (anodesOf img) e new) plan
+      left-cases (λ l. StepsAnswer (l .answer)) img (resizedImage img (anodesOf img) e new) plan
       (λ k q. inr (plan-refused img (accepted-whole (m .directory .image) .good) (e .anode) (f .head) (entry-not-1 f) (blocksFor new) k q)) (λ t ys q. inl refl)
