@@ -267,7 +267,8 @@ module _ {img : List ℕ} {blocks anodes h : ℕ} {new : NewEntry} {f : ℕ} {ro
   abbrev place : ℕ
   place = entryPlace room zs
 
-  abbrev entered : Entered
+  -- the new entry, as it stands in its block
+  abbrev pub entered : Entered
   entered = enteredAt (entryOf new f) (entryPlace room zs)
 
   -- the image that a make leaves
