@@ -2,7 +2,6 @@
 use Prim.Native.Nat.{ℕ, zero, suc, _+_, _-_, _*_, _≤_, _<_}
 use mathlib.Core.Path.{_≡_, refl, sym, ap, _∙_}
 use mathlib.Core.Logic.{inl, inr}
-use mathlib.Core.Bool.{false}
 use mathlib.Core.List.{List, _∷_, _++_, map, append-assoc}
 use native.Mathlib.Omega.{arith}
 use lib.ListN.{length, getD, take, drop, replicate, length-append, length-drop, length-replicate, getD-replicate, List·getD-append}
@@ -11,10 +10,9 @@ use Rattle.directory.specs.declared.Entry.{Entry}
 use Rattle.directory.specs.declared.Walked.the-variants.{Found, End}
 use Rattle.directory.specs.Entries.{directoryHeadIn, walkedAt}
 use Rattle.directory.proofs.Laws.{found-at}
-use Rattle.rules.specs.Counting.{anyIn}
 use Rattle.rules.specs.Walk.{Entered, entriesFrom}
 use Rattle.rules.specs.Changes.{endFrom, entriesEnd, gapClosed}
-use Rattle.changes.specs.FoundEntries.{part-same, head-same, walked-same, entry-standing, entries-more, entries-end, unbroken-cases, end-more, end-here, end-bounds, standing-found, place-after, place-order, reaches, BlockEntry, block-standing, end-within}
+use Rattle.changes.specs.FoundEntries.{part-same, head-same, walked-same, entry-standing, entries-more, entries-end, Unbroken, unbroken-cases, end-more, end-here, end-bounds, standing-found, place-after, place-order, reaches, BlockEntry, block-standing, end-within}
 use Rattle.laws.specs.Members.{Member}
 
 -- the same entry, so many bytes earlier
@@ -44,7 +42,7 @@ module _ (b b′ : List ℕ) (y at len end : ℕ) (whole : length b ≡ 512) (wh
       entries-more b′ y (suc m) p x (walked-same b b′ (p + len) p whole whole′ g (omega (arith, g .room)) same ∙ q)
       ∙ rw (first, rest, swap, entries-more b y m (p + len) x q, place)
 
-  moved : (k p : ℕ) → at ≤ p → anyIn (λ e. e .broken) (entriesFrom k b y (p + len)) ≡ false → p + len ≤ 510 → 520 ≤ p + len + 18 * k → endFrom k b (p + len) ≡ end →
+  moved : (k p : ℕ) → at ≤ p → Unbroken (entriesFrom k b y (p + len)) → p + len ≤ 510 → 520 ≤ p + len + 18 * k → endFrom k b (p + len) ≡ end →
       entriesFrom (suc k) b′ y p ≡ map (lowered len) (entriesFrom k b y (p + len))
   moved zero p l u r f e = absurd (omega (arith, r, f))
   moved (suc m) p l u r f e = elim (unbroken-cases b y m (p + len) u) [
@@ -61,7 +59,7 @@ module _ (b b′ : List ℕ) (y at len end : ℕ) (whole : length b ≡ 512) (wh
 
   -- with those before it
   module _ (e : Entered) (ys : List Entered) (place : e .place ≡ y * 512 + at) (its-length : getD b at 0 ≡ len) where
-    closed : (xs : List Entered) (k p : ℕ) → entriesFrom k b y p ≡ xs ++ (e ∷ ys) → anyIn (λ f. f .broken) (entriesFrom k b y p) ≡ false → 520 ≤ p + 18 * k →
+    closed : (xs : List Entered) (k p : ℕ) → entriesFrom k b y p ≡ xs ++ (e ∷ ys) → Unbroken (entriesFrom k b y p) → 520 ≤ p + 18 * k →
         endFrom k b p ≡ end → entriesFrom k b′ y p ≡ xs ++ map (lowered len) ys
     closed xs k p i u f q =
         let r = reaches b y at e place ys xs k p i u in

@@ -34,7 +34,7 @@ use Rattle.frames.specs.StoredBytes.{blockOf-withBlocks}
 use Rattle.frames.specs.DisjointBlocks.{DataBlock}
 use Rattle.laws.specs.Make.{SameContents}
 use Rattle.changes.specs.Image.{GoodOn, AcceptedWhole, headIn, accepted-whole, DiskWith, stored-kept, disk-stored, disk-then, not-one, not-among, ReachedDir, reached-headed}
-use Rattle.changes.specs.FoundEntries.{enteredAt, end-bounds}
+use Rattle.changes.specs.FoundEntries.{enteredAt, Unbroken, end-bounds}
 use Rattle.changes.specs.Reached.{DirBlock, reached-not-1, dir-block}
 use Rattle.changes.specs.SingleBlocks.{single-used, single-apart, single-data}
 use Rattle.changes.specs.NewEntry.{entries-put, head-put, end-new, room-found}
@@ -208,7 +208,7 @@ module _ {img : List ℕ} {blocks anodes h : ℕ} {new : NewEntry} {f : ℕ} {ro
     pub on : 0 < times anode (chainOf (t .next) limit h)
     pub at : entryPlace room zs ≡ t .block anode * 512 + entriesEnd (blockOf before (t .block anode))
     pub fits : entriesEnd (blockOf before (t .block anode)) + len ≤ 510
-    pub unbroken : anyIn (λ e. e .broken) (entriesIn before (t .block anode)) ≡ false
+    pub unbroken : Unbroken (entriesIn before (t .block anode))
 
   -- a block of the directory is that of one of its anodes
   block-anode : (y : ℕ) → 0 < times y (blocksOf s h) → (a : ℕ) × Member a (chainOf (s .next) limit h) × DirBlock img h a × (y ≡ s .block a)

@@ -9,7 +9,7 @@ use native.Mathlib.Omega.{arith}
 use lib.ListN.{length}
 use Rattle.disk.specs.Blocks.{blockOf}
 use Rattle.disk.proofs.Laws.{length-blockOf}
-use Rattle.rules.specs.Counting.{oneAt, sumList, times, anyIn, gather}
+use Rattle.rules.specs.Counting.{oneAt, sumList, times, gather}
 use Rattle.rules.specs.Anodes.{Anodes, limit, anodesOf}
 use Rattle.rules.specs.Chains.{chainOf, heads, run, blocksOf, blockCount}
 use Rattle.rules.specs.Walk.{Dir, Entered, Item, entriesIn, isBlockOf, blocksFor, itemOf, broken, itemsAt, itemsBy, reachedDirs}
@@ -28,7 +28,7 @@ use Rattle.laws.specs.Whole.{Whole, counts-head, not-dir, dir-heads, named-head
 use Rattle.laws.specs.Members.{Member, member-later, member-each, member-sum, none-pass, member-gather, member-times}
 use Rattle.frames.specs.DisjointBlocks.{DataBlock, chain-block}
 use Rattle.changes.specs.Image.{AcceptedWhole, headIn, AcceptedImage, accepted-whole, headed-named, headed-reached, reached-some, ReachedDir}
-use Rattle.changes.specs.FoundEntries.{Standing, standing-place, entry-place, BlockEntry}
+use Rattle.changes.specs.FoundEntries.{Unbroken, Standing, standing-place, entry-place, BlockEntry}
 
 -- ---- lookups
 
@@ -121,7 +121,7 @@ pub record DirBlock (img : List ℕ) (h a : ℕ) : Type 0 where
   pub is-data : DataBlock img (anodesOf img .block a)
   pub whole : length (blockOf img (anodesOf img .block a)) ≡ 512
   -- its entries keep the entry rules
-  pub unbroken : anyIn (λ e. e .broken) (entriesIn img (anodesOf img .block a)) ≡ false
+  pub unbroken : Unbroken (entriesIn img (anodesOf img .block a))
   -- the directory, as it was reached
   pub dir : Dir
   pub dir-head : dir .head ≡ h
@@ -269,7 +269,7 @@ module _ {img : List ℕ} {h : ℕ} (r : ReachedDir img h) where
       member-each (λ d. d .head ≢ e .anode) (reached-dir .0) (reachedDirs img (anodesOf img)) (reached-dir .1) (not-dir w (e .anode) (f .file i)) (reached-dir .2 ∙ q)
 
   -- no entry of it breaks the entry rules
-  pub reached-unbroken : anyIn (λ e. e .broken) (entriesOf img (anodesOf img) h) ≡ false
+  pub reached-unbroken : Unbroken (entriesOf img (anodesOf img) h)
   reached-unbroken = none-pass (λ e. e .broken) (entriesOf img (anodesOf img) h) (λ e m. facts-of e m .unbroken)
 
 pub entry-facts : {img : List ℕ} {h : ℕ} {e : Entered} → EntryIn img h e → EntryFacts img h e
