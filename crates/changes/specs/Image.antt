@@ -61,6 +61,10 @@ sideIn img = headOf limit (cut (anodesOf img .next)) (anodesOf img .block)
 abbrev pub AcceptedWhole : List ℕ → Type 0
 AcceptedWhole img = WholeImage img (anodesOf img) (headIn img) (sideIn img) (reachedDirs img (anodesOf img))
 
+-- the anodes and directories of j, an image of the disk of img, pass 6 to 16
+abbrev AcceptedOn : List ℕ → List ℕ → List Dir → Type 0
+AcceptedOn img j dirs = Accepted (exists img) (diskSize img) (lastReserved img) (anodesOf j) (systemOwns img) (entriesIn j) (isBlockOf j) dirs
+
 -- a walk answers 0 where it is done, and only there
 walk-done : (w : Walk) → Faulted w → faultIn w ≡ 0 → w ≡ done (dirsIn w)
 walk-done (fault n) p z = absurd (omega (arith, p .0, z))
@@ -98,7 +102,7 @@ module _ {img : List ℕ} (a : AcceptedImage img) where
   unfolding reachedDirs
   accepted-walk = walk-done (walkOf img (anodesOf img)) (walk-faulted img (anodesOf img)) (image-passed .walked)
 
-  accepted-state : Accepted (exists img) (diskSize img) (lastReserved img) (anodesOf img) (systemOwns img) (entriesIn img) (isBlockOf img) (reachedDirs img (anodesOf img))
+  accepted-state : AcceptedOn img img (reachedDirs img (anodesOf img))
   unfolding walkOf itemsOf
   accepted-state = record {
     reading = reading-of img;
@@ -176,7 +180,7 @@ module _ {img j : List ℕ} (a : AcceptedImage img) {t : Anodes} (d : DiskWith i
   w : WholeOn img j (anodesOf j) hd sd dirs
   w = rw (d .anodes) left
 
-  found : (Q : List Dir) × Accepted (exists img) (diskSize img) (lastReserved img) (anodesOf j) (systemOwns img) (entriesIn j) (isBlockOf j) Q
+  found : (Q : List Dir) × AcceptedOn img j Q
   found = accepted-of w
 
   walk-found : walkOf j (anodesOf j) ≡ done (found .0)
