@@ -32,17 +32,17 @@ use Rattle.changes.specs.KeptChains.{entries-along}
 use Rattle.changes.specs.RemoveEffects.{others-same}
 
 -- an entry behind the removed one: in the same block it stands earlier by as many bytes as that had
-unfoldable pub movedUp : List ℕ → Entered → Entered → Entered
-movedUp img e f = cond (eqb (f .place / 512) (e .place / 512)) (lowered (getD (blockOf img (e .place / 512)) (e .place % 512) 0) f) f
+unfoldable pub movedDown : List ℕ → Entered → Entered → Entered
+movedDown img e f = cond (eqb (f .place / 512) (e .place / 512)) (lowered (getD (blockOf img (e .place / 512)) (e .place % 512) 0) f) f
 
 -- the entries of a directory, without e: those behind it may have moved, and all have the bytes that they had
 pub record EntryGone (img j : List ℕ) (e : Entered) (old new : List Entered) : Type 0 where
   pub before : List Entered
   pub behind : List Entered
   pub were : old ≡ before ++ (e ∷ behind)
-  pub are : new ≡ before ++ map (movedUp img e) behind
+  pub are : new ≡ before ++ map (movedDown img e) behind
   pub bytes-before : (f : Entered) → Member f before → entryBytes j (f .place) ≡ entryBytes img (f .place)
-  pub bytes-behind : (f : Entered) → Member f behind → entryBytes j (movedUp img e f .place) ≡ entryBytes img (f .place)
+  pub bytes-behind : (f : Entered) → Member f behind → entryBytes j (movedDown img e f .place) ≡ entryBytes img (f .place)
 
 module _ {img : List ℕ} {e : Entered} {t : Anodes} {ys : List ℕ} (p : PlannedRemove img e t ys) where
   abbrev s : Anodes
@@ -61,12 +61,12 @@ module _ {img : List ℕ} {e : Entered} {t : Anodes} {ys : List ℕ} (p : Planne
   abbrev later : List Entered
   later = here p .parted .1
 
-  not-moved : (f : Entered) → f .place / 512 ≢ y p → movedUp img e f ≡ f
-  unfolding movedUp
+  not-moved : (f : Entered) → f .place / 512 ≢ y p → movedDown img e f ≡ f
+  unfolding movedDown
   not-moved f o = rw (ne-eqb (f .place / 512) (y p) o)
 
-  is-moved : (f : Entered) → f .place / 512 ≡ y p → movedUp img e f ≡ lowered (len p) f
-  unfolding movedUp
+  is-moved : (f : Entered) → f .place / 512 ≡ y p → movedDown img e f ≡ lowered (len p) f
+  unfolding movedDown
   is-moved f q = rw (eq-eqb (f .place / 512) (y p) q)
 
   -- an entry of the block
@@ -159,11 +159,11 @@ module _ {img : List ℕ} {e : Entered} {t : Anodes} {ys : List ℕ} (p : Planne
       ∙ ap (λ (k : List Entered). gather old front ++ (k ++ gather old back)) (ap (entriesIn img) (sym (facts p .in-block)) ∙ here p .parted .2)
       ∙ joined (e ∷ later) (gather old back)
 
-  all-moved : map (movedUp img e) behind ≡ map (lowered (len p)) later ++ gather old back
+  all-moved : map (movedDown img e) behind ≡ map (lowered (len p)) later ++ gather old back
   all-moved =
-      map-append (movedUp img e) later (gather old back)
-      ∙ ap₂ _++_ (map-members (movedUp img e) (lowered (len p)) later (λ f m. is-moved f (same-behind f m .0)))
-      (map-kept (movedUp img e) (gather old back) (λ f m. not-moved f (along back in-back f m .0)))
+      map-append (movedDown img e) later (gather old back)
+      ∙ ap₂ _++_ (map-members (movedDown img e) (lowered (len p)) later (λ f m. is-moved f (same-behind f m .0)))
+      (map-kept (movedDown img e) (gather old back) (λ f m. not-moved f (along back in-back f m .0)))
 
   module _ (empty : e .dir ≡ true → notEmpty img s e ≡ false) where
     -- a directory that goes is not the one that had its entry
@@ -174,7 +174,7 @@ module _ {img : List ℕ} {e : Entered} {t : Anodes} {ys : List ℕ} (p : Planne
         go true i = no-member e (rw (ap (entriesOf img s) q ∙ no-entry p empty i) at (p .entry .member))
         go false i = not-file (p .entry .directory) (facts p) i q
 
-    new-entries : entriesOf j (anodesOf j) (p .home) ≡ were ++ map (movedUp img e) behind
+    new-entries : entriesOf j (anodesOf j) (p .home) ≡ were ++ map (movedDown img e) behind
     unfolding gather
     new-entries = rw (removed-disk p .anodes, all-moved)
         (entries-along (others-same p (p .home) (home-head p) (reached-not-1 (p .entry .directory)) not-itself) j
