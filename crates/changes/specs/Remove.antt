@@ -8,16 +8,15 @@ use native.Mathlib.Omega.{arith}
 use lib.ListN.{getD}
 use Rattle.disk.specs.Blocks.{blockOf}
 use Rattle.rules.specs.Counting.{sumList}
-use Rattle.rules.specs.Anodes.{Anodes, limit, anodesOf}
+use Rattle.rules.specs.Anodes.{Anodes, anodesOf}
 use Rattle.rules.specs.Chains.{blockCount, systemOwns}
 use Rattle.rules.specs.Walk.{Dir, Entered, entriesIn, isBlockOf, reachedDirs}
 use Rattle.rules.specs.Lookup.{entriesOf, nth, isThere, notEmpty}
-use Rattle.rules.specs.Space.{refused, onChain, dropped}
+use Rattle.rules.specs.Space.{refused}
 use Rattle.rules.specs.Changes.{removedImage, removed}
 use Rattle.laws.specs.Tests.{same?}
 use Rattle.laws.specs.Sums.{oneAt-same, oneAt-other}
 use Rattle.laws.specs.Bags.{list-cons, list-append, map-sum}
-use Rattle.laws.specs.LinkChanges.{without}
 use Rattle.laws.specs.TreeChanges.{headed}
 use Rattle.laws.specs.Entries.{weighEntry}
 use Rattle.laws.specs.Whole.{blocks-count}
@@ -87,8 +86,7 @@ module _ {img : List ℕ} {e : Entered} {t : Anodes} {ys : List ℕ} (p : Planne
         go (x ∷ l) q = absurd (true≢false q)
 
     -- the state that is left is whole, and every other directory is still in it
-    pub left-whole : let dead = onChain limit t (e .anode) in (dirs : List Dir)
-        × WholeOn img j (dropped limit t (e .anode)) (without dead (Stores.ran p .hd′)) (without dead (Stores.ran p .sd′)) dirs
+    pub left-whole : (dirs : List Dir) × WholeOn img j (Stores.end p) (Stores.hdLeft p) (Stores.sdLeft p) dirs
         × ((x : ℕ) → x ≢ e .anode → headed x dirs ≡ headed x (reachedDirs img s))
     unfolding entriesOf
     left-whole = Laws.removed (w p) e (e .anode) refl (facts p .a₀) (p .home) (reached-headed (p .entry .directory)) (facts p .block-facts .on-chain) (entriesIn j) lost no-entry (Stores.ran p) (isBlockOf j) same-marks

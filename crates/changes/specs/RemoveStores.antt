@@ -60,7 +60,8 @@ module _ {img : List ℕ} {e : Entered} {t : Anodes} {ys : List ℕ} (p : Planne
 
   -- ---- its stores, one after the other
 
-  abbrev end : Anodes
+  -- the anodes that are left
+  abbrev pub end : Anodes
   end = dropped limit t (e .anode)
 
   abbrev stored : List ℕ
@@ -74,8 +75,14 @@ module _ {img : List ℕ} {e : Entered} {t : Anodes} {ys : List ℕ} (p : Planne
   ran = shrink-ran (blockCount s (e .anode)) (e .anode) (not-1 p) t ys s (systemOwns img) (headIn img) (sideIn img) 0 (omega (arith, blocks-count (w p .good) (e .anode) (facts p .head))) (w p .good) (facts p .head)
       (p .plan)
 
-  pub end-good : let dead = onChain limit t (e .anode) in
-      GoodOn img (dropped limit t (e .anode)) (without dead (ran .hd′)) (without dead (ran .sd′))
+  -- the heads of the chains that are left, and of the sides of the free list
+  abbrev pub hdLeft : ℕ → ℕ
+  hdLeft = without (onChain limit t (e .anode)) (ran .hd′)
+
+  abbrev pub sdLeft : ℕ → ℕ
+  sdLeft = without (onChain limit t (e .anode)) (ran .sd′)
+
+  pub end-good : GoodOn img end hdLeft sdLeft
   end-good = dropped-good (e .anode) (facts p .from-6) (facts p .head) ran
 
   same-block : blockOf stored y ≡ b
@@ -92,7 +99,7 @@ module _ {img : List ℕ} {e : Entered} {t : Anodes} {ys : List ℕ} (p : Planne
   unfolding removedImage withoutEntry
   block-left = blockOf-inBlock stored y (λ c. entryClosed c at) long ∙ ap (λ (c : List ℕ). entryClosed c at) same-block
 
-  pub removed-disk : DiskWith img (dropped limit t (e .anode)) j
+  pub removed-disk : DiskWith img end j
   removed-disk = disk-then (disk-stored (image p) end end-good) kept-last (not-one (block-data (facts p)))
 
   -- ---- the entries and marks of the blocks
