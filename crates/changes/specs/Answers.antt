@@ -20,6 +20,10 @@ use Rattle.laws.specs.Acceptance.{passed-of}
 abbrev pub Late : ℕ → Type 0
 Late n = (n ≡ 0) ⊎ (17 ≤ n)
 
+-- what the steps of a change answer: done, no free block, no free anode
+abbrev pub StepsAnswer : ℕ → Type 0
+StepsAnswer n = (n ≡ 0) ⊎ ((n ≡ 27) ⊎ (n ≡ 28))
+
 -- the check of an accepted image lent other tables
 module _ (img : List ℕ) where
   with-tables : (blocks anodes : ℕ) → checkAnswer img blocks anodes ≡ 0 → (long many : ℕ) → shortTables img long many ≡ false → checkAnswer img long many ≡ 0

@@ -96,14 +96,20 @@ module _ (b b′ : List ℕ) (at at′ : ℕ) (whole : length b ≡ 512) (whole�
 
 -- ---- the entries from a place on
 
--- where none is broken, the end mark or an entry stands there
-pub unbroken-cases : (b : List ℕ) (y m at : ℕ) → anyIn (λ e. e .broken) (entriesFrom (suc m) b y at) ≡ false →
-    (walkedAt b at ≡ End) ⊎ ((x : Entry) × (walkedAt b at ≡ Found x) × (anyIn (λ e. e .broken) (entriesFrom m b y (at + getD b at 0)) ≡ false))
+-- none of them breaks the entry rules
+abbrev pub Unbroken : List Entered → Type 0
+Unbroken l = anyIn (λ e. e .broken) l ≡ false
+
+-- the end mark stands there, or an entry, and none behind it is broken
+abbrev pub EndOrEntry : List ℕ → ℕ → ℕ → ℕ → Type 0
+EndOrEntry b y m at = (walkedAt b at ≡ End) ⊎ ((x : Entry) × (walkedAt b at ≡ Found x) × Unbroken (entriesFrom m b y (at + getD b at 0)))
+
+-- where none is broken, it is so
+pub unbroken-cases : (b : List ℕ) (y m at : ℕ) → Unbroken (entriesFrom (suc m) b y at) → EndOrEntry b y m at
 unfolding entriesFrom anyIn
 unbroken-cases b y m at u = go (walkedAt b at) refl u
   where
-    go : (w : Walked) → walkedAt b at ≡ w → anyIn (λ e. e .broken) (withRest w (y * 512 + at) (entriesFrom m b y (at + getD b at 0))) ≡ false →
-        (walkedAt b at ≡ End) ⊎ ((x : Entry) × (walkedAt b at ≡ Found x) × (anyIn (λ e. e .broken) (entriesFrom m b y (at + getD b at 0)) ≡ false))
+    go : (w : Walked) → walkedAt b at ≡ w → Unbroken (withRest w (y * 512 + at) (entriesFrom m b y (at + getD b at 0))) → EndOrEntry b y m at
     go (Found x) e v = inr (x, e, v)
     go End e v = inl e
     go (Fault r) e v = absurd (true≢false v)
@@ -117,7 +123,7 @@ unfolding endFrom
 end-here b m at e = rw (end-at b at e)
 
 -- the end mark stands behind the entries; 28 entries never fit
-pub end-bounds : (b : List ℕ) (y k at : ℕ) → anyIn (λ e. e .broken) (entriesFrom k b y at) ≡ false → at ≤ 510 → 520 ≤ at + 18 * k →
+pub end-bounds : (b : List ℕ) (y k at : ℕ) → Unbroken (entriesFrom k b y at) → at ≤ 510 → 520 ≤ at + 18 * k →
     (at ≤ endFrom k b at) × (endFrom k b at ≤ 510) × (walkedAt b (endFrom k b at) ≡ End)
 end-bounds b y zero at u l f = absurd (omega (arith, l, f))
 end-bounds b y (suc m) at u l f = elim (unbroken-cases b y m at u) [
@@ -138,6 +144,10 @@ pub record Standing (b : List ℕ) (y at end : ℕ) (e : Entered) : Type 0 where
 pub standing-found : {b : List ℕ} {y at end : ℕ} {e : Entered} → Standing b y at end e → FoundAt b at
 standing-found {b} {at = at} s = found-at b at (s .entry) (s .walked)
 
+-- its place in the image
+pub standing-place : {b : List ℕ} {y at end : ℕ} {e : Entered} → Standing b y at end e → e .place ≡ y * 512 + at
+standing-place s = ap (λ (e : Entered). e .place) (s .is)
+
 -- it ends before a later mark too
 stands-before : {b : List ℕ} {y at end : ℕ} {e : Entered} → Standing b y at end e → (further : ℕ) → end ≤ further → Standing b y at further e
 stands-before s further l = record { entry = s .entry; walked = s .walked; is = s .is; before = omega (arith, s .before, l) }
@@ -146,9 +156,9 @@ stands-before s further l = record { entry = s .entry; walked = s .walked; is = 
 pub record FirstFound (b : List ℕ) (y m at : ℕ) (e : Entered) (behind : List Entered) : Type 0 where
   pub stands : Standing b y at (at + getD b at 0) e
   pub rest : entriesFrom m b y (at + getD b at 0) ≡ behind
-  pub unbroken : anyIn (λ f. f .broken) (entriesFrom m b y (at + getD b at 0)) ≡ false
+  pub unbroken : Unbroken (entriesFrom m b y (at + getD b at 0))
 
-first-found : (b : List ℕ) (y m at : ℕ) (e : Entered) (l : List Entered) → entriesFrom (suc m) b y at ≡ e ∷ l → anyIn (λ f. f .broken) (entriesFrom (suc m) b y at) ≡ false → FirstFound b y m at e l
+first-found : (b : List ℕ) (y m at : ℕ) (e : Entered) (l : List Entered) → entriesFrom (suc m) b y at ≡ e ∷ l → Unbroken (entriesFrom (suc m) b y at) → FirstFound b y m at e l
 first-found b y m at e l i u = elim (unbroken-cases b y m at u) [
   | inl o ↦ absurd (cons≢nil (sym i ∙ entries-end b y (suc m) at o))
   | inr o ↦ (let c = sym (entries-more b y m at (o .0) (o .1)) ∙ i in
@@ -157,14 +167,14 @@ first-found b y m at e l i u = elim (unbroken-cases b y m at u) [
 
 -- it stands at the place that it says
 first-here : {b : List ℕ} {y m p : ℕ} {e : Entered} {l : List Entered} → FirstFound b y m p e l → (at : ℕ) → e .place ≡ y * 512 + at → p ≡ at
-first-here o at place = omega (arith, ap (λ (d : Entered). d .place) (o .stands .is), place)
+first-here o at place = omega (arith, standing-place (o .stands), place)
 
 -- no entry stands before the place where they start
 pub place-after : (b : List ℕ) (y : ℕ) (xs : List Entered) (e : Entered) (ys : List Entered) (k at : ℕ) → entriesFrom k b y at ≡ xs ++ (e ∷ ys) →
-    anyIn (λ f. f .broken) (entriesFrom k b y at) ≡ false → y * 512 + at ≤ e .place
+    Unbroken (entriesFrom k b y at) → y * 512 + at ≤ e .place
 unfolding entriesFrom
 place-after b y xs e ys zero at i u = absurd (no-member e (xs, ys, i))
-place-after b y [] e ys (suc m) at i u = omega (arith, ap (λ (d : Entered). d .place) (first-found b y m at e ys i u .stands .is))
+place-after b y [] e ys (suc m) at i u = omega (arith, standing-place (first-found b y m at e ys i u .stands))
 place-after b y (x ∷ xs) e ys (suc m) at i u = let o = first-found b y m at x (xs ++ (e ∷ ys)) i u in omega (arith, place-after b y xs e ys m (at + getD b at 0) (o .rest) (o .unbroken))
 
 -- the entries from p on, passed up to e at its place
@@ -179,7 +189,7 @@ pub record Reaches (b : List ℕ) (y k p at : ℕ) (xs : List Entered) (e : Ente
   pub front : (b′ : List ℕ) → length b ≡ 512 → length b′ ≡ 512 → ((i : ℕ) → i < at → getD b′ i 0 ≡ getD b i 0) → entriesFrom k b′ y p ≡ xs ++ entriesFrom (suc m) b′ y at
 
 pub reaches : (b : List ℕ) (y at : ℕ) (e : Entered) → e .place ≡ y * 512 + at → (ys xs : List Entered) (k p : ℕ) → entriesFrom k b y p ≡ xs ++ (e ∷ ys) →
-    anyIn (λ f. f .broken) (entriesFrom k b y p) ≡ false → Reaches b y k p at xs e ys
+    Unbroken (entriesFrom k b y p) → Reaches b y k p at xs e ys
 unfolding entriesFrom
 reaches b y at e place ys xs zero p i u = absurd (no-member e (xs, ys, i))
 reaches b y at e place ys [] (suc m) p i u =
@@ -203,7 +213,7 @@ reaches b y at e place ys (z ∷ zs) (suc m) p i u =
     }
 
 -- an entry of the list stands in the block
-pub entry-place : (b : List ℕ) (y k p : ℕ) (e : Entered) → Member e (entriesFrom k b y p) → anyIn (λ f. f .broken) (entriesFrom k b y p) ≡ false → (at : ℕ) × (p ≤ at) × Standing b y at 510 e
+pub entry-place : (b : List ℕ) (y k p : ℕ) (e : Entered) → Member e (entriesFrom k b y p) → Unbroken (entriesFrom k b y p) → (at : ℕ) × (p ≤ at) × Standing b y at 510 e
 entry-place b y k p e (xs, ys, i) u =
     let l = place-after b y xs e ys k p i u in
     let at = e .place - y * 512 in
@@ -212,14 +222,14 @@ entry-place b y k p e (xs, ys, i) u =
 
 -- an entry ends before the next begins
 pub place-order : (b : List ℕ) (y at : ℕ) (f e : Entered) → f .place ≡ y * 512 + at → (vs ys us : List Entered) (k p : ℕ) → entriesFrom k b y p ≡ us ++ (f ∷ (vs ++ (e ∷ ys))) →
-    anyIn (λ g. g .broken) (entriesFrom k b y p) ≡ false → y * 512 + (at + getD b at 0) ≤ e .place
+    Unbroken (entriesFrom k b y p) → y * 512 + (at + getD b at 0) ≤ e .place
 place-order b y at f e place vs ys us k p i u =
     let r = reaches b y at f place (vs ++ (e ∷ ys)) us k p i u in
     place-after b y vs e ys (r .m) (at + getD b at 0) (r .found .rest) (r .found .unbroken)
 
 -- an entry of the list stands before the end mark
 pub entry-standing : (b : List ℕ) (y at : ℕ) (e : Entered) → e .place ≡ y * 512 + at → (ys xs : List Entered) (k p : ℕ) → entriesFrom k b y p ≡ xs ++ (e ∷ ys) →
-    anyIn (λ f. f .broken) (entriesFrom k b y p) ≡ false → 520 ≤ p + 18 * k → Standing b y at (endFrom k b p) e
+    Unbroken (entriesFrom k b y p) → 520 ≤ p + 18 * k → Standing b y at (endFrom k b p) e
 entry-standing b y at e place ys xs k p i u f =
     let r = reaches b y at e place ys xs k p i u in
     let s = r .found .stands in
@@ -231,7 +241,7 @@ entry-standing b y at e place ys xs k p i u f =
 
 pub record BlockEntry (b : List ℕ) (y at : ℕ) (e : Entered) : Type 0 where
   pub whole : length b ≡ 512
-  pub unbroken : anyIn (λ f. f .broken) (entriesFrom 28 b y 16) ≡ false
+  pub unbroken : Unbroken (entriesFrom 28 b y 16)
   -- the entries before it, and those behind it
   pub parted : Member e (entriesFrom 28 b y 16)
   pub place : e .place ≡ y * 512 + at

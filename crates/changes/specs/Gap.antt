@@ -2,7 +2,6 @@
 use Prim.Native.Nat.{ℕ, zero, suc, _+_, _-_, _*_, _≤_, _<_}
 use mathlib.Core.Path.{_≡_, refl, sym, ap, _∙_}
 use mathlib.Core.Logic.{inl, inr}
-use mathlib.Core.Bool.{false}
 use mathlib.Core.List.{List, _∷_, _++_, map, append-assoc}
 use native.Mathlib.Omega.{arith}
 use lib.ListN.{length, getD, take, drop, replicate, length-append, length-drop, length-replicate, getD-replicate, List·getD-append}
@@ -11,10 +10,9 @@ use Rattle.directory.specs.declared.Entry.{Entry}
 use Rattle.directory.specs.declared.Walked.the-variants.{Found, End}
 use Rattle.directory.specs.Entries.{directoryHeadIn, walkedAt}
 use Rattle.directory.proofs.Laws.{found-at}
-use Rattle.rules.specs.Counting.{anyIn}
 use Rattle.rules.specs.Walk.{Entered, entriesFrom}
 use Rattle.rules.specs.Changes.{endFrom, entriesEnd, gapClosed}
-use Rattle.changes.specs.FoundEntries.{part-same, head-same, walked-same, entry-standing, entries-more, entries-end, unbroken-cases, end-more, end-here, end-bounds, standing-found, place-after, place-order, reaches, BlockEntry, block-standing, end-within}
+use Rattle.changes.specs.FoundEntries.{part-same, head-same, walked-same, entry-standing, entries-more, entries-end, Unbroken, unbroken-cases, end-more, end-here, end-bounds, standing-found, place-after, place-order, reaches, BlockEntry, block-standing, end-within}
 use Rattle.laws.specs.Members.{Member}
 
 -- the same entry, so many bytes earlier
@@ -44,7 +42,7 @@ module _ (b b′ : List ℕ) (y at len end : ℕ) (whole : length b ≡ 512) (wh
       entries-more b′ y (suc m) p x (walked-same b b′ (p + len) p whole whole′ g (omega (arith, g .room)) same ∙ q)
       ∙ rw (first, rest, swap, entries-more b y m (p + len) x q, place)
 
-  moved : (k p : ℕ) → at ≤ p → anyIn (λ e. e .broken) (entriesFrom k b y (p + len)) ≡ false → p + len ≤ 510 → 520 ≤ p + len + 18 * k → endFrom k b (p + len) ≡ end →
+  moved : (k p : ℕ) → at ≤ p → Unbroken (entriesFrom k b y (p + len)) → p + len ≤ 510 → 520 ≤ p + len + 18 * k → endFrom k b (p + len) ≡ end →
       entriesFrom (suc k) b′ y p ≡ map (lowered len) (entriesFrom k b y (p + len))
   moved zero p l u r f e = absurd (omega (arith, r, f))
   moved (suc m) p l u r f e = elim (unbroken-cases b y m (p + len) u) [
@@ -61,7 +59,7 @@ module _ (b b′ : List ℕ) (y at len end : ℕ) (whole : length b ≡ 512) (wh
 
   -- with those before it
   module _ (e : Entered) (ys : List Entered) (place : e .place ≡ y * 512 + at) (its-length : getD b at 0 ≡ len) where
-    closed : (xs : List Entered) (k p : ℕ) → entriesFrom k b y p ≡ xs ++ (e ∷ ys) → anyIn (λ f. f .broken) (entriesFrom k b y p) ≡ false → 520 ≤ p + 18 * k →
+    closed : (xs : List Entered) (k p : ℕ) → entriesFrom k b y p ≡ xs ++ (e ∷ ys) → Unbroken (entriesFrom k b y p) → 520 ≤ p + 18 * k →
         endFrom k b p ≡ end → entriesFrom k b′ y p ≡ xs ++ map (lowered len) ys
     closed xs k p i u f q =
         let r = reaches b y at e place ys xs k p i u in
@@ -142,6 +140,10 @@ module _ (b : List ℕ) (at len end : ℕ) (whole : length b ≡ 512) (fits : at
 
 -- ---- an entry of a directory block goes
 
+-- the block with the gap of the entry at a place closed
+abbrev pub entryClosed : List ℕ → ℕ → List ℕ
+entryClosed b at = gapClosed b at (getD b at 0) (entriesEnd b)
+
 module _ {b : List ℕ} {y at : ℕ} {e : Entered} (u : BlockEntry b y at e) where
   from-16 : 16 ≤ at
   from-16 = omega (arith, u .place, place-after b y (u .parted .0) e (u .parted .1) 28 16 (u .parted .2) (u .unbroken))
@@ -149,14 +151,14 @@ module _ {b : List ℕ} {y at : ℕ} {e : Entered} (u : BlockEntry b y at e) whe
   abbrev fits : at + getD b at 0 ≤ entriesEnd b
   fits = block-standing u .before
 
-  pub length-closed : length (gapClosed b at (getD b at 0) (entriesEnd b)) ≡ 512
+  pub length-closed : length (entryClosed b at) ≡ 512
   length-closed = length-gapClosed b at (getD b at 0) (entriesEnd b) (u .whole) fits (end-within u)
 
-  pub head-closed : directoryHeadIn (gapClosed b at (getD b at 0) (entriesEnd b)) ≡ directoryHeadIn b
+  pub head-closed : directoryHeadIn (entryClosed b at) ≡ directoryHeadIn b
   head-closed = gap-head b at (getD b at 0) (entriesEnd b) (u .whole) fits (end-within u) from-16
 
   -- the entries that stay
-  pub entries-closed : entriesFrom 28 (gapClosed b at (getD b at 0) (entriesEnd b)) y 16 ≡ u .parted .0 ++ map (lowered (getD b at 0)) (u .parted .1)
+  pub entries-closed : entriesFrom 28 (entryClosed b at) y 16 ≡ u .parted .0 ++ map (lowered (getD b at 0)) (u .parted .1)
   unfolding entriesEnd
   entries-closed =
       let len = getD b at 0 in
@@ -166,13 +168,13 @@ module _ {b : List ℕ} {y at : ℕ} {e : Entered} (u : BlockEntry b y at e) whe
       (gap-zeros b at len end (u .whole) fits within) (omega (arith, standing-found (block-standing u) .long)) e (u .parted .1) (u .place) refl (u .parted .0) 28 16 (u .parted .2) (u .unbroken) (omega arith) refl
 
   -- the bytes of an entry that stays
-  pub bytes-earlier : (f : Entered) → Member f (u .parted .0) → (k : ℕ) → f .place ≡ y * 512 + k → take (getD b k 0) (drop k (gapClosed b at (getD b at 0) (entriesEnd b))) ≡ take (getD b k 0) (drop k b)
+  pub bytes-earlier : (f : Entered) → Member f (u .parted .0) → (k : ℕ) → f .place ≡ y * 512 + k → take (getD b k 0) (drop k (entryClosed b at)) ≡ take (getD b k 0) (drop k b)
   bytes-earlier f (us, vs, i) k p =
       let before = place-order b y k f e p vs (u .parted .1) us 28 16 (u .parted .2 ∙ rw i (append-assoc us (f ∷ vs) (e ∷ u .parted .1))) (u .unbroken) in
       bytes-before b at (getD b at 0) (entriesEnd b) (u .whole) fits (end-within u) k (getD b k 0) (omega (arith, before, u .place))
 
   pub bytes-later : (f : Entered) → Member f (u .parted .1) → (k : ℕ) → f .place ≡ y * 512 + k →
-      (at + getD b at 0 ≤ k) × (take (getD b k 0) (drop (k - getD b at 0) (gapClosed b at (getD b at 0) (entriesEnd b))) ≡ take (getD b k 0) (drop k b))
+      (at + getD b at 0 ≤ k) × (take (getD b k 0) (drop (k - getD b at 0) (entryClosed b at)) ≡ take (getD b k 0) (drop k b))
   unfolding entriesEnd
   bytes-later f (us, vs, i) k p =
       let xs = u .parted .0 in

@@ -37,9 +37,13 @@ use Rattle.frames.specs.DisjointBlocks.{DataBlock}
 abbrev pub GoodOn : List ℕ → Anodes → (ℕ → ℕ) → (ℕ → ℕ) → Type 0
 GoodOn img t hd sd = Good limit (exists img) (diskSize img) (lastReserved img) t (systemOwns img) hd sd
 
+-- and of directories whose blocks have these entries and marks
+abbrev pub WholeWith : List ℕ → Anodes → (ℕ → ℕ) → (ℕ → ℕ) → (ℕ → List Entered) → (Dir → ℕ → Bool) → List Dir → Type 0
+WholeWith img t hd sd entries marked dirs = Whole (exists img) (diskSize img) (lastReserved img) t (systemOwns img) hd sd entries marked dirs
+
 -- and of the directories of j, an image of that disk
 abbrev pub WholeOn : List ℕ → List ℕ → Anodes → (ℕ → ℕ) → (ℕ → ℕ) → List Dir → Type 0
-WholeOn img j t hd sd dirs = Whole (exists img) (diskSize img) (lastReserved img) t (systemOwns img) hd sd (entriesIn j) (isBlockOf j) dirs
+WholeOn img j t hd sd dirs = WholeWith img t hd sd (entriesIn j) (isBlockOf j) dirs
 
 -- the whole state of an image with the anodes s
 abbrev pub WholeImage : List ℕ → Anodes → (ℕ → ℕ) → (ℕ → ℕ) → List Dir → Type 0
@@ -52,6 +56,14 @@ headIn img = headOf limit (anodesOf img .next) (anodesOf img .block)
 -- the head of an anode's side of the free list
 abbrev pub sideIn : List ℕ → ℕ → ℕ
 sideIn img = headOf limit (cut (anodesOf img .next)) (anodesOf img .block)
+
+-- the whole state of an accepted image: its anodes, their heads, and the reached directories
+abbrev pub AcceptedWhole : List ℕ → Type 0
+AcceptedWhole img = WholeImage img (anodesOf img) (headIn img) (sideIn img) (reachedDirs img (anodesOf img))
+
+-- the anodes and directories of j, an image of the disk of img, pass 6 to 16
+abbrev AcceptedOn : List ℕ → List ℕ → List Dir → Type 0
+AcceptedOn img j dirs = Accepted (exists img) (diskSize img) (lastReserved img) (anodesOf j) (systemOwns img) (entriesIn j) (isBlockOf j) dirs
 
 -- a walk answers 0 where it is done, and only there
 walk-done : (w : Walk) → Faulted w → faultIn w ≡ 0 → w ≡ done (dirsIn w)
@@ -71,6 +83,10 @@ pub record AcceptedImage (img : List ℕ) : Type 0 where
   pub anodes : ℕ
   pub accepted : checkAnswer img blocks anodes ≡ 0
 
+-- lent the same tables, the check accepts j too
+abbrev pub StillAccepted : {img : List ℕ} → AcceptedImage img → List ℕ → Type 0
+StillAccepted a j = checkAnswer j (a .blocks) (a .anodes) ≡ 0
+
 -- tables as long as 2 asks
 abbrev pub accepted-own : (img : List ℕ) → checkAnswer img (diskSize img) limit ≡ 0 → AcceptedImage img
 accepted-own img e = record { blocks = diskSize img; anodes = limit; accepted = e }
@@ -86,7 +102,7 @@ module _ {img : List ℕ} (a : AcceptedImage img) where
   unfolding reachedDirs
   accepted-walk = walk-done (walkOf img (anodesOf img)) (walk-faulted img (anodesOf img)) (image-passed .walked)
 
-  accepted-state : Accepted (exists img) (diskSize img) (lastReserved img) (anodesOf img) (systemOwns img) (entriesIn img) (isBlockOf img) (reachedDirs img (anodesOf img))
+  accepted-state : AcceptedOn img img (reachedDirs img (anodesOf img))
   unfolding walkOf itemsOf
   accepted-state = record {
     reading = reading-of img;
@@ -100,7 +116,7 @@ module _ {img : List ℕ} (a : AcceptedImage img) where
   }
 
   -- an accepted image has the whole state
-  pub accepted-whole : WholeImage img (anodesOf img) (headIn img) (sideIn img) (reachedDirs img (anodesOf img))
+  pub accepted-whole : AcceptedWhole img
   accepted-whole = whole-of accepted-state
 
 -- ---- the same disk
@@ -164,7 +180,7 @@ module _ {img j : List ℕ} (a : AcceptedImage img) {t : Anodes} (d : DiskWith i
   w : WholeOn img j (anodesOf j) hd sd dirs
   w = rw (d .anodes) left
 
-  found : (Q : List Dir) × Accepted (exists img) (diskSize img) (lastReserved img) (anodesOf j) (systemOwns img) (entriesIn j) (isBlockOf j) Q
+  found : (Q : List Dir) × AcceptedOn img j Q
   found = accepted-of w
 
   walk-found : walkOf j (anodesOf j) ≡ done (found .0)
@@ -195,7 +211,7 @@ module _ {img j : List ℕ} (a : AcceptedImage img) {t : Anodes} (d : DiskWith i
   tested = passes-tested (anodesOf j) (diskSize img) (lastReserved img) (systemOwns img) (found .1 .passes)
 
   -- an image of the same disk with a whole state is accepted
-  pub whole-accepted : checkAnswer j (a .blocks) (a .anodes) ≡ 0
+  pub whole-accepted : StillAccepted a j
   whole-accepted =
       let p = image-passed a in
       let k = d .same .kept in

@@ -33,8 +33,8 @@ use Rattle.frames.specs.StoredBlocks.{inBlock-kept, blockOf-inBlock, withBlocks
 use Rattle.frames.specs.StoredBytes.{blockOf-withBlocks}
 use Rattle.frames.specs.DisjointBlocks.{DataBlock}
 use Rattle.laws.specs.Make.{SameContents}
-use Rattle.changes.specs.Image.{GoodOn, WholeImage, headIn, sideIn, accepted-whole, DiskWith, stored-kept, disk-stored, disk-then, not-one, not-among, ReachedDir, reached-headed}
-use Rattle.changes.specs.FoundEntries.{enteredAt, end-bounds}
+use Rattle.changes.specs.Image.{GoodOn, AcceptedWhole, headIn, accepted-whole, DiskWith, stored-kept, disk-stored, disk-then, not-one, not-among, ReachedDir, reached-headed}
+use Rattle.changes.specs.FoundEntries.{enteredAt, Unbroken, end-bounds}
 use Rattle.changes.specs.Reached.{DirBlock, reached-not-1, dir-block}
 use Rattle.changes.specs.SingleBlocks.{single-used, single-apart, single-data}
 use Rattle.changes.specs.NewEntry.{entries-put, head-put, end-new, room-found}
@@ -87,7 +87,7 @@ module _ {img : List ℕ} {blocks anodes h : ℕ} {new : NewEntry} {f : ℕ} {ro
   abbrev pub parent : ReachedDir img h
   parent = fresh-dir (m .fresh)
 
-  pub w : WholeImage img s (headIn img) (sideIn img) dirs
+  pub w : AcceptedWhole img
   w = accepted-whole (parent .image)
 
   pub once : headed h dirs ≡ 1
@@ -208,7 +208,7 @@ module _ {img : List ℕ} {blocks anodes h : ℕ} {new : NewEntry} {f : ℕ} {ro
     pub on : 0 < times anode (chainOf (t .next) limit h)
     pub at : entryPlace room zs ≡ t .block anode * 512 + entriesEnd (blockOf before (t .block anode))
     pub fits : entriesEnd (blockOf before (t .block anode)) + len ≤ 510
-    pub unbroken : anyIn (λ e. e .broken) (entriesIn before (t .block anode)) ≡ false
+    pub unbroken : Unbroken (entriesIn before (t .block anode))
 
   -- a block of the directory is that of one of its anodes
   block-anode : (y : ℕ) → 0 < times y (blocksOf s h) → (a : ℕ) × Member a (chainOf (s .next) limit h) × DirBlock img h a × (y ≡ s .block a)
@@ -267,7 +267,8 @@ module _ {img : List ℕ} {blocks anodes h : ℕ} {new : NewEntry} {f : ℕ} {ro
   abbrev place : ℕ
   place = entryPlace room zs
 
-  abbrev entered : Entered
+  -- the new entry, as it stands in its block
+  abbrev pub entered : Entered
   entered = enteredAt (entryOf new f) (entryPlace room zs)
 
   -- the image that a make leaves

@@ -14,11 +14,10 @@ use Rattle.directory.specs.Entries.{goodName, goodComment, entryLength, isDir}
 use Rattle.rules.specs.Counting.{sumList, times}
 use Rattle.rules.specs.Anodes.{Anodes, limit, exists, anodesOf}
 use Rattle.rules.specs.Chains.{blocksOf, blockCount}
-use Rattle.rules.specs.Walk.{Dir, Entered, entriesIn, isBlockOf, blocksFor, itemsBy, reachedDirs}
-use Rattle.rules.specs.Accepted.{checkAnswer}
+use Rattle.rules.specs.Walk.{Dir, entriesIn, isBlockOf, blocksFor, itemsBy, reachedDirs}
 use Rattle.rules.specs.Space.{Plan, refused, planned, rewritten, lowestFree}
 use Rattle.rules.specs.Format.{newDirectoryBlock}
-use Rattle.rules.specs.Changes.{firstRoom, noRoom, neededBlock, entryPlace, NewEntry, entryOf, madeImage, Left, left, leftBy, madeWith, made}
+use Rattle.rules.specs.Changes.{firstRoom, noRoom, neededBlock, NewEntry, entryOf, madeImage, Left, left, leftBy, madeWith, made}
 use Rattle.laws.specs.Tests.{same?, less?}
 use Rattle.laws.specs.Sums.{oneAt-cases, oneAt-same}
 use Rattle.laws.specs.Bags.{list-cons, list-append, list-one}
@@ -27,10 +26,10 @@ use Rattle.laws.specs.RefusedSteps.{take-refused}
 use Rattle.laws.specs.Entries.{weighEntry}
 use Rattle.laws.specs.Make.{SameMarks, EntryMore, enter-file, enter-directory}
 use Rattle.laws.specs.NewDirectory.{none-new}
-use Rattle.changes.specs.Image.{WholeOn, whole-accepted, reached-sum, ReachedDir}
-use Rattle.changes.specs.FoundEntries.{enteredAt}
+use Rattle.changes.specs.Answers.{StepsAnswer}
+use Rattle.changes.specs.Image.{WholeOn, StillAccepted, whole-accepted, reached-sum, ReachedDir}
 use Rattle.changes.specs.Reached.{reached-head}
-use Rattle.changes.specs.MadeImage.{Making, spare, parent, first-in, once, plan, before, own-new, orphan, spot, made-disk, entries-made, marks-made, entry-other, its-head, other-entries}
+use Rattle.changes.specs.MadeImage.{Making, spare, parent, first-in, once, plan, before, own-new, orphan, spot, entered, made-disk, entries-made, marks-made, entry-other, its-head, other-entries}
 
 module _ {img : List ℕ} {blocks anodes h : ℕ} {new : NewEntry} {f : ℕ} {room : Option ℕ} {ys : List ℕ} {t : Anodes} {zs : List ℕ} (m : Making img blocks anodes h new f room ys t zs) where
   abbrev s : Anodes
@@ -43,15 +42,16 @@ module _ {img : List ℕ} {blocks anodes h : ℕ} {new : NewEntry} {f : ℕ} {ro
   abbrev j : List ℕ
   j = madeImage img s h new f room ys t zs
 
-  abbrev entered : Entered
-  entered = enteredAt (entryOf new f) (entryPlace room zs)
+  -- the directory that it makes, where it makes one
+  abbrev newDir : Dir
+  newDir = record { head = f; parent = h }
 
   -- the block of one anode has gained the entry
-  gained : EntryMore t (orphan m .0) entered (spot m .anode) (entriesIn (before m)) (entriesIn j)
+  gained : EntryMore t (orphan m .0) (entered m) (spot m .anode) (entriesIn (before m)) (entriesIn j)
   gained a one q v = elim (oneAt-cases a (spot m .anode)) [
-    | inl i ↦ rw (i .0) (ap (sumList (weighEntry v)) (entries-made m) ∙ list-append (weighEntry v) (entriesIn (before m) (t .block (spot m .anode))) (entered ∷ [])
-        ∙ omega (arith, list-one (weighEntry v) entered, ap (λ (k : ℕ). k * weighEntry v entered) (oneAt-same (spot m .anode) (spot m .anode) refl)))
-    | inr i ↦ ap (sumList (weighEntry v)) (other-entries m a one (i .0)) ∙ omega (arith, ap (λ (k : ℕ). k * weighEntry v entered) (i .1))
+    | inl i ↦ rw (i .0) (ap (sumList (weighEntry v)) (entries-made m) ∙ list-append (weighEntry v) (entriesIn (before m) (t .block (spot m .anode))) (entered m ∷ [])
+        ∙ omega (arith, list-one (weighEntry v) (entered m), ap (λ (k : ℕ). k * weighEntry v (entered m)) (oneAt-same (spot m .anode) (spot m .anode) refl)))
+    | inr i ↦ ap (sumList (weighEntry v)) (other-entries m a one (i .0)) ∙ omega (arith, ap (λ (k : ℕ). k * weighEntry v (entered m)) (i .1))
   ]
 
   -- and all have the marks that they had
@@ -68,12 +68,12 @@ module _ {img : List ℕ} {blocks anodes h : ℕ} {new : NewEntry} {f : ℕ} {ro
       (ap (s .block) (sym (its-head m) ∙ ap (orphan m .0) (sym e) ∙ orphan m .2 .good .heads .at-head f (orphan m .2 .head)) ∙ spare m .unused)
 
   -- the new directory has no entry
-  own-empty : new .dir ≡ true → itemsBy (entriesIn j) (isBlockOf j) t (record { head = f; parent = h }) ≡ []
+  own-empty : new .dir ≡ true → itemsBy (entriesIn j) (isBlockOf j) t newDir ≡ []
   own-empty d =
       let one : t .count f ≡ 1 = plan m .own-count ∙ ap (λ (b : Bool). cond {A = ℕ} b 1 0) d in
       let p : 0 < times (t .block f) ys = first-in (t .block f) ys (plan m .own-blocks ∙ ap (λ (b : Bool). cond b (t .block f ∷ []) []) d) in
       let block : blockOf j (t .block f) ≡ newDirectoryBlock f h = entry-other m f one not-spot ∙ own-new m (t .block f) p in
-      none-new j t (record { head = f; parent = h }) (plan m .own-chain) one block
+      none-new j t newDir (plan m .own-chain) one block
 
   -- a new file has no block
   none-yet : new .dir ≡ false → blockCount t f ≡ blocksFor 0
@@ -82,7 +82,7 @@ module _ {img : List ℕ} {blocks anodes h : ℕ} {new : NewEntry} {f : ℕ} {ro
 
   -- the directories that are reached then
   abbrev grown : Bool → List Dir
-  grown b = cond b (record { head = f; parent = h } ∷ dirs) dirs
+  grown b = cond b (newDir ∷ dirs) dirs
 
   made-whole : WholeOn img j t (orphan m .0) (orphan m .1) (grown (new .dir))
   unfolding entryOf
@@ -93,20 +93,20 @@ module _ {img : List ℕ} {blocks anodes h : ℕ} {new : NewEntry} {f : ℕ} {ro
       is-dir false = refl
 
       go : (b : Bool) → new .dir ≡ b → WholeOn img j t (orphan m .0) (orphan m .1) (grown b)
-      go true d = enter-directory entered (orphan m .2) (spare m .from-6) refl (inl (is-dir (new .dir) ∙ d)) (spot m .anode) h (once m) (its-head m) (entriesIn j) (isBlockOf j)
+      go true d = enter-directory (entered m) (orphan m .2) (spare m .from-6) refl (inl (is-dir (new .dir) ∙ d)) (spot m .anode) h (once m) (its-head m) (entriesIn j) (isBlockOf j)
           gained same-marks (is-dir (new .dir) ∙ d) (own-empty d)
-      go false d = enter-file entered (orphan m .2) (spare m .from-6) refl (inr (none-yet d)) (spot m .anode) h (once m) (its-head m) (entriesIn j) (isBlockOf j)
+      go false d = enter-file (entered m) (orphan m .2) (spare m .from-6) refl (inr (none-yet d)) (spot m .anode) h (once m) (its-head m) (entriesIn j) (isBlockOf j)
           gained same-marks (is-dir (new .dir) ∙ d)
 
-  image-accepted : checkAnswer j blocks anodes ≡ 0
+  image-accepted : StillAccepted (parent m .image) j
   image-accepted = whole-accepted (parent m .image) (made-disk m) made-whole
 
   -- the directories that were reached are reached, and the new one
-  pub made-dirs : (weight : Dir → ℕ) → sumList weight (reachedDirs j (anodesOf j)) ≡ sumList weight dirs + cond (new .dir) (weight (record { head = f; parent = h })) 0
+  pub made-dirs : (weight : Dir → ℕ) → sumList weight (reachedDirs j (anodesOf j)) ≡ sumList weight dirs + cond (new .dir) (weight newDir) 0
   made-dirs weight = reached-sum (parent m .image) (made-disk m) made-whole weight ∙ go (new .dir)
     where
-      go : (b : Bool) → sumList weight (grown b) ≡ sumList weight dirs + cond b (weight (record { head = f; parent = h })) 0
-      go true = omega (arith, list-cons weight (record { head = f; parent = h }) dirs)
+      go : (b : Bool) → sumList weight (grown b) ≡ sumList weight dirs + cond b (weight newDir) 0
+      go true = omega (arith, list-cons weight newDir dirs)
       go false = omega arith
 
 -- ---- every way that a make can end
@@ -148,15 +148,15 @@ module _ (img : List ℕ) (s : Anodes) (h : ℕ) (new : NewEntry) where
             taking (planned t zs) q = done l r ys e t zs q
 
   -- it answers 0, 27 or 28
-  pub made-answer : (made img s h new .answer ≡ 0) ⊎ ((made img s h new .answer ≡ 27) ⊎ (made img s h new .answer ≡ 28))
-  made-answer = made-cases (λ o. (o .answer ≡ 0) ⊎ ((o .answer ≡ 27) ⊎ (o .answer ≡ 28))) (inr (inl refl)) (inr (inr refl)) (λ l r ys e t zs q. inl refl)
+  pub made-answer : StepsAnswer (made img s h new .answer)
+  made-answer = made-cases (λ o. StepsAnswer (o .answer)) (inr (inl refl)) (inr (inr refl)) (λ l r ys e t zs q. inl refl)
 
 -- what a make leaves of an accepted image is accepted
 pub make-accepted : {img : List ℕ} {h : ℕ} (r : ReachedDir img h) (new : NewEntry) → goodName (new .name) ≡ true → goodComment (new .comment) ≡ true →
-    checkAnswer (made img (anodesOf img) h new .image) (r .image .blocks) (r .image .anodes) ≡ 0
+    StillAccepted (r .image) (made img (anodesOf img) h new .image)
 make-accepted {img} {h} r new named commented =
     let a = r .image in
-    made-cases img (anodesOf img) h new (λ o. checkAnswer (o .image) (a .blocks) (a .anodes) ≡ 0) (a .accepted) (a .accepted)
+    made-cases img (anodesOf img) h new (λ o. StillAccepted a (o .image)) (a .accepted) (a .accepted)
     (λ l between ys e t zs q. image-accepted (record {
       fresh = record { accepted = a .accepted; reached = r .reached; lowest = refl; below = l };
       steps = record { between = between; own = e; roomy = refl; parent = q };

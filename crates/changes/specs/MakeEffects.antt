@@ -35,12 +35,12 @@ use Rattle.laws.specs.NewDirectory.{entries-new}
 use Rattle.frames.specs.DisjointBlocks.{chains-apart, chain-block}
 use Rattle.frames.specs.StoredBytes.{BlocksKept}
 use Rattle.changes.specs.Image.{headIn, headed-reached, headed-same, ReachedDir}
-use Rattle.changes.specs.FoundEntries.{part-same, enteredAt, standing-found, BlockEntry, block-standing}
-use Rattle.changes.specs.Reached.{EntryIn, block-on, reached-not-1, dir-block, entry-facts, not-file}
+use Rattle.changes.specs.FoundEntries.{part-same, standing-found, BlockEntry, block-standing}
+use Rattle.changes.specs.Reached.{EntryIn, block-on, reached-not-1, dir-block, entry-facts, block-entry, not-file}
 use Rattle.changes.specs.KeptChains.{SameChain, same-blocks, OthersLeft, contents-left, entries-left}
 use Rattle.changes.specs.EntryBytes.{entryBytes, bytes-at, with-length}
 use Rattle.changes.specs.NewEntry.{comment-put}
-use Rattle.changes.specs.MadeImage.{Making, spare, parent, w, once, plan, grown, own-block, parent-block, before, kept-block, parent-new, cont, old-block, orphan, spot, inside-before, spot-data, in-block, at-end, entry-kept, entry-block, entry-other, made-disk, entries-made, other-entries}
+use Rattle.changes.specs.MadeImage.{Making, spare, parent, w, once, plan, grown, own-block, parent-block, before, kept-block, parent-new, cont, old-block, orphan, spot, entered, inside-before, spot-data, in-block, at-end, entry-kept, entry-block, entry-other, made-disk, entries-made, other-entries}
 use Rattle.changes.specs.Make.{made-dirs}
 
 times-mapped : (g : ℕ → ℕ) (l : List ℕ) (a : ℕ) → 0 < times a l → 0 < times (g a) (map g l)
@@ -76,9 +76,6 @@ module _ {img : List ℕ} {blocks anodes h : ℕ} {new : NewEntry} {f : ℕ} {ro
   -- the image that a make leaves
   abbrev j : List ℕ
   j = madeImage img s h new f room ys t zs
-
-  abbrev entered : Entered
-  entered = enteredAt (entryOf new f) (entryPlace room zs)
 
   -- an anode of a directory that was reached
   module _ {k : ℕ} (r : ReachedDir img k) (a : ℕ) (on : Member a (chainOf (s .next) limit k)) where
@@ -137,10 +134,10 @@ module _ {img : List ℕ} {blocks anodes h : ℕ} {new : NewEntry} {f : ℕ} {ro
   now-was l part none = gather-kept was now l (λ a p. other-entries m a (ones a (omega (arith, p, part a))) (λ e. omega (arith, p, none, ap (λ (x : ℕ). times x l) e)))
 
   -- the directory has its entries and the new one
-  pub entry-added : OneMore entered (entriesOf img s h) (entriesOf j (anodesOf j) h)
+  pub entry-added : OneMore (entered m) (entriesOf img s h) (entriesOf j (anodesOf j) h)
   entry-added = go (times-member (spot m .anode) (chainOf (t .next) limit h) (spot m .on))
     where
-      go : Member (spot m .anode) (chainOf (t .next) limit h) → OneMore entered (entriesOf img s h) (entriesOf j (anodesOf j) h)
+      go : Member (spot m .anode) (chainOf (t .next) limit h) → OneMore (entered m) (entriesOf img s h) (entriesOf j (anodesOf j) h)
       go (front, back, parted) =
           let a = spot m .anode in
           let alone = stands-once (orphan m .2 .good) h head-now a front back parted in
@@ -152,8 +149,8 @@ module _ {img : List ℕ} {blocks anodes h : ℕ} {new : NewEntry} {f : ℕ} {ro
             now-all ∙ ap (gather now) parted ∙ gather-append now front (a ∷ back) ∙ gather-first now (gather now front) a back
                 ∙ ap₂ (λ (k l : List Entered). k ++ now a ++ l) (now-was front (λ x. omega (arith, all x)) (alone .0)) (now-was back (λ x. omega (arith, all x)) (alone .1))
                 ∙ ap (λ (k : List Entered). gather was front ++ k ++ gather was back) (entries-made m)
-                ∙ ap (λ (k : List Entered). k ++ gather was back) (sym (append-assoc (gather was front) (was a) (entered ∷ [])))
-                ∙ append-assoc (gather was front ++ was a) (entered ∷ []) (gather was back),
+                ∙ ap (λ (k : List Entered). k ++ gather was back) (sym (append-assoc (gather was front) (was a) (entered m ∷ [])))
+                ∙ append-assoc (gather was front ++ was a) (entered m ∷ []) (gather was back),
           )
 
   -- ---- the directories
@@ -249,7 +246,7 @@ module _ {img : List ℕ} {blocks anodes h : ℕ} {new : NewEntry} {f : ℕ} {ro
       let place : e .place ≡ s .block a * 512 + at = omega (arith, g .in-block) in
       bytes-at j (e .place) (s .block a) at place (omega arith) ∙ elim (same? a (spot m .anode)) [
         | inl q ↦ rw (made-block a q (kept .1) old)
-            (bytes-put (record { whole = g .block-facts .whole; unbroken = g .block-facts .unbroken; parted = g .member; place = place }) (entryOf new f) (new .name) (new .comment))
+            (bytes-put (rw (g .in-block) at (block-entry g)) (entryOf new f) (new .name) (new .comment))
         | inr q ↦ rw (ap (blockOf j) (sym (kept .1)) ∙ entry-other m a (kept .0 ∙ g .block-facts .one) q ∙ ap (blockOf (before m)) (kept .1) ∙ old)
       ] ∙ sym (bytes-at img (e .place) (s .block a) at place (omega arith))
 

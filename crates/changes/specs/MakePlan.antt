@@ -22,16 +22,15 @@ use Rattle.laws.specs.Heads.{Head, head-of-is, times-on-chain}
 use Rattle.laws.specs.Space.{FreeAnode, free-is}
 use Rattle.laws.specs.Plans.{planned-same}
 use Rattle.laws.specs.Take.{take-good}
-use Rattle.laws.specs.Moves.{Shift, shift-none}
+use Rattle.laws.specs.Moves.{Shift, shift-none, Moved}
 use Rattle.laws.specs.Frame.{shift-chain}
 use Rattle.laws.specs.Each.{Each}
 use Rattle.laws.specs.TreeChanges.{headed}
-use Rattle.laws.specs.Whole.{Whole}
 use Rattle.laws.specs.OwnBlock.{own-filled}
 use Rattle.laws.specs.Orphan.{Orphaned, not-dir, orphan-changed}
 use Rattle.laws.specs.DirectoryTakes.{find-headed, dir-head, dir-not-1, dir-taken, directory-takes}
 use Rattle.laws.specs.Make.{SameContents, contents-unchanged, fresh-stays, fresh-chain, fresh-orphan}
-use Rattle.changes.specs.Image.{GoodOn, ReachedDir}
+use Rattle.changes.specs.Image.{GoodOn, WholeWith, ReachedDir}
 
 -- anodes t on the disk of img, where no entry names the chain of f
 abbrev pub OrphanedOn : List ℕ → ℕ → Anodes → (ℕ → ℕ) → (ℕ → ℕ) → (ℕ → List Entered) → (Dir → ℕ → Bool) → List Dir → Type 0
@@ -89,10 +88,14 @@ pub record MadePlan (img : List ℕ) (s : Anodes) (hd : ℕ → ℕ) (f h : ℕ)
   pub not-own : (a : ℕ) → 0 < times a (grown .new) → a ≢ f
 
 module _ (img : List ℕ) {s : Anodes} {hd sd : ℕ → ℕ} {entries : ℕ → List Entered} {marked : Dir → ℕ → Bool} {dirs : List Dir}
-    (w : Whole (exists img) (diskSize img) (lastReserved img) s (systemOwns img) hd sd entries marked dirs)
+    (w : WholeWith img s hd sd entries marked dirs)
     (f : ℕ) (fA : f < limit) (is-free : FreeAnode (exists img) s f) where
   abbrev begun : Anodes
   begun = rewritten s f 0 65535
+
+  -- it is not the head of the free list
+  fresh-not-1 : f ≢ 1
+  fresh-not-1 q = omega (arith, is-free .from-6, q)
 
   -- the fresh head, while the directories stay as they are
   orphan : OrphanedOn img f begun (changed hd f f) (changed sd f f) entries marked dirs
@@ -125,8 +128,8 @@ module _ (img : List ℕ) {s : Anodes} {hd sd : ℕ → ℕ} {entries : ℕ → 
   own-step : (dir : Bool) (t : Anodes) (ys : List ℕ) → neededBlock img dir begun f ≡ planned t ys → OwnStep dir t ys
   unfolding neededBlock
   own-step true t ys e =
-      let m = take-good (orphan .good) f (orphan .head) (λ q. omega (arith, is-free .from-6, q)) true t ys e in
-      let q = own-filled (orphan .good) f (orphan .head) (λ q. omega (arith, is-free .from-6, q)) (own-none .chain) (own-none .count) t ys e in
+      let m = take-good (orphan .good) f (orphan .head) fresh-not-1 true t ys e in
+      let q = own-filled (orphan .good) f (orphan .head) fresh-not-1 (own-none .chain) (own-none .count) t ys e in
       record { hd′ = m .hd′; sd′ = m .sd′; good = m .good; shift = m .shift; chain = q .2 .chain; count = q .2 .one; blocks = q .1 ∙ ap (λ (y : ℕ). y ∷ []) (sym (q .2 .at)) }
   own-step false t ys e = let q = planned-same begun t [] ys e in rw (q .0, sym (q .1)) at own-none
 
@@ -156,12 +159,17 @@ module _ (img : List ℕ) {s : Anodes} {hd sd : ℕ → ℕ} {entries : ℕ → 
       others = λ m d m1 mh. refl;
     }
 
+    -- the block that it takes
+    parent-moved : (t : Anodes) (zs : List ℕ) → neededBlock img true r h ≡ planned t zs → Moved limit (exists img) (diskSize img) (lastReserved img) r (systemOwns img) (step .hd′) 1 h zs t
+    unfolding neededBlock
+    parent-moved t zs e = take-good (o .good) h (dir-head o h reached) (dir-not-1 o h reached) true t zs e
+
     parent-grown : (needed : Bool) (t : Anodes) (zs : List ℕ) → neededBlock img needed r h ≡ planned t zs → ParentGrown r (step .hd′) h needed zs t
     unfolding neededBlock
     parent-grown false t zs e = let q = planned-same r t [] zs e in rw (q .1, sym (q .0)) parent-none
     parent-grown true t zs e =
         let x = dir-taken o h reached t zs e in
-        let m = take-good (o .good) h (dir-head o h reached) (dir-not-1 o h reached) true t zs e in
+        let m = parent-moved t zs e in
         let sh = m .shift in
         record {
           new = x .2 .anode ∷ [];
@@ -199,7 +207,7 @@ module _ (img : List ℕ) {s : Anodes} {hd sd : ℕ → ℕ} {entries : ℕ → 
         (hd′ : ℕ → ℕ) × (sd′ : ℕ → ℕ) × GoodOn img t hd′ sd′
     unfolding neededBlock
     parent-good false t zs e = (step .hd′, step .sd′, rw (sym (planned-same r t [] zs e .0)) (step .good))
-    parent-good true t zs e = let m = take-good (o .good) h (dir-head o h reached) (dir-not-1 o h reached) true t zs e in (m .hd′, m .sd′, m .good)
+    parent-good true t zs e = let m = parent-moved t zs e in (m .hd′, m .sd′, m .good)
 
     -- ---- both
 
@@ -208,6 +216,9 @@ module _ (img : List ℕ) {s : Anodes} {hd sd : ℕ → ℕ} {entries : ℕ → 
 
     own-head : Head (r .next) (r .block) f
     own-head = step .shift .stays f (orphan .head)
+
+    own-not-1 : step .hd′ f ≢ 1
+    own-not-1 q = fresh-not-1 (sym (step .good .heads .at-head f own-head) ∙ q)
 
     own-kept : (m : ℕ) → Head (begun .next) (begun .block) m → m ≢ 1 → m ≢ f → chainOf (r .next) limit m ≡ chainOf (s .next) limit m
     unfolding rewritten
@@ -238,12 +249,12 @@ module _ (img : List ℕ) {s : Anodes} {hd sd : ℕ → ℕ} {entries : ℕ → 
     made-plan needed t zs e =
         let p = parent-grown needed t zs e in
         let now = parent-good needed t zs e in
-        let mine = p .kept f (own-head .in-use) (λ q. omega (arith, is-free .from-6, step .good .heads .at-head f own-head, q)) in
+        let mine = p .kept f (own-head .in-use) own-not-1 in
         record {
           hd′ = now .0;
           sd′ = now .1;
           good = now .2;
-          own-chain = p .others f own-head (λ q. omega (arith, is-free .from-6, q)) (λ q. not-own (sym q)) ∙ step .chain;
+          own-chain = p .others f own-head fresh-not-1 (λ q. not-own (sym q)) ∙ step .chain;
           own-count = mine .0 ∙ step .count;
           own-blocks = step .blocks ∙ ap (λ (y : ℕ). cond dir (y ∷ []) []) (sym (mine .1));
           grown = record {
@@ -258,7 +269,7 @@ module _ (img : List ℕ) {s : Anodes} {hd sd : ℕ → ℕ} {entries : ℕ → 
             others = λ m d m1 mh. let d′ = fresh-stays w f fA is-free m d in
                 p .others m (step .shift .stays m d′) m1 mh ∙ own-kept m d′ m1 (λ i. d .in-use (ap (s .block) i ∙ is-free .unused));
           };
-          not-own = λ a n i. p .apart a n (rw i (own-head .in-use)) (λ q. omega (arith, is-free .from-6, step .good .heads .at-head f own-head, ap (step .hd′) (sym i) ∙ q));
+          not-own = λ a n i. p .apart a n (rw i (own-head .in-use)) (λ q. own-not-1 (ap (step .hd′) (sym i) ∙ q));
         }
 
     -- the chain of f is not named yet

@@ -15,18 +15,22 @@ use Rattle.laws.specs.Bags.{list-cons, list-append, list-congr, gather-sum, map
 use Rattle.laws.specs.Items.{names-sum, namedIn}
 use Rattle.laws.specs.Entries.{item-anode, items-sum}
 use Rattle.laws.specs.Whole.{Whole}
-use Rattle.laws.specs.Members.{Member, member-sum, member-congr, two-members}
+use Rattle.laws.specs.Members.{Member, member-sum, member-times, member-congr, two-members}
 use Rattle.changes.specs.Image.{AcceptedImage, accepted-whole}
-use Rattle.changes.specs.Reached.{its-items, EntryFacts}
+use Rattle.changes.specs.Reached.{its-items, EntryFacts, gather-part}
 
 -- how often the entries of a list name x
 unfoldable namesOf : ℕ → List Entered → ℕ
 namesOf x l = sumList (λ e. oneAt (e .anode) x) l
 
--- where they never name it, none of them does
-none-names : (x : ℕ) (l : List Entered) → namesOf x l ≡ 0 → (e : Entered) → Member e l → e .anode ≢ x
+-- where one of them does, they do
+some-names : (x : ℕ) (l : List Entered) (e : Entered) → Member e l → e .anode ≡ x → 0 < namesOf x l
 unfolding namesOf
-none-names x l z e m q = omega (arith, z, member-sum (λ e. oneAt (e .anode) x) e l m, oneAt-same (e .anode) x q)
+some-names x l e m q = omega (arith, member-sum (λ e. oneAt (e .anode) x) e l m, oneAt-same (e .anode) x q)
+
+-- where they never do, none of them does
+none-names : (x : ℕ) (l : List Entered) → namesOf x l ≡ 0 → (e : Entered) → Member e l → e .anode ≢ x
+none-names x l z e m q = omega (arith, z, some-names x l e m q)
 
 module _ {ex : ℕ → Bool} {n last : ℕ} {s : Anodes} {system hd sd : ℕ → ℕ} {entries : ℕ → List Entered} {marked : Dir → ℕ → Bool} {dirs : List Dir}
     (w : Whole ex n last s system hd sd entries marked dirs) (x : ℕ) where
@@ -54,26 +58,14 @@ module _ {ex : ℕ → Bool} {n last : ℕ} {s : Anodes} {system hd sd : ℕ →
 
   on-all : (d : Dir) → Member d dirs → (a : ℕ) → Member a (chainOf (s .next) limit (d .head)) → 0 < times a allAnodes
   unfolding times
-  on-all d m a on = omega (
-    arith,
-    gather-sum (λ d. chainOf (s .next) limit (d .head)) (λ y. oneAt y a) dirs,
-    member-sum (λ c. sumList (λ y. oneAt y a) (chainOf (s .next) limit (c .head))) d dirs m,
-    member-sum (λ y. oneAt y a) a (chainOf (s .next) limit (d .head)) on,
-    oneAt-same a a refl,
-  )
+  on-all d m a on = omega (arith, gather-part (λ d. chainOf (s .next) limit (d .head)) (λ y. oneAt y a) d dirs m, member-times a (chainOf (s .next) limit (d .head)) on)
 
   -- at most one anode has a block that names x, and it does so once
   names-apart : (a b : ℕ) → a ≢ b → 0 < times a allAnodes → 0 < times b allAnodes → namesAt a + namesAt b ≤ 1
   names-apart a b apart p q = omega (arith, two-members namesAt allAnodes a b apart p q, all-names, w .tree .once x)
 
   names-once : (d : Dir) → Member d dirs → sumList namesAt (chainOf (s .next) limit (d .head)) ≤ 1
-  names-once d m = omega (
-    arith,
-    gather-sum (λ d. chainOf (s .next) limit (d .head)) namesAt dirs,
-    member-sum (λ c. sumList namesAt (chainOf (s .next) limit (c .head))) d dirs m,
-    all-names,
-    w .tree .once x,
-  )
+  names-once d m = omega (arith, gather-part (λ d. chainOf (s .next) limit (d .head)) namesAt d dirs m, all-names, w .tree .once x)
 
 module _ {img : List ℕ} (image : AcceptedImage img) {h : ℕ} {e : Entered} (f : EntryFacts img h e) where
   abbrev s : Anodes
@@ -83,8 +75,7 @@ module _ {img : List ℕ} (image : AcceptedImage img) {h : ℕ} {e : Entered} (f
   its-chain = rw (f .block-facts .dir-head) (f .member-chain)
 
   names-it : 0 < namesOf (e .anode) (entriesIn img (s .block (f .a₀)))
-  unfolding namesOf
-  names-it = omega (arith, member-sum (λ c. oneAt (c .anode) (e .anode)) e (entriesIn img (s .block (f .a₀))) (f .member), oneAt-same (e .anode) (e .anode) refl)
+  names-it = some-names (e .anode) (entriesIn img (s .block (f .a₀))) e (f .member) refl
 
   -- no entry in another block of a reached directory names its chain
   pub only-here : (d : Dir) → Member d (reachedDirs img s) → (a : ℕ) → Member a (chainOf (s .next) limit (d .head)) → a ≢ f .a₀ →

@@ -14,16 +14,16 @@ use Rattle.endian.specs.Bytes.{stored, cleared}
 use Rattle.endian.proofs.Laws.{length-put16, length-put32, length-stored, length-cleared, getD-stored-in, getD-cleared-before}
 use Rattle.disk.specs.Blocks.{blockOf}
 use Rattle.directory.specs.declared.Entry.{Entry}
-use Rattle.directory.specs.declared.Walked.the-variants.{Found, End}
+use Rattle.directory.specs.declared.Walked.the-variants.{Found}
 use Rattle.directory.specs.Entries.{directoryHeadIn, goodName, entryLength, entryIn, walkedAt, putEntry}
 use Rattle.directory.proofs.Laws.{length-putEntry, getD-putEntry-before, walkedAt-putEntry-end, entryIn-putEntry, walkedAt-putEntry, found-at}
-use Rattle.rules.specs.Counting.{times, anyIn}
+use Rattle.rules.specs.Counting.{times}
 use Rattle.rules.specs.Walk.{Entered, entriesFrom}
 use Rattle.rules.specs.Format.{newDirectoryBlock}
 use Rattle.rules.specs.Changes.{endFrom, entriesEnd, firstRoom}
 use Rattle.laws.specs.Bags.{times-cons, times-here}
 use Rattle.laws.specs.NewDirectory.{mark-new}
-use Rattle.changes.specs.FoundEntries.{head-same, walked-same, enteredAt, entries-more, entries-end, unbroken-cases, end-more, end-here, end-bounds}
+use Rattle.changes.specs.FoundEntries.{head-same, walked-same, enteredAt, entries-more, entries-end, Unbroken, EndOrEntry, unbroken-cases, end-more, end-here, end-bounds}
 
 -- ---- an entry at the end mark's place
 
@@ -49,13 +49,13 @@ module _ (b : List ℕ) (y : ℕ) (e : Entry) (name comment : List ℕ) (whole :
       entries-more b′ y k end e found
       ∙ ap (λ (l : List Entered). enteredAt e (y * 512 + end) ∷ l) (entries-end b′ y k (end + getD b′ end 0) (rw first (walkedAt-putEntry-end b end e name comment)))
 
-  put-behind : (k at : ℕ) → at ≤ 510 → 520 ≤ at + 18 * k → anyIn (λ j. j .broken) (entriesFrom k b y at) ≡ false → endFrom k b at ≡ end →
+  put-behind : (k at : ℕ) → at ≤ 510 → 520 ≤ at + 18 * k → Unbroken (entriesFrom k b y at) → endFrom k b at ≡ end →
       entriesFrom k b′ y at ≡ entriesFrom k b y at ++ (enteredAt e (y * 512 + end) ∷ [])
   put-behind zero at l m u q = absurd (omega arith)
   put-behind (suc k) at l m u q = go (unbroken-cases b y k at u) (put-behind k)
     where
-      go : (walkedAt b at ≡ End) ⊎ ((x : Entry) × (walkedAt b at ≡ Found x) × (anyIn (λ j. j .broken) (entriesFrom k b y (at + getD b at 0)) ≡ false)) →
-          ((at : ℕ) → at ≤ 510 → 520 ≤ at + 18 * k → anyIn (λ j. j .broken) (entriesFrom k b y at) ≡ false → endFrom k b at ≡ end →
+      go : EndOrEntry b y k at →
+          ((at : ℕ) → at ≤ 510 → 520 ≤ at + 18 * k → Unbroken (entriesFrom k b y at) → endFrom k b at ≡ end →
           entriesFrom k b′ y at ≡ entriesFrom k b y at ++ (enteredAt e (y * 512 + end) ∷ [])) →
           entriesFrom (suc k) b′ y at ≡ entriesFrom (suc k) b y at ++ (enteredAt e (y * 512 + end) ∷ [])
       go (inl z) rec =
@@ -74,7 +74,7 @@ module _ (b : List ℕ) (y : ℕ) (e : Entry) (name comment : List ℕ) (whole :
           ∙ sym (ap (λ (l : List Entered). l ++ (enteredAt e (y * 512 + end) ∷ [])) (entries-more b y k at x w))
 
   -- a block's entries, with one more behind the last
-  pub entries-put : anyIn (λ j. j .broken) (entriesFrom 28 b y 16) ≡ false → entriesFrom 28 b′ y 16 ≡ entriesFrom 28 b y 16 ++ (enteredAt e (y * 512 + end) ∷ [])
+  pub entries-put : Unbroken (entriesFrom 28 b y 16) → entriesFrom 28 b′ y 16 ≡ entriesFrom 28 b y 16 ++ (enteredAt e (y * 512 + end) ∷ [])
   unfolding entriesEnd
   entries-put u = put-behind 28 16 (omega arith) (omega arith) u refl
 

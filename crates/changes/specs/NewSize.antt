@@ -18,9 +18,8 @@ use Rattle.directory.specs.declared.Walked.{Walked}
 use Rattle.directory.specs.declared.Walked.the-variants.{Found, End, Fault}
 use Rattle.directory.specs.Entries.{directoryHeadIn, kindRead, nameLength, commentLength, nameIn, entryShaped, entryIn, walkedKind, walkedAt}
 use Rattle.directory.proofs.Laws.{found-at, end-at}
-use Rattle.rules.specs.Counting.{anyIn}
 use Rattle.rules.specs.Walk.{Entered, entriesFrom}
-use Rattle.changes.specs.FoundEntries.{head-same, walked-same, entries-more, entries-end, unbroken-cases, standing-found, reaches}
+use Rattle.changes.specs.FoundEntries.{head-same, walked-same, entries-more, entries-end, Unbroken, unbroken-cases, standing-found, reaches}
 
 -- the same entry with another size
 abbrev pub sized : ℕ → Entered → Entered
@@ -107,7 +106,7 @@ module _ (b : List ℕ) (at new : ℕ) where
 
 -- entries of the same bytes
 entries-later : (b b′ : List ℕ) (y : ℕ) → length b ≡ 512 → length b′ ≡ 512 → (k at : ℕ) → ((i : ℕ) → at ≤ i → getD b′ i 0 ≡ getD b i 0) →
-    anyIn (λ e. e .broken) (entriesFrom k b y at) ≡ false → entriesFrom k b′ y at ≡ entriesFrom k b y at
+    Unbroken (entriesFrom k b y at) → entriesFrom k b′ y at ≡ entriesFrom k b y at
 unfolding walkedAt
 entries-later b b′ y whole whole′ zero at same u = unfold entriesFrom in refl
 entries-later b b′ y whole whole′ (suc m) at same u = elim (unbroken-cases b y m at u) [
@@ -121,7 +120,7 @@ module _ (b : List ℕ) (y at new : ℕ) (whole : length b ≡ 512) (e : Entered
   whole′ : length (b′ b at new) ≡ 512
   whole′ = length-put32 b (at + 4) new ∙ whole
 
-  pub entries-sized : (xs : List Entered) (k p : ℕ) → entriesFrom k b y p ≡ xs ++ (e ∷ ys) → anyIn (λ f. f .broken) (entriesFrom k b y p) ≡ false →
+  pub entries-sized : (xs : List Entered) (k p : ℕ) → entriesFrom k b y p ≡ xs ++ (e ∷ ys) → Unbroken (entriesFrom k b y p) →
       entriesFrom k (put32 b (at + 4) new) y p ≡ xs ++ (sized new e ∷ ys)
   entries-sized xs k p i u =
       let r = reaches b y at e place ys xs k p i u in

@@ -7,12 +7,12 @@ use native.Mathlib.Omega.{arith}
 use Rattle.rules.specs.Counting.{times}
 use Rattle.rules.specs.Anodes.{Anodes, anodesOf}
 use Rattle.rules.specs.Chains.{blocksOf}
-use Rattle.rules.specs.Walk.{Entered, reachedDirs}
+use Rattle.rules.specs.Walk.{Entered}
 use Rattle.rules.specs.Space.{Plan, refused, planned}
 use Rattle.rules.specs.Changes.{Left, left, leftBy}
 use Rattle.laws.specs.Heads.{Head}
 use Rattle.frames.specs.DisjointBlocks.{chains-apart}
-use Rattle.changes.specs.Image.{WholeImage, headIn, sideIn, AcceptedImage, accepted-whole}
+use Rattle.changes.specs.Image.{AcceptedWhole, AcceptedImage, accepted-whole}
 use Rattle.changes.specs.Reached.{EntryIn, EntryFacts, entry-not-1, block-on, reached-head, entry-facts}
 use Rattle.changes.specs.SingleBlocks.{single-apart}
 
@@ -36,7 +36,7 @@ module _ {img : List ℕ} {e : Entered} {Plans : Type 0} (p : PlannedChange img 
   abbrev pub image : AcceptedImage img
   image = p .entry .directory .image
 
-  pub w : WholeImage img s (headIn img) (sideIn img) (reachedDirs img s)
+  pub w : AcceptedWhole img
   w = accepted-whole image
 
   -- what is known of the entry

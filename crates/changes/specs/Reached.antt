@@ -1,16 +1,15 @@
 -- Reached directories of an accepted image: what is known of their blocks and of their entries.
-use Prim.Native.Nat.{ℕ, zero, suc, _+_, _*_, _/_, _%_, _≤_, _<_}
+use Prim.Native.Nat.{ℕ, zero, suc, _/_, _%_, _≤_, _<_}
 use mathlib.Core.Path.{_≡_, refl, sym, ap, _∙_}
 use mathlib.Core.Logic.{_≢_, _⊎_, inl, inr}
 use mathlib.Core.Bool.{Bool, true, false, true≢false}
 use mathlib.Core.List.{List, [], _∷_, map}
-use mathlib.Core.Option.{some}
+use mathlib.Core.Option.{some, Option·none-ne-some}
 use native.Mathlib.Omega.{arith}
 use lib.ListN.{length}
 use Rattle.disk.specs.Blocks.{blockOf}
 use Rattle.disk.proofs.Laws.{length-blockOf}
-use Rattle.directory.proofs.Laws.{FoundAt}
-use Rattle.rules.specs.Counting.{oneAt, sumList, times, anyIn}
+use Rattle.rules.specs.Counting.{oneAt, sumList, times, gather}
 use Rattle.rules.specs.Anodes.{Anodes, limit, anodesOf}
 use Rattle.rules.specs.Chains.{chainOf, heads, run, blocksOf, blockCount}
 use Rattle.rules.specs.Walk.{Dir, Entered, Item, entriesIn, isBlockOf, blocksFor, itemOf, broken, itemsAt, itemsBy, reachedDirs}
@@ -28,14 +27,14 @@ use Rattle.laws.specs.Entries.{broken-wrong, item-fine, item-anode, item-dir, i
 use Rattle.laws.specs.Whole.{Whole, counts-head, not-dir, dir-heads, named-heads}
 use Rattle.laws.specs.Members.{Member, member-later, member-each, member-sum, none-pass, member-gather, member-times}
 use Rattle.frames.specs.DisjointBlocks.{DataBlock, chain-block}
-use Rattle.changes.specs.Image.{WholeImage, headIn, sideIn, AcceptedImage, accepted-whole, headed-named, headed-reached, reached-some, ReachedDir}
-use Rattle.changes.specs.FoundEntries.{Standing, standing-found, entry-place, BlockEntry}
+use Rattle.changes.specs.Image.{AcceptedWhole, headIn, AcceptedImage, accepted-whole, headed-named, headed-reached, reached-some, ReachedDir}
+use Rattle.changes.specs.FoundEntries.{Unbroken, Standing, standing-place, entry-place, BlockEntry}
 
 -- ---- lookups
 
 first-member : (img name : List ℕ) (l : List Entered) (e : Entered) → firstNamed img name l ≡ some e → Member e l
 unfolding firstNamed
-first-member img name [] e is = absurd (let z : _≡_ {A = ℕ} 0 1 = cc in omega arith)
+first-member img name [] e is = absurd (Option·none-ne-some e is)
 first-member img name (x ∷ l) e is = go (isNamed img name x) is (first-member img name l e)
   where
     go : (t : Bool) → elim t [ true ↦ some x | false ↦ firstNamed img name l ] ≡ some e → (firstNamed img name l ≡ some e → Member e l) → Member e (x ∷ l)
@@ -48,7 +47,7 @@ named-member img s h name e is = first-member img name (entriesOf img s h) e is
 
 pub nth-member : (l : List Entered) (n : ℕ) (e : Entered) → nth l n ≡ some e → Member e l
 unfolding nth
-nth-member [] n e is = absurd (let z : _≡_ {A = ℕ} 0 1 = cc in omega arith)
+nth-member [] n e is = absurd (Option·none-ne-some e is)
 nth-member (x ∷ l) zero e is = ([], l, cc)
 nth-member (x ∷ l) (suc n) e is = member-later e x l (nth-member l n e is)
 
@@ -122,7 +121,7 @@ pub record DirBlock (img : List ℕ) (h a : ℕ) : Type 0 where
   pub is-data : DataBlock img (anodesOf img .block a)
   pub whole : length (blockOf img (anodesOf img .block a)) ≡ 512
   -- its entries keep the entry rules
-  pub unbroken : anyIn (λ e. e .broken) (entriesIn img (anodesOf img .block a)) ≡ false
+  pub unbroken : Unbroken (entriesIn img (anodesOf img .block a))
   -- the directory, as it was reached
   pub dir : Dir
   pub dir-head : dir .head ≡ h
@@ -167,13 +166,16 @@ module _ {img : List ℕ} {h : ℕ} {e : Entered} (f : EntryFacts img h e) where
   unfolding entriesIn
   block-entry = record { whole = rw (f .in-block) (f .block-facts .whole); unbroken = rw (f .in-block) (f .block-facts .unbroken); parted = rw (f .in-block) (f .member); place = omega arith }
 
+-- a sum over the list that g gives for a member is within that over all of them
+pub gather-part : {X Y : Type 0} (g : X → List Y) (f : Y → ℕ) (x : X) (l : List X) → Member x l → sumList f (g x) ≤ sumList f (gather g l)
+gather-part g f x l m = omega (arith, gather-sum g f l, member-sum (λ y. sumList f (g y)) x l m)
+
 -- the one block of an anode with count 1 is a block of its chain
 pub block-on : (s : Anodes) (h a : ℕ) → Member a (chainOf (s .next) limit h) → s .count a ≡ 1 → 0 < times (s .block a) (blocksOf s h)
 unfolding blocksOf times run
 block-on s h a on one = omega (
   arith,
-  gather-sum (λ b. run (s .block b) (s .count b)) (λ y. oneAt y (s .block a)) (chainOf (s .next) limit h),
-  member-sum (λ b. sumList (λ y. oneAt y (s .block a)) (run (s .block b) (s .count b))) a (chainOf (s .next) limit h) on,
+  gather-part (λ b. run (s .block b) (s .count b)) (λ y. oneAt y (s .block a)) a (chainOf (s .next) limit h) on,
   here,
 )
   where
@@ -181,7 +183,7 @@ block-on s h a on one = omega (
     here = rw one (list-one (λ y. oneAt y (s .block a)) (s .block a) ∙ oneAt-same (s .block a) (s .block a) refl)
 
 module _ {img : List ℕ} {h : ℕ} (r : ReachedDir img h) where
-  w : WholeImage img (anodesOf img) (headIn img) (sideIn img) (reachedDirs img (anodesOf img))
+  w : AcceptedWhole img
   w = accepted-whole (r .image)
 
   some-dir : 0 < headed h (reachedDirs img (anodesOf img))
@@ -222,17 +224,14 @@ module _ {img : List ℕ} {h : ℕ} (r : ReachedDir img h) where
 
   -- an entry of one of its blocks stands in that block
   pub place-in : (a : ℕ) → Member a (chainOf (anodesOf img .next) limit h) → (e : Entered) → Member e (entriesIn img (anodesOf img .block a)) →
-      (at : ℕ) × (e .place ≡ anodesOf img .block a * 512 + at) × FoundAt (blockOf img (anodesOf img .block a)) at
+      (at : ℕ) × (16 ≤ at) × Standing (blockOf img (anodesOf img .block a)) (anodesOf img .block a) at 510 e
   unfolding entriesIn
-  place-in a on e m =
-      let y = anodesOf img .block a in
-      let p = entry-place (blockOf img y) y 28 16 e m (dir-block a on .unbroken) in
-      (p .0, ap (λ (c : Entered). c .place) (p .2 .is), standing-found (p .2))
+  place-in a on e m = entry-place (blockOf img (anodesOf img .block a)) (anodesOf img .block a) 28 16 e m (dir-block a on .unbroken)
 
   module _ (e : Entered) (member : Member e (entriesOf img (anodesOf img) h)) where
     -- an entry of it
     facts-of : EntryFacts img h e
-    unfolding entriesOf entriesIn
+    unfolding entriesOf
     facts-of =
         let s = anodesOf img in
         let q = member-gather (λ a. entriesIn img (s .block a)) (chainOf (s .next) limit h) e member in
@@ -240,8 +239,8 @@ module _ {img : List ℕ} {h : ℕ} (r : ReachedDir img h) where
         let c : Member a (chainOf (s .next) limit (reached-dir .0 .head)) = rw (reached-dir .2) (q .1) in
         let f = fine w (reached-dir .0) (reached-dir .1) a c e (q .2) in
         let d = counts-head (w .good) (e .anode) (f .2) in
-        let p = entry-place (blockOf img (s .block a)) (s .block a) 28 16 e (q .2) (dir-block a (q .1) .unbroken) in
-        let place : e .place ≡ s .block a * 512 + p .0 = ap (λ (z : Entered). z .place) (p .2 .is) in
+        let p = place-in a (q .1) e (q .2) in
+        let place = standing-place (p .2) in
         let y : e .place / 512 ≡ s .block a = omega (arith, p .2 .before) in
         let at : e .place % 512 ≡ p .0 = omega (arith, p .2 .before) in
         record {
@@ -270,8 +269,12 @@ module _ {img : List ℕ} {h : ℕ} (r : ReachedDir img h) where
       member-each (λ d. d .head ≢ e .anode) (reached-dir .0) (reachedDirs img (anodesOf img)) (reached-dir .1) (not-dir w (e .anode) (f .file i)) (reached-dir .2 ∙ q)
 
   -- no entry of it breaks the entry rules
-  pub reached-unbroken : anyIn (λ e. e .broken) (entriesOf img (anodesOf img) h) ≡ false
+  pub reached-unbroken : Unbroken (entriesOf img (anodesOf img) h)
   reached-unbroken = none-pass (λ e. e .broken) (entriesOf img (anodesOf img) h) (λ e m. facts-of e m .unbroken)
 
 pub entry-facts : {img : List ℕ} {h : ℕ} {e : Entered} → EntryIn img h e → EntryFacts img h e
 entry-facts {e = e} m = facts-of (m .directory) e (m .member)
+
+-- a block of its chain is a data block
+pub entry-data : {img : List ℕ} {h : ℕ} {e : Entered} → EntryIn img h e → (y : ℕ) → 0 < times y (blocksOf (anodesOf img) (e .anode)) → DataBlock img y
+entry-data {img} {e = e} m = chain-block img (accepted-whole (m .directory .image) .good) (e .anode) (entry-facts m .head)

@@ -17,9 +17,7 @@ use Rattle.rules.specs.Lookup.{noDirectory, entryNamed, bytesOf, contents}
 use Rattle.rules.specs.Calls.{spanAnswer, readAnswer, readOutcome, settled, doneOr}
 use Rattle.laws.specs.ChainBlocks.{length-blocksOf}
 use Rattle.frames.specs.StoredBytes.{length-gather}
-use Rattle.frames.specs.DisjointBlocks.{chain-block}
-use Rattle.changes.specs.Image.{accepted-whole}
-use Rattle.changes.specs.Reached.{named-member, EntryIn, entry-facts}
+use Rattle.changes.specs.Reached.{named-member, EntryIn, entry-facts, entry-data}
 
 -- the bytes of a file
 module _ {img : List ℕ} {h : ℕ} {e : Entered} (m : EntryIn img h e) (file : e .dir ≡ false) where
@@ -27,9 +25,7 @@ module _ {img : List ℕ} {h : ℕ} {e : Entered} (m : EntryIn img h e) (file : 
   pub bytes-long : length (bytesOf img (anodesOf img) (e .anode)) ≡ blocksFor (e .size) * 512
   unfolding bytesOf
   bytes-long =
-      let w = accepted-whole (m .directory .image) in
-      let f = entry-facts m in
-      omega (arith, length-gather img (blocksOf (anodesOf img) (e .anode)) (λ y p. chain-block img (w .good) (e .anode) (f .head) y p .inside), length-blocksOf (anodesOf img) (e .anode), f .sized file)
+      omega (arith, length-gather img (blocksOf (anodesOf img) (e .anode)) (λ y p. entry-data m y p .inside), length-blocksOf (anodesOf img) (e .anode), entry-facts m .sized file)
 
   -- a file has as many bytes as its size says
   pub file-long : length (contents img (anodesOf img) e) ≡ e .size

@@ -8,17 +8,15 @@ use native.Mathlib.Omega.{arith}
 use lib.ListN.{getD}
 use Rattle.disk.specs.Blocks.{blockOf}
 use Rattle.rules.specs.Counting.{sumList}
-use Rattle.rules.specs.Anodes.{Anodes, limit, exists, anodesOf}
+use Rattle.rules.specs.Anodes.{Anodes, anodesOf}
 use Rattle.rules.specs.Chains.{blockCount, systemOwns}
 use Rattle.rules.specs.Walk.{Dir, Entered, entriesIn, isBlockOf, reachedDirs}
-use Rattle.rules.specs.Accepted.{lastReserved, checkAnswer}
 use Rattle.rules.specs.Lookup.{entriesOf, nth, isThere, notEmpty}
-use Rattle.rules.specs.Space.{Plan, refused, giveMany, onChain, dropped}
+use Rattle.rules.specs.Space.{refused}
 use Rattle.rules.specs.Changes.{removedImage, removed}
 use Rattle.laws.specs.Tests.{same?}
 use Rattle.laws.specs.Sums.{oneAt-same, oneAt-other}
 use Rattle.laws.specs.Bags.{list-cons, list-append, map-sum}
-use Rattle.laws.specs.LinkChanges.{without}
 use Rattle.laws.specs.TreeChanges.{headed}
 use Rattle.laws.specs.Entries.{weighEntry}
 use Rattle.laws.specs.Whole.{blocks-count}
@@ -26,11 +24,11 @@ use Rattle.laws.specs.RefusedSteps.{gives-refused}
 use Rattle.laws.specs.Make.{SameMarks, EntryMore}
 use Rattle.laws.specs.Remove as Laws
 use Rattle.frames.specs.Kept.{entriesIn-kept, isBlockOf-kept}
-use Rattle.changes.specs.Image.{WholeOn, headIn, sideIn, accepted-whole, whole-accepted, reached-headed}
+use Rattle.changes.specs.Image.{WholeOn, StillAccepted, headIn, sideIn, accepted-whole, whole-accepted, reached-headed}
 use Rattle.changes.specs.Reached.{EntryIn, entry-not-1, entry-facts}
 use Rattle.changes.specs.Gap.{lowered}
 use Rattle.changes.specs.PlannedChange.{left-cases, image, w, facts}
-use Rattle.changes.specs.RemoveStores.{PlannedRemove, here, kept-data, entries-left, marks-left, apart}
+use Rattle.changes.specs.RemoveStores.{removePlan, PlannedRemove, here, kept-data, entries-left, marks-left, apart}
 use Rattle.changes.specs.RemoveStores as Stores
 
 module _ {img : List ℕ} {e : Entered} {t : Anodes} {ys : List ℕ} (p : PlannedRemove img e t ys) where
@@ -88,38 +86,34 @@ module _ {img : List ℕ} {e : Entered} {t : Anodes} {ys : List ℕ} (p : Planne
         go (x ∷ l) q = absurd (true≢false q)
 
     -- the state that is left is whole, and every other directory is still in it
-    pub left-whole : let dead = onChain limit t (e .anode) in (dirs : List Dir)
-        × WholeOn img j (dropped limit t (e .anode)) (without dead (Stores.ran p .hd′)) (without dead (Stores.ran p .sd′)) dirs
+    pub left-whole : (dirs : List Dir) × WholeOn img j (Stores.end p) (Stores.hdLeft p) (Stores.sdLeft p) dirs
         × ((x : ℕ) → x ≢ e .anode → headed x dirs ≡ headed x (reachedDirs img s))
     unfolding entriesOf
     left-whole = Laws.removed (w p) e (e .anode) refl (facts p .a₀) (p .home) (reached-headed (p .entry .directory)) (facts p .block-facts .on-chain) (entriesIn j) lost no-entry (Stores.ran p) (isBlockOf j) same-marks
 
-    pub planned-accepted : checkAnswer j (image p .blocks) (image p .anodes) ≡ 0
+    pub planned-accepted : StillAccepted (image p) j
     planned-accepted = whole-accepted (image p) (Stores.removed-disk p) (left-whole .1)
 
 module _ {img : List ℕ} {h : ℕ} {e : Entered} (m : EntryIn img h e) where
   -- ---- the answers
 
   -- a removal is refused with 28 alone
-  pub remove-refused : (k : ℕ) → giveMany limit (exists img) (lastReserved img) (blockCount (anodesOf img) (e .anode)) (anodesOf img) (e .anode) ≡ refused k → k ≡ 28
+  pub remove-refused : (k : ℕ) → removePlan img e ≡ refused k → k ≡ 28
   remove-refused k q =
       let g = accepted-whole (m .directory .image) .good in
       let f = entry-facts m in
       gives-refused (blockCount (anodesOf img) (e .anode)) (e .anode) (entry-not-1 f) k (anodesOf img) (systemOwns img) (headIn img) (sideIn img) g (f .head)
       (omega (arith, blocks-count g (e .anode) (f .head))) q
 
-  abbrev gives : Plan
-  gives = giveMany limit (exists img) (lastReserved img) (blockCount (anodesOf img) (e .anode)) (anodesOf img) (e .anode)
-
   -- what a removal leaves of an accepted image is accepted, where a directory that goes is empty
-  pub remove-accepted : (e .dir ≡ true → notEmpty img (anodesOf img) e ≡ false) → checkAnswer (removed img (anodesOf img) e .image) (m .directory .image .blocks) (m .directory .image .anodes) ≡ 0
+  pub remove-accepted : (e .dir ≡ true → notEmpty img (anodesOf img) e ≡ false) → StillAccepted (m .directory .image) (removed img (anodesOf img) e .image)
   unfolding removed
   remove-accepted empty =
       let a = m .directory .image in
-      left-cases (λ l. checkAnswer (l .image) (a .blocks) (a .anodes) ≡ 0) img (λ t ys. removedImage img e t) gives (λ k q. a .accepted)
+      left-cases (λ l. StillAccepted a (l .image)) img (λ t ys. removedImage img e t) (removePlan img e) (λ k q. a .accepted)
       (λ t ys q. planned-accepted (record { home = h; entry = m; plan = q }) empty)
 
   -- it answers 0 or 28
   pub remove-answers : (removed img (anodesOf img) e .answer ≡ 0) ⊎ (removed img (anodesOf img) e .answer ≡ 28)
   unfolding removed
-  remove-answers = left-cases (λ l. (l .answer ≡ 0) ⊎ (l .answer ≡ 28)) img (λ t ys. removedImage img e t) gives (λ k q. inr (remove-refused k q)) (λ t ys q. inl refl)
+  remove-answers = left-cases (λ l. (l .answer ≡ 0) ⊎ (l .answer ≡ 28)) img (λ t ys. removedImage img e t) (removePlan img e) (λ k q. inr (remove-refused k q)) (λ t ys q. inl refl)

@@ -5,10 +5,9 @@ use mathlib.Core.Logic.{_≢_}
 use mathlib.Core.Bool.{Bool, true, false}
 use mathlib.Core.List.{List}
 use Rattle.rules.specs.Counting.{oneAt}
-use Rattle.rules.specs.Anodes.{Anodes, limit, anodesOf}
+use Rattle.rules.specs.Anodes.{Anodes, anodesOf}
 use Rattle.rules.specs.Walk.{Entered, reachedDirs}
 use Rattle.rules.specs.Lookup.{noDirectory, entriesOf, notEmpty, contents}
-use Rattle.rules.specs.Space.{dropped}
 use Rattle.rules.specs.Changes.{removedImage}
 use Rattle.laws.specs.Heads.{Head}
 use Rattle.laws.specs.TreeChanges.{headed}
@@ -20,7 +19,7 @@ use Rattle.changes.specs.Reached.{EntryIn, reached-head}
 use Rattle.changes.specs.EntryBytes.{entryBytes}
 use Rattle.changes.specs.KeptChains.{SameChain, same-chain-alike, entry-bytes-same, OthersLeft, contents-left, entries-left}
 use Rattle.changes.specs.PlannedChange.{image, w, facts, off-chain}
-use Rattle.changes.specs.RemoveStores.{PlannedRemove, ran, end-good, removed-disk, kept-data}
+use Rattle.changes.specs.RemoveStores.{PlannedRemove, end, ran, end-good, removed-disk, kept-data}
 use Rattle.changes.specs.Remove.{left-whole, planned-accepted}
 
 module _ {img : List ℕ} {e : Entered} {t : Anodes} {ys : List ℕ} (p : PlannedRemove img e t ys) where
@@ -31,24 +30,21 @@ module _ {img : List ℕ} {e : Entered} {t : Anodes} {ys : List ℕ} (p : Planne
   abbrev j : List ℕ
   j = removedImage img e t
 
-  abbrev end : Anodes
-  end = dropped limit t (e .anode)
-
   -- ---- what is left of the chains
 
-  gone : Laws.Gone s (headIn img) end (e .anode)
+  gone : Laws.Gone s (headIn img) (end p) (e .anode)
   gone = Laws.dropped-gone (e .anode) (facts p .from-6) (facts p .head) (ran p)
 
   module _ (m : ℕ) (head : Head (s .next) (s .block) m) where
     -- every other chain has its anodes
-    pub others-same : m ≢ 1 → m ≢ e .anode → SameChain s end m
+    pub others-same : m ≢ 1 → m ≢ e .anode → SameChain s (end p) m
     others-same m1 other = same-chain-alike (Laws.gone-chain (w p .good) (end-good p) (e .anode) gone m m1 other head) (Laws.gone-alike (w p .good) (end-good p) (e .anode) gone m m1 other head)
 
     -- and the blocks of every chain but its own directory's are kept
     others-kept : m ≢ p .home → BlocksKept img j s m
     others-kept o z q = kept-data p .block-kept z (chain-block img (w p .good) m head z q, off-chain p m head o z q)
 
-  others-left : OthersLeft img j end (e .anode) (p .home)
+  others-left : OthersLeft img j (end p) (e .anode) (p .home)
   others-left = record { same-chains = others-same; blocks-kept = λ m d m1 other. others-kept m d }
 
   -- every other file has the bytes that it had

@@ -10,8 +10,8 @@ use Rattle.rules.specs.Anodes.{Anodes, limit, exists, anodesOf, withAnodes}
 use Rattle.rules.specs.Chains.{blockCount, systemOwns}
 use Rattle.rules.specs.Walk.{Dir, Entered, entriesIn, isBlockOf}
 use Rattle.rules.specs.Accepted.{diskSize, lastReserved}
-use Rattle.rules.specs.Space.{planned, giveMany, onChain, dropped}
-use Rattle.rules.specs.Changes.{entriesEnd, gapClosed, withoutEntry, removedImage}
+use Rattle.rules.specs.Space.{Plan, planned, giveMany, onChain, dropped}
+use Rattle.rules.specs.Changes.{withoutEntry, removedImage}
 use Rattle.laws.specs.LinkChanges.{without}
 use Rattle.laws.specs.Whole.{blocks-count}
 use Rattle.laws.specs.Resize.{Ran, shrink-ran}
@@ -24,11 +24,15 @@ use Rattle.changes.specs.FoundEntries.{BlockEntry}
 use Rattle.changes.specs.Reached.{block-data, block-entry}
 use Rattle.changes.specs.SingleBlocks.{single-data}
 use Rattle.changes.specs.PlannedChange.{PlannedChange, image, w, facts, not-1, off-anode}
-use Rattle.changes.specs.Gap.{lowered, length-closed, head-closed, entries-closed}
+use Rattle.changes.specs.Gap.{lowered, entryClosed, length-closed, head-closed, entries-closed}
+
+-- the steps of a removal: all blocks of the entry's chain are given back
+abbrev pub removePlan : List ℕ → Entered → Plan
+removePlan img e = giveMany limit (exists img) (lastReserved img) (blockCount (anodesOf img) (e .anode)) (anodesOf img) (e .anode)
 
 -- a removal of an entry of an accepted image, and the steps that were planned
 abbrev pub PlannedRemove : List ℕ → Entered → Anodes → List ℕ → Type 0
-PlannedRemove img e t ys = PlannedChange img e (giveMany limit (exists img) (lastReserved img) (blockCount (anodesOf img) (e .anode)) (anodesOf img) (e .anode) ≡ planned t ys)
+PlannedRemove img e t ys = PlannedChange img e (removePlan img e ≡ planned t ys)
 
 module _ {img : List ℕ} {e : Entered} {t : Anodes} {ys : List ℕ} (p : PlannedRemove img e t ys) where
   abbrev s : Anodes
@@ -49,14 +53,15 @@ module _ {img : List ℕ} {e : Entered} {t : Anodes} {ys : List ℕ} (p : Planne
   len = getD b at 0
 
   abbrev pub closed : List ℕ
-  closed = gapClosed b at len (entriesEnd b)
+  closed = entryClosed b at
 
   abbrev pub here : BlockEntry b y at e
   here = block-entry (facts p)
 
   -- ---- its stores, one after the other
 
-  abbrev end : Anodes
+  -- the anodes that are left
+  abbrev pub end : Anodes
   end = dropped limit t (e .anode)
 
   abbrev stored : List ℕ
@@ -70,29 +75,31 @@ module _ {img : List ℕ} {e : Entered} {t : Anodes} {ys : List ℕ} (p : Planne
   ran = shrink-ran (blockCount s (e .anode)) (e .anode) (not-1 p) t ys s (systemOwns img) (headIn img) (sideIn img) 0 (omega (arith, blocks-count (w p .good) (e .anode) (facts p .head))) (w p .good) (facts p .head)
       (p .plan)
 
-  pub end-good : let dead = onChain limit t (e .anode) in
-      GoodOn img (dropped limit t (e .anode)) (without dead (ran .hd′)) (without dead (ran .sd′))
+  -- the heads of the chains that are left, and of the sides of the free list
+  abbrev pub hdLeft : ℕ → ℕ
+  hdLeft = without (onChain limit t (e .anode)) (ran .hd′)
+
+  abbrev pub sdLeft : ℕ → ℕ
+  sdLeft = without (onChain limit t (e .anode)) (ran .sd′)
+
+  pub end-good : GoodOn img end hdLeft sdLeft
   end-good = dropped-good (e .anode) (facts p .from-6) (facts p .head) ran
 
   same-block : blockOf stored y ≡ b
   same-block = stored-kept (image p) end .block-kept y (block-data (facts p) .unheld)
 
-  closer : List ℕ → List ℕ
-  closer c = gapClosed c at (getD c at 0) (entriesEnd c)
-
-  long : length (closer (blockOf stored y)) ≡ length (blockOf stored y)
-  unfolding closer
+  long : length (entryClosed (blockOf stored y) at) ≡ length (blockOf stored y)
   long = rw same-block (length-closed here ∙ sym (here .whole))
 
   kept-last : Kept (λ d. d ≢ y) stored j
-  unfolding removedImage withoutEntry closer
-  kept-last = inBlock-kept stored y closer long
+  unfolding removedImage withoutEntry
+  kept-last = inBlock-kept stored y (λ c. entryClosed c at) long
 
   pub block-left : blockOf j y ≡ closed
-  unfolding removedImage withoutEntry closer
-  block-left = blockOf-inBlock stored y closer long ∙ ap closer same-block
+  unfolding removedImage withoutEntry
+  block-left = blockOf-inBlock stored y (λ c. entryClosed c at) long ∙ ap (λ (c : List ℕ). entryClosed c at) same-block
 
-  pub removed-disk : DiskWith img (dropped limit t (e .anode)) j
+  pub removed-disk : DiskWith img end j
   removed-disk = disk-then (disk-stored (image p) end end-good) kept-last (not-one (block-data (facts p)))
 
   -- ---- the entries and marks of the blocks

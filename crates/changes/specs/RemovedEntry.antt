@@ -21,6 +21,7 @@ use Rattle.laws.specs.ChainBlocks.{stands-once}
 use Rattle.laws.specs.Members.{Member, no-member, member-later, member-append, member-left, member-right, member-gather, member-times, gather-congr, map-members, map-kept}
 use Rattle.frames.specs.Kept.{entriesIn-kept}
 use Rattle.frames.specs.DisjointBlocks.{DataBlock}
+use Rattle.changes.specs.FoundEntries.{standing-found, standing-place}
 use Rattle.changes.specs.Reached.{reached-not-1, dir-block, place-in, not-file}
 use Rattle.changes.specs.Gap.{lowered, bytes-earlier, bytes-later}
 use Rattle.changes.specs.EntryBytes.{entryBytes, bytes-at, with-length}
@@ -31,17 +32,17 @@ use Rattle.changes.specs.KeptChains.{entries-along}
 use Rattle.changes.specs.RemoveEffects.{others-same}
 
 -- an entry behind the removed one: in the same block it stands earlier by as many bytes as that had
-unfoldable pub movedUp : List ℕ → Entered → Entered → Entered
-movedUp img e f = cond (eqb (f .place / 512) (e .place / 512)) (lowered (getD (blockOf img (e .place / 512)) (e .place % 512) 0) f) f
+unfoldable pub movedDown : List ℕ → Entered → Entered → Entered
+movedDown img e f = cond (eqb (f .place / 512) (e .place / 512)) (lowered (getD (blockOf img (e .place / 512)) (e .place % 512) 0) f) f
 
 -- the entries of a directory, without e: those behind it may have moved, and all have the bytes that they had
 pub record EntryGone (img j : List ℕ) (e : Entered) (old new : List Entered) : Type 0 where
   pub before : List Entered
   pub behind : List Entered
   pub were : old ≡ before ++ (e ∷ behind)
-  pub are : new ≡ before ++ map (movedUp img e) behind
+  pub are : new ≡ before ++ map (movedDown img e) behind
   pub bytes-before : (f : Entered) → Member f before → entryBytes j (f .place) ≡ entryBytes img (f .place)
-  pub bytes-behind : (f : Entered) → Member f behind → entryBytes j (movedUp img e f .place) ≡ entryBytes img (f .place)
+  pub bytes-behind : (f : Entered) → Member f behind → entryBytes j (movedDown img e f .place) ≡ entryBytes img (f .place)
 
 module _ {img : List ℕ} {e : Entered} {t : Anodes} {ys : List ℕ} (p : PlannedRemove img e t ys) where
   abbrev s : Anodes
@@ -60,17 +61,19 @@ module _ {img : List ℕ} {e : Entered} {t : Anodes} {ys : List ℕ} (p : Planne
   abbrev later : List Entered
   later = here p .parted .1
 
-  not-moved : (f : Entered) → f .place / 512 ≢ y p → movedUp img e f ≡ f
-  unfolding movedUp
+  not-moved : (f : Entered) → f .place / 512 ≢ y p → movedDown img e f ≡ f
+  unfolding movedDown
   not-moved f o = rw (ne-eqb (f .place / 512) (y p) o)
 
-  is-moved : (f : Entered) → f .place / 512 ≡ y p → movedUp img e f ≡ lowered (len p) f
-  unfolding movedUp
+  is-moved : (f : Entered) → f .place / 512 ≡ y p → movedDown img e f ≡ lowered (len p) f
+  unfolding movedDown
   is-moved f q = rw (eq-eqb (f .place / 512) (y p) q)
 
   -- an entry of the block
   in-block : (f : Entered) → Member f (entriesIn img (y p)) → (k : ℕ) × (f .place ≡ y p * 512 + k) × FoundAt (b p) k
-  in-block f m = rw (← (facts p .in-block)) at (place-in (p .entry .directory) (facts p .a₀) (facts p .member-chain) f (rw (facts p .in-block) at m))
+  in-block f m =
+      let q = rw (← (facts p .in-block)) at (place-in (p .entry .directory) (facts p .a₀) (facts p .member-chain) f (rw (facts p .in-block) at m)) in
+      (q .0, standing-place (q .2), standing-found (q .2))
 
   -- an entry whose bytes the closed block has, at its place or an earlier one
   bytes-moved : (place place′ k k′ : ℕ) → place ≡ y p * 512 + k → place′ ≡ y p * 512 + k′ → k′ ≤ k → FoundAt (b p) k →
@@ -135,7 +138,7 @@ module _ {img : List ℕ} {e : Entered} {t : Anodes} {ys : List ℕ} (p : Planne
       let q = member-gather old l f m in
       let u = o (q .0) (q .1) in
       let i = place-in (p .entry .directory) (q .0) (u .0) f (q .2) in
-      let in-a : f .place / 512 ≡ s .block (q .0) = omega (arith, i .1, i .2 .room) in
+      let in-a : f .place / 512 ≡ s .block (q .0) = omega (arith, standing-place (i .2), i .2 .before) in
       let k = other-anode (q .0) u in
       rw in-a (k .1, rw (kept-data p .block-kept (s .block (q .0)) k))
 
@@ -156,11 +159,11 @@ module _ {img : List ℕ} {e : Entered} {t : Anodes} {ys : List ℕ} (p : Planne
       ∙ ap (λ (k : List Entered). gather old front ++ (k ++ gather old back)) (ap (entriesIn img) (sym (facts p .in-block)) ∙ here p .parted .2)
       ∙ joined (e ∷ later) (gather old back)
 
-  all-moved : map (movedUp img e) behind ≡ map (lowered (len p)) later ++ gather old back
+  all-moved : map (movedDown img e) behind ≡ map (lowered (len p)) later ++ gather old back
   all-moved =
-      map-append (movedUp img e) later (gather old back)
-      ∙ ap₂ _++_ (map-members (movedUp img e) (lowered (len p)) later (λ f m. is-moved f (same-behind f m .0)))
-      (map-kept (movedUp img e) (gather old back) (λ f m. not-moved f (along back in-back f m .0)))
+      map-append (movedDown img e) later (gather old back)
+      ∙ ap₂ _++_ (map-members (movedDown img e) (lowered (len p)) later (λ f m. is-moved f (same-behind f m .0)))
+      (map-kept (movedDown img e) (gather old back) (λ f m. not-moved f (along back in-back f m .0)))
 
   module _ (empty : e .dir ≡ true → notEmpty img s e ≡ false) where
     -- a directory that goes is not the one that had its entry
@@ -171,7 +174,7 @@ module _ {img : List ℕ} {e : Entered} {t : Anodes} {ys : List ℕ} (p : Planne
         go true i = no-member e (rw (ap (entriesOf img s) q ∙ no-entry p empty i) at (p .entry .member))
         go false i = not-file (p .entry .directory) (facts p) i q
 
-    new-entries : entriesOf j (anodesOf j) (p .home) ≡ were ++ map (movedUp img e) behind
+    new-entries : entriesOf j (anodesOf j) (p .home) ≡ were ++ map (movedDown img e) behind
     unfolding gather
     new-entries = rw (removed-disk p .anodes, all-moved)
         (entries-along (others-same p (p .home) (home-head p) (reached-not-1 (p .entry .directory)) not-itself) j

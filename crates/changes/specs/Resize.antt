@@ -8,17 +8,16 @@ use native.Mathlib.Omega.{arith}
 use lib.Dec.{eqb}
 use borrow.Author.Tests.{eq-eqb, ne-eqb}
 use Rattle.disk.specs.Blocks.{blockOf}
-use Rattle.rules.specs.Anodes.{Anodes, limit, exists, anodesOf}
-use Rattle.rules.specs.Chains.{chainOf, systemOwns}
+use Rattle.rules.specs.Anodes.{Anodes, limit, anodesOf}
+use Rattle.rules.specs.Chains.{chainOf}
 use Rattle.rules.specs.Walk.{Dir, Entered, entriesIn, isBlockOf, blocksFor, broken, itemsFor, itemsAt, itemsBy, reachedDirs}
-use Rattle.rules.specs.Accepted.{diskSize, lastReserved, checkAnswer}
 use Rattle.rules.specs.Space.{Plan}
 use Rattle.rules.specs.Changes.{resizePlan, resizedImage, resized}
 use Rattle.laws.specs.Tests.{same?}
-use Rattle.laws.specs.Whole.{Whole}
 use Rattle.laws.specs.Resize as Laws
 use Rattle.laws.specs.Members.{Member, member-times, gather-congr, map-kept}
-use Rattle.changes.specs.Image.{WholeOn, accepted-whole, whole-accepted, ReachedDir}
+use Rattle.changes.specs.Answers.{StepsAnswer}
+use Rattle.changes.specs.Image.{WholeWith, WholeOn, StillAccepted, accepted-whole, whole-accepted, ReachedDir}
 use Rattle.changes.specs.Reached.{member-reached, EntryIn, entry-not-1, dir-block, entry-facts}
 use Rattle.changes.specs.NamedOnce.{only-here, only-this}
 use Rattle.changes.specs.SameItems.{whole-same}
@@ -110,8 +109,7 @@ module _ {img : List ℕ} {e : Entered} {new : ℕ} {t : Anodes} {ys : List ℕ}
     items-left = rw (dir-same p r .same-extents a (member-times a (chainOf (s .next) limit (d .head)) on) .1, marks-left, block-left)
 
   -- the state after the steps is whole where the entries have the new size
-  sizes-whole : Whole (exists img) (diskSize img) (lastReserved img) t (systemOwns img) (steps p .ran .hd′) (steps p .ran .sd′)
-      (λ y. map (resizedEntry (e .anode) new) (entriesIn img y)) (isBlockOf img) dirs
+  sizes-whole : WholeWith img t (steps p .ran .hd′) (steps p .ran .sd′) (λ y. map (resizedEntry (e .anode) new) (entriesIn img y)) (isBlockOf img) dirs
   sizes-whole = Laws.resized (w p) (e .anode) (facts p .file (p .plan .file)) (steps p .ran) (resizedEntry (e .anode) new) (λ y. map (resizedEntry (e .anode) new) (entriesIn img y)) (isBlockOf img)
       (record { keeps = resized-fields (e .anode) new; other = λ x n. ap (λ (c : Entered). c .size) (resized-other (e .anode) new x n); there = λ a c q r. (refl, λ d. refl) })
       (λ x i. ap (λ (c : Entered). blocksFor (c .size)) (resized-it (e .anode) new x i))
@@ -122,7 +120,7 @@ module _ {img : List ℕ} {e : Entered} {new : ℕ} {t : Anodes} {ys : List ℕ}
       gather-congr (itemsAt (entriesIn j) (isBlockOf j) t d) (itemsAt (λ y. map (resizedEntry (e .anode) new) (entriesIn img y)) (isBlockOf img) t d) (chainOf (t .next) limit (d .head))
       (λ a on. items-left d m a (rw (dir-same p (member-reached (image p) d m) .same-anodes) at on)))
 
-  resized-accepted : checkAnswer (resizedImage img s e new t ys) (image p .blocks) (image p .anodes) ≡ 0
+  resized-accepted : StillAccepted (image p) j
   resized-accepted = whole-accepted (image p) (resized-disk p) still-whole
 
 module _ {img : List ℕ} {h : ℕ} {e : Entered} (m : EntryIn img h e) (new : ℕ) where
@@ -130,17 +128,17 @@ module _ {img : List ℕ} {h : ℕ} {e : Entered} (m : EntryIn img h e) (new : �
   plan = resizePlan img (anodesOf img) (e .anode) (blocksFor new)
 
   -- what a resize leaves of an accepted image is accepted
-  pub resize-accepted : e .dir ≡ false → checkAnswer (resized img (anodesOf img) e new .image) (m .directory .image .blocks) (m .directory .image .anodes) ≡ 0
+  pub resize-accepted : e .dir ≡ false → StillAccepted (m .directory .image) (resized img (anodesOf img) e new .image)
   unfolding resized
   resize-accepted file =
       let a = m .directory .image in
-      left-cases (λ l. checkAnswer (l .image) (a .blocks) (a .anodes) ≡ 0) img (resizedImage img (anodesOf img) e new) plan (λ k q. a .accepted)
+      left-cases (λ l. StillAccepted a (l .image)) img (resizedImage img (anodesOf img) e new) plan (λ k q. a .accepted)
       (λ t ys q. resized-accepted (record { home = h; entry = m; plan = record { file = file; steps = q } }))
 
   -- it answers 0, 27 or 28
-  pub resize-answers : let r = resized img (anodesOf img) e new .answer in (r ≡ 0) ⊎ ((r ≡ 27) ⊎ (r ≡ 28))
+  pub resize-answers : StepsAnswer (resized img (anodesOf img) e new .answer)
   unfolding resized
   resize-answers =
       let f = entry-facts m in
-      left-cases (λ l. (l .answer ≡ 0) ⊎ ((l .answer ≡ 27) ⊎ (l .answer ≡ 28))) img (resizedImage img (anodesOf img) e new) plan
+      left-cases (λ l. StepsAnswer (l .answer)) img (resizedImage img (anodesOf img) e new) plan
       (λ k q. inr (plan-refused img (accepted-whole (m .directory .image) .good) (e .anode) (f .head) (entry-not-1 f) (blocksFor new) k q)) (λ t ys q. inl refl)

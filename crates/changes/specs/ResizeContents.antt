@@ -6,11 +6,10 @@ use mathlib.Core.Bool.{true, false}
 use mathlib.Core.List.{List, [], _∷_, _++_, append-nil, append-assoc}
 use native.Mathlib.Omega.{arith}
 use lib.Dec.{ltb}
-use lib.ListN.{length, getD, take, replicate, length-replicate, replicate-append-replicate, drop-of-length-le}
+use lib.ListN.{length, take, replicate, length-replicate, replicate-append-replicate, drop-of-length-le}
 use lib.Seq.{take-at, take-all, take-take, take-append-le, take-append-add, split-at, sets-eq, length-take-le}
 use borrow.Author.Tests.{lt-ltb, le-ltb, ne-eqb}
 use Rattle.endian.specs.Bytes.{cleared}
-use Rattle.endian.proofs.Laws.{length-cleared}
 use Rattle.disk.specs.Blocks.{blockOf}
 use Rattle.disk.proofs.Laws.{length-blockOf}
 use Rattle.rules.specs.Counting.{times, gather}
@@ -29,14 +28,14 @@ use Rattle.laws.specs.ChainBlocks.{length-blocksOf}
 use Rattle.laws.specs.Members.{member-times}
 use Rattle.frames.specs.StoredBlocks.{inBlock-kept, blockOf-inBlock}
 use Rattle.frames.specs.StoredBytes.{length-gather, blockOf-withBlocks}
-use Rattle.frames.specs.DisjointBlocks.{chain-once, chain-block}
-use Rattle.changes.specs.Reached.{EntryIn}
+use Rattle.frames.specs.DisjointBlocks.{chain-once}
+use Rattle.changes.specs.Reached.{EntryIn, entry-data}
 use Rattle.changes.specs.KeptChains.{contents-left}
 use Rattle.changes.specs.Read.{bytes-long, file-long}
 use Rattle.changes.specs.NewSize.{sized}
 use Rattle.changes.specs.ResizePlan.{handed-data, plan-longer, plan-shorter}
 use Rattle.changes.specs.PlannedChange.{w, facts, not-1}
-use Rattle.changes.specs.ResizeStores.{PlannedResize, steps, stored, taken-kept, tail-in, tail-kept, size-kept, others-left, home-alone}
+use Rattle.changes.specs.ResizeStores.{PlannedResize, steps, zeroed, stored, taken-kept, lastBlock, tailCleared, tail-in, tail-long, tail-kept, size-kept, others-left, home-alone}
 
 -- the rest of a block cleared
 cleared-rest : (b : List ℕ) (r : ℕ) → length b ≡ 512 → r ≤ 512 → cleared b r (512 - r) ≡ take r b ++ replicate (512 - r) 0
@@ -83,7 +82,7 @@ module _ {img : List ℕ} {e : Entered} {new : ℕ} {t : Anodes} {ys : List ℕ}
   off-home y q i = omega (arith, rw i at q, home-alone p .1)
 
   inside : Inside img chain
-  inside y q = chain-block img (w p .good) (e .anode) (facts p .head) y q .inside
+  inside y q = entry-data (p .entry) y q .inside
 
   module _ (less : new ≤ e .size) where
     shorter : (rest : List ℕ) × (chain ≡ blocksOf t (e .anode) ++ rest)
@@ -102,7 +101,7 @@ module _ {img : List ℕ} {e : Entered} {new : ℕ} {t : Anodes} {ys : List ℕ}
     block-left y q =
         let small = le-ltb (e .size) new less in
         let c = still-in y q in
-        size-kept p .block-kept y (off-home y c) ∙ rw (small) (stored p .block-kept y (chain-block img (w p .good) (e .anode) (facts p .head) y c .unheld))
+        size-kept p .block-kept y (off-home y c) ∙ rw (small) (stored p .block-kept y (entry-data (p .entry) y c .unheld))
 
     -- a file that shrinks has its bytes up to the new size
     pub contents-shrunk : contents j t (sized new e) ≡ take new (contents img s e)
@@ -146,9 +145,9 @@ module _ {img : List ℕ} {e : Entered} {new : ℕ} {t : Anodes} {ys : List ℕ}
         (rw (stored p .length-kept) (handed-data img (w p .good) (e .anode) (facts p .head) (not-1 p) (steps p) y q .inside)))
 
     -- the others keep their bytes, up to the clearing of the last one's end
-    before-tail : (y : ℕ) → 0 < times y chain → blockOf (zeroTaken (withAnodes img t) e new ys) y ≡ blockOf img y
+    before-tail : (y : ℕ) → 0 < times y chain → blockOf (zeroed p) y ≡ blockOf img y
     before-tail y q =
-        taken-kept p .block-kept y (omega (arith, once y, q)) ∙ stored p .block-kept y (chain-block img (w p .good) (e .anode) (facts p .head) y q .unheld)
+        taken-kept p .block-kept y (omega (arith, once y, q)) ∙ stored p .block-kept y (entry-data (p .entry) y q .unheld)
 
     zeros : gather (blockOf j) ys ≡ replicate (length ys * 512) 0
     zeros = gather-zeros (blockOf j) ys taken-zero
@@ -158,9 +157,6 @@ module _ {img : List ℕ} {e : Entered} {new : ℕ} {t : Anodes} {ys : List ℕ}
       abbrev full : ℕ
       full = e .size / 512
 
-      abbrev last : ℕ
-      last = getD chain full 0
-
       abbrev front : List ℕ
       front = take full chain
 
@@ -168,61 +164,52 @@ module _ {img : List ℕ} {e : Entered} {new : ℕ} {t : Anodes} {ys : List ℕ}
       unfolding blocksFor
       chain-long = omega (arith, length-blocksOf s (e .anode), facts p .sized (p .plan .file))
 
-      parted : chain ≡ front ++ (last ∷ [])
-      parted = split-at chain full 0 (omega (arith, chain-long)) ∙ ap (λ (l : List ℕ). front ++ (last ∷ l)) (drop-of-length-le chain {i = suc full} (omega (arith, chain-long)))
+      parted : chain ≡ front ++ (lastBlock p ∷ [])
+      parted = split-at chain full 0 (omega (arith, chain-long)) ∙ ap (λ (l : List ℕ). front ++ (lastBlock p ∷ l)) (drop-of-length-le chain {i = suc full} (omega (arith, chain-long)))
 
-      last-in : 0 < times last chain
-      last-in = member-times last chain (tail-in p odd)
+      last-in : 0 < times (lastBlock p) chain
+      last-in = member-times (lastBlock p) chain (tail-in p odd)
 
-      in-front : (y : ℕ) → 0 < times y front → (0 < times y chain) × (y ≢ last)
+      in-front : (y : ℕ) → 0 < times y front → (0 < times y chain) × (y ≢ lastBlock p)
       in-front y q =
-          let all : times y chain ≡ times y front + times y (last ∷ []) = ap (times y) parted ∙ times-append y front (last ∷ []) in (
+          let all : times y chain ≡ times y front + times y (lastBlock p ∷ []) = ap (times y) parted ∙ times-append y front (lastBlock p ∷ []) in (
             omega (arith, q, all),
-            λ i. omega (arith, q, all, times-cons y last [], oneAt-same last y (sym i), once y),
+            λ i. omega (arith, q, all, times-cons y (lastBlock p) [], oneAt-same (lastBlock p) y (sym i), once y),
           )
 
-      abbrev clear : List ℕ → List ℕ
-      clear b = cleared b (e .size % 512) (512 - e .size % 512)
-
-      abbrev zeroed : List ℕ
-      zeroed = zeroTaken (withAnodes img t) e new ys
-
-      stored-tail : zeroTail zeroed s e new ≡ inBlock zeroed last clear
+      stored-tail : zeroTail (zeroed p) s e new ≡ inBlock (zeroed p) (lastBlock p) (tailCleared p)
       unfolding zeroTail
       stored-tail = rw (big, ne-eqb (e .size % 512) 0 odd)
-
-      clear-long : length (clear (blockOf zeroed last)) ≡ length (blockOf zeroed last)
-      clear-long = length-cleared (blockOf zeroed last) (e .size % 512) (512 - e .size % 512)
 
       front-left : (y : ℕ) → 0 < times y front → blockOf j y ≡ blockOf img y
       unfolding resizedImage
       front-left y q =
           let i = in-front y q in
-          size-kept p .block-kept y (off-home y (i .0)) ∙ rw stored-tail (inBlock-kept zeroed last clear clear-long .block-kept y (i .1)) ∙ before-tail y (i .0)
+          size-kept p .block-kept y (off-home y (i .0)) ∙ rw stored-tail (inBlock-kept (zeroed p) (lastBlock p) (tailCleared p) (tail-long p) .block-kept y (i .1)) ∙ before-tail y (i .0)
 
-      last-left : blockOf j last ≡ take (e .size % 512) (blockOf img last) ++ replicate (512 - e .size % 512) 0
+      last-left : blockOf j (lastBlock p) ≡ take (e .size % 512) (blockOf img (lastBlock p)) ++ replicate (512 - e .size % 512) 0
       unfolding resizedImage
       last-left =
-          size-kept p .block-kept last (off-home last last-in) ∙ rw stored-tail (blockOf-inBlock zeroed last clear clear-long) ∙ ap clear (before-tail last last-in)
-          ∙ cleared-rest (blockOf img last) (e .size % 512) (length-blockOf img last (inside last last-in)) (omega arith)
+          size-kept p .block-kept (lastBlock p) (off-home (lastBlock p) last-in) ∙ rw stored-tail (blockOf-inBlock (zeroed p) (lastBlock p) (tailCleared p) (tail-long p)) ∙ ap (tailCleared p) (before-tail (lastBlock p) last-in)
+          ∙ cleared-rest (blockOf img (lastBlock p)) (e .size % 512) (length-blockOf img (lastBlock p) (inside (lastBlock p) last-in)) (omega arith)
 
-      odd-contents : contents img s e ≡ gather (blockOf img) front ++ take (e .size % 512) (blockOf img last)
+      odd-contents : contents img s e ≡ gather (blockOf img) front ++ take (e .size % 512) (blockOf img (lastBlock p))
       unfolding contents bytesOf gather
       odd-contents =
           let front-long : length (gather (blockOf img) front) ≡ full * 512 =
           length-gather img front (λ y q. inside y (in-front y q .0)) ∙ ap (λ (n : ℕ). n * 512) (length-take-le full chain (omega (arith, chain-long))) in
           let size-is : e .size ≡ length (gather (blockOf img) front) + e .size % 512 = omega (arith, front-long) in
-          ap (λ (l : List ℕ). take (e .size) (gather (blockOf img) l)) parted ∙ ap (take (e .size)) (gather-append (blockOf img) front (last ∷ []))
-          ∙ ap (λ (n : ℕ). take n (gather (blockOf img) front ++ (blockOf img last ++ []))) size-is
-          ∙ take-append-add (gather (blockOf img) front) (blockOf img last ++ []) (e .size % 512)
-          ∙ ap (λ (l : List ℕ). gather (blockOf img) front ++ take (e .size % 512) l) (append-nil (blockOf img last))
+          ap (λ (l : List ℕ). take (e .size) (gather (blockOf img) l)) parted ∙ ap (take (e .size)) (gather-append (blockOf img) front (lastBlock p ∷ []))
+          ∙ ap (λ (n : ℕ). take n (gather (blockOf img) front ++ (blockOf img (lastBlock p) ++ []))) size-is
+          ∙ take-append-add (gather (blockOf img) front) (blockOf img (lastBlock p) ++ []) (e .size % 512)
+          ∙ ap (λ (l : List ℕ). gather (blockOf img) front ++ take (e .size % 512) l) (append-nil (blockOf img (lastBlock p)))
 
       odd-bytes : gather (blockOf j) chain ≡ contents img s e ++ replicate (512 - e .size % 512) 0
       unfolding gather
       odd-bytes =
-          let part = take (e .size % 512) (blockOf img last) in
-          ap (gather (blockOf j)) parted ∙ gather-append (blockOf j) front (last ∷ [])
-          ∙ ap₂ _++_ (gather-kept (blockOf img) (blockOf j) front front-left) (append-nil (blockOf j last) ∙ last-left)
+          let part = take (e .size % 512) (blockOf img (lastBlock p)) in
+          ap (gather (blockOf j)) parted ∙ gather-append (blockOf j) front (lastBlock p ∷ [])
+          ∙ ap₂ _++_ (gather-kept (blockOf img) (blockOf j) front front-left) (append-nil (blockOf j (lastBlock p)) ∙ last-left)
           ∙ sym (append-assoc (gather (blockOf img) front) part (replicate (512 - e .size % 512) 0))
           ∙ ap (λ (l : List ℕ). l ++ replicate (512 - e .size % 512) 0) (sym odd-contents)
 

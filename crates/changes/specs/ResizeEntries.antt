@@ -23,7 +23,7 @@ use Rattle.changes.specs.FoundEntries.{part-same, standing-found, place-
 use Rattle.changes.specs.Reached.{EntryIn, EntryFacts, block-entry, reached-dir, entry-facts}
 use Rattle.changes.specs.KeptChains.{entries-along, entries-left}
 use Rattle.changes.specs.NamedOnce.{only-home}
-use Rattle.changes.specs.EntryBytes.{entryBytes}
+use Rattle.changes.specs.EntryBytes.{entryBytes, with-length}
 use Rattle.changes.specs.NewSize.{sized}
 use Rattle.changes.specs.PlannedChange.{image, facts}
 use Rattle.changes.specs.ResizeStores.{PlannedResize, others-left, head-not-file, dir-same, other-block, this-block, resized-disk}
@@ -117,13 +117,17 @@ module _ {img : List ℕ} {e : Entered} {new : ℕ} {t : Anodes} {ys : List ℕ}
     g : EntryFacts img k f
     g = entry-facts m
 
+    -- with the same anode it stands in the entry's block
+    in-y : g .a₀ ≡ facts p .a₀ → f .place / 512 ≡ y
+    in-y i = g .in-block ∙ ap (s .block) i ∙ sym (facts p .in-block)
+
     -- in the same block it ends before the entry or starts behind it
     order : g .a₀ ≡ facts p .a₀ → (f .place % 512 + getD (blockOf img y) (f .place % 512) 0 ≤ pos) ⊎ (pos + 8 ≤ f .place % 512)
     unfolding entriesIn
     order i =
         let at = f .place % 512 in
-        let its-own : s .block (g .a₀) ≡ y = ap (s .block) i ∙ sym (facts p .in-block) in
-        let same : f .place / 512 ≡ y = g .in-block ∙ its-own in
+        let same = in-y i in
+        let its-own : s .block (g .a₀) ≡ y = sym (g .in-block) ∙ same in
         let here = block-entry (facts p) in
         let e-in = here .parted in
         let n : Member f (e-in .0 ++ (e ∷ e-in .1)) = rw (its-own, e-in .2) at (g .member) in
@@ -150,11 +154,11 @@ module _ {img : List ℕ} {e : Entered} {new : ℕ} {t : Anodes} {ys : List ℕ}
     unfolding entryBytes
     bytes-resized-other = elim (same? (g .a₀) (facts p .a₀)) [
       | inr n ↦ rw (g .in-block, other-block p (m .directory) (g .a₀) (g .member-chain) n)
-      | inl i ↦ (let same : f .place / 512 ≡ y = g .in-block ∙ ap (s .block) i ∙ sym (facts p .in-block) in
+      | inl i ↦ (let same = in-y i in
           let at = f .place % 512 in
-          let o = order i in
-          let first : getD (put32 (blockOf img y) (pos + 4) new) at 0 ≡ getD (blockOf img y) at 0 = getD-put32-other (blockOf img y) (pos + 4) new at (elim o [ inl q ↦ inl (omega arith) | inr q ↦ inr (omega arith) ]) in
-          rw (same, home-block, first) (apart-bytes (blockOf img y) at (getD (blockOf img y) at 0) pos (block-entry (facts p) .whole) (rw same at (g .stands .before)) o))
+          let its-long : 18 ≤ getD (blockOf img y) at 0 = rw same at (standing-found (g .stands) .long) in
+          rw (same, home-block) (with-length (put32 (blockOf img y) (pos + 4) new) (blockOf img y) at at (omega arith)
+          (apart-bytes (blockOf img y) at (getD (blockOf img y) at 0) pos (block-entry (facts p) .whole) (rw same at (g .stands .before)) (order i))))
     ]
 
   -- of the entry only the size changes

@@ -29,7 +29,7 @@ use Rattle.frames.specs.StoredBlocks.{inBlock-kept, blockOf-inBlock, withBlocks
 use Rattle.frames.specs.DisjointBlocks.{DataBlock, chains-apart, chain-block}
 use Rattle.frames.specs.StoredBytes.{BlocksKept}
 use Rattle.changes.specs.Image.{headIn, DiskWith, stored-kept, disk-stored, not-one, not-among, disk-then, ReachedDir}
-use Rattle.changes.specs.Reached.{block-on, reached-not-1, reached-head, dir-block, block-data, not-file}
+use Rattle.changes.specs.Reached.{block-on, reached-not-1, reached-head, dir-block, block-data, not-file, entry-data}
 use Rattle.changes.specs.KeptChains.{SameChain, same-chain-alike, OthersLeft}
 use Rattle.changes.specs.PlannedChange.{PlannedChange, image, w, facts, not-1, off-chain, off-anode}
 use Rattle.changes.specs.ResizePlan.{Resizing, plan-runs, handed-data, handed-apart}
@@ -64,7 +64,7 @@ module _ {img : List ℕ} {e : Entered} {new : ℕ} {t : Anodes} {ys : List ℕ}
   abbrev anodesIn : List ℕ
   anodesIn = withAnodes img t
 
-  abbrev zeroed : List ℕ
+  abbrev pub zeroed : List ℕ
   zeroed = zeroTaken anodesIn e new ys
 
   abbrev tailed : List ℕ
@@ -85,26 +85,30 @@ module _ {img : List ℕ} {e : Entered} {new : ℕ} {t : Anodes} {ys : List ℕ}
       go true = withBlocks-kept anodesIn ys zeroBlock (le-of-eq (sym (length-replicate {A = ℕ} 512 0)))
       go false = kept-all anodesIn
 
+  -- the old last block, and a block cleared from the old size to its end
+  abbrev pub lastBlock : ℕ
+  lastBlock = getD chain (e .size / 512) 0
+
+  abbrev pub tailCleared : List ℕ → List ℕ
+  tailCleared b = cleared b (e .size % 512) (512 - e .size % 512)
+
   -- the old last block is one of the file's
-  pub tail-in : e .size % 512 ≢ 0 → Member (getD chain (e .size / 512) 0) chain
+  pub tail-in : e .size % 512 ≢ 0 → Member lastBlock chain
   unfolding blocksFor
   tail-in n = nth-in chain (e .size / 512) (omega (arith, length-blocksOf s (e .anode), facts p .sized (p .plan .file)))
+
+  pub tail-long : length (tailCleared (blockOf zeroed lastBlock)) ≡ length (blockOf zeroed lastBlock)
+  tail-long = length-cleared (blockOf zeroed lastBlock) (e .size % 512) (512 - e .size % 512)
 
   pub tail-kept : Kept (λ y. times y chain ≡ 0) zeroed tailed
   unfolding zeroTail
   tail-kept = go (ltb (e .size) new && not (eqb (e .size % 512) 0)) refl
     where
-      last : ℕ
-      last = getD chain (e .size / 512) 0
-
-      clear : List ℕ → List ℕ
-      clear b = cleared b (e .size % 512) (512 - e .size % 512)
-
-      go : (c : Bool) → (ltb (e .size) new && not (eqb (e .size % 512) 0)) ≡ c → Kept (λ y. times y chain ≡ 0) zeroed (cond c (inBlock zeroed last clear) zeroed)
+      go : (c : Bool) → (ltb (e .size) new && not (eqb (e .size % 512) 0)) ≡ c → Kept (λ y. times y chain ≡ 0) zeroed (cond c (inBlock zeroed lastBlock tailCleared) zeroed)
       go true q =
           let n = eqb-false (e .size % 512) 0 (not-true (eqb (e .size % 512) 0) (and-eq-true-iff (ltb (e .size) new) (not (eqb (e .size % 512) 0)) .0 q .1)) in
-          let k = inBlock-kept zeroed last clear (length-cleared (blockOf zeroed last) (e .size % 512) (512 - e .size % 512)) in
-          record { length-kept = k .length-kept; block-kept = λ y z. k .block-kept y (λ i. omega (arith, rw i at z, member-times last chain (tail-in n))) }
+          let k = inBlock-kept zeroed lastBlock tailCleared tail-long in
+          record { length-kept = k .length-kept; block-kept = λ y z. k .block-kept y (λ i. omega (arith, rw i at z, member-times lastBlock chain (tail-in n))) }
       go false q = kept-all zeroed
 
   abbrev setSize : List ℕ → List ℕ
@@ -131,7 +135,7 @@ module _ {img : List ℕ} {e : Entered} {new : ℕ} {t : Anodes} {ys : List ℕ}
 
   only-data : (y : ℕ) → (DataBlock img y → ⊥) → LeftAlone y × (y ≢ e .place / 512)
   only-data y n = (
-    (not-among ys (handed-data img (w p .good) (e .anode) (facts p .head) (not-1 p) steps) y n, not-among chain (chain-block img (w p .good) (e .anode) (facts p .head)) y n),
+    (not-among ys (handed-data img (w p .good) (e .anode) (facts p .head) (not-1 p) steps) y n, not-among chain (entry-data (p .entry)) y n),
     not-one (block-data (facts p)) y n,
   )
 

@@ -27,7 +27,7 @@ use Rattle.laws.specs.Totals.{file-size, filesOf, dirsOf}
 use Rattle.laws.specs.Whole.{blocks-count, named-heads, whole-total}
 use Rattle.laws.specs.TestsPassed.{right-slot}
 use Rattle.laws.specs.Members.{Member, member-sum, member-congr}
-use Rattle.changes.specs.Image.{WholeImage, headIn, sideIn, AcceptedImage, image-passed, accepted-slots, accepted-whole}
+use Rattle.changes.specs.Image.{AcceptedWhole, headIn, AcceptedImage, image-passed, accepted-slots, accepted-whole}
 
 -- ---- the system's blocks
 
@@ -81,7 +81,7 @@ module _ {img : List ℕ} (image : AcceptedImage img) where
   abbrev has : ℕ → ℕ
   has = blocks limit (headIn img) (s .count)
 
-  w : WholeImage img s (headIn img) (sideIn img) dirs
+  w : AcceptedWhole img
   w = accepted-whole image
 
   -- what an item of a reached directory names is a head

@@ -55,7 +55,7 @@ module _ (img : List ℕ) (last k : ℕ) (name : List ℕ) (day minute tick prot
   }
 
   -- lent tables that are long enough, the check answers 0
-  pub formatted-accepted : (blocks anodes : ℕ) → diskSize img ≤ blocks → 3444 ≤ anodes → checkAnswer disk blocks anodes ≡ 0
+  pub formatted-accepted : (blocks anodes : ℕ) → diskSize img ≤ blocks → limit ≤ anodes → checkAnswer disk blocks anodes ≡ 0
   formatted-accepted blocks anodes b a = passed-accepted disk blocks anodes (passed blocks anodes b a)
 
   -- ---- what its summary says

@@ -28,15 +28,21 @@ pub data Which (s : Anodes) : ℕ → Type 0 where
   is-6 : Which s 6
   free : (a : ℕ) → At s a 0 0 0 → Which s a
 
+-- an anode that may have blocks
+pub data Full : ℕ → Type 0 where
+  full-2 : Full 2
+  full-5 : Full 5
+  full-6 : Full 6
+
 -- 1 links to 2 and 6 is free, or 1 links to 6 and that to 2
 pub data Linking (s : Anodes) : Type 0 where
-  plain : At s 1 0 65535 2 → At s 6 0 0 0 → Linking s
-  over : At s 1 0 65535 6 → s .block 6 ≢ 0 → s .next 6 ≡ 2 → Linking s
+  direct : At s 1 0 65535 2 → At s 6 0 0 0 → Linking s
+  through-6 : At s 1 0 65535 6 → s .block 6 ≢ 0 → s .next 6 ≡ 2 → Linking s
 
 -- an anode owns c blocks, from b on where there are any
 pub record Owns (s : Anodes) (a c b : ℕ) : Type 0 where
   pub count : s .count a ≡ c
-  pub start : 0 < c → s .block a ≡ b
+  pub start : 0 < s .count a → s .block a ≡ b
 
 -- what the anodes of a formatted image are: free blocks are 2's and 6's, the root directory's is 5's
 pub record Laid (s : Anodes) (n last k : ℕ) : Type 0 where
@@ -120,19 +126,19 @@ module _ (img : List ℕ) (last k : ℕ) (name : List ℕ) (day minute tick prot
     there = args .there;
     at-0 = at-used disk 0 0 65535 0 (anodeOf-formatted-0 img last k name day minute tick protection args) (omega arith);
     owns-2 = elim lower [
-      | inl e ↦ record { count = omega (arith, e .0 .count, e .1); start = λ p. absurd (omega (arith, e .1)) }
+      | inl e ↦ record { count = omega (arith, e .0 .count, e .1); start = λ p. absurd (omega (arith, p, e .0 .count)) }
       | inr e ↦ record { count = e .count; start = λ p. e .block }
     ];
     block-2 = elim lower [ inl e ↦ rw (e .0 .block) (omega arith) | inr e ↦ rw (e .block) (omega arith) ];
     next-2 = elim lower [ inl e ↦ e .0 .next | inr e ↦ e .next ];
     at-5 = at-used disk 5 1 (3 + k) 0 (anodeOf-formatted-5 img last k name day minute tick protection args) (omega arith);
     owns-6 = elim upper [
-      | inl e ↦ record { count = omega (arith, e .1 .count, e .2); start = λ p. absurd (omega (arith, e .2)) }
+      | inl e ↦ record { count = omega (arith, e .1 .count, e .2); start = λ p. absurd (omega (arith, p, e .1 .count)) }
       | inr e ↦ record { count = e .1 .count; start = λ p. e .1 .block }
     ];
     linking = elim upper [
-      | inl e ↦ plain (e .0) (e .1)
-      | inr e ↦ over (e .0) (rw (e .1 .block) (omega arith)) (e .1 .next)
+      | inl e ↦ direct (e .0) (e .1)
+      | inr e ↦ through-6 (e .0) (rw (e .1 .block) (omega arith)) (e .1 .next)
     ];
     which = which;
   }

@@ -16,7 +16,7 @@ use Rattle.laws.specs.Sums.{oneAt-same, oneAt-other, sum-member}
 use Rattle.laws.specs.Bags.{times-nil, times-cons}
 use Rattle.laws.specs.Segments.{Chain, followed-zero, chain-is, chain-ends}
 use Rattle.laws.specs.Links.{preds-none, preds-one}
-use Rattle.format_laws.specs.Anodes.{Which, is-0, is-1, is-2, is-5, is-6, free, Linking, plain, over, Laid}
+use Rattle.format_laws.specs.Anodes.{Full, full-2, full-5, full-6, Which, is-0, is-1, is-2, is-5, is-6, free, Linking, direct, through-6, Laid}
 
 module _ {s : Anodes} {n last k : ℕ} (m : Laid s n last k) where
   -- a link is 1's, or 6's to 2 where 1 links to 6
@@ -28,8 +28,8 @@ module _ {s : Anodes} {n last k : ℕ} (m : Laid s n last k) where
   link-of _ is-1 l h = inl refl
   link-of _ is-2 l h = absurd (h (m .next-2))
   link-of _ is-5 l h = absurd (h (m .at-5 .next))
-  link-of _ is-6 (plain f g) h = absurd (h (g .next))
-  link-of _ is-6 (over f u g) h = inr (refl, g, f .next)
+  link-of _ is-6 (direct f g) h = absurd (h (g .next))
+  link-of _ is-6 (through-6 f u g) h = inr (refl, g, f .next)
   link-of _ (free a f) l h = absurd (h (f .next))
 
   -- so no two anodes link to one
@@ -48,8 +48,8 @@ module _ {s : Anodes} {n last k : ℕ} (m : Laid s n last k) where
     where
       go : Linking s → LinkOf a → (s .next a ≡ 2) ⊎ ((s .next a ≡ 6) × (s .block 6 ≢ 0))
       go l (inr e) = inl (e .1)
-      go (plain f g) (inl e) = inl (ap (s .next) e ∙ f .next)
-      go (over f u g) (inl e) = inr (ap (s .next) e ∙ f .next, u)
+      go (direct f g) (inl e) = inl (ap (s .next) e ∙ f .next)
+      go (through-6 f u g) (inl e) = inr (ap (s .next) e ∙ f .next, u)
 
   pub closed : (a : ℕ) → s .next a ≢ 0 → s .block (s .next a) ≢ 0
   closed a h = elim (links-to a h) [ inl e ↦ rw e (m .block-2) | inr e ↦ rw (e .0) (e .1) ]
@@ -73,24 +73,24 @@ module _ {s : Anodes} {n last k : ℕ} (m : Laid s n last k) where
 
   -- the free list
   abbrev freeList : Linking s → List ℕ
-  freeList (plain f g) = 1 ∷ 2 ∷ []
-  freeList (over f u g) = 1 ∷ 6 ∷ 2 ∷ []
+  freeList (direct f g) = 1 ∷ 2 ∷ []
+  freeList (through-6 f u g) = 1 ∷ 6 ∷ 2 ∷ []
 
   chain-1 : (l : Linking s) → Chain (s .next) 1 (freeList l)
-  chain-1 (plain f g) = (refl, omega arith, (f .next, omega arith, m .next-2))
-  chain-1 (over f u g) = (refl, omega arith, (f .next, omega arith, (g, omega arith, m .next-2)))
+  chain-1 (direct f g) = (refl, omega arith, (f .next, omega arith, m .next-2))
+  chain-1 (through-6 f u g) = (refl, omega arith, (f .next, omega arith, (g, omega arith, m .next-2)))
 
   list-short : (l : Linking s) → length (freeList l) ≤ limit
-  list-short (plain f g) = omega arith
-  list-short (over f u g) = omega arith
+  list-short (direct f g) = omega arith
+  list-short (through-6 f u g) = omega arith
 
   pub ends : (a : ℕ) → Which s a → Linking s → s .block a ≢ 0 → followed (s .next) limit a ≡ 0
   ends _ is-0 l u = followed-zero (s .next) limit (m .at-0 .next)
   ends _ is-1 l u = chain-ends (s .next) limit 1 (freeList l) (m .at-0 .next) (chain-1 l) (list-short l)
   ends _ is-2 l u = chain-ends (s .next) limit 2 (2 ∷ []) (m .at-0 .next) chain-2 (omega arith)
   ends _ is-5 l u = chain-ends (s .next) limit 5 (5 ∷ []) (m .at-0 .next) chain-5 (omega arith)
-  ends _ is-6 (plain f g) u = absurd (u (g .block))
-  ends _ is-6 (over f v g) u = chain-ends (s .next) limit 6 (6 ∷ 2 ∷ []) (m .at-0 .next) (refl, omega arith, (g, omega arith, m .next-2)) (omega arith)
+  ends _ is-6 (direct f g) u = absurd (u (g .block))
+  ends _ is-6 (through-6 f v g) u = chain-ends (s .next) limit 6 (6 ∷ 2 ∷ []) (m .at-0 .next) (refl, omega arith, (g, omega arith, m .next-2)) (omega arith)
   ends _ (free a f) l u = absurd (u (f .block))
 
   list-is : chainOf (s .next) limit 1 ≡ freeList (m .linking)
@@ -106,8 +106,8 @@ module _ {s : Anodes} {n last k : ℕ} (m : Laid s n last k) where
   two-on = rw list-is (on (m .linking))
     where
       on : (l : Linking s) → 0 < times 2 (freeList l)
-      on (plain f g) = omega arith
-      on (over f u g) = omega arith
+      on (direct f g) = omega arith
+      on (through-6 f u g) = omega arith
 
   -- an anode other than 1 and 6 is not before 2
   upper-none : (a : ℕ) → a ≢ 1 → a ≢ 6 → times a (side limit s 1) ≡ 0
@@ -115,9 +115,9 @@ module _ {s : Anodes} {n last k : ℕ} (m : Laid s n last k) where
   upper-none a a1 a6 = go (m .linking)
     where
       go : Linking s → times a (chainOf (cut (s .next)) limit 1) ≡ 0
-      go (plain f g) = rw (chain-is (cut (s .next)) limit 1 (1 ∷ []) (refl, omega arith, rw (f .next)) (omega arith))
+      go (direct f g) = rw (chain-is (cut (s .next)) limit 1 (1 ∷ []) (refl, omega arith, rw (f .next)) (omega arith))
           (omega (arith, times-cons a 1 [], oneAt-other 1 a (λ e. a1 (sym e)), times-nil a))
-      go (over f u g) = rw (chain-is (cut (s .next)) limit 1 (1 ∷ 6 ∷ []) (refl, omega arith, (rw (f .next), omega arith, rw g)) (omega arith))
+      go (through-6 f u g) = rw (chain-is (cut (s .next)) limit 1 (1 ∷ 6 ∷ []) (refl, omega arith, (rw (f .next), omega arith, rw g)) (omega arith))
           (omega (arith, times-cons a 1 (6 ∷ []), times-cons a 6 [], oneAt-other 1 a (λ e. a1 (sym e)), oneAt-other 6 a (λ e. a6 (sym e)), times-nil a))
 
   -- an anode other than 2 is not from 2 on
@@ -126,26 +126,29 @@ module _ {s : Anodes} {n last k : ℕ} (m : Laid s n last k) where
       (omega (arith, times-cons a 2 [], oneAt-other 2 a (λ e. a2 (sym e)), times-nil a))
 
   pub count-1 : s .count 1 ≡ 0
-  count-1 = elim (m .linking) [ plain f g ↦ f .count | over f u g ↦ f .count ]
+  count-1 = elim (m .linking) [ direct f g ↦ f .count | through-6 f u g ↦ f .count ]
 
   pub block-1 : s .block 1 ≡ 65535
-  block-1 = elim (m .linking) [ plain f g ↦ f .block | over f u g ↦ f .block ]
+  block-1 = elim (m .linking) [ direct f g ↦ f .block | through-6 f u g ↦ f .block ]
 
-  pub high : (a : ℕ) → Which s a → 0 < times a (side limit s 1) → 0 < s .count a → last < s .block a
-  high _ is-0 p c = absurd (omega (arith, m .at-0 .count))
-  high _ is-1 p c = absurd (omega (arith, count-1))
-  high _ is-2 p c = absurd (omega (arith, upper-none 2 (omega arith) (omega arith)))
-  high _ is-5 p c = absurd (omega (arith, upper-none 5 (omega arith) (omega arith)))
-  high _ is-6 p c = omega (arith, m .owns-6 .start (omega (arith, m .owns-6 .count)))
-  high _ (free a f) p c = absurd (omega (arith, f .count))
+  -- an anode with a block is 2, 5 or 6
+  pub full : (a : ℕ) → Which s a → 0 < s .count a → Full a
+  full _ is-0 c = absurd (omega (arith, m .at-0 .count))
+  full _ is-1 c = absurd (omega (arith, count-1))
+  full _ is-2 c = full-2
+  full _ is-5 c = full-5
+  full _ is-6 c = full-6
+  full _ (free a f) c = absurd (omega (arith, f .count))
 
-  pub low : (a : ℕ) → Which s a → 0 < times a (chainOf (s .next) limit 2) → 0 < s .count a → s .block a + s .count a ≤ suc last
-  low _ is-0 p c = absurd (omega (arith, m .at-0 .count))
-  low _ is-1 p c = absurd (omega (arith, count-1))
-  low _ is-2 p c = omega (arith, m .room, m .owns-2 .count, m .owns-2 .start (omega (arith, m .owns-2 .count)))
-  low _ is-5 p c = absurd (omega (arith, lower-none 5 (omega arith)))
-  low _ is-6 p c = absurd (omega (arith, lower-none 6 (omega arith)))
-  low _ (free a f) p c = absurd (omega (arith, f .count))
+  pub high : (a : ℕ) → Full a → 0 < times a (side limit s 1) → 0 < s .count a → last < s .block a
+  high _ full-2 p c = absurd (omega (arith, upper-none 2 (omega arith) (omega arith)))
+  high _ full-5 p c = absurd (omega (arith, upper-none 5 (omega arith) (omega arith)))
+  high _ full-6 p c = omega (arith, m .owns-6 .start c)
+
+  pub low : (a : ℕ) → Full a → 0 < times a (chainOf (s .next) limit 2) → 0 < s .count a → s .block a + s .count a ≤ suc last
+  low _ full-2 p c = omega (arith, m .room, m .owns-2 .count, m .owns-2 .start c)
+  low _ full-5 p c = absurd (omega (arith, lower-none 5 (omega arith)))
+  low _ full-6 p c = absurd (omega (arith, lower-none 6 (omega arith)))
 
   -- ---- heads, and the free blocks
 
@@ -160,8 +163,8 @@ module _ {s : Anodes} {n last k : ℕ} (m : Laid s n last k) where
       go _ is-1 l h u = absurd (omega arith)
       go _ is-2 l h u = absurd (omega arith)
       go _ is-5 l h u = absurd (omega arith)
-      go _ is-6 (plain f g) h u = absurd (u (g .block))
-      go _ is-6 (over f v g) h u = λ z. omega (arith, z, sum-member (λ p. oneAt (s .next p) 6) 1 limit (omega arith), oneAt-same (s .next 1) 6 (f .next))
+      go _ is-6 (direct f g) h u = absurd (u (g .block))
+      go _ is-6 (through-6 f v g) h u = λ z. omega (arith, z, sum-member (λ p. oneAt (s .next p) 6) 1 limit (omega arith), oneAt-same (s .next 1) 6 (f .next))
       go _ (free a f) l h u = absurd (u (f .block))
 
   pub free-blocks : blockCount s 1 ≡ n - (4 + k)
@@ -169,5 +172,5 @@ module _ {s : Anodes} {n last k : ℕ} (m : Laid s n last k) where
   free-blocks = rw list-is (go (m .linking))
     where
       go : (l : Linking s) → sumList (s .count) (freeList l) ≡ n - (4 + k)
-      go (plain f g) = omega (arith, m .room, m .there, f .count, m .owns-2 .count, m .owns-6 .count, g .count)
-      go (over f u g) = omega (arith, m .room, m .there, f .count, m .owns-2 .count, m .owns-6 .count)
+      go (direct f g) = omega (arith, m .room, m .there, f .count, m .owns-2 .count, m .owns-6 .count, g .count)
+      go (through-6 f u g) = omega (arith, m .room, m .there, f .count, m .owns-2 .count, m .owns-6 .count)

@@ -13,32 +13,32 @@ use Rattle.laws.specs.Tests.{less?}
 use Rattle.laws.specs.Sums.{oneAt-same, oneAt-other, sum-zero, sum-single, sum-three}
 use Rattle.laws.specs.Ownership.{covers-in, covers-over, covers-none, covers-join}
 use Rattle.format.proofs.Laws.{Taken, slotOf-formatted-some, slotOf-formatted-none}
-use Rattle.format_laws.specs.Anodes.{Which, is-0, is-1, is-2, is-5, is-6, free, Owns, Laid}
-use Rattle.format_laws.specs.Links.{count-1}
+use Rattle.format_laws.specs.Anodes.{Full, full-2, full-5, full-6, Owns, Laid}
+use Rattle.format_laws.specs.Links.{full}
 
 module _ {s : Anodes} {n last k : ℕ} (m : Laid s n last k) where
   owned : (a c b x : ℕ) → Owns s a c b → covers (s .count a) (s .block a) x ≡ covers c b x
-  owned a c b x o = elim (less? 0 c) [
-    | inl p ↦ rw (o .count, o .start p)
-    | inr p ↦ (let e : c ≡ 0 = omega arith in rw (o .count, e) (covers-none (s .block a) x ∙ sym (covers-none b x)))
+  owned a c b x o = elim (less? 0 (s .count a)) [
+    | inl p ↦ rw (o .start p, o .count)
+    | inr p ↦ (let e : c ≡ 0 = omega (arith, o .count) in rw (o .count, e) (covers-none (s .block a) x ∙ sym (covers-none b x)))
   ]
 
-  none-owned : (a x : ℕ) → s .count a ≡ 0 → covers (s .count a) (s .block a) x ≡ 0
-  none-owned a x e = rw e (covers-none (s .block a) x)
+  not-full : (a : ℕ) → Full a → a ≢ 2 → a ≢ 5 → a ≢ 6 → ⊥
+  not-full _ full-2 n2 n5 n6 = n2 refl
+  not-full _ full-5 n2 n5 n6 = n5 refl
+  not-full _ full-6 n2 n5 n6 = n6 refl
 
-  others : (x a : ℕ) → Which s a → a ≢ 2 → a ≢ 5 → a ≢ 6 → covers (s .count a) (s .block a) x ≡ 0
-  others x _ is-0 n2 n5 n6 = none-owned 0 x (m .at-0 .count)
-  others x _ is-1 n2 n5 n6 = none-owned 1 x (count-1 m)
-  others x _ is-2 n2 n5 n6 = absurd (n2 refl)
-  others x _ is-5 n2 n5 n6 = absurd (n5 refl)
-  others x _ is-6 n2 n5 n6 = absurd (n6 refl)
-  others x _ (free a f) n2 n5 n6 = none-owned a x (f .count)
+  others : (x a : ℕ) → a ≢ 2 → a ≢ 5 → a ≢ 6 → covers (s .count a) (s .block a) x ≡ 0
+  others x a n2 n5 n6 = elim (less? 0 (s .count a)) [
+    | inl c ↦ absurd (not-full a (full m a (m .which a) c) n2 n5 n6)
+    | inr c ↦ (let e : s .count a ≡ 0 = omega arith in rw e (covers-none (s .block a) x))
+  ]
 
   pub one-owner : (system : ℕ → ℕ) (x : ℕ) → system x ≡ covers (3 + k) 0 x → x < n → owners limit (s .count) (s .block) system x ≡ 1
   unfolding owners
   one-owner system x sys l = omega (
     arith,
-    sum-three (λ a. covers (s .count a) (s .block a) x) 2 5 6 limit (omega arith) (omega arith) (omega arith) (omega arith) (omega arith) (omega arith) (λ a. others x a (m .which a)),
+    sum-three (λ a. covers (s .count a) (s .block a) x) 2 5 6 limit (omega arith) (omega arith) (omega arith) (omega arith) (omega arith) (omega arith) (others x),
     owned 2 (last - (3 + k)) (4 + k) x (m .owns-2),
     owned 5 1 (3 + k) x (record { count = m .at-5 .count; start = λ p. m .at-5 .block }),
     owned 6 (n - (last + 1)) (last + 1) x (m .owns-6),

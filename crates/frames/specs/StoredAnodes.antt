@@ -141,6 +141,10 @@ module _ (img : List ℕ) (right : wrongSlots img ≡ false) (t : Anodes) where
     missing-free : (a : ℕ) → slotOf img (a / 82) ≡ 0 → t .block a ≡ 0
     missing-free a z = elim (same? (t .block a) 0) [ inl e ↦ e | inr u ↦ absurd (rw (slot-missing img a z) at (r .present .exist a u)) ]
 
+    -- an anode whose slot holds no block in either is free in both
+    alike-missing : (j : List ℕ) (a : ℕ) → slotOf j (a / 82) ≡ 0 → slotOf img (a / 82) ≡ 0 → Alike t (anodesOf j) a
+    alike-missing j a z y = alike-free t r j a (block-at j a ∙ rw (anodeOf-missing j a z)) (missing-free a y)
+
     -- those below k are t's
     upTo-anodes : (k b : ℕ) → b < k → Alike t (anodesOf (upTo k)) b
     unfolding storeChanged
@@ -156,8 +160,7 @@ module _ (img : List ℕ) (right : wrongSlots img ≡ false) (t : Anodes) where
         now : (c : Bool) → sameAnode (anodesOf img) t a ≡ c → Alike t (anodesOf (oneMore c a)) a
         now true e = alike-trans (alike-same (anodesOf img) t a e) (alike-read img (upTo a) a (upTo-rest a a (omega arith)))
         now false e = elim (same? (slotOf (upTo a) (a / 82)) 0) [
-          | inl z ↦ rw (setAnode-missing (upTo a) a (anodeFrom t a) z)
-              (alike-free t r (upTo a) a (block-at (upTo a) a ∙ rw (anodeOf-missing (upTo a) a z)) (missing-free a (sym (slotOf-kept (upTo-stored a .kept) (root-unheld img right) (a / 82)) ∙ z)))
+          | inl z ↦ rw (setAnode-missing (upTo a) a (anodeFrom t a) z) (alike-missing (upTo a) a z (sym (slotOf-kept (upTo-stored a .kept) (root-unheld img right) (a / 82)) ∙ z))
           | inr u ↦ alike-stored t r (oneMore false a) a (set-same (upTo a) still-right a (anodeFrom t a) u)
         ]
 
@@ -168,8 +171,7 @@ module _ (img : List ℕ) (right : wrongSlots img ≡ false) (t : Anodes) where
     each-anode : (a : ℕ) → Alike t (anodesOf (upTo limit)) a
     each-anode a = elim (less? a limit) [
       | inl l ↦ upTo-anodes limit a l
-      | inr l ↦ alike-free t r (upTo limit) a (block-at (upTo limit) a ∙ rw (anodeOf-missing (upTo limit) a (slotOf-high (upTo limit) (a / 82) (omega arith))))
-          (missing-free a (slotOf-high img (a / 82) (omega arith)))
+      | inr l ↦ alike-missing (upTo limit) a (slotOf-high (upTo limit) (a / 82) (omega arith)) (slotOf-high img (a / 82) (omega arith))
     ]
 
     -- the anodes that were stored are read

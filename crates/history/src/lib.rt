@@ -1,1 +1,1 @@
-// Theorems about what a store changes and what it leaves; they stand in specs/.
+// The theorem about any list of calls; it stands in specs/.

@@ -11,10 +11,11 @@ use Rattle.rules.specs.Totals.{total}
 use Rattle.rules.specs.History.{check, summary, read, list, make, resize, write, remove, outcome}
 use Rattle.rules.specs.Everything.{everything}
 
--- named `b`
+-- the formatted disk, named `b`
 unfoldable disk8 : List ℕ
 disk8 = formatted (replicate 4096 255) 5 1 (98 ∷ []) 1 2 3 4
 
+-- tables as long as 2 asks
 abbrev blocks : List ℕ
 blocks = replicate 8 0
 
@@ -106,8 +107,8 @@ nested-total : total nested ≡ 8
 unfolding everything disk8 nested
 nested-total = refl
 
--- junk in the fields of a free anode survives a change that does not use it
-junk-kept : sameBytes (outcome (stored nested 1606 (1 ∷ 2 ∷ 0 ∷ 0 ∷ 3 ∷ 4 ∷ [])) (remove blocks anodes 7 f) .image)
+-- other bytes in the fields of a free anode stay where a change does not use it
+free-bytes-kept : sameBytes (outcome (stored nested 1606 (1 ∷ 2 ∷ 0 ∷ 0 ∷ 3 ∷ 4 ∷ [])) (remove blocks anodes 7 f) .image)
     (stored (stored nested 1600 (0 ∷ 0 ∷ 0 ∷ 0 ∷ 0 ∷ 0 ∷ 1 ∷ 2 ∷ 0 ∷ 0 ∷ 3 ∷ 4 ∷ [])) 2576 (replicate 18 0)) ≡ true
 unfolding everything disk8 nested
-junk-kept = refl
+free-bytes-kept = refl

@@ -1,3 +1,3 @@
 -- Facts that the checker computes.
 pub mod Formatted
-pub mod Bent
+pub mod Faults

@@ -1,8 +1,8 @@
 -- The formatted disk of 5 blocks with one fault in it: each is refused with its number.
 use mathlib.Core.Path.{_≡_, refl}
 use Prim.Native.Nat.{ℕ}
-use mathlib.Core.List.{List, [], _∷_, map}
-use lib.ListN.{set, take}
+use mathlib.Core.List.{List, [], _∷_, _++_, map}
+use lib.ListN.{set, take, replicate}
 use Rattle.endian.specs.Bytes.{put16, put32, stored}
 use Rattle.disk.specs.AnodeBlocks.{anodeMade, setAnode}
 use Rattle.rules.specs.Accepted.{checkAnswer}
@@ -15,17 +15,20 @@ unfoldable answer : List ℕ → ℕ
 answer img = checkAnswer img 5 3444
 
 -- the disk with one anode changed
-unfoldable bent : ℕ → ℕ → ℕ → ℕ → List ℕ
-bent a c b n = setAnode disk5 a (anodeMade c b n)
+unfoldable withAnode : ℕ → ℕ → ℕ → ℕ → List ℕ
+withAnode a c b n = setAnode disk5 a (anodeMade c b n)
 
+-- no byte; a byte short of 5 blocks; 4 blocks
 size-refused : map answer ([] ∷ take 2559 disk5 ∷ take 2048 disk5 ∷ []) ≡ 1 ∷ 1 ∷ 1 ∷ []
 unfolding everything disk5 answer
 size-refused = refl
 
+-- a block table of 4, 5 and 6 entries
 tables-refused : map (λ k. checkAnswer disk5 k 3444) (4 ∷ 5 ∷ 6 ∷ []) ≡ 2 ∷ 0 ∷ 0 ∷ []
 unfolding everything disk5
 tables-refused = refl
 
+-- an anode table of 3,443
 anodes-refused : checkAnswer disk5 5 3443 ≡ 2
 unfolding everything disk5
 anodes-refused = refl
@@ -44,37 +47,39 @@ slots-refused : map answer (put16 disk5 1120 0 ∷ put16 disk5 1120 2 ∷ put16 
 unfolding everything disk5 answer
 slots-refused = refl
 
-fixed-refused : map answer (bent 0 1 65535 0 ∷ bent 1 0 4 2 ∷ bent 2 0 0 0 ∷ bent 5 1 0 0 ∷ []) ≡ 6 ∷ 6 ∷ 6 ∷ 6 ∷ []
-unfolding everything disk5 answer bent
+-- anode 0's count; anode 1's block; anode 2 free; anode 5 free
+fixed-refused : map answer (withAnode 0 1 65535 0 ∷ withAnode 1 0 4 2 ∷ withAnode 2 0 0 0 ∷ withAnode 5 1 0 0 ∷ []) ≡ 6 ∷ 6 ∷ 6 ∷ 6 ∷ []
+unfolding everything disk5 answer withAnode
 fixed-refused = refl
 
 -- W4's fault: the end is 65,540 and not 4; an end of 6; a next that is missing, and one that is free
-range-refused : map answer (bent 6 10 65530 0 ∷ bent 5 2 4 0 ∷ bent 5 1 4 82 ∷ bent 5 1 4 7 ∷ []) ≡ 7 ∷ 7 ∷ 7 ∷ 7 ∷ []
-unfolding everything disk5 answer bent
+range-refused : map answer (withAnode 6 10 65530 0 ∷ withAnode 5 2 4 0 ∷ withAnode 5 1 4 82 ∷ withAnode 5 1 4 7 ∷ []) ≡ 7 ∷ 7 ∷ 7 ∷ 7 ∷ []
+unfolding everything disk5 answer withAnode
 range-refused = refl
 
 -- a ring; two predecessors of 2; a predecessor of 5
-links-refused : map answer (bent 6 0 65535 6 ∷ bent 6 0 65535 2 ∷ bent 6 0 65535 5 ∷ []) ≡ 8 ∷ 8 ∷ 8 ∷ []
-unfolding everything disk5 answer bent
+links-refused : map answer (withAnode 6 0 65535 6 ∷ withAnode 6 0 65535 2 ∷ withAnode 6 0 65535 5 ∷ []) ≡ 8 ∷ 8 ∷ 8 ∷ []
+unfolding everything disk5 answer withAnode
 links-refused = refl
 
 -- 2 not on 1's chain; a low block in an anode before 2
-free-refused : map answer (bent 1 0 65535 0 ∷ setAnode (bent 1 0 65535 6) 6 (anodeMade 1 4 2) ∷ []) ≡ 9 ∷ 9 ∷ []
-unfolding everything disk5 answer bent
+free-refused : map answer (withAnode 1 0 65535 0 ∷ setAnode (withAnode 1 0 65535 6) 6 (anodeMade 1 4 2) ∷ []) ≡ 9 ∷ 9 ∷ []
+unfolding everything disk5 answer withAnode
 free-refused = refl
 
-owners-refused : map answer (bent 2 1 4 0 ∷ bent 2 1 3 0 ∷ bent 5 0 4 0 ∷ []) ≡ 10 ∷ 10 ∷ 11 ∷ []
-unfolding everything disk5 answer bent
+-- block 4 is 2's and 5's; block 3 is 2's and an anode block; block 4 is nobody's
+owners-refused : map answer (withAnode 2 1 4 0 ∷ withAnode 2 1 3 0 ∷ withAnode 5 0 4 0 ∷ []) ≡ 10 ∷ 10 ∷ 11 ∷ []
+unfolding everything disk5 answer withAnode
 owners-refused = refl
 
--- the mark, the owner, an anode with no block in the root's chain, a length byte, a type, a name with a slash; a length byte behind the end mark is not examined
-directory-refused : map answer (set disk5 2048 0 ∷ put16 disk5 2060 6 ∷ setAnode (bent 5 1 4 6) 6 (anodeMade 0 65535 0) ∷ set withFile 2064 22 ∷ set withFile 2065 1 ∷ set withFile 2080 47 ∷ set disk5 2558 18 ∷ [])
-    ≡ 12 ∷ 12 ∷ 12 ∷ 12 ∷ 12 ∷ 12 ∷ 0 ∷ []
-unfolding everything disk5 withFile answer bent
+-- the mark, the owner, an anode with no block in the root's chain, a length byte, a type, a name with a slash
+directory-refused : map answer (set disk5 2048 0 ∷ put16 disk5 2060 6 ∷ setAnode (withAnode 5 1 4 6) 6 (anodeMade 0 65535 0) ∷ set withFile 2064 22 ∷ set withFile 2065 1 ∷ set withFile 2080 47 ∷ [])
+    ≡ 12 ∷ 12 ∷ 12 ∷ 12 ∷ 12 ∷ 12 ∷ []
+unfolding everything disk5 withFile answer withAnode
 directory-refused = refl
 
 -- the root's parent field, comment, pad and what follows the end mark are not examined
-unexamined : map answer (put16 disk5 2062 77 ∷ set withFile 2082 0 ∷ set withFile 2083 1 ∷ set withFile 2085 1 ∷ []) ≡ 0 ∷ 0 ∷ 0 ∷ 0 ∷ []
+unexamined : map answer (put16 disk5 2062 77 ∷ set withFile 2082 0 ∷ set withFile 2083 1 ∷ set withFile 2085 1 ∷ set disk5 2558 18 ∷ []) ≡ 0 ∷ 0 ∷ 0 ∷ 0 ∷ 0 ∷ []
 unfolding everything disk5 withFile answer
 unexamined = refl
 
@@ -88,19 +93,30 @@ named-twice-refused : answer (stored withFile 2084 (18 ∷ 253 ∷ 0 ∷ 6 ∷ 0
 unfolding everything disk5 withFile answer
 named-twice-refused = refl
 
+-- a size of 1 and no block
 size-of-file-refused : answer (put32 withFile 2068 1) ≡ 15
 unfolding everything disk5 withFile answer
 size-of-file-refused = refl
 
-unnamed-refused : answer (bent 6 0 65535 0) ≡ 16
-unfolding everything disk5 answer bent
+-- anode 6 heads a chain, and there is no entry
+unnamed-refused : answer (withAnode 6 0 65535 0) ≡ 16
+unfolding everything disk5 answer withAnode
 unnamed-refused = refl
 
--- 5 to 16 leave both tables zeroed in their ranges, 1 to 4 untouched
-zeroed : checkOutcome (bent 6 0 65535 0) blocks7 anodes3446 .blocks ≡ 0 ∷ 0 ∷ 0 ∷ 0 ∷ 0 ∷ 9 ∷ 9 ∷ []
-unfolding everything disk5 bent
-zeroed = refl
+-- 5 to 16 leave both tables zeroed in their ranges
+blocks-zeroed : checkOutcome (withAnode 6 0 65535 0) blocks7 anodes3446 .blocks ≡ 0 ∷ 0 ∷ 0 ∷ 0 ∷ 0 ∷ 9 ∷ 9 ∷ []
+unfolding everything disk5 withAnode
+blocks-zeroed = refl
 
-untouched : checkOutcome (set disk5 1027 1) blocks7 anodes3446 .blocks ≡ blocks7
+anodes-zeroed : checkOutcome (withAnode 6 0 65535 0) blocks7 anodes3446 .anodes ≡ replicate 3444 0 ++ (9 ∷ 9 ∷ [])
+unfolding everything disk5 withAnode
+anodes-zeroed = refl
+
+-- 1 to 4 touch none
+blocks-untouched : checkOutcome (set disk5 1027 1) blocks7 anodes3446 .blocks ≡ blocks7
 unfolding everything disk5
-untouched = refl
+blocks-untouched = refl
+
+anodes-untouched : checkOutcome (set disk5 1027 1) blocks7 anodes3446 .anodes ≡ anodes3446
+unfolding everything disk5
+anodes-untouched = refl
