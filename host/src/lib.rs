@@ -11,7 +11,7 @@
 //!   library is compared with it.
 //! * [`rng`]: the small deterministic generator behind all that is random.
 //! * [`tree`]: what a disk should hold, as a plain tree in memory.
-//! * [`shapes`]: generators of disk images: formatted ones, accepted ones that format never makes, and bent ones.
+//! * [`shapes`]: generators of disk images: formatted ones, accepted ones that format never makes, and damaged ones.
 //! * [`starts`], [`histories`]: the disks that histories start from, and random calls, often at the very edge.
 //! * [`compare`]: a library against the model, call by call.
 

@@ -5,9 +5,9 @@
 //!   says what such a disk should be like, `outline` and `chains` are parts of the plan, `writer` writes it.
 //! * [`accepted`]: one or the other.
 //! * [`random_bytes`]: junk, mostly with a root block that may pass.
-//! * [`Bender`]: accepted disks with a fault aimed at one refusal number, and disks with random damage.
+//! * [`Damager`]: accepted disks with a fault aimed at one refusal number, and disks with random damage.
 
-mod bend;
+mod damage;
 mod chains;
 mod faults;
 mod outline;
@@ -15,7 +15,7 @@ mod plan;
 mod recipe;
 mod writer;
 
-pub use bend::Bender;
+pub use damage::Damager;
 pub use plan::{shaped, Shaped};
 pub use recipe::Recipe;
 

@@ -9,7 +9,7 @@ use ovenknit_host::compare::{compare, junk_tables, Histogram, History};
 use ovenknit_host::ffi::Proved;
 use ovenknit_host::histories::{random_call, Trend, NO_ANODE, REFUSALS};
 use ovenknit_host::rng::{seeded, Rng};
-use ovenknit_host::shapes::{accepted, formatted, random_bytes, shaped, Bender, Recipe, Shaped};
+use ovenknit_host::shapes::{accepted, formatted, random_bytes, shaped, Damager, Recipe, Shaped};
 use ovenknit_host::starts::Start;
 
 /// One image with junk in the tables, checked by both libraries. One case in some twenty has a table too short.
@@ -22,20 +22,20 @@ fn compare_case(image: &mut [u8], cases: &mut Histogram, rng: &mut Rng) -> u32 {
     answer
 }
 
-/// An accepted disk as it is and bent in all ways.
+/// An accepted disk as it is and damaged in all ways.
 fn compare_disk(image: &mut [u8], turns: usize, cases: &mut Histogram, rng: &mut Rng) {
     compare_case(image, cases, rng);
-    let bender = Bender::new(image).expect("the model accepts its own shapes");
+    let damager = Damager::new(image).expect("the model accepts its own shapes");
     for _ in 0..turns {
         for number in 1..=16 {
-            if let Some(mut bent) = bender.bend(number, rng) {
-                let answer = compare_case(&mut bent, cases, rng);
+            if let Some(mut damaged) = damager.damage(number, rng) {
+                let answer = compare_case(&mut damaged, cases, rng);
                 assert!(answer == number || answer == 2, "{answer} where {number} was aimed at");
             }
         }
         for _ in 0..6 {
-            compare_case(&mut bender.with_random_bytes(rng), cases, rng);
-            compare_case(&mut bender.with_misplaced_numbers(rng), cases, rng);
+            compare_case(&mut damager.with_random_bytes(rng), cases, rng);
+            compare_case(&mut damager.with_misplaced_numbers(rng), cases, rng);
         }
     }
 }
@@ -122,14 +122,14 @@ fn every_call_refuses_damage_like_the_model() {
     for mut case in seeded("every_call_refuses_damage_like_the_model", 0..300) {
         let rng = &mut case.rng;
         let Shaped { image, tree } = Start::SMALL[rng.below(4)].disk(rng);
-        let bender = Bender::new(&image).expect("the model accepts its own shapes");
+        let damager = Damager::new(&image).expect("the model accepts its own shapes");
         for number in 1..=16 {
-            let Some(mut bent) = bender.bend(number, rng) else {
+            let Some(mut damaged) = damager.damage(number, rng) else {
                 continue;
             };
             let call = random_call(&tree, Trend::random(rng), image.len() / BLOCK, 3, rng);
-            let (mut blocks, mut anodes) = junk_tables(bent.len() / BLOCK, false, rng);
-            let answer = compare::<Proved>(&call, &mut bent, &mut blocks, &mut anodes).answer;
+            let (mut blocks, mut anodes) = junk_tables(damaged.len() / BLOCK, false, rng);
+            let answer = compare::<Proved>(&call, &mut damaged, &mut blocks, &mut anodes).answer;
             answers.add(answer, call.label());
         }
     }

@@ -23,7 +23,7 @@ use Rattle.rules.specs.Counting.{anyIn}
 use Rattle.rules.specs.Walk.{Entered, withRest, entriesFrom}
 use Rattle.rules.specs.Changes.{endFrom, entriesEnd}
 use Rattle.laws.specs.Members.{Member, no-member}
-pub use Rattle.laws.specs.Entries.{enteredAt, entries-more, entries-end}
+pub use Rattle.laws.specs.Entries.{enteredAt, entries-more, entries-end, Unbroken}
 
 -- parts of two lists of bytes that agree byte for byte
 pub part-same : (l m : List ℕ) (k j n : ℕ) → k + n ≤ length l → j + n ≤ length m → ((i : ℕ) → i < n → getD l (k + i) 0 ≡ getD m (j + i) 0) → take n (drop k l) ≡ take n (drop j m)
@@ -95,10 +95,6 @@ module _ (b b′ : List ℕ) (at at′ : ℕ) (whole : length b ≡ 512) (whole�
       (walkedKind (kindRead (getD b (at + 1) 0)) h) (Fault DirectoryBlock))) (fun-ext same-fields))
 
 -- ---- the entries from a place on
-
--- none of them breaks the entry rules
-abbrev pub Unbroken : List Entered → Type 0
-Unbroken l = anyIn (λ e. e .broken) l ≡ false
 
 -- the end mark stands there, or an entry, and none behind it is broken
 abbrev pub EndOrEntry : List ℕ → ℕ → ℕ → ℕ → Type 0

@@ -18,9 +18,8 @@ use Rattle.rules.specs.Lookup.{noDirectory}
 use Rattle.counting.specs.Laws.{none-and, anyBelow-all}
 use Rattle.laws.specs.Tests.{not-above}
 use Rattle.laws.specs.Bags.{list-mono, map-sum}
-use Rattle.laws.specs.Items.{below, namedIn, subs-named}
+use Rattle.laws.specs.Items.{below, namedIn, subs-named, headed}
 use Rattle.laws.specs.Trees.{heads-once, tree-one}
-use Rattle.laws.specs.TreeChanges.{headed}
 use Rattle.laws.specs.Space.{Good}
 use Rattle.laws.specs.Passes.{passes-of}
 use Rattle.laws.specs.Whole.{Whole, head-counts, counts-head}
@@ -232,19 +231,17 @@ module _ {ex : ℕ → Bool} {n last : ℕ} {s : Anodes} {system hd sd : ℕ →
     (w : Whole ex n last s system hd sd entries marked dirs) (h : ℕ) where
   -- a directory of an accepted state is the root's or named
   pub headed-named : headed h dirs ≤ oneAt 5 h + sumList (namedIn (itemsBy entries marked s) h) dirs
-  unfolding headed
   headed-named =
       let items = itemsBy entries marked s in
       omega (arith, w .tree .exact (λ d. oneAt (d .head) h), list-mono (below items (λ d. oneAt (d .head) h)) (namedIn items h) dirs (subs-named items h))
 
   -- no two of them have one head
   headed-once : headed h dirs ≤ 1
-  unfolding headed
   headed-once = heads-once (itemsBy entries marked s) root limit (omega arith) (named-range (w .good) entries marked) dirs (w .tree .exact) (w .tree .faultless) (w .tree .once) h
 
 module _ (img : List ℕ) (s : Anodes) (h : ℕ) where
   headed-times : times h (map (λ d. d .head) (reachedDirs img s)) ≡ headed h (reachedDirs img s)
-  unfolding times headed
+  unfolding times
   headed-times = map-sum (λ d. d .head) (λ y. oneAt y h) (reachedDirs img s)
 
   pub headed-reached : 0 < headed h (reachedDirs img s) → noDirectory img s h ≡ false

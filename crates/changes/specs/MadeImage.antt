@@ -24,7 +24,7 @@ use Rattle.laws.specs.Sums.{oneAt-cases, oneAt-some}
 use Rattle.laws.specs.Bags.{list-cons, list-some, map-sum, times-nil, times-cons, times-append, times-here}
 use Rattle.laws.specs.Space.{FreeAnode, on-chain}
 use Rattle.laws.specs.Each.{Each, each-map}
-use Rattle.laws.specs.TreeChanges.{headed, none-headed}
+use Rattle.laws.specs.TreeChanges.{none-headed}
 use Rattle.laws.specs.DirectoryTakes.{dir-head}
 use Rattle.laws.specs.Members.{Member, no-member, member-cons, member-gather, member-times, times-member}
 use Rattle.laws.specs.NewDirectory.{length-new, entries-new, new-marked}
@@ -33,8 +33,10 @@ use Rattle.frames.specs.StoredBlocks.{inBlock-kept, blockOf-inBlock, withBlocks
 use Rattle.frames.specs.StoredBytes.{blockOf-withBlocks}
 use Rattle.frames.specs.DisjointBlocks.{DataBlock}
 use Rattle.laws.specs.Make.{SameContents}
+use Rattle.laws.specs.Items.{headed}
+use Rattle.laws.specs.Entries.{Unbroken}
 use Rattle.changes.specs.Image.{GoodOn, AcceptedWhole, headIn, accepted-whole, DiskWith, stored-kept, disk-stored, disk-then, not-one, not-among, ReachedDir, reached-headed}
-use Rattle.changes.specs.FoundEntries.{enteredAt, Unbroken, end-bounds}
+use Rattle.changes.specs.FoundEntries.{enteredAt, end-bounds}
 use Rattle.changes.specs.Reached.{DirBlock, reached-not-1, dir-block}
 use Rattle.changes.specs.SingleBlocks.{single-used, single-apart, single-data}
 use Rattle.changes.specs.NewEntry.{entries-put, head-put, end-new, room-found}
@@ -52,7 +54,7 @@ first-in y l e = rw e (times-here y [])
 
 -- where one directory alone has the head h, its parent is found
 parents-right : (h : ℕ) (l : List Dir) → headed h l ≡ 1 → Each (λ d. d .head ≡ h → d .parent ≡ parentOf l h) l
-unfolding headed parentOf
+unfolding parentOf
 parents-right h [] e = tt
 parents-right h (d ∷ l) e = elim (oneAt-cases (d .head) h) [
   | inl c ↦ (

@@ -14,7 +14,7 @@ use Rattle.directory.specs.Entries.{goodName, goodComment, entryLength, isDir}
 use Rattle.rules.specs.Counting.{sumList, times}
 use Rattle.rules.specs.Anodes.{Anodes, limit, exists, anodesOf}
 use Rattle.rules.specs.Chains.{blocksOf, blockCount}
-use Rattle.rules.specs.Walk.{Dir, entriesIn, isBlockOf, blocksFor, itemsBy, reachedDirs}
+use Rattle.rules.specs.Walk.{Dir, entriesIn, isBlockOf, blocksFor, itemsBy, reachedDirs, dirMade}
 use Rattle.rules.specs.Space.{Plan, refused, planned, rewritten, lowestFree}
 use Rattle.rules.specs.Format.{newDirectoryBlock}
 use Rattle.rules.specs.Changes.{firstRoom, noRoom, neededBlock, NewEntry, entryOf, madeImage, Left, left, leftBy, madeWith, made}
@@ -44,7 +44,7 @@ module _ {img : List ℕ} {blocks anodes h : ℕ} {new : NewEntry} {f : ℕ} {ro
 
   -- the directory that it makes, where it makes one
   abbrev newDir : Dir
-  newDir = record { head = f; parent = h }
+  newDir = dirMade f h
 
   -- the block of one anode has gained the entry
   gained : EntryMore t (orphan m .0) (entered m) (spot m .anode) (entriesIn (before m)) (entriesIn j)

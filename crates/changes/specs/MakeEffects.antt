@@ -26,12 +26,12 @@ use Rattle.laws.specs.Sums.{oneAt-same, oneAt-other}
 use Rattle.laws.specs.Bags.{times-cons, times-append, gather-none, gather-append, gather-kept}
 use Rattle.laws.specs.Heads.{Head}
 use Rattle.laws.specs.Space.{on-chain}
-use Rattle.laws.specs.TreeChanges.{headed}
 use Rattle.laws.specs.ChainBlocks.{stands-once}
 use Rattle.laws.specs.Each.{OneMore}
 use Rattle.laws.specs.DirectoryTakes.{dir-head}
 use Rattle.laws.specs.Members.{Member, member-first, member-times, times-member, gather-congr}
 use Rattle.laws.specs.NewDirectory.{entries-new}
+use Rattle.laws.specs.Items.{headed}
 use Rattle.frames.specs.DisjointBlocks.{chains-apart, chain-block}
 use Rattle.frames.specs.StoredBytes.{BlocksKept}
 use Rattle.changes.specs.Image.{headIn, headed-reached, headed-same, ReachedDir}
@@ -156,7 +156,6 @@ module _ {img : List ℕ} {blocks anodes h : ℕ} {new : NewEntry} {f : ℕ} {ro
   -- ---- the directories
 
   headed-made : (x : ℕ) → headed x (reachedDirs j (anodesOf j)) ≡ headed x (reachedDirs img s) + cond (new .dir) (oneAt f x) 0
-  unfolding headed
   headed-made x = made-dirs m (λ d. oneAt (d .head) x)
 
   -- those that were reached are reached, and but for the new one no other

@@ -25,11 +25,11 @@ use Rattle.laws.specs.Take.{take-good}
 use Rattle.laws.specs.Moves.{Shift, shift-none, Moved}
 use Rattle.laws.specs.Frame.{shift-chain}
 use Rattle.laws.specs.Each.{Each}
-use Rattle.laws.specs.TreeChanges.{headed}
 use Rattle.laws.specs.OwnBlock.{own-filled}
 use Rattle.laws.specs.Orphan.{Orphaned, not-dir, orphan-changed}
 use Rattle.laws.specs.DirectoryTakes.{find-headed, dir-head, dir-not-1, dir-taken, directory-takes}
 use Rattle.laws.specs.Make.{SameContents, contents-unchanged, fresh-stays, fresh-chain, fresh-orphan}
+use Rattle.laws.specs.Items.{headed}
 use Rattle.changes.specs.Image.{GoodOn, WholeWith, ReachedDir}
 
 -- anodes t on the disk of img, where no entry names the chain of f

@@ -20,15 +20,15 @@ use Rattle.laws.specs.Bags.{list-one, gather-sum, map-sum}
 use Rattle.laws.specs.Heads.{Head}
 use Rattle.laws.specs.Space.{on-chain}
 use Rattle.laws.specs.Each.{each-zero}
-use Rattle.laws.specs.Items.{wrong, namedIn, faults}
-use Rattle.laws.specs.TreeChanges.{headed, headed-member}
+use Rattle.laws.specs.Items.{wrong, namedIn, faults, headed}
+use Rattle.laws.specs.TreeChanges.{headed-member}
 use Rattle.laws.specs.Totals.{file-size}
-use Rattle.laws.specs.Entries.{broken-wrong, item-fine, item-anode, item-dir, items-sum, itemsAt-cases}
+use Rattle.laws.specs.Entries.{broken-wrong, item-fine, item-anode, item-dir, items-sum, itemsAt-cases, Unbroken}
 use Rattle.laws.specs.Whole.{Whole, counts-head, not-dir, dir-heads, named-heads}
 use Rattle.laws.specs.Members.{Member, member-later, member-each, member-sum, none-pass, member-gather, member-times}
 use Rattle.frames.specs.DisjointBlocks.{DataBlock, chain-block}
 use Rattle.changes.specs.Image.{AcceptedWhole, headIn, AcceptedImage, accepted-whole, headed-named, headed-reached, reached-some, ReachedDir}
-use Rattle.changes.specs.FoundEntries.{Unbroken, Standing, standing-place, entry-place, BlockEntry}
+use Rattle.changes.specs.FoundEntries.{Standing, standing-place, entry-place, BlockEntry}
 
 -- ---- lookups
 
@@ -108,7 +108,6 @@ module _ {ex : ℕ → Bool} {n last : ℕ} {s : Anodes} {system hd sd : ℕ →
 -- ---- in an accepted image
 
 pub member-reached : {img : List ℕ} → AcceptedImage img → (d : Dir) → Member d (reachedDirs img (anodesOf img)) → ReachedDir img (d .head)
-unfolding headed
 member-reached {img} a d m =
     let dirs = reachedDirs img (anodesOf img) in
     record { image = a; reached = headed-reached img (anodesOf img) (d .head) (omega (arith, member-sum (λ c. oneAt (c .head) (d .head)) d dirs m, oneAt-same (d .head) (d .head) refl)) }

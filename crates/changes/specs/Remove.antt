@@ -13,22 +13,22 @@ use Rattle.rules.specs.Chains.{blockCount, systemOwns}
 use Rattle.rules.specs.Walk.{Dir, Entered, entriesIn, isBlockOf, reachedDirs}
 use Rattle.rules.specs.Lookup.{entriesOf, nth, isThere, notEmpty}
 use Rattle.rules.specs.Space.{refused}
-use Rattle.rules.specs.Changes.{removedImage, removed}
+use Rattle.rules.specs.Changes.{removedImage, removed, removePlan}
 use Rattle.laws.specs.Tests.{same?}
 use Rattle.laws.specs.Sums.{oneAt-same, oneAt-other}
 use Rattle.laws.specs.Bags.{list-cons, list-append, map-sum}
-use Rattle.laws.specs.TreeChanges.{headed}
 use Rattle.laws.specs.Entries.{weighEntry}
 use Rattle.laws.specs.Whole.{blocks-count}
 use Rattle.laws.specs.RefusedSteps.{gives-refused}
 use Rattle.laws.specs.Make.{SameMarks, EntryMore}
 use Rattle.laws.specs.Remove as Laws
+use Rattle.laws.specs.Items.{headed}
 use Rattle.frames.specs.Kept.{entriesIn-kept, isBlockOf-kept}
 use Rattle.changes.specs.Image.{WholeOn, StillAccepted, headIn, sideIn, accepted-whole, whole-accepted, reached-headed}
 use Rattle.changes.specs.Reached.{EntryIn, entry-not-1, entry-facts}
 use Rattle.changes.specs.Gap.{lowered}
 use Rattle.changes.specs.PlannedChange.{left-cases, image, w, facts}
-use Rattle.changes.specs.RemoveStores.{removePlan, PlannedRemove, here, kept-data, entries-left, marks-left, apart}
+use Rattle.changes.specs.RemoveStores.{PlannedRemove, here, kept-data, entries-left, marks-left, apart}
 use Rattle.changes.specs.RemoveStores as Stores
 
 module _ {img : List ℕ} {e : Entered} {t : Anodes} {ys : List ℕ} (p : PlannedRemove img e t ys) where
@@ -98,7 +98,7 @@ module _ {img : List ℕ} {h : ℕ} {e : Entered} (m : EntryIn img h e) where
   -- ---- the answers
 
   -- a removal is refused with 28 alone
-  pub remove-refused : (k : ℕ) → removePlan img e ≡ refused k → k ≡ 28
+  pub remove-refused : (k : ℕ) → removePlan img (anodesOf img) (e .anode) ≡ refused k → k ≡ 28
   remove-refused k q =
       let g = accepted-whole (m .directory .image) .good in
       let f = entry-facts m in
@@ -110,10 +110,10 @@ module _ {img : List ℕ} {h : ℕ} {e : Entered} (m : EntryIn img h e) where
   unfolding removed
   remove-accepted empty =
       let a = m .directory .image in
-      left-cases (λ l. StillAccepted a (l .image)) img (λ t ys. removedImage img e t) (removePlan img e) (λ k q. a .accepted)
+      left-cases (λ l. StillAccepted a (l .image)) img (λ t ys. removedImage img e t) (removePlan img (anodesOf img) (e .anode)) (λ k q. a .accepted)
       (λ t ys q. planned-accepted (record { home = h; entry = m; plan = q }) empty)
 
   -- it answers 0 or 28
   pub remove-answers : (removed img (anodesOf img) e .answer ≡ 0) ⊎ (removed img (anodesOf img) e .answer ≡ 28)
   unfolding removed
-  remove-answers = left-cases (λ l. (l .answer ≡ 0) ⊎ (l .answer ≡ 28)) img (λ t ys. removedImage img e t) (removePlan img e) (λ k q. inr (remove-refused k q)) (λ t ys q. inl refl)
+  remove-answers = left-cases (λ l. (l .answer ≡ 0) ⊎ (l .answer ≡ 28)) img (λ t ys. removedImage img e t) (removePlan img (anodesOf img) (e .anode)) (λ k q. inr (remove-refused k q)) (λ t ys q. inl refl)

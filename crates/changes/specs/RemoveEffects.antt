@@ -10,8 +10,8 @@ use Rattle.rules.specs.Walk.{Entered, reachedDirs}
 use Rattle.rules.specs.Lookup.{noDirectory, entriesOf, notEmpty, contents}
 use Rattle.rules.specs.Changes.{removedImage}
 use Rattle.laws.specs.Heads.{Head}
-use Rattle.laws.specs.TreeChanges.{headed}
 use Rattle.laws.specs.Remove as Laws
+use Rattle.laws.specs.Items.{headed}
 use Rattle.frames.specs.DisjointBlocks.{chain-block}
 use Rattle.frames.specs.StoredBytes.{BlocksKept}
 use Rattle.changes.specs.Image.{headIn, reached-sum, headed-same, ReachedDir}
@@ -63,7 +63,6 @@ module _ {img : List ℕ} {e : Entered} {t : Anodes} {ys : List ℕ} (p : Planne
 
   module _ (empty : e .dir ≡ true → notEmpty img s e ≡ false) where
     left-headed : (x : ℕ) → x ≢ e .anode → headed x (reachedDirs j (anodesOf j)) ≡ headed x (reachedDirs img s)
-    unfolding headed
     left-headed x o =
         let l = left-whole p empty in
         reached-sum (image p) (removed-disk p) (l .1) (λ d. oneAt (d .head) x) ∙ l .2 x o

@@ -10,8 +10,8 @@ use Rattle.rules.specs.Anodes.{Anodes, limit, exists, anodesOf, withAnodes}
 use Rattle.rules.specs.Chains.{blockCount, systemOwns}
 use Rattle.rules.specs.Walk.{Dir, Entered, entriesIn, isBlockOf}
 use Rattle.rules.specs.Accepted.{diskSize, lastReserved}
-use Rattle.rules.specs.Space.{Plan, planned, giveMany, onChain, dropped}
-use Rattle.rules.specs.Changes.{withoutEntry, removedImage}
+use Rattle.rules.specs.Space.{planned, onChain, dropped}
+use Rattle.rules.specs.Changes.{withoutEntry, removedImage, removePlan}
 use Rattle.laws.specs.LinkChanges.{without}
 use Rattle.laws.specs.Whole.{blocks-count}
 use Rattle.laws.specs.Resize.{Ran, shrink-ran}
@@ -26,13 +26,9 @@ use Rattle.changes.specs.SingleBlocks.{single-data}
 use Rattle.changes.specs.PlannedChange.{PlannedChange, image, w, facts, not-1, off-anode}
 use Rattle.changes.specs.Gap.{lowered, entryClosed, length-closed, head-closed, entries-closed}
 
--- the steps of a removal: all blocks of the entry's chain are given back
-abbrev pub removePlan : List ℕ → Entered → Plan
-removePlan img e = giveMany limit (exists img) (lastReserved img) (blockCount (anodesOf img) (e .anode)) (anodesOf img) (e .anode)
-
 -- a removal of an entry of an accepted image, and the steps that were planned
 abbrev pub PlannedRemove : List ℕ → Entered → Anodes → List ℕ → Type 0
-PlannedRemove img e t ys = PlannedChange img e (removePlan img e ≡ planned t ys)
+PlannedRemove img e t ys = PlannedChange img e (removePlan img (anodesOf img) (e .anode) ≡ planned t ys)
 
 module _ {img : List ℕ} {e : Entered} {t : Anodes} {ys : List ℕ} (p : PlannedRemove img e t ys) where
   abbrev s : Anodes

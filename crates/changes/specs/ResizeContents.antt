@@ -35,7 +35,7 @@ use Rattle.changes.specs.Read.{bytes-long, file-long}
 use Rattle.changes.specs.NewSize.{sized}
 use Rattle.changes.specs.ResizePlan.{handed-data, plan-longer, plan-shorter}
 use Rattle.changes.specs.PlannedChange.{w, facts, not-1}
-use Rattle.changes.specs.ResizeStores.{PlannedResize, steps, zeroed, stored, taken-kept, lastBlock, tailCleared, tail-in, tail-long, tail-kept, size-kept, others-left, home-alone}
+use Rattle.changes.specs.ResizeStores.{PlannedResize, steps, zeroed, stored, taken-kept, oldLast, tailCleared, tail-in, tail-long, tail-kept, size-kept, others-left, home-alone}
 
 -- the rest of a block cleared
 cleared-rest : (b : List ℕ) (r : ℕ) → length b ≡ 512 → r ≤ 512 → cleared b r (512 - r) ≡ take r b ++ replicate (512 - r) 0
@@ -164,20 +164,20 @@ module _ {img : List ℕ} {e : Entered} {new : ℕ} {t : Anodes} {ys : List ℕ}
       unfolding blocksFor
       chain-long = omega (arith, length-blocksOf s (e .anode), facts p .sized (p .plan .file))
 
-      parted : chain ≡ front ++ (lastBlock p ∷ [])
-      parted = split-at chain full 0 (omega (arith, chain-long)) ∙ ap (λ (l : List ℕ). front ++ (lastBlock p ∷ l)) (drop-of-length-le chain {i = suc full} (omega (arith, chain-long)))
+      parted : chain ≡ front ++ (oldLast p ∷ [])
+      parted = split-at chain full 0 (omega (arith, chain-long)) ∙ ap (λ (l : List ℕ). front ++ (oldLast p ∷ l)) (drop-of-length-le chain {i = suc full} (omega (arith, chain-long)))
 
-      last-in : 0 < times (lastBlock p) chain
-      last-in = member-times (lastBlock p) chain (tail-in p odd)
+      last-in : 0 < times (oldLast p) chain
+      last-in = member-times (oldLast p) chain (tail-in p odd)
 
-      in-front : (y : ℕ) → 0 < times y front → (0 < times y chain) × (y ≢ lastBlock p)
+      in-front : (y : ℕ) → 0 < times y front → (0 < times y chain) × (y ≢ oldLast p)
       in-front y q =
-          let all : times y chain ≡ times y front + times y (lastBlock p ∷ []) = ap (times y) parted ∙ times-append y front (lastBlock p ∷ []) in (
+          let all : times y chain ≡ times y front + times y (oldLast p ∷ []) = ap (times y) parted ∙ times-append y front (oldLast p ∷ []) in (
             omega (arith, q, all),
-            λ i. omega (arith, q, all, times-cons y (lastBlock p) [], oneAt-same (lastBlock p) y (sym i), once y),
+            λ i. omega (arith, q, all, times-cons y (oldLast p) [], oneAt-same (oldLast p) y (sym i), once y),
           )
 
-      stored-tail : zeroTail (zeroed p) s e new ≡ inBlock (zeroed p) (lastBlock p) (tailCleared p)
+      stored-tail : zeroTail (zeroed p) s e new ≡ inBlock (zeroed p) (oldLast p) (tailCleared p)
       unfolding zeroTail
       stored-tail = rw (big, ne-eqb (e .size % 512) 0 odd)
 
@@ -185,31 +185,31 @@ module _ {img : List ℕ} {e : Entered} {new : ℕ} {t : Anodes} {ys : List ℕ}
       unfolding resizedImage
       front-left y q =
           let i = in-front y q in
-          size-kept p .block-kept y (off-home y (i .0)) ∙ rw stored-tail (inBlock-kept (zeroed p) (lastBlock p) (tailCleared p) (tail-long p) .block-kept y (i .1)) ∙ before-tail y (i .0)
+          size-kept p .block-kept y (off-home y (i .0)) ∙ rw stored-tail (inBlock-kept (zeroed p) (oldLast p) (tailCleared p) (tail-long p) .block-kept y (i .1)) ∙ before-tail y (i .0)
 
-      last-left : blockOf j (lastBlock p) ≡ take (e .size % 512) (blockOf img (lastBlock p)) ++ replicate (512 - e .size % 512) 0
+      last-left : blockOf j (oldLast p) ≡ take (e .size % 512) (blockOf img (oldLast p)) ++ replicate (512 - e .size % 512) 0
       unfolding resizedImage
       last-left =
-          size-kept p .block-kept (lastBlock p) (off-home (lastBlock p) last-in) ∙ rw stored-tail (blockOf-inBlock (zeroed p) (lastBlock p) (tailCleared p) (tail-long p)) ∙ ap (tailCleared p) (before-tail (lastBlock p) last-in)
-          ∙ cleared-rest (blockOf img (lastBlock p)) (e .size % 512) (length-blockOf img (lastBlock p) (inside (lastBlock p) last-in)) (omega arith)
+          size-kept p .block-kept (oldLast p) (off-home (oldLast p) last-in) ∙ rw stored-tail (blockOf-inBlock (zeroed p) (oldLast p) (tailCleared p) (tail-long p)) ∙ ap (tailCleared p) (before-tail (oldLast p) last-in)
+          ∙ cleared-rest (blockOf img (oldLast p)) (e .size % 512) (length-blockOf img (oldLast p) (inside (oldLast p) last-in)) (omega arith)
 
-      odd-contents : contents img s e ≡ gather (blockOf img) front ++ take (e .size % 512) (blockOf img (lastBlock p))
+      odd-contents : contents img s e ≡ gather (blockOf img) front ++ take (e .size % 512) (blockOf img (oldLast p))
       unfolding contents bytesOf gather
       odd-contents =
           let front-long : length (gather (blockOf img) front) ≡ full * 512 =
           length-gather img front (λ y q. inside y (in-front y q .0)) ∙ ap (λ (n : ℕ). n * 512) (length-take-le full chain (omega (arith, chain-long))) in
           let size-is : e .size ≡ length (gather (blockOf img) front) + e .size % 512 = omega (arith, front-long) in
-          ap (λ (l : List ℕ). take (e .size) (gather (blockOf img) l)) parted ∙ ap (take (e .size)) (gather-append (blockOf img) front (lastBlock p ∷ []))
-          ∙ ap (λ (n : ℕ). take n (gather (blockOf img) front ++ (blockOf img (lastBlock p) ++ []))) size-is
-          ∙ take-append-add (gather (blockOf img) front) (blockOf img (lastBlock p) ++ []) (e .size % 512)
-          ∙ ap (λ (l : List ℕ). gather (blockOf img) front ++ take (e .size % 512) l) (append-nil (blockOf img (lastBlock p)))
+          ap (λ (l : List ℕ). take (e .size) (gather (blockOf img) l)) parted ∙ ap (take (e .size)) (gather-append (blockOf img) front (oldLast p ∷ []))
+          ∙ ap (λ (n : ℕ). take n (gather (blockOf img) front ++ (blockOf img (oldLast p) ++ []))) size-is
+          ∙ take-append-add (gather (blockOf img) front) (blockOf img (oldLast p) ++ []) (e .size % 512)
+          ∙ ap (λ (l : List ℕ). gather (blockOf img) front ++ take (e .size % 512) l) (append-nil (blockOf img (oldLast p)))
 
       odd-bytes : gather (blockOf j) chain ≡ contents img s e ++ replicate (512 - e .size % 512) 0
       unfolding gather
       odd-bytes =
-          let part = take (e .size % 512) (blockOf img (lastBlock p)) in
-          ap (gather (blockOf j)) parted ∙ gather-append (blockOf j) front (lastBlock p ∷ [])
-          ∙ ap₂ _++_ (gather-kept (blockOf img) (blockOf j) front front-left) (append-nil (blockOf j (lastBlock p)) ∙ last-left)
+          let part = take (e .size % 512) (blockOf img (oldLast p)) in
+          ap (gather (blockOf j)) parted ∙ gather-append (blockOf j) front (oldLast p ∷ [])
+          ∙ ap₂ _++_ (gather-kept (blockOf img) (blockOf j) front front-left) (append-nil (blockOf j (oldLast p)) ∙ last-left)
           ∙ sym (append-assoc (gather (blockOf img) front) part (replicate (512 - e .size % 512) 0))
           ∙ ap (λ (l : List ℕ). l ++ replicate (512 - e .size % 512) 0) (sym odd-contents)
 

@@ -16,8 +16,8 @@ use Rattle.rules.specs.Walk.{Entered, entriesIn}
 use Rattle.rules.specs.Lookup.{noDirectory, entriesOf}
 use Rattle.rules.specs.Changes.{resizedImage}
 use Rattle.laws.specs.Tests.{same?}
-use Rattle.laws.specs.TreeChanges.{headed}
 use Rattle.laws.specs.Members.{Member, member-cons, member-append, gather-congr}
+use Rattle.laws.specs.Items.{headed}
 use Rattle.changes.specs.Image.{reached-sum, headed-same, ReachedDir}
 use Rattle.changes.specs.FoundEntries.{part-same, standing-found, place-order}
 use Rattle.changes.specs.Reached.{EntryIn, EntryFacts, block-entry, reached-dir, entry-facts}
@@ -65,7 +65,6 @@ module _ {img : List ℕ} {e : Entered} {new : ℕ} {t : Anodes} {ys : List ℕ}
 
   -- the same directories are reached
   pub resized-reached : (k : ℕ) → noDirectory j t k ≡ noDirectory img s k
-  unfolding headed
   resized-reached k = headed-same img j s t k (rw (resized-disk p .anodes) at (reached-sum (image p) (resized-disk p) (still-whole p) (λ d. oneAt (d .head) k)))
 
   -- the directory k

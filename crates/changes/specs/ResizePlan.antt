@@ -29,13 +29,17 @@ use Rattle.laws.specs.OwnerTable.{held-data}
 use Rattle.frames.specs.DisjointBlocks.{DataBlock, times-held, chains-apart, chain-block}
 use Rattle.changes.specs.Image.{GoodOn}
 
+-- the head whose chain the moved blocks come to: h where it does not shrink, else the free list's
+abbrev pub newOwner : ℕ → ℕ → ℕ → ℕ
+newOwner h have want = cond (leb have want) h 1
+
 -- the chain of h has so many blocks now; those of ys came from 1's chain, or went to it
 pub record Resizing (img : List ℕ) (s : Anodes) (hd : ℕ → ℕ) (h size : ℕ) (t : Anodes) (ys : List ℕ) : Type 0 where
   pub from : ℕ
   pub to : ℕ
   pub apart : from ≢ to
   pub from-is : (from ≡ 1) ⊎ (from ≡ h)
-  pub to-is : to ≡ cond (leb (blockCount s h) size) h 1
+  pub to-is : to ≡ newOwner h (blockCount s h) size
   pub ran : Ran limit (exists img) (diskSize img) (lastReserved img) s (systemOwns img) hd from to h size ys t
 
 module _ (img : List ℕ) {s : Anodes} {hd sd : ℕ → ℕ} (g : GoodOn img s hd sd)

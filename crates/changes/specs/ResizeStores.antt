@@ -86,29 +86,29 @@ module _ {img : List ℕ} {e : Entered} {new : ℕ} {t : Anodes} {ys : List ℕ}
       go false = kept-all anodesIn
 
   -- the old last block, and a block cleared from the old size to its end
-  abbrev pub lastBlock : ℕ
-  lastBlock = getD chain (e .size / 512) 0
+  abbrev pub oldLast : ℕ
+  oldLast = getD chain (e .size / 512) 0
 
   abbrev pub tailCleared : List ℕ → List ℕ
   tailCleared b = cleared b (e .size % 512) (512 - e .size % 512)
 
   -- the old last block is one of the file's
-  pub tail-in : e .size % 512 ≢ 0 → Member lastBlock chain
+  pub tail-in : e .size % 512 ≢ 0 → Member oldLast chain
   unfolding blocksFor
   tail-in n = nth-in chain (e .size / 512) (omega (arith, length-blocksOf s (e .anode), facts p .sized (p .plan .file)))
 
-  pub tail-long : length (tailCleared (blockOf zeroed lastBlock)) ≡ length (blockOf zeroed lastBlock)
-  tail-long = length-cleared (blockOf zeroed lastBlock) (e .size % 512) (512 - e .size % 512)
+  pub tail-long : length (tailCleared (blockOf zeroed oldLast)) ≡ length (blockOf zeroed oldLast)
+  tail-long = length-cleared (blockOf zeroed oldLast) (e .size % 512) (512 - e .size % 512)
 
   pub tail-kept : Kept (λ y. times y chain ≡ 0) zeroed tailed
   unfolding zeroTail
   tail-kept = go (ltb (e .size) new && not (eqb (e .size % 512) 0)) refl
     where
-      go : (c : Bool) → (ltb (e .size) new && not (eqb (e .size % 512) 0)) ≡ c → Kept (λ y. times y chain ≡ 0) zeroed (cond c (inBlock zeroed lastBlock tailCleared) zeroed)
+      go : (c : Bool) → (ltb (e .size) new && not (eqb (e .size % 512) 0)) ≡ c → Kept (λ y. times y chain ≡ 0) zeroed (cond c (inBlock zeroed oldLast tailCleared) zeroed)
       go true q =
           let n = eqb-false (e .size % 512) 0 (not-true (eqb (e .size % 512) 0) (and-eq-true-iff (ltb (e .size) new) (not (eqb (e .size % 512) 0)) .0 q .1)) in
-          let k = inBlock-kept zeroed lastBlock tailCleared tail-long in
-          record { length-kept = k .length-kept; block-kept = λ y z. k .block-kept y (λ i. omega (arith, rw i at z, member-times lastBlock chain (tail-in n))) }
+          let k = inBlock-kept zeroed oldLast tailCleared tail-long in
+          record { length-kept = k .length-kept; block-kept = λ y z. k .block-kept y (λ i. omega (arith, rw i at z, member-times oldLast chain (tail-in n))) }
       go false q = kept-all zeroed
 
   abbrev setSize : List ℕ → List ℕ

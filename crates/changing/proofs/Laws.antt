@@ -20,7 +20,7 @@ use Rattle.rules.specs.Chains.{blocksOf}
 use Rattle.rules.specs.Walk.{Entered}
 use Rattle.rules.specs.Lookup.{noDirectory, entryNamed}
 use Rattle.rules.specs.Changes.{Left, left, NewEntry, made, written}
-use Rattle.rules.specs.Calls.{makeAnswer, wrongEntry, doneOr, leftAfter, changeNamed}
+use Rattle.rules.specs.Calls.{makeAnswer, wrongEntry, doneOr, leftAfter, changeNamed, wrongText}
 use Rattle.counting.specs.Laws.{neither}
 use Rattle.laws.specs.Tests.{same?, less?}
 use Rattle.frames.specs.DisjointBlocks.{chain-block, chain-once}
@@ -104,7 +104,7 @@ unfolding wrongEntry
 wrong-type type name comment e = rw (sym (type-read type) ∙ ap isRead e)
 
 module _ (type : ℕ) (k : Kind) (e : kindRead type ≡ Is k) where
-  pub right-type : (name comment : List ℕ) → wrongEntry type name comment ≡ (not (goodName name) || not (goodComment comment))
+  pub right-type : (name comment : List ℕ) → wrongEntry type name comment ≡ wrongText name comment
   unfolding wrongEntry
   right-type name comment = rw (sym (type-read type) ∙ ap isRead e)
 
@@ -112,7 +112,7 @@ module _ (type : ℕ) (k : Kind) (e : kindRead type ≡ Is k) where
   made-kind = ap dirRead (sym e) ∙ dir-read type
 
 -- a name and a comment that are right
-pub right-entry : (name comment : List ℕ) → (not (goodName name) || not (goodComment comment)) ≡ false → (goodName name ≡ true) × (goodComment comment ≡ true)
+pub right-entry : (name comment : List ℕ) → wrongText name comment ≡ false → (goodName name ≡ true) × (goodComment comment ≡ true)
 right-entry name comment e =
     let n = neither (not (goodName name)) (not (goodComment comment)) e in
     (not-false (goodName name) (n .0), not-false (goodComment comment) (n .1))

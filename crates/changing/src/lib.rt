@@ -5,11 +5,10 @@ ghost use mathlib.Core.Path.{_≡_};
 ghost use Prim.Native.Nat.{ℕ, _≤_};
 ghost use lib.Dec.{eqb};
 ghost use lib.ListN.{length};
-ghost use Rattle.directory.specs.Entries.{goodName, goodComment};
 ghost use Rattle.rules.specs.Anodes.{anodesOf};
 ghost use Rattle.rules.specs.Lookup.{entryNamed};
 ghost use Rattle.rules.specs.Changes.{left, newEntry, made, written, resized, removed};
-ghost use Rattle.rules.specs.Calls.{spanAnswer, resizeAnswer, removeAnswer, makeAnswer, leftAfter, changeNamed};
+ghost use Rattle.rules.specs.Calls.{spanAnswer, resizeAnswer, removeAnswer, wrongText, makeAnswer, leftAfter, changeNamed};
 ghost use Rattle.find.specs.Open.{Open, OpenAnodes};
 ghost use Rattle.changed.specs.Leaves.{Leaves};
 use contents::write_along;
@@ -120,7 +119,7 @@ pub fn remove_named(
 
 // 20: name or comment against the entry rules.
 fn wrong_entry(name: &[u8], comment: &[u8]) -> bool
-    ensures { λ r. ⌜ r ≡ (not (goodName (now (name .entry))) || not (goodComment (now (comment .entry)))) ⌝ }
+    ensures { λ r. ⌜ r ≡ wrongText (now (name .entry)) (now (comment .entry)) ⌝ }
 {
     if !name_ok(name) {
         return true;

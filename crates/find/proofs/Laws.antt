@@ -20,11 +20,12 @@ use Rattle.anodes.specs.Loaded.{anodesFrom}
 use Rattle.tree.specs.Steps.{queueOf}
 use Rattle.laws.specs.Tests.{firstOf-some, firstOf-none}
 use Rattle.laws.specs.OwnerTable.{anodeEntry-is}
+use Rattle.laws.specs.Entries.{Unbroken}
 use Rattle.changes.specs.Answers.{searchNumber}
 use Rattle.changes.specs.Image.{accepted-own, accepted-whole}
 use Rattle.changes.specs.Reached.{reached-head, reached-unbroken}
 use Rattle.lookup.specs.declared.Lookup.{Lookup}
-use Rattle.lookup.specs.Answers.{entryOf, Unbroken}
+use Rattle.lookup.specs.Answers.{entryOf}
 use Rattle.lookup.specs.Queued.{placeOf, noneHeaded, OwnHeads}
 use Rattle.lookup.proofs.Queue.{place-found, place-times}
 use Rattle.find.specs.Open.{Open}

@@ -10,10 +10,10 @@ use lib.ListN.{length, take, drop, replicate, length-replicate}
 use lib.Seq.{take-all, ext-getD}
 use borrow.Rule.Slice.PartMut.{putMid}
 use borrow.Author.Tests.{ne-eqb, eq-eqb}
-use Rattle.endian.specs.Bytes.{be16, put16, cleared}
+use Rattle.endian.specs.Bytes.{be16, cleared}
 use Rattle.endian.proofs.Laws.{same?, length-put16, cleared-front, getD-zeros}
 use Rattle.disk.specs.Blocks.{blockOf, withBlock}
-use Rattle.disk.specs.Root.{rootIn, putRoot, slotIn}
+use Rattle.disk.specs.Root.{rootIn, putRoot, slotByte, slotIn, putSlot}
 use Rattle.disk.specs.AnodeBlocks.{anodeMade, anodeIn, putAnode}
 use Rattle.disk.proofs.Laws.{length-blockOf, length-blockOf-min, part-block, block-back, length-putAnode}
 use Rattle.disk.proofs.Store.{anodeIn-putAnode-same, anodeIn-putAnode-other, length-putAnodeHead, anodeIn-putAnodeHead, length-putRoot, rootIn-putRoot, slotIn-putRoot, slotIn-putSlot-same, slotIn-putSlot-other, rootIn-putSlot, getD-blockOf, length-withBlock, blockOf-withBlock-same, blockOf-withBlock-other}
@@ -85,14 +85,14 @@ pub withSlots-none : (b : List ℕ) → withSlots b 0 ≡ b
 unfolding withSlots
 withSlots-none b = refl
 
-pub withSlots-more : (b : List ℕ) (s : ℕ) → withSlots b (s + 1) ≡ put16 (withSlots b s) (96 + 2 * s) (3 + s)
+pub withSlots-more : (b : List ℕ) (s : ℕ) → withSlots b (s + 1) ≡ putSlot (withSlots b s) s (3 + s)
 unfolding withSlots
 withSlots-more b s = rw (add-one s)
 
 length-withSlots : (b : List ℕ) (s : ℕ) → length (withSlots b s) ≡ length b
 unfolding withSlots
 length-withSlots b zero = refl
-length-withSlots b (suc s) = length-put16 (withSlots b s) (96 + 2 * s) (3 + s) ∙ length-withSlots b s
+length-withSlots b (suc s) = length-put16 (withSlots b s) (slotByte s) (3 + s) ∙ length-withSlots b s
 
 rootIn-withSlots : (b : List ℕ) (s : ℕ) → rootIn (withSlots b s) ≡ rootIn b
 unfolding withSlots

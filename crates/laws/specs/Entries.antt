@@ -14,7 +14,7 @@ use Rattle.disk.specs.Blocks.{blockOf}
 use Rattle.directory.specs.declared.Entry.{Entry}
 use Rattle.directory.specs.declared.Walked.the-variants.{Found, End, Fault}
 use Rattle.directory.specs.Entries.{isDir, walkedAt}
-use Rattle.rules.specs.Counting.{sumList, times}
+use Rattle.rules.specs.Counting.{sumList, times, anyIn}
 use Rattle.rules.specs.Anodes.{limit, Anodes}
 use Rattle.rules.specs.Chains.{chainOf, heads, blockCount}
 use Rattle.rules.specs.Walk.{Dir, Entered, entriesFrom, Item, blocksFor, wrongAnode, wrongFileSize, itemOf, broken, itemsFor, itemsAt, itemsBy, entriesIn}
@@ -56,6 +56,10 @@ module _ (b : List ℕ) (y k m at : ℕ) (fuel : k ≡ m + 1) where
 
   pub entries-step : (x : Entry) → walkedAt b at ≡ Found x → entriesFrom k b y at ≡ enteredAt x (y * 512 + at) ∷ entriesFrom m b y (at + getD b at 0)
   entries-step x e = rw (fuel, add-one m) (entries-more b y m at x e)
+
+-- no entry breaks the entry rules, as in every accepted image
+abbrev pub Unbroken : List Entered → Type 0
+Unbroken l = anyIn (λ e. e .broken) l ≡ false
 
 -- ---- weights
 

@@ -23,9 +23,9 @@ use Rattle.rules.specs.Chains.{chainOf}
 use Rattle.rules.specs.Walk.{Entered, entriesFrom, entriesIn}
 use Rattle.rules.specs.Lookup.{nameAt, isNamed, firstNamed, entryNamed, entriesOf, nth}
 use Rattle.anodes.specs.Loaded.{anodesFrom}
-use Rattle.laws.specs.Entries.{enteredAt, entries-fault, entries-step}
+use Rattle.laws.specs.Entries.{enteredAt, entries-fault, entries-step, Unbroken}
 use Rattle.laws.specs.Chains.{gathered-step}
-use Rattle.lookup.specs.Answers.{orElse, onlyIf, Unbroken}
+use Rattle.lookup.specs.Answers.{orElse, onlyIf}
 
 -- ---- bytes from `i` on
 

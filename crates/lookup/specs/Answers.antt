@@ -42,7 +42,3 @@ onlyIf false e = none
 abbrev pub orRest : Passed → List Entered → Option Entered
 orRest (Hit e) rest = some (entered e)
 orRest (Left n) rest = nth rest n
-
--- no entry breaks the entry rules, as in every accepted image
-abbrev pub Unbroken : List Entered → Type 0
-Unbroken es = anyIn (λ e. e .broken) es ≡ false

@@ -23,9 +23,9 @@ use Rattle.laws.specs.Blocks.{blocks}
 use Rattle.laws.specs.Space.{FreeAnode}
 use Rattle.laws.specs.Resize.{Ran, grow-ran}
 use Rattle.laws.specs.OwnerTable.{ran-data, setAll}
-use Rattle.laws.specs.TreeChanges.{headed}
 use Rattle.laws.specs.DirectoryTakes.{dir-head, dir-not-1}
 use Rattle.laws.specs.Make.{contents-unchanged, fresh-orphan}
+use Rattle.laws.specs.Items.{headed}
 use Rattle.changes.specs.Image.{GoodOn, WholeImage, headIn, sideIn, image-passed, accepted-whole, reached-headed}
 use Rattle.changes.specs.MakePlan.{Fresh, fresh-dir, fresh-free, made-orphan}
 use Rattle.changes.specs.Make.{needed-refused}

@@ -12,7 +12,7 @@ use Rattle.rules.specs.Walk.{Entered}
 use Rattle.rules.specs.Accepted.{lastReserved}
 use Rattle.rules.specs.Tables.{anodeTable}
 use Rattle.rules.specs.Space.{Plan, refused, planned, giveMany, dropped}
-use Rattle.rules.specs.Changes.{removedImage, removed}
+use Rattle.rules.specs.Changes.{removedImage, removed, removePlan}
 use Rattle.laws.specs.Links.{Linked}
 use Rattle.laws.specs.Remove.{still, none-left}
 use Rattle.laws.specs.OwnerTable.{dropped-owner, setAll}
@@ -34,9 +34,8 @@ module _ {img counts firsts nexts : List ℕ} (l : Loaded img counts firsts next
   abbrev s : Anodes
   s = anodesOf img
 
-  -- the plan: all blocks of the entry's chain are given back
   abbrev plan : Plan
-  plan = giveMany limit (exists img) (lastReserved img) (blockCount s (e .anode)) s (e .anode)
+  plan = removePlan img s (e .anode)
 
   -- the plan on copies of the tables is that of the image
   pub gives-made : (nc nf nn : List ℕ) → nc ≡ counts → nf ≡ firsts → nn ≡ nexts → (have : ℕ) → have ≡ sumFrom counts nexts limit (e .anode) → (p : Plan) → p ≡ moveMany img false have (anodesFrom nc nf nn) (e .anode) → plan ≡ p

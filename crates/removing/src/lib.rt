@@ -2,11 +2,9 @@
 ghost use mathlib.Core.Path.{_≡_};
 ghost use Prim.Native.Nat.{_≤_};
 ghost use lib.ListN.{length, take};
-ghost use Rattle.rules.specs.Anodes.{exists, anodesOf};
-ghost use Rattle.rules.specs.Chains.{blockCount};
-ghost use Rattle.rules.specs.Accepted.{lastReserved};
-ghost use Rattle.rules.specs.Space.{planned, giveMany};
-ghost use Rattle.rules.specs.Changes.{removed};
+ghost use Rattle.rules.specs.Anodes.{anodesOf};
+ghost use Rattle.rules.specs.Space.{planned};
+ghost use Rattle.rules.specs.Changes.{removePlan, removed};
 ghost use Rattle.anodes.specs.Loaded.{anodesFrom, Loaded};
 ghost use Rattle.lookup.specs.Answers.{entered};
 ghost use Rattle.changed.specs.Leaves.{Leaves, ReachedEntry};
@@ -40,7 +38,7 @@ fn commit_remove(
 )
     requires { ⌜ Loaded (now image) (now counts) (now firsts) (now nexts) × ReachedEntry (now image) (entered e) ⌝ }
     requires { ⌜ (3444 ≤ length (now anodes)) × (length (now «new_nexts») ≡ 3444) × (length (now moved) ≡ 65535) ⌝ }
-    requires { ⌜ giveMany 3444 (exists (now image)) (lastReserved (now image)) (blockCount (anodesOf (now image)) (e .anode .0)) (anodesOf (now image)) (e .anode .0) ≡ planned (anodesFrom (now «new_counts») (now «new_firsts») (now «new_nexts»)) (take n (now moved)) ⌝ }
+    requires { ⌜ removePlan (now image) (anodesOf (now image)) (e .anode .0) ≡ planned (anodesFrom (now «new_counts») (now «new_firsts») (now «new_nexts»)) (take n (now moved)) ⌝ }
     ensures { λ _. ⌜ Leaves 0 (now (image .entry)) (now (blocks .entry)) (now (anodes .entry)) (now (image .exit)) (now (blocks .exit)) (now (anodes .exit)) (removed (now (image .entry)) (anodesOf (now (image .entry))) (entered e)) ⌝ }
 {
     drop_chain(e.anode, new_counts, new_firsts, new_nexts);

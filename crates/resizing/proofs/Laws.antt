@@ -2,10 +2,9 @@
 use Prim.Native.Nat.{ℕ, _-_, _<_, _≤_}
 use mathlib.Core.Path.{_≡_, refl, sym, _∙_}
 use mathlib.Core.Logic.{inl, inr}
-use mathlib.Core.Bool.{true, false, cond}
+use mathlib.Core.Bool.{true, false}
 use mathlib.Core.List.{List, _++_}
 use native.Mathlib.Omega.{arith}
-use lib.Dec.{leb}
 use lib.ListN.{length, drop}
 use borrow.Author.Tests.{le-leb, lt-leb, lt-ltb, le-ltb}
 use Rattle.rules.specs.Anodes.{Anodes, limit, anodesOf}
@@ -20,7 +19,7 @@ use Rattle.laws.specs.Links.{Linked}
 use Rattle.laws.specs.Whole.{blocks-count}
 use Rattle.laws.specs.OwnerTable.{setAll}
 use Rattle.changes.specs.Reached.{entry-not-1}
-use Rattle.changes.specs.ResizePlan.{plan-refused, plan-longer}
+use Rattle.changes.specs.ResizePlan.{newOwner, plan-refused, plan-longer}
 use Rattle.changes.specs.ResizeStores.{PlannedResize, steps, resized-disk}
 use Rattle.anodes.specs.Loaded.{anodesFrom, Loaded}
 use Rattle.tree.specs.Steps.{sumFrom}
@@ -34,16 +33,15 @@ module _ {img counts firsts nexts : List ℕ} (l : Loaded img counts firsts next
   abbrev s : Anodes
   s = anodesOf img
 
-  -- the head that the moved blocks come to: the file's where it has not shrunk, else the free list's
   abbrev owner : ℕ
-  owner = cond (leb (blockCount s (e .anode)) (blocksFor size)) (e .anode) 1
+  owner = newOwner (e .anode) (blockCount s (e .anode)) (blocksFor size)
 
   -- the plan on copies of the tables is that of the image
   pub plan-made : (nc nf nn : List ℕ) → nc ≡ counts → nf ≡ firsts → nn ≡ nexts → (want : ℕ) → want ≡ blocksFor size → (p : Plan) → p ≡ resizePlan img (anodesFrom nc nf nn) (e .anode) want → resizePlan img s (e .anode) (blocksFor size) ≡ p
   plan-made nc nf nn c f n want q p made = sym (made ∙ rw (loaded-copies l nc nf nn c f n .is-loaded, q))
 
   -- by what was counted it is the same
-  pub owner-is : (have want o : ℕ) → have ≡ sumFrom counts nexts limit (e .anode) → want ≡ blocksFor size → o ≡ cond (leb have want) (e .anode) 1 → o ≡ owner
+  pub owner-is : (have want o : ℕ) → have ≡ sumFrom counts nexts limit (e .anode) → want ≡ blocksFor size → o ≡ newOwner (e .anode) have want → o ≡ owner
   owner-is have want o i q is = is ∙ rw (chain-counted l (e .anode) have i, q)
 
   -- refused it leaves everything

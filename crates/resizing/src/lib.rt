@@ -1,8 +1,7 @@
 // Resizes a file of an accepted image: takes or gives back blocks, and stores the new size.
-ghost use mathlib.Core.Bool.{false, cond};
+ghost use mathlib.Core.Bool.{false};
 ghost use mathlib.Core.Path.{_≡_};
 ghost use Prim.Native.Nat.{_≤_};
-ghost use lib.Dec.{leb};
 ghost use lib.ListN.{length, take};
 ghost use Rattle.directory.specs.Entries.{isDir};
 ghost use Rattle.rules.specs.Anodes.{anodesOf};
@@ -13,6 +12,7 @@ ghost use Rattle.rules.specs.Changes.{resizePlan, resized};
 ghost use Rattle.anodes.specs.Loaded.{anodesFrom, AnodeTables, Loaded};
 ghost use Rattle.space.specs.Steps.{manyPlan, Ready};
 ghost use Rattle.lookup.specs.Answers.{entered};
+ghost use Rattle.changes.specs.ResizePlan.{newOwner};
 ghost use Rattle.changed.specs.Leaves.{Leaves, ReachedEntry};
 use chains::show_heads;
 use disk::AnodeNo;
@@ -80,7 +80,7 @@ fn commit_resize(
 )
     requires { ⌜ Loaded (now image) (now counts) (now firsts) (now nexts) × ReachedEntry (now image) (entered e) ⌝ }
     requires { ⌜ (isDir (e .kind) ≡ false) × (3444 ≤ length (now anodes)) × (length (now «new_nexts») ≡ 3444) × (length (now moved) ≡ 65535) ⌝ }
-    requires { ⌜ (resizePlan (now image) (anodesOf (now image)) (e .anode .0) (blocksFor size) ≡ planned (anodesFrom (now «new_counts») (now «new_firsts») (now «new_nexts»)) (take n (now moved))) × (owner .0 ≡ cond (leb (blockCount (anodesOf (now image)) (e .anode .0)) (blocksFor size)) (e .anode .0) 1) ⌝ }
+    requires { ⌜ (resizePlan (now image) (anodesOf (now image)) (e .anode .0) (blocksFor size) ≡ planned (anodesFrom (now «new_counts») (now «new_firsts») (now «new_nexts»)) (take n (now moved))) × (owner .0 ≡ newOwner (e .anode .0) (blockCount (anodesOf (now image)) (e .anode .0)) (blocksFor size)) ⌝ }
     ensures { λ _. ⌜ Leaves 0 (now (image .entry)) (now (blocks .entry)) (now (anodes .entry)) (now (image .exit)) (now (blocks .exit)) (now (anodes .exit)) (resized (now (image .entry)) (anodesOf (now (image .entry))) (entered e) size) ⌝ }
 {
     store_anodes(
@@ -103,7 +103,7 @@ fn commit_resize(
 
 // The head of the chain that the moved blocks are in: the file's, or 1 where they were given back.
 fn new_owner(have: u64, want: u64, head: AnodeNo) -> AnodeNo
-    ensures { λ r. ⌜ r .0 ≡ cond (leb have want) (head .0) 1 ⌝ }
+    ensures { λ r. ⌜ r .0 ≡ newOwner (head .0) have want ⌝ }
 {
     if have <= want {
         return head;

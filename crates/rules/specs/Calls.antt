@@ -107,9 +107,13 @@ removeAnswer img s h name =
     else 25 if fullDir img s (entryNamed img s h name)
     else 0
 
--- 20: type, name or comment against the entry rules
+-- 20: name or comment against the entry rules
+abbrev pub wrongText : List ℕ → List ℕ → Bool
+wrongText name comment = not (goodName name) || not (goodComment comment)
+
+-- 20: type, name or comment
 unfoldable pub wrongEntry : ℕ → List ℕ → List ℕ → Bool
-wrongEntry type name comment = not (eqb type 253 || eqb type 2) || (not (goodName name) || not (goodComment comment))
+wrongEntry type name comment = not (eqb type 253 || eqb type 2) || wrongText name comment
 
 -- make: 20, 21, 23, then 27 and 28 by its steps
 unfoldable pub makeAnswer : List ℕ → Anodes → ℕ → ℕ → List ℕ → List ℕ → ℕ

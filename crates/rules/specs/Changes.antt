@@ -190,11 +190,14 @@ gapClosed b at len end = take at b ++ (take (end - (at + len)) (drop (at + len) 
 unfoldable pub withoutEntry : List ℕ → ℕ → List ℕ
 withoutEntry img place = inBlock img (place / 512) (λ b. gapClosed b (place % 512) (getD b (place % 512) 0) (entriesEnd b))
 
--- the image after a removal whose steps, which give back all blocks, last first, left the anodes t: those still in the chain are zeroed, and the entry goes
+-- gives back all blocks, last first
+abbrev pub removePlan : List ℕ → Anodes → ℕ → Plan
+removePlan img s h = Space.giveMany limit (exists img) (lastReserved img) (blockCount s h) s h
+
+-- the image after a removal whose steps left the anodes t: those still in the chain are zeroed, and the entry goes
 unfoldable pub removedImage : List ℕ → Entered → Anodes → List ℕ
 removedImage img e t = withoutEntry (withAnodes img (Space.dropped limit t (e .anode))) (e .place)
 
 -- Remove: refused by its first step that fails, else that image
 unfoldable pub removed : List ℕ → Anodes → Entered → Left
-removed img s e =
-    leftBy (Space.giveMany limit (exists img) (lastReserved img) (blockCount s (e .anode)) s (e .anode)) img (λ t ys. left 0 (removedImage img e t))
+removed img s e = leftBy (removePlan img s (e .anode)) img (λ t ys. left 0 (removedImage img e t))

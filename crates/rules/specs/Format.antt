@@ -1,14 +1,14 @@
 -- 01, "The changes", Format.
-use Prim.Native.Nat.{ℕ, zero, suc, _+_, _-_, _*_}
+use Prim.Native.Nat.{ℕ, zero, suc, _+_, _-_}
 use mathlib.Core.Bool.{Bool, cond, _||_}
 use mathlib.Core.List.{List}
 use lib.ListN.{length, replicate}
 use lib.Dec.{eqb, leb, ltb}
-use Rattle.endian.specs.Bytes.{put16, put32}
+use Rattle.endian.specs.Bytes.{put32}
 use Rattle.disk.specs.declared.Anode.{Anode}
 use Rattle.disk.specs.declared.Root.{Root}
 use Rattle.disk.specs.Blocks.{withBlock}
-use Rattle.disk.specs.Root.{pfs0, putRoot}
+use Rattle.disk.specs.Root.{pfs0, putRoot, putSlot}
 use Rattle.disk.specs.AnodeBlocks.{anodeMark, anodeMade, putAnodeHead, putAnode}
 use Rattle.directory.specs.Entries.{directoryMark, putDirectoryHead}
 use Rattle.rules.specs.Counting.{_if_else_}
@@ -38,7 +38,7 @@ zeroBlock = replicate 512 0
 -- the first k slots: anode blocks from 3
 unfoldable pub withSlots : List ℕ → ℕ → List ℕ
 withSlots b zero = b
-withSlots b (suc s) = put16 (withSlots b s) (96 + 2 * s) (3 + s)
+withSlots b (suc s) = putSlot (withSlots b s) s (3 + s)
 
 -- the root's fields: disk type, stamps, protection, the name's length, first reserved 0, last reserved L
 abbrev pub rootMade : ℕ → List ℕ → ℕ → ℕ → ℕ → ℕ → Root

@@ -17,11 +17,11 @@ use Rattle.directory.specs.declared.Walked.the-variants.{Found, Fault}
 use Rattle.directory.specs.Entries.{walkedAt}
 use Rattle.rules.specs.Counting.{sumList}
 use Rattle.rules.specs.Anodes.{Anodes, limit}
-use Rattle.rules.specs.Walk.{Dir, Entered, Item, entriesFrom, entriesIn, isBlockOf, itemsFor, blocksFor}
+use Rattle.rules.specs.Walk.{Dir, Entered, Item, entriesFrom, entriesIn, isBlockOf, itemsFor, blocksFor, dirMade}
 use Rattle.laws.specs.Entries.{enteredAt, entries-fault, entries-step}
 use Rattle.laws.specs.Chains.{chain-none, chain-step, gathered-step, chain-end}
 use Rattle.tree.specs.declared.Tally.{Tally}
-use Rattle.tree.specs.Steps.{dirMade, sumFrom, headAt, itemIn, Progress, stopped, going, refuse, enterItem, onward, enterAll, itemsFrom, itemsAlong, halted, ended, afterDir, runFrom, dirsFrom, queueOf, marked, Room}
+use Rattle.tree.specs.Steps.{sumFrom, headAt, itemIn, Progress, stopped, going, refuse, enterItem, onward, enterAll, itemsFrom, itemsAlong, halted, ended, afterDir, runFrom, dirsFrom, queueOf, marked, Room}
 
 -- ---- the sum along a chain
 

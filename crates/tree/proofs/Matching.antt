@@ -12,7 +12,7 @@ use borrow.Author.Tests.{le-leb, lt-leb, eqb-true, eqb-false}
 use Rattle.endian.proofs.Laws.{same?}
 use Rattle.rules.specs.Counting.{firstOf, oneAt, sumList, times, gather}
 use Rattle.rules.specs.Anodes.{limit}
-use Rattle.rules.specs.Walk.{Dir, Item, subDirs, faultOf, Scanned, faulty, fine, scan, Walk, fault, done, visited, walk}
+use Rattle.rules.specs.Walk.{Dir, Item, subDirs, faultOf, Scanned, faulty, fine, scan, Walk, fault, done, visited, walk, dirMade}
 use Rattle.laws.specs.Sums.{oneAt-same, oneAt-other}
 use Rattle.laws.specs.Bags.{list-append, times-cons}
 use Rattle.laws.specs.Each.{Each}
@@ -120,7 +120,7 @@ module _ (d : Dir) where
         (behind false queue (files + 1) refl)
     go true e zero true =
         rw (e, scan-next d (made 0 true) is queue named (fault-late (made 0 true) named refl (none e)))
-        (behind true (queue ++ (record { head = a; parent = d .head } ∷ [])) files (omega arith))
+        (behind true (queue ++ (dirMade a (d .head) ∷ [])) files (omega arith))
 
   scan-match : (is : List Item) (queue : List Dir) (marks : List ℕ) (files : ℕ) (named : List ℕ) → Each InRange is → length marks ≡ limit → Agree marks (λ x. times x named)
       → ScanMatch is files named (enterAll (d .head) is queue marks files) (scan d is queue named)

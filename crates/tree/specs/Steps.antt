@@ -9,16 +9,12 @@ use Rattle.disk.specs.Refusals.{numberOf}
 use Rattle.rules.specs.Counting.{sumList, gather}
 use Rattle.rules.specs.Anodes.{Anodes, limit}
 use Rattle.rules.specs.Chains.{chainOf}
-use Rattle.rules.specs.Walk.{Dir, Entered, Item, entriesIn, isBlockOf, blocksFor, itemsFor}
+use Rattle.rules.specs.Walk.{Dir, Entered, Item, entriesIn, isBlockOf, blocksFor, itemsFor, dirMade}
 use Rattle.tree.specs.declared.Tally.{Tally}
 use Rattle.tree.specs.declared.Step.{Step}
 use Rattle.tree.specs.declared.Step.the-variants.{Go, Fault}
 use Rattle.tree.specs.declared.TreeRead.{TreeRead}
 use Rattle.tree.specs.declared.TreeRead.the-variants.{Counted, Fault as Refused}
-
--- a directory, by its head and its parent's
-abbrev pub dirMade : ℕ → ℕ → Dir
-dirMade head parent = record { head = head; parent = parent }
 
 -- the sum of the counts along a chain of at most k anodes
 unfoldable pub sumFrom : List ℕ → List ℕ → ℕ → ℕ → ℕ

@@ -1,4 +1,4 @@
-//! The faults that bend an accepted image, each aimed at one refusal number: the bent image breaks the rule of
+//! The faults that damage an accepted image, each aimed at one refusal number: the damaged image breaks the rule of
 //! that number and none of the rules that are tried before.
 //!
 //! * `space`: 3 to 11, in the root block, the anode blocks and the anodes.
@@ -7,12 +7,12 @@
 mod entries;
 mod space;
 
-use super::bend::Bender;
+use super::damage::Damager;
 use crate::model::layout::{BLOCK, FEWEST_BLOCKS};
 use crate::rng::Rng;
 
-/// Bends an image, or answers nothing where the disk has nothing to bend in this way.
-type Fault = fn(&Bender, &mut [u8], &mut Rng) -> Option<()>;
+/// Damages an image, or answers nothing where the disk has nothing to damage in this way.
+type Fault = fn(&Damager, &mut [u8], &mut Rng) -> Option<()>;
 
 /// The faults that are aimed at a number from 3 up; 1 is about the length of the image, 2 about the tables.
 pub(super) fn faults(number: u32) -> &'static [Fault] {

@@ -21,18 +21,18 @@ fn check_says_the_number_of_damage_and_what_it_means() {
     let folder = Folder::with_disk("check_damage");
     let mut image = folder.read("disk.adf");
     image[1024] = b'X';
-    folder.write("bent.adf", &image);
+    folder.write("damaged.adf", &image);
     folder.write("cut.adf", &image[..1000]);
-    let type_run = folder.run(&["check", "bent.adf"]);
+    let type_run = folder.run(&["check", "damaged.adf"]);
     assert_eq!((type_run.status, type_run.out.as_str()), (1, "3: the disk type is not PFS\\0\n"));
     assert_eq!(type_run.errors, "");
     let cut = folder.run(&["check", "cut.adf"]);
     assert_eq!((cut.status, &cut.out[..3]), (1, "1: "));
     for command in ["info", "ls", "tree", "df", "map"] {
-        let error = folder.fails(1, &[command, "bent.adf"]);
-        assert_eq!(error, "pfs: bent.adf: 3: the disk type is not PFS\\0\n");
+        let error = folder.fails(1, &[command, "damaged.adf"]);
+        assert_eq!(error, "pfs: damaged.adf: 3: the disk type is not PFS\\0\n");
     }
-    folder.fails(1, &["rm", "bent.adf", "recipes"]);
+    folder.fails(1, &["rm", "damaged.adf", "recipes"]);
 }
 
 #[test]

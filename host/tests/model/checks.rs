@@ -4,7 +4,7 @@ use ovenknit_host::compare::{junk_tables, Histogram};
 use ovenknit_host::model::layout::{self, AnodeTable, ANODES, BLOCK};
 use ovenknit_host::model::{self, naive};
 use ovenknit_host::rng::{seeded, Rng};
-use ovenknit_host::shapes::{accepted, formatted, random_bytes, shaped, Bender, Recipe};
+use ovenknit_host::shapes::{accepted, formatted, random_bytes, shaped, Damager, Recipe};
 
 /// Runs both checks with the same junk in the tables, compares all that they leave, and answers their number.
 fn compare_checks(image: &[u8], blocks: Vec<u16>, anodes: Vec<u16>) -> u32 {
@@ -23,19 +23,19 @@ pub fn compare_with_junk(image: &[u8], rng: &mut Rng) -> u32 {
     compare_checks(image, blocks, anodes)
 }
 
-/// Bends an accepted image in all ways; each aimed fault must give its number.
+/// Damages an accepted image in all ways; each aimed fault must give its number.
 fn compare_bent(image: &[u8], histogram: &mut Histogram, rng: &mut Rng) {
-    let bender = Bender::new(image).expect("the image is accepted");
+    let damager = Damager::new(image).expect("the image is accepted");
     for number in (1..=16).filter(|&number| number != 2) {
-        if let Some(bent) = bender.bend(number, rng) {
-            let answer = compare_with_junk(&bent, rng);
+        if let Some(damaged) = damager.damage(number, rng) {
+            let answer = compare_with_junk(&damaged, rng);
             assert_eq!(answer, number, "a fault missed its aim");
             histogram.add(answer, "check");
         }
     }
     for _ in 0..3 {
-        histogram.add(compare_with_junk(&bender.with_random_bytes(rng), rng), "check");
-        histogram.add(compare_with_junk(&bender.with_misplaced_numbers(rng), rng), "check");
+        histogram.add(compare_with_junk(&damager.with_random_bytes(rng), rng), "check");
+        histogram.add(compare_with_junk(&damager.with_misplaced_numbers(rng), rng), "check");
     }
     let (blocks, anodes) = junk_tables(image.len() / BLOCK, true, rng);
     let answer = compare_checks(image, blocks, anodes);

@@ -3,9 +3,9 @@ use mathlib.Core.Option.{none}
 use Prim.Native.Nat.{_-_}
 use native.Mathlib.Omega.{arith}
 use Rattle.rules.specs.Lookup.{firstNamed}
-use Rattle.lookup.specs.Answers.{Unbroken}
 use Rattle.lookup.proofs.Laws.{entriesAlong, along-whole, unbroken-along, named-along, named-none, named-whole}
 use Rattle.laws.specs.Chains.{gathered-none, gathered-end}
+use Rattle.laws.specs.Entries.{Unbroken}
 use borrow.Author.Needs.{needs}
 use Rattle.lookup.proofs.entry_named.Statement.{statement}
 use Rattle.lookup.proofs.entry_named.Tie as tie

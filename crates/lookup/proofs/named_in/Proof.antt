@@ -3,8 +3,8 @@ use Prim.Native.Nat.{_+_, _-_, _*_, _≤_}
 use native.Mathlib.Omega.{arith}
 use Rattle.rules.specs.Walk.{entriesFrom, entriesIn}
 use Rattle.rules.specs.Lookup.{firstNamed}
-use Rattle.lookup.specs.Answers.{entryOf, orElse, Unbroken}
-use Rattle.laws.specs.Entries.{entries-end, entries-none, block-whole}
+use Rattle.lookup.specs.Answers.{entryOf, orElse}
+use Rattle.laws.specs.Entries.{entries-end, entries-none, block-whole, Unbroken}
 use Rattle.lookup.proofs.Laws.{unbroken-no-fault, unbroken-rest, named-passed, named-ended}
 use borrow.Author.Needs.{needs}
 use Rattle.lookup.proofs.named_in.Statement.{statement}

@@ -3,9 +3,9 @@ use mathlib.Core.Path.{_≡_, refl, sym, _∙_}
 use Prim.Native.Nat.{_-_}
 use native.Mathlib.Omega.{arith}
 use Rattle.rules.specs.Lookup.{nth}
-use Rattle.lookup.specs.Answers.{Unbroken}
 use Rattle.lookup.proofs.Laws.{entriesAlong, along-whole, unbroken-along, nth-along, nth-empty}
 use Rattle.laws.specs.Chains.{gathered-none, gathered-end}
+use Rattle.laws.specs.Entries.{Unbroken}
 use borrow.Author.Needs.{needs}
 use Rattle.lookup.proofs.nth_entry.Statement.{statement}
 use Rattle.lookup.proofs.nth_entry.Tie as tie

@@ -4,8 +4,7 @@ use Prim.Native.Nat.{_+_, _-_, _*_, _≤_}
 use native.Mathlib.Omega.{arith}
 use Rattle.rules.specs.Walk.{Entered, entriesFrom, entriesIn}
 use Rattle.rules.specs.Lookup.{nth}
-use Rattle.lookup.specs.Answers.{Unbroken}
-use Rattle.laws.specs.Entries.{entries-end, entries-none, block-whole}
+use Rattle.laws.specs.Entries.{entries-end, entries-none, block-whole, Unbroken}
 use Rattle.lookup.proofs.Laws.{unbroken-no-fault, unbroken-rest, nth-none, nth-here, nth-behind}
 use borrow.Author.Needs.{needs}
 use Rattle.lookup.proofs.nth_in.Statement.{statement}

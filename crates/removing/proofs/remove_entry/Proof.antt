@@ -1,9 +1,7 @@
 use mathlib.Core.Path.{_≡_, sym, _∙_}
 use native.Mathlib.Nat.{le-of-eq}
-use Rattle.rules.specs.Anodes.{limit, exists, anodesOf}
-use Rattle.rules.specs.Chains.{blockCount}
-use Rattle.rules.specs.Accepted.{lastReserved}
-use Rattle.rules.specs.Space.{giveMany}
+use Rattle.rules.specs.Anodes.{anodesOf}
+use Rattle.rules.specs.Changes.{removePlan}
 use Rattle.anodes.specs.Loaded.{anodesFrom}
 use Rattle.lookup.specs.Answers.{entered}
 use Rattle.space.specs.Steps.{manyPlan}
@@ -17,7 +15,7 @@ use Rattle.removing.proofs.remove_entry.Tie as tie
 -- the plan on the copies is that of the image
 given-as : (c : tie.After-move-many) →
     let g = c .before .before .before .before .before .before .before .before .before .before .before .before .before .before .before .before .args in let s = anodesOf (g .image .now) in let p = c .move-many in let q = p .last .1 .1 .1 .1 in
-    giveMany limit (exists (g .image .now)) (lastReserved (g .image .now)) (blockCount s (g .e .anode .0)) s (g .e .anode .0) ≡ manyPlan (p .result) (anodesFrom (q .0) (q .1 .0) (q .1 .1 .0)) (q .1 .1 .1 .0)
+    removePlan (g .image .now) s (g .e .anode .0) ≡ manyPlan (p .result) (anodesFrom (q .0) (q .1 .0) (q .1 .1 .0)) (q .1 .1 .1 .0)
 given-as c =
     let pre = c .before .before .before .before .before .before .before .before .before .before .before .before .before .before .before .before .pre in
     gives-made (pre .0 .0) (entered (c .before .before .before .before .before .before .before .before .before .before .before .before .before .before .before .before .args .e)) (pre .0 .1) _ _ _ (c .before .before .before .before .before .before .before .before .copied .ensures) (c .before .before .before .before .before .before .before .copied2 .ensures) (c .before .before .before .before .before .before .copied3 .ensures) _ (c .before .before .before .before .before .before .before .before .before .chain-sum .ensures) _ (c .move-many .ensures)

@@ -3,11 +3,12 @@ use Prim.Native.Nat.{_-_}
 use native.Mathlib.Omega.{arith}
 use Rattle.laws.specs.Chains.{gathered-none, gathered-end}
 use Rattle.anodes.specs.Loaded.{anodesFrom}
-use Rattle.tree.specs.Steps.{dirMade, itemIn, itemsAlong, itemsWith, entering, Room}
+use Rattle.tree.specs.Steps.{itemIn, itemsAlong, itemsWith, entering, Room}
 use Rattle.tree.proofs.Laws.{SameLengths, same-lengths, enter-none, along-stop, along-step}
 use borrow.Author.Needs.{needs}
 use Rattle.tree.proofs.enter_directory.Statement.{statement}
 use Rattle.tree.proofs.enter_directory.Tie as tie
+use Rattle.rules.specs.Walk.{dirMade}
 
 abbrev Inv-loop : tie.InvT-loop
 Inv-loop image counts firsts nexts heads marks₀ queue₀ parents₀ head parent tally₀ at₀ fuel₀ marks queue parents tally at fuel =

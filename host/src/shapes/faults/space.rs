@@ -5,7 +5,7 @@ use std::ops::RangeInclusive;
 use super::{spoil, Fault};
 use crate::model::layout::*;
 use crate::rng::Rng;
-use crate::shapes::bend::Bender;
+use crate::shapes::damage::Damager;
 
 /// The faults that are aimed at a number from 3 to 11.
 pub(super) fn faults(number: u32) -> &'static [Fault] {
@@ -37,27 +37,27 @@ fn root_mut(image: &mut [u8]) -> &mut [u8] {
     block_mut(image, ROOT_BLOCK)
 }
 
-fn other_type(_: &Bender, image: &mut [u8], rng: &mut Rng) -> Option<()> {
+fn other_type(_: &Damager, image: &mut [u8], rng: &mut Rng) -> Option<()> {
     spoil(&mut root_mut(image)[..4], rng);
     Some(())
 }
 
-fn first_reserved(_: &Bender, image: &mut [u8], rng: &mut Rng) -> Option<()> {
+fn first_reserved(_: &Damager, image: &mut [u8], rng: &mut Rng) -> Option<()> {
     put_word(root_mut(image), ROOT_FIRST_RESERVED, rng.within16(1..=65_535));
     Some(())
 }
 
-fn low_last_reserved(_: &Bender, image: &mut [u8], rng: &mut Rng) -> Option<()> {
+fn low_last_reserved(_: &Damager, image: &mut [u8], rng: &mut Rng) -> Option<()> {
     put_word(root_mut(image), ROOT_LAST_RESERVED, rng.within16(0..=1));
     Some(())
 }
 
-fn high_last_reserved(bender: &Bender, image: &mut [u8], rng: &mut Rng) -> Option<()> {
-    put_word(root_mut(image), ROOT_LAST_RESERVED, low_or_any(bender.size16()..=65_535, rng));
+fn high_last_reserved(damager: &Damager, image: &mut [u8], rng: &mut Rng) -> Option<()> {
+    put_word(root_mut(image), ROOT_LAST_RESERVED, low_or_any(damager.size16()..=65_535, rng));
     Some(())
 }
 
-fn disk_name_length(_: &Bender, image: &mut [u8], rng: &mut Rng) -> Option<()> {
+fn disk_name_length(_: &Damager, image: &mut [u8], rng: &mut Rng) -> Option<()> {
     root_mut(image)[ROOT_NAME] = [0, 32, rng.within(32..=255) as u8][rng.below(3)];
     Some(())
 }
@@ -68,47 +68,47 @@ fn put_slot(image: &mut [u8], slot: usize, number: u16) {
     put_word(root_mut(image), ROOT_SLOTS + 2 * slot, number);
 }
 
-fn any_anode_block(bender: &Bender, rng: &mut Rng) -> Option<u16> {
-    rng.pick(&bender.anode_blocks()).copied()
+fn any_anode_block(damager: &Damager, rng: &mut Rng) -> Option<u16> {
+    rng.pick(&damager.anode_blocks()).copied()
 }
 
-fn no_slot_0(_: &Bender, image: &mut [u8], _: &mut Rng) -> Option<()> {
+fn no_slot_0(_: &Damager, image: &mut [u8], _: &mut Rng) -> Option<()> {
     put_slot(image, 0, 0);
     Some(())
 }
 
-fn low_slot(_: &Bender, image: &mut [u8], rng: &mut Rng) -> Option<()> {
+fn low_slot(_: &Damager, image: &mut [u8], rng: &mut Rng) -> Option<()> {
     put_slot(image, rng.below(SLOTS), rng.within16(1..=2));
     Some(())
 }
 
-fn high_slot(bender: &Bender, image: &mut [u8], rng: &mut Rng) -> Option<()> {
-    put_slot(image, rng.below(SLOTS), low_or_any(bender.size16()..=65_535, rng));
+fn high_slot(damager: &Damager, image: &mut [u8], rng: &mut Rng) -> Option<()> {
+    put_slot(image, rng.below(SLOTS), low_or_any(damager.size16()..=65_535, rng));
     Some(())
 }
 
-fn anode_mark(bender: &Bender, image: &mut [u8], rng: &mut Rng) -> Option<()> {
-    let number = any_anode_block(bender, rng)?;
+fn anode_mark(damager: &Damager, image: &mut [u8], rng: &mut Rng) -> Option<()> {
+    let number = any_anode_block(damager, rng)?;
     spoil(&mut block_mut(image, number)[..2], rng);
     Some(())
 }
 
-fn sequence(bender: &Bender, image: &mut [u8], rng: &mut Rng) -> Option<()> {
-    let number = any_anode_block(bender, rng)?;
+fn sequence(damager: &Damager, image: &mut [u8], rng: &mut Rng) -> Option<()> {
+    let number = any_anode_block(damager, rng)?;
     spoil(&mut block_mut(image, number)[ANODE_SEQUENCE..][..2], rng);
     Some(())
 }
 
 /// An unused slot gets a block that is not its anode block: one of another slot, or any.
-fn wrong_new_slot(bender: &Bender, image: &mut [u8], rng: &mut Rng) -> Option<()> {
-    let slots = bender.survey.table.slots();
+fn wrong_new_slot(damager: &Damager, image: &mut [u8], rng: &mut Rng) -> Option<()> {
+    let slots = damager.survey.table.slots();
     let unused: Vec<usize> = (0..SLOTS).filter(|&slot| slots[slot] == 0).collect();
     let slot = *rng.pick(&unused)?;
     let number = match rng.percent(50) {
-        true => any_anode_block(bender, rng)?,
-        false => rng.within16(3..=bender.size16() - 1),
+        true => any_anode_block(damager, rng)?,
+        false => rng.within16(3..=damager.size16() - 1),
     };
-    let bytes = block(bender.image, number);
+    let bytes = block(damager.image, number);
     if bytes[..2] == ANODE_MARK && usize::from(word(bytes, ANODE_SEQUENCE)) == slot {
         return None;
     }
@@ -118,211 +118,211 @@ fn wrong_new_slot(bender: &Bender, image: &mut [u8], rng: &mut Rng) -> Option<()
 
 // 6: the fixed anodes.
 
-fn anode_0(bender: &Bender, image: &mut [u8], rng: &mut Rng) -> Option<()> {
-    spoil(&mut image[bender.anode_place(0)..][..ANODE_BYTES], rng);
+fn anode_0(damager: &Damager, image: &mut [u8], rng: &mut Rng) -> Option<()> {
+    spoil(&mut image[damager.anode_place(0)..][..ANODE_BYTES], rng);
     Some(())
 }
 
-fn anode_1_count(bender: &Bender, image: &mut [u8], rng: &mut Rng) -> Option<()> {
-    bender.put_count(image, FREE_LIST, rng.within16(1..=65_535));
+fn anode_1_count(damager: &Damager, image: &mut [u8], rng: &mut Rng) -> Option<()> {
+    damager.put_count(image, FREE_LIST, rng.within16(1..=65_535));
     Some(())
 }
 
-fn anode_1_block(bender: &Bender, image: &mut [u8], rng: &mut Rng) -> Option<()> {
-    bender.put_block(image, FREE_LIST, rng.within16(0..=65_534));
+fn anode_1_block(damager: &Damager, image: &mut [u8], rng: &mut Rng) -> Option<()> {
+    damager.put_block(image, FREE_LIST, rng.within16(0..=65_534));
     Some(())
 }
 
-fn anode_2_free(bender: &Bender, image: &mut [u8], _: &mut Rng) -> Option<()> {
-    bender.put_block(image, RESERVED, 0);
+fn anode_2_free(damager: &Damager, image: &mut [u8], _: &mut Rng) -> Option<()> {
+    damager.put_block(image, RESERVED, 0);
     Some(())
 }
 
-fn anode_5_free(bender: &Bender, image: &mut [u8], _: &mut Rng) -> Option<()> {
-    bender.put_block(image, ROOT_DIRECTORY, 0);
+fn anode_5_free(damager: &Damager, image: &mut [u8], _: &mut Rng) -> Option<()> {
+    damager.put_block(image, ROOT_DIRECTORY, 0);
     Some(())
 }
 
 // 7: the fields of anodes in use.
 
-fn end_above(bender: &Bender, image: &mut [u8], rng: &mut Rng) -> Option<()> {
-    let number = bender.any_in_use(rng, |number, _| number != FREE_LIST)?;
-    let start = bender.anode(number).block;
-    let least = bender.size16().saturating_sub(start).max(1) + u16::from(start < bender.size16());
-    bender.put_count(image, number, low_or_any(least..=65_535, rng));
+fn end_above(damager: &Damager, image: &mut [u8], rng: &mut Rng) -> Option<()> {
+    let number = damager.any_in_use(rng, |number, _| number != FREE_LIST)?;
+    let start = damager.anode(number).block;
+    let least = damager.size16().saturating_sub(start).max(1) + u16::from(start < damager.size16());
+    damager.put_count(image, number, low_or_any(least..=65_535, rng));
     Some(())
 }
 
 /// The end is past 65,535, so that sixteen bits would take it for a small number.
-fn wrapped_end(bender: &Bender, image: &mut [u8], rng: &mut Rng) -> Option<()> {
-    let number = bender.any_in_use(rng, |number, _| number != FREE_LIST)?;
-    let least = 65_536 - usize::from(bender.anode(number).block);
-    bender.put_count(image, number, rng.within(least..=65_535) as u16);
+fn wrapped_end(damager: &Damager, image: &mut [u8], rng: &mut Rng) -> Option<()> {
+    let number = damager.any_in_use(rng, |number, _| number != FREE_LIST)?;
+    let least = 65_536 - usize::from(damager.anode(number).block);
+    damager.put_count(image, number, rng.within(least..=65_535) as u16);
     Some(())
 }
 
-fn next_missing(bender: &Bender, image: &mut [u8], rng: &mut Rng) -> Option<()> {
-    let number = bender.any_in_use(rng, |_, _| true)?;
-    bender.put_next(image, number, bender.any_missing(rng));
+fn next_missing(damager: &Damager, image: &mut [u8], rng: &mut Rng) -> Option<()> {
+    let number = damager.any_in_use(rng, |_, _| true)?;
+    damager.put_next(image, number, damager.any_missing(rng));
     Some(())
 }
 
-fn next_free(bender: &Bender, image: &mut [u8], rng: &mut Rng) -> Option<()> {
-    let number = bender.any_in_use(rng, |_, _| true)?;
-    bender.put_next(image, number, bender.any_free(rng, TO_BE_FREED)?);
+fn next_free(damager: &Damager, image: &mut [u8], rng: &mut Rng) -> Option<()> {
+    let number = damager.any_in_use(rng, |_, _| true)?;
+    damager.put_next(image, number, damager.any_free(rng, TO_BE_FREED)?);
     Some(())
 }
 
 // 8: predecessors and rings.
 
-fn next_special(bender: &Bender, image: &mut [u8], rng: &mut Rng) -> Option<()> {
+fn next_special(damager: &Damager, image: &mut [u8], rng: &mut Rng) -> Option<()> {
     let special = [FREE_LIST, TO_BE_FREED, BAD_BLOCKS, ROOT_DIRECTORY][rng.below(4)];
-    if !bender.survey.table.in_use(special) {
+    if !damager.survey.table.in_use(special) {
         return None;
     }
-    let number = bender.any_in_use(rng, |_, _| true)?;
-    bender.put_next(image, number, special);
+    let number = damager.any_in_use(rng, |_, _| true)?;
+    damager.put_next(image, number, special);
     Some(())
 }
 
-fn next_itself(bender: &Bender, image: &mut [u8], rng: &mut Rng) -> Option<()> {
-    let number = bender.any_in_use(rng, |_, _| true)?;
-    bender.put_next(image, number, number);
+fn next_itself(damager: &Damager, image: &mut [u8], rng: &mut Rng) -> Option<()> {
+    let number = damager.any_in_use(rng, |_, _| true)?;
+    damager.put_next(image, number, number);
     Some(())
 }
 
-fn second_predecessor(bender: &Bender, image: &mut [u8], rng: &mut Rng) -> Option<()> {
-    let follower = bender.any_in_use(rng, |number, _| bender.predecessor(number).is_some())?;
-    let number = bender.any_in_use(rng, |_, anode| anode.next != follower)?;
-    bender.put_next(image, number, follower);
+fn second_predecessor(damager: &Damager, image: &mut [u8], rng: &mut Rng) -> Option<()> {
+    let follower = damager.any_in_use(rng, |number, _| damager.predecessor(number).is_some())?;
+    let number = damager.any_in_use(rng, |_, anode| anode.next != follower)?;
+    damager.put_next(image, number, follower);
     Some(())
 }
 
 /// An anode leads back to one at or before it in its chain.
-fn ring(bender: &Bender, image: &mut [u8], rng: &mut Rng) -> Option<()> {
-    let number = bender.any_in_use(rng, |_, _| true)?;
-    let chain = bender.survey.table.chain(bender.heads[usize::from(number)]);
+fn ring(damager: &Damager, image: &mut [u8], rng: &mut Rng) -> Option<()> {
+    let number = damager.any_in_use(rng, |_, _| true)?;
+    let chain = damager.survey.table.chain(damager.heads[usize::from(number)]);
     let before: Vec<u16> = chain.map(|(number, _)| number).take_while(|&other| other != number).collect();
     let back = rng.pick(&before).copied().unwrap_or(number);
-    bender.put_next(image, number, back);
+    damager.put_next(image, number, back);
     Some(())
 }
 
 // 9: the free list.
 
-fn cut_before_2(bender: &Bender, image: &mut [u8], _: &mut Rng) -> Option<()> {
-    let before = bender.predecessor(RESERVED)?;
-    bender.put_next(image, before, 0);
+fn cut_before_2(damager: &Damager, image: &mut [u8], _: &mut Rng) -> Option<()> {
+    let before = damager.predecessor(RESERVED)?;
+    damager.put_next(image, before, 0);
     Some(())
 }
 
 /// Last reserved goes up into an upper extent.
-fn last_reserved_raised(bender: &Bender, image: &mut [u8], rng: &mut Rng) -> Option<()> {
-    let number = bender.with_blocks(bender.sides().0, rng)?;
-    let last = low_or_any(bender.anode(number).block..=bender.size16() - 1, rng);
+fn last_reserved_raised(damager: &Damager, image: &mut [u8], rng: &mut Rng) -> Option<()> {
+    let number = damager.with_blocks(damager.sides().0, rng)?;
+    let last = low_or_any(damager.anode(number).block..=damager.size16() - 1, rng);
     put_word(root_mut(image), ROOT_LAST_RESERVED, last);
     Some(())
 }
 
 /// Last reserved goes down before the last block of a lower extent.
-fn last_reserved_lowered(bender: &Bender, image: &mut [u8], rng: &mut Rng) -> Option<()> {
-    let number = bender.with_blocks(bender.sides().1, rng)?;
-    let highest = bender.anode(number).end() - 2;
+fn last_reserved_lowered(damager: &Damager, image: &mut [u8], rng: &mut Rng) -> Option<()> {
+    let number = damager.with_blocks(damager.sides().1, rng)?;
+    let highest = damager.anode(number).end() - 2;
     let last = if rng.percent(50) { highest } else { rng.within(2..=highest) };
     put_word(root_mut(image), ROOT_LAST_RESERVED, last as u16);
     Some(())
 }
 
-fn upper_moved(bender: &Bender, image: &mut [u8], rng: &mut Rng) -> Option<()> {
-    let number = bender.with_blocks(bender.sides().0, rng)?;
-    bender.put_block(image, number, rng.within16(1..=bender.survey.last_reserved));
+fn upper_moved(damager: &Damager, image: &mut [u8], rng: &mut Rng) -> Option<()> {
+    let number = damager.with_blocks(damager.sides().0, rng)?;
+    damager.put_block(image, number, rng.within16(1..=damager.survey.last_reserved));
     Some(())
 }
 
-fn lower_moved(bender: &Bender, image: &mut [u8], rng: &mut Rng) -> Option<()> {
-    let number = bender.with_blocks(bender.sides().1, rng)?;
-    let count = usize::from(bender.anode(number).count);
-    let lowest = (usize::from(bender.survey.last_reserved) + 2).saturating_sub(count).max(1);
-    let highest = bender.survey.blocks - count;
+fn lower_moved(damager: &Damager, image: &mut [u8], rng: &mut Rng) -> Option<()> {
+    let number = damager.with_blocks(damager.sides().1, rng)?;
+    let count = usize::from(damager.anode(number).count);
+    let lowest = (usize::from(damager.survey.last_reserved) + 2).saturating_sub(count).max(1);
+    let highest = damager.survey.blocks - count;
     if lowest > highest {
         return None;
     }
-    bender.put_block(image, number, rng.within(lowest..=highest) as u16);
+    damager.put_block(image, number, rng.within(lowest..=highest) as u16);
     Some(())
 }
 
 // 10: two owners. Every block has an owner already, so whatever is owned besides is owned twice.
 
-fn extent_grown(bender: &Bender, image: &mut [u8], rng: &mut Rng) -> Option<()> {
+fn extent_grown(damager: &Damager, image: &mut [u8], rng: &mut Rng) -> Option<()> {
     let fits = |number, anode: Anode| {
-        !bender.on_free_list(number) && anode.count > 0 && anode.end() < bender.survey.blocks
+        !damager.on_free_list(number) && anode.count > 0 && anode.end() < damager.survey.blocks
     };
-    let number = bender.any_in_use(rng, fits)?;
-    bender.put_count(image, number, bender.anode(number).count + 1);
+    let number = damager.any_in_use(rng, fits)?;
+    damager.put_count(image, number, damager.anode(number).count + 1);
     Some(())
 }
 
-fn extent_moved(bender: &Bender, image: &mut [u8], rng: &mut Rng) -> Option<()> {
-    let fits = |number, anode: Anode| !bender.on_free_list(number) && anode.count > 0;
-    let number = bender.any_in_use(rng, fits)?;
-    let anode = bender.anode(number);
-    let start = rng.within16(1..=bender.size16() - anode.count);
+fn extent_moved(damager: &Damager, image: &mut [u8], rng: &mut Rng) -> Option<()> {
+    let fits = |number, anode: Anode| !damager.on_free_list(number) && anode.count > 0;
+    let number = damager.any_in_use(rng, fits)?;
+    let anode = damager.anode(number);
+    let start = rng.within16(1..=damager.size16() - anode.count);
     if start == anode.block {
         return None;
     }
-    bender.put_block(image, number, start);
+    damager.put_block(image, number, start);
     Some(())
 }
 
-fn system_block_owned(bender: &Bender, image: &mut [u8], rng: &mut Rng) -> Option<()> {
-    let upper = bender.sides().0;
-    let number = bender.any_in_use(rng, |number, anode| anode.count > 0 && !upper.contains(&number))?;
-    bender.put_block(image, number, rng.within16(1..=2));
+fn system_block_owned(damager: &Damager, image: &mut [u8], rng: &mut Rng) -> Option<()> {
+    let upper = damager.sides().0;
+    let number = damager.any_in_use(rng, |number, anode| anode.count > 0 && !upper.contains(&number))?;
+    damager.put_block(image, number, rng.within16(1..=2));
     Some(())
 }
 
-fn free_anode_given_a_block(bender: &Bender, image: &mut [u8], rng: &mut Rng) -> Option<()> {
-    let number = bender.any_free(rng, TO_BE_FREED)?;
-    let start = rng.within16(1..=bender.size16() - 1);
-    bender.put_anode(image, number, Anode::new(1, start, 0));
+fn free_anode_given_a_block(damager: &Damager, image: &mut [u8], rng: &mut Rng) -> Option<()> {
+    let number = damager.any_free(rng, TO_BE_FREED)?;
+    let start = rng.within16(1..=damager.size16() - 1);
+    damager.put_anode(image, number, Anode::new(1, start, 0));
     Some(())
 }
 
-fn empty_filled(bender: &Bender, image: &mut [u8], rng: &mut Rng) -> Option<()> {
-    let number = bender.any_in_use(rng, |number, anode| number != FREE_LIST && anode.count == 0)?;
-    let (upper, lower) = bender.sides();
+fn empty_filled(damager: &Damager, image: &mut [u8], rng: &mut Rng) -> Option<()> {
+    let number = damager.any_in_use(rng, |number, anode| number != FREE_LIST && anode.count == 0)?;
+    let (upper, lower) = damager.sides();
     let (lowest, highest) = if upper.contains(&number) {
-        (bender.survey.last_reserved + 1, bender.size16() - 1)
+        (damager.survey.last_reserved + 1, damager.size16() - 1)
     } else if lower.contains(&number) {
-        (1, bender.survey.last_reserved)
+        (1, damager.survey.last_reserved)
     } else {
-        (1, bender.size16() - 1)
+        (1, damager.size16() - 1)
     };
     if lowest > highest {
         return None;
     }
-    let next = bender.anode(number).next;
-    bender.put_anode(image, number, Anode::new(1, rng.within16(lowest..=highest), next));
+    let next = damager.anode(number).next;
+    damager.put_anode(image, number, Anode::new(1, rng.within16(lowest..=highest), next));
     Some(())
 }
 
 // 11: no owner.
 
-fn extent_shrunk(bender: &Bender, image: &mut [u8], rng: &mut Rng) -> Option<()> {
-    let number = bender.any_in_use(rng, |_, anode| anode.count > 0)?;
-    bender.put_count(image, number, bender.anode(number).count - 1);
+fn extent_shrunk(damager: &Damager, image: &mut [u8], rng: &mut Rng) -> Option<()> {
+    let number = damager.any_in_use(rng, |_, anode| anode.count > 0)?;
+    damager.put_count(image, number, damager.anode(number).count - 1);
     Some(())
 }
 
-fn start_shrunk(bender: &Bender, image: &mut [u8], rng: &mut Rng) -> Option<()> {
-    let number = bender.any_in_use(rng, |_, anode| anode.count > 0)?;
-    let anode = bender.anode(number);
-    bender.put_anode(image, number, Anode::new(anode.count - 1, anode.block + 1, anode.next));
+fn start_shrunk(damager: &Damager, image: &mut [u8], rng: &mut Rng) -> Option<()> {
+    let number = damager.any_in_use(rng, |_, anode| anode.count > 0)?;
+    let anode = damager.anode(number);
+    damager.put_anode(image, number, Anode::new(anode.count - 1, anode.block + 1, anode.next));
     Some(())
 }
 
-fn slot_dropped(bender: &Bender, image: &mut [u8], rng: &mut Rng) -> Option<()> {
-    let table = &bender.survey.table;
+fn slot_dropped(damager: &Damager, image: &mut [u8], rng: &mut Rng) -> Option<()> {
+    let table = &damager.survey.table;
     let unused = |&slot: &usize| {
         let first = slot * ANODES_IN_BLOCK;
         slot != 0
@@ -334,9 +334,9 @@ fn slot_dropped(bender: &Bender, image: &mut [u8], rng: &mut Rng) -> Option<()> 
     Some(())
 }
 
-fn last_link_cut(bender: &Bender, image: &mut [u8], rng: &mut Rng) -> Option<()> {
-    let number = bender.any_tail(rng, |anode| anode.count > 0)?;
-    bender.put_next(image, bender.predecessor(number)?, 0);
-    bender.put_anode(image, number, Anode::ZERO);
+fn last_link_cut(damager: &Damager, image: &mut [u8], rng: &mut Rng) -> Option<()> {
+    let number = damager.any_tail(rng, |anode| anode.count > 0)?;
+    damager.put_next(image, damager.predecessor(number)?, 0);
+    damager.put_anode(image, number, Anode::ZERO);
     Some(())
 }

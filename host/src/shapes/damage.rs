@@ -1,4 +1,4 @@
-//! Bent disks: an accepted image with a fault aimed at one refusal number.
+//! Damaged disks: an accepted image with a fault aimed at one refusal number.
 //!
 //! Each fault is chosen so that the image breaks the rule of its number and none of the rules that are tried
 //! before, so the check must answer exactly that number. Number 2 is about the tables, not the image, and has no
@@ -22,7 +22,7 @@ pub(super) struct Named {
 }
 
 /// An accepted image, and what a fault needs to know of it.
-pub struct Bender<'a> {
+pub struct Damager<'a> {
     pub(super) image: &'a [u8],
     pub(super) survey: Survey,
     pub(super) heads: Vec<u16>,
@@ -34,7 +34,7 @@ pub struct Bender<'a> {
     pub(super) directories: Vec<u16>,
 }
 
-impl<'a> Bender<'a> {
+impl<'a> Damager<'a> {
     /// Looks at an image; nothing if the check refuses it.
     pub fn new(image: &'a [u8]) -> Option<Self> {
         let (mut owners, mut heads) = tables(image);
@@ -45,13 +45,13 @@ impl<'a> Bender<'a> {
         }
         before[0] = 0;
         let (entries, directories) = (Vec::new(), vec![ROOT_DIRECTORY]);
-        let mut bender = Bender { image, survey, heads, before, entries, directories };
+        let mut damager = Damager { image, survey, heads, before, entries, directories };
         let mut turn = 0;
-        while let Some(&directory) = bender.directories.get(turn) {
-            bender.meet(directory);
+        while let Some(&directory) = damager.directories.get(turn) {
+            damager.meet(directory);
             turn += 1;
         }
-        Some(bender)
+        Some(damager)
     }
 
     fn meet(&mut self, directory: u16) {
@@ -72,8 +72,8 @@ impl<'a> Bender<'a> {
         }
     }
 
-    /// An image for which the check must answer this number; nothing if this disk cannot be bent so.
-    pub fn bend(&self, number: u32, rng: &mut Rng) -> Option<Vec<u8>> {
+    /// An image for which the check must answer this number; nothing if this disk cannot be damaged so.
+    pub fn damage(&self, number: u32, rng: &mut Rng) -> Option<Vec<u8>> {
         if number == 1 {
             return Some(wrong_length(self.image, rng));
         }
