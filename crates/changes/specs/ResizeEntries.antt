@@ -17,7 +17,6 @@ use Rattle.rules.specs.Lookup.{noDirectory, entriesOf}
 use Rattle.rules.specs.Changes.{resizedImage}
 use Rattle.laws.specs.Tests.{same?}
 use Rattle.laws.specs.Members.{Member, member-cons, member-append, gather-congr}
-use Rattle.laws.specs.Items.{headed}
 use Rattle.changes.specs.Image.{reached-sum, headed-same, ReachedDir}
 use Rattle.changes.specs.FoundEntries.{part-same, standing-found, place-order}
 use Rattle.changes.specs.Reached.{EntryIn, EntryFacts, block-entry, reached-dir, entry-facts}

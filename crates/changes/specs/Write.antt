@@ -1,5 +1,5 @@
 -- A write into a file of an accepted image: the image is accepted again, its directories and other files are the same, and the file has the bytes.
-use Prim.Native.Nat.{ℕ, _+_, _≤_, _<_}
+use Prim.Native.Nat.{ℕ, _+_, _≤_}
 use mathlib.Core.Path.{_≡_, ap}
 use mathlib.Core.Logic.{_≢_}
 use mathlib.Core.Bool.{false}

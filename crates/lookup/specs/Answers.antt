@@ -1,12 +1,10 @@
 -- The answers of the lookups, in the terms of the rules.
 use Prim.Native.Nat.{ℕ}
-use mathlib.Core.Path.{_≡_}
 use mathlib.Core.Bool.{Bool, true, false}
 use mathlib.Core.List.{List}
 use mathlib.Core.Option.{Option, none, some}
 use Rattle.directory.specs.declared.Entry.{Entry}
 use Rattle.directory.specs.Entries.{isDir}
-use Rattle.rules.specs.Counting.{anyIn}
 use Rattle.rules.specs.Walk.{Entered}
 use Rattle.rules.specs.Lookup.{nth}
 use Rattle.lookup.specs.declared.EntryAt.{EntryAt}

@@ -6,10 +6,8 @@ use mathlib.Core.Bool.{false}
 use mathlib.Core.List.{List, _++_}
 use native.Mathlib.Omega.{arith}
 use lib.ListN.{drop}
-use Rattle.rules.specs.Anodes.{Anodes, limit, exists, anodesOf, withAnodes}
-use Rattle.rules.specs.Chains.{blockCount}
+use Rattle.rules.specs.Anodes.{Anodes, limit, anodesOf, withAnodes}
 use Rattle.rules.specs.Walk.{Entered}
-use Rattle.rules.specs.Accepted.{lastReserved}
 use Rattle.rules.specs.Tables.{anodeTable}
 use Rattle.rules.specs.Space.{Plan, refused, planned, giveMany, dropped}
 use Rattle.rules.specs.Changes.{removedImage, removed, removePlan}

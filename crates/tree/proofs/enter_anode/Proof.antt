@@ -1,9 +1,8 @@
 use mathlib.Core.Path.{_≡_, sym, _∙_}
 use lib.ListN.{getD}
 use borrow.Author.Tests.{not-true, not-false}
-use Rattle.rules.specs.Walk.{isBlockOf}
+use Rattle.rules.specs.Walk.{isBlockOf, dirMade}
 use Rattle.anodes.specs.Loaded.{anodesFrom}
-use Rattle.tree.specs.Steps.{dirMade}
 use Rattle.tree.proofs.Laws.{anode-count, anode-mark, anode-block}
 use borrow.Author.Needs.{needs}
 use Rattle.tree.proofs.enter_anode.Statement.{statement}

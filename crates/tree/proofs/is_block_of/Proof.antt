@@ -3,8 +3,7 @@ use mathlib.Core.Bool.{_&&_, _||_}
 use lib.Dec.{eqb}
 use borrow.Author.Tests.{eq-eqb, ne-eqb}
 use Rattle.directory.specs.Entries.{directoryMark}
-use Rattle.rules.specs.Walk.{isBlockOf}
-use Rattle.tree.specs.Steps.{dirMade}
+use Rattle.rules.specs.Walk.{isBlockOf, dirMade}
 use borrow.Author.Needs.{needs}
 use Rattle.tree.proofs.is_block_of.Statement.{statement}
 use Rattle.tree.proofs.is_block_of.Tie as tie

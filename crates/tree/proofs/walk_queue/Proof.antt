@@ -4,7 +4,8 @@ use native.Mathlib.Omega.{arith}
 use mathlib.Core.List.{[]}
 use lib.ListN.{getD, take, drop}
 use Rattle.anodes.specs.Loaded.{anodesFrom}
-use Rattle.tree.specs.Steps.{dirMade, itemIn, itemsWith, runFrom, queueOf, entering, progress, tallyMade, Room}
+use Rattle.rules.specs.Walk.{dirMade}
+use Rattle.tree.specs.Steps.{itemIn, itemsWith, runFrom, queueOf, entering, progress, tallyMade, Room}
 use Rattle.tree.proofs.Laws.{SameLengths, same-lengths, marked-most, run-end, run-stop, run-step}
 use borrow.Author.Needs.{needs}
 use Rattle.tree.proofs.walk_queue.Statement.{statement}
