@@ -11,7 +11,7 @@ use Rattle.directory.specs.declared.Walked.the-variants.{Found, End}
 use Rattle.directory.specs.Entries.{directoryHeadIn, walkedAt}
 use Rattle.directory.proofs.Laws.{found-at}
 use Rattle.rules.specs.Walk.{Entered, entriesFrom}
-use Rattle.rules.specs.Changes.{endFrom, entriesEnd, gapClosed}
+use Rattle.rules.specs.Changes.{endFrom, entriesEnd, gapClosed, entryClosed}
 use Rattle.changes.specs.FoundEntries.{part-same, head-same, walked-same, entry-standing, entries-more, entries-end, unbroken-cases, end-more, end-here, end-bounds, standing-found, place-after, place-order, reaches, BlockEntry, block-standing, end-within}
 use Rattle.laws.specs.Members.{Member}
 use Rattle.laws.specs.Entries.{Unbroken}
@@ -140,10 +140,6 @@ module _ (b : List ℕ) (at len end : ℕ) (whole : length b ≡ 512) (fits : at
       (λ i m. let e : k - len + i + len ≡ k + i = omega arith in gap-behind (k - len + i) (omega arith) (omega arith) ∙ rw e)
 
 -- ---- an entry of a directory block goes
-
--- the block with the gap of the entry at a place closed
-abbrev pub entryClosed : List ℕ → ℕ → List ℕ
-entryClosed b at = gapClosed b at (getD b at 0) (entriesEnd b)
 
 module _ {b : List ℕ} {y at : ℕ} {e : Entered} (u : BlockEntry b y at e) where
   from-16 : 16 ≤ at

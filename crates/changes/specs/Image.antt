@@ -44,10 +44,6 @@ WholeWith img t hd sd entries marked dirs = Whole (exists img) (diskSize img) (l
 abbrev pub WholeOn : List ℕ → List ℕ → Anodes → (ℕ → ℕ) → (ℕ → ℕ) → List Dir → Type 0
 WholeOn img j t hd sd dirs = WholeWith img t hd sd (entriesIn j) (isBlockOf j) dirs
 
--- the whole state of an image with the anodes s
-abbrev pub WholeImage : List ℕ → Anodes → (ℕ → ℕ) → (ℕ → ℕ) → List Dir → Type 0
-WholeImage img s hd sd dirs = WholeOn img img s hd sd dirs
-
 -- the head of an anode's chain
 abbrev pub headIn : List ℕ → ℕ → ℕ
 headIn img = headOf limit (anodesOf img .next) (anodesOf img .block)
@@ -58,7 +54,7 @@ sideIn img = headOf limit (cut (anodesOf img .next)) (anodesOf img .block)
 
 -- the whole state of an accepted image: its anodes, their heads, and the reached directories
 abbrev pub AcceptedWhole : List ℕ → Type 0
-AcceptedWhole img = WholeImage img (anodesOf img) (headIn img) (sideIn img) (reachedDirs img (anodesOf img))
+AcceptedWhole img = WholeOn img img (anodesOf img) (headIn img) (sideIn img) (reachedDirs img (anodesOf img))
 
 -- the anodes and directories of j, an image of the disk of img, pass 6 to 16
 abbrev AcceptedOn : List ℕ → List ℕ → List Dir → Type 0

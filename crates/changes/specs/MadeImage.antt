@@ -40,7 +40,7 @@ use Rattle.changes.specs.FoundEntries.{enteredAt, end-bounds}
 use Rattle.changes.specs.Reached.{DirBlock, reached-not-1, dir-block}
 use Rattle.changes.specs.SingleBlocks.{single-used, single-apart, single-data}
 use Rattle.changes.specs.NewEntry.{entries-put, head-put, end-new, room-found}
-use Rattle.changes.specs.MakePlan.{OrphanedOn, Fresh, fresh-dir, fresh-free, MakeSteps, ParentGrown, MadePlan, made-plan, made-orphan}
+use Rattle.changes.specs.MakePlan.{OrphanedOn, Fresh, fresh-free, MakeSteps, ParentGrown, MadePlan, made-plan, made-orphan}
 
 -- what stands among the numbers that g gives for a list
 times-map : (g : ℕ → ℕ) (l : List ℕ) (y : ℕ) → 0 < times y (map g l) → (a : ℕ) × (0 < times a l) × (y ≡ g a)
@@ -69,13 +69,13 @@ parents-right h (d ∷ l) e = elim (oneAt-cases (d .head) h) [
 ]
 
 -- a make that is planned
-pub record Making (img : List ℕ) (blocks anodes h : ℕ) (new : NewEntry) (f : ℕ) (room : Option ℕ) (ys : List ℕ) (t : Anodes) (zs : List ℕ) : Type 0 where
-  pub fresh : Fresh img blocks anodes h f
+pub record Making (img : List ℕ) (h : ℕ) (new : NewEntry) (f : ℕ) (room : Option ℕ) (ys : List ℕ) (t : Anodes) (zs : List ℕ) : Type 0 where
+  pub fresh : Fresh img h f
   pub steps : MakeSteps img (new .dir) (entryLength (length (new .name)) (length (new .comment))) h f room ys t zs
   pub named : goodName (new .name) ≡ true
   pub commented : goodComment (new .comment) ≡ true
 
-module _ {img : List ℕ} {blocks anodes h : ℕ} {new : NewEntry} {f : ℕ} {room : Option ℕ} {ys : List ℕ} {t : Anodes} {zs : List ℕ} (m : Making img blocks anodes h new f room ys t zs) where
+module _ {img : List ℕ} {h : ℕ} {new : NewEntry} {f : ℕ} {room : Option ℕ} {ys : List ℕ} {t : Anodes} {zs : List ℕ} (m : Making img h new f room ys t zs) where
   abbrev s : Anodes
   s = anodesOf img
 
@@ -87,7 +87,7 @@ module _ {img : List ℕ} {blocks anodes h : ℕ} {new : NewEntry} {f : ℕ} {ro
 
   -- the directory that gets the entry
   abbrev pub parent : ReachedDir img h
-  parent = fresh-dir (m .fresh)
+  parent = m .fresh .parent
 
   pub w : AcceptedWhole img
   w = accepted-whole (parent .image)

@@ -31,7 +31,7 @@ use Rattle.changes.specs.Image.{WholeOn, StillAccepted, whole-accepted, 
 use Rattle.changes.specs.Reached.{reached-head}
 use Rattle.changes.specs.MadeImage.{Making, spare, parent, first-in, once, plan, before, own-new, orphan, spot, entered, made-disk, entries-made, marks-made, entry-other, its-head, other-entries}
 
-module _ {img : List ℕ} {blocks anodes h : ℕ} {new : NewEntry} {f : ℕ} {room : Option ℕ} {ys : List ℕ} {t : Anodes} {zs : List ℕ} (m : Making img blocks anodes h new f room ys t zs) where
+module _ {img : List ℕ} {h : ℕ} {new : NewEntry} {f : ℕ} {room : Option ℕ} {ys : List ℕ} {t : Anodes} {zs : List ℕ} (m : Making img h new f room ys t zs) where
   abbrev s : Anodes
   s = anodesOf img
 
@@ -158,7 +158,7 @@ make-accepted {img} {h} r new named commented =
     let a = r .image in
     made-cases img (anodesOf img) h new (λ o. StillAccepted a (o .image)) (a .accepted) (a .accepted)
     (λ l between ys e t zs q. image-accepted (record {
-      fresh = record { accepted = a .accepted; reached = r .reached; lowest = refl; below = l };
+      fresh = record { parent = r; lowest = refl; below = l };
       steps = record { between = between; own = e; roomy = refl; parent = q };
       named = named;
       commented = commented;

@@ -69,7 +69,7 @@ bytes-put {b} {y} {at} u x name comment =
     (part-same b′ b at at (getD b at 0) (omega (arith, length-putEntry b (entriesEnd b) x name comment, u .whole, found .room)) (omega (arith, u .whole, found .room))
     (λ i l. getD-putEntry-before b (entriesEnd b) x name comment (at + i) (omega (arith, l, st .before))))
 
-module _ {img : List ℕ} {blocks anodes h : ℕ} {new : NewEntry} {f : ℕ} {room : Option ℕ} {ys : List ℕ} {t : Anodes} {zs : List ℕ} (m : Making img blocks anodes h new f room ys t zs) where
+module _ {img : List ℕ} {h : ℕ} {new : NewEntry} {f : ℕ} {room : Option ℕ} {ys : List ℕ} {t : Anodes} {zs : List ℕ} (m : Making img h new f room ys t zs) where
   abbrev s : Anodes
   s = anodesOf img
 

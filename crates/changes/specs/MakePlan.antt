@@ -11,8 +11,7 @@ use Rattle.rules.specs.Counting.{times, changed}
 use Rattle.rules.specs.Anodes.{Anodes, limit, exists, anodesOf}
 use Rattle.rules.specs.Chains.{chainOf, blocksOf, systemOwns}
 use Rattle.rules.specs.Walk.{Dir, Entered}
-use Rattle.rules.specs.Accepted.{diskSize, lastReserved, checkAnswer}
-use Rattle.rules.specs.Lookup.{noDirectory}
+use Rattle.rules.specs.Accepted.{diskSize, lastReserved}
 use Rattle.rules.specs.Space.{planned, rewritten, free, lowestFree}
 use Rattle.rules.specs.Changes.{firstRoom, noRoom, neededBlock}
 use Rattle.laws.specs.Tests.{same?}
@@ -37,17 +36,13 @@ abbrev pub OrphanedOn : List ℕ → ℕ → Anodes → (ℕ → ℕ) → (ℕ �
 OrphanedOn img f t hd sd entries marked dirs = Orphaned (exists img) (diskSize img) (lastReserved img) f t (systemOwns img) hd sd entries marked dirs
 
 -- h heads a reached directory of an accepted image, and f is the lowest free anode
-pub record Fresh (img : List ℕ) (blocks anodes h f : ℕ) : Type 0 where
-  pub accepted : checkAnswer img blocks anodes ≡ 0
-  pub reached : noDirectory img (anodesOf img) h ≡ false
+pub record Fresh (img : List ℕ) (h f : ℕ) : Type 0 where
+  pub parent : ReachedDir img h
   pub lowest : lowestFree limit (exists img) (anodesOf img) ≡ f
   pub below : f < limit
 
-abbrev pub fresh-dir : {img : List ℕ} {blocks anodes h f : ℕ} → Fresh img blocks anodes h f → ReachedDir img h
-fresh-dir {blocks = blocks} {anodes = anodes} x = record { image = record { blocks = blocks; anodes = anodes; accepted = x .accepted }; reached = x .reached }
-
 -- the lowest free anode is free
-pub fresh-free : {img : List ℕ} {blocks anodes h f : ℕ} → Fresh img blocks anodes h f → FreeAnode (exists img) (anodesOf img) f
+pub fresh-free : {img : List ℕ} {h f : ℕ} → Fresh img h f → FreeAnode (exists img) (anodesOf img) f
 unfolding lowestFree
 fresh-free {img} {f = f} x = free-is (exists img) (anodesOf img) f (elim (least-cases (free (exists img) (anodesOf img)) limit) [
   | inl i ↦ subst (λ (a : ℕ). T (free (exists img) (anodesOf img) a)) (x .lowest) (i .1)

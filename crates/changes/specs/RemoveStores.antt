@@ -11,7 +11,7 @@ use Rattle.rules.specs.Chains.{blockCount, systemOwns}
 use Rattle.rules.specs.Walk.{Dir, Entered, entriesIn, isBlockOf}
 use Rattle.rules.specs.Accepted.{diskSize, lastReserved}
 use Rattle.rules.specs.Space.{planned, onChain, dropped}
-use Rattle.rules.specs.Changes.{withoutEntry, removedImage, removePlan}
+use Rattle.rules.specs.Changes.{withoutEntry, removedImage, removePlan, entryClosed}
 use Rattle.laws.specs.LinkChanges.{without}
 use Rattle.laws.specs.Whole.{blocks-count}
 use Rattle.laws.specs.Resize.{Ran, shrink-ran}
@@ -24,7 +24,7 @@ use Rattle.changes.specs.FoundEntries.{BlockEntry}
 use Rattle.changes.specs.Reached.{block-data, block-entry}
 use Rattle.changes.specs.SingleBlocks.{single-data}
 use Rattle.changes.specs.PlannedChange.{PlannedChange, image, w, facts, not-1, off-anode}
-use Rattle.changes.specs.Gap.{lowered, entryClosed, length-closed, head-closed, entries-closed}
+use Rattle.changes.specs.Gap.{lowered, length-closed, head-closed, entries-closed}
 
 -- a removal of an entry of an accepted image, and the steps that were planned
 abbrev pub PlannedRemove : List ℕ → Entered → Anodes → List ℕ → Type 0

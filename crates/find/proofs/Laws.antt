@@ -14,7 +14,7 @@ use Rattle.disk.proofs.Laws.{number-some}
 use Rattle.rules.specs.Counting.{_if_else_, firstOf}
 use Rattle.rules.specs.Anodes.{Anodes, anodesOf}
 use Rattle.rules.specs.Walk.{Entered, Dir}
-use Rattle.rules.specs.Lookup.{noDirectory, entriesOf, nth, isThere, notEmpty, fullDir}
+use Rattle.rules.specs.Lookup.{noDirectory, entriesOf, nth, isThere, notEmpty, fullDir, noneHeaded}
 use Rattle.rules.specs.Calls.{doneOr}
 use Rattle.anodes.specs.Loaded.{anodesFrom}
 use Rattle.tree.specs.Steps.{queueOf}
@@ -26,7 +26,7 @@ use Rattle.changes.specs.Image.{accepted-own, accepted-whole}
 use Rattle.changes.specs.Reached.{reached-head, reached-unbroken}
 use Rattle.lookup.specs.declared.Lookup.{Lookup}
 use Rattle.lookup.specs.Answers.{entryOf}
-use Rattle.lookup.specs.Queued.{placeOf, noneHeaded, OwnHeads}
+use Rattle.lookup.specs.Queued.{placeOf, OwnHeads}
 use Rattle.lookup.proofs.Queue.{place-found, place-times}
 use Rattle.find.specs.Open.{Open}
 use Rattle.find.specs.declared.Search.{Search}

@@ -13,10 +13,11 @@ use borrow.Author.Tests.{eq-eqb, ne-eqb, lt-ltb, le-ltb}
 use Rattle.endian.proofs.Laws.{less?, same?}
 use Rattle.rules.specs.Counting.{times}
 use Rattle.rules.specs.Changes.{parentOf}
+use Rattle.rules.specs.Lookup.{noneHeaded}
 use Rattle.laws.specs.Sums.{oneAt-same, oneAt-other}
 use Rattle.laws.specs.Bags.{times-nil, times-cons}
 use Rattle.tree.specs.Steps.{dirsFrom, queueOf}
-use Rattle.lookup.specs.Queued.{placeOf, noneHeaded, OwnHeads}
+use Rattle.lookup.specs.Queued.{placeOf, OwnHeads}
 
 module _ (queue : List ℕ) (h : ℕ) where
   pub place-hit : (i n m : ℕ) → n ≡ suc m → getD queue i 0 ≡ h → placeOf queue h i n ≡ i

@@ -23,6 +23,7 @@ use Rattle.laws.specs.Links.{Linked}
 use Rattle.laws.specs.OwnerTable.{setAll, fresh-owner}
 use Rattle.anodes.specs.Loaded.{anodesFrom, Loaded}
 use Rattle.edits.specs.Entries.{OneBlockEach}
+use Rattle.changes.specs.Image.{ReachedDir}
 use Rattle.changes.specs.Reached.{dir-block}
 use Rattle.changes.specs.MakePlan.{Fresh}
 use Rattle.changes.specs.MadeImage.{Making, grown, good, made-disk}
@@ -44,9 +45,12 @@ module _ {img counts firsts nexts : List ℕ} (l : Loaded img counts firsts next
   begun-is f s e = e ∙ ap (λ (u : Anodes). rewritten u f 0 65535) (l .is-loaded)
 
   module _ (h : ℕ) (reached : noDirectory img (anodesOf img) h ≡ false) where
+    abbrev home : ReachedDir img h
+    home = record { image = loaded-image l; reached = reached }
+
     -- it is a fresh head, where there is one
-    pub lowest-fresh : (f : ℕ) → lowestFree limit (exists img) (anodesOf img) ≡ f → f < limit → Fresh img (diskSize img) limit h f
-    lowest-fresh f e below = record { accepted = l .accepted; reached = reached; lowest = e; below = below }
+    pub lowest-fresh : (f : ℕ) → lowestFree limit (exists img) (anodesOf img) ≡ f → f < limit → Fresh img h f
+    lowest-fresh f e below = record { parent = home; lowest = e; below = below }
 
     -- each anode of the directory has one block
     ones : OneBlockEach counts nexts h
@@ -54,7 +58,7 @@ module _ {img counts firsts nexts : List ℕ} (l : Loaded img counts firsts next
     ones a p =
         let next : (λ x. getD nexts x 0) ≡ anodesOf img .next = ap (λ (s : Anodes). s .next) (l .is-loaded) in
         ap (λ (s : Anodes). s .count a) (l .is-loaded)
-        ∙ dir-block (record { image = loaded-image l; reached = reached }) a (times-member a (chainOf (anodesOf img .next) limit h) (rw next at p)) .one
+        ∙ dir-block home a (times-member a (chainOf (anodesOf img .next) limit h) (rw next at p)) .one
 
     -- the room found by the tables is the directory's
     pub room-is : (room : Option ℕ) (len : ℕ) →
@@ -87,10 +91,10 @@ module _ (img : List ℕ) (h : ℕ) (new : NewEntry) (m : MakePlan) (t : Anodes)
   abbrev zs : List ℕ
   zs = someBlock (m .parents .0)
 
-  x : Fresh img (diskSize img) limit h f
+  x : Fresh img h f
   x = p .fresh
 
-  making : Making img (diskSize img) limit h new f (p .room) ys t zs
+  making : Making img h new f (p .room) ys t zs
   making = record { fresh = p .fresh; steps = p .steps; named = named; commented = commented }
 
   -- show_heads asks it of the new anodes

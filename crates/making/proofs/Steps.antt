@@ -26,8 +26,8 @@ use Rattle.laws.specs.OwnerTable.{ran-data, setAll}
 use Rattle.laws.specs.DirectoryTakes.{dir-head, dir-not-1}
 use Rattle.laws.specs.Make.{contents-unchanged, fresh-orphan}
 use Rattle.laws.specs.Items.{headed}
-use Rattle.changes.specs.Image.{GoodOn, WholeImage, headIn, sideIn, image-passed, accepted-whole, reached-headed}
-use Rattle.changes.specs.MakePlan.{Fresh, fresh-dir, fresh-free, made-orphan}
+use Rattle.changes.specs.Image.{GoodOn, AcceptedWhole, image-passed, accepted-whole, reached-headed}
+use Rattle.changes.specs.MakePlan.{Fresh, fresh-free, made-orphan}
 use Rattle.changes.specs.Make.{needed-refused}
 use Rattle.changes.specs.MadeImage.{first-in}
 use Rattle.changed.specs.Laws.{step-late, Shows, shows-ran}
@@ -82,18 +82,18 @@ module _ (img : List ℕ) {s : Anodes} {hd sd : ℕ → ℕ} (g : GoodOn img s h
 
 -- ---- both steps
 
-module _ {img : List ℕ} {h f : ℕ} (x : Fresh img (diskSize img) limit h f) where
+module _ {img : List ℕ} {h f : ℕ} (x : Fresh img h f) where
   pub free-f : FreeAnode (exists img) (anodesOf img) f
   free-f = fresh-free x
 
-  pub whole : WholeImage img (anodesOf img) (headIn img) (sideIn img) (reachedDirs img (anodesOf img))
-  whole = accepted-whole (fresh-dir x .image)
+  pub whole : AcceptedWhole img
+  whole = accepted-whole (x .parent .image)
 
   once : headed h (reachedDirs img (anodesOf img)) ≡ 1
-  once = reached-headed (fresh-dir x)
+  once = reached-headed (x .parent)
 
   right-size : wrongSize img ≡ false
-  right-size = image-passed (fresh-dir x .image) .size-right
+  right-size = image-passed (x .parent .image) .size-right
 
   -- what the first step asks: a block for the fresh head
   pub first-ready : (s : Anodes) → s ≡ rewritten (anodesOf img) f 0 65535 → Ready img s f

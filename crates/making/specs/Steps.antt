@@ -8,8 +8,7 @@ use lib.Dec.{eqb}
 use lib.ListN.{length}
 use Rattle.disk.specs.Refusals.{numberOf}
 use Rattle.directory.specs.Entries.{entryLength}
-use Rattle.rules.specs.Anodes.{Anodes, limit, anodesOf}
-use Rattle.rules.specs.Accepted.{diskSize}
+use Rattle.rules.specs.Anodes.{Anodes, anodesOf}
 use Rattle.rules.specs.Space.{Plan, refused, planned}
 use Rattle.rules.specs.Changes.{entryPlace, NewEntry, left, made}
 use Rattle.changes.specs.MakePlan.{Fresh, MakeSteps}
@@ -30,7 +29,7 @@ neededPlan (Refused r) t = refused (numberOf r)
 
 -- m plans a make in the directory of h, of a directory or a file whose entry has len bytes, and leaves the anodes t
 pub record Plans (img : List ℕ) (dir : Bool) (len h : ℕ) (m : MakePlan) (t : Anodes) : Type 0 where
-  pub fresh : Fresh img (diskSize img) limit h (m .fresh .0)
+  pub fresh : Fresh img h (m .fresh .0)
   pub room : Option ℕ
   pub steps : MakeSteps img dir len h (m .fresh .0) room (someBlock (m .own .0)) t (someBlock (m .parents .0))
   pub place : m .place ≡ entryPlace room (m .parents .0 ∷ [])

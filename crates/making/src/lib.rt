@@ -5,10 +5,9 @@ ghost use mathlib.Core.Path.{_≡_};
 ghost use Prim.Native.Nat.{ℕ, _≤_};
 ghost use lib.ListN.{length};
 ghost use Rattle.directory.specs.Entries.{goodName, goodComment, isDir, entryLength};
-ghost use Rattle.rules.specs.Anodes.{limit, anodesOf};
+ghost use Rattle.rules.specs.Anodes.{anodesOf};
 ghost use Rattle.rules.specs.Chains.{blocksOf};
 ghost use Rattle.rules.specs.Walk.{reachedDirs};
-ghost use Rattle.rules.specs.Accepted.{diskSize};
 ghost use Rattle.rules.specs.Lookup.{noDirectory};
 ghost use Rattle.rules.specs.Space.{rewritten};
 ghost use Rattle.rules.specs.Format.{newDirectoryBlock};
@@ -104,7 +103,7 @@ fn take_blocks(
     nexts: &mut [u16],
 ) -> Planned
     requires { ⌜ AnodeTables (now counts) (now firsts) (now nexts) ⌝ }
-    requires { ⌜ Fresh (now image) (diskSize (now image)) limit (head .0) (fresh .0) × (anodesFrom (now counts) (now firsts) (now nexts) ≡ rewritten (anodesOf (now image)) (fresh .0) 0 65535) ⌝ }
+    requires { ⌜ Fresh (now image) (head .0) (fresh .0) × (anodesFrom (now counts) (now firsts) (now nexts) ≡ rewritten (anodesOf (now image)) (fresh .0) 0 65535) ⌝ }
     ensures { λ r. ⌜ ((len : ℕ) → roomOf room ≡ firstRoom (now (image .entry)) len (blocksOf (anodesOf (now (image .entry))) (head .0)) → PlanOf r (now (image .entry)) (isDir kind) len (head .0) (anodesFrom (now (counts .exit)) (now (firsts .exit)) (now (nexts .exit)))) ⌝ }
 {
     let first = take_needed(image, is_directory(kind), fresh, counts, firsts, nexts);

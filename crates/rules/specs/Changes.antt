@@ -186,9 +186,13 @@ written img s e offset bytes = spread img (blocksOf s (e .anode)) (stored (bytes
 unfoldable pub gapClosed : List ℕ → ℕ → ℕ → ℕ → List ℕ
 gapClosed b at len end = take at b ++ (take (end - (at + len)) (drop (at + len) b) ++ (replicate len 0 ++ drop end b))
 
+-- the block with the gap of the entry at a place closed
+abbrev pub entryClosed : List ℕ → ℕ → List ℕ
+entryClosed b at = gapClosed b at (getD b at 0) (entriesEnd b)
+
 -- the image without the entry at a place
 unfoldable pub withoutEntry : List ℕ → ℕ → List ℕ
-withoutEntry img place = inBlock img (place / 512) (λ b. gapClosed b (place % 512) (getD b (place % 512) 0) (entriesEnd b))
+withoutEntry img place = inBlock img (place / 512) (λ b. entryClosed b (place % 512))
 
 -- gives back all blocks, last first
 abbrev pub removePlan : List ℕ → Anodes → ℕ → Plan

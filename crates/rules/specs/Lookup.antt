@@ -10,11 +10,15 @@ use Rattle.directory.specs.Entries.{nameIn}
 use Rattle.rules.specs.Counting.{times, gather, sameBytes}
 use Rattle.rules.specs.Anodes.{Anodes, limit}
 use Rattle.rules.specs.Chains.{chainOf, blocksOf}
-use Rattle.rules.specs.Walk.{Entered, entriesIn, reachedDirs}
+use Rattle.rules.specs.Walk.{Entered, entriesIn, reachedDirs, Dir}
+
+-- no directory of a list has the head h
+abbrev pub noneHeaded : List Dir → ℕ → Bool
+noneHeaded dirs h = eqb (times h (map (λ d. d .head) dirs)) 0
 
 -- 21: directory number is not a reached directory's head
 unfoldable pub noDirectory : List ℕ → Anodes → ℕ → Bool
-noDirectory img s h = eqb (times h (map (λ d. d .head) (reachedDirs img s))) 0
+noDirectory img s h = noneHeaded (reachedDirs img s) h
 
 -- the entries of the directory that h heads, blocks in chain order, entries in byte order
 unfoldable pub entriesOf : List ℕ → Anodes → ℕ → List Entered
