@@ -5,8 +5,8 @@ use mathlib.Core.List.{List}
 use native.Mathlib.Omega.{arith}
 use native.Mathlib.Nat.{add-zero}
 use lib.ListN.{getD, take, drop}
+use Rattle.endian.proofs.Laws.{part-byte}
 use Rattle.disk.specs.Blocks.{blockOf}
-use Rattle.changes.specs.FoundEntries.{part-byte}
 
 -- the bytes of the entry at a place of the image
 unfoldable pub entryBytes : List ℕ → ℕ → List ℕ

@@ -7,11 +7,10 @@ use mathlib.Core.List.{List, [], _∷_, _++_, cons≢nil, head-eq-of-cons-eq, ta
 use native.Mathlib.Omega.{arith}
 use native.Mathlib.Nat.{add-zero, add-assoc}
 use lib.Dec.{eqb, leb}
-use lib.ListN.{length, getD, take, drop, length-drop}
-use lib.Seq.{getD-take, getD-drop, length-take-le, ext-getD}
+use lib.ListN.{length, getD}
 use borrow.Author.Tests.{le-leb, ne-eqb}
 use Rattle.endian.specs.Bytes.{be16}
-use Rattle.endian.proofs.Laws.{be16-bytes, be32-halves}
+use Rattle.endian.proofs.Laws.{be16-bytes, be32-halves, part-same}
 use Rattle.disk.specs.declared.Refusal.the-variants.{DirectoryBlock}
 use Rattle.directory.specs.declared.Entry.{Entry}
 use Rattle.directory.specs.declared.Kind.{Kind}
@@ -24,18 +23,6 @@ use Rattle.rules.specs.Walk.{Entered, withRest, entriesFrom}
 use Rattle.rules.specs.Changes.{endFrom, entriesEnd}
 use Rattle.laws.specs.Members.{Member, no-member}
 pub use Rattle.laws.specs.Entries.{enteredAt, entries-more, entries-end, Unbroken}
-
--- parts of two lists of bytes that agree byte for byte
-pub part-same : (l m : List ℕ) (k j n : ℕ) → k + n ≤ length l → j + n ≤ length m → ((i : ℕ) → i < n → getD l (k + i) 0 ≡ getD m (j + i) 0) → take n (drop k l) ≡ take n (drop j m)
-part-same l m k j n p q same =
-    let c = length-take-le n (drop k l) (omega (arith, length-drop k l)) in
-    let d = length-take-le n (drop j m) (omega (arith, length-drop j m)) in
-    ext-getD 0 (take n (drop k l)) (take n (drop j m)) (c ∙ sym d)
-    (λ i h. getD-take n (drop k l) i 0 (omega arith) ∙ getD-drop k l i 0 ∙ same i (omega arith) ∙ sym (getD-drop j m i 0) ∙ sym (getD-take n (drop j m) i 0 (omega arith)))
-
-pub part-byte : (l m : List ℕ) (k j n : ℕ) → take n (drop k l) ≡ take n (drop j m) → (i : ℕ) → i < n → getD l (k + i) 0 ≡ getD m (j + i) 0
-part-byte l m k j n e i h =
-    sym (getD-take n (drop k l) i 0 h ∙ getD-drop k l i 0) ∙ ap (λ (p : List ℕ). getD p i 0) e ∙ getD-take n (drop j m) i 0 h ∙ getD-drop j m i 0
 
 -- the same first 16 bytes are the same head
 pub head-same : (b b′ : List ℕ) → ((i : ℕ) → i < 16 → getD b′ i 0 ≡ getD b i 0) → directoryHeadIn b′ ≡ directoryHeadIn b

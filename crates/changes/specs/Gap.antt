@@ -6,13 +6,14 @@ use mathlib.Core.List.{List, _∷_, _++_, map, append-assoc}
 use native.Mathlib.Omega.{arith}
 use lib.ListN.{length, getD, take, drop, replicate, length-append, length-drop, length-replicate, getD-replicate, List·getD-append}
 use lib.Seq.{getD-take, getD-drop, length-take-le, getD-append-add}
+use Rattle.endian.proofs.Laws.{part-same}
 use Rattle.directory.specs.declared.Entry.{Entry}
 use Rattle.directory.specs.declared.Walked.the-variants.{Found, End}
 use Rattle.directory.specs.Entries.{directoryHeadIn, walkedAt}
 use Rattle.directory.proofs.Laws.{found-at}
 use Rattle.rules.specs.Walk.{Entered, entriesFrom}
 use Rattle.rules.specs.Changes.{endFrom, entriesEnd, gapClosed, entryClosed}
-use Rattle.changes.specs.FoundEntries.{part-same, head-same, walked-same, entry-standing, entries-more, entries-end, unbroken-cases, end-more, end-here, end-bounds, standing-found, place-after, place-order, reaches, BlockEntry, block-standing, end-within}
+use Rattle.changes.specs.FoundEntries.{head-same, walked-same, entry-standing, entries-more, entries-end, unbroken-cases, end-more, end-here, end-bounds, standing-found, place-after, place-order, reaches, BlockEntry, block-standing, end-within}
 use Rattle.laws.specs.Members.{Member}
 use Rattle.laws.specs.Entries.{Unbroken}
 

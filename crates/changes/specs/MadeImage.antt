@@ -3,7 +3,7 @@ use Prim.Native.Nat.{ℕ, _+_, _*_, _/_, _%_, _≤_, _<_}
 use mathlib.Core.Path.{_≡_, refl, sym, ap, ap₂, _∙_, subst}
 use mathlib.Core.Logic.{_≢_, inl, inr}
 use mathlib.Core.Bool.{Bool, true, false, cond}
-use mathlib.Core.List.{List, [], _∷_, _++_, map}
+use mathlib.Core.List.{List, [], _∷_, _++_}
 use mathlib.Core.Option.{Option, none, some}
 use native.Mathlib.Omega.{arith}
 use lib.Dec.{T}
@@ -20,13 +20,13 @@ use Rattle.rules.specs.Walk.{Dir, Entered, entriesFrom, entriesIn, isBlockOf, r
 use Rattle.rules.specs.Format.{newDirectoryBlock}
 use Rattle.rules.specs.Changes.{withBlocks, entriesEnd, noRoom, parentOf, entryPlace, NewEntry, entryOf, madeImage}
 use Rattle.laws.specs.Tests.{not-above}
-use Rattle.laws.specs.Sums.{oneAt-cases, oneAt-some}
-use Rattle.laws.specs.Bags.{list-cons, list-some, map-sum, times-nil, times-cons, times-append, times-here}
+use Rattle.laws.specs.Sums.{oneAt-cases}
+use Rattle.laws.specs.Bags.{list-cons, times-nil, times-cons, times-append, first-in}
 use Rattle.laws.specs.Space.{FreeAnode, on-chain}
 use Rattle.laws.specs.Each.{Each, each-map}
 use Rattle.laws.specs.TreeChanges.{none-headed}
 use Rattle.laws.specs.DirectoryTakes.{dir-head}
-use Rattle.laws.specs.Members.{Member, no-member, member-cons, member-gather, member-times, times-member}
+use Rattle.laws.specs.Members.{Member, no-member, member-cons, member-gather, member-times, times-member, times-map}
 use Rattle.laws.specs.NewDirectory.{length-new, entries-new, new-marked}
 use Rattle.frames.specs.Kept.{Kept}
 use Rattle.frames.specs.StoredBlocks.{inBlock-kept, blockOf-inBlock, withBlocks-kept}
@@ -41,16 +41,6 @@ use Rattle.changes.specs.Reached.{DirBlock, reached-not-1, dir-block}
 use Rattle.changes.specs.SingleBlocks.{single-used, single-apart, single-data}
 use Rattle.changes.specs.NewEntry.{entries-put, head-put, end-new, room-found}
 use Rattle.changes.specs.MakePlan.{OrphanedOn, Fresh, fresh-free, MakeSteps, ParentGrown, MadePlan, made-plan, made-orphan}
-
--- what stands among the numbers that g gives for a list
-times-map : (g : ℕ → ℕ) (l : List ℕ) (y : ℕ) → 0 < times y (map g l) → (a : ℕ) × (0 < times a l) × (y ≡ g a)
-unfolding times
-times-map g l y p =
-    let (a, m, q) = list-some (λ x. oneAt (g x) y) l (omega (arith, p, map-sum g (λ z. oneAt z y) l)) in
-    (a, member-times a l m, sym (oneAt-some (g a) y q))
-
-pub first-in : (y : ℕ) (l : List ℕ) → l ≡ y ∷ [] → 0 < times y l
-first-in y l e = rw e (times-here y [])
 
 -- where one directory alone has the head h, its parent is found
 parents-right : (h : ℕ) (l : List Dir) → headed h l ≡ 1 → Each (λ d. d .head ≡ h → d .parent ≡ parentOf l h) l

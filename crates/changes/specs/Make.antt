@@ -20,7 +20,7 @@ use Rattle.rules.specs.Format.{newDirectoryBlock}
 use Rattle.rules.specs.Changes.{firstRoom, noRoom, neededBlock, NewEntry, entryOf, madeImage, Left, left, leftBy, madeWith, made}
 use Rattle.laws.specs.Tests.{same?, less?}
 use Rattle.laws.specs.Sums.{oneAt-cases, oneAt-same}
-use Rattle.laws.specs.Bags.{list-cons, list-append, list-one}
+use Rattle.laws.specs.Bags.{list-cons, list-append, list-one, first-in}
 use Rattle.laws.specs.Plans.{planned≢refused}
 use Rattle.laws.specs.RefusedSteps.{take-refused}
 use Rattle.laws.specs.Entries.{weighEntry}
@@ -29,7 +29,7 @@ use Rattle.laws.specs.NewDirectory.{none-new}
 use Rattle.changes.specs.Answers.{StepsAnswer}
 use Rattle.changes.specs.Image.{WholeOn, StillAccepted, whole-accepted, reached-sum, ReachedDir}
 use Rattle.changes.specs.Reached.{reached-head}
-use Rattle.changes.specs.MadeImage.{Making, spare, parent, first-in, once, plan, before, own-new, orphan, spot, entered, made-disk, entries-made, marks-made, entry-other, its-head, other-entries}
+use Rattle.changes.specs.MadeImage.{Making, spare, parent, once, plan, before, own-new, orphan, spot, entered, made-disk, entries-made, marks-made, entry-other, its-head, other-entries}
 
 module _ {img : List ℕ} {h : ℕ} {new : NewEntry} {f : ℕ} {room : Option ℕ} {ys : List ℕ} {t : Anodes} {zs : List ℕ} (m : Making img h new f room ys t zs) where
   abbrev s : Anodes

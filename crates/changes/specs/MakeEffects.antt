@@ -3,11 +3,12 @@ use Prim.Native.Nat.{ℕ, _+_, _*_, _/_, _%_, _≤_, _<_}
 use mathlib.Core.Path.{_≡_, refl, sym, ap, ap₂, _∙_}
 use mathlib.Core.Logic.{_≢_, inl, inr}
 use mathlib.Core.Bool.{Bool, true, false, cond}
-use mathlib.Core.List.{List, [], _∷_, _++_, map, map-append, append-assoc, append-nil}
+use mathlib.Core.List.{List, [], _∷_, _++_, append-assoc, append-nil}
 use mathlib.Core.Option.{Option}
 use native.Mathlib.Omega.{arith}
 use lib.ListN.{length, getD, take, drop}
 use borrow.Author.Tests.{leb-true}
+use Rattle.endian.proofs.Laws.{part-same}
 use Rattle.disk.specs.Blocks.{blockOf}
 use Rattle.disk.proofs.Laws.{length-blockOf}
 use Rattle.disk.proofs.Store.{getD-blockOf}
@@ -29,24 +30,19 @@ use Rattle.laws.specs.Space.{on-chain}
 use Rattle.laws.specs.ChainBlocks.{stands-once}
 use Rattle.laws.specs.Each.{OneMore}
 use Rattle.laws.specs.DirectoryTakes.{dir-head}
-use Rattle.laws.specs.Members.{Member, member-first, member-times, times-member, gather-congr}
+use Rattle.laws.specs.Members.{Member, member-first, times-member, gather-congr, times-mapped}
 use Rattle.laws.specs.NewDirectory.{entries-new}
 use Rattle.laws.specs.Items.{headed}
 use Rattle.frames.specs.DisjointBlocks.{chains-apart, chain-block}
 use Rattle.frames.specs.StoredBytes.{BlocksKept}
 use Rattle.changes.specs.Image.{headIn, headed-reached, headed-same, ReachedDir}
-use Rattle.changes.specs.FoundEntries.{part-same, standing-found, BlockEntry, block-standing}
+use Rattle.changes.specs.FoundEntries.{standing-found, BlockEntry, block-standing}
 use Rattle.changes.specs.Reached.{EntryIn, block-on, reached-not-1, dir-block, entry-facts, block-entry, not-file}
 use Rattle.changes.specs.KeptChains.{SameChain, same-blocks, OthersLeft, contents-left, entries-left}
 use Rattle.changes.specs.EntryBytes.{entryBytes, bytes-at, with-length}
 use Rattle.changes.specs.NewEntry.{comment-put}
 use Rattle.changes.specs.MadeImage.{Making, spare, parent, w, once, plan, grown, own-block, parent-block, before, kept-block, parent-new, cont, old-block, orphan, spot, entered, inside-before, spot-data, in-block, at-end, entry-kept, entry-block, entry-other, made-disk, entries-made, other-entries}
 use Rattle.changes.specs.Make.{made-dirs}
-
-times-mapped : (g : ℕ → ℕ) (l : List ℕ) (a : ℕ) → 0 < times a l → 0 < times (g a) (map g l)
-times-mapped g l a p =
-    let (before, after, parted) = times-member a l p in
-    member-times (g a) (map g l) (map g before, map g after, ap (map g) parted ∙ map-append g before (a ∷ after))
 
 -- the first element's list joined to what stands before
 gather-first : (g : ℕ → List Entered) (k : List Entered) (a : ℕ) (l : List ℕ) → k ++ gather g (a ∷ l) ≡ k ++ g a ++ gather g l

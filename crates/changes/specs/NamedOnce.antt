@@ -15,9 +15,9 @@ use Rattle.laws.specs.Bags.{list-cons, list-append, list-congr, gather-sum, map
 use Rattle.laws.specs.Items.{names-sum, namedIn}
 use Rattle.laws.specs.Entries.{item-anode, items-sum}
 use Rattle.laws.specs.Whole.{Whole}
-use Rattle.laws.specs.Members.{Member, member-sum, member-times, member-congr, two-members}
+use Rattle.laws.specs.Members.{Member, member-sum, member-times, member-congr, two-members, gather-part}
 use Rattle.changes.specs.Image.{AcceptedImage, accepted-whole}
-use Rattle.changes.specs.Reached.{its-items, EntryFacts, gather-part}
+use Rattle.changes.specs.Reached.{its-items, EntryFacts}
 
 -- how often the entries of a list name x
 unfoldable namesOf : ℕ → List Entered → ℕ

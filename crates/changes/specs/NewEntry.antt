@@ -8,10 +8,8 @@ use mathlib.Core.Option.{some, Option·none-ne-some}
 use native.Mathlib.Omega.{arith}
 use borrow.Author.Tests.{leb-true}
 use lib.Dec.{leb}
-use lib.ListN.{length, getD, take, drop, length-set, length-drop}
-use lib.Seq.{getD-take, getD-drop, length-take-le, ext-getD}
-use Rattle.endian.specs.Bytes.{stored, cleared}
-use Rattle.endian.proofs.Laws.{length-put16, length-put32, length-stored, length-cleared, getD-stored-in, getD-cleared-before}
+use lib.ListN.{length, getD, take, drop, length-set}
+use Rattle.endian.proofs.Laws.{length-put16, length-put32, length-stored, stored-cleared}
 use Rattle.disk.specs.Blocks.{blockOf}
 use Rattle.directory.specs.declared.Entry.{Entry}
 use Rattle.directory.specs.declared.Walked.the-variants.{Found}
@@ -82,16 +80,6 @@ module _ (b : List ℕ) (y : ℕ) (e : Entry) (name comment : List ℕ) (whole :
 -- the head of a directory block stays
 pub head-put : (b : List ℕ) (at : ℕ) (e : Entry) (name comment : List ℕ) → 16 ≤ at → directoryHeadIn (putEntry b at e name comment) ≡ directoryHeadIn b
 head-put b at e name comment l = head-same b (putEntry b at e name comment) (λ i h. getD-putEntry-before b at e name comment i (omega arith))
-
--- bytes that are stored, where only bytes behind them are cleared
-stored-cleared : (l : List ℕ) (at from n : ℕ) (s : List ℕ) → at + length s ≤ length l → at + length s ≤ from → take (length s) (drop at (cleared (stored l at s) from n)) ≡ s
-stored-cleared l at from n s fits behind =
-    let b′ = cleared (stored l at s) from n in
-    let long : length b′ ≡ length l = length-cleared (stored l at s) from n ∙ length-stored l at s in
-    let part : length (take (length s) (drop at b′)) ≡ length s = length-take-le (length s) (drop at b′) (omega (arith, length-drop at b′)) in
-    ext-getD 0 (take (length s) (drop at b′)) s part
-    (λ i h. getD-take (length s) (drop at b′) i 0 (omega arith) ∙ getD-drop at b′ i 0 ∙ getD-cleared-before (stored l at s) from n (at + i) (omega arith)
-    ∙ getD-stored-in l at s (at + i) i refl (omega arith) (omega arith))
 
 -- the comment stands behind the name and its own length byte
 pub comment-put : (b : List ℕ) (at : ℕ) (e : Entry) (name comment : List ℕ) → length comment ≡ e .comment → length b ≡ 512 → at + entryLength (e .name) (e .comment) ≤ 510 →

@@ -9,14 +9,14 @@ use native.Mathlib.Omega.{arith}
 use lib.ListN.{length}
 use Rattle.disk.specs.Blocks.{blockOf}
 use Rattle.disk.proofs.Laws.{length-blockOf}
-use Rattle.rules.specs.Counting.{oneAt, sumList, times, gather}
+use Rattle.rules.specs.Counting.{oneAt, sumList, times}
 use Rattle.rules.specs.Anodes.{Anodes, limit, anodesOf}
 use Rattle.rules.specs.Chains.{chainOf, heads, run, blocksOf, blockCount}
 use Rattle.rules.specs.Walk.{Dir, Entered, Item, entriesIn, isBlockOf, blocksFor, itemOf, broken, itemsAt, itemsBy, reachedDirs}
 use Rattle.rules.specs.Lookup.{entriesOf, isNamed, firstNamed, entryNamed, nth}
 use Rattle.laws.specs.Tests.{T-true}
 use Rattle.laws.specs.Sums.{oneAt-cases, oneAt-same}
-use Rattle.laws.specs.Bags.{list-one, gather-sum, map-sum}
+use Rattle.laws.specs.Bags.{list-one, map-sum}
 use Rattle.laws.specs.Heads.{Head}
 use Rattle.laws.specs.Space.{on-chain}
 use Rattle.laws.specs.Each.{each-zero}
@@ -25,7 +25,7 @@ use Rattle.laws.specs.TreeChanges.{headed-member}
 use Rattle.laws.specs.Totals.{file-size}
 use Rattle.laws.specs.Entries.{broken-wrong, item-fine, item-anode, item-dir, items-sum, itemsAt-cases, Unbroken}
 use Rattle.laws.specs.Whole.{Whole, counts-head, not-dir, dir-heads, named-heads}
-use Rattle.laws.specs.Members.{Member, member-later, member-each, member-sum, none-pass, member-gather, member-times}
+use Rattle.laws.specs.Members.{Member, member-later, member-each, member-sum, none-pass, member-gather, member-times, gather-part}
 use Rattle.frames.specs.DisjointBlocks.{DataBlock, chain-block}
 use Rattle.changes.specs.Image.{AcceptedWhole, headIn, AcceptedImage, accepted-whole, headed-named, headed-reached, reached-some, ReachedDir}
 use Rattle.changes.specs.FoundEntries.{Standing, standing-place, entry-place, BlockEntry}
@@ -164,10 +164,6 @@ module _ {img : List ℕ} {h : ℕ} {e : Entered} (f : EntryFacts img h e) where
   pub block-entry : BlockEntry (blockOf img (e .place / 512)) (e .place / 512) (e .place % 512) e
   unfolding entriesIn
   block-entry = record { whole = rw (f .in-block) (f .block-facts .whole); unbroken = rw (f .in-block) (f .block-facts .unbroken); parted = rw (f .in-block) (f .member); place = omega arith }
-
--- a sum over the list that g gives for a member is within that over all of them
-pub gather-part : {X Y : Type 0} (g : X → List Y) (f : Y → ℕ) (x : X) (l : List X) → Member x l → sumList f (g x) ≤ sumList f (gather g l)
-gather-part g f x l m = omega (arith, gather-sum g f l, member-sum (λ y. sumList f (g y)) x l m)
 
 -- the one block of an anode with count 1 is a block of its chain
 pub block-on : (s : Anodes) (h a : ℕ) → Member a (chainOf (s .next) limit h) → s .count a ≡ 1 → 0 < times (s .block a) (blocksOf s h)

@@ -7,9 +7,9 @@ use mathlib.Core.List.{List, [], _∷_, _++_, append-nil, append-assoc}
 use native.Mathlib.Omega.{arith}
 use lib.Dec.{ltb}
 use lib.ListN.{length, take, replicate, length-replicate, replicate-append-replicate, drop-of-length-le}
-use lib.Seq.{take-at, take-all, take-take, take-append-le, take-append-add, split-at, sets-eq, length-take-le}
+use lib.Seq.{take-all, take-take, take-append-le, take-append-add, split-at, length-take-le}
 use borrow.Author.Tests.{lt-ltb, le-ltb, ne-eqb}
-use Rattle.endian.specs.Bytes.{cleared}
+use Rattle.endian.proofs.Laws.{cleared-rest, take-zeros}
 use Rattle.disk.specs.Blocks.{blockOf}
 use Rattle.disk.proofs.Laws.{length-blockOf}
 use Rattle.rules.specs.Counting.{times, gather}
@@ -36,20 +36,6 @@ use Rattle.changes.specs.NewSize.{sized}
 use Rattle.changes.specs.ResizePlan.{handed-data, plan-longer, plan-shorter}
 use Rattle.changes.specs.PlannedChange.{w, facts, not-1}
 use Rattle.changes.specs.ResizeStores.{PlannedResize, steps, zeroed, stored, taken-kept, oldLast, tailCleared, tail-in, tail-long, tail-kept, size-kept, others-left, home-alone}
-
--- the rest of a block cleared
-cleared-rest : (b : List ℕ) (r : ℕ) → length b ≡ 512 → r ≤ 512 → cleared b r (512 - r) ≡ take r b ++ replicate (512 - r) 0
-unfolding cleared
-cleared-rest b r whole l =
-    let long : length (replicate {A = ℕ} (512 - r) 0) ≡ 512 - r = length-replicate {A = ℕ} (512 - r) 0 in
-    sets-eq (replicate (512 - r) 0) b r (omega arith)
-    ∙ ap (λ (q : List ℕ). take r b ++ replicate (512 - r) 0 ++ q) (drop-of-length-le b {i = r + length (replicate {A = ℕ} (512 - r) 0)} (omega arith))
-    ∙ append-nil (take r b ++ replicate (512 - r) 0)
-
-take-zeros : (n m : ℕ) → n ≤ m → take {A = ℕ} n (replicate m 0) ≡ replicate n 0
-take-zeros n m l =
-    let e : m ≡ n + (m - n) = omega arith in
-    ap (λ (k : ℕ). take {A = ℕ} n (replicate k 0)) e ∙ ap (take n) (sym (replicate-append-replicate {A = ℕ} n (m - n) 0)) ∙ take-at (replicate n 0) (replicate (m - n) 0) n (length-replicate {A = ℕ} n 0)
 
 gather-zeros : (f : ℕ → List ℕ) (l : List ℕ) → ((y : ℕ) → 0 < times y l → f y ≡ zeroBlock) → gather f l ≡ replicate (length l * 512) 0
 unfolding gather
@@ -191,7 +177,7 @@ module _ {img : List ℕ} {e : Entered} {new : ℕ} {t : Anodes} {ys : List ℕ}
       unfolding resizedImage
       last-left =
           size-kept p .block-kept (oldLast p) (off-home (oldLast p) last-in) ∙ rw stored-tail (blockOf-inBlock (zeroed p) (oldLast p) (tailCleared p) (tail-long p)) ∙ ap (tailCleared p) (before-tail (oldLast p) last-in)
-          ∙ cleared-rest (blockOf img (oldLast p)) (e .size % 512) (length-blockOf img (oldLast p) (inside (oldLast p) last-in)) (omega arith)
+          ∙ cleared-rest (blockOf img (oldLast p)) (e .size % 512) (512 - e .size % 512) (omega (arith, length-blockOf img (oldLast p) (inside (oldLast p) last-in)))
 
       odd-contents : contents img s e ≡ gather (blockOf img) front ++ take (e .size % 512) (blockOf img (oldLast p))
       unfolding contents bytesOf gather

@@ -1,24 +1,23 @@
 -- What the directories hold after a resize: the entry has its new size, and all else is as it was.
-use Prim.Native.Nat.{ℕ, _+_, _/_, _%_, _≤_, _<_}
+use Prim.Native.Nat.{ℕ, _+_, _/_, _%_, _≤_}
 use mathlib.Core.Path.{_≡_, refl, sym, ap, _∙_}
 use mathlib.Core.Logic.{_≢_, _⊎_, inl, inr}
-use mathlib.Core.List.{List, [], _∷_, _++_, map, map-append, append-assoc}
+use mathlib.Core.List.{List, _∷_, _++_, map, append-assoc}
 use native.Mathlib.Omega.{arith}
-use lib.ListN.{length, getD, set, take, drop}
-use lib.Seq.{take-set-lt, drop-set-add}
-use Rattle.endian.specs.Bytes.{put16, put32}
-use Rattle.endian.proofs.Laws.{length-put32, getD-put32-other}
+use lib.ListN.{length, getD, take, drop}
+use Rattle.endian.specs.Bytes.{put32}
+use Rattle.endian.proofs.Laws.{length-put32, getD-put32-other, part-same, part-put32}
 use Rattle.disk.specs.Blocks.{blockOf}
-use Rattle.rules.specs.Counting.{oneAt, gather}
+use Rattle.rules.specs.Counting.{oneAt}
 use Rattle.rules.specs.Anodes.{Anodes, limit, anodesOf}
 use Rattle.rules.specs.Chains.{chainOf}
 use Rattle.rules.specs.Walk.{Entered, entriesIn}
 use Rattle.rules.specs.Lookup.{noDirectory, entriesOf}
 use Rattle.rules.specs.Changes.{resizedImage}
 use Rattle.laws.specs.Tests.{same?}
-use Rattle.laws.specs.Members.{Member, member-cons, member-append, gather-congr}
+use Rattle.laws.specs.Members.{Member, member-cons, member-append, gather-congr, map-gather}
 use Rattle.changes.specs.Image.{reached-sum, headed-same, ReachedDir}
-use Rattle.changes.specs.FoundEntries.{part-same, standing-found, place-order}
+use Rattle.changes.specs.FoundEntries.{standing-found, place-order}
 use Rattle.changes.specs.Reached.{EntryIn, EntryFacts, block-entry, reached-dir, entry-facts}
 use Rattle.changes.specs.KeptChains.{entries-along, entries-left}
 use Rattle.changes.specs.NamedOnce.{only-home}
@@ -27,32 +26,6 @@ use Rattle.changes.specs.NewSize.{sized}
 use Rattle.changes.specs.PlannedChange.{image, facts}
 use Rattle.changes.specs.ResizeStores.{PlannedResize, others-left, head-not-file, dir-same, other-block, this-block, resized-disk}
 use Rattle.changes.specs.Resize.{resizedEntry, one-resized, block-left, still-whole}
-
-map-gather : (φ : Entered → Entered) (f : ℕ → List Entered) (l : List ℕ) → map φ (gather f l) ≡ gather (λ a. map φ (f a)) l
-unfolding gather
-map-gather φ f [] = refl
-map-gather φ f (a ∷ l) = map-append φ (f a) (gather f l) ∙ ap (λ (m : List Entered). map φ (f a) ++ m) (map-gather φ f l)
-
--- a store in a part of some bytes
-part-set : (l : List ℕ) (pos len i v : ℕ) → i < len → take len (drop pos (set l (pos + i) v)) ≡ set (take len (drop pos l)) i v
-part-set l pos len i v h = ap (take len) (drop-set-add pos l i v) ∙ take-set-lt len (drop pos l) i v h
-
-part-put32 : (l : List ℕ) (pos len v : ℕ) → 8 ≤ len → take len (drop pos (put32 l (pos + 4) v)) ≡ put32 (take len (drop pos l)) 4 v
-unfolding put32 put16
-part-put32 l pos len v h =
-    let e5 : pos + 4 + 1 ≡ pos + 5 = omega arith in
-    let e6 : pos + 4 + 2 ≡ pos + 6 = omega arith in
-    let e7 : pos + 6 + 1 ≡ pos + 7 = omega arith in
-    let x = v / 65536 in
-    let z = v % 65536 in
-    let l₁ = set l (pos + 4) (x / 256) in
-    let l₂ = set l₁ (pos + 5) (x % 256) in
-    let l₃ = set l₂ (pos + 6) (z / 256) in
-    rw (e5, e6, e7)
-    (part-set l₃ pos len 7 (z % 256) (omega arith)
-    ∙ ap (λ (m : List ℕ). set m 7 (z % 256)) (part-set l₂ pos len 6 (z / 256) (omega arith)
-    ∙ ap (λ (m : List ℕ). set m 6 (z / 256)) (part-set l₁ pos len 5 (x % 256) (omega arith)
-    ∙ ap (λ (m : List ℕ). set m 5 (x % 256)) (part-set l pos len 4 (x / 256) (omega arith)))))
 
 module _ {img : List ℕ} {e : Entered} {new : ℕ} {t : Anodes} {ys : List ℕ} (p : PlannedResize img e new t ys) where
   abbrev s : Anodes

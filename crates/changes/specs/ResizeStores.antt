@@ -1,5 +1,5 @@
 -- The stores of a resize, one after the other, and what they leave of an accepted image.
-use Prim.Native.Nat.{ℕ, suc, _+_, _-_, _/_, _%_, _<_}
+use Prim.Native.Nat.{ℕ, _+_, _-_, _/_, _%_, _<_}
 use mathlib.Core.Path.{_≡_, refl, sym, ap, _∙_}
 use mathlib.Core.Logic.{_≢_}
 use mathlib.Core.Bool.{Bool, true, false, cond, not, _&&_, and-eq-true-iff}
@@ -7,8 +7,7 @@ use mathlib.Core.List.{List}
 use native.Mathlib.Omega.{arith}
 use native.Mathlib.Nat.{le-of-eq}
 use lib.Dec.{eqb, ltb}
-use lib.ListN.{length, getD, take, drop, length-replicate}
-use lib.Seq.{split-at}
+use lib.ListN.{length, getD, length-replicate}
 use borrow.Author.Tests.{eqb-false, not-true}
 use Rattle.endian.specs.Bytes.{put32, cleared}
 use Rattle.endian.proofs.Laws.{length-put32, length-cleared}
@@ -23,7 +22,7 @@ use Rattle.rules.specs.Changes.{inBlock, withBlocks, resizePlan, zeroTail, with
 use Rattle.laws.specs.Heads.{Head}
 use Rattle.laws.specs.Frame.{shift-alike, shift-chain}
 use Rattle.laws.specs.ChainBlocks.{length-blocksOf}
-use Rattle.laws.specs.Members.{Member, member-times}
+use Rattle.laws.specs.Members.{Member, member-times, nth-in}
 use Rattle.frames.specs.Kept.{Unheld, Kept, kept-all, kept-both}
 use Rattle.frames.specs.StoredBlocks.{inBlock-kept, blockOf-inBlock, withBlocks-kept}
 use Rattle.frames.specs.DisjointBlocks.{DataBlock, chains-apart, chain-block}
@@ -41,11 +40,6 @@ pub record FilePlan (img : List ℕ) (e : Entered) (new : ℕ) (t : Anodes) (ys 
 
 abbrev pub PlannedResize : List ℕ → Entered → ℕ → Anodes → List ℕ → Type 0
 PlannedResize img e new t ys = PlannedChange img e (FilePlan img e new t ys)
-
--- ---- the last block of a file
-
-nth-in : (l : List ℕ) (i : ℕ) → i < length l → Member (getD l i 0) l
-nth-in l i p = (take i l, drop (suc i) l, split-at l i 0 p)
 
 -- ---- the image that is left
 

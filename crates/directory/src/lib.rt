@@ -136,7 +136,7 @@ pub fn entry_len(name: u8, comment: u8) -> usize
 }
 
 // The type byte of a kind.
-pub fn type_of(kind: Kind) -> u8
+fn type_of(kind: Kind) -> u8
     ensures { λ r. ⌜ r ≡ typeOf kind ⌝ }
 {
     match kind {

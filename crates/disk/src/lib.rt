@@ -4,7 +4,7 @@ ghost use Prim.Native.Nat.{_+_, _<_, min};
 ghost use Rattle.disk.specs.Refusals.{numberOf};
 ghost use Rattle.disk.specs.Blocks.{blockOf};
 ghost use Rattle.disk.specs.Root.{rootIn, putRoot, slotIn, putSlot, slotOf};
-ghost use Rattle.disk.specs.AnodeBlocks.{anodeMade, anodeHeadIn, putAnodeHead, anodeIn, putAnode, anodeOf, setAnode};
+ghost use Rattle.disk.specs.AnodeBlocks.{anodeMade, anodeHeadIn, putAnodeHead, anodeIn, putAnode, setAnode};
 use endian::part;
 use endian::read8;
 use endian::read16;
@@ -159,7 +159,7 @@ pub fn put_root(block: &mut [u8], root: Root, name: &[u8])
 }
 
 // The anode block number in slot `s` of the root block.
-pub fn slot_in(block: &[u8], s: usize) -> BlockNo
+fn slot_in(block: &[u8], s: usize) -> BlockNo
     requires { ⌜ s < 42 ⌝ }
     ensures { λ r. ⌜ r .0 ≡ slotIn (now (block .entry)) s ⌝ }
 {
@@ -235,18 +235,6 @@ pub fn put_anode(block: &mut [u8], place: usize, x: Anode)
     write16(block, at, x.count);
     write16(block, at + 2, x.block.0);
     write16(block, at + 4, x.next.0);
-}
-
-// Anode `a` of the image.
-pub fn anode_of(image: &[u8], a: AnodeNo) -> Anode
-    ensures { λ r. ⌜ r ≡ anodeOf (now (image .entry)) (a .0) ⌝ }
-{
-    let n = a.0 as usize;
-    let slot = slot_of(image, n / 82);
-    if slot.0 == 0 {
-        return no_anode();
-    }
-    anode_in(block_part(image, slot), n % 82)
 }
 
 // Stores anode `a` of the image; nothing changes where it is missing.

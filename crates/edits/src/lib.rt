@@ -308,7 +308,7 @@ pub fn put_new_entry(
 }
 
 // The end mark's place in a directory block.
-pub fn entries_end(block: &[u8]) -> usize
+fn entries_end(block: &[u8]) -> usize
     ensures { λ r. ⌜ r ≡ entriesEnd (now (block .entry)) ⌝ }
 {
     let mut at: usize = 16;

@@ -9,8 +9,8 @@ use borrow.Author.Tests.{ltb-true, ltb-false, eqb-true, eqb-false}
 use native.Mathlib.Omega.{arith}
 use native.Mathlib.Numerals.{add-one}
 use native.Mathlib.Nat.{not-suc-le-zero}
-use lib.ListN.{length, getD, set, take, drop, replicate, length-set, length-take, length-replicate, getD-replicate, drop-of-length-le, List·getD-eq-default}
-use lib.Seq.{set-out, getD-set-same, getD-set-other, getD-take, ext-getD, drop-set-lt, drop-cons, drop-nil, length-take-le, length-sets, sets-eq}
+use lib.ListN.{length, getD, set, take, drop, replicate, length-set, length-take, length-replicate, getD-replicate, drop-of-length-le, List·getD-eq-default, length-drop, replicate-append-replicate}
+use lib.Seq.{set-out, getD-set-same, getD-set-other, getD-take, ext-getD, drop-set-lt, drop-cons, drop-nil, length-take-le, length-sets, sets-eq, getD-drop, take-set-lt, drop-set-add, take-at}
 use Rattle.endian.specs.Bytes.{be16, be32, put16, put32, stored, cleared}
 
 -- ---- cases
@@ -288,3 +288,62 @@ getD-cleared-in l at n i h g =
     (λ t. rw (cleared-stored l at n) (getD-stored-in l at (replicate n 0) i (i - at) (omega arith) (omega arith) t ∙ getD-replicate {A = ℕ} n (i - at) 0 0 (omega arith)))
     (λ o. List·getD-eq-default (cleared l at n) 0 (rw (length-cleared l at n) o))
     (less? i (length l))
+
+-- ---- parts
+
+-- parts of two lists of bytes that agree byte for byte
+pub part-same : (l m : List ℕ) (k j n : ℕ) → k + n ≤ length l → j + n ≤ length m → ((i : ℕ) → i < n → getD l (k + i) 0 ≡ getD m (j + i) 0) → take n (drop k l) ≡ take n (drop j m)
+part-same l m k j n p q same =
+    let c = length-take-le n (drop k l) (omega (arith, length-drop k l)) in
+    let d = length-take-le n (drop j m) (omega (arith, length-drop j m)) in
+    ext-getD 0 (take n (drop k l)) (take n (drop j m)) (c ∙ sym d)
+    (λ i h. getD-take n (drop k l) i 0 (omega arith) ∙ getD-drop k l i 0 ∙ same i (omega arith) ∙ sym (getD-drop j m i 0) ∙ sym (getD-take n (drop j m) i 0 (omega arith)))
+
+pub part-byte : (l m : List ℕ) (k j n : ℕ) → take n (drop k l) ≡ take n (drop j m) → (i : ℕ) → i < n → getD l (k + i) 0 ≡ getD m (j + i) 0
+part-byte l m k j n e i h =
+    sym (getD-take n (drop k l) i 0 h ∙ getD-drop k l i 0) ∙ ap (λ (p : List ℕ). getD p i 0) e ∙ getD-take n (drop j m) i 0 h ∙ getD-drop j m i 0
+
+-- a store in a part of some bytes
+part-set : (l : List ℕ) (pos len i v : ℕ) → i < len → take len (drop pos (set l (pos + i) v)) ≡ set (take len (drop pos l)) i v
+part-set l pos len i v h = ap (take len) (drop-set-add pos l i v) ∙ take-set-lt len (drop pos l) i v h
+
+pub part-put32 : (l : List ℕ) (pos len v : ℕ) → 8 ≤ len → take len (drop pos (put32 l (pos + 4) v)) ≡ put32 (take len (drop pos l)) 4 v
+unfolding put32 put16
+part-put32 l pos len v h =
+    let e5 : pos + 4 + 1 ≡ pos + 5 = omega arith in
+    let e6 : pos + 4 + 2 ≡ pos + 6 = omega arith in
+    let e7 : pos + 6 + 1 ≡ pos + 7 = omega arith in
+    let x = v / 65536 in
+    let z = v % 65536 in
+    let l₁ = set l (pos + 4) (x / 256) in
+    let l₂ = set l₁ (pos + 5) (x % 256) in
+    let l₃ = set l₂ (pos + 6) (z / 256) in
+    rw (e5, e6, e7)
+    (part-set l₃ pos len 7 (z % 256) (omega arith)
+    ∙ ap (λ (m : List ℕ). set m 7 (z % 256)) (part-set l₂ pos len 6 (z / 256) (omega arith)
+    ∙ ap (λ (m : List ℕ). set m 6 (z / 256)) (part-set l₁ pos len 5 (x % 256) (omega arith)
+    ∙ ap (λ (m : List ℕ). set m 5 (x % 256)) (part-set l pos len 4 (x / 256) (omega arith)))))
+
+-- the rest of a run cleared
+pub cleared-rest : (b : List ℕ) (r n : ℕ) → length b ≡ r + n → cleared b r n ≡ take r b ++ replicate n 0
+unfolding cleared
+cleared-rest b r n whole =
+    let long : length (replicate {A = ℕ} n 0) ≡ n = length-replicate {A = ℕ} n 0 in
+    sets-eq (replicate n 0) b r (omega arith)
+    ∙ ap (λ (q : List ℕ). take r b ++ replicate n 0 ++ q) (drop-of-length-le b {i = r + length (replicate {A = ℕ} n 0)} (omega arith))
+    ∙ append-nil (take r b ++ replicate n 0)
+
+pub take-zeros : (n m : ℕ) → n ≤ m → take {A = ℕ} n (replicate m 0) ≡ replicate n 0
+take-zeros n m l =
+    let e : m ≡ n + (m - n) = omega arith in
+    ap (λ (k : ℕ). take {A = ℕ} n (replicate k 0)) e ∙ ap (take n) (sym (replicate-append-replicate {A = ℕ} n (m - n) 0)) ∙ take-at (replicate n 0) (replicate (m - n) 0) n (length-replicate {A = ℕ} n 0)
+
+-- bytes that are stored, where only bytes behind them are cleared
+pub stored-cleared : (l : List ℕ) (at from n : ℕ) (s : List ℕ) → at + length s ≤ length l → at + length s ≤ from → take (length s) (drop at (cleared (stored l at s) from n)) ≡ s
+stored-cleared l at from n s fits behind =
+    let b′ = cleared (stored l at s) from n in
+    let long : length b′ ≡ length l = length-cleared (stored l at s) from n ∙ length-stored l at s in
+    let part : length (take (length s) (drop at b′)) ≡ length s = length-take-le (length s) (drop at b′) (omega (arith, length-drop at b′)) in
+    ext-getD 0 (take (length s) (drop at b′)) s part
+    (λ i h. getD-take (length s) (drop at b′) i 0 (omega arith) ∙ getD-drop at b′ i 0 ∙ getD-cleared-before (stored l at s) from n (at + i) (omega arith)
+    ∙ getD-stored-in l at s (at + i) i refl (omega arith) (omega arith))

@@ -48,7 +48,7 @@ pub enum Checked {
 }
 
 // What a group of tests answers.
-pub enum Test {
+enum Test {
     Passed,
     Failed(Refusal),
 }

@@ -67,7 +67,7 @@ pub fn wrong_root(image: &[u8]) -> bool
 }
 
 // 5: a used slot whose block is not its anode block.
-pub fn wrong_slot(image: &[u8], s: usize) -> bool
+fn wrong_slot(image: &[u8], s: usize) -> bool
     ensures { λ r. ⌜ r ≡ wrongSlot (now (image .entry)) s ⌝ }
 {
     let slot = slot_of(image, s);

@@ -124,6 +124,10 @@ times-here x l = omega (arith, times-cons x x l, oneAt-same x x refl)
 pub times-later : (x y : ℕ) (l : List ℕ) → 0 < times x l → 0 < times x (y ∷ l)
 times-later x y l p = omega (arith, p, times-cons x y l)
 
+-- the number of a list of one
+pub first-in : (y : ℕ) (l : List ℕ) → l ≡ y ∷ [] → 0 < times y l
+first-in y l e = rw e (times-here y [])
+
 -- what holds of each number that stands in a list
 pub each-in : (P : ℕ → Type 0) (l : List ℕ) → ((x : ℕ) → 0 < times x l → P x) → Each P l
 each-in P [] h = tt

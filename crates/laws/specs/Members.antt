@@ -3,12 +3,14 @@ use Prim.Native.Nat.{ℕ, zero, suc, _+_, _*_, _≤_, _<_}
 use mathlib.Core.Path.{_≡_, refl, sym, ap, ap₂, _∙_}
 use mathlib.Core.Logic.{_≢_, _⊎_, inl, inr}
 use mathlib.Core.Bool.{Bool, false}
-use mathlib.Core.List.{List, [], _∷_, _++_, map, map-id, append-assoc}
+use mathlib.Core.List.{List, [], _∷_, _++_, map, map-id, append-assoc, map-append}
 use native.Mathlib.Omega.{arith}
+use lib.ListN.{length, getD, take, drop}
+use lib.Seq.{split-at}
 use Rattle.rules.specs.Counting.{sumList, times, gather, oneAt, anyIn}
 use Rattle.counting.specs.Laws.{none-or}
-use Rattle.laws.specs.Sums.{oneAt-same, oneAt-other, oneAt-cases}
-use Rattle.laws.specs.Bags.{list-cons, list-append, list-add, list-mono, list-scale}
+use Rattle.laws.specs.Sums.{oneAt-same, oneAt-other, oneAt-cases, oneAt-some}
+use Rattle.laws.specs.Bags.{list-cons, list-append, list-add, list-mono, list-scale, gather-sum, map-sum, list-some}
 use Rattle.laws.specs.Each.{Each, list-congr-each, gather-congr-each}
 pub use Rattle.laws.specs.Each.{Member, member-each}
 pub use Rattle.laws.specs.Bags.{times-member}
@@ -72,6 +74,16 @@ member-gather f (x ∷ l) y p = elim (member-append y (f x) (gather f l) p) [
   | inr q ↦ (let r = member-gather f l y q in (r .0, member-later (r .0) x l (r .1), r .2))
 ]
 
+-- a sum over the list that g gives for a member is within that over all of them
+pub gather-part : {X Y : Type 0} (g : X → List Y) (f : Y → ℕ) (x : X) (l : List X) → Member x l → sumList f (g x) ≤ sumList f (gather g l)
+gather-part g f x l m = omega (arith, gather-sum g f l, member-sum (λ y. sumList f (g y)) x l m)
+
+-- a function of all that is given
+pub map-gather : {X Y : Type 0} (φ : Y → Y) (f : X → List Y) (l : List X) → map φ (gather f l) ≡ gather (λ a. map φ (f a)) l
+unfolding gather
+map-gather φ f [] = refl
+map-gather φ f (a ∷ l) = map-append φ (f a) (gather f l) ∙ ap (λ (m : List _). map φ (f a) ++ m) (map-gather φ f l)
+
 pub map-members {ℓ} : {X : Type ℓ} (f g : X → X) (l : List X) → ((x : X) → Member x l → f x ≡ g x) → map f l ≡ map g l
 map-members f g [] e = refl
 map-members f g (x ∷ l) e = ap₂ _∷_ (e x (member-first x l)) (map-members f g l (λ y m. e y (member-later y x l m)))
@@ -82,6 +94,23 @@ map-kept f l e = map-members f (λ x. x) l e ∙ map-id l
 pub member-times : (x : ℕ) (l : List ℕ) → Member x l → 0 < times x l
 unfolding times
 member-times x l p = omega (arith, member-sum (λ y. oneAt y x) x l p, oneAt-same x x refl)
+
+-- what stands among the numbers that g gives for a list
+pub times-map : (g : ℕ → ℕ) (l : List ℕ) (y : ℕ) → 0 < times y (map g l) → (a : ℕ) × (0 < times a l) × (y ≡ g a)
+unfolding times
+times-map g l y p =
+    let (a, m, q) = list-some (λ x. oneAt (g x) y) l (omega (arith, p, map-sum g (λ z. oneAt z y) l)) in
+    (a, member-times a l m, sym (oneAt-some (g a) y q))
+
+-- and what stands in the list, among them
+pub times-mapped : (g : ℕ → ℕ) (l : List ℕ) (a : ℕ) → 0 < times a l → 0 < times (g a) (map g l)
+times-mapped g l a p =
+    let (before, after, parted) = times-member a l p in
+    member-times (g a) (map g l) (map g before, map g after, ap (map g) parted ∙ map-append g before (a ∷ after))
+
+-- the number at a place of a list stands in it
+pub nth-in : (l : List ℕ) (i : ℕ) → i < length l → Member (getD l i 0) l
+nth-in l i p = (take i l, drop (suc i) l, split-at l i 0 p)
 
 -- two numbers of a list weigh no more than the list
 pub two-members : (w : ℕ → ℕ) (l : List ℕ) (a b : ℕ) → a ≢ b → 0 < times a l → 0 < times b l → w a + w b ≤ sumList w l

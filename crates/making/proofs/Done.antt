@@ -13,7 +13,6 @@ use Rattle.disk.specs.Refusals.{numberOf}
 use Rattle.directory.specs.Entries.{goodName, goodComment, entryLength}
 use Rattle.rules.specs.Anodes.{Anodes, limit, exists, anodesOf}
 use Rattle.rules.specs.Chains.{chainOf, blocksOf}
-use Rattle.rules.specs.Accepted.{diskSize}
 use Rattle.rules.specs.Lookup.{noDirectory}
 use Rattle.rules.specs.Space.{rewritten, lowestFree}
 use Rattle.rules.specs.Tables.{anodeTable}

@@ -26,10 +26,10 @@ use Rattle.laws.specs.OwnerTable.{ran-data, setAll}
 use Rattle.laws.specs.DirectoryTakes.{dir-head, dir-not-1}
 use Rattle.laws.specs.Make.{contents-unchanged, fresh-orphan}
 use Rattle.laws.specs.Items.{headed}
+use Rattle.laws.specs.Bags.{first-in}
 use Rattle.changes.specs.Image.{GoodOn, AcceptedWhole, image-passed, accepted-whole, reached-headed}
 use Rattle.changes.specs.MakePlan.{Fresh, fresh-free, made-orphan}
 use Rattle.changes.specs.Make.{needed-refused}
-use Rattle.changes.specs.MadeImage.{first-in}
 use Rattle.changed.specs.Laws.{step-late, Shows, shows-ran}
 use Rattle.space.specs.declared.Step.{Step}
 use Rattle.space.specs.declared.Step.the-variants.{Moved, Refused}

@@ -326,7 +326,7 @@ fn join(
 }
 
 // Gives back the last block of the chain of `head`.
-pub fn give_back(
+fn give_back(
     image: &[u8],
     head: AnodeNo,
     counts: &mut [u16],
