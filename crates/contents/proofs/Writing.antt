@@ -14,12 +14,12 @@ use Rattle.disk.proofs.Laws.{length-blockOf, withBlock-own, part-block, block-b
 use Rattle.disk.proofs.Store.{length-withBlock, blockOf-withBlock-other}
 use Rattle.rules.specs.Counting.{times, gather}
 use Rattle.rules.specs.Anodes.{Anodes}
-use Rattle.rules.specs.Chains.{chainOf, run, blocksOf}
+use Rattle.rules.specs.Chains.{run, blocksOf}
 use Rattle.rules.specs.Walk.{Entered}
 use Rattle.rules.specs.Lookup.{bytesOf}
 use Rattle.rules.specs.Changes.{spread, written}
 use Rattle.laws.specs.Chains.{gathered-step, run-step, Inside}
-use Rattle.laws.specs.ChainBlocks.{extent}
+use Rattle.laws.specs.ChainBlocks.{extent, blocksFrom}
 use Rattle.laws.specs.Sums.{oneAt-same}
 use Rattle.laws.specs.Bags.{times-cons, times-append, times-here}
 use Rattle.contents.specs.Written.{writtenOver, InsideOnce}
@@ -103,7 +103,7 @@ module _ (img : List ℕ) (b n m : ℕ) (more : n ≡ m + 1) (i : Inside img (ru
   rest-inside = inside-append img (b ∷ []) (run (b + 1) m) (rw (run-step b n m more) at i) .1
 
 -- an anode's own blocks, and those of the anodes behind it
-pub along-inside : (img : List ℕ) (s : Anodes) (k m a : ℕ) → k ≡ m + 1 → (a ≡ 0 → ⊥) → Inside img (gather (extent s) (chainOf (s .next) k a))
-    → Inside img (extent s a) × Inside img (gather (extent s) (chainOf (s .next) m (s .next a)))
+pub along-inside : (img : List ℕ) (s : Anodes) (k m a : ℕ) → k ≡ m + 1 → (a ≡ 0 → ⊥) → Inside img (blocksFrom s k a)
+    → Inside img (extent s a) × Inside img (blocksFrom s m (s .next a))
 along-inside img s k m a fuel some i =
-    inside-append img (extent s a) (gather (extent s) (chainOf (s .next) m (s .next a))) (rw (gathered-step (extent s) (s .next) k m a fuel some) at i)
+    inside-append img (extent s a) (blocksFrom s m (s .next a)) (rw (gathered-step (extent s) (s .next) k m a fuel some) at i)

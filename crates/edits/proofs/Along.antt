@@ -14,7 +14,7 @@ use Rattle.rules.specs.Chains.{chainOf, run, blocksOf}
 use Rattle.rules.specs.Changes.{endFrom, entriesEnd, firstRoom}
 use Rattle.laws.specs.Bags.{times-here, times-later}
 use Rattle.laws.specs.Chains.{gathered-step}
-use Rattle.laws.specs.ChainBlocks.{extent}
+use Rattle.laws.specs.ChainBlocks.{extent, blocksFrom}
 use Rattle.anodes.specs.Loaded.{anodesFrom}
 use Rattle.edits.specs.Entries.{OneBlockEach}
 
@@ -36,13 +36,13 @@ pub nth-none : (l : List ℕ) (i : ℕ) → l ≡ [] → 0 ≡ getD l i 0
 nth-none l i e = rw e
 
 module _ (s : Anodes) (k m a : ℕ) (fuel : k ≡ m + 1) (some-anode : a ≡ 0 → ⊥) (i : ℕ) where
-  pub nth-here : i < s .count a → getD (gather (extent s) (chainOf (s .next) k a)) i 0 ≡ s .block a + i
+  pub nth-here : i < s .count a → getD (blocksFrom s k a) i 0 ≡ s .block a + i
   unfolding extent
-  nth-here h = rw (gathered-step (extent s) (s .next) k m a fuel some-anode) (run-at (s .block a) (s .count a) i (gather (extent s) (chainOf (s .next) m (s .next a))) h)
+  nth-here h = rw (gathered-step (extent s) (s .next) k m a fuel some-anode) (run-at (s .block a) (s .count a) i (blocksFrom s m (s .next a)) h)
 
-  pub nth-later : s .count a ≤ i → getD (gather (extent s) (chainOf (s .next) k a)) i 0 ≡ getD (gather (extent s) (chainOf (s .next) m (s .next a))) (i - s .count a) 0
+  pub nth-later : s .count a ≤ i → getD (blocksFrom s k a) i 0 ≡ getD (blocksFrom s m (s .next a)) (i - s .count a) 0
   unfolding extent
-  nth-later h = rw (gathered-step (extent s) (s .next) k m a fuel some-anode) (run-past (s .block a) (s .count a) i (gather (extent s) (chainOf (s .next) m (s .next a))) h)
+  nth-later h = rw (gathered-step (extent s) (s .next) k m a fuel some-anode) (run-past (s .block a) (s .count a) i (blocksFrom s m (s .next a)) h)
 
 -- ---- the end mark, from a place on
 

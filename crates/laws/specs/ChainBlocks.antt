@@ -29,6 +29,10 @@ use Rattle.laws.specs.Frame.{kept-count, shift-alike, shift-chain}
 unfoldable pub extent : Anodes → ℕ → List ℕ
 extent s a = run (s .block a) (s .count a)
 
+-- the blocks of at most k anodes from a on, in order
+abbrev pub blocksFrom : Anodes → ℕ → ℕ → List ℕ
+blocksFrom s k a = gather (extent s) (chainOf (s .next) k a)
+
 extent-alike : {s t : Anodes} {a : ℕ} → Alike s t a → extent t a ≡ extent s a
 unfolding extent
 extent-alike e = rw (e .same-block, e .same-count)
@@ -43,7 +47,7 @@ module _ (s t : Anodes) (x c b : ℕ) (counts : t .count ≡ changed (s .count) 
   unfolding extent
   extent-other a i = rw (counts, firsts, changed-other (s .count) x c a i, changed-other (s .block) x b a i)
 
-pub blocksOf-extents : (s : Anodes) (h : ℕ) → blocksOf s h ≡ gather (extent s) (chainOf (s .next) limit h)
+pub blocksOf-extents : (s : Anodes) (h : ℕ) → blocksOf s h ≡ blocksFrom s limit h
 unfolding blocksOf extent
 blocksOf-extents s h = refl
 

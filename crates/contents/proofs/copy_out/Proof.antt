@@ -5,12 +5,12 @@ use native.Mathlib.Omega.{arith}
 use lib.ListN.{length, getD, take, drop}
 use Rattle.disk.specs.Blocks.{blockOf}
 use Rattle.rules.specs.Counting.{gather}
-use Rattle.rules.specs.Chains.{chainOf, run}
+use Rattle.rules.specs.Chains.{run}
 use Rattle.rules.specs.Lookup.{bytesOf}
 use Rattle.anodes.specs.Loaded.{anodesFrom}
 use Rattle.laws.specs.Chains.{gathered-none, gathered-end, gathered-step}
 use Rattle.laws.specs.Bags.{gather-append}
-use Rattle.laws.specs.ChainBlocks.{extent, blocksOf-extents}
+use Rattle.laws.specs.ChainBlocks.{extent, blocksOf-extents, blocksFrom}
 use Rattle.contents.specs.Copied.{filled}
 use Rattle.contents.proofs.Copying.{part-length, filled-start, filled-full, filled-end}
 use borrow.Author.Needs.{needs}
@@ -21,7 +21,7 @@ abbrev Inv-loop : tie.InvT-loop
 Inv-loop image counts firsts nexts offset out₀ cursor₀ at₀ fuel₀ out cursor at fuel =
     let s = anodesFrom counts firsts nexts in
     (length out ≡ length out₀)
-    × (filled out (cursor .done) (drop (cursor .skip) (gather (blockOf image) (gather (extent s) (chainOf (s .next) fuel at)))) ≡ take (length out₀) (drop offset (bytesOf image s at₀)))
+    × (filled out (cursor .done) (drop (cursor .skip) (gather (blockOf image) (blocksFrom s fuel at))) ≡ take (length out₀) (drop offset (bytesOf image s at₀)))
 
 abbrev μ-loop : tie.MeasureT-loop
 μ-loop image counts firsts nexts offset out₀ cursor₀ at₀ fuel₀ out cursor at fuel = fuel
@@ -75,8 +75,8 @@ loop-again c =
     let a = c .before .before .before .before .before .before .before .before .before .before .before .before .before .before .before .before .before .before .args in
     let s = anodesFrom (a .counts .now) (a .firsts .now) (a .nexts .now) in
     let own = run (getD (a .firsts .now) (l .at) 0) (getD (a .counts .now) (l .at) 0) in
-    let rest = gather (extent s) (chainOf (s .next) (l .fuel - 1) (getD (a .nexts .now) (l .at) 0)) in
-    let step : gather (extent s) (chainOf (s .next) (l .fuel) (l .at)) ≡ own ++ rest = gathered-step (extent s) (s .next) (l .fuel) (l .fuel - 1) (l .at) (omega arith) (c .before .before .before .before .before .before .before .before .before .if1 .left) in
+    let rest = blocksFrom s (l .fuel - 1) (getD (a .nexts .now) (l .at) 0) in
+    let step : blocksFrom s (l .fuel) (l .at) ≡ own ++ rest = gathered-step (extent s) (s .next) (l .fuel) (l .fuel - 1) (l .at) (omega arith) (c .before .before .before .before .before .before .before .before .before .if1 .left) in
     (search needs, rw (c .entry3 .ensures) ((rw (c .before .before .before .before .before .before .entry .ensures, c .before .before .before .before .before .entry2 .ensures, ← gather-append (blockOf (a .image .now)) own rest, ← step) at (c .before .before .before .copy-run .ensures (gather (blockOf (a .image .now)) rest))) ∙ l .inv .1))
 
 same-length-3 : tie.Need-same-length-3 Inv-loop μ-loop

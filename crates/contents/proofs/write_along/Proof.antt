@@ -2,13 +2,11 @@ use mathlib.Core.Path.{_≡_, refl, sym, _∙_}
 use Prim.Native.Nat.{_+_, _-_}
 use native.Mathlib.Omega.{arith}
 use lib.ListN.{length, getD, drop}
-use Rattle.rules.specs.Counting.{gather}
-use Rattle.rules.specs.Chains.{chainOf}
 use Rattle.rules.specs.Walk.{Entered}
 use Rattle.rules.specs.Changes.{written}
 use Rattle.anodes.specs.Loaded.{anodesFrom}
 use Rattle.laws.specs.Chains.{gathered-none, gathered-end, gathered-step, Inside}
-use Rattle.laws.specs.ChainBlocks.{extent, blocksOf-extents}
+use Rattle.laws.specs.ChainBlocks.{extent, blocksOf-extents, blocksFrom}
 use Rattle.contents.specs.Written.{writtenOver}
 use Rattle.contents.proofs.Writing.{over-empty, over-done, over-written, along-inside}
 use borrow.Author.Needs.{needs}
@@ -19,8 +17,8 @@ abbrev Inv-loop : tie.InvT-loop
 Inv-loop image₀ counts firsts nexts offset bytes cursor₀ at₀ fuel₀ image cursor at fuel =
     let s = anodesFrom counts firsts nexts in
     (length image ≡ length image₀)
-    × Inside image₀ (gather (extent s) (chainOf (s .next) fuel at))
-    × ((e : Entered) → e .anode ≡ at₀ → writtenOver image (gather (extent s) (chainOf (s .next) fuel at)) (cursor .skip) (drop (cursor .done) bytes) ≡ written image₀ s e offset bytes)
+    × Inside image₀ (blocksFrom s fuel at)
+    × ((e : Entered) → e .anode ≡ at₀ → writtenOver image (blocksFrom s fuel at) (cursor .skip) (drop (cursor .done) bytes) ≡ written image₀ s e offset bytes)
 
 abbrev μ-loop : tie.MeasureT-loop
 μ-loop image₀ counts firsts nexts offset bytes cursor₀ at₀ fuel₀ image cursor at fuel = fuel
@@ -85,7 +83,7 @@ loop-again c =
     let s = anodesFrom (a .counts .now) (a .firsts .now) (a .nexts .now) in
     let more : l .fuel ≡ l .fuel - 1 + 1 = omega arith in
     let some = c .before .before .before .before .before .before .before .before .before .if1 .left in
-    let rest = gather (extent s) (chainOf (s .next) (l .fuel - 1) (getD (a .nexts .now) (l .at) 0)) in
+    let rest = blocksFrom s (l .fuel - 1) (getD (a .nexts .now) (l .at) 0) in
     let step = gathered-step (extent s) (s .next) (l .fuel) (l .fuel - 1) (l .at) more some in (
       search needs,
       rw (c .entry3 .ensures) (along-inside (a .image .now) s (l .fuel) (l .fuel - 1) (l .at) more some (l .inv .1) .1),

@@ -1,9 +1,7 @@
 use mathlib.Core.Path.{_≡_, refl, sym, _∙_}
 use Prim.Native.Nat.{_-_}
-use Rattle.rules.specs.Counting.{gather}
-use Rattle.rules.specs.Chains.{chainOf}
 use Rattle.laws.specs.Chains.{gathered-none, gathered-end}
-use Rattle.laws.specs.ChainBlocks.{extent, blocksOf-extents}
+use Rattle.laws.specs.ChainBlocks.{blocksOf-extents, blocksFrom}
 use Rattle.anodes.specs.Loaded.{anodesFrom}
 use Rattle.edits.proofs.Along.{nth-none, nth-here, nth-later}
 use borrow.Author.Needs.{needs}
@@ -15,7 +13,7 @@ use Rattle.edits.proofs.nth_block.Tie as tie
 abbrev Inv-loop : tie.InvT-loop
 Inv-loop counts firsts nexts i left₀ at₀ fuel₀ left at fuel =
     let s = anodesFrom counts firsts nexts in
-    getD (gather (extent s) (chainOf (s .next) fuel at)) left 0 ≡ getD (gather (extent s) (chainOf (s .next) fuel₀ at₀)) left₀ 0
+    getD (blocksFrom s fuel at) left 0 ≡ getD (blocksFrom s fuel₀ at₀) left₀ 0
 
 abbrev μ-loop : tie.MeasureT-loop
 μ-loop counts firsts nexts i left₀ at₀ fuel₀ left at fuel = fuel
