@@ -7,8 +7,8 @@
 //! * [`random_bytes`]: junk, mostly with a root block that may pass.
 //! * [`Damager`]: accepted disks with a fault aimed at one refusal number, and disks with random damage.
 
-mod damage;
 mod chains;
+mod damage;
 mod faults;
 mod outline;
 mod plan;

@@ -162,8 +162,8 @@ blocks, to be freed, and bad.",
         long: "Draws the disk block by block: . free, F file, D directory, A anode block, S start block, - to be freed, X bad.
 A bar stands behind the last reserved block.
 
-  --owners        list the runs of blocks with their owners
-  --svg           write a picture (SVG) to standard output",
+  --owners        list the runs of blocks with their owners instead
+  --svg           write a picture (SVG) to standard output instead",
     },
 ];
 

@@ -25,6 +25,9 @@ pub fn df<L: Library>(arguments: &Arguments, out: &mut dyn Write) -> Done {
 }
 
 pub fn map<L: Library>(arguments: &Arguments, out: &mut dyn Write) -> Done {
+    if arguments.has("--svg") && arguments.has("--owners") {
+        return Err(arguments.trouble("--svg or --owners, not both"));
+    }
     let map = BlockMap::of(&mut load_sound::<L>(arguments.operand(0))?)?;
     if arguments.has("--svg") {
         return Ok(out.write_all(svg::picture(&map).as_bytes())?);

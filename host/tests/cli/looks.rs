@@ -115,6 +115,8 @@ fn map_draws_every_block() {
    65 -  1759  .  free
 ";
     assert_eq!(folder.done(&["map", "disk.adf", "--owners"]), owners);
+    let error = folder.fails(2, &["map", "disk.adf", "--owners", "--svg"]);
+    assert_eq!(error, "pfs: map: --svg or --owners, not both; see pfs map --help\n");
 }
 
 #[test]
