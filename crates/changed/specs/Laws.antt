@@ -1,7 +1,7 @@
 -- What a refused and a done change leave of the tables.
 use Prim.Native.Nat.{ℕ, zero, suc, _≤_}
 use mathlib.Core.Path.{_≡_, refl, sym, ap, _∙_}
-use mathlib.Core.Logic.{_≢_, _⊎_, inl, inr}
+use mathlib.Core.Logic.{_≢_}
 use mathlib.Core.Bool.{Bool}
 use mathlib.Core.List.{List, _++_}
 use native.Mathlib.Omega.{arith}
@@ -26,11 +26,6 @@ pub late-table : (k : ℕ) → 17 ≤ k → (range : ℕ) (shown old : List ℕ)
 unfolding tableLeft
 late-table zero l range shown old = absurd (omega arith)
 late-table (suc k) l range shown old = rw (le-leb 1 (suc k) (omega arith), le-leb 5 (suc k) (omega arith), lt-leb (suc k) 4 (omega arith), lt-leb (suc k) 16 (omega arith))
-
--- the refusals of the steps are such answers
-pub step-late : (k : ℕ) → (k ≡ 27) ⊎ (k ≡ 28) → 17 ≤ k
-step-late k (inl e) = omega (arith, e)
-step-late k (inr e) = omega (arith, e)
 
 -- a refused change leaves image and tables
 pub leaves-refused : (k : ℕ) → 17 ≤ k → (img b a : List ℕ) → Leaves k img b a img b a (left k img)

@@ -24,6 +24,11 @@ Late n = (n ≡ 0) ⊎ (17 ≤ n)
 abbrev pub StepsAnswer : ℕ → Type 0
 StepsAnswer n = (n ≡ 0) ⊎ ((n ≡ 27) ⊎ (n ≡ 28))
 
+-- the steps' refusals come after the damage numbers
+pub step-late : (k : ℕ) → (k ≡ 27) ⊎ (k ≡ 28) → 17 ≤ k
+step-late k (inl e) = omega (arith, e)
+step-late k (inr e) = omega (arith, e)
+
 -- the check of an accepted image lent other tables
 module _ (img : List ℕ) where
   with-tables : (blocks anodes : ℕ) → checkAnswer img blocks anodes ≡ 0 → (long many : ℕ) → shortTables img long many ≡ false → checkAnswer img long many ≡ 0

@@ -22,7 +22,7 @@ use Rattle.rules.specs.History.{Call, check, summary, format, read, list, make,
 use Rattle.counting.specs.Laws.{neither}
 use Rattle.laws.specs.Tests.{if-zero, firstOf-zero}
 use Rattle.format_laws.specs.Accepted.{formatted-accepted}
-use Rattle.changes.specs.Answers.{Late, StepsAnswer, own-tables, any-tables, span-late, list-late, resize-late, remove-late, make-late, file-found, span-found, removable-found}
+use Rattle.changes.specs.Answers.{Late, StepsAnswer, step-late, own-tables, any-tables, span-late, list-late, resize-late, remove-late, make-late, file-found, span-found, removable-found}
 use Rattle.changes.specs.Image.{AcceptedImage, accepted-own}
 use Rattle.changes.specs.Reached.{named-member, EntryIn}
 use Rattle.changes.specs.Write.{write-accepted}
@@ -42,8 +42,7 @@ late-harmless n (inr l) d = omega (arith, l, d .1)
 -- the answers of the steps of a change
 steps-harmless : (n : ℕ) → StepsAnswer n → Harmless n
 steps-harmless n (inl e) d = omega (arith, e, d .0)
-steps-harmless n (inr (inl e)) d = omega (arith, e, d .1)
-steps-harmless n (inr (inr e)) d = omega (arith, e, d .1)
+steps-harmless n (inr k) d = omega (arith, step-late n k, d .1)
 
 -- what a call leaves: an accepted image, and an answer that reports no damage
 record AcceptedAfter (l : Left) : Type 0 where

@@ -18,6 +18,7 @@ use Rattle.laws.specs.Tests.{less?}
 use Rattle.laws.specs.Links.{Linked}
 use Rattle.laws.specs.Whole.{blocks-count}
 use Rattle.laws.specs.OwnerTable.{setAll}
+use Rattle.changes.specs.Answers.{step-late}
 use Rattle.changes.specs.Reached.{entry-not-1}
 use Rattle.changes.specs.ResizePlan.{newOwner, plan-refused, plan-longer}
 use Rattle.changes.specs.ResizeStores.{PlannedResize, steps, resized-disk}
@@ -26,7 +27,7 @@ use Rattle.tree.specs.Steps.{sumFrom}
 use Rattle.space.specs.Steps.{moveBlock, moveMany}
 use Rattle.space.proofs.Many.{count-small}
 use Rattle.changed.specs.Leaves.{Leaves, ReachedEntry}
-use Rattle.changed.specs.Laws.{step-late, Shows, leaves-refused, shows-ran, leaves-done}
+use Rattle.changed.specs.Laws.{Shows, leaves-refused, shows-ran, leaves-done}
 use Rattle.changed.specs.Chains.{loaded-size, image-good, entry-known, loaded-copies, chain-counted, planned-change, gave-few}
 
 module _ {img counts firsts nexts : List ℕ} (l : Loaded img counts firsts nexts) (e : Entered) (r : ReachedEntry img e) (size : ℕ) where
