@@ -1,33 +1,34 @@
 -- Reached directories of an accepted image: what is known of their blocks and of their entries.
 use Prim.Native.Nat.{ℕ, zero, suc, _/_, _%_, _≤_, _<_}
-use mathlib.Core.Path.{_≡_, refl, sym, ap, _∙_}
+use mathlib.Core.Path.{_≡_, refl, sym, ap, subst, _∙_}
 use mathlib.Core.Logic.{_≢_, _⊎_, inl, inr}
-use mathlib.Core.Bool.{Bool, true, false, true≢false}
-use mathlib.Core.List.{List, [], _∷_, map}
+use mathlib.Core.Bool.{Bool, true, false, cond, true≢false}
+use mathlib.Core.List.{List, [], _∷_, _++_, map}
 use mathlib.Core.Option.{some, Option·none-ne-some}
 use native.Mathlib.Omega.{arith}
 use lib.ListN.{length}
 use Rattle.disk.specs.Blocks.{blockOf}
 use Rattle.disk.proofs.Laws.{length-blockOf}
-use Rattle.rules.specs.Counting.{oneAt, sumList, times}
+use Rattle.rules.specs.Counting.{oneAt, sumList, times, gather}
 use Rattle.rules.specs.Anodes.{Anodes, limit, anodesOf}
 use Rattle.rules.specs.Chains.{chainOf, heads, run, blocksOf, blockCount}
-use Rattle.rules.specs.Walk.{Dir, Entered, Item, entriesIn, isBlockOf, blocksFor, itemOf, broken, itemsAt, itemsBy, reachedDirs}
-use Rattle.rules.specs.Lookup.{entriesOf, isNamed, firstNamed, entryNamed, nth}
+use Rattle.rules.specs.Walk.{Dir, dirMade, root, Entered, Item, entriesIn, isBlockOf, blocksFor, itemOf, broken, itemsAt, itemsBy, itemsOf, subDirs, walkOf, reachedDirs}
+use Rattle.rules.specs.Lookup.{noDirectory, entriesOf, isNamed, firstNamed, entryNamed, nth}
 use Rattle.laws.specs.Tests.{T-true}
 use Rattle.laws.specs.Sums.{oneAt-cases, oneAt-same}
-use Rattle.laws.specs.Bags.{list-one, map-sum}
+use Rattle.laws.specs.Bags.{list-one, list-congr, map-sum}
 use Rattle.laws.specs.Heads.{Head}
 use Rattle.laws.specs.Space.{on-chain}
-use Rattle.laws.specs.Each.{each-zero}
-use Rattle.laws.specs.Items.{wrong, namedIn, faults, headed}
+use Rattle.laws.specs.Each.{Each, each-zero}
+use Rattle.laws.specs.Items.{wrong, giving, subs, below, below-items, namedIn, faults, headed}
+use Rattle.laws.specs.Walks.{Order, walk-found}
 use Rattle.laws.specs.TreeChanges.{headed-member}
 use Rattle.laws.specs.Totals.{file-size}
 use Rattle.laws.specs.Entries.{broken-wrong, item-fine, item-anode, item-dir, items-sum, itemsAt-cases, Unbroken}
 use Rattle.laws.specs.Whole.{Whole, counts-head, not-dir, dir-heads, named-heads}
-use Rattle.laws.specs.Members.{Member, member-later, member-each, member-sum, none-pass, member-gather, member-times, gather-part}
+use Rattle.laws.specs.Members.{Member, no-member, member-first, member-cons, member-left, member-right, member-later, member-each, member-sum, none-pass, member-gather, member-times, gather-part}
 use Rattle.frames.specs.DisjointBlocks.{DataBlock, chain-block}
-use Rattle.changes.specs.Image.{AcceptedWhole, headIn, AcceptedImage, accepted-whole, headed-named, headed-reached, reached-some, ReachedDir}
+use Rattle.changes.specs.Image.{AcceptedWhole, headIn, AcceptedImage, accepted-walk, accepted-whole, headed-named, headed-reached, reached-some, ReachedDir}
 use Rattle.changes.specs.FoundEntries.{Standing, standing-place, entry-place, BlockEntry}
 
 -- ---- lookups
@@ -273,3 +274,113 @@ entry-facts {e = e} m = facts-of (m .directory) e (m .member)
 -- a block of its chain is a data block
 pub entry-data : {img : List ℕ} {h : ℕ} {e : Entered} → EntryIn img h e → (y : ℕ) → 0 < times y (blocksOf (anodesOf img) (e .anode)) → DataBlock img y
 entry-data {img} {e = e} m = chain-block img (accepted-whole (m .directory .image) .good) (e .anode) (entry-facts m .head)
+
+-- ---- reached, said by steps from the root
+
+-- 01: reached entries are those in the root directory and in every directory that a reached one names
+pub data Reaches (img : List ℕ) : ℕ → Type 0 where
+  top : Reaches img 5
+  under : (h : ℕ) (e : Entered) → Reaches img h → Member e (entriesOf img (anodesOf img) h) → e .dir ≡ true → Reaches img (e .anode)
+
+member-map {ℓ κ} : {X : Type ℓ} {Y : Type κ} (f : X → Y) (l : List X) (y : Y) → Member y (map f l) → (x : X) × Member x l × (y ≡ f x)
+member-map f [] y m = absurd (no-member y m)
+member-map f (x ∷ l) y m = elim (member-cons y (f x) (map f l) m) [
+  | inl e ↦ (x, member-first x l, e)
+  | inr n ↦ (let r = member-map f l y n in (r .0, member-later (r .0) x l (r .1), r .2))
+]
+
+gathered {ℓ κ} : {X : Type ℓ} {Y : Type κ} (f : X → List Y) (l : List X) (x : X) (y : Y) → Member x l → Member y (f x) → Member y (gather f l)
+unfolding gather
+gathered f [] x y m n = absurd (no-member x m)
+gathered f (z ∷ l) x y m n = elim (member-cons x z l m) [
+  | inl e ↦ member-left y (f z) (gather f l) (rw e at n)
+  | inr r ↦ member-right y (f z) (gather f l) (gathered f l x y r n)
+]
+
+both-each {ℓ} : {X : Type ℓ} (P : X → Type 0) (l m : List X) → Each P l → Each P m → Each P (l ++ m)
+both-each P [] m p q = q
+both-each P (x ∷ l) m p q = (p .0, both-each P l m (p .1) q)
+
+all-each {ℓ} : {X : Type ℓ} (P : X → Type 0) (l : List X) → ((x : X) → Member x l → P x) → Each P l
+all-each P [] f = tt
+all-each P (x ∷ l) f = (f x (member-first x l), all-each P l (λ y m. f y (member-later y x l m)))
+
+module _ {img : List ℕ} (a : AcceptedImage img) where
+  abbrev given : Dir → List Item
+  given = itemsBy (entriesIn img) (isBlockOf img) (anodesOf img)
+
+  abbrev Good-dir : Dir → Type 0
+  Good-dir d = Reaches img (d .head)
+
+  -- an item that names a directory is an entry's
+  of-entry : (d : Dir) (i : Item) → Member i (given d) → i .dir ≡ true → (e : Entered) × Member e (entriesOf img (anodesOf img) (d .head)) × (e .dir ≡ true) × (e .anode ≡ i .anode)
+  unfolding itemsBy entriesOf
+  of-entry d i m t =
+      let s = anodesOf img in
+      let (b, on, in-b) = member-gather (itemsAt (entriesIn img) (isBlockOf img) s d) (chainOf (s .next) limit (d .head)) i m in
+      elim (itemsAt-cases (entriesIn img) (isBlockOf img) s d b) [
+        | inl q ↦ (let r = member-map (itemOf s) (entriesIn img (s .block b)) i (rw (q .2) at in-b) in
+            (r .0, gathered (λ c. entriesIn img (s .block c)) (chainOf (s .next) limit (d .head)) b (r .0) on (r .1), sym (item-dir s (r .0)) ∙ ap (λ (j : Item). j .dir) (sym (r .2)) ∙ t, sym (item-anode s (r .0)) ∙ ap (λ (j : Item). j .anode) (sym (r .2))))
+        | inr q ↦ elim (member-cons i broken [] (rw q at in-b)) [ inl e ↦ absurd (true≢false (sym t ∙ ap (λ (j : Item). j .dir) e)) | inr n ↦ absurd (no-member i n) ]
+      ]
+
+  named-dir : (d : Dir) (i : Item) (b : Bool) → i .dir ≡ b → (c : Dir) → Member c (cond b (dirMade (i .anode) (d .head) ∷ []) []) → (i .dir ≡ true) × (c .head ≡ i .anode)
+  named-dir d i false e c m = absurd (no-member c m)
+  named-dir d i true e c m = elim (member-cons c (dirMade (i .anode) (d .head)) [] m) [ inl q ↦ (e, ap (λ (x : Dir). x .head) q) | inr n ↦ absurd (no-member c n) ]
+
+  sub-reached : (d : Dir) → Good-dir d → (c : Dir) → Member c (subs given d) → Good-dir c
+  unfolding subs subDirs
+  sub-reached d r c m =
+      let (i, mi, mc) = member-gather (subDirs d) (given d) c m in
+      let n = named-dir d i (i .dir) refl c mc in
+      let (e, me, te, ae) = of-entry d i mi (n .0) in
+      subst (λ (x : ℕ). Reaches img x) (ae ∙ sym (n .1)) (under (d .head) e r me te)
+
+  in-order : (Q q : List Dir) → Order given q Q → Each Good-dir q → Each Good-dir Q
+  in-order [] q o p = tt
+  in-order (d ∷ Q) q (q′, e, o) p =
+      let p′ : Each Good-dir (d ∷ q′) = subst (λ (l : List Dir). Each Good-dir l) e p in
+      (p′ .0, in-order Q (q′ ++ subs given d) o (both-each Good-dir q′ (subs given d) (p′ .1) (all-each Good-dir (subs given d) (λ c m. sub-reached d (p′ .0) c m))))
+
+  dirs-reached : Each Good-dir (reachedDirs img (anodesOf img))
+  unfolding walkOf itemsOf
+  dirs-reached = in-order (reachedDirs img (anodesOf img)) (root ∷ []) (walk-found given limit (root ∷ []) [] (reachedDirs img (anodesOf img)) (accepted-walk a) .order) (top, tt)
+
+  -- the walk reaches no other directory
+  pub walked-reaches : (h : ℕ) → noDirectory img (anodesOf img) h ≡ false → Reaches img h
+  walked-reaches h n =
+      let (d, m, e) = headed-member h (reachedDirs img (anodesOf img)) (reached-some img (anodesOf img) h n) in
+      subst (λ (x : ℕ). Reaches img x) e (member-each Good-dir d (reachedDirs img (anodesOf img)) m dirs-reached)
+
+  reaches-headed : (h : ℕ) → Reaches img h → 0 < headed h (reachedDirs img (anodesOf img))
+  unfolding entriesOf
+  reaches-headed h top = omega (arith, accepted-whole a .tree .exact (λ d. oneAt (d .head) 5), oneAt-same 5 5 refl)
+  reaches-headed h (under k e r m t) = step (reaches-headed k r)
+    where
+      s : Anodes
+      s = anodesOf img
+
+      dirs : List Dir
+      dirs = reachedDirs img (anodesOf img)
+
+      wt : Dir → ℕ
+      wt d = oneAt (d .head) (e .anode)
+
+      one : giving wt 0 (itemOf s e) ≡ 1
+      one = rw (item-dir s e ∙ t, item-anode s e) (oneAt-same (e .anode) (e .anode) refl)
+
+      step : 0 < headed k dirs → 0 < headed (e .anode) dirs
+      step p =
+          let (d, md, hd) = headed-member k dirs p in
+          let (b, on, in-b) = member-gather (λ c. entriesIn img (s .block c)) (chainOf (s .next) limit k) e m in
+          omega (
+            arith,
+            accepted-whole a .tree .exact wt,
+            list-congr (below given wt) (λ c. sumList (giving wt 0) (given c)) dirs (λ c. below-items given wt c),
+            item-sum (accepted-whole a) d md b (rw hd on) e in-b (giving wt 0),
+            one,
+          )
+
+  -- and every one that is reached so
+  pub reaches-walked : (h : ℕ) → Reaches img h → noDirectory img (anodesOf img) h ≡ false
+  reaches-walked h r = headed-reached img (anodesOf img) h (reaches-headed h r)

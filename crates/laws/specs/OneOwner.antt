@@ -9,18 +9,18 @@ use lib.Dec.{eqb, leb}
 use borrow.Author.Tests.{le-leb, eq-eqb, eqb-false}
 use Rattle.rules.specs.Counting.{oneAt, times, sumList, gather}
 use Rattle.rules.specs.Anodes.{Anodes, limit, exists, anodesOf}
-use Rattle.rules.specs.Chains.{followed, heads, headOf, systemOwns, cut}
-use Rattle.rules.specs.Walk.{Dir, Item, Walk, fault, done, walkOf, faultIn, dirsIn, itemsOf, reached, reachedDirs, naming, root}
+use Rattle.rules.specs.Chains.{chainOf, followed, heads, headOf, systemOwns, cut}
+use Rattle.rules.specs.Walk.{Dir, Item, Walk, fault, done, entriesIn, isBlockOf, walkOf, faultIn, dirsIn, itemsOf, reached, reachedDirs, naming, root}
 use Rattle.rules.specs.Accepted.{diskSize, lastReserved, ownersOf, unnamed, unnamedChain, checkAnswer}
 use Rattle.counting.specs.Laws.{and-none, anyBelow-each}
 use Rattle.laws.specs.Tests.{same?}
-use Rattle.laws.specs.Bags.{times-nil, list-congr, gather-sum}
-use Rattle.laws.specs.Heads.{Head}
+use Rattle.laws.specs.Bags.{times-nil, list-congr, list-mono, gather-sum}
+use Rattle.laws.specs.Heads.{Head, head-of-is, times-on-chain}
 use Rattle.laws.specs.Space.{FixedHead, Good}
 use Rattle.laws.specs.Passes.{Passes, good-of}
-use Rattle.laws.specs.Items.{names-sum, namedIn}
+use Rattle.laws.specs.Items.{names-sum, namedIn, faults}
 use Rattle.laws.specs.Walks.{walk-found}
-use Rattle.laws.specs.Whole.{counts-head}
+use Rattle.laws.specs.Whole.{counts-head, head-counts, names-head, named-le}
 use Rattle.laws.specs.Acceptance.{Passed, passed-of, tested-passes}
 use Rattle.laws.specs.ImageAnodes.{reading-of}
 
@@ -31,6 +31,12 @@ pub record OneOwner (img : List ℕ) : Type 0 where
   -- from 6 up a head is named by exactly one reached entry; below, it is the head of a chain of the system's
   pub named-once : (h : ℕ) → heads limit (anodesOf img .next) (anodesOf img .block) h ≡ 1 → 6 ≤ h → naming img (anodesOf img) h ≡ 1
   pub systems : (h : ℕ) → heads limit (anodesOf img .next) (anodesOf img .block) h ≡ 1 → h < 6 → FixedHead h
+  -- a reached entry names a head from 6 up, so the system's chains are named by no entry, and no entry names the middle of a chain
+  pub names-heads : (x : ℕ) → naming img (anodesOf img) x ≢ 0 → (6 ≤ x) × (heads limit (anodesOf img .next) (anodesOf img .block) x ≡ 1)
+  -- an anode in use, not 0, is on the chain of one head, once, and on no other head's
+  pub has-head : (a : ℕ) → a ≢ 0 → anodesOf img .block a ≢ 0 → heads limit (anodesOf img .next) (anodesOf img .block) (headOf limit (anodesOf img .next) (anodesOf img .block) a) ≡ 1
+  pub on-one-chain : (a h : ℕ) → heads limit (anodesOf img .next) (anodesOf img .block) h ≡ 1 →
+      times a (chainOf (anodesOf img .next) limit h) ≡ oneAt (headOf limit (anodesOf img .next) (anodesOf img .block) a) h
 
 -- the anodes that the items of some directories name
 pub naming-sum : (items : Dir → List Item) (x : ℕ) (dirs : List Dir) → times x (map (λ i. i .anode) (gather items dirs)) ≡ sumList (namedIn items x) dirs
@@ -66,6 +72,26 @@ module _ (img : List ℕ) (blocks anodes : ℕ) (p : Passed img blocks anodes) w
       (and-none (leb 6 h) (eqb (heads limit (s .next) (s .block) h) 1 && unnamed img s h) (anyBelow-each (unnamedChain img s) h limit (reading-of img .view .below h u) (p .all-named)) (le-leb 6 h l))
       (eq-eqb (heads limit (s .next) (s .block) h) 1 e))
 
+  -- what is named in the walked directories is a head from 6 up
+  walk-names : (w : Walk) → walkOf img s ≡ w → faultIn w ≡ 0 → (x : ℕ) → (6 ≤ x → heads limit (s .next) (s .block) x ≡ 1 → ⊥) →
+      times x (map (λ i. i .anode) (gather (itemsOf img s) (dirsIn w))) ≡ 0
+  unfolding walkOf gather itemsOf
+  walk-names (fault n) e z x k = times-nil x
+  walk-names (done dirs) e z x k =
+      omega (
+        arith,
+        naming-sum (itemsOf img s) x dirs,
+        walk-found (itemsOf img s) limit (root ∷ []) [] dirs e .faultless,
+        list-mono (namedIn (itemsOf img s) x) (faults (itemsOf img s)) dirs (named-le (entriesIn img) (isBlockOf img) s x k),
+      )
+
+  pub names : (x : ℕ) → naming img s x ≢ 0 → (6 ≤ x) × (heads limit (s .next) (s .block) x ≡ 1)
+  unfolding naming reached reachedDirs
+  names x n = elim (names-head good x) [
+    | inl q ↦ (q .0, head-counts good x (q .1))
+    | inr k ↦ absurd (n (walk-names (walkOf img s) refl (p .walked) x k))
+  ]
+
   -- 2 stands on 1's chain and so heads none
   not-two : (h : ℕ) → Head (s .next) (s .block) h → h ≢ 2
   not-two h d e = omega (arith, good .two-on, good .heads .at-head h d, ap (headOf limit (s .next) (s .block)) e)
@@ -86,6 +112,9 @@ module _ (img : List ℕ) (blocks anodes : ℕ) (p : Passed img blocks anodes) w
     ends = passes .links .ends;
     named-once = λ h e l. omega (arith, once h, named h e l);
     systems = λ h e l. below-6 h (counts-head good h e .pos) (not-two h (counts-head good h e)) l;
+    names-heads = names;
+    has-head = λ a z u. head-counts good (headOf limit (s .next) (s .block) a) (head-of-is (good .linked) (good .heads) a z u);
+    on-one-chain = λ a h e. times-on-chain (good .linked) (good .heads) h (counts-head good h e) a;
   }
 
 -- an image that the check accepts is such an image

@@ -62,11 +62,15 @@ wrongFixed s =
     || (eqb (s .block 2) 0
     || eqb (s .block 5) 0))
 
+-- the end of anode a's extent: the whole-number sum, never wrapped
+abbrev pub endOf : Anodes → ℕ → ℕ
+endOf s a = s .block a + s .count a
+
 -- 7: an anode in use, not 0, has count above 0 and end above N, or a next that is neither 0 nor an existing anode in use
 unfoldable pub outOfRange : Anodes → ℕ → ℕ → Bool
 outOfRange s n a =
     not (eqb a 0)
-    && ((ltb 0 (s .count a) && ltb n (s .block a + s .count a))
+    && ((ltb 0 (s .count a) && ltb n (endOf s a))
     || (not (eqb (s .next a) 0) && eqb (s .block (s .next a)) 0))
 
 -- 8: an anode in use has two predecessors or a chain that never ends (0 is nobody's next)
@@ -91,7 +95,7 @@ notAbove s last a = ltb 0 (s .count a) && leb (s .block a) last
 
 -- 9: an extent that reaches above last reserved, as none from 2 on may
 unfoldable pub notUpTo : Anodes → ℕ → ℕ → Bool
-notUpTo s last a = ltb 0 (s .count a) && ltb (last + 1) (s .block a + s .count a)
+notUpTo s last a = ltb 0 (s .count a) && ltb (last + 1) (endOf s a)
 
 -- 9: 2 not on 1's chain, or a free extent on the wrong side
 unfoldable pub wrongFreeList : Anodes → ℕ → Bool
@@ -124,16 +128,22 @@ unnamedChain img s x = leb 6 x && (eqb (heads limit (s .next) (s .block) x) 1 &&
 unfoldable pub treeFault : List ℕ → Anodes → ℕ
 treeFault img s = firstOf (faultIn (walkOf img s)) (16 if anyBelow (unnamedChain img s) limit else 0)
 
--- the damage that the anodes and directories show: 6 to 11, then 12 to 16
+-- 6 to 9 of the anodes alone, on a disk of n blocks; then the rest of the table
+abbrev pub anodeFault : Anodes → ℕ → ℕ → ℕ → ℕ
+anodeFault s n last rest =
+    6 if wrongFixed s
+    else 7 if anyBelow (outOfRange s n) limit
+    else 8 if wrongLinks s
+    else 9 if wrongFreeList s last
+    else rest
+
+-- the damage that the anodes and directories show: 6 to 9, 10 and 11, then 12 to 16
 unfoldable pub damageIn : List ℕ → Anodes → ℕ
 damageIn img s =
-    6 if wrongFixed s
-    else 7 if anyBelow (outOfRange s (diskSize img)) limit
-    else 8 if wrongLinks s
-    else 9 if wrongFreeList s (lastReserved img)
-    else 10 if twoOwners img s
+    anodeFault s (diskSize img) (lastReserved img) (
+    10 if twoOwners img s
     else 11 if noOwner img s
-    else treeFault img s
+    else treeFault img s)
 
 -- the whole table: the check's answer for an image and tables of these lengths
 unfoldable pub checkAnswer : List ℕ → ℕ → ℕ → ℕ

@@ -1,13 +1,14 @@
 -- 01, "Worked values": W1 to W11, one table under one statement.
-use Prim.Native.Nat.{ℕ, _+_}
+use Prim.Native.Nat.{ℕ}
 use mathlib.Core.Path.{_≡_, refl}
 use mathlib.Core.List.{List, [], _∷_, map}
 use Rattle.disk.specs.AnodeBlocks.{anodeByte, slotFor, placeFor}
 use Rattle.directory.specs.Entries.{entryLength}
-use Rattle.rules.specs.Counting.{_if_else_, changed}
+use Rattle.rules.specs.Counting.{_if_else_, oneAt, sumBelow, anyBelow, anyIn, sumList, times, changed}
+use Rattle.rules.specs.Chains.{chainOf, followed, preds, cut, side}
 use Rattle.rules.specs.Anodes.{Anodes}
 use Rattle.rules.specs.Walk.{blocksFor}
-use Rattle.rules.specs.Accepted.{outOfRange}
+use Rattle.rules.specs.Accepted.{endOf, wrongFixed, outOfRange, wrongLink, wrongAt, hasPred, wrongLinks, notAbove, notUpTo, wrongFreeList, anodeFault}
 
 -- a row: what the definitions give, and what the paper states
 pub record Row : Type 0 where
@@ -17,13 +18,17 @@ pub record Row : Type 0 where
 abbrev row : List ℕ → List ℕ → Row
 row given stated = record { given = given; stated = stated }
 
--- anodes of which 6 alone is in use, with c blocks from b upward
+-- a disk's fixed anodes, 0 and 1, 2 and 5, and anode 6 with c blocks from b upward
 abbrev oneExtent : ℕ → ℕ → Anodes
-oneExtent c b = record { count = changed (λ a. 0) 6 c; block = changed (λ a. 0) 6 b; next = λ a. 0 }
+oneExtent c b = record {
+  count = changed (changed (λ a. 0) 5 1) 6 c;
+  block = changed (changed (changed (changed (changed (λ a. 0) 0 65535) 1 65535) 2 65535) 5 4) 6 b;
+  next = changed (λ a. 0) 1 2;
+}
 
--- an extent's end, and its refusal on a disk of n blocks
+-- the end of anode 6, and what the table answers for these anodes on a disk of n blocks, last reserved 63: 0 where none of 6 to 9 is found
 abbrev extent : ℕ → ℕ → ℕ → List ℕ
-extent c b n = (b + c) ∷ (7 if outOfRange (oneExtent c b) n 6 else 0) ∷ []
+extent c b n = endOf (oneExtent c b) 6 ∷ anodeFault (oneExtent c b) n 63 0 ∷ []
 
 -- the rows, by the definitions
 abbrev pub rows : List Row
@@ -47,5 +52,5 @@ rows =
 
 -- they give what the paper states
 pub worked-values : map (λ r. r .given) rows ≡ map (λ r. r .stated) rows
-unfolding entryLength outOfRange changed blocksFor
+unfolding entryLength changed blocksFor oneAt sumBelow anyBelow anyIn sumList times chainOf followed preds cut side wrongFixed outOfRange wrongLink wrongAt hasPred wrongLinks notAbove notUpTo wrongFreeList
 worked-values = refl
