@@ -22,7 +22,7 @@ use Rattle.counting.specs.Laws.{neither}
 use Rattle.laws.specs.Tests.{firstOf-some, firstOf-none}
 use Rattle.laws.specs.Acceptance.{passed-of}
 use Rattle.laws.specs.OwnerTable.{table-entry}
-use Rattle.changes.specs.Answers.{Late, own-tables, span-late, list-late}
+use Rattle.change_laws.specs.Answers.{Late, own-tables, span-late, list-late}
 use Rattle.changed.specs.Leaves.{Leaves}
 use Rattle.changed.specs.Laws.{late-table}
 use Rattle.find.specs.Open.{Open}

@@ -16,9 +16,9 @@ use Rattle.tree.specs.Steps.{sumFrom}
 use Rattle.tree.proofs.Rules.{sumFrom-count}
 use Rattle.space.specs.Steps.{GoodAnodes, Ready}
 use Rattle.space.proofs.Many.{count-small}
-use Rattle.changes.specs.Image.{GoodOn, headIn, sideIn, AcceptedImage, accepted-own, image-passed, accepted-whole}
-use Rattle.changes.specs.Reached.{EntryIn, EntryFacts, entry-not-1, entry-facts}
-use Rattle.changes.specs.PlannedChange.{PlannedChange}
+use Rattle.change_laws.specs.Image.{GoodOn, headIn, sideIn, AcceptedImage, accepted-own, image-passed, accepted-whole}
+use Rattle.change_laws.specs.Reached.{EntryIn, EntryFacts, entry-not-1, entry-facts}
+use Rattle.change_laws.specs.PlannedChange.{PlannedChange}
 use Rattle.changed.specs.Leaves.{ReachedEntry}
 
 module _ {img counts firsts nexts : List ℕ} (l : Loaded img counts firsts nexts) where

@@ -18,7 +18,7 @@ use Rattle.laws.specs.Space.{Good}
 use Rattle.laws.specs.Resize.{Ran}
 use Rattle.laws.specs.OwnerTable.{ran-data, setAll, setAll-front, kept-table, ran-table, heads-past}
 use Rattle.frames.specs.Kept.{diskSize-kept, systemOwns-kept}
-use Rattle.changes.specs.Image.{DiskWith}
+use Rattle.change_laws.specs.Image.{DiskWith}
 use Rattle.changed.specs.Leaves.{Leaves}
 
 -- an answer past the damage numbers shows the tables as 0 does

@@ -24,8 +24,8 @@ use Rattle.rules.specs.Calls.{makeAnswer, wrongEntry, doneOr, leftAfter, change
 use Rattle.counting.specs.Laws.{neither}
 use Rattle.laws.specs.Tests.{same?, less?}
 use Rattle.frames.specs.DisjointBlocks.{chain-block, chain-once}
-use Rattle.changes.specs.Answers.{Late}
-use Rattle.changes.specs.Write.{written-disk}
+use Rattle.change_laws.specs.Answers.{Late}
+use Rattle.change_laws.specs.Write.{written-disk}
 use Rattle.anodes.specs.Loaded.{Loaded}
 use Rattle.changed.specs.Leaves.{Leaves, ReachedEntry}
 use Rattle.changed.specs.Laws.{leaves-refused, leaves-same}

@@ -21,9 +21,9 @@ use Rattle.tree.specs.Steps.{queueOf}
 use Rattle.laws.specs.Tests.{firstOf-some, firstOf-none}
 use Rattle.laws.specs.OwnerTable.{anodeEntry-is}
 use Rattle.laws.specs.Entries.{Unbroken}
-use Rattle.changes.specs.Answers.{searchNumber}
-use Rattle.changes.specs.Image.{accepted-own, accepted-whole}
-use Rattle.changes.specs.Reached.{reached-head, reached-unbroken}
+use Rattle.change_laws.specs.Answers.{searchNumber}
+use Rattle.change_laws.specs.Image.{accepted-own, accepted-whole}
+use Rattle.change_laws.specs.Reached.{reached-head, reached-unbroken}
 use Rattle.lookup.specs.declared.Lookup.{Lookup}
 use Rattle.lookup.specs.Answers.{entryOf}
 use Rattle.lookup.specs.Queued.{placeOf, OwnHeads}

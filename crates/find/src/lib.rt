@@ -11,7 +11,7 @@ ghost use Rattle.rules.specs.Calls.{spanAnswer, resizeAnswer, removeAnswer, lis
 ghost use Rattle.anodes.specs.Loaded.{anodesFrom};
 ghost use Rattle.lookup.specs.Answers.{entryOf};
 ghost use Rattle.find.specs.Open.{OpenFor};
-ghost use Rattle.changes.specs.Answers.{searchNumber};
+ghost use Rattle.change_laws.specs.Answers.{searchNumber};
 ghost use Rattle.find.specs.Found.{Finds};
 use directory::Kind;
 use directory::is_directory;

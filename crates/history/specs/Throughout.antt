@@ -22,14 +22,14 @@ use Rattle.rules.specs.History.{Call, check, summary, format, read, list, make,
 use Rattle.counting.specs.Laws.{neither}
 use Rattle.laws.specs.Tests.{if-zero, firstOf-zero}
 use Rattle.format_laws.specs.Accepted.{formatted-accepted}
-use Rattle.changes.specs.Answers.{Late, StepsAnswer, step-late, own-tables, any-tables, span-late, list-late, resize-late, remove-late, make-late, file-found, span-found, removable-found}
-use Rattle.changes.specs.Image.{AcceptedImage, accepted-own}
-use Rattle.changes.specs.Reached.{named-member, EntryIn}
-use Rattle.changes.specs.Write.{write-accepted}
-use Rattle.changes.specs.Resize.{resize-accepted, resize-answers}
-use Rattle.changes.specs.Make.{make-accepted, made-answer}
-use Rattle.changes.specs.Remove.{remove-accepted, remove-answers}
-use Rattle.changes.specs.Totals.{accepted-total}
+use Rattle.change_laws.specs.Answers.{Late, StepsAnswer, step-late, own-tables, any-tables, span-late, list-late, resize-late, remove-late, make-late, file-found, span-found, removable-found}
+use Rattle.change_laws.specs.Image.{AcceptedImage, accepted-own}
+use Rattle.change_laws.specs.Reached.{named-member, EntryIn}
+use Rattle.change_laws.specs.Write.{write-accepted}
+use Rattle.change_laws.specs.Resize.{resize-accepted, resize-answers}
+use Rattle.change_laws.specs.Make.{make-accepted, made-answer}
+use Rattle.change_laws.specs.Remove.{remove-accepted, remove-answers}
+use Rattle.change_laws.specs.Totals.{accepted-total}
 
 -- an answer that reports no damage
 abbrev Harmless : ℕ → Type 0

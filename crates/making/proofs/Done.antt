@@ -22,10 +22,10 @@ use Rattle.laws.specs.Links.{Linked}
 use Rattle.laws.specs.OwnerTable.{setAll, fresh-owner}
 use Rattle.anodes.specs.Loaded.{anodesFrom, Loaded}
 use Rattle.edits.specs.Entries.{OneBlockEach}
-use Rattle.changes.specs.Image.{ReachedDir}
-use Rattle.changes.specs.Reached.{dir-block}
-use Rattle.changes.specs.MakePlan.{Fresh}
-use Rattle.changes.specs.MadeImage.{Making, grown, good, made-disk}
+use Rattle.change_laws.specs.Image.{ReachedDir}
+use Rattle.change_laws.specs.Reached.{dir-block}
+use Rattle.change_laws.specs.MakePlan.{Fresh}
+use Rattle.change_laws.specs.MadeImage.{Making, grown, good, made-disk}
 use Rattle.changed.specs.Leaves.{Leaves}
 use Rattle.changed.specs.Laws.{Shows, shows-kept, leaves-refused, leaves-done}
 use Rattle.changed.specs.Chains.{loaded-image}

@@ -27,10 +27,10 @@ use Rattle.laws.specs.DirectoryTakes.{dir-head, dir-not-1}
 use Rattle.laws.specs.Make.{contents-unchanged, fresh-orphan}
 use Rattle.laws.specs.Items.{headed}
 use Rattle.laws.specs.Bags.{first-in}
-use Rattle.changes.specs.Answers.{step-late}
-use Rattle.changes.specs.Image.{GoodOn, AcceptedWhole, image-passed, accepted-whole, reached-headed}
-use Rattle.changes.specs.MakePlan.{Fresh, fresh-free, made-orphan}
-use Rattle.changes.specs.Make.{needed-refused}
+use Rattle.change_laws.specs.Answers.{step-late}
+use Rattle.change_laws.specs.Image.{GoodOn, AcceptedWhole, image-passed, accepted-whole, reached-headed}
+use Rattle.change_laws.specs.MakePlan.{Fresh, fresh-free, made-orphan}
+use Rattle.change_laws.specs.Make.{needed-refused}
 use Rattle.changed.specs.Laws.{Shows, shows-ran}
 use Rattle.space.specs.declared.Step.{Step}
 use Rattle.space.specs.declared.Step.the-variants.{Moved, Refused}

@@ -11,7 +11,7 @@ use Rattle.directory.specs.Entries.{entryLength}
 use Rattle.rules.specs.Anodes.{Anodes, anodesOf}
 use Rattle.rules.specs.Space.{Plan, refused, planned}
 use Rattle.rules.specs.Changes.{entryPlace, NewEntry, left, made}
-use Rattle.changes.specs.MakePlan.{Fresh, MakeSteps}
+use Rattle.change_laws.specs.MakePlan.{Fresh, MakeSteps}
 use Rattle.space.specs.declared.Step.{Step}
 use Rattle.space.specs.declared.Step.the-variants.{Moved, Refused}
 use Rattle.making.specs.declared.MakePlan.{MakePlan}

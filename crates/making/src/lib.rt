@@ -15,7 +15,7 @@ ghost use Rattle.rules.specs.Changes.{withBlocks, firstRoom, noRoom, neededBloc
 ghost use Rattle.laws.specs.OwnerTable.{setAll};
 ghost use Rattle.anodes.specs.Loaded.{anodesFrom, AnodeTables, Loaded};
 ghost use Rattle.changed.specs.Leaves.{Leaves};
-ghost use Rattle.changes.specs.MakePlan.{Fresh};
+ghost use Rattle.change_laws.specs.MakePlan.{Fresh};
 ghost use Rattle.edits.specs.Entries.{roomOf};
 ghost use Rattle.space.specs.Steps.{Ready};
 ghost use Rattle.making.specs.Steps.{someBlock, neededPlan, Plans, PlanOf};

@@ -14,10 +14,10 @@ use Rattle.rules.specs.Accepted.{checkAnswer}
 use Rattle.rules.specs.Lookup.{entriesOf, nameAt, nth}
 use Rattle.rules.specs.Calls.{Outcome, outcomeOf, settled, doneOr, fieldList, fieldsAt, fieldsListed, nameListed, listAnswer, listAnswered, listOutcome}
 use Rattle.laws.specs.Tests.{firstOf-zero}
-use Rattle.changes.specs.Image.{AcceptedImage}
-use Rattle.changes.specs.FoundEntries.{standing-found}
-use Rattle.changes.specs.Reached.{entry-facts, nth-member}
-use Rattle.changes.specs.Answers.{list-reached}
+use Rattle.change_laws.specs.Image.{AcceptedImage}
+use Rattle.change_laws.specs.FoundEntries.{standing-found}
+use Rattle.change_laws.specs.Reached.{entry-facts, nth-member}
+use Rattle.change_laws.specs.Answers.{list-reached}
 use Rattle.reading.proofs.Laws.{take-within}
 use Rattle.pfs.specs.Listed.{nameGiven}
 

@@ -12,9 +12,9 @@ use Rattle.rules.specs.Lookup.{noDirectory, entriesOf, bytesOf, contents}
 use Rattle.rules.specs.Calls.{doneOr, bytesRead}
 use Rattle.laws.specs.Acceptance.{size-bounds}
 use Rattle.laws.specs.Each.{Member}
-use Rattle.changes.specs.Image.{accepted-own, image-passed}
-use Rattle.changes.specs.Reached.{EntryIn, entry-facts}
-use Rattle.changes.specs.Read.{bytes-long}
+use Rattle.change_laws.specs.Image.{accepted-own, image-passed}
+use Rattle.change_laws.specs.Reached.{EntryIn, entry-facts}
+use Rattle.change_laws.specs.Read.{bytes-long}
 use Rattle.find.specs.Open.{Open}
 
 -- a part within the first bytes of a list

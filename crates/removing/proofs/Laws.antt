@@ -15,11 +15,11 @@ use Rattle.laws.specs.Links.{Linked}
 use Rattle.laws.specs.Remove.{still, none-left}
 use Rattle.laws.specs.OwnerTable.{dropped-owner, setAll}
 use Rattle.frames.specs.StoredAnodes.{withAnodes-stored}
-use Rattle.changes.specs.Image.{accepted-slots}
-use Rattle.changes.specs.FoundEntries.{block-standing, end-within}
-use Rattle.changes.specs.Reached.{entry-not-1, block-data, block-entry}
-use Rattle.changes.specs.Remove.{remove-refused}
-use Rattle.changes.specs.RemoveStores.{PlannedRemove, ran, end-good, removed-disk}
+use Rattle.change_laws.specs.Image.{accepted-slots}
+use Rattle.change_laws.specs.FoundEntries.{block-standing, end-within}
+use Rattle.change_laws.specs.Reached.{entry-not-1, block-data, block-entry}
+use Rattle.change_laws.specs.Remove.{remove-refused}
+use Rattle.change_laws.specs.RemoveStores.{PlannedRemove, ran, end-good, removed-disk}
 use Rattle.anodes.specs.Loaded.{anodesFrom, Loaded}
 use Rattle.edits.specs.Entries.{EntryStands}
 use Rattle.tree.specs.Steps.{sumFrom}

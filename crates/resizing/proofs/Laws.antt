@@ -18,10 +18,10 @@ use Rattle.laws.specs.Tests.{less?}
 use Rattle.laws.specs.Links.{Linked}
 use Rattle.laws.specs.Whole.{blocks-count}
 use Rattle.laws.specs.OwnerTable.{setAll}
-use Rattle.changes.specs.Answers.{step-late}
-use Rattle.changes.specs.Reached.{entry-not-1}
-use Rattle.changes.specs.ResizePlan.{newOwner, plan-refused, plan-longer}
-use Rattle.changes.specs.ResizeStores.{PlannedResize, steps, resized-disk}
+use Rattle.change_laws.specs.Answers.{step-late}
+use Rattle.change_laws.specs.Reached.{entry-not-1}
+use Rattle.change_laws.specs.ResizePlan.{newOwner, plan-refused, plan-longer}
+use Rattle.change_laws.specs.ResizeStores.{PlannedResize, steps, resized-disk}
 use Rattle.anodes.specs.Loaded.{anodesFrom, Loaded}
 use Rattle.tree.specs.Steps.{sumFrom}
 use Rattle.space.specs.Steps.{moveBlock, moveMany}

@@ -12,7 +12,7 @@ ghost use Rattle.rules.specs.Changes.{resizePlan, resized};
 ghost use Rattle.anodes.specs.Loaded.{anodesFrom, AnodeTables, Loaded};
 ghost use Rattle.space.specs.Steps.{manyPlan, Ready};
 ghost use Rattle.lookup.specs.Answers.{entered};
-ghost use Rattle.changes.specs.ResizePlan.{newOwner};
+ghost use Rattle.change_laws.specs.ResizePlan.{newOwner};
 ghost use Rattle.changed.specs.Leaves.{Leaves, ReachedEntry};
 use chains::show_heads;
 use disk::AnodeNo;

@@ -1,6 +1,6 @@
 use Rattle.changing.proofs.Laws.{leaves-unchanged, leaves-named}
-use Rattle.changes.specs.Answers.{remove-late, removable-found}
-use Rattle.changes.specs.Reached.{named-member}
+use Rattle.change_laws.specs.Answers.{remove-late, removable-found}
+use Rattle.change_laws.specs.Reached.{named-member}
 use borrow.Author.Needs.{needs}
 use Rattle.changing.proofs.remove_named.Statement.{statement}
 use Rattle.changing.proofs.remove_named.Tie as tie

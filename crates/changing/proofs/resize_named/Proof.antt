@@ -1,6 +1,6 @@
 use Rattle.changing.proofs.Laws.{leaves-unchanged, leaves-named}
-use Rattle.changes.specs.Answers.{resize-late, file-found}
-use Rattle.changes.specs.Reached.{named-member}
+use Rattle.change_laws.specs.Answers.{resize-late, file-found}
+use Rattle.change_laws.specs.Reached.{named-member}
 use borrow.Author.Needs.{needs}
 use Rattle.changing.proofs.resize_named.Statement.{statement}
 use Rattle.changing.proofs.resize_named.Tie as tie

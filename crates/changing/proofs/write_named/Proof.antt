@@ -1,6 +1,6 @@
 use Rattle.changing.proofs.Laws.{chain-inside, leaves-unchanged, leaves-named, leaves-written}
-use Rattle.changes.specs.Answers.{span-late, span-found}
-use Rattle.changes.specs.Reached.{named-member}
+use Rattle.change_laws.specs.Answers.{span-late, span-found}
+use Rattle.change_laws.specs.Reached.{named-member}
 use Rattle.lookup.specs.Answers.{entered}
 use Rattle.rules.specs.Changes.{written}
 use Rattle.rules.specs.Anodes.{Anodes}

@@ -2,7 +2,7 @@ use mathlib.Core.Path.{_≡_, _∙_}
 use mathlib.Core.Bool.{not}
 use Rattle.rules.specs.Lookup.{noDirectory, entriesOf, nth}
 use Rattle.rules.specs.Anodes.{Anodes, anodesOf}
-use Rattle.changes.specs.Answers.{list-search}
+use Rattle.change_laws.specs.Answers.{list-search}
 use Rattle.find.proofs.Laws.{reached-queued, own-heads, open-unbroken, search-answered}
 use borrow.Author.Needs.{needs}
 use Rattle.find.proofs.find_nth.Statement.{statement}

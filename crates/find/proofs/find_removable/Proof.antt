@@ -1,6 +1,6 @@
 use mathlib.Core.Path.{_≡_}
 use mathlib.Core.Option.{some}
-use Rattle.changes.specs.Answers.{full-row}
+use Rattle.change_laws.specs.Answers.{full-row}
 use Rattle.find.proofs.Laws.{full-by, refused-before, refused-now, passed-now}
 use Rattle.rules.specs.Anodes.{anodesOf}
 use Rattle.rules.specs.Lookup.{fullDir}

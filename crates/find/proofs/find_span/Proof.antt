@@ -1,4 +1,4 @@
-use Rattle.changes.specs.Answers.{span-row}
+use Rattle.change_laws.specs.Answers.{span-row}
 use Rattle.find.proofs.Laws.{refused-before, refused-now, passed-now}
 use Rattle.rules.specs.Lookup.{pastEnd}
 use mathlib.Core.Path.{sym}

@@ -1,9 +1,9 @@
-use Rattle.changes.specs.Answers.{list-reached}
+use Rattle.change_laws.specs.Answers.{list-reached}
 use Rattle.rules.specs.Calls.{doneOr}
 use Rattle.find.proofs.Laws.{refused-some, not-done}
 use Prim.Native.Nat.{_*_, _<_}
 use mathlib.Core.Path.{sym, _∙_}
-use Rattle.changes.specs.Reached.{nth-member}
+use Rattle.change_laws.specs.Reached.{nth-member}
 use Rattle.reading.proofs.Laws.{place-low}
 use borrow.Author.Needs.{needs}
 use Rattle.reading.proofs.list_nth.Statement.{statement}

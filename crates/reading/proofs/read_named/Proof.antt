@@ -1,8 +1,8 @@
 use Rattle.rules.specs.Anodes.{anodesOf}
 use Rattle.reading.proofs.Laws.{file-long, bytes-done}
-use Rattle.changes.specs.Answers.{span-found}
+use Rattle.change_laws.specs.Answers.{span-found}
 use Rattle.find.proofs.Laws.{refused-some, not-done}
-use Rattle.changes.specs.Reached.{named-member}
+use Rattle.change_laws.specs.Reached.{named-member}
 use native.Mathlib.Omega.{arith}
 use mathlib.Core.Path.{sym, _∙_}
 use borrow.Author.Needs.{needs}

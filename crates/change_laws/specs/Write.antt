@@ -17,11 +17,11 @@ use Rattle.laws.specs.Members.{Member, gather-congr}
 use Rattle.frames.specs.Kept.{Kept}
 use Rattle.frames.specs.DisjointBlocks.{chains-apart}
 use Rattle.frames.specs.StoredBytes.{BlocksKept, written-kept, bytesOf-written, bytesOf-written-other}
-use Rattle.changes.specs.Image.{WholeOn, AcceptedWhole, headIn, sideIn, AcceptedImage, StillAccepted, accepted-whole, accepted-walk, DiskWith, disk-own, not-among, disk-then, whole-accepted, ReachedDir}
-use Rattle.changes.specs.SameItems.{whole-same, walk-same}
-use Rattle.changes.specs.EntryBytes.{entryBytes}
-use Rattle.changes.specs.KeptChains.{same-chain-own, block-same, entries-same, entry-bytes-same}
-use Rattle.changes.specs.Reached.{EntryIn, EntryFacts, member-reached, reached-head, entry-facts, entry-data, not-file}
+use Rattle.change_laws.specs.Image.{WholeOn, AcceptedWhole, headIn, sideIn, AcceptedImage, StillAccepted, accepted-whole, accepted-walk, DiskWith, disk-own, not-among, disk-then, whole-accepted, ReachedDir}
+use Rattle.change_laws.specs.SameItems.{whole-same, walk-same}
+use Rattle.change_laws.specs.EntryBytes.{entryBytes}
+use Rattle.change_laws.specs.KeptChains.{same-chain-own, block-same, entries-same, entry-bytes-same}
+use Rattle.change_laws.specs.Reached.{EntryIn, EntryFacts, member-reached, reached-head, entry-facts, entry-data, not-file}
 
 -- ---- the image after the write
 

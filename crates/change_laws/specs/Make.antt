@@ -26,10 +26,10 @@ use Rattle.laws.specs.RefusedSteps.{take-refused}
 use Rattle.laws.specs.Entries.{weighEntry}
 use Rattle.laws.specs.Make.{SameMarks, EntryMore, enter-file, enter-directory}
 use Rattle.laws.specs.NewDirectory.{none-new}
-use Rattle.changes.specs.Answers.{StepsAnswer}
-use Rattle.changes.specs.Image.{WholeOn, StillAccepted, whole-accepted, reached-sum, ReachedDir}
-use Rattle.changes.specs.Reached.{reached-head}
-use Rattle.changes.specs.MadeImage.{Making, spare, parent, once, plan, before, own-new, orphan, spot, entered, made-disk, entries-made, marks-made, entry-other, its-head, other-entries}
+use Rattle.change_laws.specs.Answers.{StepsAnswer}
+use Rattle.change_laws.specs.Image.{WholeOn, StillAccepted, whole-accepted, reached-sum, ReachedDir}
+use Rattle.change_laws.specs.Reached.{reached-head}
+use Rattle.change_laws.specs.MadeImage.{Making, spare, parent, once, plan, before, own-new, orphan, spot, entered, made-disk, entries-made, marks-made, entry-other, its-head, other-entries}
 
 module _ {img : List ℕ} {h : ℕ} {new : NewEntry} {f : ℕ} {room : Option ℕ} {ys : List ℕ} {t : Anodes} {zs : List ℕ} (m : Making img h new f room ys t zs) where
   abbrev s : Anodes

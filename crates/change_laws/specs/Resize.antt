@@ -16,15 +16,15 @@ use Rattle.rules.specs.Changes.{resizePlan, resizedImage, resized}
 use Rattle.laws.specs.Tests.{same?}
 use Rattle.laws.specs.Resize as Laws
 use Rattle.laws.specs.Members.{Member, member-times, gather-congr, map-kept}
-use Rattle.changes.specs.Answers.{StepsAnswer}
-use Rattle.changes.specs.Image.{WholeWith, WholeOn, StillAccepted, accepted-whole, whole-accepted, ReachedDir}
-use Rattle.changes.specs.Reached.{member-reached, EntryIn, entry-not-1, dir-block, entry-facts}
-use Rattle.changes.specs.NamedOnce.{only-here, only-this}
-use Rattle.changes.specs.SameItems.{whole-same}
-use Rattle.changes.specs.NewSize.{sized, head-sized, entries-sized}
-use Rattle.changes.specs.ResizePlan.{plan-refused}
-use Rattle.changes.specs.PlannedChange.{left-cases, image, w, facts}
-use Rattle.changes.specs.ResizeStores.{PlannedResize, steps, dir-same, other-block, this-block, resized-disk}
+use Rattle.change_laws.specs.Answers.{StepsAnswer}
+use Rattle.change_laws.specs.Image.{WholeWith, WholeOn, StillAccepted, accepted-whole, whole-accepted, ReachedDir}
+use Rattle.change_laws.specs.Reached.{member-reached, EntryIn, entry-not-1, dir-block, entry-facts}
+use Rattle.change_laws.specs.NamedOnce.{only-here, only-this}
+use Rattle.change_laws.specs.SameItems.{whole-same}
+use Rattle.change_laws.specs.NewSize.{sized, head-sized, entries-sized}
+use Rattle.change_laws.specs.ResizePlan.{plan-refused}
+use Rattle.change_laws.specs.PlannedChange.{left-cases, image, w, facts}
+use Rattle.change_laws.specs.ResizeStores.{PlannedResize, steps, dir-same, other-block, this-block, resized-disk}
 
 -- ---- the entries
 

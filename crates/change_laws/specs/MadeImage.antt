@@ -35,12 +35,12 @@ use Rattle.frames.specs.DisjointBlocks.{DataBlock}
 use Rattle.laws.specs.Make.{SameContents}
 use Rattle.laws.specs.Items.{headed}
 use Rattle.laws.specs.Entries.{Unbroken}
-use Rattle.changes.specs.Image.{GoodOn, AcceptedWhole, headIn, accepted-whole, DiskWith, stored-kept, disk-stored, disk-then, not-one, not-among, ReachedDir, reached-headed}
-use Rattle.changes.specs.FoundEntries.{enteredAt, end-bounds}
-use Rattle.changes.specs.Reached.{DirBlock, reached-not-1, dir-block}
-use Rattle.changes.specs.SingleBlocks.{single-used, single-apart, single-data}
-use Rattle.changes.specs.NewEntry.{entries-put, head-put, end-new, room-found}
-use Rattle.changes.specs.MakePlan.{OrphanedOn, Fresh, fresh-free, MakeSteps, ParentGrown, MadePlan, made-plan, made-orphan}
+use Rattle.change_laws.specs.Image.{GoodOn, AcceptedWhole, headIn, accepted-whole, DiskWith, stored-kept, disk-stored, disk-then, not-one, not-among, ReachedDir, reached-headed}
+use Rattle.change_laws.specs.FoundEntries.{enteredAt, end-bounds}
+use Rattle.change_laws.specs.Reached.{DirBlock, reached-not-1, dir-block}
+use Rattle.change_laws.specs.SingleBlocks.{single-used, single-apart, single-data}
+use Rattle.change_laws.specs.NewEntry.{entries-put, head-put, end-new, room-found}
+use Rattle.change_laws.specs.MakePlan.{OrphanedOn, Fresh, fresh-free, MakeSteps, ParentGrown, MadePlan, made-plan, made-orphan}
 
 -- where one directory alone has the head h, its parent is found
 parents-right : (h : ℕ) (l : List Dir) → headed h l ≡ 1 → Each (λ d. d .head ≡ h → d .parent ≡ parentOf l h) l

@@ -28,8 +28,8 @@ use Rattle.laws.specs.Entries.{broken-wrong, item-fine, item-anode, item-dir, i
 use Rattle.laws.specs.Whole.{Whole, counts-head, not-dir, dir-heads, named-heads}
 use Rattle.laws.specs.Members.{Member, no-member, member-first, member-cons, member-left, member-right, member-later, member-each, member-sum, none-pass, member-gather, member-times, gather-part}
 use Rattle.frames.specs.DisjointBlocks.{DataBlock, chain-block}
-use Rattle.changes.specs.Image.{AcceptedWhole, headIn, AcceptedImage, accepted-walk, accepted-whole, headed-named, headed-reached, reached-some, ReachedDir}
-use Rattle.changes.specs.FoundEntries.{Standing, standing-place, entry-place, BlockEntry}
+use Rattle.change_laws.specs.Image.{AcceptedWhole, headIn, AcceptedImage, accepted-walk, accepted-whole, headed-named, headed-reached, reached-some, ReachedDir}
+use Rattle.change_laws.specs.FoundEntries.{Standing, standing-place, entry-place, BlockEntry}
 
 -- ---- lookups
 

@@ -27,11 +27,11 @@ use Rattle.frames.specs.Kept.{Unheld, Kept, kept-all, kept-both}
 use Rattle.frames.specs.StoredBlocks.{inBlock-kept, blockOf-inBlock, withBlocks-kept}
 use Rattle.frames.specs.DisjointBlocks.{DataBlock, chains-apart, chain-block}
 use Rattle.frames.specs.StoredBytes.{BlocksKept}
-use Rattle.changes.specs.Image.{headIn, DiskWith, stored-kept, disk-stored, not-one, not-among, disk-then, ReachedDir}
-use Rattle.changes.specs.Reached.{block-on, reached-not-1, reached-head, dir-block, block-data, not-file, entry-data}
-use Rattle.changes.specs.KeptChains.{SameChain, same-chain-alike, OthersLeft}
-use Rattle.changes.specs.PlannedChange.{PlannedChange, image, w, facts, not-1, off-chain, off-anode}
-use Rattle.changes.specs.ResizePlan.{Resizing, plan-runs, handed-data, handed-apart}
+use Rattle.change_laws.specs.Image.{headIn, DiskWith, stored-kept, disk-stored, not-one, not-among, disk-then, ReachedDir}
+use Rattle.change_laws.specs.Reached.{block-on, reached-not-1, reached-head, dir-block, block-data, not-file, entry-data}
+use Rattle.change_laws.specs.KeptChains.{SameChain, same-chain-alike, OthersLeft}
+use Rattle.change_laws.specs.PlannedChange.{PlannedChange, image, w, facts, not-1, off-chain, off-anode}
+use Rattle.change_laws.specs.ResizePlan.{Resizing, plan-runs, handed-data, handed-apart}
 
 -- a resize of a file of an accepted image, and the steps that were planned
 pub record FilePlan (img : List ℕ) (e : Entered) (new : ℕ) (t : Anodes) (ys : List ℕ) : Type 0 where

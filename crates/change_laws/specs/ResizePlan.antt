@@ -27,7 +27,7 @@ use Rattle.laws.specs.TakenBlocks.{takes-blocks}
 use Rattle.laws.specs.GivenBlocks.{gives-blocks}
 use Rattle.laws.specs.OwnerTable.{held-data}
 use Rattle.frames.specs.DisjointBlocks.{DataBlock, times-held, chains-apart, chain-block}
-use Rattle.changes.specs.Image.{GoodOn}
+use Rattle.change_laws.specs.Image.{GoodOn}
 
 -- the head whose chain the moved blocks come to: h where it does not shrink, else the free list's
 abbrev pub newOwner : ℕ → ℕ → ℕ → ℕ

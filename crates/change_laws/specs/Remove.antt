@@ -24,12 +24,12 @@ use Rattle.laws.specs.Make.{SameMarks, EntryMore}
 use Rattle.laws.specs.Remove as Laws
 use Rattle.laws.specs.Items.{headed}
 use Rattle.frames.specs.Kept.{entriesIn-kept, isBlockOf-kept}
-use Rattle.changes.specs.Image.{WholeOn, StillAccepted, headIn, sideIn, accepted-whole, whole-accepted, reached-headed}
-use Rattle.changes.specs.Reached.{EntryIn, entry-not-1, entry-facts}
-use Rattle.changes.specs.Gap.{lowered}
-use Rattle.changes.specs.PlannedChange.{left-cases, image, w, facts}
-use Rattle.changes.specs.RemoveStores.{PlannedRemove, here, kept-data, entries-left, marks-left, apart}
-use Rattle.changes.specs.RemoveStores as Stores
+use Rattle.change_laws.specs.Image.{WholeOn, StillAccepted, headIn, sideIn, accepted-whole, whole-accepted, reached-headed}
+use Rattle.change_laws.specs.Reached.{EntryIn, entry-not-1, entry-facts}
+use Rattle.change_laws.specs.Gap.{lowered}
+use Rattle.change_laws.specs.PlannedChange.{left-cases, image, w, facts}
+use Rattle.change_laws.specs.RemoveStores.{PlannedRemove, here, kept-data, entries-left, marks-left, apart}
+use Rattle.change_laws.specs.RemoveStores as Stores
 
 module _ {img : List ℕ} {e : Entered} {t : Anodes} {ys : List ℕ} (p : PlannedRemove img e t ys) where
   abbrev s : Anodes

@@ -21,15 +21,15 @@ use Rattle.laws.specs.ChainBlocks.{stands-once}
 use Rattle.laws.specs.Members.{Member, no-member, member-later, member-append, member-left, member-right, member-gather, member-times, gather-congr, map-members, map-kept}
 use Rattle.frames.specs.Kept.{entriesIn-kept}
 use Rattle.frames.specs.DisjointBlocks.{DataBlock}
-use Rattle.changes.specs.FoundEntries.{standing-found, standing-place}
-use Rattle.changes.specs.Reached.{reached-not-1, dir-block, place-in, not-file}
-use Rattle.changes.specs.Gap.{lowered, bytes-earlier, bytes-later}
-use Rattle.changes.specs.EntryBytes.{entryBytes, bytes-at, with-length}
-use Rattle.changes.specs.PlannedChange.{w, facts, home-head}
-use Rattle.changes.specs.RemoveStores.{PlannedRemove, y, b, len, closed, here, block-left, removed-disk, kept-data, entries-left, apart}
-use Rattle.changes.specs.Remove.{no-entry}
-use Rattle.changes.specs.KeptChains.{entries-along}
-use Rattle.changes.specs.RemoveEffects.{others-same}
+use Rattle.change_laws.specs.FoundEntries.{standing-found, standing-place}
+use Rattle.change_laws.specs.Reached.{reached-not-1, dir-block, place-in, not-file}
+use Rattle.change_laws.specs.Gap.{lowered, bytes-earlier, bytes-later}
+use Rattle.change_laws.specs.EntryBytes.{entryBytes, bytes-at, with-length}
+use Rattle.change_laws.specs.PlannedChange.{w, facts, home-head}
+use Rattle.change_laws.specs.RemoveStores.{PlannedRemove, y, b, len, closed, here, block-left, removed-disk, kept-data, entries-left, apart}
+use Rattle.change_laws.specs.Remove.{no-entry}
+use Rattle.change_laws.specs.KeptChains.{entries-along}
+use Rattle.change_laws.specs.RemoveEffects.{others-same}
 
 -- an entry behind the removed one: in the same block it stands earlier by as many bytes as that had
 unfoldable pub movedDown : List ℕ → Entered → Entered → Entered

@@ -17,7 +17,7 @@ use Rattle.rules.specs.Lookup.{noDirectory, entryNamed, bytesOf, contents}
 use Rattle.rules.specs.Calls.{spanAnswer, readAnswer, readOutcome, settled, doneOr}
 use Rattle.laws.specs.ChainBlocks.{length-blocksOf}
 use Rattle.frames.specs.StoredBytes.{length-gather}
-use Rattle.changes.specs.Reached.{named-member, EntryIn, entry-facts, entry-data}
+use Rattle.change_laws.specs.Reached.{named-member, EntryIn, entry-facts, entry-data}
 
 -- the bytes of a file
 module _ {img : List ℕ} {h : ℕ} {e : Entered} (m : EntryIn img h e) (file : e .dir ≡ false) where

@@ -16,8 +16,8 @@ use Rattle.laws.specs.Items.{names-sum, namedIn}
 use Rattle.laws.specs.Entries.{item-anode, items-sum}
 use Rattle.laws.specs.Whole.{Whole}
 use Rattle.laws.specs.Members.{Member, member-sum, member-times, member-congr, two-members, gather-part}
-use Rattle.changes.specs.Image.{AcceptedImage, accepted-whole}
-use Rattle.changes.specs.Reached.{its-items, EntryFacts}
+use Rattle.change_laws.specs.Image.{AcceptedImage, accepted-whole}
+use Rattle.change_laws.specs.Reached.{its-items, EntryFacts}
 
 -- how often the entries of a list name x
 unfoldable namesOf : ℕ → List Entered → ℕ

@@ -13,7 +13,7 @@ use Rattle.directory.specs.Entries.{directoryHeadIn, walkedAt}
 use Rattle.directory.proofs.Laws.{found-at}
 use Rattle.rules.specs.Walk.{Entered, entriesFrom}
 use Rattle.rules.specs.Changes.{endFrom, entriesEnd, gapClosed, entryClosed}
-use Rattle.changes.specs.FoundEntries.{head-same, walked-same, entry-standing, entries-more, entries-end, unbroken-cases, end-more, end-here, end-bounds, standing-found, place-after, place-order, reaches, BlockEntry, block-standing, end-within}
+use Rattle.change_laws.specs.FoundEntries.{head-same, walked-same, entry-standing, entries-more, entries-end, unbroken-cases, end-more, end-here, end-bounds, standing-found, place-after, place-order, reaches, BlockEntry, block-standing, end-within}
 use Rattle.laws.specs.Members.{Member}
 use Rattle.laws.specs.Entries.{Unbroken}
 

@@ -14,13 +14,13 @@ use Rattle.laws.specs.Remove as Laws
 use Rattle.laws.specs.Items.{headed}
 use Rattle.frames.specs.DisjointBlocks.{chain-block}
 use Rattle.frames.specs.StoredBytes.{BlocksKept}
-use Rattle.changes.specs.Image.{headIn, reached-sum, headed-same, ReachedDir}
-use Rattle.changes.specs.Reached.{EntryIn, reached-head}
-use Rattle.changes.specs.EntryBytes.{entryBytes}
-use Rattle.changes.specs.KeptChains.{SameChain, same-chain-alike, entry-bytes-same, OthersLeft, contents-left, entries-left}
-use Rattle.changes.specs.PlannedChange.{image, w, facts, off-chain}
-use Rattle.changes.specs.RemoveStores.{PlannedRemove, end, ran, end-good, removed-disk, kept-data}
-use Rattle.changes.specs.Remove.{left-whole, planned-accepted}
+use Rattle.change_laws.specs.Image.{headIn, reached-sum, headed-same, ReachedDir}
+use Rattle.change_laws.specs.Reached.{EntryIn, reached-head}
+use Rattle.change_laws.specs.EntryBytes.{entryBytes}
+use Rattle.change_laws.specs.KeptChains.{SameChain, same-chain-alike, entry-bytes-same, OthersLeft, contents-left, entries-left}
+use Rattle.change_laws.specs.PlannedChange.{image, w, facts, off-chain}
+use Rattle.change_laws.specs.RemoveStores.{PlannedRemove, end, ran, end-good, removed-disk, kept-data}
+use Rattle.change_laws.specs.Remove.{left-whole, planned-accepted}
 
 module _ {img : List ℕ} {e : Entered} {t : Anodes} {ys : List ℕ} (p : PlannedRemove img e t ys) where
   abbrev s : Anodes

@@ -29,13 +29,13 @@ use Rattle.laws.specs.Members.{member-times}
 use Rattle.frames.specs.StoredBlocks.{inBlock-kept, blockOf-inBlock}
 use Rattle.frames.specs.StoredBytes.{length-gather, blockOf-withBlocks}
 use Rattle.frames.specs.DisjointBlocks.{chain-once}
-use Rattle.changes.specs.Reached.{EntryIn, entry-data}
-use Rattle.changes.specs.KeptChains.{contents-left}
-use Rattle.changes.specs.Read.{bytes-long, file-long}
-use Rattle.changes.specs.NewSize.{sized}
-use Rattle.changes.specs.ResizePlan.{handed-data, plan-longer, plan-shorter}
-use Rattle.changes.specs.PlannedChange.{w, facts, not-1}
-use Rattle.changes.specs.ResizeStores.{PlannedResize, steps, zeroed, stored, taken-kept, oldLast, tailCleared, tail-in, tail-long, tail-kept, size-kept, others-left, home-alone}
+use Rattle.change_laws.specs.Reached.{EntryIn, entry-data}
+use Rattle.change_laws.specs.KeptChains.{contents-left}
+use Rattle.change_laws.specs.Read.{bytes-long, file-long}
+use Rattle.change_laws.specs.NewSize.{sized}
+use Rattle.change_laws.specs.ResizePlan.{handed-data, plan-longer, plan-shorter}
+use Rattle.change_laws.specs.PlannedChange.{w, facts, not-1}
+use Rattle.change_laws.specs.ResizeStores.{PlannedResize, steps, zeroed, stored, taken-kept, oldLast, tailCleared, tail-in, tail-long, tail-kept, size-kept, others-left, home-alone}
 
 gather-zeros : (f : ℕ → List ℕ) (l : List ℕ) → ((y : ℕ) → 0 < times y l → f y ≡ zeroBlock) → gather f l ≡ replicate (length l * 512) 0
 unfolding gather

@@ -16,16 +16,16 @@ use Rattle.rules.specs.Lookup.{noDirectory, entriesOf}
 use Rattle.rules.specs.Changes.{resizedImage}
 use Rattle.laws.specs.Tests.{same?}
 use Rattle.laws.specs.Members.{Member, member-cons, member-append, gather-congr, map-gather}
-use Rattle.changes.specs.Image.{reached-sum, headed-same, ReachedDir}
-use Rattle.changes.specs.FoundEntries.{standing-found, place-order}
-use Rattle.changes.specs.Reached.{EntryIn, EntryFacts, block-entry, reached-dir, entry-facts}
-use Rattle.changes.specs.KeptChains.{entries-along, entries-left}
-use Rattle.changes.specs.NamedOnce.{only-home}
-use Rattle.changes.specs.EntryBytes.{entryBytes, with-length}
-use Rattle.changes.specs.NewSize.{sized}
-use Rattle.changes.specs.PlannedChange.{image, facts}
-use Rattle.changes.specs.ResizeStores.{PlannedResize, others-left, head-not-file, dir-same, other-block, this-block, resized-disk}
-use Rattle.changes.specs.Resize.{resizedEntry, one-resized, block-left, still-whole}
+use Rattle.change_laws.specs.Image.{reached-sum, headed-same, ReachedDir}
+use Rattle.change_laws.specs.FoundEntries.{standing-found, place-order}
+use Rattle.change_laws.specs.Reached.{EntryIn, EntryFacts, block-entry, reached-dir, entry-facts}
+use Rattle.change_laws.specs.KeptChains.{entries-along, entries-left}
+use Rattle.change_laws.specs.NamedOnce.{only-home}
+use Rattle.change_laws.specs.EntryBytes.{entryBytes, with-length}
+use Rattle.change_laws.specs.NewSize.{sized}
+use Rattle.change_laws.specs.PlannedChange.{image, facts}
+use Rattle.change_laws.specs.ResizeStores.{PlannedResize, others-left, head-not-file, dir-same, other-block, this-block, resized-disk}
+use Rattle.change_laws.specs.Resize.{resizedEntry, one-resized, block-left, still-whole}
 
 module _ {img : List ℕ} {e : Entered} {new : ℕ} {t : Anodes} {ys : List ℕ} (p : PlannedResize img e new t ys) where
   abbrev s : Anodes

@@ -12,9 +12,9 @@ use Rattle.rules.specs.Space.{Plan, refused, planned}
 use Rattle.rules.specs.Changes.{Left, left, leftBy}
 use Rattle.laws.specs.Heads.{Head}
 use Rattle.frames.specs.DisjointBlocks.{chains-apart}
-use Rattle.changes.specs.Image.{AcceptedWhole, AcceptedImage, accepted-whole}
-use Rattle.changes.specs.Reached.{EntryIn, EntryFacts, entry-not-1, block-on, reached-head, entry-facts}
-use Rattle.changes.specs.SingleBlocks.{single-apart}
+use Rattle.change_laws.specs.Image.{AcceptedWhole, AcceptedImage, accepted-whole}
+use Rattle.change_laws.specs.Reached.{EntryIn, EntryFacts, entry-not-1, block-on, reached-head, entry-facts}
+use Rattle.change_laws.specs.SingleBlocks.{single-apart}
 
 -- what a change leaves, by the two ways that its plan can end
 pub left-cases : (P : Left → Type 0) (img : List ℕ) (f : Anodes → List ℕ → List ℕ) (plan : Plan) → ((k : ℕ) → plan ≡ refused k → P (left k img)) →

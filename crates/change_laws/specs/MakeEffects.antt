@@ -35,14 +35,14 @@ use Rattle.laws.specs.NewDirectory.{entries-new}
 use Rattle.laws.specs.Items.{headed}
 use Rattle.frames.specs.DisjointBlocks.{chains-apart, chain-block}
 use Rattle.frames.specs.StoredBytes.{BlocksKept}
-use Rattle.changes.specs.Image.{headIn, headed-reached, headed-same, ReachedDir}
-use Rattle.changes.specs.FoundEntries.{standing-found, BlockEntry, block-standing}
-use Rattle.changes.specs.Reached.{EntryIn, block-on, reached-not-1, dir-block, entry-facts, block-entry, not-file}
-use Rattle.changes.specs.KeptChains.{SameChain, same-blocks, OthersLeft, contents-left, entries-left}
-use Rattle.changes.specs.EntryBytes.{entryBytes, bytes-at, with-length}
-use Rattle.changes.specs.NewEntry.{comment-put}
-use Rattle.changes.specs.MadeImage.{Making, spare, parent, w, once, plan, grown, own-block, parent-block, before, kept-block, parent-new, cont, old-block, orphan, spot, entered, inside-before, spot-data, in-block, at-end, entry-kept, entry-block, entry-other, made-disk, entries-made, other-entries}
-use Rattle.changes.specs.Make.{made-dirs}
+use Rattle.change_laws.specs.Image.{headIn, headed-reached, headed-same, ReachedDir}
+use Rattle.change_laws.specs.FoundEntries.{standing-found, BlockEntry, block-standing}
+use Rattle.change_laws.specs.Reached.{EntryIn, block-on, reached-not-1, dir-block, entry-facts, block-entry, not-file}
+use Rattle.change_laws.specs.KeptChains.{SameChain, same-blocks, OthersLeft, contents-left, entries-left}
+use Rattle.change_laws.specs.EntryBytes.{entryBytes, bytes-at, with-length}
+use Rattle.change_laws.specs.NewEntry.{comment-put}
+use Rattle.change_laws.specs.MadeImage.{Making, spare, parent, w, once, plan, grown, own-block, parent-block, before, kept-block, parent-new, cont, old-block, orphan, spot, entered, inside-before, spot-data, in-block, at-end, entry-kept, entry-block, entry-other, made-disk, entries-made, other-entries}
+use Rattle.change_laws.specs.Make.{made-dirs}
 
 -- the first element's list joined to what stands before
 gather-first : (g : ℕ → List Entered) (k : List Entered) (a : ℕ) (l : List ℕ) → k ++ gather g (a ∷ l) ≡ k ++ g a ++ gather g l

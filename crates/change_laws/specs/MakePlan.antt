@@ -29,7 +29,7 @@ use Rattle.laws.specs.Orphan.{Orphaned, not-dir, orphan-changed}
 use Rattle.laws.specs.DirectoryTakes.{find-headed, dir-head, dir-not-1, dir-taken, directory-takes}
 use Rattle.laws.specs.Make.{SameContents, contents-unchanged, fresh-stays, fresh-chain, fresh-orphan}
 use Rattle.laws.specs.Items.{headed}
-use Rattle.changes.specs.Image.{GoodOn, WholeWith, ReachedDir}
+use Rattle.change_laws.specs.Image.{GoodOn, WholeWith, ReachedDir}
 
 -- anodes t on the disk of img, where no entry names the chain of f
 abbrev pub OrphanedOn : List ℕ → ℕ → Anodes → (ℕ → ℕ) → (ℕ → ℕ) → (ℕ → List Entered) → (Dir → ℕ → Bool) → List Dir → Type 0

@@ -17,9 +17,9 @@ use Rattle.laws.specs.Space.{Alike}
 use Rattle.laws.specs.ChainBlocks.{extent, kept-blocks}
 use Rattle.laws.specs.Members.{Member, gather-congr}
 use Rattle.frames.specs.StoredBytes.{BlocksKept, bytesOf-kept}
-use Rattle.changes.specs.Image.{ReachedDir}
-use Rattle.changes.specs.Reached.{EntryIn, entry-not-1, block-on, reached-not-1, reached-head, dir-block, not-file, entry-facts}
-use Rattle.changes.specs.EntryBytes.{entryBytes}
+use Rattle.change_laws.specs.Image.{ReachedDir}
+use Rattle.change_laws.specs.Reached.{EntryIn, entry-not-1, block-on, reached-not-1, reached-head, dir-block, not-file, entry-facts}
+use Rattle.change_laws.specs.EntryBytes.{entryBytes}
 
 -- the chain of h has the anodes in t that it has in s, and they the extents
 pub record SameChain (s t : Anodes) (h : ℕ) : Type 0 where

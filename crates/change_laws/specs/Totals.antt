@@ -27,7 +27,7 @@ use Rattle.laws.specs.Totals.{file-size, filesOf, dirsOf}
 use Rattle.laws.specs.Whole.{blocks-count, named-heads, whole-total}
 use Rattle.laws.specs.TestsPassed.{right-slot}
 use Rattle.laws.specs.Members.{Member, member-sum, member-congr}
-use Rattle.changes.specs.Image.{AcceptedWhole, headIn, AcceptedImage, image-passed, accepted-slots, accepted-whole}
+use Rattle.change_laws.specs.Image.{AcceptedWhole, headIn, AcceptedImage, image-passed, accepted-slots, accepted-whole}
 
 -- ---- the system's blocks
 

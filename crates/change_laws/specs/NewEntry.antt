@@ -22,7 +22,7 @@ use Rattle.rules.specs.Changes.{endFrom, entriesEnd, firstRoom}
 use Rattle.laws.specs.Bags.{times-cons, times-here}
 use Rattle.laws.specs.NewDirectory.{mark-new}
 use Rattle.laws.specs.Entries.{Unbroken}
-use Rattle.changes.specs.FoundEntries.{head-same, walked-same, enteredAt, entries-more, entries-end, EndOrEntry, unbroken-cases, end-more, end-here, end-bounds}
+use Rattle.change_laws.specs.FoundEntries.{head-same, walked-same, enteredAt, entries-more, entries-end, EndOrEntry, unbroken-cases, end-more, end-here, end-bounds}
 
 -- ---- an entry at the end mark's place
 

@@ -14,7 +14,7 @@ use Rattle.laws.specs.Space.{Good}
 use Rattle.laws.specs.Owners.{full-used}
 use Rattle.laws.specs.Members.{times-member}
 use Rattle.frames.specs.DisjointBlocks.{DataBlock, chain-block}
-use Rattle.changes.specs.Reached.{block-on}
+use Rattle.change_laws.specs.Reached.{block-on}
 
 module _ {ex : ℕ → Bool} {n last : ℕ} {s : Anodes} {system hd sd : ℕ → ℕ} (g : Good limit ex n last s system hd sd) where
   -- it is in use

@@ -19,12 +19,12 @@ use Rattle.laws.specs.Remove.{dropped-good}
 use Rattle.frames.specs.Kept.{Kept, kept-both}
 use Rattle.frames.specs.StoredBlocks.{inBlock-kept, blockOf-inBlock}
 use Rattle.frames.specs.DisjointBlocks.{DataBlock}
-use Rattle.changes.specs.Image.{GoodOn, headIn, sideIn, DiskWith, stored-kept, disk-stored, not-one, disk-then}
-use Rattle.changes.specs.FoundEntries.{BlockEntry}
-use Rattle.changes.specs.Reached.{block-data, block-entry}
-use Rattle.changes.specs.SingleBlocks.{single-data}
-use Rattle.changes.specs.PlannedChange.{PlannedChange, image, w, facts, not-1, off-anode}
-use Rattle.changes.specs.Gap.{lowered, length-closed, head-closed, entries-closed}
+use Rattle.change_laws.specs.Image.{GoodOn, headIn, sideIn, DiskWith, stored-kept, disk-stored, not-one, disk-then}
+use Rattle.change_laws.specs.FoundEntries.{BlockEntry}
+use Rattle.change_laws.specs.Reached.{block-data, block-entry}
+use Rattle.change_laws.specs.SingleBlocks.{single-data}
+use Rattle.change_laws.specs.PlannedChange.{PlannedChange, image, w, facts, not-1, off-anode}
+use Rattle.change_laws.specs.Gap.{lowered, length-closed, head-closed, entries-closed}
 
 -- a removal of an entry of an accepted image, and the steps that were planned
 abbrev pub PlannedRemove : List ℕ → Entered → Anodes → List ℕ → Type 0

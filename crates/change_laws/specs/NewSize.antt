@@ -19,7 +19,7 @@ use Rattle.directory.specs.declared.Walked.the-variants.{Found, End, Fault}
 use Rattle.directory.specs.Entries.{directoryHeadIn, kindRead, nameLength, commentLength, nameIn, entryShaped, entryIn, walkedKind, walkedAt}
 use Rattle.directory.proofs.Laws.{found-at, end-at}
 use Rattle.rules.specs.Walk.{Entered, entriesFrom}
-use Rattle.changes.specs.FoundEntries.{head-same, walked-same, entries-more, entries-end, unbroken-cases, standing-found, reaches}
+use Rattle.change_laws.specs.FoundEntries.{head-same, walked-same, entries-more, entries-end, unbroken-cases, standing-found, reaches}
 use Rattle.laws.specs.Entries.{Unbroken}
 
 -- the same entry with another size
