@@ -16,7 +16,7 @@ use Rattle.fsck.specs.declared.Tally.{Tally}
 use Rattle.fsck.specs.declared.Checked.{Checked}
 use Rattle.fsck.specs.declared.Checked.the-variants.{Accepted, Refused}
 use Rattle.fsck.specs.Answers.{checkedNumber}
-use Rattle.changed.specs.Leaves.{Leaves}
+use Rattle.change_tables.specs.Leaves.{Leaves}
 use Rattle.calls.proofs.Opened.{change-refused, change-answered}
 
 module _ (img b₀ a₀ b a : List ℕ) (x : Checked) (e : outcomeOf (checkedNumber x) img b a [] [] ≡ checkOutcome img b₀ a₀) where

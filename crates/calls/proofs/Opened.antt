@@ -23,8 +23,8 @@ use Rattle.laws.specs.Tests.{firstOf-some, firstOf-none}
 use Rattle.laws.specs.Acceptance.{passed-of}
 use Rattle.laws.specs.OwnerTable.{table-entry}
 use Rattle.change_laws.specs.Answers.{Late, own-tables, span-late, list-late}
-use Rattle.changed.specs.Leaves.{Leaves}
-use Rattle.changed.specs.Laws.{late-table}
+use Rattle.change_tables.specs.Leaves.{Leaves}
+use Rattle.change_tables.specs.Laws.{late-table}
 use Rattle.find.specs.Open.{Open}
 use Rattle.find.proofs.Laws.{refused-some, not-done}
 

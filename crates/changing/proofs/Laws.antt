@@ -27,9 +27,9 @@ use Rattle.frames.specs.DisjointBlocks.{chain-block, chain-once}
 use Rattle.change_laws.specs.Answers.{Late}
 use Rattle.change_laws.specs.Write.{written-disk}
 use Rattle.anodes.specs.Loaded.{Loaded}
-use Rattle.changed.specs.Leaves.{Leaves, ReachedEntry}
-use Rattle.changed.specs.Laws.{leaves-refused, leaves-same}
-use Rattle.changed.specs.Chains.{image-good, reached-entry, entry-known}
+use Rattle.change_tables.specs.Leaves.{Leaves, ReachedEntry}
+use Rattle.change_tables.specs.Laws.{leaves-refused, leaves-same}
+use Rattle.change_tables.specs.Chains.{image-good, reached-entry, entry-known}
 use Rattle.contents.specs.Written.{InsideOnce}
 use Rattle.find.proofs.Laws.{refused-some, not-done}
 

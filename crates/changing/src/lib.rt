@@ -10,7 +10,7 @@ ghost use Rattle.rules.specs.Lookup.{entryNamed};
 ghost use Rattle.rules.specs.Changes.{left, newEntry, made, written, resized, removed};
 ghost use Rattle.rules.specs.Calls.{spanAnswer, resizeAnswer, removeAnswer, wrongText, makeAnswer, leftAfter, changeNamed};
 ghost use Rattle.find.specs.Open.{Open, OpenAnodes};
-ghost use Rattle.changed.specs.Leaves.{Leaves};
+ghost use Rattle.change_tables.specs.Leaves.{Leaves};
 use contents::write_along;
 use directory::KindRead;
 use directory::kind_of;

@@ -26,9 +26,9 @@ use Rattle.change_laws.specs.Image.{ReachedDir}
 use Rattle.change_laws.specs.Reached.{dir-block}
 use Rattle.change_laws.specs.MakePlan.{Fresh}
 use Rattle.change_laws.specs.MadeImage.{Making, grown, good, made-disk}
-use Rattle.changed.specs.Leaves.{Leaves}
-use Rattle.changed.specs.Laws.{Shows, shows-kept, leaves-refused, leaves-done}
-use Rattle.changed.specs.Chains.{loaded-image}
+use Rattle.change_tables.specs.Leaves.{Leaves}
+use Rattle.change_tables.specs.Laws.{Shows, shows-kept, leaves-refused, leaves-done}
+use Rattle.change_tables.specs.Chains.{loaded-image}
 use Rattle.making.specs.declared.MakePlan.{MakePlan}
 use Rattle.making.specs.declared.Planned.the-variants.{Stopped}
 use Rattle.making.specs.Steps.{someBlock, Plans, PlanOf}

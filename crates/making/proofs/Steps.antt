@@ -31,7 +31,7 @@ use Rattle.change_laws.specs.Answers.{step-late}
 use Rattle.change_laws.specs.Image.{GoodOn, AcceptedWhole, image-passed, accepted-whole, reached-headed}
 use Rattle.change_laws.specs.MakePlan.{Fresh, fresh-free, made-orphan}
 use Rattle.change_laws.specs.Make.{needed-refused}
-use Rattle.changed.specs.Laws.{Shows, shows-ran}
+use Rattle.change_tables.specs.Laws.{Shows, shows-ran}
 use Rattle.space.specs.declared.Step.{Step}
 use Rattle.space.specs.declared.Step.the-variants.{Moved, Refused}
 use Rattle.space.specs.Steps.{stepPlan, Ready}

@@ -14,7 +14,7 @@ ghost use Rattle.rules.specs.Format.{newDirectoryBlock};
 ghost use Rattle.rules.specs.Changes.{withBlocks, firstRoom, noRoom, neededBlock, parentOf, entryPlace, newEntry, made};
 ghost use Rattle.laws.specs.OwnerTable.{setAll};
 ghost use Rattle.anodes.specs.Loaded.{anodesFrom, AnodeTables, Loaded};
-ghost use Rattle.changed.specs.Leaves.{Leaves};
+ghost use Rattle.change_tables.specs.Leaves.{Leaves};
 ghost use Rattle.change_laws.specs.MakePlan.{Fresh};
 ghost use Rattle.edits.specs.Entries.{roomOf};
 ghost use Rattle.space.specs.Steps.{Ready};

@@ -24,9 +24,9 @@ use Rattle.anodes.specs.Loaded.{anodesFrom, Loaded}
 use Rattle.edits.specs.Entries.{EntryStands}
 use Rattle.tree.specs.Steps.{sumFrom}
 use Rattle.space.specs.Steps.{moveBlock, moveMany}
-use Rattle.changed.specs.Leaves.{Leaves, ReachedEntry}
-use Rattle.changed.specs.Laws.{leaves-refused, shows-kept, shows-ran, leaves-done}
-use Rattle.changed.specs.Chains.{loaded-image, image-good, reached-entry, entry-known, loaded-copies, chain-counted, planned-change}
+use Rattle.change_tables.specs.Leaves.{Leaves, ReachedEntry}
+use Rattle.change_tables.specs.Laws.{leaves-refused, shows-kept, shows-ran, leaves-done}
+use Rattle.change_tables.specs.Chains.{loaded-image, image-good, reached-entry, entry-known, loaded-copies, chain-counted, planned-change}
 
 module _ {img counts firsts nexts : List ℕ} (l : Loaded img counts firsts nexts) (e : Entered) (r : ReachedEntry img e) where
   abbrev s : Anodes

@@ -7,7 +7,7 @@ ghost use Rattle.rules.specs.Space.{planned};
 ghost use Rattle.rules.specs.Changes.{removePlan, removed};
 ghost use Rattle.anodes.specs.Loaded.{anodesFrom, Loaded};
 ghost use Rattle.lookup.specs.Answers.{entered};
-ghost use Rattle.changed.specs.Leaves.{Leaves, ReachedEntry};
+ghost use Rattle.change_tables.specs.Leaves.{Leaves, ReachedEntry};
 use chains::show_heads;
 use disk::AnodeNo;
 use edits::set_owners;

@@ -26,9 +26,9 @@ use Rattle.anodes.specs.Loaded.{anodesFrom, Loaded}
 use Rattle.tree.specs.Steps.{sumFrom}
 use Rattle.space.specs.Steps.{moveBlock, moveMany}
 use Rattle.space.proofs.Many.{count-small}
-use Rattle.changed.specs.Leaves.{Leaves, ReachedEntry}
-use Rattle.changed.specs.Laws.{Shows, leaves-refused, shows-ran, leaves-done}
-use Rattle.changed.specs.Chains.{loaded-size, image-good, entry-known, loaded-copies, chain-counted, planned-change, gave-few}
+use Rattle.change_tables.specs.Leaves.{Leaves, ReachedEntry}
+use Rattle.change_tables.specs.Laws.{Shows, leaves-refused, shows-ran, leaves-done}
+use Rattle.change_tables.specs.Chains.{loaded-size, image-good, entry-known, loaded-copies, chain-counted, planned-change, gave-few}
 
 module _ {img counts firsts nexts : List ℕ} (l : Loaded img counts firsts nexts) (e : Entered) (r : ReachedEntry img e) (size : ℕ) where
   abbrev s : Anodes

@@ -13,7 +13,7 @@ ghost use Rattle.anodes.specs.Loaded.{anodesFrom, AnodeTables, Loaded};
 ghost use Rattle.space.specs.Steps.{manyPlan, Ready};
 ghost use Rattle.lookup.specs.Answers.{entered};
 ghost use Rattle.change_laws.specs.ResizePlan.{newOwner};
-ghost use Rattle.changed.specs.Leaves.{Leaves, ReachedEntry};
+ghost use Rattle.change_tables.specs.Leaves.{Leaves, ReachedEntry};
 use chains::show_heads;
 use disk::AnodeNo;
 use edits::put_size;

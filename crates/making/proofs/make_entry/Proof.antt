@@ -4,7 +4,7 @@ use borrow.Author.Tests.{leb-true}
 use Rattle.directory.specs.Entries.{goodComment, isDir}
 use Rattle.directory.proofs.Laws.{goodName-length}
 use Rattle.rules.specs.Changes.{newEntry}
-use Rattle.changed.specs.Chains.{loaded-copies}
+use Rattle.change_tables.specs.Chains.{loaded-copies}
 use Rattle.making.proofs.Done.{stopped}
 use borrow.Author.Needs.{needs}
 use Rattle.making.proofs.make_entry.Statement.{statement}

@@ -3,7 +3,7 @@ use native.Mathlib.Omega.{arith}
 use Rattle.rules.specs.Changes.{removedImage}
 use Rattle.anodes.specs.Loaded.{anodesFrom}
 use Rattle.lookup.specs.Answers.{entered}
-use Rattle.changed.specs.Chains.{gave-few, noted-all}
+use Rattle.change_tables.specs.Chains.{gave-few, noted-all}
 use Rattle.removing.proofs.Laws.{drops-ready, removed-links, stands, done-leaves}
 use borrow.Author.Needs.{needs}
 use Rattle.removing.proofs.commit_remove.Statement.{statement}

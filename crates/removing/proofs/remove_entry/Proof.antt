@@ -6,7 +6,7 @@ use Rattle.anodes.specs.Loaded.{anodesFrom}
 use Rattle.lookup.specs.Answers.{entered}
 use Rattle.space.specs.Steps.{manyPlan}
 use Rattle.space.proofs.Many.{moves-done, moves-stopped}
-use Rattle.changed.specs.Chains.{plan-ready}
+use Rattle.change_tables.specs.Chains.{plan-ready}
 use Rattle.removing.proofs.Laws.{gives-made, refused-leaves}
 use borrow.Author.Needs.{needs}
 use Rattle.removing.proofs.remove_entry.Statement.{statement}

@@ -6,7 +6,7 @@ use Rattle.rules.specs.Changes.{zeroTaken, resizedImage}
 use Rattle.anodes.specs.Loaded.{anodesFrom}
 use Rattle.lookup.specs.Answers.{entered}
 use Rattle.space.proofs.Taking.{full-fits}
-use Rattle.changed.specs.Chains.{loaded-size, loaded-good, noted-all}
+use Rattle.change_tables.specs.Chains.{loaded-size, loaded-good, noted-all}
 use Rattle.resizing.proofs.Laws.{size-fits, moved-few, resized-linked, done-leaves, zeroed-some, zeroed-none}
 use borrow.Author.Needs.{needs}
 use Rattle.resizing.proofs.commit_resize.Statement.{statement}

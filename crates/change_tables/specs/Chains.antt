@@ -19,7 +19,7 @@ use Rattle.space.proofs.Many.{count-small}
 use Rattle.change_laws.specs.Image.{GoodOn, headIn, sideIn, AcceptedImage, accepted-own, image-passed, accepted-whole}
 use Rattle.change_laws.specs.Reached.{EntryIn, EntryFacts, entry-not-1, entry-facts}
 use Rattle.change_laws.specs.PlannedChange.{PlannedChange}
-use Rattle.changed.specs.Leaves.{ReachedEntry}
+use Rattle.change_tables.specs.Leaves.{ReachedEntry}
 
 module _ {img counts firsts nexts : List ℕ} (l : Loaded img counts firsts nexts) where
   abbrev pub loaded-image : AcceptedImage img

@@ -19,7 +19,7 @@ use Rattle.laws.specs.Resize.{Ran}
 use Rattle.laws.specs.OwnerTable.{ran-data, setAll, setAll-front, kept-table, ran-table, heads-past}
 use Rattle.frames.specs.Kept.{diskSize-kept, systemOwns-kept}
 use Rattle.change_laws.specs.Image.{DiskWith}
-use Rattle.changed.specs.Leaves.{Leaves}
+use Rattle.change_tables.specs.Leaves.{Leaves}
 
 -- an answer past the damage numbers shows the tables as 0 does
 pub late-table : (k : ℕ) → 17 ≤ k → (range : ℕ) (shown old : List ℕ) → tableLeft k range shown old ≡ tableLeft 0 range shown old
