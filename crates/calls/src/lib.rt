@@ -2,16 +2,16 @@
 ghost use mathlib.Core.List.{[]};
 ghost use mathlib.Core.Path.{_≡_};
 ghost use Rattle.rules.specs.Calls.{outcomeOf, checkOutcome, summaryOutcome, readOutcome, listOutcome, makeOutcome, resizeOutcome, writeOutcome, removeOutcome};
-use changing::make_named;
-use changing::remove_named;
-use changing::resize_named;
-use changing::write_named;
 use disk::AnodeNo;
 use disk::number;
 use fsck::Checked;
 use fsck::check_disk;
 use fsck::open_disk;
 use header::disk_size;
+use named_changes::make_named;
+use named_changes::remove_named;
+use named_changes::resize_named;
+use named_changes::write_named;
 use reading::list_nth;
 use reading::read_named;
 

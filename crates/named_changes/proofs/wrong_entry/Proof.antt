@@ -1,11 +1,11 @@
-use Rattle.changing.proofs.Laws.{long-comment}
+use Rattle.named_changes.proofs.Laws.{long-comment}
 use Rattle.directory.specs.Entries.{goodComment}
 use borrow.Author.Tests.{not-true, not-false}
 use lib.ListN.{length}
 use mathlib.Core.Path.{sym, _∙_}
 use borrow.Author.Needs.{needs}
-use Rattle.changing.proofs.wrong_entry.Statement.{statement}
-use Rattle.changing.proofs.wrong_entry.Tie as tie
+use Rattle.named_changes.proofs.wrong_entry.Statement.{statement}
+use Rattle.named_changes.proofs.wrong_entry.Tie as tie
 
 name-ok-requires : tie.Need-name-ok-requires
 name-ok-requires c κs = search needs

@@ -1,4 +1,4 @@
-use Rattle.changing.proofs.Laws.{chain-inside, leaves-unchanged, leaves-named, leaves-written}
+use Rattle.named_changes.proofs.Laws.{chain-inside, leaves-unchanged, leaves-named, leaves-written}
 use Rattle.change_laws.specs.Answers.{span-late, span-found}
 use Rattle.change_laws.specs.Reached.{named-member}
 use Rattle.lookup.specs.Answers.{entered}
@@ -6,8 +6,8 @@ use Rattle.rules.specs.Changes.{written}
 use Rattle.rules.specs.Anodes.{Anodes}
 use mathlib.Core.Path.{refl, ap, _∙_}
 use borrow.Author.Needs.{needs}
-use Rattle.changing.proofs.write_named.Statement.{statement}
-use Rattle.changing.proofs.write_named.Tie as tie
+use Rattle.named_changes.proofs.write_named.Statement.{statement}
+use Rattle.named_changes.proofs.write_named.Tie as tie
 
 find-span-requires : tie.Need-find-span-requires
 find-span-requires c κs = let p = c .before .before .before .before .before .before .before .before .before .pre in (_, p .0, p .1)

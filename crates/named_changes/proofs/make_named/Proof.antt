@@ -1,4 +1,4 @@
-use Rattle.changing.proofs.Laws.{leaves-unmade, leaves-made, wrong-type, right-type, made-kind, right-entry, make-wrong, make-nowhere, make-there, make-fine}
+use Rattle.named_changes.proofs.Laws.{leaves-unmade, leaves-made, wrong-type, right-type, made-kind, right-entry, make-wrong, make-nowhere, make-there, make-fine}
 use Rattle.find.proofs.Laws.{reached-queued, own-heads, open-unbroken, by-image, search-is}
 use Rattle.rules.specs.Changes.{newEntry, parentOf}
 use Rattle.rules.specs.Lookup.{noDirectory, entryNamed}
@@ -12,8 +12,8 @@ use mathlib.Core.List.{List}
 use mathlib.Core.Bool.{Bool, not}
 use mathlib.Core.Path.{_≡_, sym, ap, _∙_}
 use borrow.Author.Needs.{needs}
-use Rattle.changing.proofs.make_named.Statement.{statement}
-use Rattle.changing.proofs.make_named.Tie as tie
+use Rattle.named_changes.proofs.make_named.Statement.{statement}
+use Rattle.named_changes.proofs.make_named.Tie as tie
 
 -- the type byte that was read
 read-as : (c : tie.After-read) → kindRead (c .before .before .before .before .before .before .before .before .before .before .before .before .before .args .kind) ≡ Is (c .read .given .0 .0)

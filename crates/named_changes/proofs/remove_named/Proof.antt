@@ -1,9 +1,9 @@
-use Rattle.changing.proofs.Laws.{leaves-unchanged, leaves-named}
+use Rattle.named_changes.proofs.Laws.{leaves-unchanged, leaves-named}
 use Rattle.change_laws.specs.Answers.{remove-late, removable-found}
 use Rattle.change_laws.specs.Reached.{named-member}
 use borrow.Author.Needs.{needs}
-use Rattle.changing.proofs.remove_named.Statement.{statement}
-use Rattle.changing.proofs.remove_named.Tie as tie
+use Rattle.named_changes.proofs.remove_named.Statement.{statement}
+use Rattle.named_changes.proofs.remove_named.Tie as tie
 
 find-removable-requires : tie.Need-find-removable-requires
 find-removable-requires c κs = let p = c .before .before .before .before .before .before .before .before .before .before .pre .0 in (_, p .0, p .1)
