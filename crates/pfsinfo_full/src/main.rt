@@ -1,4 +1,4 @@
 // Writes one line about the disk image on standard input; its stored input is exactly 65,536 bytes.
 fn main() {
-    report::report();
+    info_line::report();
 }
