@@ -9,7 +9,7 @@ use lib.Dec.{eqb, leb}
 use borrow.Author.Tests.{leb-true, ne-eqb, eqb-true, eqb-false}
 use Rattle.disk.specs.Root.{slotOf}
 use Rattle.disk.specs.AnodeBlocks.{anodeHeadIn}
-use Rattle.rules.specs.Counting.{oneAt, sumList, times}
+use Rattle.rules.specs.Counting.{oneAt, sumList, occurrences}
 use Rattle.rules.specs.Anodes.{Anodes, limit, exists, anodesOf, withAnodes}
 use Rattle.rules.specs.Chains.{heads, headOf, cut, systemOwns}
 use Rattle.rules.specs.Walk.{Dir, Entered, root, entriesIn, isBlockOf, itemsBy, itemsOf, Walk, fault, done, walkOf, faultIn, dirsIn, reached, reachedDirs, naming}
@@ -148,8 +148,8 @@ module _ {img : List ℕ} (a : AcceptedImage img) (t : Anodes) where
 pub not-one : {img : List ℕ} {b : ℕ} → DataBlock img b → (y : ℕ) → (DataBlock img y → ⊥) → y ≢ b
 not-one d y n e = n (rw e d)
 
-pub not-among : {img : List ℕ} (ys : List ℕ) → ((y : ℕ) → 0 < times y ys → DataBlock img y) → (y : ℕ) → (DataBlock img y → ⊥) → times y ys ≡ 0
-not-among ys d y n = not-above (times y ys) (λ p. n (d y p))
+pub not-among : {img : List ℕ} (ys : List ℕ) → ((y : ℕ) → 0 < occurrences y ys → DataBlock img y) → (y : ℕ) → (DataBlock img y → ⊥) → occurrences y ys ≡ 0
+not-among ys d y n = not-above (occurrences y ys) (λ p. n (d y p))
 
 -- stores that keep all but data blocks
 module _ {img i j : List ℕ} {t : Anodes} {on : ℕ → Type 0} (d : DiskWith img t i) (k : Kept on i j) (others : (y : ℕ) → (DataBlock img y → ⊥) → on y) where
@@ -236,22 +236,22 @@ module _ {ex : ℕ → Bool} {n last : ℕ} {s : Anodes} {system hd sd : ℕ →
   headed-once = heads-once (itemsBy entries marked s) root limit (omega arith) (named-range (w .good) entries marked) dirs (w .tree .exact) (w .tree .faultless) (w .tree .once) h
 
 module _ (img : List ℕ) (s : Anodes) (h : ℕ) where
-  headed-times : times h (map (λ d. d .head) (reachedDirs img s)) ≡ headed h (reachedDirs img s)
-  unfolding times
-  headed-times = map-sum (λ d. d .head) (λ y. oneAt y h) (reachedDirs img s)
+  headed-occurrences : occurrences h (map (λ d. d .head) (reachedDirs img s)) ≡ headed h (reachedDirs img s)
+  unfolding occurrences
+  headed-occurrences = map-sum (λ d. d .head) (λ y. oneAt y h) (reachedDirs img s)
 
   pub headed-reached : 0 < headed h (reachedDirs img s) → noDirectory img s h ≡ false
   unfolding noDirectory
-  headed-reached p = ne-eqb (times h (map (λ d. d .head) (reachedDirs img s))) 0 (λ z. omega (arith, p, z, headed-times))
+  headed-reached p = ne-eqb (occurrences h (map (λ d. d .head) (reachedDirs img s))) 0 (λ z. omega (arith, p, z, headed-occurrences))
 
   pub reached-some : noDirectory img s h ≡ false → 0 < headed h (reachedDirs img s)
   unfolding noDirectory
-  reached-some n = omega (arith, headed-times, eqb-false (times h (map (λ d. d .head) (reachedDirs img s))) 0 n)
+  reached-some n = omega (arith, headed-occurrences, eqb-false (occurrences h (map (λ d. d .head) (reachedDirs img s))) 0 n)
 
 -- as many with one head in both images
 pub headed-same : (img j : List ℕ) (s t : Anodes) (h : ℕ) → headed h (reachedDirs j t) ≡ headed h (reachedDirs img s) → noDirectory j t h ≡ noDirectory img s h
 unfolding noDirectory
-headed-same img j s t h e = ap (λ (n : ℕ). eqb n 0) (headed-times j t h ∙ e ∙ sym (headed-times img s h))
+headed-same img j s t h e = ap (λ (n : ℕ). eqb n 0) (headed-occurrences j t h ∙ e ∙ sym (headed-occurrences img s h))
 
 -- h heads a reached directory of an accepted image
 pub record ReachedDir (img : List ℕ) (h : ℕ) : Type 0 where

@@ -6,7 +6,7 @@ use mathlib.Core.Bool.{false}
 use mathlib.Core.List.{List}
 use lib.ListN.{take}
 use Rattle.disk.specs.Blocks.{blockOf}
-use Rattle.rules.specs.Counting.{times, gather}
+use Rattle.rules.specs.Counting.{occurrences, gather}
 use Rattle.rules.specs.Anodes.{Anodes, limit, anodesOf}
 use Rattle.rules.specs.Chains.{chainOf, blocksOf}
 use Rattle.rules.specs.Walk.{Entered, entriesIn}
@@ -24,9 +24,9 @@ use Rattle.change_laws.specs.EntryBytes.{entryBytes}
 -- the chain of h has the anodes in t that it has in s, and they the extents
 pub record SameChain (s t : Anodes) (h : ℕ) : Type 0 where
   pub same-anodes : chainOf (t .next) limit h ≡ chainOf (s .next) limit h
-  pub same-extents : (a : ℕ) → 0 < times a (chainOf (s .next) limit h) → (t .count a ≡ s .count a) × (t .block a ≡ s .block a)
+  pub same-extents : (a : ℕ) → 0 < occurrences a (chainOf (s .next) limit h) → (t .count a ≡ s .count a) × (t .block a ≡ s .block a)
 
-pub same-chain-alike : {s t : Anodes} {h : ℕ} → chainOf (t .next) limit h ≡ chainOf (s .next) limit h → ((a : ℕ) → 0 < times a (chainOf (s .next) limit h) → Alike s t a) → SameChain s t h
+pub same-chain-alike : {s t : Anodes} {h : ℕ} → chainOf (t .next) limit h ≡ chainOf (s .next) limit h → ((a : ℕ) → 0 < occurrences a (chainOf (s .next) limit h) → Alike s t a) → SameChain s t h
 same-chain-alike e alike = record { same-anodes = e; same-extents = λ a q. let k = alike a q in (k .same-count, k .same-block) }
 
 pub same-chain-own : (s : Anodes) (h : ℕ) → SameChain s s h

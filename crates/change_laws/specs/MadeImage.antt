@@ -13,7 +13,7 @@ use Rattle.disk.specs.Blocks.{blockOf}
 use Rattle.disk.proofs.Laws.{length-blockOf}
 use Rattle.directory.specs.Entries.{goodName, goodComment, entryLength, putEntry}
 use Rattle.directory.proofs.Laws.{goodName-length, length-putEntry}
-use Rattle.rules.specs.Counting.{oneAt, times, anyIn}
+use Rattle.rules.specs.Counting.{oneAt, occurrences, anyIn}
 use Rattle.rules.specs.Anodes.{Anodes, limit, exists, anodesOf, withAnodes}
 use Rattle.rules.specs.Chains.{chainOf, run, blocksOf}
 use Rattle.rules.specs.Walk.{Dir, Entered, entriesFrom, entriesIn, isBlockOf, reachedDirs}
@@ -21,12 +21,12 @@ use Rattle.rules.specs.Format.{newDirectoryBlock}
 use Rattle.rules.specs.Changes.{withBlocks, entriesEnd, noRoom, parentOf, entryPlace, NewEntry, entryOf, madeImage}
 use Rattle.laws.specs.Tests.{not-above}
 use Rattle.laws.specs.Sums.{oneAt-cases}
-use Rattle.laws.specs.Bags.{list-cons, times-nil, times-cons, times-append, first-in}
+use Rattle.laws.specs.Bags.{list-cons, occurrences-nil, occurrences-cons, occurrences-append, first-in}
 use Rattle.laws.specs.Space.{FreeAnode, on-chain}
 use Rattle.laws.specs.Each.{Each, each-map}
 use Rattle.laws.specs.TreeChanges.{none-headed}
 use Rattle.laws.specs.DirectoryTakes.{dir-head}
-use Rattle.laws.specs.Members.{Member, no-member, member-cons, member-gather, member-times, times-member, times-map}
+use Rattle.laws.specs.Members.{Member, no-member, member-cons, member-gather, member-occurrences, occurrences-member, occurrences-map}
 use Rattle.laws.specs.NewDirectory.{length-new, entries-new, new-marked}
 use Rattle.frames.specs.Kept.{Kept}
 use Rattle.frames.specs.StoredBlocks.{inBlock-kept, blockOf-inBlock, withBlocks-kept}
@@ -96,41 +96,41 @@ module _ {img : List ℕ} {h : ℕ} {new : NewEntry} {f : ℕ} {room : Option �
 
   -- ---- the new blocks
 
-  pub own-block : (y : ℕ) → 0 < times y ys → (t .count f ≡ 1) × (y ≡ t .block f)
+  pub own-block : (y : ℕ) → 0 < occurrences y ys → (t .count f ≡ 1) × (y ≡ t .block f)
   own-block y p = go (new .dir) (plan .own-count) (plan .own-blocks)
     where
       go : (d : Bool) → t .count f ≡ cond d 1 0 → ys ≡ cond d (t .block f ∷ []) [] → (t .count f ≡ 1) × (y ≡ t .block f)
       go true c b = elim (oneAt-cases (t .block f) y) [
         | inl i ↦ (c, sym (i .0))
-        | inr i ↦ absurd (omega (arith, p, ap (times y) b, times-cons y (t .block f) [], times-nil y, i .1))
+        | inr i ↦ absurd (omega (arith, p, ap (occurrences y) b, occurrences-cons y (t .block f) [], occurrences-nil y, i .1))
       ]
-      go false c b = absurd (omega (arith, p, ap (times y) b, times-nil y))
+      go false c b = absurd (omega (arith, p, ap (occurrences y) b, occurrences-nil y))
 
-  pub parent-block : (y : ℕ) → 0 < times y zs → (a : ℕ) × (0 < times a (grown .new)) × (y ≡ t .block a)
-  parent-block y p = times-map (t .block) (grown .new) y (omega (arith, p, ap (times y) (grown .blocks)))
+  pub parent-block : (y : ℕ) → 0 < occurrences y zs → (a : ℕ) × (0 < occurrences a (grown .new)) × (y ≡ t .block a)
+  parent-block y p = occurrences-map (t .block) (grown .new) y (omega (arith, p, ap (occurrences y) (grown .blocks)))
 
-  own-data : (y : ℕ) → 0 < times y ys → DataBlock img y
+  own-data : (y : ℕ) → 0 < occurrences y ys → DataBlock img y
   own-data y p = let q = own-block y p in rw (q .1) (single-data img good f (q .0))
 
-  parent-data : (y : ℕ) → 0 < times y zs → DataBlock img y
+  parent-data : (y : ℕ) → 0 < occurrences y zs → DataBlock img y
   parent-data y p = let q = parent-block y p in rw (q .2) (single-data img good (q .0) (grown .ones (q .0) (q .1)))
 
   -- they are no block of a directory that was there, and not each other's
-  old-apart : (a : ℕ) → s .count a ≡ 1 → headIn img a ≢ 1 → (times (s .block a) ys ≡ 0) × (times (s .block a) zs ≡ 0)
+  old-apart : (a : ℕ) → s .count a ≡ 1 → headIn img a ≢ 1 → (occurrences (s .block a) ys ≡ 0) × (occurrences (s .block a) zs ≡ 0)
   old-apart a one q =
       let u = single-used (w .good) a one in
       let k = grown .kept a u q in
       let now : t .count a ≡ 1 = k .0 ∙ one in (
-        not-above (times (s .block a) ys) (λ p. let o = own-block (s .block a) p in
+        not-above (occurrences (s .block a) ys) (λ p. let o = own-block (s .block a) p in
             single-apart good a now f (o .0) (λ i. u (ap (s .block) i ∙ spare .unused)) (k .1 ∙ o .1)),
-        not-above (times (s .block a) zs) (λ p. let o = parent-block (s .block a) p in
+        not-above (occurrences (s .block a) zs) (λ p. let o = parent-block (s .block a) p in
             single-apart good a now (o .0) (grown .ones (o .0) (o .1)) (λ i. grown .apart (o .0) (o .1) (rw (← i) u) (rw (← i) q)) (k .1 ∙ o .2)),
       )
 
-  new-apart : (y : ℕ) → 0 < times y ys → times y zs ≡ 0
+  new-apart : (y : ℕ) → 0 < occurrences y ys → occurrences y zs ≡ 0
   new-apart y p =
       let o = own-block y p in
-      not-above (times y zs) (λ q. let b = parent-block y q in
+      not-above (occurrences y zs) (λ q. let b = parent-block y q in
       single-apart good f (o .0) (b .0) (grown .ones (b .0) (b .1)) (λ i. plan .not-own (b .0) (b .1) (sym i)) (sym (o .1) ∙ b .2))
 
   -- ---- the image before the entry
@@ -145,10 +145,10 @@ module _ {img : List ℕ} {h : ℕ} {new : NewEntry} {f : ℕ} {room : Option �
   abbrev pub before : List ℕ
   before = withBlocks headed-own zs (newDirectoryBlock h (parentOf dirs h))
 
-  own-kept : Kept (λ d. times d ys ≡ 0) base headed-own
+  own-kept : Kept (λ d. occurrences d ys ≡ 0) base headed-own
   own-kept = withBlocks-kept base ys (newDirectoryBlock f h) (omega (arith, length-new f h))
 
-  parent-kept : Kept (λ d. times d zs ≡ 0) headed-own before
+  parent-kept : Kept (λ d. occurrences d zs ≡ 0) headed-own before
   parent-kept = withBlocks-kept headed-own zs (newDirectoryBlock h (parentOf dirs h)) (omega (arith, length-new h (parentOf dirs h)))
 
   own-disk : DiskWith img t headed-own
@@ -158,7 +158,7 @@ module _ {img : List ℕ} {h : ℕ} {new : NewEntry} {f : ℕ} {room : Option �
   before-disk = disk-then own-disk parent-kept (not-among zs parent-data)
 
   -- a data block that is not new is the one that was
-  pub kept-block : (y : ℕ) → DataBlock img y → times y ys ≡ 0 → times y zs ≡ 0 → blockOf before y ≡ blockOf img y
+  pub kept-block : (y : ℕ) → DataBlock img y → occurrences y ys ≡ 0 → occurrences y zs ≡ 0 → blockOf before y ≡ blockOf img y
   kept-block y d o p = parent-kept .block-kept y p ∙ own-kept .block-kept y o ∙ stored-kept (parent .image) t .block-kept y (d .unheld)
 
   pub old-block : (a : ℕ) → s .count a ≡ 1 → headIn img a ≢ 1 → blockOf before (s .block a) ≡ blockOf img (s .block a)
@@ -167,11 +167,11 @@ module _ {img : List ℕ} {h : ℕ} {new : NewEntry} {f : ℕ} {room : Option �
   pub inside-before : (y : ℕ) → DataBlock img y → y * 512 + 512 ≤ length before
   inside-before y d = rw (before-disk .same .kept .length-kept) (d .inside)
 
-  pub own-new : (y : ℕ) → 0 < times y ys → blockOf before y ≡ newDirectoryBlock f h
+  pub own-new : (y : ℕ) → 0 < occurrences y ys → blockOf before y ≡ newDirectoryBlock f h
   own-new y p = parent-kept .block-kept y (new-apart y p)
       ∙ blockOf-withBlocks base ys (newDirectoryBlock f h) y (length-new f h) p (rw (stored-kept (parent .image) t .length-kept) (own-data y p .inside))
 
-  pub parent-new : (y : ℕ) → 0 < times y zs → blockOf before y ≡ newDirectoryBlock h (parentOf dirs h)
+  pub parent-new : (y : ℕ) → 0 < occurrences y zs → blockOf before y ≡ newDirectoryBlock h (parentOf dirs h)
   parent-new y p = blockOf-withBlocks headed-own zs (newDirectoryBlock h (parentOf dirs h)) y (length-new h (parentOf dirs h)) p
       (rw (own-disk .same .kept .length-kept) (parent-data y p .inside))
 
@@ -197,16 +197,16 @@ module _ {img : List ℕ} {h : ℕ} {new : NewEntry} {f : ℕ} {room : Option �
   pub record Spot : Type 0 where
     pub anode : ℕ
     pub one : t .count anode ≡ 1
-    pub on : 0 < times anode (chainOf (t .next) limit h)
+    pub on : 0 < occurrences anode (chainOf (t .next) limit h)
     pub at : entryPlace room zs ≡ t .block anode * 512 + entriesEnd (blockOf before (t .block anode))
     pub fits : entriesEnd (blockOf before (t .block anode)) + len ≤ 510
     pub unbroken : Unbroken (entriesIn before (t .block anode))
 
   -- a block of the directory is that of one of its anodes
-  block-anode : (y : ℕ) → 0 < times y (blocksOf s h) → (a : ℕ) × Member a (chainOf (s .next) limit h) × DirBlock img h a × (y ≡ s .block a)
+  block-anode : (y : ℕ) → 0 < occurrences y (blocksOf s h) → (a : ℕ) × Member a (chainOf (s .next) limit h) × DirBlock img h a × (y ≡ s .block a)
   unfolding blocksOf run
   block-anode y p =
-      let q = member-gather (λ a. run (s .block a) (s .count a)) (chainOf (s .next) limit h) y (times-member y (blocksOf s h) p) in
+      let q = member-gather (λ a. run (s .block a) (s .count a)) (chainOf (s .next) limit h) y (occurrences-member y (blocksOf s h) p) in
       let b = dir-block parent (q .0) (q .1) in
       let only : Member y (s .block (q .0) ∷ []) = rw (b .one) at (q .2) in
       (q .0, q .1, b, elim (member-cons y (s .block (q .0)) [] only) [ inl e ↦ e | inr e ↦ absurd (no-member y e) ])
@@ -224,7 +224,7 @@ module _ {img : List ℕ} {h : ℕ} {new : NewEntry} {f : ℕ} {room : Option �
       record {
         anode = a;
         one = k .0 ∙ one;
-        on = omega (arith, ap (times a) (grown .chain), times-append a (chainOf (s .next) limit h) (grown .new), member-times a (chainOf (s .next) limit h) (b .1));
+        on = omega (arith, ap (occurrences a) (grown .chain), occurrences-append a (chainOf (s .next) limit h) (grown .new), member-occurrences a (chainOf (s .next) limit h) (b .1));
         at = omega (arith, ap (λ (o : Option ℕ). entryPlace o zs) e, found .2, ap entriesEnd same, k .1, b .3);
         fits = rw same (found .3);
         unbroken = rw (k .1, cont .same-entries a one q) (b .2 .unbroken);
@@ -241,7 +241,7 @@ module _ {img : List ℕ} {h : ℕ} {new : NewEntry} {f : ℕ} {room : Option �
       record {
         anode = b .0;
         one = grown .ones (b .0) (b .1);
-        on = omega (arith, ap (times (b .0)) (grown .chain), times-append (b .0) (chainOf (s .next) limit h) (grown .new), b .1);
+        on = omega (arith, ap (occurrences (b .0)) (grown .chain), occurrences-append (b .0) (chainOf (s .next) limit h) (grown .new), b .1);
         at = omega (arith, ap (λ (o : Option ℕ). entryPlace o zs) e, ap (entryPlace none) (took .1), end, b .2);
         fits = omega (arith, end, goodName-length (new .name) (m .named), leb-true (length (new .comment)) 79 (m .commented));
         unbroken = rw (block, entries-new h (parentOf dirs h) (t .block (b .0)));

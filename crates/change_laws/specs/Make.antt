@@ -11,7 +11,7 @@ use borrow.Author.Tests.{lt-ltb, le-ltb}
 use Rattle.disk.specs.Blocks.{blockOf}
 use Rattle.directory.specs.declared.Kind.the-variants.{File, Directory}
 use Rattle.directory.specs.Entries.{goodName, goodComment, entryLength, isDir}
-use Rattle.rules.specs.Counting.{sumList, times}
+use Rattle.rules.specs.Counting.{sumList, occurrences}
 use Rattle.rules.specs.Anodes.{Anodes, limit, exists, anodesOf}
 use Rattle.rules.specs.Chains.{blocksOf, blockCount}
 use Rattle.rules.specs.Walk.{Dir, entriesIn, isBlockOf, blocksFor, itemsBy, reachedDirs, dirMade}
@@ -71,7 +71,7 @@ module _ {img : List ℕ} {h : ℕ} {new : NewEntry} {f : ℕ} {room : Option �
   own-empty : new .dir ≡ true → itemsBy (entriesIn j) (isBlockOf j) t newDir ≡ []
   own-empty d =
       let one : t .count f ≡ 1 = plan m .own-count ∙ ap (λ (b : Bool). cond {A = ℕ} b 1 0) d in
-      let p : 0 < times (t .block f) ys = first-in (t .block f) ys (plan m .own-blocks ∙ ap (λ (b : Bool). cond b (t .block f ∷ []) []) d) in
+      let p : 0 < occurrences (t .block f) ys = first-in (t .block f) ys (plan m .own-blocks ∙ ap (λ (b : Bool). cond b (t .block f ∷ []) []) d) in
       let block : blockOf j (t .block f) ≡ newDirectoryBlock f h = entry-other m f one not-spot ∙ own-new m (t .block f) p in
       none-new j t newDir (plan m .own-chain) one block
 

@@ -16,7 +16,7 @@ use Rattle.directory.specs.declared.Walked.the-variants.{Found}
 use Rattle.directory.specs.declared.Entry.{Entry}
 use Rattle.directory.specs.Entries.{goodComment, entryLength, walkedAt, putEntry}
 use Rattle.directory.proofs.Laws.{length-putEntry, getD-putEntry-before, nameIn-putEntry, walkedAt-putEntry}
-use Rattle.rules.specs.Counting.{oneAt, times, gather}
+use Rattle.rules.specs.Counting.{oneAt, occurrences, gather}
 use Rattle.rules.specs.Anodes.{Anodes, limit, anodesOf}
 use Rattle.rules.specs.Chains.{chainOf, blocksOf}
 use Rattle.rules.specs.Walk.{Entered, entriesIn, reachedDirs}
@@ -24,13 +24,13 @@ use Rattle.rules.specs.Lookup.{noDirectory, entriesOf, nameAt, contents}
 use Rattle.rules.specs.Changes.{entriesEnd, parentOf, entryPlace, NewEntry, entryOf, madeImage}
 use Rattle.laws.specs.Tests.{same?, less?, not-above}
 use Rattle.laws.specs.Sums.{oneAt-same, oneAt-other}
-use Rattle.laws.specs.Bags.{times-cons, times-append, gather-none, gather-append, gather-kept}
+use Rattle.laws.specs.Bags.{occurrences-cons, occurrences-append, gather-none, gather-append, gather-kept}
 use Rattle.laws.specs.Heads.{Head}
 use Rattle.laws.specs.Space.{on-chain}
 use Rattle.laws.specs.ChainBlocks.{stands-once}
 use Rattle.laws.specs.Each.{OneMore}
 use Rattle.laws.specs.DirectoryTakes.{dir-head}
-use Rattle.laws.specs.Members.{Member, member-first, times-member, gather-congr, times-mapped}
+use Rattle.laws.specs.Members.{Member, member-first, occurrences-member, gather-congr, occurrences-mapped}
 use Rattle.laws.specs.NewDirectory.{entries-new}
 use Rattle.laws.specs.Items.{headed}
 use Rattle.frames.specs.DisjointBlocks.{chains-apart, chain-block}
@@ -99,17 +99,17 @@ module _ {img : List ℕ} {h : ℕ} {new : NewEntry} {f : ℕ} {room : Option �
   now a = entriesIn j (t .block a)
 
   -- each anode of it has one block
-  ones : (a : ℕ) → 0 < times a (chainOf (t .next) limit h) → t .count a ≡ 1
-  ones a p = elim (less? 0 (times a (chainOf (s .next) limit h))) [
-    | inl q ↦ (let on = times-member a (chainOf (s .next) limit h) q in same-place (parent m) a on .0 ∙ one (parent m) a on)
-    | inr q ↦ grown m .ones a (omega (arith, p, q, ap (times a) (grown m .chain), times-append a (chainOf (s .next) limit h) (grown m .new)))
+  ones : (a : ℕ) → 0 < occurrences a (chainOf (t .next) limit h) → t .count a ≡ 1
+  ones a p = elim (less? 0 (occurrences a (chainOf (s .next) limit h))) [
+    | inl q ↦ (let on = occurrences-member a (chainOf (s .next) limit h) q in same-place (parent m) a on .0 ∙ one (parent m) a on)
+    | inr q ↦ grown m .ones a (omega (arith, p, q, ap (occurrences a) (grown m .chain), occurrences-append a (chainOf (s .next) limit h) (grown m .new)))
   ]
 
   -- a new block of it has no entry
-  new-none : (a : ℕ) → 0 < times a (grown m .new) → was a ≡ []
+  new-none : (a : ℕ) → 0 < occurrences a (grown m .new) → was a ≡ []
   unfolding entriesIn
   new-none a p =
-      let on : 0 < times (t .block a) zs = rw (grown m .blocks) (times-mapped (t .block) (grown m .new) a p) in
+      let on : 0 < occurrences (t .block a) zs = rw (grown m .blocks) (occurrences-mapped (t .block) (grown m .new) a p) in
       rw (parent-new m (t .block a) on) (entries-new h (parentOf (reachedDirs img s) h) (t .block a))
 
   before-all : gather was (chainOf (t .next) limit h) ≡ entriesOf img s h
@@ -126,19 +126,19 @@ module _ {img : List ℕ} {h : ℕ} {new : NewEntry} {f : ℕ} {room : Option �
   now-all = ap (λ (x : Anodes). entriesOf j x h) (made-disk m .anodes)
 
   -- along other anodes of it nothing has changed
-  now-was : (l : List ℕ) → ((a : ℕ) → times a l ≤ times a (chainOf (t .next) limit h)) → times (spot m .anode) l ≡ 0 → gather now l ≡ gather was l
-  now-was l part none = gather-kept was now l (λ a p. other-entries m a (ones a (omega (arith, p, part a))) (λ e. omega (arith, p, none, ap (λ (x : ℕ). times x l) e)))
+  now-was : (l : List ℕ) → ((a : ℕ) → occurrences a l ≤ occurrences a (chainOf (t .next) limit h)) → occurrences (spot m .anode) l ≡ 0 → gather now l ≡ gather was l
+  now-was l part none = gather-kept was now l (λ a p. other-entries m a (ones a (omega (arith, p, part a))) (λ e. omega (arith, p, none, ap (λ (x : ℕ). occurrences x l) e)))
 
   -- the directory has its entries and the new one
   pub entry-added : OneMore (entered m) (entriesOf img s h) (entriesOf j (anodesOf j) h)
-  entry-added = go (times-member (spot m .anode) (chainOf (t .next) limit h) (spot m .on))
+  entry-added = go (occurrences-member (spot m .anode) (chainOf (t .next) limit h) (spot m .on))
     where
       go : Member (spot m .anode) (chainOf (t .next) limit h) → OneMore (entered m) (entriesOf img s h) (entriesOf j (anodesOf j) h)
       go (front, back, parted) =
           let a = spot m .anode in
           let alone = stands-once (orphan m .2 .good) h head-now a front back parted in
-          let all : (x : ℕ) → times x (chainOf (t .next) limit h) ≡ times x front + (oneAt a x + times x back) = λ x.
-          ap (times x) parted ∙ times-append x front (a ∷ back) ∙ ap (λ (n : ℕ). times x front + n) (times-cons x a back) in (
+          let all : (x : ℕ) → occurrences x (chainOf (t .next) limit h) ≡ occurrences x front + (oneAt a x + occurrences x back) = λ x.
+          ap (occurrences x) parted ∙ occurrences-append x front (a ∷ back) ∙ ap (λ (n : ℕ). occurrences x front + n) (occurrences-cons x a back) in (
             gather was front ++ was a,
             gather was back,
             sym before-all ∙ ap (gather was) parted ∙ gather-append was front (a ∷ back) ∙ gather-first was (gather was front) a back,
@@ -182,7 +182,7 @@ module _ {img : List ℕ} {h : ℕ} {new : NewEntry} {f : ℕ} {room : Option �
     not-f e = d .in-use (ap (s .block) e ∙ spare m .unused)
 
     -- its blocks are none of the new ones, and not the one that has the entry
-    apart-f : (y : ℕ) → 0 < times y (blocksOf t k) → 0 < times y ys → ⊥
+    apart-f : (y : ℕ) → 0 < occurrences y (blocksOf t k) → 0 < occurrences y ys → ⊥
     apart-f y p q =
         let o = own-block m y q in
         omega (
@@ -191,19 +191,19 @@ module _ {img : List ℕ} {h : ℕ} {new : NewEntry} {f : ℕ} {room : Option �
           rw (← (o .1)) at (block-on t f f (rw (plan m .own-chain) (member-first f [])) (o .0)),
         )
 
-    apart-h : (a : ℕ) → 0 < times a (chainOf (t .next) limit h) → 0 < times (t .block a) (blocksOf t k) → ⊥
+    apart-h : (a : ℕ) → 0 < occurrences a (chainOf (t .next) limit h) → 0 < occurrences (t .block a) (blocksOf t k) → ⊥
     apart-h a on p = omega (
       arith,
       chains-apart (orphan m .2 .good) k h now-head head-now kh (t .block a) p,
-      block-on t h a (times-member a (chainOf (t .next) limit h) on) (ones a on),
+      block-on t h a (occurrences-member a (chainOf (t .next) limit h) on) (ones a on),
     )
 
-    block-same : (y : ℕ) → 0 < times y (blocksOf t k) → blockOf j y ≡ blockOf img y
+    block-same : (y : ℕ) → 0 < occurrences y (blocksOf t k) → blockOf j y ≡ blockOf img y
     block-same y p =
         entry-kept m .block-kept y (λ e. apart-h (spot m .anode) (spot m .on) (rw (← e) p))
-        ∙ kept-block m y (chain-block img (orphan m .2 .good) k now-head y p) (not-above (times y ys) (apart-f y p))
-        (not-above (times y zs) (λ q. let b = parent-block m y q in
-        apart-h (b .0) (omega (arith, b .1, ap (times (b .0)) (grown m .chain), times-append (b .0) (chainOf (s .next) limit h) (grown m .new))) (rw (← (b .2)) p)))
+        ∙ kept-block m y (chain-block img (orphan m .2 .good) k now-head y p) (not-above (occurrences y ys) (apart-f y p))
+        (not-above (occurrences y zs) (λ q. let b = parent-block m y q in
+        apart-h (b .0) (omega (arith, b .1, ap (occurrences (b .0)) (grown m .chain), occurrences-append (b .0) (chainOf (s .next) limit h) (grown m .new))) (rw (← (b .2)) p)))
 
     blocks-kept : BlocksKept img j s k
     blocks-kept y p = block-same y (rw (same-blocks same-chain) p)

@@ -7,7 +7,7 @@ use mathlib.Core.List.{List, [], _∷_, _++_, map, append-nil}
 use mathlib.Core.Option.{Option}
 use native.Mathlib.Omega.{arith}
 use lib.Dec.{T}
-use Rattle.rules.specs.Counting.{times, changed}
+use Rattle.rules.specs.Counting.{occurrences, changed}
 use Rattle.rules.specs.Anodes.{Anodes, limit, exists, anodesOf}
 use Rattle.rules.specs.Chains.{chainOf, blocksOf, systemOwns}
 use Rattle.rules.specs.Walk.{Dir, Entered}
@@ -16,8 +16,8 @@ use Rattle.rules.specs.Space.{planned, rewritten, free, lowestFree}
 use Rattle.rules.specs.Changes.{firstRoom, noRoom, neededBlock}
 use Rattle.laws.specs.Tests.{same?}
 use Rattle.laws.specs.Sums.{oneAt-cases, oneAt-same, oneAt-other, oneAt-le, changed-same, changed-other, least-cases}
-use Rattle.laws.specs.Bags.{times-nil, times-cons, times-append}
-use Rattle.laws.specs.Heads.{Head, head-of-is, times-on-chain}
+use Rattle.laws.specs.Bags.{occurrences-nil, occurrences-cons, occurrences-append}
+use Rattle.laws.specs.Heads.{Head, head-of-is, occurrences-on-chain}
 use Rattle.laws.specs.Space.{FreeAnode, free-is}
 use Rattle.laws.specs.Plans.{planned-same}
 use Rattle.laws.specs.Take.{take-good}
@@ -61,11 +61,11 @@ pub record ParentGrown (s : Anodes) (hd : ℕ → ℕ) (h : ℕ) (needed : Bool)
   -- the parent's new anode, if any
   pub new : List ℕ
   pub chain : chainOf (t .next) limit h ≡ chainOf (s .next) limit h ++ new
-  pub ones : (a : ℕ) → 0 < times a new → t .count a ≡ 1
+  pub ones : (a : ℕ) → 0 < occurrences a new → t .count a ≡ 1
   pub blocks : zs ≡ map (t .block) new
   pub took : needed ≡ true → (y : ℕ) × (zs ≡ y ∷ [])
   -- the new anode was free, or the free list's
-  pub apart : (a : ℕ) → 0 < times a new → s .block a ≢ 0 → hd a ≢ 1 → ⊥
+  pub apart : (a : ℕ) → 0 < occurrences a new → s .block a ≢ 0 → hd a ≢ 1 → ⊥
   -- no anode but the free list's gets other blocks, and every other chain stays
   pub kept : (a : ℕ) → s .block a ≢ 0 → hd a ≢ 1 → (t .count a ≡ s .count a) × (t .block a ≡ s .block a)
   pub stays : (m : ℕ) → Head (s .next) (s .block) m → Head (t .next) (t .block) m
@@ -80,7 +80,7 @@ pub record MadePlan (img : List ℕ) (s : Anodes) (hd : ℕ → ℕ) (f h : ℕ)
   pub own-count : t .count f ≡ cond dir 1 0
   pub own-blocks : ys ≡ cond dir (t .block f ∷ []) []
   pub grown : ParentGrown s hd h needed zs t
-  pub not-own : (a : ℕ) → 0 < times a (grown .new) → a ≢ f
+  pub not-own : (a : ℕ) → 0 < occurrences a (grown .new) → a ≢ f
 
 module _ (img : List ℕ) {s : Anodes} {hd sd : ℕ → ℕ} {entries : ℕ → List Entered} {marked : Dir → ℕ → Bool} {dirs : List Dir}
     (w : WholeWith img s hd sd entries marked dirs)
@@ -145,10 +145,10 @@ module _ (img : List ℕ) {s : Anodes} {hd sd : ℕ → ℕ} {entries : ℕ → 
     parent-none = record {
       new = [];
       chain = sym (append-nil (chainOf (r .next) limit h));
-      ones = λ a p. absurd (omega (arith, p, times-nil a));
+      ones = λ a p. absurd (omega (arith, p, occurrences-nil a));
       blocks = refl;
       took = λ e. absurd (true≢false (sym e));
-      apart = λ a p u q. absurd (omega (arith, p, times-nil a));
+      apart = λ a p u q. absurd (omega (arith, p, occurrences-nil a));
       kept = λ a u q. (refl, refl);
       stays = λ m d. d;
       others = λ m d m1 mh. refl;
@@ -171,13 +171,13 @@ module _ (img : List ℕ) {s : Anodes} {hd sd : ℕ → ℕ} {entries : ℕ → 
           chain = x .2 .chain;
           ones = λ a p. elim (oneAt-cases (x .2 .anode) a) [
             | inl c ↦ ap (t .count) (sym (c .0)) ∙ x .2 .one
-            | inr c ↦ absurd (omega (arith, p, times-cons a (x .2 .anode) [], times-nil a, c .1))
+            | inr c ↦ absurd (omega (arith, p, occurrences-cons a (x .2 .anode) [], occurrences-nil a, c .1))
           ];
           blocks = x .1 ∙ ap (λ (y : ℕ). y ∷ []) (sym (x .2 .at));
           took = λ n. (x .0, x .1);
           apart = λ a p u q.
-              let now = times-on-chain (m .good .linked) (m .good .heads) h (sh .stays h (dir-head o h reached)) a in
-              let twice = ap (times a) (x .2 .chain) ∙ times-append a (chainOf (r .next) limit h) (x .2 .anode ∷ []) in
+              let now = occurrences-on-chain (m .good .linked) (m .good .heads) h (sh .stays h (dir-head o h reached)) a in
+              let twice = ap (occurrences a) (x .2 .chain) ∙ occurrences-append a (chainOf (r .next) limit h) (x .2 .anode ∷ []) in
               elim (same? (step .hd′ a) h) [
                 | inl i ↦ omega (
                   arith,
@@ -185,13 +185,13 @@ module _ (img : List ℕ) {s : Anodes} {hd sd : ℕ → ℕ} {entries : ℕ → 
                   now,
                   twice,
                   oneAt-le (m .hd′ a) h,
-                  times-on-chain (o .good .linked) (o .good .heads) h (dir-head o h reached) a,
+                  occurrences-on-chain (o .good .linked) (o .good .heads) h (dir-head o h reached) a,
                   oneAt-same (step .hd′ a) h i,
                 )
                 | inr i ↦ omega (arith, p, now, twice, oneAt-other (m .hd′ a) h (λ k. i (sym (sh .same-hd a u q i) ∙ k)))
               ];
           kept = λ a u q. elim (same? (step .hd′ a) h) [
-            | inl i ↦ x .2 .kept a (omega (arith, times-on-chain (o .good .linked) (o .good .heads) h (dir-head o h reached) a, oneAt-same (step .hd′ a) h i))
+            | inl i ↦ x .2 .kept a (omega (arith, occurrences-on-chain (o .good .linked) (o .good .heads) h (dir-head o h reached) a, oneAt-same (step .hd′ a) h i))
             | inr i ↦ (let l = sh .apart a u q i in (l .same-count, l .same-block))
           ];
           stays = sh .stays;

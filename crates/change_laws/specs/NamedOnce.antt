@@ -5,7 +5,7 @@ use mathlib.Core.Logic.{_≢_, _⊎_, inl, inr}
 use mathlib.Core.Bool.{Bool}
 use mathlib.Core.List.{List, _∷_, _++_}
 use native.Mathlib.Omega.{arith}
-use Rattle.rules.specs.Counting.{oneAt, sumList, times, gather}
+use Rattle.rules.specs.Counting.{oneAt, sumList, occurrences, gather}
 use Rattle.rules.specs.Anodes.{Anodes, limit, anodesOf}
 use Rattle.rules.specs.Chains.{chainOf}
 use Rattle.rules.specs.Walk.{Dir, Entered, Item, entriesIn, itemOf, itemsAt, itemsBy, reachedDirs}
@@ -15,7 +15,7 @@ use Rattle.laws.specs.Bags.{list-cons, list-append, list-congr, gather-sum, map
 use Rattle.laws.specs.Items.{names-sum, namedIn}
 use Rattle.laws.specs.Entries.{item-anode, items-sum}
 use Rattle.laws.specs.Whole.{Whole}
-use Rattle.laws.specs.Members.{Member, member-sum, member-times, member-congr, two-members, gather-part}
+use Rattle.laws.specs.Members.{Member, member-sum, member-occurrences, member-congr, two-members, gather-part}
 use Rattle.change_laws.specs.Image.{AcceptedImage, accepted-whole}
 use Rattle.change_laws.specs.Reached.{its-items, EntryFacts}
 
@@ -56,12 +56,12 @@ module _ {ex : ℕ → Bool} {n last : ℕ} {s : Anodes} {system hd sd : ℕ →
       ∙ member-congr (λ d. sumList namesAt (chainOf (s .next) limit (d .head))) (namedIn items x) dirs (λ d m. sym (names-sum x (items d) ∙ items-sum entries marked s d (λ i. oneAt (i .anode) x)
       ∙ member-congr (λ a. sumList (λ i. oneAt (i .anode) x) (itemsAt entries marked s d a)) namesAt (chainOf (s .next) limit (d .head)) (at-names d m)))
 
-  on-all : (d : Dir) → Member d dirs → (a : ℕ) → Member a (chainOf (s .next) limit (d .head)) → 0 < times a allAnodes
-  unfolding times
-  on-all d m a on = omega (arith, gather-part (λ d. chainOf (s .next) limit (d .head)) (λ y. oneAt y a) d dirs m, member-times a (chainOf (s .next) limit (d .head)) on)
+  on-all : (d : Dir) → Member d dirs → (a : ℕ) → Member a (chainOf (s .next) limit (d .head)) → 0 < occurrences a allAnodes
+  unfolding occurrences
+  on-all d m a on = omega (arith, gather-part (λ d. chainOf (s .next) limit (d .head)) (λ y. oneAt y a) d dirs m, member-occurrences a (chainOf (s .next) limit (d .head)) on)
 
   -- at most one anode has a block that names x, and it does so once
-  names-apart : (a b : ℕ) → a ≢ b → 0 < times a allAnodes → 0 < times b allAnodes → namesAt a + namesAt b ≤ 1
+  names-apart : (a b : ℕ) → a ≢ b → 0 < occurrences a allAnodes → 0 < occurrences b allAnodes → namesAt a + namesAt b ≤ 1
   names-apart a b apart p q = omega (arith, two-members namesAt allAnodes a b apart p q, all-names, w .tree .once x)
 
   names-once : (d : Dir) → Member d dirs → sumList namesAt (chainOf (s .next) limit (d .head)) ≤ 1

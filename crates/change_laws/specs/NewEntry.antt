@@ -15,11 +15,11 @@ use Rattle.directory.specs.declared.Entry.{Entry}
 use Rattle.directory.specs.declared.Walked.the-variants.{Found}
 use Rattle.directory.specs.Entries.{directoryHeadIn, goodName, entryLength, entryIn, walkedAt, putEntry}
 use Rattle.directory.proofs.Laws.{length-putEntry, getD-putEntry-before, walkedAt-putEntry-end, entryIn-putEntry, walkedAt-putEntry, found-at}
-use Rattle.rules.specs.Counting.{times}
+use Rattle.rules.specs.Counting.{occurrences}
 use Rattle.rules.specs.Walk.{Entered, entriesFrom}
 use Rattle.rules.specs.Format.{newDirectoryBlock}
 use Rattle.rules.specs.Changes.{endFrom, entriesEnd, firstRoom}
-use Rattle.laws.specs.Bags.{times-cons, times-here}
+use Rattle.laws.specs.Bags.{occurrences-cons, occurrences-here}
 use Rattle.laws.specs.NewDirectory.{mark-new}
 use Rattle.laws.specs.Entries.{Unbroken}
 use Rattle.change_laws.specs.FoundEntries.{head-same, walked-same, enteredAt, entries-more, entries-end, EndOrEntry, unbroken-cases, end-more, end-here, end-bounds}
@@ -100,13 +100,13 @@ end-new owner parent = end-here (newDirectoryBlock owner parent) 27 16 (mark-new
 
 -- where room is found: in block y of the list, at its end mark
 pub room-found : (img : List ℕ) (len : ℕ) (ys : List ℕ) (place : ℕ) → firstRoom img len ys ≡ some place →
-    (y : ℕ) × (0 < times y ys) × (place ≡ y * 512 + entriesEnd (blockOf img y)) × (entriesEnd (blockOf img y) + len ≤ 510)
+    (y : ℕ) × (0 < occurrences y ys) × (place ≡ y * 512 + entriesEnd (blockOf img y)) × (entriesEnd (blockOf img y) + len ≤ 510)
 unfolding firstRoom
 room-found img len [] place e = absurd (Option·none-ne-some place e)
 room-found img len (y ∷ ys) place e = go (leb (entriesEnd (blockOf img y) + len) 510) refl e (room-found img len ys place)
   where
     go : (c : Bool) → leb (entriesEnd (blockOf img y) + len) 510 ≡ c → elim c [ true ↦ some (y * 512 + entriesEnd (blockOf img y)) | false ↦ firstRoom img len ys ] ≡ some place →
-        (firstRoom img len ys ≡ some place → (x : ℕ) × (0 < times x ys) × (place ≡ x * 512 + entriesEnd (blockOf img x)) × (entriesEnd (blockOf img x) + len ≤ 510)) →
-        (x : ℕ) × (0 < times x (y ∷ ys)) × (place ≡ x * 512 + entriesEnd (blockOf img x)) × (entriesEnd (blockOf img x) + len ≤ 510)
-    go true c f rec = (y, times-here y ys, cc, leb-true (entriesEnd (blockOf img y) + len) 510 c)
-    go false c f rec = let r = rec f in (r .0, omega (arith, times-cons (r .0) y ys, r .1), r .2, r .3)
+        (firstRoom img len ys ≡ some place → (x : ℕ) × (0 < occurrences x ys) × (place ≡ x * 512 + entriesEnd (blockOf img x)) × (entriesEnd (blockOf img x) + len ≤ 510)) →
+        (x : ℕ) × (0 < occurrences x (y ∷ ys)) × (place ≡ x * 512 + entriesEnd (blockOf img x)) × (entriesEnd (blockOf img x) + len ≤ 510)
+    go true c f rec = (y, occurrences-here y ys, cc, leb-true (entriesEnd (blockOf img y) + len) 510 c)
+    go false c f rec = let r = rec f in (r .0, omega (arith, occurrences-cons (r .0) y ys, r .1), r .2, r .3)

@@ -4,7 +4,7 @@ use mathlib.Core.Path.{_≡_, refl, _∙_}
 use mathlib.Core.Logic.{_≢_}
 use mathlib.Core.List.{List}
 use native.Mathlib.Omega.{arith}
-use Rattle.rules.specs.Counting.{times}
+use Rattle.rules.specs.Counting.{occurrences}
 use Rattle.rules.specs.Anodes.{Anodes, anodesOf}
 use Rattle.rules.specs.Chains.{blocksOf}
 use Rattle.rules.specs.Walk.{Entered}
@@ -50,7 +50,7 @@ module _ {img : List ℕ} {e : Entered} {Plans : Type 0} (p : PlannedChange img 
   home-head = reached-head (p .entry .directory)
 
   -- the block that the entry stands in is of its own directory's chain alone
-  pub off-chain : (m : ℕ) → Head (s .next) (s .block) m → m ≢ p .home → (z : ℕ) → 0 < times z (blocksOf s m) → z ≢ e .place / 512
+  pub off-chain : (m : ℕ) → Head (s .next) (s .block) m → m ≢ p .home → (z : ℕ) → 0 < occurrences z (blocksOf s m) → z ≢ e .place / 512
   off-chain m d apart z q i =
       omega (arith, chains-apart (w .good) m (p .home) d home-head apart z q, rw (← (i ∙ facts .in-block)) at (block-on s (p .home) (facts .a₀) (facts .member-chain) (facts .block-facts .one)))
 

@@ -9,7 +9,7 @@ use native.Mathlib.Omega.{arith}
 use lib.ListN.{length}
 use Rattle.disk.specs.Blocks.{blockOf}
 use Rattle.disk.proofs.Laws.{length-blockOf}
-use Rattle.rules.specs.Counting.{oneAt, sumList, times, gather}
+use Rattle.rules.specs.Counting.{oneAt, sumList, occurrences, gather}
 use Rattle.rules.specs.Anodes.{Anodes, limit, anodesOf}
 use Rattle.rules.specs.Chains.{chainOf, heads, run, blocksOf, blockCount}
 use Rattle.rules.specs.Walk.{Dir, dirMade, root, Entered, Item, entriesIn, isBlockOf, blocksFor, itemOf, broken, itemsAt, itemsBy, itemsOf, subDirs, walkOf, reachedDirs}
@@ -26,7 +26,7 @@ use Rattle.laws.specs.TreeChanges.{headed-member}
 use Rattle.laws.specs.Totals.{file-size}
 use Rattle.laws.specs.Entries.{broken-wrong, item-fine, item-anode, item-dir, items-sum, itemsAt-cases, Unbroken}
 use Rattle.laws.specs.Whole.{Whole, counts-head, not-dir, dir-heads, named-heads}
-use Rattle.laws.specs.Members.{Member, no-member, member-first, member-cons, member-left, member-right, member-later, member-each, member-sum, none-pass, member-gather, member-times, gather-part}
+use Rattle.laws.specs.Members.{Member, no-member, member-first, member-cons, member-left, member-right, member-later, member-each, member-sum, none-pass, member-gather, member-occurrences, gather-part}
 use Rattle.frames.specs.DisjointBlocks.{DataBlock, chain-block}
 use Rattle.change_laws.specs.Image.{AcceptedWhole, headIn, AcceptedImage, accepted-walk, accepted-whole, headed-named, headed-reached, reached-some, ReachedDir}
 use Rattle.change_laws.specs.FoundEntries.{Standing, standing-place, entry-place, BlockEntry}
@@ -167,8 +167,8 @@ module _ {img : List ℕ} {h : ℕ} {e : Entered} (f : EntryFacts img h e) where
   block-entry = record { whole = rw (f .in-block) (f .block-facts .whole); unbroken = rw (f .in-block) (f .block-facts .unbroken); parted = rw (f .in-block) (f .member); place = omega arith }
 
 -- the one block of an anode with count 1 is a block of its chain
-pub block-on : (s : Anodes) (h a : ℕ) → Member a (chainOf (s .next) limit h) → s .count a ≡ 1 → 0 < times (s .block a) (blocksOf s h)
-unfolding blocksOf times run
+pub block-on : (s : Anodes) (h a : ℕ) → Member a (chainOf (s .next) limit h) → s .count a ≡ 1 → 0 < occurrences (s .block a) (blocksOf s h)
+unfolding blocksOf occurrences run
 block-on s h a on one = omega (
   arith,
   gather-part (λ b. run (s .block b) (s .count b)) (λ y. oneAt y (s .block a)) a (chainOf (s .next) limit h) on,
@@ -202,7 +202,7 @@ module _ {img : List ℕ} {h : ℕ} (r : ReachedDir img h) where
   dir-block a on =
       let c : Member a (chainOf (anodesOf img .next) limit (reached-dir .0 .head)) = rw (reached-dir .2) on in
       let t = its-items w (reached-dir .0) (reached-dir .1) a c in
-      let o = on-chain (w .good) h reached-head a (member-times a (chainOf (anodesOf img .next) limit h) on) in
+      let o = on-chain (w .good) h reached-head a (member-occurrences a (chainOf (anodesOf img .next) limit h) on) in
       let y = anodesOf img .block a in
       let b = chain-block img (w .good) h reached-head y (block-on (anodesOf img) h a on (t .0)) in
       record {
@@ -272,7 +272,7 @@ pub entry-facts : {img : List ℕ} {h : ℕ} {e : Entered} → EntryIn img h e �
 entry-facts {e = e} m = facts-of (m .directory) e (m .member)
 
 -- a block of its chain is a data block
-pub entry-data : {img : List ℕ} {h : ℕ} {e : Entered} → EntryIn img h e → (y : ℕ) → 0 < times y (blocksOf (anodesOf img) (e .anode)) → DataBlock img y
+pub entry-data : {img : List ℕ} {h : ℕ} {e : Entered} → EntryIn img h e → (y : ℕ) → 0 < occurrences y (blocksOf (anodesOf img) (e .anode)) → DataBlock img y
 entry-data {img} {e = e} m = chain-block img (accepted-whole (m .directory .image) .good) (e .anode) (entry-facts m .head)
 
 -- ---- reached, said by steps from the root

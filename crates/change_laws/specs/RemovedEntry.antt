@@ -10,7 +10,7 @@ use borrow.Author.Tests.{eq-eqb, ne-eqb}
 use lib.ListN.{getD, take, drop}
 use Rattle.disk.specs.Blocks.{blockOf}
 use Rattle.directory.proofs.Laws.{FoundAt}
-use Rattle.rules.specs.Counting.{times, gather}
+use Rattle.rules.specs.Counting.{occurrences, gather}
 use Rattle.rules.specs.Anodes.{Anodes, limit, anodesOf}
 use Rattle.rules.specs.Chains.{chainOf}
 use Rattle.rules.specs.Walk.{Entered, entriesIn}
@@ -18,7 +18,7 @@ use Rattle.rules.specs.Lookup.{entriesOf, notEmpty}
 use Rattle.rules.specs.Changes.{removedImage}
 use Rattle.laws.specs.Bags.{gather-append}
 use Rattle.laws.specs.ChainBlocks.{stands-once}
-use Rattle.laws.specs.Members.{Member, no-member, member-later, member-append, member-left, member-right, member-gather, member-times, gather-congr, map-members, map-kept}
+use Rattle.laws.specs.Members.{Member, no-member, member-later, member-append, member-left, member-right, member-gather, member-occurrences, gather-congr, map-members, map-kept}
 use Rattle.frames.specs.Kept.{entriesIn-kept}
 use Rattle.frames.specs.DisjointBlocks.{DataBlock}
 use Rattle.change_laws.specs.FoundEntries.{standing-found, standing-place}
@@ -109,14 +109,14 @@ module _ {img : List ℕ} {e : Entered} {t : Anodes} {ys : List ℕ} (p : Planne
   chain = chainOf (s .next) limit (p .home)
 
   -- the entry's anode is none of them
-  once : (times (facts p .a₀) front ≡ 0) × (times (facts p .a₀) back ≡ 0)
+  once : (occurrences (facts p .a₀) front ≡ 0) × (occurrences (facts p .a₀) back ≡ 0)
   once = stands-once (w p .good) (p .home) (home-head p) (facts p .a₀) front back (facts p .member-chain .2)
 
   in-front : (a : ℕ) → Member a front → Member a chain × (a ≢ facts p .a₀)
-  in-front a m = (rw (facts p .member-chain .2) (member-left a front (facts p .a₀ ∷ back) m), λ q. omega (arith, once .0, member-times (facts p .a₀) front (rw q at m)))
+  in-front a m = (rw (facts p .member-chain .2) (member-left a front (facts p .a₀ ∷ back) m), λ q. omega (arith, once .0, member-occurrences (facts p .a₀) front (rw q at m)))
 
   in-back : (a : ℕ) → Member a back → Member a chain × (a ≢ facts p .a₀)
-  in-back a m = (rw (facts p .member-chain .2) (member-right a front (facts p .a₀ ∷ back) (member-later a (facts p .a₀) back m)), λ q. omega (arith, once .1, member-times (facts p .a₀) back (rw q at m)))
+  in-back a m = (rw (facts p .member-chain .2) (member-right a front (facts p .a₀ ∷ back) (member-later a (facts p .a₀) back m)), λ q. omega (arith, once .1, member-occurrences (facts p .a₀) back (rw q at m)))
 
   -- the entries of one of its anodes, before and after the removal
   abbrev old : ℕ → List Entered

@@ -15,7 +15,7 @@ use Rattle.rules.specs.Space.{Plan}
 use Rattle.rules.specs.Changes.{resizePlan, resizedImage, resized}
 use Rattle.laws.specs.Tests.{same?}
 use Rattle.laws.specs.Resize as Laws
-use Rattle.laws.specs.Members.{Member, member-times, gather-congr, map-kept}
+use Rattle.laws.specs.Members.{Member, member-occurrences, gather-congr, map-kept}
 use Rattle.change_laws.specs.Answers.{StepsAnswer}
 use Rattle.change_laws.specs.Image.{WholeWith, WholeOn, StillAccepted, accepted-whole, whole-accepted, ReachedDir}
 use Rattle.change_laws.specs.Reached.{member-reached, EntryIn, entry-not-1, dir-block, entry-facts}
@@ -106,7 +106,7 @@ module _ {img : List ℕ} {e : Entered} {new : ℕ} {t : Anodes} {ys : List ℕ}
 
     items-left : itemsAt (entriesIn j) (isBlockOf j) t d a ≡ itemsAt (λ y. map (resizedEntry (e .anode) new) (entriesIn img y)) (isBlockOf img) t d a
     unfolding itemsFor
-    items-left = rw (dir-same p r .same-extents a (member-times a (chainOf (s .next) limit (d .head)) on) .1, marks-left, block-left)
+    items-left = rw (dir-same p r .same-extents a (member-occurrences a (chainOf (s .next) limit (d .head)) on) .1, marks-left, block-left)
 
   -- the state after the steps is whole where the entries have the new size
   sizes-whole : WholeWith img t (steps p .ran .hd′) (steps p .ran .sd′) (λ y. map (resizedEntry (e .anode) new) (entriesIn img y)) (isBlockOf img) dirs

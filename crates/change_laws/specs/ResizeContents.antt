@@ -12,7 +12,7 @@ use borrow.Author.Tests.{lt-ltb, le-ltb, ne-eqb}
 use Rattle.endian.proofs.Laws.{cleared-rest, take-zeros}
 use Rattle.disk.specs.Blocks.{blockOf}
 use Rattle.disk.proofs.Laws.{length-blockOf}
-use Rattle.rules.specs.Counting.{times, gather}
+use Rattle.rules.specs.Counting.{occurrences, gather}
 use Rattle.rules.specs.Anodes.{Anodes, anodesOf, withAnodes}
 use Rattle.rules.specs.Chains.{blocksOf, blockCount}
 use Rattle.rules.specs.Walk.{Entered, blocksFor}
@@ -22,10 +22,10 @@ use Rattle.rules.specs.Changes.{inBlock, zeroTail, zeroTaken, resizedImage}
 use Rattle.laws.specs.Chains.{Inside}
 use Rattle.laws.specs.Tests.{same?}
 use Rattle.laws.specs.Sums.{oneAt-same}
-use Rattle.laws.specs.Bags.{times-cons, times-append, gather-append, times-here, times-later, gather-kept}
+use Rattle.laws.specs.Bags.{occurrences-cons, occurrences-append, gather-append, occurrences-here, occurrences-later, gather-kept}
 use Rattle.laws.specs.Whole.{blocks-count}
 use Rattle.laws.specs.ChainBlocks.{length-blocksOf}
-use Rattle.laws.specs.Members.{member-times}
+use Rattle.laws.specs.Members.{member-occurrences}
 use Rattle.frames.specs.StoredBlocks.{inBlock-kept, blockOf-inBlock}
 use Rattle.frames.specs.StoredBytes.{length-gather, blockOf-withBlocks}
 use Rattle.frames.specs.DisjointBlocks.{chain-once}
@@ -37,12 +37,12 @@ use Rattle.change_laws.specs.ResizePlan.{handed-data, plan-longer, plan-
 use Rattle.change_laws.specs.PlannedChange.{w, facts, not-1}
 use Rattle.change_laws.specs.ResizeStores.{PlannedResize, steps, zeroed, stored, taken-kept, oldLast, tailCleared, tail-in, tail-long, tail-kept, size-kept, others-left, home-alone}
 
-gather-zeros : (f : ℕ → List ℕ) (l : List ℕ) → ((y : ℕ) → 0 < times y l → f y ≡ zeroBlock) → gather f l ≡ replicate (length l * 512) 0
+gather-zeros : (f : ℕ → List ℕ) (l : List ℕ) → ((y : ℕ) → 0 < occurrences y l → f y ≡ zeroBlock) → gather f l ≡ replicate (length l * 512) 0
 unfolding gather
 gather-zeros f [] z = refl
 gather-zeros f (x ∷ l) z =
     let e : 512 + length l * 512 ≡ suc (length l) * 512 = omega arith in
-    ap₂ _++_ (z x (times-here x l)) (gather-zeros f l (λ y p. z y (times-later y x l p))) ∙ replicate-append-replicate {A = ℕ} 512 (length l * 512) 0 ∙ ap (λ (n : ℕ). replicate n 0) e
+    ap₂ _++_ (z x (occurrences-here x l)) (gather-zeros f l (λ y p. z y (occurrences-later y x l p))) ∙ replicate-append-replicate {A = ℕ} 512 (length l * 512) 0 ∙ ap (λ (n : ℕ). replicate n 0) e
 
 module _ {img : List ℕ} {e : Entered} {new : ℕ} {t : Anodes} {ys : List ℕ} (p : PlannedResize img e new t ys) where
   abbrev s : Anodes
@@ -64,7 +64,7 @@ module _ {img : List ℕ} {e : Entered} {new : ℕ} {t : Anodes} {ys : List ℕ}
   -- ---- the file
 
   -- no block of it has its entry
-  off-home : (y : ℕ) → 0 < times y chain → y ≢ e .place / 512
+  off-home : (y : ℕ) → 0 < occurrences y chain → y ≢ e .place / 512
   off-home y q i = omega (arith, rw i at q, home-alone p .1)
 
   inside : Inside img chain
@@ -78,11 +78,11 @@ module _ {img : List ℕ} {e : Entered} {new : ℕ} {t : Anodes} {ys : List ℕ}
     abbrev left-blocks : List ℕ
     left-blocks = blocksOf t (e .anode)
 
-    still-in : (y : ℕ) → 0 < times y left-blocks → 0 < times y chain
-    still-in y q = rw (shorter .1) (omega (arith, q, times-append y left-blocks (shorter .0)))
+    still-in : (y : ℕ) → 0 < occurrences y left-blocks → 0 < occurrences y chain
+    still-in y q = rw (shorter .1) (omega (arith, q, occurrences-append y left-blocks (shorter .0)))
 
     -- nothing of it is stored but its entry's size
-    block-left : (y : ℕ) → 0 < times y left-blocks → blockOf j y ≡ blockOf img y
+    block-left : (y : ℕ) → 0 < occurrences y left-blocks → blockOf j y ≡ blockOf img y
     unfolding resizedImage zeroTail zeroTaken
     block-left y q =
         let small = le-ltb (e .size) new less in
@@ -114,15 +114,15 @@ module _ {img : List ℕ} {e : Entered} {new : ℕ} {t : Anodes} {ys : List ℕ}
     big = lt-ltb (e .size) new more
 
     -- a block stands in the new chain once
-    once : (y : ℕ) → times y chain + times y ys ≤ 1
+    once : (y : ℕ) → occurrences y chain + occurrences y ys ≤ 1
     once y = omega (
       arith,
-      times-append y chain ys,
+      occurrences-append y chain ys,
       rw (longer .0) at (chain-once (steps p .ran .good) (e .anode) (steps p .ran .shift .stays (e .anode) (facts p .head)) y),
     )
 
     -- a block that was taken is zeroed
-    taken-zero : (y : ℕ) → 0 < times y ys → blockOf j y ≡ zeroBlock
+    taken-zero : (y : ℕ) → 0 < occurrences y ys → blockOf j y ≡ zeroBlock
     unfolding resizedImage zeroTaken
     taken-zero y q =
         size-kept p .block-kept y (λ i. omega (arith, rw i at q, home-alone p .0))
@@ -131,7 +131,7 @@ module _ {img : List ℕ} {e : Entered} {new : ℕ} {t : Anodes} {ys : List ℕ}
         (rw (stored p .length-kept) (handed-data img (w p .good) (e .anode) (facts p .head) (not-1 p) (steps p) y q .inside)))
 
     -- the others keep their bytes, up to the clearing of the last one's end
-    before-tail : (y : ℕ) → 0 < times y chain → blockOf (zeroed p) y ≡ blockOf img y
+    before-tail : (y : ℕ) → 0 < occurrences y chain → blockOf (zeroed p) y ≡ blockOf img y
     before-tail y q =
         taken-kept p .block-kept y (omega (arith, once y, q)) ∙ stored p .block-kept y (entry-data (p .entry) y q .unheld)
 
@@ -153,21 +153,21 @@ module _ {img : List ℕ} {e : Entered} {new : ℕ} {t : Anodes} {ys : List ℕ}
       parted : chain ≡ front ++ (oldLast p ∷ [])
       parted = split-at chain full 0 (omega (arith, chain-long)) ∙ ap (λ (l : List ℕ). front ++ (oldLast p ∷ l)) (drop-of-length-le chain {i = suc full} (omega (arith, chain-long)))
 
-      last-in : 0 < times (oldLast p) chain
-      last-in = member-times (oldLast p) chain (tail-in p odd)
+      last-in : 0 < occurrences (oldLast p) chain
+      last-in = member-occurrences (oldLast p) chain (tail-in p odd)
 
-      in-front : (y : ℕ) → 0 < times y front → (0 < times y chain) × (y ≢ oldLast p)
+      in-front : (y : ℕ) → 0 < occurrences y front → (0 < occurrences y chain) × (y ≢ oldLast p)
       in-front y q =
-          let all : times y chain ≡ times y front + times y (oldLast p ∷ []) = ap (times y) parted ∙ times-append y front (oldLast p ∷ []) in (
+          let all : occurrences y chain ≡ occurrences y front + occurrences y (oldLast p ∷ []) = ap (occurrences y) parted ∙ occurrences-append y front (oldLast p ∷ []) in (
             omega (arith, q, all),
-            λ i. omega (arith, q, all, times-cons y (oldLast p) [], oneAt-same (oldLast p) y (sym i), once y),
+            λ i. omega (arith, q, all, occurrences-cons y (oldLast p) [], oneAt-same (oldLast p) y (sym i), once y),
           )
 
       stored-tail : zeroTail (zeroed p) s e new ≡ inBlock (zeroed p) (oldLast p) (tailCleared p)
       unfolding zeroTail
       stored-tail = rw (big, ne-eqb (e .size % 512) 0 odd)
 
-      front-left : (y : ℕ) → 0 < times y front → blockOf j y ≡ blockOf img y
+      front-left : (y : ℕ) → 0 < occurrences y front → blockOf j y ≡ blockOf img y
       unfolding resizedImage
       front-left y q =
           let i = in-front y q in
@@ -199,7 +199,7 @@ module _ {img : List ℕ} {e : Entered} {new : ℕ} {t : Anodes} {ys : List ℕ}
           ∙ sym (append-assoc (gather (blockOf img) front) part (replicate (512 - e .size % 512) 0))
           ∙ ap (λ (l : List ℕ). l ++ replicate (512 - e .size % 512) 0) (sym odd-contents)
 
-    even-left : e .size % 512 ≡ 0 → (y : ℕ) → 0 < times y chain → blockOf j y ≡ blockOf img y
+    even-left : e .size % 512 ≡ 0 → (y : ℕ) → 0 < occurrences y chain → blockOf j y ≡ blockOf img y
     unfolding resizedImage zeroTail
     even-left even y q = size-kept p .block-kept y (off-home y q) ∙ rw (big, even) (before-tail y q)
 

@@ -8,7 +8,7 @@ use native.Mathlib.Omega.{arith}
 use lib.Dec.{leb}
 use lib.ListN.{length, drop-of-length-le}
 use borrow.Author.Tests.{le-leb, lt-leb}
-use Rattle.rules.specs.Counting.{times}
+use Rattle.rules.specs.Counting.{occurrences}
 use Rattle.rules.specs.Anodes.{Anodes, limit, exists}
 use Rattle.rules.specs.Chains.{systemOwns, blocksOf, blockCount}
 use Rattle.rules.specs.Accepted.{diskSize, lastReserved}
@@ -26,7 +26,7 @@ use Rattle.laws.specs.RefusedSteps.{takes-refused, gives-refused}
 use Rattle.laws.specs.TakenBlocks.{takes-blocks}
 use Rattle.laws.specs.GivenBlocks.{gives-blocks}
 use Rattle.laws.specs.OwnerTable.{held-data}
-use Rattle.frames.specs.DisjointBlocks.{DataBlock, times-held, chains-apart, chain-block}
+use Rattle.frames.specs.DisjointBlocks.{DataBlock, occurrences-held, chains-apart, chain-block}
 use Rattle.change_laws.specs.Image.{GoodOn}
 
 -- the head whose chain the moved blocks come to: h where it does not shrink, else the free list's
@@ -91,17 +91,17 @@ module _ (img : List ℕ) {s : Anodes} {hd sd : ℕ → ℕ} (g : GoodOn img s h
     from-head = elim (r .from-is) [ inl e ↦ rw e (head-1 g) | inr e ↦ rw e d ]
 
     -- what changed hands was a block of the chain that it left
-    was-there : (y : ℕ) → 0 < times y ys → 0 < times y (blocksOf s (r .from))
+    was-there : (y : ℕ) → 0 < occurrences y ys → 0 < occurrences y (blocksOf s (r .from))
     was-there y p =
         let held-there : 0 < held limit hd (s .count) (s .block) (r .from) y = omega (arith, p, rw (oneAt-same (r .from) (r .from) refl, oneAt-other (r .to) (r .from) (λ e. r .apart (sym e))) at (r .ran .passed (r .from) y)) in
-        rw (times-held g (r .from) from-head y (held-data g (r .from) y held-there .0)) held-there
+        rw (occurrences-held g (r .from) from-head y (held-data g (r .from) y held-there .0)) held-there
 
-    pub handed-data : (y : ℕ) → 0 < times y ys → DataBlock img y
+    pub handed-data : (y : ℕ) → 0 < occurrences y ys → DataBlock img y
     handed-data y p = chain-block img g (r .from) from-head y (was-there y p)
 
     -- so no block of a chain but 1's and h's did
-    pub handed-apart : (k : ℕ) → Head (s .next) (s .block) k → k ≢ 1 → k ≢ h → (y : ℕ) → 0 < times y (blocksOf s k) → times y ys ≡ 0
-    handed-apart k c k1 kh y p = not-above (times y ys) (λ q. omega (arith, was-there y q, chains-apart g k (r .from) c from-head (other (r .from-is)) y p))
+    pub handed-apart : (k : ℕ) → Head (s .next) (s .block) k → k ≢ 1 → k ≢ h → (y : ℕ) → 0 < occurrences y (blocksOf s k) → occurrences y ys ≡ 0
+    handed-apart k c k1 kh y p = not-above (occurrences y ys) (λ q. omega (arith, was-there y q, chains-apart g k (r .from) c from-head (other (r .from-is)) y p))
       where
         other : (r .from ≡ 1) ⊎ (r .from ≡ h) → k ≢ r .from
         other (inl e) q = k1 (q ∙ e)

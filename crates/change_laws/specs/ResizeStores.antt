@@ -12,7 +12,7 @@ use borrow.Author.Tests.{eqb-false, not-true}
 use Rattle.endian.specs.Bytes.{put32, cleared}
 use Rattle.endian.proofs.Laws.{length-put32, length-cleared}
 use Rattle.disk.specs.Blocks.{blockOf}
-use Rattle.rules.specs.Counting.{times}
+use Rattle.rules.specs.Counting.{occurrences}
 use Rattle.rules.specs.Anodes.{Anodes, limit, anodesOf, withAnodes}
 use Rattle.rules.specs.Chains.{chainOf, blocksOf}
 use Rattle.rules.specs.Walk.{Entered, blocksFor}
@@ -22,7 +22,7 @@ use Rattle.rules.specs.Changes.{inBlock, withBlocks, resizePlan, zeroTail, with
 use Rattle.laws.specs.Heads.{Head}
 use Rattle.laws.specs.Frame.{shift-alike, shift-chain}
 use Rattle.laws.specs.ChainBlocks.{length-blocksOf}
-use Rattle.laws.specs.Members.{Member, member-times, nth-in}
+use Rattle.laws.specs.Members.{Member, member-occurrences, nth-in}
 use Rattle.frames.specs.Kept.{Unheld, Kept, kept-all, kept-both}
 use Rattle.frames.specs.StoredBlocks.{inBlock-kept, blockOf-inBlock, withBlocks-kept}
 use Rattle.frames.specs.DisjointBlocks.{DataBlock, chains-apart, chain-block}
@@ -71,11 +71,11 @@ module _ {img : List ℕ} {e : Entered} {new : ℕ} {t : Anodes} {ys : List ℕ}
   pub stored : Kept (Unheld img) img anodesIn
   stored = stored-kept (image p) t
 
-  pub taken-kept : Kept (λ y. times y ys ≡ 0) anodesIn zeroed
+  pub taken-kept : Kept (λ y. occurrences y ys ≡ 0) anodesIn zeroed
   unfolding zeroTaken
   taken-kept = go (ltb (e .size) new)
     where
-      go : (c : Bool) → Kept (λ y. times y ys ≡ 0) anodesIn (cond c (withBlocks anodesIn ys zeroBlock) anodesIn)
+      go : (c : Bool) → Kept (λ y. occurrences y ys ≡ 0) anodesIn (cond c (withBlocks anodesIn ys zeroBlock) anodesIn)
       go true = withBlocks-kept anodesIn ys zeroBlock (le-of-eq (sym (length-replicate {A = ℕ} 512 0)))
       go false = kept-all anodesIn
 
@@ -94,15 +94,15 @@ module _ {img : List ℕ} {e : Entered} {new : ℕ} {t : Anodes} {ys : List ℕ}
   pub tail-long : length (tailCleared (blockOf zeroed oldLast)) ≡ length (blockOf zeroed oldLast)
   tail-long = length-cleared (blockOf zeroed oldLast) (e .size % 512) (512 - e .size % 512)
 
-  pub tail-kept : Kept (λ y. times y chain ≡ 0) zeroed tailed
+  pub tail-kept : Kept (λ y. occurrences y chain ≡ 0) zeroed tailed
   unfolding zeroTail
   tail-kept = go (ltb (e .size) new && not (eqb (e .size % 512) 0)) refl
     where
-      go : (c : Bool) → (ltb (e .size) new && not (eqb (e .size % 512) 0)) ≡ c → Kept (λ y. times y chain ≡ 0) zeroed (cond c (inBlock zeroed oldLast tailCleared) zeroed)
+      go : (c : Bool) → (ltb (e .size) new && not (eqb (e .size % 512) 0)) ≡ c → Kept (λ y. occurrences y chain ≡ 0) zeroed (cond c (inBlock zeroed oldLast tailCleared) zeroed)
       go true q =
           let n = eqb-false (e .size % 512) 0 (not-true (eqb (e .size % 512) 0) (and-eq-true-iff (ltb (e .size) new) (not (eqb (e .size % 512) 0)) .0 q .1)) in
           let k = inBlock-kept zeroed oldLast tailCleared tail-long in
-          record { length-kept = k .length-kept; block-kept = λ y z. k .block-kept y (λ i. omega (arith, rw i at z, member-times oldLast chain (tail-in n))) }
+          record { length-kept = k .length-kept; block-kept = λ y z. k .block-kept y (λ i. omega (arith, rw i at z, member-occurrences oldLast chain (tail-in n))) }
       go false q = kept-all zeroed
 
   abbrev setSize : List ℕ → List ℕ
@@ -114,7 +114,7 @@ module _ {img : List ℕ} {e : Entered} {new : ℕ} {t : Anodes} {ys : List ℕ}
 
   -- a block that was not taken and is not the file's
   abbrev LeftAlone : ℕ → Type 0
-  LeftAlone y = (times y ys ≡ 0) × (times y chain ≡ 0)
+  LeftAlone y = (occurrences y ys ≡ 0) × (occurrences y chain ≡ 0)
 
   zeros-kept : Kept LeftAlone anodesIn tailed
   zeros-kept = kept-both (λ y o. o .0) (λ y o. o .1) taken-kept tail-kept
@@ -144,7 +144,7 @@ module _ {img : List ℕ} {e : Entered} {new : ℕ} {t : Anodes} {ys : List ℕ}
     others-same : SameChain s t m
     others-same = same-chain-alike (shift-chain (w p .good) (steps .ran .good) (steps .ran .shift) m head m1 other) (shift-alike (w p .good) (steps .ran .good) (steps .ran .shift) m head m1 other)
 
-    alone : (y : ℕ) → 0 < times y (blocksOf s m) → LeftAlone y
+    alone : (y : ℕ) → 0 < occurrences y (blocksOf s m) → LeftAlone y
     alone y q = (
       handed-apart img (w p .good) (e .anode) (facts p .head) (not-1 p) steps m head m1 other y q,
       chains-apart (w p .good) m (e .anode) head (facts p .head) other y q,

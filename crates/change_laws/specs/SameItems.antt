@@ -4,7 +4,7 @@ use mathlib.Core.Path.{_≡_, refl, sym, ap, _∙_}
 use mathlib.Core.Bool.{Bool}
 use mathlib.Core.List.{List, [], _∷_}
 use native.Mathlib.Omega.{arith}
-use Rattle.rules.specs.Counting.{sumList, times, gather}
+use Rattle.rules.specs.Counting.{sumList, occurrences, gather}
 use Rattle.rules.specs.Anodes.{Anodes}
 use Rattle.rules.specs.Walk.{Dir, Entered, Item, itemsBy, subDirs, Scanned, faulty, fine, scan, Walk, fault, done, visited, walk}
 use Rattle.laws.specs.Items.{wrong, names, subs}
@@ -32,11 +32,11 @@ module _ {ex : ℕ → Bool} {n last : ℕ} {s : Anodes} {system hd sd : ℕ →
     tree = record {
       exact = λ f. omega (arith, w .tree .exact f, same-sum (λ d l. sumList f (gather (subDirs d) l)));
       faultless = same-sum (λ d l. sumList wrong l) ∙ w .tree .faultless;
-      once = λ x. omega (arith, w .tree .once x, same-sum (λ d l. times x (names l)));
+      once = λ x. omega (arith, w .tree .once x, same-sum (λ d l. occurrences x (names l)));
       height = w .tree .height;
       lower = same-sum (λ d l. sumList (not-lower (w .tree .height) (w .tree .height (d .head))) (gather (subDirs d) l)) ∙ w .tree .lower;
     };
-    all-named = λ x l d. omega (arith, w .all-named x l d, same-sum (λ d l. times x (names l)));
+    all-named = λ x l d. omega (arith, w .all-named x l d, same-sum (λ d l. occurrences x (names l)));
   }
 
 visited-done : (d : Dir) (o : Walk) (Q : List Dir) → visited d o ≡ done Q → (R : List Dir) × (o ≡ done R) × (Q ≡ d ∷ R)

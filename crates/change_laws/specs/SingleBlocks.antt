@@ -12,7 +12,7 @@ use Rattle.laws.specs.Ownership.{covers-in, disjoint}
 use Rattle.laws.specs.Heads.{head-of-is, on-own}
 use Rattle.laws.specs.Space.{Good}
 use Rattle.laws.specs.Owners.{full-used}
-use Rattle.laws.specs.Members.{times-member}
+use Rattle.laws.specs.Members.{occurrences-member}
 use Rattle.frames.specs.DisjointBlocks.{DataBlock, chain-block}
 use Rattle.change_laws.specs.Reached.{block-on}
 
@@ -39,4 +39,4 @@ single-data {s = s} {hd = hd} img g a one =
     let used = single-used g a one in
     let a0 : a ≢ 0 = λ z. omega (arith, one, ap (s .count) z, g .fixed .count-0) in
     let h = head-of-is (g .linked) (g .heads) a a0 used in
-    chain-block img g (hd a) h (s .block a) (block-on s (hd a) a (times-member a (chainOf (s .next) limit (hd a)) (omega (arith, on-own (g .linked) (g .heads) a a0 used))) one)
+    chain-block img g (hd a) h (s .block a) (block-on s (hd a) a (occurrences-member a (chainOf (s .next) limit (hd a)) (omega (arith, on-own (g .linked) (g .heads) a a0 used))) one)

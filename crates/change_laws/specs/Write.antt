@@ -7,7 +7,7 @@ use mathlib.Core.List.{List, [], _∷_}
 use lib.ListN.{length, take}
 use Rattle.endian.specs.Bytes.{stored}
 use Rattle.endian.proofs.Laws.{take-stored}
-use Rattle.rules.specs.Counting.{times}
+use Rattle.rules.specs.Counting.{occurrences}
 use Rattle.rules.specs.Anodes.{Anodes, limit, anodesOf}
 use Rattle.rules.specs.Chains.{chainOf, blocksOf}
 use Rattle.rules.specs.Walk.{Dir, root, Entered, entriesIn, isBlockOf, itemsFor, itemsAt, itemsBy, itemsOf, done, walk, walkOf, dirsIn, reachedDirs}
@@ -42,7 +42,7 @@ module _ {img : List ℕ} {h : ℕ} {e : Entered} (m : EntryIn img h e) (file : 
   facts : EntryFacts img h e
   facts = entry-facts m
 
-  kept : Kept (λ y. times y (blocksOf s (e .anode)) ≡ 0) img j
+  kept : Kept (λ y. occurrences y (blocksOf s (e .anode)) ≡ 0) img j
   kept = written-kept img (w .good) e (facts .head) offset bytes
 
   pub written-disk : DiskWith img s j

@@ -12,7 +12,7 @@ use Rattle.endian.proofs.Laws.{length-stored, stored-none, stored-out, stored-t
 use Rattle.disk.specs.Blocks.{blockOf, withBlock}
 use Rattle.disk.proofs.Laws.{length-blockOf, withBlock-own, part-block, block-back}
 use Rattle.disk.proofs.Store.{length-withBlock, blockOf-withBlock-other}
-use Rattle.rules.specs.Counting.{times, gather}
+use Rattle.rules.specs.Counting.{occurrences, gather}
 use Rattle.rules.specs.Anodes.{Anodes}
 use Rattle.rules.specs.Chains.{run, blocksOf}
 use Rattle.rules.specs.Walk.{Entered}
@@ -21,7 +21,7 @@ use Rattle.rules.specs.Changes.{spread, written}
 use Rattle.laws.specs.Chains.{gathered-step, run-step, Inside}
 use Rattle.laws.specs.ChainBlocks.{extent, blocksFrom}
 use Rattle.laws.specs.Sums.{oneAt-same}
-use Rattle.laws.specs.Bags.{times-cons, times-append, times-here}
+use Rattle.laws.specs.Bags.{occurrences-cons, occurrences-append, occurrences-here}
 use Rattle.contents.specs.Written.{writtenOver, InsideOnce}
 
 -- ---- one block
@@ -64,14 +64,14 @@ module _ (img : List ℕ) (y : ℕ) (inside : y * 512 + 512 ≤ length img) (ys 
 -- ---- the whole
 
 -- what the rules spread over the blocks is what each block's own store leaves, where j still has the blocks of img
-over-spread : (img j ys bytes : List ℕ) (offset : ℕ) → length j ≡ length img → InsideOnce img ys → ((y : ℕ) → 0 < times y ys → blockOf j y ≡ blockOf img y)
+over-spread : (img j ys bytes : List ℕ) (offset : ℕ) → length j ≡ length img → InsideOnce img ys → ((y : ℕ) → 0 < occurrences y ys → blockOf j y ≡ blockOf img y)
     → writtenOver j ys offset bytes ≡ spread j ys (stored (gather (blockOf img) ys) offset bytes)
 unfolding writtenOver spread gather
 over-spread img j [] bytes offset long i same = refl
 over-spread img j (y ∷ ys) bytes offset long i same =
     let first = oneAt-same y y refl in
-    let here = i .0 y (times-here y ys) in
-    let kept = same y (times-here y ys) in
+    let here = i .0 y (occurrences-here y ys) in
+    let kept = same y (occurrences-here y ys) in
     let new = stored (blockOf img y) offset bytes in
     let whole : length new ≡ 512 = length-stored (blockOf img y) offset bytes ∙ length-blockOf img y here in
     let enough : length (blockOf j y) ≤ length new = rw kept (le-of-eq (sym (length-stored (blockOf img y) offset bytes))) in
@@ -80,8 +80,8 @@ over-spread img j (y ∷ ys) bytes offset long i same =
     rw (← length-blockOf img y here) (stored-append (blockOf img y) (gather (blockOf img) ys) offset bytes) in
     rw (kept, split, take-at new rest 512 whole, drop-at new rest 512 whole)
     (over-spread img (withBlock j y new) ys (drop (512 - offset) bytes) (offset - 512) (length-withBlock j y new enough ∙ long)
-    (λ z p. i .0 z (omega (arith, p, times-cons z y ys)), λ z. omega (arith, i .1 z, times-cons z y ys))
-    (λ z p. blockOf-withBlock-other j y new enough z (λ e. omega (arith, rw e at p, i .1 y, times-cons y y ys)) ∙ same z (omega (arith, p, times-cons z y ys))))
+    (λ z p. i .0 z (omega (arith, p, occurrences-cons z y ys)), λ z. omega (arith, i .1 z, occurrences-cons z y ys))
+    (λ z p. blockOf-withBlock-other j y new enough z (λ e. omega (arith, rw e at p, i .1 y, occurrences-cons y y ys)) ∙ same z (omega (arith, p, occurrences-cons z y ys))))
 
 -- the rules' image of a write
 pub over-written : (img : List ℕ) (s : Anodes) (h : ℕ) (e : Entered) (offset : ℕ) (bytes : List ℕ) → e .anode ≡ h → InsideOnce img (blocksOf s h)
@@ -92,12 +92,12 @@ over-written img s h e offset bytes is i = rw is (over-spread img img (blocksOf 
 -- ---- blocks that the image has whole
 
 inside-append : (img l n : List ℕ) → Inside img (l ++ n) → Inside img l × Inside img n
-inside-append img l n i = (λ y p. i y (omega (arith, p, times-append y l n)), λ y p. i y (omega (arith, p, times-append y l n)))
+inside-append img l n i = (λ y p. i y (omega (arith, p, occurrences-append y l n)), λ y p. i y (omega (arith, p, occurrences-append y l n)))
 
 -- the first block of a run, and those behind it
 module _ (img : List ℕ) (b n m : ℕ) (more : n ≡ m + 1) (i : Inside img (run b n)) where
   pub first-inside : b * 512 + 512 ≤ length img
-  first-inside = (rw (run-step b n m more) at i) b (times-here b (run (b + 1) m))
+  first-inside = (rw (run-step b n m more) at i) b (occurrences-here b (run (b + 1) m))
 
   pub rest-inside : Inside img (run (b + 1) m)
   rest-inside = inside-append img (b ∷ []) (run (b + 1) m) (rw (run-step b n m more) at i) .1

@@ -5,7 +5,7 @@ use mathlib.Core.List.{List, [], _∷_, _++_}
 use lib.ListN.{drop}
 use Rattle.endian.specs.Bytes.{stored}
 use Rattle.disk.specs.Blocks.{blockOf, withBlock}
-use Rattle.rules.specs.Counting.{times}
+use Rattle.rules.specs.Counting.{occurrences}
 use Rattle.laws.specs.Chains.{Inside}
 use Rattle.contents.specs.declared.Cursor.{Cursor}
 
@@ -20,4 +20,4 @@ WrittenPast c bytes img ys c′ img′ = (rest : List ℕ) → writtenOver img�
 
 -- the image has each of these blocks whole, and none of them stands twice
 abbrev pub InsideOnce : List ℕ → List ℕ → Type 0
-InsideOnce img ys = Inside img ys × ((y : ℕ) → times y ys ≤ 1)
+InsideOnce img ys = Inside img ys × ((y : ℕ) → occurrences y ys ≤ 1)

@@ -8,11 +8,11 @@ use native.Mathlib.Omega.{arith}
 use lib.ListN.{getD}
 use borrow.Author.Tests.{le-leb, lt-leb, eq-eqb, ne-eqb}
 use Rattle.disk.specs.Blocks.{blockOf}
-use Rattle.rules.specs.Counting.{times, gather}
+use Rattle.rules.specs.Counting.{occurrences, gather}
 use Rattle.rules.specs.Anodes.{Anodes}
 use Rattle.rules.specs.Chains.{chainOf, run, blocksOf}
 use Rattle.rules.specs.Changes.{endFrom, entriesEnd, firstRoom}
-use Rattle.laws.specs.Bags.{times-here, times-later}
+use Rattle.laws.specs.Bags.{occurrences-here, occurrences-later}
 use Rattle.laws.specs.Chains.{gathered-step}
 use Rattle.laws.specs.ChainBlocks.{extent, blocksFrom}
 use Rattle.anodes.specs.Loaded.{anodesFrom}
@@ -83,11 +83,11 @@ unfoldable pub firstsAlong : List ℕ → List ℕ → ℕ → ℕ → List ℕ
 firstsAlong firsts nexts k a = gather (λ x. getD firsts x 0 ∷ []) (chainOf (λ x. getD nexts x 0) k a)
 
 -- of anodes with count 1 they are all blocks
-single-blocks : (block count : ℕ → ℕ) (l : List ℕ) → ((a : ℕ) → 0 < times a l → count a ≡ 1) → gather (λ a. run (block a) (count a)) l ≡ gather (λ a. block a ∷ []) l
+single-blocks : (block count : ℕ → ℕ) (l : List ℕ) → ((a : ℕ) → 0 < occurrences a l → count a ≡ 1) → gather (λ a. run (block a) (count a)) l ≡ gather (λ a. block a ∷ []) l
 unfolding gather run
 single-blocks block count [] one = refl
 single-blocks block count (x ∷ l) one =
-    rw (one x (times-here x l), single-blocks block count l (λ a p. one a (times-later a x l p)))
+    rw (one x (occurrences-here x l), single-blocks block count l (λ a p. one a (occurrences-later a x l p)))
 
 module _ (img : List ℕ) (len : ℕ) where
   pub room-none : (ys : List ℕ) → ys ≡ [] → none ≡ firstRoom img len ys

@@ -5,7 +5,7 @@ use mathlib.Core.List.{List, _++_}
 use mathlib.Core.Option.{Option, none, some}
 use lib.ListN.{length, getD, take, drop}
 use Rattle.disk.specs.Blocks.{blockOf}
-use Rattle.rules.specs.Counting.{times}
+use Rattle.rules.specs.Counting.{occurrences}
 use Rattle.rules.specs.Chains.{chainOf}
 use Rattle.rules.specs.Changes.{entriesEnd}
 use Rattle.edits.specs.declared.Room.{Room}
@@ -37,4 +37,4 @@ ExtentsFit counts firsts = (a : ℕ) → 0 < getD counts a 0 → getD firsts a 0
 
 -- each anode of the chain of h has one block, as in a directory
 abbrev pub OneBlockEach : List ℕ → List ℕ → ℕ → Type 0
-OneBlockEach counts nexts h = (a : ℕ) → 0 < times a (chainOf (λ x. getD nexts x 0) 3444 h) → getD counts a 0 ≡ 1
+OneBlockEach counts nexts h = (a : ℕ) → 0 < occurrences a (chainOf (λ x. getD nexts x 0) 3444 h) → getD counts a 0 ≡ 1

@@ -27,7 +27,7 @@ use Rattle.change_laws.specs.Reached.{reached-head, reached-unbroken}
 use Rattle.lookup.specs.declared.Lookup.{Lookup}
 use Rattle.lookup.specs.Answers.{entryOf}
 use Rattle.lookup.specs.Queued.{placeOf, OwnHeads}
-use Rattle.lookup.proofs.Queue.{place-found, place-times}
+use Rattle.lookup.proofs.Queue.{place-found, place-occurrences}
 use Rattle.find.specs.Open.{Open}
 use Rattle.find.specs.declared.Search.{Search}
 use Rattle.find.specs.Found.{Finds}
@@ -42,7 +42,7 @@ module _ {img counts firsts nexts queue parents heads : List ℕ} {dirs : ℕ} (
   queued-reached i l =
       let h = getD queue i 0 in
       let found = place-found queue h 0 dirs i (omega arith) (omega arith) refl in
-      reached-queued h (ltb (placeOf queue h 0 dirs) dirs) (λ p. place-times queue h p dirs) ∙ ap not (lt-ltb (placeOf queue h 0 dirs) dirs (omega (arith, found)))
+      reached-queued h (ltb (placeOf queue h 0 dirs) dirs) (λ p. place-occurrences queue h p dirs) ∙ ap not (lt-ltb (placeOf queue h 0 dirs) dirs (omega (arith, found)))
 
   -- a reached directory's head is its own head in the table that the check filled
   pub own-heads : OwnHeads heads queue dirs

@@ -8,12 +8,12 @@ use native.Mathlib.Omega.{arith}
 use lib.Dec.{eqb}
 use lib.ListN.{length}
 use borrow.Author.Tests.{eqb-false, not-true, ne-eqb}
-use Rattle.rules.specs.Counting.{oneAt, sumList, times}
+use Rattle.rules.specs.Counting.{oneAt, sumList, occurrences}
 use Rattle.rules.specs.Anodes.{Anodes, limit}
 use Rattle.rules.specs.Chains.{chainOf, followed, preds, heads, blockCount, cut, side}
 use Rattle.counting.specs.Laws.{none-and}
 use Rattle.laws.specs.Sums.{oneAt-same, oneAt-other, sum-member}
-use Rattle.laws.specs.Bags.{times-nil, times-cons}
+use Rattle.laws.specs.Bags.{occurrences-nil, occurrences-cons}
 use Rattle.laws.specs.Segments.{Chain, followed-zero, chain-is, chain-ends}
 use Rattle.laws.specs.Links.{preds-none, preds-one}
 use Rattle.format_laws.specs.Anodes.{Full, full-2, full-5, full-6, Which, is-0, is-1, is-2, is-5, is-6, free, Linking, direct, through-6, Laid}
@@ -101,29 +101,29 @@ module _ {s : Anodes} {n last k : ℕ} (m : Laid s n last k) where
 
   -- ---- the sides of the free list
 
-  pub two-on : 0 < times 2 (chainOf (s .next) limit 1)
-  unfolding times sumList oneAt
+  pub two-on : 0 < occurrences 2 (chainOf (s .next) limit 1)
+  unfolding occurrences sumList oneAt
   two-on = rw list-is (on (m .linking))
     where
-      on : (l : Linking s) → 0 < times 2 (freeList l)
+      on : (l : Linking s) → 0 < occurrences 2 (freeList l)
       on (direct f g) = omega arith
       on (through-6 f u g) = omega arith
 
   -- an anode other than 1 and 6 is not before 2
-  upper-none : (a : ℕ) → a ≢ 1 → a ≢ 6 → times a (side limit s 1) ≡ 0
+  upper-none : (a : ℕ) → a ≢ 1 → a ≢ 6 → occurrences a (side limit s 1) ≡ 0
   unfolding side cut
   upper-none a a1 a6 = go (m .linking)
     where
-      go : Linking s → times a (chainOf (cut (s .next)) limit 1) ≡ 0
+      go : Linking s → occurrences a (chainOf (cut (s .next)) limit 1) ≡ 0
       go (direct f g) = rw (chain-is (cut (s .next)) limit 1 (1 ∷ []) (refl, omega arith, rw (f .next)) (omega arith))
-          (omega (arith, times-cons a 1 [], oneAt-other 1 a (λ e. a1 (sym e)), times-nil a))
+          (omega (arith, occurrences-cons a 1 [], oneAt-other 1 a (λ e. a1 (sym e)), occurrences-nil a))
       go (through-6 f u g) = rw (chain-is (cut (s .next)) limit 1 (1 ∷ 6 ∷ []) (refl, omega arith, (rw (f .next), omega arith, rw g)) (omega arith))
-          (omega (arith, times-cons a 1 (6 ∷ []), times-cons a 6 [], oneAt-other 1 a (λ e. a1 (sym e)), oneAt-other 6 a (λ e. a6 (sym e)), times-nil a))
+          (omega (arith, occurrences-cons a 1 (6 ∷ []), occurrences-cons a 6 [], oneAt-other 1 a (λ e. a1 (sym e)), oneAt-other 6 a (λ e. a6 (sym e)), occurrences-nil a))
 
   -- an anode other than 2 is not from 2 on
-  lower-none : (a : ℕ) → a ≢ 2 → times a (chainOf (s .next) limit 2) ≡ 0
+  lower-none : (a : ℕ) → a ≢ 2 → occurrences a (chainOf (s .next) limit 2) ≡ 0
   lower-none a a2 = rw (chain-is (s .next) limit 2 (2 ∷ []) chain-2 (omega arith))
-      (omega (arith, times-cons a 2 [], oneAt-other 2 a (λ e. a2 (sym e)), times-nil a))
+      (omega (arith, occurrences-cons a 2 [], oneAt-other 2 a (λ e. a2 (sym e)), occurrences-nil a))
 
   pub count-1 : s .count 1 ≡ 0
   count-1 = elim (m .linking) [ direct f g ↦ f .count | through-6 f u g ↦ f .count ]
@@ -140,12 +140,12 @@ module _ {s : Anodes} {n last k : ℕ} (m : Laid s n last k) where
   full _ is-6 c = full-6
   full _ (free a f) c = absurd (omega (arith, f .count))
 
-  pub high : (a : ℕ) → Full a → 0 < times a (side limit s 1) → 0 < s .count a → last < s .block a
+  pub high : (a : ℕ) → Full a → 0 < occurrences a (side limit s 1) → 0 < s .count a → last < s .block a
   high _ full-2 p c = absurd (omega (arith, upper-none 2 (omega arith) (omega arith)))
   high _ full-5 p c = absurd (omega (arith, upper-none 5 (omega arith) (omega arith)))
   high _ full-6 p c = omega (arith, m .owns-6 .start c)
 
-  pub low : (a : ℕ) → Full a → 0 < times a (chainOf (s .next) limit 2) → 0 < s .count a → s .block a + s .count a ≤ suc last
+  pub low : (a : ℕ) → Full a → 0 < occurrences a (chainOf (s .next) limit 2) → 0 < s .count a → s .block a + s .count a ≤ suc last
   low _ full-2 p c = omega (arith, m .room, m .owns-2 .count, m .owns-2 .start c)
   low _ full-5 p c = absurd (omega (arith, lower-none 5 (omega arith)))
   low _ full-6 p c = absurd (omega (arith, lower-none 6 (omega arith)))

@@ -8,7 +8,7 @@ use native.Mathlib.Omega.{arith}
 use lib.ListN.{length}
 use borrow.Author.Tests.{le-ltb, ne-eqb}
 use Rattle.disk.specs.Root.{slotOf}
-use Rattle.rules.specs.Counting.{oneAt, times}
+use Rattle.rules.specs.Counting.{oneAt, occurrences}
 use Rattle.rules.specs.Anodes.{Anodes, limit}
 use Rattle.rules.specs.Chains.{holds, systemOwns, blocksOf}
 use Rattle.rules.specs.Accepted.{diskSize}
@@ -30,42 +30,42 @@ module _ {ex : ℕ → Bool} {n last : ℕ} {s : Anodes} {system hd sd : ℕ →
 
   module _ (h : ℕ) (d : Head (s .next) (s .block) h) (y : ℕ) where
     -- it stands in the chain as often as it is held under its head
-    pub times-held : y < n → times y (blocksOf s h) ≡ heldBy h y
-    unfolding times
-    times-held l =
+    pub occurrences-held : y < n → occurrences y (blocksOf s h) ≡ heldBy h y
+    unfolding occurrences
+    occurrences-held l =
         blocks-sum g (λ z. oneAt z y) h d
         ∙ sum-single (λ z. heldBy h z * oneAt z y) y n l (λ z m o. rw (oneAt-other z y o) (omega arith))
         ∙ rw (oneAt-same y y refl) (omega arith)
 
     -- a block of the chain is on the disk
-    chain-below : 0 < times y (blocksOf s h) → y < n
-    unfolding times
+    chain-below : 0 < occurrences y (blocksOf s h) → y < n
+    unfolding occurrences
     chain-below p = elim (less? y n) [
       | inl l ↦ l
       | inr l ↦ absurd (omega (arith, p, blocks-sum g (λ z. oneAt z y) h d, sum-zero (λ z. heldBy h z * oneAt z y) n (λ z m. rw (oneAt-other z y (λ e. omega (arith, e, l, m))) (omega arith))))
     ]
 
     -- the system and the chain have it at most once together
-    one-holder : y < n → system y + times y (blocksOf s h) ≤ 1
-    one-holder l = omega (arith, times-held l, total-held g y l, sum-member (λ m. heldBy m y) h limit (g .linked .view .below h (d .in-use)))
+    one-holder : y < n → system y + occurrences y (blocksOf s h) ≤ 1
+    one-holder l = omega (arith, occurrences-held l, total-held g y l, sum-member (λ m. heldBy m y) h limit (g .linked .view .below h (d .in-use)))
 
     -- a block stands in a chain at most once
-    pub chain-once : times y (blocksOf s h) ≤ 1
-    chain-once = elim (less? 0 (times y (blocksOf s h))) [ inl p ↦ omega (arith, one-holder (chain-below p)) | inr p ↦ omega arith ]
+    pub chain-once : occurrences y (blocksOf s h) ≤ 1
+    chain-once = elim (less? 0 (occurrences y (blocksOf s h))) [ inl p ↦ omega (arith, one-holder (chain-below p)) | inr p ↦ omega arith ]
 
     -- a block of the chain is not the system's
-    chain-data : 0 < times y (blocksOf s h) → system y ≡ 0
+    chain-data : 0 < occurrences y (blocksOf s h) → system y ≡ 0
     chain-data p = omega (arith, one-holder (chain-below p))
 
   -- a block of one chain is no block of another
-  pub chains-apart : (h k : ℕ) → Head (s .next) (s .block) h → Head (s .next) (s .block) k → h ≢ k → (y : ℕ) → 0 < times y (blocksOf s h) → times y (blocksOf s k) ≡ 0
+  pub chains-apart : (h k : ℕ) → Head (s .next) (s .block) h → Head (s .next) (s .block) k → h ≢ k → (y : ℕ) → 0 < occurrences y (blocksOf s h) → occurrences y (blocksOf s k) ≡ 0
   chains-apart h k d e o y p =
       let l = chain-below h d y p in
       omega (
         arith,
         p,
-        times-held h d y l,
-        times-held k e y l,
+        occurrences-held h d y l,
+        occurrences-held k e y l,
         total-held g y l,
         sum-members (λ m. heldBy m y) h k limit (g .linked .view .below h (d .in-use)) (g .linked .view .below k (e .in-use)) o,
       )
@@ -91,7 +91,7 @@ pub record DataBlock (img : List ℕ) (y : ℕ) : Type 0 where
 
 -- a block of a chain is a block of the disk that is not the system's
 pub chain-block : {ex : ℕ → Bool} {last : ℕ} {s : Anodes} {hd sd : ℕ → ℕ} (img : List ℕ) → Good limit ex (diskSize img) last s (systemOwns img) hd sd
-    → (h : ℕ) → Head (s .next) (s .block) h → (y : ℕ) → 0 < times y (blocksOf s h) → DataBlock img y
+    → (h : ℕ) → Head (s .next) (s .block) h → (y : ℕ) → 0 < occurrences y (blocksOf s h) → DataBlock img y
 unfolding diskSize
 chain-block img g h d y p =
     let below = chain-below g h d y p in

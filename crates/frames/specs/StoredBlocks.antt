@@ -9,10 +9,10 @@ use lib.ListN.{length, take, drop, length-take, length-drop}
 use Rattle.disk.specs.Blocks.{blockOf, withBlock}
 use Rattle.disk.proofs.Laws.{length-blockOf-min}
 use Rattle.disk.proofs.Store.{length-withBlock, blockOf-withBlock-same, blockOf-withBlock-other}
-use Rattle.rules.specs.Counting.{times}
+use Rattle.rules.specs.Counting.{occurrences}
 use Rattle.rules.specs.Changes.{inBlock, withBlocks, spread}
 use Rattle.laws.specs.Sums.{oneAt-same}
-use Rattle.laws.specs.Bags.{times-cons}
+use Rattle.laws.specs.Bags.{occurrences-cons}
 use Rattle.frames.specs.Kept.{Kept, kept-all, kept-both}
 
 -- ---- one block
@@ -37,22 +37,22 @@ module _ (img : List ℕ) (b : ℕ) (f : List ℕ → List ℕ) (long : length (
 -- ---- some blocks
 
 -- what is not among them is not the first and not among the rest
-others : (y d : ℕ) (ys : List ℕ) → times d (y ∷ ys) ≡ 0 → (d ≢ y) × (times d ys ≡ 0)
-others y d ys z = (λ e. omega (arith, times-cons d y ys, oneAt-same y d (sym e)), omega (arith, times-cons d y ys))
+others : (y d : ℕ) (ys : List ℕ) → occurrences d (y ∷ ys) ≡ 0 → (d ≢ y) × (occurrences d ys ≡ 0)
+others y d ys z = (λ e. omega (arith, occurrences-cons d y ys, oneAt-same y d (sym e)), omega (arith, occurrences-cons d y ys))
 
 module _ (img : List ℕ) (y : ℕ) (ys : List ℕ) (new : List ℕ) (long : 512 ≤ length new) {j : List ℕ} where
   -- a whole block stored before the rest
-  before-rest : Kept (λ d. times d ys ≡ 0) (withBlock img y new) j → Kept (λ d. times d (y ∷ ys) ≡ 0) img j
+  before-rest : Kept (λ d. occurrences d ys ≡ 0) (withBlock img y new) j → Kept (λ d. occurrences d (y ∷ ys) ≡ 0) img j
   before-rest = kept-both (λ d z. others y d ys z .0) (λ d z. others y d ys z .1) (withBlock-kept img y new (omega (arith, length-blockOf-min img y)))
 
 -- the same bytes stored in some blocks keep every other
-pub withBlocks-kept : (img ys new : List ℕ) → 512 ≤ length new → Kept (λ d. times d ys ≡ 0) img (withBlocks img ys new)
+pub withBlocks-kept : (img ys new : List ℕ) → 512 ≤ length new → Kept (λ d. occurrences d ys ≡ 0) img (withBlocks img ys new)
 unfolding withBlocks
 withBlocks-kept img [] new long = kept-all img
 withBlocks-kept img (y ∷ ys) new long = before-rest img y ys new long (withBlocks-kept (withBlock img y new) ys new long)
 
 -- bytes spread over some blocks keep every other
-pub spread-kept : (img ys bytes : List ℕ) → length ys * 512 ≤ length bytes → Kept (λ d. times d ys ≡ 0) img (spread img ys bytes)
+pub spread-kept : (img ys bytes : List ℕ) → length ys * 512 ≤ length bytes → Kept (λ d. occurrences d ys ≡ 0) img (spread img ys bytes)
 unfolding spread
 spread-kept img [] bytes long = kept-all img
 spread-kept img (y ∷ ys) bytes long =

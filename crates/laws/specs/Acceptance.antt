@@ -8,7 +8,7 @@ use native.Mathlib.Omega.{arith}
 use lib.Dec.{eqb, leb, ltb}
 use lib.ListN.{length}
 use borrow.Author.Tests.{ltb-true, ltb-false, leb-false, eqb-false, not-true, lt-ltb, le-ltb, lt-leb, eq-eqb, ne-eqb}
-use Rattle.rules.specs.Counting.{anyBelow, anyIn, times}
+use Rattle.rules.specs.Counting.{anyBelow, anyIn, occurrences}
 use Rattle.rules.specs.Anodes.{Anodes, limit, anodesOf}
 use Rattle.rules.specs.Chains.{chainOf, followed, preds, owners, side, systemOwns}
 use Rattle.rules.specs.Walk.{walkOf, faultIn}
@@ -17,14 +17,14 @@ use Rattle.counting.specs.Laws.{neither, none-or, and-none, none-and, anyBelow-
 use Rattle.laws.specs.Each.{Each}
 use Rattle.laws.specs.Bags.{each-at}
 use Rattle.laws.specs.Tests.{same, if-zero, firstOf-zero, firstOf-none}
-use Rattle.laws.specs.Members.{none-pass, member-times}
+use Rattle.laws.specs.Members.{none-pass, member-occurrences}
 use Rattle.laws.specs.TestsPassed.{fixed-anodes, extent-inside, tested-checked}
 use Rattle.laws.specs.Links.{View}
 use Rattle.laws.specs.Space.{FixedHead}
 use Rattle.laws.specs.Passes.{Passes}
 
 -- no number of a list passes
-in-none : (test : ℕ → Bool) (l : List ℕ) → anyIn test l ≡ false → (x : ℕ) → 0 < times x l → test x ≡ false
+in-none : (test : ℕ → Bool) (l : List ℕ) → anyIn test l ≡ false → (x : ℕ) → 0 < occurrences x l → test x ≡ false
 unfolding anyIn
 in-none test l e = each-at (λ x. test x ≡ false) l (each l e)
   where
@@ -32,8 +32,8 @@ in-none test l e = each-at (λ x. test x ≡ false) l (each l e)
     each [] e = tt
     each (y ∷ l) e = let o = neither (test y) (anyIn test l) e in (o .0, each l (o .1))
 
-none-in : (test : ℕ → Bool) (l : List ℕ) → ((x : ℕ) → 0 < times x l → test x ≡ false) → anyIn test l ≡ false
-none-in test l f = none-pass test l (λ x m. f x (member-times x l m))
+none-in : (test : ℕ → Bool) (l : List ℕ) → ((x : ℕ) → 0 < occurrences x l → test x ≡ false) → anyIn test l ≡ false
+none-in test l f = none-pass test l (λ x m. f x (member-occurrences x l m))
 
 -- ---- 6 to 11
 
@@ -86,7 +86,7 @@ module _ (s : Anodes) (n last : ℕ) (system : ℕ → ℕ) where
       first m (inr (inr (inl e))) = rw e (none-before 4 (p4 .0))
       first m (inr (inr (inr e))) = rw e (none-before 5 (p4 .1))
 
-      w : (eqb (times 2 (chainOf (s .next) limit 1)) 0 ≡ false) × ((anyIn (notAbove s last) (side limit s 1) || anyIn (notUpTo s last) (chainOf (s .next) limit 2)) ≡ false)
+      w : (eqb (occurrences 2 (chainOf (s .next) limit 1)) 0 ≡ false) × ((anyIn (notAbove s last) (side limit s 1) || anyIn (notUpTo s last) (chainOf (s .next) limit 2)) ≡ false)
       w = neither _ _ (t .free-right)
 
       w1 : (anyIn (notAbove s last) (side limit s 1) ≡ false) × (anyIn (notUpTo s last) (chainOf (s .next) limit 2) ≡ false)
@@ -100,7 +100,7 @@ module _ (s : Anodes) (n last : ℕ) (system : ℕ → ℕ) where
     in-range = anyBelow-all (outOfRange s n) limit range;
     links-right = none-or _ _ (anyBelow-all (wrongAt s) limit link)
         (none-or _ _ (le-ltb 0 _ (none 1 (inl refl))) (none-or _ _ (le-ltb 0 _ (none 3 (inr (inl refl)))) (none-or _ _ (le-ltb 0 _ (none 4 (inr (inr (inl refl))))) (le-ltb 0 _ (none 5 (inr (inr (inr refl))))))));
-    free-right = none-or _ _ (ne-eqb (times 2 (chainOf (s .next) limit 1)) 0 (λ e. omega (arith, e, p .two-on)))
+    free-right = none-or _ _ (ne-eqb (occurrences 2 (chainOf (s .next) limit 1)) 0 (λ e. omega (arith, e, p .two-on)))
         (none-or _ _ (none-in (notAbove s last) (side limit s 1) above) (none-in (notUpTo s last) (chainOf (s .next) limit 2) up-to));
     none-twice = anyBelow-all (λ x. ltb 1 (owners limit (s .count) (s .block) system x)) n (λ x l. le-ltb 1 _ (p .own .not-two x l));
     all-owned = anyBelow-all (λ x. eqb (owners limit (s .count) (s .block) system x) 0) n (λ x l. ne-eqb (owners limit (s .count) (s .block) system x) 0 (λ e. omega (arith, e, p .own .not-none x l)));
@@ -124,10 +124,10 @@ module _ (s : Anodes) (n last : ℕ) (system : ℕ → ℕ) where
           (le-ltb 1 (preds limit (s .next) a) (p .links .one-pred a (eqb-false a 0 (not-true (eqb a 0) e)) (eqb-false (s .block a) 0 (not-true (eqb (s .block a) 0) u))))
           (same (followed (s .next) limit a) 0 (p .links .ends a (eqb-false (s .block a) 0 (not-true (eqb (s .block a) 0) u))))))
 
-      above : (a : ℕ) → 0 < times a (side limit s 1) → notAbove s last a ≡ false
+      above : (a : ℕ) → 0 < occurrences a (side limit s 1) → notAbove s last a ≡ false
       above a q = none-and (ltb 0 (s .count a)) (leb (s .block a) last) (λ c. lt-leb (s .block a) last (p .high a q (ltb-true 0 (s .count a) c)))
 
-      up-to : (a : ℕ) → 0 < times a (chainOf (s .next) limit 2) → notUpTo s last a ≡ false
+      up-to : (a : ℕ) → 0 < occurrences a (chainOf (s .next) limit 2) → notUpTo s last a ≡ false
       up-to a q =
           none-and (ltb 0 (s .count a)) (ltb (last + 1) (s .block a + s .count a)) (λ c.
           le-ltb (last + 1) (s .block a + s .count a) (omega (arith, p .low a q (ltb-true 0 (s .count a) c))))

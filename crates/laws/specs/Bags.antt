@@ -5,7 +5,7 @@ use mathlib.Core.Logic.{_≢_, _⊎_, inl, inr}
 use mathlib.Core.List.{List, [], _∷_, _++_, map, append-nil, append-assoc}
 use native.Mathlib.Omega.{arith}
 use lib.ListN.{length}
-use Rattle.rules.specs.Counting.{oneAt, sumBelow, sumList, times, gather, lastOf}
+use Rattle.rules.specs.Counting.{oneAt, sumBelow, sumList, occurrences, gather, lastOf}
 use Rattle.laws.specs.Tests.{less?}
 use Rattle.laws.specs.Each.{Each, Member, each-all, each-map, each-zero, list-congr-each, list-mono-each, gather-congr-each}
 use Rattle.laws.specs.Sums.{oneAt-cases, oneAt-same, sum-congr, sum-mono, sum-const, sum-zero, sum-add, sum-pick}
@@ -105,67 +105,67 @@ module _ {ℓ κ} {X : Type ℓ} {Y : Type κ} where
 
 -- ---- lists of numbers: how often a number stands in one
 
-pub times-nil : (x : ℕ) → times x [] ≡ 0
-unfolding times
-times-nil x = list-nil (λ y. oneAt y x)
+pub occurrences-nil : (x : ℕ) → occurrences x [] ≡ 0
+unfolding occurrences
+occurrences-nil x = list-nil (λ y. oneAt y x)
 
-pub times-cons : (x y : ℕ) (l : List ℕ) → times x (y ∷ l) ≡ oneAt y x + times x l
-unfolding times
-times-cons x y l = list-cons (λ z. oneAt z x) y l
+pub occurrences-cons : (x y : ℕ) (l : List ℕ) → occurrences x (y ∷ l) ≡ oneAt y x + occurrences x l
+unfolding occurrences
+occurrences-cons x y l = list-cons (λ z. oneAt z x) y l
 
-pub times-append : (x : ℕ) (l m : List ℕ) → times x (l ++ m) ≡ times x l + times x m
-unfolding times
-times-append x l m = list-append (λ z. oneAt z x) l m
+pub occurrences-append : (x : ℕ) (l m : List ℕ) → occurrences x (l ++ m) ≡ occurrences x l + occurrences x m
+unfolding occurrences
+occurrences-append x l m = list-append (λ z. oneAt z x) l m
 
 -- the first number of a list stands in it, and so does each of the rest
-pub times-here : (x : ℕ) (l : List ℕ) → 0 < times x (x ∷ l)
-times-here x l = omega (arith, times-cons x x l, oneAt-same x x refl)
+pub occurrences-here : (x : ℕ) (l : List ℕ) → 0 < occurrences x (x ∷ l)
+occurrences-here x l = omega (arith, occurrences-cons x x l, oneAt-same x x refl)
 
-pub times-later : (x y : ℕ) (l : List ℕ) → 0 < times x l → 0 < times x (y ∷ l)
-times-later x y l p = omega (arith, p, times-cons x y l)
+pub occurrences-later : (x y : ℕ) (l : List ℕ) → 0 < occurrences x l → 0 < occurrences x (y ∷ l)
+occurrences-later x y l p = omega (arith, p, occurrences-cons x y l)
 
 -- the number of a list of one
-pub first-in : (y : ℕ) (l : List ℕ) → l ≡ y ∷ [] → 0 < times y l
-first-in y l e = rw e (times-here y [])
+pub first-in : (y : ℕ) (l : List ℕ) → l ≡ y ∷ [] → 0 < occurrences y l
+first-in y l e = rw e (occurrences-here y [])
 
 -- what holds of each number that stands in a list
-pub each-in : (P : ℕ → Type 0) (l : List ℕ) → ((x : ℕ) → 0 < times x l → P x) → Each P l
+pub each-in : (P : ℕ → Type 0) (l : List ℕ) → ((x : ℕ) → 0 < occurrences x l → P x) → Each P l
 each-in P [] h = tt
-each-in P (x ∷ l) h = (h x (times-here x l), each-in P l (λ y p. h y (times-later y x l p)))
+each-in P (x ∷ l) h = (h x (occurrences-here x l), each-in P l (λ y p. h y (occurrences-later y x l p)))
 
-pub each-at : (P : ℕ → Type 0) (l : List ℕ) → Each P l → (a : ℕ) → 0 < times a l → P a
-each-at P [] e a p = absurd (omega (arith, p, times-nil a))
+pub each-at : (P : ℕ → Type 0) (l : List ℕ) → Each P l → (a : ℕ) → 0 < occurrences a l → P a
+each-at P [] e a p = absurd (omega (arith, p, occurrences-nil a))
 each-at P (x ∷ l) e a p = elim (oneAt-cases x a) [
   | inl c ↦ rw (← (c .0)) (e .0)
-  | inr c ↦ each-at P l (e .1) a (omega (arith, p, c .1, times-cons a x l))
+  | inr c ↦ each-at P l (e .1) a (omega (arith, p, c .1, occurrences-cons a x l))
 ]
 
 -- a weight that is none on a list is none at a member
-pub none-at : (g : ℕ → ℕ) (l : List ℕ) → sumList g l ≡ 0 → (a : ℕ) → 0 < times a l → g a ≡ 0
+pub none-at : (g : ℕ → ℕ) (l : List ℕ) → sumList g l ≡ 0 → (a : ℕ) → 0 < occurrences a l → g a ≡ 0
 none-at g l z = each-at (λ a. g a ≡ 0) l (each-zero g l z)
 
 -- two weights that agree at the numbers of a list, at least where a guard that has no weight on the list is 0
-pub kept-sum-where : (g f f′ : ℕ → ℕ) (l : List ℕ) → sumList g l ≡ 0 → ((a : ℕ) → 0 < times a l → g a ≡ 0 → f′ a ≡ f a) → sumList f′ l ≡ sumList f l
+pub kept-sum-where : (g f f′ : ℕ → ℕ) (l : List ℕ) → sumList g l ≡ 0 → ((a : ℕ) → 0 < occurrences a l → g a ≡ 0 → f′ a ≡ f a) → sumList f′ l ≡ sumList f l
 kept-sum-where g f f′ l z e = list-congr-each f′ f l (each-in (λ a. f′ a ≡ f a) l (λ a p. e a p (none-at g l z a p)))
 
-pub kept-sum : (f f′ : ℕ → ℕ) (l : List ℕ) → ((a : ℕ) → 0 < times a l → f′ a ≡ f a) → sumList f′ l ≡ sumList f l
+pub kept-sum : (f f′ : ℕ → ℕ) (l : List ℕ) → ((a : ℕ) → 0 < occurrences a l → f′ a ≡ f a) → sumList f′ l ≡ sumList f l
 kept-sum f f′ l e = list-congr-each f′ f l (each-in (λ a. f′ a ≡ f a) l e)
 
 -- two functions that agree on the numbers of a list
-pub gather-kept : {Y : Type 0} (f f′ : ℕ → List Y) (l : List ℕ) → ((a : ℕ) → 0 < times a l → f′ a ≡ f a) → gather f′ l ≡ gather f l
+pub gather-kept : {Y : Type 0} (f f′ : ℕ → List Y) (l : List ℕ) → ((a : ℕ) → 0 < occurrences a l → f′ a ≡ f a) → gather f′ l ≡ gather f l
 gather-kept f f′ l h = gather-congr-each f′ f l (each-in (λ a. f′ a ≡ f a) l h)
 
 -- but at x, which does not stand in it
-pub gather-off : {Y : Type 0} (f f′ : ℕ → List Y) (x : ℕ) → ((a : ℕ) → a ≢ x → f′ a ≡ f a) → (l : List ℕ) → times x l ≡ 0 → gather f′ l ≡ gather f l
-gather-off f f′ x same l z = gather-kept f f′ l (λ a p. same a (λ i. omega (arith, z, p, ap (λ (b : ℕ). times b l) i)))
+pub gather-off : {Y : Type 0} (f f′ : ℕ → List Y) (x : ℕ) → ((a : ℕ) → a ≢ x → f′ a ≡ f a) → (l : List ℕ) → occurrences x l ≡ 0 → gather f′ l ≡ gather f l
+gather-off f f′ x same l z = gather-kept f f′ l (λ a p. same a (λ i. omega (arith, z, p, ap (λ (b : ℕ). occurrences b l) i)))
 
-pub gather-none {ℓ} : {Y : Type ℓ} (f : ℕ → List Y) (l : List ℕ) → ((a : ℕ) → 0 < times a l → f a ≡ []) → gather f l ≡ []
+pub gather-none {ℓ} : {Y : Type ℓ} (f : ℕ → List Y) (l : List ℕ) → ((a : ℕ) → 0 < occurrences a l → f a ≡ []) → gather f l ≡ []
 unfolding gather
 gather-none f [] h = refl
-gather-none f (x ∷ l) h = rw (h x (times-here x l), gather-none f l (λ a p. h a (times-later a x l p)))
+gather-none f (x ∷ l) h = rw (h x (occurrences-here x l), gather-none f l (λ a p. h a (occurrences-later a x l p)))
 
 -- where the last number that gives anything gives y behind what it gives otherwise, so does the list
-pub gather-last : (f f′ : ℕ → List ℕ) (pre post : List ℕ) (x y : ℕ) → ((a : ℕ) → a ≢ x → f′ a ≡ f a) → times x pre ≡ 0 → times x post ≡ 0 → gather f post ≡ [] → f x ≡ f′ x ++ (y ∷ []) →
+pub gather-last : (f f′ : ℕ → List ℕ) (pre post : List ℕ) (x y : ℕ) → ((a : ℕ) → a ≢ x → f′ a ≡ f a) → occurrences x pre ≡ 0 → occurrences x post ≡ 0 → gather f post ≡ [] → f x ≡ f′ x ++ (y ∷ []) →
     gather f (pre ++ (x ∷ post)) ≡ gather f′ (pre ++ (x ∷ post)) ++ (y ∷ [])
 unfolding gather
 gather-last f f′ pre post x y same i j none lost =
@@ -174,46 +174,46 @@ gather-last f f′ pre post x y same i j none lost =
     was ∙ sym (append-assoc (gather f pre) (f′ x) (y ∷ [])) ∙ ap (λ (l : List ℕ). l ++ (y ∷ [])) (sym now)
 
 -- a number that stands in a list is a member of it
-pub times-member : (x : ℕ) (l : List ℕ) → 0 < times x l → Member x l
-unfolding times
-times-member x l p =
+pub occurrences-member : (x : ℕ) (l : List ℕ) → 0 < occurrences x l → Member x l
+unfolding occurrences
+occurrences-member x l p =
     let (y, (before, after, parted), q) = list-some (λ y. oneAt y x) l p in
     elim (oneAt-cases y x) [ inl c ↦ (before, after, rw (c .0) at parted) | inr c ↦ absurd (omega (arith, q, c .1)) ]
 
 -- a weight's sum over a list of numbers below k, by how often each number stands there
-pub sum-by-times : (w : ℕ → ℕ) (l : List ℕ) (k : ℕ) → ((x : ℕ) → k ≤ x → times x l ≡ 0) → sumList w l ≡ sumBelow (λ x. times x l * w x) k
+pub sum-by-occurrences : (w : ℕ → ℕ) (l : List ℕ) (k : ℕ) → ((x : ℕ) → k ≤ x → occurrences x l ≡ 0) → sumList w l ≡ sumBelow (λ x. occurrences x l * w x) k
 unfolding sumList
-sum-by-times w [] k h = sym (sum-zero (λ x. times x [] * w x) k (λ i l. rw times-nil (omega arith)))
-sum-by-times w (y ∷ l) k h = elim (less? y k) [
-  | inl b ↦ omega (arith, sum-by-times w l k rest, sum-add (λ x. oneAt y x * w x) (λ x. times x l * w x) k, sum-pick w y k b, split)
-  | inr b ↦ absurd (omega (arith, h y b, times-here y l))
+sum-by-occurrences w [] k h = sym (sum-zero (λ x. occurrences x [] * w x) k (λ i l. rw occurrences-nil (omega arith)))
+sum-by-occurrences w (y ∷ l) k h = elim (less? y k) [
+  | inl b ↦ omega (arith, sum-by-occurrences w l k rest, sum-add (λ x. oneAt y x * w x) (λ x. occurrences x l * w x) k, sum-pick w y k b, split)
+  | inr b ↦ absurd (omega (arith, h y b, occurrences-here y l))
 ]
   where
-    rest : (x : ℕ) → k ≤ x → times x l ≡ 0
-    rest x b = omega (arith, h x b, times-cons x y l)
+    rest : (x : ℕ) → k ≤ x → occurrences x l ≡ 0
+    rest x b = omega (arith, h x b, occurrences-cons x y l)
 
-    split : sumBelow (λ x. times x (y ∷ l) * w x) k ≡ sumBelow (λ x. oneAt y x * w x + times x l * w x) k
-    split = sum-congr _ _ k (λ i m. rw (times-cons i y l) (omega arith))
+    split : sumBelow (λ x. occurrences x (y ∷ l) * w x) k ≡ sumBelow (λ x. oneAt y x * w x + occurrences x l * w x) k
+    split = sum-congr _ _ k (λ i m. rw (occurrences-cons i y l) (omega arith))
 
 -- the pigeonhole principle: numbers below k, each at most once, are at most k
-pub pigeonhole : (l : List ℕ) (k : ℕ) → ((x : ℕ) → k ≤ x → times x l ≡ 0) → ((x : ℕ) → times x l ≤ 1) → length l ≤ k
+pub pigeonhole : (l : List ℕ) (k : ℕ) → ((x : ℕ) → k ≤ x → occurrences x l ≡ 0) → ((x : ℕ) → occurrences x l ≤ 1) → length l ≤ k
 pigeonhole l k below once =
     omega (
       arith,
       list-length l,
-      sum-by-times (λ x. 1) l k below,
-      sum-mono (λ x. times x l * 1) (λ x. 1) k (λ i m. omega (arith, once i)),
+      sum-by-occurrences (λ x. 1) l k below,
+      sum-mono (λ x. occurrences x l * 1) (λ x. 1) k (λ i m. omega (arith, once i)),
       sum-const 1 k,
     )
 
 -- ---- the last number of a list
 
-pub last-on : (p : ℕ) (l : List ℕ) → (lastOf p l ≡ p) ⊎ (0 < times (lastOf p l) l)
+pub last-on : (p : ℕ) (l : List ℕ) → (lastOf p l ≡ p) ⊎ (0 < occurrences (lastOf p l) l)
 unfolding lastOf
 last-on p [] = inl refl
 last-on p (x ∷ l) = inr (elim (last-on x l) [
-  | inl e ↦ rw e (times-here x l)
-  | inr e ↦ times-later (lastOf x l) x l e
+  | inl e ↦ rw e (occurrences-here x l)
+  | inr e ↦ occurrences-later (lastOf x l) x l e
 ])
 
 -- a list that is not empty, and its last element

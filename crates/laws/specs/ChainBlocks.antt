@@ -7,14 +7,14 @@ use mathlib.Core.List.{List, [], _∷_, _++_, append-assoc}
 use native.Mathlib.Omega.{arith}
 use native.Mathlib.Numerals.{add-one}
 use lib.Dec.{T}
-use Rattle.rules.specs.Counting.{times, gather, lastOf, sumList, changed}
+use Rattle.rules.specs.Counting.{occurrences, gather, lastOf, sumList, changed}
 use lib.ListN.{length}
 use Rattle.rules.specs.Anodes.{Anodes, limit}
 use Rattle.rules.specs.Chains.{chainOf, run, blocksOf, blockCount}
 use Rattle.rules.specs.Space.{rewritten, onChain, dropped, insertedAfter, unlinked, lastBlock}
 use Rattle.laws.specs.Tests.{T-false}
 use Rattle.laws.specs.Sums.{oneAt-same, changed-other, changed-pos, changed-same}
-use Rattle.laws.specs.Bags.{times-cons, times-append, gather-kept, last-split, list-congr, list-length, gather-sum}
+use Rattle.laws.specs.Bags.{occurrences-cons, occurrences-append, gather-kept, last-split, list-congr, list-length, gather-sum}
 use Rattle.laws.specs.LinkChanges.{without, drop-apart, insertAfter, insert-linked, insert-after, unlink, unlink-linked, unlink-after}
 use Rattle.laws.specs.Segments.{Seg, Chain, seg-split, seg-last, chain-end}
 use Rattle.laws.specs.Chains.{run-end}
@@ -82,7 +82,7 @@ length-blocksOf s h =
     ∙ list-congr (λ a. sumList (λ y. 1) (run (s .block a) (s .count a))) (s .count) chain (λ a. list-length (run (s .block a) (s .count a)) ∙ length-run (s .block a) (s .count a))
 
 -- a chain of the same anodes with the same extents has the same blocks
-pub kept-blocks : (s t : Anodes) (m : ℕ) → chainOf (t .next) limit m ≡ chainOf (s .next) limit m → ((a : ℕ) → 0 < times a (chainOf (s .next) limit m) → extent t a ≡ extent s a) → blocksOf t m ≡ blocksOf s m
+pub kept-blocks : (s t : Anodes) (m : ℕ) → chainOf (t .next) limit m ≡ chainOf (s .next) limit m → ((a : ℕ) → 0 < occurrences a (chainOf (s .next) limit m) → extent t a ≡ extent s a) → blocksOf t m ≡ blocksOf s m
 kept-blocks s t m e h = blocksOf-extents t m ∙ ap (gather (extent t)) e ∙ gather-kept (extent s) (extent t) (chainOf (s .next) limit m) h ∙ sym (blocksOf-extents s m)
 
 module _ {ex : ℕ → Bool} {n last : ℕ} {s : Anodes} {system hd sd : ℕ → ℕ} (g : Good limit ex n last s system hd sd) where
@@ -130,10 +130,10 @@ module _ {A : ℕ} {ex : ℕ → Bool} {n last : ℕ} {s : Anodes} {system hd sd
   chain = rw split at (head-chain (g .linked) m d)
 
   -- x stands in the chain once
-  pub stands-once : (times x pre ≡ 0) × (times x post ≡ 0)
+  pub stands-once : (occurrences x pre ≡ 0) × (occurrences x post ≡ 0)
   stands-once =
-      let alone : times x pre + times x post ≡ 0 =
-      omega (arith, seg-once (g .linked) m 0 (pre ++ (x ∷ post)) x (λ q. d .in-use) chain, times-append x pre (x ∷ post), times-cons x x post, oneAt-same x x refl) in
+      let alone : occurrences x pre + occurrences x post ≡ 0 =
+      omega (arith, seg-once (g .linked) m 0 (pre ++ (x ∷ post)) x (λ q. d .in-use) chain, occurrences-append x pre (x ∷ post), occurrences-cons x x post, oneAt-same x x refl) in
       (omega arith, omega arith)
 
   -- a fresh anode f after x

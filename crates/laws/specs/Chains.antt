@@ -6,7 +6,7 @@ use mathlib.Core.List.{List, [], _∷_, _++_}
 use native.Mathlib.Omega.{arith}
 use native.Mathlib.Numerals.{add-one}
 use lib.ListN.{length, getD}
-use Rattle.rules.specs.Counting.{times, gather}
+use Rattle.rules.specs.Counting.{occurrences, gather}
 use Rattle.rules.specs.Anodes.{Anodes, limit}
 use Rattle.rules.specs.Chains.{chainOf, heads, run}
 
@@ -62,4 +62,4 @@ HeadTable t s =
 
 -- the image has each of these blocks whole
 abbrev pub Inside : List ℕ → List ℕ → Type 0
-Inside img ys = (y : ℕ) → 0 < times y ys → y * 512 + 512 ≤ length img
+Inside img ys = (y : ℕ) → 0 < occurrences y ys → y * 512 + 512 ≤ length img

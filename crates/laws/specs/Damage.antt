@@ -6,7 +6,7 @@ use mathlib.Core.Bool.{Bool, true, false, cond, _&&_}
 use mathlib.Core.List.{List, [], _∷_, _++_}
 use native.Mathlib.Omega.{arith}
 use lib.Dec.{eqb, leb}
-use Rattle.rules.specs.Counting.{_if_else_, firstOf, times, anyBelow}
+use Rattle.rules.specs.Counting.{_if_else_, firstOf, occurrences, anyBelow}
 use Rattle.rules.specs.Anodes.{Anodes, limit}
 use Rattle.rules.specs.Chains.{chainOf, heads, blockCount}
 use Rattle.rules.specs.Walk.{Dir, Entered, Item, Scanned, faulty, fine, Walk, fault, done, walk, walkOf, visited, faultIn, scan, faultOf, subDirs, itemOf, itemsAt, itemsBy, itemsOf, broken, wrongAnode, wrongFileSize, blocksFor, entriesIn, isBlockOf, root}
@@ -50,7 +50,7 @@ told-items img s d =
 
 fault-told : (i : Item) (named : List ℕ) → Told i → NoneOr 12 15 (faultOf i named)
 unfolding faultOf
-fault-told i named p = first-number 12 15 (i .early) _ (p .0) (if-number 14 (leb 1 (times (i .anode) named)) 12 15 (i .late) (omega arith) (omega arith) (p .1))
+fault-told i named p = first-number 12 15 (i .early) _ (p .0) (if-number 14 (leb 1 (occurrences (i .anode) named)) 12 15 (i .late) (omega arith) (omega arith) (p .1))
 
 -- a fault that a scan answers, and one that a walk answers
 abbrev Faulty : Scanned → Type 0

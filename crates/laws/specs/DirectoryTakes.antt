@@ -6,7 +6,7 @@ use mathlib.Core.Bool.{Bool, true}
 use mathlib.Core.List.{List, [], _∷_, map, map-id}
 use native.Mathlib.Omega.{arith}
 use lib.Dec.{T}
-use Rattle.rules.specs.Counting.{sumList, times}
+use Rattle.rules.specs.Counting.{sumList, occurrences}
 use Rattle.rules.specs.Anodes.{limit, Anodes}
 use Rattle.rules.specs.Chains.{chainOf}
 use Rattle.rules.specs.Walk.{Dir, Entered, Item, itemOf, itemsAt, itemsBy}
@@ -47,7 +47,7 @@ module _ {ex : ℕ → Bool} {n last f : ℕ} {s : Anodes} {system hd sd : ℕ �
   dir-not-1 = rw (the-dir .1) at (the-dir .2 .0 .1)
 
   -- every anode of it has one block
-  dir-ones : (a : ℕ) → 0 < times a (chainOf (s .next) limit h) → s .count a ≡ 1
+  dir-ones : (a : ℕ) → 0 < occurrences a (chainOf (s .next) limit h) → s .count a ≡ 1
   dir-ones a p = anodes-fine entries marked s (the-dir .0) (the-dir .2 .1) a (rw (the-dir .1) p) .0
 
   module _ (t : Anodes) (ys : List ℕ) (e : takeBlock limit ex true s h ≡ planned t ys) where
@@ -69,7 +69,7 @@ module _ {ex : ℕ → Bool} {n last f : ℕ} {s : Anodes} {system hd sd : ℕ �
 
       -- the others give what they gave
       longer : (d : Dir) → d .head ≡ h → T (marked d (dir-taken .0)) → (u v : Item → ℕ) →
-          ((a : ℕ) → 0 < times a (chainOf (s .next) limit h) → sumList (amiss h) (itemsAt entries marked s d a) ≡ 0 → sumList u (itemsAt entries marked t d a) ≡ sumList v (itemsAt entries marked s d a)) →
+          ((a : ℕ) → 0 < occurrences a (chainOf (s .next) limit h) → sumList (amiss h) (itemsAt entries marked s d a) ≡ 0 → sumList u (itemsAt entries marked t d a) ≡ sumList v (itemsAt entries marked s d a)) →
           sumList (amiss h) (items d) ≡ 0 → sumList u (items′ d) ≡ sumList v (items d)
       longer d q m u v each z =
           let l = chainOf (s .next) limit h in
@@ -91,7 +91,7 @@ module _ {ex : ℕ → Bool} {n last f : ℕ} {s : Anodes} {system hd sd : ℕ �
         longer d q (p .0) wrong (λ j. 0) (λ a on z. at-a a on z .1 ∙ sym (list-zero {X = Item} (λ j. 0) (itemsAt entries marked s d a) (λ j. refl))) (p .1) ∙ list-zero {X = Item} (λ j. 0) (items d) (λ j. refl),
       )
         where
-          at-a : (a : ℕ) → 0 < times a (chainOf (s .next) limit h) → sumList (amiss h) (itemsAt entries marked s d a) ≡ 0 →
+          at-a : (a : ℕ) → 0 < occurrences a (chainOf (s .next) limit h) → sumList (amiss h) (itemsAt entries marked s d a) ≡ 0 →
               ((k : Bool → ℕ → ℕ) → sumList (λ j. k (j .dir) (j .anode)) (itemsAt entries marked t d a) ≡ sumList (λ j. k (j .dir) (j .anode)) (itemsAt entries marked s d a))
               × (sumList wrong (itemsAt entries marked t d a) ≡ 0)
           at-a a on z = let c = dir-taken .2 .kept a on in

@@ -14,7 +14,7 @@ use Rattle.disk.specs.Blocks.{blockOf}
 use Rattle.directory.specs.declared.Entry.{Entry}
 use Rattle.directory.specs.declared.Walked.the-variants.{Found, End, Fault}
 use Rattle.directory.specs.Entries.{isDir, walkedAt}
-use Rattle.rules.specs.Counting.{sumList, times, anyIn}
+use Rattle.rules.specs.Counting.{sumList, occurrences, anyIn}
 use Rattle.rules.specs.Anodes.{limit, Anodes}
 use Rattle.rules.specs.Chains.{chainOf, heads, blockCount}
 use Rattle.rules.specs.Walk.{Dir, Entered, entriesFrom, Item, blocksFor, wrongAnode, wrongFileSize, itemOf, broken, itemsFor, itemsAt, itemsBy, entriesIn}
@@ -171,7 +171,7 @@ module _ (entries : ℕ → List Entered) (marked : Dir → ℕ → Bool) (s : A
   itemsAt-fine guard some a z = elim (itemsAt-cases a) [ inl q ↦ q | inr q ↦ absurd (some (sym (list-one guard broken) ∙ ap (sumList guard) (sym q) ∙ z)) ]
 
   -- and so does each anode of a directory with nothing wrong
-  pub anodes-fine : sumList wrong (itemsBy entries marked s d) ≡ 0 → (a : ℕ) → 0 < times a (chainOf (s .next) limit (d .head)) → Gives a
+  pub anodes-fine : sumList wrong (itemsBy entries marked s d) ≡ 0 → (a : ℕ) → 0 < occurrences a (chainOf (s .next) limit (d .head)) → Gives a
   anodes-fine z a p = itemsAt-fine wrong (λ q. omega (arith, q, broken-wrong)) a
       (none-at (λ a. sumList wrong (itemsAt entries marked s d a)) (chainOf (s .next) limit (d .head)) (sym (items-sum wrong) ∙ z) a p)
 
@@ -228,8 +228,8 @@ module _ (s t : Anodes) (φ : Entered → Entered) (guard : Item → ℕ) (guard
         rw (there, q .2) (entries-alike (entries (s .block a)) fine, entries-fine (entries (s .block a)) fine)
 
     -- the whole directory, its chain kept
-    pub items-alike : chainOf (t .next) limit (d .head) ≡ chainOf (s .next) limit (d .head) → ((a : ℕ) → 0 < times a (chainOf (s .next) limit (d .head)) → Alike s t a) →
-        ((a : ℕ) → 0 < times a (chainOf (s .next) limit (d .head)) → s .count a ≡ 1 → (entries′ (s .block a) ≡ map φ (entries (s .block a))) × (marked′ d (s .block a) ≡ marked d (s .block a))) →
+    pub items-alike : chainOf (t .next) limit (d .head) ≡ chainOf (s .next) limit (d .head) → ((a : ℕ) → 0 < occurrences a (chainOf (s .next) limit (d .head)) → Alike s t a) →
+        ((a : ℕ) → 0 < occurrences a (chainOf (s .next) limit (d .head)) → s .count a ≡ 1 → (entries′ (s .block a) ≡ map φ (entries (s .block a))) × (marked′ d (s .block a) ≡ marked d (s .block a))) →
         sumList guard (itemsBy entries marked s d) ≡ 0 → AlikeItems (itemsBy entries marked s) (itemsBy entries′ marked′ t) d
     items-alike same on cont z = (
       λ w. items-sum entries′ marked′ t d (λ j. w (j .dir) (j .anode)) ∙ ap (sumList (λ a. sumList (λ j. w (j .dir) (j .anode)) (itemsAt entries′ marked′ t d a))) same

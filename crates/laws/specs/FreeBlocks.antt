@@ -6,14 +6,14 @@ use mathlib.Core.Bool.{Bool}
 use mathlib.Core.List.{List, [], _∷_, _++_, append-nil, append-assoc}
 use native.Mathlib.Omega.{arith}
 use native.Mathlib.Numerals.{add-one}
-use Rattle.rules.specs.Counting.{times, gather, lastOf}
+use Rattle.rules.specs.Counting.{occurrences, gather, lastOf}
 use Rattle.rules.specs.Anodes.{Anodes, limit}
 use Rattle.rules.specs.Chains.{chainOf, run, blocksOf, cut, side}
 use Rattle.rules.specs.Space.{planned, rewritten, insertedAfter, unlinked, withoutFirst, withoutLast, sideOf, lowestFree, append, takeBlock, join, release, giveBack, lastBlock}
 use Rattle.laws.specs.LinkChanges.{first, second, third}
 use Rattle.laws.specs.Sums.{oneAt-same}
-use Rattle.laws.specs.Bags.{times-append, gather-append, gather-off, gather-skip, times-member}
-use Rattle.laws.specs.Heads.{Head, times-on-chain}
+use Rattle.laws.specs.Bags.{occurrences-append, gather-append, gather-off, gather-skip, occurrences-member}
+use Rattle.laws.specs.Heads.{Head, occurrences-on-chain}
 use Rattle.laws.specs.Space.{Good, head-1, free-off, free-is, FreeAnode}
 use Rattle.laws.specs.Sides.{SideHead}
 use Rattle.laws.specs.Searches.{FoundIn}
@@ -35,7 +35,7 @@ one-around y p l l′ q o = (
 )
 
 -- one anode of a list has a block more
-one-anode : (f f′ : ℕ → List ℕ) (pre post : List ℕ) (x y : ℕ) → ((a : ℕ) → a ≢ x → f′ a ≡ f a) → times x pre ≡ 0 → times x post ≡ 0 → OneMore y (f x) (f′ x) →
+one-anode : (f f′ : ℕ → List ℕ) (pre post : List ℕ) (x y : ℕ) → ((a : ℕ) → a ≢ x → f′ a ≡ f a) → occurrences x pre ≡ 0 → occurrences x post ≡ 0 → OneMore y (f x) (f′ x) →
     OneMore y (gather f (pre ++ (x ∷ post))) (gather f′ (pre ++ (x ∷ post)))
 unfolding gather
 one-anode f f′ pre post x y same i j o =
@@ -46,9 +46,9 @@ one-anode f f′ pre post x y same i j o =
 
 module _ {ex : ℕ → Bool} {n last : ℕ} {s : Anodes} {system hd sd : ℕ → ℕ} (g : Good limit ex n last s system hd sd) (x : ℕ) (free : hd x ≡ 1) (y : ℕ) where
   split : (pre : List ℕ) × (post : List ℕ) × (chainOf (s .next) limit 1 ≡ pre ++ (x ∷ post))
-  split = times-member x (chainOf (s .next) limit 1) (omega (arith, times-on-chain (g .linked) (g .heads) 1 (head-1 g) x, oneAt-same (hd x) 1 free))
+  split = occurrences-member x (chainOf (s .next) limit 1) (omega (arith, occurrences-on-chain (g .linked) (g .heads) 1 (head-1 g) x, oneAt-same (hd x) 1 free))
 
-  once : (times x (split .0) ≡ 0) × (times x (split .1) ≡ 0)
+  once : (occurrences x (split .0) ≡ 0) × (occurrences x (split .1) ≡ 0)
   once = stands-once g 1 (head-1 g) x (split .0) (split .1) (split .2)
 
   was : blocksOf s 1 ≡ gather (extent s) (split .0 ++ (x ∷ split .1))
@@ -89,7 +89,7 @@ module _ {ex : ℕ → Bool} {n last : ℕ} {s : Anodes} {system hd sd : ℕ →
       let parts : (l : List ℕ) → split .0 ++ (x ∷ l) ≡ pre ++ l = λ l. sym (append-assoc (split .0) (x ∷ []) l) in
       let none : extent s f ≡ [] = rw (g .present .free-none f (is-free .unused)) in
       let new : extent t f ≡ y ∷ [] = extent-here s t f 1 y refl refl in
-      let away : times f pre + times f (split .1) ≡ 0 = sym (times-append f pre (split .1)) ∙ rw (split .2 ∙ parts (split .1)) at (free-off g 1 (head-1 g) f (is-free .unused)) in
+      let away : occurrences f pre + occurrences f (split .1) ≡ 0 = sym (occurrences-append f pre (split .1)) ∙ rw (split .2 ∙ parts (split .1)) at (free-off g 1 (head-1 g) f (is-free .unused)) in
       let before : blocksOf s 1 ≡ gather (extent s) (pre ++ (f ∷ split .1)) = was ∙ ap (gather (extent s)) (parts (split .1)) ∙ sym (gather-skip (extent s) pre (split .1) f none) in
       let after : blocksOf t 1 ≡ gather (extent t) (pre ++ (f ∷ split .1)) =
       blocksOf-extents t 1 ∙ ap (gather (extent t)) (inserted-chain g 1 (head-1 g) x (split .0) (split .1) (split .2) x0 u f 1 y fA is-free y0 ∙ parts (f ∷ split .1)) in

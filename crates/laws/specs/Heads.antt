@@ -6,11 +6,11 @@ use mathlib.Core.Bool.{not, _&&_}
 use mathlib.Core.List.{List, [], _∷_}
 use native.Mathlib.Omega.{arith}
 use lib.Dec.{eqb, eqb→eq, T-not, not-T}
-use Rattle.rules.specs.Counting.{oneAt, sumBelow, sumList, times}
+use Rattle.rules.specs.Counting.{oneAt, sumBelow, sumList, occurrences}
 use Rattle.rules.specs.Chains.{chainOf, preds, heads, headOf}
 use Rattle.laws.specs.Tests.{same?, less?, cond-cases, eq→eqb, both, and}
 use Rattle.laws.specs.Sums.{oneAt-cases, oneAt-same, oneAt-some, oneAt-other, sum-congr, sum-zero, sum-member, sum-some, sum-single}
-use Rattle.laws.specs.Bags.{times-nil, times-cons, sum-by-times}
+use Rattle.laws.specs.Bags.{occurrences-nil, occurrences-cons, sum-by-occurrences}
 use Rattle.laws.specs.Segments.{Seg, Chain, seg-zero}
 use Rattle.laws.specs.Links.{Linked, preds-none, used, next-pos, above-free, no-preds, seg-used, the-chain}
 
@@ -71,10 +71,10 @@ module _ {A : ℕ} {next block : ℕ → ℕ} (k : Linked A next block) where
 
   -- ---- how often an anode stands on a chain
 
-  times-next : (h : ℕ) (l : List ℕ) → Chain next h l → (a : ℕ) → next a ≢ 0 → times (next a) l ≡ oneAt h (next a) + times a l
-  times-next h [] c a n = omega (arith, times-nil (next a), times-nil a, oneAt-other h (next a) (λ e. n (sym e ∙ c)))
-  times-next h (b ∷ l) c a n =
-      omega (arith, times-cons (next a) b l, times-cons a b l, times-next (next b) l (c .2) a n, same, ap (λ (x : ℕ). oneAt x (next a)) (c .0))
+  occurrences-next : (h : ℕ) (l : List ℕ) → Chain next h l → (a : ℕ) → next a ≢ 0 → occurrences (next a) l ≡ oneAt h (next a) + occurrences a l
+  occurrences-next h [] c a n = omega (arith, occurrences-nil (next a), occurrences-nil a, oneAt-other h (next a) (λ e. n (sym e ∙ c)))
+  occurrences-next h (b ∷ l) c a n =
+      omega (arith, occurrences-cons (next a) b l, occurrences-cons a b l, occurrences-next (next b) l (c .2) a n, same, ap (λ (x : ℕ). oneAt x (next a)) (c .0))
     where
       same : oneAt (next b) (next a) ≡ oneAt b a
       same = elim (oneAt-cases b a) [
@@ -82,10 +82,10 @@ module _ {A : ℕ} {next block : ℕ → ℕ} (k : Linked A next block) where
         | inr e ↦ oneAt-other (next b) (next a) (λ q. e .0 (sym (k .uniq a b n (sym q)))) ∙ sym (e .1)
       ]
 
-  times-head : (h : ℕ) (l : List ℕ) → Chain next h l → (a : ℕ) → Head next block a → times a l ≡ oneAt h a
-  times-head h [] c a d = omega (arith, times-nil a, oneAt-other h a (λ e. d .pos (sym e ∙ c)))
-  times-head h (b ∷ l) c a d =
-      omega (arith, times-cons a b l, times-head (next b) l (c .2) a d, oneAt-other (next b) a (d .no-pred b), ap (λ (x : ℕ). oneAt x a) (c .0))
+  occurrences-head : (h : ℕ) (l : List ℕ) → Chain next h l → (a : ℕ) → Head next block a → occurrences a l ≡ oneAt h a
+  occurrences-head h [] c a d = omega (arith, occurrences-nil a, oneAt-other h a (λ e. d .pos (sym e ∙ c)))
+  occurrences-head h (b ∷ l) c a d =
+      omega (arith, occurrences-cons a b l, occurrences-head (next b) l (c .2) a d, oneAt-other (next b) a (d .no-pred b), ap (λ (x : ℕ). oneAt x a) (c .0))
 
   pub heads-cases : (h : ℕ) → (Head next block h × (heads A next block h ≡ 1)) ⊎ ((Head next block h → ⊥) × (heads A next block h ≡ 0))
   unfolding heads
@@ -125,20 +125,20 @@ module _ {A : ℕ} {next block : ℕ → ℕ} (k : Linked A next block) where
       | inr s ↦ none 0 h (s .1)
     ]);
     along = λ a n. sum-congr (term (next a)) (term a) A (λ h l. elim (heads-cases h) [
-      | inl s ↦ ap (λ (c : ℕ). heads A next block h * (c * h)) (times-next h (chainOf next A h) (head-chain h (s .0)) a n
+      | inl s ↦ ap (λ (c : ℕ). heads A next block h * (c * h)) (occurrences-next h (chainOf next A h) (head-chain h (s .0)) a n
           ∙ rw (oneAt-other h (next a) (λ e. s .0 .no-pred a (sym e))) (omega arith))
       | inr s ↦ none (next a) h (s .1) ∙ sym (none a h (s .1))
     ]);
     at-head = λ a d. sum-single (term a) a A (head-below a d) (λ h l ne. elim (heads-cases h) [
-      | inl s ↦ vanish a h (times-head h (chainOf next A h) (head-chain h (s .0)) a d ∙ oneAt-other h a ne)
+      | inl s ↦ vanish a h (occurrences-head h (chainOf next A h) (head-chain h (s .0)) a d ∙ oneAt-other h a ne)
       | inr s ↦ none a h (s .1)
     ]) ∙ own a d;
   }
     where
       term : ℕ → ℕ → ℕ
-      term a h = heads A next block h * (times a (chainOf next A h) * h)
+      term a h = heads A next block h * (occurrences a (chainOf next A h) * h)
 
-      vanish : (a h : ℕ) → times a (chainOf next A h) ≡ 0 → term a h ≡ 0
+      vanish : (a h : ℕ) → occurrences a (chainOf next A h) ≡ 0 → term a h ≡ 0
       vanish a h e = rw e (omega arith)
 
       none : (a h : ℕ) → heads A next block h ≡ 0 → term a h ≡ 0
@@ -146,7 +146,7 @@ module _ {A : ℕ} {next block : ℕ → ℕ} (k : Linked A next block) where
 
       own : (a : ℕ) → Head next block a → term a a ≡ a
       own a d = elim (heads-cases a) [
-        | inl s ↦ rw (s .1, times-head a (chainOf next A a) (head-chain a d) a d, oneAt-same a a refl) (omega arith)
+        | inl s ↦ rw (s .1, occurrences-head a (chainOf next A a) (head-chain a d) a d, oneAt-same a a refl) (omega arith)
         | inr s ↦ absurd (s .0 d)
       ]
 
@@ -156,37 +156,37 @@ module _ {A : ℕ} {next block : ℕ → ℕ} (k : Linked A next block) where
     pub head-of-is : (a : ℕ) → a ≢ 0 → block a ≢ 0 → Head next block (hd a)
     head-of-is = chain-ind (λ a. Head next block (hd a)) (λ a d. rw (t .at-head a d) d) (λ a n d. rw (t .along a n) d)
 
-    pub on-own : (a : ℕ) → a ≢ 0 → block a ≢ 0 → times a (chainOf next A (hd a)) ≡ 1
-    on-own = chain-ind (λ a. times a (chainOf next A (hd a)) ≡ 1)
-        (λ a d. rw (t .at-head a d) (times-head a (chainOf next A a) (head-chain a d) a d ∙ oneAt-same a a refl))
+    pub on-own : (a : ℕ) → a ≢ 0 → block a ≢ 0 → occurrences a (chainOf next A (hd a)) ≡ 1
+    on-own = chain-ind (λ a. occurrences a (chainOf next A (hd a)) ≡ 1)
+        (λ a d. rw (t .at-head a d) (occurrences-head a (chainOf next A a) (head-chain a d) a d ∙ oneAt-same a a refl))
         (λ a n q. rw (t .along a n) (step a n q))
       where
-        step : (a : ℕ) → next a ≢ 0 → times a (chainOf next A (hd a)) ≡ 1 → times (next a) (chainOf next A (hd a)) ≡ 1
+        step : (a : ℕ) → next a ≢ 0 → occurrences a (chainOf next A (hd a)) ≡ 1 → occurrences (next a) (chainOf next A (hd a)) ≡ 1
         step a n q =
             let d = head-of-is a (next-pos k a n) (used (k .view) a n) in
-            omega (arith, times-next (hd a) (chainOf next A (hd a)) (head-chain (hd a) d) a n, oneAt-other (hd a) (next a) (λ e. d .no-pred a (sym e)))
+            omega (arith, occurrences-next (hd a) (chainOf next A (hd a)) (head-chain (hd a) d) a n, oneAt-other (hd a) (next a) (λ e. d .no-pred a (sym e)))
 
     -- what stands on one walk has one head
-    pub seg-head : (h z : ℕ) (l : List ℕ) → Seg next h l z → (x : ℕ) → 0 < times x l → hd x ≡ hd h
-    seg-head h z [] c x p = absurd (omega (arith, times-nil x))
+    pub seg-head : (h z : ℕ) (l : List ℕ) → Seg next h l z → (x : ℕ) → 0 < occurrences x l → hd x ≡ hd h
+    seg-head h z [] c x p = absurd (omega (arith, occurrences-nil x))
     seg-head h z (b ∷ l) c x p = go (oneAt-cases b x) (seg-head (next b) z l (c .2) x)
       where
-        go : ((b ≡ x) × (oneAt b x ≡ 1)) ⊎ ((b ≢ x) × (oneAt b x ≡ 0)) → (0 < times x l → hd x ≡ hd (next b)) → hd x ≡ hd h
+        go : ((b ≡ x) × (oneAt b x ≡ 1)) ⊎ ((b ≢ x) × (oneAt b x ≡ 0)) → (0 < occurrences x l → hd x ≡ hd (next b)) → hd x ≡ hd h
         go (inl e) r = ap hd (sym (e .0) ∙ sym (c .0))
         go (inr e) r = r m ∙ t .along b (nz l (c .2) m) ∙ ap hd (sym (c .0))
           where
-            m : 0 < times x l
-            m = omega (arith, times-cons x b l)
+            m : 0 < occurrences x l
+            m = omega (arith, occurrences-cons x b l)
 
-            nz : (l : List ℕ) → Seg next (next b) l z → 0 < times x l → next b ≢ 0
-            nz [] s q = absurd (omega (arith, times-nil x))
+            nz : (l : List ℕ) → Seg next (next b) l z → 0 < occurrences x l → next b ≢ 0
+            nz [] s q = absurd (omega (arith, occurrences-nil x))
             nz (y ∷ l) s q = λ w. s .1 (sym (s .0) ∙ w)
 
     -- the chain of a head is what the table gives that head
-    pub times-on-chain : (h : ℕ) → Head next block h → (a : ℕ) → times a (chainOf next A h) ≡ oneAt (hd a) h
-    times-on-chain h d a = elim (oneAt-cases (hd a) h) [
+    pub occurrences-on-chain : (h : ℕ) → Head next block h → (a : ℕ) → occurrences a (chainOf next A h) ≡ oneAt (hd a) h
+    occurrences-on-chain h d a = elim (oneAt-cases (hd a) h) [
       | inl e ↦ rw (e .1, ← (e .0)) (on-own a (λ z. d .pos (sym (e .0) ∙ ap hd z ∙ t .off-zero)) (λ z. d .pos (sym (e .0) ∙ t .off a z)))
-      | inr e ↦ rw (e .1) (elim (less? 0 (times a (chainOf next A h))) [
+      | inr e ↦ rw (e .1) (elim (less? 0 (occurrences a (chainOf next A h))) [
         | inl p ↦ absurd (e .0 (seg-head h 0 (chainOf next A h) (head-chain h d) a p ∙ t .at-head h d))
         | inr p ↦ omega arith
       ])
@@ -195,5 +195,5 @@ module _ {A : ℕ} {next block : ℕ → ℕ} (k : Linked A next block) where
     -- a sum over a chain, and over the anodes that the table gives its head
     pub chain-sum : (c : ℕ → ℕ) (h : ℕ) → Head next block h → sumList c (chainOf next A h) ≡ sumBelow (λ a. oneAt (hd a) h * c a) A
     chain-sum c h d =
-        sum-by-times c (chainOf next A h) A (λ x l. seg-used k h 0 (chainOf next A h) x (λ q. d .in-use) (head-chain h d) (above-free (k .view) x l))
-        ∙ sum-congr (λ a. times a (chainOf next A h) * c a) (λ a. oneAt (hd a) h * c a) A (λ a l. ap (λ (y : ℕ). y * c a) (times-on-chain h d a))
+        sum-by-occurrences c (chainOf next A h) A (λ x l. seg-used k h 0 (chainOf next A h) x (λ q. d .in-use) (head-chain h d) (above-free (k .view) x l))
+        ∙ sum-congr (λ a. occurrences a (chainOf next A h) * c a) (λ a. oneAt (hd a) h * c a) A (λ a l. ap (λ (y : ℕ). y * c a) (occurrences-on-chain h d a))

@@ -5,7 +5,7 @@ use mathlib.Core.Bool.{Bool, true, false, cond, _&&_}
 use mathlib.Core.List.{List, [], _∷_, map}
 use native.Mathlib.Omega.{arith}
 use lib.Dec.{eqb}
-use Rattle.rules.specs.Counting.{oneAt, sumList, times, gather}
+use Rattle.rules.specs.Counting.{oneAt, sumList, occurrences, gather}
 use Rattle.rules.specs.Anodes.{Anodes}
 use Rattle.rules.specs.Walk.{Dir, dirMade, Entered, Item, broken, itemsFor, subDirs}
 use Rattle.laws.specs.Bags.{list-nil, list-one, list-mono, list-congr, gather-sum, map-sum}
@@ -31,8 +31,8 @@ weighItem w i = w (wrong i) (i .dir) (i .anode)
 abbrev pub names : List Item → List ℕ
 names is = map (λ i. i .anode) is
 
-pub names-sum : (x : ℕ) (is : List Item) → times x (names is) ≡ sumList (λ i. oneAt (i .anode) x) is
-unfolding times
+pub names-sum : (x : ℕ) (is : List Item) → occurrences x (names is) ≡ sumList (λ i. oneAt (i .anode) x) is
+unfolding occurrences
 names-sum x is = map-sum (λ i. i .anode) (λ y. oneAt y x) is
 
 -- the weight of the directory that an item names, in the directory with head h
@@ -78,7 +78,7 @@ module _ (items : Dir → List Item) where
   below w d = sumList w (subs d)
 
   abbrev pub namedIn : ℕ → Dir → ℕ
-  namedIn x d = times x (names (items d))
+  namedIn x d = occurrences x (names (items d))
 
   abbrev pub faults : Dir → ℕ
   faults d = sumList wrong (items d)
@@ -89,7 +89,7 @@ module _ (items : Dir → List Item) where
 
   -- each is named by its head
   pub subs-named : (x : ℕ) (d : Dir) → headed x (subs d) ≤ namedIn x d
-  unfolding subs times
+  unfolding subs occurrences
   subs-named x d = dirs-named (λ e. oneAt (e .head) x) (λ y. oneAt y x) (λ e. omega arith) d (items d)
 
   pub subs-few : (d : Dir) → sumList (λ e. 1) (subs d) ≤ sumList (λ x. 1) (names (items d))

@@ -6,10 +6,10 @@ use mathlib.Core.Bool.{Bool, cond}
 use mathlib.Core.List.{List, _∷_, _++_}
 use native.Mathlib.Omega.{arith}
 use lib.Dec.{T}
-use Rattle.rules.specs.Counting.{oneAt, times, changed}
+use Rattle.rules.specs.Counting.{oneAt, occurrences, changed}
 use Rattle.laws.specs.Tests.{cond-cases}
 use Rattle.laws.specs.Sums.{oneAt-same, changed-cases, changed-same, changed-other, changed-pos}
-use Rattle.laws.specs.Bags.{times-cons, times-append}
+use Rattle.laws.specs.Bags.{occurrences-cons, occurrences-append}
 use Rattle.laws.specs.Segments.{Seg, Chain, seg-append, seg-split, seg-keep}
 use Rattle.laws.specs.Links.{Linked, used, next-pos, seg-once, seg-used}
 
@@ -142,19 +142,19 @@ module _ {A : ℕ} {next block : ℕ → ℕ} (k : Linked A next block) where
     at-f = changed-other (changed next f (next p)) p f f (λ e. not-f (sym e)) ∙ changed-same next f (next p)
 
     -- what a chain becomes: one without p stays, and f comes after p in the other
-    insert-apart : (a z : ℕ) (l : List ℕ) → (a ≢ 0 → block a ≢ 0) → Seg next a l z → times p l ≡ 0 → Seg (insertAfter next p f) a l z
+    insert-apart : (a z : ℕ) (l : List ℕ) → (a ≢ 0 → block a ≢ 0) → Seg next a l z → occurrences p l ≡ 0 → Seg (insertAfter next p f) a l z
     insert-apart a z l u c h = seg-keep next (insertAfter next p f) a z l keep c
       where
-        keep : (x : ℕ) → 0 < times x l → insertAfter next p f x ≡ next x
+        keep : (x : ℕ) → 0 < occurrences x l → insertAfter next p f x ≡ next x
         keep x m = elim (insertAfter-cases next p f x) [
-          | first e ↦ absurd (omega (arith, ap (λ (y : ℕ). times y l) (e .0)))
+          | first e ↦ absurd (omega (arith, ap (λ (y : ℕ). occurrences y l) (e .0)))
           | second e ↦ absurd (omega (arith, seg-used k a z l x u c (ap block (e .1) ∙ fresh)))
           | third e ↦ e .2
         ]
 
     pub insert-after : (a : ℕ) (l m : List ℕ) → (a ≢ 0 → block a ≢ 0) → Chain next a (l ++ (p ∷ m)) → Chain (insertAfter next p f) a (l ++ (p ∷ (f ∷ m)))
     insert-after a l m u c =
-        let alone : times p l + times p m ≡ 0 = omega (arith, seg-once k a 0 (l ++ (p ∷ m)) p u c, times-append p l (p ∷ m), times-cons p p m, oneAt-same p p refl) in
+        let alone : occurrences p l + occurrences p m ≡ 0 = omega (arith, seg-once k a 0 (l ++ (p ∷ m)) p u c, occurrences-append p l (p ∷ m), occurrences-cons p p m, oneAt-same p p refl) in
         let s = seg-split next a 0 l (p ∷ m) c in
         seg-append (insertAfter next p f) a (s .0) 0 l (p ∷ (f ∷ m))
         (insert-apart a (s .0) l u (s .1) (omega arith))
@@ -225,13 +225,13 @@ module _ {A : ℕ} {next block : ℕ → ℕ} (k : Linked A next block) where
       ];
     }
 
-    unlink-apart : (a z : ℕ) (l : List ℕ) → Seg next a l z → times p l ≡ 0 → times x l ≡ 0 → Seg (unlink next p x) a l z
+    unlink-apart : (a z : ℕ) (l : List ℕ) → Seg next a l z → occurrences p l ≡ 0 → occurrences x l ≡ 0 → Seg (unlink next p x) a l z
     unlink-apart a z l c h g = seg-keep next (unlink next p x) a z l keep c
       where
-        keep : (y : ℕ) → 0 < times y l → unlink next p x y ≡ next y
+        keep : (y : ℕ) → 0 < occurrences y l → unlink next p x y ≡ next y
         keep y m = elim (unlink-cases next p x y) [
-          | first e ↦ absurd (omega (arith, ap (λ (y : ℕ). times y l) (e .0)))
-          | second e ↦ absurd (omega (arith, ap (λ (y : ℕ). times y l) (e .1)))
+          | first e ↦ absurd (omega (arith, ap (λ (y : ℕ). occurrences y l) (e .0)))
+          | second e ↦ absurd (omega (arith, ap (λ (y : ℕ). occurrences y l) (e .1)))
           | third e ↦ e .2
         ]
 
@@ -242,14 +242,14 @@ module _ {A : ℕ} {next block : ℕ → ℕ} (k : Linked A next block) where
     pub unlink-after : (a : ℕ) (l m : List ℕ) → (a ≢ 0 → block a ≢ 0) → Chain next a (l ++ (p ∷ (x ∷ m))) → Chain (unlink next p x) a (l ++ (p ∷ m))
     unlink-after a l m u c =
         let s = seg-split next a 0 l (p ∷ (x ∷ m)) c in
-        let no-p : times p l + times p m ≡ 0 = omega (arith, once p, oneAt-same p p refl) in
-        let no-x : times x l + times x m ≡ 0 = omega (arith, once x, oneAt-same x x refl) in
+        let no-p : occurrences p l + occurrences p m ≡ 0 = omega (arith, once p, oneAt-same p p refl) in
+        let no-x : occurrences x l + occurrences x m ≡ 0 = omega (arith, once x, oneAt-same x x refl) in
         seg-append (unlink next p x) a (s .0) 0 l (p ∷ m)
         (unlink-apart a (s .0) l (s .1) (omega arith) (omega arith))
         (s .2 .0, s .2 .1, rw un-p (unlink-apart (next x) 0 m (s .2 .2 .2) (omega arith) (omega arith)))
       where
-        once : (y : ℕ) → times y l + (oneAt p y + (oneAt x y + times y m)) ≤ 1
-        once y = omega (arith, seg-once k a 0 (l ++ (p ∷ (x ∷ m))) y u c, times-append y l (p ∷ (x ∷ m)), times-cons y p (x ∷ m), times-cons y x m)
+        once : (y : ℕ) → occurrences y l + (oneAt p y + (oneAt x y + occurrences y m)) ≤ 1
+        once y = omega (arith, seg-once k a 0 (l ++ (p ∷ (x ∷ m))) y u c, occurrences-append y l (p ∷ (x ∷ m)), occurrences-cons y p (x ∷ m), occurrences-cons y x m)
 
   -- ---- a fresh anode is a chain of its own: no next changes
 
@@ -301,7 +301,7 @@ module _ {A : ℕ} {next block : ℕ → ℕ} (k : Linked A next block) where
       ];
     }
 
-    pub drop-apart : (a z : ℕ) (l : List ℕ) → Seg next a l z → ((x : ℕ) → 0 < times x l → T (dead x) → ⊥) → Seg (without dead next) a l z
+    pub drop-apart : (a z : ℕ) (l : List ℕ) → Seg next a l z → ((x : ℕ) → 0 < occurrences x l → T (dead x) → ⊥) → Seg (without dead next) a l z
     drop-apart a z l c h = seg-keep next (without dead next) a z l (λ x m. without-other dead next x (h x m)) c
 
 -- ---- an anode in use rewritten to another in use leaves the links alone

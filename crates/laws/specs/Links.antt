@@ -5,11 +5,11 @@ use mathlib.Core.Logic.{_≢_, _⊎_, inl, inr}
 use mathlib.Core.List.{List, [], _∷_}
 use native.Mathlib.Omega.{arith}
 use lib.ListN.{length}
-use Rattle.rules.specs.Counting.{oneAt, times}
+use Rattle.rules.specs.Counting.{oneAt, occurrences}
 use Rattle.rules.specs.Chains.{chainOf, followed, preds}
 use Rattle.laws.specs.Tests.{same?}
 use Rattle.laws.specs.Sums.{oneAt-cases, oneAt-same, oneAt-some, oneAt-other, oneAt-le, sum-zero, sum-member, sum-members, sum-le-one}
-use Rattle.laws.specs.Bags.{times-nil, times-cons, pigeonhole}
+use Rattle.laws.specs.Bags.{occurrences-nil, occurrences-cons, pigeonhole}
 use Rattle.laws.specs.Segments.{Seg, Chain, followed-zero, chainOf-is, chain-is, chain-ends, chain-one, seg-avoids}
 
 -- what reading an image gives, whatever the image: an anode in use is below A, and a free one has no next
@@ -118,21 +118,21 @@ module _ {A : ℕ} {next block : ℕ → ℕ} (k : Linked A next block) where
       go (inr e) rest = let t = rest (k .closed a) (omega (arith, k .falls a e (u e))) in (a ∷ t .0, (refl, e, t .1))
 
   -- in a walk no rank is above the first, and so none stands there twice
-  pub seg-rank : (a z : ℕ) (l : List ℕ) (x : ℕ) → (a ≢ 0 → block a ≢ 0) → Seg next a l z → k .rank a < k .rank x → times x l ≡ 0
+  pub seg-rank : (a z : ℕ) (l : List ℕ) (x : ℕ) → (a ≢ 0 → block a ≢ 0) → Seg next a l z → k .rank a < k .rank x → occurrences x l ≡ 0
   seg-rank a z l x u c h = seg-avoids next x (λ b. (b ≢ 0 → block b ≢ 0) × (k .rank b < k .rank x))
       (λ b b0 p. (λ e. omega (arith, p .1, ap (k .rank) e), (k .closed b, omega (arith, p .1, k .falls b b0 (p .0 b0))))) a z l (u, h) c
 
-  pub seg-once : (a z : ℕ) (l : List ℕ) (x : ℕ) → (a ≢ 0 → block a ≢ 0) → Seg next a l z → times x l ≤ 1
-  seg-once a z [] x u c = omega (arith, times-nil x)
+  pub seg-once : (a z : ℕ) (l : List ℕ) (x : ℕ) → (a ≢ 0 → block a ≢ 0) → Seg next a l z → occurrences x l ≤ 1
+  seg-once a z [] x u c = omega (arith, occurrences-nil x)
   seg-once a z (b ∷ l) x u c =
       let nb : block b ≢ 0 = rw (c .0) at u (c .1) in
       elim (oneAt-cases b x) [
-        | inl e ↦ omega (arith, times-cons x b l, seg-rank (next b) z l x (k .closed b) (c .2) (omega (arith, k .falls b (c .1) nb, ap (k .rank) (e .0))))
-        | inr e ↦ omega (arith, times-cons x b l, seg-once (next b) z l x (k .closed b) (c .2))
+        | inl e ↦ omega (arith, occurrences-cons x b l, seg-rank (next b) z l x (k .closed b) (c .2) (omega (arith, k .falls b (c .1) nb, ap (k .rank) (e .0))))
+        | inr e ↦ omega (arith, occurrences-cons x b l, seg-once (next b) z l x (k .closed b) (c .2))
       ]
 
   -- what stands in a walk is in use
-  pub seg-used : (a z : ℕ) (l : List ℕ) (x : ℕ) → (a ≢ 0 → block a ≢ 0) → Seg next a l z → block x ≡ 0 → times x l ≡ 0
+  pub seg-used : (a z : ℕ) (l : List ℕ) (x : ℕ) → (a ≢ 0 → block a ≢ 0) → Seg next a l z → block x ≡ 0 → occurrences x l ≡ 0
   seg-used a z l x u c h = seg-avoids next x (λ b. b ≢ 0 → block b ≢ 0) (λ b b0 p. (λ e. p b0 (ap block e ∙ h), k .closed b)) a z l u c
 
   pub seg-short : (a z : ℕ) (l : List ℕ) → (a ≢ 0 → block a ≢ 0) → Seg next a l z → length l ≤ A

@@ -6,7 +6,7 @@ use mathlib.Core.Bool.{Bool, true, false}
 use mathlib.Core.List.{List, [], _∷_, map-id}
 use native.Mathlib.Omega.{arith}
 use lib.Dec.{T}
-use Rattle.rules.specs.Counting.{oneAt, sumList, times, changed}
+use Rattle.rules.specs.Counting.{oneAt, sumList, occurrences, changed}
 use Rattle.rules.specs.Anodes.{limit, Anodes}
 use Rattle.rules.specs.Chains.{chainOf}
 use Rattle.rules.specs.Walk.{Dir, dirMade, root, Entered, Item, itemOf, broken, itemsAt, itemsBy}
@@ -48,9 +48,9 @@ module _ {ex : ℕ → Bool} {n last : ℕ} {s : Anodes} {system hd sd : ℕ →
     (less more : ℕ → List Entered) (marked marked′ : Dir → ℕ → Bool)
     (cont : EntryMore s hd e a₀ less more) where
   pub entry-gain : (d : Dir) → DirHead s d →
-      ((a : ℕ) → 0 < times a (chainOf (s .next) limit (d .head)) → hd a ≢ 1 → (s .count a ≡ 1) × T (marked d (s .block a)) × T (marked′ d (s .block a))) →
+      ((a : ℕ) → 0 < occurrences a (chainOf (s .next) limit (d .head)) → hd a ≢ 1 → (s .count a ≡ 1) × T (marked d (s .block a)) × T (marked′ d (s .block a))) →
       Gain (itemsBy less marked s) (itemsBy more marked′ s) h₀ (itemOf s e) d
-  unfolding times
+  unfolding occurrences
   entry-gain d p whole u =
       items-sum more marked′ s d (weighItem u)
       ∙ list-gain (λ a. sumList (weighItem u) (itemsAt less marked s d a)) (λ a. sumList (weighItem u) (itemsAt more marked′ s d a)) (λ a. oneAt a a₀) (weighItem u (itemOf s e)) (chainOf (s .next) limit (d .head))
@@ -58,7 +58,7 @@ module _ {ex : ℕ → Bool} {n last : ℕ} {s : Anodes} {system hd sd : ℕ →
       ∙ omega (arith, items-sum less marked s d (weighItem u), ap (λ (k : ℕ). k * weighItem u (itemOf s e)) (on-dir g a₀ h₀ at₀ (d .head) (p .0)))
     where
       -- one anode of the directory
-      at-a : (a : ℕ) → 0 < times a (chainOf (s .next) limit (d .head)) →
+      at-a : (a : ℕ) → 0 < occurrences a (chainOf (s .next) limit (d .head)) →
           sumList (weighItem u) (itemsAt more marked′ s d a) ≡ sumList (weighItem u) (itemsAt less marked s d a) + oneAt a a₀ * weighItem u (itemOf s e)
       at-a a k =
           let q : hd a ≢ 1 = λ i. p .1 (sym (on-chain g (d .head) (p .0) a k .0) ∙ i) in

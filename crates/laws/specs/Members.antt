@@ -7,13 +7,13 @@ use mathlib.Core.List.{List, [], _∷_, _++_, map, map-id, append-assoc, map-app
 use native.Mathlib.Omega.{arith}
 use lib.ListN.{length, getD, take, drop}
 use lib.Seq.{split-at}
-use Rattle.rules.specs.Counting.{sumList, times, gather, oneAt, anyIn}
+use Rattle.rules.specs.Counting.{sumList, occurrences, gather, oneAt, anyIn}
 use Rattle.counting.specs.Laws.{none-or}
 use Rattle.laws.specs.Sums.{oneAt-same, oneAt-other, oneAt-cases, oneAt-some}
 use Rattle.laws.specs.Bags.{list-cons, list-append, list-add, list-mono, list-scale, gather-sum, map-sum, list-some}
 use Rattle.laws.specs.Each.{Each, list-congr-each, gather-congr-each}
 pub use Rattle.laws.specs.Each.{Member, member-each}
-pub use Rattle.laws.specs.Bags.{times-member}
+pub use Rattle.laws.specs.Bags.{occurrences-member}
 
 module _ {ℓ} {X : Type ℓ} where
   pub no-member : (x : X) → Member x [] → ⊥
@@ -91,30 +91,30 @@ map-members f g (x ∷ l) e = ap₂ _∷_ (e x (member-first x l)) (map-members 
 pub map-kept {ℓ} : {X : Type ℓ} (f : X → X) (l : List X) → ((x : X) → Member x l → f x ≡ x) → map f l ≡ l
 map-kept f l e = map-members f (λ x. x) l e ∙ map-id l
 
-pub member-times : (x : ℕ) (l : List ℕ) → Member x l → 0 < times x l
-unfolding times
-member-times x l p = omega (arith, member-sum (λ y. oneAt y x) x l p, oneAt-same x x refl)
+pub member-occurrences : (x : ℕ) (l : List ℕ) → Member x l → 0 < occurrences x l
+unfolding occurrences
+member-occurrences x l p = omega (arith, member-sum (λ y. oneAt y x) x l p, oneAt-same x x refl)
 
 -- what stands among the numbers that g gives for a list
-pub times-map : (g : ℕ → ℕ) (l : List ℕ) (y : ℕ) → 0 < times y (map g l) → (a : ℕ) × (0 < times a l) × (y ≡ g a)
-unfolding times
-times-map g l y p =
+pub occurrences-map : (g : ℕ → ℕ) (l : List ℕ) (y : ℕ) → 0 < occurrences y (map g l) → (a : ℕ) × (0 < occurrences a l) × (y ≡ g a)
+unfolding occurrences
+occurrences-map g l y p =
     let (a, m, q) = list-some (λ x. oneAt (g x) y) l (omega (arith, p, map-sum g (λ z. oneAt z y) l)) in
-    (a, member-times a l m, sym (oneAt-some (g a) y q))
+    (a, member-occurrences a l m, sym (oneAt-some (g a) y q))
 
 -- and what stands in the list, among them
-pub times-mapped : (g : ℕ → ℕ) (l : List ℕ) (a : ℕ) → 0 < times a l → 0 < times (g a) (map g l)
-times-mapped g l a p =
-    let (before, after, parted) = times-member a l p in
-    member-times (g a) (map g l) (map g before, map g after, ap (map g) parted ∙ map-append g before (a ∷ after))
+pub occurrences-mapped : (g : ℕ → ℕ) (l : List ℕ) (a : ℕ) → 0 < occurrences a l → 0 < occurrences (g a) (map g l)
+occurrences-mapped g l a p =
+    let (before, after, parted) = occurrences-member a l p in
+    member-occurrences (g a) (map g l) (map g before, map g after, ap (map g) parted ∙ map-append g before (a ∷ after))
 
 -- the number at a place of a list stands in it
 pub nth-in : (l : List ℕ) (i : ℕ) → i < length l → Member (getD l i 0) l
 nth-in l i p = (take i l, drop (suc i) l, split-at l i 0 p)
 
 -- two numbers of a list weigh no more than the list
-pub two-members : (w : ℕ → ℕ) (l : List ℕ) (a b : ℕ) → a ≢ b → 0 < times a l → 0 < times b l → w a + w b ≤ sumList w l
-unfolding times
+pub two-members : (w : ℕ → ℕ) (l : List ℕ) (a b : ℕ) → a ≢ b → 0 < occurrences a l → 0 < occurrences b l → w a + w b ≤ sumList w l
+unfolding occurrences
 two-members w l a b apart p q = omega (
   arith,
   list-mono (λ x. oneAt x a * w a + oneAt x b * w b) w l each,

@@ -7,15 +7,15 @@ use mathlib.Core.List.{List, [], _∷_, map}
 use native.Mathlib.Omega.{arith}
 use lib.Dec.{eqb, leb}
 use borrow.Author.Tests.{le-leb, eq-eqb, eqb-false}
-use Rattle.rules.specs.Counting.{oneAt, times, sumList, gather}
+use Rattle.rules.specs.Counting.{oneAt, occurrences, sumList, gather}
 use Rattle.rules.specs.Anodes.{Anodes, limit, exists, anodesOf}
 use Rattle.rules.specs.Chains.{chainOf, followed, heads, headOf, systemOwns, cut}
 use Rattle.rules.specs.Walk.{Dir, Item, Walk, fault, done, entriesIn, isBlockOf, walkOf, faultIn, dirsIn, itemsOf, reached, reachedDirs, naming, root}
 use Rattle.rules.specs.Accepted.{diskSize, lastReserved, ownersOf, unnamed, unnamedChain, checkAnswer}
 use Rattle.counting.specs.Laws.{and-none, anyBelow-each}
 use Rattle.laws.specs.Tests.{same?}
-use Rattle.laws.specs.Bags.{times-nil, list-congr, list-mono, gather-sum}
-use Rattle.laws.specs.Heads.{Head, head-of-is, times-on-chain}
+use Rattle.laws.specs.Bags.{occurrences-nil, list-congr, list-mono, gather-sum}
+use Rattle.laws.specs.Heads.{Head, head-of-is, occurrences-on-chain}
 use Rattle.laws.specs.Space.{FixedHead, Good}
 use Rattle.laws.specs.Passes.{Passes, good-of}
 use Rattle.laws.specs.Items.{names-sum, namedIn, faults}
@@ -36,10 +36,10 @@ pub record OneOwner (img : List ℕ) : Type 0 where
   -- an anode in use, not 0, is on the chain of one head, once, and on no other head's
   pub has-head : (a : ℕ) → a ≢ 0 → anodesOf img .block a ≢ 0 → heads limit (anodesOf img .next) (anodesOf img .block) (headOf limit (anodesOf img .next) (anodesOf img .block) a) ≡ 1
   pub on-one-chain : (a h : ℕ) → heads limit (anodesOf img .next) (anodesOf img .block) h ≡ 1 →
-      times a (chainOf (anodesOf img .next) limit h) ≡ oneAt (headOf limit (anodesOf img .next) (anodesOf img .block) a) h
+      occurrences a (chainOf (anodesOf img .next) limit h) ≡ oneAt (headOf limit (anodesOf img .next) (anodesOf img .block) a) h
 
 -- the anodes that the items of some directories name
-pub naming-sum : (items : Dir → List Item) (x : ℕ) (dirs : List Dir) → times x (map (λ i. i .anode) (gather items dirs)) ≡ sumList (namedIn items x) dirs
+pub naming-sum : (items : Dir → List Item) (x : ℕ) (dirs : List Dir) → occurrences x (map (λ i. i .anode) (gather items dirs)) ≡ sumList (namedIn items x) dirs
 naming-sum items x dirs =
     names-sum x (gather items dirs) ∙ gather-sum items (λ i. oneAt (i .anode) x) dirs
     ∙ list-congr (λ d. sumList (λ i. oneAt (i .anode) x) (items d)) (namedIn items x) dirs (λ d. sym (names-sum x (items d)))
@@ -55,10 +55,10 @@ module _ (img : List ℕ) (blocks anodes : ℕ) (p : Passed img blocks anodes) w
   good = good-of (reading-of img) passes
 
   -- the walk was done, and named no anode twice
-  walk-done : (w : Walk) → walkOf img s ≡ w → faultIn w ≡ 0 → (x : ℕ) → times x (map (λ i. i .anode) (gather (itemsOf img s) (dirsIn w))) ≤ 1
+  walk-done : (w : Walk) → walkOf img s ≡ w → faultIn w ≡ 0 → (x : ℕ) → occurrences x (map (λ i. i .anode) (gather (itemsOf img s) (dirsIn w))) ≤ 1
   unfolding walkOf gather
-  walk-done (fault n) e z x = omega (arith, times-nil x)
-  walk-done (done dirs) e z x = omega (arith, naming-sum (itemsOf img s) x dirs, walk-found (itemsOf img s) limit (root ∷ []) [] dirs e .once x (omega (arith, times-nil x)), times-nil x)
+  walk-done (fault n) e z x = omega (arith, occurrences-nil x)
+  walk-done (done dirs) e z x = omega (arith, naming-sum (itemsOf img s) x dirs, walk-found (itemsOf img s) limit (root ∷ []) [] dirs e .once x (omega (arith, occurrences-nil x)), occurrences-nil x)
 
   pub once : (x : ℕ) → naming img s x ≤ 1
   unfolding naming reached reachedDirs
@@ -74,9 +74,9 @@ module _ (img : List ℕ) (blocks anodes : ℕ) (p : Passed img blocks anodes) w
 
   -- what is named in the walked directories is a head from 6 up
   walk-names : (w : Walk) → walkOf img s ≡ w → faultIn w ≡ 0 → (x : ℕ) → (6 ≤ x → heads limit (s .next) (s .block) x ≡ 1 → ⊥) →
-      times x (map (λ i. i .anode) (gather (itemsOf img s) (dirsIn w))) ≡ 0
+      occurrences x (map (λ i. i .anode) (gather (itemsOf img s) (dirsIn w))) ≡ 0
   unfolding walkOf gather itemsOf
-  walk-names (fault n) e z x k = times-nil x
+  walk-names (fault n) e z x k = occurrences-nil x
   walk-names (done dirs) e z x k =
       omega (
         arith,
@@ -114,7 +114,7 @@ module _ (img : List ℕ) (blocks anodes : ℕ) (p : Passed img blocks anodes) w
     systems = λ h e l. below-6 h (counts-head good h e .pos) (not-two h (counts-head good h e)) l;
     names-heads = names;
     has-head = λ a z u. head-counts good (headOf limit (s .next) (s .block) a) (head-of-is (good .linked) (good .heads) a z u);
-    on-one-chain = λ a h e. times-on-chain (good .linked) (good .heads) h (counts-head good h e) a;
+    on-one-chain = λ a h e. occurrences-on-chain (good .linked) (good .heads) h (counts-head good h e) a;
   }
 
 -- an image that the check accepts is such an image

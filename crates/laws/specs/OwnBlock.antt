@@ -6,13 +6,13 @@ use mathlib.Core.Bool.{Bool, true}
 use mathlib.Core.List.{List, [], _∷_, _++_}
 use native.Mathlib.Omega.{arith}
 use lib.Dec.{T}
-use Rattle.rules.specs.Counting.{times, lastOf}
+use Rattle.rules.specs.Counting.{occurrences, lastOf}
 use Rattle.rules.specs.Anodes.{Anodes}
 use Rattle.rules.specs.Chains.{chainOf}
 use Rattle.rules.specs.Space.{planned, rewritten, insertedAfter, free, lowestFree, fillOr, append, put, takeBlock}
 use Rattle.laws.specs.Sums.{oneAt-same, changed-same, changed-other}
-use Rattle.laws.specs.Bags.{times-here}
-use Rattle.laws.specs.Heads.{Head, times-on-chain}
+use Rattle.laws.specs.Bags.{occurrences-here}
+use Rattle.laws.specs.Heads.{Head, occurrences-on-chain}
 use Rattle.laws.specs.Space.{Alike, FreeAnode, Good, free-is, on-chain}
 use Rattle.laws.specs.Bags.{last-on}
 use Rattle.laws.specs.Moves.{InHand}
@@ -34,7 +34,7 @@ pub record Appended (A : ℕ) (s t : Anodes) (h y : ℕ) : Type 0 where
   pub chain : chainOf (t .next) A h ≡ chainOf (s .next) A h ++ (anode ∷ [])
   pub one : t .count anode ≡ 1
   pub at : t .block anode ≡ y
-  pub kept : (a : ℕ) → 0 < times a (chainOf (s .next) A h) → (t .count a ≡ s .count a) × (t .block a ≡ s .block a)
+  pub kept : (a : ℕ) → 0 < occurrences a (chainOf (s .next) A h) → (t .count a ≡ s .count a) × (t .block a ≡ s .block a)
 
 module _ {A : ℕ} {ex : ℕ → Bool} {n last : ℕ} {s : Anodes} {system hd sd : ℕ → ℕ} (g : Good A ex n last s system hd sd) (h : ℕ) (d : Head (s .next) (s .block) h) (h1 : h ≢ 1) where
   -- the block y in hand, in the state r, is put behind the last anode of the chain
@@ -43,14 +43,14 @@ module _ {A : ℕ} {ex : ℕ → Bool} {n last : ℕ} {s : Anodes} {system hd sd
     hand-chain : chainOf (r .next) A h ≡ chainOf (s .next) A h
     hand-chain = shift-chain g (i .good) (i .shift) h d h1 h1
 
-    on-h : (a : ℕ) → 0 < times a (chainOf (s .next) A h) → Alike s r a
+    on-h : (a : ℕ) → 0 < occurrences a (chainOf (s .next) A h) → Alike s r a
     on-h = shift-alike g (i .good) (i .shift) h d h1 h1
 
     -- its last anode stands on it, behind the others
-    end-on : 0 < times (lastOf h (chainOf (s .next) A h)) (chainOf (s .next) A h)
+    end-on : 0 < occurrences (lastOf h (chainOf (s .next) A h)) (chainOf (s .next) A h)
     end-on = elim (last-on h (chainOf (s .next) A h)) [
       | inr p ↦ p
-      | inl e ↦ rw e (omega (arith, times-on-chain (g .linked) (g .heads) h d h, oneAt-same (hd h) h (g .heads .at-head h d)))
+      | inl e ↦ rw e (omega (arith, occurrences-on-chain (g .linked) (g .heads) h d h, oneAt-same (hd h) h (g .heads .at-head h d)))
     ]
 
     put-filled : chainOf (s .next) A h ≡ h ∷ [] → s .count h ≡ 0 → (t : Anodes) (ys : List ℕ) → put A ex true r (lastOf h (chainOf (r .next) A h)) y ≡ planned t ys →
@@ -58,7 +58,7 @@ module _ {A : ℕ} {ex : ℕ → Bool} {n last : ℕ} {s : Anodes} {system hd sd
     unfolding put fillOr rewritten lastOf
     put-filled alone none t ys e =
         let c : chainOf (r .next) A h ≡ h ∷ [] = hand-chain ∙ alone in
-        let empty : r .count h ≡ 0 = on-h h (rw alone (times-here h [])) .same-count ∙ none in
+        let empty : r .count h ≡ 0 = on-h h (rw alone (occurrences-here h [])) .same-count ∙ none in
         let p : planned (rewritten r h 1 y) (y ∷ []) ≡ planned t ys = rw (c, empty) at e in
         let q = planned-same (rewritten r h 1 y) t (y ∷ []) ys p in
         let filled : Filled A (rewritten r h 1 y) h y = record { chain = c; one = changed-same (r .count) h 1; at = changed-same (r .block) h y } in
@@ -72,7 +72,7 @@ module _ {A : ℕ} {ex : ℕ → Bool} {n last : ℕ} {s : Anodes} {system hd sd
       fresh : FreeAnode ex r f
       fresh = free-is ex r f is-free
 
-      not-f : (a : ℕ) → 0 < times a (chainOf (s .next) A h) → a ≢ f
+      not-f : (a : ℕ) → 0 < occurrences a (chainOf (s .next) A h) → a ≢ f
       not-f a p e = on-chain g h d a p .1 (sym (on-h a p .same-block) ∙ ap (r .block) e ∙ fresh .unused)
 
       put-appended : Appended A s (insertedAfter r end f 1 y) h y
@@ -85,7 +85,7 @@ module _ {A : ℕ} {ex : ℕ → Bool} {n last : ℕ} {s : Anodes} {system hd sd
         kept = λ a p. (changed-other (r .count) f 1 a (not-f a p) ∙ on-h a p .same-count, changed-other (r .block) f y a (not-f a p) ∙ on-h a p .same-block);
       }
 
-    put-behind : y ≢ 0 → ((a : ℕ) → 0 < times a (chainOf (s .next) A h) → s .count a ≡ 1) → (t : Anodes) (ys : List ℕ) → put A ex true r (lastOf h (chainOf (r .next) A h)) y ≡ planned t ys →
+    put-behind : y ≢ 0 → ((a : ℕ) → 0 < occurrences a (chainOf (s .next) A h) → s .count a ≡ 1) → (t : Anodes) (ys : List ℕ) → put A ex true r (lastOf h (chainOf (r .next) A h)) y ≡ planned t ys →
         (ys ≡ y ∷ []) × Appended A s t h y
     unfolding put fillOr
     put-behind y0 ones t ys e =
@@ -104,6 +104,6 @@ module _ {A : ℕ} {ex : ℕ → Bool} {n last : ℕ} {s : Anodes} {system hd sd
   own-filled alone none t ys e = let w = take-steps g h true t ys e in let f = put-filled (w .out) alone none t ys (w .puts) in (s .block (w .x), f .0, f .1)
 
   -- a chain with a block in each anode
-  pub own-appended : ((a : ℕ) → 0 < times a (chainOf (s .next) A h) → s .count a ≡ 1) → (t : Anodes) (ys : List ℕ) → takeBlock A ex true s h ≡ planned t ys →
+  pub own-appended : ((a : ℕ) → 0 < occurrences a (chainOf (s .next) A h) → s .count a ≡ 1) → (t : Anodes) (ys : List ℕ) → takeBlock A ex true s h ≡ planned t ys →
       (y : ℕ) × (ys ≡ y ∷ []) × Appended A s t h y
   own-appended ones t ys e = let w = take-steps g h true t ys e in let f = put-behind (w .out) (w .some) ones t ys (w .puts) in (s .block (w .x), f .0, f .1)

@@ -12,7 +12,7 @@ use lib.ListN.{length, getD, set, take, drop, length-set, take-append-drop, List
 use lib.Seq.{drop-at, set-append-left, getD-set-same, getD-set-other, getD-take, length-take-le, ext-getD}
 use Rattle.disk.specs.AnodeBlocks.{listed}
 use Rattle.disk.proofs.Laws.{getD-listed, length-listed}
-use Rattle.rules.specs.Counting.{oneAt, sumBelow, times}
+use Rattle.rules.specs.Counting.{oneAt, sumBelow, occurrences}
 use Rattle.rules.specs.Anodes.{Anodes, limit}
 use Rattle.rules.specs.Chains.{headOf, covers, owners, systemOwns}
 use Rattle.rules.specs.Accepted.{diskSize}
@@ -20,7 +20,7 @@ use Rattle.rules.specs.Space.{rewritten, onChain, dropped}
 use Rattle.rules.specs.Tables.{chainHead, anodeEntry, anodeTable, headWhere, ownerHead, blockEntry, blockTable, entryOr}
 use Rattle.laws.specs.Tests.{same?, less?}
 use Rattle.laws.specs.Sums.{oneAt-cases, oneAt-same, oneAt-other, sum-congr, sum-factor, sum-swap, sum-member, sum-single, sum-pick}
-use Rattle.laws.specs.Bags.{times-nil, times-cons, times-here, times-later}
+use Rattle.laws.specs.Bags.{occurrences-nil, occurrences-cons, occurrences-here, occurrences-later}
 use Rattle.laws.specs.Ownership.{covers-cases, covers-in, covers-none}
 use Rattle.laws.specs.LinkChanges.{without, without-cases, without-other}
 use Rattle.laws.specs.Links.{Linked}
@@ -155,19 +155,19 @@ same-owner {s = s} {t = t} {hd = hd} {hd′ = hd′} g g′ x same =
 module _ {ex : ℕ → Bool} {n last : ℕ} {s : Anodes} {system hd sd : ℕ → ℕ} (g : Good limit ex n last s system hd sd) where
   -- the blocks of ys have gone from one head's chain to another's
   module _ {from to h size : ℕ} {ys : List ℕ} {t : Anodes} (ran : Ran limit ex n last s system hd from to h size ys t) (apart : from ≢ to) where
-    arrived : (x : ℕ) → 0 < times x ys → 0 < held limit (ran .hd′) (t .count) (t .block) to x
+    arrived : (x : ℕ) → 0 < occurrences x ys → 0 < held limit (ran .hd′) (t .count) (t .block) to x
     arrived x p = omega (arith, rw (oneAt-other from to apart, oneAt-same to to refl) at (ran .passed to x), p)
 
     -- they are on the disk, and none is the system's
-    pub ran-data : (x : ℕ) → 0 < times x ys → (x < n) × (system x ≡ 0)
+    pub ran-data : (x : ℕ) → 0 < occurrences x ys → (x < n) × (system x ≡ 0)
     ran-data x p = held-data (ran .good) to x (arrived x p)
 
     -- the owner of a block of ys is now `to`, and that of any other block is as before
-    pub ran-owner : (x : ℕ) → ownerHead t x ≡ cond (leb 1 (times x ys)) to (ownerHead s x)
-    ran-owner x = elim (less? 0 (times x ys)) [
-      | inl p ↦ rw (le-leb 1 (times x ys) p) (ownerHead-is (ran .good) to x (arrived x p))
-      | inr p ↦ rw (lt-leb 1 (times x ys) (omega arith)) (same-owner g (ran .good) x
-          (λ m. (let z : times x ys ≡ 0 = omega arith in omega (arith, rw z at (ran .passed m x)))))
+    pub ran-owner : (x : ℕ) → ownerHead t x ≡ cond (leb 1 (occurrences x ys)) to (ownerHead s x)
+    ran-owner x = elim (less? 0 (occurrences x ys)) [
+      | inl p ↦ rw (le-leb 1 (occurrences x ys) p) (ownerHead-is (ran .good) to x (arrived x p))
+      | inr p ↦ rw (lt-leb 1 (occurrences x ys) (omega arith)) (same-owner g (ran .good) x
+          (λ m. (let z : occurrences x ys ≡ 0 = omega arith in omega (arith, rw z at (ran .passed m x)))))
     ]
 
   -- a fresh head with no block
@@ -194,24 +194,24 @@ unfolding setAll
 length-setAll l [] v = refl
 length-setAll l (y ∷ ys) v = length-setAll (set l y v) ys v ∙ length-set l y v
 
-getD-setAll : (l ys : List ℕ) (v x : ℕ) → x < length l → getD (setAll l ys v) x 0 ≡ cond (leb 1 (times x ys)) v (getD l x 0)
+getD-setAll : (l ys : List ℕ) (v x : ℕ) → x < length l → getD (setAll l ys v) x 0 ≡ cond (leb 1 (occurrences x ys)) v (getD l x 0)
 unfolding setAll
-getD-setAll l [] v x p = rw (times-nil x)
-getD-setAll l (y ∷ ys) v x p = getD-setAll (set l y v) ys v x (rw (length-set l y v) p) ∙ elim (less? 0 (times x ys)) [
-  | inl q ↦ rw (le-leb 1 (times x ys) q, le-leb 1 (times x (y ∷ ys)) (times-later x y ys q))
-  | inr q ↦ rw (lt-leb 1 (times x ys) (omega arith)) (elim (oneAt-cases y x) [
-    | inl e ↦ rw (e .0, le-leb 1 (times x (x ∷ ys)) (times-here x ys)) (getD-set-same l x v 0 p)
-    | inr e ↦ rw (lt-leb 1 (times x (y ∷ ys)) (omega (arith, times-cons x y ys, e .1))) (getD-set-other l y x v 0 (λ i. e .0 (sym i)))
+getD-setAll l [] v x p = rw (occurrences-nil x)
+getD-setAll l (y ∷ ys) v x p = getD-setAll (set l y v) ys v x (rw (length-set l y v) p) ∙ elim (less? 0 (occurrences x ys)) [
+  | inl q ↦ rw (le-leb 1 (occurrences x ys) q, le-leb 1 (occurrences x (y ∷ ys)) (occurrences-later x y ys q))
+  | inr q ↦ rw (lt-leb 1 (occurrences x ys) (omega arith)) (elim (oneAt-cases y x) [
+    | inl e ↦ rw (e .0, le-leb 1 (occurrences x (x ∷ ys)) (occurrences-here x ys)) (getD-set-same l x v 0 p)
+    | inr e ↦ rw (lt-leb 1 (occurrences x (y ∷ ys)) (omega (arith, occurrences-cons x y ys, e .1))) (getD-set-other l y x v 0 (λ i. e .0 (sym i)))
   ])
 ]
 
 -- what stands behind the table is left
-pub setAll-front : (l r ys : List ℕ) (v : ℕ) → ((y : ℕ) → 0 < times y ys → y < length l) → setAll (l ++ r) ys v ≡ setAll l ys v ++ r
+pub setAll-front : (l r ys : List ℕ) (v : ℕ) → ((y : ℕ) → 0 < occurrences y ys → y < length l) → setAll (l ++ r) ys v ≡ setAll l ys v ++ r
 unfolding setAll
 setAll-front l r [] v below = refl
 setAll-front l r (y ∷ ys) v below =
-    rw (set-append-left l r y v (below y (times-here y ys)))
-    (setAll-front (set l y v) r ys v (λ x p. rw (length-set l y v) (below x (times-later x y ys p))))
+    rw (set-append-left l r y v (below y (occurrences-here y ys)))
+    (setAll-front (set l y v) r ys v (λ x p. rw (length-set l y v) (below x (occurrences-later x y ys p))))
 
 -- blocks 0 to 2 are the system's
 pub not-system : (img : List ℕ) (x : ℕ) → systemOwns img x ≡ 0 → 3 ≤ x
@@ -225,11 +225,11 @@ module _ (img j : List ℕ) (same-size : diskSize j ≡ diskSize img) (same-syst
   kept-table same = rw same-size (listed-same (blockEntry j t) (blockEntry img s) (diskSize img) (λ x l. rw (same-system, same x)))
 
   ran-entry : {ex : ℕ → Bool} {last : ℕ} {hd sd : ℕ → ℕ} → Good limit ex (diskSize img) last s (systemOwns img) hd sd → {from to h size : ℕ} {ys : List ℕ} →
-      Ran limit ex (diskSize img) last s (systemOwns img) hd from to h size ys t → from ≢ to → (x : ℕ) → blockEntry j t x ≡ cond (leb 1 (times x ys)) to (blockEntry img s x)
+      Ran limit ex (diskSize img) last s (systemOwns img) hd from to h size ys t → from ≢ to → (x : ℕ) → blockEntry j t x ≡ cond (leb 1 (occurrences x ys)) to (blockEntry img s x)
   unfolding blockEntry entryOr
-  ran-entry g {from} {to} {ys = ys} ran apart x = rw (same-system, ran-owner g ran apart x) (elim (less? 0 (times x ys)) [
-    | inl p ↦ rw (le-leb 1 (times x ys) p) (let z = ran-data g ran apart x p .1 in rw (le-ltb x 3 (not-system img x z), z))
-    | inr p ↦ rw (lt-leb 1 (times x ys) (omega arith))
+  ran-entry g {from} {to} {ys = ys} ran apart x = rw (same-system, ran-owner g ran apart x) (elim (less? 0 (occurrences x ys)) [
+    | inl p ↦ rw (le-leb 1 (occurrences x ys) p) (let z = ran-data g ran apart x p .1 in rw (le-ltb x 3 (not-system img x z), z))
+    | inr p ↦ rw (lt-leb 1 (occurrences x ys) (omega arith))
   ])
 
   -- where the blocks of ys have gone from one head's chain to another's, the block table has that head at each of them
@@ -241,4 +241,4 @@ module _ (img j : List ℕ) (same-size : diskSize j ≡ diskSize img) (same-syst
       let old = listed (blockEntry img s) 0 n in
       let long : length old ≡ n = length-listed (blockEntry img s) 0 n in
       rw same-size (listed-is (blockEntry j t) n (setAll old ys to) (length-setAll old ys to ∙ long)
-      (λ x l. ran-entry g ran apart x ∙ sym (getD-setAll old ys to x (rw long l) ∙ ap (cond (leb 1 (times x ys)) to) (listed-at (blockEntry img s) n x l))))
+      (λ x l. ran-entry g ran apart x ∙ sym (getD-setAll old ys to x (rw long l) ∙ ap (cond (leb 1 (occurrences x ys)) to) (listed-at (blockEntry img s) n x l))))

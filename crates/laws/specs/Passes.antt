@@ -4,14 +4,14 @@ use mathlib.Core.Path.{_≡_, refl}
 use mathlib.Core.Logic.{_≢_, inl, inr}
 use mathlib.Core.Bool.{Bool}
 use native.Mathlib.Omega.{arith}
-use Rattle.rules.specs.Counting.{times}
+use Rattle.rules.specs.Counting.{occurrences}
 use Rattle.rules.specs.Anodes.{Anodes}
 use Rattle.rules.specs.Chains.{chainOf, preds, headOf, cut, side}
 use Rattle.laws.specs.Sums.{oneAt-cases, oneAt-same}
 use Rattle.laws.specs.Ownership.{EachOnce}
 use Rattle.laws.specs.Segments.{seg-keep}
 use Rattle.laws.specs.Links.{View, Checked, Linked, preds-none, used, next-pos, no-preds, linked, seg-rank, the-chain, chain-the, checked}
-use Rattle.laws.specs.Heads.{Head, headOf-heads, times-on-chain}
+use Rattle.laws.specs.Heads.{Head, headOf-heads, occurrences-on-chain}
 use Rattle.laws.specs.Cut.{cut-other, cut-linked, cut-head, cut-head-2}
 use Rattle.laws.specs.Space.{Present, FixedAnodes, FixedHead, fixed-pos, Good, head-1, fixed-head-1}
 use Rattle.laws.specs.Sides.{side-sd}
@@ -31,9 +31,9 @@ pub record Passes (A n last : ℕ) (s : Anodes) (system : ℕ → ℕ) : Type 0 
   -- 8
   pub first : (m : ℕ) → FixedHead m → preds A (s .next) m ≡ 0
   -- 9
-  pub two-on : 0 < times 2 (chainOf (s .next) A 1)
-  pub high : (a : ℕ) → 0 < times a (side A s 1) → 0 < s .count a → last < s .block a
-  pub low : (a : ℕ) → 0 < times a (chainOf (s .next) A 2) → 0 < s .count a → s .block a + s .count a ≤ suc last
+  pub two-on : 0 < occurrences 2 (chainOf (s .next) A 1)
+  pub high : (a : ℕ) → 0 < occurrences a (side A s 1) → 0 < s .count a → last < s .block a
+  pub low : (a : ℕ) → 0 < occurrences a (chainOf (s .next) A 2) → 0 < s .count a → s .block a + s .count a ≤ suc last
   -- 7, 10 and 11
   pub own : EachOnce A (s .count) (s .block) system n
 
@@ -43,7 +43,7 @@ from-two {A} {next} {block} k u =
     chain-the (cut-linked k) 2 (chainOf next A 2) (λ q. u)
     (seg-keep next (cut next) 2 0 (chainOf next A 2) (λ x p. cut-other next x (λ e. omega (arith, p, after x e))) (the-chain k 2 (λ q. u)))
   where
-    after : (x : ℕ) → next x ≡ 2 → times x (chainOf next A 2) ≡ 0
+    after : (x : ℕ) → next x ≡ 2 → occurrences x (chainOf next A 2) ≡ 0
     after x e =
         let nx : next x ≢ 0 = λ z. omega (arith, e, z) in
         seg-rank k 2 0 (chainOf next A 2) x (λ q. u) (the-chain k 2 (λ q. u)) (rw e at (k .falls x (next-pos k x nx) (used (k .view) x nx)))
@@ -61,8 +61,8 @@ module _ {A : ℕ} {ex : ℕ → Bool} {n last : ℕ} {s : Anodes} {system : ℕ
     heads = headOf-heads k;
     two-on = on-one;
     sides = headOf-heads ck;
-    high = λ a q. c .high a (omega (arith, times-on-chain ck (headOf-heads ck) 1 (cut-head head-1) a, oneAt-same (sd a) 1 q));
-    low = λ a q. c .low a (rw (← (from-two k (c .fixed .block-2))) (omega (arith, times-on-chain ck (headOf-heads ck) 2 (cut-head-2 (s .next) (c .fixed .block-2)) a, oneAt-same (sd a) 2 q)));
+    high = λ a q. c .high a (omega (arith, occurrences-on-chain ck (headOf-heads ck) 1 (cut-head head-1) a, oneAt-same (sd a) 1 q));
+    low = λ a q. c .low a (rw (← (from-two k (c .fixed .block-2))) (omega (arith, occurrences-on-chain ck (headOf-heads ck) 2 (cut-head-2 (s .next) (c .fixed .block-2)) a, oneAt-same (sd a) 2 q)));
   }
     where
       k : Linked A (s .next) (s .block)
@@ -80,7 +80,7 @@ module _ {A : ℕ} {ex : ℕ → Bool} {n last : ℕ} {s : Anodes} {system : ℕ
       on-one : headOf A (s .next) (s .block) 2 ≡ 1
       on-one = elim (oneAt-cases (headOf A (s .next) (s .block) 2) 1) [
         | inl e ↦ e .0
-        | inr e ↦ absurd (omega (arith, c .two-on, times-on-chain k (headOf-heads k) 1 head-1 2, e .1))
+        | inr e ↦ absurd (omega (arith, c .two-on, occurrences-on-chain k (headOf-heads k) 1 head-1 2, e .1))
       ]
 
   -- and a good state passes them
@@ -93,7 +93,7 @@ module _ {A : ℕ} {ex : ℕ → Bool} {n last : ℕ} {s : Anodes} {system : ℕ
       next-0 = g .linked .zero-end;
       links = checked (g .linked);
       first = λ m f. preds-none A (s .next) m (g .first m f);
-      two-on = omega (arith, times-on-chain (g .linked) (g .heads) 1 (head-1 g) 2, oneAt-same (hd 2) 1 (g .two-on));
+      two-on = omega (arith, occurrences-on-chain (g .linked) (g .heads) 1 (head-1 g) 2, oneAt-same (hd 2) 1 (g .two-on));
       high = λ a q. g .high a (side-sd g 1 (inl refl) a q);
       low = λ a q. g .low a (side-sd g 2 (inr refl) a (rw (from-two (g .linked) (g .fixed .block-2)) q));
       own = g .own;

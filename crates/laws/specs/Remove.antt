@@ -5,7 +5,7 @@ use mathlib.Core.Logic.{_≢_, inl, inr}
 use mathlib.Core.Bool.{Bool, true, false}
 use mathlib.Core.List.{List, [], _∷_, _++_, map-id, append-eq-nil-iff}
 use native.Mathlib.Omega.{arith}
-use Rattle.rules.specs.Counting.{oneAt, sumList, times, gather}
+use Rattle.rules.specs.Counting.{oneAt, sumList, occurrences, gather}
 use Rattle.rules.specs.Anodes.{limit, Anodes}
 use Rattle.rules.specs.Chains.{chainOf}
 use Rattle.rules.specs.Walk.{Dir, dirMade, root, Entered, Item, itemOf, itemsAt, itemsBy}
@@ -100,7 +100,7 @@ module _ {ex : ℕ → Bool} {n last : ℕ} {s : Anodes} {system hd : ℕ → �
 -- every other chain but 1's is the same
 module _ {ex : ℕ → Bool} {n last : ℕ} {s t : Anodes} {system hd sd hd′ sd′ : ℕ → ℕ} (g : Good limit ex n last s system hd sd) (g′ : Good limit ex n last t system hd′ sd′)
     (h : ℕ) (gone : Gone s hd t h) (m : ℕ) (m1 : m ≢ 1) (mh : m ≢ h) (d : Head (s .next) (s .block) m) where
-  pub gone-alike : (a : ℕ) → 0 < times a (chainOf (s .next) limit m) → Alike s t a
+  pub gone-alike : (a : ℕ) → 0 < occurrences a (chainOf (s .next) limit m) → Alike s t a
   gone-alike = apart-alike g (gone .apart) m d m1 mh
 
   pub gone-chain : chainOf (t .next) limit m ≡ chainOf (s .next) limit m

@@ -5,12 +5,12 @@ use mathlib.Core.Logic.{_≢_}
 use mathlib.Core.Bool.{Bool}
 use mathlib.Core.List.{List, [], _++_}
 use native.Mathlib.Omega.{arith}
-use Rattle.rules.specs.Counting.{oneAt, times}
+use Rattle.rules.specs.Counting.{oneAt, occurrences}
 use Rattle.rules.specs.Anodes.{limit, Anodes}
 use Rattle.rules.specs.Walk.{Dir, Entered, blocksFor, itemsBy}
 use Rattle.rules.specs.Space.{Plan, planned, repeated, takeBlock, giveBack, takeMany, giveMany}
 use Rattle.laws.specs.Sums.{oneAt-same, oneAt-other}
-use Rattle.laws.specs.Bags.{times-nil, times-cons}
+use Rattle.laws.specs.Bags.{occurrences-nil, occurrences-cons}
 use Rattle.laws.specs.Heads.{Head}
 use Rattle.laws.specs.Blocks.{blocks}
 use Rattle.laws.specs.Held.{held}
@@ -30,7 +30,7 @@ module _ (A : ℕ) (ex : ℕ → Bool) (n last : ℕ) where
     pub good : Good A ex n last t system hd′ sd′
     pub shift : Shift s hd t hd′ 1 h
     pub has : blocks A hd′ (t .count) h ≡ size
-    pub passed : (m y : ℕ) → held A hd′ (t .count) (t .block) m y + oneAt from m * times y ys ≡ held A hd (s .count) (s .block) m y + oneAt to m * times y ys
+    pub passed : (m y : ℕ) → held A hd′ (t .count) (t .block) m y + oneAt from m * occurrences y ys ≡ held A hd (s .count) (s .block) m y + oneAt to m * occurrences y ys
 
 module _ {A : ℕ} {ex : ℕ → Bool} {n last : ℕ} where
   -- no step at all
@@ -41,7 +41,7 @@ module _ {A : ℕ} {ex : ℕ → Bool} {n last : ℕ} where
     good = g;
     has = refl;
     shift = shift-none s hd 1 h;
-    passed = λ m y. rw (times-nil y) (omega arith);
+    passed = λ m y. rw (occurrences-nil y) (omega arith);
   }
 
   -- a step, and the steps after it
@@ -56,8 +56,8 @@ module _ {A : ℕ} {ex : ℕ → Bool} {n last : ℕ} where
     passed = λ m y. omega (arith, w .passed m y, b .passed m y, ap (λ (k : ℕ). oneAt from m * k) (all y), ap (λ (k : ℕ). oneAt to m * k) (all y));
   }
     where
-      all : (y : ℕ) → times y zs ≡ oneAt (w .block) y + times y xs
-      all y = ap (times y) (e ∙ ap (λ (l : List ℕ). l ++ xs) (w .handed)) ∙ times-cons y (w .block) xs
+      all : (y : ℕ) → occurrences y zs ≡ oneAt (w .block) y + occurrences y xs
+      all y = ap (occurrences y) (e ∙ ap (λ (l : List ℕ). l ++ xs) (w .handed)) ∙ occurrences-cons y (w .block) xs
 
   -- steps one after the other, each of which moves a block of the chain of h; `Left`: what so many steps left say of its blocks
   steps-ran : (from to h : ℕ) (system : ℕ → ℕ) (step : Anodes → Plan) →

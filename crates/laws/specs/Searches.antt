@@ -4,17 +4,17 @@ use mathlib.Core.Path.{_≡_, refl, sym, ap, _∙_}
 use mathlib.Core.Logic.{_≢_, _⊎_, inl, inr}
 use mathlib.Core.List.{List, [], _∷_, _++_}
 use native.Mathlib.Omega.{arith}
-use Rattle.rules.specs.Counting.{sumList, times}
+use Rattle.rules.specs.Counting.{sumList, occurrences}
 use Rattle.rules.specs.Space.{Found, nowhere, found, fullAt, firstFound, firstFull, lastFull}
 use Rattle.laws.specs.Tests.{same?}
 use Rattle.laws.specs.Sums.{oneAt-cases}
-use Rattle.laws.specs.Bags.{list-nil, list-cons, times-nil, times-cons, times-here, times-later}
+use Rattle.laws.specs.Bags.{list-nil, list-cons, occurrences-nil, occurrences-cons, occurrences-here, occurrences-later}
 use Rattle.laws.specs.Segments.{Seg}
 
 -- x has a block and stands on the walk l from a; q is before it, or p where x is a itself
 pub record FoundIn (count next : ℕ → ℕ) (a : ℕ) (l : List ℕ) (p q x : ℕ) : Type 0 where
   pub full : 0 < count x
-  pub on : 0 < times x l
+  pub on : 0 < occurrences x l
   pub before : ((x ≡ a) × (q ≡ p)) ⊎ (next q ≡ x)
 
 -- one that is not a itself stands after q
@@ -62,13 +62,13 @@ module _ (count next : ℕ → ℕ) (a p b : ℕ) (l : List ℕ) (q x : ℕ) whe
   found-here : a ≡ b → fullAt count p b ≡ found q x → FoundIn count next a (b ∷ l) p q x
   found-here ab e =
       let (full, pq, bx) = found-at count p b q x e in
-      record { full = rw (← bx) full; on = rw (← bx) (times-here b l); before = inl (sym bx ∙ sym ab, sym pq) }
+      record { full = rw (← bx) full; on = rw (← bx) (occurrences-here b l); before = inl (sym bx ∙ sym ab, sym pq) }
 
   -- or on the rest of it
   found-later : FoundIn count next (next b) l b q x → FoundIn count next a (b ∷ l) p q x
   found-later f = record {
     full = f .full;
-    on = times-later x b l (f .on);
+    on = occurrences-later x b l (f .on);
     before = inr (elim (f .before) [ inl d ↦ ap next (d .1) ∙ sym (d .0) | inr d ↦ d ]);
   }
 
@@ -89,14 +89,14 @@ lastFull-found count next a z p (b ∷ l) s q x e = elim (one-found (lastFull co
 ]
 
 -- where none is found, no anode has a block
-pub firstFull-none : (count : ℕ → ℕ) (p : ℕ) (l : List ℕ) → firstFull count p l ≡ nowhere → (x : ℕ) → 0 < times x l → count x ≡ 0
+pub firstFull-none : (count : ℕ → ℕ) (p : ℕ) (l : List ℕ) → firstFull count p l ≡ nowhere → (x : ℕ) → 0 < occurrences x l → count x ≡ 0
 unfolding firstFull
-firstFull-none count p [] e x c = absurd (omega (arith, c, times-nil x))
+firstFull-none count p [] e x c = absurd (omega (arith, c, occurrences-nil x))
 firstFull-none count p (b ∷ l) e x c =
     let n = none-found (fullAt count p b) (firstFull count b l) e in
     elim (oneAt-cases b x) [
       | inl i ↦ ap count (sym (i .0)) ∙ empty-at count p b (n .0)
-      | inr i ↦ firstFull-none count b l (n .1) x (omega (arith, c, times-cons x b l))
+      | inr i ↦ firstFull-none count b l (n .1) x (omega (arith, c, occurrences-cons x b l))
     ]
 
 pub lastFull-none : (count : ℕ → ℕ) (p : ℕ) (l : List ℕ) → lastFull count p l ≡ nowhere → sumList count l ≡ 0

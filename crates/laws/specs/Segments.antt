@@ -5,10 +5,10 @@ use mathlib.Core.Logic.{_≢_}
 use mathlib.Core.List.{List, [], _∷_, _++_}
 use native.Mathlib.Omega.{arith}
 use lib.ListN.{length}
-use Rattle.rules.specs.Counting.{times, lastOf}
+use Rattle.rules.specs.Counting.{occurrences, lastOf}
 use Rattle.rules.specs.Chains.{chainOf, followed}
 use Rattle.laws.specs.Sums.{oneAt-other}
-use Rattle.laws.specs.Bags.{times-nil, times-cons, times-here, times-later, last-split}
+use Rattle.laws.specs.Bags.{occurrences-nil, occurrences-cons, occurrences-here, occurrences-later, last-split}
 
 -- from a, following next, the anodes of l are met, none of them 0, and then z
 abbrev pub Seg : (ℕ → ℕ) → ℕ → List ℕ → ℕ → Type 0
@@ -65,20 +65,20 @@ seg-split next a z [] m c = (a, refl, c)
 seg-split next a z (b ∷ l) m c = let r = seg-split next (next b) z l m (c .2) in (r .0, (c .0, c .1, r .1), r .2)
 
 -- a walk whose anodes keep their next is unchanged
-pub seg-keep : (next next′ : ℕ → ℕ) (a z : ℕ) (l : List ℕ) → ((x : ℕ) → 0 < times x l → next′ x ≡ next x) → Seg next a l z → Seg next′ a l z
+pub seg-keep : (next next′ : ℕ → ℕ) (a z : ℕ) (l : List ℕ) → ((x : ℕ) → 0 < occurrences x l → next′ x ≡ next x) → Seg next a l z → Seg next′ a l z
 seg-keep next next′ a z [] h c = c
 seg-keep next next′ a z (b ∷ l) h c =
-    (c .0, c .1, rw (h b (times-here b l)) (seg-keep next next′ (next b) z l (λ x p. h x (times-later x b l p)) (c .2)))
+    (c .0, c .1, rw (h b (occurrences-here b l)) (seg-keep next next′ (next b) z l (λ x p. h x (occurrences-later x b l p)) (c .2)))
 
 -- x is not met on a walk along which something stays so that is not so of x
-pub seg-avoids : (next : ℕ → ℕ) (x : ℕ) (P : ℕ → Type 0) → ((b : ℕ) → b ≢ 0 → P b → (b ≢ x) × P (next b)) → (a z : ℕ) (l : List ℕ) → P a → Seg next a l z → times x l ≡ 0
-seg-avoids next x P step a z [] p c = times-nil x
+pub seg-avoids : (next : ℕ → ℕ) (x : ℕ) (P : ℕ → Type 0) → ((b : ℕ) → b ≢ 0 → P b → (b ≢ x) × P (next b)) → (a z : ℕ) (l : List ℕ) → P a → Seg next a l z → occurrences x l ≡ 0
+seg-avoids next x P step a z [] p c = occurrences-nil x
 seg-avoids next x P step a z (b ∷ l) p c =
     let q = step b (c .1) (subst P (c .0) p) in
-    omega (arith, times-cons x b l, oneAt-other b x (q .0), seg-avoids next x P step (next b) z l (q .1) (c .2))
+    omega (arith, occurrences-cons x b l, oneAt-other b x (q .0), seg-avoids next x P step (next b) z l (q .1) (c .2))
 
 -- 0 stands in no walk
-pub seg-zero : (next : ℕ → ℕ) (a z : ℕ) (l : List ℕ) → Seg next a l z → times 0 l ≡ 0
+pub seg-zero : (next : ℕ → ℕ) (a z : ℕ) (l : List ℕ) → Seg next a l z → occurrences 0 l ≡ 0
 seg-zero next a z l c = seg-avoids next 0 (λ b. Unit {0}) (λ b b0 p. (b0, tt)) a z l tt c
 
 -- ---- the end of a walk

@@ -3,7 +3,7 @@ use Prim.Native.Nat.{ℕ, _<_}
 use mathlib.Core.Path.{_≡_, sym, ap, _∙_}
 use mathlib.Core.Logic.{_≢_, _⊎_, inl, inr}
 use mathlib.Core.Bool.{Bool}
-use Rattle.rules.specs.Counting.{times, lastOf}
+use Rattle.rules.specs.Counting.{occurrences, lastOf}
 use Rattle.rules.specs.Anodes.{Anodes}
 use Rattle.rules.specs.Chains.{cut, side}
 use Rattle.laws.specs.Tests.{same?}
@@ -59,7 +59,7 @@ module _ {A : ℕ} {ex : ℕ → Bool} {n last : ℕ} {s : Anodes} {system hd sd
   unfolding side
   side-chain m o = head-chain ck m (side-start m o)
 
-  pub side-sd : (m : ℕ) → SideHead m → (x : ℕ) → 0 < times x (side A s m) → sd x ≡ m
+  pub side-sd : (m : ℕ) → SideHead m → (x : ℕ) → 0 < occurrences x (side A s m) → sd x ≡ m
   unfolding side
   side-sd m o x c =
       let d = side-start m o in

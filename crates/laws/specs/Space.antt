@@ -5,7 +5,7 @@ use mathlib.Core.Logic.{_≢_, _⊎_, inl, inr}
 use mathlib.Core.Bool.{Bool, _&&_}
 use native.Mathlib.Omega.{arith}
 use lib.Dec.{T, eqb, leb, eqb→eq, leb→le, le→leb}
-use Rattle.rules.specs.Counting.{times, changed}
+use Rattle.rules.specs.Counting.{occurrences, changed}
 use Rattle.rules.specs.Anodes.{Anodes}
 use Rattle.rules.specs.Chains.{chainOf, covers, cut}
 use Rattle.rules.specs.Space.{rewritten, insertedAfter, unlinked, onChain, dropped, free}
@@ -13,7 +13,7 @@ use Rattle.laws.specs.Tests.{same?, not-above, T-same, both}
 use Rattle.laws.specs.Sums.{oneAt-cases, oneAt-same, changed-cases, changed-same, changed-other}
 use Rattle.laws.specs.Ownership.{covers-none, EachOnce, own-same, move}
 use Rattle.laws.specs.Links.{Linked}
-use Rattle.laws.specs.Heads.{Head, Heads, times-on-chain}
+use Rattle.laws.specs.Heads.{Head, Heads, occurrences-on-chain}
 use Rattle.laws.specs.LinkChanges.{first, second, third, insertAfter, insertAfter-cases, unlink, unlink-cases, without, without-cases, without-other, insert-linked, unlink-linked, head-linked, drop-linked, same-use, use-same, rewrite-linked}
 use Rattle.laws.specs.HeadChanges.{insert-heads, unlink-heads, fresh-heads, drop-heads, rewrite-heads}
 use Rattle.laws.specs.Cut.{cut-cases, cut-other, cut-linked, cut-insertAfter, cut-unlink, cut-drop}
@@ -237,15 +237,15 @@ module _ {A : ℕ} {ex : ℕ → Bool} {n last : ℕ} {s : Anodes} {system hd sd
     }
 
   -- what stands on the chain of a head has it for head and is in use
-  pub on-chain : (m : ℕ) → Head (s .next) (s .block) m → (a : ℕ) → 0 < times a (chainOf (s .next) A m) → (hd a ≡ m) × (s .block a ≢ 0)
+  pub on-chain : (m : ℕ) → Head (s .next) (s .block) m → (a : ℕ) → 0 < occurrences a (chainOf (s .next) A m) → (hd a ≡ m) × (s .block a ≢ 0)
   on-chain m d a p = elim (oneAt-cases (hd a) m) [
     | inl e ↦ (e .0, λ z. d .pos (sym (e .0) ∙ g .heads .off a z))
-    | inr e ↦ absurd (omega (arith, p, times-on-chain (g .linked) (g .heads) m d a, e .1))
+    | inr e ↦ absurd (omega (arith, p, occurrences-on-chain (g .linked) (g .heads) m d a, e .1))
   ]
 
   -- so a free anode does not stand on it
-  pub free-off : (m : ℕ) → Head (s .next) (s .block) m → (f : ℕ) → s .block f ≡ 0 → times f (chainOf (s .next) A m) ≡ 0
-  free-off m d f z = not-above (times f (chainOf (s .next) A m)) (λ p. on-chain m d f p .1 z)
+  pub free-off : (m : ℕ) → Head (s .next) (s .block) m → (f : ℕ) → s .block f ≡ 0 → occurrences f (chainOf (s .next) A m) ≡ 0
+  free-off m d f z = not-above (occurrences f (chainOf (s .next) A m)) (λ p. on-chain m d f p .1 z)
 
   -- the chain of the head h, from 6 up and with no block, is dropped
   module _ (h : ℕ) (h6 : 6 ≤ h) (d : Head (s .next) (s .block) h) (none : (a : ℕ) → hd a ≡ h → s .count a ≡ 0) where
@@ -254,11 +254,11 @@ module _ {A : ℕ} {ex : ℕ → Bool} {n last : ℕ} {s : Anodes} {system hd sd
 
     pub dead-head : (a : ℕ) → T (dead a) → hd a ≡ h
     unfolding onChain
-    dead-head a t = on-chain h d a (leb→le 1 (times a (chainOf (s .next) A h)) t) .0
+    dead-head a t = on-chain h d a (leb→le 1 (occurrences a (chainOf (s .next) A h)) t) .0
 
     pub head-dead : (a : ℕ) → hd a ≡ h → T (dead a)
     unfolding onChain
-    head-dead a e = le→leb 1 (times a (chainOf (s .next) A h)) (omega (arith, times-on-chain (g .linked) (g .heads) h d a, oneAt-same (hd a) h e))
+    head-dead a e = le→leb 1 (occurrences a (chainOf (s .next) A h)) (omega (arith, occurrences-on-chain (g .linked) (g .heads) h d a, oneAt-same (hd a) h e))
 
     pub dead-along : (a : ℕ) → s .next a ≢ 0 → dead (s .next a) ≡ dead a
     dead-along a n = T-same (dead (s .next a)) (dead a)

@@ -9,7 +9,7 @@ use Rattle.rules.specs.Counting.{gather, lastOf}
 use Rattle.rules.specs.Anodes.{Anodes, limit}
 use Rattle.rules.specs.Chains.{chainOf, run, blocksOf}
 use Rattle.rules.specs.Space.{planned, rewritten, insertedAfter, lowestFree, put, takeBlock, takeMany}
-use Rattle.laws.specs.Bags.{times-nil, gather-append, gather-off, gather-last}
+use Rattle.laws.specs.Bags.{occurrences-nil, gather-append, gather-off, gather-last}
 use Rattle.laws.specs.Segments.{chain-end}
 use Rattle.laws.specs.LinkChanges.{first, second, third}
 use Rattle.laws.specs.Heads.{Head, head-chain}
@@ -34,7 +34,7 @@ module _ {ex : ℕ → Bool} {n last : ℕ} {s : Anodes} {system hd sd : ℕ →
   gained c b more =
       blocksOf-extents (rewritten s end c b) h ∙ ap (gather (extent (rewritten s end c b))) (split .1)
       ∙ gather-last (extent (rewritten s end c b)) (extent s) (split .0) [] end y (λ a i. sym (extent-other s (rewritten s end c b) end c b refl refl a i))
-      (stands-once g h d end (split .0) [] (split .1) .0) (times-nil end) refl (extent-here s (rewritten s end c b) end c b refl refl ∙ more)
+      (stands-once g h d end (split .0) [] (split .1) .0) (occurrences-nil end) refl (extent-here s (rewritten s end c b) end c b refl refl ∙ more)
       ∙ ap (λ (l : List ℕ). l ++ (y ∷ [])) (sym (blocksOf-extents s h ∙ ap (gather (extent s)) (split .1)))
 
   -- or a fresh anode after it has the block

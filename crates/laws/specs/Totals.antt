@@ -5,12 +5,12 @@ use mathlib.Core.Logic.{inl, inr}
 use mathlib.Core.Bool.{Bool, true, false, cond}
 use mathlib.Core.List.{List}
 use native.Mathlib.Omega.{arith}
-use Rattle.rules.specs.Counting.{oneAt, sumBelow, sumList, times}
+use Rattle.rules.specs.Counting.{oneAt, sumBelow, sumList, occurrences}
 use Rattle.rules.specs.Anodes.{Anodes}
 use Rattle.rules.specs.Walk.{Dir, Item}
 use Rattle.laws.specs.Tests.{less?, not-above}
 use Rattle.laws.specs.Sums.{oneAt-other, sum-congr, sum-add, sum-at}
-use Rattle.laws.specs.Bags.{list-add, list-congr, list-scale, list-swap, map-sum, sum-by-times}
+use Rattle.laws.specs.Bags.{list-add, list-congr, list-scale, list-swap, map-sum, sum-by-occurrences}
 use Rattle.laws.specs.Ownership.{total}
 use Rattle.laws.specs.Heads.{Head}
 use Rattle.laws.specs.Blocks.{blocks, blocks-all}
@@ -56,7 +56,7 @@ namedByFiles items h dirs = filesOf items (λ x. oneAt x h) dirs
 -- an anode is named by files and by directories
 pub named-by-kind : (items : Dir → List Item) (h : ℕ) (dirs : List Dir) →
     sumList (namedIn items h) dirs ≡ namedByFiles items h dirs + sumList (below items (λ e. oneAt (e .head) h)) dirs
-unfolding times
+unfolding occurrences
 named-by-kind items h dirs = by-kind items (λ x. oneAt x h) dirs
 
 -- ---- the whole
@@ -120,7 +120,7 @@ module _ {A : ℕ} {ex : ℕ → Bool} {n last : ℕ} {s : Anodes} {system hd sd
   by-dirs : sumBelow (λ x. namings x * f x) A ≡ sumList (λ d. sumList f (names (items d))) dirs
   by-dirs = sym (
       list-congr-each (λ d. sumList f (names (items d))) (λ d. sumBelow (λ x. namedIn items x d * f x) A) dirs (each-map (λ d. (x : ℕ) → A ≤ x → namedIn items x d ≡ 0) (λ d. sumList f (names (items d)) ≡ sumBelow (λ x. namedIn items x d * f x) A) dirs
-      (λ d e. sum-by-times f (names (items d)) A e) (each-none (namedIn items) (λ x. A ≤ x) dirs high-none))
+      (λ d e. sum-by-occurrences f (names (items d)) A e) (each-none (namedIn items) (λ x. A ≤ x) dirs high-none))
       ∙ list-swap (λ d x. namedIn items x d * f x) dirs A
       ∙ sum-congr (λ x. sumList (λ d. namedIn items x d * f x) dirs) (λ x. namings x * f x) A (λ x l. list-scale (namedIn items x) (f x) dirs))
     where

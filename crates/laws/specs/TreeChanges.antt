@@ -5,7 +5,7 @@ use mathlib.Core.Logic.{_≢_, inl, inr}
 use mathlib.Core.Bool.{Bool, true, false, cond}
 use mathlib.Core.List.{List, [], _∷_, _++_}
 use native.Mathlib.Omega.{arith}
-use Rattle.rules.specs.Counting.{oneAt, sumList, times, changed}
+use Rattle.rules.specs.Counting.{oneAt, sumList, occurrences, changed}
 use Rattle.rules.specs.Walk.{Dir, dirMade, Item}
 use Rattle.laws.specs.Sums.{oneAt-cases, oneAt-same, oneAt-some, oneAt-other, oneBelow, oneBelow-none, oneBelow-suc, changed-same, changed-other}
 use Rattle.laws.specs.Bags.{list-nil, list-cons, list-without, list-some, list-add, list-gain, list-mono, list-congr-where, list-zero}
@@ -107,7 +107,7 @@ module _ (items items′ : Dir → List Item) (h : ℕ) (i : Item) where
       add-dir t isdir fine free other empty = record {
         exact = λ w. omega (arith, t .exact w, sum-below w, giving-dir w h i isdir, list-cons w e dirs, list-cons (below items′ w) e dirs, nothing-below items′ w e empty);
         faultless = omega (arith, sum-faults, t .faultless, list-cons (faults items′) e dirs, ap (sumList wrong) empty, list-nil wrong);
-        once = λ x. omega (arith, once-named t free x, list-cons (namedIn items′ x) e dirs, ap (λ (l : List Item). times x (names l)) empty, names-sum x [], list-nil {X = Item} (λ j. oneAt (j .anode) x));
+        once = λ x. omega (arith, once-named t free x, list-cons (namedIn items′ x) e dirs, ap (λ (l : List Item). occurrences x (names l)) empty, names-sum x [], list-nil {X = Item} (λ j. oneAt (j .anode) x));
         height = ht;
         lower = omega (
           arith,

@@ -5,13 +5,13 @@ use mathlib.Core.Logic.{_≢_, _⊎_, inl, inr}
 use mathlib.Core.List.{List, [], _∷_, _++_}
 use native.Mathlib.Omega.{arith}
 use lib.ListN.{length}
-use Rattle.rules.specs.Counting.{oneAt, sumBelow, sumList, times, changed}
+use Rattle.rules.specs.Counting.{oneAt, sumBelow, sumList, occurrences, changed}
 use Rattle.rules.specs.Walk.{Dir, Item, done, walk}
 use Rattle.laws.specs.Tests.{not-above}
 use Rattle.laws.specs.Sums.{oneAt-cases, oneAt-same, oneBelow, oneBelow-cases, oneBelow-none, oneBelow-suc, changed-same, changed-other, sum-congr, sum-mono, sum-const, sum-add, sum-oneAt}
-use Rattle.laws.specs.Bags.{list-nil, list-cons, list-append, list-one, list-add, list-mono, list-mono-where, list-congr-where, list-zero, list-length, list-swap, times-nil, sum-by-times}
+use Rattle.laws.specs.Bags.{list-nil, list-cons, list-append, list-one, list-add, list-mono, list-mono-where, list-congr-where, list-zero, list-length, list-swap, occurrences-nil, sum-by-occurrences}
 use Rattle.laws.specs.Items.{names, subs, below, namedIn, faults, subs-named, subs-few, headed}
-use Rattle.laws.specs.Walks.{namedAfter, times-namedAfter, Order, walk-found, walk-through, order-sum}
+use Rattle.laws.specs.Walks.{namedAfter, occurrences-namedAfter, Order, walk-found, walk-through, order-sum}
 
 -- 1 where e is not lower than h
 unfoldable pub not-lower : (ℕ → ℕ) → ℕ → Dir → ℕ
@@ -96,7 +96,7 @@ module _ (items : Dir → List Item) where
     -- ---- a tree is walked through
 
     walk-runs : (dirs : List Dir) → Tree dirs → (k : ℕ) (P q : List Dir) (s : List ℕ) → ((w : Dir → ℕ) → sumList w P + sumList w q ≡ w top + sumList (below items w) P) →
-        ((w : Dir → ℕ) → sumList w P + sumList w q ≤ sumList w dirs) → ((x : ℕ) → times x s ≡ sumList (namedIn items x) P) → length dirs ≤ k + length P →
+        ((w : Dir → ℕ) → sumList w P + sumList w q ≤ sumList w dirs) → ((x : ℕ) → occurrences x s ≡ sumList (namedIn items x) P) → length dirs ≤ k + length P →
         (Q : List Dir) × (walk items k q s ≡ done Q)
     unfolding walk
     walk-runs dirs t zero P [] s i l c f = ([], refl)
@@ -106,7 +106,7 @@ module _ (items : Dir → List Item) where
     walk-runs dirs t (suc k) P (d ∷ q) s i l c f =
         let rest = walk-runs dirs t k (d ∷ P) (q ++ subs items d) (namedAfter (items d) s) inv
         (λ w. omega (arith, inv w, list-cons (below items w) d P, l (below items w), list-cons (below items w) d q, t .exact w))
-        (λ x. omega (arith, times-namedAfter x (items d) s, c x, list-cons (namedIn items x) d P))
+        (λ x. omega (arith, occurrences-namedAfter x (items d) s, c x, list-cons (namedIn items x) d P))
         (omega arith) in (
           d ∷ rest .0,
           walk-through items k d q s (rest .0) (omega (arith, l (faults items), list-cons (faults items) d q, t .faultless))
@@ -198,7 +198,7 @@ module _ (items : Dir → List Item) where
       walk-tree k Q e =
           let f = walk-found items k (top ∷ []) [] Q e in
           let exact : Exact Q = λ w. order-sum items Q (top ∷ []) (f .order) w ∙ ap (λ (n : ℕ). n + sumList (below items w) Q) (list-one w top) in
-          let once : (x : ℕ) → sumList (namedIn items x) Q ≤ 1 = λ x. omega (arith, f .once x (omega (arith, times-nil x))) in
+          let once : (x : ℕ) → sumList (namedIn items x) Q ≤ 1 = λ x. omega (arith, f .once x (omega (arith, occurrences-nil x))) in
           let h = order-heights Q (top ∷ []) (f .order) (heads-once Q exact (f .faultless) once) in
           record { exact = exact; faultless = f .faultless; once = once; height = h .0; lower = h .1 }
 
@@ -221,7 +221,7 @@ module _ (items : Dir → List Item) where
           per : (d : Dir) → faults items d ≡ 0 → sumList (λ x. 1) (names (items d)) ≤ sumBelow (λ x. namedIn items x d) A
           per d g = omega (
             arith,
-            sum-by-times (λ x. 1) (names (items d)) A (λ x l. high x l),
+            sum-by-occurrences (λ x. 1) (names (items d)) A (λ x l. high x l),
             sum-congr (λ x. namedIn items x d * 1) (λ x. namedIn items x d) A (λ x l. omega arith),
           )
             where
@@ -239,5 +239,5 @@ module _ (items : Dir → List Item) where
       tree-walk dirs t = walk-runs dirs t A [] (top ∷ []) []
           (λ w. omega (arith, list-nil w, list-one w top, list-nil (below items w)))
           (λ w. omega (arith, list-nil w, list-one w top, t .exact w))
-          (λ x. omega (arith, times-nil x, list-nil (namedIn items x)))
+          (λ x. omega (arith, occurrences-nil x, list-nil (namedIn items x)))
           (omega (arith, tree-short dirs t))

@@ -6,10 +6,10 @@ use mathlib.Core.List.{List, [], _∷_, _++_, append-assoc, append-nil}
 use native.Mathlib.Omega.{arith}
 use lib.Dec.{leb}
 use borrow.Author.Tests.{leb-false, lt-leb}
-use Rattle.rules.specs.Counting.{_if_else_, firstOf, sumList, times, gather}
+use Rattle.rules.specs.Counting.{_if_else_, firstOf, sumList, occurrences, gather}
 use Rattle.rules.specs.Walk.{Dir, Item, subDirs, faultOf, Scanned, faulty, fine, scan, Walk, fault, done, visited, walk}
 use Rattle.laws.specs.Sums.{oneAt-cases, oneAt-same}
-use Rattle.laws.specs.Bags.{list-nil, list-cons, list-append, gather-sum, times-nil, times-cons}
+use Rattle.laws.specs.Bags.{list-nil, list-cons, list-append, gather-sum, occurrences-nil, occurrences-cons}
 use Rattle.laws.specs.Tests.{if-zero, firstOf-zero}
 use Rattle.laws.specs.Items.{wrong, names, subs, below, namedIn, faults}
 
@@ -20,18 +20,18 @@ unfoldable pub namedAfter : List Item → List ℕ → List ℕ
 namedAfter [] s = s
 namedAfter (i ∷ is) s = namedAfter is (i .anode ∷ s)
 
-fault-none : (i : Item) (s : List ℕ) → faultOf i s ≡ 0 → (wrong i ≡ 0) × (times (i .anode) s ≡ 0)
+fault-none : (i : Item) (s : List ℕ) → faultOf i s ≡ 0 → (wrong i ≡ 0) × (occurrences (i .anode) s ≡ 0)
 unfolding faultOf wrong
 fault-none i s h =
-    let f = firstOf-zero (i .early) (14 if leb 1 (times (i .anode) s) else i .late) h in
-    let late = if-zero 14 (leb 1 (times (i .anode) s)) (i .late) (omega arith) (f .1) in
-    (omega (arith, f .0, late .1), omega (arith, leb-false 1 (times (i .anode) s) (late .0)))
+    let f = firstOf-zero (i .early) (14 if leb 1 (occurrences (i .anode) s) else i .late) h in
+    let late = if-zero 14 (leb 1 (occurrences (i .anode) s)) (i .late) (omega arith) (f .1) in
+    (omega (arith, f .0, late .1), omega (arith, leb-false 1 (occurrences (i .anode) s) (late .0)))
 
-none-fault : (i : Item) (s : List ℕ) → wrong i ≡ 0 → times (i .anode) s ≡ 0 → faultOf i s ≡ 0
+none-fault : (i : Item) (s : List ℕ) → wrong i ≡ 0 → occurrences (i .anode) s ≡ 0 → faultOf i s ≡ 0
 unfolding faultOf firstOf wrong
 none-fault i s w c =
     let e : i .early ≡ 0 = omega arith in
-    rw (e, lt-leb 1 (times (i .anode) s) (omega arith)) (omega arith)
+    rw (e, lt-leb 1 (occurrences (i .anode) s) (omega arith)) (omega arith)
 
 pub scan-next : (d : Dir) (i : Item) (is : List Item) (q : List Dir) (s : List ℕ) → faultOf i s ≡ 0 →
     scan d (i ∷ is) q s ≡ scan d is (q ++ subDirs d i) (i .anode ∷ s)
@@ -45,36 +45,36 @@ scan-stops d i is q s n e = rw (e, scan)
 faulty≢fine : (n : ℕ) (q : List Dir) (s : List ℕ) → faulty n ≡ fine q s → ⊥
 faulty≢fine n q s e = let z : _≡_ {A = ℕ} 0 1 = cc in omega arith
 
-pub times-namedAfter : (x : ℕ) (is : List Item) (s : List ℕ) → times x (namedAfter is s) ≡ times x s + times x (names is)
+pub occurrences-namedAfter : (x : ℕ) (is : List Item) (s : List ℕ) → occurrences x (namedAfter is s) ≡ occurrences x s + occurrences x (names is)
 unfolding namedAfter
-times-namedAfter x [] s = omega (arith, times-nil x)
-times-namedAfter x (i ∷ is) s = omega (arith, times-namedAfter x is (i .anode ∷ s), times-cons x (i .anode) s, times-cons x (i .anode) (names is))
+occurrences-namedAfter x [] s = omega (arith, occurrences-nil x)
+occurrences-namedAfter x (i ∷ is) s = omega (arith, occurrences-namedAfter x is (i .anode ∷ s), occurrences-cons x (i .anode) s, occurrences-cons x (i .anode) (names is))
 
 -- where nothing is wrong and no anode is named twice, the scan goes through
-scan-runs : (d : Dir) (is : List Item) (q : List Dir) (s : List ℕ) → sumList wrong is ≡ 0 → ((x : ℕ) → times x s + times x (names is) ≤ 1) →
+scan-runs : (d : Dir) (is : List Item) (q : List Dir) (s : List ℕ) → sumList wrong is ≡ 0 → ((x : ℕ) → occurrences x s + occurrences x (names is) ≤ 1) →
     scan d is q s ≡ fine (q ++ gather (subDirs d) is) (namedAfter is s)
 unfolding gather namedAfter scan
 scan-runs d [] q s w o = rw append-nil
 scan-runs d (i ∷ is) q s w o =
     let wi : wrong i + sumList wrong is ≡ 0 = sym (list-cons wrong i is) ∙ w in
-    scan-next d i is q s (none-fault i s (omega arith) (omega (arith, o (i .anode), times-cons (i .anode) (i .anode) (names is), oneAt-same (i .anode) (i .anode) refl)))
-    ∙ scan-runs d is (q ++ subDirs d i) (i .anode ∷ s) (omega arith) (λ x. omega (arith, o x, times-cons x (i .anode) s, times-cons x (i .anode) (names is)))
+    scan-next d i is q s (none-fault i s (omega arith) (omega (arith, o (i .anode), occurrences-cons (i .anode) (i .anode) (names is), oneAt-same (i .anode) (i .anode) refl)))
+    ∙ scan-runs d is (q ++ subDirs d i) (i .anode ∷ s) (omega arith) (λ x. omega (arith, o x, occurrences-cons x (i .anode) s, occurrences-cons x (i .anode) (names is)))
     ∙ ap (λ (l : List Dir). fine l (namedAfter is (i .anode ∷ s))) (append-assoc q (subDirs d i) (gather (subDirs d) is))
 
 -- what a scan that goes through has found
 pub record ScanFound (d : Dir) (is : List Item) (q : List Dir) (s : List ℕ) (q′ : List Dir) (s′ : List ℕ) : Type 0 where
   pub queue : q′ ≡ q ++ gather (subDirs d) is
-  pub seen : (x : ℕ) → times x s′ ≡ times x s + times x (names is)
+  pub seen : (x : ℕ) → occurrences x s′ ≡ occurrences x s + occurrences x (names is)
   pub faultless : sumList wrong is ≡ 0
-  pub once : (x : ℕ) → times x s ≤ 1 → times x s′ ≤ 1
+  pub once : (x : ℕ) → occurrences x s ≤ 1 → occurrences x s′ ≤ 1
 
 scan-found : (d : Dir) (is : List Item) (q : List Dir) (s : List ℕ) (q′ : List Dir) (s′ : List ℕ) → scan d is q s ≡ fine q′ s′ → ScanFound d is q s q′ s′
 unfolding gather scan
 scan-found d [] q s q′ s′ e = record {
   queue = let f : q ≡ q′ = cc in sym f ∙ sym (append-nil q);
-  seen = λ x. let f : s ≡ s′ = cc in omega (arith, times-nil x, ap (times x) f);
+  seen = λ x. let f : s ≡ s′ = cc in omega (arith, occurrences-nil x, ap (occurrences x) f);
   faultless = list-nil wrong;
-  once = λ x h. let f : s ≡ s′ = cc in omega (arith, ap (times x) f);
+  once = λ x h. let f : s ≡ s′ = cc in omega (arith, ap (occurrences x) f);
 }
 scan-found d (i ∷ is) q s q′ s′ e = go (faultOf i s) refl (scan-found d is (q ++ subDirs d i) (i .anode ∷ s) q′ s′)
   where
@@ -86,11 +86,11 @@ scan-found d (i ∷ is) q s q′ s′ e = go (faultOf i s) refl (scan-found d is
         let t = r (sym (scan-next d i is q s f) ∙ e) in
         record {
           queue = t .queue ∙ append-assoc q (subDirs d i) (gather (subDirs d) is);
-          seen = λ x. omega (arith, t .seen x, times-cons x (i .anode) s, times-cons x (i .anode) (names is));
+          seen = λ x. omega (arith, t .seen x, occurrences-cons x (i .anode) s, occurrences-cons x (i .anode) (names is));
           faultless = omega (arith, c .0, list-cons wrong i is, t .faultless);
           once = λ x h. t .once x (elim (oneAt-cases (i .anode) x) [
-            | inl y ↦ omega (arith, times-cons x (i .anode) s, c .1, ap (λ (z : ℕ). times z s) (y .0))
-            | inr y ↦ omega (arith, times-cons x (i .anode) s)
+            | inl y ↦ omega (arith, occurrences-cons x (i .anode) s, c .1, ap (λ (z : ℕ). occurrences z s) (y .0))
+            | inr y ↦ omega (arith, occurrences-cons x (i .anode) s)
           ]);
         }
 
@@ -118,7 +118,7 @@ module _ (items : Dir → List Item) where
   pub record WalkFound (q : List Dir) (s : List ℕ) (Q : List Dir) : Type 0 where
     pub order : Order q Q
     pub faultless : sumList (faults items) Q ≡ 0
-    pub once : (x : ℕ) → times x s ≤ 1 → times x s + sumList (namedIn items x) Q ≤ 1
+    pub once : (x : ℕ) → occurrences x s ≤ 1 → occurrences x s + sumList (namedIn items x) Q ≤ 1
 
   nothing : (s : List ℕ) (Q : List Dir) → [] ≡ Q → WalkFound [] s Q
   unfolding gather
@@ -149,7 +149,7 @@ module _ (items : Dir → List Item) where
       go (fine q′ s′) f r = after-scan d q s q′ s′ Q (scan-found d (items d) q s q′ s′ f) (walk items k q′ s′) (sym (walk-next k d q s q′ s′ f) ∙ e) (r q′ s′)
 
   -- a directory with nothing wrong in it, which names what is not named yet, is gone through
-  pub walk-through : (k : ℕ) (d : Dir) (q : List Dir) (s : List ℕ) (Q : List Dir) → faults items d ≡ 0 → ((x : ℕ) → times x s + namedIn items x d ≤ 1) →
+  pub walk-through : (k : ℕ) (d : Dir) (q : List Dir) (s : List ℕ) (Q : List Dir) → faults items d ≡ 0 → ((x : ℕ) → occurrences x s + namedIn items x d ≤ 1) →
       walk items k (q ++ subs items d) (namedAfter (items d) s) ≡ done Q → walk items (suc k) (d ∷ q) s ≡ done (d ∷ Q)
   unfolding visited subs
   walk-through k d q s Q w o e = walk-next k d q s (q ++ subs items d) (namedAfter (items d) s) (scan-runs d (items d) q s w o) ∙ ap (visited d) e

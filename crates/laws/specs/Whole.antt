@@ -6,14 +6,14 @@ use mathlib.Core.Bool.{Bool, cond, _&&_}
 use mathlib.Core.List.{List, map}
 use native.Mathlib.Omega.{arith}
 use lib.Dec.{eqb, leb}
-use Rattle.rules.specs.Counting.{oneAt, sumBelow, sumList, times}
+use Rattle.rules.specs.Counting.{oneAt, sumBelow, sumList, occurrences}
 use Rattle.rules.specs.Anodes.{limit, Anodes}
 use Rattle.rules.specs.Chains.{chainOf, heads, blocksOf, blockCount}
 use Rattle.rules.specs.Walk.{Dir, dirMade, root, Entered, Item, blocksFor, itemOf, itemsBy}
 use Rattle.laws.specs.Tests.{same?, less?, tested-from}
 use Rattle.laws.specs.Sums.{oneAt-cases, oneAt-same, oneAt-other, oneAt-le}
 use Rattle.laws.specs.Bags.{list-mono}
-use Rattle.laws.specs.Heads.{Head, heads-cases, times-on-chain}
+use Rattle.laws.specs.Heads.{Head, heads-cases, occurrences-on-chain}
 use Rattle.laws.specs.Blocks.{blocks}
 use Rattle.laws.specs.Held.{held, chain-blocks}
 use Rattle.laws.specs.Space.{Good, head-5}
@@ -121,8 +121,8 @@ module _ {ex : ℕ → Bool} {n last : ℕ} {s : Anodes} {system hd sd : ℕ →
   blocks-sum f h d = chain-blocks (g .linked) (g .heads) (s .count) n (g .own .fits) f h d
 
   -- an anode stands once on the chain of its own head, and on no other's
-  pub on-dir : (a h : ℕ) → hd a ≡ h → (m : ℕ) → Head (s .next) (s .block) m → times a (chainOf (s .next) limit m) ≡ oneAt m h
-  on-dir a h e m d = times-on-chain (g .linked) (g .heads) m d a ∙ elim (oneAt-cases m h) [
+  pub on-dir : (a h : ℕ) → hd a ≡ h → (m : ℕ) → Head (s .next) (s .block) m → occurrences a (chainOf (s .next) limit m) ≡ oneAt m h
+  on-dir a h e m d = occurrences-on-chain (g .linked) (g .heads) m d a ∙ elim (oneAt-cases m h) [
     | inl q ↦ oneAt-same (hd a) m (e ∙ sym (q .0)) ∙ sym (q .1)
     | inr q ↦ oneAt-other (hd a) m (λ i. q .0 (sym i ∙ e)) ∙ sym (q .1)
   ]

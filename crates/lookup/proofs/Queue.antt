@@ -11,11 +11,11 @@ use lib.Dec.{ltb}
 use lib.ListN.{getD}
 use borrow.Author.Tests.{eq-eqb, ne-eqb, lt-ltb, le-ltb}
 use Rattle.endian.proofs.Laws.{less?, same?}
-use Rattle.rules.specs.Counting.{times}
+use Rattle.rules.specs.Counting.{occurrences}
 use Rattle.rules.specs.Changes.{parentOf}
 use Rattle.rules.specs.Lookup.{noneHeaded}
 use Rattle.laws.specs.Sums.{oneAt-same, oneAt-other}
-use Rattle.laws.specs.Bags.{times-nil, times-cons}
+use Rattle.laws.specs.Bags.{occurrences-nil, occurrences-cons}
 use Rattle.tree.specs.Steps.{dirsFrom, queueOf}
 use Rattle.lookup.specs.Queued.{placeOf, OwnHeads}
 
@@ -59,23 +59,23 @@ module _ (queue : List ℕ) (h : ℕ) where
   ]
 
   module _ (parents : List ℕ) where
-    times-from : (i n : ℕ) → not (ltb (placeOf queue h i n) (i + n)) ≡ noneHeaded (dirsFrom queue parents i n) h
+    occurrences-from : (i n : ℕ) → not (ltb (placeOf queue h i n) (i + n)) ≡ noneHeaded (dirsFrom queue parents i n) h
     unfolding dirsFrom
-    times-from i zero = rw (place-none i 0 refl, le-ltb i (i + 0) (omega arith), times-nil h)
-    times-from i (suc n) =
+    occurrences-from i zero = rw (place-none i 0 refl, le-ltb i (i + 0) (omega arith), occurrences-nil h)
+    occurrences-from i (suc n) =
         let heads = map (λ d. d .head) (dirsFrom queue parents (suc i) n) in
-        let rest = times h heads in
+        let rest = occurrences h heads in
         let behind : i + suc n ≡ suc i + n = omega arith in
         let none : 0 + rest ≡ rest = omega arith in
         elim (same? (getD queue i 0) h) [
-          | inl is ↦ rw (place-hit i (suc n) n refl is, lt-ltb i (i + suc n) (omega arith), times-cons h (getD queue i 0) heads, oneAt-same (getD queue i 0) h is, ne-eqb (1 + rest) 0 (λ z. omega arith))
-          | inr is ↦ rw (place-pass i (suc n) n refl is, add-one i, behind, times-cons h (getD queue i 0) heads, oneAt-other (getD queue i 0) h is, none) (times-from (suc i) n)
+          | inl is ↦ rw (place-hit i (suc n) n refl is, lt-ltb i (i + suc n) (omega arith), occurrences-cons h (getD queue i 0) heads, oneAt-same (getD queue i 0) h is, ne-eqb (1 + rest) 0 (λ z. omega arith))
+          | inr is ↦ rw (place-pass i (suc n) n refl is, add-one i, behind, occurrences-cons h (getD queue i 0) heads, oneAt-other (getD queue i 0) h is, none) (occurrences-from (suc i) n)
         ]
 
     -- as the rules count the directories with that head
-    pub place-times : (n : ℕ) → not (ltb (placeOf queue h 0 n) n) ≡ noneHeaded (queueOf queue parents n) h
+    pub place-occurrences : (n : ℕ) → not (ltb (placeOf queue h 0 n) n) ≡ noneHeaded (queueOf queue parents n) h
     unfolding queueOf
-    place-times n = rw (zero-add n) at (times-from 0 n)
+    place-occurrences n = rw (zero-add n) at (occurrences-from 0 n)
 
     parent-from : (i n : ℕ) → parentOf (dirsFrom queue parents i n) h ≡ cond (ltb (placeOf queue h i n) (i + n)) (getD parents (placeOf queue h i n) 0) 0
     unfolding parentOf dirsFrom

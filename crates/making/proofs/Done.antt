@@ -17,7 +17,7 @@ use Rattle.rules.specs.Lookup.{noDirectory}
 use Rattle.rules.specs.Space.{rewritten, lowestFree}
 use Rattle.rules.specs.Tables.{anodeTable}
 use Rattle.rules.specs.Changes.{firstRoom, noRoom, entryPlace, NewEntry, madeImage, madeWith, made}
-use Rattle.laws.specs.Bags.{times-member}
+use Rattle.laws.specs.Bags.{occurrences-member}
 use Rattle.laws.specs.Links.{Linked}
 use Rattle.laws.specs.OwnerTable.{setAll, fresh-owner}
 use Rattle.anodes.specs.Loaded.{anodesFrom, Loaded}
@@ -57,7 +57,7 @@ module _ {img counts firsts nexts : List ℕ} (l : Loaded img counts firsts next
     ones a p =
         let next : (λ x. getD nexts x 0) ≡ anodesOf img .next = ap (λ (s : Anodes). s .next) (l .is-loaded) in
         ap (λ (s : Anodes). s .count a) (l .is-loaded)
-        ∙ dir-block home a (times-member a (chainOf (anodesOf img .next) limit h) (rw next at p)) .one
+        ∙ dir-block home a (occurrences-member a (chainOf (anodesOf img .next) limit h) (rw next at p)) .one
 
     -- the room found by the tables is the directory's
     pub room-is : (room : Option ℕ) (len : ℕ) →

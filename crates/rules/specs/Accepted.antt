@@ -7,7 +7,7 @@ use lib.Dec.{eqb, leb, ltb}
 use Rattle.disk.specs.Blocks.{blockOf}
 use Rattle.disk.specs.Root.{pfs0, rootIn, slotOf}
 use Rattle.disk.specs.AnodeBlocks.{anodeMark, anodeHeadIn}
-use Rattle.rules.specs.Counting.{_if_else_, firstOf, anyBelow, anyIn, times}
+use Rattle.rules.specs.Counting.{_if_else_, firstOf, anyBelow, anyIn, occurrences}
 use Rattle.rules.specs.Anodes.{Anodes, limit, anodesOf}
 use Rattle.rules.specs.Chains.{chainOf, followed, preds, heads, owners, systemOwns, side}
 use Rattle.rules.specs.Walk.{walkOf, faultIn, naming}
@@ -100,7 +100,7 @@ notUpTo s last a = ltb 0 (s .count a) && ltb (last + 1) (endOf s a)
 -- 9: 2 not on 1's chain, or a free extent on the wrong side
 unfoldable pub wrongFreeList : Anodes → ℕ → Bool
 wrongFreeList s last =
-    eqb (times 2 (chainOf (s .next) limit 1)) 0
+    eqb (occurrences 2 (chainOf (s .next) limit 1)) 0
     || (anyIn (notAbove s last) (side limit s 1)
     || anyIn (notUpTo s last) (chainOf (s .next) limit 2))
 

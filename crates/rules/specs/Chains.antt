@@ -4,7 +4,7 @@ use mathlib.Core.Bool.{cond, not, _&&_}
 use mathlib.Core.List.{List, [], _∷_}
 use lib.Dec.{eqb, leb, ltb}
 use Rattle.disk.specs.Root.{slotOf}
-use Rattle.rules.specs.Counting.{oneAt, sumBelow, sumList, times, gather}
+use Rattle.rules.specs.Counting.{oneAt, sumBelow, sumList, occurrences, gather}
 use Rattle.rules.specs.Anodes.{Anodes, limit}
 
 -- a chain follows next until 0; with at most so many anodes
@@ -28,7 +28,7 @@ heads A next block h = cond (not (eqb h 0) && (not (eqb (block h) 0) && eqb (pre
 
 -- the head of a's chain: the sum over all heads of the head, as often as a stands on its chain
 unfoldable pub headOf : ℕ → (ℕ → ℕ) → (ℕ → ℕ) → ℕ → ℕ
-headOf A next block a = sumBelow (λ h. heads A next block h * (times a (chainOf next A h) * h)) A
+headOf A next block a = sumBelow (λ h. heads A next block h * (occurrences a (chainOf next A h) * h)) A
 
 -- 1 where block x is one of the c blocks from b upward; the end is the whole-number sum
 unfoldable pub covers : ℕ → ℕ → ℕ → ℕ

@@ -40,8 +40,8 @@ sumList f [] = 0
 sumList f (x ∷ l) = f x + sumList f l
 
 -- how often a number stands in a list
-unfoldable pub times : ℕ → List ℕ → ℕ
-times x l = sumList (λ y. oneAt y x) l
+unfoldable pub occurrences : ℕ → List ℕ → ℕ
+occurrences x l = sumList (λ y. oneAt y x) l
 
 -- some element of a list passes
 unfoldable pub anyIn {ℓ} : {X : Type ℓ} → (X → Bool) → List X → Bool

@@ -7,14 +7,14 @@ use lib.ListN.{take}
 use lib.Dec.{eqb, ltb}
 use Rattle.disk.specs.Blocks.{blockOf}
 use Rattle.directory.specs.Entries.{nameIn}
-use Rattle.rules.specs.Counting.{times, gather, sameBytes}
+use Rattle.rules.specs.Counting.{occurrences, gather, sameBytes}
 use Rattle.rules.specs.Anodes.{Anodes, limit}
 use Rattle.rules.specs.Chains.{chainOf, blocksOf}
 use Rattle.rules.specs.Walk.{Entered, entriesIn, reachedDirs, Dir}
 
 -- no directory of a list has the head h
 abbrev pub noneHeaded : List Dir → ℕ → Bool
-noneHeaded dirs h = eqb (times h (map (λ d. d .head) dirs)) 0
+noneHeaded dirs h = eqb (occurrences h (map (λ d. d .head) dirs)) 0
 
 -- 21: directory number is not a reached directory's head
 unfoldable pub noDirectory : List ℕ → Anodes → ℕ → Bool

@@ -3,7 +3,7 @@ use Prim.Native.Nat.{ℕ, zero, suc, _+_, _-_}
 use mathlib.Core.Bool.{Bool, cond, _&&_}
 use mathlib.Core.List.{List, [], _∷_, _++_}
 use lib.Dec.{eqb, leb, ltb}
-use Rattle.rules.specs.Counting.{least, times, lastOf, changed}
+use Rattle.rules.specs.Counting.{least, occurrences, lastOf, changed}
 use Rattle.rules.specs.Anodes.{Anodes}
 use Rattle.rules.specs.Chains.{chainOf, side}
 
@@ -160,7 +160,7 @@ module _ (A : ℕ) (ex : ℕ → Bool) where
 
 -- anode a is in h's chain
 unfoldable pub onChain : ℕ → Anodes → ℕ → ℕ → Bool
-onChain A s h a = leb 1 (times a (chainOf (s .next) A h))
+onChain A s h a = leb 1 (occurrences a (chainOf (s .next) A h))
 
 -- the anodes of h's chain zeroed
 unfoldable pub dropped : ℕ → Anodes → ℕ → Anodes

@@ -8,7 +8,7 @@ use Rattle.disk.specs.Blocks.{blockOf}
 use Rattle.directory.specs.declared.Walked.{Walked}
 use Rattle.directory.specs.declared.Walked.the-variants.{Found, End, Fault}
 use Rattle.directory.specs.Entries.{isDir, directoryMark, directoryHeadIn, walkedAt}
-use Rattle.rules.specs.Counting.{_if_else_, firstOf, times, gather}
+use Rattle.rules.specs.Counting.{_if_else_, firstOf, occurrences, gather}
 use Rattle.rules.specs.Anodes.{Anodes, limit}
 use Rattle.rules.specs.Chains.{chainOf, heads, blockCount}
 
@@ -112,7 +112,7 @@ subDirs d i = cond (i .dir) (dirMade (i .anode) (d .head) ∷ []) []
 
 -- the first fault of an item, after these anodes were named: 14 where its anode is one of them
 unfoldable pub faultOf : Item → List ℕ → ℕ
-faultOf i named = firstOf (i .early) (14 if leb 1 (times (i .anode) named) else i .late)
+faultOf i named = firstOf (i .early) (14 if leb 1 (occurrences (i .anode) named) else i .late)
 
 -- a directory's items: the first fault, or the queue and the named anodes behind them
 pub data Scanned : Type 0 where
@@ -167,4 +167,4 @@ reached img s = gather (itemsOf img s) (reachedDirs img s)
 
 -- how often reached entries name an anode
 unfoldable pub naming : List ℕ → Anodes → ℕ → ℕ
-naming img s x = times x (map (λ i. i .anode) (reached img s))
+naming img s x = occurrences x (map (λ i. i .anode) (reached img s))

@@ -9,13 +9,13 @@ use native.Mathlib.Numerals.{add-one}
 use lib.Dec.{leb}
 use lib.ListN.{length, getD, set}
 use borrow.Author.Tests.{le-leb}
-use Rattle.rules.specs.Counting.{times, changed}
+use Rattle.rules.specs.Counting.{occurrences, changed}
 use Rattle.rules.specs.Anodes.{Anodes}
 use Rattle.rules.specs.Chains.{chainOf}
 use Rattle.rules.specs.Space.{onChain, dropped}
 use Rattle.laws.specs.Tests.{cond-cases}
 use Rattle.laws.specs.Sums.{oneAt-same, oneAt-other, changed-cases, changed-other}
-use Rattle.laws.specs.Bags.{times-nil, times-cons}
+use Rattle.laws.specs.Bags.{occurrences-nil, occurrences-cons}
 use Rattle.laws.specs.Segments.{Seg, seg-keep}
 use Rattle.laws.specs.Links.{Linked, the-chain, seg-once, seg-short}
 use Rattle.anodes.specs.Loaded.{anodesFrom}
@@ -52,34 +52,34 @@ zeroed-tables k m c f n a e h = zeroed-next k m (anodesFrom c f n) a e h ∙ rw 
 
 -- the anodes of a list zeroed
 abbrev without : List ℕ → (ℕ → ℕ) → ℕ → ℕ
-without l f a = cond (leb 1 (times a l)) 0 (f a)
+without l f a = cond (leb 1 (occurrences a l)) 0 (f a)
 
 abbrev zeroedOn : List ℕ → Anodes → Anodes
 zeroedOn l s = record { count = without l (s .count); block = without l (s .block); next = without l (s .next) }
 
 without-none : (f : ℕ → ℕ) → f ≡ without [] f
-without-none f = fun-ext (λ a. rw (times-nil a))
+without-none f = fun-ext (λ a. rw (occurrences-nil a))
 
 without-more : (b : ℕ) (l : List ℕ) (f : ℕ → ℕ) → without l (changed f b 0) ≡ without (b ∷ l) f
 without-more b l f = fun-ext (λ a. elim (changed-cases f b 0 a) [
-  | inl c ↦ rw (c .1, le-leb 1 (times a (b ∷ l)) (omega (arith, times-cons a b l, oneAt-same b a (sym (c .0))))) (elim (cond-cases {A = ℕ} (leb 1 (times a l)) 0 0) [ inl d ↦ d .1 | inr d ↦ d .1 ])
-  | inr c ↦ (let e : times a (b ∷ l) ≡ times a l = omega (arith, times-cons a b l, oneAt-other b a (λ q. c .0 (sym q))) in rw (c .1, e))
+  | inl c ↦ rw (c .1, le-leb 1 (occurrences a (b ∷ l)) (omega (arith, occurrences-cons a b l, oneAt-same b a (sym (c .0))))) (elim (cond-cases {A = ℕ} (leb 1 (occurrences a l)) 0 0) [ inl d ↦ d .1 | inr d ↦ d .1 ])
+  | inr c ↦ (let e : occurrences a (b ∷ l) ≡ occurrences a l = omega (arith, occurrences-cons a b l, oneAt-other b a (λ q. c .0 (sym q))) in rw (c .1, e))
 ])
 
 -- where no anode stands twice
-zeroed-on : (k : ℕ) (s : Anodes) (a : ℕ) (l : List ℕ) → Seg (s .next) a l 0 → ((x : ℕ) → times x l ≤ 1) → length l ≤ k → zeroedFrom k s a ≡ zeroedOn l s
+zeroed-on : (k : ℕ) (s : Anodes) (a : ℕ) (l : List ℕ) → Seg (s .next) a l 0 → ((x : ℕ) → occurrences x l ≤ 1) → length l ≤ k → zeroedFrom k s a ≡ zeroedOn l s
 zeroed-on k s a [] c once short = rw c (zeroed-end k s ∙ (λ i. record { count = without-none (s .count) i; block = without-none (s .block) i; next = without-none (s .next) i }))
 zeroed-on zero s a (b ∷ l) c once short = absurd (omega arith)
 zeroed-on (suc k) s a (b ∷ l) c once short =
     rw (c .0) (zeroed-next (suc k) k s b (omega arith) (c .1)
-    ∙ zeroed-on k (zeroedAt s b) (s .next b) l rest (λ x. omega (arith, once x, times-cons x b l)) (omega arith)
+    ∙ zeroed-on k (zeroedAt s b) (s .next b) l rest (λ x. omega (arith, once x, occurrences-cons x b l)) (omega arith)
     ∙ more)
   where
-    gone : times b l ≡ 0
-    gone = omega (arith, once b, times-cons b b l, oneAt-same b b refl)
+    gone : occurrences b l ≡ 0
+    gone = omega (arith, once b, occurrences-cons b b l, oneAt-same b b refl)
 
     rest : Seg (zeroedAt s b .next) (s .next b) l 0
-    rest = seg-keep (s .next) (changed (s .next) b 0) (s .next b) 0 l (λ x p. changed-other (s .next) b 0 x (λ q. omega (arith, p, gone, ap (λ (z : ℕ). times z l) q))) (c .2)
+    rest = seg-keep (s .next) (changed (s .next) b 0) (s .next b) 0 l (λ x p. changed-other (s .next) b 0 x (λ q. omega (arith, p, gone, ap (λ (z : ℕ). occurrences z l) q))) (c .2)
 
     more : zeroedOn l (zeroedAt s b) ≡ zeroedOn (b ∷ l) s
     more = λ i. record { count = without-more b l (s .count) i; block = without-more b l (s .block) i; next = without-more b l (s .next) i }

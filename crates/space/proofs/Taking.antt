@@ -6,7 +6,7 @@ use mathlib.Core.Bool.{Bool, false}
 use mathlib.Core.List.{List}
 use native.Mathlib.Omega.{arith}
 use lib.ListN.{getD}
-use Rattle.rules.specs.Counting.{times, lastOf}
+use Rattle.rules.specs.Counting.{occurrences, lastOf}
 use Rattle.rules.specs.Anodes.{Anodes, exists}
 use Rattle.rules.specs.Chains.{chainOf, cut, systemOwns, side}
 use Rattle.rules.specs.Accepted.{diskSize, wrongSize, lastReserved}
@@ -36,7 +36,7 @@ module _ {A : ℕ} {ex : ℕ → Bool} {n last : ℕ} {s : Anodes} {system hd sd
       chain : Chain (s .next) h (chainOf (s .next) A h)
       chain = the-chain (g .linked) h (λ z. d .in-use)
 
-      on : (x : ℕ) → 0 < times x (chainOf (s .next) A h) → hd x ≡ h
+      on : (x : ℕ) → 0 < occurrences x (chainOf (s .next) A h) → hd x ≡ h
       on x p = on-chain g h d x p .0
 
   -- its last anode, as the search before 2 finds it

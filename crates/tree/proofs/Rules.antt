@@ -11,14 +11,14 @@ use lib.Seq.{getD-set-same, getD-set-other}
 use borrow.Author.Tests.{eq-eqb, ne-eqb, le-leb, lt-leb, le-ltb, lt-ltb}
 use Rattle.endian.proofs.Laws.{less?, same?, getD-zeros}
 use Rattle.disk.specs.Refusals.{numberOf}
-use Rattle.rules.specs.Counting.{_if_else_, firstOf, anyBelow, sumList, times, gather}
+use Rattle.rules.specs.Counting.{_if_else_, firstOf, anyBelow, sumList, occurrences, gather}
 use Rattle.rules.specs.Anodes.{Anodes, limit}
 use Rattle.rules.specs.Chains.{chainOf, heads, blockCount}
 use Rattle.rules.specs.Walk.{Dir, root, Entered, entriesIn, isBlockOf, Item, wrongAnode, wrongFileSize, itemOf, itemsBy, itemsOf, Walk, fault, done, walk, walkOf, faultIn, reachedDirs, reached, naming}
 use Rattle.rules.specs.Accepted.{unnamed, unnamedChain, treeFault}
 use Rattle.rules.specs.Calls.{fileCount, dirCount}
 use Rattle.counting.specs.Laws.{anyBelow-same}
-use Rattle.laws.specs.Bags.{times-nil}
+use Rattle.laws.specs.Bags.{occurrences-nil}
 use Rattle.laws.specs.Chains.{HeadTable}
 use Rattle.laws.specs.Each.{Each, each-gather}
 use Rattle.laws.specs.Items.{each-item, names-sum}
@@ -106,7 +106,7 @@ module _ (counts nexts t : List ℕ) (s : Anodes) (table : HeadTable t s) (past 
   -- the walk from the root, with no mark from 6 up
   module _ (img marks : List ℕ) (whole : length marks ≡ limit) (clean : (x : ℕ) → 6 ≤ x → getD marks x 0 ≡ 0) where
     run-match : WalkMatch (itemsOf img s) 0 [] [] (runFrom (itemsWith (itemIn counts nexts t) img s) limit (root ∷ []) marks 0 []) (walkOf img s)
-    unfolding walkOf times sumList
+    unfolding walkOf occurrences sumList
     run-match =
         subst
         (λ (f : Dir → List Item). WalkMatch f 0 [] [] (runFrom (itemsWith (itemIn counts nexts t) img s) limit (root ∷ []) marks 0 []) (walk f limit (root ∷ []) []))
@@ -139,12 +139,12 @@ module _ (counts nexts t : List ℕ) (s : Anodes) (table : HeadTable t s) (past 
       unfolding reachedDirs
       tree-dirs = rw (reached-all .1) (reached-all .2 .2)
 
-      naming-reached : (x : ℕ) → namings x (gather (itemsOf img s) (reached-all .0)) + times x [] ≡ naming img s x
+      naming-reached : (x : ℕ) → namings x (gather (itemsOf img s) (reached-all .0)) + occurrences x [] ≡ naming img s x
       unfolding naming namings reached reachedDirs
-      naming-reached x = rw (reached-all .1) (omega (arith, times-nil x, names-sum x (gather (itemsOf img s) (reached-all .0))))
+      naming-reached x = rw (reached-all .1) (omega (arith, occurrences-nil x, names-sum x (gather (itemsOf img s) (reached-all .0))))
 
       naming-agrees : Agree m (naming img s)
-      naming-agrees = agree-same m (λ x. namings x (gather (itemsOf img s) (reached-all .0)) + times x []) (naming img s) naming-reached (reached-all .2 .0)
+      naming-agrees = agree-same m (λ x. namings x (gather (itemsOf img s) (reached-all .0)) + occurrences x []) (naming img s) naming-reached (reached-all .2 .0)
 
       unnamed-same : (x : ℕ) → x < limit → unnamedChain img s x ≡ unnamedAt t m x
       unfolding unnamedChain unnamed unnamedAt
