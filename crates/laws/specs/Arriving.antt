@@ -23,9 +23,9 @@ use Rattle.laws.specs.Plans.{refused≢planned, planned-same}
 use Rattle.laws.specs.Owners.{self-headed}
 use Rattle.laws.specs.Moves.{rewrite-shift, Placed}
 
--- the taker's last anode z cannot have block y: it has blocks, and directory blocks (own) get an anode of their own or y is not its end
+-- the taker's last anode z cannot have block y: it has blocks, and directory blocks (dir) get an anode of their own or y is not its end
 abbrev pub NeedsAnode : Bool → Anodes → ℕ → ℕ → Type 0
-NeedsAnode own s z y = (s .count z ≢ 0) × ((own ≡ true) ⊎ (s .block z + s .count z ≢ y))
+NeedsAnode dir s z y = (s .count z ≢ 0) × ((dir ≡ true) ⊎ (s .block z + s .count z ≢ y))
 
 -- the last anode z of the side of block y cannot have it: z is anode 1, or it has blocks and y neither follows its end nor precedes its start
 abbrev pub JoinsNone : Anodes → ℕ → ℕ → Type 0
@@ -61,20 +61,20 @@ module _ (A : ℕ) (ex : ℕ → Bool) where
       ]
 
   -- block y and the taker's last anode z: z is filled, grows at its end, or y gets an anode behind it
-  pub put-cases : (own : Bool) (s : Anodes) (z y : ℕ) → Which
-      ((s .count z ≡ 0) × (put A ex own s z y ≡ planned (rewritten s z 1 y) (y ∷ [])))
-      ((s .count z ≢ 0) × (own ≡ false) × (s .block z + s .count z ≡ y) × (put A ex own s z y ≡ planned (rewritten s z (s .count z + 1) (s .block z)) (y ∷ [])))
-      (NeedsAnode own s z y × (put A ex own s z y ≡ append A ex s z y))
+  pub put-cases : (dir : Bool) (s : Anodes) (z y : ℕ) → Which
+      ((s .count z ≡ 0) × (put A ex dir s z y ≡ planned (rewritten s z 1 y) (y ∷ [])))
+      ((s .count z ≢ 0) × (dir ≡ false) × (s .block z + s .count z ≡ y) × (put A ex dir s z y ≡ planned (rewritten s z (s .count z + 1) (s .block z)) (y ∷ [])))
+      (NeedsAnode dir s z y × (put A ex dir s z y ≡ append A ex s z y))
   unfolding put fillOr growOr
-  put-cases own s z y = elim (cond-cases (eqb (s .count z) 0) (planned (rewritten s z 1 y) (y ∷ [])) (cond own (append A ex s z y) (growOr s z y (append A ex s z y)))) [
+  put-cases dir s z y = elim (cond-cases (eqb (s .count z) 0) (planned (rewritten s z 1 y) (y ∷ [])) (cond dir (append A ex s z y) (growOr s z y (append A ex s z y)))) [
     | inl c ↦ first (eqb→eq (s .count z) 0 (c .0), c .1)
-    | inr c ↦ behind-it own (λ q. c .0 (eq→eqb (s .count z) 0 q)) (c .1)
+    | inr c ↦ behind-it dir (λ q. c .0 (eq→eqb (s .count z) 0 q)) (c .1)
   ]
     where
-      behind-it : (b : Bool) → s .count z ≢ 0 → put A ex own s z y ≡ cond b (append A ex s z y) (growOr s z y (append A ex s z y)) → Which
-          ((s .count z ≡ 0) × (put A ex own s z y ≡ planned (rewritten s z 1 y) (y ∷ [])))
-          ((s .count z ≢ 0) × (b ≡ false) × (s .block z + s .count z ≡ y) × (put A ex own s z y ≡ planned (rewritten s z (s .count z + 1) (s .block z)) (y ∷ [])))
-          (NeedsAnode b s z y × (put A ex own s z y ≡ append A ex s z y))
+      behind-it : (b : Bool) → s .count z ≢ 0 → put A ex dir s z y ≡ cond b (append A ex s z y) (growOr s z y (append A ex s z y)) → Which
+          ((s .count z ≡ 0) × (put A ex dir s z y ≡ planned (rewritten s z 1 y) (y ∷ [])))
+          ((s .count z ≢ 0) × (b ≡ false) × (s .block z + s .count z ≡ y) × (put A ex dir s z y ≡ planned (rewritten s z (s .count z + 1) (s .block z)) (y ∷ [])))
+          (NeedsAnode b s z y × (put A ex dir s z y ≡ append A ex s z y))
       behind-it true c0 e = third ((c0, inl refl), e)
       behind-it false c0 e = elim (cond-cases (eqb (s .block z + s .count z) y) (planned (rewritten s z (s .count z + 1) (s .block z)) (y ∷ [])) (append A ex s z y)) [
         | inl d ↦ second (c0, refl, eqb→eq (s .block z + s .count z) y (d .0), e ∙ d .1)
@@ -172,8 +172,8 @@ module _ {A : ℕ} {ex : ℕ → Bool} {n last : ℕ} {s : Anodes} (system : ℕ
     | inr c ↦ absurd (refused≢planned 28 t ys (sym (c .0) ∙ e))
   ]
 
-  pub put-placed : z ≢ 1 → (own : Bool) (t : Anodes) (ys : List ℕ) → put A ex own s z y ≡ planned t ys → Placed A ex n last s system hd (hd z) y t × (ys ≡ y ∷ [])
-  put-placed z1 own t ys e = elim (put-cases A ex own s z y) [
+  pub put-placed : z ≢ 1 → (dir : Bool) (t : Anodes) (ys : List ℕ) → put A ex dir s z y ≡ planned t ys → Placed A ex n last s system hd (hd z) y t × (ys ≡ y ∷ [])
+  put-placed z1 dir t ys e = elim (put-cases A ex dir s z y) [
     | first c ↦ placed-by (rewritten s z 1 y) t ys (sym (c .1) ∙ e) (filled z1 (c .0))
     | second c ↦ placed-by (rewritten s z (s .count z + 1) (s .block z)) t ys (sym (c .3) ∙ e) (grown z1 (c .0) (c .2))
     | third c ↦ append-placed t ys (sym (c .1) ∙ e)

@@ -144,9 +144,9 @@ module _ {ex : ℕ → Bool} {n last : ℕ} {s : Anodes} {system hd sd : ℕ →
 
 module _ {ex : ℕ → Bool} {n last : ℕ} {s : Anodes} {system hd sd : ℕ → ℕ} (g : Good limit ex n last s system hd sd) (h : ℕ) (d : Head (s .next) (s .block) h) (h1 : h ≢ 1) where
   -- a take takes one block out of the free list's
-  pub take-free : (own : Bool) (t : Anodes) (ys : List ℕ) → takeBlock limit ex own s h ≡ planned t ys → (y : ℕ) × (ys ≡ y ∷ []) × OneMore y (blocksOf t 1) (blocksOf s 1)
-  take-free own t ys e =
-      let k = take-steps g h own t ys e in
+  pub take-free : (dir : Bool) (t : Anodes) (ys : List ℕ) → takeBlock limit ex dir s h ≡ planned t ys → (y : ℕ) × (ys ≡ y ∷ []) × OneMore y (blocksOf t 1) (blocksOf s 1)
+  take-free dir t ys e =
+      let k = take-steps g h dir t ys e in
       let w = take-placed g h d h1 k in
       (s .block (k .x), w .1, rw (shift-blocks (k .out .good) (w .0 .good) (w .0 .shift) 1 (head-1 (k .out .good)) (λ q. h1 (sym q)) (λ q. h1 (sym q))) (withoutFirst-less g (k .m) (k .one-side) (k .p) (k .x) (k .on)))
 

@@ -10,14 +10,14 @@ use Rattle.laws.specs.Space.{Good}
 use Rattle.laws.specs.Sides.{SideHead, side-chain}
 use Rattle.laws.specs.Searches.{FoundIn, one-found, none-found, firstFull-found}
 
-module _ (A : ℕ) (own : Bool) (s : Anodes) where
+module _ (A : ℕ) (dir : Bool) (s : Anodes) where
   -- x after p is found so on one of the two sides
-  pub extent-found : {ex : ℕ → Bool} {n last : ℕ} {system hd sd : ℕ → ℕ} → Good A ex n last s system hd sd → (p x : ℕ) → freeExtent A own s ≡ found p x →
+  pub extent-found : {ex : ℕ → Bool} {n last : ℕ} {system hd sd : ℕ → ℕ} → Good A ex n last s system hd sd → (p x : ℕ) → freeExtent A dir s ≡ found p x →
       (m : ℕ) × SideHead m × FoundIn (s .count) (cut (s .next)) m (side A s m) 0 p x
   unfolding freeExtent
-  extent-found g p x e = elim (one-found (firstFull (s .count) 0 (side A s (cond own 2 1))) (firstFull (s .count) 0 (side A s (cond own 1 2))) p x e) [
-    | inl f ↦ (cond own 2 1, one-side own, on (cond own 2 1) (one-side own) f)
-    | inr f ↦ (cond own 1 2, other-side own, on (cond own 1 2) (other-side own) f)
+  extent-found g p x e = elim (one-found (firstFull (s .count) 0 (side A s (cond dir 2 1))) (firstFull (s .count) 0 (side A s (cond dir 1 2))) p x e) [
+    | inl f ↦ (cond dir 2 1, one-side dir, on (cond dir 2 1) (one-side dir) f)
+    | inr f ↦ (cond dir 1 2, other-side dir, on (cond dir 1 2) (other-side dir) f)
   ]
     where
       one-side : (b : Bool) → SideHead (cond b 2 1)
@@ -32,11 +32,11 @@ module _ (A : ℕ) (own : Bool) (s : Anodes) where
       on m o f = firstFull-found (s .count) (cut (s .next)) m 0 0 (side A s m) (side-chain g m o) p x f
 
   -- where it is found on none, neither side has a block
-  pub extent-nowhere : freeExtent A own s ≡ nowhere → (m : ℕ) → SideHead m → firstFull (s .count) 0 (side A s m) ≡ nowhere
+  pub extent-nowhere : freeExtent A dir s ≡ nowhere → (m : ℕ) → SideHead m → firstFull (s .count) 0 (side A s m) ≡ nowhere
   unfolding freeExtent
   extent-nowhere e m o =
-      let n = none-found (firstFull (s .count) 0 (side A s (cond own 2 1))) (firstFull (s .count) 0 (side A s (cond own 1 2))) e in
-      either own (n .0) (n .1) o
+      let n = none-found (firstFull (s .count) 0 (side A s (cond dir 2 1))) (firstFull (s .count) 0 (side A s (cond dir 1 2))) e in
+      either dir (n .0) (n .1) o
     where
       either : (b : Bool) → firstFull (s .count) 0 (side A s (cond b 2 1)) ≡ nowhere → firstFull (s .count) 0 (side A s (cond b 1 2)) ≡ nowhere → SideHead m → firstFull (s .count) 0 (side A s m) ≡ nowhere
       either true p q (inl i) = rw i q
@@ -46,21 +46,21 @@ module _ (A : ℕ) (own : Bool) (s : Anodes) where
 
   module _ (ex : ℕ → Bool) (h : ℕ) where
     -- a take without it is refused with 27
-    pub take-nowhere : freeExtent A own s ≡ nowhere → takeBlock A ex own s h ≡ refused 27
+    pub take-nowhere : freeExtent A dir s ≡ nowhere → takeBlock A ex dir s h ≡ refused 27
     unfolding takeBlock
     take-nowhere e = rw (e, takeBlock)
 
     -- and with it takes its first block
-    pub take-found : (p x : ℕ) → freeExtent A own s ≡ found p x → takeBlock A ex own s h ≡ takeFrom A ex own s h p x
+    pub take-found : (p x : ℕ) → freeExtent A dir s ≡ found p x → takeBlock A ex dir s h ≡ takeFrom A ex dir s h p x
     unfolding takeBlock
     take-found p x e = rw (e, takeBlock)
 
     -- which of the two a take is
-    pub take-cases : ((freeExtent A own s ≡ nowhere) × (takeBlock A ex own s h ≡ refused 27))
-        ⊎ ((p : ℕ) × (x : ℕ) × (freeExtent A own s ≡ found p x) × (takeBlock A ex own s h ≡ takeFrom A ex own s h p x))
-    take-cases = go (freeExtent A own s) refl
+    pub take-cases : ((freeExtent A dir s ≡ nowhere) × (takeBlock A ex dir s h ≡ refused 27))
+        ⊎ ((p : ℕ) × (x : ℕ) × (freeExtent A dir s ≡ found p x) × (takeBlock A ex dir s h ≡ takeFrom A ex dir s h p x))
+    take-cases = go (freeExtent A dir s) refl
       where
-        go : (c : Found) → freeExtent A own s ≡ c → ((freeExtent A own s ≡ nowhere) × (takeBlock A ex own s h ≡ refused 27))
-            ⊎ ((p : ℕ) × (x : ℕ) × (freeExtent A own s ≡ found p x) × (takeBlock A ex own s h ≡ takeFrom A ex own s h p x))
+        go : (c : Found) → freeExtent A dir s ≡ c → ((freeExtent A dir s ≡ nowhere) × (takeBlock A ex dir s h ≡ refused 27))
+            ⊎ ((p : ℕ) × (x : ℕ) × (freeExtent A dir s ≡ found p x) × (takeBlock A ex dir s h ≡ takeFrom A ex dir s h p x))
         go nowhere e = inl (e, take-nowhere e)
         go (found p x) e = inr (p, x, e, take-found p x e)

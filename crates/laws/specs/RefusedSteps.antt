@@ -36,27 +36,27 @@ module _ (A : ℕ) (ex : ℕ → Bool) where
 
   -- ---- take
 
-  put-refused : (own : Bool) (s : Anodes) (z y k : ℕ) → put A ex own s z y ≡ refused k → (k ≡ 28) × NeedsAnode own s z y × NoneFree A ex s
-  put-refused own s z y k e = elim (put-cases A ex own s z y) [
+  put-refused : (dir : Bool) (s : Anodes) (z y k : ℕ) → put A ex dir s z y ≡ refused k → (k ≡ 28) × NeedsAnode dir s z y × NoneFree A ex s
+  put-refused dir s z y k e = elim (put-cases A ex dir s z y) [
     | first c ↦ absurd (planned≢refused (rewritten s z 1 y) (y ∷ []) k (sym (c .1) ∙ e))
     | second c ↦ absurd (planned≢refused (rewritten s z (s .count z + 1) (s .block z)) (y ∷ []) k (sym (c .3) ∙ e))
     | third c ↦ (let r = append-refused s z y k (sym (c .1) ∙ e) in (r .0, c .0, r .1))
   ]
 
   -- x after p has a free block: 28 alone
-  found-refused : (own : Bool) (s : Anodes) (h p x k : ℕ) → takeFrom A ex own s h p x ≡ refused k → k ≡ 28
+  found-refused : (dir : Bool) (s : Anodes) (h p x k : ℕ) → takeFrom A ex dir s h p x ≡ refused k → k ≡ 28
   unfolding takeFrom
-  found-refused own s h p x k e = put-refused own (withoutFirst s p x) (lastOf h (chainOf (withoutFirst s p x .next) A h)) (s .block x) k e .0
+  found-refused dir s h p x k e = put-refused dir (withoutFirst s p x) (lastOf h (chainOf (withoutFirst s p x .next) A h)) (s .block x) k e .0
 
-  pub take-refused : (own : Bool) (s : Anodes) (h k : ℕ) → takeBlock A ex own s h ≡ refused k → (k ≡ 27) ⊎ (k ≡ 28)
-  take-refused own s h k e = elim (take-cases A own s ex h) [
+  pub take-refused : (dir : Bool) (s : Anodes) (h k : ℕ) → takeBlock A ex dir s h ≡ refused k → (k ≡ 27) ⊎ (k ≡ 28)
+  take-refused dir s h k e = elim (take-cases A dir s ex h) [
     | inl c ↦ inl (refused-same k 27 (sym e ∙ c .1))
-    | inr (p, x, q, i) ↦ inr (found-refused own s h p x k (sym i ∙ e))
+    | inr (p, x, q, i) ↦ inr (found-refused dir s h p x k (sym i ∙ e))
   ]
 
-  pub takes-refused : (own : Bool) (i : ℕ) (s : Anodes) (h k : ℕ) → takeMany A ex own i s h ≡ refused k → (k ≡ 27) ⊎ (k ≡ 28)
+  pub takes-refused : (dir : Bool) (i : ℕ) (s : Anodes) (h k : ℕ) → takeMany A ex dir i s h ≡ refused k → (k ≡ 27) ⊎ (k ≡ 28)
   unfolding takeMany
-  takes-refused own i s h k e = let (j, r, at, q) = repeated-refused (λ s. takeBlock A ex own s h) (λ i s. Unit {0}) (λ i s t ys at q. tt) i s k tt e in take-refused own r h k q
+  takes-refused dir i s h k e = let (j, r, at, q) = repeated-refused (λ s. takeBlock A ex dir s h) (λ i s. Unit {0}) (λ i s t ys at q. tt) i s k tt e in take-refused dir r h k q
 
   -- ---- give
 
@@ -106,10 +106,10 @@ module _ (A : ℕ) (ex : ℕ → Bool) (s : Anodes) (z y : ℕ) where
   none-append : NoneFree A ex s → append A ex s z y ≡ refused 28
   none-append none = elim (append-cases A ex s z y) [ inl c ↦ absurd (none (lowestFree A ex s) (c .0) (c .1)) | inr c ↦ c .0 ]
 
-  put-28 : (own : Bool) → (put A ex own s z y ≡ refused 28) ↔ (NeedsAnode own s z y × NoneFree A ex s)
-  put-28 own = (
-    λ e. (let r = put-refused A ex own s z y 28 e in (r .1, r .2)),
-    λ n. elim (put-cases A ex own s z y) [
+  put-28 : (dir : Bool) → (put A ex dir s z y ≡ refused 28) ↔ (NeedsAnode dir s z y × NoneFree A ex s)
+  put-28 dir = (
+    λ e. (let r = put-refused A ex dir s z y 28 e in (r .1, r .2)),
+    λ n. elim (put-cases A ex dir s z y) [
       | first c ↦ absurd (n .0 .0 (c .0))
       | second c ↦ absurd (elim (n .0 .1) [ inl i ↦ true≢false (sym i ∙ c .1) | inr i ↦ i (c .2) ])
       | third c ↦ c .1 ∙ none-append (n .1)
@@ -129,13 +129,13 @@ module _ (A : ℕ) (ex : ℕ → Bool) (s : Anodes) (z y : ℕ) where
 
 module _ (A : ℕ) (ex : ℕ → Bool) (s : Anodes) (h p x : ℕ) where
   -- with a free block there, x after p the first extent that has one, a take is refused with 28 exactly if an anode is needed and none is free, the one just emptied counted
-  pub take-28-exactly : (own : Bool) → freeExtent A own s ≡ found p x →
-      (takeBlock A ex own s h ≡ refused 28)
-      ↔ (NeedsAnode own (withoutFirst s p x) (lastOf h (chainOf (withoutFirst s p x .next) A h)) (s .block x) × NoneFree A ex (withoutFirst s p x))
+  pub take-28-exactly : (dir : Bool) → freeExtent A dir s ≡ found p x →
+      (takeBlock A ex dir s h ≡ refused 28)
+      ↔ (NeedsAnode dir (withoutFirst s p x) (lastOf h (chainOf (withoutFirst s p x .next) A h)) (s .block x) × NoneFree A ex (withoutFirst s p x))
   unfolding takeFrom
-  take-28-exactly own e =
-      let b = put-28 A ex (withoutFirst s p x) (lastOf h (chainOf (withoutFirst s p x .next) A h)) (s .block x) own in
-      (λ q. b .0 (sym (take-found A own s ex h p x e) ∙ q), λ n. take-found A own s ex h p x e ∙ b .1 n)
+  take-28-exactly dir e =
+      let b = put-28 A ex (withoutFirst s p x) (lastOf h (chainOf (withoutFirst s p x .next) A h)) (s .block x) dir in
+      (λ q. b .0 (sym (take-found A dir s ex h p x e) ∙ q), λ n. take-found A dir s ex h p x e ∙ b .1 n)
 
   -- a give of the last block y of x, after p the last extent that has one, exactly if y can join the last anode of its side in no way and none is free, the one just emptied counted
   pub give-28-exactly : (last y z : ℕ) → lastFull (s .count) 0 (chainOf (s .next) A h) ≡ found p x → y ≡ lastBlock s x →
@@ -160,11 +160,11 @@ module _ {A : ℕ} {ex : ℕ → Bool} {n last : ℕ} {s : Anodes} {system hd sd
           omega (arith, p, firstFull-none (s .count) 0 (side A s (sd a)) (e (sd a) (on-side g a a0 u q)) a (omega (arith, on-own (cut-linked (g .linked)) (g .sides) a a0 u))))
 
   -- a take is refused with 27 exactly if no free block is left
-  pub take-27-exactly : (own : Bool) (h : ℕ) → (takeBlock A ex own s h ≡ refused 27) ↔ (blocks A hd (s .count) 1 ≡ 0)
-  take-27-exactly own h = elim (take-cases A own s ex h) [
-    | inl c ↦ (λ e. no-block (extent-nowhere A own s (c .0)), λ z. c .1)
+  pub take-27-exactly : (dir : Bool) (h : ℕ) → (takeBlock A ex dir s h ≡ refused 27) ↔ (blocks A hd (s .count) 1 ≡ 0)
+  take-27-exactly dir h = elim (take-cases A dir s ex h) [
+    | inl c ↦ (λ e. no-block (extent-nowhere A dir s (c .0)), λ z. c .1)
     | inr (p, x, q, i) ↦ (
-      λ e. absurd (omega (arith, found-refused A ex own s h p x 27 (sym i ∙ e))),
-      λ z. (let (m, o, f) = extent-found A own s g p x q in absurd (omega (arith, z, withoutFirst-out g m o p x f .fewer 1, oneAt-same 1 1 refl))),
+      λ e. absurd (omega (arith, found-refused A ex dir s h p x 27 (sym i ∙ e))),
+      λ z. (let (m, o, f) = extent-found A dir s g p x q in absurd (omega (arith, z, withoutFirst-out g m o p x f .fewer 1, oneAt-same 1 1 refl))),
     )
   ]

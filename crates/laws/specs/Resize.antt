@@ -74,11 +74,11 @@ module _ {A : ℕ} {ex : ℕ → Bool} {n last : ℕ} where
       ran-after w shift (steps-ran from to h system step each size Left done less k t xs r (w .hd′) (w .sd′) (w .good) (w .shift .stays h d) (less k (blocks A hd (s .count) h) (blocks A (w .hd′) (r .count) h) (w .moved h) left) f) z
 
   -- k takes that are done
-  pub grow-ran : (k h : ℕ) → h ≢ 1 → (own : Bool) (t : Anodes) (zs : List ℕ) (s : Anodes) (system hd sd : ℕ → ℕ) → Good A ex n last s system hd sd → Head (s .next) (s .block) h →
-      takeMany A ex own k s h ≡ planned t zs → Ran A ex n last s system hd 1 h h (blocks A hd (s .count) h + k) zs t
+  pub grow-ran : (k h : ℕ) → h ≢ 1 → (dir : Bool) (t : Anodes) (zs : List ℕ) (s : Anodes) (system hd sd : ℕ → ℕ) → Good A ex n last s system hd sd → Head (s .next) (s .block) h →
+      takeMany A ex dir k s h ≡ planned t zs → Ran A ex n last s system hd 1 h h (blocks A hd (s .count) h + k) zs t
   unfolding takeMany
-  grow-ran k h h1 own t zs s system hd sd g d e =
-      steps-ran 1 h h system (λ s. takeBlock A ex own s h) (λ s hd sd g d t ys q. let w = take-good g h d h1 own t ys q in (w, w .shift))
+  grow-ran k h h1 dir t zs s system hd sd g d e =
+      steps-ran 1 h h system (λ s. takeBlock A ex dir s h) (λ s hd sd g d t ys q. let w = take-good g h d h1 dir t ys q in (w, w .shift))
       (blocks A hd (s .count) h + k) (λ i b. b + i ≡ blocks A hd (s .count) h + k) (λ b l. omega arith)
       (λ i b b′ m l. omega (arith, m, l, oneAt-same h h refl, oneAt-other 1 h (λ q. h1 (sym q)))) k t zs s hd sd g d refl e
 

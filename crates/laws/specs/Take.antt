@@ -48,8 +48,8 @@ module _ {A : ℕ} {ex : ℕ → Bool} {n last : ℕ} {s : Anodes} (system : ℕ
   abbrev end : ℕ
   end = lastOf h (chainOf (s .next) A h)
 
-  end-placed : (own : Bool) (t : Anodes) (ys : List ℕ) → put A ex own s (lastOf h (chainOf (s .next) A h)) y ≡ planned t ys → Placed A ex n last s system hd h y t × (ys ≡ y ∷ [])
-  end-placed own t ys e = rw e-head at (put-placed system y g y0 yn end (last-0 g h d) (last-used g h d) (λ q. absurd (not-1 (off 1 (inl refl) q))) (λ q. absurd (not-1 (off 2 (inr refl) q))) (λ q. not-1 (ap hd q ∙ head-of-1 g)) own t ys e)
+  end-placed : (dir : Bool) (t : Anodes) (ys : List ℕ) → put A ex dir s (lastOf h (chainOf (s .next) A h)) y ≡ planned t ys → Placed A ex n last s system hd h y t × (ys ≡ y ∷ [])
+  end-placed dir t ys e = rw e-head at (put-placed system y g y0 yn end (last-0 g h d) (last-used g h d) (λ q. absurd (not-1 (off 1 (inl refl) q))) (λ q. absurd (not-1 (off 2 (inr refl) q))) (λ q. not-1 (ap hd q ∙ head-of-1 g)) dir t ys e)
     where
       e-head : hd end ≡ h
       e-head = last-head g h d
@@ -63,7 +63,7 @@ module _ {A : ℕ} {ex : ℕ → Bool} {n last : ℕ} {s : Anodes} (system : ℕ
 -- ---- the whole
 
 -- a take that is done: x after p is the first extent with a block on one of the two sides, its first block is out, and is put behind the last anode of the taker's chain
-pub record Takes (A : ℕ) (ex : ℕ → Bool) (n last : ℕ) (s : Anodes) (system hd : ℕ → ℕ) (own : Bool) (h : ℕ) (t : Anodes) (ys : List ℕ) : Type 0 where
+pub record Takes (A : ℕ) (ex : ℕ → Bool) (n last : ℕ) (s : Anodes) (system hd : ℕ → ℕ) (dir : Bool) (h : ℕ) (t : Anodes) (ys : List ℕ) : Type 0 where
   pub m : ℕ
   pub one-side : SideHead m
   pub p : ℕ
@@ -72,15 +72,15 @@ pub record Takes (A : ℕ) (ex : ℕ → Bool) (n last : ℕ) (s : Anodes) (syst
   pub some : s .block x ≢ 0
   pub inside : s .block x < n
   pub out : InHand A ex n last s system hd 1 (s .block x) (withoutFirst s p x)
-  pub puts : put A ex own (withoutFirst s p x) (lastOf h (chainOf (withoutFirst s p x .next) A h)) (s .block x) ≡ planned t ys
+  pub puts : put A ex dir (withoutFirst s p x) (lastOf h (chainOf (withoutFirst s p x .next) A h)) (s .block x) ≡ planned t ys
 
 module _ {A : ℕ} {ex : ℕ → Bool} {n last : ℕ} {s : Anodes} {system hd sd : ℕ → ℕ} (g : Good A ex n last s system hd sd) (h : ℕ) where
   -- a take that is done has made these steps
-  pub take-steps : (own : Bool) (t : Anodes) (ys : List ℕ) → takeBlock A ex own s h ≡ planned t ys → Takes A ex n last s system hd own h t ys
+  pub take-steps : (dir : Bool) (t : Anodes) (ys : List ℕ) → takeBlock A ex dir s h ≡ planned t ys → Takes A ex n last s system hd dir h t ys
   unfolding takeFrom
-  take-steps own t ys e = elim (take-cases A own s ex h) [
+  take-steps dir t ys e = elim (take-cases A dir s ex h) [
     | inl c ↦ absurd (refused≢planned 27 t ys (sym (c .1) ∙ e))
-    | inr (p, x, q, i) ↦ (let (m, o, f) = extent-found A own s g p x q in
+    | inr (p, x, q, i) ↦ (let (m, o, f) = extent-found A dir s g p x q in
         record {
           m = m;
           one-side = o;
@@ -95,13 +95,13 @@ module _ {A : ℕ} {ex : ℕ → Bool} {n last : ℕ} {s : Anodes} {system hd sd
   ]
 
   -- the block in hand has come to the chain of h
-  pub take-placed : Head (s .next) (s .block) h → h ≢ 1 → {own : Bool} {t : Anodes} {ys : List ℕ} → (k : Takes A ex n last s system hd own h t ys) →
+  pub take-placed : Head (s .next) (s .block) h → h ≢ 1 → {dir : Bool} {t : Anodes} {ys : List ℕ} → (k : Takes A ex n last s system hd dir h t ys) →
       Placed A ex n last (withoutFirst s (k .p) (k .x)) system (k .out .hd′) h (s .block (k .x)) t × (ys ≡ s .block (k .x) ∷ [])
-  take-placed d h1 {own} {t} {ys} k = end-placed system (s .block (k .x)) (k .out .good) (k .some) (k .inside) h (k .out .shift .stays h d) h1 own t ys (k .puts)
+  take-placed d h1 {dir} {t} {ys} k = end-placed system (s .block (k .x)) (k .out .good) (k .some) (k .inside) h (k .out .shift .stays h d) h1 dir t ys (k .puts)
 
   -- a take moves one block from the free list to the chain of h
-  pub take-good : Head (s .next) (s .block) h → h ≢ 1 → (own : Bool) (t : Anodes) (ys : List ℕ) → takeBlock A ex own s h ≡ planned t ys → Moved A ex n last s system hd 1 h ys t
-  take-good d h1 own t ys e =
-      let k = take-steps own t ys e in
+  pub take-good : Head (s .next) (s .block) h → h ≢ 1 → (dir : Bool) (t : Anodes) (ys : List ℕ) → takeBlock A ex dir s h ≡ planned t ys → Moved A ex n last s system hd 1 h ys t
+  take-good d h1 dir t ys e =
+      let k = take-steps dir t ys e in
       let w = take-placed d h1 k in
       moved-by (k .out) (w .0) (w .1)

@@ -49,8 +49,8 @@ module _ {ex : ℕ → Bool} {n last : ℕ} {s : Anodes} {system hd sd : ℕ →
       blocksOf-extents t h ∙ ap (gather (extent t)) chain ∙ gather-append (extent t) l (f ∷ [])
       ∙ ap (λ (k : List ℕ). k ++ (extent t f ++ [])) same ∙ ap (λ (k : List ℕ). gather (extent s) l ++ (k ++ [])) new ∙ ap (λ (k : List ℕ). k ++ (y ∷ [])) (sym (blocksOf-extents s h))
 
-  put-blocks : (own : Bool) (t : Anodes) (ys : List ℕ) → put limit ex own s (lastOf h (chainOf (s .next) limit h)) y ≡ planned t ys → blocksOf t h ≡ blocksOf s h ++ ys
-  put-blocks own t ys e = elim (put-cases limit ex own s end y) [
+  put-blocks : (dir : Bool) (t : Anodes) (ys : List ℕ) → put limit ex dir s (lastOf h (chainOf (s .next) limit h)) y ≡ planned t ys → blocksOf t h ≡ blocksOf s h ++ ys
+  put-blocks dir t ys e = elim (put-cases limit ex dir s end y) [
     | first c ↦ by (rewritten s end 1 y) (sym (c .1) ∙ e) (gained 1 y (extent-filled s end y (c .0)))
     | second c ↦ by (rewritten s end (s .count end + 1) (s .block end)) (sym (c .3) ∙ e) (gained (s .count end + 1) (s .block end) (extent-longer s end y (c .2)))
     | third c ↦ elim (append-cases limit ex s end y) [
@@ -66,20 +66,20 @@ module _ {ex : ℕ → Bool} {n last : ℕ} {s : Anodes} {system hd sd : ℕ →
 
 module _ {ex : ℕ → Bool} {n last : ℕ} {s : Anodes} {system hd sd : ℕ → ℕ} (g : Good limit ex n last s system hd sd) (h : ℕ) (d : Head (s .next) (s .block) h) (h1 : h ≢ 1) where
   -- a take puts its block behind the blocks of the taker's chain
-  pub take-blocks : (own : Bool) (t : Anodes) (ys : List ℕ) → takeBlock limit ex own s h ≡ planned t ys → blocksOf t h ≡ blocksOf s h ++ ys
-  take-blocks own t ys e =
-      let k = take-steps g h own t ys e in
-      put-blocks (k .out .good) h (k .out .shift .stays h d) (s .block (k .x)) (k .some) own t ys (k .puts) ∙ ap (λ (l : List ℕ). l ++ ys) (shift-blocks g (k .out .good) (k .out .shift) h d h1 h1)
+  pub take-blocks : (dir : Bool) (t : Anodes) (ys : List ℕ) → takeBlock limit ex dir s h ≡ planned t ys → blocksOf t h ≡ blocksOf s h ++ ys
+  take-blocks dir t ys e =
+      let k = take-steps g h dir t ys e in
+      put-blocks (k .out .good) h (k .out .shift .stays h d) (s .block (k .x)) (k .some) dir t ys (k .puts) ∙ ap (λ (l : List ℕ). l ++ ys) (shift-blocks g (k .out .good) (k .out .shift) h d h1 h1)
 
 -- k takes, one after the other, put their blocks behind those of the taker's chain in order
-pub takes-blocks : {ex : ℕ → Bool} {n last : ℕ} (k h : ℕ) → h ≢ 1 → (own : Bool) (t : Anodes) (zs : List ℕ) (s : Anodes) (system hd sd : ℕ → ℕ) → Good limit ex n last s system hd sd →
-    Head (s .next) (s .block) h → takeMany limit ex own k s h ≡ planned t zs → (blocksOf t h ≡ blocksOf s h ++ zs) × (length zs ≡ k)
+pub takes-blocks : {ex : ℕ → Bool} {n last : ℕ} (k h : ℕ) → h ≢ 1 → (dir : Bool) (t : Anodes) (zs : List ℕ) (s : Anodes) (system hd sd : ℕ → ℕ) → Good limit ex n last s system hd sd →
+    Head (s .next) (s .block) h → takeMany limit ex dir k s h ≡ planned t zs → (blocksOf t h ≡ blocksOf s h ++ zs) × (length zs ≡ k)
 unfolding takeMany
-takes-blocks zero h h1 own t zs s system hd sd g d e = let q = repeated-none (λ s. takeBlock _ _ own s h) s t zs e in rw (← (q .0), q .1) (sym (append-nil (blocksOf s h)), refl)
-takes-blocks {ex} {n} {last} (suc k) h h1 own t zs s system hd sd g d e =
-    let (r, ys, xs, q, f, z) = repeated-done (λ s. takeBlock limit ex own s h) k s t zs e in
-    let w = take-good g h d h1 own r ys q in
-    let b = takes-blocks k h h1 own t xs r system (w .hd′) (w .sd′) (w .good) (w .shift .stays h d) f in (
-      b .0 ∙ ap (λ (l : List ℕ). l ++ xs) (take-blocks g h d h1 own r ys q) ∙ append-assoc (blocksOf s h) ys xs ∙ ap (λ (l : List ℕ). blocksOf s h ++ l) (sym z),
+takes-blocks zero h h1 dir t zs s system hd sd g d e = let q = repeated-none (λ s. takeBlock _ _ dir s h) s t zs e in rw (← (q .0), q .1) (sym (append-nil (blocksOf s h)), refl)
+takes-blocks {ex} {n} {last} (suc k) h h1 dir t zs s system hd sd g d e =
+    let (r, ys, xs, q, f, z) = repeated-done (λ s. takeBlock limit ex dir s h) k s t zs e in
+    let w = take-good g h d h1 dir r ys q in
+    let b = takes-blocks k h h1 dir t xs r system (w .hd′) (w .sd′) (w .good) (w .shift .stays h d) f in (
+      b .0 ∙ ap (λ (l : List ℕ). l ++ xs) (take-blocks g h d h1 dir r ys q) ∙ append-assoc (blocksOf s h) ys xs ∙ ap (λ (l : List ℕ). blocksOf s h ++ l) (sym z),
       ap length (z ∙ ap (λ (l : List ℕ). l ++ xs) (w .handed)) ∙ ap suc (b .1),
     )

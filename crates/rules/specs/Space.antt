@@ -76,9 +76,9 @@ unfoldable pub lastFull : (ℕ → ℕ) → ℕ → List ℕ → Found
 lastFull count p [] = nowhere
 lastFull count p (a ∷ l) = firstFound (lastFull count a l) (fullAt count p a)
 
--- the first non-empty extent of the free list: data looks above last reserved first, directories (own) up to it first, then the other side
+-- the first non-empty extent of the free list: data looks above last reserved first, directories (dir) up to it first, then the other side
 unfoldable pub freeExtent : ℕ → Bool → Anodes → Found
-freeExtent A own s = firstFound (firstFull (s .count) 0 (side A s (cond own 2 1))) (firstFull (s .count) 0 (side A s (cond own 1 2)))
+freeExtent A dir s = firstFound (firstFull (s .count) 0 (side A s (cond dir 2 1))) (firstFull (s .count) 0 (side A s (cond dir 1 2)))
 
 -- the side of a block: that of anode 1 above last reserved, else that of anode 2
 unfoldable pub sideOf : ℕ → ℕ → ℕ
@@ -120,21 +120,21 @@ module _ (A : ℕ) (ex : ℕ → Bool) where
   unfoldable pub append : Anodes → ℕ → ℕ → Plan
   append s z y = cond (ltb (lowestFree s) A) (planned (insertedAfter s z (lowestFree s) 1 y) (y ∷ [])) (refused 28)
 
-  -- block y to the taker's last anode z: an empty one is filled, one grows if the block is its end, else an anode is appended; directory blocks (own) get an anode of their own
+  -- block y to the taker's last anode z: an empty one is filled, one grows if the block is its end, else an anode is appended; directory blocks (dir) get an anode of their own
   unfoldable pub put : Bool → Anodes → ℕ → ℕ → Plan
-  put own s z y = fillOr s z y (cond own (append s z y) (growOr s z y (append s z y)))
+  put dir s z y = fillOr s z y (cond dir (append s z y) (growOr s z y (append s z y)))
 
   -- the first block of x goes to the chain of h
   unfoldable pub takeFrom : Bool → Anodes → ℕ → ℕ → ℕ → Plan
-  takeFrom own s h p x = put own (withoutFirst s p x) (lastOf h (chainOf (withoutFirst s p x .next) A h)) (s .block x)
+  takeFrom dir s h p x = put dir (withoutFirst s p x) (lastOf h (chainOf (withoutFirst s p x .next) A h)) (s .block x)
 
   -- TAKE A BLOCK into h's chain: the first block of the first non-empty extent; 27 if no free block is left
   unfoldable pub takeBlock : Bool → Anodes → ℕ → Plan
-  takeBlock own s h = elim (freeExtent A own s) [ nowhere ↦ refused 27 | found p x ↦ takeFrom own s h p x ]
+  takeBlock dir s h = elim (freeExtent A dir s) [ nowhere ↦ refused 27 | found p x ↦ takeFrom dir s h p x ]
 
   -- k takes
   unfoldable pub takeMany : Bool → ℕ → Anodes → ℕ → Plan
-  takeMany own k s h = repeated (λ t. takeBlock own t h) k s
+  takeMany dir k s h = repeated (λ t. takeBlock dir t h) k s
 
   -- block y joins the last anode z of its side, unless that is anode 1: by filling an empty one, after its end, or before its start; otherwise it goes in an anode behind it
   unfoldable pub join : Anodes → ℕ → ℕ → Plan

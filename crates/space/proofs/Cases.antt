@@ -14,17 +14,17 @@ use Rattle.anodes.specs.Loaded.{anodesFrom}
 
 -- ---- the extent that a block is taken from
 
-module _ (own : Bool) (c f n : List ℕ) (m : ℕ) (near : m ≡ cond own 2 1) where
-  pub near-found : (p x : ℕ) → firstFull (λ a. getD c a 0) 0 (chainOf (cut (λ a. getD n a 0)) 3444 m) ≡ found p x → freeExtent 3444 own (anodesFrom c f n) ≡ found p x
+module _ (dir : Bool) (c f n : List ℕ) (m : ℕ) (near : m ≡ cond dir 2 1) where
+  pub near-found : (p x : ℕ) → firstFull (λ a. getD c a 0) 0 (chainOf (cut (λ a. getD n a 0)) 3444 m) ≡ found p x → freeExtent 3444 dir (anodesFrom c f n) ≡ found p x
   unfolding freeExtent firstFound side anodesFrom
   near-found p x e = rw (← near, e)
 
-  pub near-empty : (k : ℕ) → k ≡ cond (not own) 2 1 → firstFull (λ a. getD c a 0) 0 (chainOf (cut (λ a. getD n a 0)) 3444 m) ≡ nowhere →
-      freeExtent 3444 own (anodesFrom c f n) ≡ firstFull (λ a. getD c a 0) 0 (chainOf (cut (λ a. getD n a 0)) 3444 k)
+  pub near-empty : (k : ℕ) → k ≡ cond (not dir) 2 1 → firstFull (λ a. getD c a 0) 0 (chainOf (cut (λ a. getD n a 0)) 3444 m) ≡ nowhere →
+      freeExtent 3444 dir (anodesFrom c f n) ≡ firstFull (λ a. getD c a 0) 0 (chainOf (cut (λ a. getD n a 0)) 3444 k)
   unfolding freeExtent firstFound side anodesFrom
-  near-empty k far e = rw (← near, e, far, other own)
+  near-empty k far e = rw (← near, e, far, other dir)
     where
-      other : (own : Bool) → cond {A = ℕ} (not own) 2 1 ≡ cond own 1 2
+      other : (dir : Bool) → cond {A = ℕ} (not dir) 2 1 ≡ cond dir 1 2
       other true = refl
       other false = refl
 
@@ -55,20 +55,20 @@ module _ (ex : ℕ → Bool) (c f n : List ℕ) where
     unfolding append
     append-some a e h = rw (← e, lt-ltb a 3444 h)
 
-    pub put-empty : (own : Bool) → getD c z 0 ≡ 0 → put 3444 ex own s z y ≡ planned (rewritten s z 1 y) (y ∷ [])
+    pub put-empty : (dir : Bool) → getD c z 0 ≡ 0 → put 3444 ex dir s z y ≡ planned (rewritten s z 1 y) (y ∷ [])
     unfolding put fillOr anodesFrom
-    put-empty own e = rw (eq-eqb (getD c z 0) 0 e)
+    put-empty dir e = rw (eq-eqb (getD c z 0) 0 e)
 
     module _ (some : getD c z 0 ≢ 0) where
-      pub put-grown : (own : Bool) → own ≡ false → getD f z 0 + getD c z 0 ≡ y → put 3444 ex own s z y ≡ planned (rewritten s z (getD c z 0 + 1) (getD f z 0)) (y ∷ [])
+      pub put-grown : (dir : Bool) → dir ≡ false → getD f z 0 + getD c z 0 ≡ y → put 3444 ex dir s z y ≡ planned (rewritten s z (getD c z 0 + 1) (getD f z 0)) (y ∷ [])
       unfolding put fillOr growOr anodesFrom
-      put-grown own o e = rw (o, ne-eqb (getD c z 0) 0 some, eq-eqb (getD f z 0 + getD c z 0) y e)
+      put-grown dir o e = rw (o, ne-eqb (getD c z 0) 0 some, eq-eqb (getD f z 0 + getD c z 0) y e)
 
-      pub put-own : (own : Bool) → own ≡ true → put 3444 ex own s z y ≡ append 3444 ex s z y
+      pub put-own : (dir : Bool) → dir ≡ true → put 3444 ex dir s z y ≡ append 3444 ex s z y
       unfolding put fillOr growOr anodesFrom
-      put-own own o = rw (o, ne-eqb (getD c z 0) 0 some)
+      put-own dir o = rw (o, ne-eqb (getD c z 0) 0 some)
 
-      pub put-apart : (own : Bool) → getD f z 0 + getD c z 0 ≢ y → put 3444 ex own s z y ≡ append 3444 ex s z y
+      pub put-apart : (dir : Bool) → getD f z 0 + getD c z 0 ≢ y → put 3444 ex dir s z y ≡ append 3444 ex s z y
       unfolding put fillOr growOr anodesFrom
       put-apart true e = rw (ne-eqb (getD c z 0) 0 some)
       put-apart false e = rw (ne-eqb (getD c z 0) 0 some, ne-eqb (getD f z 0 + getD c z 0) y e)

@@ -69,19 +69,19 @@ used-below view c f n left z used = view .below z (λ q. used (ap (λ (t : Anode
 -- ---- the sums fit
 
 -- anode z, where block y comes to the chain of h: the tables c, f, n hold the anodes once the free list has lost it
-pub record ChainEnd (img : List ℕ) (own : Bool) (s : Anodes) (h : ℕ) (c f n : List ℕ) (y z : ℕ) : Type 0 where
+pub record ChainEnd (img : List ℕ) (dir : Bool) (s : Anodes) (h : ℕ) (c f n : List ℕ) (y z : ℕ) : Type 0 where
   pub below : z < 3444
   pub used : getD f z 0 ≢ 0
-  pub put-there : put 3444 (exists img) own (anodesFrom c f n) z y ≡ takeBlock 3444 (exists img) own s h
+  pub put-there : put 3444 (exists img) dir (anodesFrom c f n) z y ≡ takeBlock 3444 (exists img) dir s h
 
 module _ (img : List ℕ) (s : Anodes) (good : GoodAnodes img s) where
   pub full-fits : wrongSize img ≡ false → (x : ℕ) → 0 < s .count x → s .block x + s .count x ≤ 65535
   full-fits size x f = let g = good .2 in omega (arith, size-bounds img size .1, g .own .fits x (g .linked .view .below x (full-used g x f)) f)
 
   -- the extent that a take finds
-  module _ (own : Bool) (p x : ℕ) (e : freeExtent 3444 own s ≡ found p x) where
+  module _ (dir : Bool) (p x : ℕ) (e : freeExtent 3444 dir s ≡ found p x) where
     pub side-found : (m : ℕ) × ((m ≡ 1) ⊎ (m ≡ 2)) × FoundIn (s .count) (cut (s .next)) m (side 3444 s m) 0 p x
-    side-found = extent-found 3444 own s (good .2) p x e
+    side-found = extent-found 3444 dir s (good .2) p x e
 
     -- once its first block is out, in other tables, the end z of the taker's chain
     module _ (h : ℕ) (d : Head (s .next) (s .block) h) (h1 : h ≢ 1) (c f n : List ℕ) (left : anodesFrom c f n ≡ withoutFirst s p x)
@@ -93,11 +93,11 @@ module _ (img : List ℕ) (s : Anodes) (good : GoodAnodes img s) where
       unfolding anodesFrom
       is-end = end ∙ ap (λ (t : Anodes). lastOf h (chainOf (cut (t .next)) 3444 h)) left
 
-      taken-from : (y : ℕ) → y ≡ s .block x → put 3444 (exists img) own (anodesFrom c f n) z y ≡ takeBlock 3444 (exists img) own s h
+      taken-from : (y : ℕ) → y ≡ s .block x → put 3444 (exists img) dir (anodesFrom c f n) z y ≡ takeBlock 3444 (exists img) dir s h
       unfolding takeFrom
-      taken-from y b = rw (b, is-end, left, last-before-two (out .good) h (out .shift .stays h d) h1) (sym (take-found 3444 own s (exists img) h p x e))
+      taken-from y b = rw (b, is-end, left, last-before-two (out .good) h (out .shift .stays h d) h1) (sym (take-found 3444 dir s (exists img) h p x e))
 
-      pub chain-end : (y : ℕ) → y ≡ s .block x → ChainEnd img own s h c f n y z
+      pub chain-end : (y : ℕ) → y ≡ s .block x → ChainEnd img dir s h c f n y z
       unfolding anodesFrom
       chain-end y b =
           let used : getD f z 0 ≢ 0 = λ q. end-used (out .good) h (out .shift .stays h d) h1 (rw (← is-end) (sym (ap (λ (t : Anodes). t .block z) left) ∙ q)) in

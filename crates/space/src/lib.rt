@@ -95,25 +95,25 @@ fn first_full(counts: &[u16], nexts: &[u16], from: usize) -> Extent
     Extent::Nowhere
 }
 
-// The anode that starts the side of the free list where directories (`own`) or data look first.
-fn near_side(own: bool) -> usize
-    ensures { λ r. ⌜ r ≡ cond own 2 1 ⌝ }
+// The anode that starts the side of the free list where directories (`dir`) or data look first.
+fn near_side(dir: bool) -> usize
+    ensures { λ r. ⌜ r ≡ cond dir 2 1 ⌝ }
 {
-    if own {
+    if dir {
         return 2;
     }
     1
 }
 
 // The extent that a block is taken from: the first on the near side of the free list, else on the other.
-fn free_extent(own: bool, counts: &[u16], nexts: &[u16]) -> Extent
-    ensures { λ r. ⌜ ((f : List ℕ) → foundOf r ≡ freeExtent 3444 own (anodesFrom (now (counts .entry)) f (now (nexts .entry)))) ⌝ }
+fn free_extent(dir: bool, counts: &[u16], nexts: &[u16]) -> Extent
+    ensures { λ r. ⌜ ((f : List ℕ) → foundOf r ≡ freeExtent 3444 dir (anodesFrom (now (counts .entry)) f (now (nexts .entry)))) ⌝ }
 {
-    let found = first_full(counts, nexts, near_side(own));
+    let found = first_full(counts, nexts, near_side(dir));
     if let Extent::At(_, _) = found {
         return found;
     }
-    first_full(counts, nexts, near_side(!own))
+    first_full(counts, nexts, near_side(!dir))
 }
 
 // The last anode with a block on the chain from `from`.
@@ -214,10 +214,10 @@ fn append(
     Step::Moved(y)
 }
 
-// Puts block `y` behind the blocks of a chain whose last anode is `z`; `own`: into an anode of its own.
+// Puts block `y` behind the blocks of a chain whose last anode is `z`; `dir`: into an anode of its own.
 fn put(
     image: &[u8],
-    own: bool,
+    dir: bool,
     z: usize,
     y: BlockNo,
     counts: &mut [u16],
@@ -225,7 +225,7 @@ fn put(
     nexts: &mut [u16],
 ) -> Step
     requires { ⌜ (z < 3444) × AnodeTables (now counts) (now firsts) (now nexts) × (getD (now firsts) z 0 ≢ 0) ⌝ }
-    ensures { λ r. ⌜ stepPlan r (anodesFrom (now (counts .exit)) (now (firsts .exit)) (now (nexts .exit))) ≡ put 3444 (exists (now (image .entry))) own (anodesFrom (now (counts .entry)) (now (firsts .entry)) (now (nexts .entry))) z (y .0) ⌝ }
+    ensures { λ r. ⌜ stepPlan r (anodesFrom (now (counts .exit)) (now (firsts .exit)) (now (nexts .exit))) ≡ put 3444 (exists (now (image .entry))) dir (anodesFrom (now (counts .entry)) (now (firsts .entry)) (now (nexts .entry))) z (y .0) ⌝ }
 {
     let count = entry(counts, z);
     if count == 0 {
@@ -234,7 +234,7 @@ fn put(
     }
     let first = entry(firsts, z);
     let end = first as u32 + count as u32;
-    if !own && end == y.0 as u32 {
+    if !dir && end == y.0 as u32 {
         rewrite(counts, firsts, z, count + 1, BlockNo(first));
         return Step::Moved(y);
     }
@@ -266,10 +266,10 @@ fn without_block(
     unlink(counts, firsts, nexts, p, x);
 }
 
-// Takes a block for the chain of `head`: data looks above last reserved first, directories (`own`) up to it first. A directory block gets an anode of its own.
+// Takes a block for the chain of `head`: data looks above last reserved first, directories (`dir`) up to it first. A directory block gets an anode of its own.
 pub fn take_block(
     image: &[u8],
-    own: bool,
+    dir: bool,
     head: AnodeNo,
     counts: &mut [u16],
     firsts: &mut [u16],
@@ -277,16 +277,16 @@ pub fn take_block(
 ) -> Step
     requires { ⌜ AnodeTables (now counts) (now firsts) (now nexts) ⌝ }
     requires { ⌜ Ready (now image) (anodesFrom (now counts) (now firsts) (now nexts)) (head .0) ⌝ }
-    ensures { λ r. ⌜ stepPlan r (anodesFrom (now (counts .exit)) (now (firsts .exit)) (now (nexts .exit))) ≡ takeBlock 3444 (exists (now (image .entry))) own (anodesFrom (now (counts .entry)) (now (firsts .entry)) (now (nexts .entry))) (head .0) ⌝ }
+    ensures { λ r. ⌜ stepPlan r (anodesFrom (now (counts .exit)) (now (firsts .exit)) (now (nexts .exit))) ≡ takeBlock 3444 (exists (now (image .entry))) dir (anodesFrom (now (counts .entry)) (now (firsts .entry)) (now (nexts .entry))) (head .0) ⌝ }
 {
-    let found = free_extent(own, counts, nexts);
+    let found = free_extent(dir, counts, nexts);
     let Extent::At(p, x) = found else {
         return Step::Refused(Refusal::NoFreeBlock);
     };
     let y = BlockNo(entry(firsts, x));
     without_block(counts, firsts, nexts, 2, p, x, BlockNo(y.0 + 1));
     let z = last_anode(nexts, head.0 as usize);
-    put(image, own, z, y, counts, firsts, nexts)
+    put(image, dir, z, y, counts, firsts, nexts)
 }
 
 // The anode where the side of block `y` starts: 1 above last reserved, else 2.

@@ -26,7 +26,7 @@ abbrev held : tie.Start → Anodes
 held s = anodesFrom (s .args .counts .now) (s .args .firsts .now) (s .args .nexts .now)
 
 -- the extent that was found
-extent : (c : tie.After-found) → freeExtent 3444 (start c .args .own) (held (start c)) ≡ found (c .found .given .0 .0) (c .found .given .0 .1 .0)
+extent : (c : tie.After-found) → freeExtent 3444 (start c .args .dir) (held (start c)) ≡ found (c .found .given .0 .0) (c .found .given .0 .1 .0)
 extent c = sym (c .before .before .free-extent .ensures (start c .args .firsts .now)) ∙ ap foundOf (c .found .given .1)
 
 -- where its anode is, and the one before it
@@ -39,7 +39,7 @@ extent-at c =
 
 -- the end of the chain, in the tables once the extent's first block is out
 ended : (c : tie.After-last-anode) → let s = start (at-found c) in let w = c .before .before .before .before .before .before .before .before .before .without-block in
-    ChainEnd (s .args .image .now) (s .args .own) (held s) (s .args .head .0) (w .last .0) (w .last .1 .0) (w .last .1 .1 .0) (c .before .before .before .before .before .before .before .before .before .before .before .before .before .before .entry .result) (c .last-anode .result)
+    ChainEnd (s .args .image .now) (s .args .dir) (held s) (s .args .head .0) (w .last .0) (w .last .1 .0) (w .last .1 .1 .0) (c .before .before .before .before .before .before .before .before .before .before .before .before .before .before .entry .result) (c .last-anode .result)
 unfolding anodesFrom
 ended c =
     let f = at-found c in
@@ -66,8 +66,8 @@ same-length-2 c = search needs
 returns : tie.Need-returns
 returns c =
     let s = c .before .before .before .before .before .before .before .before .before in
-    let e : freeExtent 3444 (s .args .own) (held s) ≡ nowhere = sym (c .before .before .free-extent .ensures (s .args .firsts .now)) ∙ ap foundOf (c .enum-told .given .1) in
-    sym (take-nowhere 3444 (s .args .own) (held s) _ _ e)
+    let e : freeExtent 3444 (s .args .dir) (held s) ≡ nowhere = sym (c .before .before .free-extent .ensures (s .args .firsts .now)) ∙ ap foundOf (c .enum-told .given .1) in
+    sym (take-nowhere 3444 (s .args .dir) (held s) _ _ e)
 
 entry-requires : tie.Need-entry-requires
 entry-requires c κs = search needs
