@@ -8,7 +8,7 @@ use native.Mathlib.Omega.{arith}
 use lib.ListN.{getD}
 use lib.Dec.{eqb}
 use Rattle.rules.specs.Anodes.{Anodes, limit}
-use Rattle.rules.specs.Chains.{heads}
+use Rattle.rules.specs.Chains.{oneIfHead}
 use Rattle.rules.specs.Accepted.{wrongFixed}
 use Rattle.rules.specs.Tables.{chainHead, anodeEntry, anodeTable}
 use Rattle.laws.specs.Tests.{same?}
@@ -50,13 +50,13 @@ module _ (s : Anodes) (k : Linked limit (s .next) (s .block)) (t rest : List ℕ
       some : a ≢ 0
       some z = omega arith
 
-      own : heads limit (s .next) (s .block) a ≡ 1 → getD t a 0 ≡ a
+      own : oneIfHead limit (s .next) (s .block) a ≡ 1 → getD t a 0 ≡ a
       own e = elim (heads-cases k a) [
         | inl d ↦ entry-head a l ∙ headOf-heads k .at-head a (d .0)
         | inr d ↦ absurd (omega (arith, d .1))
       ]
 
-      is-head : (s .block a ≡ 0) ⊎ (s .block a ≢ 0) → getD t a 0 ≡ a → heads limit (s .next) (s .block) a ≡ 1
+      is-head : (s .block a ≡ 0) ⊎ (s .block a ≢ 0) → getD t a 0 ≡ a → oneIfHead limit (s .next) (s .block) a ≡ 1
       is-head (inl z) e = absurd (some (sym e ∙ entry-head a l ∙ headOf-heads k .off a z))
       is-head (inr u) e = elim (heads-cases k a) [
         | inl d ↦ d .1

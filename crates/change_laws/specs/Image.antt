@@ -11,7 +11,7 @@ use Rattle.disk.specs.Root.{slotOf}
 use Rattle.disk.specs.AnodeBlocks.{anodeHeadIn}
 use Rattle.rules.specs.Counting.{oneAt, sumList, occurrences}
 use Rattle.rules.specs.Anodes.{Anodes, limit, exists, anodesOf, withAnodes}
-use Rattle.rules.specs.Chains.{heads, headOf, cut, systemOwns}
+use Rattle.rules.specs.Chains.{oneIfHead, headOf, cut, systemOwns}
 use Rattle.rules.specs.Walk.{Dir, Entered, root, entriesIn, isBlockOf, itemsBy, itemsOf, Walk, fault, done, walkOf, faultIn, dirsIn, reached, reachedDirs, naming}
 use Rattle.rules.specs.Accepted.{diskSize, lastReserved, wrongSlots, unnamed, unnamedChain, checkAnswer}
 use Rattle.rules.specs.Lookup.{noDirectory}
@@ -192,8 +192,8 @@ module _ {img j : List ℕ} (a : AcceptedImage img) {t : Anodes} (d : DiskWith i
   none-unnamed : (x : ℕ) → x < limit → unnamedChain j (anodesOf j) x ≡ false
   unfolding unnamedChain unnamed
   none-unnamed x l =
-      none-and (leb 6 x) (eqb (heads limit (anodesOf j .next) (anodesOf j .block) x) 1 && eqb (naming j (anodesOf j) x) 0) (λ p.
-      none-and (eqb (heads limit (anodesOf j .next) (anodesOf j .block) x) 1) (eqb (naming j (anodesOf j) x) 0) (λ q.
+      none-and (leb 6 x) (eqb (oneIfHead limit (anodesOf j .next) (anodesOf j .block) x) 1 && eqb (naming j (anodesOf j) x) 0) (λ p.
+      none-and (eqb (oneIfHead limit (anodesOf j .next) (anodesOf j .block) x) 1) (eqb (naming j (anodesOf j) x) 0) (λ q.
       ne-eqb (naming j (anodesOf j) x) 0 (λ z. omega (
         arith,
         z,

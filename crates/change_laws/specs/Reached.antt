@@ -11,7 +11,7 @@ use Rattle.disk.specs.Blocks.{blockOf}
 use Rattle.disk.proofs.Laws.{length-blockOf}
 use Rattle.rules.specs.Counting.{oneAt, sumList, occurrences, gather}
 use Rattle.rules.specs.Anodes.{Anodes, limit, anodesOf}
-use Rattle.rules.specs.Chains.{chainOf, heads, run, blocksOf, blockCount}
+use Rattle.rules.specs.Chains.{chainOf, oneIfHead, run, blocksOf, blockCount}
 use Rattle.rules.specs.Walk.{Dir, dirMade, root, Entered, Item, entriesIn, isBlockOf, blocksFor, itemOf, broken, itemsAt, itemsBy, itemsOf, subDirs, walkOf, reachedDirs}
 use Rattle.rules.specs.Lookup.{noDirectory, entriesOf, isNamed, firstNamed, entryNamed, nth}
 use Rattle.laws.specs.Tests.{T-true}
@@ -86,7 +86,7 @@ module _ {ex : ℕ → Bool} {n last : ℕ} {s : Anodes} {system hd sd : ℕ →
 
       -- an entry of its block has nothing wrong
       module _ (e : Entered) (in-block : Member e (entries (s .block a))) where
-        fine : (e .broken ≡ false) × (6 ≤ e .anode) × (heads limit (s .next) (s .block) (e .anode) ≡ 1) × ((e .dir ≡ true) ⊎ (blockCount s (e .anode) ≡ blocksFor (e .size)))
+        fine : (e .broken ≡ false) × (6 ≤ e .anode) × (oneIfHead limit (s .next) (s .block) (e .anode) ≡ 1) × ((e .dir ≡ true) ⊎ (blockCount s (e .anode) ≡ blocksFor (e .size)))
         fine = item-fine s e (omega (
           arith,
           member-sum (λ x. wrong (itemOf s x)) e (entries (s .block a)) in-block,

@@ -10,7 +10,7 @@ use lib.ListN.{length}
 use borrow.Author.Tests.{eqb-false, not-true, ne-eqb}
 use Rattle.rules.specs.Counting.{oneAt, sumList, occurrences}
 use Rattle.rules.specs.Anodes.{Anodes, limit}
-use Rattle.rules.specs.Chains.{chainOf, followed, preds, heads, blockCount, cut, side}
+use Rattle.rules.specs.Chains.{chainOf, followed, preds, oneIfHead, blockCount, cut, side}
 use Rattle.counting.specs.Laws.{none-and}
 use Rattle.laws.specs.Sums.{oneAt-same, oneAt-other, sum-member}
 use Rattle.laws.specs.Bags.{occurrences-nil, occurrences-cons}
@@ -153,8 +153,8 @@ module _ {s : Anodes} {n last k : ℕ} (m : Laid s n last k) where
   -- ---- heads, and the free blocks
 
   -- no chain starts from 6 up: what is in use there has a predecessor
-  pub no-head : (x : ℕ) → 6 ≤ x → heads limit (s .next) (s .block) x ≡ 0
-  unfolding heads preds
+  pub no-head : (x : ℕ) → 6 ≤ x → oneIfHead limit (s .next) (s .block) x ≡ 0
+  unfolding oneIfHead preds
   no-head x h = ap (λ (t : Bool). cond {A = ℕ} t 1 0) (none-and (not (eqb x 0)) _ (λ e. none-and (not (eqb (s .block x) 0)) _ (λ u.
       ne-eqb (preds limit (s .next) x) 0 (go x (m .which x) (m .linking) h (eqb-false (s .block x) 0 (not-true _ u))))))
     where

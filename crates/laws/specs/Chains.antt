@@ -8,7 +8,7 @@ use native.Mathlib.Numerals.{add-one}
 use lib.ListN.{length, getD}
 use Rattle.rules.specs.Counting.{occurrences, gather}
 use Rattle.rules.specs.Anodes.{Anodes, limit}
-use Rattle.rules.specs.Chains.{chainOf, heads, run}
+use Rattle.rules.specs.Chains.{chainOf, oneIfHead, run}
 
 module _ (next : ℕ → ℕ) where
   pub chain-none : (k a : ℕ) → k ≡ 0 → chainOf next k a ≡ []
@@ -58,7 +58,7 @@ run-end b (suc c) = let e : b + suc c ≡ suc b + c = omega arith in rw e (ap (�
 abbrev pub HeadTable : List ℕ → Anodes → Type 0
 HeadTable t s =
     (a : ℕ) → 6 ≤ a → a < limit
-    → (getD t a 0 ≡ a → heads limit (s .next) (s .block) a ≡ 1) × (heads limit (s .next) (s .block) a ≡ 1 → getD t a 0 ≡ a)
+    → (getD t a 0 ≡ a → oneIfHead limit (s .next) (s .block) a ≡ 1) × (oneIfHead limit (s .next) (s .block) a ≡ 1 → getD t a 0 ≡ a)
 
 -- the image has each of these blocks whole
 abbrev pub Inside : List ℕ → List ℕ → Type 0

@@ -8,7 +8,7 @@ use native.Mathlib.Omega.{arith}
 use lib.Dec.{eqb, leb}
 use Rattle.rules.specs.Counting.{_if_else_, firstOf, occurrences, anyBelow}
 use Rattle.rules.specs.Anodes.{Anodes, limit}
-use Rattle.rules.specs.Chains.{chainOf, heads, blockCount}
+use Rattle.rules.specs.Chains.{chainOf, oneIfHead, blockCount}
 use Rattle.rules.specs.Walk.{Dir, Entered, Item, Scanned, faulty, fine, Walk, fault, done, walk, walkOf, visited, faultIn, scan, faultOf, subDirs, itemOf, itemsAt, itemsBy, itemsOf, broken, wrongAnode, wrongFileSize, blocksFor, entriesIn, isBlockOf, root}
 use Rattle.rules.specs.Accepted.{diskSize, lastReserved, wrongFixed, outOfRange, wrongLinks, wrongFreeList, twoOwners, noOwner, unnamedChain, treeFault, damageIn}
 use Rattle.laws.specs.Each.{Each, each-gather}
@@ -38,7 +38,7 @@ Told i = NoneOr 12 15 (i .early) × NoneOr 12 15 (i .late)
 told-entry : (s : Anodes) (e : Entered) → Told (itemOf s e)
 unfolding itemOf wrongAnode wrongFileSize
 told-entry s e = (
-  either-number (e .broken) 12 15 12 _ (inr (omega arith, omega arith)) (either-number (leb 6 (e .anode) && eqb (heads limit (s .next) (s .block) (e .anode)) 1) 12 15 0 13 (inl refl) (inr (omega arith, omega arith))),
+  either-number (e .broken) 12 15 12 _ (inr (omega arith, omega arith)) (either-number (leb 6 (e .anode) && eqb (oneIfHead limit (s .next) (s .block) (e .anode)) 1) 12 15 0 13 (inl refl) (inr (omega arith, omega arith))),
   either-number (e .dir) 12 15 0 _ (inl refl) (either-number (eqb (blockCount s (e .anode)) (blocksFor (e .size))) 12 15 0 15 (inl refl) (inr (omega arith, omega arith))),
 )
 

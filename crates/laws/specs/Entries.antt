@@ -16,7 +16,7 @@ use Rattle.directory.specs.declared.Walked.the-variants.{Found, End, Fault}
 use Rattle.directory.specs.Entries.{isDir, walkedAt}
 use Rattle.rules.specs.Counting.{sumList, occurrences, anyIn}
 use Rattle.rules.specs.Anodes.{limit, Anodes}
-use Rattle.rules.specs.Chains.{chainOf, heads, blockCount}
+use Rattle.rules.specs.Chains.{chainOf, oneIfHead, blockCount}
 use Rattle.rules.specs.Walk.{Dir, Entered, entriesFrom, Item, blocksFor, wrongAnode, wrongFileSize, itemOf, broken, itemsFor, itemsAt, itemsBy, entriesIn}
 use Rattle.laws.specs.Tests.{cond-cases, T-true, both, tested-from}
 use Rattle.laws.specs.Bags.{list-one, list-mono, list-congr, list-congr-where, list-zero, gather-sum, map-sum, none-at, kept-sum-where}
@@ -83,13 +83,13 @@ sized-still s t e c (inl q) = inl q
 sized-still s t e c (inr q) = inr (c ∙ q)
 
 module _ (s : Anodes) where
-  right-anode : (a : ℕ) → wrongAnode s a ≡ 0 → (6 ≤ a) × (heads limit (s .next) (s .block) a ≡ 1)
+  right-anode : (a : ℕ) → wrongAnode s a ≡ 0 → (6 ≤ a) × (oneIfHead limit (s .next) (s .block) a ≡ 1)
   unfolding wrongAnode
-  right-anode a z = elim (tested-from 6 a (heads limit (s .next) (s .block) a) 13) [ inl q ↦ (q .0, q .1) | inr q ↦ absurd (omega (arith, z, q .1)) ]
+  right-anode a z = elim (tested-from 6 a (oneIfHead limit (s .next) (s .block) a) 13) [ inl q ↦ (q .0, q .1) | inr q ↦ absurd (omega (arith, z, q .1)) ]
 
-  anode-right : (a : ℕ) → 6 ≤ a → heads limit (s .next) (s .block) a ≡ 1 → wrongAnode s a ≡ 0
+  anode-right : (a : ℕ) → 6 ≤ a → oneIfHead limit (s .next) (s .block) a ≡ 1 → wrongAnode s a ≡ 0
   unfolding wrongAnode
-  anode-right a l e = elim (tested-from 6 a (heads limit (s .next) (s .block) a) 13) [ inl q ↦ q .2 | inr q ↦ absurd (q .0 l e) ]
+  anode-right a l e = elim (tested-from 6 a (oneIfHead limit (s .next) (s .block) a) 13) [ inl q ↦ q .2 | inr q ↦ absurd (q .0 l e) ]
 
   right-size : (e : Entered) → wrongFileSize s e ≡ 0 → Sized s e
   unfolding wrongFileSize
@@ -113,7 +113,7 @@ module _ (s : Anodes) where
 
   -- what it is for an entry to have nothing wrong: it keeps the entry rules, names a head from 6 up, and a file has the blocks of its size
   pub item-fine : (e : Entered) → wrong (itemOf s e) ≡ 0 →
-      (e .broken ≡ false) × (6 ≤ e .anode) × (heads limit (s .next) (s .block) (e .anode) ≡ 1) × Sized s e
+      (e .broken ≡ false) × (6 ≤ e .anode) × (oneIfHead limit (s .next) (s .block) (e .anode) ≡ 1) × Sized s e
   unfolding wrong itemOf
   item-fine e z =
       let whole = unbroken (e .broken) (wrongAnode s (e .anode)) (omega arith) in
@@ -124,7 +124,7 @@ module _ (s : Anodes) where
       unbroken true n y = absurd (omega arith)
       unbroken false n y = (refl, y)
 
-  pub fine-item : (e : Entered) → e .broken ≡ false → 6 ≤ e .anode → heads limit (s .next) (s .block) (e .anode) ≡ 1 → Sized s e → wrong (itemOf s e) ≡ 0
+  pub fine-item : (e : Entered) → e .broken ≡ false → 6 ≤ e .anode → oneIfHead limit (s .next) (s .block) (e .anode) ≡ 1 → Sized s e → wrong (itemOf s e) ≡ 0
   unfolding wrong itemOf
   fine-item e b l h z = omega (arith, ap (λ (q : Bool). cond q 12 (wrongAnode s (e .anode))) b, anode-right (e .anode) l h, size-right e z)
 

@@ -7,7 +7,7 @@ use mathlib.Core.List.{List, [], _∷_}
 use native.Mathlib.Omega.{arith}
 use lib.Dec.{eqb, eqb→eq, T-not, not-T}
 use Rattle.rules.specs.Counting.{oneAt, sumBelow, sumList, occurrences}
-use Rattle.rules.specs.Chains.{chainOf, preds, heads, headOf}
+use Rattle.rules.specs.Chains.{chainOf, preds, oneIfHead, headOf}
 use Rattle.laws.specs.Tests.{same?, less?, cond-cases, eq→eqb, both, and}
 use Rattle.laws.specs.Sums.{oneAt-cases, oneAt-same, oneAt-some, oneAt-other, sum-congr, sum-zero, sum-member, sum-some, sum-single}
 use Rattle.laws.specs.Bags.{occurrences-nil, occurrences-cons, sum-by-occurrences}
@@ -87,8 +87,8 @@ module _ {A : ℕ} {next block : ℕ → ℕ} (k : Linked A next block) where
   occurrences-head h (b ∷ l) c a d =
       omega (arith, occurrences-cons a b l, occurrences-head (next b) l (c .2) a d, oneAt-other (next b) a (d .no-pred b), ap (λ (x : ℕ). oneAt x a) (c .0))
 
-  pub heads-cases : (h : ℕ) → (Head next block h × (heads A next block h ≡ 1)) ⊎ ((Head next block h → ⊥) × (heads A next block h ≡ 0))
-  unfolding heads
+  pub heads-cases : (h : ℕ) → (Head next block h × (oneIfHead A next block h ≡ 1)) ⊎ ((Head next block h → ⊥) × (oneIfHead A next block h ≡ 0))
+  unfolding oneIfHead
   heads-cases h = elim (cond-cases {A = ℕ} (not (eqb h 0) && (not (eqb (block h) 0) && eqb (preds A next h) 0)) 1 0) [
     | inl e ↦ (let s = both (not (eqb h 0)) (not (eqb (block h) 0) && eqb (preds A next h) 0) (e .0) in
         let t = both (not (eqb (block h) 0)) (eqb (preds A next h) 0) (s .1) in
@@ -125,7 +125,7 @@ module _ {A : ℕ} {next block : ℕ → ℕ} (k : Linked A next block) where
       | inr s ↦ none 0 h (s .1)
     ]);
     along = λ a n. sum-congr (term (next a)) (term a) A (λ h l. elim (heads-cases h) [
-      | inl s ↦ ap (λ (c : ℕ). heads A next block h * (c * h)) (occurrences-next h (chainOf next A h) (head-chain h (s .0)) a n
+      | inl s ↦ ap (λ (c : ℕ). oneIfHead A next block h * (c * h)) (occurrences-next h (chainOf next A h) (head-chain h (s .0)) a n
           ∙ rw (oneAt-other h (next a) (λ e. s .0 .no-pred a (sym e))) (omega arith))
       | inr s ↦ none (next a) h (s .1) ∙ sym (none a h (s .1))
     ]);
@@ -136,12 +136,12 @@ module _ {A : ℕ} {next block : ℕ → ℕ} (k : Linked A next block) where
   }
     where
       term : ℕ → ℕ → ℕ
-      term a h = heads A next block h * (occurrences a (chainOf next A h) * h)
+      term a h = oneIfHead A next block h * (occurrences a (chainOf next A h) * h)
 
       vanish : (a h : ℕ) → occurrences a (chainOf next A h) ≡ 0 → term a h ≡ 0
       vanish a h e = rw e (omega arith)
 
-      none : (a h : ℕ) → heads A next block h ≡ 0 → term a h ≡ 0
+      none : (a h : ℕ) → oneIfHead A next block h ≡ 0 → term a h ≡ 0
       none a h e = rw e (omega arith)
 
       own : (a : ℕ) → Head next block a → term a a ≡ a

@@ -9,7 +9,7 @@ use lib.Dec.{eqb, leb}
 use borrow.Author.Tests.{le-leb, eq-eqb, eqb-false}
 use Rattle.rules.specs.Counting.{oneAt, occurrences, sumList, gather}
 use Rattle.rules.specs.Anodes.{Anodes, limit, exists, anodesOf}
-use Rattle.rules.specs.Chains.{chainOf, followed, heads, headOf, systemOwns, cut}
+use Rattle.rules.specs.Chains.{chainOf, followed, oneIfHead, headOf, systemOwns, cut}
 use Rattle.rules.specs.Walk.{Dir, Item, Walk, fault, done, entriesIn, isBlockOf, walkOf, faultIn, dirsIn, itemsOf, reached, reachedDirs, naming, root}
 use Rattle.rules.specs.Accepted.{diskSize, lastReserved, ownersOf, unnamed, unnamedChain, checkAnswer}
 use Rattle.counting.specs.Laws.{and-none, anyBelow-each}
@@ -29,13 +29,13 @@ pub record OneOwner (img : List ℕ) : Type 0 where
   pub one-owner : (x : ℕ) → x < diskSize img → ownersOf img (anodesOf img) x ≡ 1
   pub ends : (a : ℕ) → anodesOf img .block a ≢ 0 → followed (anodesOf img .next) limit a ≡ 0
   -- from 6 up a head is named by exactly one reached entry; below, it is the head of a chain of the system's
-  pub named-once : (h : ℕ) → heads limit (anodesOf img .next) (anodesOf img .block) h ≡ 1 → 6 ≤ h → naming img (anodesOf img) h ≡ 1
-  pub systems : (h : ℕ) → heads limit (anodesOf img .next) (anodesOf img .block) h ≡ 1 → h < 6 → FixedHead h
+  pub named-once : (h : ℕ) → oneIfHead limit (anodesOf img .next) (anodesOf img .block) h ≡ 1 → 6 ≤ h → naming img (anodesOf img) h ≡ 1
+  pub systems : (h : ℕ) → oneIfHead limit (anodesOf img .next) (anodesOf img .block) h ≡ 1 → h < 6 → FixedHead h
   -- a reached entry names a head from 6 up, so the system's chains are named by no entry, and no entry names the middle of a chain
-  pub names-heads : (x : ℕ) → naming img (anodesOf img) x ≢ 0 → (6 ≤ x) × (heads limit (anodesOf img .next) (anodesOf img .block) x ≡ 1)
+  pub names-heads : (x : ℕ) → naming img (anodesOf img) x ≢ 0 → (6 ≤ x) × (oneIfHead limit (anodesOf img .next) (anodesOf img .block) x ≡ 1)
   -- an anode in use, not 0, is on the chain of one head, once, and on no other head's
-  pub has-head : (a : ℕ) → a ≢ 0 → anodesOf img .block a ≢ 0 → heads limit (anodesOf img .next) (anodesOf img .block) (headOf limit (anodesOf img .next) (anodesOf img .block) a) ≡ 1
-  pub on-one-chain : (a h : ℕ) → heads limit (anodesOf img .next) (anodesOf img .block) h ≡ 1 →
+  pub has-head : (a : ℕ) → a ≢ 0 → anodesOf img .block a ≢ 0 → oneIfHead limit (anodesOf img .next) (anodesOf img .block) (headOf limit (anodesOf img .next) (anodesOf img .block) a) ≡ 1
+  pub on-one-chain : (a h : ℕ) → oneIfHead limit (anodesOf img .next) (anodesOf img .block) h ≡ 1 →
       occurrences a (chainOf (anodesOf img .next) limit h) ≡ oneAt (headOf limit (anodesOf img .next) (anodesOf img .block) a) h
 
 -- the anodes that the items of some directories name
@@ -64,16 +64,16 @@ module _ (img : List ℕ) (blocks anodes : ℕ) (p : Passed img blocks anodes) w
   unfolding naming reached reachedDirs
   once x = walk-done (walkOf img s) refl (p .walked) x
 
-  named : (h : ℕ) → heads limit (s .next) (s .block) h ≡ 1 → 6 ≤ h → naming img s h ≢ 0
+  named : (h : ℕ) → oneIfHead limit (s .next) (s .block) h ≡ 1 → 6 ≤ h → naming img s h ≢ 0
   unfolding unnamedChain unnamed
   named h e l =
       let u = counts-head good h e .in-use in
-      eqb-false (naming img s h) 0 (and-none (eqb (heads limit (s .next) (s .block) h) 1) (unnamed img s h)
-      (and-none (leb 6 h) (eqb (heads limit (s .next) (s .block) h) 1 && unnamed img s h) (anyBelow-each (unnamedChain img s) h limit (reading-of img .view .below h u) (p .all-named)) (le-leb 6 h l))
-      (eq-eqb (heads limit (s .next) (s .block) h) 1 e))
+      eqb-false (naming img s h) 0 (and-none (eqb (oneIfHead limit (s .next) (s .block) h) 1) (unnamed img s h)
+      (and-none (leb 6 h) (eqb (oneIfHead limit (s .next) (s .block) h) 1 && unnamed img s h) (anyBelow-each (unnamedChain img s) h limit (reading-of img .view .below h u) (p .all-named)) (le-leb 6 h l))
+      (eq-eqb (oneIfHead limit (s .next) (s .block) h) 1 e))
 
   -- what is named in the walked directories is a head from 6 up
-  walk-names : (w : Walk) → walkOf img s ≡ w → faultIn w ≡ 0 → (x : ℕ) → (6 ≤ x → heads limit (s .next) (s .block) x ≡ 1 → ⊥) →
+  walk-names : (w : Walk) → walkOf img s ≡ w → faultIn w ≡ 0 → (x : ℕ) → (6 ≤ x → oneIfHead limit (s .next) (s .block) x ≡ 1 → ⊥) →
       occurrences x (map (λ i. i .anode) (gather (itemsOf img s) (dirsIn w))) ≡ 0
   unfolding walkOf gather itemsOf
   walk-names (fault n) e z x k = occurrences-nil x
@@ -85,7 +85,7 @@ module _ (img : List ℕ) (blocks anodes : ℕ) (p : Passed img blocks anodes) w
         list-mono (namedIn (itemsOf img s) x) (faults (itemsOf img s)) dirs (named-le (entriesIn img) (isBlockOf img) s x k),
       )
 
-  pub names : (x : ℕ) → naming img s x ≢ 0 → (6 ≤ x) × (heads limit (s .next) (s .block) x ≡ 1)
+  pub names : (x : ℕ) → naming img s x ≢ 0 → (6 ≤ x) × (oneIfHead limit (s .next) (s .block) x ≡ 1)
   unfolding naming reached reachedDirs
   names x n = elim (names-head good x) [
     | inl q ↦ (q .0, head-counts good x (q .1))

@@ -8,7 +8,7 @@ use native.Mathlib.Omega.{arith}
 use lib.Dec.{eqb, leb}
 use Rattle.rules.specs.Counting.{oneAt, sumBelow, sumList, occurrences}
 use Rattle.rules.specs.Anodes.{limit, Anodes}
-use Rattle.rules.specs.Chains.{chainOf, heads, blocksOf, blockCount}
+use Rattle.rules.specs.Chains.{chainOf, oneIfHead, blocksOf, blockCount}
 use Rattle.rules.specs.Walk.{Dir, dirMade, root, Entered, Item, blocksFor, itemOf, itemsBy}
 use Rattle.laws.specs.Tests.{same?, less?, tested-from}
 use Rattle.laws.specs.Sums.{oneAt-cases, oneAt-same, oneAt-other, oneAt-le}
@@ -30,19 +30,19 @@ use Rattle.laws.specs.Entries.{broken-wrong, Sized, item-fine, fine-item
 
 -- 1 for a directory whose head is below 5 or heads no chain
 unfoldable odd : Anodes → Dir → ℕ
-odd s d = cond (leb 5 (d .head) && eqb (heads limit (s .next) (s .block) (d .head)) 1) 0 1
+odd s d = cond (leb 5 (d .head) && eqb (oneIfHead limit (s .next) (s .block) (d .head)) 1) 0 1
 
-odd-none : (s : Anodes) (d : Dir) → 5 ≤ d .head → heads limit (s .next) (s .block) (d .head) ≡ 1 → odd s d ≡ 0
+odd-none : (s : Anodes) (d : Dir) → 5 ≤ d .head → oneIfHead limit (s .next) (s .block) (d .head) ≡ 1 → odd s d ≡ 0
 unfolding odd
-odd-none s d l e = elim (tested-from 5 (d .head) (heads limit (s .next) (s .block) (d .head)) 1) [ inl q ↦ q .2 | inr q ↦ absurd (q .0 l e) ]
+odd-none s d l e = elim (tested-from 5 (d .head) (oneIfHead limit (s .next) (s .block) (d .head)) 1) [ inl q ↦ q .2 | inr q ↦ absurd (q .0 l e) ]
 
-none-odd : (s : Anodes) (d : Dir) → odd s d ≡ 0 → (5 ≤ d .head) × (heads limit (s .next) (s .block) (d .head) ≡ 1)
+none-odd : (s : Anodes) (d : Dir) → odd s d ≡ 0 → (5 ≤ d .head) × (oneIfHead limit (s .next) (s .block) (d .head) ≡ 1)
 unfolding odd
-none-odd s d z = elim (tested-from 5 (d .head) (heads limit (s .next) (s .block) (d .head)) 1) [ inl q ↦ (q .0, q .1) | inr q ↦ absurd (omega (arith, z, q .1)) ]
+none-odd s d z = elim (tested-from 5 (d .head) (oneIfHead limit (s .next) (s .block) (d .head)) 1) [ inl q ↦ (q .0, q .1) | inr q ↦ absurd (omega (arith, z, q .1)) ]
 
 odd-le : (s : Anodes) (d : Dir) → odd s d ≤ 1
 unfolding odd
-odd-le s d = elim (tested-from 5 (d .head) (heads limit (s .next) (s .block) (d .head)) 1) [ inl q ↦ omega (arith, q .2) | inr q ↦ omega (arith, q .1) ]
+odd-le s d = elim (tested-from 5 (d .head) (oneIfHead limit (s .next) (s .block) (d .head)) 1) [ inl q ↦ omega (arith, q .2) | inr q ↦ omega (arith, q .1) ]
 
 -- what an entry with nothing wrong names is a head from 6 up
 odd-item : (s : Anodes) (h : ℕ) (e : Entered) → giving (odd s) h (itemOf s e) ≤ wrong (itemOf s e)
@@ -58,7 +58,7 @@ odd-item s h e = elim (less? 0 (wrong (itemOf s e))) [
 ]
 
 -- an item with nothing wrong names no anode that is no head from 6 up
-named-item : (s : Anodes) (x : ℕ) → (6 ≤ x → heads limit (s .next) (s .block) x ≡ 1 → ⊥) → (e : Entered) → oneAt ((itemOf s e) .anode) x ≤ wrong (itemOf s e)
+named-item : (s : Anodes) (x : ℕ) → (6 ≤ x → oneIfHead limit (s .next) (s .block) x ≡ 1 → ⊥) → (e : Entered) → oneAt ((itemOf s e) .anode) x ≤ wrong (itemOf s e)
 named-item s x k e = elim (oneAt-cases ((itemOf s e) .anode) x) [
   | inr c ↦ omega (arith, c .1)
   | inl c ↦ elim (less? 0 (wrong (itemOf s e))) [
@@ -68,7 +68,7 @@ named-item s x k e = elim (oneAt-cases ((itemOf s e) .anode) x) [
 ]
 
 -- and so a directory with nothing wrong in it names heads from 6 up
-pub named-le : (entries : ℕ → List Entered) (marked : Dir → ℕ → Bool) (s : Anodes) (x : ℕ) → (6 ≤ x → heads limit (s .next) (s .block) x ≡ 1 → ⊥) → (d : Dir) →
+pub named-le : (entries : ℕ → List Entered) (marked : Dir → ℕ → Bool) (s : Anodes) (x : ℕ) → (6 ≤ x → oneIfHead limit (s .next) (s .block) x ≡ 1 → ⊥) → (d : Dir) →
     namedIn (itemsBy entries marked s) x d ≤ faults (itemsBy entries marked s) d
 named-le entries marked s x k d = omega (
   arith,
@@ -98,14 +98,14 @@ pub record SizesChanged (s : Anodes) (hd : ℕ → ℕ) (h : ℕ) (φ : Entered 
 
 -- a head, counted and said
 module _ {ex : ℕ → Bool} {n last : ℕ} {s : Anodes} {system hd sd : ℕ → ℕ} (g : Good limit ex n last s system hd sd) where
-  pub head-counts : (m : ℕ) → Head (s .next) (s .block) m → heads limit (s .next) (s .block) m ≡ 1
+  pub head-counts : (m : ℕ) → Head (s .next) (s .block) m → oneIfHead limit (s .next) (s .block) m ≡ 1
   head-counts m d = elim (heads-cases (g .linked) m) [ inl q ↦ q .1 | inr q ↦ absurd (q .0 d) ]
 
-  pub counts-head : (m : ℕ) → heads limit (s .next) (s .block) m ≡ 1 → Head (s .next) (s .block) m
+  pub counts-head : (m : ℕ) → oneIfHead limit (s .next) (s .block) m ≡ 1 → Head (s .next) (s .block) m
   counts-head m e = elim (heads-cases (g .linked) m) [ inl q ↦ q .0 | inr q ↦ absurd (omega (arith, e, q .1)) ]
 
   -- x is a head from 6 up, or is not
-  pub names-head : (x : ℕ) → ((6 ≤ x) × Head (s .next) (s .block) x) ⊎ (6 ≤ x → heads limit (s .next) (s .block) x ≡ 1 → ⊥)
+  pub names-head : (x : ℕ) → ((6 ≤ x) × Head (s .next) (s .block) x) ⊎ (6 ≤ x → oneIfHead limit (s .next) (s .block) x ≡ 1 → ⊥)
   names-head x = elim (less? x 6) [
     | inl l ↦ inr (λ a b. omega (arith, a, l))
     | inr l ↦ elim (heads-cases (g .linked) x) [ inl q ↦ inl (l, q .0) | inr q ↦ inr (λ a b. q .0 (counts-head x b)) ]

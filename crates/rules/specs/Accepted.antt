@@ -9,7 +9,7 @@ use Rattle.disk.specs.Root.{pfs0, rootIn, slotOf}
 use Rattle.disk.specs.AnodeBlocks.{anodeMark, anodeHeadIn}
 use Rattle.rules.specs.Counting.{_if_else_, firstOf, anyBelow, anyIn, occurrences}
 use Rattle.rules.specs.Anodes.{Anodes, limit, anodesOf}
-use Rattle.rules.specs.Chains.{chainOf, followed, preds, heads, owners, systemOwns, side}
+use Rattle.rules.specs.Chains.{chainOf, followed, preds, oneIfHead, owners, systemOwns, side}
 use Rattle.rules.specs.Walk.{walkOf, faultIn, naming}
 
 -- N, the disk's size in blocks
@@ -122,7 +122,7 @@ unnamed img s x = eqb (naming img s x) 0
 
 -- 16: a chain from 6 up that no reached entry names
 unfoldable pub unnamedChain : List ℕ → Anodes → ℕ → Bool
-unnamedChain img s x = leb 6 x && (eqb (heads limit (s .next) (s .block) x) 1 && unnamed img s x)
+unnamedChain img s x = leb 6 x && (eqb (oneIfHead limit (s .next) (s .block) x) 1 && unnamed img s x)
 
 -- the walk's own fault, 12 to 15, then 16
 unfoldable pub treeFault : List ℕ → Anodes → ℕ

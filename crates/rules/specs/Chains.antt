@@ -23,12 +23,12 @@ unfoldable pub preds : ℕ → (ℕ → ℕ) → ℕ → ℕ
 preds A next x = sumBelow (λ p. oneAt (next p) x) A
 
 -- 1 for a head of a chain: in use, not 0, and with no predecessor; else 0
-unfoldable pub heads : ℕ → (ℕ → ℕ) → (ℕ → ℕ) → ℕ → ℕ
-heads A next block h = cond (not (eqb h 0) && (not (eqb (block h) 0) && eqb (preds A next h) 0)) 1 0
+unfoldable pub oneIfHead : ℕ → (ℕ → ℕ) → (ℕ → ℕ) → ℕ → ℕ
+oneIfHead A next block h = cond (not (eqb h 0) && (not (eqb (block h) 0) && eqb (preds A next h) 0)) 1 0
 
 -- the head of a's chain: the sum over all heads of the head, as often as a stands on its chain
 unfoldable pub headOf : ℕ → (ℕ → ℕ) → (ℕ → ℕ) → ℕ → ℕ
-headOf A next block a = sumBelow (λ h. heads A next block h * (occurrences a (chainOf next A h) * h)) A
+headOf A next block a = sumBelow (λ h. oneIfHead A next block h * (occurrences a (chainOf next A h) * h)) A
 
 -- 1 where block x is one of the c blocks from b upward; the end is the whole-number sum
 unfoldable pub covers : ℕ → ℕ → ℕ → ℕ

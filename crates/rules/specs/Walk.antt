@@ -10,7 +10,7 @@ use Rattle.directory.specs.declared.Walked.the-variants.{Found, End, Fault}
 use Rattle.directory.specs.Entries.{isDir, directoryMark, directoryHeadIn, walkedAt}
 use Rattle.rules.specs.Counting.{_if_else_, firstOf, occurrences, gather}
 use Rattle.rules.specs.Anodes.{Anodes, limit}
-use Rattle.rules.specs.Chains.{chainOf, heads, blockCount}
+use Rattle.rules.specs.Chains.{chainOf, oneIfHead, blockCount}
 
 -- a directory: its head anode and its parent's
 pub record Dir : Type 0 where
@@ -69,7 +69,7 @@ blocksFor size = (size + 511) / 512
 
 -- 13: anode under 6, missing, free, or with a predecessor
 unfoldable pub wrongAnode : Anodes → ℕ → ℕ
-wrongAnode s a = cond (leb 6 a && eqb (heads limit (s .next) (s .block) a) 1) 0 13
+wrongAnode s a = cond (leb 6 a && eqb (oneIfHead limit (s .next) (s .block) a) 1) 0 13
 
 -- 15: a file's chain does not hold the blocks of its size
 unfoldable pub wrongFileSize : Anodes → Entered → ℕ

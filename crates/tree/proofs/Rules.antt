@@ -13,7 +13,7 @@ use Rattle.endian.proofs.Laws.{less?, same?, getD-zeros}
 use Rattle.disk.specs.Refusals.{numberOf}
 use Rattle.rules.specs.Counting.{_if_else_, firstOf, anyBelow, sumList, occurrences, gather}
 use Rattle.rules.specs.Anodes.{Anodes, limit}
-use Rattle.rules.specs.Chains.{chainOf, heads, blockCount}
+use Rattle.rules.specs.Chains.{chainOf, oneIfHead, blockCount}
 use Rattle.rules.specs.Walk.{Dir, root, Entered, entriesIn, isBlockOf, Item, wrongAnode, wrongFileSize, itemOf, itemsBy, itemsOf, Walk, fault, done, walk, walkOf, faultIn, reachedDirs, reached, naming}
 use Rattle.rules.specs.Accepted.{unnamed, unnamedChain, treeFault}
 use Rattle.rules.specs.Calls.{fileCount, dirCount}
@@ -53,8 +53,8 @@ module _ (counts nexts heads : List ℕ) where
         (each-item InRange (itemIn counts nexts heads) range-item (λ e. absurd (omega arith)) (entriesIn img) (isBlockOf img) s d) (chainOf (s .next) limit (d .head))
 
 -- an anode without a block heads no chain
-heads-none : (next block : ℕ → ℕ) (a : ℕ) → block a ≡ 0 → heads limit next block a ≡ 0
-unfolding heads
+heads-none : (next block : ℕ → ℕ) (a : ℕ) → block a ≡ 0 → oneIfHead limit next block a ≡ 0
+unfolding oneIfHead
 heads-none next block a e = rw (eq-eqb (block a) 0 e, and-false)
 
 eqb-both : (a b c d : ℕ) → (a ≡ b → c ≡ d) → (c ≡ d → a ≡ b) → eqb a b ≡ eqb c d
@@ -62,8 +62,8 @@ eqb-both a b c d f g = ⊎-elim (λ e. eq-eqb a b e ∙ sym (eq-eqb c d (f e))) 
 
 module _ (t : List ℕ) (s : Anodes) (table : HeadTable t s) where
   -- in the table's range, the heads are those of the rules
-  head-test : (a : ℕ) → 6 ≤ a → a < limit → eqb (heads limit (s .next) (s .block) a) 1 ≡ eqb (getD t a 0) a
-  head-test a lo hi = eqb-both (heads limit (s .next) (s .block) a) 1 (getD t a 0) a (table a lo hi .1) (table a lo hi .0)
+  head-test : (a : ℕ) → 6 ≤ a → a < limit → eqb (oneIfHead limit (s .next) (s .block) a) 1 ≡ eqb (getD t a 0) a
+  head-test a lo hi = eqb-both (oneIfHead limit (s .next) (s .block) a) 1 (getD t a 0) a (table a lo hi .1) (table a lo hi .0)
 
   module _ (past : (a : ℕ) → limit ≤ a → s .block a ≡ 0) where
     head-same : (a : ℕ) → wrongAnode s a ≡ cond (headAt t a) 0 13
