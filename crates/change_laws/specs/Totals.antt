@@ -10,7 +10,7 @@ use borrow.Author.Tests.{lt-ltb, le-ltb, eq-eqb, ne-eqb}
 use Rattle.disk.specs.Root.{slotOf}
 use Rattle.rules.specs.Counting.{oneAt, sumBelow, sumList}
 use Rattle.rules.specs.Anodes.{Anodes, limit, anodesOf}
-use Rattle.rules.specs.Chains.{covers, holds, systemOwns, blockCount}
+use Rattle.rules.specs.Chains.{oneIfCovers, holds, systemOwns, blockCount}
 use Rattle.rules.specs.Walk.{Dir, Item, entriesIn, isBlockOf, itemsBy, itemsOf, reached, reachedDirs}
 use Rattle.rules.specs.Accepted.{diskSize, wrongSlots}
 use Rattle.rules.specs.Totals.{freeBlocks, fileBlocks, directoryBlocks, chainBlocks, anodeBlocks, totalIn, total}
@@ -33,7 +33,7 @@ use Rattle.change_laws.specs.Image.{AcceptedWhole, headIn, AcceptedImage
 
 module _ (img : List ℕ) (right : wrongSlots img ≡ false) where
   -- blocks 0 to 2, and those that slots hold
-  start : (x : ℕ) → systemOwns img x ≡ covers 3 0 x + sumBelow (holds img x) 42
+  start : (x : ℕ) → systemOwns img x ≡ oneIfCovers 3 0 x + sumBelow (holds img x) 42
   unfolding systemOwns
   start x = elim (less? x 3) [
     | inl l ↦ rw (lt-ltb x 3 l) (omega (arith, covers-in 3 0 x (omega arith) (omega arith), sum-zero (holds img x) 42 (λ s q. unheld s l)))
@@ -56,10 +56,10 @@ module _ (img : List ℕ) (right : wrongSlots img ≡ false) where
   system-blocks : 3 ≤ diskSize img → sumBelow (systemOwns img) (diskSize img) ≡ anodeBlocks img + 3
   unfolding anodeBlocks
   system-blocks l =
-      sum-congr (systemOwns img) (λ x. covers 3 0 x + sumBelow (holds img x) 42) (diskSize img) (λ x q. start x)
+      sum-congr (systemOwns img) (λ x. oneIfCovers 3 0 x + sumBelow (holds img x) 42) (diskSize img) (λ x q. start x)
       ∙ omega (
         arith,
-        sum-add (covers 3 0) (λ x. sumBelow (holds img x) 42) (diskSize img),
+        sum-add (oneIfCovers 3 0) (λ x. sumBelow (holds img x) 42) (diskSize img),
         covers-sum 3 0 (diskSize img) l,
         sum-swap (λ x s. holds img x s) (diskSize img) 42,
         sum-congr (λ s. sumBelow (λ x. holds img x s) (diskSize img)) (λ s. cond (eqb (slotOf img s) 0) 0 1) 42 (λ s q. slot-once s),

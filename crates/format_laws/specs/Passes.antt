@@ -4,7 +4,7 @@ use mathlib.Core.Path.{_≡_}
 use mathlib.Core.Logic.{inl, inr}
 use native.Mathlib.Omega.{arith}
 use Rattle.rules.specs.Anodes.{Anodes, limit}
-use Rattle.rules.specs.Chains.{covers, preds}
+use Rattle.rules.specs.Chains.{oneIfCovers, preds}
 use Rattle.laws.specs.Space.{FixedHead}
 use Rattle.laws.specs.Passes.{Passes}
 use Rattle.format_laws.specs.Anodes.{Full, full-2, full-5, full-6, Laid}
@@ -17,7 +17,7 @@ module _ {s : Anodes} {n last k : ℕ} (m : Laid s n last k) where
   fits _ full-5 c = omega (arith, m .room, m .there, m .at-5 .count, m .at-5 .block)
   fits _ full-6 c = omega (arith, m .there, m .owns-6 .count, m .owns-6 .start c)
 
-  pub laid-passes : (system : ℕ → ℕ) → ((x : ℕ) → system x ≡ covers (3 + k) 0 x) → Passes limit n last s system
+  pub laid-passes : (system : ℕ → ℕ) → ((x : ℕ) → system x ≡ oneIfCovers (3 + k) 0 x) → Passes limit n last s system
   laid-passes system sys = record {
     fixed = record {
       count-0 = m .at-0 .count;

@@ -9,7 +9,7 @@ use native.Mathlib.Numerals.{add-one}
 use lib.Dec.{T, eqb, ltb, eqb→eq, ltb→lt, lt→ltb}
 use Rattle.rules.specs.Counting.{oneAt, least, changed}
 use Rattle.rules.specs.Anodes.{Anodes}
-use Rattle.rules.specs.Chains.{covers}
+use Rattle.rules.specs.Chains.{oneIfCovers}
 use Rattle.rules.specs.Space.{refused, planned, rewritten, insertedAfter, fillOr, growOr, growBeforeOr, free, lowestFree, append, put, join}
 use Rattle.laws.specs.Tests.{cond-cases, eq→eqb}
 use Rattle.laws.specs.Sums.{changed-other, least-cases}
@@ -103,7 +103,7 @@ module _ (A : ℕ) (ex : ℕ → Bool) where
 module _ {A : ℕ} {ex : ℕ → Bool} {n last : ℕ} {s : Anodes} (system : ℕ → ℕ) {hd sd : ℕ → ℕ} (y : ℕ) (g : Good A ex n last s (hand system y) hd sd) (y0 : y ≢ 0) (yn : y < n)
     (z : ℕ) (z0 : z ≢ 0) (u : s .block z ≢ 0) (high : sd z ≡ 1 → last < y) (low : sd z ≡ 2 → y ≤ last) where
   -- z becomes (c, b) and has gained y
-  module _ (z1 : z ≢ 1) (c b : ℕ) (e : c ≡ suc (s .count z)) (b0 : b ≢ 0) (gains : (x : ℕ) → covers c b x ≡ covers (s .count z) (s .block z) x + oneAt y x)
+  module _ (z1 : z ≢ 1) (c b : ℕ) (e : c ≡ suc (s .count z)) (b0 : b ≢ 0) (gains : (x : ℕ) → oneIfCovers c b x ≡ oneIfCovers (s .count z) (s .block z) x + oneAt y x)
       (fits : b + c ≤ n) (is-high : sd z ≡ 1 → last < b) (is-low : sd z ≡ 2 → b + c ≤ suc last) where
     gained : Placed A ex n last s system hd (hd z) y (rewritten s z c b)
     unfolding rewritten
@@ -131,7 +131,7 @@ module _ {A : ℕ} {ex : ℕ → Bool} {n last : ℕ} {s : Anodes} (system : ℕ
   -- or before its start
   grown-before : z ≢ 1 → s .count z ≢ 0 → y + 1 ≡ s .block z → Placed A ex n last s system hd (hd z) y (rewritten s z (s .count z + 1) y)
   grown-before z1 c0 e = gained z1 (s .count z + 1) y (omega arith) y0
-      (λ x. rw (add-one (s .count z)) (omega (arith, covers-front (s .count z) y x, ap (λ (k : ℕ). covers (s .count z) k x) next-is)))
+      (λ x. rw (add-one (s .count z)) (omega (arith, covers-front (s .count z) y x, ap (λ (k : ℕ). oneIfCovers (s .count z) k x) next-is)))
       (omega (arith, e, g .own .fits z (g .linked .view .below z u) (omega arith))) high (λ q. omega (arith, e, g .low z q (omega arith)))
     where
       next-is : suc y ≡ s .block z

@@ -8,7 +8,7 @@ use native.Mathlib.Omega.{arith}
 use native.Mathlib.Numerals.{add-one}
 use Rattle.rules.specs.Counting.{oneAt, changed}
 use Rattle.rules.specs.Anodes.{Anodes}
-use Rattle.rules.specs.Chains.{covers}
+use Rattle.rules.specs.Chains.{oneIfCovers}
 use Rattle.rules.specs.Space.{rewritten, unlinked, emptied, withoutBlock}
 use Rattle.laws.specs.Tests.{same?}
 use Rattle.laws.specs.Sums.{changed-same, changed-other, changed-twice}
@@ -25,7 +25,7 @@ from-6 : (x : ℕ) → x ≢ 0 → x ≢ 1 → x ≢ 2 → x ≢ 3 → x ≢ 4 �
 from-6 x a b c d e f = omega arith
 
 -- the only block of an extent goes
-only-gone : (c b x b′ : ℕ) → c ≡ 1 → covers c b x ≡ oneAt b x + covers 0 b′ x
+only-gone : (c b x b′ : ℕ) → c ≡ 1 → oneIfCovers c b x ≡ oneAt b x + oneIfCovers 0 b′ x
 only-gone c b x b′ e = rw e (omega (arith, covers-one b x, covers-none b′ x))
 
 -- one more, less one
@@ -33,12 +33,12 @@ one-less : (c : ℕ) → suc c - 1 ≡ c
 one-less c = omega arith
 
 -- the first block of an extent goes
-pub first-gone : (c b x : ℕ) → 0 < c → covers c b x ≡ oneAt b x + covers (c - 1) (b + 1) x
+pub first-gone : (c b x : ℕ) → 0 < c → oneIfCovers c b x ≡ oneAt b x + oneIfCovers (c - 1) (b + 1) x
 first-gone zero b x l = absurd (omega arith)
 first-gone (suc c) b x l = rw (add-one b, one-less c) (covers-front c b x)
 
 -- the last block of an extent goes
-pub last-gone : (c b x : ℕ) → 0 < c → covers c b x ≡ oneAt (b + (c - 1)) x + covers (c - 1) b x
+pub last-gone : (c b x : ℕ) → 0 < c → oneIfCovers c b x ≡ oneAt (b + (c - 1)) x + oneIfCovers (c - 1) b x
 last-gone zero b x l = absurd (omega arith)
 last-gone (suc c) b x l = rw (one-less c) (omega (arith, covers-end c b x))
 
@@ -48,7 +48,7 @@ module _ {A : ℕ} {ex : ℕ → Bool} {n last : ℕ} {s : Anodes} {system hd sd
   full-6 p e x2 = from-6 x (full-0 g x full) (full-1 g x full) x2 (λ q. g .first 3 (inr (inl refl)) p (e ∙ q)) (λ q. g .first 4 (inr (inr (inl refl))) p (e ∙ q)) (λ q. g .first 5 (inr (inr (inr refl))) p (e ∙ q))
 
   -- x becomes (c, b), within its old extent, and has lost the block y
-  module _ (c b y : ℕ) (e : s .count x ≡ suc c) (b0 : b ≢ 0) (left : (w : ℕ) → covers (s .count x) (s .block x) w ≡ oneAt y w + covers c b w)
+  module _ (c b y : ℕ) (e : s .count x ≡ suc c) (b0 : b ≢ 0) (left : (w : ℕ) → oneIfCovers (s .count x) (s .block x) w ≡ oneAt y w + oneIfCovers c b w)
       (within : 0 < c → (s .block x ≤ b) × (b + c ≤ s .block x + s .count x)) where
     shrunk-good : Good A ex n last (rewritten s x c b) (hand system y) hd sd
     shrunk-good = rewrite-good g x c b (hand system y) (full-used g x full) b0 (full-0 g x full) (full-1 g x full) (λ w. omega (arith, left w))
@@ -102,7 +102,7 @@ module _ {A : ℕ} {ex : ℕ → Bool} {n last : ℕ} {s : Anodes} {system hd sd
       lost = λ h w. omega (arith, shrunk-lost 0 65535 (s .block x) one (omega arith) left (λ l. absurd (omega arith)) h w, away h w);
     }
       where
-        left : (w : ℕ) → covers (s .count x) (s .block x) w ≡ oneAt (s .block x) w + covers 0 65535 w
+        left : (w : ℕ) → oneIfCovers (s .count x) (s .block x) w ≡ oneAt (s .block x) w + oneIfCovers 0 65535 w
         left w = only-gone (s .count x) (s .block x) w 65535 one
 
         good : Good A ex n last (unlinked s p x) (hand system (s .block x)) (changed hd x 0) (changed sd x 0)
@@ -117,7 +117,7 @@ module _ {A : ℕ} {ex : ℕ → Bool} {n last : ℕ} {s : Anodes} {system hd sd
 
         away : (h w : ℕ) → held A (changed hd x 0) (changed (s .count) x 0) (changed (s .block) x 0) h w ≡ held A hd (changed (s .count) x 0) (changed (s .block) x 65535) h w
         away h w =
-            let r : held A (changed hd x 0) (changed (s .count) x 0) (changed (s .block) x 0) h w ≡ held A hd (changed (s .count) x 0) (changed (s .block) x 65535) h w + oneAt 0 h * covers 0 0 w
+            let r : held A (changed hd x 0) (changed (s .count) x 0) (changed (s .block) x 0) h w ≡ held A hd (changed (s .count) x 0) (changed (s .block) x 65535) h w + oneAt 0 h * oneIfCovers 0 0 w
             = rw (changed-twice (s .count) x 0 0, changed-twice (s .block) x 65535 0) at
             (held-fresh A hd (changed (s .count) x 0) (changed (s .block) x 65535) x 0 0 0 (g .linked .view .below x (full-used g x full)) (changed-same (s .count) x 0) h w) in
             omega (arith, r, ap (λ (i : ℕ). oneAt 0 h * i) (covers-none 0 w))
@@ -149,7 +149,7 @@ module _ (s : Anodes) (kept p x b : ℕ) where
 
 module _ {A : ℕ} {ex : ℕ → Bool} {n last : ℕ} {s : Anodes} {system hd sd : ℕ → ℕ} (g : Good A ex n last s system hd sd) (x : ℕ) (full : 0 < s .count x) where
   -- x, after p unless it is kept, has lost the block y, and its first block is then b
-  pub withoutBlock-out : (kept p b y : ℕ) → b ≢ 0 → (s .block x ≤ b) × (b ≤ s .block x + 1) → ((w : ℕ) → covers (s .count x) (s .block x) w ≡ oneAt y w + covers (s .count x - 1) b w) →
+  pub withoutBlock-out : (kept p b y : ℕ) → b ≢ 0 → (s .block x ≤ b) × (b ≤ s .block x + 1) → ((w : ℕ) → oneIfCovers (s .count x) (s .block x) w ≡ oneAt y w + oneIfCovers (s .count x - 1) b w) →
       (s .count x ≡ 1 → y ≡ s .block x) → (x ≢ kept → (s .next p ≡ x) × (x ≢ 2)) → InHand A ex n last s system hd (hd x) y (withoutBlock s kept p x b)
   withoutBlock-out kept p b y b0 near left only after = elim (withoutBlock-cases s kept p x b) [
     | first c ↦ rw (c .1) (shrunk g x full (s .count x - 1) b y (omega (arith, full)) b0 left (λ l. (near .0, omega (arith, near .1, full))))

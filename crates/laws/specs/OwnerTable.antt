@@ -14,7 +14,7 @@ use Rattle.disk.specs.AnodeBlocks.{listed}
 use Rattle.disk.proofs.Laws.{getD-listed, length-listed}
 use Rattle.rules.specs.Counting.{oneAt, sumBelow, occurrences}
 use Rattle.rules.specs.Anodes.{Anodes, limit}
-use Rattle.rules.specs.Chains.{headOf, covers, owners, systemOwns}
+use Rattle.rules.specs.Chains.{headOf, oneIfCovers, owners, systemOwns}
 use Rattle.rules.specs.Accepted.{diskSize}
 use Rattle.rules.specs.Space.{rewritten, onChain, dropped}
 use Rattle.rules.specs.Tables.{chainHead, anodeEntry, anodeTable, headWhere, ownerHead, blockEntry, blockTable, entryOr}
@@ -96,7 +96,7 @@ module _ {ex : ℕ → Bool} {n last : ℕ} {s : Anodes} {system hd sd : ℕ →
   anodeTable-is = listed-same (anodeEntry s) hd limit (λ a l. anodeEntry-is a)
 
   -- what an anode adds to a block's owner: its head, where it covers the block
-  headWhere-is : (x a : ℕ) → headWhere s x a ≡ covers (s .count a) (s .block a) x * hd a
+  headWhere-is : (x a : ℕ) → headWhere s x a ≡ oneIfCovers (s .count a) (s .block a) x * hd a
   unfolding headWhere
   headWhere-is x a = elim (covers-cases (s .count a) (s .block a) x) [
     | inl c ↦ rw (c .2) (chainHead-is a ∙ omega arith)
@@ -107,10 +107,10 @@ module _ {ex : ℕ → Bool} {n last : ℕ} {s : Anodes} {system hd sd : ℕ →
   owner-sum : (x : ℕ) → ownerHead s x ≡ sumBelow (λ m. held limit hd (s .count) (s .block) m x * m) limit
   unfolding ownerHead held blocks
   owner-sum x =
-      sum-congr (headWhere s x) (λ a. sumBelow (λ m. oneAt (hd a) m * (covers (s .count a) (s .block a) x * m)) limit) limit
-      (λ a l. headWhere-is x a ∙ sym (sum-pick (λ m. covers (s .count a) (s .block a) x * m) (hd a) limit (hd-below g a)))
-      ∙ sum-swap (λ a m. oneAt (hd a) m * (covers (s .count a) (s .block a) x * m)) limit limit
-      ∙ sum-congr (λ m. sumBelow (λ a. oneAt (hd a) m * (covers (s .count a) (s .block a) x * m)) limit) (λ m. held limit hd (s .count) (s .block) m x * m) limit (λ m l. sum-factor (λ a. oneAt (hd a) m) (λ a. covers (s .count a) (s .block a) x) m limit)
+      sum-congr (headWhere s x) (λ a. sumBelow (λ m. oneAt (hd a) m * (oneIfCovers (s .count a) (s .block a) x * m)) limit) limit
+      (λ a l. headWhere-is x a ∙ sym (sum-pick (λ m. oneIfCovers (s .count a) (s .block a) x * m) (hd a) limit (hd-below g a)))
+      ∙ sum-swap (λ a m. oneAt (hd a) m * (oneIfCovers (s .count a) (s .block a) x * m)) limit limit
+      ∙ sum-congr (λ m. sumBelow (λ a. oneAt (hd a) m * (oneIfCovers (s .count a) (s .block a) x * m)) limit) (λ m. held limit hd (s .count) (s .block) m x * m) limit (λ m l. sum-factor (λ a. oneAt (hd a) m) (λ a. oneIfCovers (s .count a) (s .block a) x) m limit)
 
   -- a block that a head holds is on the disk and not the system's
   pub held-data : (m x : ℕ) → 0 < held limit hd (s .count) (s .block) m x → (x < n) × (system x ≡ 0)
@@ -118,7 +118,7 @@ module _ {ex : ℕ → Bool} {n last : ℕ} {s : Anodes} {system hd sd : ℕ →
   held-data m x p =
       let (a, l, e, from, to) = held-some limit hd (s .count) (s .block) m x p in
       let inside : x < n = omega (arith, to, g .own .fits a l (omega arith)) in
-      (inside, omega (arith, g .own .not-two x inside, covers-in (s .count a) (s .block a) x from to, sum-member (λ a. covers (s .count a) (s .block a) x) a limit l))
+      (inside, omega (arith, g .own .not-two x inside, covers-in (s .count a) (s .block a) x from to, sum-member (λ a. oneIfCovers (s .count a) (s .block a) x) a limit l))
 
   ownerHead-is : (m x : ℕ) → 0 < held limit hd (s .count) (s .block) m x → ownerHead s x ≡ m
   ownerHead-is m x p =
@@ -136,9 +136,9 @@ held-dropped : (A : ℕ) (hd count block : ℕ → ℕ) (dead : ℕ → Bool) �
     held A (without dead hd) (without dead count) (without dead block) m x ≡ held A hd count block m x
 unfolding held blocks
 held-dropped A hd count block dead none x m =
-    sum-congr (λ a. oneAt (without dead hd a) m * covers (without dead count a) (without dead block a) x) (λ a. oneAt (hd a) m * covers (count a) (block a) x) A (λ a l. same a)
+    sum-congr (λ a. oneAt (without dead hd a) m * oneIfCovers (without dead count a) (without dead block a) x) (λ a. oneAt (hd a) m * oneIfCovers (count a) (block a) x) A (λ a l. same a)
   where
-    same : (a : ℕ) → oneAt (without dead hd a) m * covers (without dead count a) (without dead block a) x ≡ oneAt (hd a) m * covers (count a) (block a) x
+    same : (a : ℕ) → oneAt (without dead hd a) m * oneIfCovers (without dead count a) (without dead block a) x ≡ oneAt (hd a) m * oneIfCovers (count a) (block a) x
     same a = elim (without-cases dead count a) [
       | inl c ↦ rw (c .1, none a (c .0), covers-none (without dead block a) x, covers-none (block a) x) (omega arith)
       | inr c ↦ rw (c .1, without-other dead hd a (c .0), without-other dead block a (c .0))

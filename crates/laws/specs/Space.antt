@@ -7,7 +7,7 @@ use native.Mathlib.Omega.{arith}
 use lib.Dec.{T, eqb, leb, eqb→eq, leb→le, le→leb}
 use Rattle.rules.specs.Counting.{occurrences, changed}
 use Rattle.rules.specs.Anodes.{Anodes}
-use Rattle.rules.specs.Chains.{chainOf, covers, cut}
+use Rattle.rules.specs.Chains.{chainOf, oneIfCovers, cut}
 use Rattle.rules.specs.Space.{rewritten, insertedAfter, unlinked, onChain, dropped, free}
 use Rattle.laws.specs.Tests.{same?, not-above, T-same, both}
 use Rattle.laws.specs.Sums.{oneAt-cases, oneAt-same, changed-cases, changed-same, changed-other}
@@ -130,7 +130,7 @@ module _ {A : ℕ} {ex : ℕ → Bool} {n last : ℕ} {s : Anodes} {system hd sd
 
   -- an anode in use, neither 0 nor 1, is rewritten to (c, b)
   module _ (x c b : ℕ) (system′ : ℕ → ℕ) (u : s .block x ≢ 0) (b0 : b ≢ 0) (x0 : x ≢ 0) (x1 : x ≢ 1)
-      (moved : (y : ℕ) → system y + covers (s .count x) (s .block x) y ≡ system′ y + covers c b y) (fits : 0 < c → b + c ≤ n)
+      (moved : (y : ℕ) → system y + oneIfCovers (s .count x) (s .block x) y ≡ system′ y + oneIfCovers c b y) (fits : 0 < c → b + c ≤ n)
       (is-high : sd x ≡ 1 → 0 < c → last < b) (is-low : sd x ≡ 2 → 0 < c → b + c ≤ suc last) where
     pub rewrite-good : Good A ex n last (rewritten s x c b) system′ hd sd
     unfolding rewritten
@@ -189,7 +189,7 @@ module _ {A : ℕ} {ex : ℕ → Bool} {n last : ℕ} {s : Anodes} {system hd sd
 
   -- a fresh anode f is made (c, b) after p
   module _ (p f c b : ℕ) (system′ : ℕ → ℕ) (p0 : p ≢ 0) (up : s .block p ≢ 0) (fA : f < A) (u : FreeAnode ex s f) (b0 : b ≢ 0)
-      (moved : (y : ℕ) → system y ≡ system′ y + covers c b y) (fits : 0 < c → b + c ≤ n)
+      (moved : (y : ℕ) → system y ≡ system′ y + oneIfCovers c b y) (fits : 0 < c → b + c ≤ n)
       (is-high : sd p ≡ 1 → 0 < c → last < b) (is-low : sd p ≡ 2 → 0 < c → b + c ≤ suc last) where
     pub insert-good : Good A ex n last (insertedAfter s p f c b) system′ (changed hd f (hd p)) (changed sd f (sd p))
     unfolding insertedAfter insertAfter
@@ -322,7 +322,7 @@ module _ {A : ℕ} {ex : ℕ → Bool} {n last : ℕ} {s : Anodes} {system hd sd
         dead-5 : T (dead 5) → ⊥
         dead-5 = live 5 5 (g .heads .at-head 5 head-5) (omega arith)
 
-        covered : (a y : ℕ) → covers (without dead (s .count) a) (without dead (s .block) a) y ≡ covers (s .count a) (s .block a) y
+        covered : (a y : ℕ) → oneIfCovers (without dead (s .count) a) (without dead (s .block) a) y ≡ oneIfCovers (s .count a) (s .block a) y
         covered a y = elim (without-cases dead (s .count) a) [
           | inl e ↦ rw (e .1, none a (dead-head a (e .0))) (covers-none (without dead (s .block) a) y ∙ sym (covers-none (s .block a) y))
           | inr e ↦ rw (e .1, without-other dead (s .block) a (e .0))

@@ -12,7 +12,7 @@ use lib.Seq.{getD-set-same, getD-set-other, getD-drop, ext-getD}
 use borrow.Author.Tests.{eqb-true, eq-eqb, ne-eqb}
 use Rattle.endian.proofs.Laws.{same?}
 use Rattle.rules.specs.Counting.{anyBelow}
-use Rattle.rules.specs.Chains.{covers}
+use Rattle.rules.specs.Chains.{oneIfCovers}
 use Rattle.laws.specs.Ownership.{covers-cases, covers-in}
 use Rattle.tables.specs.Held.{ZeroBelow}
 use Rattle.owners.specs.Marks.{KeptOutside, RunFilled, RunHit, RunHolds, RunTested, Marked, OwnedTwice}
@@ -99,7 +99,7 @@ module _ (n : ℕ) (N E : ℕ → ℕ) (t : List ℕ) (m : Marked n N E t) (firs
   -- a run of free blocks more
   pub marked-run : (N′ E′ : ℕ → ℕ) (t′ : List ℕ) (mark : ℕ) → RunFilled t t′ first (first + count) mark → KeptOutside t t′ first (first + count)
       → (0 < count → mark ≢ 0)
-      → ((x : ℕ) → x < n → (N′ x ≡ N x + covers count first x) × (E′ x ≡ E x + covers count first x * mark))
+      → ((x : ℕ) → x < n → (N′ x ≡ N x + oneIfCovers count first x) × (E′ x ≡ E x + oneIfCovers count first x * mark))
       → Marked n N′ E′ t′
   marked-run N′ E′ t′ mark run kept some more = record {
     once = λ x l. each x l .0;
@@ -125,7 +125,7 @@ module _ (n : ℕ) (N E : ℕ → ℕ) (t : List ℕ) (m : Marked n N E t) (firs
       ]
 
   -- a run with a marked block
-  pub marked-hit : RunHit t first (first + count) → (0 < count → first + count ≤ n) → OwnedTwice n (λ x. N x + covers count first x)
+  pub marked-hit : RunHit t first (first + count) → (0 < count → first + count ≤ n) → OwnedTwice n (λ x. N x + oneIfCovers count first x)
   marked-hit hit within =
       let x = hit .block in
       let w = within (omega (arith, hit .from, hit .below)) in

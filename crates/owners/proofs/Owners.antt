@@ -11,7 +11,7 @@ use lib.ListN.{getD}
 use borrow.Author.Tests.{lt-ltb, le-ltb, eq-eqb, ne-eqb}
 use Rattle.disk.specs.Root.{slotOf}
 use Rattle.rules.specs.Counting.{sumBelow}
-use Rattle.rules.specs.Chains.{covers, holds, systemOwns, owners}
+use Rattle.rules.specs.Chains.{oneIfCovers, holds, systemOwns, owners}
 use Rattle.rules.specs.Accepted.{diskSize, wrongSize, wrongSlots, ownersOf, twoOwners}
 use Rattle.rules.specs.Tables.{entryOr}
 use Rattle.counting.specs.Laws.{anyBelow-hit, anyBelow-all, sumBelow-none, sumBelow-more, sumBelow-upto}
@@ -41,14 +41,14 @@ slot-within img s b h e some =
 
 -- the owners of block x that are marked once the slots below k are
 unfoldable pub systemBelow : List ℕ → ℕ → ℕ → ℕ
-systemBelow img k x = covers 3 0 x + sumBelow (holds img x) k
+systemBelow img k x = oneIfCovers 3 0 x + sumBelow (holds img x) k
 
 -- and its entry then
 unfoldable pub systemEntryBelow : List ℕ → ℕ → ℕ → ℕ
-systemEntryBelow img k x = covers 3 0 x * 65535 + sumBelow (holds img x) k * 65534
+systemEntryBelow img k x = oneIfCovers 3 0 x * 65535 + sumBelow (holds img x) k * 65534
 
 -- a slot holds a block as a run of one covers it
-holds-covers : (img : List ℕ) (x s b : ℕ) → slotOf img s ≡ b → b ≢ 0 → holds img x s ≡ covers 1 b x
+holds-covers : (img : List ℕ) (x s b : ℕ) → slotOf img s ≡ b → b ≢ 0 → holds img x s ≡ oneIfCovers 1 b x
 unfolding holds
 holds-covers img x s b e some = elim (covers-cases 1 b x) [
   | inl c ↦ rw (e, ne-eqb b 0 some) (oneAt-same b x (omega arith) ∙ sym (c .2))
@@ -115,7 +115,7 @@ module _ (img : List ℕ) (n : ℕ) where
     pub system-hit : (b : ℕ) → s < 42 → slotOf img s ≡ b → b ≢ 0 → 3 ≤ b → b + 1 ≤ n → RunHit t b (b + 1) → OwnedTwice n (systemOwns img)
     unfolding systemBelow
     system-hit b l e some low high hit =
-        owned-more n (λ x. systemBelow img s x + covers 1 b x) (systemOwns img)
+        owned-more n (λ x. systemBelow img s x + oneIfCovers 1 b x) (systemOwns img)
         (marked-hit n (systemBelow img s) (systemEntryBelow img s) t m b 1 hit (λ z. high))
         (λ x below two. elim (less? x 3) [
           | inl z ↦ absurd (omega (arith, m .once x below, covers-under 1 b x (omega arith)))
@@ -139,7 +139,7 @@ module _ (img : List ℕ) (n : ℕ) where
 
 -- 1 where anode a covers block x
 abbrev coverOf : List ℕ → List ℕ → ℕ → ℕ → ℕ
-coverOf c f x a = covers (getD c a 0) (getD f a 0) x
+coverOf c f x a = oneIfCovers (getD c a 0) (getD f a 0) x
 
 -- what anode a marks block x with
 abbrev markOf : List ℕ → List ℕ → List ℕ → ℕ → ℕ → ℕ
@@ -196,7 +196,7 @@ module _ (img c f h : List ℕ) (n : ℕ) where
         → OwnedTwice n (ownersBelow img c f 3444)
     unfolding ownersBelow owners
     anode-hit l hit within =
-        owned-more n (λ x. ownersBelow img c f a x + covers (getD c a 0) (getD f a 0) x) (ownersBelow img c f 3444)
+        owned-more n (λ x. ownersBelow img c f a x + oneIfCovers (getD c a 0) (getD f a 0) x) (ownersBelow img c f 3444)
         (marked-hit n (ownersBelow img c f a) (entryBelow img c f h a) t m (getD f a 0) (getD c a 0) hit within)
         (λ x below two.
         omega (

@@ -8,7 +8,7 @@ use lib.ListN.{getD}
 use lib.Dec.{eqb}
 use Rattle.rules.specs.Counting.{sumBelow}
 use Rattle.rules.specs.Anodes.{Anodes, limit}
-use Rattle.rules.specs.Chains.{covers}
+use Rattle.rules.specs.Chains.{oneIfCovers}
 use Rattle.rules.specs.Tables.{entryOr}
 use Rattle.rules.specs.Accepted.{diskSize, ownersOf}
 
@@ -60,7 +60,7 @@ Answered false n owners entry t = Marked n owners entry t
 
 -- the head that an anode's blocks are marked with, at block x
 unfoldable pub headMark : Anodes → List ℕ → ℕ → ℕ → ℕ
-headMark s heads x a = cond (eqb (covers (s .count a) (s .block a) x) 1) (getD heads a 0) 0
+headMark s heads x a = cond (eqb (oneIfCovers (s .count a) (s .block a) x) 1) (getD heads a 0) 0
 
 -- a block's entry: the system's, else the head of the anode that covers it
 unfoldable pub ownerEntry : List ℕ → Anodes → List ℕ → ℕ → ℕ

@@ -31,8 +31,8 @@ unfoldable pub headOf : ℕ → (ℕ → ℕ) → (ℕ → ℕ) → ℕ → ℕ
 headOf A next block a = sumBelow (λ h. oneIfHead A next block h * (occurrences a (chainOf next A h) * h)) A
 
 -- 1 where block x is one of the c blocks from b upward; the end is the whole-number sum
-unfoldable pub covers : ℕ → ℕ → ℕ → ℕ
-covers c b x = cond (leb b x && ltb x (b + c)) 1 0
+unfoldable pub oneIfCovers : ℕ → ℕ → ℕ → ℕ
+oneIfCovers c b x = cond (leb b x && ltb x (b + c)) 1 0
 
 -- a slot that holds block x
 unfoldable pub holds : List ℕ → ℕ → ℕ → ℕ
@@ -44,7 +44,7 @@ systemOwns img x = cond (ltb x 3) 1 (sumBelow (holds img x) 42)
 
 -- how many owners a block has: the system, and each anode that covers it
 unfoldable pub owners : ℕ → (ℕ → ℕ) → (ℕ → ℕ) → (ℕ → ℕ) → ℕ → ℕ
-owners A count block system x = system x + sumBelow (λ a. covers (count a) (block a) x) A
+owners A count block system x = system x + sumBelow (λ a. oneIfCovers (count a) (block a) x) A
 
 -- the c blocks from b upward
 unfoldable pub run : ℕ → ℕ → List ℕ

@@ -7,7 +7,7 @@ use lib.Dec.{eqb, leb, ltb}
 use Rattle.disk.specs.AnodeBlocks.{listed}
 use Rattle.rules.specs.Counting.{sumBelow}
 use Rattle.rules.specs.Anodes.{Anodes, limit, anodesOf}
-use Rattle.rules.specs.Chains.{headOf, covers, systemOwns}
+use Rattle.rules.specs.Chains.{headOf, oneIfCovers, systemOwns}
 use Rattle.rules.specs.Accepted.{diskSize}
 
 -- the head of anode a's chain
@@ -24,7 +24,7 @@ anodeTable s = listed (anodeEntry s) 0 limit
 
 -- the head of a's chain where anode a owns block x, else 0
 unfoldable pub headWhere : Anodes → ℕ → ℕ → ℕ
-headWhere s x a = cond (eqb (covers (s .count a) (s .block a) x) 1) (chainHead s a) 0
+headWhere s x a = cond (eqb (oneIfCovers (s .count a) (s .block a) x) 1) (chainHead s a) 0
 
 -- the head of the chain that owns block x; in an accepted image one anode at most covers it
 unfoldable pub ownerHead : Anodes → ℕ → ℕ
