@@ -34,13 +34,13 @@ headOf A next block a = sumBelow (λ h. oneIfHead A next block h * (occurrences 
 unfoldable pub oneIfCovers : ℕ → ℕ → ℕ → ℕ
 oneIfCovers c b x = cond (leb b x && ltb x (b + c)) 1 0
 
--- a slot that holds block x
-unfoldable pub holds : List ℕ → ℕ → ℕ → ℕ
-holds img x s = cond (eqb (slotOf img s) 0) 0 (oneAt (slotOf img s) x)
+-- 1 where slot s holds block x
+unfoldable pub oneIfHolds : List ℕ → ℕ → ℕ → ℕ
+oneIfHolds img x s = cond (eqb (slotOf img s) 0) 0 (oneAt (slotOf img s) x)
 
 -- the system owns blocks 0 to 2 and the anode blocks
 unfoldable pub systemOwns : List ℕ → ℕ → ℕ
-systemOwns img x = cond (ltb x 3) 1 (sumBelow (holds img x) 42)
+systemOwns img x = cond (ltb x 3) 1 (sumBelow (oneIfHolds img x) 42)
 
 -- how many owners a block has: the system, and each anode that covers it
 unfoldable pub owners : ℕ → (ℕ → ℕ) → (ℕ → ℕ) → (ℕ → ℕ) → ℕ → ℕ
