@@ -12,7 +12,7 @@ use Rattle.disk.proofs.Laws.{length-blockOf}
 use Rattle.rules.specs.Counting.{oneAt, sumList, occurrences, gather}
 use Rattle.rules.specs.Anodes.{Anodes, limit, anodesOf}
 use Rattle.rules.specs.Chains.{chainOf, oneIfHead, run, blocksOf, blockCount}
-use Rattle.rules.specs.Walk.{Dir, dirMade, root, Entered, Item, entriesIn, isBlockOf, blocksFor, itemOf, broken, itemsAt, itemsBy, itemsOf, subDirs, walkOf, reachedDirs}
+use Rattle.rules.specs.Walk.{Dir, dirMade, root, Entered, Item, entriesIn, isBlockOf, blocksFor, itemOf, brokenItem, itemsAt, itemsBy, itemsOf, subDirs, walkOf, reachedDirs}
 use Rattle.rules.specs.Lookup.{noDirectory, entriesOf, isNamed, firstNamed, entryNamed, nth}
 use Rattle.laws.specs.Tests.{T-true}
 use Rattle.laws.specs.Sums.{oneAt-cases, oneAt-same}
@@ -81,7 +81,7 @@ module _ {ex : ℕ → Bool} {n last : ℕ} {s : Anodes} {system hd sd : ℕ →
       pub its-items : (s .count a ≡ 1) × (marked d (s .block a) ≡ true) × (itemsAt entries marked s d a ≡ map (itemOf s) (entries (s .block a)))
       its-items = elim (itemsAt-cases entries marked s d a) [
         | inl q ↦ (q .0, T-true (marked d (s .block a)) (q .1), q .2)
-        | inr q ↦ absurd (omega (arith, rw q at fine-at, list-one wrong broken, broken-wrong))
+        | inr q ↦ absurd (omega (arith, rw q at fine-at, list-one wrong brokenItem, broken-wrong))
       ]
 
       -- an entry of its block has nothing wrong
@@ -321,7 +321,7 @@ module _ {img : List ℕ} (a : AcceptedImage img) where
       elim (itemsAt-cases (entriesIn img) (isBlockOf img) s d b) [
         | inl q ↦ (let r = member-map (itemOf s) (entriesIn img (s .block b)) i (rw (q .2) at in-b) in
             (r .0, gathered (λ c. entriesIn img (s .block c)) (chainOf (s .next) limit (d .head)) b (r .0) on (r .1), sym (item-dir s (r .0)) ∙ ap (λ (j : Item). j .dir) (sym (r .2)) ∙ t, sym (item-anode s (r .0)) ∙ ap (λ (j : Item). j .anode) (sym (r .2))))
-        | inr q ↦ elim (member-cons i broken [] (rw q at in-b)) [ inl e ↦ absurd (true≢false (sym t ∙ ap (λ (j : Item). j .dir) e)) | inr n ↦ absurd (no-member i n) ]
+        | inr q ↦ elim (member-cons i brokenItem [] (rw q at in-b)) [ inl e ↦ absurd (true≢false (sym t ∙ ap (λ (j : Item). j .dir) e)) | inr n ↦ absurd (no-member i n) ]
       ]
 
   named-dir : (d : Dir) (i : Item) (b : Bool) → i .dir ≡ b → (c : Dir) → Member c (cond b (dirMade (i .anode) (d .head) ∷ []) []) → (i .dir ≡ true) × (c .head ≡ i .anode)

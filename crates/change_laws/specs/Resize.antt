@@ -10,7 +10,7 @@ use borrow.Author.Tests.{eq-eqb, ne-eqb}
 use Rattle.disk.specs.Blocks.{blockOf}
 use Rattle.rules.specs.Anodes.{Anodes, limit, anodesOf}
 use Rattle.rules.specs.Chains.{chainOf}
-use Rattle.rules.specs.Walk.{Dir, Entered, entriesIn, isBlockOf, blocksFor, broken, itemsFor, itemsAt, itemsBy, reachedDirs}
+use Rattle.rules.specs.Walk.{Dir, Entered, entriesIn, isBlockOf, blocksFor, brokenItem, itemsFor, itemsAt, itemsBy, reachedDirs}
 use Rattle.rules.specs.Space.{Plan}
 use Rattle.rules.specs.Changes.{resizePlan, resizedImage, resized}
 use Rattle.laws.specs.Tests.{same?}

@@ -9,7 +9,7 @@ use lib.Dec.{eqb, leb}
 use Rattle.rules.specs.Counting.{_if_else_, firstOf, occurrences, anyBelow}
 use Rattle.rules.specs.Anodes.{Anodes, limit}
 use Rattle.rules.specs.Chains.{chainOf, oneIfHead, blockCount}
-use Rattle.rules.specs.Walk.{Dir, Entered, Item, Scanned, faulty, fine, Walk, fault, done, walk, walkOf, visited, faultIn, scan, faultOf, subDirs, itemOf, itemsAt, itemsBy, itemsOf, broken, wrongAnode, wrongFileSize, blocksFor, entriesIn, isBlockOf, root}
+use Rattle.rules.specs.Walk.{Dir, Entered, Item, Scanned, faulty, fine, Walk, fault, done, walk, walkOf, visited, faultIn, scan, faultOf, subDirs, itemOf, itemsAt, itemsBy, itemsOf, brokenItem, wrongAnode, wrongFileSize, blocksFor, entriesIn, isBlockOf, root}
 use Rattle.rules.specs.Accepted.{diskSize, lastReserved, wrongFixed, outOfRange, wrongLinks, wrongFreeList, twoOwners, noOwner, unnamedChain, treeFault, damageIn}
 use Rattle.laws.specs.Each.{Each, each-gather}
 use Rattle.laws.specs.Items.{each-item}

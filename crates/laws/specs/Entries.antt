@@ -17,7 +17,7 @@ use Rattle.directory.specs.Entries.{isDir, walkedAt}
 use Rattle.rules.specs.Counting.{sumList, occurrences, anyIn}
 use Rattle.rules.specs.Anodes.{limit, Anodes}
 use Rattle.rules.specs.Chains.{chainOf, oneIfHead, blockCount}
-use Rattle.rules.specs.Walk.{Dir, Entered, entriesFrom, Item, blocksFor, wrongAnode, wrongFileSize, itemOf, broken, itemsFor, itemsAt, itemsBy, entriesIn}
+use Rattle.rules.specs.Walk.{Dir, Entered, entriesFrom, Item, blocksFor, wrongAnode, wrongFileSize, itemOf, brokenItem, itemsFor, itemsAt, itemsBy, entriesIn}
 use Rattle.laws.specs.Tests.{cond-cases, T-true, both, tested-from}
 use Rattle.laws.specs.Bags.{list-one, list-mono, list-congr, list-congr-where, list-zero, gather-sum, map-sum, none-at, kept-sum-where}
 use Rattle.laws.specs.Space.{Alike}
@@ -67,7 +67,7 @@ Unbroken l = anyIn (λ e. e .broken) l ≡ false
 abbrev pub weighEntry : (Bool → Bool → ℕ → ℕ → ℕ) → Entered → ℕ
 weighEntry v e = v (e .broken) (e .dir) (e .anode) (e .size)
 
-pub broken-wrong : wrong broken ≡ 12
+pub broken-wrong : wrong brokenItem ≡ 12
 unfolding wrong
 broken-wrong = refl
 
@@ -159,16 +159,16 @@ module _ (entries : ℕ → List Entered) (marked : Dir → ℕ → Bool) (s : A
   Gives a = (s .count a ≡ 1) × T (marked d (s .block a)) × (itemsAt entries marked s d a ≡ map (itemOf s) (entries (s .block a)))
 
   -- or is broken
-  pub itemsAt-cases : (a : ℕ) → Gives a ⊎ (itemsAt entries marked s d a ≡ broken ∷ [])
+  pub itemsAt-cases : (a : ℕ) → Gives a ⊎ (itemsAt entries marked s d a ≡ brokenItem ∷ [])
   unfolding itemsFor
-  itemsAt-cases a = elim (cond-cases (eqb (s .count a) 1 && marked d (s .block a)) (map (itemOf s) (entries (s .block a))) (broken ∷ [])) [
+  itemsAt-cases a = elim (cond-cases (eqb (s .count a) 1 && marked d (s .block a)) (map (itemOf s) (entries (s .block a))) (brokenItem ∷ [])) [
     | inl q ↦ (let b = both (eqb (s .count a) 1) (marked d (s .block a)) (q .0) in inl (eqb→eq (s .count a) 1 (b .0), b .1, q .1))
     | inr q ↦ inr (q .1)
   ]
 
   -- where nothing is wrong, or a broken item at least has a weight and there is none, it gives the items of its block
-  pub itemsAt-fine : (guard : Item → ℕ) → guard broken ≢ 0 → (a : ℕ) → sumList guard (itemsAt entries marked s d a) ≡ 0 → Gives a
-  itemsAt-fine guard some a z = elim (itemsAt-cases a) [ inl q ↦ q | inr q ↦ absurd (some (sym (list-one guard broken) ∙ ap (sumList guard) (sym q) ∙ z)) ]
+  pub itemsAt-fine : (guard : Item → ℕ) → guard brokenItem ≢ 0 → (a : ℕ) → sumList guard (itemsAt entries marked s d a) ≡ 0 → Gives a
+  itemsAt-fine guard some a z = elim (itemsAt-cases a) [ inl q ↦ q | inr q ↦ absurd (some (sym (list-one guard brokenItem) ∙ ap (sumList guard) (sym q) ∙ z)) ]
 
   -- and so does each anode of a directory with nothing wrong
   pub anodes-fine : sumList wrong (itemsBy entries marked s d) ≡ 0 → (a : ℕ) → 0 < occurrences a (chainOf (s .next) limit (d .head)) → Gives a
@@ -180,7 +180,7 @@ module _ (entries : ℕ → List Entered) (marked : Dir → ℕ → Bool) (s : A
   itemsAt-whole a c m = rw (eq-eqb (s .count a) 1 c, T-true (marked d (s .block a)) m)
 
   -- a weight that is at most another at every entry
-  pub items-mono : (w u : Item → ℕ) → ((e : Entered) → w (itemOf s e) ≤ u (itemOf s e)) → w broken ≤ u broken → sumList w (itemsBy entries marked s d) ≤ sumList u (itemsBy entries marked s d)
+  pub items-mono : (w u : Item → ℕ) → ((e : Entered) → w (itemOf s e) ≤ u (itemOf s e)) → w brokenItem ≤ u brokenItem → sumList w (itemsBy entries marked s d) ≤ sumList u (itemsBy entries marked s d)
   items-mono w u h b = omega (
     arith,
     items-sum w,
@@ -191,12 +191,12 @@ module _ (entries : ℕ → List Entered) (marked : Dir → ℕ → Bool) (s : A
       at : (a : ℕ) → sumList w (itemsAt entries marked s d a) ≤ sumList u (itemsAt entries marked s d a)
       at a = elim (itemsAt-cases a) [
         | inl q ↦ rw (q .2) (omega (arith, map-sum (itemOf s) w (entries (s .block a)), map-sum (itemOf s) u (entries (s .block a)), list-mono (λ e. w (itemOf s e)) (λ e. u (itemOf s e)) (entries (s .block a)) h))
-        | inr q ↦ rw q (omega (arith, list-one w broken, list-one u broken, b))
+        | inr q ↦ rw q (omega (arith, list-one w brokenItem, list-one u brokenItem, b))
       ]
 
 -- ---- the same entries, their sizes apart
 
-module _ (s t : Anodes) (φ : Entered → Entered) (guard : Item → ℕ) (guard-broken : guard broken ≢ 0)
+module _ (s t : Anodes) (φ : Entered → Entered) (guard : Item → ℕ) (guard-broken : guard brokenItem ≢ 0)
     (like : (e : Entered) → guard (itemOf s e) ≡ 0 → (φ e .dir ≡ e .dir) × (φ e .anode ≡ e .anode) × (wrong (itemOf t (φ e)) ≡ 0)) where
   entries-alike : (l : List Entered) → sumList guard (map (itemOf s) l) ≡ 0 → (w : Bool → ℕ → ℕ) →
       sumList (λ j. w (j .dir) (j .anode)) (map (itemOf t) (map φ l)) ≡ sumList (λ j. w (j .dir) (j .anode)) (map (itemOf s) l)

@@ -7,16 +7,16 @@ use native.Mathlib.Omega.{arith}
 use lib.Dec.{eqb}
 use Rattle.rules.specs.Counting.{oneAt, sumList, occurrences, gather}
 use Rattle.rules.specs.Anodes.{Anodes}
-use Rattle.rules.specs.Walk.{Dir, dirMade, Entered, Item, broken, itemsFor, subDirs}
+use Rattle.rules.specs.Walk.{Dir, dirMade, Entered, Item, brokenItem, itemsFor, subDirs}
 use Rattle.laws.specs.Bags.{list-nil, list-one, list-mono, list-congr, gather-sum, map-sum}
 use Rattle.laws.specs.Each.{Each, each-given}
 
 -- what holds of the item of each entry, and of a broken one, holds of all that an anode gives
-pub each-item : (P : Item → Type 0) (item : Entered → Item) → ((e : Entered) → P (item e)) → P broken → (entries : ℕ → List Entered) (marked : Dir → ℕ → Bool) (s : Anodes) (d : Dir) (a : ℕ) →
+pub each-item : (P : Item → Type 0) (item : Entered → Item) → ((e : Entered) → P (item e)) → P brokenItem → (entries : ℕ → List Entered) (marked : Dir → ℕ → Bool) (s : Anodes) (d : Dir) (a : ℕ) →
     Each P (itemsFor item entries marked s d a)
 unfolding itemsFor
 each-item P item h b entries marked s d a = go (eqb (s .count a) 1 && marked d (s .block a)) where
-  go : (t : Bool) → Each P (cond t (map item (entries (s .block a))) (broken ∷ []))
+  go : (t : Bool) → Each P (cond t (map item (entries (s .block a))) (brokenItem ∷ []))
   go true = each-given P item h (entries (s .block a))
   go false = (b, tt)
 

@@ -9,7 +9,7 @@ use lib.Dec.{T}
 use Rattle.rules.specs.Counting.{oneAt, sumList, occurrences, changed}
 use Rattle.rules.specs.Anodes.{limit, Anodes}
 use Rattle.rules.specs.Chains.{chainOf}
-use Rattle.rules.specs.Walk.{Dir, dirMade, root, Entered, Item, itemOf, broken, itemsAt, itemsBy}
+use Rattle.rules.specs.Walk.{Dir, dirMade, root, Entered, Item, itemOf, brokenItem, itemsAt, itemsBy}
 use Rattle.rules.specs.Space.{rewritten}
 use Rattle.laws.specs.Tests.{same?, not-above}
 use Rattle.laws.specs.Sums.{oneAt-same, changed-same, changed-other}

@@ -7,7 +7,7 @@ use mathlib.Core.List.{List, map-id}
 use native.Mathlib.Omega.{arith}
 use Rattle.rules.specs.Counting.{oneAt, sumList}
 use Rattle.rules.specs.Anodes.{limit, Anodes}
-use Rattle.rules.specs.Walk.{Dir, root, Entered, Item, itemOf, broken, itemsBy}
+use Rattle.rules.specs.Walk.{Dir, root, Entered, Item, itemOf, brokenItem, itemsBy}
 use Rattle.laws.specs.Tests.{same?}
 use Rattle.laws.specs.Sums.{oneAt-cases, oneAt-same}
 use Rattle.laws.specs.Bags.{list-add, list-mono, list-congr}
@@ -73,7 +73,7 @@ module _ {ex : ℕ → Bool} {n last f : ℕ} {s : Anodes} {system hd sd : ℕ �
           (λ a k i. (sym (map-id (entries (s .block a))), refl)) (q .1)
     ]
       where
-        amiss-broken : amiss h broken ≢ 0
+        amiss-broken : amiss h brokenItem ≢ 0
         amiss-broken z = omega (arith, z, broken-wrong)
 
     alikes : Each (AlikeItems items items′) dirs

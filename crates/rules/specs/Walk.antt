@@ -86,13 +86,13 @@ itemOf s e = record {
 }
 
 -- a directory anode with count other than 1, or whose block is not the directory's: 12
-abbrev pub broken : Item
-broken = record { early = 12; late = 0; dir = false; anode = 0; place = 0 }
+abbrev pub brokenItem : Item
+brokenItem = record { early = 12; late = 0; dir = false; anode = 0; place = 0 }
 
 -- what anode a of directory d gives, where `entries` are those of a block, `marked` says whether a block is a directory's and `item` looks at an entry
 unfoldable pub itemsFor : (Entered → Item) → (ℕ → List Entered) → (Dir → ℕ → Bool) → Anodes → Dir → ℕ → List Item
 itemsFor item entries marked s d a =
-    cond (eqb (s .count a) 1 && marked d (s .block a)) (map item (entries (s .block a))) (broken ∷ [])
+    cond (eqb (s .count a) 1 && marked d (s .block a)) (map item (entries (s .block a))) (brokenItem ∷ [])
 
 -- what anode a of directory d gives the walk
 abbrev pub itemsAt : (ℕ → List Entered) → (Dir → ℕ → Bool) → Anodes → Dir → ℕ → List Item
