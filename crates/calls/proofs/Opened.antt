@@ -13,7 +13,7 @@ use Rattle.rules.specs.Accepted.{diskSize, shortTables, checkAnswer}
 use Rattle.rules.specs.Changes.{Left, left}
 use Rattle.rules.specs.Tables.{anodeEntry, anodeTable, blockTable, tableLeft, blocksLeft, anodesLeft}
 use Rattle.rules.specs.Lookup.{entryNamed, entriesOf, nth}
-use Rattle.rules.specs.Calls.{Outcome, outcomeOf, settled, checkOutcome, summaryOf, doneOr, leftAfter, summaryOutcome, checkedFirst, spanAnswer, bytesRead, readAnswer, readOutcome, listAnswer, listAnswered, fieldsListed, nameListed, listOutcome}
+use Rattle.rules.specs.Calls.{Outcome, outcomeOf, settled, checkOutcome, summaryOf, doneOr, leftAfter, summaryOutcome, checkedFirst, spanRefusal, bytesRead, readAnswer, readOutcome, listRefusal, listAnswer, fieldsListed, nameListed, listOutcome}
 use Rattle.fsck.specs.declared.Tally.{Tally}
 use Rattle.fsck.specs.declared.Checked.{Checked}
 use Rattle.fsck.specs.declared.Checked.the-variants.{Accepted, Refused}
@@ -79,13 +79,13 @@ module _ (img b₀ a₀ b a : List ℕ) (x : Checked) (e : outcomeOf (checkedNum
 
     pub read-refused : (h : ℕ) (name : List ℕ) (offset : ℕ) (out : List ℕ) → outcomeOf k img b a out [] ≡ readOutcome img b₀ a₀ h name offset out
     unfolding readOutcome readAnswer
-    read-refused h name offset out = rw (first-k (spanAnswer img (anodesOf img) h name offset (length out)), not-done k some _ out) (settled-k out [])
+    read-refused h name offset out = rw (first-k (spanRefusal img (anodesOf img) h name offset (length out)), not-done k some _ out) (settled-k out [])
 
     pub list-refused : (h n : ℕ) → outcomeOf k img b a (replicate 11 0) [] ≡ listOutcome img b₀ a₀ h n
-    unfolding listOutcome listAnswered
+    unfolding listOutcome listAnswer
     list-refused h n =
         rw (
-          first-k (listAnswer img (anodesOf img) h n),
+          first-k (listRefusal img (anodesOf img) h n),
           not-done {X = List ℕ} k some _ (replicate 11 0),
           not-done {X = List ℕ} k some _ [],
         )
@@ -146,18 +146,18 @@ module _ (img b₀ a₀ b a : List ℕ) (x : Checked) (e : outcomeOf (checkedNum
               ∙ table-entry (anodeEntry (anodesOf img)) limit (drop limit a₀) i l;
         }
 
-    pub read-answered : (h : ℕ) (name : List ℕ) (offset : ℕ) (out out′ : List ℕ) (k : ℕ) → k ≡ spanAnswer img (anodesOf img) h name offset (length out) →
+    pub read-answered : (h : ℕ) (name : List ℕ) (offset : ℕ) (out out′ : List ℕ) (k : ℕ) → k ≡ spanRefusal img (anodesOf img) h name offset (length out) →
         out′ ≡ bytesRead k img (anodesOf img) (entryNamed img (anodesOf img) h name) offset out → outcomeOf k img b a out′ [] ≡ readOutcome img b₀ a₀ h name offset out
     unfolding readOutcome readAnswer
     read-answered h name offset out out′ k span bytes =
-        rw (first-0 (spanAnswer img (anodesOf img) h name offset (length out)), ← span, ← bytes)
+        rw (first-0 (spanRefusal img (anodesOf img) h name offset (length out)), ← span, ← bytes)
         (settled-late k (rw span (span-late img (anodesOf img) h name offset (length out))) out′ [])
 
-    pub list-answered : (h n : ℕ) (fields name : List ℕ) (k : ℕ) → k ≡ listAnswer img (anodesOf img) h n → fields ≡ fieldsListed k img (nth (entriesOf img (anodesOf img) h) n) →
+    pub list-answered : (h n : ℕ) (fields name : List ℕ) (k : ℕ) → k ≡ listRefusal img (anodesOf img) h n → fields ≡ fieldsListed k img (nth (entriesOf img (anodesOf img) h) n) →
         name ≡ nameListed k img (nth (entriesOf img (anodesOf img) h) n) → outcomeOf k img b a fields name ≡ listOutcome img b₀ a₀ h n
-    unfolding listOutcome listAnswered
+    unfolding listOutcome listAnswer
     list-answered h n fields name k is-k f m =
-        rw (first-0 (listAnswer img (anodesOf img) h n), ← is-k, ← f, ← m)
+        rw (first-0 (listRefusal img (anodesOf img) h n), ← is-k, ← f, ← m)
         (settled-late k (rw is-k (list-late img (anodesOf img) h n)) fields name)
 
     -- a change by name, as it leaves the image and the tables

@@ -12,7 +12,7 @@ use Rattle.rules.specs.Anodes.{Anodes, limit}
 use Rattle.rules.specs.Walk.{Entered}
 use Rattle.rules.specs.Accepted.{diskSize, shortTables, checkAnswer}
 use Rattle.rules.specs.Lookup.{noDirectory, entryNamed, isThere, namesDir, fullDir, pastEnd, nth, entriesOf}
-use Rattle.rules.specs.Calls.{spanAnswer, resizeAnswer, removeAnswer, makeAnswer, wrongEntry, listAnswer}
+use Rattle.rules.specs.Calls.{spanRefusal, resizeRefusal, removeRefusal, makeRefusal, wrongEntry, listRefusal}
 use Rattle.laws.specs.Tests.{if-zero, firstOf-zero, firstOf-some}
 use Rattle.laws.specs.Acceptance.{passed-of}
 
@@ -76,12 +76,12 @@ behind-search missing o rest = row-first 21 missing _ _ _ (omega arith) (row-fir
 
 module _ (img : List ℕ) (s : Anodes) (h : ℕ) where
   -- a list is a search
-  pub list-search : (n : ℕ) → listAnswer img s h n ≡ searchNumber (noDirectory img s h) (nth (entriesOf img s h) n)
-  unfolding listAnswer
+  pub list-search : (n : ℕ) → listRefusal img s h n ≡ searchNumber (noDirectory img s h) (nth (entriesOf img s h) n)
+  unfolding listRefusal
   list-search n = refl
 
   -- the directory of a listed entry is reached
-  pub list-reached : (n : ℕ) → listAnswer img s h n ≡ 0 → noDirectory img s h ≡ false
+  pub list-reached : (n : ℕ) → listRefusal img s h n ≡ 0 → noDirectory img s h ≡ false
   list-reached n e = search-reached (noDirectory img s h) (nth (entriesOf img s h) n) (sym (list-search n) ∙ e)
 
   module _ (name : List ℕ) where
@@ -89,20 +89,20 @@ module _ (img : List ℕ) (s : Anodes) (h : ℕ) where
     found = entryNamed img s h name
 
     -- 24 behind 21 and 22
-    pub file-row : resizeAnswer img s h name ≡ firstOf (searchNumber (noDirectory img s h) found) (24 if namesDir found else 0)
-    unfolding resizeAnswer
+    pub file-row : resizeRefusal img s h name ≡ firstOf (searchNumber (noDirectory img s h) found) (24 if namesDir found else 0)
+    unfolding resizeRefusal
     file-row = behind-search (noDirectory img s h) found (24 if namesDir found else 0)
 
     -- 26 behind those of a file
-    pub span-row : (offset len : ℕ) → spanAnswer img s h name offset len ≡ firstOf (resizeAnswer img s h name) (26 if pastEnd found offset len else 0)
-    unfolding spanAnswer resizeAnswer firstOf
+    pub span-row : (offset len : ℕ) → spanRefusal img s h name offset len ≡ firstOf (resizeRefusal img s h name) (26 if pastEnd found offset len else 0)
+    unfolding spanRefusal resizeRefusal firstOf
     span-row offset len =
         row-first 21 (noDirectory img s h) _ _ _ (omega arith)
         (row-first 22 (not (isThere found)) _ _ _ (omega arith) (row-first 24 (namesDir found) 0 _ _ (omega arith) refl))
 
     -- 25 behind 21 and 22
-    pub full-row : removeAnswer img s h name ≡ firstOf (searchNumber (noDirectory img s h) found) (25 if fullDir img s found else 0)
-    unfolding removeAnswer
+    pub full-row : removeRefusal img s h name ≡ firstOf (searchNumber (noDirectory img s h) found) (25 if fullDir img s found else 0)
+    unfolding removeRefusal
     full-row = behind-search (noDirectory img s h) found (25 if fullDir img s found else 0)
 
     -- a found entry that the row behind 21 and 22 passed: its own directory is reached
@@ -113,19 +113,19 @@ module _ (img : List ℕ) (s : Anodes) (h : ℕ) where
           (search-reached (noDirectory img s h) found (z .0), ap test (sym is) ∙ z .1)
 
       -- a file is no directory
-      pub file-found : resizeAnswer img s h name ≡ 0 → (noDirectory img s h ≡ false) × (x .dir ≡ false)
-      file-found e = row-found namesDir 24 (resizeAnswer img s h name) file-row (omega arith) e
+      pub file-found : resizeRefusal img s h name ≡ 0 → (noDirectory img s h ≡ false) × (x .dir ≡ false)
+      file-found e = row-found namesDir 24 (resizeRefusal img s h name) file-row (omega arith) e
 
       -- a span is a file's, and ends within its size
-      pub span-found : (offset len : ℕ) → spanAnswer img s h name offset len ≡ 0 → (noDirectory img s h ≡ false) × (x .dir ≡ false) × (offset + len ≤ x .size)
+      pub span-found : (offset len : ℕ) → spanRefusal img s h name offset len ≡ 0 → (noDirectory img s h ≡ false) × (x .dir ≡ false) × (offset + len ≤ x .size)
       span-found offset len e =
-          let z = both-passed (resizeAnswer img s h name) (spanAnswer img s h name offset len) 26 (pastEnd found offset len) (span-row offset len) (omega arith) e in
+          let z = both-passed (resizeRefusal img s h name) (spanRefusal img s h name offset len) 26 (pastEnd found offset len) (span-row offset len) (omega arith) e in
           let f = file-found (z .0) in
           (f .0, f .1, ltb-false (x .size) (offset + len) (rw is at (z .1)))
 
       -- an entry that may go is no full directory's
-      pub removable-found : removeAnswer img s h name ≡ 0 → (noDirectory img s h ≡ false) × (fullDir img s (some x) ≡ false)
-      removable-found e = row-found (fullDir img s) 25 (removeAnswer img s h name) full-row (omega arith) e
+      pub removable-found : removeRefusal img s h name ≡ 0 → (noDirectory img s h ≡ false) × (fullDir img s (some x) ≡ false)
+      removable-found e = row-found (fullDir img s) 25 (removeRefusal img s h name) full-row (omega arith) e
 
 -- ---- each call's own refusals come after the damage numbers
 
@@ -146,20 +146,20 @@ search-late : (missing : Bool) (o : Option Entered) → Late (searchNumber missi
 search-late missing o = if-late 21 missing _ (omega arith) (if-late 22 (not (isThere o)) 0 (omega arith) none-late)
 
 module _ (img : List ℕ) (s : Anodes) (h : ℕ) where
-  pub list-late : (n : ℕ) → Late (listAnswer img s h n)
+  pub list-late : (n : ℕ) → Late (listRefusal img s h n)
   list-late n = rw (list-search img s h n) (search-late (noDirectory img s h) (nth (entriesOf img s h) n))
 
-  pub resize-late : (name : List ℕ) → Late (resizeAnswer img s h name)
+  pub resize-late : (name : List ℕ) → Late (resizeRefusal img s h name)
   resize-late name = behind-late _ _ 24 (namesDir (entryNamed img s h name)) (file-row img s h name) (omega arith) (search-late (noDirectory img s h) (entryNamed img s h name))
 
-  pub span-late : (name : List ℕ) (offset len : ℕ) → Late (spanAnswer img s h name offset len)
+  pub span-late : (name : List ℕ) (offset len : ℕ) → Late (spanRefusal img s h name offset len)
   span-late name offset len = behind-late _ _ 26 (pastEnd (entryNamed img s h name) offset len) (span-row img s h name offset len) (omega arith) (resize-late name)
 
-  pub remove-late : (name : List ℕ) → Late (removeAnswer img s h name)
+  pub remove-late : (name : List ℕ) → Late (removeRefusal img s h name)
   remove-late name = behind-late _ _ 25 (fullDir img s (entryNamed img s h name)) (full-row img s h name) (omega arith) (search-late (noDirectory img s h) (entryNamed img s h name))
 
-  pub make-late : (type : ℕ) (name comment : List ℕ) → Late (makeAnswer img s h type name comment)
-  unfolding makeAnswer
+  pub make-late : (type : ℕ) (name comment : List ℕ) → Late (makeRefusal img s h type name comment)
+  unfolding makeRefusal
   make-late type name comment =
       if-late 20 (wrongEntry type name comment) _ (omega arith)
       (if-late 21 (noDirectory img s h) _ (omega arith)

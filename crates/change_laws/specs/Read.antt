@@ -14,7 +14,7 @@ use Rattle.rules.specs.Chains.{blocksOf}
 use Rattle.rules.specs.Walk.{Entered, blocksFor}
 use Rattle.rules.specs.Accepted.{checkAnswer}
 use Rattle.rules.specs.Lookup.{noDirectory, entryNamed, bytesOf, contents}
-use Rattle.rules.specs.Calls.{spanAnswer, readAnswer, readOutcome, settled, doneOr}
+use Rattle.rules.specs.Calls.{spanRefusal, readAnswer, readOutcome, settled, doneOr}
 use Rattle.laws.specs.ChainBlocks.{length-blocksOf}
 use Rattle.frames.specs.StoredBytes.{length-gather}
 use Rattle.change_laws.specs.Reached.{named-member, EntryIn, entry-facts, entry-data}
@@ -42,7 +42,7 @@ module _ (img b a : List ℕ) (accepted : checkAnswer img (length b) (length a) 
   }) file
 
   done : (out : List ℕ) → length out ≡ e .size → readAnswer img b a h name 0 (length out) ≡ 0
-  unfolding readAnswer spanAnswer firstOf
+  unfolding readAnswer spanRefusal firstOf
   done out long =
       rw (accepted, reached, found) (rw (le-ltb (e .size) (0 + length out) (omega arith)) (ap (λ (d : Bool). 24 if d else 0) file))
 

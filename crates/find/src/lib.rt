@@ -7,7 +7,7 @@ ghost use lib.Dec.{ltb};
 ghost use Rattle.directory.specs.Entries.{isDir};
 ghost use Rattle.rules.specs.Anodes.{anodesOf};
 ghost use Rattle.rules.specs.Lookup.{noDirectory, entryNamed, entriesOf, isThere, nth};
-ghost use Rattle.rules.specs.Calls.{spanAnswer, resizeAnswer, removeAnswer, listAnswer};
+ghost use Rattle.rules.specs.Calls.{spanRefusal, resizeRefusal, removeRefusal, listRefusal};
 ghost use Rattle.anodes.specs.Loaded.{anodesFrom};
 ghost use Rattle.lookup.specs.Answers.{entryOf};
 ghost use Rattle.find.specs.Open.{OpenFor};
@@ -73,7 +73,7 @@ pub fn find_nth(
     n: u64,
 ) -> Search
     requires { ⌜ OpenFor (now image) (now firsts) (now nexts) (now queue) (now heads) dirs ⌝ }
-    ensures { λ r. ⌜ Finds r (listAnswer (now (image .entry)) (anodesOf (now (image .entry))) (head .0) n) (nth (entriesOf (now (image .entry)) (anodesOf (now (image .entry))) (head .0)) n) ⌝ }
+    ensures { λ r. ⌜ Finds r (listRefusal (now (image .entry)) (anodesOf (now (image .entry))) (head .0) n) (nth (entriesOf (now (image .entry)) (anodesOf (now (image .entry))) (head .0)) n) ⌝ }
 {
     if !is_reached(heads, queue, dirs, head) {
         return Search::Refused(Refusal::NoDirectory);
@@ -94,7 +94,7 @@ pub fn find_file(
     name: &[u8],
 ) -> Search
     requires { ⌜ OpenFor (now image) (now firsts) (now nexts) (now queue) (now heads) dirs ⌝ }
-    ensures { λ r. ⌜ Finds r (resizeAnswer (now (image .entry)) (anodesOf (now (image .entry))) (head .0) (now (name .entry))) (entryNamed (now (image .entry)) (anodesOf (now (image .entry))) (head .0) (now (name .entry))) ⌝ }
+    ensures { λ r. ⌜ Finds r (resizeRefusal (now (image .entry)) (anodesOf (now (image .entry))) (head .0) (now (name .entry))) (entryNamed (now (image .entry)) (anodesOf (now (image .entry))) (head .0) (now (name .entry))) ⌝ }
 {
     let found = find_named(image, firsts, nexts, queue, heads, dirs, head, name);
     let e = match found {
@@ -133,7 +133,7 @@ pub fn find_span(
     len: usize,
 ) -> Search
     requires { ⌜ OpenFor (now image) (now firsts) (now nexts) (now queue) (now heads) dirs ⌝ }
-    ensures { λ r. ⌜ Finds r (spanAnswer (now (image .entry)) (anodesOf (now (image .entry))) (head .0) (now (name .entry)) offset len) (entryNamed (now (image .entry)) (anodesOf (now (image .entry))) (head .0) (now (name .entry))) ⌝ }
+    ensures { λ r. ⌜ Finds r (spanRefusal (now (image .entry)) (anodesOf (now (image .entry))) (head .0) (now (name .entry)) offset len) (entryNamed (now (image .entry)) (anodesOf (now (image .entry))) (head .0) (now (name .entry))) ⌝ }
 {
     let found = find_file(image, firsts, nexts, queue, heads, dirs, head, name);
     let e = match found {
@@ -168,7 +168,7 @@ pub fn find_removable(
     name: &[u8],
 ) -> Search
     requires { ⌜ OpenFor (now image) (now firsts) (now nexts) (now queue) (now heads) dirs ⌝ }
-    ensures { λ r. ⌜ Finds r (removeAnswer (now (image .entry)) (anodesOf (now (image .entry))) (head .0) (now (name .entry))) (entryNamed (now (image .entry)) (anodesOf (now (image .entry))) (head .0) (now (name .entry))) ⌝ }
+    ensures { λ r. ⌜ Finds r (removeRefusal (now (image .entry)) (anodesOf (now (image .entry))) (head .0) (now (name .entry))) (entryNamed (now (image .entry)) (anodesOf (now (image .entry))) (head .0) (now (name .entry))) ⌝ }
 {
     let found = find_named(image, firsts, nexts, queue, heads, dirs, head, name);
     let e = match found {

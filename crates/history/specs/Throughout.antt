@@ -17,7 +17,7 @@ use Rattle.rules.specs.Accepted.{diskSize, wrongSize, checkAnswer}
 use Rattle.rules.specs.Lookup.{noDirectory, entryNamed, ofEntry, notEmpty}
 use Rattle.rules.specs.Format.{wrongFormat, formatAnswer, formatted}
 use Rattle.rules.specs.Changes.{Left, left, NewEntry, resized, made, written, removed}
-use Rattle.rules.specs.Calls.{checkedFirst, settled, checkOutcome, summaryOutcome, formatOutcome, doneOr, leftAfter, readAnswer, readOutcome, spanAnswer, listAnswered, listOutcome, makeOutcome, makeAnswer, wrongEntry, resizeOutcome, resizeAnswer, writeOutcome, removeOutcome, removeAnswer, changeNamed}
+use Rattle.rules.specs.Calls.{checkedFirst, settled, checkOutcome, summaryOutcome, formatOutcome, doneOr, leftAfter, readAnswer, readOutcome, spanRefusal, listAnswer, listOutcome, makeOutcome, makeRefusal, wrongEntry, resizeOutcome, resizeRefusal, writeOutcome, removeOutcome, removeRefusal, changeNamed}
 use Rattle.rules.specs.History.{Call, check, summary, format, read, list, make, resize, write, remove, outcome, Sound, Damage, SoundThroughout}
 use Rattle.counting.specs.Laws.{neither}
 use Rattle.laws.specs.Tests.{if-zero, firstOf-zero}
@@ -76,8 +76,8 @@ module _ (img : List ℕ) (ok : checkAnswer img (diskSize img) limit ≡ 0) wher
   unfolding readAnswer
   read-kept blocks anodes h name offset len = stays _ (answers (length blocks) (length anodes) _ (span-late img s h name offset len))
 
-  list-kept : (blocks anodes : List ℕ) (h n : ℕ) → AcceptedAfter (left (listAnswered img blocks anodes h n) img)
-  unfolding listAnswered
+  list-kept : (blocks anodes : List ℕ) (h n : ℕ) → AcceptedAfter (left (listAnswer img blocks anodes h n) img)
+  unfolding listAnswer
   list-kept blocks anodes h n = stays _ (answers (length blocks) (length anodes) _ (list-late img s h n))
 
   -- format leaves the image, or a formatted one
@@ -119,25 +119,25 @@ module _ (img : List ℕ) (ok : checkAnswer img (diskSize img) limit ≡ 0) wher
       AcceptedAfter (changeNamed (readAnswer img blocks anodes h name offset (length bytes)) img (entryNamed img s h name) (λ e. left 0 (written img s e offset bytes)))
   unfolding readAnswer
   write-kept blocks anodes h name offset bytes =
-      named-kept blocks anodes (spanAnswer img s h name offset (length bytes)) (span-late img s h name offset (length bytes)) (entryNamed img s h name) (λ e. left 0 (written img s e offset bytes))
+      named-kept blocks anodes (spanRefusal img s h name offset (length bytes)) (span-late img s h name offset (length bytes)) (entryNamed img s h name) (λ e. left 0 (written img s e offset bytes))
       (λ z e q.
       let f = span-found img s h name e q offset (length bytes) z in
       becomes (left 0 (written img s e offset bytes)) (write-accepted (named-in h name e (f .0) q) (f .1) offset bytes) (λ d. omega (arith, d .0)))
 
   resize-kept : (blocks anodes : List ℕ) (h : ℕ) (name : List ℕ) (new : ℕ) →
-      AcceptedAfter (changeNamed (checkedFirst img blocks anodes (resizeAnswer img s h name)) img (entryNamed img s h name) (λ e. resized img s e new))
+      AcceptedAfter (changeNamed (checkedFirst img blocks anodes (resizeRefusal img s h name)) img (entryNamed img s h name) (λ e. resized img s e new))
   resize-kept blocks anodes h name new =
-      named-kept blocks anodes (resizeAnswer img s h name) (resize-late img s h name) (entryNamed img s h name) (λ e. resized img s e new)
+      named-kept blocks anodes (resizeRefusal img s h name) (resize-late img s h name) (entryNamed img s h name) (λ e. resized img s e new)
       (λ z e q.
       let f = file-found img s h name e q z in
       let m = named-in h name e (f .0) q in
       becomes (resized img s e new) (resize-accepted m new (f .1)) (steps-harmless _ (resize-answers m new)))
 
   remove-kept : (blocks anodes : List ℕ) (h : ℕ) (name : List ℕ) →
-      AcceptedAfter (changeNamed (checkedFirst img blocks anodes (removeAnswer img s h name)) img (entryNamed img s h name) (λ e. removed img s e))
+      AcceptedAfter (changeNamed (checkedFirst img blocks anodes (removeRefusal img s h name)) img (entryNamed img s h name) (λ e. removed img s e))
   unfolding notEmpty
   remove-kept blocks anodes h name =
-      named-kept blocks anodes (removeAnswer img s h name) (remove-late img s h name) (entryNamed img s h name) (λ e. removed img s e)
+      named-kept blocks anodes (removeRefusal img s h name) (remove-late img s h name) (entryNamed img s h name) (λ e. removed img s e)
       (λ z e q.
       let f = removable-found img s h name e q z in
       let m = named-in h name e (f .0) q in
@@ -145,10 +145,10 @@ module _ (img : List ℕ) (ok : checkAnswer img (diskSize img) limit ≡ 0) wher
       (steps-harmless _ (elim (remove-answers m) [ inl z ↦ inl z | inr k ↦ inr (inr k) ])))
 
   make-kept : (blocks anodes : List ℕ) (h type : ℕ) (name comment : List ℕ) (new : NewEntry) → new .name ≡ name → new .comment ≡ comment →
-      AcceptedAfter (leftAfter (checkedFirst img blocks anodes (makeAnswer img s h type name comment)) img (made img s h new))
-  unfolding makeAnswer wrongEntry
+      AcceptedAfter (leftAfter (checkedFirst img blocks anodes (makeRefusal img s h type name comment)) img (made img s h new))
+  unfolding makeRefusal wrongEntry
   make-kept blocks anodes h type name comment new en ec =
-      change-kept blocks anodes (makeAnswer img s h type name comment) (make-late img s h type name comment) (made img s h new)
+      change-kept blocks anodes (makeRefusal img s h type name comment) (make-late img s h type name comment) (made img s h new)
       (λ z.
       let w = if-zero 20 (wrongEntry type name comment) _ (omega arith) z in
       let r = if-zero 21 (noDirectory img s h) _ (omega arith) (w .1) in

@@ -20,7 +20,7 @@ use Rattle.rules.specs.Chains.{blocksOf}
 use Rattle.rules.specs.Walk.{Entered}
 use Rattle.rules.specs.Lookup.{noDirectory, entryNamed}
 use Rattle.rules.specs.Changes.{Left, left, NewEntry, made, written}
-use Rattle.rules.specs.Calls.{makeAnswer, wrongEntry, doneOr, leftAfter, changeNamed, wrongText}
+use Rattle.rules.specs.Calls.{makeRefusal, wrongEntry, doneOr, leftAfter, changeNamed, wrongText}
 use Rattle.counting.specs.Laws.{neither}
 use Rattle.laws.specs.Tests.{same?, less?}
 use Rattle.frames.specs.DisjointBlocks.{chain-block, chain-once}
@@ -122,21 +122,21 @@ pub long-comment : (n : ℕ) → not (leb n 79) ≡ ltb 79 n
 long-comment n = elim (less? 79 n) [ inl l ↦ rw (lt-leb n 79 l, lt-ltb 79 n l) | inr l ↦ rw (le-leb n 79 l, le-ltb 79 n l) ]
 
 module _ (img : List ℕ) (s : Anodes) (h type : ℕ) (name comment : List ℕ) where
-  pub make-wrong : wrongEntry type name comment ≡ true → makeAnswer img s h type name comment ≡ 20
-  unfolding makeAnswer
+  pub make-wrong : wrongEntry type name comment ≡ true → makeRefusal img s h type name comment ≡ 20
+  unfolding makeRefusal
   make-wrong e = rw e
 
   module _ (right : wrongEntry type name comment ≡ false) where
-    pub make-nowhere : noDirectory img s h ≡ true → makeAnswer img s h type name comment ≡ 21
-    unfolding makeAnswer
+    pub make-nowhere : noDirectory img s h ≡ true → makeRefusal img s h type name comment ≡ 21
+    unfolding makeRefusal
     make-nowhere e = rw (right, e)
 
-    pub make-there : (x : Entered) → noDirectory img s h ≡ false → entryNamed img s h name ≡ some x → makeAnswer img s h type name comment ≡ 23
-    unfolding makeAnswer
+    pub make-there : (x : Entered) → noDirectory img s h ≡ false → entryNamed img s h name ≡ some x → makeRefusal img s h type name comment ≡ 23
+    unfolding makeRefusal
     make-there x e found = rw (right, e, found)
 
-    pub make-fine : noDirectory img s h ≡ false → entryNamed img s h name ≡ none → makeAnswer img s h type name comment ≡ 0
-    unfolding makeAnswer
+    pub make-fine : noDirectory img s h ≡ false → entryNamed img s h name ≡ none → makeRefusal img s h type name comment ≡ 0
+    unfolding makeRefusal
     make-fine e found = rw (right, e, found)
 
 pub leaves-made : (img : List ℕ) (h : ℕ) (new : NewEntry) (n : ℕ) → n ≡ 0 → (other : NewEntry) → other ≡ new → (r : ℕ) (b a img′ b′ a′ : List ℕ) → Leaves r img b a img′ b′ a′ (made img (anodesOf img) h other) →

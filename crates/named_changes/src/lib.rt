@@ -8,7 +8,7 @@ ghost use lib.ListN.{length};
 ghost use Rattle.rules.specs.Anodes.{anodesOf};
 ghost use Rattle.rules.specs.Lookup.{entryNamed};
 ghost use Rattle.rules.specs.Changes.{left, newEntry, made, written, resized, removed};
-ghost use Rattle.rules.specs.Calls.{spanAnswer, resizeAnswer, removeAnswer, wrongText, makeAnswer, leftAfter, changeNamed};
+ghost use Rattle.rules.specs.Calls.{spanRefusal, resizeRefusal, removeRefusal, wrongText, makeRefusal, leftAfter, changeNamed};
 ghost use Rattle.find.specs.Open.{Open, OpenAnodes};
 ghost use Rattle.change_tables.specs.Leaves.{Leaves};
 use contents::write_along;
@@ -45,7 +45,7 @@ pub fn write_named(
     bytes: &[u8],
 ) -> u32
     requires { ⌜ OpenAnodes (now image) (now counts) (now firsts) (now nexts) (now queue) (now heads) dirs ⌝ }
-    ensures { λ r. ⌜ ((b a : List ℕ) → Leaves r (now (image .entry)) b a (now (image .exit)) b a (changeNamed (spanAnswer (now (image .entry)) (anodesOf (now (image .entry))) (head .0) (now (name .entry)) offset (length (now (bytes .entry)))) (now (image .entry)) (entryNamed (now (image .entry)) (anodesOf (now (image .entry))) (head .0) (now (name .entry))) (λ e. left 0 (written (now (image .entry)) (anodesOf (now (image .entry))) e offset (now (bytes .entry)))))) ⌝ }
+    ensures { λ r. ⌜ ((b a : List ℕ) → Leaves r (now (image .entry)) b a (now (image .exit)) b a (changeNamed (spanRefusal (now (image .entry)) (anodesOf (now (image .entry))) (head .0) (now (name .entry)) offset (length (now (bytes .entry)))) (now (image .entry)) (entryNamed (now (image .entry)) (anodesOf (now (image .entry))) (head .0) (now (name .entry))) (λ e. left 0 (written (now (image .entry)) (anodesOf (now (image .entry))) e offset (now (bytes .entry)))))) ⌝ }
 {
     let len = bytes.len();
     let found = find_span(
@@ -83,7 +83,7 @@ pub fn resize_named(
     size: u64,
 ) -> u32
     requires { ⌜ OpenAnodes (now image) (now counts) (now firsts) (now nexts) (now queue) (now heads) dirs × (3444 ≤ length (now heads)) ⌝ }
-    ensures { λ r. ⌜ Leaves r (now (image .entry)) (now (blocks .entry)) (now (heads .entry)) (now (image .exit)) (now (blocks .exit)) (now (heads .exit)) (changeNamed (resizeAnswer (now (image .entry)) (anodesOf (now (image .entry))) (head .0) (now (name .entry))) (now (image .entry)) (entryNamed (now (image .entry)) (anodesOf (now (image .entry))) (head .0) (now (name .entry))) (λ e. resized (now (image .entry)) (anodesOf (now (image .entry))) e size)) ⌝ }
+    ensures { λ r. ⌜ Leaves r (now (image .entry)) (now (blocks .entry)) (now (heads .entry)) (now (image .exit)) (now (blocks .exit)) (now (heads .exit)) (changeNamed (resizeRefusal (now (image .entry)) (anodesOf (now (image .entry))) (head .0) (now (name .entry))) (now (image .entry)) (entryNamed (now (image .entry)) (anodesOf (now (image .entry))) (head .0) (now (name .entry))) (λ e. resized (now (image .entry)) (anodesOf (now (image .entry))) e size)) ⌝ }
 {
     let found = find_file(image, firsts, nexts, queue, heads, dirs, head, name);
     let e = match found {
@@ -107,7 +107,7 @@ pub fn remove_named(
     name: &[u8],
 ) -> u32
     requires { ⌜ OpenAnodes (now image) (now counts) (now firsts) (now nexts) (now queue) (now heads) dirs × (3444 ≤ length (now heads)) ⌝ }
-    ensures { λ r. ⌜ Leaves r (now (image .entry)) (now (blocks .entry)) (now (heads .entry)) (now (image .exit)) (now (blocks .exit)) (now (heads .exit)) (changeNamed (removeAnswer (now (image .entry)) (anodesOf (now (image .entry))) (head .0) (now (name .entry))) (now (image .entry)) (entryNamed (now (image .entry)) (anodesOf (now (image .entry))) (head .0) (now (name .entry))) (λ e. removed (now (image .entry)) (anodesOf (now (image .entry))) e)) ⌝ }
+    ensures { λ r. ⌜ Leaves r (now (image .entry)) (now (blocks .entry)) (now (heads .entry)) (now (image .exit)) (now (blocks .exit)) (now (heads .exit)) (changeNamed (removeRefusal (now (image .entry)) (anodesOf (now (image .entry))) (head .0) (now (name .entry))) (now (image .entry)) (entryNamed (now (image .entry)) (anodesOf (now (image .entry))) (head .0) (now (name .entry))) (λ e. removed (now (image .entry)) (anodesOf (now (image .entry))) e)) ⌝ }
 {
     let found = find_removable(image, firsts, nexts, queue, heads, dirs, head, name);
     let e = match found {
@@ -148,7 +148,7 @@ pub fn make_named(
     protection: u8,
 ) -> u32
     requires { ⌜ Open (now image) (now counts) (now firsts) (now nexts) (now queue) (now parents) (now heads) dirs × (3444 ≤ length (now heads)) ⌝ }
-    ensures { λ r. ⌜ Leaves r (now (image .entry)) (now (blocks .entry)) (now (heads .entry)) (now (image .exit)) (now (blocks .exit)) (now (heads .exit)) (leftAfter (makeAnswer (now (image .entry)) (anodesOf (now (image .entry))) (head .0) kind (now (name .entry)) (now (comment .entry))) (now (image .entry)) (made (now (image .entry)) (anodesOf (now (image .entry))) (head .0) (newEntry (eqb kind 2) (now (name .entry)) (now (comment .entry)) day minute tick protection))) ⌝ }
+    ensures { λ r. ⌜ Leaves r (now (image .entry)) (now (blocks .entry)) (now (heads .entry)) (now (image .exit)) (now (blocks .exit)) (now (heads .exit)) (leftAfter (makeRefusal (now (image .entry)) (anodesOf (now (image .entry))) (head .0) kind (now (name .entry)) (now (comment .entry))) (now (image .entry)) (made (now (image .entry)) (anodesOf (now (image .entry))) (head .0) (newEntry (eqb kind 2) (now (name .entry)) (now (comment .entry)) day minute tick protection))) ⌝ }
 {
     let read = kind_of(kind);
     let KindRead::Is(k) = read else {

@@ -4,7 +4,7 @@ ghost use Prim.Native.Nat.{_*_, _<_};
 ghost use lib.ListN.{length};
 ghost use Rattle.rules.specs.Anodes.{anodesOf};
 ghost use Rattle.rules.specs.Lookup.{entryNamed, entriesOf, nameAt, nth};
-ghost use Rattle.rules.specs.Calls.{spanAnswer, bytesRead, listAnswer, fieldsAt, fieldsListed, nameListed};
+ghost use Rattle.rules.specs.Calls.{spanRefusal, bytesRead, listRefusal, fieldsAt, fieldsListed, nameListed};
 ghost use Rattle.find.specs.Open.{OpenAnodes, OpenFor};
 use contents::copy_out;
 use disk::AnodeNo;
@@ -34,7 +34,7 @@ pub fn read_named(
     out: &mut [u8],
 ) -> u32
     requires { ⌜ OpenAnodes (now image) (now counts) (now firsts) (now nexts) (now queue) (now heads) dirs ⌝ }
-    ensures answer { λ r. ⌜ r ≡ spanAnswer (now (image .entry)) (anodesOf (now (image .entry))) (head .0) (now (name .entry)) offset (length (now (out .entry))) ⌝ }
+    ensures answer { λ r. ⌜ r ≡ spanRefusal (now (image .entry)) (anodesOf (now (image .entry))) (head .0) (now (name .entry)) offset (length (now (out .entry))) ⌝ }
     ensures output { λ r. ⌜ now (out .exit) ≡ bytesRead r (now (image .entry)) (anodesOf (now (image .entry))) (entryNamed (now (image .entry)) (anodesOf (now (image .entry))) (head .0) (now (name .entry))) offset (now (out .entry)) ⌝ }
 {
     let len = out.len();
@@ -105,7 +105,7 @@ pub fn list_nth<'a>(
     answer: &mut u32,
 ) -> &'a [u8]
     requires { ⌜ OpenFor (now image) (now firsts) (now nexts) (now queue) (now heads) dirs ⌝ }
-    ensures answer { λ _. ⌜ now (answer .exit) ≡ listAnswer (now (image .entry)) (anodesOf (now (image .entry))) (head .0) n ⌝ }
+    ensures answer { λ _. ⌜ now (answer .exit) ≡ listRefusal (now (image .entry)) (anodesOf (now (image .entry))) (head .0) n ⌝ }
     ensures fields { λ _. ⌜ now (fields .exit) ≡ fieldsListed (now (answer .exit)) (now (image .entry)) (nth (entriesOf (now (image .entry)) (anodesOf (now (image .entry))) (head .0)) n) ⌝ }
     ensures name { λ r. ⌜ now r ≡ nameListed (now (answer .exit)) (now (image .entry)) (nth (entriesOf (now (image .entry)) (anodesOf (now (image .entry))) (head .0)) n) ⌝ }
 {

@@ -83,8 +83,8 @@ abbrev pub checkedFirst : List ℕ → List ℕ → List ℕ → ℕ → ℕ
 checkedFirst img blocks anodes n = firstOf (checkAnswer img (length blocks) (length anodes)) n
 
 -- read and write: 21, 22, 24, 26
-unfoldable pub spanAnswer : List ℕ → Anodes → ℕ → List ℕ → ℕ → ℕ → ℕ
-spanAnswer img s h name offset len =
+unfoldable pub spanRefusal : List ℕ → Anodes → ℕ → List ℕ → ℕ → ℕ → ℕ
+spanRefusal img s h name offset len =
     21 if noDirectory img s h
     else 22 if not (isThere (entryNamed img s h name))
     else 24 if namesDir (entryNamed img s h name)
@@ -92,16 +92,16 @@ spanAnswer img s h name offset len =
     else 0
 
 -- resize: 21, 22, 24, then 27 and 28 by its steps
-unfoldable pub resizeAnswer : List ℕ → Anodes → ℕ → List ℕ → ℕ
-resizeAnswer img s h name =
+unfoldable pub resizeRefusal : List ℕ → Anodes → ℕ → List ℕ → ℕ
+resizeRefusal img s h name =
     21 if noDirectory img s h
     else 22 if not (isThere (entryNamed img s h name))
     else 24 if namesDir (entryNamed img s h name)
     else 0
 
 -- remove: 21, 22, 25, then 28 by its steps
-unfoldable pub removeAnswer : List ℕ → Anodes → ℕ → List ℕ → ℕ
-removeAnswer img s h name =
+unfoldable pub removeRefusal : List ℕ → Anodes → ℕ → List ℕ → ℕ
+removeRefusal img s h name =
     21 if noDirectory img s h
     else 22 if not (isThere (entryNamed img s h name))
     else 25 if fullDir img s (entryNamed img s h name)
@@ -116,16 +116,16 @@ unfoldable pub wrongEntry : ℕ → List ℕ → List ℕ → Bool
 wrongEntry type name comment = not (eqb type 253 || eqb type 2) || wrongText name comment
 
 -- make: 20, 21, 23, then 27 and 28 by its steps
-unfoldable pub makeAnswer : List ℕ → Anodes → ℕ → ℕ → List ℕ → List ℕ → ℕ
-makeAnswer img s h type name comment =
+unfoldable pub makeRefusal : List ℕ → Anodes → ℕ → ℕ → List ℕ → List ℕ → ℕ
+makeRefusal img s h type name comment =
     20 if wrongEntry type name comment
     else 21 if noDirectory img s h
     else 23 if isThere (entryNamed img s h name)
     else 0
 
 -- list: 21, 22
-unfoldable pub listAnswer : List ℕ → Anodes → ℕ → ℕ → ℕ
-listAnswer img s h n =
+unfoldable pub listRefusal : List ℕ → Anodes → ℕ → ℕ → ℕ
+listRefusal img s h n =
     21 if noDirectory img s h
     else 22 if not (isThere (nth (entriesOf img s h) n))
     else 0
@@ -140,7 +140,7 @@ bytesRead n img s e offset out = foundOr n e (λ e. take (length out) (drop offs
 
 -- the check first, then 21, 22, 24, 26; write answers the same
 unfoldable pub readAnswer : List ℕ → List ℕ → List ℕ → ℕ → List ℕ → ℕ → ℕ → ℕ
-readAnswer img blocks anodes h name offset len = checkedFirst img blocks anodes (spanAnswer img (anodesOf img) h name offset len)
+readAnswer img blocks anodes h name offset len = checkedFirst img blocks anodes (spanRefusal img (anodesOf img) h name offset len)
 
 -- Read: the image stays, the buffer is the output
 unfoldable pub readOutcome : List ℕ → List ℕ → List ℕ → ℕ → List ℕ → ℕ → List ℕ → Outcome
@@ -168,21 +168,21 @@ abbrev pub nameListed : ℕ → List ℕ → Option Entered → List ℕ
 nameListed n img e = foundOr n e (λ e. nameAt img (e .place)) []
 
 -- the check first, then 21, 22
-unfoldable pub listAnswered : List ℕ → List ℕ → List ℕ → ℕ → ℕ → ℕ
-listAnswered img blocks anodes h n = checkedFirst img blocks anodes (listAnswer img (anodesOf img) h n)
+unfoldable pub listAnswer : List ℕ → List ℕ → List ℕ → ℕ → ℕ → ℕ
+listAnswer img blocks anodes h n = checkedFirst img blocks anodes (listRefusal img (anodesOf img) h n)
 
 -- List: the image stays, the fields are the output, and the name
 unfoldable pub listOutcome : List ℕ → List ℕ → List ℕ → ℕ → ℕ → Outcome
 listOutcome img blocks anodes h n =
-    settled (left (listAnswered img blocks anodes h n) img) blocks anodes
-    (fieldsListed (listAnswered img blocks anodes h n) img (nth (entriesOf img (anodesOf img) h) n))
-    (nameListed (listAnswered img blocks anodes h n) img (nth (entriesOf img (anodesOf img) h) n))
+    settled (left (listAnswer img blocks anodes h n) img) blocks anodes
+    (fieldsListed (listAnswer img blocks anodes h n) img (nth (entriesOf img (anodesOf img) h) n))
+    (nameListed (listAnswer img blocks anodes h n) img (nth (entriesOf img (anodesOf img) h) n))
 
 -- Make: the check first, then 20, 21, 23, then the steps
 unfoldable pub makeOutcome : List ℕ → List ℕ → List ℕ → ℕ → ℕ → List ℕ → List ℕ → ℕ → ℕ → ℕ → ℕ → Outcome
 makeOutcome img blocks anodes h type name comment day minute tick protection =
     settled
-    (leftAfter (checkedFirst img blocks anodes (makeAnswer img (anodesOf img) h type name comment)) img
+    (leftAfter (checkedFirst img blocks anodes (makeRefusal img (anodesOf img) h type name comment)) img
     (made img (anodesOf img) h (newEntry (eqb type 2) name comment day minute tick protection)))
     blocks anodes [] []
 
@@ -190,7 +190,7 @@ makeOutcome img blocks anodes h type name comment day minute tick protection =
 unfoldable pub resizeOutcome : List ℕ → List ℕ → List ℕ → ℕ → List ℕ → ℕ → Outcome
 resizeOutcome img blocks anodes h name new =
     settled
-    (changeNamed (checkedFirst img blocks anodes (resizeAnswer img (anodesOf img) h name)) img
+    (changeNamed (checkedFirst img blocks anodes (resizeRefusal img (anodesOf img) h name)) img
     (entryNamed img (anodesOf img) h name) (λ e. resized img (anodesOf img) e new))
     blocks anodes [] []
 
@@ -206,6 +206,6 @@ writeOutcome img blocks anodes h name offset bytes =
 unfoldable pub removeOutcome : List ℕ → List ℕ → List ℕ → ℕ → List ℕ → Outcome
 removeOutcome img blocks anodes h name =
     settled
-    (changeNamed (checkedFirst img blocks anodes (removeAnswer img (anodesOf img) h name)) img
+    (changeNamed (checkedFirst img blocks anodes (removeRefusal img (anodesOf img) h name)) img
     (entryNamed img (anodesOf img) h name) (λ e. removed img (anodesOf img) e))
     blocks anodes [] []
