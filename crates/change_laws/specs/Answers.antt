@@ -11,7 +11,7 @@ use Rattle.rules.specs.Counting.{_if_else_, firstOf}
 use Rattle.rules.specs.Anodes.{Anodes, limit}
 use Rattle.rules.specs.Walk.{Entered}
 use Rattle.rules.specs.Accepted.{diskSize, shortTables, checkAnswer}
-use Rattle.rules.specs.Lookup.{noDirectory, entryNamed, isThere, namesDir, fullDir, pastEnd, nth, entriesOf}
+use Rattle.rules.specs.Lookup.{noDirectory, entryNamed, isThere, namesDir, notEmptyDir, pastEnd, nth, entriesOf}
 use Rattle.rules.specs.Calls.{spanRefusal, resizeRefusal, removeRefusal, makeRefusal, wrongEntry, listRefusal}
 use Rattle.laws.specs.Tests.{if-zero, firstOf-zero, firstOf-some}
 use Rattle.laws.specs.Acceptance.{passed-of}
@@ -101,9 +101,9 @@ module _ (img : List ℕ) (s : Anodes) (h : ℕ) where
         (row-first 22 (not (isThere found)) _ _ _ (omega arith) (row-first 24 (namesDir found) 0 _ _ (omega arith) refl))
 
     -- 25 behind 21 and 22
-    pub full-row : removeRefusal img s h name ≡ firstOf (searchNumber (noDirectory img s h) found) (25 if fullDir img s found else 0)
+    pub notEmpty-row : removeRefusal img s h name ≡ firstOf (searchNumber (noDirectory img s h) found) (25 if notEmptyDir img s found else 0)
     unfolding removeRefusal
-    full-row = behind-search (noDirectory img s h) found (25 if fullDir img s found else 0)
+    notEmpty-row = behind-search (noDirectory img s h) found (25 if notEmptyDir img s found else 0)
 
     -- a found entry that the row behind 21 and 22 passed: its own directory is reached
     module _ (x : Entered) (is : found ≡ some x) where
@@ -124,8 +124,8 @@ module _ (img : List ℕ) (s : Anodes) (h : ℕ) where
           (f .0, f .1, ltb-false (x .size) (offset + len) (rw is at (z .1)))
 
       -- an entry that may go is no full directory's
-      pub removable-found : removeRefusal img s h name ≡ 0 → (noDirectory img s h ≡ false) × (fullDir img s (some x) ≡ false)
-      removable-found e = row-found (fullDir img s) 25 (removeRefusal img s h name) full-row (omega arith) e
+      pub removable-found : removeRefusal img s h name ≡ 0 → (noDirectory img s h ≡ false) × (notEmptyDir img s (some x) ≡ false)
+      removable-found e = row-found (notEmptyDir img s) 25 (removeRefusal img s h name) notEmpty-row (omega arith) e
 
 -- ---- each call's own refusals come after the damage numbers
 
@@ -156,7 +156,7 @@ module _ (img : List ℕ) (s : Anodes) (h : ℕ) where
   span-late name offset len = behind-late _ _ 26 (pastEnd (entryNamed img s h name) offset len) (span-row img s h name offset len) (omega arith) (resize-late name)
 
   pub remove-late : (name : List ℕ) → Late (removeRefusal img s h name)
-  remove-late name = behind-late _ _ 25 (fullDir img s (entryNamed img s h name)) (full-row img s h name) (omega arith) (search-late (noDirectory img s h) (entryNamed img s h name))
+  remove-late name = behind-late _ _ 25 (notEmptyDir img s (entryNamed img s h name)) (notEmpty-row img s h name) (omega arith) (search-late (noDirectory img s h) (entryNamed img s h name))
 
   pub make-late : (type : ℕ) (name comment : List ℕ) → Late (makeRefusal img s h type name comment)
   unfolding makeRefusal

@@ -14,7 +14,7 @@ use Rattle.disk.proofs.Laws.{number-some}
 use Rattle.rules.specs.Counting.{_if_else_, firstOf}
 use Rattle.rules.specs.Anodes.{Anodes, anodesOf}
 use Rattle.rules.specs.Walk.{Entered, Dir}
-use Rattle.rules.specs.Lookup.{noDirectory, entriesOf, nth, isThere, notEmpty, fullDir, noneHeaded}
+use Rattle.rules.specs.Lookup.{noDirectory, entriesOf, nth, isThere, notEmpty, notEmptyDir, noneHeaded}
 use Rattle.rules.specs.Calls.{doneOr}
 use Rattle.anodes.specs.Loaded.{anodesFrom}
 use Rattle.tree.specs.Steps.{queueOf}
@@ -67,9 +67,9 @@ module _ {img counts firsts nexts queue parents heads : List ℕ} {dirs : ℕ} (
   search-answered h reached f l same r a = rw (reached, ← by-image f (entryOf l) same) a
 
   -- the test of 25, by the blocks and nexts alone
-  pub full-by : (e : Entered) (r : Bool) → ((c : List ℕ) → r ≡ cond (e .dir) (isThere (nth (entriesOf img (anodesFrom c firsts nexts) (e .anode)) 0)) false) → fullDir img (anodesOf img) (some e) ≡ r
+  pub nonempty-by : (e : Entered) (r : Bool) → ((c : List ℕ) → r ≡ cond (e .dir) (isThere (nth (entriesOf img (anodesFrom c firsts nexts) (e .anode)) 0)) false) → notEmptyDir img (anodesOf img) (some e) ≡ r
   unfolding notEmpty
-  full-by e r same = sym (by-image (λ (s : Anodes). cond (e .dir) (isThere (nth (entriesOf img s (e .anode)) 0)) false) r same)
+  nonempty-by e r same = sym (by-image (λ (s : Anodes). cond (e .dir) (isThere (nth (entriesOf img s (e .anode)) 0)) false) r same)
 
 -- what a lookup found, an entry or none, is what is looked for
 pub search-is : (e : Option Entered) (r q : Lookup) → entryOf r ≡ e → r ≡ q → e ≡ entryOf q

@@ -147,7 +147,7 @@ pub fn find_span(
 }
 
 // Whether an entry is that of a directory with entries.
-fn is_full(image: &[u8], firsts: &[u16], nexts: &[u16], kind: Kind, anode: AnodeNo) -> bool
+fn is_nonempty_dir(image: &[u8], firsts: &[u16], nexts: &[u16], kind: Kind, anode: AnodeNo) -> bool
     ensures { λ r. ⌜ ((c : List ℕ) → r ≡ cond (isDir kind) (isThere (nth (entriesOf (now (image .entry)) (anodesFrom c (now (firsts .entry)) (now (nexts .entry))) (anode .0)) 0)) false) ⌝ }
 {
     if !is_directory(kind) {
@@ -176,7 +176,7 @@ pub fn find_removable(
         Search::Refused(r) => return Search::Refused(r),
     };
     let kind = e.kind;
-    if is_full(image, firsts, nexts, kind, e.anode) {
+    if is_nonempty_dir(image, firsts, nexts, kind, e.anode) {
         return Search::Refused(Refusal::NotEmpty);
     }
     Search::Found(e)

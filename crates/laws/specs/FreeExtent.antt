@@ -5,17 +5,17 @@ use mathlib.Core.Logic.{_⊎_, inl, inr}
 use mathlib.Core.Bool.{Bool, true, false, cond}
 use Rattle.rules.specs.Anodes.{Anodes}
 use Rattle.rules.specs.Chains.{cut, side}
-use Rattle.rules.specs.Space.{refused, Found, nowhere, found, firstFull, freeExtent, takeFrom, takeBlock}
+use Rattle.rules.specs.Space.{refused, Found, nowhere, found, firstExtent, freeExtent, takeFrom, takeBlock}
 use Rattle.laws.specs.Space.{Good}
 use Rattle.laws.specs.Sides.{SideHead, side-chain}
-use Rattle.laws.specs.Searches.{FoundIn, one-found, none-found, firstFull-found}
+use Rattle.laws.specs.Searches.{FoundIn, one-found, none-found, firstExtent-found}
 
 module _ (A : ℕ) (dir : Bool) (s : Anodes) where
   -- x after p is found so on one of the two sides
   pub extent-found : {ex : ℕ → Bool} {n last : ℕ} {system hd sd : ℕ → ℕ} → Good A ex n last s system hd sd → (p x : ℕ) → freeExtent A dir s ≡ found p x →
       (m : ℕ) × SideHead m × FoundIn (s .count) (cut (s .next)) m (side A s m) 0 p x
   unfolding freeExtent
-  extent-found g p x e = elim (one-found (firstFull (s .count) 0 (side A s (cond dir 2 1))) (firstFull (s .count) 0 (side A s (cond dir 1 2))) p x e) [
+  extent-found g p x e = elim (one-found (firstExtent (s .count) 0 (side A s (cond dir 2 1))) (firstExtent (s .count) 0 (side A s (cond dir 1 2))) p x e) [
     | inl f ↦ (cond dir 2 1, one-side dir, on (cond dir 2 1) (one-side dir) f)
     | inr f ↦ (cond dir 1 2, other-side dir, on (cond dir 1 2) (other-side dir) f)
   ]
@@ -28,17 +28,17 @@ module _ (A : ℕ) (dir : Bool) (s : Anodes) where
       other-side true = inl refl
       other-side false = inr refl
 
-      on : (m : ℕ) → SideHead m → firstFull (s .count) 0 (side A s m) ≡ found p x → FoundIn (s .count) (cut (s .next)) m (side A s m) 0 p x
-      on m o f = firstFull-found (s .count) (cut (s .next)) m 0 0 (side A s m) (side-chain g m o) p x f
+      on : (m : ℕ) → SideHead m → firstExtent (s .count) 0 (side A s m) ≡ found p x → FoundIn (s .count) (cut (s .next)) m (side A s m) 0 p x
+      on m o f = firstExtent-found (s .count) (cut (s .next)) m 0 0 (side A s m) (side-chain g m o) p x f
 
   -- where it is found on none, neither side has a block
-  pub extent-nowhere : freeExtent A dir s ≡ nowhere → (m : ℕ) → SideHead m → firstFull (s .count) 0 (side A s m) ≡ nowhere
+  pub extent-nowhere : freeExtent A dir s ≡ nowhere → (m : ℕ) → SideHead m → firstExtent (s .count) 0 (side A s m) ≡ nowhere
   unfolding freeExtent
   extent-nowhere e m o =
-      let n = none-found (firstFull (s .count) 0 (side A s (cond dir 2 1))) (firstFull (s .count) 0 (side A s (cond dir 1 2))) e in
+      let n = none-found (firstExtent (s .count) 0 (side A s (cond dir 2 1))) (firstExtent (s .count) 0 (side A s (cond dir 1 2))) e in
       either dir (n .0) (n .1) o
     where
-      either : (b : Bool) → firstFull (s .count) 0 (side A s (cond b 2 1)) ≡ nowhere → firstFull (s .count) 0 (side A s (cond b 1 2)) ≡ nowhere → SideHead m → firstFull (s .count) 0 (side A s m) ≡ nowhere
+      either : (b : Bool) → firstExtent (s .count) 0 (side A s (cond b 2 1)) ≡ nowhere → firstExtent (s .count) 0 (side A s (cond b 1 2)) ≡ nowhere → SideHead m → firstExtent (s .count) 0 (side A s m) ≡ nowhere
       either true p q (inl i) = rw i q
       either true p q (inr i) = rw i p
       either false p q (inl i) = rw i p

@@ -9,14 +9,14 @@ use borrow.Author.Tests.{lt-ltb, le-ltb}
 use Rattle.rules.specs.Counting.{lastOf}
 use Rattle.rules.specs.Anodes.{Anodes}
 use Rattle.rules.specs.Chains.{chainOf, side}
-use Rattle.rules.specs.Space.{refused, planned, withoutLast, Found, nowhere, found, lastFull, sideOf, release, giveFrom, giveBack, lastBlock}
+use Rattle.rules.specs.Space.{refused, planned, withoutLast, Found, nowhere, found, lastExtent, sideOf, release, giveFrom, giveBack, lastBlock}
 use Rattle.laws.specs.Tests.{less?}
 use Rattle.laws.specs.Ownership.{hand}
 use Rattle.laws.specs.Heads.{Head, head-chain}
 use Rattle.laws.specs.Space.{Good, on-chain}
 use Rattle.laws.specs.Owners.{full-used, full-inside}
 use Rattle.laws.specs.Sides.{SideHead, side-free, side-last, side-last-used, side-last-0}
-use Rattle.laws.specs.Searches.{FoundIn, found-after, lastFull-found}
+use Rattle.laws.specs.Searches.{FoundIn, found-after, lastExtent-found}
 use Rattle.laws.specs.Moves.{InHand, Placed, Moved, moved-by}
 use Rattle.laws.specs.Leaving.{last-gone, withoutBlock-out}
 use Rattle.laws.specs.Plans.{refused≢planned}
@@ -89,7 +89,7 @@ module _ {A : ℕ} {ex : ℕ → Bool} {n last : ℕ} {s : Anodes} (system : ℕ
 pub record Gives (A : ℕ) (ex : ℕ → Bool) (n last : ℕ) (s : Anodes) (system hd : ℕ → ℕ) (h : ℕ) (t : Anodes) (ys : List ℕ) : Type 0 where
   pub p : ℕ
   pub x : ℕ
-  pub is-last : lastFull (s .count) 0 (chainOf (s .next) A h) ≡ found p x
+  pub is-last : lastExtent (s .count) 0 (chainOf (s .next) A h) ≡ found p x
   pub some : lastBlock s x ≢ 0
   pub inside : lastBlock s x < n
   pub out : InHand A ex n last s system hd h (lastBlock s x) (withoutLast s h p x)
@@ -97,16 +97,16 @@ pub record Gives (A : ℕ) (ex : ℕ → Bool) (n last : ℕ) (s : Anodes) (syst
 
 module _ {A : ℕ} {ex : ℕ → Bool} {n last : ℕ} {s : Anodes} {system hd sd : ℕ → ℕ} (g : Good A ex n last s system hd sd) (h : ℕ) (d : Head (s .next) (s .block) h) where
   -- what the search for the last block finds stands on the chain
-  pub given-found : (p x : ℕ) → lastFull (s .count) 0 (chainOf (s .next) A h) ≡ found p x → FoundIn (s .count) (s .next) h (chainOf (s .next) A h) 0 p x
-  given-found = lastFull-found (s .count) (s .next) h 0 0 (chainOf (s .next) A h) (head-chain (g .linked) h d)
+  pub given-found : (p x : ℕ) → lastExtent (s .count) 0 (chainOf (s .next) A h) ≡ found p x → FoundIn (s .count) (s .next) h (chainOf (s .next) A h) 0 p x
+  given-found = lastExtent-found (s .count) (s .next) h 0 0 (chainOf (s .next) A h) (head-chain (g .linked) h d)
 
   module _ (h1 : h ≢ 1) (t : Anodes) (ys : List ℕ) (e : giveBack A ex last s h ≡ planned t ys) where
     -- a give that is done has made these steps
     pub give-steps : Gives A ex n last s system hd h t ys
     unfolding giveBack giveFrom
-    give-steps = go (lastFull (s .count) 0 (chainOf (s .next) A h)) refl e
+    give-steps = go (lastExtent (s .count) 0 (chainOf (s .next) A h)) refl e
       where
-        go : (c : Found) → lastFull (s .count) 0 (chainOf (s .next) A h) ≡ c → elim c [ nowhere ↦ refused 0 | found p x ↦ giveFrom A ex last s h p x ] ≡ planned t ys → Gives A ex n last s system hd h t ys
+        go : (c : Found) → lastExtent (s .count) 0 (chainOf (s .next) A h) ≡ c → elim c [ nowhere ↦ refused 0 | found p x ↦ giveFrom A ex last s h p x ] ≡ planned t ys → Gives A ex n last s system hd h t ys
         go nowhere q e = absurd (refused≢planned 0 t ys e)
         go (found p x) q e =
             let f = given-found p x q in

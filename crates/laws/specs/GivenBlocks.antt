@@ -9,13 +9,13 @@ use lib.ListN.{length}
 use Rattle.rules.specs.Counting.{sumList, gather}
 use Rattle.rules.specs.Anodes.{Anodes, limit}
 use Rattle.rules.specs.Chains.{chainOf, run, blocksOf}
-use Rattle.rules.specs.Space.{planned, rewritten, unlinked, withoutLast, found, lastFull, giveBack, giveMany, lastBlock}
+use Rattle.rules.specs.Space.{planned, rewritten, unlinked, withoutLast, found, lastExtent, giveBack, giveMany, lastBlock}
 use Rattle.laws.specs.Bags.{none-at, gather-none, gather-skip, gather-last}
 use Rattle.laws.specs.LinkChanges.{first, second, third}
 use Rattle.laws.specs.Heads.{Head}
 use Rattle.laws.specs.Space.{Good}
 use Rattle.laws.specs.Owners.{full-0}
-use Rattle.laws.specs.Searches.{FoundIn, found-after, lastFull-split}
+use Rattle.laws.specs.Searches.{FoundIn, found-after, lastExtent-split}
 use Rattle.laws.specs.Leaving.{withoutBlock-cases}
 use Rattle.laws.specs.Give.{given-found, give-steps, give-placed, give-good}
 use Rattle.laws.specs.Plans.{repeated-none, repeated-done}
@@ -24,12 +24,12 @@ use Rattle.laws.specs.ChainBlocks.{extent, extent-here, extent-other, bl
 -- ---- out of the giver's chain
 
 module _ {ex : ℕ → Bool} {n last : ℕ} {s : Anodes} {system hd sd : ℕ → ℕ} (g : Good limit ex n last s system hd sd) (h : ℕ) (d : Head (s .next) (s .block) h) (q x : ℕ)
-    (e : lastFull (s .count) 0 (chainOf (s .next) limit h) ≡ found q x) where
+    (e : lastExtent (s .count) 0 (chainOf (s .next) limit h) ≡ found q x) where
   is-found : FoundIn (s .count) (s .next) h (chainOf (s .next) limit h) 0 q x
   is-found = given-found g h d q x e
 
   split : (pre : List ℕ) × (post : List ℕ) × (chainOf (s .next) limit h ≡ pre ++ (x ∷ post)) × (sumList (s .count) post ≡ 0)
-  split = lastFull-split (s .count) 0 (chainOf (s .next) limit h) q x e
+  split = lastExtent-split (s .count) 0 (chainOf (s .next) limit h) q x e
 
   y : ℕ
   y = lastBlock s x

@@ -8,7 +8,7 @@ use native.Mathlib.Omega.{arith}
 use Rattle.rules.specs.Counting.{oneAt, lastOf}
 use Rattle.rules.specs.Anodes.{Anodes}
 use Rattle.rules.specs.Chains.{chainOf, side}
-use Rattle.rules.specs.Space.{refused, rewritten, insertedAfter, withoutFirst, withoutLast, Found, nowhere, found, firstFull, lastFull, freeExtent, sideOf, lowestFree, append, put, takeFrom, takeBlock, join, release, giveFrom, giveBack, takeMany, giveMany, lastBlock}
+use Rattle.rules.specs.Space.{refused, rewritten, insertedAfter, withoutFirst, withoutLast, Found, nowhere, found, firstExtent, lastExtent, freeExtent, sideOf, lowestFree, append, put, takeFrom, takeBlock, join, release, giveFrom, giveBack, takeMany, giveMany, lastBlock}
 use Rattle.laws.specs.Tests.{not-above}
 use Rattle.laws.specs.Sums.{oneAt-cases, oneAt-same, oneAt-other, sum-zero}
 use Rattle.laws.specs.LinkChanges.{first, second, third}
@@ -18,7 +18,7 @@ use Rattle.laws.specs.Cut.{cut-linked}
 use Rattle.laws.specs.Space.{Good}
 use Rattle.laws.specs.Sides.{SideHead, on-side}
 use Rattle.laws.specs.Owners.{full-used, full-0, blocks-chain}
-use Rattle.laws.specs.Searches.{firstFull-none, lastFull-none}
+use Rattle.laws.specs.Searches.{firstExtent-none, lastExtent-none}
 use Rattle.laws.specs.FreeExtent.{extent-found, extent-nowhere, take-found, take-cases}
 use Rattle.laws.specs.Plans.{refused-same, planned≢refused, repeated-refused}
 use Rattle.laws.specs.Arriving.{NeedsAnode, JoinsNone, NoneFree, fills, ends, starts, behind, append-cases, put-cases, join-cases}
@@ -71,11 +71,11 @@ module _ (A : ℕ) (ex : ℕ → Bool) where
 module _ {A : ℕ} {ex : ℕ → Bool} {n last : ℕ} where
   -- a head with a block has a last anode with one
   last-block : {s : Anodes} {system hd sd : ℕ → ℕ} → Good A ex n last s system hd sd → (h : ℕ) → Head (s .next) (s .block) h → 0 < blocks A hd (s .count) h →
-      (p : ℕ) × (x : ℕ) × (lastFull (s .count) 0 (chainOf (s .next) A h) ≡ found p x)
-  last-block {s} {hd = hd} g h d some = go (lastFull (s .count) 0 (chainOf (s .next) A h)) refl
+      (p : ℕ) × (x : ℕ) × (lastExtent (s .count) 0 (chainOf (s .next) A h) ≡ found p x)
+  last-block {s} {hd = hd} g h d some = go (lastExtent (s .count) 0 (chainOf (s .next) A h)) refl
     where
-      go : (c : Found) → lastFull (s .count) 0 (chainOf (s .next) A h) ≡ c → (p : ℕ) × (x : ℕ) × (lastFull (s .count) 0 (chainOf (s .next) A h) ≡ found p x)
-      go nowhere e = absurd (omega (arith, some, blocks-chain g h d, lastFull-none (s .count) 0 (chainOf (s .next) A h) e))
+      go : (c : Found) → lastExtent (s .count) 0 (chainOf (s .next) A h) ≡ c → (p : ℕ) × (x : ℕ) × (lastExtent (s .count) 0 (chainOf (s .next) A h) ≡ found p x)
+      go nowhere e = absurd (omega (arith, some, blocks-chain g h d, lastExtent-none (s .count) 0 (chainOf (s .next) A h) e))
       go (found p x) e = (p, x, e)
 
   -- so a give is refused with 28 alone
@@ -138,7 +138,7 @@ module _ (A : ℕ) (ex : ℕ → Bool) (s : Anodes) (h p x : ℕ) where
       (λ q. b .0 (sym (take-found A dir s ex h p x e) ∙ q), λ n. take-found A dir s ex h p x e ∙ b .1 n)
 
   -- a give of the last block y of x, after p the last extent that has one, exactly if y can join the last anode of its side in no way and none is free, the one just emptied counted
-  pub give-28-exactly : (last y z : ℕ) → lastFull (s .count) 0 (chainOf (s .next) A h) ≡ found p x → y ≡ lastBlock s x →
+  pub give-28-exactly : (last y z : ℕ) → lastExtent (s .count) 0 (chainOf (s .next) A h) ≡ found p x → y ≡ lastBlock s x →
       z ≡ lastOf (sideOf last y) (side A (withoutLast s h p x) (sideOf last y)) →
       (giveBack A ex last s h ≡ refused 28) ↔ (JoinsNone (withoutLast s h p x) z y × NoneFree A ex (withoutLast s h p x))
   unfolding giveBack giveFrom release
@@ -146,7 +146,7 @@ module _ (A : ℕ) (ex : ℕ → Bool) (s : Anodes) (h p x : ℕ) where
 
 module _ {A : ℕ} {ex : ℕ → Bool} {n last : ℕ} {s : Anodes} {system hd sd : ℕ → ℕ} (g : Good A ex n last s system hd sd) where
   -- no anode of either side has a block: the free chain has none
-  no-block : ((m : ℕ) → SideHead m → firstFull (s .count) 0 (side A s m) ≡ nowhere) → blocks A hd (s .count) 1 ≡ 0
+  no-block : ((m : ℕ) → SideHead m → firstExtent (s .count) 0 (side A s m) ≡ nowhere) → blocks A hd (s .count) 1 ≡ 0
   unfolding blocks side
   no-block e = sum-zero (λ a. oneAt (hd a) 1 * s .count a) A (λ a l. elim (oneAt-cases (hd a) 1) [
     | inr c ↦ rw (c .1) (omega arith)
@@ -157,7 +157,7 @@ module _ {A : ℕ} {ex : ℕ → Bool} {n last : ℕ} {s : Anodes} {system hd sd
       empty a q = not-above (s .count a) (λ p.
           let a0 = full-0 g a p in
           let u = full-used g a p in
-          omega (arith, p, firstFull-none (s .count) 0 (side A s (sd a)) (e (sd a) (on-side g a a0 u q)) a (omega (arith, on-own (cut-linked (g .linked)) (g .sides) a a0 u))))
+          omega (arith, p, firstExtent-none (s .count) 0 (side A s (sd a)) (e (sd a) (on-side g a a0 u q)) a (omega (arith, on-own (cut-linked (g .linked)) (g .sides) a a0 u))))
 
   -- a take is refused with 27 exactly if no free block is left
   pub take-27-exactly : (dir : Bool) (h : ℕ) → (takeBlock A ex dir s h ≡ refused 27) ↔ (blocks A hd (s .count) 1 ≡ 0)

@@ -16,7 +16,7 @@ use Rattle.rules.specs.Chains.{blockCount}
 use Rattle.rules.specs.Walk.{Entered, reached, reachedDirs}
 use Rattle.rules.specs.Accepted.{diskSize, checkAnswer}
 use Rattle.rules.specs.Tables.{blocksLeft, anodesLeft}
-use Rattle.rules.specs.Lookup.{noDirectory, entriesOf, nameAt, entryNamed, nth, ofEntry, isThere, namesDir, fullDir, pastEnd, contents}
+use Rattle.rules.specs.Lookup.{noDirectory, entriesOf, nameAt, entryNamed, nth, ofEntry, isThere, namesDir, notEmptyDir, pastEnd, contents}
 use Rattle.rules.specs.Format.{formatAnswer, formatted}
 use Rattle.rules.specs.Changes.{Left, left, newEntry, resized, made, written, removed}
 
@@ -104,7 +104,7 @@ unfoldable pub removeRefusal : List ℕ → Anodes → ℕ → List ℕ → ℕ
 removeRefusal img s h name =
     21 if noDirectory img s h
     else 22 if not (isThere (entryNamed img s h name))
-    else 25 if fullDir img s (entryNamed img s h name)
+    else 25 if notEmptyDir img s (entryNamed img s h name)
     else 0
 
 -- 20: name or comment against the entry rules

@@ -65,8 +65,8 @@ unfoldable pub notEmpty : List ℕ → Anodes → Entered → Bool
 notEmpty img s e = isThere (nth (entriesOf img s (e .anode)) 0)
 
 -- 25: the entry is there, is a directory's, and that is not empty
-abbrev pub fullDir : List ℕ → Anodes → Option Entered → Bool
-fullDir img s o = ofEntry o (λ e. cond (e .dir) (notEmpty img s e) false) false
+abbrev pub notEmptyDir : List ℕ → Anodes → Option Entered → Bool
+notEmptyDir img s o = ofEntry o (λ e. cond (e .dir) (notEmpty img s e) false) false
 
 -- 26: offset + length above size; the sum is a whole number
 abbrev pub pastEnd : Option Entered → ℕ → ℕ → Bool

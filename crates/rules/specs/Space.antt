@@ -58,8 +58,8 @@ pub data Found : Type 0 where
   found : ℕ → ℕ → Found
 
 -- anode a, after p, if it has a block
-unfoldable pub fullAt : (ℕ → ℕ) → ℕ → ℕ → Found
-fullAt count p a = elim (count a) [ zero ↦ nowhere | suc c ↦ found p a ]
+unfoldable pub extentAt : (ℕ → ℕ) → ℕ → ℕ → Found
+extentAt count p a = elim (count a) [ zero ↦ nowhere | suc c ↦ found p a ]
 
 -- the first of two searches that finds one
 unfoldable pub firstFound : Found → Found → Found
@@ -67,18 +67,18 @@ firstFound nowhere b = b
 firstFound (found p x) b = found p x
 
 -- the first anode of a list that has a block; p stands before the list
-unfoldable pub firstFull : (ℕ → ℕ) → ℕ → List ℕ → Found
-firstFull count p [] = nowhere
-firstFull count p (a ∷ l) = firstFound (fullAt count p a) (firstFull count a l)
+unfoldable pub firstExtent : (ℕ → ℕ) → ℕ → List ℕ → Found
+firstExtent count p [] = nowhere
+firstExtent count p (a ∷ l) = firstFound (extentAt count p a) (firstExtent count a l)
 
 -- the last that has one
-unfoldable pub lastFull : (ℕ → ℕ) → ℕ → List ℕ → Found
-lastFull count p [] = nowhere
-lastFull count p (a ∷ l) = firstFound (lastFull count a l) (fullAt count p a)
+unfoldable pub lastExtent : (ℕ → ℕ) → ℕ → List ℕ → Found
+lastExtent count p [] = nowhere
+lastExtent count p (a ∷ l) = firstFound (lastExtent count a l) (extentAt count p a)
 
 -- the first non-empty extent of the free list: data looks above last reserved first, directories (dir) up to it first, then the other side
 unfoldable pub freeExtent : ℕ → Bool → Anodes → Found
-freeExtent A dir s = firstFound (firstFull (s .count) 0 (side A s (cond dir 2 1))) (firstFull (s .count) 0 (side A s (cond dir 1 2)))
+freeExtent A dir s = firstFound (firstExtent (s .count) 0 (side A s (cond dir 2 1))) (firstExtent (s .count) 0 (side A s (cond dir 1 2)))
 
 -- the side of a block: that of anode 1 above last reserved, else that of anode 2
 unfoldable pub sideOf : ℕ → ℕ → ℕ
@@ -152,7 +152,7 @@ module _ (A : ℕ) (ex : ℕ → Bool) where
 
     -- GIVE BACK A BLOCK of h's chain: the last block of the last non-empty extent (a chain with no block is never asked)
     unfoldable pub giveBack : Anodes → ℕ → Plan
-    giveBack s h = elim (lastFull (s .count) 0 (chainOf (s .next) A h)) [ nowhere ↦ refused 0 | found p x ↦ giveFrom s h p x ]
+    giveBack s h = elim (lastExtent (s .count) 0 (chainOf (s .next) A h)) [ nowhere ↦ refused 0 | found p x ↦ giveFrom s h p x ]
 
     -- k gives
     unfoldable pub giveMany : ℕ → Anodes → ℕ → Plan

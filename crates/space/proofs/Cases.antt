@@ -9,18 +9,18 @@ use lib.ListN.{getD}
 use borrow.Author.Tests.{lt-ltb, le-ltb, eq-eqb, ne-eqb}
 use Rattle.rules.specs.Anodes.{Anodes}
 use Rattle.rules.specs.Chains.{chainOf, cut, side}
-use Rattle.rules.specs.Space.{refused, planned, rewritten, insertedAfter, withoutBlock, withoutFirst, withoutLast, nowhere, found, firstFound, firstFull, freeExtent, fillOr, growOr, growBeforeOr, lowestFree, append, put, join}
+use Rattle.rules.specs.Space.{refused, planned, rewritten, insertedAfter, withoutBlock, withoutFirst, withoutLast, nowhere, found, firstFound, firstExtent, freeExtent, fillOr, growOr, growBeforeOr, lowestFree, append, put, join}
 use Rattle.anodes.specs.Loaded.{anodesFrom}
 
 -- ---- the extent that a block is taken from
 
 module _ (dir : Bool) (c f n : List ℕ) (m : ℕ) (near : m ≡ cond dir 2 1) where
-  pub near-found : (p x : ℕ) → firstFull (λ a. getD c a 0) 0 (chainOf (cut (λ a. getD n a 0)) 3444 m) ≡ found p x → freeExtent 3444 dir (anodesFrom c f n) ≡ found p x
+  pub near-found : (p x : ℕ) → firstExtent (λ a. getD c a 0) 0 (chainOf (cut (λ a. getD n a 0)) 3444 m) ≡ found p x → freeExtent 3444 dir (anodesFrom c f n) ≡ found p x
   unfolding freeExtent firstFound side anodesFrom
   near-found p x e = rw (← near, e)
 
-  pub near-empty : (k : ℕ) → k ≡ cond (not dir) 2 1 → firstFull (λ a. getD c a 0) 0 (chainOf (cut (λ a. getD n a 0)) 3444 m) ≡ nowhere →
-      freeExtent 3444 dir (anodesFrom c f n) ≡ firstFull (λ a. getD c a 0) 0 (chainOf (cut (λ a. getD n a 0)) 3444 k)
+  pub near-empty : (k : ℕ) → k ≡ cond (not dir) 2 1 → firstExtent (λ a. getD c a 0) 0 (chainOf (cut (λ a. getD n a 0)) 3444 m) ≡ nowhere →
+      freeExtent 3444 dir (anodesFrom c f n) ≡ firstExtent (λ a. getD c a 0) 0 (chainOf (cut (λ a. getD n a 0)) 3444 k)
   unfolding freeExtent firstFound side anodesFrom
   near-empty k far e = rw (← near, e, far, other dir)
     where

@@ -10,11 +10,11 @@ use Rattle.rules.specs.Counting.{lastOf}
 use Rattle.rules.specs.Anodes.{Anodes, exists}
 use Rattle.rules.specs.Chains.{chainOf, cut, systemOwns, side, blockCount}
 use Rattle.rules.specs.Accepted.{diskSize, wrongSize, lastReserved}
-use Rattle.rules.specs.Space.{nowhere, found, lastFull, withoutLast, sideOf, join, release, giveFrom, giveBack}
+use Rattle.rules.specs.Space.{nowhere, found, lastExtent, withoutLast, sideOf, join, release, giveFrom, giveBack}
 use Rattle.laws.specs.Acceptance.{size-bounds}
 use Rattle.laws.specs.Heads.{Head}
 use Rattle.laws.specs.Sides.{side-last-used}
-use Rattle.laws.specs.Searches.{FoundIn, lastFull-none}
+use Rattle.laws.specs.Searches.{FoundIn, lastExtent-none}
 use Rattle.laws.specs.Moves.{InHand}
 use Rattle.laws.specs.Give.{sideOf-head, given-found, withoutLast-out}
 use Rattle.anodes.specs.Loaded.{anodesFrom}
@@ -24,9 +24,9 @@ use Rattle.space.proofs.Taking.{used-below}
 -- ---- which extent
 
 -- a chain with a block has an anode with one
-pub full-there : (s : Anodes) (h : ℕ) → 0 < blockCount s h → lastFull (s .count) 0 (chainOf (s .next) 3444 h) ≡ nowhere → ⊥
+pub full-there : (s : Anodes) (h : ℕ) → 0 < blockCount s h → lastExtent (s .count) 0 (chainOf (s .next) 3444 h) ≡ nowhere → ⊥
 unfolding blockCount
-full-there s h some e = omega (arith, some, lastFull-none (s .count) 0 (chainOf (s .next) 3444 h) e)
+full-there s h some e = omega (arith, some, lastExtent-none (s .count) 0 (chainOf (s .next) 3444 h) e)
 
 -- ---- the sums fit
 
@@ -37,7 +37,7 @@ pub record SideEnd (img : List ℕ) (s : Anodes) (h : ℕ) (c f n : List ℕ) (y
   pub fits : 0 < getD c z 0 → getD f z 0 + getD c z 0 ≤ 65535
   pub joined : join 3444 (exists img) (anodesFrom c f n) z y ≡ giveBack 3444 (exists img) (lastReserved img) s h
 
-module _ (img : List ℕ) (s : Anodes) (good : GoodAnodes img s) (h : ℕ) (d : Head (s .next) (s .block) h) (p x : ℕ) (e : lastFull (s .count) 0 (chainOf (s .next) 3444 h) ≡ found p x) where
+module _ (img : List ℕ) (s : Anodes) (good : GoodAnodes img s) (h : ℕ) (d : Head (s .next) (s .block) h) (p x : ℕ) (e : lastExtent (s .count) 0 (chainOf (s .next) 3444 h) ≡ found p x) where
   pub last-found : FoundIn (s .count) (s .next) h (chainOf (s .next) 3444 h) 0 p x
   last-found = given-found (good .2) h d p x e
 

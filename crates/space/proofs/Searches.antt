@@ -11,7 +11,7 @@ use Rattle.disk.specs.Root.{slotOf}
 use Rattle.rules.specs.Counting.{least, lastOf}
 use Rattle.rules.specs.Anodes.{exists}
 use Rattle.rules.specs.Chains.{chainOf}
-use Rattle.rules.specs.Space.{Found, nowhere, found, firstFound, firstFull, lastFull, free, lowestFree}
+use Rattle.rules.specs.Space.{Found, nowhere, found, firstFound, firstExtent, lastExtent, free, lowestFree}
 use Rattle.laws.specs.Chains.{chain-none, chain-end, chain-step}
 use Rattle.laws.specs.Tests.{less?}
 use Rattle.laws.specs.Sums.{least-cases}
@@ -72,21 +72,21 @@ module _ (img firsts c n : List ℕ) where
 -- ---- the first anode with a block
 
 module _ (count next : ℕ → ℕ) where
-  pub first-none : (k p a : ℕ) → k ≡ 0 → firstFull count p (chainOf next k a) ≡ nowhere
-  unfolding firstFull
+  pub first-none : (k p a : ℕ) → k ≡ 0 → firstExtent count p (chainOf next k a) ≡ nowhere
+  unfolding firstExtent
   first-none k p a e = rw (chain-none next k a e)
 
-  pub first-end : (k p a : ℕ) → a ≡ 0 → firstFull count p (chainOf next k a) ≡ nowhere
-  unfolding firstFull
+  pub first-end : (k p a : ℕ) → a ≡ 0 → firstExtent count p (chainOf next k a) ≡ nowhere
+  unfolding firstExtent
   first-end k p a e = rw (chain-end next k a e)
 
   module _ (k m p a : ℕ) (fuel : k ≡ m + 1) (some : a ≢ 0) where
-    pub first-hit : count a ≢ 0 → firstFull count p (chainOf next k a) ≡ found p a
-    unfolding firstFull firstFound
+    pub first-hit : count a ≢ 0 → firstExtent count p (chainOf next k a) ≡ found p a
+    unfolding firstExtent firstFound
     first-hit h = rw (chain-step next k m a fuel some, full-at count p a (count a) refl h)
 
-    pub first-step : count a ≡ 0 → firstFull count p (chainOf next k a) ≡ firstFull count a (chainOf next m (next a))
-    unfolding firstFull firstFound
+    pub first-step : count a ≡ 0 → firstExtent count p (chainOf next k a) ≡ firstExtent count a (chainOf next m (next a))
+    unfolding firstExtent firstFound
     first-step h = rw (chain-step next k m a fuel some, nowhere-at count p a h)
 
 -- ---- the last anode with a block
@@ -102,22 +102,22 @@ or-assoc nowhere g h = refl
 or-assoc (found p x) g h = refl
 
 module _ (count next : ℕ → ℕ) where
-  pub last-none : (k p a : ℕ) (b : Found) → k ≡ 0 → firstFound (lastFull count p (chainOf next k a)) b ≡ b
-  unfolding lastFull firstFound
+  pub last-none : (k p a : ℕ) (b : Found) → k ≡ 0 → firstFound (lastExtent count p (chainOf next k a)) b ≡ b
+  unfolding lastExtent firstFound
   last-none k p a b e = rw (chain-none next k a e)
 
-  pub last-end : (k p a : ℕ) (b : Found) → a ≡ 0 → firstFound (lastFull count p (chainOf next k a)) b ≡ b
-  unfolding lastFull firstFound
+  pub last-end : (k p a : ℕ) (b : Found) → a ≡ 0 → firstFound (lastExtent count p (chainOf next k a)) b ≡ b
+  unfolding lastExtent firstFound
   last-end k p a b e = rw (chain-end next k a e)
 
   module _ (k m p a : ℕ) (b : Found) (fuel : k ≡ m + 1) (some : a ≢ 0) where
-    pub last-hit : count a ≢ 0 → firstFound (lastFull count p (chainOf next k a)) b ≡ firstFound (lastFull count a (chainOf next m (next a))) (found p a)
-    unfolding lastFull firstFound
-    last-hit h = rw (chain-step next k m a fuel some, full-at count p a (count a) refl h) (or-assoc (lastFull count a (chainOf next m (next a))) (found p a) b)
+    pub last-hit : count a ≢ 0 → firstFound (lastExtent count p (chainOf next k a)) b ≡ firstFound (lastExtent count a (chainOf next m (next a))) (found p a)
+    unfolding lastExtent firstFound
+    last-hit h = rw (chain-step next k m a fuel some, full-at count p a (count a) refl h) (or-assoc (lastExtent count a (chainOf next m (next a))) (found p a) b)
 
-    pub last-step : count a ≡ 0 → firstFound (lastFull count p (chainOf next k a)) b ≡ firstFound (lastFull count a (chainOf next m (next a))) b
-    unfolding lastFull firstFound
-    last-step h = rw (chain-step next k m a fuel some, nowhere-at count p a h) (or-assoc (lastFull count a (chainOf next m (next a))) nowhere b)
+    pub last-step : count a ≡ 0 → firstFound (lastExtent count p (chainOf next k a)) b ≡ firstFound (lastExtent count a (chainOf next m (next a))) b
+    unfolding lastExtent firstFound
+    last-step h = rw (chain-step next k m a fuel some, nowhere-at count p a h) (or-assoc (lastExtent count a (chainOf next m (next a))) nowhere b)
 
 -- ---- the last anode
 

@@ -9,7 +9,7 @@ ghost use Rattle.rules.specs.Counting.{lastOf};
 ghost use Rattle.rules.specs.Anodes.{exists};
 ghost use Rattle.rules.specs.Chains.{chainOf, cut, blockCount};
 ghost use Rattle.rules.specs.Accepted.{lastReserved};
-ghost use Rattle.rules.specs.Space.{rewritten, insertedAfter, unlinked, withoutBlock, firstFull, lastFull, freeExtent, sideOf, lowestFree, append, put, takeBlock, join, giveBack, dropped};
+ghost use Rattle.rules.specs.Space.{rewritten, insertedAfter, unlinked, withoutBlock, firstExtent, lastExtent, freeExtent, sideOf, lowestFree, append, put, takeBlock, join, giveBack, dropped};
 ghost use Rattle.anodes.specs.Loaded.{anodesFrom, AnodeTables};
 ghost use Rattle.space.specs.Steps.{freeIn, stepPlan, manyPlan, stoppedBy, movesNumber, movesCount, moveBlock, moveMany, Ready, LinkedFrom, foundOf};
 use disk::AnodeNo;
@@ -75,8 +75,8 @@ fn next_before_two(nexts: &[u16], a: usize) -> usize
 }
 
 // The first anode with a block on the side of the free list that starts at `from`.
-fn first_full(counts: &[u16], nexts: &[u16], from: usize) -> Extent
-    ensures { λ r. ⌜ foundOf r ≡ firstFull (λ a. getD (now (counts .entry)) a 0) 0 (chainOf (cut (λ a. getD (now (nexts .entry)) a 0)) 3444 from) ⌝ }
+fn first_extent(counts: &[u16], nexts: &[u16], from: usize) -> Extent
+    ensures { λ r. ⌜ foundOf r ≡ firstExtent (λ a. getD (now (counts .entry)) a 0) 0 (chainOf (cut (λ a. getD (now (nexts .entry)) a 0)) 3444 from) ⌝ }
 {
     let mut before: usize = 0;
     let mut at = from;
@@ -109,16 +109,16 @@ fn near_side(dir: bool) -> usize
 fn free_extent(dir: bool, counts: &[u16], nexts: &[u16]) -> Extent
     ensures { λ r. ⌜ ((f : List ℕ) → foundOf r ≡ freeExtent 3444 dir (anodesFrom (now (counts .entry)) f (now (nexts .entry)))) ⌝ }
 {
-    let found = first_full(counts, nexts, near_side(dir));
+    let found = first_extent(counts, nexts, near_side(dir));
     if let Extent::At(_, _) = found {
         return found;
     }
-    first_full(counts, nexts, near_side(!dir))
+    first_extent(counts, nexts, near_side(!dir))
 }
 
 // The last anode with a block on the chain from `from`.
-fn last_full(counts: &[u16], nexts: &[u16], from: usize) -> Extent
-    ensures { λ r. ⌜ foundOf r ≡ lastFull (λ a. getD (now (counts .entry)) a 0) 0 (chainOf (λ a. getD (now (nexts .entry)) a 0) 3444 from) ⌝ }
+fn last_extent(counts: &[u16], nexts: &[u16], from: usize) -> Extent
+    ensures { λ r. ⌜ foundOf r ≡ lastExtent (λ a. getD (now (counts .entry)) a 0) 0 (chainOf (λ a. getD (now (nexts .entry)) a 0) 3444 from) ⌝ }
 {
     let mut found = Extent::Nowhere;
     let mut before: usize = 0;
@@ -339,7 +339,7 @@ fn give_back(
     ensures { λ r. ⌜ stepPlan r (anodesFrom (now (counts .exit)) (now (firsts .exit)) (now (nexts .exit))) ≡ giveBack 3444 (exists (now (image .entry))) (lastReserved (now (image .entry))) (anodesFrom (now (counts .entry)) (now (firsts .entry)) (now (nexts .entry))) (head .0) ⌝ }
 {
     let from = head.0 as usize;
-    let found = last_full(counts, nexts, from);
+    let found = last_extent(counts, nexts, from);
     // a chain with a block has such an anode
     let Extent::At(p, x) = found else {
         return Step::Refused(Refusal::NoFreeBlock);

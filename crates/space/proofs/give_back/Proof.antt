@@ -4,7 +4,7 @@ use native.Mathlib.Omega.{arith}
 use lib.ListN.{getD}
 use Rattle.rules.specs.Anodes.{Anodes}
 use Rattle.rules.specs.Chains.{chainOf}
-use Rattle.rules.specs.Space.{nowhere, found, lastFull}
+use Rattle.rules.specs.Space.{nowhere, found, lastExtent}
 use Rattle.anodes.specs.Loaded.{anodesFrom}
 use Rattle.space.specs.Steps.{foundOf}
 use Rattle.space.proofs.Cases.{last-out}
@@ -26,9 +26,9 @@ abbrev held : tie.Start → Anodes
 held s = anodesFrom (s .args .counts .now) (s .args .firsts .now) (s .args .nexts .now)
 
 -- the extent that was found
-extent : (c : tie.After-found) → lastFull (held (start c) .count) 0 (chainOf (held (start c) .next) 3444 (start c .args .head .0)) ≡ found (c .found .given .0 .0) (c .found .given .0 .1 .0)
+extent : (c : tie.After-found) → lastExtent (held (start c) .count) 0 (chainOf (held (start c) .next) 3444 (start c .args .head .0)) ≡ found (c .found .given .0 .0) (c .found .given .0 .1 .0)
 unfolding anodesFrom
-extent c = sym (c .before .before .last-full .ensures) ∙ ap foundOf (c .found .given .1)
+extent c = sym (c .before .before .last-extent .ensures) ∙ ap foundOf (c .found .given .1)
 
 -- where its anode is, and the one before it
 extent-at : (c : tie.After-found) → (c .found .given .0 .0 < 3444) × (c .found .given .0 .1 .0 < 3444) × (0 < getD (start c .args .counts .now) (c .found .given .0 .1 .0) 0)
@@ -51,8 +51,8 @@ ended c =
 cast-from : tie.Need-cast-from
 cast-from c = search needs
 
-last-full-requires : tie.Need-last-full-requires
-last-full-requires c κs = search needs
+last-extent-requires : tie.Need-last-extent-requires
+last-extent-requires c κs = search needs
 
 enum-known-found : tie.Need-enum-known-found
 enum-known-found c = search needs
@@ -70,7 +70,7 @@ returns : tie.Need-returns
 unfolding anodesFrom
 returns c =
     let s = c .before .before .before .before .before .before .before .before .before .before in
-    let e : lastFull (held s .count) 0 (chainOf (held s .next) 3444 (s .args .head .0)) ≡ nowhere = sym (c .before .before .last-full .ensures) ∙ ap foundOf (c .enum-told .given .1) in
+    let e : lastExtent (held s .count) 0 (chainOf (held s .next) 3444 (s .args .head .0)) ≡ nowhere = sym (c .before .before .last-extent .ensures) ∙ ap foundOf (c .enum-told .given .1) in
     absurd (full-there (held s) _ (s .pre .1 .1) e)
 
 entry-requires : tie.Need-entry-requires
@@ -126,7 +126,7 @@ give-back-spec =
     tie.close
     (tie.spec
     cast-from
-    last-full-requires
+    last-extent-requires
     enum-known-found
     enum-told
     same-length

@@ -4,13 +4,13 @@ use native.Mathlib.Omega.{arith}
 use lib.ListN.{getD}
 use borrow.Author.Needs.{needs}
 use Rattle.rules.specs.Chains.{chainOf, cut}
-use Rattle.rules.specs.Space.{firstFull}
+use Rattle.rules.specs.Space.{firstExtent}
 use Rattle.space.proofs.Searches.{first-none, first-end, first-hit, first-step}
-use Rattle.space.proofs.first_full.Statement.{statement}
-use Rattle.space.proofs.first_full.Tie as tie
+use Rattle.space.proofs.first_extent.Statement.{statement}
+use Rattle.space.proofs.first_extent.Tie as tie
 
 abbrev Inv-loop : tie.InvT-loop
-Inv-loop counts nexts from before₀ at₀ fuel₀ before at fuel = firstFull (λ a. getD counts a 0) before (chainOf (cut (λ a. getD nexts a 0)) fuel at) ≡ firstFull (λ a. getD counts a 0) 0 (chainOf (cut (λ a. getD nexts a 0)) 3444 from)
+Inv-loop counts nexts from before₀ at₀ fuel₀ before at fuel = firstExtent (λ a. getD counts a 0) before (chainOf (cut (λ a. getD nexts a 0)) fuel at) ≡ firstExtent (λ a. getD counts a 0) 0 (chainOf (cut (λ a. getD nexts a 0)) 3444 from)
 
 abbrev μ-loop : tie.MeasureT-loop
 μ-loop counts nexts from before₀ at₀ fuel₀ before at fuel = fuel
@@ -42,8 +42,8 @@ loop-again c = let l = c .before .before .before .before .before .loop in rw (c 
 returns-3 : tie.Need-returns-3 Inv-loop μ-loop
 returns-3 c = let l = c .before .loop in sym (first-none _ _ (l .fuel) (l .before) (l .at) (omega arith)) ∙ l .inv
 
-pub first-full-spec : {M : Type 1} → statement M
-first-full-spec =
+pub first-extent-spec : {M : Type 1} → statement M
+first-extent-spec =
     tie.close
     (tie.spec
     Inv-loop

@@ -5,14 +5,14 @@ use native.Mathlib.Omega.{arith}
 use lib.ListN.{getD}
 use borrow.Author.Needs.{needs}
 use Rattle.rules.specs.Chains.{chainOf}
-use Rattle.rules.specs.Space.{firstFound, lastFull}
+use Rattle.rules.specs.Space.{firstFound, lastExtent}
 use Rattle.space.specs.Steps.{foundOf}
 use Rattle.space.proofs.Searches.{or-nowhere, last-none, last-end, last-hit, last-step}
-use Rattle.space.proofs.last_full.Statement.{statement}
-use Rattle.space.proofs.last_full.Tie as tie
+use Rattle.space.proofs.last_extent.Statement.{statement}
+use Rattle.space.proofs.last_extent.Tie as tie
 
 abbrev Inv-loop : tie.InvT-loop
-Inv-loop counts nexts from found₀ before₀ at₀ fuel₀ found before at fuel = firstFound (lastFull (λ a. getD counts a 0) before (chainOf (λ a. getD nexts a 0) fuel at)) (foundOf found) ≡ lastFull (λ a. getD counts a 0) 0 (chainOf (λ a. getD nexts a 0) 3444 from)
+Inv-loop counts nexts from found₀ before₀ at₀ fuel₀ found before at fuel = firstFound (lastExtent (λ a. getD counts a 0) before (chainOf (λ a. getD nexts a 0) fuel at)) (foundOf found) ≡ lastExtent (λ a. getD counts a 0) 0 (chainOf (λ a. getD nexts a 0) 3444 from)
 
 abbrev μ-loop : tie.MeasureT-loop
 μ-loop counts nexts from found₀ before₀ at₀ fuel₀ found before at fuel = fuel
@@ -49,8 +49,8 @@ loop-again c = let l = c .before .before .before .before .before .loop in
 returns-2 : tie.Need-returns-2 Inv-loop μ-loop
 returns-2 c = let l = c .before .loop in sym (last-none _ _ (l .fuel) (l .before) (l .at) _ (omega arith)) ∙ l .inv
 
-pub last-full-spec : {M : Type 1} → statement M
-last-full-spec =
+pub last-extent-spec : {M : Type 1} → statement M
+last-extent-spec =
     tie.close
     (tie.spec
     Inv-loop
