@@ -10,14 +10,14 @@ use Rattle.disk.specs.Blocks.{blockOf}
 
 -- the bytes of the entry at a place of the image
 unfoldable pub entryBytes : List ℕ → ℕ → List ℕ
-entryBytes img place = take (getD (blockOf img (place / 512)) (place % 512) 0) (drop (place % 512) (blockOf img (place / 512)))
+entryBytes img start = take (getD (blockOf img (start / 512)) (start % 512) 0) (drop (start % 512) (blockOf img (start / 512)))
 
 -- by block and place in it
-pub bytes-at : (img : List ℕ) (place y k : ℕ) → place ≡ y * 512 + k → k < 512 → entryBytes img place ≡ take (getD (blockOf img y) k 0) (drop k (blockOf img y))
+pub bytes-at : (img : List ℕ) (start y k : ℕ) → start ≡ y * 512 + k → k < 512 → entryBytes img start ≡ take (getD (blockOf img y) k 0) (drop k (blockOf img y))
 unfolding entryBytes
-bytes-at img place y k p l =
-    let q : place / 512 ≡ y = omega arith in
-    let r : place % 512 ≡ k = omega arith in
+bytes-at img start y k p l =
+    let q : start / 512 ≡ y = omega arith in
+    let r : start % 512 ≡ k = omega arith in
     rw (q, r)
 
 -- the length byte is one of them

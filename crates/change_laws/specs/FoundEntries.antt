@@ -128,8 +128,8 @@ pub standing-found : {b : List ℕ} {y at end : ℕ} {e : Entered} → Standing 
 standing-found {b} {at = at} s = found-at b at (s .entry) (s .walked)
 
 -- its place in the image
-pub standing-place : {b : List ℕ} {y at end : ℕ} {e : Entered} → Standing b y at end e → e .place ≡ y * 512 + at
-standing-place s = ap (λ (e : Entered). e .place) (s .is)
+pub standing-start : {b : List ℕ} {y at end : ℕ} {e : Entered} → Standing b y at end e → e .start ≡ y * 512 + at
+standing-start s = ap (λ (e : Entered). e .start) (s .is)
 
 -- it ends before a later mark too
 stands-before : {b : List ℕ} {y at end : ℕ} {e : Entered} → Standing b y at end e → (further : ℕ) → end ≤ further → Standing b y at further e
@@ -149,16 +149,16 @@ first-found b y m at e l i u = elim (unbroken-cases b y m at u) [
 ]
 
 -- it stands at the place that it says
-first-here : {b : List ℕ} {y m p : ℕ} {e : Entered} {l : List Entered} → FirstFound b y m p e l → (at : ℕ) → e .place ≡ y * 512 + at → p ≡ at
-first-here o at place = omega (arith, standing-place (o .stands), place)
+first-here : {b : List ℕ} {y m p : ℕ} {e : Entered} {l : List Entered} → FirstFound b y m p e l → (at : ℕ) → e .start ≡ y * 512 + at → p ≡ at
+first-here o at start = omega (arith, standing-start (o .stands), start)
 
 -- no entry stands before the place where they start
-pub place-after : (b : List ℕ) (y : ℕ) (xs : List Entered) (e : Entered) (ys : List Entered) (k at : ℕ) → entriesFrom k b y at ≡ xs ++ (e ∷ ys) →
-    Unbroken (entriesFrom k b y at) → y * 512 + at ≤ e .place
+pub start-after : (b : List ℕ) (y : ℕ) (xs : List Entered) (e : Entered) (ys : List Entered) (k at : ℕ) → entriesFrom k b y at ≡ xs ++ (e ∷ ys) →
+    Unbroken (entriesFrom k b y at) → y * 512 + at ≤ e .start
 unfolding entriesFrom
-place-after b y xs e ys zero at i u = absurd (no-member e (xs, ys, i))
-place-after b y [] e ys (suc m) at i u = omega (arith, standing-place (first-found b y m at e ys i u .stands))
-place-after b y (x ∷ xs) e ys (suc m) at i u = let o = first-found b y m at x (xs ++ (e ∷ ys)) i u in omega (arith, place-after b y xs e ys m (at + getD b at 0) (o .rest) (o .unbroken))
+start-after b y xs e ys zero at i u = absurd (no-member e (xs, ys, i))
+start-after b y [] e ys (suc m) at i u = omega (arith, standing-start (first-found b y m at e ys i u .stands))
+start-after b y (x ∷ xs) e ys (suc m) at i u = let o = first-found b y m at x (xs ++ (e ∷ ys)) i u in omega (arith, start-after b y xs e ys m (at + getD b at 0) (o .rest) (o .unbroken))
 
 -- the entries from p on, passed up to e at its place
 pub record Reaches (b : List ℕ) (y k p at : ℕ) (xs : List Entered) (e : Entered) (ys : List Entered) : Type 0 where
@@ -171,20 +171,20 @@ pub record Reaches (b : List ℕ) (y k p at : ℕ) (xs : List Entered) (e : Ente
   -- a block with the same bytes before e has the same entries there
   pub front : (b′ : List ℕ) → length b ≡ 512 → length b′ ≡ 512 → ((i : ℕ) → i < at → getD b′ i 0 ≡ getD b i 0) → entriesFrom k b′ y p ≡ xs ++ entriesFrom (suc m) b′ y at
 
-pub reaches : (b : List ℕ) (y at : ℕ) (e : Entered) → e .place ≡ y * 512 + at → (ys xs : List Entered) (k p : ℕ) → entriesFrom k b y p ≡ xs ++ (e ∷ ys) →
+pub reaches : (b : List ℕ) (y at : ℕ) (e : Entered) → e .start ≡ y * 512 + at → (ys xs : List Entered) (k p : ℕ) → entriesFrom k b y p ≡ xs ++ (e ∷ ys) →
     Unbroken (entriesFrom k b y p) → Reaches b y k p at xs e ys
 unfolding entriesFrom
-reaches b y at e place ys xs zero p i u = absurd (no-member e (xs, ys, i))
-reaches b y at e place ys [] (suc m) p i u =
+reaches b y at e start ys xs zero p i u = absurd (no-member e (xs, ys, i))
+reaches b y at e start ys [] (suc m) p i u =
     let o = first-found b y m p e ys i u in
-    let here = first-here o at place in
+    let here = first-here o at start in
     record { m = m; found = subst (λ (q : ℕ). FirstFound b y m q e ys) here o; fuel = omega (arith, here); end = ap (endFrom (suc m) b) here; front = λ b′ w w′ same. ap (entriesFrom (suc m) b′ y) here }
-reaches b y at e place ys (z ∷ zs) (suc m) p i u =
+reaches b y at e start ys (z ∷ zs) (suc m) p i u =
     let o = first-found b y m p z (zs ++ (e ∷ ys)) i u in
     let s = o .stands in
     let g = standing-found s in
-    let r = reaches b y at e place ys zs m (p + getD b p 0) (o .rest) (o .unbroken) in
-    let before : p + getD b p 0 ≤ at = omega (arith, place, place-after b y zs e ys m (p + getD b p 0) (o .rest) (o .unbroken)) in
+    let r = reaches b y at e start ys zs m (p + getD b p 0) (o .rest) (o .unbroken) in
+    let before : p + getD b p 0 ≤ at = omega (arith, start, start-after b y zs e ys m (p + getD b p 0) (o .rest) (o .unbroken)) in
     record {
       m = r .m;
       found = r .found;
@@ -196,25 +196,25 @@ reaches b y at e place ys (z ∷ zs) (suc m) p i u =
     }
 
 -- an entry of the list stands in the block
-pub entry-place : (b : List ℕ) (y k p : ℕ) (e : Entered) → Member e (entriesFrom k b y p) → Unbroken (entriesFrom k b y p) → (at : ℕ) × (p ≤ at) × Standing b y at 510 e
-entry-place b y k p e (xs, ys, i) u =
-    let l = place-after b y xs e ys k p i u in
-    let at = e .place - y * 512 in
+pub entry-start : (b : List ℕ) (y k p : ℕ) (e : Entered) → Member e (entriesFrom k b y p) → Unbroken (entriesFrom k b y p) → (at : ℕ) × (p ≤ at) × Standing b y at 510 e
+entry-start b y k p e (xs, ys, i) u =
+    let l = start-after b y xs e ys k p i u in
+    let at = e .start - y * 512 in
     let s = reaches b y at e (omega arith) ys xs k p i u .found .stands in
     (at, omega arith, stands-before s 510 (standing-found s .room))
 
 -- an entry ends before the next begins
-pub place-order : (b : List ℕ) (y at : ℕ) (f e : Entered) → f .place ≡ y * 512 + at → (vs ys us : List Entered) (k p : ℕ) → entriesFrom k b y p ≡ us ++ (f ∷ (vs ++ (e ∷ ys))) →
-    Unbroken (entriesFrom k b y p) → y * 512 + (at + getD b at 0) ≤ e .place
-place-order b y at f e place vs ys us k p i u =
-    let r = reaches b y at f place (vs ++ (e ∷ ys)) us k p i u in
-    place-after b y vs e ys (r .m) (at + getD b at 0) (r .found .rest) (r .found .unbroken)
+pub start-order : (b : List ℕ) (y at : ℕ) (f e : Entered) → f .start ≡ y * 512 + at → (vs ys us : List Entered) (k p : ℕ) → entriesFrom k b y p ≡ us ++ (f ∷ (vs ++ (e ∷ ys))) →
+    Unbroken (entriesFrom k b y p) → y * 512 + (at + getD b at 0) ≤ e .start
+start-order b y at f e start vs ys us k p i u =
+    let r = reaches b y at f start (vs ++ (e ∷ ys)) us k p i u in
+    start-after b y vs e ys (r .m) (at + getD b at 0) (r .found .rest) (r .found .unbroken)
 
 -- an entry of the list stands before the end mark
-pub entry-standing : (b : List ℕ) (y at : ℕ) (e : Entered) → e .place ≡ y * 512 + at → (ys xs : List Entered) (k p : ℕ) → entriesFrom k b y p ≡ xs ++ (e ∷ ys) →
+pub entry-standing : (b : List ℕ) (y at : ℕ) (e : Entered) → e .start ≡ y * 512 + at → (ys xs : List Entered) (k p : ℕ) → entriesFrom k b y p ≡ xs ++ (e ∷ ys) →
     Unbroken (entriesFrom k b y p) → 520 ≤ p + 18 * k → Standing b y at (endFrom k b p) e
-entry-standing b y at e place ys xs k p i u f =
-    let r = reaches b y at e place ys xs k p i u in
+entry-standing b y at e start ys xs k p i u f =
+    let r = reaches b y at e start ys xs k p i u in
     let s = r .found .stands in
     let g = standing-found s in
     stands-before s (endFrom k b p)
@@ -227,12 +227,12 @@ pub record BlockEntry (b : List ℕ) (y at : ℕ) (e : Entered) : Type 0 where
   pub unbroken : Unbroken (entriesFrom 28 b y 16)
   -- the entries before it, and those behind it
   pub parted : Member e (entriesFrom 28 b y 16)
-  pub place : e .place ≡ y * 512 + at
+  pub start : e .start ≡ y * 512 + at
 
 module _ {b : List ℕ} {y at : ℕ} {e : Entered} (u : BlockEntry b y at e) where
   pub block-standing : Standing b y at (entriesEnd b) e
   unfolding entriesEnd
-  block-standing = entry-standing b y at e (u .place) (u .parted .1) (u .parted .0) 28 16 (u .parted .2) (u .unbroken) (omega arith)
+  block-standing = entry-standing b y at e (u .start) (u .parted .1) (u .parted .0) 28 16 (u .parted .2) (u .unbroken) (omega arith)
 
   pub end-within : entriesEnd b ≤ 512
   unfolding entriesEnd

@@ -13,13 +13,13 @@ use Rattle.directory.specs.Entries.{directoryHeadIn, walkedAt}
 use Rattle.directory.proofs.Laws.{found-at}
 use Rattle.rules.specs.Walk.{Entered, entriesFrom}
 use Rattle.rules.specs.Changes.{endFrom, entriesEnd, gapClosed, entryClosed}
-use Rattle.change_laws.specs.FoundEntries.{head-same, walked-same, entry-standing, entries-more, entries-end, unbroken-cases, end-more, end-here, end-bounds, standing-found, place-after, place-order, reaches, BlockEntry, block-standing, end-within}
+use Rattle.change_laws.specs.FoundEntries.{head-same, walked-same, entry-standing, entries-more, entries-end, unbroken-cases, end-more, end-here, end-bounds, standing-found, start-after, start-order, reaches, BlockEntry, block-standing, end-within}
 use Rattle.laws.specs.Members.{Member}
 use Rattle.laws.specs.Entries.{Unbroken}
 
 -- the same entry, so many bytes earlier
 abbrev pub lowered : ℕ → Entered → Entered
-lowered len e = record { broken = e .broken; dir = e .dir; anode = e .anode; size = e .size; place = e .place - len }
+lowered len e = record { broken = e .broken; dir = e .dir; anode = e .anode; size = e .size; start = e .start - len }
 
 -- b′ is b with the bytes from at + len up to end moved down by len, and zeros behind them
 module _ (b b′ : List ℕ) (y at len end : ℕ) (whole : length b ≡ 512) (whole′ : length b′ ≡ 512)
@@ -39,10 +39,10 @@ module _ (b b′ : List ℕ) (y at len end : ℕ) (whole : length b ≡ 512) (wh
       let same : (i : ℕ) → i < getD b (p + len) 0 → getD b′ (p + i) 0 ≡ getD b (p + len + i) 0 = λ i h.
       let c : p + i + len ≡ p + len + i = omega arith in behind (p + i) (omega arith) (omega arith) ∙ rw c in
       let first : getD b′ p 0 ≡ getD b (p + len) 0 = behind p l (omega (arith, within, g .long)) in
-      let place : y * 512 + p ≡ y * 512 + (p + len) - len = omega arith in
+      let start : y * 512 + p ≡ y * 512 + (p + len) - len = omega arith in
       let swap : p + getD b (p + len) 0 + len ≡ p + len + getD b (p + len) 0 = omega arith in
       entries-more b′ y (suc m) p x (walked-same b b′ (p + len) p whole whole′ g (omega (arith, g .room)) same ∙ q)
-      ∙ rw (first, rest, swap, entries-more b y m (p + len) x q, place)
+      ∙ rw (first, rest, swap, entries-more b y m (p + len) x q, start)
 
   moved : (k p : ℕ) → at ≤ p → Unbroken (entriesFrom k b y (p + len)) → p + len ≤ 510 → 520 ≤ p + len + 18 * k → endFrom k b (p + len) ≡ end →
       entriesFrom (suc k) b′ y p ≡ map (lowered len) (entriesFrom k b y (p + len))
@@ -60,11 +60,11 @@ module _ (b b′ : List ℕ) (y at len end : ℕ) (whole : length b ≡ 512) (wh
   ]
 
   -- with those before it
-  module _ (e : Entered) (ys : List Entered) (place : e .place ≡ y * 512 + at) (its-length : getD b at 0 ≡ len) where
+  module _ (e : Entered) (ys : List Entered) (start : e .start ≡ y * 512 + at) (its-length : getD b at 0 ≡ len) where
     closed : (xs : List Entered) (k p : ℕ) → entriesFrom k b y p ≡ xs ++ (e ∷ ys) → Unbroken (entriesFrom k b y p) → 520 ≤ p + 18 * k →
         endFrom k b p ≡ end → entriesFrom k b′ y p ≡ xs ++ map (lowered len) ys
     closed xs k p i u f q =
-        let r = reaches b y at e place ys xs k p i u in
+        let r = reaches b y at e start ys xs k p i u in
         let o = r .found in
         let s = o .stands in
         let g = standing-found s in
@@ -144,7 +144,7 @@ module _ (b : List ℕ) (at len end : ℕ) (whole : length b ≡ 512) (fits : at
 
 module _ {b : List ℕ} {y at : ℕ} {e : Entered} (u : BlockEntry b y at e) where
   from-16 : 16 ≤ at
-  from-16 = omega (arith, u .place, place-after b y (u .parted .0) e (u .parted .1) 28 16 (u .parted .2) (u .unbroken))
+  from-16 = omega (arith, u .start, start-after b y (u .parted .0) e (u .parted .1) 28 16 (u .parted .2) (u .unbroken))
 
   abbrev fits : at + getD b at 0 ≤ entriesEnd b
   fits = block-standing u .before
@@ -163,20 +163,20 @@ module _ {b : List ℕ} {y at : ℕ} {e : Entered} (u : BlockEntry b y at e) whe
       let end = entriesEnd b in
       let within = end-within u in
       closed b (gapClosed b at len end) y at len end (u .whole) length-closed (gap-front b at len end (u .whole) fits within) (gap-behind b at len end (u .whole) fits within)
-      (gap-zeros b at len end (u .whole) fits within) (omega (arith, standing-found (block-standing u) .long)) e (u .parted .1) (u .place) refl (u .parted .0) 28 16 (u .parted .2) (u .unbroken) (omega arith) refl
+      (gap-zeros b at len end (u .whole) fits within) (omega (arith, standing-found (block-standing u) .long)) e (u .parted .1) (u .start) refl (u .parted .0) 28 16 (u .parted .2) (u .unbroken) (omega arith) refl
 
   -- the bytes of an entry that stays
-  pub bytes-earlier : (f : Entered) → Member f (u .parted .0) → (k : ℕ) → f .place ≡ y * 512 + k → take (getD b k 0) (drop k (entryClosed b at)) ≡ take (getD b k 0) (drop k b)
+  pub bytes-earlier : (f : Entered) → Member f (u .parted .0) → (k : ℕ) → f .start ≡ y * 512 + k → take (getD b k 0) (drop k (entryClosed b at)) ≡ take (getD b k 0) (drop k b)
   bytes-earlier f (us, vs, i) k p =
-      let before = place-order b y k f e p vs (u .parted .1) us 28 16 (u .parted .2 ∙ rw i (append-assoc us (f ∷ vs) (e ∷ u .parted .1))) (u .unbroken) in
-      bytes-before b at (getD b at 0) (entriesEnd b) (u .whole) fits (end-within u) k (getD b k 0) (omega (arith, before, u .place))
+      let before = start-order b y k f e p vs (u .parted .1) us 28 16 (u .parted .2 ∙ rw i (append-assoc us (f ∷ vs) (e ∷ u .parted .1))) (u .unbroken) in
+      bytes-before b at (getD b at 0) (entriesEnd b) (u .whole) fits (end-within u) k (getD b k 0) (omega (arith, before, u .start))
 
-  pub bytes-later : (f : Entered) → Member f (u .parted .1) → (k : ℕ) → f .place ≡ y * 512 + k →
+  pub bytes-later : (f : Entered) → Member f (u .parted .1) → (k : ℕ) → f .start ≡ y * 512 + k →
       (at + getD b at 0 ≤ k) × (take (getD b k 0) (drop (k - getD b at 0) (entryClosed b at)) ≡ take (getD b k 0) (drop k b))
   unfolding entriesEnd
   bytes-later f (us, vs, i) k p =
       let xs = u .parted .0 in
       let all : entriesFrom 28 b y 16 ≡ xs ++ (e ∷ (us ++ (f ∷ vs))) = u .parted .2 ∙ rw i in
-      let behind : at + getD b at 0 ≤ k = omega (arith, p, place-order b y at e f (u .place) us vs xs 28 16 all (u .unbroken)) in
+      let behind : at + getD b at 0 ≤ k = omega (arith, p, start-order b y at e f (u .start) us vs xs 28 16 all (u .unbroken)) in
       let f-stands = entry-standing b y k f p vs (xs ++ (e ∷ us)) 28 16 (all ∙ sym (append-assoc xs (e ∷ us) (f ∷ vs))) (u .unbroken) (omega arith) in
       (behind, bytes-behind b at (getD b at 0) (entriesEnd b) (u .whole) fits (end-within u) k (getD b k 0) behind (f-stands .before))

@@ -61,7 +61,7 @@ module _ {img : List ℕ} {h : ℕ} (r : ReachedDir img h) (j : List ℕ) (kept 
       entries-along c j ∙ gather-congr (λ a. entriesIn j (s .block a)) (λ a. entriesIn img (s .block a)) (chainOf (s .next) limit h) (λ a on. rw (block-same a on))
 
   -- its entries have the bytes that they had
-  pub entry-bytes-same : {e : Entered} → EntryIn img h e → entryBytes j (e .place) ≡ entryBytes img (e .place)
+  pub entry-bytes-same : {e : Entered} → EntryIn img h e → entryBytes j (e .start) ≡ entryBytes img (e .start)
   unfolding entryBytes
   entry-bytes-same m =
       let f = entry-facts m in

@@ -18,7 +18,7 @@ use Rattle.rules.specs.Anodes.{Anodes, limit, exists, anodesOf, withAnodes}
 use Rattle.rules.specs.Chains.{chainOf, run, blocksOf}
 use Rattle.rules.specs.Walk.{Dir, Entered, entriesFrom, entriesIn, isBlockOf, reachedDirs}
 use Rattle.rules.specs.Format.{newDirectoryBlock}
-use Rattle.rules.specs.Changes.{withBlocks, entriesEnd, noRoom, parentOf, entryPlace, NewEntry, entryOf, madeImage}
+use Rattle.rules.specs.Changes.{withBlocks, entriesEnd, noRoom, parentOf, entryStart, NewEntry, entryOf, madeImage}
 use Rattle.laws.specs.Tests.{not-above}
 use Rattle.laws.specs.Sums.{oneAt-cases}
 use Rattle.laws.specs.Bags.{list-cons, occurrences-nil, occurrences-cons, occurrences-append, first-in}
@@ -198,7 +198,7 @@ module _ {img : List ℕ} {h : ℕ} {new : NewEntry} {f : ℕ} {room : Option �
     pub anode : ℕ
     pub one : t .count anode ≡ 1
     pub on : 0 < occurrences anode (chainOf (t .next) limit h)
-    pub at : entryPlace room zs ≡ t .block anode * 512 + entriesEnd (blockOf before (t .block anode))
+    pub at : entryStart room zs ≡ t .block anode * 512 + entriesEnd (blockOf before (t .block anode))
     pub fits : entriesEnd (blockOf before (t .block anode)) + len ≤ 510
     pub unbroken : Unbroken (entriesIn before (t .block anode))
 
@@ -211,10 +211,10 @@ module _ {img : List ℕ} {h : ℕ} {new : NewEntry} {f : ℕ} {room : Option �
       let only : Member y (s .block (q .0) ∷ []) = rw (b .one) at (q .2) in
       (q .0, q .1, b, elim (member-cons y (s .block (q .0)) [] only) [ inl e ↦ e | inr e ↦ absurd (no-member y e) ])
 
-  in-old : (place : ℕ) → room ≡ some place → Spot
+  in-old : (start : ℕ) → room ≡ some start → Spot
   unfolding entriesIn
-  in-old place e =
-      let found = room-found img len (blocksOf s h) place (m .steps .roomy ∙ e) in
+  in-old start e =
+      let found = room-found img len (blocksOf s h) start (m .steps .roomy ∙ e) in
       let b = block-anode (found .0) (found .1) in
       let a = b .0 in
       let one = b .2 .one in
@@ -225,7 +225,7 @@ module _ {img : List ℕ} {h : ℕ} {new : NewEntry} {f : ℕ} {room : Option �
         anode = a;
         one = k .0 ∙ one;
         on = omega (arith, ap (occurrences a) (grown .chain), occurrences-append a (chainOf (s .next) limit h) (grown .new), member-occurrences a (chainOf (s .next) limit h) (b .1));
-        at = omega (arith, ap (λ (o : Option ℕ). entryPlace o zs) e, found .2, ap entriesEnd same, k .1, b .3);
+        at = omega (arith, ap (λ (o : Option ℕ). entryStart o zs) e, found .2, ap entriesEnd same, k .1, b .3);
         fits = rw same (found .3);
         unbroken = rw (k .1, cont .same-entries a one q) (b .2 .unbroken);
       }
@@ -242,7 +242,7 @@ module _ {img : List ℕ} {h : ℕ} {new : NewEntry} {f : ℕ} {room : Option �
         anode = b .0;
         one = grown .ones (b .0) (b .1);
         on = omega (arith, ap (occurrences (b .0)) (grown .chain), occurrences-append (b .0) (chainOf (s .next) limit h) (grown .new), b .1);
-        at = omega (arith, ap (λ (o : Option ℕ). entryPlace o zs) e, ap (entryPlace none) (took .1), end, b .2);
+        at = omega (arith, ap (λ (o : Option ℕ). entryStart o zs) e, ap (entryStart none) (took .1), end, b .2);
         fits = omega (arith, end, goodName-length (new .name) (m .named), leb-true (length (new .comment)) 79 (m .commented));
         unbroken = rw (block, entries-new h (parentOf dirs h) (t .block (b .0)));
       }
@@ -251,26 +251,26 @@ module _ {img : List ℕ} {h : ℕ} {new : NewEntry} {f : ℕ} {room : Option �
   spot = go room refl
     where
       go : (o : Option ℕ) → room ≡ o → Spot
-      go (some place) e = in-old place e
+      go (some start) e = in-old start e
       go none e = in-new e
 
   -- ---- the image with the entry
 
-  abbrev place : ℕ
-  place = entryPlace room zs
+  abbrev start : ℕ
+  start = entryStart room zs
 
   -- the new entry, as it stands in its block
   abbrev pub entered : Entered
-  entered = enteredAt (entryOf new f) (entryPlace room zs)
+  entered = enteredAt (entryOf new f) (entryStart room zs)
 
   -- the image that a make leaves
   abbrev j : List ℕ
   j = madeImage img (anodesOf img) h new f room ys t zs
 
-  pub in-block : place / 512 ≡ t .block (spot .anode)
+  pub in-block : start / 512 ≡ t .block (spot .anode)
   in-block = omega (arith, spot .at, spot .fits)
 
-  pub at-end : place % 512 ≡ entriesEnd (blockOf before (t .block (spot .anode)))
+  pub at-end : start % 512 ≡ entriesEnd (blockOf before (t .block (spot .anode)))
   at-end = omega (arith, spot .at, spot .fits)
 
   pub spot-data : DataBlock img (t .block (spot .anode))
@@ -279,13 +279,13 @@ module _ {img : List ℕ} {h : ℕ} {new : NewEntry} {f : ℕ} {room : Option �
   pub entry-kept : Kept (λ d. d ≢ t .block (spot .anode)) before j
   unfolding madeImage
   entry-kept = subst (λ (y : ℕ). Kept (λ d. d ≢ y) before j) in-block
-      (inBlock-kept before (place / 512) (λ b. putEntry b (place % 512) (entryOf new f) (new .name) (new .comment)) (length-putEntry (blockOf before (place / 512)) (place % 512) (entryOf new f) (new .name) (new .comment)))
+      (inBlock-kept before (start / 512) (λ b. putEntry b (start % 512) (entryOf new f) (new .name) (new .comment)) (length-putEntry (blockOf before (start / 512)) (start % 512) (entryOf new f) (new .name) (new .comment)))
 
   pub entry-block : blockOf j (t .block (spot .anode)) ≡ putEntry (blockOf before (t .block (spot .anode))) (entriesEnd (blockOf before (t .block (spot .anode)))) (entryOf new f) (new .name) (new .comment)
   unfolding madeImage
   entry-block =
       ap (blockOf j) (sym in-block)
-      ∙ blockOf-inBlock before (place / 512) (λ b. putEntry b (place % 512) (entryOf new f) (new .name) (new .comment)) (length-putEntry (blockOf before (place / 512)) (place % 512) (entryOf new f) (new .name) (new .comment))
+      ∙ blockOf-inBlock before (start / 512) (λ b. putEntry b (start % 512) (entryOf new f) (new .name) (new .comment)) (length-putEntry (blockOf before (start / 512)) (start % 512) (entryOf new f) (new .name) (new .comment))
       ∙ ap₂ (λ (y e : ℕ). putEntry (blockOf before y) e (entryOf new f) (new .name) (new .comment)) in-block at-end
 
   pub made-disk : DiskWith img t j

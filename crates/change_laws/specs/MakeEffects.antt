@@ -21,7 +21,7 @@ use Rattle.rules.specs.Anodes.{Anodes, limit, anodesOf}
 use Rattle.rules.specs.Chains.{chainOf, blocksOf}
 use Rattle.rules.specs.Walk.{Entered, entriesIn, reachedDirs}
 use Rattle.rules.specs.Lookup.{noDirectory, entriesOf, nameAt, contents}
-use Rattle.rules.specs.Changes.{entriesEnd, parentOf, entryPlace, NewEntry, entryOf, madeImage}
+use Rattle.rules.specs.Changes.{entriesEnd, parentOf, entryStart, NewEntry, entryOf, madeImage}
 use Rattle.laws.specs.Tests.{same?, less?, not-above}
 use Rattle.laws.specs.Sums.{oneAt-same, oneAt-other}
 use Rattle.laws.specs.Bags.{occurrences-cons, occurrences-append, gather-none, gather-append, gather-kept}
@@ -230,44 +230,44 @@ module _ {img : List ℕ} {h : ℕ} {new : NewEntry} {f : ℕ} {room : Option �
       ∙ ap (λ (b : List ℕ). putEntry b (entriesEnd b) (entryOf new f) (new .name) (new .comment)) (ap (blockOf (before m)) same ∙ old)
 
   -- those of an entry that was there are the same
-  pub bytes-kept : {k : ℕ} {e : Entered} → EntryIn img k e → entryBytes j (e .place) ≡ entryBytes img (e .place)
+  pub bytes-kept : {k : ℕ} {e : Entered} → EntryIn img k e → entryBytes j (e .start) ≡ entryBytes img (e .start)
   unfolding entriesIn
   bytes-kept {e = e} n =
       let g = entry-facts n in
       let a = g .a₀ in
       let kept = same-place (n .directory) a (g .member-chain) in
       let old = old-block m a (g .block-facts .one) (head-not-1 (n .directory) a (g .member-chain)) in
-      let at = e .place % 512 in
-      let place : e .place ≡ s .block a * 512 + at = omega (arith, g .in-block) in
-      bytes-at j (e .place) (s .block a) at place (omega arith) ∙ elim (same? a (spot m .anode)) [
+      let at = e .start % 512 in
+      let start : e .start ≡ s .block a * 512 + at = omega (arith, g .in-block) in
+      bytes-at j (e .start) (s .block a) at start (omega arith) ∙ elim (same? a (spot m .anode)) [
         | inl q ↦ rw (made-block a q (kept .1) old)
             (bytes-put (rw (g .in-block) at (block-entry g)) (entryOf new f) (new .name) (new .comment))
         | inr q ↦ rw (ap (blockOf j) (sym (kept .1)) ∙ entry-other m a (kept .0 ∙ g .block-facts .one) q ∙ ap (blockOf (before m)) (kept .1) ∙ old)
-      ] ∙ sym (bytes-at img (e .place) (s .block a) at place (omega arith))
+      ] ∙ sym (bytes-at img (e .start) (s .block a) at start (omega arith))
 
   new-whole : length (blockOf (before m) (t .block (spot m .anode))) ≡ 512
   new-whole = length-blockOf (before m) (t .block (spot m .anode)) (inside-before m (t .block (spot m .anode)) (spot-data m))
 
   -- the new one is found there with its fields
-  pub new-found : walkedAt (blockOf j (entryPlace room zs / 512)) (entryPlace room zs % 512) ≡ Found (entryOf new f)
+  pub new-found : walkedAt (blockOf j (entryStart room zs / 512)) (entryStart room zs % 512) ≡ Found (entryOf new f)
   unfolding entryOf goodComment
   new-found = rw (in-block m, at-end m, entry-block m)
       (walkedAt-putEntry (blockOf (before m) (t .block (spot m .anode))) (entriesEnd (blockOf (before m) (t .block (spot m .anode)))) (entryOf new f) (new .name) (new .comment) refl refl new-whole (spot m .fits) (m .named)
       (leb-true (length (new .comment)) 79 (m .commented)))
 
   -- with its name
-  pub new-name : nameAt j (entryPlace room zs) ≡ new .name
+  pub new-name : nameAt j (entryStart room zs) ≡ new .name
   unfolding nameAt entryOf
   new-name = rw (in-block m, at-end m, entry-block m)
       (nameIn-putEntry (blockOf (before m) (t .block (spot m .anode))) (entriesEnd (blockOf (before m) (t .block (spot m .anode)))) (entryOf new f) (new .name) (new .comment) refl refl new-whole (spot m .fits))
 
   -- and with its comment, behind the name and the comment's length byte
-  pub new-comment : take (length (new .comment)) (drop (entryPlace room zs + 17 + length (new .name)) j) ≡ new .comment
+  pub new-comment : take (length (new .comment)) (drop (entryStart room zs + 17 + length (new .name)) j) ≡ new .comment
   unfolding entryOf entryLength
   new-comment =
       let y = t .block (spot m .anode) in
       let at = entriesEnd (blockOf (before m) y) in
-      let place : entryPlace room zs + 17 + length (new .name) ≡ y * 512 + (at + 17 + length (new .name)) = omega (arith, spot m .at) in
-      ap (λ (k : ℕ). take (length (new .comment)) (drop k j)) place
+      let start : entryStart room zs + 17 + length (new .name) ≡ y * 512 + (at + 17 + length (new .name)) = omega (arith, spot m .at) in
+      ap (λ (k : ℕ). take (length (new .comment)) (drop k j)) start
       ∙ block-part j y (at + 17 + length (new .name)) (length (new .comment)) (rw (entry-kept m .length-kept) (inside-before m y (spot-data m))) (omega (arith, spot m .fits))
       ∙ rw (entry-block m) (comment-put (blockOf (before m) y) at (entryOf new f) (new .name) (new .comment) refl new-whole (spot m .fits))

@@ -86,8 +86,8 @@ pub comment-put : (b : List ℕ) (at : ℕ) (e : Entry) (name comment : List ℕ
     take (length comment) (drop (at + 17 + e .name) (putEntry b at e name comment)) ≡ comment
 unfolding putEntry entryLength
 comment-put b at e name comment commented whole room =
-    let place : at + 17 + e .name ≡ at + 16 + e .name + 1 = omega arith in
-    ap (λ (k : ℕ). take (length comment) (drop k (putEntry b at e name comment))) place
+    let start : at + 17 + e .name ≡ at + 16 + e .name + 1 = omega arith in
+    ap (λ (k : ℕ). take (length comment) (drop k (putEntry b at e name comment))) start
     ∙ stored-cleared _ (at + 16 + e .name + 1) _ _ comment (simp (length-set, length-stored, length-put16, length-put32) (omega arith)) (omega arith)
 
 -- ---- a new directory block
@@ -99,14 +99,14 @@ end-new owner parent = end-here (newDirectoryBlock owner parent) 27 16 (mark-new
 -- ---- the first block with room
 
 -- where room is found: in block y of the list, at its end mark
-pub room-found : (img : List ℕ) (len : ℕ) (ys : List ℕ) (place : ℕ) → firstRoom img len ys ≡ some place →
-    (y : ℕ) × (0 < occurrences y ys) × (place ≡ y * 512 + entriesEnd (blockOf img y)) × (entriesEnd (blockOf img y) + len ≤ 510)
+pub room-found : (img : List ℕ) (len : ℕ) (ys : List ℕ) (start : ℕ) → firstRoom img len ys ≡ some start →
+    (y : ℕ) × (0 < occurrences y ys) × (start ≡ y * 512 + entriesEnd (blockOf img y)) × (entriesEnd (blockOf img y) + len ≤ 510)
 unfolding firstRoom
-room-found img len [] place e = absurd (Option·none-ne-some place e)
-room-found img len (y ∷ ys) place e = go (leb (entriesEnd (blockOf img y) + len) 510) refl e (room-found img len ys place)
+room-found img len [] start e = absurd (Option·none-ne-some start e)
+room-found img len (y ∷ ys) start e = go (leb (entriesEnd (blockOf img y) + len) 510) refl e (room-found img len ys start)
   where
-    go : (c : Bool) → leb (entriesEnd (blockOf img y) + len) 510 ≡ c → elim c [ true ↦ some (y * 512 + entriesEnd (blockOf img y)) | false ↦ firstRoom img len ys ] ≡ some place →
-        (firstRoom img len ys ≡ some place → (x : ℕ) × (0 < occurrences x ys) × (place ≡ x * 512 + entriesEnd (blockOf img x)) × (entriesEnd (blockOf img x) + len ≤ 510)) →
-        (x : ℕ) × (0 < occurrences x (y ∷ ys)) × (place ≡ x * 512 + entriesEnd (blockOf img x)) × (entriesEnd (blockOf img x) + len ≤ 510)
+    go : (c : Bool) → leb (entriesEnd (blockOf img y) + len) 510 ≡ c → elim c [ true ↦ some (y * 512 + entriesEnd (blockOf img y)) | false ↦ firstRoom img len ys ] ≡ some start →
+        (firstRoom img len ys ≡ some start → (x : ℕ) × (0 < occurrences x ys) × (start ≡ x * 512 + entriesEnd (blockOf img x)) × (entriesEnd (blockOf img x) + len ≤ 510)) →
+        (x : ℕ) × (0 < occurrences x (y ∷ ys)) × (start ≡ x * 512 + entriesEnd (blockOf img x)) × (entriesEnd (blockOf img x) + len ≤ 510)
     go true c f rec = (y, occurrences-here y ys, cc, leb-true (entriesEnd (blockOf img y) + len) 510 c)
     go false c f rec = let r = rec f in (r .0, omega (arith, occurrences-cons (r .0) y ys, r .1), r .2, r .3)

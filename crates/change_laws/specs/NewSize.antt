@@ -24,7 +24,7 @@ use Rattle.laws.specs.Entries.{Unbroken}
 
 -- the same entry with another size
 abbrev pub sized : ℕ → Entered → Entered
-sized new e = record { broken = e .broken; dir = e .dir; anode = e .anode; size = new; place = e .place }
+sized new e = record { broken = e .broken; dir = e .dir; anode = e .anode; size = new; start = e .start }
 
 -- an entry with another size
 abbrev withNew : ℕ → Entry → Entry
@@ -117,14 +117,14 @@ entries-later b b′ y whole whole′ (suc m) at same u = elim (unbroken-cases b
       ∙ rw (same at (omega arith), entries-later b b′ y whole whole′ m (at + getD b at 0) (λ i l. same i (omega arith)) (o .2)) (sym (entries-more b y m at (o .0) (o .1))))
 ]
 
-module _ (b : List ℕ) (y at new : ℕ) (whole : length b ≡ 512) (e : Entered) (ys : List Entered) (place : e .place ≡ y * 512 + at) where
+module _ (b : List ℕ) (y at new : ℕ) (whole : length b ≡ 512) (e : Entered) (ys : List Entered) (start : e .start ≡ y * 512 + at) where
   whole′ : length (b′ b at new) ≡ 512
   whole′ = length-put32 b (at + 4) new ∙ whole
 
   pub entries-sized : (xs : List Entered) (k p : ℕ) → entriesFrom k b y p ≡ xs ++ (e ∷ ys) → Unbroken (entriesFrom k b y p) →
       entriesFrom k (put32 b (at + 4) new) y p ≡ xs ++ (sized new e ∷ ys)
   entries-sized xs k p i u =
-      let r = reaches b y at e place ys xs k p i u in
+      let r = reaches b y at e start ys xs k p i u in
       let o = r .found in
       let s = o .stands in
       let g = standing-found s in

@@ -50,10 +50,10 @@ module _ {img : List ℕ} {e : Entered} {Plans : Type 0} (p : PlannedChange img 
   home-head = reached-head (p .entry .directory)
 
   -- the block that the entry stands in is of its own directory's chain alone
-  pub off-chain : (m : ℕ) → Head (s .next) (s .block) m → m ≢ p .home → (z : ℕ) → 0 < occurrences z (blocksOf s m) → z ≢ e .place / 512
+  pub off-chain : (m : ℕ) → Head (s .next) (s .block) m → m ≢ p .home → (z : ℕ) → 0 < occurrences z (blocksOf s m) → z ≢ e .start / 512
   off-chain m d apart z q i =
       omega (arith, chains-apart (w .good) m (p .home) d home-head apart z q, rw (← (i ∙ facts .in-block)) at (block-on s (p .home) (facts .a₀) (facts .member-chain) (facts .block-facts .one)))
 
   -- and no other anode's that has one block
-  pub off-anode : (a : ℕ) → s .count a ≡ 1 → a ≢ facts .a₀ → s .block a ≢ e .place / 512
+  pub off-anode : (a : ℕ) → s .count a ≡ 1 → a ≢ facts .a₀ → s .block a ≢ e .start / 512
   off-anode a one n i = single-apart (w .good) a one (facts .a₀) (facts .block-facts .one) n (i ∙ facts .in-block)

@@ -29,7 +29,7 @@ use Rattle.laws.specs.Whole.{Whole, counts-head, not-dir, dir-heads, named-head
 use Rattle.laws.specs.Members.{Member, no-member, member-first, member-cons, member-left, member-right, member-later, member-each, member-sum, none-pass, member-gather, member-occurrences, gather-part}
 use Rattle.frames.specs.DisjointBlocks.{DataBlock, chain-block}
 use Rattle.change_laws.specs.Image.{AcceptedWhole, headIn, AcceptedImage, accepted-walk, accepted-whole, headed-named, headed-reached, reached-some, ReachedDir}
-use Rattle.change_laws.specs.FoundEntries.{Standing, standing-place, entry-place, BlockEntry}
+use Rattle.change_laws.specs.FoundEntries.{Standing, standing-start, entry-start, BlockEntry}
 
 -- ---- lookups
 
@@ -145,9 +145,9 @@ pub record EntryFacts (img : List ℕ) (h : ℕ) (e : Entered) : Type 0 where
   pub member-chain : Member a₀ (chainOf (anodesOf img .next) limit h)
   pub block-facts : DirBlock img h a₀
   pub member : Member e (entriesIn img (anodesOf img .block a₀))
-  pub in-block : e .place / 512 ≡ anodesOf img .block a₀
-  pub from-16 : 16 ≤ e .place % 512
-  pub stands : Standing (blockOf img (e .place / 512)) (e .place / 512) (e .place % 512) 510 e
+  pub in-block : e .start / 512 ≡ anodesOf img .block a₀
+  pub from-16 : 16 ≤ e .start % 512
+  pub stands : Standing (blockOf img (e .start / 512)) (e .start / 512) (e .start % 512) 510 e
   -- it alone names its chain
   pub named : sumList (namedIn (itemsBy (entriesIn img) (isBlockOf img) (anodesOf img)) (e .anode)) (reachedDirs img (anodesOf img)) ≡ 1
   pub file : e .dir ≡ false →
@@ -159,12 +159,12 @@ module _ {img : List ℕ} {h : ℕ} {e : Entered} (f : EntryFacts img h e) where
   entry-not-1 i = omega (arith, i, f .from-6)
 
   -- the block that has it
-  pub block-data : DataBlock img (e .place / 512)
+  pub block-data : DataBlock img (e .start / 512)
   block-data = rw (f .in-block) (f .block-facts .is-data)
 
-  pub block-entry : BlockEntry (blockOf img (e .place / 512)) (e .place / 512) (e .place % 512) e
+  pub block-entry : BlockEntry (blockOf img (e .start / 512)) (e .start / 512) (e .start % 512) e
   unfolding entriesIn
-  block-entry = record { whole = rw (f .in-block) (f .block-facts .whole); unbroken = rw (f .in-block) (f .block-facts .unbroken); parted = rw (f .in-block) (f .member); place = omega arith }
+  block-entry = record { whole = rw (f .in-block) (f .block-facts .whole); unbroken = rw (f .in-block) (f .block-facts .unbroken); parted = rw (f .in-block) (f .member); start = omega arith }
 
 -- the one block of an anode with count 1 is a block of its chain
 pub block-on : (s : Anodes) (h a : ℕ) → Member a (chainOf (s .next) limit h) → s .count a ≡ 1 → 0 < occurrences (s .block a) (blocksOf s h)
@@ -219,10 +219,10 @@ module _ {img : List ℕ} {h : ℕ} (r : ReachedDir img h) where
       }
 
   -- an entry of one of its blocks stands in that block
-  pub place-in : (a : ℕ) → Member a (chainOf (anodesOf img .next) limit h) → (e : Entered) → Member e (entriesIn img (anodesOf img .block a)) →
+  pub start-in : (a : ℕ) → Member a (chainOf (anodesOf img .next) limit h) → (e : Entered) → Member e (entriesIn img (anodesOf img .block a)) →
       (at : ℕ) × (16 ≤ at) × Standing (blockOf img (anodesOf img .block a)) (anodesOf img .block a) at 510 e
   unfolding entriesIn
-  place-in a on e m = entry-place (blockOf img (anodesOf img .block a)) (anodesOf img .block a) 28 16 e m (dir-block a on .unbroken)
+  start-in a on e m = entry-start (blockOf img (anodesOf img .block a)) (anodesOf img .block a) 28 16 e m (dir-block a on .unbroken)
 
   module _ (e : Entered) (member : Member e (entriesOf img (anodesOf img) h)) where
     -- an entry of it
@@ -235,10 +235,10 @@ module _ {img : List ℕ} {h : ℕ} (r : ReachedDir img h) where
         let c : Member a (chainOf (s .next) limit (reached-dir .0 .head)) = rw (reached-dir .2) (q .1) in
         let f = fine w (reached-dir .0) (reached-dir .1) a c e (q .2) in
         let d = counts-head (w .good) (e .anode) (f .2) in
-        let p = place-in a (q .1) e (q .2) in
-        let place = standing-place (p .2) in
-        let y : e .place / 512 ≡ s .block a = omega (arith, p .2 .before) in
-        let at : e .place % 512 ≡ p .0 = omega (arith, p .2 .before) in
+        let p = start-in a (q .1) e (q .2) in
+        let start = standing-start (p .2) in
+        let y : e .start / 512 ≡ s .block a = omega (arith, p .2 .before) in
+        let at : e .start % 512 ≡ p .0 = omega (arith, p .2 .before) in
         record {
           unbroken = f .0;
           from-6 = f .1;

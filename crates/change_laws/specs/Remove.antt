@@ -36,7 +36,7 @@ module _ {img : List ℕ} {e : Entered} {t : Anodes} {ys : List ℕ} (p : Planne
   s = anodesOf img
 
   abbrev y : ℕ
-  y = e .place / 512
+  y = e .start / 512
 
   -- the image that a removal leaves
   abbrev j : List ℕ
@@ -50,7 +50,7 @@ module _ {img : List ℕ} {e : Entered} {t : Anodes} {ys : List ℕ} (p : Planne
   one-less : (v : Bool → Bool → ℕ → ℕ → ℕ) → sumList (weighEntry v) (entriesIn img y) ≡ sumList (weighEntry v) (entriesIn j y) + weighEntry v e
   unfolding entriesIn
   one-less v =
-      let low = lowered (getD (blockOf img y) (e .place % 512) 0) in
+      let low = lowered (getD (blockOf img y) (e .start % 512) 0) in
       omega (
         arith,
         ap (sumList (weighEntry v)) (here p .parted .2),

@@ -56,7 +56,7 @@ module _ {img : List ℕ} {e : Entered} {t : Anodes} {ys : List ℕ} (p : Planne
   entries-kept r kh o = rw (removed-disk p .anodes) (entries-left others-left r o kh)
 
   -- every entry of another directory has the bytes that it had
-  pub bytes-kept : {k : ℕ} {f : Entered} → EntryIn img k f → k ≢ p .home → entryBytes j (f .place) ≡ entryBytes img (f .place)
+  pub bytes-kept : {k : ℕ} {f : Entered} → EntryIn img k f → k ≢ p .home → entryBytes j (f .start) ≡ entryBytes img (f .start)
   bytes-kept {k} m kh = entry-bytes-same (m .directory) j (others-kept k (reached-head (m .directory)) kh) m
 
   -- ---- the directories

@@ -37,13 +37,13 @@ module _ {img : List ℕ} {e : Entered} {t : Anodes} {ys : List ℕ} (p : Planne
   -- ---- the block that the entry stands in, and where
 
   abbrev pub y : ℕ
-  y = e .place / 512
+  y = e .start / 512
 
   abbrev pub b : List ℕ
   b = blockOf img y
 
   abbrev at : ℕ
-  at = e .place % 512
+  at = e .start % 512
 
   abbrev pub len : ℕ
   len = getD b at 0

@@ -21,8 +21,8 @@ use Rattle.laws.specs.ChainBlocks.{stands-once}
 use Rattle.laws.specs.Members.{Member, no-member, member-later, member-append, member-left, member-right, member-gather, member-occurrences, gather-congr, map-members, map-kept}
 use Rattle.frames.specs.Kept.{entriesIn-kept}
 use Rattle.frames.specs.DisjointBlocks.{DataBlock}
-use Rattle.change_laws.specs.FoundEntries.{standing-found, standing-place}
-use Rattle.change_laws.specs.Reached.{reached-not-1, dir-block, place-in, not-file}
+use Rattle.change_laws.specs.FoundEntries.{standing-found, standing-start}
+use Rattle.change_laws.specs.Reached.{reached-not-1, dir-block, start-in, not-file}
 use Rattle.change_laws.specs.Gap.{lowered, bytes-earlier, bytes-later}
 use Rattle.change_laws.specs.EntryBytes.{entryBytes, bytes-at, with-length}
 use Rattle.change_laws.specs.PlannedChange.{w, facts, home-head}
@@ -33,7 +33,7 @@ use Rattle.change_laws.specs.RemoveEffects.{others-same}
 
 -- an entry behind the removed one: in the same block it stands earlier by as many bytes as that had
 unfoldable pub movedDown : List ℕ → Entered → Entered → Entered
-movedDown img e f = cond (eqb (f .place / 512) (e .place / 512)) (lowered (getD (blockOf img (e .place / 512)) (e .place % 512) 0) f) f
+movedDown img e f = cond (eqb (f .start / 512) (e .start / 512)) (lowered (getD (blockOf img (e .start / 512)) (e .start % 512) 0) f) f
 
 -- the entries of a directory, without e: those behind it may have moved, and all have the bytes that they had
 pub record EntryGone (img j : List ℕ) (e : Entered) (old new : List Entered) : Type 0 where
@@ -41,8 +41,8 @@ pub record EntryGone (img j : List ℕ) (e : Entered) (old new : List Entered) :
   pub behind : List Entered
   pub were : old ≡ before ++ (e ∷ behind)
   pub are : new ≡ before ++ map (movedDown img e) behind
-  pub bytes-before : (f : Entered) → Member f before → entryBytes j (f .place) ≡ entryBytes img (f .place)
-  pub bytes-behind : (f : Entered) → Member f behind → entryBytes j (movedDown img e f .place) ≡ entryBytes img (f .place)
+  pub bytes-before : (f : Entered) → Member f before → entryBytes j (f .start) ≡ entryBytes img (f .start)
+  pub bytes-behind : (f : Entered) → Member f behind → entryBytes j (movedDown img e f .start) ≡ entryBytes img (f .start)
 
 module _ {img : List ℕ} {e : Entered} {t : Anodes} {ys : List ℕ} (p : PlannedRemove img e t ys) where
   abbrev s : Anodes
@@ -61,42 +61,42 @@ module _ {img : List ℕ} {e : Entered} {t : Anodes} {ys : List ℕ} (p : Planne
   abbrev later : List Entered
   later = here p .parted .1
 
-  not-moved : (f : Entered) → f .place / 512 ≢ y p → movedDown img e f ≡ f
+  not-moved : (f : Entered) → f .start / 512 ≢ y p → movedDown img e f ≡ f
   unfolding movedDown
-  not-moved f o = rw (ne-eqb (f .place / 512) (y p) o)
+  not-moved f o = rw (ne-eqb (f .start / 512) (y p) o)
 
-  is-moved : (f : Entered) → f .place / 512 ≡ y p → movedDown img e f ≡ lowered (len p) f
+  is-moved : (f : Entered) → f .start / 512 ≡ y p → movedDown img e f ≡ lowered (len p) f
   unfolding movedDown
-  is-moved f q = rw (eq-eqb (f .place / 512) (y p) q)
+  is-moved f q = rw (eq-eqb (f .start / 512) (y p) q)
 
   -- an entry of the block
-  in-block : (f : Entered) → Member f (entriesIn img (y p)) → (k : ℕ) × (f .place ≡ y p * 512 + k) × FoundAt (b p) k
+  in-block : (f : Entered) → Member f (entriesIn img (y p)) → (k : ℕ) × (f .start ≡ y p * 512 + k) × FoundAt (b p) k
   in-block f m =
-      let q = rw (← (facts p .in-block)) at (place-in (p .entry .directory) (facts p .a₀) (facts p .member-chain) f (rw (facts p .in-block) at m)) in
-      (q .0, standing-place (q .2), standing-found (q .2))
+      let q = rw (← (facts p .in-block)) at (start-in (p .entry .directory) (facts p .a₀) (facts p .member-chain) f (rw (facts p .in-block) at m)) in
+      (q .0, standing-start (q .2), standing-found (q .2))
 
   -- an entry whose bytes the closed block has, at its place or an earlier one
-  bytes-moved : (place place′ k k′ : ℕ) → place ≡ y p * 512 + k → place′ ≡ y p * 512 + k′ → k′ ≤ k → FoundAt (b p) k →
-      take (getD (b p) k 0) (drop k′ (closed p)) ≡ take (getD (b p) k 0) (drop k (b p)) → entryBytes j place′ ≡ entryBytes img place
-  bytes-moved place place′ k k′ is is′ l found same =
-      bytes-at j place′ (y p) k′ is′ (omega (arith, l, found .room))
+  bytes-moved : (start start′ k k′ : ℕ) → start ≡ y p * 512 + k → start′ ≡ y p * 512 + k′ → k′ ≤ k → FoundAt (b p) k →
+      take (getD (b p) k 0) (drop k′ (closed p)) ≡ take (getD (b p) k 0) (drop k (b p)) → entryBytes j start′ ≡ entryBytes img start
+  bytes-moved start start′ k k′ is is′ l found same =
+      bytes-at j start′ (y p) k′ is′ (omega (arith, l, found .room))
       ∙ rw (block-left p) (with-length (closed p) (b p) k′ k (omega (arith, found .long)) same)
-      ∙ sym (bytes-at img place (y p) k is (omega (arith, found .room)))
+      ∙ sym (bytes-at img start (y p) k is (omega (arith, found .room)))
 
   -- an entry before it keeps its bytes and its place
-  same-before : (f : Entered) → Member f earlier → entryBytes j (f .place) ≡ entryBytes img (f .place)
+  same-before : (f : Entered) → Member f earlier → entryBytes j (f .start) ≡ entryBytes img (f .start)
   unfolding entriesIn
   same-before f m =
       let k = in-block f (rw (here p .parted .2) (member-left f earlier (e ∷ later) m)) in
-      bytes-moved (f .place) (f .place) (k .0) (k .0) (k .1) (k .1) (omega arith) (k .2) (bytes-earlier (here p) f m (k .0) (k .1))
+      bytes-moved (f .start) (f .start) (k .0) (k .0) (k .1) (k .1) (omega arith) (k .2) (bytes-earlier (here p) f m (k .0) (k .1))
 
   -- one behind it keeps its bytes and stands earlier
-  same-behind : (f : Entered) → Member f later → (f .place / 512 ≡ y p) × (entryBytes j (lowered (len p) f .place) ≡ entryBytes img (f .place))
+  same-behind : (f : Entered) → Member f later → (f .start / 512 ≡ y p) × (entryBytes j (lowered (len p) f .start) ≡ entryBytes img (f .start))
   unfolding entriesIn
   same-behind f m =
       let k = in-block f (rw (here p .parted .2) (member-right f earlier (e ∷ later) (member-later f e later m))) in
       let r = bytes-later (here p) f m (k .0) (k .1) in
-      (omega (arith, k .1, k .2 .room), bytes-moved (f .place) (f .place - len p) (k .0) (k .0 - len p) (k .1) (omega (arith, k .1, r .0)) (omega arith) (k .2) (r .1))
+      (omega (arith, k .1, k .2 .room), bytes-moved (f .start) (f .start - len p) (k .0) (k .0 - len p) (k .1) (omega (arith, k .1, r .0)) (omega arith) (k .2) (r .1))
 
   -- the anodes of its chain before the entry's and behind it
   abbrev front : List ℕ
@@ -132,13 +132,13 @@ module _ {img : List ℕ} {e : Entered} {t : Anodes} {ys : List ℕ} (p : Planne
   same-along l o = gather-congr new old l (λ a m. entriesIn-kept (kept-data p) (s .block a) (other-anode a (o a m)))
 
   along : (l : List ℕ) → ((a : ℕ) → Member a l → Member a chain × (a ≢ facts p .a₀)) → (f : Entered) → Member f (gather old l) →
-      (f .place / 512 ≢ y p) × (entryBytes j (f .place) ≡ entryBytes img (f .place))
+      (f .start / 512 ≢ y p) × (entryBytes j (f .start) ≡ entryBytes img (f .start))
   unfolding entryBytes
   along l o f m =
       let q = member-gather old l f m in
       let u = o (q .0) (q .1) in
-      let i = place-in (p .entry .directory) (q .0) (u .0) f (q .2) in
-      let in-a : f .place / 512 ≡ s .block (q .0) = omega (arith, standing-place (i .2), i .2 .before) in
+      let i = start-in (p .entry .directory) (q .0) (u .0) f (q .2) in
+      let in-a : f .start / 512 ≡ s .block (q .0) = omega (arith, standing-start (i .2), i .2 .before) in
       let k = other-anode (q .0) u in
       rw in-a (k .1, rw (kept-data p .block-kept (s .block (q .0)) k))
 

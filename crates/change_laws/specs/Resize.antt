@@ -83,9 +83,9 @@ module _ {img : List ℕ} {e : Entered} {new : ℕ} {t : Anodes} {ys : List ℕ}
     unfolding entriesIn
     this-entries i before after parted =
         let y = s .block a in
-        let its-own : e .place / 512 ≡ y = facts p .in-block ∙ ap (s .block) (sym i) in
+        let its-own : e .start / 512 ≡ y = facts p .in-block ∙ ap (s .block) (sym i) in
         let here = dir-block r a on in
-        rw (this-block p r a on i) (entries-sized (blockOf img y) y (e .place % 512) new (here .whole) e after (omega arith) before 28 16 parted
+        rw (this-block p r a on i) (entries-sized (blockOf img y) y (e .start % 512) new (here .whole) e after (omega arith) before 28 16 parted
         (here .unbroken))
 
     -- its entries: the size is new where the file is named
@@ -101,7 +101,7 @@ module _ {img : List ℕ} {e : Entered} {new : ℕ} {t : Anodes} {ys : List ℕ}
     unfolding isBlockOf
     marks-left = elim (same? a (facts p .a₀)) [
       | inr n ↦ rw (other-block p r a on n)
-      | inl i ↦ rw (this-block p r a on i, head-sized (blockOf img (s .block a)) (e .place % 512) new (facts p .from-16))
+      | inl i ↦ rw (this-block p r a on i, head-sized (blockOf img (s .block a)) (e .start % 512) new (facts p .from-16))
     ]
 
     items-left : itemsAt (entriesIn j) (isBlockOf j) t d a ≡ itemsAt (λ y. map (resizedEntry (e .anode) new) (entriesIn img y)) (isBlockOf img) t d a

@@ -64,7 +64,7 @@ module _ {img : List ℕ} {e : Entered} {new : ℕ} {t : Anodes} {ys : List ℕ}
   -- ---- the file
 
   -- no block of it has its entry
-  off-home : (y : ℕ) → 0 < occurrences y chain → y ≢ e .place / 512
+  off-home : (y : ℕ) → 0 < occurrences y chain → y ≢ e .start / 512
   off-home y q i = omega (arith, rw i at q, home-alone p .1)
 
   inside : Inside img chain

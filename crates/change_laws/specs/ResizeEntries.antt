@@ -17,7 +17,7 @@ use Rattle.rules.specs.Changes.{resizedImage}
 use Rattle.laws.specs.Tests.{same?}
 use Rattle.laws.specs.Members.{Member, member-cons, member-append, gather-congr, map-gather}
 use Rattle.change_laws.specs.Image.{reached-sum, headed-same, ReachedDir}
-use Rattle.change_laws.specs.FoundEntries.{standing-found, place-order}
+use Rattle.change_laws.specs.FoundEntries.{standing-found, start-order}
 use Rattle.change_laws.specs.Reached.{EntryIn, EntryFacts, block-entry, reached-dir, entry-facts}
 use Rattle.change_laws.specs.KeptChains.{entries-along, entries-left}
 use Rattle.change_laws.specs.NamedOnce.{only-home}
@@ -63,10 +63,10 @@ module _ {img : List ℕ} {e : Entered} {new : ℕ} {t : Anodes} {ys : List ℕ}
   -- ---- the bytes of the entries
 
   abbrev y : ℕ
-  y = e .place / 512
+  y = e .start / 512
 
   abbrev pos : ℕ
-  pos = e .place % 512
+  pos = e .start % 512
 
   home-block : blockOf j y ≡ put32 (blockOf img y) (pos + 4) new
   home-block = rw (facts p .in-block)
@@ -89,14 +89,14 @@ module _ {img : List ℕ} {e : Entered} {new : ℕ} {t : Anodes} {ys : List ℕ}
     g = entry-facts m
 
     -- with the same anode it stands in the entry's block
-    in-y : g .a₀ ≡ facts p .a₀ → f .place / 512 ≡ y
+    in-y : g .a₀ ≡ facts p .a₀ → f .start / 512 ≡ y
     in-y i = g .in-block ∙ ap (s .block) i ∙ sym (facts p .in-block)
 
     -- in the same block it ends before the entry or starts behind it
-    order : g .a₀ ≡ facts p .a₀ → (f .place % 512 + getD (blockOf img y) (f .place % 512) 0 ≤ pos) ⊎ (pos + 8 ≤ f .place % 512)
+    order : g .a₀ ≡ facts p .a₀ → (f .start % 512 + getD (blockOf img y) (f .start % 512) 0 ≤ pos) ⊎ (pos + 8 ≤ f .start % 512)
     unfolding entriesIn
     order i =
-        let at = f .place % 512 in
+        let at = f .start % 512 in
         let same = in-y i in
         let its-own : s .block (g .a₀) ≡ y = sym (g .in-block) ∙ same in
         let here = block-entry (facts p) in
@@ -106,7 +106,7 @@ module _ {img : List ℕ} {e : Entered} {new : ℕ} {t : Anodes} {ys : List ℕ}
           | inl q ↦ inl (omega (
             arith,
             same,
-            place-order (blockOf img y) y at f e (omega arith) (q .1) (e-in .1) (q .0) 28 16
+            start-order (blockOf img y) y at f e (omega arith) (q .1) (e-in .1) (q .0) 28 16
                 (e-in .2 ∙ ap (λ (l : List Entered). l ++ (e ∷ e-in .1)) (q .2) ∙ append-assoc (q .0) (f ∷ q .1) (e ∷ e-in .1)) (here .unbroken),
           ))
           | inr q ↦ elim (member-cons f e (e-in .1) q) [
@@ -115,24 +115,24 @@ module _ {img : List ℕ} {e : Entered} {new : ℕ} {t : Anodes} {ys : List ℕ}
               arith,
               same,
               long,
-              place-order (blockOf img y) y pos e f (omega arith) (c .0) (c .1) (e-in .0) 28 16 (e-in .2 ∙ ap (λ (l : List Entered). e-in .0 ++ (e ∷ l)) (c .2)) (here .unbroken),
+              start-order (blockOf img y) y pos e f (omega arith) (c .0) (c .1) (e-in .0) 28 16 (e-in .2 ∙ ap (λ (l : List Entered). e-in .0 ++ (e ∷ l)) (c .2)) (here .unbroken),
             ))
           ]
         ]
 
     -- other entries keep all their bytes
-    pub bytes-resized-other : entryBytes j (f .place) ≡ entryBytes img (f .place)
+    pub bytes-resized-other : entryBytes j (f .start) ≡ entryBytes img (f .start)
     unfolding entryBytes
     bytes-resized-other = elim (same? (g .a₀) (facts p .a₀)) [
       | inr n ↦ rw (g .in-block, other-block p (m .directory) (g .a₀) (g .member-chain) n)
       | inl i ↦ (let same = in-y i in
-          let at = f .place % 512 in
+          let at = f .start % 512 in
           let its-long : 18 ≤ getD (blockOf img y) at 0 = rw same at (standing-found (g .stands) .long) in
           rw (same, home-block) (with-length (put32 (blockOf img y) (pos + 4) new) (blockOf img y) at at (omega arith)
           (apart-bytes (blockOf img y) at (getD (blockOf img y) at 0) pos (block-entry (facts p) .whole) (rw same at (g .stands .before)) (order i))))
     ]
 
   -- of the entry only the size changes
-  pub bytes-resized : entryBytes j (e .place) ≡ put32 (entryBytes img (e .place)) 4 new
+  pub bytes-resized : entryBytes j (e .start) ≡ put32 (entryBytes img (e .start)) 4 new
   unfolding entryBytes
   bytes-resized = rw (home-block, getD-put32-other (blockOf img y) (pos + 4) new pos (inl (omega arith))) (part-put32 (blockOf img y) pos (getD (blockOf img y) pos 0) new (omega (arith, long)))

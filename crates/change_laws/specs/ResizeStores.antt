@@ -66,7 +66,7 @@ module _ {img : List ℕ} {e : Entered} {new : ℕ} {t : Anodes} {ys : List ℕ}
 
   -- the image that a resize leaves
   abbrev j : List ℕ
-  j = withSize tailed (e .place) new
+  j = withSize tailed (e .start) new
 
   pub stored : Kept (Unheld img) img anodesIn
   stored = stored-kept (image p) t
@@ -106,11 +106,11 @@ module _ {img : List ℕ} {e : Entered} {new : ℕ} {t : Anodes} {ys : List ℕ}
       go false q = kept-all zeroed
 
   abbrev setSize : List ℕ → List ℕ
-  setSize b = put32 b (e .place % 512 + 4) new
+  setSize b = put32 b (e .start % 512 + 4) new
 
-  pub size-kept : Kept (λ y. y ≢ e .place / 512) tailed j
+  pub size-kept : Kept (λ y. y ≢ e .start / 512) tailed j
   unfolding withSize
-  size-kept = inBlock-kept tailed (e .place / 512) setSize (length-put32 (blockOf tailed (e .place / 512)) (e .place % 512 + 4) new)
+  size-kept = inBlock-kept tailed (e .start / 512) setSize (length-put32 (blockOf tailed (e .start / 512)) (e .start % 512 + 4) new)
 
   -- a block that was not taken and is not the file's
   abbrev LeftAlone : ℕ → Type 0
@@ -119,15 +119,15 @@ module _ {img : List ℕ} {e : Entered} {new : ℕ} {t : Anodes} {ys : List ℕ}
   zeros-kept : Kept LeftAlone anodesIn tailed
   zeros-kept = kept-both (λ y o. o .0) (λ y o. o .1) taken-kept tail-kept
 
-  stores-kept : Kept (λ y. LeftAlone y × (y ≢ e .place / 512)) anodesIn j
+  stores-kept : Kept (λ y. LeftAlone y × (y ≢ e .start / 512)) anodesIn j
   stores-kept = kept-both (λ y o. o .0) (λ y o. o .1) zeros-kept size-kept
 
   -- from the image on: what no slot holds and none of the stores names is kept
-  left-kept : Kept (λ y. Unheld img y × (LeftAlone y × (y ≢ e .place / 512))) img (resizedImage img s e new t ys)
+  left-kept : Kept (λ y. Unheld img y × (LeftAlone y × (y ≢ e .start / 512))) img (resizedImage img s e new t ys)
   unfolding resizedImage
   left-kept = kept-both (λ y o. o .0) (λ y o. o .1) stored stores-kept
 
-  only-data : (y : ℕ) → (DataBlock img y → ⊥) → LeftAlone y × (y ≢ e .place / 512)
+  only-data : (y : ℕ) → (DataBlock img y → ⊥) → LeftAlone y × (y ≢ e .start / 512)
   only-data y n = (
     (not-among ys (handed-data img (w p .good) (e .anode) (facts p .head) (not-1 p) steps) y n, not-among chain (entry-data (p .entry)) y n),
     not-one (block-data (facts p)) y n,
@@ -180,12 +180,12 @@ module _ {img : List ℕ} {e : Entered} {new : ℕ} {t : Anodes} {ys : List ℕ}
       other-block n =
           size-kept .block-kept (s .block a) (off-anode p a (dir-block r a on .one) n) ∙ before-size
 
-      pub this-block : a ≡ facts p .a₀ → blockOf (resizedImage img s e new t ys) (s .block a) ≡ put32 (blockOf img (s .block a)) (e .place % 512 + 4) new
+      pub this-block : a ≡ facts p .a₀ → blockOf (resizedImage img s e new t ys) (s .block a) ≡ put32 (blockOf img (s .block a)) (e .start % 512 + 4) new
       unfolding resizedImage withSize
       this-block i =
-          let here : e .place / 512 ≡ s .block a = facts p .in-block ∙ ap (s .block) (sym i) in
-          rw (← before-size, ← here) (blockOf-inBlock tailed (e .place / 512) setSize (length-put32 (blockOf tailed (e .place / 512)) (e .place % 512 + 4) new))
+          let here : e .start / 512 ≡ s .block a = facts p .in-block ∙ ap (s .block) (sym i) in
+          rw (← before-size, ← here) (blockOf-inBlock tailed (e .start / 512) setSize (length-put32 (blockOf tailed (e .start / 512)) (e .start % 512 + 4) new))
 
   -- the block that has the entry
-  pub home-alone : LeftAlone (e .place / 512)
+  pub home-alone : LeftAlone (e .start / 512)
   home-alone = rw (facts p .in-block) (left-alone (p .entry .directory) (facts p .a₀) (facts p .member-chain))

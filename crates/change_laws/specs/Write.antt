@@ -57,7 +57,7 @@ module _ {img : List ℕ} {h : ℕ} {e : Entered} (m : EntryIn img h e) (file : 
   written-entries {k} r = entries-same r j (dir-kept r) (same-chain-own s k)
 
   -- the bytes of their entries too
-  pub written-bytes : {k : ℕ} {f : Entered} → EntryIn img k f → entryBytes j (f .place) ≡ entryBytes img (f .place)
+  pub written-bytes : {k : ℕ} {f : Entered} → EntryIn img k f → entryBytes j (f .start) ≡ entryBytes img (f .start)
   written-bytes n = entry-bytes-same (n .directory) j (dir-kept (n .directory)) n
 
   same-items : (d : Dir) → Member d (reachedDirs img s) → itemsBy (entriesIn j) (isBlockOf j) s d ≡ itemsBy (entriesIn img) (isBlockOf img) s d

@@ -13,7 +13,7 @@ use Rattle.edits.specs.declared.Room.the-variants.{At, Nowhere}
 
 -- the room that was found, or what the blocks behind have
 abbrev pub orRest : Room → Option ℕ → Option ℕ
-orRest (At place) rest = some place
+orRest (At start) rest = some start
 orRest Nowhere rest = rest
 
 -- the place that a search for room answers, if any
@@ -26,10 +26,10 @@ movedDown b at len k = take at b ++ take k (drop (at + len) b) ++ drop (at + k) 
 
 -- an entry stands whole at a place of the image, before the end mark of its block
 abbrev pub EntryStands : List ℕ → ℕ → Type 0
-EntryStands img place =
-    (place / 512 * 512 + 512 ≤ length img)
-    × (place % 512 + getD (blockOf img (place / 512)) (place % 512) 0 ≤ entriesEnd (blockOf img (place / 512)))
-    × (entriesEnd (blockOf img (place / 512)) ≤ 512)
+EntryStands img start =
+    (start / 512 * 512 + 512 ≤ length img)
+    × (start % 512 + getD (blockOf img (start / 512)) (start % 512) 0 ≤ entriesEnd (blockOf img (start / 512)))
+    × (entriesEnd (blockOf img (start / 512)) ≤ 512)
 
 -- the end of every extent fits into two bytes
 abbrev pub ExtentsFit : List ℕ → List ℕ → Type 0

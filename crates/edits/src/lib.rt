@@ -261,21 +261,21 @@ pub fn zero_tail(
 }
 
 // Stores the size of the entry at a place of the image.
-pub fn put_size(image: &mut [u8], place: usize, size: u32)
-    ensures { λ _. ⌜ now (image .exit) ≡ withSize (now (image .entry)) place size ⌝ }
+pub fn put_size(image: &mut [u8], start: usize, size: u32)
+    ensures { λ _. ⌜ now (image .exit) ≡ withSize (now (image .entry)) start size ⌝ }
 {
-    let from = place / 512 * 512;
+    let from = start / 512 * 512;
     let end = block_end(image.len(), from);
     if end <= from {
         return;
     }
-    write32(&mut image[from..end], place % 512 + 4, size);
+    write32(&mut image[from..end], start % 512 + 4, size);
 }
 
 // Stores a new entry at a place of the image.
 pub fn put_new_entry(
     image: &mut [u8],
-    place: usize,
+    start: usize,
     kind: Kind,
     anode: AnodeNo,
     name: &[u8],
@@ -286,9 +286,9 @@ pub fn put_new_entry(
     protection: u8,
 )
     requires { ⌜ (goodName (now name) ≡ true) × (goodComment (now comment) ≡ true) ⌝ }
-    ensures { λ _. ⌜ now (image .exit) ≡ inBlock (now (image .entry)) (place / 512) (λ (b : List ℕ). putEntry b (place % 512) (entryOf (newEntry (isDir kind) (now (name .entry)) (now (comment .entry)) day minute tick protection) (anode .0)) (now (name .entry)) (now (comment .entry))) ⌝ }
+    ensures { λ _. ⌜ now (image .exit) ≡ inBlock (now (image .entry)) (start / 512) (λ (b : List ℕ). putEntry b (start % 512) (entryOf (newEntry (isDir kind) (now (name .entry)) (now (comment .entry)) day minute tick protection) (anode .0)) (now (name .entry)) (now (comment .entry))) ⌝ }
 {
-    let from = place / 512 * 512;
+    let from = start / 512 * 512;
     let end = block_end(image.len(), from);
     if end <= from {
         return;
@@ -304,7 +304,7 @@ pub fn put_new_entry(
         name: name.len() as u8,
         comment: comment.len() as u8,
     };
-    put_entry(&mut image[from..end], place % 512, e, name, comment);
+    put_entry(&mut image[from..end], start % 512, e, name, comment);
 }
 
 // The end mark's place in a directory block.
@@ -380,12 +380,12 @@ fn close_gap(block: &mut [u8], at: usize, len: usize, end: usize)
 }
 
 // Takes the entry at a place out of its directory block.
-pub fn take_out(image: &mut [u8], place: usize)
-    requires { ⌜ EntryStands (now image) place ⌝ }
-    ensures { λ _. ⌜ now (image .exit) ≡ withoutEntry (now (image .entry)) place ⌝ }
+pub fn take_out(image: &mut [u8], start: usize)
+    requires { ⌜ EntryStands (now image) start ⌝ }
+    ensures { λ _. ⌜ now (image .exit) ≡ withoutEntry (now (image .entry)) start ⌝ }
 {
-    let at = place % 512;
-    let from = place / 512 * 512;
+    let at = start % 512;
+    let from = start / 512 * 512;
     let to = from + 512;
     let block = &image[from..to];
     let len = read8(block, at) as usize;

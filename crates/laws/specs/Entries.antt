@@ -28,7 +28,7 @@ use Rattle.laws.specs.TreeChanges.{AlikeItems}
 
 -- an entry that stands at a place, as the walk has it
 abbrev pub enteredAt : Entry → ℕ → Entered
-enteredAt x place = record { broken = false; dir = isDir (x .kind); anode = x .anode .0; size = x .size; place = place }
+enteredAt x start = record { broken = false; dir = isDir (x .kind); anode = x .anode .0; size = x .size; start = start }
 
 pub entries-more : (b : List ℕ) (y m at : ℕ) (x : Entry) → walkedAt b at ≡ Found x → entriesFrom (suc m) b y at ≡ enteredAt x (y * 512 + at) ∷ entriesFrom m b y (at + getD b at 0)
 unfolding entriesFrom
@@ -50,7 +50,7 @@ unfolding entriesIn
 block-whole img y b e = rw e
 
 module _ (b : List ℕ) (y k m at : ℕ) (fuel : k ≡ m + 1) where
-  pub entries-fault : (r : Refusal) → walkedAt b at ≡ Fault r → entriesFrom k b y at ≡ record { broken = true; dir = false; anode = 0; size = 0; place = y * 512 + at } ∷ []
+  pub entries-fault : (r : Refusal) → walkedAt b at ≡ Fault r → entriesFrom k b y at ≡ record { broken = true; dir = false; anode = 0; size = 0; start = y * 512 + at } ∷ []
   unfolding entriesFrom
   entries-fault r e = rw (fuel, add-one m, e)
 
@@ -138,7 +138,7 @@ module _ (s : Anodes) where
 
   -- a weight of an item, as one of its entry
   pub asEntry : (ℕ → Bool → ℕ → ℕ) → Bool → Bool → ℕ → ℕ → ℕ
-  asEntry w b d a z = weighItem w (itemOf s (record { broken = b; dir = d; anode = a; size = z; place = 0 }))
+  asEntry w b d a z = weighItem w (itemOf s (record { broken = b; dir = d; anode = a; size = z; start = 0 }))
 
   pub weigh-item : (w : ℕ → Bool → ℕ → ℕ) (e : Entered) → weighItem w (itemOf s e) ≡ weighEntry (asEntry w) e
   unfolding asEntry wrong itemOf wrongFileSize

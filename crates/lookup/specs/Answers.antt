@@ -15,11 +15,11 @@ use Rattle.lookup.specs.declared.Passed.the-variants.{Found as Hit, Left
 
 -- an entry of a block, at a place of the image
 abbrev pub placed : Entry → ℕ → EntryAt
-placed e place = record { kind = e .kind; anode = e .anode; size = e .size; place = place }
+placed e start = record { kind = e .kind; anode = e .anode; size = e .size; start = start }
 
 -- as the rules list it
 abbrev pub entered : EntryAt → Entered
-entered e = record { broken = false; dir = isDir (e .kind); anode = e .anode .0; size = e .size; place = e .place }
+entered e = record { broken = false; dir = isDir (e .kind); anode = e .anode .0; size = e .size; start = e .start }
 
 -- the entry that a lookup found
 abbrev pub entryOf : Lookup → Option Entered

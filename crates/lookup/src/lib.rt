@@ -29,7 +29,7 @@ pub struct EntryAt {
     pub kind: Kind,
     pub anode: AnodeNo,
     pub size: u32,
-    pub place: usize,
+    pub start: usize,
 }
 
 // What a lookup answers.
@@ -91,7 +91,7 @@ fn entry_in_image(b: BlockNo, at: usize, e: Entry) -> EntryAt
         kind,
         anode,
         size: e.size,
-        place: (b.0 as usize) * 512 + at,
+        start: (b.0 as usize) * 512 + at,
     }
 }
 

@@ -16,7 +16,7 @@ use Rattle.rules.specs.Chains.{chainOf, blocksOf}
 use Rattle.rules.specs.Lookup.{noDirectory}
 use Rattle.rules.specs.Space.{rewritten, lowestFree}
 use Rattle.rules.specs.Tables.{anodeTable}
-use Rattle.rules.specs.Changes.{firstRoom, noRoom, entryPlace, NewEntry, madeImage, madeWith, made}
+use Rattle.rules.specs.Changes.{firstRoom, noRoom, entryStart, NewEntry, madeImage, madeWith, made}
 use Rattle.laws.specs.Bags.{occurrences-member}
 use Rattle.laws.specs.Links.{Linked}
 use Rattle.laws.specs.OwnerTable.{setAll, fresh-owner}
@@ -111,14 +111,14 @@ module _ (img : List ℕ) (h : ℕ) (new : NewEntry) (m : MakePlan) (t : Anodes)
       (shows-kept img (anodesOf img) u (fresh-owner (whole x .good) f (x .below) (free-f x)) b r q))
 
   -- with no room the parent has a new block
-  pub placed : m .place ≡ entryPlace (p .room) zs
-  placed = p .place ∙ go (p .room) refl
+  pub placed : m .start ≡ entryStart (p .room) zs
+  placed = p .start ∙ go (p .room) refl
     where
-      go : (o : Option ℕ) → p .room ≡ o → entryPlace o (m .parents .0 ∷ []) ≡ entryPlace o zs
-      go (some place) e = refl
+      go : (o : Option ℕ) → p .room ≡ o → entryStart o (m .parents .0 ∷ []) ≡ entryStart o zs
+      go (some start) e = refl
       go none e =
           let q = grown making .took (ap noRoom e) in
-          ap (entryPlace none) (sym (one-block (m .parents .0) (λ z. nil≢cons (sym (no-block (m .parents .0) z) ∙ q .1))))
+          ap (entryStart none) (sym (one-block (m .parents .0) (λ z. nil≢cons (sym (no-block (m .parents .0) z) ∙ q .1))))
 
   -- what it leaves of the image and the tables
   pub done-leaves : (b a : List ℕ) →

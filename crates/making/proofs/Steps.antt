@@ -17,7 +17,7 @@ use Rattle.rules.specs.Chains.{systemOwns, blocksOf}
 use Rattle.rules.specs.Walk.{entriesIn, isBlockOf, reachedDirs}
 use Rattle.rules.specs.Accepted.{diskSize, wrongSize, lastReserved}
 use Rattle.rules.specs.Space.{refused, planned, rewritten, after, repeated, takeBlock, takeMany}
-use Rattle.rules.specs.Changes.{firstRoom, noRoom, neededBlock, entryPlace, NewEntry, left, leftBy, madeImage, madeWith, made}
+use Rattle.rules.specs.Changes.{firstRoom, noRoom, neededBlock, entryStart, NewEntry, left, leftBy, madeImage, madeWith, made}
 use Rattle.laws.specs.Heads.{Head}
 use Rattle.laws.specs.Blocks.{blocks}
 use Rattle.laws.specs.Space.{FreeAnode}
@@ -128,11 +128,11 @@ module _ {img : List ℕ} {h f : ℕ} (x : Fresh img h f) where
       next-stopped k e = (late img (noRoom room) r h (numberOf k) (sym e), λ new d n. made-is new d n ∙ rw (sym first, sym e))
 
       -- both done
-      pub both-taken : (z : BlockNo) (t : Anodes) → neededPlan (Moved z) t ≡ neededBlock img (noRoom room) r h → (place : ℕ) → place ≡ entryPlace room (z .0 ∷ []) →
-          PlanOf (Make (record { fresh = record { 0 = f }; place = place; own = y; parents = z })) img dir len h t
-      both-taken z t e place at = record {
+      pub both-taken : (z : BlockNo) (t : Anodes) → neededPlan (Moved z) t ≡ neededBlock img (noRoom room) r h → (start : ℕ) → start ≡ entryStart room (z .0 ∷ []) →
+          PlanOf (Make (record { fresh = record { 0 = f }; start = start; own = y; parents = z })) img dir len h t
+      both-taken z t e start at = record {
         fresh = x;
         room = room;
         steps = record { between = r; own = ap (λ (u : Anodes). neededBlock img dir u f) (sym begun) ∙ sym first; roomy = sym found; parent = sym e };
-        place = at;
+        start = at;
       }

@@ -10,7 +10,7 @@ use Rattle.disk.specs.Refusals.{numberOf}
 use Rattle.directory.specs.Entries.{entryLength}
 use Rattle.rules.specs.Anodes.{Anodes, anodesOf}
 use Rattle.rules.specs.Space.{Plan, refused, planned}
-use Rattle.rules.specs.Changes.{entryPlace, NewEntry, left, made}
+use Rattle.rules.specs.Changes.{entryStart, NewEntry, left, made}
 use Rattle.change_laws.specs.MakePlan.{Fresh, MakeSteps}
 use Rattle.space.specs.declared.Step.{Step}
 use Rattle.space.specs.declared.Step.the-variants.{Moved, Refused}
@@ -32,7 +32,7 @@ pub record Plans (img : List ℕ) (dir : Bool) (len h : ℕ) (m : MakePlan) (t :
   pub fresh : Fresh img h (m .fresh .0)
   pub room : Option ℕ
   pub steps : MakeSteps img dir len h (m .fresh .0) room (someBlock (m .own .0)) t (someBlock (m .parents .0))
-  pub place : m .place ≡ entryPlace room (m .parents .0 ∷ [])
+  pub start : m .start ≡ entryStart room (m .parents .0 ∷ [])
 
 -- what the planning of a make answers: the plan, or a refusal of the whole make
 abbrev pub PlanOf : Planned → List ℕ → Bool → ℕ → ℕ → Anodes → Type 0

@@ -11,7 +11,7 @@ ghost use Rattle.rules.specs.Walk.{reachedDirs};
 ghost use Rattle.rules.specs.Lookup.{noDirectory};
 ghost use Rattle.rules.specs.Space.{rewritten};
 ghost use Rattle.rules.specs.Format.{newDirectoryBlock};
-ghost use Rattle.rules.specs.Changes.{withBlocks, firstRoom, noRoom, neededBlock, parentOf, entryPlace, newEntry, made};
+ghost use Rattle.rules.specs.Changes.{withBlocks, firstRoom, noRoom, neededBlock, parentOf, entryStart, newEntry, made};
 ghost use Rattle.laws.specs.OwnerTable.{setAll};
 ghost use Rattle.anodes.specs.Loaded.{anodesFrom, AnodeTables, Loaded};
 ghost use Rattle.change_tables.specs.Leaves.{Leaves};
@@ -41,7 +41,7 @@ use tables::set_entry;
 // A planned make: the fresh head, the entry's place, and the blocks that it takes, 0 for none: the new directory's own and its parent's.
 struct MakePlan {
     fresh: AnodeNo,
-    place: usize,
+    start: usize,
     own: BlockNo,
     parents: BlockNo,
 }
@@ -82,11 +82,11 @@ fn take_needed(
 }
 
 // Where the entry goes: the room that was found, else the first place of the parent's new block.
-fn place_for(room: Room, parents: BlockNo) -> usize
-    ensures { λ r. ⌜ r ≡ entryPlace (roomOf room) (parents .0 ∷ []) ⌝ }
+fn start_for(room: Room, parents: BlockNo) -> usize
+    ensures { λ r. ⌜ r ≡ entryStart (roomOf room) (parents .0 ∷ []) ⌝ }
 {
     match room {
-        Room::At(place) => place,
+        Room::At(start) => start,
         Room::Nowhere => (parents.0 as usize) * 512 + 16,
     }
 }
@@ -116,10 +116,10 @@ fn take_blocks(
         Step::Moved(b) => b,
         Step::Refused(r) => return Planned::Stopped(r),
     };
-    let place = place_for(room, parents);
+    let start = start_for(room, parents);
     Planned::Make(MakePlan {
         fresh,
-        place,
+        start,
         own,
         parents,
     })
@@ -210,7 +210,7 @@ fn commit_make(
     head_new(image, plan.parents, head, parent);
     put_new_entry(
         image,
-        plan.place,
+        plan.start,
         kind,
         plan.fresh,
         name,

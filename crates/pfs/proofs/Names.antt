@@ -22,23 +22,23 @@ use Rattle.reading.proofs.Laws.{take-within}
 use Rattle.pfs.specs.Listed.{nameGiven}
 
 -- the name stands whole in its block
-named-part : (img : List ℕ) (place : ℕ) → place % 512 + 16 + nameLength (blockOf img (place / 512)) (place % 512) ≤ 512 →
-    nameAt img place ≡ take (nameLength (blockOf img (place / 512)) (place % 512)) (drop (place + 16) img)
+named-part : (img : List ℕ) (start : ℕ) → start % 512 + 16 + nameLength (blockOf img (start / 512)) (start % 512) ≤ 512 →
+    nameAt img start ≡ take (nameLength (blockOf img (start / 512)) (start % 512)) (drop (start + 16) img)
 unfolding nameAt nameIn blockOf
-named-part img place l =
-    let e : place / 512 * 512 + (place % 512 + 16) ≡ place + 16 = omega arith in
-    take-within 512 (place % 512 + 16) (nameLength (blockOf img (place / 512)) (place % 512)) (drop (place / 512 * 512) img) (omega arith)
-    ∙ ap (take (nameLength (blockOf img (place / 512)) (place % 512))) (drop-drop (place % 512 + 16) (place / 512 * 512) img ∙ ap (λ (n : ℕ). drop n img) e)
+named-part img start l =
+    let e : start / 512 * 512 + (start % 512 + 16) ≡ start + 16 = omega arith in
+    take-within 512 (start % 512 + 16) (nameLength (blockOf img (start / 512)) (start % 512)) (drop (start / 512 * 512) img) (omega arith)
+    ∙ ap (take (nameLength (blockOf img (start / 512)) (start % 512))) (drop-drop (start % 512 + 16) (start / 512 * 512) img ∙ ap (λ (n : ℕ). drop n img) e)
 
 module _ (img b₀ a₀ : List ℕ) (h n : ℕ) where
   -- the name of the entry that is listed is the one that its fields give
-  found-name : checkAnswer img (length b₀) (length a₀) ≡ 0 → listRefusal img (anodesOf img) h n ≡ 0 → (x : Entered) → nth (entriesOf img (anodesOf img) h) n ≡ some x → nameAt img (x .place) ≡ nameGiven img (fieldsAt img (x .place))
+  found-name : checkAnswer img (length b₀) (length a₀) ≡ 0 → listRefusal img (anodesOf img) h n ≡ 0 → (x : Entered) → nth (entriesOf img (anodesOf img) h) n ≡ some x → nameAt img (x .start) ≡ nameGiven img (fieldsAt img (x .start))
   unfolding nameGiven fieldsAt fieldList entryIn entryLength
   found-name accepted listed x is =
       let image : AcceptedImage img = record { blocks = length b₀; anodes = length a₀; accepted = accepted } in
       let f = entry-facts (record { directory = record { image = image; reached = list-reached img (anodesOf img) h n listed }; member = nth-member _ n x is }) in
       let w = standing-found (f .stands) in
-      named-part img (x .place) (omega (arith, w .exact, w .room))
+      named-part img (x .start) (omega (arith, w .exact, w .room))
 
   -- and so it is for every answer: a refused list gives zero fields and an empty name
   of-answer : (k : ℕ) → k ≡ listAnswer img b₀ a₀ h n → (o : Option Entered) → nth (entriesOf img (anodesOf img) h) n ≡ o → nameListed k img o ≡ nameGiven img (fieldsListed k img o)

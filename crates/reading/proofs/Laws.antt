@@ -31,8 +31,8 @@ module _ {img counts firsts nexts queue parents heads : List ℕ} {dirs : ℕ} (
   entry = record { directory = record { image = accepted-own img (o .loaded .accepted); reached = reached }; member = member }
 
   -- an entry stands on the disk
-  pub place-low : e .place < 65536 * 512
-  place-low =
+  pub start-low : e .start < 65536 * 512
+  start-low =
       let f = entry-facts entry in
       omega (arith, f .in-block, f .block-facts .is-data .below, size-bounds img (image-passed (entry .directory .image) .size-right) .1)
 

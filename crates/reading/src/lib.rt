@@ -59,22 +59,22 @@ pub fn read_named(
 }
 
 // The name of the entry at a place of the image, as a part of it that starts 16 bytes into the entry.
-fn name_part(image: &[u8], place: usize) -> &[u8]
-    requires { ⌜ place < 65536 * 512 ⌝ }
-    ensures { λ r. ⌜ now r ≡ nameAt (now (image .entry)) place ⌝ }
+fn name_part(image: &[u8], start: usize) -> &[u8]
+    requires { ⌜ start < 65536 * 512 ⌝ }
+    ensures { λ r. ⌜ now r ≡ nameAt (now (image .entry)) start ⌝ }
 {
-    let at = place % 512;
-    let block = block_part(image, BlockNo((place / 512) as u16));
+    let at = start % 512;
+    let block = block_part(image, BlockNo((start / 512) as u16));
     part(block, at + 16, read8(block, at + 15) as usize)
 }
 
 // Stores the fields of the entry at a place of the image in the lent array.
-fn put_fields(image: &[u8], place: usize, fields: &mut [u32; 11])
-    requires { ⌜ place < 65536 * 512 ⌝ }
-    ensures { λ _. ⌜ now (fields .exit) ≡ fieldsAt (now (image .entry)) place ⌝ }
+fn put_fields(image: &[u8], start: usize, fields: &mut [u32; 11])
+    requires { ⌜ start < 65536 * 512 ⌝ }
+    ensures { λ _. ⌜ now (fields .exit) ≡ fieldsAt (now (image .entry)) start ⌝ }
 {
-    let at = place % 512;
-    let block = block_part(image, BlockNo((place / 512) as u16));
+    let at = start % 512;
+    let block = block_part(image, BlockNo((start / 512) as u16));
     let name = read8(block, at + 15) as u32;
     *fields = [
         read8(block, at + 1) as u32,
@@ -84,9 +84,9 @@ fn put_fields(image: &[u8], place: usize, fields: &mut [u32; 11])
         read16(block, at + 10) as u32,
         read16(block, at + 12) as u32,
         read8(block, at + 14) as u32,
-        place as u32 + 16,
+        start as u32 + 16,
         name,
-        place as u32 + 17 + name,
+        start as u32 + 17 + name,
         read8(block, at + 16 + (name as usize)) as u32,
     ];
 }
@@ -113,8 +113,8 @@ pub fn list_nth<'a>(
     match found {
         Search::Found(e) => {
             *answer = 0;
-            put_fields(image, e.place, fields);
-            name_part(image, e.place)
+            put_fields(image, e.start, fields);
+            name_part(image, e.start)
         }
         Search::Refused(r) => {
             *answer = number(r);

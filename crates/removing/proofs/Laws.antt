@@ -61,11 +61,11 @@ module _ {img counts firsts nexts : List ℕ} (l : Loaded img counts firsts next
     removed-links x i = rw i (end-good p .linked)
 
     -- the entry stands where it did, after the anodes are stored
-    pub stands : EntryStands (withAnodes img end) (e .place)
+    pub stands : EntryStands (withAnodes img end) (e .start)
     stands =
         let facts = entry-known l e r in
         let kept = withAnodes-stored img (accepted-slots (loaded-image l)) end .kept in
-        rw (kept .length-kept, kept .block-kept (e .place / 512) (block-data facts .unheld)) (block-data facts .inside, block-standing (block-entry facts) .before, end-within (block-entry facts))
+        rw (kept .length-kept, kept .block-kept (e .start / 512) (block-data facts .unheld)) (block-data facts .inside, block-standing (block-entry facts) .before, end-within (block-entry facts))
 
     -- what it leaves of the image and the tables
     pub done-leaves : (b a : List ℕ) → Leaves 0 img b a (removedImage img e t) (setAll b ys 1) (anodeTable end ++ drop limit a) (removed img s e)

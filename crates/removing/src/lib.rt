@@ -51,7 +51,7 @@ fn commit_remove(
         new_firsts,
         new_nexts,
     );
-    take_out(image, e.place);
+    take_out(image, e.start);
     set_owners(blocks, moved, n, AnodeNo(1));
     show_heads(new_firsts, new_nexts, anodes);
 }

@@ -96,7 +96,7 @@ fn commit_resize(
         zero_blocks(image, moved, n);
     }
     zero_tail(image, counts, firsts, nexts, e.anode, e.size, size);
-    put_size(image, e.place, size as u32);
+    put_size(image, e.start, size as u32);
     set_owners(blocks, moved, n, owner);
     show_heads(new_firsts, new_nexts, anodes);
 }

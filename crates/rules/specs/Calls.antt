@@ -150,22 +150,22 @@ readOutcome img blocks anodes h name offset out =
 
 -- the fields that list hands back: type, anode, size, day, minute, tick, protection, the name's offset in the image and length, the comment's
 unfoldable pub fieldList : Entry → ℕ → ℕ → List ℕ
-fieldList e type place =
+fieldList e type start =
     type ∷ e .anode .0 ∷ e .size ∷ e .day ∷ e .minute ∷ e .tick ∷ e .protection
-    ∷ (place + 16) ∷ e .name ∷ (place + 17 + e .name) ∷ e .comment ∷ []
+    ∷ (start + 16) ∷ e .name ∷ (start + 17 + e .name) ∷ e .comment ∷ []
 
 -- the eleven fields of the entry at a place of the image
 unfoldable pub fieldsAt : List ℕ → ℕ → List ℕ
-fieldsAt img place =
-    fieldList (entryIn (blockOf img (place / 512)) (place % 512) File) (getD (blockOf img (place / 512)) (place % 512 + 1) 0) place
+fieldsAt img start =
+    fieldList (entryIn (blockOf img (start / 512)) (start % 512) File) (getD (blockOf img (start / 512)) (start % 512 + 1) 0) start
 
 -- the fields of the entry that was found; zeros after a refusal
 abbrev pub fieldsListed : ℕ → List ℕ → Option Entered → List ℕ
-fieldsListed n img e = foundOr n e (λ e. fieldsAt img (e .place)) (replicate 11 0)
+fieldsListed n img e = foundOr n e (λ e. fieldsAt img (e .start)) (replicate 11 0)
 
 -- its name; empty after a refusal
 abbrev pub nameListed : ℕ → List ℕ → Option Entered → List ℕ
-nameListed n img e = foundOr n e (λ e. nameAt img (e .place)) []
+nameListed n img e = foundOr n e (λ e. nameAt img (e .start)) []
 
 -- the check first, then 21, 22
 unfoldable pub listAnswer : List ℕ → List ℕ → List ℕ → ℕ → ℕ → ℕ

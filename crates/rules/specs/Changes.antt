@@ -60,7 +60,7 @@ zeroTail img s e new =
 
 -- of the entry only the size changes
 unfoldable pub withSize : List ℕ → ℕ → ℕ → List ℕ
-withSize img place new = inBlock img (place / 512) (λ b. put32 b (place % 512 + 4) new)
+withSize img start new = inBlock img (start / 512) (λ b. put32 b (start % 512 + 4) new)
 
 -- each block taken is zeroed; blocks given back keep their bytes
 unfoldable pub zeroTaken : List ℕ → Entered → ℕ → List ℕ → List ℕ
@@ -68,7 +68,7 @@ zeroTaken img e new ys = cond (ltb (e .size) new) (withBlocks img ys zeroBlock) 
 
 -- the image after a resize whose steps left the anodes t and moved the blocks ys
 unfoldable pub resizedImage : List ℕ → Anodes → Entered → ℕ → Anodes → List ℕ → List ℕ
-resizedImage img s e new t ys = withSize (zeroTail (zeroTaken (withAnodes img t) e new ys) s e new) (e .place) new
+resizedImage img s e new t ys = withSize (zeroTail (zeroTaken (withAnodes img t) e new ys) s e new) (e .start) new
 
 -- Resize: refused by its first step that fails, else that image
 unfoldable pub resized : List ℕ → Anodes → Entered → ℕ → Left
@@ -94,7 +94,7 @@ firstRoom img len (y ∷ ys) =
 -- whether no block of the parent has room
 abbrev pub noRoom : Option ℕ → Bool
 noRoom none = true
-noRoom (some place) = false
+noRoom (some start) = false
 
 -- a new directory takes one block into its head, and the parent takes one where it has no room
 unfoldable pub neededBlock : List ℕ → Bool → Anodes → ℕ → Plan
@@ -107,10 +107,10 @@ parentOf [] h = 0
 parentOf (d ∷ ds) h = cond (eqb (d .head) h) (d .parent) (parentOf ds h)
 
 -- where the entry goes: the room that was found, else the new block's first place
-abbrev pub entryPlace : Option ℕ → List ℕ → ℕ
-entryPlace (some place) ys = place
-entryPlace none [] = 0
-entryPlace none (y ∷ ys) = y * 512 + 16
+abbrev pub entryStart : Option ℕ → List ℕ → ℕ
+entryStart (some start) ys = start
+entryStart none [] = 0
+entryStart none (y ∷ ys) = y * 512 + 16
 
 -- size is 0; the other fields are the caller's
 pub record NewEntry : Type 0 where
@@ -149,8 +149,8 @@ madeImage img s h new f room ys t zs =
     (withBlocks (withAnodes img t)
     ys (newDirectoryBlock f h))
     zs (newDirectoryBlock h (parentOf (reachedDirs img s) h)))
-    (entryPlace room zs / 512)
-    (λ b. putEntry b (entryPlace room zs % 512) (entryOf new f) (new .name) (new .comment))
+    (entryStart room zs / 512)
+    (λ b. putEntry b (entryStart room zs % 512) (entryOf new f) (new .name) (new .comment))
 
 -- the steps, with head f, (0, 65535, 0), and the room that was found: the new directory's block, then the parent's
 abbrev pub madeIn : List ℕ → Anodes → ℕ → NewEntry → ℕ → Option ℕ → Left
@@ -192,7 +192,7 @@ entryClosed b at = gapClosed b at (getD b at 0) (entriesEnd b)
 
 -- the image without the entry at a place
 unfoldable pub withoutEntry : List ℕ → ℕ → List ℕ
-withoutEntry img place = inBlock img (place / 512) (λ b. entryClosed b (place % 512))
+withoutEntry img start = inBlock img (start / 512) (λ b. entryClosed b (start % 512))
 
 -- gives back all blocks, last first
 abbrev pub removePlan : List ℕ → Anodes → ℕ → Plan
@@ -200,7 +200,7 @@ removePlan img s h = Space.giveMany limit (exists img) (lastReserved img) (block
 
 -- the image after a removal whose steps left the anodes t: those still in the chain are zeroed, and the entry goes
 unfoldable pub removedImage : List ℕ → Entered → Anodes → List ℕ
-removedImage img e t = withoutEntry (withAnodes img (Space.dropped limit t (e .anode))) (e .place)
+removedImage img e t = withoutEntry (withAnodes img (Space.dropped limit t (e .anode))) (e .start)
 
 -- Remove: refused by its first step that fails, else that image
 unfoldable pub removed : List ℕ → Anodes → Entered → Left

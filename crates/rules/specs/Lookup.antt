@@ -26,11 +26,11 @@ entriesOf img s h = gather (λ a. entriesIn img (s .block a)) (chainOf (s .next)
 
 -- the name of the entry at a place of the image
 unfoldable pub nameAt : List ℕ → ℕ → List ℕ
-nameAt img place = nameIn (blockOf img (place / 512)) (place % 512)
+nameAt img start = nameIn (blockOf img (start / 512)) (start % 512)
 
 -- names match byte for byte
 unfoldable pub isNamed : List ℕ → List ℕ → Entered → Bool
-isNamed img name e = sameBytes (nameAt img (e .place)) name
+isNamed img name e = sameBytes (nameAt img (e .start)) name
 
 -- the first match counts
 unfoldable pub firstNamed : List ℕ → List ℕ → List Entered → Option Entered

@@ -31,13 +31,13 @@ pub record Entered : Type 0 where
   pub dir : Bool
   pub anode : ℕ
   pub size : ℕ
-  pub place : ℕ
+  pub start : ℕ
 
 -- what stands at a place, with the entries behind it
 abbrev pub withRest : Walked → ℕ → List Entered → List Entered
-withRest (Found e) place rest = record { broken = false; dir = isDir (e .kind); anode = e .anode .0; size = e .size; place = place } ∷ rest
-withRest End place rest = []
-withRest (Fault r) place rest = record { broken = true; dir = false; anode = 0; size = 0; place = place } ∷ []
+withRest (Found e) start rest = record { broken = false; dir = isDir (e .kind); anode = e .anode .0; size = e .size; start = start } ∷ rest
+withRest End start rest = []
+withRest (Fault r) start rest = record { broken = true; dir = false; anode = 0; size = 0; start = start } ∷ []
 
 -- the entries of block y from a place of it on, in byte order, up to the end mark or the first that breaks the rules
 unfoldable pub entriesFrom : ℕ → List ℕ → ℕ → ℕ → List Entered
@@ -61,7 +61,7 @@ pub record Item : Type 0 where
   pub late : ℕ
   pub dir : Bool
   pub anode : ℕ
-  pub place : ℕ
+  pub start : ℕ
 
 -- 15: the blocks that a size asks for: size / 512, rounded up
 unfoldable pub blocksFor : ℕ → ℕ
@@ -82,12 +82,12 @@ itemOf s e = record {
   late = wrongFileSize s e;
   dir = e .dir;
   anode = e .anode;
-  place = e .place;
+  start = e .start;
 }
 
 -- a directory anode with count other than 1, or whose block is not the directory's: 12
 abbrev pub brokenItem : Item
-brokenItem = record { early = 12; late = 0; dir = false; anode = 0; place = 0 }
+brokenItem = record { early = 12; late = 0; dir = false; anode = 0; start = 0 }
 
 -- what anode a of directory d gives, where `entries` are those of a block, `marked` says whether a block is a directory's and `item` looks at an entry
 unfoldable pub itemsFor : (Entered → Item) → (ℕ → List Entered) → (Dir → ℕ → Bool) → Anodes → Dir → ℕ → List Item

@@ -126,28 +126,28 @@ length-queue queue parents n = length-dirs queue parents 0 n
 
 -- ---- one entry
 
-module _ (counts nexts heads : List ℕ) (head : ℕ) (e : Entry) (place : ℕ) (queue : List Dir) (marks : List ℕ) (files : ℕ) where
-  pub enter-no-head : headAt heads (e .anode .0) ≡ false → enterItem head (itemIn counts nexts heads (enteredAt e place)) queue marks files ≡ stopped 13
+module _ (counts nexts heads : List ℕ) (head : ℕ) (e : Entry) (start : ℕ) (queue : List Dir) (marks : List ℕ) (files : ℕ) where
+  pub enter-no-head : headAt heads (e .anode .0) ≡ false → enterItem head (itemIn counts nexts heads (enteredAt e start)) queue marks files ≡ stopped 13
   unfolding enterItem itemIn
   enter-no-head h = rw h
 
   pub enter-twice : headAt heads (e .anode .0) ≡ true → (getD marks (e .anode .0) 0 ≡ 0 → ⊥)
-      → enterItem head (itemIn counts nexts heads (enteredAt e place)) queue marks files ≡ stopped 14
+      → enterItem head (itemIn counts nexts heads (enteredAt e start)) queue marks files ≡ stopped 14
   unfolding enterItem itemIn
   enter-twice h n = rw (h, ne-eqb (getD marks (e .anode .0) 0) 0 n)
 
   pub enter-size : headAt heads (e .anode .0) ≡ true → getD marks (e .anode .0) 0 ≡ 0 → e .kind ≡ File → (sumFrom counts nexts limit (e .anode .0) ≡ blocksFor (e .size) → ⊥)
-      → enterItem head (itemIn counts nexts heads (enteredAt e place)) queue marks files ≡ stopped 15
+      → enterItem head (itemIn counts nexts heads (enteredAt e start)) queue marks files ≡ stopped 15
   unfolding enterItem itemIn
   enter-size h m k n = rw (h, eq-eqb (getD marks (e .anode .0) 0) 0 m, k, ne-eqb (sumFrom counts nexts limit (e .anode .0)) (blocksFor (e .size)) n)
 
   pub enter-file : headAt heads (e .anode .0) ≡ true → getD marks (e .anode .0) 0 ≡ 0 → e .kind ≡ File → sumFrom counts nexts limit (e .anode .0) ≡ blocksFor (e .size)
-      → enterItem head (itemIn counts nexts heads (enteredAt e place)) queue marks files ≡ going queue (set marks (e .anode .0) 1) (files + 1)
+      → enterItem head (itemIn counts nexts heads (enteredAt e start)) queue marks files ≡ going queue (set marks (e .anode .0) 1) (files + 1)
   unfolding enterItem itemIn
   enter-file h m k n = rw (h, eq-eqb (getD marks (e .anode .0) 0) 0 m, k, eq-eqb (sumFrom counts nexts limit (e .anode .0)) (blocksFor (e .size)) n)
 
   pub enter-dir : headAt heads (e .anode .0) ≡ true → getD marks (e .anode .0) 0 ≡ 0 → e .kind ≡ Directory
-      → enterItem head (itemIn counts nexts heads (enteredAt e place)) queue marks files ≡ going (queue ++ (dirMade (e .anode .0) head ∷ [])) (set marks (e .anode .0) 1) files
+      → enterItem head (itemIn counts nexts heads (enteredAt e start)) queue marks files ≡ going (queue ++ (dirMade (e .anode .0) head ∷ [])) (set marks (e .anode .0) 1) files
   unfolding enterItem itemIn
   enter-dir h m k = rw (h, eq-eqb (getD marks (e .anode .0) 0) 0 m, k)
 

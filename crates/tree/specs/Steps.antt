@@ -31,7 +31,7 @@ itemIn counts nexts heads e = record {
   late = cond (e .dir) 0 (cond (eqb (sumFrom counts nexts limit (e .anode)) (blocksFor (e .size))) 0 15);
   dir = e .dir;
   anode = e .anode;
-  place = e .place;
+  start = e .start;
 }
 
 -- how far the walk is: the first fault, or all directories queued so far, the marks and the number of files

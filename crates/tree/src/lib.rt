@@ -133,7 +133,7 @@ fn enter(
     t: Tally,
 ) -> Step
     requires { ⌜ Room t (now marks) (now queue) (now parents) ⌝ }
-    ensures { λ r. ⌜ ((place : ℕ) → Leaves r (now (marks .exit)) (now (queue .exit)) (now (parents .exit)) (enterItem (head .0) (itemIn (now (counts .entry)) (now (nexts .entry)) (now (heads .entry)) (enteredAt e place)) (queueOf (now (queue .entry)) (now (parents .entry)) (t .last)) (now (marks .entry)) (t .files))) ⌝ }
+    ensures { λ r. ⌜ ((start : ℕ) → Leaves r (now (marks .exit)) (now (queue .exit)) (now (parents .exit)) (enterItem (head .0) (itemIn (now (counts .entry)) (now (nexts .entry)) (now (heads .entry)) (enteredAt e start)) (queueOf (now (queue .entry)) (now (parents .entry)) (t .last)) (now (marks .entry)) (t .files))) ⌝ }
 {
     let a = e.anode;
     let kind = e.kind;

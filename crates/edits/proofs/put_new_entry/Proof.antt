@@ -48,8 +48,8 @@ returns-2 : tie.Need-returns-2
 unfolding inBlock entryOf
 returns-2 c =
     let g = c .before .before .before .before .before .before .before .before .before .args in
-    block-changed (g .image .now) (g .place / 512) (c .before .before .before .before .before .block-end .result) (c .before .before .before .before .before .block-end .ensures) (omega arith) (c .before .before .put-entry .last .0) (c .before .before .put-entry .kept .0)
-    (λ (b : List ℕ). putEntry b (g .place % 512) (entryOf (newEntry (isDir (g .kind)) (g .name .now) (g .comment .now) (g .day) (g .minute) (g .tick) (g .protection)) (g .anode .0)) (g .name .now) (g .comment .now))
+    block-changed (g .image .now) (g .start / 512) (c .before .before .before .before .before .block-end .result) (c .before .before .before .before .before .block-end .ensures) (omega arith) (c .before .before .put-entry .last .0) (c .before .before .put-entry .kept .0)
+    (λ (b : List ℕ). putEntry b (g .start % 512) (entryOf (newEntry (isDir (g .kind)) (g .name .now) (g .comment .now) (g .day) (g .minute) (g .tick) (g .protection)) (g .anode .0)) (g .name .now) (g .comment .now))
     (rw (kind-back (g .kind)) (c .before .before .put-entry .ensures))
 
 pub put-new-entry-spec : {M : Type 1} → statement M

@@ -40,7 +40,7 @@ returns-2 : tie.Need-returns-2
 unfolding withSize inBlock
 returns-2 c =
     let g = c .before .before .before .before .before .before .before .args in
-    block-changed _ _ _ (c .before .before .before .before .before .block-end .ensures) (omega arith) _ (c .before .before .write32 .kept .0) (λ (b : List ℕ). put32 b (g .place % 512 + 4) (g .size)) (c .before .before .write32 .ensures)
+    block-changed _ _ _ (c .before .before .before .before .before .block-end .ensures) (omega arith) _ (c .before .before .write32 .kept .0) (λ (b : List ℕ). put32 b (g .start % 512 + 4) (g .size)) (c .before .before .write32 .ensures)
 
 pub put-size-spec : {M : Type 1} → statement M
 put-size-spec =

@@ -45,9 +45,9 @@ part-close-gap-end c = search needs
 close-gap-requires : tie.Need-close-gap-requires
 close-gap-requires c κs =
     let g = c .before .before .before .before .before .before .args in
-    let b = g .place / 512 in
+    let b = g .start / 512 in
     let p = part-block (g .image .now) b (b * 512 + 512) (omega arith) (omega arith) in
-    let len = c .before .before .read8 .ensures ∙ ap (λ (l : List ℕ). getD l (g .place % 512) 0) p in
+    let len = c .before .before .read8 .ensures ∙ ap (λ (l : List ℕ). getD l (g .start % 512) 0) p in
     let end = c .before .entries-end .ensures ∙ ap entriesEnd p in
     let whole = ap length p ∙ length-blockOf (g .image .now) b (c .before .before .before .before .before .before .pre .0) in
     (omega (arith, len, end, c .before .before .before .before .before .before .pre .1), omega (arith, end, whole, c .before .before .before .before .before .before .pre .2))
@@ -59,8 +59,8 @@ returns : tie.Need-returns
 unfolding withoutEntry inBlock
 returns c =
     let g = c .before .before .before .before .before .before .before .before .before .args in
-    block-changed (g .image .now) (g .place / 512) (g .place / 512 * 512 + 512) (omega arith) (omega arith) (c .before .before .close-gap .last .0) (c .before .before .close-gap .kept .0)
-    (λ (b : List ℕ). gapClosed b (g .place % 512) (getD b (g .place % 512) 0) (entriesEnd b))
+    block-changed (g .image .now) (g .start / 512) (g .start / 512 * 512 + 512) (omega arith) (omega arith) (c .before .before .close-gap .last .0) (c .before .before .close-gap .kept .0)
+    (λ (b : List ℕ). gapClosed b (g .start % 512) (getD b (g .start % 512) 0) (entriesEnd b))
     (rw (c .before .before .before .before .before .read8 .ensures, c .before .before .before .before .entries-end .ensures) at (c .before .before .close-gap .ensures))
 
 pub take-out-spec : {M : Type 1} → statement M

@@ -65,8 +65,8 @@ returns-2 c =
     next-stopped (begun .0) _ len _ found _ (begun .1) (own .0 .0) _ (rw (own .1, c .before .before .before .before .before .before .before .before .before .before .before .before .before .before .before .before .before .before .before .before .before .before .before .before .before .before .before .is-directory .ensures) at (c .before .before .before .before .before .before .before .before .before .before .before .before .before .before .before .before .before .before .before .before .before .before .before .take-needed .ensures))
     (told .0 .0) (rw (told .1, c .before .before .before .before .before .before .before .before .before .before .before .before .before .no-room .ensures) at (c .before .before .before .before .before .before .before .before .before .take-needed2 .ensures))
 
-place-for-requires : tie.Need-place-for-requires
-place-for-requires c κs = search needs
+start-for-requires : tie.Need-start-for-requires
+start-for-requires c κs = search needs
 
 same-length-7 : tie.Need-same-length-7
 same-length-7 c = search needs
@@ -84,7 +84,7 @@ returns-3 c =
     let parents = c .before .before .second .given in
     λ len found.
     both-taken (begun .0) _ len _ found _ (begun .1) (own .0 .0) _ (rw (own .1, c .before .before .before .before .before .before .before .before .before .before .before .before .before .before .before .before .before .before .before .before .before .before .before .before .before .before .before .before .is-directory .ensures) at (c .before .before .before .before .before .before .before .before .before .before .before .before .before .before .before .before .before .before .before .before .before .before .before .before .take-needed .ensures))
-    (parents .0 .0) _ (rw (parents .1, c .before .before .before .before .before .before .before .before .before .before .before .before .before .before .no-room .ensures) at (c .before .before .before .before .before .before .before .before .before .before .take-needed2 .ensures)) _ (c .place-for .ensures)
+    (parents .0 .0) _ (rw (parents .1, c .before .before .before .before .before .before .before .before .before .before .before .before .before .before .no-room .ensures) at (c .before .before .before .before .before .before .before .before .before .before .take-needed2 .ensures)) _ (c .start-for .ensures)
 
 pub take-blocks-spec : {M : Type 1} → statement M
 take-blocks-spec =
@@ -106,7 +106,7 @@ take-blocks-spec =
     same-length-5
     same-length-6
     returns-2
-    place-for-requires
+    start-for-requires
     same-length-7
     same-length-8
     same-length-9

@@ -4,16 +4,16 @@ use Rattle.find.proofs.Laws.{refused-some, not-done}
 use Prim.Native.Nat.{_*_, _<_}
 use mathlib.Core.Path.{sym, _∙_}
 use Rattle.change_laws.specs.Reached.{nth-member}
-use Rattle.reading.proofs.Laws.{place-low}
+use Rattle.reading.proofs.Laws.{start-low}
 use borrow.Author.Needs.{needs}
 use Rattle.reading.proofs.list_nth.Statement.{statement}
 use Rattle.reading.proofs.list_nth.Tie as tie
 
 -- the entry that was found stands on the disk
-low : (c : tie.After-found) → c .found .given .0 .0 .place < 65536 * 512
+low : (c : tie.After-found) → c .found .given .0 .0 .start < 65536 * 512
 low c =
     let f = rw (c .found .given .1) at (c .before .before .find-nth .ensures) in
-    place-low (c .before .before .before .before .before .before .before .before .pre .2) _ (list-reached _ _ _ _ (f .0)) _ (nth-member _ _ _ (f .1))
+    start-low (c .before .before .before .before .before .before .before .before .pre .2) _ (list-reached _ _ _ _ (f .0)) _ (nth-member _ _ _ (f .1))
 
 find-nth-requires : tie.Need-find-nth-requires
 find-nth-requires c κs = search needs

@@ -26,7 +26,7 @@ first-extent-requires-2 : tie.Need-first-extent-requires-2
 first-extent-requires-2 c κs = search needs
 
 returns-2 : tie.Need-returns-2
-returns-2 c = λ f. let e = rw (c .before .before .enum-told2 .given .1) at (c .before .before .before .before .first-extent .ensures) in c .first-full2 .ensures ∙ sym (near-empty _ _ f _ _ (c .before .before .before .before .before .near-side .ensures) _ (c .before .near-side2 .ensures) (sym e))
+returns-2 c = λ f. let e = rw (c .before .before .enum-told2 .given .1) at (c .before .before .before .before .first-extent .ensures) in c .first-extent2 .ensures ∙ sym (near-empty _ _ f _ _ (c .before .before .before .before .before .near-side .ensures) _ (c .before .near-side2 .ensures) (sym e))
 
 pub free-extent-spec : {M : Type 1} → statement M
 free-extent-spec =

@@ -1,6 +1,6 @@
 use borrow.Author.Needs.{needs}
-use Rattle.making.proofs.place_for.Statement.{statement}
-use Rattle.making.proofs.place_for.Tie as tie
+use Rattle.making.proofs.start_for.Statement.{statement}
+use Rattle.making.proofs.start_for.Tie as tie
 
 enum-known-room : tie.Need-enum-known-room
 enum-known-room c = search needs
@@ -23,7 +23,7 @@ returns c = search needs
 returns-2 : tie.Need-returns-2
 returns-2 c = rw (c .before .enum-told .given .1)
 
-pub place-for-spec : {M : Type 1} → statement M
-place-for-spec =
+pub start-for-spec : {M : Type 1} → statement M
+start-for-spec =
     tie.close
     (tie.spec enum-known-room enum-told cast-result mul-result add-result returns returns-2)
