@@ -16,7 +16,7 @@ use Rattle.directory.specs.declared.Entry.{Entry}
 use Rattle.directory.specs.declared.Kind.{Kind}
 use Rattle.directory.specs.declared.Walked.{Walked}
 use Rattle.directory.specs.declared.Walked.the-variants.{Found, End, Fault}
-use Rattle.directory.specs.Entries.{directoryHeadIn, kindRead, goodName, entryLength, nameLength, commentLength, nameIn, entryShaped, entryIn, walkedKind, walkedAt}
+use Rattle.directory.specs.Entries.{directoryHeaderIn, kindRead, goodName, entryLength, nameLength, commentLength, nameIn, entryShaped, entryIn, walkedKind, walkedAt}
 use Rattle.directory.proofs.Laws.{FoundAt, found-at, end-at}
 use Rattle.rules.specs.Counting.{anyIn}
 use Rattle.rules.specs.Walk.{Entered, withRest, entriesFrom}
@@ -25,8 +25,8 @@ use Rattle.laws.specs.Members.{Member, no-member}
 pub use Rattle.laws.specs.Entries.{enteredAt, entries-more, entries-end, Unbroken}
 
 -- the same first 16 bytes are the same head
-pub head-same : (b b′ : List ℕ) → ((i : ℕ) → i < 16 → getD b′ i 0 ≡ getD b i 0) → directoryHeadIn b′ ≡ directoryHeadIn b
-unfolding directoryHeadIn
+pub head-same : (b b′ : List ℕ) → ((i : ℕ) → i < 16 → getD b′ i 0 ≡ getD b i 0) → directoryHeaderIn b′ ≡ directoryHeaderIn b
+unfolding directoryHeaderIn
 head-same b b′ same = rw (two 0 (omega arith), two 12 (omega arith), two 14 (omega arith))
   where
     two : (i : ℕ) → i < 15 → be16 b′ i ≡ be16 b i

@@ -9,7 +9,7 @@ use lib.Seq.{getD-take, getD-drop, length-take-le, getD-append-add}
 use Rattle.endian.proofs.Laws.{part-same}
 use Rattle.directory.specs.declared.Entry.{Entry}
 use Rattle.directory.specs.declared.Walked.the-variants.{Found, End}
-use Rattle.directory.specs.Entries.{directoryHeadIn, walkedAt}
+use Rattle.directory.specs.Entries.{directoryHeaderIn, walkedAt}
 use Rattle.directory.proofs.Laws.{found-at}
 use Rattle.rules.specs.Walk.{Entered, entriesFrom}
 use Rattle.rules.specs.Changes.{endFrom, entriesEnd, gapClosed, entryClosed}
@@ -129,7 +129,7 @@ module _ (b : List ℕ) (at len end : ℕ) (whole : length b ≡ 512) (fits : at
   gap-zeros i l h = zero-at i (i + len - end) (omega arith) (omega arith)
 
   -- the head of the block
-  gap-head : 16 ≤ at → directoryHeadIn (gapClosed b at len end) ≡ directoryHeadIn b
+  gap-head : 16 ≤ at → directoryHeaderIn (gapClosed b at len end) ≡ directoryHeaderIn b
   gap-head l = head-same b (gapClosed b at len end) (λ i h. gap-front i (omega arith))
 
   -- the same bytes, before the gap and behind it
@@ -152,7 +152,7 @@ module _ {b : List ℕ} {y at : ℕ} {e : Entered} (u : BlockEntry b y at e) whe
   pub length-closed : length (entryClosed b at) ≡ 512
   length-closed = length-gapClosed b at (getD b at 0) (entriesEnd b) (u .whole) fits (end-within u)
 
-  pub head-closed : directoryHeadIn (entryClosed b at) ≡ directoryHeadIn b
+  pub head-closed : directoryHeaderIn (entryClosed b at) ≡ directoryHeaderIn b
   head-closed = gap-head b at (getD b at 0) (entriesEnd b) (u .whole) fits (end-within u) from-16
 
   -- the entries that stay

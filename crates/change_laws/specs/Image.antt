@@ -8,7 +8,7 @@ use native.Mathlib.Omega.{arith}
 use lib.Dec.{eqb, leb}
 use borrow.Author.Tests.{leb-true, ne-eqb, eqb-true, eqb-false}
 use Rattle.disk.specs.Root.{slotOf}
-use Rattle.disk.specs.AnodeBlocks.{anodeHeadIn}
+use Rattle.disk.specs.AnodeBlocks.{anodeHeaderIn}
 use Rattle.rules.specs.Counting.{oneAt, sumList, occurrences}
 use Rattle.rules.specs.Anodes.{Anodes, limit, exists, anodesOf, withAnodes}
 use Rattle.rules.specs.Chains.{oneIfHead, headOf, cut, systemOwns}
@@ -163,7 +163,7 @@ module _ {img i j : List ℕ} {t : Anodes} {on : ℕ → Type 0} (d : DiskWith i
   disk-then = record {
     same = record {
       kept = kept-both (λ b o. o) (λ b o. rw o root-on) (d .same .kept) k;
-      heads-kept = λ s u. ap anodeHeadIn (k .block-kept (slotOf img s) (slot-on s u)) ∙ d .same .heads-kept s u;
+      heads-kept = λ s u. ap anodeHeaderIn (k .block-kept (slotOf img s) (slot-on s u)) ∙ d .same .heads-kept s u;
     };
     anodes = anodesOf-kept k root-on (λ s u. let e = slotOf-kept (d .same .kept) refl s in rw e (slot-on s (λ z. u (e ∙ z)))) ∙ d .anodes;
   }

@@ -13,7 +13,7 @@ use Rattle.endian.proofs.Laws.{length-put16, length-put32, length-stored, store
 use Rattle.disk.specs.Blocks.{blockOf}
 use Rattle.directory.specs.declared.Entry.{Entry}
 use Rattle.directory.specs.declared.Walked.the-variants.{Found}
-use Rattle.directory.specs.Entries.{directoryHeadIn, goodName, entryLength, entryIn, walkedAt, putEntry}
+use Rattle.directory.specs.Entries.{directoryHeaderIn, goodName, entryLength, entryIn, walkedAt, putEntry}
 use Rattle.directory.proofs.Laws.{length-putEntry, getD-putEntry-before, walkedAt-putEntry-end, entryIn-putEntry, walkedAt-putEntry, found-at}
 use Rattle.rules.specs.Counting.{occurrences}
 use Rattle.rules.specs.Walk.{Entered, entriesFrom}
@@ -78,7 +78,7 @@ module _ (b : List ℕ) (y : ℕ) (e : Entry) (name comment : List ℕ) (whole :
   entries-put u = put-behind 28 16 (omega arith) (omega arith) u refl
 
 -- the head of a directory block stays
-pub head-put : (b : List ℕ) (at : ℕ) (e : Entry) (name comment : List ℕ) → 16 ≤ at → directoryHeadIn (putEntry b at e name comment) ≡ directoryHeadIn b
+pub head-put : (b : List ℕ) (at : ℕ) (e : Entry) (name comment : List ℕ) → 16 ≤ at → directoryHeaderIn (putEntry b at e name comment) ≡ directoryHeaderIn b
 head-put b at e name comment l = head-same b (putEntry b at e name comment) (λ i h. getD-putEntry-before b at e name comment i (omega arith))
 
 -- the comment stands behind the name and its own length byte

@@ -16,7 +16,7 @@ use Rattle.directory.specs.declared.KindRead.{KindRead}
 use Rattle.directory.specs.declared.KindRead.the-variants.{Is, Neither}
 use Rattle.directory.specs.declared.Walked.{Walked}
 use Rattle.directory.specs.declared.Walked.the-variants.{Found, End, Fault}
-use Rattle.directory.specs.Entries.{directoryHeadIn, kindRead, nameLength, commentLength, nameIn, entryShaped, entryIn, walkedKind, walkedAt}
+use Rattle.directory.specs.Entries.{directoryHeaderIn, kindRead, nameLength, commentLength, nameIn, entryShaped, entryIn, walkedKind, walkedAt}
 use Rattle.directory.proofs.Laws.{found-at, end-at}
 use Rattle.rules.specs.Walk.{Entered, entriesFrom}
 use Rattle.change_laws.specs.FoundEntries.{head-same, walked-same, entries-more, entries-end, unbroken-cases, standing-found, reaches}
@@ -60,7 +60,7 @@ module _ (b : List ℕ) (at new : ℕ) where
   others16 i (inl l) = be16-bytes b′ b i i (others i (inl (omega arith))) (others (i + 1) (inl (omega arith)))
   others16 i (inr l) = be16-bytes b′ b i i (others i (inr l)) (others (i + 1) (inr (omega arith)))
 
-  pub head-sized : 16 ≤ at → directoryHeadIn b′ ≡ directoryHeadIn b
+  pub head-sized : 16 ≤ at → directoryHeaderIn b′ ≡ directoryHeaderIn b
   head-sized l = head-same b b′ (λ i h. others i (inl (omega arith)))
 
   name-length : nameLength b′ at ≡ nameLength b at

@@ -11,7 +11,7 @@ use lib.ListN.{length, getD, set, take, drop, drop-of-length-le, length-set, len
 use lib.Seq.{drop-cons, getD-set-same, getD-set-other, getD-take, getD-drop, length-take-le, ext-getD}
 use Rattle.endian.specs.Bytes.{be16, be32, put16, put32, stored, cleared}
 use Rattle.endian.proofs.Laws.{length-put16, length-put32, be16-put16-same, be16-put16-other, getD-put16-other, length-stored, length-cleared, run-on, byte-run, put16-run, put32-run, getD-stored-before, getD-stored-after, getD-stored-in, getD-cleared-before, getD-cleared-after, getD-cleared-in}
-use Rattle.directory.specs.declared.DirectoryHead.{DirectoryHead}
+use Rattle.directory.specs.declared.DirectoryHeader.{DirectoryHeader}
 use Rattle.directory.specs.declared.Kind.{Kind}
 use Rattle.directory.specs.declared.Kind.the-variants.{File, Directory}
 use Rattle.directory.specs.declared.KindRead.{KindRead}
@@ -20,7 +20,7 @@ use Rattle.directory.specs.declared.Entry.{Entry}
 use Rattle.directory.specs.declared.Walked.{Walked}
 use Rattle.directory.specs.declared.Walked.the-variants.{Found, End, Fault}
 use Rattle.disk.specs.declared.Refusal.the-variants.{DirectoryBlock}
-use Rattle.directory.specs.Entries.{directoryHeadIn, putDirectoryHead, kindRead, typeOf, goodNameByte, allBytes, goodName, entryLength, nameLength, commentLength, nameIn, entryShaped, entryIn, walkedKind, walkedAt, putEntry}
+use Rattle.directory.specs.Entries.{directoryHeaderIn, putDirectoryHeader, kindRead, typeOf, goodNameByte, allBytes, goodName, entryLength, nameLength, commentLength, nameIn, entryShaped, entryIn, walkedKind, walkedAt, putEntry}
 
 -- ---- names
 
@@ -47,20 +47,20 @@ goodName-length name h =
 
 -- ---- a directory block's head
 
-module _ (b : List ℕ) (h : DirectoryHead) where
-  pub length-putDirectoryHead : length (putDirectoryHead b h) ≡ length b
-  unfolding putDirectoryHead
-  length-putDirectoryHead = simp length-put16
+module _ (b : List ℕ) (h : DirectoryHeader) where
+  pub length-putDirectoryHeader : length (putDirectoryHeader b h) ≡ length b
+  unfolding putDirectoryHeader
+  length-putDirectoryHeader = simp length-put16
 
   -- every byte from 16 on is left
-  pub getD-putDirectoryHead-after : (i : ℕ) → 16 ≤ i → getD (putDirectoryHead b h) i 0 ≡ getD b i 0
-  unfolding putDirectoryHead
-  getD-putDirectoryHead-after i g =
+  pub getD-putDirectoryHeader-after : (i : ℕ) → 16 ≤ i → getD (putDirectoryHeader b h) i 0 ≡ getD b i 0
+  unfolding putDirectoryHeader
+  getD-putDirectoryHeader-after i g =
       getD-put16-other _ 14 _ i (omega arith) (omega arith) ∙ getD-put16-other _ 12 _ i (omega arith) (omega arith) ∙ getD-put16-other b 0 _ i (omega arith) (omega arith)
 
-  pub directoryHeadIn-putDirectoryHead : 16 ≤ length b → directoryHeadIn (putDirectoryHead b h) ≡ h
-  unfolding directoryHeadIn putDirectoryHead
-  directoryHeadIn-putDirectoryHead room =
+  pub directoryHeaderIn-putDirectoryHeader : 16 ≤ length b → directoryHeaderIn (putDirectoryHeader b h) ≡ h
+  unfolding directoryHeaderIn putDirectoryHeader
+  directoryHeaderIn-putDirectoryHeader room =
       let b1 = put16 b 0 (h .mark) in
       let b2 = put16 b1 12 (h .owner .0) in
       let n1 : length b1 ≡ length b = length-put16 b 0 (h .mark) in

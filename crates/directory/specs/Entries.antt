@@ -5,7 +5,7 @@ use mathlib.Core.Bool.{Bool, true, false, cond, not, _&&_}
 use lib.ListN.{length, getD, set, take, drop}
 use lib.Dec.{leb, eqb}
 use Rattle.endian.specs.Bytes.{be16, be32, put16, put32, stored, cleared}
-use Rattle.directory.specs.declared.DirectoryHead.{DirectoryHead}
+use Rattle.directory.specs.declared.DirectoryHeader.{DirectoryHeader}
 use Rattle.directory.specs.declared.Kind.{Kind}
 use Rattle.directory.specs.declared.Kind.the-variants.{File, Directory}
 use Rattle.directory.specs.declared.KindRead.{KindRead}
@@ -20,12 +20,12 @@ abbrev pub directoryMark : ℕ
 directoryMark = 0x4442
 
 -- the mark at 0, the owning directory's head anode at 12, the parent's at 14
-unfoldable pub directoryHeadIn : List ℕ → DirectoryHead
-directoryHeadIn b = record { mark = be16 b 0; owner = record { 0 = be16 b 12 }; parent = record { 0 = be16 b 14 } }
+unfoldable pub directoryHeaderIn : List ℕ → DirectoryHeader
+directoryHeaderIn b = record { mark = be16 b 0; owner = record { 0 = be16 b 12 }; parent = record { 0 = be16 b 14 } }
 
 -- the block with these three stored
-unfoldable pub putDirectoryHead : List ℕ → DirectoryHead → List ℕ
-putDirectoryHead b h = put16 (put16 (put16 b 0 (h .mark)) 12 (h .owner .0)) 14 (h .parent .0)
+unfoldable pub putDirectoryHeader : List ℕ → DirectoryHeader → List ℕ
+putDirectoryHeader b h = put16 (put16 (put16 b 0 (h .mark)) 12 (h .owner .0)) 14 (h .parent .0)
 
 -- type is 253 (file) or 2 (directory)
 unfoldable pub kindRead : ℕ → KindRead

@@ -2,7 +2,7 @@
 ghost use mathlib.Core.Path.{_≡_};
 ghost use Prim.Native.Nat.{_+_, _*_, _<_, _≤_};
 ghost use lib.ListN.{length};
-ghost use Rattle.directory.specs.Entries.{kindRead, typeOf, isDir, goodName, goodNameByte, directoryHeadIn, putDirectoryHead, entryLength, entryShaped, entryIn, walkedAt, putEntry};
+ghost use Rattle.directory.specs.Entries.{kindRead, typeOf, isDir, goodName, goodNameByte, directoryHeaderIn, putDirectoryHeader, entryLength, entryShaped, entryIn, walkedAt, putEntry};
 use disk::AnodeNo;
 use disk::Refusal;
 use endian::clear;
@@ -48,17 +48,17 @@ pub enum Walked {
 }
 
 // A directory block's mark, its directory's head anode and the parent directory's.
-pub struct DirectoryHead {
+pub struct DirectoryHeader {
     pub mark: u16,
     pub owner: AnodeNo,
     pub parent: AnodeNo,
 }
 
 // A directory block's head.
-pub fn directory_head_in(block: &[u8]) -> DirectoryHead
-    ensures { λ r. ⌜ r ≡ directoryHeadIn (now (block .entry)) ⌝ }
+pub fn directory_header_in(block: &[u8]) -> DirectoryHeader
+    ensures { λ r. ⌜ r ≡ directoryHeaderIn (now (block .entry)) ⌝ }
 {
-    DirectoryHead {
+    DirectoryHeader {
         mark: read16(block, 0),
         owner: AnodeNo(read16(block, 12)),
         parent: AnodeNo(read16(block, 14)),
@@ -66,8 +66,8 @@ pub fn directory_head_in(block: &[u8]) -> DirectoryHead
 }
 
 // Stores a directory block's head.
-pub fn put_directory_head(block: &mut [u8], head: DirectoryHead)
-    ensures { λ _. ⌜ now (block .exit) ≡ putDirectoryHead (now (block .entry)) head ⌝ }
+pub fn put_directory_header(block: &mut [u8], head: DirectoryHeader)
+    ensures { λ _. ⌜ now (block .exit) ≡ putDirectoryHeader (now (block .entry)) head ⌝ }
 {
     write16(block, 0, head.mark);
     write16(block, 12, head.owner.0);

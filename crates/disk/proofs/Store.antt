@@ -11,9 +11,9 @@ use Rattle.endian.specs.Bytes.{be16, put16, put32, stored}
 use Rattle.endian.proofs.Laws.{less?, same?, length-put16, length-put32, length-stored, be32-halves, be16-put16-same, be16-put16-other, be32-put32-same, be16-set-other, getD-put16-other, stored-out, stored-take, be16-stored-other, getD-stored-other, getD-stored-before, getD-stored-in}
 use Rattle.disk.specs.Blocks.{blockOf, withBlock}
 use Rattle.disk.specs.Root.{rootIn, putRoot, slotByte, slotIn, putSlot, slotOf}
-use Rattle.disk.specs.AnodeBlocks.{anodeHeadIn, putAnodeHead, anodeByte, anodeIn, putAnode, anodeOf, setAnode}
+use Rattle.disk.specs.AnodeBlocks.{anodeHeaderIn, putAnodeHeader, anodeByte, anodeIn, putAnode, anodeOf, setAnode}
 use Rattle.disk.specs.declared.Anode.{Anode}
-use Rattle.disk.specs.declared.AnodeHead.{AnodeHead}
+use Rattle.disk.specs.declared.AnodeHeader.{AnodeHeader}
 use Rattle.disk.specs.declared.Root.{Root}
 use Rattle.disk.proofs.Laws.{length-blockOf, length-blockOf-min, after-block, length-putAnode, withBlock-out, slotOf-high, slotOf-there, anodeOf-missing, anodeOf-there, setAnode-missing, setAnode-there}
 
@@ -52,18 +52,18 @@ module _ (l : List ℕ) (p : ℕ) (x : Anode) where
         be16-putAnode-other (anodeByte q + 4) (λ j h e. omega arith),
       )
 
-  pub anodeHeadIn-putAnode : anodeHeadIn (putAnode l p x) ≡ anodeHeadIn l
-  unfolding anodeHeadIn
-  anodeHeadIn-putAnode = rw (be16-putAnode-other 0 (λ j h e. omega arith), be16-putAnode-other 10 (λ j h e. omega arith))
+  pub anodeHeaderIn-putAnode : anodeHeaderIn (putAnode l p x) ≡ anodeHeaderIn l
+  unfolding anodeHeaderIn
+  anodeHeaderIn-putAnode = rw (be16-putAnode-other 0 (λ j h e. omega arith), be16-putAnode-other 10 (λ j h e. omega arith))
 
-module _ (l : List ℕ) (h : AnodeHead) where
-  pub length-putAnodeHead : length (putAnodeHead l h) ≡ length l
-  unfolding putAnodeHead
-  length-putAnodeHead = simp length-put16
+module _ (l : List ℕ) (h : AnodeHeader) where
+  pub length-putAnodeHeader : length (putAnodeHeader l h) ≡ length l
+  unfolding putAnodeHeader
+  length-putAnodeHeader = simp length-put16
 
-  pub anodeHeadIn-putAnodeHead : 512 ≤ length l → anodeHeadIn (putAnodeHead l h) ≡ h
-  unfolding anodeHeadIn putAnodeHead
-  anodeHeadIn-putAnodeHead k =
+  pub anodeHeaderIn-putAnodeHeader : 512 ≤ length l → anodeHeaderIn (putAnodeHeader l h) ≡ h
+  unfolding anodeHeaderIn putAnodeHeader
+  anodeHeaderIn-putAnodeHeader k =
       let l1 = put16 l 0 (h .mark) in
       rw (
         be16-put16-other l1 10 (h .sequence) 0 (λ j m e. omega arith),
@@ -71,15 +71,15 @@ module _ (l : List ℕ) (h : AnodeHead) where
         be16-put16-same l1 10 (h .sequence) (simp length-put16 (omega arith)),
       )
 
-  be16-putAnodeHead : (k : ℕ) → 16 ≤ k → be16 (putAnodeHead l h) k ≡ be16 l k
-  unfolding putAnodeHead
-  be16-putAnodeHead k n =
+  be16-putAnodeHeader : (k : ℕ) → 16 ≤ k → be16 (putAnodeHeader l h) k ≡ be16 l k
+  unfolding putAnodeHeader
+  be16-putAnodeHeader k n =
       be16-put16-other _ 10 _ k (λ j m e. omega arith) ∙ be16-put16-other _ 0 _ k (λ j m e. omega arith)
 
-  pub anodeIn-putAnodeHead : (p : ℕ) → anodeIn (putAnodeHead l h) p ≡ anodeIn l p
+  pub anodeIn-putAnodeHeader : (p : ℕ) → anodeIn (putAnodeHeader l h) p ≡ anodeIn l p
   unfolding anodeIn
-  anodeIn-putAnodeHead p =
-      rw (be16-putAnodeHead (anodeByte p) (omega arith), be16-putAnodeHead (anodeByte p + 2) (omega arith), be16-putAnodeHead (anodeByte p + 4) (omega arith))
+  anodeIn-putAnodeHeader p =
+      rw (be16-putAnodeHeader (anodeByte p) (omega arith), be16-putAnodeHeader (anodeByte p + 2) (omega arith), be16-putAnodeHeader (anodeByte p + 4) (omega arith))
 
 -- ---- the root block
 

@@ -8,19 +8,19 @@ use Rattle.endian.specs.Bytes.{be16, put16}
 use Rattle.disk.specs.Blocks.{blockOf, withBlock}
 use Rattle.disk.specs.Root.{slotOf}
 use Rattle.disk.specs.declared.Anode.{Anode}
-use Rattle.disk.specs.declared.AnodeHead.{AnodeHead}
+use Rattle.disk.specs.declared.AnodeHeader.{AnodeHeader}
 
 -- the mark `AB`
 abbrev pub anodeMark : ℕ
 anodeMark = 0x4142
 
 -- the mark at 0, the sequence number at 10
-unfoldable pub anodeHeadIn : List ℕ → AnodeHead
-anodeHeadIn b = record { mark = be16 b 0; sequence = be16 b 10 }
+unfoldable pub anodeHeaderIn : List ℕ → AnodeHeader
+anodeHeaderIn b = record { mark = be16 b 0; sequence = be16 b 10 }
 
 -- the block with both stored
-unfoldable pub putAnodeHead : List ℕ → AnodeHead → List ℕ
-putAnodeHead b h = put16 (put16 b 0 (h .mark)) 10 (h .sequence)
+unfoldable pub putAnodeHeader : List ℕ → AnodeHeader → List ℕ
+putAnodeHeader b h = put16 (put16 b 0 (h .mark)) 10 (h .sequence)
 
 -- an anode by its count, block and next
 abbrev pub anodeMade : ℕ → ℕ → ℕ → Anode

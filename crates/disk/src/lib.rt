@@ -4,7 +4,7 @@ ghost use Prim.Native.Nat.{_+_, _<_, min};
 ghost use Rattle.disk.specs.Refusals.{numberOf};
 ghost use Rattle.disk.specs.Blocks.{blockOf};
 ghost use Rattle.disk.specs.Root.{rootIn, putRoot, slotIn, putSlot, slotOf};
-ghost use Rattle.disk.specs.AnodeBlocks.{anodeMade, anodeHeadIn, putAnodeHead, anodeIn, putAnode, setAnode};
+ghost use Rattle.disk.specs.AnodeBlocks.{anodeMade, anodeHeaderIn, putAnodeHeader, anodeIn, putAnode, setAnode};
 use endian::part;
 use endian::read8;
 use endian::read16;
@@ -69,7 +69,7 @@ pub struct Root {
 }
 
 // An anode block's mark and sequence number.
-pub struct AnodeHead {
+pub struct AnodeHeader {
     pub mark: u16,
     pub sequence: u16,
 }
@@ -185,18 +185,18 @@ pub fn slot_of(image: &[u8], s: usize) -> BlockNo
 }
 
 // An anode block's mark and sequence number.
-pub fn anode_head_in(block: &[u8]) -> AnodeHead
-    ensures { λ r. ⌜ r ≡ anodeHeadIn (now (block .entry)) ⌝ }
+pub fn anode_header_in(block: &[u8]) -> AnodeHeader
+    ensures { λ r. ⌜ r ≡ anodeHeaderIn (now (block .entry)) ⌝ }
 {
-    AnodeHead {
+    AnodeHeader {
         mark: read16(block, 0),
         sequence: read16(block, 10),
     }
 }
 
 // Stores an anode block's mark and sequence number.
-pub fn put_anode_head(block: &mut [u8], head: AnodeHead)
-    ensures { λ _. ⌜ now (block .exit) ≡ putAnodeHead (now (block .entry)) head ⌝ }
+pub fn put_anode_header(block: &mut [u8], head: AnodeHeader)
+    ensures { λ _. ⌜ now (block .exit) ≡ putAnodeHeader (now (block .entry)) head ⌝ }
 {
     write16(block, 0, head.mark);
     write16(block, 10, head.sequence);

@@ -20,7 +20,7 @@ use Rattle.disk.proofs.Laws.{length-blockOf-min}
 use Rattle.disk.proofs.Store.{withBlock-stored}
 use Rattle.directory.specs.declared.Kind.{Kind}
 use Rattle.directory.specs.declared.Kind.the-variants.{File, Directory}
-use Rattle.directory.specs.Entries.{directoryMark, putDirectoryHead, isDir}
+use Rattle.directory.specs.Entries.{directoryMark, putDirectoryHeader, isDir}
 use Rattle.rules.specs.Anodes.{Anodes, sameAnode, storeChanged}
 use Rattle.rules.specs.Chains.{blocksOf}
 use Rattle.rules.specs.Walk.{Entered}
@@ -49,8 +49,8 @@ unfolding put16
 take-put16 k l at v = rw (take-set k (set l at (v / 256)) (at + 1) (v % 256), take-set k l at (v / 256))
 
 pub new-head : (l m : List ℕ) (owner parent : ℕ) → length l ≤ 512 → m ≡ cleared l 0 512
-    → putDirectoryHead m (record { mark = directoryMark; owner = record { 0 = owner }; parent = record { 0 = parent } }) ≡ take (length l) (newDirectoryBlock owner parent)
-unfolding putDirectoryHead newDirectoryBlock
+    → putDirectoryHeader m (record { mark = directoryMark; owner = record { 0 = owner }; parent = record { 0 = parent } }) ≡ take (length l) (newDirectoryBlock owner parent)
+unfolding putDirectoryHeader newDirectoryBlock
 new-head l m owner parent h is = rw (is, cleared-front l 512 h, take-put16, take-put16, take-put16)
 
 -- ---- the first n of a list of blocks, from i on

@@ -15,10 +15,10 @@ ghost use Rattle.rules.specs.Changes.{inBlock, withBlocks, zeroTail, withSize, 
 ghost use Rattle.laws.specs.OwnerTable.{setAll};
 ghost use Rattle.anodes.specs.Loaded.{anodesFrom};
 ghost use Rattle.edits.specs.Entries.{roomOf, orRest, movedDown, EntryStands, ExtentsFit, OneBlockEach};
-use directory::DirectoryHead;
+use directory::DirectoryHeader;
 use directory::Entry;
 use directory::Kind;
-use directory::put_directory_head;
+use directory::put_directory_header;
 use directory::put_entry;
 use disk::Anode;
 use disk::AnodeNo;
@@ -181,14 +181,14 @@ pub fn zero_blocks(image: &mut [u8], moved: &[u16], n: usize)
 }
 
 // Zeroes a block and stores the head of a directory block in it.
-fn put_new_head(block: &mut [u8], owner: AnodeNo, parent: AnodeNo)
+fn put_new_header(block: &mut [u8], owner: AnodeNo, parent: AnodeNo)
     requires { ⌜ length (now block) ≤ 512 ⌝ }
     ensures { λ _. ⌜ now (block .exit) ≡ take (length (now (block .entry))) (newDirectoryBlock (owner .0) (parent .0)) ⌝ }
 {
     clear(block, 0, 512);
-    put_directory_head(
+    put_directory_header(
         block,
-        DirectoryHead {
+        DirectoryHeader {
             mark: 0x4442,
             owner,
             parent,
@@ -197,7 +197,7 @@ fn put_new_head(block: &mut [u8], owner: AnodeNo, parent: AnodeNo)
 }
 
 // Makes block `b` a directory's new block.
-pub fn head_block(image: &mut [u8], b: BlockNo, owner: AnodeNo, parent: AnodeNo)
+pub fn put_header(image: &mut [u8], b: BlockNo, owner: AnodeNo, parent: AnodeNo)
     ensures { λ _. ⌜ now (image .exit) ≡ withBlocks (now (image .entry)) (b .0 ∷ []) (newDirectoryBlock (owner .0) (parent .0)) ⌝ }
 {
     let from = (b.0 as usize) * 512;
@@ -205,7 +205,7 @@ pub fn head_block(image: &mut [u8], b: BlockNo, owner: AnodeNo, parent: AnodeNo)
     if end <= from {
         return;
     }
-    put_new_head(&mut image[from..end], owner, parent);
+    put_new_header(&mut image[from..end], owner, parent);
 }
 
 // Block `i`, from 0, of the chain that `head` heads; 0 where the chain ends before it.

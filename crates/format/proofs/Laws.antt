@@ -15,8 +15,8 @@ use Rattle.disk.specs.Blocks.{blockOf, withBlock}
 use Rattle.disk.specs.Root.{pfs0, rootIn, slotOf}
 use Rattle.disk.specs.AnodeBlocks.{anodeMade, anodeIn, anodeOf}
 use Rattle.disk.proofs.Laws.{slotOf-high, slotOf-there, anodeOf-missing, anodeOf-there}
-use Rattle.directory.specs.declared.DirectoryHead.{DirectoryHead}
-use Rattle.directory.specs.Entries.{directoryMark, putDirectoryHead}
+use Rattle.directory.specs.declared.DirectoryHeader.{DirectoryHeader}
+use Rattle.directory.specs.Entries.{directoryMark, putDirectoryHeader}
 use Rattle.counting.specs.Laws.{neither}
 use Rattle.rules.specs.Accepted.{diskSize, wrongSize}
 use Rattle.rules.specs.Format.{wrongFormat, zeroBlock, rootBlock, lowerAnode, upperAnode, listHead, firstAnodes, emptyAnodeBlock, anodeBlock, withAnodeBlocks, newDirectoryBlock, formatted, rootMade}
@@ -90,8 +90,8 @@ root-lent img z h e =
     rw e (block-lent (started z) 2 (omega arith) ∙ blockOf-started z 2 (omega arith) h)
 
 -- the root directory's head
-abbrev rootHead : DirectoryHead
-rootHead = record { mark = directoryMark; owner = record { 0 = 5 }; parent = record { 0 = 0 } }
+abbrev rootHeader : DirectoryHeader
+rootHeader = record { mark = directoryMark; owner = record { 0 = 5 }; parent = record { 0 = 0 } }
 
 module _ (img : List ℕ) (last k : ℕ) (name : List ℕ) (day minute tick protection : ℕ) where
   abbrev root : List ℕ
@@ -147,14 +147,14 @@ module _ (img : List ℕ) (last k : ℕ) (name : List ℕ) (day minute tick prot
 
     -- the root directory's block when it is back
     pub directory-stored : (i j new : List ℕ) (n : ℕ) → i ≡ rooted → n ≡ diskSize img → j ≡ withAnodeBlocks i n last k k
-        → new ≡ putDirectoryHead (take ((3 + k) * 512 + 512 - (3 + k) * 512) (drop ((3 + k) * 512) j)) rootHead
+        → new ≡ putDirectoryHeader (take ((3 + k) * 512 + 512 - (3 + k) * 512) (drop ((3 + k) * 512) j)) rootHeader
         → putMid ((3 + k) * 512) ((3 + k) * 512 + 512 - (3 + k) * 512) j new ≡ disk
     unfolding newDirectoryBlock
     directory-stored i j new n r d a is =
         let e : j ≡ based = a ∙ rw (r, d) in
         let m = ap length e ∙ length-based in
         let blank = ap (λ (l : List ℕ). blockOf l (3 + k)) e ∙ blockOf-based (3 + k) (omega arith) (omega (arith, args)) in
-        block-over j (3 + k) (λ (l : List ℕ). putDirectoryHead l rootHead) new (omega (arith, args)) blank (length-new 5 0) is
+        block-over j (3 + k) (λ (l : List ℕ). putDirectoryHeader l rootHeader) new (omega (arith, args)) blank (length-new 5 0) is
         ∙ ap (λ (l : List ℕ). withBlock l (3 + k) (newDirectoryBlock 5 0)) e
         ∙ sym disk-based
 

@@ -16,7 +16,7 @@ use Rattle.disk.specs.Blocks.{blockOf, withBlock}
 use Rattle.disk.specs.Root.{rootIn, putRoot, slotByte, slotIn, putSlot}
 use Rattle.disk.specs.AnodeBlocks.{anodeMade, anodeIn, putAnode}
 use Rattle.disk.proofs.Laws.{length-blockOf, length-blockOf-min, part-block, block-back, length-putAnode}
-use Rattle.disk.proofs.Store.{anodeIn-putAnode-same, anodeIn-putAnode-other, length-putAnodeHead, anodeIn-putAnodeHead, length-putRoot, rootIn-putRoot, slotIn-putRoot, slotIn-putSlot-same, slotIn-putSlot-other, rootIn-putSlot, getD-blockOf, length-withBlock, blockOf-withBlock-same, blockOf-withBlock-other}
+use Rattle.disk.proofs.Store.{anodeIn-putAnode-same, anodeIn-putAnode-other, length-putAnodeHeader, anodeIn-putAnodeHeader, length-putRoot, rootIn-putRoot, slotIn-putRoot, slotIn-putSlot-same, slotIn-putSlot-other, rootIn-putSlot, getD-blockOf, length-withBlock, blockOf-withBlock-same, blockOf-withBlock-other}
 use Rattle.rules.specs.Format.{zeroBlock, withSlots, rootBlock, lowerAnode, upperAnode, listHead, firstAnodes, emptyAnodeBlock, anodeBlock, withAnodeBlocks, rootMade}
 
 -- ---- zeros
@@ -144,11 +144,11 @@ module _ (last k : ℕ) (name : List ℕ) (day minute tick protection : ℕ) whe
 
 length-emptyAnodeBlock : (s : ℕ) → length (emptyAnodeBlock s) ≡ 512
 unfolding emptyAnodeBlock
-length-emptyAnodeBlock s = length-putAnodeHead zeroBlock _ ∙ length-zeroBlock
+length-emptyAnodeBlock s = length-putAnodeHeader zeroBlock _ ∙ length-zeroBlock
 
 pub anodeIn-emptyAnodeBlock : (s p : ℕ) → anodeIn (emptyAnodeBlock s) p ≡ anodeMade 0 0 0
 unfolding emptyAnodeBlock
-anodeIn-emptyAnodeBlock s p = anodeIn-putAnodeHead zeroBlock _ p ∙ anodeIn-zeroBlock p
+anodeIn-emptyAnodeBlock s p = anodeIn-putAnodeHeader zeroBlock _ p ∙ anodeIn-zeroBlock p
 
 -- the first anode block has room for all its places
 pub empty-long : 512 ≤ length (emptyAnodeBlock 0)

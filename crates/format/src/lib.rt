@@ -11,10 +11,10 @@ ghost use Rattle.rules.specs.Accepted.{wrongSize};
 ghost use Rattle.rules.specs.Format.{wrongFormat, zeroBlock, withSlots, rootBlock, lowerAnode, upperAnode, listHead, firstAnodes, anodeBlock, withAnodeBlocks, formatted};
 ghost use Rattle.rules.specs.Changes.{left};
 ghost use Rattle.rules.specs.Calls.{formatOutcome};
-use directory::DirectoryHead;
-use directory::put_directory_head;
+use directory::DirectoryHeader;
+use directory::put_directory_header;
 use disk::Anode;
-use disk::AnodeHead;
+use disk::AnodeHeader;
 use disk::AnodeNo;
 use disk::BlockNo;
 use disk::Refusal;
@@ -22,7 +22,7 @@ use disk::Root;
 use disk::no_anode;
 use disk::number;
 use disk::put_anode;
-use disk::put_anode_head;
+use disk::put_anode_header;
 use disk::put_root;
 use disk::put_slot;
 use endian::clear;
@@ -165,9 +165,9 @@ fn put_anode_block(block: &mut [u8], n: u16, last: u16, slots: u16, s: u16)
     requires { ⌜ (now block ≡ zeroBlock) × (3 + slots ≤ last) × (last < n) ⌝ }
     ensures { λ _. ⌜ now (block .exit) ≡ anodeBlock n last slots s ⌝ }
 {
-    put_anode_head(
+    put_anode_header(
         block,
-        AnodeHead {
+        AnodeHeader {
             mark: 0x4142,
             sequence: s,
         },
@@ -219,9 +219,9 @@ fn make(
     put_anode_blocks(image, n, last, slots);
     let from = (3 + (slots as usize)) * 512;
     let end = from + 512;
-    put_directory_head(
+    put_directory_header(
         &mut image[from..end],
-        DirectoryHead {
+        DirectoryHeader {
             mark: 0x4442,
             owner: AnodeNo(5),
             parent: AnodeNo(0),

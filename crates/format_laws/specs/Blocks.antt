@@ -10,10 +10,10 @@ use lib.ListN.{length, length-replicate}
 use borrow.Author.Tests.{le-ltb, lt-leb, ne-eqb}
 use Rattle.disk.specs.Blocks.{blockOf}
 use Rattle.disk.specs.Root.{slotOf}
-use Rattle.disk.specs.AnodeBlocks.{anodeMark, anodeHeadIn}
+use Rattle.disk.specs.AnodeBlocks.{anodeMark, anodeHeaderIn}
 use Rattle.disk.specs.declared.Root.{Root}
-use Rattle.disk.specs.declared.AnodeHead.{AnodeHead}
-use Rattle.disk.proofs.Store.{anodeHeadIn-putAnode, anodeHeadIn-putAnodeHead}
+use Rattle.disk.specs.declared.AnodeHeader.{AnodeHeader}
+use Rattle.disk.proofs.Store.{anodeHeaderIn-putAnode, anodeHeaderIn-putAnodeHeader}
 use Rattle.rules.specs.Anodes.{limit}
 use Rattle.rules.specs.Accepted.{diskSize, wrongSize, shortTables, wrongType, lastReserved, wrongRoot, wrongSlot, wrongSlots}
 use Rattle.rules.specs.Format.{zeroBlock, firstAnodes, emptyAnodeBlock, anodeBlock, formatted}
@@ -23,19 +23,19 @@ use Rattle.format.proofs.Parts.{anodeBlock-both}
 use Rattle.format.proofs.Laws.{Taken, length-formatted, rootIn-formatted, slotOf-formatted-some, slotOf-formatted-none, blockOf-formatted-anodes}
 
 -- the head of anode block s
-abbrev headMade : ℕ → AnodeHead
-headMade s = record { mark = anodeMark; sequence = s }
+abbrev headerMade : ℕ → AnodeHeader
+headerMade s = record { mark = anodeMark; sequence = s }
 
-head-empty : (s : ℕ) → anodeHeadIn (emptyAnodeBlock s) ≡ headMade s
+head-empty : (s : ℕ) → anodeHeaderIn (emptyAnodeBlock s) ≡ headerMade s
 unfolding emptyAnodeBlock
-head-empty s = anodeHeadIn-putAnodeHead zeroBlock (headMade s) (omega (arith, length-replicate {A = ℕ} 512 0))
+head-empty s = anodeHeaderIn-putAnodeHeader zeroBlock (headerMade s) (omega (arith, length-replicate {A = ℕ} 512 0))
 
-head-first : (b : List ℕ) (n last k : ℕ) → anodeHeadIn (firstAnodes b n last k) ≡ anodeHeadIn b
+head-first : (b : List ℕ) (n last k : ℕ) → anodeHeaderIn (firstAnodes b n last k) ≡ anodeHeaderIn b
 unfolding firstAnodes
-head-first b n last k = simp anodeHeadIn-putAnode
+head-first b n last k = simp anodeHeaderIn-putAnode
 
-head-block : (n last k s : ℕ) → anodeHeadIn (anodeBlock n last k s) ≡ headMade s
-head-block n last k s = anodeBlock-both n last k (λ b. anodeHeadIn b ≡ headMade s) s (head-first (emptyAnodeBlock s) n last k ∙ head-empty s) (head-empty s)
+head-block : (n last k s : ℕ) → anodeHeaderIn (anodeBlock n last k s) ≡ headerMade s
+head-block n last k s = anodeBlock-both n last k (λ b. anodeHeaderIn b ≡ headerMade s) s (head-first (emptyAnodeBlock s) n last k ∙ head-empty s) (head-empty s)
 
 module _ (img : List ℕ) (last k : ℕ) (name : List ℕ) (day minute tick protection : ℕ) where
   abbrev disk : List ℕ
@@ -71,12 +71,12 @@ module _ (img : List ℕ) (last k : ℕ) (name : List ℕ) (day minute tick prot
     slot-right : (s : ℕ) → s < 42 → wrongSlot disk s ≡ false
     unfolding wrongSlot
     slot-right s l = elim (less? s k) [
-      | inl h ↦ (let head : anodeHeadIn (blockOf disk (3 + s)) ≡ headMade s
-          = ap anodeHeadIn (blockOf-formatted-anodes img last k name day minute tick protection args s h) ∙ head-block (diskSize img) last k s in
+      | inl h ↦ (let head : anodeHeaderIn (blockOf disk (3 + s)) ≡ headerMade s
+          = ap anodeHeaderIn (blockOf-formatted-anodes img last k name day minute tick protection args s h) ∙ head-block (diskSize img) last k s in
           rw (slotOf-formatted-some img last k name day minute tick protection args s h)
           (none-and (not (eqb (3 + s) 0)) _ (λ e. none-or _ _ (le-ltb (3 + s) 3 (omega arith))
           (none-or _ _ (lt-leb (diskSize disk) (3 + s) (omega (arith, args, disk-size)))
-          (none-or _ _ (same _ anodeMark (ap (λ (a : AnodeHead). a .mark) head)) (same _ s (ap (λ (a : AnodeHead). a .sequence) head)))))))
+          (none-or _ _ (same _ anodeMark (ap (λ (a : AnodeHeader). a .mark) head)) (same _ s (ap (λ (a : AnodeHeader). a .sequence) head)))))))
       | inr h ↦ rw (slotOf-formatted-none img last k name day minute tick protection args s h)
     ]
 

@@ -7,7 +7,7 @@ use native.Mathlib.Omega.{arith}
 use lib.ListN.{length}
 use Rattle.disk.specs.Blocks.{blockOf}
 use Rattle.disk.specs.Root.{rootIn, slotOf}
-use Rattle.disk.specs.AnodeBlocks.{anodeHeadIn, anodesIn, anodeSlots, listed}
+use Rattle.disk.specs.AnodeBlocks.{anodeHeaderIn, anodesIn, anodeSlots, listed}
 use Rattle.disk.specs.declared.Anode.{Anode}
 use Rattle.rules.specs.Anodes.{anodesOf}
 use Rattle.rules.specs.Chains.{oneIfHolds, systemOwns}
@@ -29,7 +29,7 @@ pub record Kept (on : ℕ → Type 0) (img j : List ℕ) : Type 0 where
 -- and the heads of its anode blocks
 pub record HeadsKept (on : ℕ → Type 0) (img j : List ℕ) : Type 0 where
   pub kept : Kept on img j
-  pub heads-kept : (s : ℕ) → slotOf img s ≢ 0 → anodeHeadIn (blockOf j (slotOf img s)) ≡ anodeHeadIn (blockOf img (slotOf img s))
+  pub heads-kept : (s : ℕ) → slotOf img s ≢ 0 → anodeHeaderIn (blockOf j (slotOf img s)) ≡ anodeHeaderIn (blockOf img (slotOf img s))
 
 pub kept-all : {on : ℕ → Type 0} (img : List ℕ) → Kept on img img
 kept-all img = record { length-kept = refl; block-kept = λ d o. refl }

@@ -9,10 +9,10 @@ use lib.Dec.{eqb}
 use borrow.Author.Tests.{eq-eqb, eqb-true}
 use Rattle.disk.specs.Blocks.{blockOf}
 use Rattle.disk.specs.Root.{slotOf}
-use Rattle.disk.specs.AnodeBlocks.{anodeMade, anodeHeadIn, anodeOf, setAnode}
+use Rattle.disk.specs.AnodeBlocks.{anodeMade, anodeHeaderIn, anodeOf, setAnode}
 use Rattle.disk.specs.declared.Anode.{Anode}
 use Rattle.disk.proofs.Laws.{slotOf-high, anodeOf-missing, setAnode-missing}
-use Rattle.disk.proofs.Store.{anodeHeadIn-putAnode, length-setAnode, blockOf-setAnode-same, blockOf-setAnode-other, anodeOf-setAnode-same, anodeOf-setAnode-other}
+use Rattle.disk.proofs.Store.{anodeHeaderIn-putAnode, length-setAnode, blockOf-setAnode-same, blockOf-setAnode-other, anodeOf-setAnode-same, anodeOf-setAnode-other}
 use Rattle.rules.specs.Anodes.{Anodes, limit, exists, inUse, fieldsOf, anodesOf, sameAnode, storeChanged, withAnodes}
 use Rattle.rules.specs.Accepted.{wrongSlots}
 use Rattle.laws.specs.Tests.{same?, less?}
@@ -45,9 +45,9 @@ module _ (img : List ℕ) (a : ℕ) (x : Anode) where
         | inr u ↦ blockOf-setAnode-other img a x d (o (a / 82) u)
       ]
 
-      heads-kept : (s : ℕ) → slotOf img s ≢ 0 → anodeHeadIn (blockOf (setAnode img a x) (slotOf img s)) ≡ anodeHeadIn (blockOf img (slotOf img s))
+      heads-kept : (s : ℕ) → slotOf img s ≢ 0 → anodeHeaderIn (blockOf (setAnode img a x) (slotOf img s)) ≡ anodeHeaderIn (blockOf img (slotOf img s))
       heads-kept s u = elim (same? (slotOf img (a / 82)) (slotOf img s)) [
-        | inl e ↦ rw (blockOf-setAnode-same img a x (slotOf img s) e u) (anodeHeadIn-putAnode (blockOf img (slotOf img s)) _ x)
+        | inl e ↦ rw (blockOf-setAnode-same img a x (slotOf img s) e u) (anodeHeaderIn-putAnode (blockOf img (slotOf img s)) _ x)
         | inr e ↦ rw (blockOf-setAnode-other img a x (slotOf img s) e)
       ]
 

@@ -2,7 +2,7 @@
 ghost use mathlib.Core.Path.{_≡_};
 ghost use Rattle.rules.specs.Accepted.{diskSize, wrongSize, shortTables, wrongType, wrongRoot, wrongSlot, wrongSlots};
 use disk::BlockNo;
-use disk::anode_head_in;
+use disk::anode_header_in;
 use disk::block_part;
 use disk::root_in;
 use disk::slot_of;
@@ -80,7 +80,7 @@ fn wrong_slot(image: &[u8], s: usize) -> bool
     if disk_size(image) <= slot.0 as usize {
         return true;
     }
-    let head = anode_head_in(block_part(image, slot));
+    let head = anode_header_in(block_part(image, slot));
     if head.mark != 0x4142 {
         return true;
     }

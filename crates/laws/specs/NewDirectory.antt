@@ -8,8 +8,8 @@ use lib.Dec.{T, eqb}
 use lib.ListN.{length, getD, length-replicate, getD-replicate}
 use Rattle.disk.specs.Blocks.{blockOf}
 use Rattle.directory.specs.declared.Walked.the-variants.{End}
-use Rattle.directory.specs.Entries.{directoryMark, directoryHeadIn, walkedAt}
-use Rattle.directory.proofs.Laws.{length-putDirectoryHead, getD-putDirectoryHead-after, directoryHeadIn-putDirectoryHead}
+use Rattle.directory.specs.Entries.{directoryMark, directoryHeaderIn, walkedAt}
+use Rattle.directory.proofs.Laws.{length-putDirectoryHeader, getD-putDirectoryHeader-after, directoryHeaderIn-putDirectoryHeader}
 use Rattle.rules.specs.Counting.{gather}
 use Rattle.rules.specs.Anodes.{Anodes, limit}
 use Rattle.rules.specs.Chains.{chainOf}
@@ -21,15 +21,15 @@ use Rattle.laws.specs.Entries.{entries-end, itemsAt-whole}
 module _ (owner parent : ℕ) where
   pub length-new : length (newDirectoryBlock owner parent) ≡ 512
   unfolding newDirectoryBlock
-  length-new = length-putDirectoryHead zeroBlock _ ∙ length-replicate {A = ℕ} 512 0
+  length-new = length-putDirectoryHeader zeroBlock _ ∙ length-replicate {A = ℕ} 512 0
 
-  pub head-new : directoryHeadIn (newDirectoryBlock owner parent) ≡ record { mark = directoryMark; owner = record { 0 = owner }; parent = record { 0 = parent } }
+  pub head-new : directoryHeaderIn (newDirectoryBlock owner parent) ≡ record { mark = directoryMark; owner = record { 0 = owner }; parent = record { 0 = parent } }
   unfolding newDirectoryBlock
-  head-new = directoryHeadIn-putDirectoryHead zeroBlock _ (omega (arith, length-replicate {A = ℕ} 512 0))
+  head-new = directoryHeaderIn-putDirectoryHeader zeroBlock _ (omega (arith, length-replicate {A = ℕ} 512 0))
 
   zero-new : getD (newDirectoryBlock owner parent) 16 0 ≡ 0
   unfolding newDirectoryBlock
-  zero-new = getD-putDirectoryHead-after zeroBlock _ 16 (omega arith) ∙ getD-replicate {A = ℕ} 512 16 0 0 (omega arith)
+  zero-new = getD-putDirectoryHeader-after zeroBlock _ 16 (omega arith) ∙ getD-replicate {A = ℕ} 512 16 0 0 (omega arith)
 
   pub mark-new : walkedAt (newDirectoryBlock owner parent) 16 ≡ End
   unfolding walkedAt

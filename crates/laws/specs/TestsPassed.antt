@@ -10,7 +10,7 @@ use lib.ListN.{length}
 use borrow.Author.Tests.{ltb-false, leb-false, eqb-true, eqb-false, not-false, lt-ltb}
 use Rattle.disk.specs.Blocks.{blockOf}
 use Rattle.disk.specs.Root.{slotOf}
-use Rattle.disk.specs.AnodeBlocks.{anodeMark, anodeHeadIn}
+use Rattle.disk.specs.AnodeBlocks.{anodeMark, anodeHeaderIn}
 use Rattle.disk.proofs.Laws.{slotOf-high}
 use Rattle.rules.specs.Counting.{anyBelow}
 use Rattle.rules.specs.Anodes.{Anodes, limit}
@@ -33,15 +33,15 @@ pub record RightSlot (img : List ℕ) (s : ℕ) : Type 0 where
   pub above : 3 ≤ slotOf img s
   pub below : slotOf img s < diskSize img
   pub inside : slotOf img s * 512 + 512 ≤ length img
-  pub marked : anodeHeadIn (blockOf img (slotOf img s)) .mark ≡ anodeMark
-  pub numbered : anodeHeadIn (blockOf img (slotOf img s)) .sequence ≡ s
+  pub marked : anodeHeaderIn (blockOf img (slotOf img s)) .mark ≡ anodeMark
+  pub numbered : anodeHeaderIn (blockOf img (slotOf img s)) .sequence ≡ s
 
 -- a slot in use holds an anode block of the disk
 pub right-slot : (img : List ℕ) → wrongSlots img ≡ false → (s : ℕ) → slotOf img s ≢ 0 → RightSlot img s
 unfolding wrongSlots wrongSlot diskSize
 right-slot img right s u =
     let b = slotOf img s in
-    let head = anodeHeadIn (blockOf img b) in
+    let head = anodeHeaderIn (blockOf img b) in
     let mark = not (eqb (head .mark) anodeMark) in
     let number = not (eqb (head .sequence) s) in
     let wrong = anyBelow-each (wrongSlot img) s 42 (slot-low img s u) (neither (eqb (slotOf img 0) 0) (anyBelow (wrongSlot img) 42) right .1) in

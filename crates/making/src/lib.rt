@@ -29,7 +29,7 @@ use disk::Refusal;
 use disk::number;
 use edits::Room;
 use edits::first_room;
-use edits::head_block;
+use edits::put_header;
 use edits::put_new_entry;
 use edits::store_anodes;
 use space::Step;
@@ -150,13 +150,13 @@ fn plan_make(
 }
 
 // Makes block `b` a directory's new block, unless it is 0.
-fn head_new(image: &mut [u8], b: BlockNo, owner: AnodeNo, parent: AnodeNo)
+fn header_new(image: &mut [u8], b: BlockNo, owner: AnodeNo, parent: AnodeNo)
     ensures { λ _. ⌜ now (image .exit) ≡ withBlocks (now (image .entry)) (someBlock (b .0)) (newDirectoryBlock (owner .0) (parent .0)) ⌝ }
 {
     if b.0 == 0 {
         return;
     }
-    head_block(image, b, owner, parent);
+    put_header(image, b, owner, parent);
 }
 
 // Notes the owner of block `b` in the block table, unless it is 0.
@@ -206,8 +206,8 @@ fn commit_make(
         new_firsts,
         new_nexts,
     );
-    head_new(image, plan.own, plan.fresh, head);
-    head_new(image, plan.parents, head, parent);
+    header_new(image, plan.own, plan.fresh, head);
+    header_new(image, plan.parents, head, parent);
     put_new_entry(
         image,
         plan.start,

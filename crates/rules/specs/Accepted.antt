@@ -6,7 +6,7 @@ use lib.ListN.{length}
 use lib.Dec.{eqb, leb, ltb}
 use Rattle.disk.specs.Blocks.{blockOf}
 use Rattle.disk.specs.Root.{pfs0, rootIn, slotOf}
-use Rattle.disk.specs.AnodeBlocks.{anodeMark, anodeHeadIn}
+use Rattle.disk.specs.AnodeBlocks.{anodeMark, anodeHeaderIn}
 use Rattle.rules.specs.Counting.{_if_else_, firstOf, anyBelow, anyIn, occurrences}
 use Rattle.rules.specs.Anodes.{Anodes, limit, anodesOf}
 use Rattle.rules.specs.Chains.{chainOf, followed, preds, oneIfHead, owners, systemOwns, side}
@@ -47,8 +47,8 @@ wrongSlot img s =
     not (eqb (slotOf img s) 0)
     && (ltb (slotOf img s) 3
     || (leb (diskSize img) (slotOf img s)
-    || (not (eqb (anodeHeadIn (blockOf img (slotOf img s)) .mark) anodeMark)
-    || not (eqb (anodeHeadIn (blockOf img (slotOf img s)) .sequence) s))))
+    || (not (eqb (anodeHeaderIn (blockOf img (slotOf img s)) .mark) anodeMark)
+    || not (eqb (anodeHeaderIn (blockOf img (slotOf img s)) .sequence) s))))
 
 -- 5: slot 0 empty, or a slot is wrong
 unfoldable pub wrongSlots : List ℕ → Bool

@@ -9,8 +9,8 @@ use Rattle.disk.specs.declared.Anode.{Anode}
 use Rattle.disk.specs.declared.Root.{Root}
 use Rattle.disk.specs.Blocks.{withBlock}
 use Rattle.disk.specs.Root.{pfs0, putRoot, putSlot}
-use Rattle.disk.specs.AnodeBlocks.{anodeMark, anodeMade, putAnodeHead, putAnode}
-use Rattle.directory.specs.Entries.{directoryMark, putDirectoryHead}
+use Rattle.disk.specs.AnodeBlocks.{anodeMark, anodeMade, putAnodeHeader, putAnode}
+use Rattle.directory.specs.Entries.{directoryMark, putDirectoryHeader}
 use Rattle.rules.specs.Counting.{_if_else_}
 use Rattle.rules.specs.Accepted.{diskSize, wrongSize}
 
@@ -84,7 +84,7 @@ firstAnodes b n last k =
 
 -- an anode block with its mark and sequence number
 unfoldable pub emptyAnodeBlock : ℕ → List ℕ
-emptyAnodeBlock s = putAnodeHead zeroBlock (record { mark = anodeMark; sequence = s })
+emptyAnodeBlock s = putAnodeHeader zeroBlock (record { mark = anodeMark; sequence = s })
 
 -- anode block s; the first has the anodes above
 unfoldable pub anodeBlock : ℕ → ℕ → ℕ → ℕ → List ℕ
@@ -97,7 +97,7 @@ withAnodeBlocks img n last k (suc s) = withBlock (withAnodeBlocks img n last k s
 
 -- a directory block with no entry: zeroed, then headed
 unfoldable pub newDirectoryBlock : ℕ → ℕ → List ℕ
-newDirectoryBlock owner parent = putDirectoryHead zeroBlock (record { mark = directoryMark; owner = record { 0 = owner }; parent = record { 0 = parent } })
+newDirectoryBlock owner parent = putDirectoryHeader zeroBlock (record { mark = directoryMark; owner = record { 0 = owner }; parent = record { 0 = parent } })
 
 -- everything is zero but: disk type in blocks 0 and 2; the root; anode blocks from 3; the root directory in block 3 + k, parent 0
 unfoldable pub formatted : List ℕ → ℕ → ℕ → List ℕ → ℕ → ℕ → ℕ → ℕ → List ℕ

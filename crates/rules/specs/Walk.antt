@@ -7,7 +7,7 @@ use lib.Dec.{eqb, leb}
 use Rattle.disk.specs.Blocks.{blockOf}
 use Rattle.directory.specs.declared.Walked.{Walked}
 use Rattle.directory.specs.declared.Walked.the-variants.{Found, End, Fault}
-use Rattle.directory.specs.Entries.{isDir, directoryMark, directoryHeadIn, walkedAt}
+use Rattle.directory.specs.Entries.{isDir, directoryMark, directoryHeaderIn, walkedAt}
 use Rattle.rules.specs.Counting.{_if_else_, firstOf, occurrences, gather}
 use Rattle.rules.specs.Anodes.{Anodes, limit}
 use Rattle.rules.specs.Chains.{chainOf, oneIfHead, blockCount}
@@ -51,9 +51,9 @@ entriesIn img y = entriesFrom 28 (blockOf img y) y 16
 -- block y is marked as the directory's: mark, owner, parent; the root's own parent field is not examined
 unfoldable pub isBlockOf : List ℕ → Dir → ℕ → Bool
 isBlockOf img d y =
-    eqb (directoryHeadIn (blockOf img y) .mark) directoryMark
-    && (eqb (directoryHeadIn (blockOf img y) .owner .0) (d .head)
-    && (eqb (d .head) 5 || eqb (directoryHeadIn (blockOf img y) .parent .0) (d .parent)))
+    eqb (directoryHeaderIn (blockOf img y) .mark) directoryMark
+    && (eqb (directoryHeaderIn (blockOf img y) .owner .0) (d .head)
+    && (eqb (d .head) 5 || eqb (directoryHeaderIn (blockOf img y) .parent .0) (d .parent)))
 
 -- what the walk meets: the number that is tried before 14, the one after it, and what is named where
 pub record Item : Type 0 where

@@ -14,7 +14,7 @@ ghost use Rattle.tree.specs.Steps.{sumFrom, headAt, itemIn, enterItem, i
 use directory::Entry;
 use directory::Kind;
 use directory::Walked;
-use directory::directory_head_in;
+use directory::directory_header_in;
 use directory::entry_at;
 use disk::AnodeNo;
 use disk::BlockNo;
@@ -85,7 +85,7 @@ fn head_at(heads: &[u16], a: AnodeNo) -> bool
 fn is_block_of(image: &[u8], head: AnodeNo, parent: AnodeNo, b: BlockNo) -> bool
     ensures { λ r. ⌜ r ≡ isBlockOf (now (image .entry)) (dirMade (head .0) (parent .0)) (b .0) ⌝ }
 {
-    let found = directory_head_in(block_part(image, b));
+    let found = directory_header_in(block_part(image, b));
     if found.mark != 0x4442 {
         return false;
     }

@@ -54,19 +54,19 @@ mul-from c = search needs
 add-end : tie.Need-add-end
 add-end c = search needs
 
-sub-put-directory-head : tie.Need-sub-put-directory-head
-sub-put-directory-head c = search needs
+sub-put-directory-header : tie.Need-sub-put-directory-header
+sub-put-directory-header c = search needs
 
-part-put-directory-head-start : tie.Need-part-put-directory-head-start
-part-put-directory-head-start c = search needs
+part-put-directory-header-start : tie.Need-part-put-directory-header-start
+part-put-directory-header-start c = search needs
 
-part-put-directory-head-end : tie.Need-part-put-directory-head-end
-part-put-directory-head-end c =
+part-put-directory-header-end : tie.Need-part-put-directory-header-end
+part-put-directory-header-end c =
     let t = args (c .before .before .before .before .before .before .before .before .before .before .before .before .before .before .before .before) in
     omega arith
 
-put-directory-head-requires : tie.Need-put-directory-head-requires
-put-directory-head-requires c κs = search needs
+put-directory-header-requires : tie.Need-put-directory-header-requires
+put-directory-header-requires c κs = search needs
 
 same-length : tie.Need-same-length
 same-length c = search needs
@@ -75,7 +75,7 @@ returns : tie.Need-returns
 returns c =
     let t = args (c .before .before .before .before .before .before .before .before .before .before .before .before .before .before .before .before .before .before .before .before) in
     let e = root-stored _ _ _ _ _ _ _ _ t _ _ (c .before .before .before .before .before .before .before .before .before .before .before .before .before .before .start-disk .ensures) (c .before .before .before .before .before .before .before .before .before .before .put-root-block .ensures) in
-    directory-stored _ _ _ _ _ _ _ _ t _ _ _ _ e (c .before .before .before .before .before .before .before .before .before .before .before .before .before .before .before .before .disk-size .ensures) (c .before .before .before .before .before .before .put-anode-blocks .ensures) (c .before .before .put-directory-head .ensures)
+    directory-stored _ _ _ _ _ _ _ _ t _ _ _ _ e (c .before .before .before .before .before .before .before .before .before .before .before .before .before .before .before .before .disk-size .ensures) (c .before .before .before .before .before .before .put-anode-blocks .ensures) (c .before .before .put-directory-header .ensures)
 
 pub make-spec : {M : Type 1} → statement M
 make-spec =
@@ -92,9 +92,9 @@ make-spec =
     add-from
     mul-from
     add-end
-    sub-put-directory-head
-    part-put-directory-head-start
-    part-put-directory-head-end
-    put-directory-head-requires
+    sub-put-directory-header
+    part-put-directory-header-start
+    part-put-directory-header-end
+    put-directory-header-requires
     same-length
     returns)

@@ -2,7 +2,7 @@ use mathlib.Core.Path.{_≡_, sym, _∙_}
 use mathlib.Core.Bool.{not, _||_}
 use lib.Dec.{eqb, leb}
 use Rattle.disk.specs.Blocks.{blockOf}
-use Rattle.disk.specs.AnodeBlocks.{anodeMark, anodeHeadIn}
+use Rattle.disk.specs.AnodeBlocks.{anodeMark, anodeHeaderIn}
 use Rattle.rules.specs.Accepted.{wrongSlot}
 use borrow.Author.Tests.{lt-ltb, le-ltb, ne-eqb, eq-eqb, le-leb, lt-leb}
 use borrow.Author.Needs.{needs}
@@ -27,7 +27,7 @@ cast-if3 : tie.Need-cast-if3
 cast-if3 c = search needs
 
 -- once the block's lower bound has passed, its upper bound and its head decide
-block-left : (c : tie.After-disk-size) → let g = c .before .before .before .before .before .before .before .args in let k = c .before .before .before .before .before .slot-of .result .0 in let h = anodeHeadIn (blockOf (g .image .now) k) in
+block-left : (c : tie.After-disk-size) → let g = c .before .before .before .before .before .before .before .args in let k = c .before .before .before .before .before .slot-of .result .0 in let h = anodeHeaderIn (blockOf (g .image .now) k) in
     wrongSlot (g .image .now) (g .s) ≡ (leb (c .disk-size .result) k || (not (eqb (h .mark) anodeMark) || not (eqb (h .sequence) (g .s))))
 unfolding wrongSlot
 block-left c = rw (← c .before .before .before .before .before .slot-of .ensures, ne-eqb _ _ (c .before .before .before .if1 .left), le-ltb _ 3 (c .before .if2 .left), ← c .disk-size .ensures)
@@ -38,12 +38,12 @@ returns-3 c = sym (block-left (c .before .before) ∙ rw (le-leb _ _ (c .if3 .ta
 block-part-requires : tie.Need-block-part-requires
 block-part-requires c κs = search needs
 
-anode-head-in-requires : tie.Need-anode-head-in-requires
-anode-head-in-requires c κs = search needs
+anode-header-in-requires : tie.Need-anode-header-in-requires
+anode-header-in-requires c κs = search needs
 
 -- of a block on the disk, the head decides
-head-left : (c : tie.After-anode-head-in) → let g = c .before .before .before .before .before .before .before .before .before .before .before .args in let h = c .anode-head-in .result in wrongSlot (g .image .now) (g .s) ≡ (not (eqb (h .mark) anodeMark) || not (eqb (h .sequence) (g .s)))
-head-left c = block-left (c .before .before .before .before) ∙ rw (lt-leb _ _ (c .before .before .if3 .left), ← c .before .block-part .ensures, ← c .anode-head-in .ensures)
+head-left : (c : tie.After-anode-header-in) → let g = c .before .before .before .before .before .before .before .before .before .before .before .args in let h = c .anode-header-in .result in wrongSlot (g .image .now) (g .s) ≡ (not (eqb (h .mark) anodeMark) || not (eqb (h .sequence) (g .s)))
+head-left c = block-left (c .before .before .before .before) ∙ rw (lt-leb _ _ (c .before .before .if3 .left), ← c .before .block-part .ensures, ← c .anode-header-in .ensures)
 
 returns-4 : tie.Need-returns-4
 returns-4 c = sym (head-left (c .before .before) ∙ rw (ne-eqb _ _ (c .if4 .taken)))
@@ -65,7 +65,7 @@ wrong-slot-spec =
     cast-if3
     returns-3
     block-part-requires
-    anode-head-in-requires
+    anode-header-in-requires
     returns-4
     cast-result
     returns-5)

@@ -9,11 +9,11 @@ use Rattle.making.proofs.commit_make.Tie as tie
 store-anodes-requires : tie.Need-store-anodes-requires
 store-anodes-requires c κs = search needs
 
-head-new-requires : tie.Need-head-new-requires
-head-new-requires c κs = search needs
+header-new-requires : tie.Need-header-new-requires
+header-new-requires c κs = search needs
 
-head-new-requires-2 : tie.Need-head-new-requires-2
-head-new-requires-2 c κs = search needs
+header-new-requires-2 : tie.Need-header-new-requires-2
+header-new-requires-2 c κs = search needs
 
 put-new-entry-requires : tie.Need-put-new-entry-requires
 put-new-entry-requires c κs = c .before .before .before .before .before .before .before .before .before .before .before .before .before .before .before .before .before .before .before .before .before .before .before .before .pre .1 .1 .0
@@ -47,7 +47,7 @@ returns c =
     let a = c .before .before .before .before .before .before .before .before .before .before .before .before .before .before .before .before .before .before .before .before .before .before .before .before .before .before .before .before .before .before .before .before .before .before .before .before .before .before .before .args in
     let pre = c .before .before .before .before .before .before .before .before .before .before .before .before .before .before .before .before .before .before .before .before .before .before .before .before .before .before .before .before .before .before .before .before .before .before .before .before .before .before .before .pre in
     let new = newEntry (isDir (a .kind)) (a .name .now) (a .comment .now) (a .day) (a .minute) (a .tick) (a .protection) in
-    rw (c .before .before .before .before .before .before .before .before .before .before .before .before .before .before .put-new-entry .ensures, c .before .before .before .before .before .before .before .before .before .before .before .before .before .before .before .before .before .before .head-new2 .ensures, c .before .before .before .before .before .before .before .before .before .before .before .before .before .before .before .before .before .before .before .before .before .before .head-new .ensures, c .before .before .before .before .before .before .before .before .before .before .before .before .before .before .before .before .before .before .before .before .before .before .before .before .before .before .store-anodes .ensures, c .before .before .before .before .before .before .note-owner2 .ensures, c .before .before .before .before .before .before .before .before .before .before .note-owner .ensures, c .before .before .show-heads .ensures (a .new-counts .now), pre .1 .0 .1, placed (a .image .now) _ new _ _ (pre .1 .1 .1) (pre .1 .1 .0 .0) (pre .1 .1 .0 .1))
+    rw (c .before .before .before .before .before .before .before .before .before .before .before .before .before .before .put-new-entry .ensures, c .before .before .before .before .before .before .before .before .before .before .before .before .before .before .before .before .before .before .header-new2 .ensures, c .before .before .before .before .before .before .before .before .before .before .before .before .before .before .before .before .before .before .before .before .before .before .header-new .ensures, c .before .before .before .before .before .before .before .before .before .before .before .before .before .before .before .before .before .before .before .before .before .before .before .before .before .before .store-anodes .ensures, c .before .before .before .before .before .before .note-owner2 .ensures, c .before .before .before .before .before .before .before .before .before .before .note-owner .ensures, c .before .before .show-heads .ensures (a .new-counts .now), pre .1 .0 .1, placed (a .image .now) _ new _ _ (pre .1 .1 .1) (pre .1 .1 .0 .0) (pre .1 .1 .0 .1))
     (done-leaves (a .image .now) _ new _ _ (pre .1 .1 .1) (pre .1 .1 .0 .0) (pre .1 .1 .0 .1) _ _)
 
 pub commit-make-spec : {M : Type 1} → statement M
@@ -55,8 +55,8 @@ commit-make-spec =
     tie.close
     (tie.spec
     store-anodes-requires
-    head-new-requires
-    head-new-requires-2
+    header-new-requires
+    header-new-requires-2
     put-new-entry-requires
     note-owner-requires
     note-owner-requires-2

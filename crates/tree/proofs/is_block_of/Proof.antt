@@ -11,14 +11,14 @@ use Rattle.tree.proofs.is_block_of.Tie as tie
 block-part-requires : tie.Need-block-part-requires
 block-part-requires c κs = search needs
 
-directory-head-in-requires : tie.Need-directory-head-in-requires
-directory-head-in-requires c κs = search needs
+directory-header-in-requires : tie.Need-directory-header-in-requires
+directory-header-in-requires c κs = search needs
 
 -- by the head that is read
-by-head : (c : tie.After-directory-head-in) → let g = c .before .before .before .args in let h = c .directory-head-in .result in
+by-head : (c : tie.After-directory-header-in) → let g = c .before .before .before .args in let h = c .directory-header-in .result in
     isBlockOf (g .image .now) (dirMade (g .head .0) (g .parent .0)) (g .b .0) ≡ (eqb (h .mark) directoryMark && (eqb (h .owner .0) (g .head .0) && (eqb (g .head .0) 5 || eqb (h .parent .0) (g .parent .0))))
 unfolding isBlockOf
-by-head c = rw (← c .before .block-part .ensures, ← c .directory-head-in .ensures)
+by-head c = rw (← c .before .block-part .ensures, ← c .directory-header-in .ensures)
 
 returns : tie.Need-returns
 returns c = sym (by-head (c .before .before) ∙ rw (ne-eqb _ _ (c .if1 .taken)))
@@ -35,4 +35,4 @@ returns-4 c = sym (by-head (c .before .before .before .before .before .before .b
 pub is-block-of-spec : {M : Type 1} → statement M
 is-block-of-spec =
     tie.close
-    (tie.spec block-part-requires directory-head-in-requires returns returns-2 returns-3 returns-4)
+    (tie.spec block-part-requires directory-header-in-requires returns returns-2 returns-3 returns-4)

@@ -1,7 +1,7 @@
-use Rattle.directory.specs.Entries.{putDirectoryHead}
+use Rattle.directory.specs.Entries.{putDirectoryHeader}
 use borrow.Author.Needs.{needs}
-use Rattle.directory.proofs.put_directory_head.Statement.{statement}
-use Rattle.directory.proofs.put_directory_head.Tie as tie
+use Rattle.directory.proofs.put_directory_header.Statement.{statement}
+use Rattle.directory.proofs.put_directory_header.Tie as tie
 
 write16-requires : tie.Need-write16-requires
 write16-requires c κs = search needs
@@ -16,9 +16,9 @@ same-length : tie.Need-same-length
 same-length c = search needs
 
 returns : tie.Need-returns
-unfolding putDirectoryHead
+unfolding putDirectoryHeader
 returns c = rw (c .before .before .write163 .ensures, c .before .before .before .before .before .before .write162 .ensures, c .before .before .before .before .before .before .before .before .before .before .write16 .ensures)
 
-pub put-directory-head-spec : {M : Type 1} → statement M
-put-directory-head-spec =
+pub put-directory-header-spec : {M : Type 1} → statement M
+put-directory-header-spec =
     tie.close (tie.spec write16-requires write16-requires-2 write16-requires-3 same-length returns)

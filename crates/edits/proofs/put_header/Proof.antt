@@ -7,8 +7,8 @@ use Rattle.disk.proofs.Laws.{withBlock-none, block-changed}
 use Rattle.rules.specs.Format.{newDirectoryBlock}
 use Rattle.edits.proofs.Blocks.{withBlock-take, withBlocks-one}
 use borrow.Author.Needs.{needs}
-use Rattle.edits.proofs.head_block.Statement.{statement}
-use Rattle.edits.proofs.head_block.Tie as tie
+use Rattle.edits.proofs.put_header.Statement.{statement}
+use Rattle.edits.proofs.put_header.Tie as tie
 
 cast-from : tie.Need-cast-from
 cast-from c = search needs
@@ -22,17 +22,17 @@ block-end-requires c κs = search needs
 returns : tie.Need-returns
 returns c = withBlock-none _ _ _ (c .before .block-end .ensures) _ (c .if1 .taken) ∙ sym (withBlocks-one _ _ _)
 
-sub-put-new-head : tie.Need-sub-put-new-head
-sub-put-new-head c = search needs
+sub-put-new-header : tie.Need-sub-put-new-header
+sub-put-new-header c = search needs
 
-part-put-new-head-start : tie.Need-part-put-new-head-start
-part-put-new-head-start c = search needs
+part-put-new-header-start : tie.Need-part-put-new-header-start
+part-put-new-header-start c = search needs
 
-part-put-new-head-end : tie.Need-part-put-new-head-end
-part-put-new-head-end c = search needs
+part-put-new-header-end : tie.Need-part-put-new-header-end
+part-put-new-header-end c = search needs
 
-put-new-head-requires : tie.Need-put-new-head-requires
-put-new-head-requires c κs = search needs
+put-new-header-requires : tie.Need-put-new-header-requires
+put-new-header-requires c κs = search needs
 
 same-length : tie.Need-same-length
 same-length c = search needs
@@ -40,21 +40,21 @@ same-length c = search needs
 returns-2 : tie.Need-returns-2
 returns-2 c =
     let g = c .before .before .before .before .before .before .before .before .args in
-    block-changed _ _ _ (c .before .before .before .before .before .block-end .ensures) (omega arith) _ (c .before .before .put-new-head .kept .0) (λ (l : List ℕ). take (length l) (newDirectoryBlock (g .owner .0) (g .parent .0))) (c .before .before .put-new-head .ensures)
+    block-changed _ _ _ (c .before .before .before .before .before .block-end .ensures) (omega arith) _ (c .before .before .put-new-header .kept .0) (λ (l : List ℕ). take (length l) (newDirectoryBlock (g .owner .0) (g .parent .0))) (c .before .before .put-new-header .ensures)
     ∙ withBlock-take _ _ _
     ∙ sym (withBlocks-one _ _ _)
 
-pub head-block-spec : {M : Type 1} → statement M
-head-block-spec =
+pub put-header-spec : {M : Type 1} → statement M
+put-header-spec =
     tie.close
     (tie.spec
     cast-from
     mul-from
     block-end-requires
     returns
-    sub-put-new-head
-    part-put-new-head-start
-    part-put-new-head-end
-    put-new-head-requires
+    sub-put-new-header
+    part-put-new-header-start
+    part-put-new-header-end
+    put-new-header-requires
     same-length
     returns-2)

@@ -1,7 +1,7 @@
-use Rattle.disk.specs.AnodeBlocks.{putAnodeHead}
+use Rattle.disk.specs.AnodeBlocks.{putAnodeHeader}
 use borrow.Author.Needs.{needs}
-use Rattle.disk.proofs.put_anode_head.Statement.{statement}
-use Rattle.disk.proofs.put_anode_head.Tie as tie
+use Rattle.disk.proofs.put_anode_header.Statement.{statement}
+use Rattle.disk.proofs.put_anode_header.Tie as tie
 
 write16-requires : tie.Need-write16-requires
 write16-requires c κs = search needs
@@ -13,8 +13,8 @@ same-length : tie.Need-same-length
 same-length c = search needs
 
 returns : tie.Need-returns
-unfolding putAnodeHead
+unfolding putAnodeHeader
 returns c = rw (c .before .before .write162 .ensures, c .before .before .before .before .before .before .write16 .ensures)
 
-pub put-anode-head-spec : {M : Type 1} → statement M
-put-anode-head-spec = tie.close (tie.spec write16-requires write16-requires-2 same-length returns)
+pub put-anode-header-spec : {M : Type 1} → statement M
+put-anode-header-spec = tie.close (tie.spec write16-requires write16-requires-2 same-length returns)
