@@ -21,7 +21,7 @@ use Rattle.rules.specs.Walk.{Dir, Entered, Item, entriesFrom, entriesIn, isBloc
 use Rattle.laws.specs.Entries.{enteredAt, entries-fault, entries-step}
 use Rattle.laws.specs.Chains.{chain-none, chain-step, gathered-step, chain-end}
 use Rattle.tree.specs.declared.Tally.{Tally}
-use Rattle.tree.specs.Steps.{sumFrom, headAt, itemIn, Progress, stopped, going, refuse, enterItem, onward, enterAll, itemsFrom, itemsAlong, halted, ended, afterDir, runFrom, dirsFrom, queueOf, marked, Room}
+use Rattle.tree.specs.Steps.{sumFrom, headAt, itemIn, Progress, stopped, going, refuse, enterItem, onward, enterAll, itemsFrom, itemsAlong, halted, ended, afterDir, runFrom, dirsFrom, queueOf, marked, WalkRoom}
 
 -- ---- the sum along a chain
 
@@ -81,7 +81,7 @@ pub record SameLengths (marks queue parents marks₀ queue₀ parents₀ : List 
   pub of-parents : length parents ≡ length parents₀
 
 -- as tables that suffice are
-pub same-lengths : {marks queue parents marks₀ queue₀ parents₀ : List ℕ} (t u : Tally) → Room t marks queue parents → Room u marks₀ queue₀ parents₀
+pub same-lengths : {marks queue parents marks₀ queue₀ parents₀ : List ℕ} (t u : Tally) → WalkRoom t marks queue parents → WalkRoom u marks₀ queue₀ parents₀
     → SameLengths marks queue parents marks₀ queue₀ parents₀
 same-lengths t u r s = record { of-marks = r .0 ∙ sym (s .0); of-queue = r .1 ∙ sym (s .1); of-parents = r .2 ∙ sym (s .2) }
 

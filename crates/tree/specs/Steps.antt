@@ -11,8 +11,8 @@ use Rattle.rules.specs.Anodes.{Anodes, limit}
 use Rattle.rules.specs.Chains.{chainOf}
 use Rattle.rules.specs.Walk.{Dir, Entered, Item, entriesIn, isBlockOf, blocksFor, itemsFor, dirMade}
 use Rattle.tree.specs.declared.Tally.{Tally}
-use Rattle.tree.specs.declared.Step.{Step}
-use Rattle.tree.specs.declared.Step.the-variants.{Go, Fault}
+use Rattle.tree.specs.declared.WalkStep.{WalkStep}
+use Rattle.tree.specs.declared.WalkStep.the-variants.{Go, Fault}
 use Rattle.tree.specs.declared.TreeRead.{TreeRead}
 use Rattle.tree.specs.declared.TreeRead.the-variants.{Counted, Fault as Refused}
 
@@ -122,7 +122,7 @@ abbrev pub entering : Tally → List ℕ → List ℕ → List ℕ → ℕ → L
 entering t marks queue parents head is = enterAll head is (queueOf queue parents (t .last)) marks (t .files)
 
 -- the step's answer and the tables that it leaves
-abbrev pub progress : Step → List ℕ → List ℕ → List ℕ → Progress
+abbrev pub progress : WalkStep → List ℕ → List ℕ → List ℕ → Progress
 progress (Go t) marks queue parents = going (queueOf queue parents (t .last)) marks (t .files)
 progress (Fault r) marks queue parents = stopped (numberOf r)
 
@@ -135,14 +135,14 @@ abbrev pub Fits : Tally → List ℕ → Type 0
 Fits t marks = t .last + t .files ≤ marked marks
 
 -- tables of the right length that suffice
-abbrev pub Room : Tally → List ℕ → List ℕ → List ℕ → Type 0
-Room t marks queue parents = (length marks ≡ limit) × (length queue ≡ limit) × (length parents ≡ limit) × Fits t marks
+abbrev pub WalkRoom : Tally → List ℕ → List ℕ → List ℕ → Type 0
+WalkRoom t marks queue parents = (length marks ≡ limit) × (length queue ≡ limit) × (length parents ≡ limit) × Fits t marks
 
 -- what a step that goes on leaves still suffices
-abbrev pub StepFits : Step → List ℕ → Type 0
+abbrev pub StepFits : WalkStep → List ℕ → Type 0
 StepFits (Go t) marks = Fits t marks
 StepFits (Fault r) marks = Unit {0}
 
 -- a step that comes to p and leaves tables that suffice
-abbrev pub Leaves : Step → List ℕ → List ℕ → List ℕ → Progress → Type 0
-Leaves r marks queue parents p = (progress r marks queue parents ≡ p) × StepFits r marks
+abbrev pub Proceeds : WalkStep → List ℕ → List ℕ → List ℕ → Progress → Type 0
+Proceeds r marks queue parents p = (progress r marks queue parents ≡ p) × StepFits r marks

@@ -10,7 +10,7 @@ ghost use Rattle.laws.specs.Chains.{HeadTable};
 ghost use Rattle.laws.specs.Entries.{enteredAt};
 ghost use Rattle.anodes.specs.Loaded.{anodesFrom, AnodeTables};
 ghost use Rattle.tree.specs.Tree.{treeNumber, Counts, Queued};
-ghost use Rattle.tree.specs.Steps.{sumFrom, headAt, itemIn, enterItem, itemsFrom, itemsWith, queueOf, entering, Leaves, runFrom, conclusion, tallyMade, Room, unnamedAt};
+ghost use Rattle.tree.specs.Steps.{sumFrom, headAt, itemIn, enterItem, itemsFrom, itemsWith, queueOf, entering, Proceeds, runFrom, conclusion, tallyMade, WalkRoom, unnamedAt};
 use directory::Entry;
 use directory::Kind;
 use directory::Walked;
@@ -37,7 +37,7 @@ struct Tally {
 }
 
 // What a part of the walk comes to: the tally after it, or the first fault.
-enum Step {
+enum WalkStep {
     Go(Tally),
     Fault(Refusal),
 }
@@ -131,32 +131,32 @@ fn enter(
     head: AnodeNo,
     e: Entry,
     t: Tally,
-) -> Step
-    requires { ⌜ Room t (now marks) (now queue) (now parents) ⌝ }
-    ensures { λ r. ⌜ ((start : ℕ) → Leaves r (now (marks .exit)) (now (queue .exit)) (now (parents .exit)) (enterItem (head .0) (itemIn (now (counts .entry)) (now (nexts .entry)) (now (heads .entry)) (enteredAt e start)) (queueOf (now (queue .entry)) (now (parents .entry)) (t .last)) (now (marks .entry)) (t .files))) ⌝ }
+) -> WalkStep
+    requires { ⌜ WalkRoom t (now marks) (now queue) (now parents) ⌝ }
+    ensures { λ r. ⌜ ((start : ℕ) → Proceeds r (now (marks .exit)) (now (queue .exit)) (now (parents .exit)) (enterItem (head .0) (itemIn (now (counts .entry)) (now (nexts .entry)) (now (heads .entry)) (enteredAt e start)) (queueOf (now (queue .entry)) (now (parents .entry)) (t .last)) (now (marks .entry)) (t .files))) ⌝ }
 {
     let a = e.anode;
     let kind = e.kind;
     let i = a.0 as usize;
     if !head_at(heads, a) {
-        return Step::Fault(Refusal::EntryAnode);
+        return WalkStep::Fault(Refusal::EntryAnode);
     }
     if entry(marks, i) != 0 {
-        return Step::Fault(Refusal::NamedTwice);
+        return WalkStep::Fault(Refusal::NamedTwice);
     }
     match kind {
         Kind::File => {
             if chain_sum(counts, nexts, a) as u64 != blocks_for(e.size as u64) {
-                return Step::Fault(Refusal::FileSize);
+                return WalkStep::Fault(Refusal::FileSize);
             }
             set_entry(marks, i, 1);
-            Step::Go(with_file(t))
+            WalkStep::Go(with_file(t))
         }
         Kind::Directory => {
             set_entry(marks, i, 1);
             set_entry(queue, t.last, a.0);
             set_entry(parents, t.last, head.0);
-            Step::Go(with_directory(t))
+            WalkStep::Go(with_directory(t))
         }
     }
 }
@@ -173,9 +173,9 @@ fn enter_block(
     head: AnodeNo,
     b: BlockNo,
     t: Tally,
-) -> Step
-    requires { ⌜ Room t (now marks) (now queue) (now parents) ⌝ }
-    ensures { λ r. ⌜ Leaves r (now (marks .exit)) (now (queue .exit)) (now (parents .exit)) (entering t (now (marks .entry)) (now (queue .entry)) (now (parents .entry)) (head .0) (map (itemIn (now (counts .entry)) (now (nexts .entry)) (now (heads .entry))) (entriesIn (now (image .entry)) (b .0)))) ⌝ }
+) -> WalkStep
+    requires { ⌜ WalkRoom t (now marks) (now queue) (now parents) ⌝ }
+    ensures { λ r. ⌜ Proceeds r (now (marks .exit)) (now (queue .exit)) (now (parents .exit)) (entering t (now (marks .entry)) (now (queue .entry)) (now (parents .entry)) (head .0) (map (itemIn (now (counts .entry)) (now (nexts .entry)) (now (heads .entry))) (entriesIn (now (image .entry)) (b .0)))) ⌝ }
 {
     let block = block_part(image, b);
     let mut tally = t;
@@ -185,18 +185,18 @@ fn enter_block(
         let found = entry_at(block, at);
         let e = match found {
             Walked::Found(e) => e,
-            Walked::End => return Step::Go(tally),
-            Walked::Fault(_) => return Step::Fault(Refusal::DirectoryBlock),
+            Walked::End => return WalkStep::Go(tally),
+            Walked::Fault(_) => return WalkStep::Fault(Refusal::DirectoryBlock),
         };
         let step = enter(counts, nexts, heads, marks, queue, parents, head, e, tally);
-        let Step::Go(after) = step else {
+        let WalkStep::Go(after) = step else {
             return step;
         };
         tally = after;
         at += read8(block, at) as usize;
         fuel -= 1;
     }
-    Step::Go(tally)
+    WalkStep::Go(tally)
 }
 
 // Enters what anode `a` of a directory holds: one block that is marked as the directory's.
@@ -213,16 +213,16 @@ fn enter_anode(
     parent: AnodeNo,
     a: usize,
     t: Tally,
-) -> Step
-    requires { ⌜ Room t (now marks) (now queue) (now parents) ⌝ }
-    ensures { λ r. ⌜ Leaves r (now (marks .exit)) (now (queue .exit)) (now (parents .exit)) (entering t (now (marks .entry)) (now (queue .entry)) (now (parents .entry)) (head .0) (itemsFrom (itemIn (now (counts .entry)) (now (nexts .entry)) (now (heads .entry))) (now (image .entry)) (anodesFrom (now (counts .entry)) (now (firsts .entry)) (now (nexts .entry))) (dirMade (head .0) (parent .0)) a)) ⌝ }
+) -> WalkStep
+    requires { ⌜ WalkRoom t (now marks) (now queue) (now parents) ⌝ }
+    ensures { λ r. ⌜ Proceeds r (now (marks .exit)) (now (queue .exit)) (now (parents .exit)) (entering t (now (marks .entry)) (now (queue .entry)) (now (parents .entry)) (head .0) (itemsFrom (itemIn (now (counts .entry)) (now (nexts .entry)) (now (heads .entry))) (now (image .entry)) (anodesFrom (now (counts .entry)) (now (firsts .entry)) (now (nexts .entry))) (dirMade (head .0) (parent .0)) a)) ⌝ }
 {
     if entry(counts, a) != 1 {
-        return Step::Fault(Refusal::DirectoryBlock);
+        return WalkStep::Fault(Refusal::DirectoryBlock);
     }
     let b = BlockNo(entry(firsts, a));
     if !is_block_of(image, head, parent, b) {
-        return Step::Fault(Refusal::DirectoryBlock);
+        return WalkStep::Fault(Refusal::DirectoryBlock);
     }
     enter_block(
         image,
@@ -251,16 +251,16 @@ fn enter_directory(
     head: AnodeNo,
     parent: AnodeNo,
     t: Tally,
-) -> Step
-    requires { ⌜ Room t (now marks) (now queue) (now parents) ⌝ }
-    ensures { λ r. ⌜ Leaves r (now (marks .exit)) (now (queue .exit)) (now (parents .exit)) (entering t (now (marks .entry)) (now (queue .entry)) (now (parents .entry)) (head .0) (itemsWith (itemIn (now (counts .entry)) (now (nexts .entry)) (now (heads .entry))) (now (image .entry)) (anodesFrom (now (counts .entry)) (now (firsts .entry)) (now (nexts .entry))) (dirMade (head .0) (parent .0)))) ⌝ }
+) -> WalkStep
+    requires { ⌜ WalkRoom t (now marks) (now queue) (now parents) ⌝ }
+    ensures { λ r. ⌜ Proceeds r (now (marks .exit)) (now (queue .exit)) (now (parents .exit)) (entering t (now (marks .entry)) (now (queue .entry)) (now (parents .entry)) (head .0) (itemsWith (itemIn (now (counts .entry)) (now (nexts .entry)) (now (heads .entry))) (now (image .entry)) (anodesFrom (now (counts .entry)) (now (firsts .entry)) (now (nexts .entry))) (dirMade (head .0) (parent .0)))) ⌝ }
 {
     let mut tally = t;
     let mut at = head.0 as usize;
     let mut fuel: usize = 3444;
     while fuel > 0 {
         if at == 0 {
-            return Step::Go(tally);
+            return WalkStep::Go(tally);
         }
         let step = enter_anode(
             image,
@@ -276,14 +276,14 @@ fn enter_directory(
             at,
             tally,
         );
-        let Step::Go(after) = step else {
+        let WalkStep::Go(after) = step else {
             return step;
         };
         tally = after;
         at = entry(nexts, at) as usize;
         fuel -= 1;
     }
-    Step::Go(tally)
+    WalkStep::Go(tally)
 }
 
 // Takes directory after directory from the queue, until none is left.
@@ -297,7 +297,7 @@ fn walk_queue(
     queue: &mut [u16],
     parents: &mut [u16],
 ) -> TreeRead
-    requires { ⌜ Room (tallyMade 1 0) (now marks) (now queue) (now parents) ⌝ }
+    requires { ⌜ WalkRoom (tallyMade 1 0) (now marks) (now queue) (now parents) ⌝ }
     ensures { λ r. ⌜ conclusion r (now (marks .exit)) (now (queue .exit)) (now (parents .exit)) ≡ runFrom (itemsWith (itemIn (now (counts .entry)) (now (nexts .entry)) (now (heads .entry))) (now (image .entry)) (anodesFrom (now (counts .entry)) (now (firsts .entry)) (now (nexts .entry)))) 3444 (queueOf (now (queue .entry)) (now (parents .entry)) 1) (now (marks .entry)) 0 [] ⌝ }
 {
     let mut tally = Tally { last: 1, files: 0 };
@@ -319,10 +319,10 @@ fn walk_queue(
             tally,
         );
         match step {
-            Step::Go(after) => {
+            WalkStep::Go(after) => {
                 tally = after;
             }
-            Step::Fault(r) => {
+            WalkStep::Fault(r) => {
                 return TreeRead::Fault(r);
             }
         }

@@ -3,7 +3,7 @@ use mathlib.Core.List.{map}
 use Prim.Native.Nat.{ℕ, _+_, _-_, _*_, _≤_}
 use native.Mathlib.Omega.{arith}
 use Rattle.rules.specs.Walk.{entriesFrom, entriesIn}
-use Rattle.tree.specs.Steps.{itemIn, entering, Room}
+use Rattle.tree.specs.Steps.{itemIn, entering, WalkRoom}
 use Rattle.laws.specs.Entries.{entries-end, entries-none, block-whole}
 use Rattle.tree.proofs.Laws.{SameLengths, same-lengths, enter-none, block-broken, block-stop, block-step}
 use borrow.Author.Needs.{needs}
@@ -12,7 +12,7 @@ use Rattle.tree.proofs.enter_block.Tie as tie
 
 abbrev Inv-loop : tie.InvT-loop
 Inv-loop image counts nexts heads marks₀ queue₀ parents₀ head block tally₀ at₀ fuel₀ marks queue parents tally at fuel =
-    Room tally marks queue parents
+    WalkRoom tally marks queue parents
     × (at + fuel * 255 ≤ at₀ + fuel₀ * 255)
     × ((y : ℕ) → entering tally marks queue parents (head .0) (map (itemIn counts nexts heads) (entriesFrom fuel block y at)) ≡ entering tally₀ marks₀ queue₀ parents₀ (head .0) (map (itemIn counts nexts heads) (entriesFrom fuel₀ block y at₀)))
 

@@ -3,7 +3,7 @@ use Prim.Native.Nat.{_-_}
 use native.Mathlib.Omega.{arith}
 use Rattle.laws.specs.Chains.{gathered-none, gathered-end}
 use Rattle.anodes.specs.Loaded.{anodesFrom}
-use Rattle.tree.specs.Steps.{itemIn, itemsAlong, itemsWith, entering, Room}
+use Rattle.tree.specs.Steps.{itemIn, itemsAlong, itemsWith, entering, WalkRoom}
 use Rattle.tree.proofs.Laws.{SameLengths, same-lengths, enter-none, along-stop, along-step}
 use borrow.Author.Needs.{needs}
 use Rattle.tree.proofs.enter_directory.Statement.{statement}
@@ -12,7 +12,7 @@ use Rattle.rules.specs.Walk.{dirMade}
 
 abbrev Inv-loop : tie.InvT-loop
 Inv-loop image counts firsts nexts heads marks₀ queue₀ parents₀ head parent tally₀ at₀ fuel₀ marks queue parents tally at fuel =
-    Room tally marks queue parents
+    WalkRoom tally marks queue parents
     × (entering tally marks queue parents (head .0) (itemsAlong (itemIn counts nexts heads) image (anodesFrom counts firsts nexts) (dirMade (head .0) (parent .0)) fuel at) ≡ entering tally₀ marks₀ queue₀ parents₀ (head .0) (itemsAlong (itemIn counts nexts heads) image (anodesFrom counts firsts nexts) (dirMade (head .0) (parent .0)) fuel₀ at₀))
 
 abbrev μ-loop : tie.MeasureT-loop

@@ -5,7 +5,7 @@ use mathlib.Core.List.{[]}
 use lib.ListN.{getD, take, drop}
 use Rattle.anodes.specs.Loaded.{anodesFrom}
 use Rattle.rules.specs.Walk.{dirMade}
-use Rattle.tree.specs.Steps.{itemIn, itemsWith, runFrom, queueOf, entering, progress, tallyMade, Room}
+use Rattle.tree.specs.Steps.{itemIn, itemsWith, runFrom, queueOf, entering, progress, tallyMade, WalkRoom}
 use Rattle.tree.proofs.Laws.{SameLengths, same-lengths, marked-most, run-end, run-stop, run-step}
 use borrow.Author.Needs.{needs}
 use Rattle.tree.proofs.walk_queue.Statement.{statement}
@@ -13,7 +13,7 @@ use Rattle.tree.proofs.walk_queue.Tie as tie
 
 abbrev Inv-loop : tie.InvT-loop
 Inv-loop image counts firsts nexts heads marks₀ queue₀ parents₀ tally₀ first₀ marks queue parents tally first =
-    Room tally marks queue parents
+    WalkRoom tally marks queue parents
     × (first ≤ 3444)
     × (runFrom (itemsWith (itemIn counts nexts heads) image (anodesFrom counts firsts nexts)) (3444 - first) (drop first (queueOf queue parents (tally .last))) marks (tally .files) (take first (queueOf queue parents (tally .last))) ≡ runFrom (itemsWith (itemIn counts nexts heads) image (anodesFrom counts firsts nexts)) 3444 (queueOf queue₀ parents₀ 1) marks₀ 0 [])
 
