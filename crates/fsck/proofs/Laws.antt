@@ -32,7 +32,7 @@ use Rattle.fsck.specs.declared.Checked.{Checked}
 use Rattle.fsck.specs.declared.Checked.the-variants.{Accepted, Refused}
 use Rattle.fsck.specs.declared.Test.{Test}
 use Rattle.fsck.specs.declared.Test.the-variants.{Passed, Failed}
-use Rattle.fsck.specs.Answers.{checkedNumber, Headed, HeaderTested, SpaceTested, Filled, Kept, TablesAfter, TablesLeft}
+use Rattle.fsck.specs.Answers.{checkedNumber, Headed, HeaderTested, SpaceTested, Filled, PastKept, TablesAfter, TablesLeft}
 use Rattle.laws.specs.OwnerTable.{blocks-past, heads-past}
 
 -- ---- 1 to 4
@@ -73,12 +73,12 @@ module _ (img : List ℕ) (b a : ℕ) where
 -- ---- 6 to 16
 
 -- tables that are not touched are kept
-pub kept-all : (img b a : List ℕ) → Kept img b a b a
+pub kept-all : (img b a : List ℕ) → PastKept img b a b a
 kept-all img b a = record { blocks-kept = refl; anodes-kept = refl }
 
 module _ (img : List ℕ) (s : Anodes) where
   -- tables that show the image keep what stands behind it
-  filled-kept : (b₀ a₀ b a : List ℕ) → Filled img s b₀ a₀ b a → Kept img b₀ a₀ b a
+  filled-kept : (b₀ a₀ b a : List ℕ) → Filled img s b₀ a₀ b a → PastKept img b₀ a₀ b a
   filled-kept b₀ a₀ b a f = record { blocks-kept = blocks-past img s b b₀ (f .blocks-shown); anodes-kept = heads-past s a a₀ (f .anodes-shown) }
 
   module _ (b₀ a₀ b a : List ℕ) (t : Test) (left : TablesAfter t img s b₀ a₀ b a) where
@@ -86,14 +86,14 @@ module _ (img : List ℕ) (s : Anodes) where
     all-heads is s₁ same = rw same ((rw is at left) .1)
 
     module _ (e : SpaceTested t img s) where
-      pub all-failed : (r : Refusal) → t ≡ Failed r → (numberOf r ≡ damageIn img s) × Kept img b₀ a₀ b a
+      pub all-failed : (r : Refusal) → t ≡ Failed r → (numberOf r ≡ damageIn img s) × PastKept img b₀ a₀ b a
       all-failed r is = (sym (rw is at e), rw is at left)
 
       module _ (is : t ≡ Passed) (s₁ : Anodes) (same : s₁ ≡ s) (w : TreeRead) (n : treeNumber w ≡ treeFault img s₁) where
         damaged : damageIn img s ≡ treeNumber w
         damaged = rw is at e ∙ sym (rw same at n)
 
-        pub all-fault : (r : Refusal) → w ≡ Fault r → (numberOf r ≡ damageIn img s) × Kept img b₀ a₀ b a
+        pub all-fault : (r : Refusal) → w ≡ Fault r → (numberOf r ≡ damageIn img s) × PastKept img b₀ a₀ b a
         all-fault r fault = (sym (rw fault at damaged), filled-kept b₀ a₀ b a ((rw is at left) .0))
 
         pub all-counted : (queue parents : List ℕ) → Counts w img s₁ → Queued w img s₁ queue parents → (files dirs : ℕ) → w ≡ Counted files dirs
@@ -182,7 +182,7 @@ module _ (img b₀ a₀ : List ℕ) where
         → outcomeOf (checkedNumber x) img b₃ a₃ [] [] ≡ checkOutcome img b₀ a₀
     unfolding blocksLeft anodesLeft
     outcome-refused r is b₃ a₃ wb wa =
-        let k : Kept img (w .b₁) (w .a₁) b₂ a₂ = rw is at (w .left) in
+        let k : PastKept img (w .b₁) (w .a₁) b₂ a₂ = rw is at (w .left) in
         let m : numberOf r ≡ (5 if wrongSlots img else damageIn img (anodesOf img)) = rw is at (w .answer) in
         let some = number-some r in
         let within : (5 ≤ numberOf r) × (numberOf r ≤ 16) = elim (late-range img) [ inl z ↦ absurd (omega arith) | inr l ↦ (omega (arith, l .0), omega (arith, l .1)) ] in

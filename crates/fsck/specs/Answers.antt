@@ -58,19 +58,19 @@ pub record Filled (img : List ℕ) (s : Anodes) (blocks₀ anodes₀ blocks anod
   pub anodes-shown : anodes ≡ anodeTable s ++ drop limit anodes₀
 
 -- entries past the ranges are kept, whatever stands in them
-pub record Kept (img : List ℕ) (blocks₀ anodes₀ blocks anodes : List ℕ) : Type 0 where
+pub record PastKept (img : List ℕ) (blocks₀ anodes₀ blocks anodes : List ℕ) : Type 0 where
   pub blocks-kept : drop (diskSize img) blocks ≡ drop (diskSize img) blocks₀
   pub anodes-kept : drop limit anodes ≡ drop limit anodes₀
 
 -- the tables after the tests of 6 to 11
 abbrev pub TablesAfter : Test → List ℕ → Anodes → List ℕ → List ℕ → List ℕ → List ℕ → Type 0
 TablesAfter Passed img s b₀ a₀ b a = Filled img s b₀ a₀ b a × HeadTable a s
-TablesAfter (Failed r) img s b₀ a₀ b a = Kept img b₀ a₀ b a
+TablesAfter (Failed r) img s b₀ a₀ b a = PastKept img b₀ a₀ b a
 
 -- the tables after the tests of 6 to 16
 abbrev pub TablesLeft : Checked → List ℕ → Anodes → List ℕ → List ℕ → List ℕ → List ℕ → Type 0
 TablesLeft (Accepted t) img s b₀ a₀ b a = Filled img s b₀ a₀ b a
-TablesLeft (Refused r) img s b₀ a₀ b a = Kept img b₀ a₀ b a
+TablesLeft (Refused r) img s b₀ a₀ b a = PastKept img b₀ a₀ b a
 
 -- the block table and the anode table have room, and are zero in their ranges
 pub record Zeroed (img blocks anodes : List ℕ) : Type 0 where
