@@ -52,22 +52,22 @@ module _ (img : List ℕ) (s : Anodes) (good : GoodAnodes img s) (h : ℕ) (d : 
 -- ---- the run up to a step
 
 -- the table of moved blocks has room: the blocks taken so far are on the chain; those still to be given are on it too, and with those given before they are at most 65,535
-unfoldable pub Room : Bool → ℕ → ℕ → ℕ → Type 0
-Room true left done count = done ≤ count
-Room false left done count = (left ≤ count) × (count + done ≤ 65535)
+unfoldable pub MovedRoom : Bool → ℕ → ℕ → ℕ → Type 0
+MovedRoom true left done count = done ≤ count
+MovedRoom false left done count = (left ≤ count) × (count + done ≤ 65535)
 
-room-first : (taking : Bool) (k count : ℕ) → count < 65535 → (taking ≡ false → k ≤ count) → Room taking k 0 count
-unfolding Room
+room-first : (taking : Bool) (k count : ℕ) → count < 65535 → (taking ≡ false → k ≤ count) → MovedRoom taking k 0 count
+unfolding MovedRoom
 room-first true k count small fits = omega arith
 room-first false k count small fits = (fits refl, omega arith)
 
-room-left : (taking : Bool) (left done count : ℕ) → count < 65535 → 0 < left → Room taking left done count → (done < 65535) × (taking ≡ false → 0 < count)
-unfolding Room
+room-left : (taking : Bool) (left done count : ℕ) → count < 65535 → 0 < left → MovedRoom taking left done count → (done < 65535) × (taking ≡ false → 0 < count)
+unfolding MovedRoom
 room-left true left done count small some r = (omega arith, λ q. absurd (true≢false q))
 room-left false left done count small some r = (omega (arith, r .0, r .1), λ q. omega (arith, r .0))
 
-room-next : (taking : Bool) (left m done old new h : ℕ) → h ≢ 1 → left ≡ m + 1 → new + oneAt (cond taking 1 h) h ≡ old + oneAt (cond taking h 1) h → Room taking left done old → Room taking m (done + 1) new
-unfolding Room
+room-next : (taking : Bool) (left m done old new h : ℕ) → h ≢ 1 → left ≡ m + 1 → new + oneAt (cond taking 1 h) h ≡ old + oneAt (cond taking h 1) h → MovedRoom taking left done old → MovedRoom taking m (done + 1) new
+unfolding MovedRoom
 room-next true left m done old new h h1 fuel e r = omega (arith, e, r, oneAt-same h h refl, oneAt-other 1 h (λ i. h1 (sym i)))
 room-next false left m done old new h h1 fuel e r = let one = oneAt-same h h refl in let none = oneAt-other 1 h (λ i. h1 (sym i)) in (omega (arith, e, r .0, one, none), omega (arith, e, r .1, one, none))
 
@@ -75,7 +75,7 @@ room-next false left m done old new h h1 fuel e r = let one = oneAt-same h h ref
 pub record Run (img : List ℕ) (taking : Bool) (h : ℕ) (whole : Plan) (left : ℕ) (s : Anodes) (moved : List ℕ) (done : ℕ) : Type 0 where
   pub good : GoodAnodes img s
   pub head : Head (s .next) (s .block) h
-  pub room : Room taking left done (blockCount s h)
+  pub room : MovedRoom taking left done (blockCount s h)
   pub same : after (take done moved) (moveMany img taking left s h) ≡ whole
 
 module _ (img : List ℕ) (taking : Bool) (h : ℕ) (size : wrongSize img ≡ false) where
