@@ -32,7 +32,7 @@ fn print_line(image: &[u8]) {
 }
 
 // Reads at most 65,536 bytes and writes the line; more input is too large.
-pub fn print_line() {
+pub fn run() {
     let mut space = io::large_buffer();
     let n = io::read_full(STDIN_FILENO, &mut space);
     let mut one = [0u8; 1];

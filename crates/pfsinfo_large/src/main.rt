@@ -1,4 +1,4 @@
 // Writes one line about the disk image on standard input; its stored input is one byte too many.
 fn main() {
-    info_line::print_line();
+    info_line::run();
 }
