@@ -10,7 +10,7 @@ use borrow.Author.Tests.{le-ltb, ltb-false}
 use Rattle.rules.specs.Counting.{_if_else_, firstOf}
 use Rattle.rules.specs.Anodes.{Anodes, limit}
 use Rattle.rules.specs.Walk.{Entered}
-use Rattle.rules.specs.Accepted.{diskSize, shortTables, checkAnswer}
+use Rattle.rules.specs.Accepted.{diskSize, shortTables, checkAnswer, PastDamage}
 use Rattle.rules.specs.Lookup.{noDirectory, entryNamed, isThere, namesDir, notEmptyDir, pastEnd, nth, entriesOf}
 use Rattle.rules.specs.Calls.{spanRefusal, resizeRefusal, removeRefusal, makeRefusal, wrongEntry, listRefusal}
 use Rattle.laws.specs.Tests.{if-zero, firstOf-zero, firstOf-some}
@@ -18,14 +18,14 @@ use Rattle.laws.specs.Acceptance.{passed-of}
 
 -- 0, or a number after the damage numbers
 abbrev pub Late : ℕ → Type 0
-Late n = (n ≡ 0) ⊎ (17 ≤ n)
+Late n = (n ≡ 0) ⊎ (PastDamage n)
 
 -- what the steps of a change answer: done, no free block, no free anode
 abbrev pub StepsAnswer : ℕ → Type 0
 StepsAnswer n = (n ≡ 0) ⊎ ((n ≡ 27) ⊎ (n ≡ 28))
 
 -- the steps' refusals come after the damage numbers
-pub step-late : (k : ℕ) → (k ≡ 27) ⊎ (k ≡ 28) → 17 ≤ k
+pub step-late : (k : ℕ) → (k ≡ 27) ⊎ (k ≡ 28) → PastDamage k
 step-late k (inl e) = omega (arith, e)
 step-late k (inr e) = omega (arith, e)
 
@@ -129,7 +129,7 @@ module _ (img : List ℕ) (s : Anodes) (h : ℕ) where
 
 -- ---- each call's own refusals come after the damage numbers
 
-if-late : (n : ℕ) (t : Bool) (rest : ℕ) → 17 ≤ n → Late rest → Late (n if t else rest)
+if-late : (n : ℕ) (t : Bool) (rest : ℕ) → PastDamage n → Late rest → Late (n if t else rest)
 if-late n true rest l h = inr l
 if-late n false rest l h = h
 
@@ -137,7 +137,7 @@ none-late : Late 0
 none-late = inl refl
 
 -- a table with a late row behind it
-behind-late : (a c n : ℕ) (t : Bool) → c ≡ firstOf a (n if t else 0) → 17 ≤ n → Late a → Late c
+behind-late : (a c n : ℕ) (t : Bool) → c ≡ firstOf a (n if t else 0) → PastDamage n → Late a → Late c
 unfolding firstOf
 behind-late zero c n t is l h = rw is (if-late n t 0 l none-late)
 behind-late (suc a) c n t is l h = rw is h

@@ -1,5 +1,5 @@
 -- What a refused and a done change leave of the tables.
-use Prim.Native.Nat.{ℕ, zero, suc, _≤_}
+use Prim.Native.Nat.{ℕ, zero, suc}
 use mathlib.Core.Path.{_≡_, refl, sym, ap, _∙_}
 use mathlib.Core.Logic.{_≢_}
 use mathlib.Core.Bool.{Bool}
@@ -10,7 +10,7 @@ use borrow.Author.Tests.{le-leb, lt-leb}
 use Rattle.disk.proofs.Laws.{length-listed}
 use Rattle.rules.specs.Anodes.{Anodes, limit, anodesOf}
 use Rattle.rules.specs.Chains.{systemOwns}
-use Rattle.rules.specs.Accepted.{diskSize}
+use Rattle.rules.specs.Accepted.{diskSize, PastDamage}
 use Rattle.rules.specs.Tables.{anodeTable, blockTable, blockEntry, ownerHead, tableLeft, blocksLeft, anodesLeft}
 use Rattle.rules.specs.Changes.{left}
 use Rattle.rules.specs.Calls.{settled}
@@ -22,13 +22,13 @@ use Rattle.change_laws.specs.Image.{DiskWith}
 use Rattle.change_tables.specs.Leaves.{Leaves}
 
 -- an answer past the damage numbers shows the tables as 0 does
-pub late-table : (k : ℕ) → 17 ≤ k → (range : ℕ) (shown old : List ℕ) → tableLeft k range shown old ≡ tableLeft 0 range shown old
+pub late-table : (k : ℕ) → PastDamage k → (range : ℕ) (shown old : List ℕ) → tableLeft k range shown old ≡ tableLeft 0 range shown old
 unfolding tableLeft
 late-table zero l range shown old = absurd (omega arith)
 late-table (suc k) l range shown old = rw (le-leb 1 (suc k) (omega arith), le-leb 5 (suc k) (omega arith), lt-leb (suc k) 4 (omega arith), lt-leb (suc k) 16 (omega arith))
 
 -- a refused change leaves image and tables
-pub leaves-refused : (k : ℕ) → 17 ≤ k → (img b a : List ℕ) → Leaves k img b a img b a (left k img)
+pub leaves-refused : (k : ℕ) → PastDamage k → (img b a : List ℕ) → Leaves k img b a img b a (left k img)
 unfolding settled blocksLeft anodesLeft
 leaves-refused k l img b a b₀ a₀ p q =
     rw (p, q, late-table k l (diskSize img) (blockTable img (anodesOf img)) b₀, late-table k l limit (anodeTable (anodesOf img)) a₀)

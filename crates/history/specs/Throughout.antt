@@ -13,12 +13,13 @@ use Rattle.directory.specs.Entries.{goodName, goodComment}
 use Rattle.rules.specs.Counting.{_if_else_, firstOf}
 use Rattle.rules.specs.Anodes.{Anodes, limit, anodesOf}
 use Rattle.rules.specs.Walk.{Entered}
-use Rattle.rules.specs.Accepted.{diskSize, wrongSize, checkAnswer}
+use Rattle.rules.specs.Accepted.{diskSize, wrongSize, checkAnswer, Damage}
 use Rattle.rules.specs.Lookup.{noDirectory, entryNamed, ofEntry, notEmpty}
 use Rattle.rules.specs.Format.{wrongFormat, formatAnswer, formatted}
 use Rattle.rules.specs.Changes.{Left, left, NewEntry, resized, made, written, removed}
 use Rattle.rules.specs.Calls.{checkedFirst, settled, checkOutcome, summaryOutcome, formatOutcome, doneOr, leftAfter, readAnswer, readOutcome, spanRefusal, listAnswer, listOutcome, makeOutcome, makeRefusal, wrongEntry, resizeOutcome, resizeRefusal, writeOutcome, removeOutcome, removeRefusal, changeNamed}
-use Rattle.rules.specs.History.{Call, check, summary, format, read, list, make, resize, write, remove, outcome, Sound, Damage, SoundThroughout}
+use Rattle.rules.specs.Totals.{Sound}
+use Rattle.history.specs.History.{Call, check, summary, format, read, list, make, resize, write, remove, outcome, SoundThroughout}
 use Rattle.counting.specs.Laws.{neither}
 use Rattle.laws.specs.Tests.{if-zero, firstOf-zero}
 use Rattle.format_laws.specs.Accepted.{formatted-accepted}

@@ -106,8 +106,8 @@ module _ {A : ℕ} {ex : ℕ → Bool} {n last : ℕ} {s : Anodes} {system hd sd
     unfolding giveBack giveFrom
     give-steps = go (lastExtent (s .count) 0 (chainOf (s .next) A h)) refl e
       where
-        go : (c : Found) → lastExtent (s .count) 0 (chainOf (s .next) A h) ≡ c → elim c [ nowhere ↦ refused 0 | found p x ↦ giveFrom A ex last s h p x ] ≡ planned t ys → Gives A ex n last s system hd h t ys
-        go nowhere q e = absurd (refused≢planned 0 t ys e)
+        go : (c : Found) → lastExtent (s .count) 0 (chainOf (s .next) A h) ≡ c → elim c [ nowhere ↦ refused 27 | found p x ↦ giveFrom A ex last s h p x ] ≡ planned t ys → Gives A ex n last s system hd h t ys
+        go nowhere q e = absurd (refused≢planned 27 t ys e)
         go (found p x) q e =
             let f = given-found p x q in
             let u = full-used g x (f .full) in

@@ -1,5 +1,5 @@
 -- Laws of the steps of a make: what each starts from, and what both answer.
-use Prim.Native.Nat.{ℕ, _+_, _≤_}
+use Prim.Native.Nat.{ℕ, _+_}
 use mathlib.Core.Path.{_≡_, refl, sym, ap, _∙_}
 use mathlib.Core.Logic.{_≢_}
 use mathlib.Core.Bool.{Bool, true, false, cond}
@@ -15,7 +15,7 @@ use Rattle.directory.specs.Entries.{entryLength}
 use Rattle.rules.specs.Anodes.{Anodes, limit, exists, anodesOf}
 use Rattle.rules.specs.Chains.{systemOwns, blocksOf}
 use Rattle.rules.specs.Walk.{entriesIn, isBlockOf, reachedDirs}
-use Rattle.rules.specs.Accepted.{diskSize, wrongSize, lastReserved}
+use Rattle.rules.specs.Accepted.{diskSize, wrongSize, lastReserved, PastDamage}
 use Rattle.rules.specs.Space.{refused, planned, rewritten, after, repeated, takeBlock, takeMany}
 use Rattle.rules.specs.Changes.{firstRoom, noRoom, neededBlock, entryStart, NewEntry, left, leftBy, madeImage, madeWith, made}
 use Rattle.laws.specs.Heads.{Head}
@@ -61,7 +61,7 @@ unfolding neededBlock
 step-none img s h = ap (planned s) (no-block 0 refl)
 
 -- a step's refusal comes after the damage numbers
-late : (img : List ℕ) (needed : Bool) (s : Anodes) (h k : ℕ) → neededBlock img needed s h ≡ refused k → 17 ≤ k
+late : (img : List ℕ) (needed : Bool) (s : Anodes) (h k : ℕ) → neededBlock img needed s h ≡ refused k → PastDamage k
 late img needed s h k e = step-late k (needed-refused img needed s h k e)
 
 module _ (img : List ℕ) {s : Anodes} {hd sd : ℕ → ℕ} (g : GoodOn img s hd sd) (h : ℕ) (d : Head (s .next) (s .block) h) (h1 : h ≢ 1) where

@@ -1,5 +1,5 @@
 -- What the steps of a make start from and what they answer, in the terms of the rules.
-use Prim.Native.Nat.{ℕ, _≤_}
+use Prim.Native.Nat.{ℕ}
 use mathlib.Core.Path.{_≡_}
 use mathlib.Core.Bool.{Bool, cond}
 use mathlib.Core.List.{List, [], _∷_}
@@ -9,6 +9,7 @@ use lib.ListN.{length}
 use Rattle.disk.specs.Refusals.{numberOf}
 use Rattle.directory.specs.Entries.{entryLength}
 use Rattle.rules.specs.Anodes.{Anodes, anodesOf}
+use Rattle.rules.specs.Accepted.{PastDamage}
 use Rattle.rules.specs.Space.{Plan, refused, planned}
 use Rattle.rules.specs.Changes.{entryStart, NewEntry, left, made}
 use Rattle.change_laws.specs.MakePlan.{Fresh, MakeSteps}
@@ -38,4 +39,4 @@ pub record Plans (img : List ℕ) (dir : Bool) (len h : ℕ) (m : MakePlan) (t :
 abbrev pub PlanOf : Planned → List ℕ → Bool → ℕ → ℕ → Anodes → Type 0
 PlanOf (Make m) img dir len h t = Plans img dir len h m t
 PlanOf (Stopped x) img dir len h t =
-    (17 ≤ numberOf x) × ((new : NewEntry) → new .dir ≡ dir → entryLength (length (new .name)) (length (new .comment)) ≡ len → made img (anodesOf img) h new ≡ left (numberOf x) img)
+    (PastDamage (numberOf x)) × ((new : NewEntry) → new .dir ≡ dir → entryLength (length (new .name)) (length (new .comment)) ≡ len → made img (anodesOf img) h new ≡ left (numberOf x) img)

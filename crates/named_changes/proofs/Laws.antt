@@ -18,6 +18,7 @@ use Rattle.directory.specs.Entries.{isDir, kindRead, goodName, goodComment}
 use Rattle.rules.specs.Anodes.{Anodes, anodesOf}
 use Rattle.rules.specs.Chains.{blocksOf}
 use Rattle.rules.specs.Walk.{Entered}
+use Rattle.rules.specs.Accepted.{PastDamage}
 use Rattle.rules.specs.Lookup.{noDirectory, entryNamed}
 use Rattle.rules.specs.Changes.{Left, left, NewEntry, made, written}
 use Rattle.rules.specs.Calls.{makeRefusal, wrongEntry, doneOr, leftAfter, changeNamed, wrongText}
@@ -50,7 +51,7 @@ module _ {img counts firsts nexts : List ℕ} (l : Loaded img counts firsts next
 -- ---- a change of a named entry
 
 -- a refusal of a call's own table comes after the damage numbers
-late-some : (n k : ℕ) → Late n → n ≡ k → 1 ≤ k → 17 ≤ k
+late-some : (n k : ℕ) → Late n → n ≡ k → 1 ≤ k → PastDamage k
 late-some n k (inl z) e l = absurd (omega (arith, z, e, l))
 late-some n k (inr z) e l = omega (arith, z, e)
 
@@ -62,7 +63,7 @@ leaves-named img o f n x e is r b a img′ b′ a′ l = rw (e, is) l
 
 module _ (img : List ℕ) (done : Left) where
   -- a number that is not 0 leaves the image, and the tables that show it
-  pub leaves-unmade : (n k : ℕ) → 17 ≤ k → n ≡ k → (b a : List ℕ) → Leaves k img b a img b a (leftAfter n img done)
+  pub leaves-unmade : (n k : ℕ) → PastDamage k → n ≡ k → (b a : List ℕ) → Leaves k img b a img b a (leftAfter n img done)
   leaves-unmade n k l e b a = rw (e, not-done k (omega arith) done (left k img)) (leaves-refused k l img b a)
 
   pub leaves-unchanged : (n : ℕ) → Late n → (r : Refusal) (k : ℕ) → k ≡ numberOf r → n ≡ numberOf r → (b a : List ℕ) → Leaves k img b a img b a (leftAfter n img done)

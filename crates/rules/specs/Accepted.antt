@@ -1,5 +1,5 @@
 -- 01, "Refusal numbers, in the order they are tried", 1 to 16: the test of each row, and the table.
-use Prim.Native.Nat.{ℕ, _+_, _/_, _%_}
+use Prim.Native.Nat.{ℕ, _+_, _/_, _%_, _≤_}
 use mathlib.Core.Bool.{Bool, not, _&&_, _||_}
 use mathlib.Core.List.{List}
 use lib.ListN.{length}
@@ -154,3 +154,11 @@ checkAnswer img blocks anodes =
     else 4 if wrongRoot img
     else 5 if wrongSlots img
     else damageIn img (anodesOf img)
+
+-- 3 to 16 are damage: to report damage in the image is to answer one of them
+abbrev pub Damage : ℕ → Type 0
+Damage n = (3 ≤ n) × (n ≤ 16)
+
+-- a number past those of damage, as a call's own refusals are
+abbrev pub PastDamage : ℕ → Type 0
+PastDamage n = 17 ≤ n

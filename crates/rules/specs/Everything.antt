@@ -16,9 +16,8 @@ use Rattle.rules.specs.Format.{wrongFormat, formatAnswer, withSlots, roo
 use Rattle.rules.specs.Changes.{inBlock, withBlocks, resizePlan, zeroTail, withSize, zeroTaken, resizedImage, resized, endFrom, entriesEnd, firstRoom, neededBlock, parentOf, entryOf, madeImage, madeWith, made, spread, written, gapClosed, withoutEntry, removedImage, removed}
 use Rattle.rules.specs.Calls.{settled, doneOr, checkOutcome, fileCount, dirCount, summaryOf, summaryOutcome, formatOutcome, spanRefusal, resizeRefusal, removeRefusal, wrongEntry, makeRefusal, listRefusal, readAnswer, readOutcome, fieldList, fieldsAt, listAnswer, listOutcome, makeOutcome, resizeOutcome, writeOutcome, removeOutcome}
 use Rattle.rules.specs.Totals.{freeBlocks, fileBlocks, directoryBlocks, chainBlocks, anodeBlocks, totalIn, total}
-use Rattle.rules.specs.History.{outcome, outcomes}
 
 -- unfolds them all
 unfoldable pub everything : Unit {0}
-unfolding be16 be32 put16 put32 stored cleared blockOf withBlock rootIn putRoot slotIn slotOf anodeHeaderIn putAnodeHeader anodeIn putAnode listed anodesIn anodeSlots anodeAt anodeOf setAnode directoryHeaderIn putDirectoryHeader kindRead goodNameByte allBytes goodName goodComment entryLength nameLength commentLength nameIn entryShaped entryIn walkedAt putEntry firstOf oneAt sumBelow anyBelow least sumList occurrences anyIn gather lastOf changed sameBytes existsIn exists fieldsOf inUse anodesOf sameAnode storeChanged withAnodes chainOf followed preds oneIfHead headOf oneIfCovers oneIfHolds systemOwns owners run blocksOf blockCount cut side entriesFrom entriesIn isBlockOf blocksFor wrongAnode wrongFileSize itemOf itemsFor itemsBy itemsOf subDirs faultOf scan visited walk walkOf reachedDirs reached naming diskSize wrongSize shortTables wrongType lastReserved wrongRoot wrongSlot wrongSlots wrongFixed outOfRange wrongLink wrongAt hasPred wrongLinks notAbove notUpTo wrongFreeList ownersOf twoOwners noOwner unnamed unnamedChain treeFault damageIn checkAnswer chainHead anodeEntry anodeTable headWhere ownerHead entryOr blockEntry blockTable tableLeft blocksLeft anodesLeft noDirectory entriesOf nameAt isNamed firstNamed entryNamed nth notEmpty bytesOf contents rewritten insertedAfter unlinked emptied withoutBlock withoutFirst withoutLast extentAt firstFound firstExtent lastExtent freeExtent sideOf fillOr growOr growBeforeOr after repeated free lowestFree append put takeFrom takeBlock join release giveFrom giveBack takeMany giveMany onChain dropped wrongFormat formatAnswer withSlots rootBlock lowerAnode upperAnode listHead firstAnodes emptyAnodeBlock anodeBlock withAnodeBlocks newDirectoryBlock formatted inBlock withBlocks resizePlan zeroTail withSize zeroTaken resizedImage resized endFrom entriesEnd firstRoom neededBlock parentOf entryOf madeImage madeWith made spread written gapClosed withoutEntry removedImage removed settled doneOr checkOutcome fileCount dirCount summaryOf summaryOutcome formatOutcome spanRefusal resizeRefusal removeRefusal wrongEntry makeRefusal listRefusal readAnswer readOutcome fieldList fieldsAt listAnswer listOutcome makeOutcome resizeOutcome writeOutcome removeOutcome freeBlocks fileBlocks directoryBlocks chainBlocks anodeBlocks totalIn total outcome outcomes
+unfolding be16 be32 put16 put32 stored cleared blockOf withBlock rootIn putRoot slotIn slotOf anodeHeaderIn putAnodeHeader anodeIn putAnode listed anodesIn anodeSlots anodeAt anodeOf setAnode directoryHeaderIn putDirectoryHeader kindRead goodNameByte allBytes goodName goodComment entryLength nameLength commentLength nameIn entryShaped entryIn walkedAt putEntry firstOf oneAt sumBelow anyBelow least sumList occurrences anyIn gather lastOf changed sameBytes existsIn exists fieldsOf inUse anodesOf sameAnode storeChanged withAnodes chainOf followed preds oneIfHead headOf oneIfCovers oneIfHolds systemOwns owners run blocksOf blockCount cut side entriesFrom entriesIn isBlockOf blocksFor wrongAnode wrongFileSize itemOf itemsFor itemsBy itemsOf subDirs faultOf scan visited walk walkOf reachedDirs reached naming diskSize wrongSize shortTables wrongType lastReserved wrongRoot wrongSlot wrongSlots wrongFixed outOfRange wrongLink wrongAt hasPred wrongLinks notAbove notUpTo wrongFreeList ownersOf twoOwners noOwner unnamed unnamedChain treeFault damageIn checkAnswer chainHead anodeEntry anodeTable headWhere ownerHead entryOr blockEntry blockTable tableLeft blocksLeft anodesLeft noDirectory entriesOf nameAt isNamed firstNamed entryNamed nth notEmpty bytesOf contents rewritten insertedAfter unlinked emptied withoutBlock withoutFirst withoutLast extentAt firstFound firstExtent lastExtent freeExtent sideOf fillOr growOr growBeforeOr after repeated free lowestFree append put takeFrom takeBlock join release giveFrom giveBack takeMany giveMany onChain dropped wrongFormat formatAnswer withSlots rootBlock lowerAnode upperAnode listHead firstAnodes emptyAnodeBlock anodeBlock withAnodeBlocks newDirectoryBlock formatted inBlock withBlocks resizePlan zeroTail withSize zeroTaken resizedImage resized endFrom entriesEnd firstRoom neededBlock parentOf entryOf madeImage madeWith made spread written gapClosed withoutEntry removedImage removed settled doneOr checkOutcome fileCount dirCount summaryOf summaryOutcome formatOutcome spanRefusal resizeRefusal removeRefusal wrongEntry makeRefusal listRefusal readAnswer readOutcome fieldList fieldsAt listAnswer listOutcome makeOutcome resizeOutcome writeOutcome removeOutcome freeBlocks fileBlocks directoryBlocks chainBlocks anodeBlocks totalIn total
 everything = tt

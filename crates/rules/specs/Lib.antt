@@ -11,6 +11,5 @@ pub mod Format
 pub mod Changes
 pub mod Calls
 pub mod Totals
-pub mod History
 pub mod Worked
 pub mod Everything

@@ -150,9 +150,9 @@ module _ (A : ℕ) (ex : ℕ → Bool) where
     unfoldable pub giveFrom : Anodes → ℕ → ℕ → ℕ → Plan
     giveFrom s h p x = release (withoutLast s h p x) (lastBlock s x)
 
-    -- GIVE BACK A BLOCK of h's chain: the last block of the last non-empty extent (a chain with no block is never asked)
+    -- GIVE BACK A BLOCK of h's chain: the last block of the last non-empty extent; a chain that has none gives none, 27, which nobody meets: no more are given back than there are
     unfoldable pub giveBack : Anodes → ℕ → Plan
-    giveBack s h = elim (lastExtent (s .count) 0 (chainOf (s .next) A h)) [ nowhere ↦ refused 0 | found p x ↦ giveFrom s h p x ]
+    giveBack s h = elim (lastExtent (s .count) 0 (chainOf (s .next) A h)) [ nowhere ↦ refused 27 | found p x ↦ giveFrom s h p x ]
 
     -- k gives
     unfoldable pub giveMany : ℕ → Anodes → ℕ → Plan

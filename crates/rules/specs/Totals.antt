@@ -1,13 +1,15 @@
 -- 01, "Holding the contracts to account": the blocks of each kind, counted from the image's bytes alone; a chain's blocks are those its anodes own.
 use Prim.Native.Nat.{ℕ, _+_}
+use mathlib.Core.Path.{_≡_}
 use mathlib.Core.Bool.{cond}
 use mathlib.Core.List.{List}
 use lib.Dec.{eqb}
 use Rattle.disk.specs.Root.{slotOf}
 use Rattle.rules.specs.Counting.{sumBelow, sumList}
-use Rattle.rules.specs.Anodes.{Anodes, anodesOf}
+use Rattle.rules.specs.Anodes.{Anodes, limit, anodesOf}
 use Rattle.rules.specs.Chains.{blockCount}
 use Rattle.rules.specs.Walk.{reached}
+use Rattle.rules.specs.Accepted.{diskSize, checkAnswer}
 
 -- free: 1's chain
 unfoldable pub freeBlocks : Anodes → ℕ
@@ -40,3 +42,8 @@ totalIn img s = freeBlocks s + fileBlocks img s + directoryBlocks img s + chainB
 -- the sum of demand 3
 unfoldable pub total : List ℕ → ℕ
 total img = totalIn img (anodesOf img)
+
+-- lent tables as long as 2 asks, the check answers 0, and the kinds of blocks add up to the disk's size
+pub record Sound (img : List ℕ) : Type 0 where
+  pub accepted : checkAnswer img (diskSize img) limit ≡ 0
+  pub adds-up : total img ≡ diskSize img

@@ -136,7 +136,7 @@ visited d (fault n) = fault n
 visited d (done ds) = done (d ∷ ds)
 
 module _ (items : Dir → List Item) where
-  -- one directory of the queue after the other, k at most, with the anodes named so far; a queue that has more would name one twice
+  -- one directory of the queue after the other, k at most, with the anodes named so far; each but the root has a named anode of its own from 6 up (13, 14), so that 3,444 are never passed
   unfoldable pub walk : ℕ → List Dir → List ℕ → Walk
   walk zero [] named = done []
   walk zero (d ∷ queue) named = fault 14

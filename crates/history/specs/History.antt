@@ -1,12 +1,10 @@
 -- Demand 3's list of calls: each call with its arguments, its outcome for an image, and what is said after every call of a list.
-use Prim.Native.Nat.{ℕ, _≤_}
-use mathlib.Core.Path.{_≡_}
+use Prim.Native.Nat.{ℕ}
 use mathlib.Core.List.{List, [], _∷_}
-use Rattle.rules.specs.Anodes.{limit}
-use Rattle.rules.specs.Accepted.{diskSize, checkAnswer}
-use Rattle.rules.specs.Totals.{total}
+use Rattle.rules.specs.Accepted.{Damage}
+use Rattle.rules.specs.Totals.{Sound}
 use Rattle.rules.specs.Changes.{Left}
 use Rattle.rules.specs.Calls.{Outcome, outcomeOf, checkOutcome, summaryOutcome, formatOutcome, readOutcome, listOutcome, makeOutcome, resizeOutcome, writeOutcome, removeOutcome}
 
 -- a call with all that it is lent or handed but the image; tables and buffers may have any length and content
 pub data Call : Type 0 where
@@ -37,21 +35,7 @@ outcome img (resize blocks anodes h name new) = resizeOutcome img blocks anodes 
 outcome img (write blocks anodes h name offset bytes) = writeOutcome img blocks anodes h name offset bytes
 outcome img (remove blocks anodes h name) = removeOutcome img blocks anodes h name
 
--- the outcomes of a list of calls; only the image passes from call to call
-unfoldable pub outcomes : List ℕ → List Call → List Outcome
-outcomes img [] = []
-outcomes img (c ∷ cs) = outcome img c ∷ outcomes (outcome img c .image) cs
-
--- lent tables as long as 2 asks, the check answers 0, and the kinds of blocks add up to the disk's size
-pub record Sound (img : List ℕ) : Type 0 where
-  pub accepted : checkAnswer img (diskSize img) limit ≡ 0
-  pub adds-up : total img ≡ diskSize img
-
--- to report damage in the image is to answer one of 3 to 16
-abbrev pub Damage : ℕ → Type 0
-Damage n = (3 ≤ n) × (n ≤ 16)
-
--- sound at the start and after every call, and no call reports damage
+-- sound at the start and after every call, and no call reports damage; only the image passes from call to call
 abbrev pub SoundThroughout : List ℕ → List Call → Type 0
 SoundThroughout img [] = Sound img
 SoundThroughout img (c ∷ cs) = Sound img × (Damage (outcome img c .answer) → ⊥) × SoundThroughout (outcome img c .image) cs
