@@ -131,6 +131,25 @@ fn mkdir_resize_and_rm() {
     assert!(folder.done(&["info", "disk.adf"]).contains("free blocks     1754\n"));
 }
 
+/// How the disk of `pfsinfo_files` was made, byte for byte.
+#[test]
+fn a_stored_disk_is_made_by_these_commands() {
+    let folder = Folder::new("stored");
+    folder.write("pack7", b"cool to 2.5 C, hold 40 min\n");
+    folder.write("pack6", &[b'7'; 1_300]);
+    for words in [
+        "format disk.adf --blocks 48 --reserved 15 --anode-blocks 1 --name bench",
+        "mkdir disk.adf recipes",
+        "mkdir disk.adf recipes/old",
+        "put disk.adf pack7 recipes --comment line3",
+        "put disk.adf pack6 recipes/old",
+    ] {
+        let words: Vec<&str> = words.split(' ').chain(["--date", "2026-11-15T21:07:50"]).collect();
+        folder.done(&words);
+    }
+    assert!(folder.read("disk.adf") == include_bytes!("../../../crates/pfsinfo_files/stdin"));
+}
+
 #[cfg(unix)]
 #[test]
 fn permissions_and_links_stay() {

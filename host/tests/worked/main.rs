@@ -26,3 +26,4 @@ mod disk;
 mod limits;
 mod paper;
 mod space;
+mod stored;
