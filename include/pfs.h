@@ -46,7 +46,7 @@
  *   16  a chain that no entry names
  *
  *   Other refusals:
- *   20  an argument is against the rules (format: any; make: type, name or comment)
+ *   20  an argument is against the rules (format: last_reserved, anode_blocks or name_len; make: type, name or comment)
  *   21  the directory's number is not that of a directory
  *   22  the name or place is not there
  *   23  the name is already there
@@ -90,11 +90,12 @@ uint32_t pfs_summary(const uint8_t *image, size_t image_len, uint16_t *blocks, s
 /* Makes an empty disk of the whole image; all that it held is lost. It is lent no tables.
  *
  * last_reserved  the last block of the part where directories are put first, and data last
- * anode_blocks   how many blocks hold anodes, 82 in each: 1 to 42, and 3 + anode_blocks <= last_reserved < blocks of the image
- * name           the disk's name, 1 to 31 bytes of any value
+ * anode_blocks   how many blocks hold anodes, 82 in each
+ * name           the disk's name, bytes of any value
  * day, minute, tick, protection  the disk's stamp (days since 1 January 1978, minutes, ticks of 1/50 s) and protection bits
  *
- * Answers 0, 1 or 20. */
+ * Answers 1 if it applies; else 20 unless anode_blocks is 1 to 42, 3 + anode_blocks <= last_reserved < blocks of the image,
+ * and name_len is 1 to 31; else 0. */
 uint32_t pfs_format(uint8_t *image, size_t image_len, uint16_t last_reserved, uint16_t anode_blocks, const uint8_t *name,
                     size_t name_len, uint16_t day, uint16_t minute, uint16_t tick, uint16_t protection);
 
