@@ -5,7 +5,7 @@
  * What a call is lent
  *
  *   A slice is a pointer and a length in elements; an empty one may have any pointer. What a call may write must share no
- *   byte with anything else that it is lent; nothing else is asked of the caller. Arguments may have any value.
+ *   byte with anything else that it is lent; nothing else is asked of the caller but stack. Arguments may have any value.
  *
  *   image      the disk image, a run of bytes
  *   blocks     block table: at least as many entries as the image has blocks
@@ -23,6 +23,16 @@
  *           1 free blocks, 3 blocks to be freed, 4 bad blocks, 5 the root directory.
  *           1 to 4 touch no table. 5 to 16 leave both zeroed. Entries past the image's blocks and past 3,444 always keep
  *           their content.
+ *
+ * Stack
+ *
+ *   A thread with this much stack can make the call, whatever it is lent; deeper in a program this much must be left.
+ *   Measured on x86-64 Linux, and rounded up.
+ *
+ *    32 KiB  pfs_format
+ *    64 KiB  pfs_check, pfs_summary, pfs_read, pfs_list, pfs_write
+ *    96 KiB  pfs_make
+ *   256 KiB  pfs_resize, pfs_remove
  *
  * The numbers, in the order in which they are tried
  *

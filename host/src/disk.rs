@@ -7,7 +7,8 @@ pub use crate::refusals::Error;
 
 /// A disk image and the two tables that the calls fill, over any [`Library`].
 ///
-/// Every call but format checks the whole image first, and a refused one leaves the image as it was.
+/// Every call but format checks the whole image first, and a refused one leaves the image as it was. The stack that the
+/// calls of the proved library need is in [`crate::stack`].
 ///
 /// The example runs on the model; with the feature `proved`, `Disk<ffi::Proved>` is the same over the proved
 /// library.

@@ -2,6 +2,7 @@
 //!
 //! * [`calls`]: the calls of the library as values, and the trait of whoever runs them.
 //! * `ffi`, with the feature `proved`: the proved library behind that trait.
+//! * [`stack`]: how much stack its calls need.
 //! * [`refusals`], [`disk`]: the numbers in words, and a disk with its tables behind safe methods.
 //! * [`cli`]: the command line `pfs`.
 //!
@@ -27,5 +28,6 @@ pub mod model;
 pub mod refusals;
 pub mod rng;
 pub mod shapes;
+pub mod stack;
 pub mod starts;
 pub mod tree;

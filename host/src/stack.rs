@@ -1,0 +1,22 @@
+//! How much stack each call of the proved library needs. `include/pfs.h`, the front page and the pages under `docs/` say
+//! the same, and the tests hold them to it.
+
+/// Each call by its label, with the KiB of stack that a thread must have to make it. Upper bounds with room to spare: more
+/// than the call takes, the start of the thread with it.
+pub const NEEDED: [(&str, usize); 9] = [
+    ("format", 32),
+    ("check", 64),
+    ("summary", 64),
+    ("read", 64),
+    ("list", 64),
+    ("write", 64),
+    ("make", 96),
+    ("resize", 256),
+    ("remove", 256),
+];
+
+/// The bytes of stack that a thread must have to make the call of this label.
+pub fn needed(label: &str) -> usize {
+    let size = NEEDED.iter().find(|size| size.0 == label);
+    size.expect("every call has a size").1 * 1024
+}
