@@ -1,7 +1,9 @@
 // The public calls. None asks anything of its caller; each contract settles the answer, the image, both tables and the output for every input.
 ghost use mathlib.Core.List.{[]};
 ghost use mathlib.Core.Path.{_≡_};
+ghost use lib.ListN.{getD};
 ghost use Rattle.rules.specs.Calls.{outcomeOf, checkOutcome, summaryOutcome, readOutcome, listOutcome, makeOutcome, resizeOutcome, writeOutcome, removeOutcome};
+ghost use Rattle.reading.specs.Parts.{StartsAt};
 use disk::AnodeNo;
 use disk::number;
 use fsck::Checked;
@@ -99,7 +101,8 @@ pub fn list<'a>(
     fields: &mut [u32; 11],
     answer: &mut u32,
 ) -> &'a [u8]
-    ensures { λ r. ⌜ outcomeOf (now (answer .exit)) (now (image .entry)) (now (blocks .exit)) (now (anodes .exit)) (now (fields .exit)) (now r) ≡ listOutcome (now (image .entry)) (now (blocks .entry)) (now (anodes .entry)) directory place ⌝ }
+    ensures outcome { λ r. ⌜ outcomeOf (now (answer .exit)) (now (image .entry)) (now (blocks .exit)) (now (anodes .exit)) (now (fields .exit)) (now r) ≡ listOutcome (now (image .entry)) (now (blocks .entry)) (now (anodes .entry)) directory place ⌝ }
+    ensures part { λ r. ⌜ StartsAt (image .entry) r (getD (now (fields .exit)) 7 0) ⌝ }
 {
     let mut counts = [0u16; 3444];
     let mut firsts = [0u16; 3444];

@@ -1,13 +1,10 @@
 -- The name that the fields of a list give is the name that the list hands back.
-use Prim.Native.Nat.{ℕ, zero, suc, _+_, _*_, _/_, _%_, _≤_}
+use Prim.Native.Nat.{ℕ, zero, suc}
 use mathlib.Core.Path.{_≡_, refl, sym, ap, _∙_}
 use mathlib.Core.List.{List}
 use mathlib.Core.Option.{Option, none, some}
-use native.Mathlib.Omega.{arith}
-use lib.ListN.{length, take, drop}
-use lib.Seq.{drop-drop}
-use Rattle.disk.specs.Blocks.{blockOf}
-use Rattle.directory.specs.Entries.{nameIn, nameLength, entryIn, entryLength}
+use lib.ListN.{length}
+use Rattle.directory.specs.Entries.{entryIn, entryLength}
 use Rattle.rules.specs.Anodes.{anodesOf}
 use Rattle.rules.specs.Walk.{Entered}
 use Rattle.rules.specs.Accepted.{checkAnswer}
@@ -15,20 +12,10 @@ use Rattle.rules.specs.Lookup.{entriesOf, nameAt, nth}
 use Rattle.rules.specs.Calls.{Outcome, outcomeOf, settled, doneOr, fieldList, fieldsAt, fieldsListed, nameListed, listRefusal, listAnswer, listOutcome}
 use Rattle.laws.specs.Tests.{firstOf-zero}
 use Rattle.change_laws.specs.Image.{AcceptedImage}
-use Rattle.change_laws.specs.FoundEntries.{standing-found}
-use Rattle.change_laws.specs.Reached.{entry-facts, nth-member}
+use Rattle.change_laws.specs.Reached.{nth-member}
 use Rattle.change_laws.specs.Answers.{list-reached}
-use Rattle.reading.proofs.Laws.{take-within}
+use Rattle.reading.proofs.Laws.{name-standing, named-part}
 use Rattle.pfs.specs.Listed.{nameGiven}
-
--- the name stands whole in its block
-named-part : (img : List ℕ) (start : ℕ) → start % 512 + 16 + nameLength (blockOf img (start / 512)) (start % 512) ≤ 512 →
-    nameAt img start ≡ take (nameLength (blockOf img (start / 512)) (start % 512)) (drop (start + 16) img)
-unfolding nameAt nameIn blockOf
-named-part img start l =
-    let e : start / 512 * 512 + (start % 512 + 16) ≡ start + 16 = omega arith in
-    take-within 512 (start % 512 + 16) (nameLength (blockOf img (start / 512)) (start % 512)) (drop (start / 512 * 512) img) (omega arith)
-    ∙ ap (take (nameLength (blockOf img (start / 512)) (start % 512))) (drop-drop (start % 512 + 16) (start / 512 * 512) img ∙ ap (λ (n : ℕ). drop n img) e)
 
 module _ (img b₀ a₀ : List ℕ) (h n : ℕ) where
   -- the name of the entry that is listed is the one that its fields give
@@ -36,9 +23,7 @@ module _ (img b₀ a₀ : List ℕ) (h n : ℕ) where
   unfolding nameGiven fieldsAt fieldList entryIn entryLength
   found-name accepted listed x is =
       let image : AcceptedImage img = record { blocks = length b₀; anodes = length a₀; accepted = accepted } in
-      let f = entry-facts (record { directory = record { image = image; reached = list-reached img (anodesOf img) h n listed }; member = nth-member _ n x is }) in
-      let w = standing-found (f .stands) in
-      named-part img (x .start) (omega (arith, w .exact, w .room))
+      named-part img (x .start) (name-standing (record { directory = record { image = image; reached = list-reached img (anodesOf img) h n listed }; member = nth-member _ n x is }))
 
   -- and so it is for every answer: a refused list gives zero fields and an empty name
   of-answer : (k : ℕ) → k ≡ listAnswer img b₀ a₀ h n → (o : Option Entered) → nth (entriesOf img (anodesOf img) h) n ≡ o → nameListed k img o ≡ nameGiven img (fieldsListed k img o)

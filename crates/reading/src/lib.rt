@@ -1,17 +1,17 @@
 // Reads a file and lists an entry in an accepted image.
 ghost use mathlib.Core.Path.{_≡_};
-ghost use Prim.Native.Nat.{_*_, _<_};
-ghost use lib.ListN.{length};
+ghost use Prim.Native.Nat.{_+_, _*_, _<_};
+ghost use lib.ListN.{length, getD};
 ghost use Rattle.rules.specs.Anodes.{anodesOf};
 ghost use Rattle.rules.specs.Lookup.{entryNamed, entriesOf, nameAt, nth};
 ghost use Rattle.rules.specs.Calls.{spanRefusal, bytesRead, listRefusal, fieldsAt, fieldsListed, nameListed};
 ghost use Rattle.find.specs.Open.{OpenAnodes, OpenFor};
+ghost use Rattle.reading.specs.Parts.{StartsAt, NameStands};
 use contents::copy_out;
 use disk::AnodeNo;
 use disk::BlockNo;
 use disk::block_part;
 use disk::number;
-use endian::part;
 use endian::read8;
 use endian::read16;
 use endian::read32;
@@ -60,12 +60,15 @@ pub fn read_named(
 
 // The name of the entry at a place of the image, as a part of it that starts 16 bytes into the entry.
 fn name_part(image: &[u8], start: usize) -> &[u8]
-    requires { ⌜ start < 65536 * 512 ⌝ }
-    ensures { λ r. ⌜ now r ≡ nameAt (now (image .entry)) start ⌝ }
+    requires { ⌜ (start < 65536 * 512) × NameStands (now image) start ⌝ }
+    ensures name { λ r. ⌜ now r ≡ nameAt (now (image .entry)) start ⌝ }
+    ensures part { λ r. ⌜ StartsAt (image .entry) r (start + 16) ⌝ }
 {
     let at = start % 512;
     let block = block_part(image, BlockNo((start / 512) as u16));
-    part(block, at + 16, read8(block, at + 15) as usize)
+    let from = start + 16;
+    let end = from + (read8(block, at + 15) as usize);
+    &image[from..end]
 }
 
 // Stores the fields of the entry at a place of the image in the lent array.
@@ -108,6 +111,7 @@ pub fn list_nth<'a>(
     ensures answer { λ _. ⌜ now (answer .exit) ≡ listRefusal (now (image .entry)) (anodesOf (now (image .entry))) (head .0) n ⌝ }
     ensures fields { λ _. ⌜ now (fields .exit) ≡ fieldsListed (now (answer .exit)) (now (image .entry)) (nth (entriesOf (now (image .entry)) (anodesOf (now (image .entry))) (head .0)) n) ⌝ }
     ensures name { λ r. ⌜ now r ≡ nameListed (now (answer .exit)) (now (image .entry)) (nth (entriesOf (now (image .entry)) (anodesOf (now (image .entry))) (head .0)) n) ⌝ }
+    ensures part { λ r. ⌜ StartsAt (image .entry) r (getD (now (fields .exit)) 7 0) ⌝ }
 {
     let found = find_nth(image, firsts, nexts, queue, heads, dirs, head, n);
     match found {

@@ -60,7 +60,7 @@ same-length-2 c = search needs
 returns : tie.Need-returns
 returns c =
     let n = c .list-nth .ensures in
-    list-answered _ _ _ _ _ _ (c .before .before .before .before .before .before .before .before .before .before .before .before .before .before .before .before .before .before .before .open-disk .ensures .0) _ (c .before .before .before .before .before .before .before .before .c .given .1) _ _ _ _ _ (n .0) (n .1 .0) (n .1 .1)
+    (list-answered _ _ _ _ _ _ (c .before .before .before .before .before .before .before .before .before .before .before .before .before .before .before .before .before .before .before .open-disk .ensures .0) _ (c .before .before .before .before .before .before .before .before .c .given .1) _ _ _ _ _ (n .0) (n .1 .0) (n .1 .1 .0), n .1 .1 .1)
 
 same-length-3 : tie.Need-same-length-3
 same-length-3 c = search needs
@@ -69,7 +69,7 @@ same-length-4 : tie.Need-same-length-4
 same-length-4 c = search needs
 
 returns-2 : tie.Need-returns-2
-returns-2 c = list-refused _ _ _ _ _ _ (c .before .before .before .before .before .before .before .before .before .before .before .before .before .before .before .open-disk .ensures .0) _ (c .before .before .before .before .c2 .given .1) _ (c .before .before .number .ensures) _ _
+returns-2 c = (list-refused _ _ _ _ _ _ (c .before .before .before .before .before .before .before .before .before .before .before .before .before .before .before .open-disk .ensures .0) _ (c .before .before .before .before .c2 .given .1) _ (c .before .before .number .ensures) _ _, search needs)
 
 pub list-spec : {M : Type 1} → statement M
 list-spec =

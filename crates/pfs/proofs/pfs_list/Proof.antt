@@ -13,7 +13,7 @@ same-length-2 : tie.Need-same-length-2
 same-length-2 c = search needs
 
 returns : tie.Need-returns
-returns c = given-name _ _ _ _ _ _ _ _ _ _ (c .before .before .before .before .list .ensures)
+returns c = given-name _ _ _ _ _ _ _ _ _ _ (c .before .before .before .before .list .ensures .0)
 
 pub pfs-list-spec : {M : Type 1} → statement M
 pfs-list-spec = tie.close (tie.spec list-requires same-length same-length-2 returns)
