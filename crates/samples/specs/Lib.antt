@@ -1,3 +1,3 @@
 -- Facts that the checker computes.
+pub mod Disks
 pub mod Formatted
-pub mod Faults

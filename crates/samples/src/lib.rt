@@ -1,1 +1,1 @@
-// Facts that the checker computes of the rules; they stand in specs/.
+// Small disks, and facts that the checker computes of a formatted one; they stand in specs/.

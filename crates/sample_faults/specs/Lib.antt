@@ -1,0 +1,2 @@
+-- Refusals of the check that the checker computes.
+pub mod Faults

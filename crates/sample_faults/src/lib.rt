@@ -1,0 +1,1 @@
+// Facts that the checker computes of damaged disks; they stand in specs/.
