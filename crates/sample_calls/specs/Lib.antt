@@ -1,2 +1,0 @@
--- Lists of calls that the checker computes.
-pub mod Histories

@@ -1,1 +1,0 @@
-// Facts that the checker computes of lists of calls; they stand in specs/.

@@ -1,0 +1,2 @@
+-- Calls on directories that the checker computes.
+pub mod Directories

@@ -1,0 +1,1 @@
+// Facts that the checker computes of calls on a file; they stand in specs/.
