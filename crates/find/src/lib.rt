@@ -1,11 +1,12 @@
 // Finds an entry, by its name or by its place, in a directory of an accepted image, and tries the refusals 21, 22 and 24 to 26 of the call that asks for it.
-ghost use mathlib.Core.Bool.{cond, false};
+ghost use mathlib.Core.Bool.{cond, false, not};
 ghost use mathlib.Core.List.{List};
 ghost use mathlib.Core.Path.{_≡_};
 ghost use Prim.Native.Nat.{ℕ, _+_};
 ghost use lib.Dec.{ltb};
 ghost use Rattle.directory.specs.Entries.{isDir};
 ghost use Rattle.rules.specs.Anodes.{anodesOf};
+ghost use Rattle.rules.specs.Walk.{entriesFrom};
 ghost use Rattle.rules.specs.Lookup.{noDirectory, entryNamed, entriesOf, isThere, nth};
 ghost use Rattle.rules.specs.Calls.{spanRefusal, resizeRefusal, removeRefusal, listRefusal};
 ghost use Rattle.anodes.specs.Loaded.{anodesFrom};
@@ -14,15 +15,19 @@ ghost use Rattle.find.specs.Open.{OpenFor};
 ghost use Rattle.change_laws.specs.Answers.{searchNumber};
 ghost use Rattle.find.specs.Found.{Finds};
 use directory::Kind;
+use directory::Walked;
 use directory::is_directory;
 use disk::AnodeNo;
+use disk::BlockNo;
 use disk::Refusal;
+use disk::block_part;
 use lookup::EntryAt;
 use lookup::Lookup;
 use lookup::entry_named;
 use lookup::is_reached;
 use lookup::nth_entry;
-use reader::is_empty;
+use reader::read_entry;
+use tables::entry;
 
 // What a search answers.
 pub enum Search {
@@ -144,6 +149,38 @@ pub fn find_span(
         return Search::Refused(Refusal::PastEnd);
     }
     Search::Found(e)
+}
+
+// Whether a directory block has an entry; one that breaks the rules counts.
+fn has_entry(block: &[u8]) -> bool
+    ensures { λ r. ⌜ ((y : ℕ) → r ≡ isThere (nth (entriesFrom 28 (now (block .entry)) y 16) 0)) ⌝ }
+{
+    let read = read_entry(block, 16);
+    let walked = read.walked;
+    match walked {
+        Walked::Found(_) => true,
+        Walked::End => false,
+        Walked::Fault(_) => true,
+    }
+}
+
+// Whether the directory that `head` heads has no entry in any of its blocks.
+fn is_empty(image: &[u8], firsts: &[u16], nexts: &[u16], head: AnodeNo) -> bool
+    ensures { λ r. ⌜ ((c : List ℕ) → not r ≡ isThere (nth (entriesOf (now (image .entry)) (anodesFrom c (now (firsts .entry)) (now (nexts .entry))) (head .0)) 0)) ⌝ }
+{
+    let mut at = head.0 as usize;
+    let mut fuel: usize = 3444;
+    while fuel > 0 {
+        if at == 0 {
+            return true;
+        }
+        if has_entry(block_part(image, BlockNo(entry(firsts, at)))) {
+            return false;
+        }
+        at = entry(nexts, at) as usize;
+        fuel -= 1;
+    }
+    true
 }
 
 // Whether an entry is that of a directory with entries.

@@ -14,10 +14,12 @@ use Rattle.disk.specs.Blocks.{blockOf}
 use Rattle.directory.specs.declared.Entry.{Entry}
 use Rattle.directory.specs.declared.Walked.the-variants.{Found, End, Fault}
 use Rattle.directory.specs.Entries.{isDir, walkedAt}
+use Rattle.reader.specs.declared.EntryRead.{EntryRead}
+use Rattle.reader.specs.Reads.{placeAfter, entryRead}
 use Rattle.rules.specs.Counting.{sumList, occurrences, anyIn}
 use Rattle.rules.specs.Anodes.{limit, Anodes}
 use Rattle.rules.specs.Chains.{chainOf, oneIfHead, blockCount}
-use Rattle.rules.specs.Walk.{Dir, Entered, entriesFrom, Item, blocksFor, wrongAnode, wrongFileSize, itemOf, brokenItem, itemsFor, itemsAt, itemsBy, entriesIn}
+use Rattle.rules.specs.Walk.{Dir, Entered, withRest, entriesFrom, Item, blocksFor, wrongAnode, wrongFileSize, itemOf, brokenItem, itemsFor, itemsAt, itemsBy, entriesIn}
 use Rattle.laws.specs.Tests.{cond-cases, T-true, both, tested-from}
 use Rattle.laws.specs.Bags.{list-one, list-mono, list-congr, list-congr-where, list-zero, gather-sum, map-sum, none-at, kept-sum-where}
 use Rattle.laws.specs.Space.{Alike}
@@ -48,6 +50,13 @@ entries-none b y k at e = rw e
 pub block-whole : (img : List ℕ) (y : ℕ) (b : List ℕ) → b ≡ blockOf img y → entriesFrom 28 b y 16 ≡ entriesIn img y
 unfolding entriesIn
 block-whole img y b e = rw e
+
+-- the step of every walk over a block: what a reader reads at a place
+module _ (b : List ℕ) (at : ℕ) (r : EntryRead) (read : r ≡ entryRead b at) where
+  -- the entries from the place on: what is read there, then those from the place behind it on
+  pub entries-read : (y k m : ℕ) → k ≡ m + 1 → entriesFrom k b y at ≡ withRest (r .walked) (y * 512 + at) (entriesFrom m b y (r .after))
+  unfolding entriesFrom entryRead placeAfter
+  entries-read y k m fuel = rw (fuel, add-one m, read)
 
 module _ (b : List ℕ) (y k m at : ℕ) (fuel : k ≡ m + 1) where
   pub entries-fault : (r : Refusal) → walkedAt b at ≡ Fault r → entriesFrom k b y at ≡ record { broken = true; dir = false; anode = 0; size = 0; start = y * 512 + at } ∷ []

@@ -1,3 +1,2 @@
--- Rules for walks of code by hand, and laws of the first entry along a chain.
-pub mod Laws
+-- Rules for walks of code by hand.
 pub mod Walking

@@ -3,11 +3,11 @@ use Prim.Native.Nat.{_-_}
 use native.Mathlib.Omega.{arith}
 use Rattle.rules.specs.Lookup.{isThere, nth}
 use Rattle.lookup.proofs.Laws.{entriesAlong, along-whole, nth-empty}
-use Rattle.reader.proofs.Laws.{there-along, none-along}
+use Rattle.find.proofs.FirstEntry.{there-along, none-along}
 use Rattle.laws.specs.Chains.{gathered-none, gathered-end}
 use borrow.Author.Needs.{needs}
-use Rattle.reader.proofs.is_empty.Statement.{statement}
-use Rattle.reader.proofs.is_empty.Tie as tie
+use Rattle.find.proofs.is_empty.Statement.{statement}
+use Rattle.find.proofs.is_empty.Tie as tie
 
 abbrev Inv-loop : tie.InvT-loop
 Inv-loop image firsts nexts at₀ fuel₀ at fuel =

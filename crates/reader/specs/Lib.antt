@@ -1,0 +1,2 @@
+-- What a reader of a directory block reads.
+pub mod Reads
