@@ -14,6 +14,7 @@ use Rattle.disk.specs.Blocks.{blockOf}
 use Rattle.directory.specs.declared.Entry.{Entry}
 use Rattle.directory.specs.declared.Walked.the-variants.{Found, End, Fault}
 use Rattle.directory.specs.Entries.{isDir, walkedAt}
+use Rattle.directory.proofs.Laws.{found-at}
 use Rattle.reader.specs.declared.EntryRead.{EntryRead}
 use Rattle.reader.specs.Reads.{placeAfter, entryRead}
 use Rattle.rules.specs.Counting.{sumList, occurrences, anyIn}
@@ -53,10 +54,18 @@ block-whole img y b e = rw e
 
 -- the step of every walk over a block: what a reader reads at a place
 module _ (b : List ℕ) (at : ℕ) (r : EntryRead) (read : r ≡ entryRead b at) where
+  here-is : r .walked ≡ walkedAt b at
+  unfolding entryRead
+  here-is = ap (λ x. x .walked) read
+
   -- the entries from the place on: what is read there, then those from the place behind it on
   pub entries-read : (y k m : ℕ) → k ≡ m + 1 → entriesFrom k b y at ≡ withRest (r .walked) (y * 512 + at) (entriesFrom m b y (r .after))
   unfolding entriesFrom entryRead placeAfter
   entries-read y k m fuel = rw (fuel, add-one m, read)
+
+  -- an entry that is read begins within the block
+  pub read-within : (x : Entry) → r .walked ≡ Found x → at < 512
+  read-within x e = omega (arith, found-at b at x (sym here-is ∙ e) .room)
 
 module _ (b : List ℕ) (y k m at : ℕ) (fuel : k ≡ m + 1) where
   pub entries-fault : (r : Refusal) → walkedAt b at ≡ Fault r → entriesFrom k b y at ≡ record { broken = true; dir = false; anode = 0; size = 0; start = y * 512 + at } ∷ []

@@ -13,17 +13,17 @@ use borrow.Author.Tests.{eq-eqb, ne-eqb}
 use Rattle.disk.specs.declared.Refusal.{Refusal}
 use Rattle.disk.specs.Blocks.{blockOf}
 use Rattle.directory.specs.declared.Entry.{Entry}
+use Rattle.directory.specs.declared.Walked.{Walked}
 use Rattle.directory.specs.declared.Walked.the-variants.{Found, Fault}
-use Rattle.directory.specs.Entries.{nameIn, walkedAt}
-use Rattle.directory.proofs.Laws.{found-at}
+use Rattle.directory.specs.Entries.{nameIn}
 use Rattle.counting.specs.Laws.{neither}
 use Rattle.rules.specs.Counting.{anyIn, gather, sameBytes}
 use Rattle.rules.specs.Anodes.{limit}
 use Rattle.rules.specs.Chains.{chainOf}
-use Rattle.rules.specs.Walk.{Entered, entriesFrom, entriesIn}
+use Rattle.rules.specs.Walk.{Entered, withRest, entriesIn}
 use Rattle.rules.specs.Lookup.{nameAt, isNamed, firstNamed, entryNamed, entriesOf, nth}
 use Rattle.anodes.specs.Loaded.{anodesFrom}
-use Rattle.laws.specs.Entries.{enteredAt, entries-fault, entries-step, Unbroken}
+use Rattle.laws.specs.Entries.{enteredAt, Unbroken}
 use Rattle.laws.specs.Chains.{gathered-step}
 use Rattle.lookup.specs.Answers.{orElse, onlyIf}
 
@@ -74,24 +74,23 @@ or-none : (o : Option Entered) → orElse o none ≡ o
 or-none none = refl
 or-none (some e) = refl
 
-module _ (block : List ℕ) (y k m at : ℕ) (fuel : k ≡ m + 1) where
-  pub unbroken-no-fault : (r : Refusal) → walkedAt block at ≡ Fault r → Unbroken (entriesFrom k block y at) → ⊥
+-- what is read at a place, with the entries behind it
+module _ (w : Walked) (start : ℕ) (rest : List Entered) where
+  pub unbroken-no-fault : (r : Refusal) → w ≡ Fault r → Unbroken (withRest w start rest) → ⊥
   unfolding anyIn
-  unbroken-no-fault r e u = true≢false (rw (entries-fault block y k m at fuel r e) at u)
+  unbroken-no-fault r e u = true≢false (rw e at u)
 
-  module _ (e : Entry) (is : walkedAt block at ≡ Found e) where
-    pub unbroken-rest : Unbroken (entriesFrom k block y at) → Unbroken (entriesFrom m block y (at + getD block at 0))
-    unfolding anyIn
-    unbroken-rest u = rw (entries-step block y k m at fuel e is) at u
+  pub unbroken-rest : (e : Entry) → w ≡ Found e → Unbroken (withRest w start rest) → Unbroken rest
+  unfolding anyIn
+  unbroken-rest e is u = rw is at u
 
-    module _ (img name : List ℕ) (part : block ≡ blockOf img y) where
-      -- an entry passed: the first found so far with the entries from the place on, and with the one at the place before those behind it
-      pub named-passed : (found : Option Entered)
-          → orElse (orElse found (onlyIf (sameBytes (nameIn block at) name) (enteredAt e (y * 512 + at)))) (firstNamed img name (entriesFrom m block y (at + getD block at 0)))
-          ≡ orElse found (firstNamed img name (entriesFrom k block y at))
-      named-passed found =
-          rw (entries-step block y k m at fuel e is, first-step img name (enteredAt e (y * 512 + at)) (entriesFrom m block y (at + getD block at 0)), is-named img y block at name e part (omega (arith, found-at block at e is .room)))
-          (or-assoc found (onlyIf (sameBytes (nameIn block at) name) (enteredAt e (y * 512 + at))) (firstNamed img name (entriesFrom m block y (at + getD block at 0))))
+-- an entry passed: the first found so far with the entries from the place on, and with the one at the place before those behind it
+pub named-passed : (img name : List ℕ) (y : ℕ) (block : List ℕ) (at : ℕ) (e : Entry) → block ≡ blockOf img y → at < 512 → (rest : List Entered) (found : Option Entered)
+    → orElse (orElse found (onlyIf (sameBytes (nameIn block at) name) (enteredAt e (y * 512 + at)))) (firstNamed img name rest)
+    ≡ orElse found (firstNamed img name (enteredAt e (y * 512 + at) ∷ rest))
+named-passed img name y block at e part within rest found =
+    rw (first-step img name (enteredAt e (y * 512 + at)) rest, is-named img y block at name e part within)
+    (or-assoc found (onlyIf (sameBytes (nameIn block at) name) (enteredAt e (y * 512 + at))) (firstNamed img name rest))
 
 pub named-none : (img name : List ℕ) (es : List Entered) → es ≡ [] → firstNamed img name es ≡ none
 unfolding firstNamed
@@ -105,14 +104,14 @@ named-ended img name es found e = rw (named-none img name es e) (or-none found)
 pub nth-none : (es rest : List Entered) (n : ℕ) → es ≡ [] → nth (es ++ rest) n ≡ nth rest n
 nth-none es rest n e = rw e
 
-module _ (block : List ℕ) (y k m at : ℕ) (fuel : k ≡ m + 1) (e : Entry) (is : walkedAt block at ≡ Found e) (rest : List Entered) (n : ℕ) where
-  pub nth-here : n ≡ 0 → nth (entriesFrom k block y at ++ rest) n ≡ some (enteredAt e (y * 512 + at))
+module _ (e : Entered) (es : List Entered) (n : ℕ) where
+  pub nth-here : n ≡ 0 → nth (e ∷ es) n ≡ some e
   unfolding nth
-  nth-here z = rw (entries-step block y k m at fuel e is, z)
+  nth-here z = rw z
 
-  pub nth-behind : (l : ℕ) → n ≡ l + 1 → nth (entriesFrom k block y at ++ rest) n ≡ nth (entriesFrom m block y (at + getD block at 0) ++ rest) l
+  pub nth-behind : (l : ℕ) → n ≡ l + 1 → nth (e ∷ es) n ≡ nth es l
   unfolding nth
-  nth-behind l p = rw (entries-step block y k m at fuel e is, p, add-one l)
+  nth-behind l p = rw (p, add-one l)
 
 -- ---- the entries along a chain
 

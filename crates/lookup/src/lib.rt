@@ -16,12 +16,12 @@ ghost use Rattle.tree.specs.Steps.{queueOf};
 use directory::Entry;
 use directory::Kind;
 use directory::Walked;
-use directory::entry_at;
 use disk::AnodeNo;
 use disk::BlockNo;
 use disk::block_part;
 use endian::part;
 use endian::read8;
+use reader::read_entry;
 use tables::entry;
 
 // An entry of a directory: what it names, and the place of its first byte in the image.
@@ -152,15 +152,16 @@ fn named_in(image: &[u8], b: BlockNo, name: &[u8]) -> Lookup
     let mut at: usize = 16;
     let mut fuel: usize = 28;
     while fuel > 0 {
-        let step = entry_at(block, at);
-        let e = match step {
+        let read = read_entry(block, at);
+        let walked = read.walked;
+        let e = match walked {
             Walked::Found(e) => e,
             Walked::End => return found,
             Walked::Fault(_) => return found,
         };
         let here = named_at(block, b, at, e, name);
         found = first_of(found, here);
-        at += read8(block, at) as usize;
+        at = read.after;
         fuel -= 1;
     }
     found
@@ -203,8 +204,9 @@ fn nth_in(image: &[u8], b: BlockNo, n: u64) -> Passed
     let mut at: usize = 16;
     let mut fuel: usize = 28;
     while fuel > 0 {
-        let found = entry_at(block, at);
-        let e = match found {
+        let read = read_entry(block, at);
+        let walked = read.walked;
+        let e = match walked {
             Walked::Found(e) => e,
             Walked::End => return Passed::Left(left),
             Walked::Fault(_) => return Passed::Left(left),
@@ -213,7 +215,7 @@ fn nth_in(image: &[u8], b: BlockNo, n: u64) -> Passed
             return Passed::Found(entry_in_image(b, at, e));
         }
         left -= 1;
-        at += read8(block, at) as usize;
+        at = read.after;
         fuel -= 1;
     }
     Passed::Left(left)
