@@ -2,7 +2,7 @@
 use mathlib.Core.Path.{_≡_, refl, sym, ap, _∙_}
 use Prim.Native.Nat.{ℕ, _+_, _-_, _*_, _/_, _%_, _<_, _≤_}
 use mathlib.Core.List.{List, [], _∷_}
-use mathlib.Core.Bool.{Bool, true, false, cond, _&&_, and-eq-true-iff, false≢true}
+use mathlib.Core.Bool.{Bool, true, false, cond, _&&_, and-eq-true-iff, false≢true, true≢false}
 use native.Mathlib.Omega.{arith}
 use native.Mathlib.Numerals.{add-one}
 use borrow.Author.Tests.{le-leb, eq-eqb, ne-eqb, leb-true, eqb-true}
@@ -19,6 +19,7 @@ use Rattle.directory.specs.declared.KindRead.the-variants.{Is, Neither}
 use Rattle.directory.specs.declared.Entry.{Entry}
 use Rattle.directory.specs.declared.Walked.{Walked}
 use Rattle.directory.specs.declared.Walked.the-variants.{Found, End, Fault}
+use Rattle.disk.specs.declared.Refusal.{Refusal}
 use Rattle.disk.specs.declared.Refusal.the-variants.{DirectoryBlock}
 use Rattle.directory.specs.Entries.{directoryHeaderIn, putDirectoryHeader, kindRead, typeOf, goodNameByte, allBytes, goodName, entryLength, nameLength, commentLength, nameIn, entryShaped, entryIn, walkedKind, walkedAt, putEntry}
 
@@ -318,3 +319,14 @@ end-at b at h = go (eqb (getD b at 0) 0) (entryShaped b at) (kindRead (getD b (a
     go false true (Is x) j f = absurd (false≢true (ap isEnd f))
     go false true Neither j f = absurd (false≢true (ap isEnd f))
     go false false k j f = absurd (false≢true (ap isEnd f))
+
+-- a fault is the refusal of a directory block, 12
+pub fault-at : (b : List ℕ) (at : ℕ) (r : Refusal) → walkedAt b at ≡ Fault r → r ≡ DirectoryBlock
+unfolding walkedAt
+fault-at b at r h = go (eqb (getD b at 0) 0) (entryShaped b at) (kindRead (getD b (at + 1) 0)) h
+  where
+    go : (p q : Bool) (k : KindRead) → cond p End (cond q (walkedKind k (entryIn b at)) (Fault DirectoryBlock)) ≡ Fault r → r ≡ DirectoryBlock
+    go true q k f = absurd (true≢false (ap isEnd f))
+    go false true (Is x) f = absurd (true≢false (ap isFound f))
+    go false true Neither f = cc
+    go false false k f = cc

@@ -10,11 +10,12 @@ use lib.ListN.{getD}
 use lib.Dec.{T, eqb, eqb→eq}
 use borrow.Author.Tests.{eq-eqb}
 use Rattle.disk.specs.declared.Refusal.{Refusal}
+use Rattle.disk.specs.Refusals.{numberOf}
 use Rattle.disk.specs.Blocks.{blockOf}
 use Rattle.directory.specs.declared.Entry.{Entry}
 use Rattle.directory.specs.declared.Walked.the-variants.{Found, End, Fault}
 use Rattle.directory.specs.Entries.{isDir, walkedAt}
-use Rattle.directory.proofs.Laws.{found-at}
+use Rattle.directory.proofs.Laws.{found-at, fault-at}
 use Rattle.reader.specs.declared.EntryRead.{EntryRead}
 use Rattle.reader.specs.Reads.{placeAfter, entryRead}
 use Rattle.rules.specs.Counting.{sumList, occurrences, anyIn}
@@ -67,13 +68,9 @@ module _ (b : List ℕ) (at : ℕ) (r : EntryRead) (read : r ≡ entryRead b at)
   pub read-within : (x : Entry) → r .walked ≡ Found x → at < 512
   read-within x e = omega (arith, found-at b at x (sym here-is ∙ e) .room)
 
-module _ (b : List ℕ) (y k m at : ℕ) (fuel : k ≡ m + 1) where
-  pub entries-fault : (r : Refusal) → walkedAt b at ≡ Fault r → entriesFrom k b y at ≡ record { broken = true; dir = false; anode = 0; size = 0; start = y * 512 + at } ∷ []
-  unfolding entriesFrom
-  entries-fault r e = rw (fuel, add-one m, e)
-
-  pub entries-step : (x : Entry) → walkedAt b at ≡ Found x → entriesFrom k b y at ≡ enteredAt x (y * 512 + at) ∷ entriesFrom m b y (at + getD b at 0)
-  entries-step x e = rw (fuel, add-one m) (entries-more b y m at x e)
+  -- a fault that is read is 12
+  pub read-fault : (x : Refusal) → r .walked ≡ Fault x → numberOf x ≡ 12
+  read-fault x e = ap numberOf (fault-at b at x (sym here-is ∙ e))
 
 -- no entry breaks the entry rules, as in every accepted image
 abbrev pub Unbroken : List Entered → Type 0

@@ -11,14 +11,15 @@ use lib.ListN.{length, getD, set, take, drop, length-set, length-append, drop-of
 use lib.Seq.{take-all, take-add, take-append-le, drop-append-le, getD-set-same, getD-set-other}
 use borrow.Author.Tests.{eq-eqb, ne-eqb, leb-true, ltb-true}
 use Rattle.disk.specs.declared.Refusal.{Refusal}
+use Rattle.disk.specs.Refusals.{numberOf}
 use Rattle.directory.specs.declared.Kind.the-variants.{File, Directory}
 use Rattle.directory.specs.declared.Entry.{Entry}
-use Rattle.directory.specs.declared.Walked.the-variants.{Found, Fault}
-use Rattle.directory.specs.Entries.{walkedAt}
+use Rattle.directory.specs.declared.Walked.{Walked}
+use Rattle.directory.specs.declared.Walked.the-variants.{End, Fault}
 use Rattle.rules.specs.Counting.{sumList}
 use Rattle.rules.specs.Anodes.{Anodes, limit}
-use Rattle.rules.specs.Walk.{Dir, Entered, Item, entriesFrom, entriesIn, isBlockOf, itemsFor, blocksFor, dirMade}
-use Rattle.laws.specs.Entries.{enteredAt, entries-fault, entries-step}
+use Rattle.rules.specs.Walk.{Dir, Entered, Item, withRest, entriesIn, isBlockOf, itemsFor, blocksFor, dirMade}
+use Rattle.laws.specs.Entries.{enteredAt}
 use Rattle.laws.specs.Chains.{chain-none, chain-step, gathered-step, chain-end}
 use Rattle.tree.specs.declared.Tally.{Tally}
 use Rattle.tree.specs.Steps.{sumFrom, headAt, itemIn, Progress, stopped, going, refuse, enterItem, onward, enterAll, itemsFrom, itemsAlong, halted, ended, afterDir, runFrom, dirsFrom, queueOf, marked, WalkRoom}
@@ -151,29 +152,32 @@ module _ (counts nexts heads : List ℕ) (head : ℕ) (e : Entry) (start : ℕ) 
   unfolding enterItem itemIn
   enter-dir h m k = rw (h, eq-eqb (getD marks (e .anode .0) 0) 0 m, k)
 
--- ---- the entries of a block, from a place on
+-- ---- the items of a block, one after the other
 
 pub enter-none : (head : ℕ) (is : List Item) (queue : List Dir) (marks : List ℕ) (files : ℕ) → is ≡ [] → enterAll head is queue marks files ≡ going queue marks files
 unfolding enterAll
 enter-none head is queue marks files e = rw e
 
-module _ (item : Entered → Item) (head y : ℕ) (block : List ℕ) (k m at : ℕ) (queue : List Dir) (marks : List ℕ) (files : ℕ) (fuel : k ≡ m + 1) (e : Entry) (w : walkedAt block at ≡ Found e) where
-  pub block-stop : (n : ℕ) → enterItem head (item (enteredAt e (y * 512 + at))) queue marks files ≡ stopped n
-      → enterAll head (map item (entriesFrom k block y at)) queue marks files ≡ stopped n
+module _ (head : ℕ) (i : Item) (is : List Item) (queue : List Dir) (marks : List ℕ) (files : ℕ) where
+  pub enter-stop : (n : ℕ) → enterItem head i queue marks files ≡ stopped n → enterAll head (i ∷ is) queue marks files ≡ stopped n
   unfolding enterAll
-  block-stop n h = rw (entries-step block y k m at fuel e w, h)
+  enter-stop n h = rw h
 
-  pub block-step : (q : List Dir) (l : List ℕ) (f : ℕ)
-      → enterItem head (item (enteredAt e (y * 512 + at))) queue marks files ≡ going q l f
-      → enterAll head (map item (entriesFrom k block y at)) queue marks files ≡ enterAll head (map item (entriesFrom m block y (at + getD block at 0))) q l f
+  pub enter-step : (q : List Dir) (l : List ℕ) (f : ℕ) → enterItem head i queue marks files ≡ going q l f → enterAll head (i ∷ is) queue marks files ≡ enterAll head is q l f
   unfolding enterAll
-  block-step q l f h = rw (entries-step block y k m at fuel e w, h)
+  enter-step q l f h = rw h
 
-pub block-broken : (counts nexts heads : List ℕ) (head y : ℕ) (block : List ℕ) (k m at : ℕ) (queue : List Dir) (marks : List ℕ) (files : ℕ)
-    → k ≡ m + 1 → (r : Refusal) → walkedAt block at ≡ Fault r
-    → enterAll head (map (itemIn counts nexts heads) (entriesFrom k block y at)) queue marks files ≡ stopped 12
-unfolding enterAll enterItem itemIn
-block-broken counts nexts heads head y block k m at queue marks files fuel r w = rw (entries-fault block y k m at fuel r w)
+-- what is read at a place, with the entries behind it
+module _ (counts nexts heads : List ℕ) (head start : ℕ) (rest : List Entered) (queue : List Dir) (marks : List ℕ) (files : ℕ) (w : Walked) where
+  pub enter-end : w ≡ End → enterAll head (map (itemIn counts nexts heads) (withRest w start rest)) queue marks files ≡ going queue marks files
+  unfolding enterAll
+  enter-end is = rw is
+
+  -- an entry that breaks the rules stops the walk with the number of its fault
+  pub enter-fault : (r : Refusal) → w ≡ Fault r → numberOf r ≡ 12
+      → enterAll head (map (itemIn counts nexts heads) (withRest w start rest)) queue marks files ≡ stopped (numberOf r)
+  unfolding enterAll enterItem itemIn
+  enter-fault r is n = rw (is, n)
 
 -- ---- the anodes of a directory
 

@@ -15,12 +15,11 @@ use directory::Entry;
 use directory::Kind;
 use directory::Walked;
 use directory::directory_header_in;
-use directory::entry_at;
 use disk::AnodeNo;
 use disk::BlockNo;
 use disk::Refusal;
 use disk::block_part;
-use endian::read8;
+use reader::read_entry;
 use tables::entry;
 use tables::set_entry;
 
@@ -182,18 +181,19 @@ fn enter_block(
     let mut at: usize = 16;
     let mut fuel: usize = 28;
     while fuel > 0 {
-        let found = entry_at(block, at);
-        let e = match found {
+        let read = read_entry(block, at);
+        let walked = read.walked;
+        let e = match walked {
             Walked::Found(e) => e,
             Walked::End => return WalkStep::Go(tally),
-            Walked::Fault(_) => return WalkStep::Fault(Refusal::DirectoryBlock),
+            Walked::Fault(r) => return WalkStep::Fault(r),
         };
         let step = enter(counts, nexts, heads, marks, queue, parents, head, e, tally);
         let WalkStep::Go(after) = step else {
             return step;
         };
         tally = after;
-        at += read8(block, at) as usize;
+        at = read.after;
         fuel -= 1;
     }
     WalkStep::Go(tally)
