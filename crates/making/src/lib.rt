@@ -138,14 +138,13 @@ fn plan_make(
     requires { ⌜ Loaded (now image) (now counts) (now firsts) (now nexts) × (noDirectory (now image) (anodesOf (now image)) (head .0) ≡ false) ⌝ }
     ensures { λ r. ⌜ PlanOf r (now (image .entry)) (isDir kind) len (head .0) (anodesFrom (now (counts .exit)) (now (firsts .exit)) (now (nexts .exit))) ⌝ }
 {
-    let f = lowest_free(image, firsts);
-    if 3444 <= f {
+    let fresh = lowest_free(image, firsts);
+    if 3444 <= fresh.0 {
         return Planned::Stopped(Refusal::NoFreeAnode);
     }
     let room = first_room(image, firsts, nexts, head, len);
-    set_entry(counts, f, 0);
-    set_entry(firsts, f, 65535);
-    let fresh = AnodeNo(f as u16);
+    set_entry(counts, fresh.0 as usize, 0);
+    set_entry(firsts, fresh.0 as usize, 65535);
     take_blocks(image, kind, room, fresh, head, counts, firsts, nexts)
 }
 

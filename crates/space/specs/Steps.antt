@@ -73,4 +73,4 @@ LinkedFrom s h = Linked limit (s .next) (s .block) × (s .block h ≢ 0)
 -- an extent found in the tables
 abbrev pub foundOf : Extent → Found
 foundOf Nowhere = nowhere
-foundOf (At p x) = found p x
+foundOf (At p x) = found (p .0) (x .0)

@@ -38,54 +38,54 @@ pub enum Moves {
 // Where a search along a chain ends: the anode before the one that was found, and that one.
 enum Extent {
     Nowhere,
-    At(usize, usize),
+    At(AnodeNo, AnodeNo),
 }
 
 // Whether anode `a` exists and is free.
-fn is_free(image: &[u8], firsts: &[u16], a: usize) -> bool
-    ensures { λ r. ⌜ r ≡ freeIn (now (image .entry)) (now (firsts .entry)) a ⌝ }
+fn is_free(image: &[u8], firsts: &[u16], a: AnodeNo) -> bool
+    ensures { λ r. ⌜ r ≡ freeIn (now (image .entry)) (now (firsts .entry)) (a .0) ⌝ }
 {
-    if entry(firsts, a) != 0 {
+    if entry(firsts, a.0 as usize) != 0 {
         return false;
     }
-    slot_of(image, a / 82).0 != 0
+    slot_of(image, (a.0 as usize) / 82).0 != 0
 }
 
 // The lowest free anode from 6 up, or 3,444 where there is none.
-pub fn lowest_free(image: &[u8], firsts: &[u16]) -> usize
-    ensures { λ r. ⌜ ((c n : List ℕ) → r ≡ lowestFree 3444 (exists (now (image .entry))) (anodesFrom c (now (firsts .entry)) n)) ⌝ }
+pub fn lowest_free(image: &[u8], firsts: &[u16]) -> AnodeNo
+    ensures { λ r. ⌜ ((c n : List ℕ) → r .0 ≡ lowestFree 3444 (exists (now (image .entry))) (anodesFrom c (now (firsts .entry)) n)) ⌝ }
 {
     for a in 6..3444 {
-        if is_free(image, firsts, a) {
-            return a;
+        if is_free(image, firsts, AnodeNo(a)) {
+            return AnodeNo(a);
         }
     }
-    3444
+    AnodeNo(3444)
 }
 
 // The anode after `a`, or 0 where that is 2: the free list's side above last reserved ends before 2.
-fn next_before_two(nexts: &[u16], a: usize) -> usize
-    ensures { λ r. ⌜ r ≡ cut (λ x. getD (now (nexts .entry)) x 0) a ⌝ }
+fn next_before_two(nexts: &[u16], a: AnodeNo) -> AnodeNo
+    ensures { λ r. ⌜ r .0 ≡ cut (λ x. getD (now (nexts .entry)) x 0) (a .0) ⌝ }
 {
-    let next = entry(nexts, a) as usize;
+    let next = entry(nexts, a.0 as usize);
     if next == 2 {
-        return 0;
+        return AnodeNo(0);
     }
-    next
+    AnodeNo(next)
 }
 
 // The first anode with a block on the side of the free list that starts at `from`.
-fn first_extent(counts: &[u16], nexts: &[u16], from: usize) -> Extent
-    ensures { λ r. ⌜ foundOf r ≡ firstExtent (λ a. getD (now (counts .entry)) a 0) 0 (chainOf (cut (λ a. getD (now (nexts .entry)) a 0)) 3444 from) ⌝ }
+fn first_extent(counts: &[u16], nexts: &[u16], from: AnodeNo) -> Extent
+    ensures { λ r. ⌜ foundOf r ≡ firstExtent (λ a. getD (now (counts .entry)) a 0) 0 (chainOf (cut (λ a. getD (now (nexts .entry)) a 0)) 3444 (from .0)) ⌝ }
 {
-    let mut before: usize = 0;
+    let mut before = AnodeNo(0);
     let mut at = from;
     let mut fuel: usize = 3444;
     while 0 < fuel {
-        if at == 0 {
+        if at.0 == 0 {
             return Extent::Nowhere;
         }
-        if entry(counts, at) != 0 {
+        if entry(counts, at.0 as usize) != 0 {
             return Extent::At(before, at);
         }
         before = at;
@@ -96,13 +96,13 @@ fn first_extent(counts: &[u16], nexts: &[u16], from: usize) -> Extent
 }
 
 // The anode that starts the side of the free list where directories (`dir`) or data look first.
-fn near_side(dir: bool) -> usize
-    ensures { λ r. ⌜ r ≡ cond dir 2 1 ⌝ }
+fn near_side(dir: bool) -> AnodeNo
+    ensures { λ r. ⌜ r .0 ≡ cond dir 2 1 ⌝ }
 {
     if dir {
-        return 2;
+        return AnodeNo(2);
     }
-    1
+    AnodeNo(1)
 }
 
 // The extent that a block is taken from: the first on the near side of the free list, else on the other.
@@ -117,36 +117,36 @@ fn free_extent(dir: bool, counts: &[u16], nexts: &[u16]) -> Extent
 }
 
 // The last anode with a block on the chain from `from`.
-fn last_extent(counts: &[u16], nexts: &[u16], from: usize) -> Extent
-    ensures { λ r. ⌜ foundOf r ≡ lastExtent (λ a. getD (now (counts .entry)) a 0) 0 (chainOf (λ a. getD (now (nexts .entry)) a 0) 3444 from) ⌝ }
+fn last_extent(counts: &[u16], nexts: &[u16], from: AnodeNo) -> Extent
+    ensures { λ r. ⌜ foundOf r ≡ lastExtent (λ a. getD (now (counts .entry)) a 0) 0 (chainOf (λ a. getD (now (nexts .entry)) a 0) 3444 (from .0)) ⌝ }
 {
     let mut found = Extent::Nowhere;
-    let mut before: usize = 0;
+    let mut before = AnodeNo(0);
     let mut at = from;
     let mut fuel: usize = 3444;
     while 0 < fuel {
-        if at == 0 {
+        if at.0 == 0 {
             return found;
         }
-        if entry(counts, at) != 0 {
+        if entry(counts, at.0 as usize) != 0 {
             found = Extent::At(before, at);
         }
         before = at;
-        at = entry(nexts, at) as usize;
+        at = AnodeNo(entry(nexts, at.0 as usize));
         fuel -= 1;
     }
     found
 }
 
 // The last anode from `from` on, before 2.
-fn last_anode(nexts: &[u16], from: usize) -> usize
-    ensures { λ r. ⌜ r ≡ lastOf from (chainOf (cut (λ a. getD (now (nexts .entry)) a 0)) 3444 from) ⌝ }
+fn last_anode(nexts: &[u16], from: AnodeNo) -> AnodeNo
+    ensures { λ r. ⌜ r .0 ≡ lastOf (from .0) (chainOf (cut (λ a. getD (now (nexts .entry)) a 0)) 3444 (from .0)) ⌝ }
 {
     let mut last = from;
     let mut at = from;
     let mut fuel: usize = 3444;
     while 0 < fuel {
-        if at == 0 {
+        if at.0 == 0 {
             return last;
         }
         last = at;
@@ -157,22 +157,22 @@ fn last_anode(nexts: &[u16], from: usize) -> usize
 }
 
 // Makes anode `a` hold `count` blocks from `first` on; its next stays.
-fn rewrite(counts: &mut [u16], firsts: &mut [u16], a: usize, count: u16, first: BlockNo)
-    requires { ⌜ (a < 3444) × (length (now counts) ≡ 3444) × (length (now firsts) ≡ 3444) ⌝ }
-    ensures { λ _. ⌜ ((n : List ℕ) → anodesFrom (now (counts .exit)) (now (firsts .exit)) n ≡ rewritten (anodesFrom (now (counts .entry)) (now (firsts .entry)) n) a count (first .0)) ⌝ }
+fn rewrite(counts: &mut [u16], firsts: &mut [u16], a: AnodeNo, count: u16, first: BlockNo)
+    requires { ⌜ (a .0 < 3444) × (length (now counts) ≡ 3444) × (length (now firsts) ≡ 3444) ⌝ }
+    ensures { λ _. ⌜ ((n : List ℕ) → anodesFrom (now (counts .exit)) (now (firsts .exit)) n ≡ rewritten (anodesFrom (now (counts .entry)) (now (firsts .entry)) n) (a .0) count (first .0)) ⌝ }
 {
-    set_entry(counts, a, count);
-    set_entry(firsts, a, first.0);
+    set_entry(counts, a.0 as usize, count);
+    set_entry(firsts, a.0 as usize, first.0);
 }
 
 // Unlinks anode `a`, next of `p`, and zeroes it.
-fn unlink(counts: &mut [u16], firsts: &mut [u16], nexts: &mut [u16], p: usize, a: usize)
-    requires { ⌜ (p < 3444) × (a < 3444) × AnodeTables (now counts) (now firsts) (now nexts) ⌝ }
-    ensures { λ _. ⌜ anodesFrom (now (counts .exit)) (now (firsts .exit)) (now (nexts .exit)) ≡ unlinked (anodesFrom (now (counts .entry)) (now (firsts .entry)) (now (nexts .entry))) p a ⌝ }
+fn unlink(counts: &mut [u16], firsts: &mut [u16], nexts: &mut [u16], p: AnodeNo, a: AnodeNo)
+    requires { ⌜ (p .0 < 3444) × (a .0 < 3444) × AnodeTables (now counts) (now firsts) (now nexts) ⌝ }
+    ensures { λ _. ⌜ anodesFrom (now (counts .exit)) (now (firsts .exit)) (now (nexts .exit)) ≡ unlinked (anodesFrom (now (counts .entry)) (now (firsts .entry)) (now (nexts .entry))) (p .0) (a .0) ⌝ }
 {
-    let next = entry(nexts, a);
-    set_entry(nexts, p, next);
-    set_entry(nexts, a, 0);
+    let next = entry(nexts, a.0 as usize);
+    set_entry(nexts, p.0 as usize, next);
+    set_entry(nexts, a.0 as usize, 0);
     rewrite(counts, firsts, a, 0, BlockNo(0));
 }
 
@@ -181,36 +181,36 @@ fn insert_after(
     counts: &mut [u16],
     firsts: &mut [u16],
     nexts: &mut [u16],
-    p: usize,
-    a: u16,
+    p: AnodeNo,
+    a: AnodeNo,
     y: BlockNo,
 )
-    requires { ⌜ (p < 3444) × (a < 3444) × AnodeTables (now counts) (now firsts) (now nexts) ⌝ }
-    ensures { λ _. ⌜ anodesFrom (now (counts .exit)) (now (firsts .exit)) (now (nexts .exit)) ≡ insertedAfter (anodesFrom (now (counts .entry)) (now (firsts .entry)) (now (nexts .entry))) p a 1 (y .0) ⌝ }
+    requires { ⌜ (p .0 < 3444) × (a .0 < 3444) × AnodeTables (now counts) (now firsts) (now nexts) ⌝ }
+    ensures { λ _. ⌜ anodesFrom (now (counts .exit)) (now (firsts .exit)) (now (nexts .exit)) ≡ insertedAfter (anodesFrom (now (counts .entry)) (now (firsts .entry)) (now (nexts .entry))) (p .0) (a .0) 1 (y .0) ⌝ }
 {
-    let next = entry(nexts, p);
-    set_entry(nexts, a as usize, next);
-    set_entry(nexts, p, a);
-    rewrite(counts, firsts, a as usize, 1, y);
+    let next = entry(nexts, p.0 as usize);
+    set_entry(nexts, a.0 as usize, next);
+    set_entry(nexts, p.0 as usize, a.0);
+    rewrite(counts, firsts, a, 1, y);
 }
 
 // Puts block `y` into the lowest free anode, behind anode `z`.
 fn append(
     image: &[u8],
-    z: usize,
+    z: AnodeNo,
     y: BlockNo,
     counts: &mut [u16],
     firsts: &mut [u16],
     nexts: &mut [u16],
 ) -> Step
-    requires { ⌜ (z < 3444) × AnodeTables (now counts) (now firsts) (now nexts) ⌝ }
-    ensures { λ r. ⌜ stepPlan r (anodesFrom (now (counts .exit)) (now (firsts .exit)) (now (nexts .exit))) ≡ append 3444 (exists (now (image .entry))) (anodesFrom (now (counts .entry)) (now (firsts .entry)) (now (nexts .entry))) z (y .0) ⌝ }
+    requires { ⌜ (z .0 < 3444) × AnodeTables (now counts) (now firsts) (now nexts) ⌝ }
+    ensures { λ r. ⌜ stepPlan r (anodesFrom (now (counts .exit)) (now (firsts .exit)) (now (nexts .exit))) ≡ append 3444 (exists (now (image .entry))) (anodesFrom (now (counts .entry)) (now (firsts .entry)) (now (nexts .entry))) (z .0) (y .0) ⌝ }
 {
     let f = lowest_free(image, firsts);
-    if 3444 <= f {
+    if 3444 <= f.0 {
         return Step::Refused(Refusal::NoFreeAnode);
     }
-    insert_after(counts, firsts, nexts, z, f as u16, y);
+    insert_after(counts, firsts, nexts, z, f, y);
     Step::Moved(y)
 }
 
@@ -218,21 +218,21 @@ fn append(
 fn put(
     image: &[u8],
     dir: bool,
-    z: usize,
+    z: AnodeNo,
     y: BlockNo,
     counts: &mut [u16],
     firsts: &mut [u16],
     nexts: &mut [u16],
 ) -> Step
-    requires { ⌜ (z < 3444) × AnodeTables (now counts) (now firsts) (now nexts) × (getD (now firsts) z 0 ≢ 0) ⌝ }
-    ensures { λ r. ⌜ stepPlan r (anodesFrom (now (counts .exit)) (now (firsts .exit)) (now (nexts .exit))) ≡ put 3444 (exists (now (image .entry))) dir (anodesFrom (now (counts .entry)) (now (firsts .entry)) (now (nexts .entry))) z (y .0) ⌝ }
+    requires { ⌜ (z .0 < 3444) × AnodeTables (now counts) (now firsts) (now nexts) × (getD (now firsts) (z .0) 0 ≢ 0) ⌝ }
+    ensures { λ r. ⌜ stepPlan r (anodesFrom (now (counts .exit)) (now (firsts .exit)) (now (nexts .exit))) ≡ put 3444 (exists (now (image .entry))) dir (anodesFrom (now (counts .entry)) (now (firsts .entry)) (now (nexts .entry))) (z .0) (y .0) ⌝ }
 {
-    let count = entry(counts, z);
+    let count = entry(counts, z.0 as usize);
     if count == 0 {
         rewrite(counts, firsts, z, 1, y);
         return Step::Moved(y);
     }
-    let first = entry(firsts, z);
+    let first = entry(firsts, z.0 as usize);
     let end = first as u32 + count as u32;
     if !dir && end == y.0 as u32 {
         rewrite(counts, firsts, z, count + 1, BlockNo(first));
@@ -246,20 +246,20 @@ fn without_block(
     counts: &mut [u16],
     firsts: &mut [u16],
     nexts: &mut [u16],
-    kept: usize,
-    p: usize,
-    x: usize,
+    kept: AnodeNo,
+    p: AnodeNo,
+    x: AnodeNo,
     first: BlockNo,
 )
-    requires { ⌜ (p < 3444) × (x < 3444) × AnodeTables (now counts) (now firsts) (now nexts) × (0 < getD (now counts) x 0) ⌝ }
-    ensures { λ _. ⌜ anodesFrom (now (counts .exit)) (now (firsts .exit)) (now (nexts .exit)) ≡ withoutBlock (anodesFrom (now (counts .entry)) (now (firsts .entry)) (now (nexts .entry))) kept p x (first .0) ⌝ }
+    requires { ⌜ (p .0 < 3444) × (x .0 < 3444) × AnodeTables (now counts) (now firsts) (now nexts) × (0 < getD (now counts) (x .0) 0) ⌝ }
+    ensures { λ _. ⌜ anodesFrom (now (counts .exit)) (now (firsts .exit)) (now (nexts .exit)) ≡ withoutBlock (anodesFrom (now (counts .entry)) (now (firsts .entry)) (now (nexts .entry))) (kept .0) (p .0) (x .0) (first .0) ⌝ }
 {
-    let count = entry(counts, x);
+    let count = entry(counts, x.0 as usize);
     if count != 1 {
         rewrite(counts, firsts, x, count - 1, first);
         return;
     }
-    if x == kept {
+    if x.0 == kept.0 {
         rewrite(counts, firsts, x, 0, BlockNo(65535));
         return;
     }
@@ -283,41 +283,41 @@ pub fn take_block(
     let Extent::At(p, x) = found else {
         return Step::Refused(Refusal::NoFreeBlock);
     };
-    let y = BlockNo(entry(firsts, x));
-    without_block(counts, firsts, nexts, 2, p, x, BlockNo(y.0 + 1));
-    let z = last_anode(nexts, head.0 as usize);
+    let y = BlockNo(entry(firsts, x.0 as usize));
+    without_block(counts, firsts, nexts, AnodeNo(2), p, x, BlockNo(y.0 + 1));
+    let z = last_anode(nexts, head);
     put(image, dir, z, y, counts, firsts, nexts)
 }
 
 // The anode where the side of block `y` starts: 1 above last reserved, else 2.
-fn side_of(image: &[u8], y: BlockNo) -> usize
-    ensures { λ r. ⌜ r ≡ sideOf (lastReserved (now (image .entry))) (y .0) ⌝ }
+fn side_of(image: &[u8], y: BlockNo) -> AnodeNo
+    ensures { λ r. ⌜ r .0 ≡ sideOf (lastReserved (now (image .entry))) (y .0) ⌝ }
 {
     let root = root_in(block_part(image, BlockNo(2)));
     if root.last.0 < y.0 {
-        return 1;
+        return AnodeNo(1);
     }
-    2
+    AnodeNo(2)
 }
 
 // Joins block `y` to its side of the free list, whose last anode is `z`.
 fn join(
     image: &[u8],
-    z: usize,
+    z: AnodeNo,
     y: BlockNo,
     counts: &mut [u16],
     firsts: &mut [u16],
     nexts: &mut [u16],
 ) -> Step
-    requires { ⌜ (z < 3444) × AnodeTables (now counts) (now firsts) (now nexts) ⌝ }
-    requires { ⌜ (getD (now firsts) z 0 ≢ 0) × (0 < getD (now counts) z 0 → getD (now firsts) z 0 + getD (now counts) z 0 ≤ 65535) ⌝ }
-    ensures { λ r. ⌜ stepPlan r (anodesFrom (now (counts .exit)) (now (firsts .exit)) (now (nexts .exit))) ≡ join 3444 (exists (now (image .entry))) (anodesFrom (now (counts .entry)) (now (firsts .entry)) (now (nexts .entry))) z (y .0) ⌝ }
+    requires { ⌜ (z .0 < 3444) × AnodeTables (now counts) (now firsts) (now nexts) ⌝ }
+    requires { ⌜ (getD (now firsts) (z .0) 0 ≢ 0) × (0 < getD (now counts) (z .0) 0 → getD (now firsts) (z .0) 0 + getD (now counts) (z .0) 0 ≤ 65535) ⌝ }
+    ensures { λ r. ⌜ stepPlan r (anodesFrom (now (counts .exit)) (now (firsts .exit)) (now (nexts .exit))) ≡ join 3444 (exists (now (image .entry))) (anodesFrom (now (counts .entry)) (now (firsts .entry)) (now (nexts .entry))) (z .0) (y .0) ⌝ }
 {
-    if z == 1 {
+    if z.0 == 1 {
         return append(image, z, y, counts, firsts, nexts);
     }
-    let count = entry(counts, z);
-    let first = entry(firsts, z);
+    let count = entry(counts, z.0 as usize);
+    let first = entry(firsts, z.0 as usize);
     if count != 0 && y.0 as u32 + 1 == first as u32 {
         rewrite(counts, firsts, z, count + 1, y);
         return Step::Moved(y);
@@ -338,15 +338,14 @@ fn give_back(
     requires { ⌜ 0 < blockCount (anodesFrom (now counts) (now firsts) (now nexts)) (head .0) ⌝ }
     ensures { λ r. ⌜ stepPlan r (anodesFrom (now (counts .exit)) (now (firsts .exit)) (now (nexts .exit))) ≡ giveBack 3444 (exists (now (image .entry))) (lastReserved (now (image .entry))) (anodesFrom (now (counts .entry)) (now (firsts .entry)) (now (nexts .entry))) (head .0) ⌝ }
 {
-    let from = head.0 as usize;
-    let found = last_extent(counts, nexts, from);
+    let found = last_extent(counts, nexts, head);
     // a chain with a block has such an anode
     let Extent::At(p, x) = found else {
         return Step::Refused(Refusal::NoFreeBlock);
     };
-    let first = entry(firsts, x);
-    let y = BlockNo(first + (entry(counts, x) - 1));
-    without_block(counts, firsts, nexts, from, p, x, BlockNo(first));
+    let first = entry(firsts, x.0 as usize);
+    let y = BlockNo(first + (entry(counts, x.0 as usize) - 1));
+    without_block(counts, firsts, nexts, head, p, x, BlockNo(first));
     let z = last_anode(nexts, side_of(image, y));
     join(image, z, y, counts, firsts, nexts)
 }

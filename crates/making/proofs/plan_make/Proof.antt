@@ -12,26 +12,29 @@ same-length : tie.Need-same-length
 same-length c = search needs
 
 returns : tie.Need-returns
-returns c = no-anode _ _ _ _ _ (lowest-is (c .before .before .before .before .before .before .before .pre .0) _ (c .before .lowest-free .ensures)) (c .if1 .taken)
+returns c = no-anode _ _ _ _ _ (lowest-is (c .before .before .before .before .before .before .before .before .pre .0) _ (c .before .before .lowest-free .ensures)) (c .if1 .taken)
 
 first-room-requires : tie.Need-first-room-requires
 first-room-requires c κs = search needs
 
+cast-set-entry : tie.Need-cast-set-entry
+cast-set-entry c = search needs
+
 set-entry-requires : tie.Need-set-entry-requires
 set-entry-requires c κs = search needs
+
+cast-set-entry-2 : tie.Need-cast-set-entry-2
+cast-set-entry-2 c = search needs
 
 set-entry-requires-2 : tie.Need-set-entry-requires-2
 set-entry-requires-2 c κs = search needs
 
-cast-t24 : tie.Need-cast-t24
-cast-t24 c = search needs
-
 take-blocks-requires : tie.Need-take-blocks-requires
 take-blocks-requires c κs =
-    let f = c .before .before .before .before .before .before .before .before .before .before .before .before .before .before .before .lowest-free in
-    let a = c .before .before .before .before .before .before .before .before .before .before .before .before .before .before .before .before .before .before .before .before .before .args in
-    let l = c .before .before .before .before .before .before .before .before .before .before .before .before .before .before .before .before .before .before .before .before .before .pre .0 in
-    ((search needs, search needs, search needs), (lowest-fresh l _ (c .before .before .before .before .before .before .before .before .before .before .before .before .before .before .before .before .before .before .before .before .before .pre .1) _ (lowest-is l _ (f .ensures)) (c .before .before .before .before .before .before .before .before .before .before .before .before .before .before .if1 .left), rw (c .before .before .before .before .before .before .before .before .before .set-entry .ensures, c .before .before .before .before .before .set-entry2 .ensures) (begun-is l _ _ (rewritten-tables (a .counts .now) (a .firsts .now) (a .nexts .now) (f .result) 0 65535 (omega arith) (omega arith)))))
+    let f = c .before .before .before .before .before .before .before .before .before .before .before .before .before .before .before .before .before .before .lowest-free in
+    let a = c .before .before .before .before .before .before .before .before .before .before .before .before .before .before .before .before .before .before .before .before .before .before .before .before .args in
+    let l = c .before .before .before .before .before .before .before .before .before .before .before .before .before .before .before .before .before .before .before .before .before .before .before .before .pre .0 in
+    ((search needs, search needs, search needs), (lowest-fresh l _ (c .before .before .before .before .before .before .before .before .before .before .before .before .before .before .before .before .before .before .before .before .before .before .before .before .pre .1) _ (lowest-is l _ (f .ensures)) (c .before .before .before .before .before .before .before .before .before .before .before .before .before .before .before .before .if1 .left), rw (c .before .before .before .before .before .before .before .before .before .before .set-entry .ensures, c .before .before .before .before .before .set-entry2 .ensures) (begun-is l _ _ (rewritten-tables (a .counts .now) (a .firsts .now) (a .nexts .now) (f .result .0) 0 65535 (omega arith) (omega arith)))))
 
 same-length-2 : tie.Need-same-length-2
 same-length-2 c = search needs
@@ -44,8 +47,8 @@ same-length-4 c = search needs
 
 returns-2 : tie.Need-returns-2
 returns-2 c =
-    let pre = c .before .before .before .before .before .before .before .before .before .before .before .before .before .before .before .before .before .before .before .before .before .before .before .before .before .before .before .before .pre in
-    c .before .before .before .before .before .before .take-blocks .ensures _ (room-is (pre .0) _ (pre .1) _ _ (c .before .before .before .before .before .before .before .before .before .before .before .before .before .before .before .before .before .before .first-room .ensures))
+    let pre = c .before .before .before .before .before .before .before .before .before .before .before .before .before .before .before .before .before .before .before .before .before .before .before .before .before .before .before .before .before .before .before .pre in
+    c .before .before .before .before .before .before .take-blocks .ensures _ (room-is (pre .0) _ (pre .1) _ _ (c .before .before .before .before .before .before .before .before .before .before .before .before .before .before .before .before .before .before .before .before .first-room .ensures))
 
 pub plan-make-spec : {M : Type 1} → statement M
 plan-make-spec =
@@ -55,9 +58,10 @@ plan-make-spec =
     same-length
     returns
     first-room-requires
+    cast-set-entry
     set-entry-requires
+    cast-set-entry-2
     set-entry-requires-2
-    cast-t24
     take-blocks-requires
     same-length-2
     same-length-3

@@ -11,10 +11,7 @@ same-length : tie.Need-same-length
 same-length c = search needs
 
 returns : tie.Need-returns
-returns c = sym (append-none _ _ _ _ _ _ _ (c .before .lowest-free .ensures _ _) (c .if1 .taken))
-
-cast-insert-after : tie.Need-cast-insert-after
-cast-insert-after c = search needs
+returns c = sym (append-none _ _ _ _ _ _ _ (c .before .before .lowest-free .ensures _ _) (c .if1 .taken))
 
 insert-after-requires : tie.Need-insert-after-requires
 insert-after-requires c κs = search needs
@@ -29,7 +26,7 @@ same-length-4 : tie.Need-same-length-4
 same-length-4 c = search needs
 
 returns-2 : tie.Need-returns-2
-returns-2 c = rw (c .before .before .before .before .before .before .insert-after .ensures) (sym (append-some _ _ _ _ _ _ _ (c .before .before .before .before .before .before .before .before .before .before .before .lowest-free .ensures _ _) (c .before .before .before .before .before .before .before .before .before .before .if1 .left)))
+returns-2 c = rw (c .before .before .before .before .before .before .insert-after .ensures) (sym (append-some _ _ _ _ _ _ _ (c .before .before .before .before .before .before .before .before .before .before .before .before .lowest-free .ensures _ _) (c .before .before .before .before .before .before .before .before .before .before .if1 .left)))
 
 pub append-spec : {M : Type 1} → statement M
 append-spec =
@@ -38,7 +35,6 @@ append-spec =
     lowest-free-requires
     same-length
     returns
-    cast-insert-after
     insert-after-requires
     same-length-2
     same-length-3

@@ -21,4 +21,10 @@ returns-2 c = c .number .ensures ∙ sym (ap movesNumber (c .before .before .mov
 
 pub moves-number-spec : {M : Type 1} → statement M
 moves-number-spec =
-    tie.close (tie.spec enum-told enum-known-moves number-requires returns returns-2)
+    tie.close
+    (tie.spec
+    enum-told
+    enum-known-moves
+    number-requires
+    returns
+    returns-2)

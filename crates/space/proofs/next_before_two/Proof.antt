@@ -4,11 +4,11 @@ use borrow.Author.Needs.{needs}
 use Rattle.space.proofs.next_before_two.Statement.{statement}
 use Rattle.space.proofs.next_before_two.Tie as tie
 
+cast-entry : tie.Need-cast-entry
+cast-entry c = search needs
+
 entry-requires : tie.Need-entry-requires
 entry-requires c κs = search needs
-
-cast-next : tie.Need-cast-next
-cast-next c = search needs
 
 returns : tie.Need-returns
 returns c = sym (cut-two _ _ (sym (c .before .entry .ensures) ∙ c .if1 .taken))
@@ -17,4 +17,10 @@ returns-2 : tie.Need-returns-2
 returns-2 c = c .before .entry .ensures ∙ sym (cut-other _ _ (rw (c .before .entry .ensures) at (c .if1 .left)))
 
 pub next-before-two-spec : {M : Type 1} → statement M
-next-before-two-spec = tie.close (tie.spec entry-requires cast-next returns returns-2)
+next-before-two-spec =
+    tie.close
+    (tie.spec
+    cast-entry
+    entry-requires
+    returns
+    returns-2)

@@ -25,4 +25,10 @@ returns-2 : tie.Need-returns-2
 returns-2 c = sym (side-up-to _ _ (rw (root-last (c .before .before .before)) at (c .if1 .left)))
 
 pub side-of-spec : {M : Type 1} → statement M
-side-of-spec = tie.close (tie.spec block-part-requires root-in-requires returns returns-2)
+side-of-spec =
+    tie.close
+    (tie.spec
+    block-part-requires
+    root-in-requires
+    returns
+    returns-2)

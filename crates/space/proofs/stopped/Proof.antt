@@ -17,4 +17,10 @@ returns-2 : tie.Need-returns-2
 returns-2 c = sym (ap stoppedBy (c .before .step .given .1))
 
 pub stopped-spec : {M : Type 1} → statement M
-stopped-spec = tie.close (tie.spec enum-told enum-known-step returns returns-2)
+stopped-spec =
+    tie.close
+    (tie.spec
+    enum-told
+    enum-known-step
+    returns
+    returns-2)
