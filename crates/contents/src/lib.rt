@@ -14,6 +14,7 @@ ghost use Rattle.laws.specs.Chains.{Inside};
 ghost use Rattle.contents.specs.Copied.{filled, Copied};
 ghost use Rattle.contents.specs.Written.{WrittenPast, InsideOnce};
 use disk::AnodeNo;
+use disk::BlockNo;
 use endian::part;
 use endian::store;
 use tables::entry;
@@ -41,12 +42,11 @@ fn copy_bytes(source: &[u8], out: &mut [u8], done: usize) -> usize
     at
 }
 
-// Copies what block `b` has behind the bytes to be skipped.
-fn copy_block(image: &[u8], b: usize, out: &mut [u8], c: Cursor) -> Cursor
-    requires { ⌜ b ≤ 131070 ⌝ }
-    ensures { λ r. ⌜ Copied c (now (out .entry)) (blockOf (now (image .entry)) b) r (now (out .exit)) ⌝ }
+// Copies what block `i`, from 0, of those from `first` upward has behind the bytes to be skipped.
+fn copy_block(image: &[u8], first: BlockNo, i: u16, out: &mut [u8], c: Cursor) -> Cursor
+    ensures { λ r. ⌜ Copied c (now (out .entry)) (blockOf (now (image .entry)) (first .0 + i)) r (now (out .exit)) ⌝ }
 {
-    let block = part(image, b * 512, 512);
+    let block = part(image, (first.0 as usize + i as usize) * 512, 512);
     let len = block.len();
     if len as u64 <= c.skip {
         return Cursor {
@@ -60,20 +60,18 @@ fn copy_block(image: &[u8], b: usize, out: &mut [u8], c: Cursor) -> Cursor
 }
 
 // Copies the `count` blocks from `first` upward, until the buffer is full.
-fn copy_run(image: &[u8], first: u16, count: u16, out: &mut [u8], c: Cursor) -> Cursor
-    ensures { λ r. ⌜ Copied c (now (out .entry)) (gather (blockOf (now (image .entry))) (run first count)) r (now (out .exit)) ⌝ }
+fn copy_run(image: &[u8], first: BlockNo, count: u16, out: &mut [u8], c: Cursor) -> Cursor
+    ensures { λ r. ⌜ Copied c (now (out .entry)) (gather (blockOf (now (image .entry))) (run (first .0) count)) r (now (out .exit)) ⌝ }
 {
     let mut cursor = c;
-    let mut b = first as usize;
-    let mut left = count;
-    while left > 0 {
+    let mut i: u16 = 0;
+    while i < count {
         if out.len() <= cursor.done {
             return cursor;
         }
-        let after = copy_block(image, b, out, cursor);
+        let after = copy_block(image, first, i, out, cursor);
         cursor = after;
-        b += 1;
-        left -= 1;
+        i += 1;
     }
     cursor
 }
@@ -104,17 +102,18 @@ pub fn copy_out(
         if out.len() <= cursor.done {
             return;
         }
-        let after = copy_run(image, entry(firsts, at), entry(counts, at), out, cursor);
+        let first = BlockNo(entry(firsts, at));
+        let after = copy_run(image, first, entry(counts, at), out, cursor);
         cursor = after;
         at = entry(nexts, at) as usize;
         fuel -= 1;
     }
 }
 
-// Writes into block `b` the bytes that fall into it.
-fn write_block(image: &mut [u8], b: usize, bytes: &[u8], c: Cursor) -> Cursor
-    requires { ⌜ (b * 512 + 512 ≤ length (now image)) × (c .done < length (now bytes)) ⌝ }
-    ensures { λ r. ⌜ WrittenPast c (now (bytes .entry)) (now (image .entry)) (b ∷ []) r (now (image .exit)) ⌝ }
+// Writes into block `i`, from 0, of those from `first` upward the bytes that fall into it.
+fn write_block(image: &mut [u8], first: BlockNo, i: u16, bytes: &[u8], c: Cursor) -> Cursor
+    requires { ⌜ ((first .0 + i) * 512 + 512 ≤ length (now image)) × (c .done < length (now bytes)) ⌝ }
+    ensures { λ r. ⌜ WrittenPast c (now (bytes .entry)) (now (image .entry)) ((first .0 + i) ∷ []) r (now (image .exit)) ⌝ }
 {
     if 512 <= c.skip {
         return Cursor {
@@ -124,7 +123,7 @@ fn write_block(image: &mut [u8], b: usize, bytes: &[u8], c: Cursor) -> Cursor
     }
     let at = c.skip as usize;
     let room = 512 - at;
-    let from = b * 512;
+    let from = (first.0 as usize + i as usize) * 512;
     let end = from + 512;
     store(&mut image[from..end], at, part(bytes, c.done, room));
     Cursor {
@@ -134,21 +133,19 @@ fn write_block(image: &mut [u8], b: usize, bytes: &[u8], c: Cursor) -> Cursor
 }
 
 // Writes into the `count` blocks from `first` upward, until no bytes are left.
-fn write_run(image: &mut [u8], first: u16, count: u16, bytes: &[u8], c: Cursor) -> Cursor
-    requires { ⌜ Inside (now image) (run first count) ⌝ }
-    ensures { λ r. ⌜ WrittenPast c (now (bytes .entry)) (now (image .entry)) (run first count) r (now (image .exit)) ⌝ }
+fn write_run(image: &mut [u8], first: BlockNo, count: u16, bytes: &[u8], c: Cursor) -> Cursor
+    requires { ⌜ Inside (now image) (run (first .0) count) ⌝ }
+    ensures { λ r. ⌜ WrittenPast c (now (bytes .entry)) (now (image .entry)) (run (first .0) count) r (now (image .exit)) ⌝ }
 {
     let mut cursor = c;
-    let mut b = first as usize;
-    let mut left = count;
-    while left > 0 {
+    let mut i: u16 = 0;
+    while i < count {
         if bytes.len() <= cursor.done {
             return cursor;
         }
-        let after = write_block(image, b, bytes, cursor);
+        let after = write_block(image, first, i, bytes, cursor);
         cursor = after;
-        b += 1;
-        left -= 1;
+        i += 1;
     }
     cursor
 }
@@ -179,7 +176,8 @@ pub fn write_along(
         if bytes.len() <= cursor.done {
             return;
         }
-        let after = write_run(image, entry(firsts, at), entry(counts, at), bytes, cursor);
+        let first = BlockNo(entry(firsts, at));
+        let after = write_run(image, first, entry(counts, at), bytes, cursor);
         cursor = after;
         at = entry(nexts, at) as usize;
         fuel -= 1;

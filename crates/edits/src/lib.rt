@@ -39,13 +39,13 @@ pub enum Room {
 }
 
 // Anode `a` of three tables.
-fn anode_from(counts: &[u16], firsts: &[u16], nexts: &[u16], a: usize) -> Anode
-    ensures { λ r. ⌜ r ≡ anodeMade (getD (now (counts .entry)) a 0) (getD (now (firsts .entry)) a 0) (getD (now (nexts .entry)) a 0) ⌝ }
+fn anode_from(counts: &[u16], firsts: &[u16], nexts: &[u16], a: AnodeNo) -> Anode
+    ensures { λ r. ⌜ r ≡ anodeMade (getD (now (counts .entry)) (a .0) 0) (getD (now (firsts .entry)) (a .0) 0) (getD (now (nexts .entry)) (a .0) 0) ⌝ }
 {
     Anode {
-        count: entry(counts, a),
-        block: BlockNo(entry(firsts, a)),
-        next: AnodeNo(entry(nexts, a)),
+        count: entry(counts, a.0 as usize),
+        block: BlockNo(entry(firsts, a.0 as usize)),
+        next: AnodeNo(entry(nexts, a.0 as usize)),
     }
 }
 
@@ -93,18 +93,18 @@ fn same_run(
     new_counts: &[u16],
     new_firsts: &[u16],
     new_nexts: &[u16],
-    from: usize,
+    from: AnodeNo,
 ) -> bool
-    requires { ⌜ from + 82 ≤ 3444 ⌝ }
-    ensures { λ r. ⌜ (r ≡ true → (a : ℕ) → from ≤ a → a < from + 82 → sameAnode (anodesFrom (now (counts .entry)) (now (firsts .entry)) (now (nexts .entry))) (anodesFrom (now («new_counts» .entry)) (now («new_firsts» .entry)) (now («new_nexts» .entry))) a ≡ true) ⌝ }
+    requires { ⌜ from .0 + 82 ≤ 3444 ⌝ }
+    ensures { λ r. ⌜ (r ≡ true → (a : ℕ) → from .0 ≤ a → a < from .0 + 82 → sameAnode (anodesFrom (now (counts .entry)) (now (firsts .entry)) (now (nexts .entry))) (anodesFrom (now («new_counts» .entry)) (now («new_firsts» .entry)) (now («new_nexts» .entry))) a ≡ true) ⌝ }
 {
-    if !same_numbers(counts, new_counts, from) {
+    if !same_numbers(counts, new_counts, from.0 as usize) {
         return false;
     }
-    if !same_numbers(firsts, new_firsts, from) {
+    if !same_numbers(firsts, new_firsts, from.0 as usize) {
         return false;
     }
-    same_numbers(nexts, new_nexts, from)
+    same_numbers(nexts, new_nexts, from.0 as usize)
 }
 
 // Stores each of the 82 anodes from `from` on that has other fields than before.
@@ -116,14 +116,14 @@ fn store_run(
     new_counts: &[u16],
     new_firsts: &[u16],
     new_nexts: &[u16],
-    from: u16,
+    from: AnodeNo,
 )
-    requires { ⌜ from + 82 ≤ 3444 ⌝ }
-    ensures { λ _. ⌜ ((img : List ℕ) → now (image .entry) ≡ storeChanged (anodesFrom (now (counts .entry)) (now (firsts .entry)) (now (nexts .entry))) (anodesFrom (now («new_counts» .entry)) (now («new_firsts» .entry)) (now («new_nexts» .entry))) img from → now (image .exit) ≡ storeChanged (anodesFrom (now (counts .entry)) (now (firsts .entry)) (now (nexts .entry))) (anodesFrom (now («new_counts» .entry)) (now («new_firsts» .entry)) (now («new_nexts» .entry))) img (from + 82)) ⌝ }
+    requires { ⌜ from .0 + 82 ≤ 3444 ⌝ }
+    ensures { λ _. ⌜ ((img : List ℕ) → now (image .entry) ≡ storeChanged (anodesFrom (now (counts .entry)) (now (firsts .entry)) (now (nexts .entry))) (anodesFrom (now («new_counts» .entry)) (now («new_firsts» .entry)) (now («new_nexts» .entry))) img (from .0) → now (image .exit) ≡ storeChanged (anodesFrom (now (counts .entry)) (now (firsts .entry)) (now (nexts .entry))) (anodesFrom (now («new_counts» .entry)) (now («new_firsts» .entry)) (now («new_nexts» .entry))) img (from .0 + 82)) ⌝ }
 {
-    for a in from..from + 82 {
-        let old = anode_from(counts, firsts, nexts, a as usize);
-        let new = anode_from(new_counts, new_firsts, new_nexts, a as usize);
+    for a in from.0..from.0 + 82 {
+        let old = anode_from(counts, firsts, nexts, AnodeNo(a));
+        let new = anode_from(new_counts, new_firsts, new_nexts, AnodeNo(a));
         if !same_anode(old, new) {
             set_anode(image, AnodeNo(a), new);
         }
@@ -144,7 +144,7 @@ pub fn store_anodes(
     ensures { λ _. ⌜ now (image .exit) ≡ withAnodes (now (image .entry)) (anodesFrom (now («new_counts» .entry)) (now («new_firsts» .entry)) (now («new_nexts» .entry))) ⌝ }
 {
     for slot in 0..42 {
-        let from: u16 = slot * 82;
+        let from = AnodeNo(slot * 82);
         if !same_run(
             counts,
             firsts,
@@ -152,7 +152,7 @@ pub fn store_anodes(
             new_counts,
             new_firsts,
             new_nexts,
-            from as usize,
+            from,
         ) {
             store_run(
                 image,
@@ -209,26 +209,26 @@ pub fn put_header(image: &mut [u8], b: BlockNo, owner: AnodeNo, parent: AnodeNo)
 }
 
 // Block `i`, from 0, of the chain that `head` heads; 0 where the chain ends before it.
-fn nth_block(counts: &[u16], firsts: &[u16], nexts: &[u16], head: AnodeNo, i: u64) -> u16
+fn nth_block(counts: &[u16], firsts: &[u16], nexts: &[u16], head: AnodeNo, i: u64) -> BlockNo
     requires { ⌜ ExtentsFit (now counts) (now firsts) ⌝ }
-    ensures { λ r. ⌜ r ≡ getD (blocksOf (anodesFrom (now (counts .entry)) (now (firsts .entry)) (now (nexts .entry))) (head .0)) i 0 ⌝ }
+    ensures { λ r. ⌜ r .0 ≡ getD (blocksOf (anodesFrom (now (counts .entry)) (now (firsts .entry)) (now (nexts .entry))) (head .0)) i 0 ⌝ }
 {
     let mut left = i;
     let mut at = head.0 as usize;
     let mut fuel: usize = 3444;
     while fuel > 0 {
         if at == 0 {
-            return 0;
+            return BlockNo(0);
         }
         let count = entry(counts, at);
         if left < count as u64 {
-            return entry(firsts, at) + (left as u16);
+            return BlockNo(entry(firsts, at) + (left as u16));
         }
         left -= count as u64;
         at = entry(nexts, at) as usize;
         fuel -= 1;
     }
-    0
+    BlockNo(0)
 }
 
 // Zeroes the old last block of a growing file from its size on.
@@ -252,7 +252,7 @@ pub fn zero_tail(
         return;
     }
     let b = nth_block(counts, firsts, nexts, head, (size / 512) as u64);
-    let from = (b as usize) * 512;
+    let from = (b.0 as usize) * 512;
     let end = block_end(image.len(), from);
     if end <= from {
         return;

@@ -4,14 +4,20 @@ use borrow.Author.Needs.{needs}
 use Rattle.contents.proofs.copy_block.Statement.{statement}
 use Rattle.contents.proofs.copy_block.Tie as tie
 
+cast-part : tie.Need-cast-part
+cast-part c = search needs
+
+add-part : tie.Need-add-part
+add-part c = search needs
+
 mul-part : tie.Need-mul-part
 mul-part c = search needs
 
 part-requires : tie.Need-part-requires
 part-requires c κs = search needs
 
-sub-t13 : tie.Need-sub-t13
-sub-t13 c = search needs
+sub-t17 : tie.Need-sub-t17
+sub-t17 c = search needs
 
 returns : tie.Need-returns
 unfolding blockOf
@@ -40,9 +46,11 @@ pub copy-block-spec : {M : Type 1} → statement M
 copy-block-spec =
     tie.close
     (tie.spec
+    cast-part
+    add-part
     mul-part
     part-requires
-    sub-t13
+    sub-t17
     returns
     sub-copy-bytes
     part-copy-bytes-start

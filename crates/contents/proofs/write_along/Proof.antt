@@ -61,7 +61,7 @@ write-run-requires c κs =
     let l = c .before .before .before .before .before .before .before .loop in
     let a = c .before .before .before .before .before .before .before .before .before .before .before .before .before .before .args in
     let i = along-inside (a .image .now) (anodesFrom (a .counts .now) (a .firsts .now) (a .nexts .now)) (l .fuel) (l .fuel - 1) (l .at) (omega arith) (c .before .before .before .before .before .if1 .left) (l .inv .1) in
-    rw (c .before .entry .ensures, c .entry2 .ensures, l .inv .0) (i .0)
+    rw (c .before .before .entry .ensures, c .entry2 .ensures, l .inv .0) (i .0)
 
 entry-requires-3 : tie.Need-entry-requires-3 Inv-loop μ-loop
 entry-requires-3 c κs = search needs
@@ -87,7 +87,7 @@ loop-again c =
     let step = gathered-step (extent s) (s .next) (l .fuel) (l .fuel - 1) (l .at) more some in (
       search needs,
       rw (c .entry3 .ensures) (along-inside (a .image .now) s (l .fuel) (l .fuel - 1) (l .at) more some (l .inv .1) .1),
-      λ e is. rw (c .entry3 .ensures) ((rw (c .before .before .before .before .before .entry .ensures, c .before .before .before .before .entry2 .ensures, ← step) at (c .before .before .before .write-run .ensures rest)) ∙ l .inv .2 e is),
+      λ e is. rw (c .entry3 .ensures) ((rw (c .before .before .before .before .before .before .entry .ensures, c .before .before .before .before .entry2 .ensures, ← step) at (c .before .before .before .write-run .ensures rest)) ∙ l .inv .2 e is),
     )
 
 same-length-3 : tie.Need-same-length-3 Inv-loop μ-loop

@@ -9,6 +9,12 @@ returns c = λ rest. over-skipped _ _ (c .before .before .before .before .before
 sub-room : tie.Need-sub-room
 sub-room c = search needs
 
+cast-from : tie.Need-cast-from
+cast-from c = search needs
+
+add-from : tie.Need-add-from
+add-from c = search needs
+
 mul-from : tie.Need-mul-from
 mul-from c = search needs
 
@@ -30,14 +36,14 @@ part-requires c κs = search needs
 store-requires : tie.Need-store-requires
 store-requires c κs = search needs
 
-add-t13 : tie.Need-add-t13
-add-t13 c = search needs
+add-t14 : tie.Need-add-t14
+add-t14 c = search needs
 
 same-length : tie.Need-same-length
 same-length c = search needs
 
 returns-2 : tie.Need-returns-2
-returns-2 c = λ rest. over-stored _ _ (c .before .before .before .before .before .before .before .before .before .before .pre .0) rest _ _ _ _ (c .before .before .before .before .before .before .if1 .left) (rw (c .before .before .before .before .part .ensures) at (c .before .before .before .store .ensures))
+returns-2 c = λ rest. over-stored _ _ (c .before .before .before .before .before .before .before .before .before .before .before .pre .0) rest _ _ _ _ (c .before .before .before .before .before .before .before .if1 .left) (rw (c .before .before .before .before .part .ensures) at (c .before .before .before .store .ensures))
 
 pub write-block-spec : {M : Type 1} → statement M
 write-block-spec =
@@ -45,6 +51,8 @@ write-block-spec =
     (tie.spec
     returns
     sub-room
+    cast-from
+    add-from
     mul-from
     add-end
     sub-store
@@ -52,6 +60,6 @@ write-block-spec =
     part-store-end
     part-requires
     store-requires
-    add-t13
+    add-t14
     same-length
     returns-2)

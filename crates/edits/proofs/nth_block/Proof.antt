@@ -38,11 +38,11 @@ cast-if2 c = search needs
 entry-requires-2 : tie.Need-entry-requires-2 Inv-loop μ-loop
 entry-requires-2 c κs = search needs
 
-cast-result : tie.Need-cast-result Inv-loop μ-loop
-cast-result c = search needs
+cast-t13 : tie.Need-cast-t13 Inv-loop μ-loop
+cast-t13 c = search needs
 
-add-result : tie.Need-add-result Inv-loop μ-loop
-add-result c = omega (arith, c .before .before .before .before .before .before .before .before .before .before .pre (c .before .before .before .before .before .loop .at) (omega (arith, c .before .before .entry .ensures)), c .entry2 .ensures, c .before .before .entry .ensures)
+add-t14 : tie.Need-add-t14 Inv-loop μ-loop
+add-t14 c = omega (arith, c .before .before .before .before .before .before .before .before .before .before .pre (c .before .before .before .before .before .loop .at) (omega (arith, c .before .before .entry .ensures)), c .entry2 .ensures, c .before .before .entry .ensures)
 
 returns-2 : tie.Need-returns-2 Inv-loop μ-loop
 unfolding anodesFrom
@@ -91,8 +91,8 @@ nth-block-spec =
     entry-requires
     cast-if2
     entry-requires-2
-    cast-result
-    add-result
+    cast-t13
+    add-t14
     returns-2
     cast-left
     sub-left

@@ -20,11 +20,8 @@ abbrev μ-loop : tie.MeasureT-loop
 loop-holds : tie.Need-loop-holds Inv-loop μ-loop
 loop-holds c = (search needs, search needs, sym (storeChanged-none _ _ _))
 
-mul-from : tie.Need-mul-from Inv-loop μ-loop
-mul-from c = search needs
-
-cast-same-run : tie.Need-cast-same-run Inv-loop μ-loop
-cast-same-run c = search needs
+mul-t11 : tie.Need-mul-t11 Inv-loop μ-loop
+mul-t11 c = search needs
 
 same-run-requires : tie.Need-same-run-requires Inv-loop μ-loop
 same-run-requires c κs = search needs
@@ -74,8 +71,7 @@ store-anodes-spec =
     Inv-loop
     μ-loop
     loop-holds
-    mul-from
-    cast-same-run
+    mul-t11
     same-run-requires
     store-run-requires
     add-slot

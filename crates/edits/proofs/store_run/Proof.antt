@@ -12,10 +12,10 @@ use Rattle.edits.proofs.store_run.Statement.{statement}
 use Rattle.edits.proofs.store_run.Tie as tie
 
 abbrev Inv-loop : tie.InvT-loop
-Inv-loop image₀ counts firsts nexts new-counts new-firsts new-nexts from a₀ a-end image a = (a ≤ from + 82) × (length image ≡ length image₀) × ((img : List ℕ) → image₀ ≡ storeChanged (anodesFrom counts firsts nexts) (anodesFrom new-counts new-firsts new-nexts) img from → image ≡ storeChanged (anodesFrom counts firsts nexts) (anodesFrom new-counts new-firsts new-nexts) img a)
+Inv-loop image₀ counts firsts nexts new-counts new-firsts new-nexts a₀ a-end image a = (a ≤ a₀ + 82) × (length image ≡ length image₀) × ((img : List ℕ) → image₀ ≡ storeChanged (anodesFrom counts firsts nexts) (anodesFrom new-counts new-firsts new-nexts) img a₀ → image ≡ storeChanged (anodesFrom counts firsts nexts) (anodesFrom new-counts new-firsts new-nexts) img a)
 
 abbrev μ-loop : tie.MeasureT-loop
-μ-loop image₀ counts firsts nexts new-counts new-firsts new-nexts from a₀ a-end image a = from + 82 - a
+μ-loop image₀ counts firsts nexts new-counts new-firsts new-nexts a₀ a-end image a = a₀ + 82 - a
 
 add-a-end : tie.Need-add-a-end Inv-loop μ-loop
 add-a-end c = search needs
@@ -23,14 +23,8 @@ add-a-end c = search needs
 loop-holds : tie.Need-loop-holds Inv-loop μ-loop
 loop-holds c = (search needs, search needs, λ img e. e)
 
-cast-anode-from : tie.Need-cast-anode-from Inv-loop μ-loop
-cast-anode-from c = search needs
-
 anode-from-requires : tie.Need-anode-from-requires Inv-loop μ-loop
 anode-from-requires c κs = search needs
-
-cast-anode-from-2 : tie.Need-cast-anode-from-2 Inv-loop μ-loop
-cast-anode-from-2 c = search needs
 
 anode-from-requires-2 : tie.Need-anode-from-requires-2 Inv-loop μ-loop
 anode-from-requires-2 c κs = search needs
@@ -65,7 +59,7 @@ same-length : tie.Need-same-length Inv-loop μ-loop
 same-length c = search needs
 
 returns : tie.Need-returns Inv-loop μ-loop
-returns c = let e : c .before .loop .a ≡ c .before .before .before .before .before .before .before .before .before .args .from + 82 = omega arith in λ img is. rw e at (c .before .loop .inv .2 img is)
+returns c = let e : c .before .loop .a ≡ c .before .before .before .before .before .before .before .before .before .before .args .from .0 + 82 = omega arith in λ img is. rw e at (c .before .loop .inv .2 img is)
 
 pub store-run-spec : {M : Type 1} → statement M
 store-run-spec =
@@ -75,9 +69,7 @@ store-run-spec =
     μ-loop
     add-a-end
     loop-holds
-    cast-anode-from
     anode-from-requires
-    cast-anode-from-2
     anode-from-requires-2
     same-anode-requires
     set-anode-requires

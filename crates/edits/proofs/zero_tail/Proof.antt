@@ -36,7 +36,7 @@ block-end-requires c κs = search needs
 
 returns-3 : tie.Need-returns-3
 unfolding inBlock
-returns-3 c = λ e head is. withBlock-none _ _ _ (c .before .block-end .ensures) _ (c .if3 .taken) ∙ tail-zeroed _ _ e _ _ is _ head (c .before .before .before .before .if1 .left) (c .before .before .before .if2 .left) _ (c .before .before .nth-block .ensures)
+returns-3 c = λ e head is. withBlock-none _ _ _ (c .before .block-end .ensures) _ (c .if3 .taken) ∙ tail-zeroed _ _ e _ _ is _ head (c .before .before .before .before .before .if1 .left) (c .before .before .before .before .if2 .left) _ (c .before .before .before .nth-block .ensures)
 
 sub-clear : tie.Need-sub-clear
 sub-clear c = search needs
@@ -59,9 +59,9 @@ same-length c = search needs
 returns-4 : tie.Need-returns-4
 unfolding inBlock
 returns-4 c =
-    let n = c .before .before .before .before .before .before .before .before .before .before .before .before .before .args .size in
+    let n = c .before .before .before .before .before .before .before .before .before .before .before .before .before .before .args .size in
     λ e head is. block-changed _ _ _ (c .before .before .before .before .before .block-end .ensures) (omega arith) _ (c .before .before .clear .kept .0) (λ (l : List ℕ). cleared l (n % 512) (512 - n % 512)) (c .before .before .clear .ensures)
-    ∙ tail-zeroed _ _ e _ _ is _ head (c .before .before .before .before .before .before .before .before .if1 .left) (c .before .before .before .before .before .before .before .if2 .left) _ (c .before .before .before .before .before .before .nth-block .ensures)
+    ∙ tail-zeroed _ _ e _ _ is _ head (c .before .before .before .before .before .before .before .before .before .if1 .left) (c .before .before .before .before .before .before .before .before .if2 .left) _ (c .before .before .before .before .before .before .before .nth-block .ensures)
 
 pub zero-tail-spec : {M : Type 1} → statement M
 zero-tail-spec =
