@@ -14,15 +14,16 @@ ghost use Rattle.rules.specs.Tables.{entryOr};
 ghost use Rattle.tables.specs.Held.{ZeroBelow};
 ghost use Rattle.anodes.specs.Loaded.{anodesFrom};
 ghost use Rattle.owners.specs.Marks.{KeptOutside, RunTested, RunHolds, RunMarked, Answered, OwnersMarked};
+use disk::BlockNo;
 use disk::slot_of;
 
 // One of the `count` blocks from `first` upward is marked: their marks add up to more than 0.
-fn any_marked(blocks: &[u16], first: u16, count: u16) -> bool
-    requires { ⌜ (0 < count → first + count ≤ length (now blocks)) ⌝ }
-    ensures { λ r. ⌜ RunTested r (now (blocks .entry)) first (first + count) ⌝ }
+fn any_marked(blocks: &[u16], first: BlockNo, count: u16) -> bool
+    requires { ⌜ (0 < count → first .0 + count ≤ length (now blocks)) ⌝ }
+    ensures { λ r. ⌜ RunTested r (now (blocks .entry)) (first .0) (first .0 + count) ⌝ }
 {
     let mut sum: u32 = 0;
-    let mut i = first as usize;
+    let mut i = first.0 as usize;
     let end = i + count as usize;
     while i < end {
         sum += blocks[i] as u32;
@@ -32,12 +33,12 @@ fn any_marked(blocks: &[u16], first: u16, count: u16) -> bool
 }
 
 // Stores `mark` in the `count` blocks from `first` upward.
-fn fill_run(blocks: &mut [u16], first: u16, count: u16, mark: u16)
-    requires { ⌜ (0 < count → first + count ≤ length (now blocks)) ⌝ }
-    ensures run { λ _. ⌜ RunHolds (now (blocks .exit)) first (first + count) mark ⌝ }
-    ensures kept { λ _. ⌜ KeptOutside (now (blocks .entry)) (now (blocks .exit)) first (first + count) ⌝ }
+fn fill_run(blocks: &mut [u16], first: BlockNo, count: u16, mark: u16)
+    requires { ⌜ (0 < count → first .0 + count ≤ length (now blocks)) ⌝ }
+    ensures run { λ _. ⌜ RunHolds (now (blocks .exit)) (first .0) (first .0 + count) mark ⌝ }
+    ensures kept { λ _. ⌜ KeptOutside (now (blocks .entry)) (now (blocks .exit)) (first .0) (first .0 + count) ⌝ }
 {
-    let mut i = first as usize;
+    let mut i = first.0 as usize;
     let end = i + count as usize;
     while i < end {
         blocks[i] = mark;
@@ -46,10 +47,10 @@ fn fill_run(blocks: &mut [u16], first: u16, count: u16, mark: u16)
 }
 
 // Marks the `count` blocks from `first` upward; true if one of them is marked already.
-fn mark_run(blocks: &mut [u16], first: u16, count: u16, mark: u16) -> bool
-    requires { ⌜ (0 < count → first + count ≤ length (now blocks)) ⌝ }
-    ensures run { λ r. ⌜ RunMarked r (now (blocks .entry)) (now (blocks .exit)) first (first + count) mark ⌝ }
-    ensures kept { λ _. ⌜ KeptOutside (now (blocks .entry)) (now (blocks .exit)) first (first + count) ⌝ }
+fn mark_run(blocks: &mut [u16], first: BlockNo, count: u16, mark: u16) -> bool
+    requires { ⌜ (0 < count → first .0 + count ≤ length (now blocks)) ⌝ }
+    ensures run { λ r. ⌜ RunMarked r (now (blocks .entry)) (now (blocks .exit)) (first .0) (first .0 + count) mark ⌝ }
+    ensures kept { λ _. ⌜ KeptOutside (now (blocks .entry)) (now (blocks .exit)) (first .0) (first .0 + count) ⌝ }
 {
     if any_marked(blocks, first, count) {
         return true;
@@ -65,7 +66,7 @@ fn mark_system(image: &[u8], blocks: &mut [u16]) -> bool
     ensures answer { λ r. ⌜ Answered r (diskSize (now (image .entry))) (systemOwns (now (image .entry))) (entryOr (now (image .entry)) 0) (now (blocks .exit)) ⌝ }
     ensures kept { λ _. ⌜ drop (diskSize (now (image .entry))) (now (blocks .exit)) ≡ drop (diskSize (now (image .entry))) (now (blocks .entry)) ⌝ }
 {
-    if mark_run(blocks, 0, 3, 65535) {
+    if mark_run(blocks, BlockNo(0), 3, 65535) {
         return true;
     }
     for s in 0..42 {
@@ -73,7 +74,7 @@ fn mark_system(image: &[u8], blocks: &mut [u16]) -> bool
         if slot.0 == 0 {
             continue;
         }
-        if mark_run(blocks, slot.0, 1, 65534) {
+        if mark_run(blocks, slot, 1, 65534) {
             return true;
         }
     }
@@ -101,7 +102,7 @@ pub fn mark_owners(
         return true;
     }
     for a in 0..3444 {
-        if mark_run(blocks, firsts[a], counts[a], heads[a]) {
+        if mark_run(blocks, BlockNo(firsts[a]), counts[a], heads[a]) {
             return true;
         }
     }

@@ -7,10 +7,13 @@ use Rattle.owners.proofs.any_marked.Statement.{statement}
 use Rattle.owners.proofs.any_marked.Tie as tie
 
 abbrev Inv-loop : tie.InvT-loop
-Inv-loop blocks first count sum₀ i₀ end sum i = (first ≤ i) × (i ≤ first + count) × (sum + 65535 * first ≤ 65535 * i) × Summed sum blocks first i
+Inv-loop blocks count sum₀ i₀ end sum i = (i₀ ≤ i) × (i ≤ i₀ + count) × (sum + 65535 * i₀ ≤ 65535 * i) × Summed sum blocks i₀ i
 
 abbrev μ-loop : tie.MeasureT-loop
-μ-loop blocks first count sum₀ i₀ end sum i = first + count - i
+μ-loop blocks count sum₀ i₀ end sum i = i₀ + count - i
+
+cast-i : tie.Need-cast-i Inv-loop μ-loop
+cast-i c = search needs
 
 add-end : tie.Need-add-end Inv-loop μ-loop
 add-end c = search needs
@@ -20,12 +23,12 @@ loop-holds c = (search needs, search needs, search needs, summed-none _ _)
 
 mul-sum : tie.Need-mul-sum Inv-loop μ-loop
 mul-sum c =
-    let h = c .before .before .pre (omega arith) in
+    let h = c .before .before .before .pre (omega arith) in
     search needs
 
 shared-slice-read-sum : tie.Need-shared-slice-read-sum Inv-loop μ-loop
 shared-slice-read-sum c =
-    let h = c .before .before .before .pre (omega arith) in
+    let h = c .before .before .before .before .pre (omega arith) in
     search needs
 
 cast-sum : tie.Need-cast-sum Inv-loop μ-loop
@@ -48,7 +51,7 @@ loop-again c =
 returns : tie.Need-returns Inv-loop μ-loop
 returns c =
     let l = c .before .loop in
-    let e : l .i ≡ c .before .before .args .first + c .before .before .args .count = omega arith in
+    let e : l .i ≡ c .before .before .before .args .first .0 + c .before .before .before .args .count = omega arith in
     summed-tested _ _ _ _ (rw e at (l .inv .3))
 
 pub any-marked-spec : {M : Type 1} → statement M
@@ -57,6 +60,7 @@ any-marked-spec =
     (tie.spec
     Inv-loop
     μ-loop
+    cast-i
     add-end
     loop-holds
     mul-sum

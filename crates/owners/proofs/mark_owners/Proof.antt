@@ -42,6 +42,12 @@ returns c =
 loop-holds : tie.Need-loop-holds Inv-loop μ-loop
 loop-holds c = (search needs, search needs, search needs, anode-first _ _ _ _ _ _ (rw (c .if1 .left) at (c .before .before .before .mark-system .ensures .0)))
 
+mul-t14 : tie.Need-mul-t14 Inv-loop μ-loop
+mul-t14 c = search needs
+
+shared-slice-read-t16 : tie.Need-shared-slice-read-t16 Inv-loop μ-loop
+shared-slice-read-t16 c = search needs
+
 mul-mark-run : tie.Need-mul-mark-run Inv-loop μ-loop
 mul-mark-run c = search needs
 
@@ -53,12 +59,6 @@ mul-mark-run-2 c = search needs
 
 shared-slice-read-mark-run-2 : tie.Need-shared-slice-read-mark-run-2 Inv-loop μ-loop
 shared-slice-read-mark-run-2 c = search needs
-
-mul-mark-run-3 : tie.Need-mul-mark-run-3 Inv-loop μ-loop
-mul-mark-run-3 c = search needs
-
-shared-slice-read-mark-run-3 : tie.Need-shared-slice-read-mark-run-3 Inv-loop μ-loop
-shared-slice-read-mark-run-3 c = search needs
 
 mark-run-requires : tie.Need-mark-run-requires Inv-loop μ-loop
 mark-run-requires c κs = λ z. let w = within (c .before .before .before .before) z in search needs
@@ -114,12 +114,12 @@ mark-owners-spec =
     same-length
     returns
     loop-holds
+    mul-t14
+    shared-slice-read-t16
     mul-mark-run
     shared-slice-read-mark-run
     mul-mark-run-2
     shared-slice-read-mark-run-2
-    mul-mark-run-3
-    shared-slice-read-mark-run-3
     mark-run-requires
     same-length-2
     returns-2

@@ -24,4 +24,10 @@ returns-2 c = ((rw (c .before .before .before .before .if1 .left) at (c .before 
 pub mark-run-spec : {M : Type 1} → statement M
 mark-run-spec =
     tie.close
-    (tie.spec any-marked-requires same-length returns fill-run-requires same-length-2 returns-2)
+    (tie.spec
+    any-marked-requires
+    same-length
+    returns
+    fill-run-requires
+    same-length-2
+    returns-2)
