@@ -211,16 +211,16 @@ fn enter_anode(
     parents: &mut [u16],
     head: AnodeNo,
     parent: AnodeNo,
-    a: usize,
+    a: AnodeNo,
     t: Tally,
 ) -> WalkStep
     requires { ⌜ WalkRoom t (now marks) (now queue) (now parents) ⌝ }
-    ensures { λ r. ⌜ Proceeds r (now (marks .exit)) (now (queue .exit)) (now (parents .exit)) (entering t (now (marks .entry)) (now (queue .entry)) (now (parents .entry)) (head .0) (itemsFrom (itemIn (now (counts .entry)) (now (nexts .entry)) (now (heads .entry))) (now (image .entry)) (anodesFrom (now (counts .entry)) (now (firsts .entry)) (now (nexts .entry))) (dirMade (head .0) (parent .0)) a)) ⌝ }
+    ensures { λ r. ⌜ Proceeds r (now (marks .exit)) (now (queue .exit)) (now (parents .exit)) (entering t (now (marks .entry)) (now (queue .entry)) (now (parents .entry)) (head .0) (itemsFrom (itemIn (now (counts .entry)) (now (nexts .entry)) (now (heads .entry))) (now (image .entry)) (anodesFrom (now (counts .entry)) (now (firsts .entry)) (now (nexts .entry))) (dirMade (head .0) (parent .0)) (a .0))) ⌝ }
 {
-    if entry(counts, a) != 1 {
+    if entry(counts, a.0 as usize) != 1 {
         return WalkStep::Fault(Refusal::DirectoryBlock);
     }
-    let b = BlockNo(entry(firsts, a));
+    let b = BlockNo(entry(firsts, a.0 as usize));
     if !is_block_of(image, head, parent, b) {
         return WalkStep::Fault(Refusal::DirectoryBlock);
     }
@@ -256,10 +256,10 @@ fn enter_directory(
     ensures { λ r. ⌜ Proceeds r (now (marks .exit)) (now (queue .exit)) (now (parents .exit)) (entering t (now (marks .entry)) (now (queue .entry)) (now (parents .entry)) (head .0) (itemsWith (itemIn (now (counts .entry)) (now (nexts .entry)) (now (heads .entry))) (now (image .entry)) (anodesFrom (now (counts .entry)) (now (firsts .entry)) (now (nexts .entry))) (dirMade (head .0) (parent .0)))) ⌝ }
 {
     let mut tally = t;
-    let mut at = head.0 as usize;
+    let mut at = head;
     let mut fuel: usize = 3444;
     while fuel > 0 {
-        if at == 0 {
+        if at.0 == 0 {
             return WalkStep::Go(tally);
         }
         let step = enter_anode(
@@ -280,7 +280,7 @@ fn enter_directory(
             return step;
         };
         tally = after;
-        at = entry(nexts, at) as usize;
+        at = AnodeNo(entry(nexts, at.0 as usize));
         fuel -= 1;
     }
     WalkStep::Go(tally)
@@ -332,16 +332,16 @@ fn walk_queue(
 }
 
 // Whether anode `x` from 6 up heads a chain and has no mark.
-fn is_unnamed(heads: &[u16], marks: &[u16], x: usize) -> bool
-    ensures { λ r. ⌜ r ≡ unnamedAt (now (heads .entry)) (now (marks .entry)) x ⌝ }
+fn is_unnamed(heads: &[u16], marks: &[u16], x: AnodeNo) -> bool
+    ensures { λ r. ⌜ r ≡ unnamedAt (now (heads .entry)) (now (marks .entry)) (x .0) ⌝ }
 {
-    if x < 6 {
+    if x.0 < 6 {
         return false;
     }
-    if entry(heads, x) as usize != x {
+    if entry(heads, x.0 as usize) != x.0 {
         return false;
     }
-    entry(marks, x) == 0
+    entry(marks, x.0 as usize) == 0
 }
 
 // Whether some chain from 6 up has no mark.
@@ -349,7 +349,7 @@ fn any_unnamed(heads: &[u16], marks: &[u16]) -> bool
     ensures { λ r. ⌜ r ≡ anyBelow (unnamedAt (now (heads .entry)) (now (marks .entry))) 3444 ⌝ }
 {
     for x in 0..3444 {
-        if is_unnamed(heads, marks, x) {
+        if is_unnamed(heads, marks, AnodeNo(x)) {
             return true;
         }
     }

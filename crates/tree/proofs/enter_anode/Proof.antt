@@ -9,12 +9,15 @@ use Rattle.tree.proofs.enter_anode.Statement.{statement}
 use Rattle.tree.proofs.enter_anode.Tie as tie
 
 -- the anode holds one block
-one-block : (c : tie.Else1) → let g = c .before .before .before .before .before .before .before .before .before .before .args in getD (g .counts .now) (g .a) 0 ≡ 1
+one-block : (c : tie.Else1) → let g = c .before .before .before .before .before .before .before .before .before .before .before .args in getD (g .counts .now) (g .a .0) 0 ≡ 1
 one-block c = sym (c .before .entry .ensures) ∙ c .if1 .left
 
 -- whether that is marked as the directory's
-its-mark : (c : tie.After-is-block-of) → let g = c .before .before .before .before .before .before .before .before .before .before .before .before .args in isBlockOf (g .image .now) (dirMade (g .head .0) (g .parent .0)) (getD (g .firsts .now) (g .a) 0) ≡ c .is-block-of .result
+its-mark : (c : tie.After-is-block-of) → let g = c .before .before .before .before .before .before .before .before .before .before .before .before .before .before .args in isBlockOf (g .image .now) (dirMade (g .head .0) (g .parent .0)) (getD (g .firsts .now) (g .a .0) 0) ≡ c .is-block-of .result
 its-mark c = rw (c .before .entry2 .ensures) at (sym (c .is-block-of .ensures))
+
+cast-entry : tie.Need-cast-entry
+cast-entry c = search needs
 
 entry-requires : tie.Need-entry-requires
 entry-requires c κs = search needs
@@ -22,6 +25,9 @@ entry-requires c κs = search needs
 returns : tie.Need-returns
 unfolding anodesFrom
 returns c = (sym (anode-count _ _ _ _ _ _ _ _ _ (λ z. c .if1 .taken (c .before .entry .ensures ∙ z))), search needs)
+
+cast-entry-2 : tie.Need-cast-entry-2
+cast-entry-2 c = search needs
 
 entry-requires-2 : tie.Need-entry-requires-2
 entry-requires-2 c κs = search needs
@@ -31,7 +37,7 @@ is-block-of-requires c κs = search needs
 
 returns-2 : tie.Need-returns-2
 unfolding anodesFrom
-returns-2 c = (sym (anode-mark _ _ _ _ _ _ _ _ _ (one-block (c .before .before .before)) (its-mark (c .before) ∙ not-true _ (c .if2 .taken))), search needs)
+returns-2 c = (sym (anode-mark _ _ _ _ _ _ _ _ _ (one-block (c .before .before .before .before)) (its-mark (c .before) ∙ not-true _ (c .if2 .taken))), search needs)
 
 enter-block-requires : tie.Need-enter-block-requires
 enter-block-requires c κs = search needs
@@ -49,14 +55,16 @@ returns-3 : tie.Need-returns-3
 unfolding anodesFrom
 returns-3 c =
     let e = rw (c .before .before .before .before .before .before .before .before .before .before .before .before .entry2 .ensures) at (c .before .before .before .before .before .before .enter-block .ensures .0) in
-    (e ∙ sym (anode-block _ _ _ _ _ _ _ _ _ (one-block (c .before .before .before .before .before .before .before .before .before .before .before .before .before)) (its-mark (c .before .before .before .before .before .before .before .before .before .before .before) ∙ not-false _ (c .before .before .before .before .before .before .before .before .before .before .if2 .left))), c .before .before .before .before .before .before .enter-block .ensures .1)
+    (e ∙ sym (anode-block _ _ _ _ _ _ _ _ _ (one-block (c .before .before .before .before .before .before .before .before .before .before .before .before .before .before)) (its-mark (c .before .before .before .before .before .before .before .before .before .before .before) ∙ not-false _ (c .before .before .before .before .before .before .before .before .before .before .if2 .left))), c .before .before .before .before .before .before .enter-block .ensures .1)
 
 pub enter-anode-spec : {M : Type 1} → statement M
 enter-anode-spec =
     tie.close
     (tie.spec
+    cast-entry
     entry-requires
     returns
+    cast-entry-2
     entry-requires-2
     is-block-of-requires
     returns-2

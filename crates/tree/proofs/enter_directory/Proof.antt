@@ -13,17 +13,14 @@ use Rattle.rules.specs.Walk.{dirMade}
 abbrev Inv-loop : tie.InvT-loop
 Inv-loop image counts firsts nexts heads marks₀ queue₀ parents₀ head parent tally₀ at₀ fuel₀ marks queue parents tally at fuel =
     WalkRoom tally marks queue parents
-    × (entering tally marks queue parents (head .0) (itemsAlong (itemIn counts nexts heads) image (anodesFrom counts firsts nexts) (dirMade (head .0) (parent .0)) fuel at) ≡ entering tally₀ marks₀ queue₀ parents₀ (head .0) (itemsAlong (itemIn counts nexts heads) image (anodesFrom counts firsts nexts) (dirMade (head .0) (parent .0)) fuel₀ at₀))
+    × (entering tally marks queue parents (head .0) (itemsAlong (itemIn counts nexts heads) image (anodesFrom counts firsts nexts) (dirMade (head .0) (parent .0)) fuel (at .0)) ≡ entering tally₀ marks₀ queue₀ parents₀ (head .0) (itemsAlong (itemIn counts nexts heads) image (anodesFrom counts firsts nexts) (dirMade (head .0) (parent .0)) fuel₀ (at₀ .0)))
 
 abbrev μ-loop : tie.MeasureT-loop
 μ-loop image counts firsts nexts heads marks₀ queue₀ parents₀ head parent tally₀ at₀ fuel₀ marks queue parents tally at fuel = fuel
 
 -- the tables in the loop are as long as those that were lent
-lengths : (c : tie.At-loop Inv-loop μ-loop) → let g = c .before .before .before .before .before .before .before .before .before .before .args in let l = c .loop in SameLengths (l .marks) (l .queue) (l .parents) (g .marks .now) (g .queue .now) (g .parents .now)
-lengths c = same-lengths (c .loop .tally) (c .before .before .before .before .before .before .before .before .before .before .args .t) (c .loop .inv .0) (c .before .before .before .before .before .before .before .before .before .before .pre)
-
-cast-at : tie.Need-cast-at Inv-loop μ-loop
-cast-at c = search needs
+lengths : (c : tie.At-loop Inv-loop μ-loop) → let g = c .before .before .before .before .before .before .before .before .before .args in let l = c .loop in SameLengths (l .marks) (l .queue) (l .parents) (g .marks .now) (g .queue .now) (g .parents .now)
+lengths c = same-lengths (c .loop .tally) (c .before .before .before .before .before .before .before .before .before .args .t) (c .loop .inv .0) (c .before .before .before .before .before .before .before .before .before .pre)
 
 loop-holds : tie.Need-loop-holds Inv-loop μ-loop
 loop-holds c = search needs
@@ -40,7 +37,7 @@ same-length-3 c = search needs
 returns : tie.Need-returns Inv-loop μ-loop
 unfolding itemsWith
 returns c =
-    let l = c .before .before .loop in
+    let l = c .before .before .before .loop in
     (sym (enter-none _ _ _ _ _ (gathered-end _ _ (l .fuel) _ (c .if1 .taken))) ∙ l .inv .1, l .inv .0 .3)
 
 enter-anode-requires : tie.Need-enter-anode-requires Inv-loop μ-loop
@@ -53,26 +50,26 @@ enum-told : tie.Need-enum-told Inv-loop μ-loop
 enum-told c = search needs
 
 same-length-4 : tie.Need-same-length-4 Inv-loop μ-loop
-same-length-4 c = c .before .before .before .before .before .before .before .before .enter-anode .kept .1 .1 .1 .1 .1 .0 ∙ lengths (c .before .before .before .before .before .before .before .before .before .before .before .before .before .before) .of-marks
+same-length-4 c = c .before .before .before .before .before .before .before .before .enter-anode .kept .1 .1 .1 .1 .1 .0 ∙ lengths (c .before .before .before .before .before .before .before .before .before .before .before .before .before .before .before) .of-marks
 
 same-length-5 : tie.Need-same-length-5 Inv-loop μ-loop
-same-length-5 c = c .before .before .before .before .before .before .before .before .enter-anode .kept .1 .1 .1 .1 .1 .1 .0 ∙ lengths (c .before .before .before .before .before .before .before .before .before .before .before .before .before .before) .of-queue
+same-length-5 c = c .before .before .before .before .before .before .before .before .enter-anode .kept .1 .1 .1 .1 .1 .1 .0 ∙ lengths (c .before .before .before .before .before .before .before .before .before .before .before .before .before .before .before) .of-queue
 
 same-length-6 : tie.Need-same-length-6 Inv-loop μ-loop
-same-length-6 c = c .before .before .before .before .before .before .before .before .enter-anode .kept .1 .1 .1 .1 .1 .1 .1 .0 ∙ lengths (c .before .before .before .before .before .before .before .before .before .before .before .before .before .before) .of-parents
+same-length-6 c = c .before .before .before .before .before .before .before .before .enter-anode .kept .1 .1 .1 .1 .1 .1 .1 .0 ∙ lengths (c .before .before .before .before .before .before .before .before .before .before .before .before .before .before .before) .of-parents
 
 returns-2 : tie.Need-returns-2 Inv-loop μ-loop
 unfolding itemsWith
 returns-2 c =
-    let l = c .before .before .before .before .before .before .before .before .before .before .before .before .before .before .loop in
+    let l = c .before .before .before .before .before .before .before .before .before .before .before .before .before .before .before .loop in
     let g = c .enum-told .given in
     (rw (g .1) (sym (along-stop _ _ _ _ _ _ _ _ _ _ (l .fuel - 1) (omega arith) (c .before .before .before .before .before .before .before .before .before .before .before .before .if1 .left) _ (rw (g .1) at (sym (c .before .before .before .before .before .before .before .before .enter-anode .ensures .0)))) ∙ l .inv .1), c .before .before .before .before .before .before .before .before .enter-anode .ensures .1)
 
+cast-entry : tie.Need-cast-entry Inv-loop μ-loop
+cast-entry c = search needs
+
 entry-requires : tie.Need-entry-requires Inv-loop μ-loop
 entry-requires c κs = search needs
-
-cast-at-2 : tie.Need-cast-at-2 Inv-loop μ-loop
-cast-at-2 c = search needs
 
 sub-fuel : tie.Need-sub-fuel Inv-loop μ-loop
 sub-fuel c = search needs
@@ -83,10 +80,10 @@ loop-less c = search needs
 loop-again : tie.Need-loop-again Inv-loop μ-loop
 unfolding anodesFrom
 loop-again c =
-    let l = c .before .before .before .before .before .before .before .before .before .before .before .before .before .before .before .before .loop in
-    let g = c .before .before .step .given in (
-      (search needs, search needs, search needs, rw (g .1) at (c .before .before .before .before .before .before .before .before .before .before .enter-anode .ensures .1)),
-      rw (c .entry .ensures) (sym (along-step _ _ _ _ _ _ _ _ _ _ (l .fuel - 1) (omega arith) (c .before .before .before .before .before .before .before .before .before .before .before .before .before .before .if1 .left) _ _ _ (rw (g .1) at (sym (c .before .before .before .before .before .before .before .before .before .before .enter-anode .ensures .0)))) ∙ l .inv .1),
+    let l = c .before .before .before .before .before .before .before .before .before .before .before .before .before .before .before .before .before .before .loop in
+    let g = c .before .before .before .step .given in (
+      (search needs, search needs, search needs, rw (g .1) at (c .before .before .before .before .before .before .before .before .before .before .before .enter-anode .ensures .1)),
+      rw (c .entry .ensures) (sym (along-step _ _ _ _ _ _ _ _ _ _ (l .fuel - 1) (omega arith) (c .before .before .before .before .before .before .before .before .before .before .before .before .before .before .before .if1 .left) _ _ _ (rw (g .1) at (sym (c .before .before .before .before .before .before .before .before .before .before .before .enter-anode .ensures .0)))) ∙ l .inv .1),
     )
 
 same-length-7 : tie.Need-same-length-7 Inv-loop μ-loop
@@ -110,7 +107,6 @@ enter-directory-spec =
     (tie.spec
     Inv-loop
     μ-loop
-    cast-at
     loop-holds
     same-length
     same-length-2
@@ -123,8 +119,8 @@ enter-directory-spec =
     same-length-5
     same-length-6
     returns-2
+    cast-entry
     entry-requires
-    cast-at-2
     sub-fuel
     loop-less
     loop-again
