@@ -14,10 +14,10 @@ use edits::set_owners;
 use edits::store_anodes;
 use edits::take_out;
 use lookup::EntryAt;
+use space::Moves;
 use space::copied;
 use space::drop_chain;
 use space::move_many;
-use space::moves_count;
 use space::moves_number;
 use tree::chain_sum;
 
@@ -85,22 +85,22 @@ pub fn remove_entry(
         &mut new_nexts,
         &mut moved,
     );
-    let answer = moves_number(plan);
-    if answer == 0 {
-        commit_remove(
-            image,
-            blocks,
-            anodes,
-            counts,
-            firsts,
-            nexts,
-            &mut new_counts,
-            &mut new_firsts,
-            &mut new_nexts,
-            &moved,
-            moves_count(plan),
-            e,
-        );
-    }
-    answer
+    let Moves::Done(n) = plan else {
+        return moves_number(plan);
+    };
+    commit_remove(
+        image,
+        blocks,
+        anodes,
+        counts,
+        firsts,
+        nexts,
+        &mut new_counts,
+        &mut new_firsts,
+        &mut new_nexts,
+        &moved,
+        n,
+        e,
+    );
+    0
 }

@@ -25,7 +25,6 @@ use lookup::EntryAt;
 use space::Moves;
 use space::copied;
 use space::move_many;
-use space::moves_count;
 use space::moves_number;
 use tree::blocks_for;
 use tree::chain_sum;
@@ -142,24 +141,24 @@ pub fn resize_entry(
         &mut new_nexts,
         &mut moved,
     );
-    let answer = moves_number(plan);
-    if answer == 0 {
-        commit_resize(
-            image,
-            blocks,
-            anodes,
-            counts,
-            firsts,
-            nexts,
-            &new_counts,
-            &new_firsts,
-            &new_nexts,
-            &moved,
-            moves_count(plan),
-            new_owner(have, want, e.anode),
-            e,
-            size,
-        );
-    }
-    answer
+    let Moves::Done(n) = plan else {
+        return moves_number(plan);
+    };
+    commit_resize(
+        image,
+        blocks,
+        anodes,
+        counts,
+        firsts,
+        nexts,
+        &new_counts,
+        &new_firsts,
+        &new_nexts,
+        &moved,
+        n,
+        new_owner(have, want, e.anode),
+        e,
+        size,
+    );
+    0
 }

@@ -8,7 +8,6 @@ use native.Mathlib.Omega.{arith}
 use native.Mathlib.Numerals.{add-one}
 use lib.ListN.{length, set, take}
 use lib.Seq.{take-suc-set}
-use Rattle.disk.proofs.Laws.{number-some}
 use Rattle.rules.specs.Counting.{oneAt}
 use Rattle.rules.specs.Anodes.{Anodes, exists}
 use Rattle.rules.specs.Chains.{systemOwns, blockCount}
@@ -25,9 +24,7 @@ use Rattle.laws.specs.Take.{take-good}
 use Rattle.laws.specs.Give.{give-good}
 use Rattle.laws.specs.Plans.{after-none, after-both, repeated-zero, repeated-next, repeated-stop}
 use Rattle.laws.specs.Whole.{blocks-count}
-use Rattle.space.specs.declared.Moves.{Moves}
-use Rattle.space.specs.declared.Moves.the-variants.{Done, Stopped}
-use Rattle.space.specs.Steps.{manyPlan, movesNumber, movesCount, moveBlock, moveMany, GoodAnodes}
+use Rattle.space.specs.Steps.{moveBlock, moveMany, GoodAnodes}
 
 -- ---- what a step leaves
 
@@ -113,16 +110,3 @@ module _ (img : List ℕ) (taking : Bool) (h : ℕ) (size : wrongSize img ≡ fa
             same = rw (add-one done, take-suc-set moved done y (omega (arith, long, run-left .0)))
                 (sym (after-both (take done moved) (y ∷ []) (moveMany img taking (left - 1) t h)) ∙ rw (← (repeated-next (λ t. moveBlock img taking t h) left (left - 1) (omega arith) s t (y ∷ []) e)) (run .same));
           }
-
--- ---- the answer of a run
-
-module _ (t : Anodes) (moved : List ℕ) where
-  -- with the number 0 it is done
-  pub moves-done : (m : Moves) → movesNumber m ≡ 0 → manyPlan m t moved ≡ planned t (take (movesCount m) moved)
-  moves-done (Done n) e = refl
-  moves-done (Stopped r) e = absurd (omega (arith, number-some r, e))
-
-  -- with another it is refused
-  pub moves-stopped : (m : Moves) → movesNumber m ≢ 0 → manyPlan m t moved ≡ refused (movesNumber m)
-  moves-stopped (Done n) u = absurd (u refl)
-  moves-stopped (Stopped r) u = refl

@@ -45,11 +45,6 @@ abbrev pub movesNumber : Moves → ℕ
 movesNumber (Done n) = 0
 movesNumber (Stopped r) = numberOf r
 
--- how many blocks a run of steps moved, none where it is stopped
-abbrev pub movesCount : Moves → ℕ
-movesCount (Done n) = n
-movesCount (Stopped r) = 0
-
 -- a step of a resize or a removal: a block of data taken for the chain of h, or its last block given back
 unfoldable pub moveBlock : List ℕ → Bool → Anodes → ℕ → Plan
 moveBlock img taking s h = cond taking (takeBlock limit (exists img) false s h) (giveBack limit (exists img) (lastReserved img) s h)

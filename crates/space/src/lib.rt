@@ -11,7 +11,7 @@ ghost use Rattle.rules.specs.Chains.{chainOf, cut, blockCount};
 ghost use Rattle.rules.specs.Accepted.{lastReserved};
 ghost use Rattle.rules.specs.Space.{rewritten, insertedAfter, unlinked, withoutBlock, firstExtent, lastExtent, freeExtent, sideOf, lowestFree, append, put, takeBlock, join, giveBack, dropped};
 ghost use Rattle.anodes.specs.Loaded.{anodesFrom, AnodeTables};
-ghost use Rattle.space.specs.Steps.{freeIn, stepPlan, manyPlan, stoppedBy, movesNumber, movesCount, moveBlock, moveMany, Ready, LinkedFrom, foundOf};
+ghost use Rattle.space.specs.Steps.{freeIn, stepPlan, manyPlan, stoppedBy, movesNumber, moveBlock, moveMany, Ready, LinkedFrom, foundOf};
 use disk::AnodeNo;
 use disk::BlockNo;
 use disk::Refusal;
@@ -367,16 +367,6 @@ pub fn moves_number(moves: Moves) -> u32
     match moves {
         Moves::Done(_) => 0,
         Moves::Stopped(r) => number(r),
-    }
-}
-
-// How many blocks changed hands in a run of steps that is done; 0 for a stopped one.
-pub fn moves_count(moves: Moves) -> usize
-    ensures { λ r. ⌜ r ≡ movesCount moves ⌝ }
-{
-    match moves {
-        Moves::Done(n) => n,
-        Moves::Stopped(_) => 0,
     }
 }
 
