@@ -10,7 +10,7 @@ ghost use Rattle.pfs.specs.Listed.{nameGiven};
 pub extern "C" fn pfs_check(image: &[u8], blocks: &mut [u16], anodes: &mut [u16]) -> u32
     ensures { λ r. ⌜ outcomeOf r (now (image .entry)) (now (blocks .exit)) (now (anodes .exit)) [] [] ≡ checkOutcome (now (image .entry)) (now (blocks .entry)) (now (anodes .entry)) ⌝ }
 {
-    calls::check(image, blocks, anodes)
+    check_calls::check(image, blocks, anodes)
 }
 
 // The check, with the disk's size in blocks, its free blocks, files and directories; zeros after a refusal.
@@ -23,7 +23,7 @@ pub extern "C" fn pfs_summary(
 ) -> u32
     ensures { λ r. ⌜ outcomeOf r (now (image .entry)) (now (blocks .exit)) (now (anodes .exit)) (now (fields .exit)) [] ≡ summaryOutcome (now (image .entry)) (now (blocks .entry)) (now (anodes .entry)) ⌝ }
 {
-    calls::summary(image, blocks, anodes, fields)
+    check_calls::summary(image, blocks, anodes, fields)
 }
 
 // Makes an empty disk with last reserved `last` and so many anode blocks; a refused call leaves the image.
@@ -65,7 +65,7 @@ pub extern "C" fn pfs_read(
 ) -> u32
     ensures { λ r. ⌜ outcomeOf r (now (image .entry)) (now (blocks .exit)) (now (anodes .exit)) (now (out .exit)) [] ≡ readOutcome (now (image .entry)) (now (blocks .entry)) (now (anodes .entry)) directory (now (name .entry)) offset (now (out .entry)) ⌝ }
 {
-    calls::read(image, blocks, anodes, directory, name, offset, out)
+    read_calls::read(image, blocks, anodes, directory, name, offset, out)
 }
 
 // The fields of the n-th entry of a directory, from 0; the name and the comment by offset in the image and length; zero fields after a refusal.
@@ -81,7 +81,7 @@ pub extern "C" fn pfs_list(
     ensures { λ r. ⌜ outcomeOf r (now (image .entry)) (now (blocks .exit)) (now (anodes .exit)) (now (fields .exit)) (nameGiven (now (image .entry)) (now (fields .exit))) ≡ listOutcome (now (image .entry)) (now (blocks .entry)) (now (anodes .entry)) directory place ⌝ }
 {
     let mut answer: u32 = 0;
-    calls::list(image, blocks, anodes, directory, place, fields, &mut answer);
+    read_calls::list(image, blocks, anodes, directory, place, fields, &mut answer);
     answer
 }
 
@@ -102,7 +102,7 @@ pub extern "C" fn pfs_make(
 ) -> u32
     ensures { λ r. ⌜ outcomeOf r (now (image .exit)) (now (blocks .exit)) (now (anodes .exit)) [] [] ≡ makeOutcome (now (image .entry)) (now (blocks .entry)) (now (anodes .entry)) directory kind (now (name .entry)) (now (comment .entry)) day minute tick protection ⌝ }
 {
-    calls::make(
+    change_calls::make(
         image,
         blocks,
         anodes,
@@ -129,7 +129,7 @@ pub extern "C" fn pfs_resize(
 ) -> u32
     ensures { λ r. ⌜ outcomeOf r (now (image .exit)) (now (blocks .exit)) (now (anodes .exit)) [] [] ≡ resizeOutcome (now (image .entry)) (now (blocks .entry)) (now (anodes .entry)) directory (now (name .entry)) size ⌝ }
 {
-    calls::resize(image, blocks, anodes, directory, name, size)
+    change_calls::resize(image, blocks, anodes, directory, name, size)
 }
 
 // Replaces bytes of a file from the offset on, within its size; a refused call leaves the image.
@@ -145,7 +145,7 @@ pub extern "C" fn pfs_write(
 ) -> u32
     ensures { λ r. ⌜ outcomeOf r (now (image .exit)) (now (blocks .exit)) (now (anodes .exit)) [] [] ≡ writeOutcome (now (image .entry)) (now (blocks .entry)) (now (anodes .entry)) directory (now (name .entry)) offset (now (bytes .entry)) ⌝ }
 {
-    calls::write(image, blocks, anodes, directory, name, offset, bytes)
+    change_calls::write(image, blocks, anodes, directory, name, offset, bytes)
 }
 
 // Removes a file or an empty directory; a refused call leaves the image.
@@ -159,5 +159,5 @@ pub extern "C" fn pfs_remove(
 ) -> u32
     ensures { λ r. ⌜ outcomeOf r (now (image .exit)) (now (blocks .exit)) (now (anodes .exit)) [] [] ≡ removeOutcome (now (image .entry)) (now (blocks .entry)) (now (anodes .entry)) directory (now (name .entry)) ⌝ }
 {
-    calls::remove(image, blocks, anodes, directory, name)
+    change_calls::remove(image, blocks, anodes, directory, name)
 }

@@ -1,7 +1,7 @@
-use Rattle.calls.proofs.Opened.{opened, read-answered, read-refused}
+use Rattle.call_laws.specs.Opened.{opened, read-answered, read-refused}
 use borrow.Author.Needs.{needs}
-use Rattle.calls.proofs.read.Statement.{statement}
-use Rattle.calls.proofs.read.Tie as tie
+use Rattle.read_calls.proofs.read.Statement.{statement}
+use Rattle.read_calls.proofs.read.Tie as tie
 
 slice-aggregate-open-disk : tie.Need-slice-aggregate-open-disk
 slice-aggregate-open-disk c = search needs

@@ -1,7 +1,7 @@
-use Rattle.calls.proofs.Opened.{check-accepted, check-refused}
+use Rattle.call_laws.specs.Opened.{check-accepted, check-refused}
 use borrow.Author.Needs.{needs}
-use Rattle.calls.proofs.check.Statement.{statement}
-use Rattle.calls.proofs.check.Tie as tie
+use Rattle.check_calls.proofs.check.Statement.{statement}
+use Rattle.check_calls.proofs.check.Tie as tie
 
 check-disk-requires : tie.Need-check-disk-requires
 check-disk-requires c κs = search needs

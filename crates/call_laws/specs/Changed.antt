@@ -17,7 +17,7 @@ use Rattle.fsck.specs.declared.Checked.{Checked}
 use Rattle.fsck.specs.declared.Checked.the-variants.{Accepted, Refused}
 use Rattle.fsck.specs.Answers.{checkedNumber}
 use Rattle.change_tables.specs.Leaves.{Leaves}
-use Rattle.calls.proofs.Opened.{change-refused, change-answered}
+use Rattle.call_laws.specs.Opened.{change-refused, change-answered}
 
 module _ (img b₀ a₀ b a : List ℕ) (x : Checked) (e : outcomeOf (checkedNumber x) img b a [] [] ≡ checkOutcome img b₀ a₀) where
   -- ---- the check refused

@@ -1,8 +1,8 @@
-use Rattle.calls.proofs.Opened.{opened}
-use Rattle.calls.proofs.Changed.{write-answered, write-refused}
+use Rattle.call_laws.specs.Opened.{opened}
+use Rattle.call_laws.specs.Changed.{write-answered, write-refused}
 use borrow.Author.Needs.{needs}
-use Rattle.calls.proofs.write.Statement.{statement}
-use Rattle.calls.proofs.write.Tie as tie
+use Rattle.change_calls.proofs.write.Statement.{statement}
+use Rattle.change_calls.proofs.write.Tie as tie
 
 slice-aggregate-open-disk : tie.Need-slice-aggregate-open-disk
 slice-aggregate-open-disk c = search needs

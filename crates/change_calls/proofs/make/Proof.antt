@@ -1,8 +1,8 @@
-use Rattle.calls.proofs.Opened.{opened, heads-long}
-use Rattle.calls.proofs.Changed.{make-answered, make-refused}
+use Rattle.call_laws.specs.Opened.{opened, heads-long}
+use Rattle.call_laws.specs.Changed.{make-answered, make-refused}
 use borrow.Author.Needs.{needs}
-use Rattle.calls.proofs.make.Statement.{statement}
-use Rattle.calls.proofs.make.Tie as tie
+use Rattle.change_calls.proofs.make.Statement.{statement}
+use Rattle.change_calls.proofs.make.Tie as tie
 
 slice-aggregate-open-disk : tie.Need-slice-aggregate-open-disk
 slice-aggregate-open-disk c = search needs

@@ -1,9 +1,9 @@
 use native.Mathlib.Omega.{arith}
 use Rattle.fsck.proofs.Laws.{outcome-size}
-use Rattle.calls.proofs.Opened.{summary-accepted, summary-refused}
+use Rattle.call_laws.specs.Opened.{summary-accepted, summary-refused}
 use borrow.Author.Needs.{needs}
-use Rattle.calls.proofs.summary.Statement.{statement}
-use Rattle.calls.proofs.summary.Tie as tie
+use Rattle.check_calls.proofs.summary.Statement.{statement}
+use Rattle.check_calls.proofs.summary.Tie as tie
 
 check-disk-requires : tie.Need-check-disk-requires
 check-disk-requires c κs = search needs
