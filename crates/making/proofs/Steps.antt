@@ -32,9 +32,10 @@ use Rattle.change_laws.specs.Image.{GoodOn, AcceptedWhole, image-passed, accept
 use Rattle.change_laws.specs.MakePlan.{Fresh, fresh-free, made-orphan}
 use Rattle.change_laws.specs.Make.{needed-refused}
 use Rattle.change_tables.specs.Laws.{Shows, shows-ran}
-use Rattle.space.specs.declared.Step.{Step}
-use Rattle.space.specs.declared.Step.the-variants.{Moved, Refused}
-use Rattle.space.specs.Steps.{stepPlan, Ready}
+use Rattle.placing.specs.declared.Step.{Step}
+use Rattle.placing.specs.declared.Step.the-variants.{Moved, Refused}
+use Rattle.placing.specs.Steps.{stepPlan}
+use Rattle.space.specs.Steps.{Ready}
 use Rattle.making.specs.declared.Planned.the-variants.{Make, Stopped}
 use Rattle.making.specs.Steps.{someBlock, neededPlan, PlanOf}
 

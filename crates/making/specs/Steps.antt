@@ -13,8 +13,8 @@ use Rattle.rules.specs.Accepted.{PastDamage}
 use Rattle.rules.specs.Space.{Plan, refused, planned}
 use Rattle.rules.specs.Changes.{entryStart, NewEntry, left, made}
 use Rattle.change_laws.specs.MakePlan.{Fresh, MakeSteps}
-use Rattle.space.specs.declared.Step.{Step}
-use Rattle.space.specs.declared.Step.the-variants.{Moved, Refused}
+use Rattle.placing.specs.declared.Step.{Step}
+use Rattle.placing.specs.declared.Step.the-variants.{Moved, Refused}
 use Rattle.making.specs.declared.MakePlan.{MakePlan}
 use Rattle.making.specs.declared.Planned.{Planned}
 use Rattle.making.specs.declared.Planned.the-variants.{Make, Stopped}

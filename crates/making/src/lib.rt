@@ -32,9 +32,9 @@ use edits::first_room;
 use edits::put_header;
 use edits::put_new_entry;
 use edits::store_anodes;
-use space::Step;
+use placing::Step;
+use searches::lowest_free;
 use space::copied;
-use space::lowest_free;
 use space::take_block;
 use tables::set_entry;
 

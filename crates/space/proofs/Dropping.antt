@@ -19,7 +19,7 @@ use Rattle.laws.specs.Bags.{occurrences-nil, occurrences-cons}
 use Rattle.laws.specs.Segments.{Seg, seg-keep}
 use Rattle.laws.specs.Links.{Linked, the-chain, seg-once, seg-short}
 use Rattle.anodes.specs.Loaded.{anodesFrom}
-use Rattle.space.proofs.Tables.{set-zero}
+use Rattle.placing.proofs.Tables.{set-zero}
 
 -- anode a zeroed
 abbrev zeroedAt : Anodes → ℕ → Anodes

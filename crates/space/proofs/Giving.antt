@@ -10,7 +10,7 @@ use Rattle.rules.specs.Counting.{lastOf}
 use Rattle.rules.specs.Anodes.{Anodes, exists}
 use Rattle.rules.specs.Chains.{chainOf, cut, systemOwns, side, blockCount}
 use Rattle.rules.specs.Accepted.{diskSize, wrongSize, lastReserved}
-use Rattle.rules.specs.Space.{nowhere, found, lastExtent, withoutLast, sideOf, join, release, giveFrom, giveBack}
+use Rattle.rules.specs.Space.{nowhere, found, lastExtent, withoutBlock, withoutLast, sideOf, join, release, giveFrom, giveBack}
 use Rattle.laws.specs.Acceptance.{size-bounds}
 use Rattle.laws.specs.Heads.{Head}
 use Rattle.laws.specs.Sides.{side-last-used}
@@ -27,6 +27,12 @@ use Rattle.space.proofs.Taking.{used-below}
 pub full-there : (s : Anodes) (h : ℕ) → 0 < blockCount s h → lastExtent (s .count) 0 (chainOf (s .next) 3444 h) ≡ nowhere → ⊥
 unfolding blockCount
 full-there s h some e = omega (arith, some, lastExtent-none (s .count) 0 (chainOf (s .next) 3444 h) e)
+
+-- ---- the chain's last block out
+
+pub last-out : (s : Anodes) (p x b h : ℕ) → b ≡ s .block x → withoutBlock s h p x b ≡ withoutLast s h p x
+unfolding withoutLast
+last-out s p x b h e = rw e
 
 -- ---- the sums fit
 

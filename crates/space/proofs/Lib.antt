@@ -1,7 +1,4 @@
--- Laws of the searches, of the one-block steps, of many of them, and of a chain zeroed.
-pub mod Searches
-pub mod Tables
-pub mod Cases
+-- Laws of the one-block steps, of many of them, and of a chain zeroed.
 pub mod Taking
 pub mod Giving
 pub mod Many

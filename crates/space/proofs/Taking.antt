@@ -10,7 +10,7 @@ use Rattle.rules.specs.Counting.{occurrences, lastOf}
 use Rattle.rules.specs.Anodes.{Anodes, exists}
 use Rattle.rules.specs.Chains.{chainOf, cut, systemOwns, side}
 use Rattle.rules.specs.Accepted.{diskSize, wrongSize, lastReserved}
-use Rattle.rules.specs.Space.{found, withoutFirst, freeExtent, put, takeFrom, takeBlock}
+use Rattle.rules.specs.Space.{found, withoutBlock, withoutFirst, freeExtent, put, takeFrom, takeBlock}
 use Rattle.laws.specs.Acceptance.{size-bounds}
 use Rattle.laws.specs.Segments.{Chain, seg-keep}
 use Rattle.laws.specs.Links.{View, the-chain, chain-the, next-below}
@@ -65,6 +65,12 @@ found-at g next goes p x w = (
 pub used-below : {t : Anodes} → View 3444 (t .next) (t .block) → (c f n : List ℕ) → anodesFrom c f n ≡ t → (z : ℕ) → getD f z 0 ≢ 0 → z < 3444
 unfolding anodesFrom
 used-below view c f n left z used = view .below z (λ q. used (ap (λ (t : Anodes). t .block z) left ∙ q))
+
+-- ---- the extent's first block out
+
+pub first-out : (s : Anodes) (p x b : ℕ) → b ≡ s .block x + 1 → withoutBlock s 2 p x b ≡ withoutFirst s p x
+unfolding withoutFirst
+first-out s p x b e = rw e
 
 -- ---- the sums fit
 

@@ -2,33 +2,21 @@
 use Prim.Native.Nat.{ℕ}
 use mathlib.Core.Path.{_≡_}
 use mathlib.Core.Logic.{_≢_}
-use mathlib.Core.Bool.{Bool, false, cond, _&&_}
-use mathlib.Core.List.{List, [], _∷_}
-use lib.Dec.{eqb}
-use lib.ListN.{getD, take}
+use mathlib.Core.Bool.{Bool, false, cond}
+use mathlib.Core.List.{List}
+use lib.ListN.{take}
 use Rattle.disk.specs.Refusals.{numberOf}
 use Rattle.rules.specs.Anodes.{Anodes, limit, exists}
 use Rattle.rules.specs.Chains.{systemOwns}
 use Rattle.rules.specs.Accepted.{diskSize, wrongSize, lastReserved}
-use Rattle.rules.specs.Space.{Plan, refused, planned, Found, nowhere, found, repeated, takeBlock, giveBack}
+use Rattle.rules.specs.Space.{Plan, refused, planned, repeated, takeBlock, giveBack}
 use Rattle.laws.specs.Links.{Linked}
 use Rattle.laws.specs.Heads.{Head}
 use Rattle.laws.specs.Space.{Good}
-use Rattle.space.specs.declared.Step.{Step}
-use Rattle.space.specs.declared.Step.the-variants.{Moved, Refused}
+use Rattle.placing.specs.declared.Step.{Step}
+use Rattle.placing.specs.declared.Step.the-variants.{Moved, Refused}
 use Rattle.space.specs.declared.Moves.{Moves}
 use Rattle.space.specs.declared.Moves.the-variants.{Done, Stopped}
-use Rattle.space.specs.declared.Extent.{Extent}
-use Rattle.space.specs.declared.Extent.the-variants.{Nowhere, At}
-
--- anode a exists and is free, by a table of the anodes' blocks
-abbrev pub freeIn : List ℕ → List ℕ → ℕ → Bool
-freeIn img firsts a = eqb (getD firsts a 0) 0 && exists img a
-
--- the plan that a step answers: the block that changed hands, or the refusal
-abbrev pub stepPlan : Step → Anodes → Plan
-stepPlan (Moved y) t = planned t (y .0 ∷ [])
-stepPlan (Refused r) t = refused (numberOf r)
 
 -- the plan that a run of steps answers, where the blocks were noted in a table
 abbrev pub manyPlan : Moves → Anodes → List ℕ → Plan
@@ -64,8 +52,3 @@ Ready img s h = ((wrongSize img ≡ false) × GoodAnodes img s) × (Head (s .nex
 -- what is asked where the chain of h is zeroed: the anodes s are linked as the rules ask, and h is in use
 abbrev pub LinkedFrom : Anodes → ℕ → Type 0
 LinkedFrom s h = Linked limit (s .next) (s .block) × (s .block h ≢ 0)
-
--- an extent found in the tables
-abbrev pub foundOf : Extent → Found
-foundOf Nowhere = nowhere
-foundOf (At p x) = found (p .0) (x .0)

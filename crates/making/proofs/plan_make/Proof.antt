@@ -1,5 +1,5 @@
 use native.Mathlib.Omega.{arith}
-use Rattle.space.proofs.Tables.{rewritten-tables}
+use Rattle.placing.proofs.Tables.{rewritten-tables}
 use Rattle.making.proofs.Done.{lowest-is, begun-is, lowest-fresh, room-is, no-anode}
 use borrow.Author.Needs.{needs}
 use Rattle.making.proofs.plan_make.Statement.{statement}

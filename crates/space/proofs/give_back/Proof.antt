@@ -6,10 +6,9 @@ use Rattle.rules.specs.Anodes.{Anodes}
 use Rattle.rules.specs.Chains.{chainOf}
 use Rattle.rules.specs.Space.{nowhere, found, lastExtent}
 use Rattle.anodes.specs.Loaded.{anodesFrom}
-use Rattle.space.specs.Steps.{foundOf}
-use Rattle.space.proofs.Cases.{last-out}
+use Rattle.searches.specs.Found.{foundOf}
 use Rattle.space.proofs.Taking.{found-at, full-fits}
-use Rattle.space.proofs.Giving.{SideEnd, full-there, last-found, side-end}
+use Rattle.space.proofs.Giving.{SideEnd, full-there, last-found, last-out, side-end}
 use borrow.Author.Needs.{needs}
 use Rattle.space.proofs.give_back.Statement.{statement}
 use Rattle.space.proofs.give_back.Tie as tie

@@ -3,9 +3,10 @@ use native.Mathlib.Omega.{arith}
 use lib.ListN.{length}
 use Rattle.disk.specs.Refusals.{numberOf}
 use Rattle.anodes.specs.Loaded.{anodesFrom, AnodeTables}
-use Rattle.space.specs.declared.Step.{Step}
+use Rattle.placing.specs.declared.Step.{Step}
 use Rattle.space.specs.declared.Moves.{Moves}
-use Rattle.space.specs.Steps.{stepPlan, manyPlan, stoppedBy, moveMany}
+use Rattle.placing.specs.Steps.{stepPlan}
+use Rattle.space.specs.Steps.{manyPlan, stoppedBy, moveMany}
 use Rattle.space.proofs.Many.{Run, run-first, run-left, run-stop, run-next, run-done}
 use borrow.Author.Needs.{needs}
 use Rattle.space.proofs.move_many.Statement.{statement}

@@ -6,10 +6,9 @@ use Rattle.rules.specs.Anodes.{Anodes}
 use Rattle.rules.specs.Chains.{cut}
 use Rattle.rules.specs.Space.{nowhere, found, freeExtent}
 use Rattle.anodes.specs.Loaded.{anodesFrom}
-use Rattle.space.specs.Steps.{foundOf}
+use Rattle.searches.specs.Found.{foundOf}
 use Rattle.laws.specs.FreeExtent.{take-nowhere}
-use Rattle.space.proofs.Cases.{first-out}
-use Rattle.space.proofs.Taking.{ChainEnd, cut-goes, found-at, full-fits, side-found, chain-end}
+use Rattle.space.proofs.Taking.{ChainEnd, cut-goes, found-at, first-out, full-fits, side-found, chain-end}
 use borrow.Author.Needs.{needs}
 use Rattle.space.proofs.take_block.Statement.{statement}
 use Rattle.space.proofs.take_block.Tie as tie

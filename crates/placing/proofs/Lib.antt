@@ -1,0 +1,3 @@
+-- Laws of the anodes in three tables, and of a block put into an anode.
+pub mod Tables
+pub mod Cases

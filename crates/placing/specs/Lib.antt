@@ -1,0 +1,2 @@
+-- What a one-block step answers.
+pub mod Steps

@@ -1,0 +1,151 @@
+// Searches among the anodes in lent tables: the extent that a block is taken from or given back from, the last anode of a chain, the side of a block, and the lowest free anode.
+ghost use mathlib.Core.Bool.{cond};
+ghost use mathlib.Core.List.{List};
+ghost use mathlib.Core.Path.{_≡_};
+ghost use Prim.Native.Nat.{ℕ};
+ghost use lib.ListN.{getD};
+ghost use Rattle.rules.specs.Counting.{lastOf};
+ghost use Rattle.rules.specs.Anodes.{exists};
+ghost use Rattle.rules.specs.Chains.{chainOf, cut};
+ghost use Rattle.rules.specs.Accepted.{lastReserved};
+ghost use Rattle.rules.specs.Space.{firstExtent, lastExtent, freeExtent, sideOf, lowestFree};
+ghost use Rattle.anodes.specs.Loaded.{anodesFrom};
+ghost use Rattle.searches.specs.Found.{freeIn, foundOf};
+use disk::AnodeNo;
+use disk::BlockNo;
+use disk::block_part;
+use disk::root_in;
+use disk::slot_of;
+use tables::entry;
+
+// Where a search along a chain ends: the anode before the one that was found, and that one.
+pub enum Extent {
+    Nowhere,
+    At(AnodeNo, AnodeNo),
+}
+
+// Whether anode `a` exists and is free.
+fn is_free(image: &[u8], firsts: &[u16], a: AnodeNo) -> bool
+    ensures { λ r. ⌜ r ≡ freeIn (now (image .entry)) (now (firsts .entry)) (a .0) ⌝ }
+{
+    if entry(firsts, a.0 as usize) != 0 {
+        return false;
+    }
+    slot_of(image, (a.0 as usize) / 82).0 != 0
+}
+
+// The lowest free anode from 6 up, or 3,444 where there is none.
+pub fn lowest_free(image: &[u8], firsts: &[u16]) -> AnodeNo
+    ensures { λ r. ⌜ ((c n : List ℕ) → r .0 ≡ lowestFree 3444 (exists (now (image .entry))) (anodesFrom c (now (firsts .entry)) n)) ⌝ }
+{
+    for a in 6..3444 {
+        if is_free(image, firsts, AnodeNo(a)) {
+            return AnodeNo(a);
+        }
+    }
+    AnodeNo(3444)
+}
+
+// The anode after `a`, or 0 where that is 2: the free list's side above last reserved ends before 2.
+fn next_before_two(nexts: &[u16], a: AnodeNo) -> AnodeNo
+    ensures { λ r. ⌜ r .0 ≡ cut (λ x. getD (now (nexts .entry)) x 0) (a .0) ⌝ }
+{
+    let next = entry(nexts, a.0 as usize);
+    if next == 2 {
+        return AnodeNo(0);
+    }
+    AnodeNo(next)
+}
+
+// The first anode with a block on the side of the free list that starts at `from`.
+fn first_extent(counts: &[u16], nexts: &[u16], from: AnodeNo) -> Extent
+    ensures { λ r. ⌜ foundOf r ≡ firstExtent (λ a. getD (now (counts .entry)) a 0) 0 (chainOf (cut (λ a. getD (now (nexts .entry)) a 0)) 3444 (from .0)) ⌝ }
+{
+    let mut before = AnodeNo(0);
+    let mut at = from;
+    let mut fuel: usize = 3444;
+    while 0 < fuel {
+        if at.0 == 0 {
+            return Extent::Nowhere;
+        }
+        if entry(counts, at.0 as usize) != 0 {
+            return Extent::At(before, at);
+        }
+        before = at;
+        at = next_before_two(nexts, at);
+        fuel -= 1;
+    }
+    Extent::Nowhere
+}
+
+// The anode that starts the side of the free list where directories (`dir`) or data look first.
+fn near_side(dir: bool) -> AnodeNo
+    ensures { λ r. ⌜ r .0 ≡ cond dir 2 1 ⌝ }
+{
+    if dir {
+        return AnodeNo(2);
+    }
+    AnodeNo(1)
+}
+
+// The extent that a block is taken from: the first on the near side of the free list, else on the other.
+pub fn free_extent(dir: bool, counts: &[u16], nexts: &[u16]) -> Extent
+    ensures { λ r. ⌜ ((f : List ℕ) → foundOf r ≡ freeExtent 3444 dir (anodesFrom (now (counts .entry)) f (now (nexts .entry)))) ⌝ }
+{
+    let found = first_extent(counts, nexts, near_side(dir));
+    if let Extent::At(_, _) = found {
+        return found;
+    }
+    first_extent(counts, nexts, near_side(!dir))
+}
+
+// The last anode with a block on the chain from `from`.
+pub fn last_extent(counts: &[u16], nexts: &[u16], from: AnodeNo) -> Extent
+    ensures { λ r. ⌜ foundOf r ≡ lastExtent (λ a. getD (now (counts .entry)) a 0) 0 (chainOf (λ a. getD (now (nexts .entry)) a 0) 3444 (from .0)) ⌝ }
+{
+    let mut found = Extent::Nowhere;
+    let mut before = AnodeNo(0);
+    let mut at = from;
+    let mut fuel: usize = 3444;
+    while 0 < fuel {
+        if at.0 == 0 {
+            return found;
+        }
+        if entry(counts, at.0 as usize) != 0 {
+            found = Extent::At(before, at);
+        }
+        before = at;
+        at = AnodeNo(entry(nexts, at.0 as usize));
+        fuel -= 1;
+    }
+    found
+}
+
+// The last anode from `from` on, before 2.
+pub fn last_anode(nexts: &[u16], from: AnodeNo) -> AnodeNo
+    ensures { λ r. ⌜ r .0 ≡ lastOf (from .0) (chainOf (cut (λ a. getD (now (nexts .entry)) a 0)) 3444 (from .0)) ⌝ }
+{
+    let mut last = from;
+    let mut at = from;
+    let mut fuel: usize = 3444;
+    while 0 < fuel {
+        if at.0 == 0 {
+            return last;
+        }
+        last = at;
+        at = next_before_two(nexts, at);
+        fuel -= 1;
+    }
+    last
+}
+
+// The anode where the side of block `y` starts: 1 above last reserved, else 2.
+pub fn side_of(image: &[u8], y: BlockNo) -> AnodeNo
+    ensures { λ r. ⌜ r .0 ≡ sideOf (lastReserved (now (image .entry))) (y .0) ⌝ }
+{
+    let root = root_in(block_part(image, BlockNo(2)));
+    if root.last.0 < y.0 {
+        return AnodeNo(1);
+    }
+    AnodeNo(2)
+}
