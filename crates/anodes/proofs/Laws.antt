@@ -1,4 +1,4 @@
--- What an anode is seen as, and the tables with one more of them: `c`, `b` and `n` are those of counts, of first blocks and of nexts. Assumes nothing.
+-- The fields of an anode, and the tables with one more of them: `c`, `b` and `n` are those of counts, of first blocks and of nexts. Assumes nothing.
 use mathlib.Core.Path.{_≡_, refl, sym, ap, _∙_}
 use mathlib.Core.Logic.{⊎-elim}
 use Prim.Native.Nat.{ℕ, _+_, _*_, _/_, _%_, _-_, _<_, _≤_}
@@ -8,17 +8,16 @@ use native.Mathlib.Nat.{not-suc-le-zero}
 use lib.ListN.{length, getD, set, take, drop, replicate, length-replicate, List·getD-append, List·getD-eq-default}
 use lib.Seq.{getD-take, getD-append-add, length-take-le}
 use borrow.Rule.Slice.PartMut.{putMid}
-use borrow.Author.Tests.{eq-eqb, ne-eqb}
-use Rattle.endian.proofs.Laws.{less?, same?, getD-zeros}
+use Rattle.endian.proofs.Laws.{less?, getD-zeros}
 use Rattle.disk.specs.declared.Anode.{Anode}
 use Rattle.disk.specs.Root.{slotOf}
 use Rattle.disk.specs.Blocks.{blockOf}
 use Rattle.disk.specs.AnodeBlocks.{anodeMade, anodeIn, anodeOf}
 use Rattle.disk.proofs.Laws.{slotOf-high, anodeOf-missing, anodeOf-there}
-use Rattle.rules.specs.Anodes.{Anodes, fieldsOf, inUse, anodesOf}
+use Rattle.rules.specs.Anodes.{Anodes, fieldsOf, anodesOf}
 use Rattle.tables.specs.Held.{HeldBelow, zeroedFirst}
 use Rattle.tables.proofs.Laws.{held-more}
-use Rattle.anodes.specs.Loaded.{anodesFrom, asSeen, LoadedBelow}
+use Rattle.anodes.specs.Loaded.{anodesFrom, LoadedBelow}
 
 -- ---- the anodes of a slot
 
@@ -28,29 +27,15 @@ in-block img s p b h e n =
     let r : (s * 82 + p) % 82 ≡ p = omega arith in
     sym (anodeOf-there img (s * 82 + p) b (rw q e) n ∙ rw r)
 
--- ---- an anode as it is seen
+-- ---- the fields of an anode
 
-pub asSeen-free : (x : Anode) → x .block .0 ≡ 0 → asSeen x ≡ anodeMade 0 0 0
-unfolding asSeen
-asSeen-free x e = rw (eq-eqb (x .block .0) 0 e)
-
-pub asSeen-used : (x : Anode) → (x .block .0 ≡ 0 → ⊥) → asSeen x ≡ x
-unfolding asSeen
-asSeen-used x n = rw (ne-eqb (x .block .0) 0 n)
-
--- the three fields that the rules see of anode `a`
-pub seen-fields : (img : List ℕ) (a : ℕ) (x y : Anode) → y ≡ anodeOf img a → x ≡ asSeen y
-    → (x .count ≡ anodesOf img .count a) × (x .block .0 ≡ anodesOf img .block a) × (x .next .0 ≡ anodesOf img .next a)
-unfolding asSeen anodesOf inUse fieldsOf anodeOf
-seen-fields img a x y at is =
-    ⊎-elim
-    (λ e. rw (is, at, eq-eqb (anodeOf img a .block .0) 0 (rw at at e)) (refl, sym (rw at at e), refl))
-    (λ n. rw (is, at, ne-eqb (anodeOf img a .block .0) 0 (rw at at n)) (refl, refl, refl))
-    (same? (y .block .0) 0)
+pub read-fields : (img : List ℕ) (a : ℕ) (x : Anode) → x ≡ anodeOf img a → (x .count ≡ anodesOf img .count a) × (x .block .0 ≡ anodesOf img .block a) × (x .next .0 ≡ anodesOf img .next a)
+unfolding anodesOf fieldsOf anodeOf
+read-fields img a x e = rw e (refl, refl, refl)
 
 -- and all three are 0 where its slot holds 0 or is missing
 missing-fields : (img : List ℕ) (a : ℕ) → slotOf img (a / 82) ≡ 0 → (0 ≡ anodesOf img .count a) × (0 ≡ anodesOf img .block a) × (0 ≡ anodesOf img .next a)
-missing-fields img a e = seen-fields img a (anodeMade 0 0 0) (anodeOf img a) refl (sym (rw (anodeOf-missing img a e) (asSeen-free (anodeMade 0 0 0) refl)))
+missing-fields img a e = read-fields img a (anodeMade 0 0 0) (sym (anodeOf-missing img a e))
 
 -- ---- the tables
 

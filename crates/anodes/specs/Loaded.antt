@@ -1,12 +1,8 @@
 -- The anodes that three lists of numbers hold: count, block and next by the anode's number; 0 past the end. An accepted image whose anodes they are.
 use Prim.Native.Nat.{ℕ}
 use mathlib.Core.Path.{_≡_}
-use mathlib.Core.Bool.{cond}
 use mathlib.Core.List.{List}
 use lib.ListN.{length, getD}
-use lib.Dec.{eqb}
-use Rattle.disk.specs.declared.Anode.{Anode}
-use Rattle.disk.specs.AnodeBlocks.{anodeMade}
 use Rattle.rules.specs.Anodes.{Anodes, limit, anodesOf}
 use Rattle.rules.specs.Accepted.{diskSize, checkAnswer}
 use Rattle.tables.specs.Held.{HeldBelow}
@@ -18,10 +14,6 @@ anodesFrom c b n = record { count = λ a. getD c a 0; block = λ a. getD b a 0; 
 -- three lists with a number for each anode
 abbrev pub AnodeTables : List ℕ → List ℕ → List ℕ → Type 0
 AnodeTables c b n = (length c ≡ limit) × (length b ≡ limit) × (length n ≡ limit)
-
--- an anode as the rules see it: a free one is (0, 0, 0)
-unfoldable pub asSeen : Anode → Anode
-asSeen x = cond (eqb (x .block .0) 0) (anodeMade 0 0 0) x
 
 -- the lists hold the anodes of s below k
 pub record LoadedBelow (s : Anodes) (c b n : List ℕ) (k : ℕ) : Type 0 where

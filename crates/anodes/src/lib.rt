@@ -1,27 +1,15 @@
-// Loads the anodes of an image, as the rules see them, into three lent tables.
+// Loads the anodes of an image into three lent tables.
 ghost use mathlib.Core.Path.{_≡_};
 ghost use mathlib.Core.Logic.{_≢_};
 ghost use Prim.Native.Nat.{_+_, _*_, _<_};
 ghost use Rattle.disk.specs.Root.{slotOf};
 ghost use Rattle.rules.specs.Anodes.{anodesOf};
-ghost use Rattle.anodes.specs.Loaded.{anodesFrom, AnodeTables, asSeen, LoadedBelow};
-use disk::Anode;
+ghost use Rattle.anodes.specs.Loaded.{anodesFrom, AnodeTables, LoadedBelow};
 use disk::BlockNo;
 use disk::anode_in;
 use disk::block_part;
-use disk::no_anode;
 use disk::slot_of;
 use tables::zero_first;
-
-// An anode as the rules see it: a free one is (0, 0, 0).
-fn as_seen(x: Anode) -> Anode
-    ensures { λ r. ⌜ r ≡ asSeen x ⌝ }
-{
-    if x.block.0 == 0 {
-        return no_anode();
-    }
-    x
-}
 
 // Loads the 82 anodes of slot `s`, which stand in block `slot`, after those of the slots before it.
 fn load_block(
@@ -39,7 +27,7 @@ fn load_block(
 {
     let part = block_part(image, slot);
     for p in 0..82 {
-        let x = as_seen(anode_in(part, p));
+        let x = anode_in(part, p);
         let a = s * 82 + p;
         counts[a] = x.count;
         firsts[a] = x.block.0;
@@ -65,7 +53,7 @@ fn load_slot(image: &[u8], s: usize, counts: &mut [u16], firsts: &mut [u16], nex
     zero_first(&mut nexts[from..end], 82);
 }
 
-// Loads every anode; a free or missing one is (0, 0, 0).
+// Loads every anode; a missing one is (0, 0, 0).
 pub fn load(image: &[u8], counts: &mut [u16], firsts: &mut [u16], nexts: &mut [u16])
     requires { ⌜ AnodeTables (now counts) (now firsts) (now nexts) ⌝ }
     ensures { λ _. ⌜ anodesFrom (now (counts .exit)) (now (firsts .exit)) (now (nexts .exit)) ≡ anodesOf (now (image .entry)) ⌝ }

@@ -1,16 +1,18 @@
--- 6, one test after the other, and what the table of heads says.
-use Prim.Native.Nat.{ℕ, _<_}
+-- 6 and 7, one test after the other, and what the table of heads says.
+use Prim.Native.Nat.{ℕ, _+_, _<_}
 use mathlib.Core.Path.{_≡_, refl, sym, _∙_}
 use mathlib.Core.Logic.{_≢_, _⊎_, inl, inr}
 use mathlib.Core.Bool.{Bool, true, false, not, _&&_, _||_}
 use mathlib.Core.List.{List, _++_}
 use native.Mathlib.Omega.{arith}
 use lib.ListN.{getD}
-use lib.Dec.{eqb}
-use Rattle.rules.specs.Anodes.{Anodes, limit}
+use lib.Dec.{eqb, ltb}
+use borrow.Author.Tests.{eq-eqb, ne-eqb, le-ltb}
+use Rattle.rules.specs.Anodes.{Anodes, limit, isFree}
 use Rattle.rules.specs.Chains.{oneIfHead}
-use Rattle.rules.specs.Accepted.{wrongFixed}
+use Rattle.rules.specs.Accepted.{wrongFixed, halfCleared, wrongExtent, outOfRange}
 use Rattle.rules.specs.Tables.{chainHead, anodeEntry, anodeTable}
+use Rattle.counting.specs.Laws.{none-and}
 use Rattle.laws.specs.Tests.{same?}
 use Rattle.laws.specs.Chains.{HeadTable}
 use Rattle.laws.specs.OwnerTable.{table-entry, anodeEntry-head}
@@ -21,13 +23,31 @@ use Rattle.laws.specs.Heads.{headOf-heads, heads-cases, head-of-is}
 
 pub fixed-tests : (s : Anodes)
     → wrongFixed s
-    ≡ (not (eqb (s .count 0) 0 && eqb (s .block 0) 65535) || (not (eqb (s .next 0) 0) || (not (eqb (s .count 1) 0 && eqb (s .block 1) 65535) || (eqb (s .block 2) 0 || eqb (s .block 5) 0))))
+    ≡ (not (eqb (s .count 0) 0 && eqb (s .block 0) 65535) || (not (eqb (s .next 0) 0) || (not (eqb (s .count 1) 0 && eqb (s .block 1) 65535) || (isFree s 2 || isFree s 5))))
 unfolding wrongFixed
-fixed-tests s = parts (eqb (s .count 0) 0) (eqb (s .block 0) 65535) (eqb (s .next 0) 0) (not (eqb (s .count 1) 0 && eqb (s .block 1) 65535) || (eqb (s .block 2) 0 || eqb (s .block 5) 0)) where
+fixed-tests s = parts (eqb (s .count 0) 0) (eqb (s .block 0) 65535) (eqb (s .next 0) 0) (not (eqb (s .count 1) 0 && eqb (s .block 1) 65535) || (isFree s 2 || isFree s 5)) where
   parts : (a b c rest : Bool) → (not (a && (b && c)) || rest) ≡ (not (a && b) || (not c || rest))
   parts true true c rest = refl
   parts true false c rest = refl
   parts false b c rest = refl
+
+-- ---- 7
+
+-- an anode whose block field is 0 is out of range exactly if it is not free
+pub cleared-range : (s : Anodes) (n a : ℕ) → s .block a ≡ 0 → outOfRange s n a ≡ not (isFree s a)
+unfolding outOfRange halfCleared wrongExtent isFree
+cleared-range s n a z = rw (eq-eqb (s .block a) 0 z) (go (same? (s .count a) 0) (same? (s .next a) 0))
+  where
+    go : (s .count a ≡ 0) ⊎ (s .count a ≢ 0) → (s .next a ≡ 0) ⊎ (s .next a ≢ 0) →
+        (not (eqb (s .count a) 0 && eqb (s .next a) 0) || (not (eqb a 0) && ((ltb 0 (s .count a) && ltb n (s .block a + s .count a)) || (not (eqb (s .next a) 0) && eqb (s .block (s .next a)) 0)))) ≡ not (eqb (s .count a) 0 && eqb (s .next a) 0)
+    go (inl c) (inl m) = rw (eq-eqb (s .count a) 0 c, eq-eqb (s .next a) 0 m, le-ltb 0 (s .count a) (omega arith)) (none-and (not (eqb a 0)) false (λ e. refl))
+    go (inl c) (inr m) = rw (eq-eqb (s .count a) 0 c, ne-eqb (s .next a) 0 m)
+    go (inr c) m = rw (ne-eqb (s .count a) 0 c)
+
+-- and where it is not 0, its extent and its next decide
+pub used-range : (s : Anodes) (n a : ℕ) → s .block a ≢ 0 → outOfRange s n a ≡ wrongExtent s n a
+unfolding outOfRange halfCleared
+used-range s n a u = rw (ne-eqb (s .block a) 0 u)
 
 -- ---- the table of heads
 

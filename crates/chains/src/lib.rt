@@ -6,8 +6,9 @@ ghost use Prim.Native.Nat.{ℕ, _+_, _≤_, _<_};
 ghost use lib.Dec.{eqb, leb, ltb};
 ghost use lib.ListN.{length, getD, drop, replicate};
 ghost use Rattle.rules.specs.Counting.{anyBelow, anyIn};
+ghost use Rattle.rules.specs.Anodes.{isFree};
 ghost use Rattle.rules.specs.Chains.{chainOf};
-ghost use Rattle.rules.specs.Accepted.{wrongFixed, outOfRange, wrongLinks, notUpTo, wrongFreeList};
+ghost use Rattle.rules.specs.Accepted.{wrongFixed, wrongExtent, outOfRange, wrongLinks, notUpTo, wrongFreeList};
 ghost use Rattle.rules.specs.Tables.{anodeTable};
 ghost use Rattle.laws.specs.Links.{View, Closed, Linked};
 ghost use Rattle.tables.specs.Held.{ZeroBelow};
@@ -31,6 +32,19 @@ fn not_empty(counts: &[u16], firsts: &[u16], a: usize) -> bool
     entry(firsts, a) != 65535
 }
 
+// Anode `a` is free: all three fields are 0.
+fn is_cleared(counts: &[u16], firsts: &[u16], nexts: &[u16], a: usize) -> bool
+    ensures { λ r. ⌜ r ≡ isFree (anodesFrom (now (counts .entry)) (now (firsts .entry)) (now (nexts .entry))) a ⌝ }
+{
+    if entry(counts, a) != 0 {
+        return false;
+    }
+    if entry(firsts, a) != 0 {
+        return false;
+    }
+    entry(nexts, a) == 0
+}
+
 // 6: the fixed anodes.
 pub fn wrong_fixed(counts: &[u16], firsts: &[u16], nexts: &[u16]) -> bool
     ensures { λ r. ⌜ r ≡ wrongFixed (anodesFrom (now (counts .entry)) (now (firsts .entry)) (now (nexts .entry))) ⌝ }
@@ -44,10 +58,10 @@ pub fn wrong_fixed(counts: &[u16], firsts: &[u16], nexts: &[u16]) -> bool
     if not_empty(counts, firsts, 1) {
         return true;
     }
-    if entry(firsts, 2) == 0 {
+    if is_cleared(counts, firsts, nexts, 2) {
         return true;
     }
-    entry(firsts, 5) == 0
+    is_cleared(counts, firsts, nexts, 5)
 }
 
 // A non-empty extent ends past `limit`; its end is the whole-number sum.
@@ -61,9 +75,9 @@ fn ends_past(count: u16, first: u16, limit: usize) -> bool
     limit < end
 }
 
-// 7 for one anode.
-fn anode_out_of_range(counts: &[u16], firsts: &[u16], nexts: &[u16], size: usize, a: usize) -> bool
-    ensures { λ r. ⌜ r ≡ outOfRange (anodesFrom (now (counts .entry)) (now (firsts .entry)) (now (nexts .entry))) size a ⌝ }
+// An anode other than 0 has an extent past the disk's end, or a next that is not in use.
+fn wrong_extent(counts: &[u16], firsts: &[u16], nexts: &[u16], size: usize, a: usize) -> bool
+    ensures { λ r. ⌜ r ≡ wrongExtent (anodesFrom (now (counts .entry)) (now (firsts .entry)) (now (nexts .entry))) size a ⌝ }
 {
     if a == 0 {
         return false;
@@ -78,7 +92,17 @@ fn anode_out_of_range(counts: &[u16], firsts: &[u16], nexts: &[u16], size: usize
     entry(firsts, next as usize) == 0
 }
 
-// 7: an extent past the disk's end, or a next that is not in use.
+// 7 for one anode: with a block field of 0 it must be free.
+fn anode_out_of_range(counts: &[u16], firsts: &[u16], nexts: &[u16], size: usize, a: usize) -> bool
+    ensures { λ r. ⌜ r ≡ outOfRange (anodesFrom (now (counts .entry)) (now (firsts .entry)) (now (nexts .entry))) size a ⌝ }
+{
+    if entry(firsts, a) == 0 {
+        return !is_cleared(counts, firsts, nexts, a);
+    }
+    wrong_extent(counts, firsts, nexts, size, a)
+}
+
+// 7: a half-cleared anode, an extent past the disk's end, or a next that is not in use.
 pub fn out_of_range(counts: &[u16], firsts: &[u16], nexts: &[u16], size: usize) -> bool
     ensures { λ r. ⌜ r ≡ anyBelow (outOfRange (anodesFrom (now (counts .entry)) (now (firsts .entry)) (now (nexts .entry))) size) 3444 ⌝ }
 {

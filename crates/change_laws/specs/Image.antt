@@ -25,9 +25,8 @@ use Rattle.laws.specs.Passes.{passes-of}
 use Rattle.laws.specs.Whole.{Whole, head-counts, counts-head}
 use Rattle.laws.specs.Accepted.{Accepted, named-range, whole-of, accepted-of}
 use Rattle.laws.specs.Acceptance.{Passed, passed-of, passed-accepted, Tested, passes-tested}
-use Rattle.laws.specs.ImageAnodes.{reading-of}
 use Rattle.laws.specs.Damage.{Faulted, walk-faulted}
-use Rattle.laws.specs.OneOwner.{naming-sum, passes, accepted-one-owner, good}
+use Rattle.laws.specs.OneOwner.{reading, naming-sum, passes, accepted-one-owner, good}
 use Rattle.frames.specs.Kept.{Unheld, Kept, HeadsKept, kept-all, kept-both, diskSize-kept, wrongSize-kept, shortTables-kept, slotOf-kept, lastReserved-kept, wrongType-kept, wrongRoot-kept, systemOwns-kept, anodesOf-kept, wrongSlots-kept}
 use Rattle.frames.specs.StoredAnodes.{AnodesStored, root-unheld, withAnodes-stored, anodesOf-withAnodes}
 use Rattle.frames.specs.DisjointBlocks.{DataBlock}
@@ -100,7 +99,7 @@ module _ {img : List ℕ} (a : AcceptedImage img) where
   accepted-state : AcceptedOn img img (reachedDirs img (anodesOf img))
   unfolding walkOf itemsOf
   accepted-state = record {
-    reading = reading-of img;
+    reading = reading img (a .blocks) (a .anodes) image-passed;
     passes = passes img (a .blocks) (a .anodes) image-passed;
     walked = accepted-walk;
     all-named = λ x l d. omega (
@@ -203,7 +202,9 @@ module _ {img j : List ℕ} (a : AcceptedImage img) {t : Anodes} (d : DiskWith i
       ))))
 
   tested : Tested (anodesOf j) (diskSize img) (lastReserved img) (systemOwns img)
-  tested = passes-tested (anodesOf j) (diskSize img) (lastReserved img) (systemOwns img) (found .1 .passes)
+  tested =
+      let r = found .1 .reading in
+      passes-tested (anodesOf j) (diskSize img) (lastReserved img) (systemOwns img) (λ a z. (r .present .free-none a z, r .view .free-end a z)) (found .1 .passes)
 
   -- an image of the same disk with a whole state is accepted
   pub whole-accepted : StillAccepted a j

@@ -15,7 +15,7 @@ use Rattle.counting.specs.Laws.{none-and, anyBelow-all}
 use Rattle.laws.specs.Acceptance.{Passed, passed-accepted, Tested, passes-tested}
 use Rattle.format.proofs.Laws.{Taken, taken}
 use Rattle.format_laws.specs.Anodes.{Laid, laid}
-use Rattle.format_laws.specs.Links.{no-head, free-blocks}
+use Rattle.format_laws.specs.Links.{laid-cleared, no-head, free-blocks}
 use Rattle.format_laws.specs.Owners.{system-owns}
 use Rattle.format_laws.specs.Passes.{laid-passes}
 use Rattle.format_laws.specs.Blocks.{disk-size, size-right, tables-long, type-right, last-is, root-right, slots-right}
@@ -35,7 +35,7 @@ module _ (img : List ℕ) (last k : ℕ) (name : List ℕ) (day minute tick prot
   anodes-laid = laid img last k name day minute tick protection args
 
   tested : Tested s (diskSize img) last (systemOwns disk)
-  tested = passes-tested s (diskSize img) last (systemOwns disk)
+  tested = passes-tested s (diskSize img) last (systemOwns disk) (laid-cleared anodes-laid)
       (laid-passes anodes-laid (systemOwns disk) (system-owns img last k name day minute tick protection args))
 
   named : (x : ℕ) → x < limit → unnamedChain disk s x ≡ false

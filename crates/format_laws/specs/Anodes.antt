@@ -59,15 +59,8 @@ pub record Laid (s : Anodes) (n last k : ℕ) : Type 0 where
 
 -- ---- the fields by what is stored
 
-module _ (img : List ℕ) (a : ℕ) where
-  at-stored : (c b m : ℕ) → anodeOf img a ≡ anodeMade c b m → (b ≡ 0 → (c ≡ 0) × (m ≡ 0)) → At (anodesOf img) a c b m
-  at-stored c b m e zeros = let r = read-stored img a c b m e zeros in record { count = r .0; block = r .1; next = r .2 }
-
-  at-used : (c b m : ℕ) → anodeOf img a ≡ anodeMade c b m → b ≢ 0 → At (anodesOf img) a c b m
-  at-used c b m e u = at-stored c b m e (λ z. absurd (u z))
-
-  at-free : anodeOf img a ≡ anodeMade 0 0 0 → At (anodesOf img) a 0 0 0
-  at-free e = at-stored 0 0 0 e (λ z. (refl, refl))
+at-stored : (img : List ℕ) (a c b m : ℕ) → anodeOf img a ≡ anodeMade c b m → At (anodesOf img) a c b m
+at-stored img a c b m e = let r = read-stored img a c b m e in record { count = r .0; block = r .1; next = r .2 }
 
 module _ (img : List ℕ) (last k : ℕ) (name : List ℕ) (day minute tick protection : ℕ) (args : Taken img last k name) where
   abbrev disk : List ℕ
@@ -79,8 +72,8 @@ module _ (img : List ℕ) (last k : ℕ) (name : List ℕ) (day minute tick prot
   lower =
       let e = anodeOf-formatted-2 img last k name day minute tick protection args in
       elim (same? last (3 + k)) [
-        | inl q ↦ inl (at-used disk 2 0 65535 0 (e ∙ rw (eq-eqb last (3 + k) q)) (omega arith), q)
-        | inr q ↦ inr (at-used disk 2 (last - (3 + k)) (4 + k) 0 (e ∙ rw (ne-eqb last (3 + k) q)) (omega arith))
+        | inl q ↦ inl (at-stored disk 2 0 65535 0 (e ∙ rw (eq-eqb last (3 + k) q)), q)
+        | inr q ↦ inr (at-stored disk 2 (last - (3 + k)) (4 + k) 0 (e ∙ rw (ne-eqb last (3 + k) q)))
       ]
 
   -- anodes 1 and 6, without and with blocks above last reserved
@@ -92,13 +85,13 @@ module _ (img : List ℕ) (last k : ℕ) (name : List ℕ) (day minute tick prot
       let f = anodeOf-formatted-6 img last k name day minute tick protection args in
       elim (same? (last + 1) (diskSize img)) [
         | inl q ↦ inl (
-          at-used disk 1 0 65535 2 (e ∙ rw (eq-eqb (last + 1) (diskSize img) q)) (omega arith),
-          at-free disk 6 (f ∙ rw (eq-eqb (last + 1) (diskSize img) q)),
+          at-stored disk 1 0 65535 2 (e ∙ rw (eq-eqb (last + 1) (diskSize img) q)),
+          at-stored disk 6 0 0 0 (f ∙ rw (eq-eqb (last + 1) (diskSize img) q)),
           q,
         )
         | inr q ↦ inr (
-          at-used disk 1 0 65535 6 (e ∙ rw (ne-eqb (last + 1) (diskSize img) q)) (omega arith),
-          at-used disk 6 (diskSize img - (last + 1)) (last + 1) 2 (f ∙ rw (ne-eqb (last + 1) (diskSize img) q)) (omega arith),
+          at-stored disk 1 0 65535 6 (e ∙ rw (ne-eqb (last + 1) (diskSize img) q)),
+          at-stored disk 6 (diskSize img - (last + 1)) (last + 1) 2 (f ∙ rw (ne-eqb (last + 1) (diskSize img) q)),
         )
       ]
 
@@ -113,7 +106,7 @@ module _ (img : List ℕ) (last k : ℕ) (name : List ℕ) (day minute tick prot
           | inl e ↦ rw e is-5
           | inr n5 ↦ elim (same? a 6) [
             | inl e ↦ rw e is-6
-            | inr n6 ↦ free a (at-free disk a (anodeOf-formatted-other img last k name day minute tick protection args a n0 n1 n2 n5 n6))
+            | inr n6 ↦ free a (at-stored disk a 0 0 0 (anodeOf-formatted-other img last k name day minute tick protection args a n0 n1 n2 n5 n6))
           ]
         ]
       ]
@@ -124,14 +117,14 @@ module _ (img : List ℕ) (last k : ℕ) (name : List ℕ) (day minute tick prot
   laid = record {
     room = args .room;
     there = args .there;
-    at-0 = at-used disk 0 0 65535 0 (anodeOf-formatted-0 img last k name day minute tick protection args) (omega arith);
+    at-0 = at-stored disk 0 0 65535 0 (anodeOf-formatted-0 img last k name day minute tick protection args);
     owns-2 = elim lower [
       | inl e ↦ record { count = omega (arith, e .0 .count, e .1); start = λ p. absurd (omega (arith, p, e .0 .count)) }
       | inr e ↦ record { count = e .count; start = λ p. e .block }
     ];
     block-2 = elim lower [ inl e ↦ rw (e .0 .block) (omega arith) | inr e ↦ rw (e .block) (omega arith) ];
     next-2 = elim lower [ inl e ↦ e .0 .next | inr e ↦ e .next ];
-    at-5 = at-used disk 5 1 (3 + k) 0 (anodeOf-formatted-5 img last k name day minute tick protection args) (omega arith);
+    at-5 = at-stored disk 5 1 (3 + k) 0 (anodeOf-formatted-5 img last k name day minute tick protection args);
     owns-6 = elim upper [
       | inl e ↦ record { count = omega (arith, e .1 .count, e .2); start = λ p. absurd (omega (arith, p, e .1 .count)) }
       | inr e ↦ record { count = e .1 .count; start = λ p. e .1 .block }

@@ -16,6 +16,7 @@ use Rattle.laws.specs.Sums.{oneAt-same, oneAt-other, sum-member}
 use Rattle.laws.specs.Bags.{occurrences-nil, occurrences-cons}
 use Rattle.laws.specs.Segments.{Chain, followed-zero, chain-is, chain-ends}
 use Rattle.laws.specs.Links.{preds-none, preds-one}
+use Rattle.laws.specs.Acceptance.{Cleared}
 use Rattle.format_laws.specs.Anodes.{Full, full-2, full-5, full-6, Which, is-0, is-1, is-2, is-5, is-6, free, Linking, direct, through-6, Laid}
 
 module _ {s : Anodes} {n last k : ℕ} (m : Laid s n last k) where
@@ -130,6 +131,19 @@ module _ {s : Anodes} {n last k : ℕ} (m : Laid s n last k) where
 
   pub block-1 : s .block 1 ≡ 65535
   block-1 = elim (m .linking) [ direct f g ↦ f .block | through-6 f u g ↦ f .block ]
+
+  -- an anode whose block field is 0 has all three fields 0
+  pub laid-cleared : Cleared s
+  laid-cleared a z = go a (m .which a) (m .linking) z
+    where
+      go : (a : ℕ) → Which s a → Linking s → s .block a ≡ 0 → (s .count a ≡ 0) × (s .next a ≡ 0)
+      go _ is-0 l z = absurd (omega (arith, z, m .at-0 .block))
+      go _ is-1 l z = absurd (omega (arith, z, block-1))
+      go _ is-2 l z = absurd (m .block-2 z)
+      go _ is-5 l z = absurd (omega (arith, z, m .at-5 .block))
+      go _ is-6 (direct f g) z = (g .count, g .next)
+      go _ is-6 (through-6 f u g) z = absurd (u z)
+      go _ (free a f) l z = (f .count, f .next)
 
   -- an anode with a block is 2, 5 or 6
   pub full : (a : ℕ) → Which s a → 0 < s .count a → Full a

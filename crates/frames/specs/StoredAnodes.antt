@@ -13,12 +13,12 @@ use Rattle.disk.specs.AnodeBlocks.{anodeMade, anodeHeaderIn, anodeOf, setAnode}
 use Rattle.disk.specs.declared.Anode.{Anode}
 use Rattle.disk.proofs.Laws.{slotOf-high, anodeOf-missing, setAnode-missing}
 use Rattle.disk.proofs.Store.{anodeHeaderIn-putAnode, length-setAnode, blockOf-setAnode-same, blockOf-setAnode-other, anodeOf-setAnode-same, anodeOf-setAnode-other}
-use Rattle.rules.specs.Anodes.{Anodes, limit, exists, inUse, fieldsOf, anodesOf, sameAnode, storeChanged, withAnodes}
+use Rattle.rules.specs.Anodes.{Anodes, limit, exists, fieldsOf, anodesOf, sameAnode, storeChanged, withAnodes}
 use Rattle.rules.specs.Accepted.{wrongSlots}
 use Rattle.laws.specs.Tests.{same?, less?}
 use Rattle.laws.specs.Space.{Alike, alike-trans}
 use Rattle.laws.specs.Passes.{Reading}
-use Rattle.laws.specs.ImageAnodes.{block-at, slot-missing, reading-of, read-stored}
+use Rattle.laws.specs.ImageAnodes.{slot-missing, read-stored, read-missing}
 use Rattle.laws.specs.TestsPassed.{right-slot, one-slot}
 use Rattle.frames.specs.Kept.{Unheld, HeadsKept, kept-all, kept-both, slotOf-kept, unheld-kept, wrongSlots-kept}
 
@@ -67,11 +67,11 @@ module _ (img : List ℕ) (right : wrongSlots img ≡ false) where
 
 -- the same anode is read as the same
 alike-read : (img j : List ℕ) (a : ℕ) → anodeOf j a ≡ anodeOf img a → Alike (anodesOf img) (anodesOf j) a
-unfolding anodesOf inUse fieldsOf anodeOf
+unfolding anodesOf fieldsOf anodeOf
 alike-read img j a e = record {
-  same-count = ap (λ (x : Anode). cond (eqb (x .block .0) 0) 0 (x .count)) e;
+  same-count = ap (λ (x : Anode). x .count) e;
   same-block = ap (λ (x : Anode). x .block .0) e;
-  same-next = ap (λ (x : Anode). cond (eqb (x .block .0) 0) 0 (x .next .0)) e;
+  same-next = ap (λ (x : Anode). x .next .0) e;
 }
 
 -- anodes that the test finds the same
@@ -86,17 +86,9 @@ alike-same s t a e =
 abbrev anodeFrom : Anodes → ℕ → Anode
 anodeFrom t a = anodeMade (t .count a) (t .block a) (t .next a)
 
-module _ {ex : ℕ → Bool} (t : Anodes) (r : Reading limit ex t) (j : List ℕ) (a : ℕ) where
-  -- free in both
-  alike-free : anodesOf j .block a ≡ 0 → t .block a ≡ 0 → Alike t (anodesOf j) a
-  alike-free p q =
-      let f = reading-of j in
-      record { same-count = f .present .free-none a p ∙ sym (r .present .free-none a q); same-block = p ∙ sym q; same-next = f .view .free-end a p ∙ sym (r .view .free-end a q) }
-
-  alike-stored : anodeOf j a ≡ anodeFrom t a → Alike t (anodesOf j) a
-  alike-stored e =
-      let k = read-stored j a (t .count a) (t .block a) (t .next a) e (λ z. (r .present .free-none a z, r .view .free-end a z)) in
-      record { same-count = k .0; same-block = k .1; same-next = k .2 }
+-- an anode that was stored is read
+alike-stored : (t : Anodes) (j : List ℕ) (a : ℕ) → anodeOf j a ≡ anodeFrom t a → Alike t (anodesOf j) a
+alike-stored t j a e = let k = read-stored j a (t .count a) (t .block a) (t .next a) e in record { same-count = k .0; same-block = k .1; same-next = k .2 }
 
 module _ (img : List ℕ) (right : wrongSlots img ≡ false) (a : ℕ) (x : Anode) where
   not-root : slotOf img (a / 82) ≢ 2
@@ -143,7 +135,10 @@ module _ (img : List ℕ) (right : wrongSlots img ≡ false) (t : Anodes) where
 
     -- an anode whose slot holds no block in either is free in both
     alike-missing : (j : List ℕ) (a : ℕ) → slotOf j (a / 82) ≡ 0 → slotOf img (a / 82) ≡ 0 → Alike t (anodesOf j) a
-    alike-missing j a z y = alike-free t r j a (block-at j a ∙ rw (anodeOf-missing j a z)) (missing-free a y)
+    alike-missing j a z y =
+        let k = read-missing j a z in
+        let q = missing-free a y in
+        record { same-count = k .0 ∙ sym (r .present .free-none a q); same-block = k .1 ∙ sym q; same-next = k .2 ∙ sym (r .view .free-end a q) }
 
     -- those below k are t's
     upTo-anodes : (k b : ℕ) → b < k → Alike t (anodesOf (upTo k)) b
@@ -161,7 +156,7 @@ module _ (img : List ℕ) (right : wrongSlots img ≡ false) (t : Anodes) where
         now true e = alike-trans (alike-same (anodesOf img) t a e) (alike-read img (upTo a) a (upTo-rest a a (omega arith)))
         now false e = elim (same? (slotOf (upTo a) (a / 82)) 0) [
           | inl z ↦ rw (setAnode-missing (upTo a) a (anodeFrom t a) z) (alike-missing (upTo a) a z (sym (slotOf-kept (upTo-stored a .kept) (root-unheld img right) (a / 82)) ∙ z))
-          | inr u ↦ alike-stored t r (oneMore false a) a (set-same (upTo a) still-right a (anodeFrom t a) u)
+          | inr u ↦ alike-stored t (oneMore false a) a (set-same (upTo a) still-right a (anodeFrom t a) u)
         ]
 
         before : (c : Bool) → Alike t (anodesOf (upTo a)) b → b ≢ a → Alike t (anodesOf (oneMore c a)) b

@@ -15,7 +15,7 @@ use Rattle.rules.specs.Accepted.{diskSize, wrongFixed, outOfRange, wrongLinks, 
 use Rattle.rules.specs.Tables.{chainHead, anodeTable}
 use Rattle.laws.specs.Links.{View, Linked, next-below, linked, Closed}
 use Rattle.laws.specs.Passes.{Reading}
-use Rattle.laws.specs.TestsPassed.{fixed-anodes, next-used, tested-checked}
+use Rattle.laws.specs.TestsPassed.{zero-anode, next-used, tested-checked}
 use Rattle.laws.specs.ImageAnodes.{reading-of}
 use Rattle.anodes.specs.Loaded.{anodesFrom}
 use Rattle.chains.proofs.Laws.{entry-head, entry-some, head-table}
@@ -84,17 +84,17 @@ module _ {img c b n : List ℕ} where
 
   -- ---- what the next one asks
 
-  reading : Passed6 img c b n → Reading limit (exists img) (anodesFrom c b n)
-  reading p = rw (p .loaded) (reading-of img)
+  reading : Passed7 img c b n → Reading limit (exists img) (anodesFrom c b n)
+  reading p = rw (p .six .loaded) (reading-of img (diskSize img) (rw (p .six .loaded) at (p .in-range)))
 
   module _ (p : Passed7 img c b n) where
     pub view : View 3444 (λ a. getD n a 0) (λ a. getD b a 0)
     unfolding anodesFrom
-    view = reading (p .six) .view
+    view = reading p .view
 
     pub zero-end : getD n 0 0 ≡ 0
     unfolding anodesFrom
-    zero-end = fixed-anodes (anodesFrom c b n) (p .six .fixed-right) .1
+    zero-end = zero-anode (anodesFrom c b n) (p .six .fixed-right) .2
 
     pub closed : Closed (λ a. getD n a 0) (λ a. getD b a 0)
     unfolding anodesFrom

@@ -7,18 +7,18 @@ use mathlib.Core.List.{List, [], _∷_}
 use native.Mathlib.Omega.{arith}
 use lib.Dec.{eqb, leb, ltb}
 use lib.ListN.{length}
-use borrow.Author.Tests.{ltb-true, ltb-false, leb-false, eqb-false, not-true, lt-ltb, le-ltb, lt-leb, eq-eqb, ne-eqb}
+use borrow.Author.Tests.{ltb-true, ltb-false, leb-false, eqb-true, eqb-false, not-true, lt-ltb, le-ltb, lt-leb, eq-eqb, ne-eqb}
 use Rattle.rules.specs.Counting.{anyBelow, anyIn, occurrences}
-use Rattle.rules.specs.Anodes.{Anodes, limit, anodesOf}
+use Rattle.rules.specs.Anodes.{Anodes, limit, anodesOf, isFree}
 use Rattle.rules.specs.Chains.{chainOf, followed, preds, owners, side, systemOwns}
 use Rattle.rules.specs.Walk.{walkOf, faultIn}
-use Rattle.rules.specs.Accepted.{diskSize, wrongSize, shortTables, wrongType, lastReserved, wrongRoot, wrongSlots, wrongFixed, outOfRange, wrongLink, wrongAt, hasPred, wrongLinks, notAbove, notUpTo, wrongFreeList, ownersOf, twoOwners, noOwner, unnamedChain, treeFault, damageIn, checkAnswer}
+use Rattle.rules.specs.Accepted.{diskSize, wrongSize, shortTables, wrongType, lastReserved, wrongRoot, wrongSlots, wrongFixed, halfCleared, wrongExtent, outOfRange, wrongLink, wrongAt, hasPred, wrongLinks, notAbove, notUpTo, wrongFreeList, ownersOf, twoOwners, noOwner, unnamedChain, treeFault, damageIn, checkAnswer}
 use Rattle.counting.specs.Laws.{neither, none-or, and-none, none-and, anyBelow-each, anyBelow-all}
 use Rattle.laws.specs.Each.{Each}
 use Rattle.laws.specs.Bags.{each-at}
 use Rattle.laws.specs.Tests.{same, if-zero, firstOf-zero, firstOf-none}
 use Rattle.laws.specs.Members.{none-pass, member-occurrences}
-use Rattle.laws.specs.TestsPassed.{fixed-anodes, extent-inside, tested-checked}
+use Rattle.laws.specs.TestsPassed.{zero-anode, fixed-anodes, extent-inside, tested-checked}
 use Rattle.laws.specs.Links.{View}
 use Rattle.laws.specs.Space.{FixedHead}
 use Rattle.laws.specs.Passes.{Passes}
@@ -37,6 +37,10 @@ none-in test l f = none-pass test l (λ x m. f x (member-occurrences x l m))
 
 -- ---- 6 to 11
 
+-- an anode whose block field is 0 has all three fields 0
+abbrev pub Cleared : Anodes → Type 0
+Cleared s = (a : ℕ) → s .block a ≡ 0 → (s .count a ≡ 0) × (s .next a ≡ 0)
+
 module _ (s : Anodes) (n last : ℕ) (system : ℕ → ℕ) where
   -- the tests as they are computed
   pub record Tested : Type 0 where
@@ -51,8 +55,8 @@ module _ (s : Anodes) (n last : ℕ) (system : ℕ → ℕ) where
   pub tested-passes : View limit (s .next) (s .block) → Tested → Passes limit n last s system
   unfolding wrongLinks hasPred wrongFreeList notAbove notUpTo
   tested-passes v t = record {
-    fixed = fixed-anodes s (t .fixed-right) .0;
-    next-0 = fixed-anodes s (t .fixed-right) .1;
+    fixed = fixed-anodes s (t .fixed-right) n (t .in-range);
+    next-0 = zero-anode s (t .fixed-right) .2;
     links = tested-checked s (t .fixed-right) v n (t .in-range) (t .links-right);
     first = first;
     two-on = positive _ (eqb-false _ 0 (w .0));
@@ -92,11 +96,12 @@ module _ (s : Anodes) (n last : ℕ) (system : ℕ → ℕ) where
       w1 : (anyIn (notAbove s last) (side limit s 1) ≡ false) × (anyIn (notUpTo s last) (chainOf (s .next) limit 2) ≡ false)
       w1 = neither _ _ (w .1)
 
-  -- and where it is true in numbers, no test holds
-  pub passes-tested : Passes limit n last s system → Tested
-  unfolding wrongFixed outOfRange wrongLinks wrongAt wrongLink hasPred wrongFreeList notAbove notUpTo
-  passes-tested p = record {
-    fixed-right = rw (eq-eqb (s .count 0) 0 (p .fixed .count-0), eq-eqb (s .block 0) 65535 (p .fixed .block-0), eq-eqb (s .next 0) 0 (p .next-0), eq-eqb (s .count 1) 0 (p .fixed .count-1), eq-eqb (s .block 1) 65535 (p .fixed .block-1), ne-eqb (s .block 2) 0 (p .fixed .block-2), ne-eqb (s .block 5) 0 (p .fixed .block-5));
+  -- and where it is true in numbers, and a free anode is cleared, no test holds
+  pub passes-tested : Cleared s → Passes limit n last s system → Tested
+  unfolding wrongFixed isFree outOfRange halfCleared wrongExtent wrongLinks wrongAt wrongLink hasPred wrongFreeList notAbove notUpTo
+  passes-tested free p = record {
+    fixed-right = rw (eq-eqb (s .count 0) 0 (p .fixed .count-0), eq-eqb (s .block 0) 65535 (p .fixed .block-0), eq-eqb (s .next 0) 0 (p .next-0), eq-eqb (s .count 1) 0 (p .fixed .count-1), eq-eqb (s .block 1) 65535 (p .fixed .block-1), ne-eqb (s .block 2) 0 (p .fixed .block-2), ne-eqb (s .block 5) 0 (p .fixed .block-5))
+        (none-or _ _ (none-and (eqb (s .count 2) 0) false (λ e. refl)) (none-and (eqb (s .count 5) 0) false (λ e. refl)));
     in-range = anyBelow-all (outOfRange s n) limit range;
     links-right = none-or _ _ (anyBelow-all (wrongAt s) limit link)
         (none-or _ _ (le-ltb 0 _ (none 1 (inl refl))) (none-or _ _ (le-ltb 0 _ (none 3 (inr (inl refl)))) (none-or _ _ (le-ltb 0 _ (none 4 (inr (inr (inl refl))))) (le-ltb 0 _ (none 5 (inr (inr (inr refl))))))));
@@ -109,12 +114,17 @@ module _ (s : Anodes) (n last : ℕ) (system : ℕ → ℕ) where
       none : (m : ℕ) → FixedHead m → preds limit (s .next) m ≤ 0
       none m f = omega (arith, p .first m f)
 
+      whole : (a : ℕ) → halfCleared s a ≡ false
+      whole a = none-and (eqb (s .block a) 0) (not (isFree s a)) (λ e.
+          let z = eqb-true (s .block a) 0 e in
+          rw (eq-eqb (s .count a) 0 (free a z .0), e, eq-eqb (s .next a) 0 (free a z .1)))
+
       range : (a : ℕ) → a < limit → outOfRange s n a ≡ false
-      range a l =
+      range a l = none-or (halfCleared s a) (wrongExtent s n a) (whole a) (
           none-and (not (eqb a 0)) (ltb 0 (s .count a) && ltb n (s .block a + s .count a) || not (eqb (s .next a) 0) && eqb (s .block (s .next a)) 0) (λ e.
           none-or (ltb 0 (s .count a) && ltb n (s .block a + s .count a)) (not (eqb (s .next a) 0) && eqb (s .block (s .next a)) 0)
           (none-and (ltb 0 (s .count a)) (ltb n (s .block a + s .count a)) (λ c. le-ltb n (s .block a + s .count a) (p .own .fits a l (ltb-true 0 (s .count a) c))))
-          (none-and (not (eqb (s .next a) 0)) (eqb (s .block (s .next a)) 0) (λ c. ne-eqb (s .block (s .next a)) 0 (p .links .closed a (eqb-false (s .next a) 0 (not-true (eqb (s .next a) 0) c))))))
+          (none-and (not (eqb (s .next a) 0)) (eqb (s .block (s .next a)) 0) (λ c. ne-eqb (s .block (s .next a)) 0 (p .links .closed a (eqb-false (s .next a) 0 (not-true (eqb (s .next a) 0) c)))))))
 
       link : (a : ℕ) → a < limit → wrongAt s a ≡ false
       link a l =

@@ -1,36 +1,36 @@
--- What the anodes of an image are, whatever the image: free and missing ones read (0, 0, 0), and one in use exists.
-use Prim.Native.Nat.{ℕ, zero, suc, _/_, _%_}
-use mathlib.Core.Path.{_≡_, refl, sym, _∙_}
+-- What the anodes of an image are: as they are stored, missing ones (0, 0, 0); one in use exists, and where 7 finds nothing a block field of 0 means free.
+use Prim.Native.Nat.{ℕ, zero, suc, _/_, _%_, _≤_}
+use mathlib.Core.Path.{_≡_, refl, ap}
 use mathlib.Core.Logic.{_≢_, inl, inr}
 use mathlib.Core.Bool.{true, false}
 use mathlib.Core.List.{List}
 use native.Mathlib.Omega.{arith}
-use borrow.Author.Tests.{le-ltb, lt-ltb, eq-eqb, ne-eqb}
+use borrow.Author.Tests.{le-ltb, lt-ltb}
+use Rattle.disk.specs.declared.Anode.{Anode}
 use Rattle.disk.specs.Blocks.{blockOf}
 use Rattle.disk.specs.Root.{slotOf}
-use Rattle.disk.specs.AnodeBlocks.{anodeMade, anodeIn, anodesIn, anodeSlots, anodeAt, anodeOf}
+use Rattle.disk.specs.AnodeBlocks.{anodeMade, anodeIn, anodesIn, anodeOf}
 use Rattle.disk.proofs.Laws.{slotOf-high, anodeOf-missing, anodeSlots-at, length-listed}
-use Rattle.rules.specs.Anodes.{limit, fieldsOf, existsIn, exists, inUse, anodesOf}
-use Rattle.laws.specs.Tests.{same?, less?}
+use Rattle.rules.specs.Counting.{anyBelow}
+use Rattle.rules.specs.Anodes.{limit, fieldsOf, existsIn, exists, anodesOf}
+use Rattle.rules.specs.Accepted.{outOfRange}
+use Rattle.laws.specs.Tests.{less?}
+use Rattle.laws.specs.TestsPassed.{block-cleared}
 use Rattle.laws.specs.Passes.{Reading}
 
 module _ (img : List ℕ) where
-  -- the three fields of an anode, as they are stored where its block field is not 0
-  pub block-at : (a : ℕ) → anodesOf img .block a ≡ (anodeOf img a) .block .0
-  unfolding anodesOf inUse fieldsOf anodeOf
-  block-at a = refl
+  -- the three fields of an anode are those that are stored
+  pub read-stored : (a c b m : ℕ) → anodeOf img a ≡ anodeMade c b m → (anodesOf img .count a ≡ c) × (anodesOf img .block a ≡ b) × (anodesOf img .next a ≡ m)
+  unfolding anodesOf fieldsOf anodeOf
+  read-stored a c b m e = (ap (λ (x : Anode). x .count) e, ap (λ (x : Anode). x .block .0) e, ap (λ (x : Anode). x .next .0) e)
 
-  count-at : (a : ℕ) → anodesOf img .block a ≢ 0 → anodesOf img .count a ≡ (anodeOf img a) .count
-  unfolding anodesOf inUse fieldsOf anodeOf
-  count-at a u = rw (ne-eqb ((anodeAt (anodeSlots img) a) .block .0) 0 u)
-
-  next-at : (a : ℕ) → anodesOf img .block a ≢ 0 → anodesOf img .next a ≡ (anodeOf img a) .next .0
-  unfolding anodesOf inUse fieldsOf anodeOf
-  next-at a u = rw (ne-eqb ((anodeAt (anodeSlots img) a) .block .0) 0 u)
+  -- those of a missing one are 0
+  pub read-missing : (a : ℕ) → slotOf img (a / 82) ≡ 0 → (anodesOf img .count a ≡ 0) × (anodesOf img .block a ≡ 0) × (anodesOf img .next a ≡ 0)
+  read-missing a z = read-stored a 0 0 0 (anodeOf-missing img a z)
 
   -- a slot that holds 0 has no anode in use
   slot-there : (a : ℕ) → anodesOf img .block a ≢ 0 → slotOf img (a / 82) ≢ 0
-  slot-there a u z = u (block-at a ∙ rw (anodeOf-missing img a z))
+  slot-there a u z = u (read-missing a z .1)
 
   pub slot-exists : (a s : ℕ) → slotOf img (a / 82) ≡ s → s ≢ 0 → exists img a ≡ true
   unfolding exists existsIn anodesIn
@@ -42,26 +42,21 @@ module _ (img : List ℕ) where
   unfolding exists existsIn anodesIn
   slot-missing a z = rw (anodeSlots-at img (a / 82), z) (le-ltb (a % 82) 0 (omega arith))
 
-  pub reading-of : Reading limit (exists img) (anodesOf img)
-  reading-of = record {
+  -- an anode in use is one of the 3,444, and exists; where 7 finds nothing, one whose block field is 0 has no blocks and no next
+  pub reading-of : (n : ℕ) → anyBelow (outOfRange (anodesOf img) n) limit ≡ false → Reading limit (exists img) (anodesOf img)
+  reading-of n right = record {
     view = record {
-      below = λ a u. elim (less? a limit) [ inl l ↦ l | inr l ↦ absurd (slot-there a u (slotOf-high img (a / 82) (omega arith))) ];
-      free-end = free-end;
+      below = λ a u. elim (less? a limit) [ inl l ↦ l | inr l ↦ absurd (slot-there a u (past a l)) ];
+      free-end = λ a z. cleared a z .1;
     };
-    present = record { exist = λ a u. rw (slot-exists a (slotOf img (a / 82)) refl (slot-there a u)) tt; free-none = free-none };
+    present = record { exist = λ a u. rw (slot-exists a (slotOf img (a / 82)) refl (slot-there a u)) tt; free-none = λ a z. cleared a z .0 };
   }
     where
-      free-none : (a : ℕ) → anodesOf img .block a ≡ 0 → anodesOf img .count a ≡ 0
-      free-none a z = unfold anodesOf inUse in rw (eq-eqb (fieldsOf (anodeSlots img) .block a) 0 z)
+      past : (a : ℕ) → limit ≤ a → slotOf img (a / 82) ≡ 0
+      past a l = slotOf-high img (a / 82) (omega arith)
 
-      free-end : (a : ℕ) → anodesOf img .block a ≡ 0 → anodesOf img .next a ≡ 0
-      free-end a z = unfold anodesOf inUse in rw (eq-eqb (fieldsOf (anodeSlots img) .block a) 0 z)
-
-  -- an anode reads as it is stored, where a free one is stored without count and next
-  pub read-stored : (a c b m : ℕ) → anodeOf img a ≡ anodeMade c b m → (b ≡ 0 → (c ≡ 0) × (m ≡ 0)) → (anodesOf img .count a ≡ c) × (anodesOf img .block a ≡ b) × (anodesOf img .next a ≡ m)
-  read-stored a c b m e free =
-      let is : anodesOf img .block a ≡ b = block-at a ∙ rw e in
-      elim (same? b 0) [
-        | inl z ↦ (reading-of .present .free-none a (is ∙ z) ∙ sym (free z .0), is, reading-of .view .free-end a (is ∙ z) ∙ sym (free z .1))
-        | inr u ↦ (let v : anodesOf img .block a ≢ 0 = rw is u in (count-at a v ∙ rw e, is, next-at a v ∙ rw e))
+      cleared : (a : ℕ) → anodesOf img .block a ≡ 0 → (anodesOf img .count a ≡ 0) × (anodesOf img .next a ≡ 0)
+      cleared a z = elim (less? a limit) [
+        | inl l ↦ block-cleared (anodesOf img) n right a l z
+        | inr l ↦ (read-missing a (past a l) .0, read-missing a (past a l) .2)
       ]

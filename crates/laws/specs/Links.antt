@@ -12,7 +12,7 @@ use Rattle.laws.specs.Sums.{oneAt-cases, oneAt-same, oneAt-some, oneAt-o
 use Rattle.laws.specs.Bags.{occurrences-nil, occurrences-cons, pigeonhole}
 use Rattle.laws.specs.Segments.{Seg, Chain, followed-zero, chainOf-is, chain-is, chain-ends, chain-one, seg-avoids}
 
--- what reading an image gives, whatever the image: an anode in use is below A, and a free one has no next
+-- an anode in use is below A, and a free one has no next
 pub record View (A : ℕ) (next block : ℕ → ℕ) : Type 0 where
   pub below : (a : ℕ) → block a ≢ 0 → a < A
   pub free-end : (a : ℕ) → block a ≡ 0 → next a ≡ 0

@@ -17,7 +17,7 @@ use Rattle.laws.specs.Tests.{same?}
 use Rattle.laws.specs.Bags.{occurrences-nil, list-congr, list-mono, gather-sum}
 use Rattle.laws.specs.Heads.{Head, head-of-is, occurrences-on-chain}
 use Rattle.laws.specs.Space.{FixedHead, Good}
-use Rattle.laws.specs.Passes.{Passes, good-of}
+use Rattle.laws.specs.Passes.{Reading, Passes, good-of}
 use Rattle.laws.specs.Items.{names-sum, namedIn, faults}
 use Rattle.laws.specs.Walks.{walk-found}
 use Rattle.laws.specs.Whole.{counts-head, head-counts, names-head, named-le}
@@ -48,11 +48,14 @@ module _ (img : List ℕ) (blocks anodes : ℕ) (p : Passed img blocks anodes) w
   abbrev s : Anodes
   s = anodesOf img
 
+  pub reading : Reading limit (exists img) s
+  reading = reading-of img (diskSize img) (p .tested .in-range)
+
   pub passes : Passes limit (diskSize img) (lastReserved img) s (systemOwns img)
-  passes = tested-passes s (diskSize img) (lastReserved img) (systemOwns img) (reading-of img .view) (p .tested)
+  passes = tested-passes s (diskSize img) (lastReserved img) (systemOwns img) (reading .view) (p .tested)
 
   pub good : Good limit (exists img) (diskSize img) (lastReserved img) s (systemOwns img) (headOf limit (s .next) (s .block)) (headOf limit (cut (s .next)) (s .block))
-  good = good-of (reading-of img) passes
+  good = good-of reading passes
 
   -- the walk was done, and named no anode twice
   walk-done : (w : Walk) → walkOf img s ≡ w → faultIn w ≡ 0 → (x : ℕ) → occurrences x (map (λ i. i .anode) (gather (itemsOf img s) (dirsIn w))) ≤ 1
@@ -69,7 +72,7 @@ module _ (img : List ℕ) (blocks anodes : ℕ) (p : Passed img blocks anodes) w
   named h e l =
       let u = counts-head good h e .in-use in
       eqb-false (naming img s h) 0 (and-none (eqb (oneIfHead limit (s .next) (s .block) h) 1) (unnamed img s h)
-      (and-none (leb 6 h) (eqb (oneIfHead limit (s .next) (s .block) h) 1 && unnamed img s h) (anyBelow-each (unnamedChain img s) h limit (reading-of img .view .below h u) (p .all-named)) (le-leb 6 h l))
+      (and-none (leb 6 h) (eqb (oneIfHead limit (s .next) (s .block) h) 1 && unnamed img s h) (anyBelow-each (unnamedChain img s) h limit (reading .view .below h u) (p .all-named)) (le-leb 6 h l))
       (eq-eqb (oneIfHead limit (s .next) (s .block) h) 1 e))
 
   -- what is named in the walked directories is a head from 6 up

@@ -16,7 +16,7 @@ use Rattle.laws.specs.Cut.{cut-other, cut-linked, cut-head, cut-head-2}
 use Rattle.laws.specs.Space.{Present, FixedAnodes, FixedHead, fixed-pos, Good, head-1, fixed-head-1}
 use Rattle.laws.specs.Sides.{side-sd}
 
--- what reading an image gives, whatever the image: free and missing anodes read 0, 0, 0
+-- what is known of anodes that were read: one in use is below A and exists, and one whose block field is 0 has no blocks and no next
 pub record Reading (A : ℕ) (ex : ℕ → Bool) (s : Anodes) : Type 0 where
   pub view : View A (s .next) (s .block)
   pub present : Present ex s

@@ -8,7 +8,7 @@ use Rattle.disk.specs.Blocks.{blockOf}
 use Rattle.disk.specs.Root.{pfs0, rootIn, slotOf}
 use Rattle.disk.specs.AnodeBlocks.{anodeMark, anodeHeaderIn}
 use Rattle.rules.specs.Counting.{_if_else_, firstOf, anyBelow, anyIn, occurrences}
-use Rattle.rules.specs.Anodes.{Anodes, limit, anodesOf}
+use Rattle.rules.specs.Anodes.{Anodes, limit, anodesOf, isFree}
 use Rattle.rules.specs.Chains.{chainOf, followed, preds, oneIfHead, owners, systemOwns, side}
 use Rattle.rules.specs.Walk.{walkOf, faultIn, naming}
 
@@ -59,19 +59,27 @@ unfoldable pub wrongFixed : Anodes → Bool
 wrongFixed s =
     not (eqb (s .count 0) 0 && (eqb (s .block 0) 65535 && eqb (s .next 0) 0))
     || (not (eqb (s .count 1) 0 && eqb (s .block 1) 65535)
-    || (eqb (s .block 2) 0
-    || eqb (s .block 5) 0))
+    || (isFree s 2
+    || isFree s 5))
 
 -- the end of anode a's extent: the whole-number sum, never wrapped
 abbrev pub endOf : Anodes → ℕ → ℕ
 endOf s a = s .block a + s .count a
 
+-- 7 (02, No. 2): a block field of 0 with anything else set
+unfoldable pub halfCleared : Anodes → ℕ → Bool
+halfCleared s a = eqb (s .block a) 0 && not (isFree s a)
+
 -- 7: an anode in use, not 0, has count above 0 and end above N, or a next that is neither 0 nor an existing anode in use
-unfoldable pub outOfRange : Anodes → ℕ → ℕ → Bool
-outOfRange s n a =
+unfoldable pub wrongExtent : Anodes → ℕ → ℕ → Bool
+wrongExtent s n a =
     not (eqb a 0)
     && ((ltb 0 (s .count a) && ltb n (endOf s a))
     || (not (eqb (s .next a) 0) && eqb (s .block (s .next a)) 0))
+
+-- 7: either, in anode a; 0 to 5 are included (6 came first); once it has passed, a block field of 0 means free
+unfoldable pub outOfRange : Anodes → ℕ → ℕ → Bool
+outOfRange s n a = halfCleared s a || wrongExtent s n a
 
 -- 8: an anode in use has two predecessors or a chain that never ends (0 is nobody's next)
 unfoldable pub wrongLink : Anodes → ℕ → Bool

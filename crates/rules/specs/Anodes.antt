@@ -33,17 +33,13 @@ fieldsOf slots = record {
   next = λ a. (anodeAt slots a) .next .0;
 }
 
--- an anode is free if its block field is 0, else in use; the rules see the fields of anodes in use alone
-unfoldable pub inUse : Anodes → Anodes
-inUse s = record {
-  count = λ a. cond (eqb (s .block a) 0) 0 (s .count a);
-  block = s .block;
-  next = λ a. cond (eqb (s .block a) 0) 0 (s .next a);
-}
-
--- the anodes of an image, free ones as (0, 0, 0)
+-- the anodes of an image
 unfoldable pub anodesOf : List ℕ → Anodes
-anodesOf img = inUse (fieldsOf (anodeSlots img))
+anodesOf img = fieldsOf (anodeSlots img)
+
+-- 02, No. 2: free means all three fields zero
+unfoldable pub isFree : Anodes → ℕ → Bool
+isFree s a = eqb (s .count a) 0 && (eqb (s .block a) 0 && eqb (s .next a) 0)
 
 -- anode a has the same three fields in both
 unfoldable pub sameAnode : Anodes → Anodes → ℕ → Bool
@@ -56,6 +52,6 @@ storeChanged s t img (suc a) =
     cond (sameAnode s t a) (storeChanged s t img a)
     (setAnode (storeChanged s t img a) a (anodeMade (t .count a) (t .block a) (t .next a)))
 
--- the image with the anodes t: what a change leaves alone, the bytes of free anodes too, stays
+-- the image with the anodes t: exactly the anodes that differ are stored
 unfoldable pub withAnodes : List ℕ → Anodes → List ℕ
 withAnodes img t = storeChanged (anodesOf img) t img limit

@@ -6,9 +6,9 @@ use Rattle.disk.specs.AnodeBlocks.{anodeByte, slotFor, placeFor}
 use Rattle.directory.specs.Entries.{entryLength}
 use Rattle.rules.specs.Counting.{_if_else_, oneAt, sumBelow, anyBelow, anyIn, sumList, occurrences, changed}
 use Rattle.rules.specs.Chains.{chainOf, followed, preds, cut, side}
-use Rattle.rules.specs.Anodes.{Anodes}
+use Rattle.rules.specs.Anodes.{Anodes, isFree}
 use Rattle.rules.specs.Walk.{blocksFor}
-use Rattle.rules.specs.Accepted.{endOf, wrongFixed, outOfRange, wrongLink, wrongAt, hasPred, wrongLinks, notAbove, notUpTo, wrongFreeList, anodeFault}
+use Rattle.rules.specs.Accepted.{endOf, wrongFixed, halfCleared, wrongExtent, outOfRange, wrongLink, wrongAt, hasPred, wrongLinks, notAbove, notUpTo, wrongFreeList, anodeFault}
 
 -- a row: what the definitions give, and what the paper states
 pub record Row : Type 0 where
@@ -52,5 +52,5 @@ rows =
 
 -- they give what the paper states
 pub worked-values : map (λ r. r .given) rows ≡ map (λ r. r .stated) rows
-unfolding entryLength changed blocksFor oneAt sumBelow anyBelow anyIn sumList occurrences chainOf followed preds cut side wrongFixed outOfRange wrongLink wrongAt hasPred wrongLinks notAbove notUpTo wrongFreeList
+unfolding entryLength changed blocksFor oneAt sumBelow anyBelow anyIn sumList occurrences chainOf followed preds cut side isFree wrongFixed halfCleared wrongExtent outOfRange wrongLink wrongAt hasPred wrongLinks notAbove notUpTo wrongFreeList
 worked-values = refl

@@ -4,7 +4,7 @@ use native.Mathlib.Omega.{arith}
 use lib.ListN.{length, length-set}
 use Rattle.rules.specs.Anodes.{anodesOf}
 use Rattle.anodes.specs.Loaded.{LoadedBelow}
-use Rattle.anodes.proofs.Laws.{seen-fields, loaded-more, in-block}
+use Rattle.anodes.proofs.Laws.{read-fields, loaded-more, in-block}
 use borrow.Author.Needs.{needs}
 use Rattle.anodes.proofs.load_block.Statement.{statement}
 use Rattle.anodes.proofs.load_block.Tie as tie
@@ -25,9 +25,6 @@ loop-holds c =
 
 anode-in-requires : tie.Need-anode-in-requires Inv-loop μ-loop
 anode-in-requires c κs = search needs
-
-as-seen-requires : tie.Need-as-seen-requires Inv-loop μ-loop
-as-seen-requires c κs = search needs
 
 mul-a : tie.Need-mul-a Inv-loop μ-loop
 mul-a c = search needs
@@ -61,16 +58,16 @@ loop-less c = search needs
 
 loop-again : tie.Need-loop-again Inv-loop μ-loop
 loop-again c =
-    let l = c .before .before .before .loop in
-    let s = c .before .before .before .before .before .before .before .before .before .args .s in
+    let l = c .before .before .loop in
+    let s = c .before .before .before .before .before .before .before .before .args .s in
     let e : s * 82 + (l .p + 1) ≡ s * 82 + l .p + 1 = omega arith in
-    let pre = c .before .before .before .before .before .before .before .before .before .pre in
-    let x = rw (c .before .before .before .before .block-part .ensures) at (c .before .anode-in .ensures) ∙ in-block _ s (l .p) _ (c .before .before .loop-test .taken) (pre .0 .0) (pre .0 .1) in (
+    let pre = c .before .before .before .before .before .before .before .before .pre in
+    let x = rw (c .before .before .before .block-part .ensures) at (c .anode-in .ensures) ∙ in-block _ s (l .p) _ (c .before .loop-test .taken) (pre .0 .0) (pre .0 .1) in (
       search needs,
       simp length-set (search needs),
       simp length-set (search needs),
       simp length-set (search needs),
-      rw e (loaded-more _ _ _ _ (s * 82 + l .p) (c .as-seen .result) (omega arith) (omega arith) (omega arith) (l .inv .4) (seen-fields _ _ _ _ x (c .as-seen .ensures))),
+      rw e (loaded-more _ _ _ _ (s * 82 + l .p) (c .anode-in .result) (omega arith) (omega arith) (omega arith) (l .inv .4) (read-fields _ _ _ x)),
     )
 
 same-length : tie.Need-same-length Inv-loop μ-loop
@@ -94,7 +91,6 @@ load-block-spec =
     block-part-requires
     loop-holds
     anode-in-requires
-    as-seen-requires
     mul-a
     add-a
     mul-counts

@@ -5,7 +5,7 @@ use native.Mathlib.Omega.{arith}
 use lib.ListN.{length, getD, drop}
 use Rattle.rules.specs.Accepted.{diskSize}
 use Rattle.anodes.specs.Loaded.{anodesFrom}
-use Rattle.laws.specs.TestsPassed.{fixed-anodes, extent-inside}
+use Rattle.laws.specs.TestsPassed.{zero-anode, extent-inside}
 use Rattle.owners.specs.Marks.{Marked}
 use Rattle.owners.proofs.Laws.{kept-drop}
 use Rattle.owners.proofs.Owners.{size-some, ownersBelow, entryBelow, anode-first, anode-more, head-some, anode-hit, system-twice, two-owners, one-owner, anode-done}
@@ -87,7 +87,7 @@ loop-again c =
     let p = c .before .before .before .before .before .before .before .before .before .before .before .before .before .before .before .before .before .before .before .before .pre .1 in
     let size = size-some _ (p .0 .0) in
     let run = rw (c .if2 .left) at (m .ensures .0) in
-    let some = head-some _ _ _ _ _ (l .a) _ (l .inv .3) _ run (omega arith) (fixed-anodes _ (p .1 .1 .0 .1) .0 .count-0) (p .1 .1 .1 (l .a)) in (
+    let some = head-some _ _ _ _ _ (l .a) _ (l .inv .3) _ run (omega arith) (zero-anode _ (p .1 .1 .0 .1) .0) (p .1 .1 .1 (l .a)) in (
       search needs,
       search needs,
       kept-run (c .before .before .before),
