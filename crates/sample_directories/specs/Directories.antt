@@ -4,7 +4,7 @@ use Prim.Native.Nat.{ℕ}
 use mathlib.Core.List.{List, [], _∷_, _++_}
 use mathlib.Core.Bool.{true}
 use lib.ListN.{replicate}
-use Rattle.endian.specs.Bytes.{stored, cleared}
+use Rattle.endian.specs.Bytes.{stored}
 use Rattle.disk.specs.Blocks.{withBlock}
 use Rattle.rules.specs.Counting.{sameBytes}
 use Rattle.rules.specs.Format.{newDirectoryBlock}
@@ -54,11 +54,10 @@ nested-total : total nested ≡ 8
 unfolding everything disk8 nested
 nested-total = refl
 
--- other bytes in the fields of a free anode, 9, stay where a change does not use it
-free-bytes-kept : sameBytes (removeOutcome (withAnode nested 9 258 0 772) blocks8 anodes3444 7 f .image)
-    (cleared (withAnode (withAnode nested 8 0 0 0) 9 258 0 772) 2576 18) ≡ true
+-- a half-cleared anode, 9, is damage to every call
+half-cleared-refused : removeOutcome (withAnode nested 9 258 0 772) blocks8 anodes3444 7 f .answer ≡ 7
 unfolding everything disk8 nested
-free-bytes-kept = refl
+half-cleared-refused = refl
 
 -- the name and the comment of the longest entries
 abbrev longName : ℕ → List ℕ

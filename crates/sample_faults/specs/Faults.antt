@@ -46,7 +46,7 @@ unfolding everything disk5 answer
 slots-refused = refl
 
 -- anode 0's count; anode 1's block; anode 2 free; anode 5 free
-fixed-refused : map answer (withAnode disk5 0 1 65535 0 ∷ withAnode disk5 1 0 4 2 ∷ withAnode disk5 2 0 0 0 ∷ withAnode disk5 5 1 0 0 ∷ []) ≡ 6 ∷ 6 ∷ 6 ∷ 6 ∷ []
+fixed-refused : map answer (withAnode disk5 0 1 65535 0 ∷ withAnode disk5 1 0 4 2 ∷ withAnode disk5 2 0 0 0 ∷ withAnode disk5 5 0 0 0 ∷ []) ≡ 6 ∷ 6 ∷ 6 ∷ 6 ∷ []
 unfolding everything disk5 answer
 fixed-refused = refl
 
@@ -54,6 +54,11 @@ fixed-refused = refl
 range-refused : map answer (withAnode disk5 6 10 65530 0 ∷ withAnode disk5 5 2 4 0 ∷ withAnode disk5 5 1 4 82 ∷ withAnode disk5 5 1 4 7 ∷ []) ≡ 7 ∷ 7 ∷ 7 ∷ 7 ∷ []
 unfolding everything disk5 answer
 range-refused = refl
+
+-- half-cleared: a next alone, a count alone in 2, a count alone in 2 where 5 is free
+half-refused : map answer (withAnode disk5 6 0 0 17 ∷ withAnode disk5 2 5 0 0 ∷ withAnode (withAnode disk5 5 0 0 0) 2 5 0 0 ∷ []) ≡ 7 ∷ 7 ∷ 6 ∷ []
+unfolding everything disk5 answer
+half-refused = refl
 
 -- a ring; two predecessors of 2; a predecessor of 5
 links-refused : map answer (withAnode disk5 6 0 65535 6 ∷ withAnode disk5 6 0 65535 2 ∷ withAnode disk5 6 0 65535 5 ∷ []) ≡ 8 ∷ 8 ∷ 8 ∷ []
