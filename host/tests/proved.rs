@@ -26,6 +26,12 @@ fn compare_case(image: &mut [u8], cases: &mut Histogram, rng: &mut Rng) -> u32 {
 fn compare_disk(image: &mut [u8], turns: usize, cases: &mut Histogram, rng: &mut Rng) {
     compare_case(image, cases, rng);
     let damager = Damager::new(image).expect("the model accepts its own shapes");
+    for number in 6..=16 {
+        if let Some(mut damaged) = damager.damage_and_half_clear(number, rng) {
+            let answer = compare_case(&mut damaged, cases, rng);
+            assert!(answer == number.min(7) || answer == 2, "{answer} where {number} was aimed at first");
+        }
+    }
     for _ in 0..turns {
         for number in 1..=16 {
             if let Some(mut damaged) = damager.damage(number, rng) {
@@ -135,5 +141,7 @@ fn every_call_refuses_damage_like_the_model() {
     }
     answers.print("damaged disks");
     answers.assert_answered((1..=16).filter(|&number| number != 2));
-    answers.assert_met(&["make", "resize", "remove", "write", "read", "list"].map(|call| (12, call)));
+    for number in [7, 12] {
+        answers.assert_met(&["make", "resize", "remove", "write", "read", "list"].map(|call| (number, call)));
+    }
 }

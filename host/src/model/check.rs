@@ -110,15 +110,17 @@ fn check_special(table: &AnodeTable) -> Result<(), u32> {
     let good = table[0] == Anode::empty(0)
         && free_list.count == 0
         && free_list.block == 65_535
-        && table[RESERVED].in_use()
-        && table[ROOT_DIRECTORY].in_use();
+        && !table[RESERVED].is_free()
+        && !table[ROOT_DIRECTORY].is_free();
     good.then_some(()).ok_or(6)
 }
 
-/// 7: every extent is on the disk and every next is 0 or in use.
+/// 7: no anode is half cleared, every extent is on the disk and every next is 0 or in use.
 fn check_fields(table: &AnodeTable, in_use: &[u16], size: usize) -> Result<(), u32> {
     let good = in_use.iter().map(|&number| table[number]).all(|anode| {
-        (anode.count == 0 || anode.end() <= size) && (anode.next == 0 || table.in_use(anode.next))
+        !anode.is_half_cleared()
+            && (anode.count == 0 || anode.end() <= size)
+            && (anode.next == 0 || table.in_use(anode.next))
     });
     good.then_some(()).ok_or(7)
 }

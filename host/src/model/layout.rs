@@ -137,8 +137,18 @@ impl Anode {
         Anode::new(0, 65_535, next)
     }
 
+    /// Free: all three fields are 0.
+    pub fn is_free(self) -> bool {
+        self == Anode::ZERO
+    }
+
     pub fn in_use(self) -> bool {
-        self.block != 0
+        !self.is_free()
+    }
+
+    /// Damage: the block field is 0, but another field is not.
+    pub fn is_half_cleared(self) -> bool {
+        self.block == 0 && !self.is_free()
     }
 
     /// The block after its last one, as a whole number.
@@ -175,7 +185,7 @@ impl AnodeTable {
         AnodeTable { slots, anodes }
     }
 
-    /// Writes every existing anode back; those that were not changed get the bytes they had.
+    /// Writes every existing anode; the bytes of those that were not changed stay as they are.
     pub fn write(&self, image: &mut [u8]) {
         for (slot, number) in used_slots(&self.slots) {
             let bytes = block_mut(image, number);

@@ -82,8 +82,12 @@ impl Disk<'_> {
         self.field(a, 2)
     }
 
+    fn free(&self, a: usize) -> bool {
+        self.exists(a) && self.count(a) == 0 && self.block(a) == 0 && self.next(a) == 0
+    }
+
     fn in_use(&self, a: usize) -> bool {
-        self.exists(a) && self.block(a) != 0
+        self.exists(a) && !self.free(a)
     }
 
     fn is_anode_block(&self, b: usize) -> bool {
@@ -112,8 +116,8 @@ impl Disk<'_> {
         (self.count(0), self.block(0), self.next(0)) != (0, 65_535, 0)
             || self.count(1) != 0
             || self.block(1) != 65_535
-            || !self.in_use(2)
-            || !self.in_use(5)
+            || self.free(2)
+            || self.free(5)
     }
 }
 
@@ -195,11 +199,14 @@ impl<'a> Chart<'a> {
 
     fn row_7(&self) -> bool {
         let disk = &self.disk;
-        self.in_use.iter().filter(|&&a| a != 0).any(|&a| {
+        let half_cleared =
+            |a| disk.exists(a) && disk.block(a) == 0 && (disk.count(a) != 0 || disk.next(a) != 0);
+        let wrong = |a| {
             let past = disk.count(a) > 0 && disk.block(a) + disk.count(a) > disk.n;
             let lost = disk.next(a) != 0 && !disk.in_use(disk.next(a));
             past || lost
-        })
+        };
+        (0..3_444).any(half_cleared) || self.in_use.iter().any(|&a| a != 0 && wrong(a))
     }
 
     fn row_8(&self) -> bool {

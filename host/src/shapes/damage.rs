@@ -2,7 +2,8 @@
 //!
 //! Each fault is chosen so that the image breaks the rule of its number and none of the rules that are tried
 //! before, so the check must answer exactly that number. Number 2 is about the tables, not the image, and has no
-//! fault here. Besides these there is damage without an aim.
+//! fault here. Besides these there are disks with two faults, one of them a half-cleared anode, and damage without an
+//! aim.
 
 use super::faults::{faults, wrong_length};
 use crate::calls::tables;
@@ -85,6 +86,17 @@ impl<'a> Damager<'a> {
             fault(self, &mut image, rng).is_some()
         });
         found.then_some(image)
+    }
+
+    /// The image with two faults: one aimed at this number, from 6 up, and a half-cleared anode from 2 up that the first
+    /// one left alone. The check must answer 6 where that was the aim, else 7.
+    pub fn damage_and_half_clear(&self, number: u32, rng: &mut Rng) -> Option<Vec<u8>> {
+        let mut image = self.damage(number, rng)?;
+        let table = AnodeTable::read(&image);
+        let left_alone = |&number: &u16| number >= RESERVED && table[number] == self.anode(number);
+        let candidates: Vec<u16> = table.existing().filter(left_alone).collect();
+        self.half_clear(&mut image, *rng.pick(&candidates)?, rng);
+        Some(image)
     }
 
     /// The image with some bytes of the root block, anode blocks and directory blocks changed at random.
@@ -183,6 +195,19 @@ impl<'a> Damager<'a> {
 
     pub(super) fn put_next(&self, image: &mut [u8], number: u16, next: u16) {
         self.put_anode(image, number, Anode { next, ..self.anode(number) });
+    }
+
+    /// Makes the block field 0, but leaves or sets something in the count, the next, or both.
+    pub(super) fn half_clear(&self, image: &mut [u8], number: u16, rng: &mut Rng) {
+        let Anode { count, next, .. } = self.anode(number);
+        let count = if count != 0 && rng.percent(50) { count } else { rng.within16(1..=65_535) };
+        let next = match rng.below(3) {
+            0 if next != 0 => next,
+            1 => rng.within16(1..=90),
+            _ => rng.within16(1..=65_535),
+        };
+        let left = [Anode::new(count, 0, 0), Anode::new(0, 0, next), Anode::new(count, 0, next)];
+        self.put_anode(image, number, left[rng.below(3)]);
     }
 
     pub(super) fn anode(&self, number: u16) -> Anode {

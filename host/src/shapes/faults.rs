@@ -36,3 +36,35 @@ pub(super) fn wrong_length(image: &[u8], rng: &mut Rng) -> Vec<u8> {
 fn spoil(bytes: &mut [u8], rng: &mut Rng) {
     bytes[rng.below(bytes.len())] ^= rng.within(1..=255) as u8;
 }
+
+#[cfg(test)]
+mod tests {
+    use super::*;
+    use crate::calls::tables;
+    use crate::model::check;
+    use crate::rng::seeded;
+    use crate::shapes::accepted;
+
+    /// Each fault is possible on some disk, and gives its number wherever it is.
+    #[test]
+    fn every_fault_gives_its_number() {
+        let mut met: Vec<Vec<usize>> = (3..=16).map(|number| vec![0; faults(number).len()]).collect();
+        for mut case in seeded("every_fault_gives_its_number", 0..400) {
+            let image = accepted(300, &mut case.rng);
+            let damager = Damager::new(&image).expect("the image is accepted");
+            for (number, met) in (3..=16).zip(&mut met) {
+                for (place, fault) in faults(number).iter().enumerate() {
+                    let mut damaged = image.clone();
+                    if fault(&damager, &mut damaged, &mut case.rng).is_some() {
+                        let (mut blocks, mut anodes) = tables(&damaged);
+                        assert_eq!(check(&damaged, &mut blocks, &mut anodes), number, "fault {place}");
+                        met[place] += 1;
+                    }
+                }
+            }
+        }
+        for (number, met) in (3..=16).zip(met) {
+            assert!(!met.is_empty() && met.iter().all(|&count| count > 0), "{number}: met {met:?} times");
+        }
+    }
+}

@@ -81,7 +81,7 @@ impl Plan {
         let file_heads: Vec<u16> =
             self.chains.files.iter().map(|extents| disk.chain(None, extents)[0]).collect();
         let directory_heads = self.directory_chains(&mut disk);
-        disk.write_anodes(recipe.junk, rng);
+        disk.write_anodes();
         let tree = self.write_directories(&mut disk, &file_heads, &directory_heads, rng);
         Shaped { image: disk.image, tree }
     }

@@ -69,18 +69,15 @@ impl Writer {
         }
     }
 
-    /// Writes all anode blocks; free anodes hold junk around their block field.
-    pub fn write_anodes(&mut self, junk: bool, rng: &mut Rng) {
+    /// Writes all anode blocks; an anode that is in no chain is free.
+    pub fn write_anodes(&mut self) {
         for (slot, number) in used_slots(&self.slots) {
             let bytes = block_mut(&mut self.image, number);
             bytes[..2].copy_from_slice(&ANODE_MARK);
             put_word(bytes, ANODE_SEQUENCE, slot as u16);
             for place in 0..ANODES_IN_BLOCK {
-                let anode = match self.anodes.get(&((slot * ANODES_IN_BLOCK + place) as u16)) {
-                    Some(&anode) => anode,
-                    None if junk => Anode::new(rng.word(), 0, free_next(rng)),
-                    None => Anode::ZERO,
-                };
+                let planned = self.anodes.get(&((slot * ANODES_IN_BLOCK + place) as u16));
+                let anode = planned.copied().unwrap_or(Anode::ZERO);
                 put_anode(bytes, FIRST_ANODE + place * ANODE_BYTES, anode);
             }
         }
@@ -128,12 +125,4 @@ fn entry_bytes(node: &Node) -> Vec<u8> {
     bytes.push(entry.comment.len() as u8);
     bytes.extend(&entry.comment);
     bytes
-}
-
-/// Junk in a free anode's next field: anything, often the number of an anode that has a meaning.
-fn free_next(rng: &mut Rng) -> u16 {
-    match rng.percent(50) {
-        true => rng.within16(0..=90),
-        false => rng.word(),
-    }
 }

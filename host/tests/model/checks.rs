@@ -33,6 +33,13 @@ fn compare_bent(image: &[u8], histogram: &mut Histogram, rng: &mut Rng) {
             histogram.add(answer, "check");
         }
     }
+    for number in 6..=16 {
+        if let Some(damaged) = damager.damage_and_half_clear(number, rng) {
+            let answer = compare_with_junk(&damaged, rng);
+            assert_eq!(answer, number.min(7), "the first fault was aimed at {number}");
+            histogram.add(answer, "check");
+        }
+    }
     for _ in 0..3 {
         histogram.add(compare_with_junk(&damager.with_random_bytes(rng), rng), "check");
         histogram.add(compare_with_junk(&damager.with_misplaced_numbers(rng), rng), "check");

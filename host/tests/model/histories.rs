@@ -207,17 +207,19 @@ impl History {
     }
 
     /// Bytes that the change is not about are as they were: other blocks, what no rule examines in anode
-    /// blocks, and anodes that were free and still are.
+    /// blocks, and the anodes of all chains but the free list and those that the change is about.
     fn compare_untouched(&self, call: &Call, before: &[u8], made: u16) {
         let (mut owners, mut heads) = tables(&self.image);
         assert_eq!(model::check(&self.image, &mut owners, &mut heads), 0);
+        let (mut old_owners, mut old_heads) = tables(before);
+        assert_eq!(model::check(before, &mut old_owners, &mut old_heads), 0);
         let head =
             |directory: u16, name: &[u8]| self.tree.find(directory, name).map_or(0, |node| node.entry.anode);
         let touched = match call {
             Call::Make { directory, .. } => [*directory, made],
             Call::Resize { directory, name, .. } => [*directory, head(*directory, name)],
             Call::Write { directory, name, .. } => [head(*directory, name); 2],
-            Call::Remove { directory, .. } => [*directory; 2],
+            Call::Remove { directory, name } => [*directory, head(*directory, name)],
             _ => [0; 2],
         };
         for (number, &owner) in owners.iter().enumerate() {
@@ -231,8 +233,12 @@ impl History {
         }
         let old = AnodeTable::read(before);
         let new = AnodeTable::read(&self.image);
-        for number in old.existing().filter(|&number| !old[number].in_use() && !new[number].in_use()) {
-            assert_eq!(old[number], new[number], "free anode {number} changed by {call:?}");
+        let is_other = |head: u16| head > 1 && !touched.contains(&head);
+        for number in old.existing() {
+            let place = usize::from(number);
+            if is_other(old_heads[place]) || is_other(heads[place]) {
+                assert_eq!(old[number], new[number], "anode {number} changed by {call:?}");
+            }
         }
     }
 

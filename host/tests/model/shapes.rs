@@ -65,10 +65,6 @@ fn shapes_have_what_format_never_makes() {
             }),
         );
         note("duplicate name", duplicates);
-        note(
-            "free anode with junk",
-            table.existing().any(|number| !table[number].in_use() && table[number] != Anode::ZERO),
-        );
         note("no free anode", table.existing().all(|number| number < 6 || table[number].in_use()));
         note("no free block", list.iter().all(empty));
     }

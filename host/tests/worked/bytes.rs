@@ -128,20 +128,6 @@ fn new_blocks_of_a_directory_name_its_parent<L: Library>() {
     }
 }
 
-fn free_anodes_keep_their_junk<L: Library>() {
-    let mut disk = Disk::<L>::format(20, 9, 1);
-    disk.set(&[(3, (9, 0, 77)), (7, (65_535, 0, 5)), (8, (1, 0, 2)), (81, (7, 0, 81))]);
-    assert_eq!(disk.check(), 0);
-    assert_eq!(disk.make(ROOT, FILE, b"a"), 0);
-    assert_eq!(disk.resize(b"a", 5000), 0);
-    assert_eq!(disk.anode(7), (10, 10, 0));
-    // 6 was emptied and zeroed; the others are as they were.
-    assert_eq!(disk.anode(6), (0, 0, 0));
-    assert_eq!((disk.anode(3), disk.anode(8), disk.anode(81)), ((9, 0, 77), (1, 0, 2), (7, 0, 81)));
-    assert_eq!(disk.remove(ROOT, b"a"), 0);
-    assert_eq!((disk.anode(3), disk.anode(8), disk.anode(81)), ((9, 0, 77), (1, 0, 2), (7, 0, 81)));
-}
-
 fn blocks_0_and_1_are_never_read<L: Library>() {
     let mut disk = Disk::<L>::format(20, 9, 1);
     disk.image[..2 * BLOCK].fill(0x5A);
@@ -156,6 +142,5 @@ both!(
     remove_closes_the_gap,
     an_emptied_directory_block_stays_and_is_used_again,
     new_blocks_of_a_directory_name_its_parent,
-    free_anodes_keep_their_junk,
     blocks_0_and_1_are_never_read,
 );

@@ -13,8 +13,16 @@ pub(super) fn faults(number: u32) -> &'static [Fault] {
         3 => &[other_type],
         4 => &[first_reserved, low_last_reserved, high_last_reserved, disk_name_length],
         5 => &[no_slot_0, low_slot, high_slot, anode_mark, sequence, wrong_new_slot],
-        6 => &[anode_0, anode_1_count, anode_1_block, anode_2_free, anode_5_free],
-        7 => &[end_above, wrapped_end, next_missing, next_free],
+        6 => &[anode_0, anode_1_count, anode_1_block, half_cleared_0_or_1, anode_2_free, anode_5_free],
+        7 => &[
+            end_above,
+            wrapped_end,
+            next_missing,
+            next_free,
+            half_cleared_2_to_5,
+            half_cleared_in_use,
+            count_or_next_set,
+        ],
         8 => &[next_special, next_itself, second_predecessor, ring],
         9 => &[cut_before_2, last_reserved_raised, last_reserved_lowered, upper_moved, lower_moved],
         10 => &[extent_grown, extent_moved, system_block_owned, free_anode_given_a_block, empty_filled],
@@ -133,17 +141,22 @@ fn anode_1_block(damager: &Damager, image: &mut [u8], rng: &mut Rng) -> Option<(
     Some(())
 }
 
+fn half_cleared_0_or_1(damager: &Damager, image: &mut [u8], rng: &mut Rng) -> Option<()> {
+    damager.half_clear(image, rng.within16(0..=FREE_LIST), rng);
+    Some(())
+}
+
 fn anode_2_free(damager: &Damager, image: &mut [u8], _: &mut Rng) -> Option<()> {
-    damager.put_block(image, RESERVED, 0);
+    damager.put_anode(image, RESERVED, Anode::ZERO);
     Some(())
 }
 
 fn anode_5_free(damager: &Damager, image: &mut [u8], _: &mut Rng) -> Option<()> {
-    damager.put_block(image, ROOT_DIRECTORY, 0);
+    damager.put_anode(image, ROOT_DIRECTORY, Anode::ZERO);
     Some(())
 }
 
-// 7: the fields of anodes in use.
+// 7: the fields of anodes.
 
 fn end_above(damager: &Damager, image: &mut [u8], rng: &mut Rng) -> Option<()> {
     let number = damager.any_in_use(rng, |number, _| number != FREE_LIST)?;
@@ -170,6 +183,24 @@ fn next_missing(damager: &Damager, image: &mut [u8], rng: &mut Rng) -> Option<()
 fn next_free(damager: &Damager, image: &mut [u8], rng: &mut Rng) -> Option<()> {
     let number = damager.any_in_use(rng, |_, _| true)?;
     damager.put_next(image, number, damager.any_free(rng, TO_BE_FREED)?);
+    Some(())
+}
+
+fn half_cleared_2_to_5(damager: &Damager, image: &mut [u8], rng: &mut Rng) -> Option<()> {
+    damager.half_clear(image, rng.within16(RESERVED..=ROOT_DIRECTORY), rng);
+    Some(())
+}
+
+fn half_cleared_in_use(damager: &Damager, image: &mut [u8], rng: &mut Rng) -> Option<()> {
+    let number = damager.any_in_use(rng, |number, _| number != FREE_LIST)?;
+    damager.half_clear(image, number, rng);
+    Some(())
+}
+
+/// A free anode has something in its count or its next.
+fn count_or_next_set(damager: &Damager, image: &mut [u8], rng: &mut Rng) -> Option<()> {
+    let number = damager.any_free(rng, TO_BE_FREED)?;
+    damager.half_clear(image, number, rng);
     Some(())
 }
 
