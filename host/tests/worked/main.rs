@@ -1,4 +1,4 @@
-//! The worked cases of the paper, and the steps of the changes worked out by hand on small disks. Each case runs on
+//! The worked cases of the papers, and the steps of the changes worked out by hand on small disks. Each case runs on
 //! the model and, with the feature `proved`, on the proved library.
 
 /// Makes two tests of each case: on the model, and on the proved library.
@@ -23,6 +23,7 @@ macro_rules! both {
 
 mod bytes;
 mod disk;
+mod half_cleared;
 mod limits;
 mod paper;
 mod space;
