@@ -19,8 +19,8 @@
  *   tables  Every call but pfs_format checks the whole image first and fills both tables. After 0 they are those of the
  *           image as the call left it, after 20 to 28 those of the unchanged image: the block table holds each block's owner
  *           (the head anode of its chain, 65535 for blocks 0 to 2, 65534 for anode blocks), the anode table each anode's
- *           chain head (0 for anode 0, free anodes and those that do not exist). Heads with a meaning of their own:
- *           1 free blocks, 3 blocks to be freed, 4 bad blocks, 5 the root directory.
+ *           chain head (0 for anode 0, free anodes, whose three fields are 0, and those that do not exist). Heads with a
+ *           meaning of their own: 1 free blocks, 3 blocks to be freed, 4 bad blocks, 5 the root directory.
  *           1 to 4 touch no table. 5 to 16 leave both zeroed. Entries past the image's blocks and past 3,444 always keep
  *           their content.
  *
@@ -44,7 +44,8 @@
  *    4  root block: first or last reserved, or the length of the disk's name
  *    5  an anode block: missing, out of place, wrong mark or sequence number
  *    6  one of the fixed anodes 0, 1, 2 and 5
- *    7  an anode reaches past the end of the disk, or its next is not in use
+ *    7  an anode is half cleared (its block is 0, its count or next is not), reaches past the end of the disk, or its next
+ *       is not in use
  *    8  chains: two predecessors, no end, or a predecessor of 1, 3, 4 or 5
  *    9  free list: anode 2 not on it, or an extent on the wrong side of last reserved
  *   10  a block has two owners

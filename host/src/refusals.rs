@@ -13,7 +13,7 @@ const WORDS: [(u32, &str); 25] = [
     (4, "the root block's reserved range or the length of the disk's name is wrong"),
     (5, "an anode block is missing, out of place, or not marked as the one it should be"),
     (6, "one of the fixed anodes 0, 1, 2 and 5 is not as it must be"),
-    (7, "an anode reaches past the end of the disk, or is followed by one that is not in use"),
+    (7, "an anode is half cleared, reaches past the end of the disk, or is followed by one that is not in use"),
     (8, "the chains of anodes run together, never end, or run into a fixed one"),
     (9, "the free list does not pass through anode 2, or has blocks on the wrong side of last reserved"),
     (10, "a block has two owners"),

@@ -35,6 +35,23 @@ fn check_says_the_number_of_damage_and_what_it_means() {
     folder.fails(1, &["rm", "damaged.adf", "recipes"]);
 }
 
+/// What a bench leaves that lost power while it cleared an anode.
+#[test]
+fn check_tells_a_half_cleared_anode() {
+    let folder = Folder::with_disk("half_cleared");
+    let mut image = folder.read("disk.adf");
+    // Anode 20, in the first anode block, gets (3, 0, 17).
+    image[3 * 512 + 16 + 20 * 6..][..6].copy_from_slice(&[0, 3, 0, 0, 0, 17]);
+    folder.write("damaged.adf", &image);
+    let run = folder.run(&["check", "damaged.adf"]);
+    assert_eq!((run.status, run.errors.as_str()), (1, ""));
+    assert!(run.out.starts_with("7: an anode is half cleared, "), "{}", run.out);
+    for command in [&["info", "damaged.adf"][..], &["rm", "damaged.adf", "recipes/pack7"]] {
+        let error = folder.fails(1, command);
+        assert!(error.ends_with(&format!(": {}", run.out)), "{error}");
+    }
+}
+
 #[test]
 fn ls_shows_every_field() {
     let folder = Folder::with_disk("ls");
