@@ -2,7 +2,7 @@
 //! else set is 7. On 20 blocks with L 9 and one anode block, 1 = (0, 65535, 6), 2 = (5, 5, 0), 5 = (1, 4, 0) and
 //! 6 = (10, 10, 2) are in use; 3, 4 and 7 to 81 are free, 82 and above missing.
 
-use ovenknit_host::calls::{Call, Library, FILE, ROOT};
+use ovenknit_host::calls::{Call, Library, Stamp, FILE, ROOT};
 use ovenknit_host::model::layout::{put_word, ROOT_BLOCK, ROOT_SLOTS};
 
 use crate::disk::Disk;
@@ -64,7 +64,6 @@ fn free_in_6_means_all_three_fields<L: Library>() {
 }
 
 fn seven_comes_between_6_and_8<L: Library>() {
-    let lost: (u16, Fields) = (20, (3, 0, 17));
     for (fault, number) in [
         ((6, (10, 11, 2)), 7),
         ((6, (10, 10, 6)), 8),
@@ -75,15 +74,17 @@ fn seven_comes_between_6_and_8<L: Library>() {
         ((7, (0, 65_535, 0)), 16),
     ] {
         assert_eq!(answer::<L>(&[fault]), number, "{fault:?}");
-        assert_eq!(answer::<L>(&[fault, lost]), 7, "{fault:?} and {lost:?}");
-        // A next that leads to it changes nothing.
-        assert_eq!(answer::<L>(&[fault, lost, (2, (5, 5, 20))]), 7, "{fault:?}, {lost:?} and 2 before it");
+        for fields in HALF_CLEARED {
+            assert_eq!(answer::<L>(&[fault, (20, fields)]), 7, "{fault:?}, 20 = {fields:?}");
+            // A next that leads to it changes nothing.
+            assert_eq!(answer::<L>(&[fault, (20, fields), (2, (5, 5, 20))]), 7, "{fault:?}, 20 = {fields:?}");
+        }
     }
     // The walk's numbers come later, those of the anode blocks first.
     let mut disk = Disk::<L>::format(20, 9, 1);
     disk.block_mut(4)[0] = b'X';
     assert_eq!(disk.check(), 12);
-    disk.set(&[lost]);
+    disk.set(&[(20, (3, 0, 0))]);
     assert_eq!(disk.check(), 7);
     disk.block_mut(3)[0] = b'X';
     assert_eq!(disk.check(), 5);
@@ -114,17 +115,20 @@ fn every_call_refuses_it_and_changes_nothing<L: Library>() {
     let mut disk = Disk::<L>::format(20, 9, 1);
     assert_eq!(disk.make(ROOT, FILE, b"f"), 0);
     assert_eq!(disk.resize(b"f", 700), 0);
+    let accepted = disk.image.clone();
+    let (directory, name) = (ROOT, || b"f".to_vec());
     // 8 would be the next one to be taken.
-    for number in [3, 8, 81] {
-        let (directory, name) = (ROOT, || b"f".to_vec());
-        let accepted = disk.image.clone();
-        disk.set(&[(number, (3, 0, 17))]);
+    for (number, fields) in [(3, (3, 0, 17)), (8, (3, 0, 0)), (8, (0, 0, 7)), (81, (1, 0, 0))] {
+        disk.image.clone_from(&accepted);
+        disk.set(&[(number, fields)]);
         let damaged = disk.image.clone();
+        let (new, comment, stamp) = (b"g".to_vec(), Vec::new(), Stamp::new(7, 8, 9));
         for call in [
             Call::Check,
             Call::Summary,
             Call::Read { directory, name: name(), offset: 0, length: 7 },
             Call::List { directory, place: 0 },
+            Call::Make { directory, kind: FILE, name: new, comment, stamp, protection: 0 },
             Call::Resize { directory, name: name(), size: 1_200 },
             Call::Resize { directory, name: name(), size: 0 },
             Call::Write { directory, name: name(), offset: 0, data: vec![1] },
@@ -136,8 +140,8 @@ fn every_call_refuses_it_and_changes_nothing<L: Library>() {
             assert_eq!(disk.image, damaged, "{call:?}");
             assert!(disk.blocks.iter().chain(&disk.anodes).all(|&entry| entry == 0), "{call:?}");
         }
-        disk.image = accepted;
     }
+    disk.image = accepted;
     assert_eq!(disk.remove(ROOT, b"f"), 0);
     assert_eq!(disk.anode(7), FREE);
 }
