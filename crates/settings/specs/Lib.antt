@@ -1,0 +1,4 @@
+-- What a settings file is, what its conversions do, and the laws that their code is proved with.
+pub mod Files
+pub mod Conversions
+pub mod Laws

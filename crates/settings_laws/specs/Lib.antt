@@ -1,0 +1,3 @@
+-- Theorems about the conversions of settings files.
+pub mod Records
+pub mod Kept

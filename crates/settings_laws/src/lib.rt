@@ -1,0 +1,1 @@
+// Theorems about settings files and their conversions; specs/ has them all.
