@@ -16,7 +16,7 @@
  * What it leaves
  *
  *   image   A refused call leaves every byte as it was. So do the calls that take a const image.
- *   tables  Every call but pfs_format checks the whole image first and fills both tables. After 0 they are those of the
+ *   tables  Every call that is lent tables checks the whole image first and fills both. After 0 they are those of the
  *           image as the call left it, after 20 to 28 those of the unchanged image: the block table holds each block's owner
  *           (the head anode of its chain, 65535 for blocks 0 to 2, 65534 for anode blocks), the anode table each anode's
  *           chain head (0 for anode 0, free anodes, whose three fields are 0, and those that do not exist). Heads with a
@@ -67,7 +67,12 @@
  *   27  no free block
  *   28  no free anode
  *
- * Every call but pfs_format may answer 1 to 16; what else it may answer stands with it.
+ *   Settings files:
+ *   50  the file is not of the form asked
+ *   51  seconds that two bytes cannot hold
+ *   52  the output buffer is too short
+ *
+ * Every call that is lent tables may answer 1 to 16; what else it may answer stands with it.
  */
 #ifndef PFS_H
 #define PFS_H
@@ -152,6 +157,31 @@ uint32_t pfs_write(uint8_t *image, size_t image_len, uint16_t *blocks, size_t bl
 /* Removes a file or an empty directory. Answers also 21, 22, 25, 28. */
 uint32_t pfs_remove(uint8_t *image, size_t image_len, uint16_t *blocks, size_t blocks_len, uint16_t *anodes,
                     size_t anodes_len, uint16_t directory, const uint8_t *name, size_t name_len);
+
+/* Settings files. They stand outside any disk: these two calls are lent the file's bytes, and neither image nor tables.
+ *
+ * A file is a run of records, all of one form, at most 512 of them, keys rising strictly; an empty file is of both forms.
+ * Numbers are big-endian and unsigned.
+ *
+ *    old record, 6 bytes: the mark "S1", a two-byte key, two bytes of seconds
+ *    new record, 8 bytes: the mark "S2", a two-byte key, four bytes of seconds
+ *
+ * A conversion writes the same keys with the same seconds, in order, to the front of out, and touches nothing past them. A
+ * refused one leaves out as it was. In fields:
+ *
+ *    0 the bytes written, 0 after a refusal
+ *    1 with 51 the first key whose seconds are above 65,535, else 0
+ *
+ * What one of them has written, the other turns back into the same bytes. */
+
+/* The records that a settings file can have. */
+#define PFS_SETTINGS 512
+
+/* Old records to new ones, in need of 8 bytes for each. Answers 0, 50, 52. */
+uint32_t pfs_widen(const uint8_t *file, size_t file_len, uint8_t *out, size_t out_len, uint32_t fields[2]);
+
+/* New records to old ones, in need of 6 bytes for each. Answers 0, 50, 51, 52. */
+uint32_t pfs_narrow(const uint8_t *file, size_t file_len, uint8_t *out, size_t out_len, uint32_t fields[2]);
 
 #ifdef __cplusplus
 }

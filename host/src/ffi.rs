@@ -1,6 +1,7 @@
 //! The proved library, called through its C interface.
 
 use crate::calls::{Call, Lent, Library, Output};
+use crate::settings::{Conversion, Converter};
 
 /// The C interface, as in `pfs.h`.
 mod c {
@@ -47,6 +48,20 @@ mod c {
             minute: u16,
             tick: u16,
             protection: u16,
+        ) -> u32;
+        pub fn pfs_widen(
+            file: *const u8,
+            file_len: usize,
+            out: *mut u8,
+            out_len: usize,
+            fields: *mut u32,
+        ) -> u32;
+        pub fn pfs_narrow(
+            file: *const u8,
+            file_len: usize,
+            out: *mut u8,
+            out_len: usize,
+            fields: *mut u32,
         ) -> u32;
     }
 }
@@ -122,5 +137,17 @@ impl Library for Proved {
                 }
             }
         }
+    }
+}
+
+impl Converter for Proved {
+    fn answer(conversion: Conversion, file: &[u8], out: &mut [u8], fields: &mut [u32; 2]) -> u32 {
+        let call = match conversion {
+            Conversion::Widen => c::pfs_widen,
+            Conversion::Narrow => c::pfs_narrow,
+        };
+        // SAFETY: the slices are handed on as pointer and length, there are two fields, and the borrows say that
+        // nothing that is written shares a byte with the rest.
+        unsafe { call(file.as_ptr(), file.len(), out.as_mut_ptr(), out.len(), fields.as_mut_ptr()) }
     }
 }

@@ -4,6 +4,7 @@
 //! * `ffi`, with the feature `proved`: the proved library behind that trait.
 //! * [`stack`]: how much stack its calls need.
 //! * [`refusals`], [`disk`]: the numbers in words, and a disk with its tables behind safe methods.
+//! * [`settings`]: settings files, and the trait of whoever converts them.
 //! * [`cli`]: the command line `pfs`.
 //!
 //! For the tests:
@@ -27,6 +28,7 @@ pub mod histories;
 pub mod model;
 pub mod refusals;
 pub mod rng;
+pub mod settings;
 pub mod shapes;
 pub mod stack;
 pub mod starts;

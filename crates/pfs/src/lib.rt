@@ -3,6 +3,7 @@ ghost use mathlib.Core.List.{[]};
 ghost use mathlib.Core.Path.{_≡_};
 ghost use Rattle.rules.specs.Changes.{left};
 ghost use Rattle.rules.specs.Calls.{outcomeOf, checkOutcome, summaryOutcome, formatOutcome, readOutcome, listOutcome, makeOutcome, resizeOutcome, writeOutcome, removeOutcome};
+ghost use Rattle.settings.specs.Conversions.{conversionOf, widenOutcome, narrowOutcome};
 ghost use Rattle.pfs.specs.Listed.{nameGiven};
 
 // The check: 0, or the first refusal.
@@ -160,4 +161,20 @@ pub extern "C" fn pfs_remove(
     ensures { λ r. ⌜ outcomeOf r (now (image .exit)) (now (blocks .exit)) (now (anodes .exit)) [] [] ≡ removeOutcome (now (image .entry)) (now (blocks .entry)) (now (anodes .entry)) directory (now (name .entry)) ⌝ }
 {
     change_calls::remove(image, blocks, anodes, directory, name)
+}
+
+// Converts a settings file of old records to new ones; a refused call leaves the output buffer.
+#[no_mangle]
+pub extern "C" fn pfs_widen(file: &[u8], out: &mut [u8], fields: &mut [u32; 2]) -> u32
+    ensures { λ r. ⌜ conversionOf r (now (out .exit)) (now (fields .exit)) ≡ widenOutcome (now (file .entry)) (now (out .entry)) ⌝ }
+{
+    settings::widen(file, out, fields)
+}
+
+// Converts a settings file of new records to old ones; a refused call leaves the output buffer.
+#[no_mangle]
+pub extern "C" fn pfs_narrow(file: &[u8], out: &mut [u8], fields: &mut [u32; 2]) -> u32
+    ensures { λ r. ⌜ conversionOf r (now (out .exit)) (now (fields .exit)) ≡ narrowOutcome (now (file .entry)) (now (out .entry)) ⌝ }
+{
+    settings::narrow(file, out, fields)
 }

@@ -47,13 +47,15 @@ recordPlace form i = i * recordLength form
 unfoldable pub recordCount : Form → List ℕ → ℕ
 recordCount form file = length file / recordLength form
 
--- the mark, the key and the seconds of record i
+-- the mark of record i
 unfoldable pub markAt : Form → List ℕ → ℕ → ℕ
 markAt form file i = be16 file (recordPlace form i)
 
+-- its key
 unfoldable pub keyAt : Form → List ℕ → ℕ → ℕ
 keyAt form file i = be16 file (recordPlace form i + 2)
 
+-- its seconds
 unfoldable pub secondsAt : Form → List ℕ → ℕ → ℕ
 secondsAt form file i = numberAt (form .width) file (recordPlace form i + 4)
 

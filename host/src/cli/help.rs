@@ -41,7 +41,7 @@ macro_rules! new_entry {
     };
 }
 
-pub const COMMANDS: [Syntax; 13] = [
+pub const COMMANDS: [Syntax; 14] = [
     Syntax {
         name: "info",
         operands: &["DISK"],
@@ -165,13 +165,29 @@ A bar stands behind the last reserved block.
   --owners        list the runs of blocks with their owners instead
   --svg           write a picture (SVG) to standard output instead",
     },
+    Syntax {
+        name: "settings",
+        operands: &["widen|narrow|show", "FILE", "[OUT]"],
+        flags: &[],
+        options: &[],
+        short: "convert or show a file of conditioning times",
+        long: "Works on a settings file outside any disk: up to 512 records, each a key with its seconds, keys rising.
+widen converts old records (mark S1, two bytes of seconds) to new ones (S2, four bytes), narrow converts them back, and
+both keep every key and its seconds. The result replaces OUT, or FILE if OUT is left out, as a whole or not at all.
+show prints the keys and times of a file of either form.
+
+Two bytes hold at most 65,535 s, which is 18:12:15, so a day's conditioning needs the new form. narrow refuses a file with
+a longer time (51) and names its first record, since cut to two bytes a day (24:00:00) would come out as 5:47:44.
+
+Records count from 1 and bytes from 0 in what is said about a file that is refused.",
+    },
 ];
 
 /// The help of the whole program.
 pub fn whole() -> String {
     let mut help = String::from("pfs COMMAND DISK ...: PFS floppy disks in image files\n\n");
     for syntax in &COMMANDS {
-        help += &format!("  {:<8}{}\n", syntax.name, syntax.short);
+        help += &format!("  {:<10}{}\n", syntax.name, syntax.short);
     }
     help + "
 `pfs COMMAND --help` tells more. PATH is like recipes/pack7; in it, \\xNN is any byte and \\\\ a backslash.

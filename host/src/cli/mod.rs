@@ -4,6 +4,7 @@
 //!
 //! * `arguments`, `help`: the words of a command line, and what is said about them.
 //! * `commands`, `put`, `map`: one function for each command.
+//! * `settings`: settings files, the one thing that is no disk.
 //! * `store`: disk files, replaced as a whole or not at all.
 //! * `paths`, `walk`: from names to entries, and all entries of a disk.
 //! * `stamps`, `text`: dates and names as people write them.
@@ -16,6 +17,7 @@ mod help;
 mod map;
 mod paths;
 mod put;
+mod settings;
 mod stamps;
 mod store;
 mod svg;
@@ -28,6 +30,7 @@ use std::io::{self, Write};
 
 use crate::calls::Library;
 use crate::refusals::Error;
+use crate::settings::Converter;
 use arguments::Arguments;
 
 /// Why a command was not done.
@@ -65,7 +68,7 @@ fn refused(about: impl Display) -> impl FnOnce(Error) -> Failure {
 
 /// Runs a command line (without the program's name) and answers its exit status: 0 done, 1 refused, 2 bad usage
 /// or a file that cannot be read or written.
-pub fn run<L: Library>(words: &[OsString], out: &mut dyn Write, errors: &mut dyn Write) -> u8 {
+pub fn run<L: Library + Converter>(words: &[OsString], out: &mut dyn Write, errors: &mut dyn Write) -> u8 {
     let done = command::<L>(words, out).and_then(|()| Ok(out.flush()?));
     let Err(failure) = done else {
         return 0;
@@ -77,7 +80,7 @@ pub fn run<L: Library>(words: &[OsString], out: &mut dyn Write, errors: &mut dyn
     failure.status()
 }
 
-fn command<L: Library>(words: &[OsString], out: &mut dyn Write) -> Done {
+fn command<L: Library + Converter>(words: &[OsString], out: &mut dyn Write) -> Done {
     let Some((first, rest)) = words.split_first() else {
         return Err(Failure::Trouble("no command; see pfs --help".into()));
     };
@@ -94,7 +97,7 @@ fn command<L: Library>(words: &[OsString], out: &mut dyn Write) -> Done {
     }
 }
 
-fn dispatch<L: Library>(name: &str, arguments: &Arguments, out: &mut dyn Write) -> Done {
+fn dispatch<L: Library + Converter>(name: &str, arguments: &Arguments, out: &mut dyn Write) -> Done {
     match name {
         "info" => commands::info::<L>(arguments, out),
         "check" => commands::check::<L>(arguments, out),
@@ -108,6 +111,7 @@ fn dispatch<L: Library>(name: &str, arguments: &Arguments, out: &mut dyn Write) 
         "resize" => commands::resize::<L>(arguments),
         "format" => commands::format::<L>(arguments),
         "df" => map::df::<L>(arguments, out),
+        "settings" => settings::settings_file::<L>(arguments, out),
         _ => map::map::<L>(arguments, out),
     }
 }

@@ -10,6 +10,7 @@
 //! * `space`: taking and giving back one block.
 //! * `calls`: the calls.
 //! * `totals`: the seven kinds of blocks.
+//! * `settings`: the conversions of settings files.
 //! * `library`: the calls behind one trait, as the proved library has them.
 
 mod calls;
@@ -17,6 +18,7 @@ mod check;
 pub mod layout;
 mod library;
 pub mod naive;
+mod settings;
 mod space;
 mod totals;
 

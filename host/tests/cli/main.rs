@@ -4,3 +4,4 @@ mod changes;
 mod folder;
 mod looks;
 mod refusals;
+mod settings;

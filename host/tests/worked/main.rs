@@ -26,5 +26,6 @@ mod disk;
 mod half_cleared;
 mod limits;
 mod paper;
+mod settings;
 mod space;
 mod stored;
