@@ -11,7 +11,7 @@ use lib.ListN.{length, getD, set, length-append}
 use lib.Seq.{set-comm}
 use lib.Dec.{eqb, leb, ltb}
 use borrow.Author.Tests.{ltb-false, lt-ltb, le-ltb, le-leb, lt-leb, eq-eqb, ne-eqb}
-use Rattle.endian.specs.Bytes.{be16, stored}
+use Rattle.endian.specs.Bytes.{be16, be32, stored}
 use Rattle.endian.proofs.Laws.{less?, same?, run-on, stored-none}
 use Rattle.rules.specs.Counting.{anyBelow, least, gather}
 use Rattle.rules.specs.Calls.{doneOr}
@@ -42,6 +42,14 @@ number-more w bytes at = rw (add-one w)
 pub number-be16 : (bytes : List ℕ) (at : ℕ) → numberAt 2 bytes at ≡ be16 bytes at
 unfolding numberAt be16
 number-be16 bytes at = let e : at + 0 ≡ at = omega arith in rw e (omega arith)
+
+-- and so are those of four
+pub number-be32 : (bytes : List ℕ) (at : ℕ) → numberAt 4 bytes at ≡ be32 bytes at
+unfolding numberAt be32 be16
+number-be32 bytes at =
+    let e : at + 0 ≡ at = omega arith in
+    let f : at + 2 + 1 ≡ at + 3 = omega arith in
+    rw (e, f) (omega arith)
 
 pub bytes-none : (v : ℕ) → numberBytes 0 v ≡ []
 unfolding numberBytes
