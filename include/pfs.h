@@ -160,14 +160,14 @@ uint32_t pfs_remove(uint8_t *image, size_t image_len, uint16_t *blocks, size_t b
 
 /* Settings files. They stand outside any disk: these two calls are lent the file's bytes, and neither image nor tables.
  *
- * A file is a run of records, all of one form, at most 512 of them, keys rising strictly; an empty file is of both forms.
- * Numbers are big-endian and unsigned.
+ * A file is a run of up to 512 records of the same form, each with a key above the one before it; the empty file has either
+ * form. Numbers are big-endian and unsigned.
  *
  *    old record, 6 bytes: the mark "S1", a two-byte key, two bytes of seconds
  *    new record, 8 bytes: the mark "S2", a two-byte key, four bytes of seconds
  *
- * A conversion writes the same keys with the same seconds, in order, to the front of out, and touches nothing past them. A
- * refused one leaves out as it was. In fields:
+ * A conversion writes the same records in the other form to the front of out, and touches nothing past them. A refused one
+ * leaves out as it was. In fields:
  *
  *    0 the bytes written, 0 after a refusal
  *    1 with 51 the first key whose seconds are above 65,535, else 0

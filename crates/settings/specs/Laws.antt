@@ -210,12 +210,12 @@ least-none test n none = elim (least-cases test n) [
 
 -- ---- the first record that is too long
 
-module _ (from to : Form) (file : List ℕ) (most : ℕ) (is : most ≡ 256 ^ to .width) where
+module _ (from to : Form) (file : List ℕ) (past : ℕ) (is : past ≡ 256 ^ to .width) where
   -- none of the first i records is
   abbrev pub NoneLong : ℕ → Type 0
-  NoneLong i = (j : ℕ) → j < i → leb most (secondsAt from file j) ≡ false
+  NoneLong i = (j : ℕ) → j < i → leb past (secondsAt from file j) ≡ false
 
-  pub long-found : (i n v : ℕ) → i < n → NoneLong i → v ≡ secondsAt from file i → most ≤ v → i ≡ least (tooLong from to file) n
+  pub long-found : (i n v : ℕ) → i < n → NoneLong i → v ≡ secondsAt from file i → past ≤ v → i ≡ least (tooLong from to file) n
   unfolding tooLong
   long-found i n v l none e m = sym (least-found _ i n l (rw is at none) (le-leb (256 ^ to .width) (secondsAt from file i) (omega (arith, is, e, m))))
 
@@ -223,9 +223,9 @@ module _ (from to : Form) (file : List ℕ) (most : ℕ) (is : most ≡ 256 ^ to
   unfolding tooLong
   long-none i n e none = sym (least-none _ n (rw (is, e) at none))
 
-  pub none-long : (i v : ℕ) → NoneLong i → v ≡ secondsAt from file i → v < most → NoneLong (i + 1)
+  pub none-long : (i v : ℕ) → NoneLong i → v ≡ secondsAt from file i → v < past → NoneLong (i + 1)
   none-long i v none e m j l = elim (same? j i) [
-    | inl p ↦ rw p (lt-leb most (secondsAt from file i) (omega (arith, e, m)))
+    | inl p ↦ rw p (lt-leb past (secondsAt from file i) (omega (arith, e, m)))
     | inr p ↦ none j (omega arith)
   ]
 

@@ -38,7 +38,7 @@ rows =
     -- there and back, with a byte of the buffer past the result
     row (widenOutcome short (buffer 9)) 0 (same ++ buffer 1) 8 0
     ∷ row (narrowOutcome same (buffer 7)) 0 (short ++ buffer 1) 6 0
-    -- the empty file is of both forms
+    -- the file without records has either form
     ∷ row (widenOutcome [] (buffer 2)) 0 (buffer 2) 0 0
     ∷ row (narrowOutcome [] []) 0 [] 0 0
     -- 50: the other form, a part of a record, a key that repeats, keys that fall

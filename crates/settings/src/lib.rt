@@ -150,9 +150,9 @@ fn first_too_long(from: Form, to: Form, file: &[u8], n: usize) -> usize
     requires { ⌜ (from .width ≤ 4) × (to .width ≤ 4) × (n ≤ 512) ⌝ }
     ensures { λ r. ⌜ r ≡ least (tooLong from to (now (file .entry))) n ⌝ }
 {
-    let most = past_width(to.width);
+    let past = past_width(to.width);
     for i in 0..n {
-        if most <= seconds_at(from, file, i) as u64 {
+        if past <= seconds_at(from, file, i) as u64 {
             return i;
         }
     }

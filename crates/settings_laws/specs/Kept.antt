@@ -1,4 +1,4 @@
--- 02, No. 12: the theorems. Each conversion keeps each key and its seconds, in order; one undoes the other; 51 is met exactly where seconds do not fit.
+-- 02, No. 12: the theorems. The result has the file's records in the other form; one conversion undoes the other; 51 comes just where seconds do not fit.
 use mathlib.Core.Path.{_≡_, refl, sym, ap, _∙_}
 use mathlib.Core.Bool.{false, true≢false}
 use mathlib.Core.Logic.{_≢_, _↔_, inl, inr}
@@ -19,7 +19,7 @@ use Rattle.settings.specs.Laws.{length-converted, record-later}
 use Rattle.settings_laws.specs.Records.{AllBytes, right-record, right-mark}
 use Rattle.settings_laws.specs.Converted.{not-of-form, long-seconds, short-buffer, converts, answer-cases, old-fits, done-output, done-result, converted-settings, converted-form, converted-back, converted-fit, done-facts, done-outcome}
 
--- Both conversions keep each key and its seconds, in order,
+-- The records of the result are those of the file, key by key and second by second, in the same order,
 pub settings-kept : (from to : Form) (file out : List ℕ) → AllBytes file → convertOutcome from to file out .answer ≡ 0
     → settingsIn to (resultOf (convertOutcome from to file out)) ≡ settingsIn from file
 unfolding convertOutcome conversionBy
@@ -27,7 +27,7 @@ settings-kept from to file out bytes z =
     let d = done-facts from to file out z in
     ap (settingsIn to) (done-result from to file out z (d .2)) ∙ converted-settings from to file bytes (d .0) (d .1)
 
--- and leave a file of the form asked for.
+-- and it is a file of the other form.
 pub form-kept : (from to : Form) (file out : List ℕ) → to .mark < 65536 → AllBytes file → convertOutcome from to file out .answer ≡ 0
     → notOfForm to (resultOf (convertOutcome from to file out)) ≡ false
 unfolding convertOutcome conversionBy
@@ -46,14 +46,14 @@ there-and-back from to file out back small bytes z room =
     ∙ done-outcome to from (converted from to file) back (converted-form from to file bytes (d .0) (d .1) small) (converted-fit from to file bytes (d .0) (d .1)) (rw again room)
     ∙ rw again
 
--- Forward then back, with room, gives the same bytes: a file of the old form, and room for as many new records.
+-- Any file of old records, widened with room for as many new ones, narrows to the bytes that it was.
 pub widen-narrow : (file out back : List ℕ) → AllBytes file → notOfForm oldForm file ≡ false → recordPlace newForm (recordCount oldForm file) ≤ length out → length file ≤ length back
     → (widenOutcome file out .answer ≡ 0) × (narrowOutcome (resultOf (widenOutcome file out)) back ≡ conversionOf 0 (stored back 0 file) (length file ∷ 0 ∷ []))
 widen-narrow file out back bytes right room back-room =
     let z = ap (λ (c : Conversion). c .answer) (done-outcome oldForm newForm file out right (old-fits file bytes) (rw (length-converted oldForm newForm file) room)) in
     (z, there-and-back oldForm newForm file out back (omega arith) bytes z back-room)
 
--- Back then forward too, where back is done.
+-- A file of new records that could be narrowed widens to the bytes that it was.
 pub narrow-widen : (file out back : List ℕ) → AllBytes file → narrowOutcome file out .answer ≡ 0 → length file ≤ length back
     → widenOutcome (resultOf (narrowOutcome file out)) back ≡ conversionOf 0 (stored back 0 file) (length file ∷ 0 ∷ [])
 narrow-widen file out back bytes z room = there-and-back newForm oldForm file out back (omega arith) bytes z room
@@ -66,7 +66,7 @@ pub record SomeAbove (file : List ℕ) : Type 0 where
   pub within : place < recordCount newForm file
   pub above : 65535 < secondsAt newForm file place
 
--- Converting back meets 51 exactly if a file of the new form has seconds above 65,535 in some record,
+-- Narrow answers 51 for those files of new records in which two bytes are too few somewhere, and for no other input;
 pub narrow-51-exactly : (file out : List ℕ) → (narrowOutcome file out .answer ≡ 51) ↔ ((notOfForm newForm file ≡ false) × SomeAbove file)
 unfolding convertOutcome conversionBy
 narrow-51-exactly file out = elim (answer-cases newForm oldForm file (length out)) [
@@ -76,7 +76,7 @@ narrow-51-exactly file out = elim (answer-cases newForm oldForm file (length out
   | converts p f l e ↦ (λ z. absurd (omega (arith, z, e)), λ w. absurd (omega (arith, w .1 .above, f (w .1 .place) (w .1 .within))))
 ]
 
--- the key is that of the first record with seconds above 65,535
+-- the first such record, and its key
 pub record FirstAbove (file : List ℕ) (key : ℕ) : Type 0 where
   pub place : ℕ
   pub within : place < recordCount newForm file
@@ -84,7 +84,7 @@ pub record FirstAbove (file : List ℕ) (key : ℕ) : Type 0 where
   pub earlier : (i : ℕ) → i < place → secondsAt newForm file i ≤ 65535
   pub is-key : key ≡ keyAt newForm file place
 
--- naming the first such key;
+-- the key it tells is the first one's;
 pub narrow-51-key : (file out : List ℕ) → narrowOutcome file out .answer ≡ 51 → FirstAbove file (getD (narrowOutcome file out .fields) 1 0)
 unfolding convertOutcome conversionBy
 narrow-51-key file out z = elim (answer-cases newForm oldForm file (length out)) [
@@ -100,7 +100,7 @@ narrow-51-key file out z = elim (answer-cases newForm oldForm file (length out))
   | converts p f l e ↦ absurd (omega (arith, z, e))
 ]
 
--- converting forward never meets it.
+-- widen never answers 51.
 pub widen-never-51 : (file out : List ℕ) → AllBytes file → widenOutcome file out .answer ≢ 51
 unfolding convertOutcome conversionBy
 widen-never-51 file out bytes z = elim (answer-cases oldForm newForm file (length out)) [
@@ -113,7 +113,7 @@ widen-never-51 file out bytes z = elim (answer-cases oldForm newForm file (lengt
 -- ---- the output buffer
 
 module _ (from to : Form) (file out : List ℕ) where
-  -- The output buffer is unchanged by each refusal,
+  -- A refused conversion leaves the buffer as it was,
   pub refusal-leaves : convertOutcome from to file out .answer ≢ 0 → convertOutcome from to file out .output ≡ out
   unfolding convertOutcome conversionBy doneOr
   refusal-leaves n = go (convertAnswer from to file (length out)) n where
@@ -121,7 +121,7 @@ module _ (from to : Form) (file out : List ℕ) where
     go zero m = absurd (m refl)
     go (suc k) m = refl
 
-  -- and past the result always.
+  -- and none reaches past its result.
   pub past-kept : drop (getD (convertOutcome from to file out .fields) 0 0) (convertOutcome from to file out .output) ≡ drop (getD (convertOutcome from to file out .fields) 0 0) out
   unfolding convertOutcome conversionBy doneOr
   past-kept = elim (answer-cases from to file (length out)) [
@@ -142,7 +142,7 @@ keys-rise form file is i (suc k) l m =
     let step : keyAt form file k < keyAt form file (suc k) = rw e at above in
     elim (same? i k) [ inl p ↦ rw p step | inr p ↦ omega (arith, keys-rise form file is i k (omega arith) (omega arith), step) ]
 
--- An empty file is of both forms.
+-- The file without records has either form.
 pub empty-both : (notOfForm oldForm [] ≡ false) × (notOfForm newForm [] ≡ false)
 unfolding notOfForm recordCount recordLength anyBelow
 empty-both = (refl, refl)

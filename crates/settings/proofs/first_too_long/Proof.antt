@@ -11,10 +11,10 @@ use Rattle.settings.proofs.first_too_long.Statement.{statement}
 use Rattle.settings.proofs.first_too_long.Tie as tie
 
 abbrev Inv-loop : tie.InvT-loop
-Inv-loop from file n most i₀ i = (i ≤ n) × ((j : ℕ) → j < i → leb most (secondsAt from file j) ≡ false)
+Inv-loop from file n past i₀ i = (i ≤ n) × ((j : ℕ) → j < i → leb past (secondsAt from file j) ≡ false)
 
 abbrev μ-loop : tie.MeasureT-loop
-μ-loop from file n most i₀ i = n - i
+μ-loop from file n past i₀ i = n - i
 
 past-width-requires : tie.Need-past-width-requires Inv-loop μ-loop
 past-width-requires c κs = search needs
