@@ -45,6 +45,7 @@ unfoldable pub conversionBy : ℕ → List ℕ → ℕ → List ℕ → Conversi
 conversionBy answer result key out =
     conversionOf answer (doneOr answer (stored out 0 result) out) (doneOr answer (length result) 0 ∷ cond (eqb answer 51) key 0 ∷ [])
 
+-- Convert: from one form to the other, for every file and every output buffer
 unfoldable pub convertOutcome : Form → Form → List ℕ → List ℕ → Conversion
 convertOutcome from to file out =
     conversionBy (convertAnswer from to file (length out)) (converted from to file) (keyAt from file (firstTooLong from to file)) out
