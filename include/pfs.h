@@ -29,7 +29,7 @@
  *   A thread with this much stack can make the call, whatever it is lent; deeper in a program this much must be left.
  *   Measured on x86-64 Linux, and rounded up.
  *
- *    32 KiB  pfs_format
+ *    32 KiB  pfs_format, pfs_widen, pfs_narrow
  *    64 KiB  pfs_check, pfs_summary, pfs_read, pfs_list, pfs_write
  *    96 KiB  pfs_make
  *   256 KiB  pfs_resize, pfs_remove

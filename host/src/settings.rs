@@ -130,6 +130,14 @@ pub enum Conversion {
 impl Conversion {
     pub const BOTH: [Conversion; 2] = [Conversion::Widen, Conversion::Narrow];
 
+    /// The call's name.
+    pub fn word(self) -> &'static str {
+        match self {
+            Conversion::Widen => "widen",
+            Conversion::Narrow => "narrow",
+        }
+    }
+
     /// The form that the file has.
     pub fn from(self) -> Form {
         match self {

@@ -3,8 +3,10 @@
 
 /// Each call by its label, with the KiB of stack that a thread must have to make it. Upper bounds with room to spare: more
 /// than the call takes, the start of the thread with it.
-pub const NEEDED: [(&str, usize); 9] = [
+pub const NEEDED: [(&str, usize); 11] = [
     ("format", 32),
+    ("widen", 32),
+    ("narrow", 32),
     ("check", 64),
     ("summary", 64),
     ("read", 64),

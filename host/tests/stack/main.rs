@@ -6,6 +6,7 @@ mod threads;
 use ovenknit_host::calls::{tables, Call, Library, Stamp, BLOCK, DIRECTORY, FILE, ROOT};
 use ovenknit_host::compare::{compare, History};
 use ovenknit_host::rng::Rng;
+use ovenknit_host::settings::{Conversion, Converter, Form, Setting, MOST_RECORDS};
 use ovenknit_host::shapes::{formatted, shaped, Recipe};
 use ovenknit_host::stack::{needed, NEEDED};
 use ovenknit_host::starts::Start;
@@ -42,9 +43,21 @@ fn run_every_call<L: Library>(mut image: Vec<u8>, size: u64) {
     }
 }
 
+/// Both conversions of a file with as many records as one may have, into buffers that just hold the result.
+fn run_conversions<C: Converter>() {
+    let records =
+        |form| (0..MOST_RECORDS as u16).flat_map(move |key| Setting { key, seconds: 65_535 }.bytes(form));
+    let (old, new): (Vec<u8>, Vec<u8>) = (records(Form::OLD).collect(), records(Form::NEW).collect());
+    for (conversion, file, result) in [(Conversion::Widen, &old, &new), (Conversion::Narrow, &new, &old)] {
+        let (mut out, mut fields) = (vec![0; result.len()], [0; 2]);
+        assert_eq!(C::answer(conversion, file, &mut out, &mut fields), 0);
+        assert_eq!((&out, fields), (result, [result.len() as u32, 0]));
+    }
+}
+
 /// Every call on small and on large disks, empty, full of files and in many pieces; then random calls, which are refused
 /// at times. Each is compared with the model.
-fn run_calls<L: Library>() {
+fn run_calls<L: Library + Converter>() {
     let rng = &mut Rng::new(1);
     run_every_call::<L>(include_bytes!("../../../crates/pfsinfo_files/stdin").to_vec(), 5_000);
     run_every_call::<L>(formatted(1_760, rng), 5_000);
@@ -54,6 +67,7 @@ fn run_calls<L: Library>() {
     let pieces = Recipe { cuts: 2_000, empties: 300, ..Recipe::fragmented(65_535) };
     run_every_call::<L>(shaped(&pieces, rng).image, 50_000);
 
+    run_conversions::<L>();
     for start in Start::SMALL {
         History::new(start.disk(rng), rng).run::<L>(100);
     }

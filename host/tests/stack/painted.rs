@@ -7,6 +7,7 @@ use std::sync::Mutex;
 
 use ovenknit_host::calls::{Call, Lent, Library, Output};
 use ovenknit_host::ffi::Proved;
+use ovenknit_host::settings::{Conversion, Converter};
 
 /// A piece of a stack, aligned as systems like it.
 #[derive(Clone)]
@@ -74,12 +75,23 @@ pub struct Painted;
 
 impl Library for Painted {
     fn answer(call: &Call, lent: Lent, output: &mut Output) -> u32 {
-        let (answer, used) = on_painted_stack(|| Proved::answer(call, lent, output));
-        let mut most = USED.lock().expect("no thread has failed");
-        let most = most.entry(call.label()).or_default();
-        *most = used.max(*most);
-        answer
+        measured(call.label(), || <Proved as Library>::answer(call, lent, output))
     }
+}
+
+impl Converter for Painted {
+    fn answer(conversion: Conversion, file: &[u8], out: &mut [u8], fields: &mut [u32; 2]) -> u32 {
+        measured(conversion.word(), || <Proved as Converter>::answer(conversion, file, out, fields))
+    }
+}
+
+/// Runs the call of this label on a painted stack, and notes how much it used.
+fn measured(label: &'static str, run: impl FnOnce() -> u32 + Send) -> u32 {
+    let (answer, used) = on_painted_stack(run);
+    let mut most = USED.lock().expect("no thread has failed");
+    let most = most.entry(label).or_default();
+    *most = used.max(*most);
+    answer
 }
 
 impl Painted {

@@ -4,6 +4,7 @@ use std::thread;
 
 use ovenknit_host::calls::{Call, Lent, Library, Output};
 use ovenknit_host::ffi::Proved;
+use ovenknit_host::settings::{Conversion, Converter};
 use ovenknit_host::stack::needed;
 
 /// Each call in a thread that has as much stack as the call is said to need.
@@ -14,10 +15,20 @@ pub struct Threads;
 
 impl Library for Threads {
     fn answer(call: &Call, lent: Lent, output: &mut Output) -> u32 {
-        thread::scope(|scope| {
-            let builder = thread::Builder::new().stack_size(needed(call.label()));
-            let thread = builder.spawn_scoped(scope, || Proved::answer(call, lent, output));
-            thread.expect("the thread starts").join().expect("the thread ends")
-        })
+        in_thread(call.label(), || <Proved as Library>::answer(call, lent, output))
     }
+}
+
+impl Converter for Threads {
+    fn answer(conversion: Conversion, file: &[u8], out: &mut [u8], fields: &mut [u32; 2]) -> u32 {
+        in_thread(conversion.word(), || <Proved as Converter>::answer(conversion, file, out, fields))
+    }
+}
+
+/// Runs it in a thread that has the stack of the call of this label.
+fn in_thread(label: &str, run: impl FnOnce() -> u32 + Send) -> u32 {
+    thread::scope(|scope| {
+        let thread = thread::Builder::new().stack_size(needed(label)).spawn_scoped(scope, run);
+        thread.expect("the thread starts").join().expect("the thread ends")
+    })
 }
