@@ -5,6 +5,7 @@ use Rattle.rules.specs.Accepted.{Damage}
 use Rattle.rules.specs.Totals.{Sound}
 use Rattle.rules.specs.Changes.{Left}
 use Rattle.rules.specs.Calls.{Outcome, outcomeOf, checkOutcome, summaryOutcome, formatOutcome, readOutcome, listOutcome, makeOutcome, resizeOutcome, writeOutcome, removeOutcome}
+use Rattle.bitmap.specs.Calls.{bitmapOutcome, bitmapDiffersOutcome}
 
 -- a call with all that it is lent or handed but the image; tables and buffers may have any length and content
 pub data Call : Type 0 where
@@ -17,6 +18,8 @@ pub data Call : Type 0 where
   resize : (blocks anodes : List ℕ) (directory : ℕ) (name : List ℕ) (size : ℕ) → Call
   write : (blocks anodes : List ℕ) (directory : ℕ) (name : List ℕ) (offset : ℕ) (bytes : List ℕ) → Call
   remove : (blocks anodes : List ℕ) (directory : ℕ) (name : List ℕ) → Call
+  bitmap : (blocks anodes out : List ℕ) → Call
+  bitmapDiffers : (blocks anodes bytes : List ℕ) → Call
 
 -- format is lent no tables and hands nothing out
 abbrev pub ofLeft : Left → Outcome
@@ -34,6 +37,8 @@ outcome img (make blocks anodes h type name comment day minute tick protection) 
 outcome img (resize blocks anodes h name new) = resizeOutcome img blocks anodes h name new
 outcome img (write blocks anodes h name offset bytes) = writeOutcome img blocks anodes h name offset bytes
 outcome img (remove blocks anodes h name) = removeOutcome img blocks anodes h name
+outcome img (bitmap blocks anodes out) = bitmapOutcome img blocks anodes out
+outcome img (bitmapDiffers blocks anodes bytes) = bitmapDiffersOutcome img blocks anodes bytes
 
 -- sound at the start and after every call, and no call reports damage; only the image passes from call to call
 abbrev pub SoundThroughout : List ℕ → List Call → Type 0

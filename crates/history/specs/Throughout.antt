@@ -19,7 +19,9 @@ use Rattle.rules.specs.Format.{wrongFormat, formatAnswer, formatted}
 use Rattle.rules.specs.Changes.{Left, left, NewEntry, resized, made, written, removed}
 use Rattle.rules.specs.Calls.{checkedFirst, settled, checkOutcome, summaryOutcome, formatOutcome, doneOr, leftAfter, readAnswer, readOutcome, spanRefusal, listAnswer, listOutcome, makeOutcome, makeRefusal, wrongEntry, resizeOutcome, resizeRefusal, writeOutcome, removeOutcome, removeRefusal, changeNamed}
 use Rattle.rules.specs.Totals.{Sound}
-use Rattle.history.specs.History.{Call, check, summary, format, read, list, make, resize, write, remove, outcome, SoundThroughout}
+use Rattle.bitmap.specs.Bitmap.{bitmapLength}
+use Rattle.bitmap.specs.Calls.{bitmapRefusal, bitmapAnswer, bitmapOutcome, bitmapDiffersOutcome}
+use Rattle.history.specs.History.{Call, check, summary, format, read, list, make, resize, write, remove, bitmap, bitmapDiffers, outcome, SoundThroughout}
 use Rattle.counting.specs.Laws.{neither}
 use Rattle.laws.specs.Tests.{if-zero, firstOf-zero}
 use Rattle.format_laws.specs.Accepted.{formatted-accepted}
@@ -80,6 +82,15 @@ module _ (img : List ℕ) (ok : checkAnswer img (diskSize img) limit ≡ 0) wher
   list-kept : (blocks anodes : List ℕ) (h n : ℕ) → AcceptedAfter (left (listAnswer img blocks anodes h n) img)
   unfolding listAnswer
   list-kept blocks anodes h n = stays _ (answers (length blocks) (length anodes) _ (list-late img s h n))
+
+  -- both calls of the bitmap: the check's answer, 40 or 0
+  bitmap-kept : (blocks anodes : List ℕ) (len : ℕ) → AcceptedAfter (left (bitmapAnswer img blocks anodes len) img)
+  unfolding bitmapAnswer bitmapRefusal
+  bitmap-kept blocks anodes len = stays _ (answers (length blocks) (length anodes) _ (late (eqb len (bitmapLength img))))
+    where
+      late : (t : Bool) → Late (40 if not t else 0)
+      late true = inl refl
+      late false = inr (omega arith)
 
   -- format leaves the image, or a formatted one
   format-kept : (last k : ℕ) (name : List ℕ) (day minute tick protection : ℕ) → AcceptedAfter (formatOutcome img last k name day minute tick protection)
@@ -158,7 +169,7 @@ module _ (img : List ℕ) (ok : checkAnswer img (diskSize img) limit ≡ 0) wher
 
   -- every call leaves an accepted image and reports no damage
   call-kept : (c : Call) → AcceptedAfter (left (outcome img c .answer) (outcome img c .image))
-  unfolding outcome settled checkOutcome summaryOutcome readOutcome listOutcome makeOutcome resizeOutcome writeOutcome removeOutcome
+  unfolding outcome settled checkOutcome summaryOutcome readOutcome listOutcome makeOutcome resizeOutcome writeOutcome removeOutcome bitmapOutcome bitmapDiffersOutcome
   call-kept (check blocks anodes) = check-kept (length blocks) (length anodes)
   call-kept (summary blocks anodes) = check-kept (length blocks) (length anodes)
   call-kept (format last k name day minute tick protection) = format-kept last k name day minute tick protection
@@ -168,6 +179,8 @@ module _ (img : List ℕ) (ok : checkAnswer img (diskSize img) limit ≡ 0) wher
   call-kept (resize blocks anodes h name new) = resize-kept blocks anodes h name new
   call-kept (write blocks anodes h name offset bytes) = write-kept blocks anodes h name offset bytes
   call-kept (remove blocks anodes h name) = remove-kept blocks anodes h name
+  call-kept (bitmap blocks anodes out) = bitmap-kept blocks anodes (length out)
+  call-kept (bitmapDiffers blocks anodes bytes) = bitmap-kept blocks anodes (length bytes)
 
 sound-of : (img : List ℕ) → checkAnswer img (diskSize img) limit ≡ 0 → Sound img
 sound-of img ok = record { accepted = ok; adds-up = accepted-total (accepted-own img ok) }
