@@ -3,6 +3,7 @@ ghost use mathlib.Core.List.{[]};
 ghost use mathlib.Core.Path.{_≡_};
 ghost use Rattle.rules.specs.Changes.{left};
 ghost use Rattle.rules.specs.Calls.{outcomeOf, checkOutcome, summaryOutcome, formatOutcome, readOutcome, listOutcome, makeOutcome, resizeOutcome, writeOutcome, removeOutcome};
+ghost use Rattle.bitmap.specs.Calls.{bitmapOutcome, bitmapDiffersOutcome};
 ghost use Rattle.settings.specs.Conversions.{conversionOf, widenOutcome, narrowOutcome};
 ghost use Rattle.pfs.specs.Listed.{nameGiven};
 
@@ -161,6 +162,33 @@ pub extern "C" fn pfs_remove(
     ensures { λ r. ⌜ outcomeOf r (now (image .exit)) (now (blocks .exit)) (now (anodes .exit)) [] [] ≡ removeOutcome (now (image .entry)) (now (blocks .entry)) (now (anodes .entry)) directory (now (name .entry)) ⌝ }
 {
     change_calls::remove(image, blocks, anodes, directory, name)
+}
+
+// Makes the hard disk edition's bitmap of the free blocks in the buffer; a refused call leaves it.
+#[no_mangle]
+pub extern "C" fn pfs_bitmap(
+    image: &[u8],
+    blocks: &mut [u16],
+    anodes: &mut [u16],
+    bitmap: &mut [u8],
+) -> u32
+    ensures { λ r. ⌜ outcomeOf r (now (image .entry)) (now (blocks .exit)) (now (anodes .exit)) (now (bitmap .exit)) [] ≡ bitmapOutcome (now (image .entry)) (now (blocks .entry)) (now (anodes .entry)) (now (bitmap .entry)) ⌝ }
+{
+    bitmap_calls::bitmap(image, blocks, anodes, bitmap)
+}
+
+// Whether some byte of the buffer differs from that bitmap, and the first that does; zero fields after a refusal.
+#[no_mangle]
+pub extern "C" fn pfs_bitmap_differs(
+    image: &[u8],
+    blocks: &mut [u16],
+    anodes: &mut [u16],
+    bitmap: &[u8],
+    fields: &mut [u32; 2],
+) -> u32
+    ensures { λ r. ⌜ outcomeOf r (now (image .entry)) (now (blocks .exit)) (now (anodes .exit)) (now (fields .exit)) [] ≡ bitmapDiffersOutcome (now (image .entry)) (now (blocks .entry)) (now (anodes .entry)) (now (bitmap .entry)) ⌝ }
+{
+    bitmap_calls::bitmap_differs(image, blocks, anodes, bitmap, fields)
 }
 
 // Converts a settings file of old records to new ones; a refused call leaves the output buffer.
