@@ -30,7 +30,7 @@
  *   Measured on x86-64 Linux, and rounded up.
  *
  *    32 KiB  pfs_format, pfs_widen, pfs_narrow
- *    64 KiB  pfs_check, pfs_summary, pfs_read, pfs_list, pfs_write
+ *    64 KiB  pfs_check, pfs_summary, pfs_read, pfs_list, pfs_write, pfs_bitmap, pfs_bitmap_differs
  *    96 KiB  pfs_make
  *   256 KiB  pfs_resize, pfs_remove
  *
@@ -66,6 +66,7 @@
  *   26  offset + length is above the file's size
  *   27  no free block
  *   28  no free anode
+ *   40  the buffer has not exactly as many bytes as the disk's bitmap
  *
  *   Settings files:
  *   50  the file is not of the form asked
@@ -157,6 +158,21 @@ uint32_t pfs_write(uint8_t *image, size_t image_len, uint16_t *blocks, size_t bl
 /* Removes a file or an empty directory. Answers also 21, 22, 25, 28. */
 uint32_t pfs_remove(uint8_t *image, size_t image_len, uint16_t *blocks, size_t blocks_len, uint16_t *anodes,
                     size_t anodes_len, uint16_t directory, const uint8_t *name, size_t name_len);
+
+/* The disk's free space as the bitmap of the hard disk edition: a bitmap block of 1,024 bytes for every 8,096 blocks behind
+ * last reserved, so none if last reserved is the last block. Each has the mark BM, from byte 8 its number from 0 in four
+ * bytes, and from byte 12 on 253 longwords; all other bytes are 0. Numbers have the higher byte first. A set bit means that
+ * the block is free. The highest bit of a longword comes first, and the first bit of all is that of the block behind last
+ * reserved; bits past the last block are 0.
+ *
+ * A refused call leaves the buffer as it was. Answers also 40, unless bitmap_len is exactly the length. */
+uint32_t pfs_bitmap(const uint8_t *image, size_t image_len, uint16_t *blocks, size_t blocks_len, uint16_t *anodes,
+                    size_t anodes_len, uint8_t *bitmap, size_t bitmap_len);
+
+/* Compares such a bitmap with the disk, byte by byte. In fields: 1 if some byte differs, and the place of the first that does;
+ * zeros otherwise, and after a refusal. Answers also 40. */
+uint32_t pfs_bitmap_differs(const uint8_t *image, size_t image_len, uint16_t *blocks, size_t blocks_len, uint16_t *anodes,
+                            size_t anodes_len, const uint8_t *bitmap, size_t bitmap_len, uint32_t fields[2]);
 
 /* Settings files. They stand outside any disk: these two calls are lent the file's bytes, and neither image nor tables.
  *

@@ -38,6 +38,8 @@ pub enum Call {
     Resize { directory: u16, name: Vec<u8>, size: u64 },
     Write { directory: u16, name: Vec<u8>, offset: u64, data: Vec<u8> },
     Remove { directory: u16, name: Vec<u8> },
+    Bitmap { length: usize },
+    BitmapDiffers { bitmap: Vec<u8> },
 }
 
 impl Call {
@@ -52,12 +54,21 @@ impl Call {
             Call::Resize { .. } => "resize",
             Call::Write { .. } => "write",
             Call::Remove { .. } => "remove",
+            Call::Bitmap { .. } => "bitmap",
+            Call::BitmapDiffers { .. } => "bitmap_differs",
         }
     }
 
     /// Is it one of those that may change the image?
     pub fn changes(&self) -> bool {
-        !matches!(self, Call::Check | Call::Summary | Call::Read { .. } | Call::List { .. })
+        matches!(
+            self,
+            Call::Format { .. }
+                | Call::Make { .. }
+                | Call::Resize { .. }
+                | Call::Write { .. }
+                | Call::Remove { .. }
+        )
     }
 }
 
@@ -68,23 +79,30 @@ const UNWRITTEN: u32 = 0xA5A5_A5A5;
 /// The buffers that some calls fill; any other call leaves them.
 #[derive(Clone, Debug, PartialEq, Eq)]
 pub struct Output {
-    /// What a done read gives; a refused one leaves it.
+    /// What a done read gives, or the bitmap; a refused call leaves it.
     pub bytes: Vec<u8>,
     /// What summary counts: blocks, free blocks, files, directories with the root. Zeros after a refusal.
     pub counts: [u32; 4],
     /// The entry that list gives: type, anode, size, day, minute, tick, protection, name offset in the image,
     /// name length, comment offset in the image, comment length. Zeros after a refusal.
     pub entry: [u32; 11],
+    /// What the comparison with a bitmap says: 1 if a byte differs, and its place. Zeros otherwise.
+    pub difference: [u32; 2],
 }
 
 impl Output {
     /// Buffers for a call, with [`UNREAD`] in every byte.
     pub fn for_call(call: &Call) -> Self {
         let length = match call {
-            Call::Read { length, .. } => *length,
+            Call::Read { length, .. } | Call::Bitmap { length } => *length,
             _ => 0,
         };
-        Output { bytes: vec![UNREAD; length], counts: [UNWRITTEN; 4], entry: [UNWRITTEN; 11] }
+        Output {
+            bytes: vec![UNREAD; length],
+            counts: [UNWRITTEN; 4],
+            entry: [UNWRITTEN; 11],
+            difference: [UNWRITTEN; 2],
+        }
     }
 }
 
@@ -102,7 +120,8 @@ pub struct Lent<'a> {
 
 /// A library for PFS floppy disks.
 pub trait Library {
-    /// Runs a call and answers its number. A read fills all of `output.bytes`, which must have the call's length.
+    /// Runs a call and answers its number. A read and a bitmap fill all of `output.bytes`, which must
+    /// have the call's length.
     fn answer(call: &Call, lent: Lent, output: &mut Output) -> u32;
 }
 

@@ -2,6 +2,7 @@
 
 use std::marker::PhantomData;
 
+use crate::bitmap;
 use crate::calls::{run, tables, Call, Library, Output, Stamp, BLOCK, DIRECTORY, FILE};
 pub use crate::refusals::Error;
 
@@ -205,6 +206,25 @@ impl<L: Library> Disk<L> {
     fn call(&mut self, call: &Call) -> Result<Output, Error> {
         let outcome = run::<L>(call, &mut self.image, &mut self.blocks, &mut self.anodes);
         Error::of(outcome.answer).map(|()| outcome.output)
+    }
+
+    /// The last block of the reserved part, as the root block of a sound disk says.
+    pub fn last_reserved(&self) -> u16 {
+        let at = 2 * BLOCK + 54;
+        u16::from_be_bytes([self.image[at], self.image[at + 1]])
+    }
+
+    /// Free space as the hard disk edition's bitmap.
+    pub fn bitmap(&mut self) -> Result<Vec<u8>, Error> {
+        self.check()?;
+        let length = bitmap::length(self.image.len() / BLOCK, self.last_reserved());
+        Ok(self.call(&Call::Bitmap { length })?.bytes)
+    }
+
+    /// The first byte of a bitmap that is not as the disk's own.
+    pub fn bitmap_difference(&mut self, bitmap: &[u8]) -> Result<Option<usize>, Error> {
+        let [differs, place] = self.call(&Call::BitmapDiffers { bitmap: bitmap.to_vec() })?.difference;
+        Ok((differs == 1).then_some(place as usize))
     }
 
     /// Is the image a disk without damage?

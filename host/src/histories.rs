@@ -1,6 +1,7 @@
 //! Random calls for histories: their arguments are mostly such that the call can be done on the disk, at times
 //! such that it must be refused, and often at the very edge.
 
+use crate::bitmap::{length, BITMAP_BLOCK};
 use crate::calls::{Call, BLOCK, DIRECTORY, FILE, ROOT};
 use crate::disk::{Disk, Kind};
 use crate::model::Model;
@@ -66,9 +67,25 @@ fn other_call(tree: &Tree, blocks: usize, rng: &mut Rng) -> Call {
         0 => Call::Check,
         1 => Call::Summary,
         2 if rng.percent(20) => random_format(blocks, rng),
+        2 => bitmap_call(blocks, rng),
         2..=6 => list_call(tree, rng),
         7..=12 => write_call(tree, rng),
         _ => read_call(tree, rng),
+    }
+}
+
+/// A bitmap made or compared, mostly of as many bitmap blocks as a disk of this size can need.
+fn bitmap_call(blocks: usize, rng: &mut Rng) -> Call {
+    let needed = length(blocks, rng.within16(2..=4));
+    let length = match rng.below(8) {
+        0 => 0,
+        1 => needed.saturating_sub(1),
+        2 => needed + BITMAP_BLOCK,
+        _ => needed,
+    };
+    match rng.percent(50) {
+        true => Call::Bitmap { length },
+        false => Call::BitmapDiffers { bitmap: vec![[0, b'B'][rng.below(2)]; length] },
     }
 }
 
@@ -260,7 +277,7 @@ pub fn follow(tree: &mut Tree, call: &Call, image: &[u8]) {
 }
 
 /// Every refusal from 20 to 27, by every call that can give it.
-pub const REFUSALS: [(u32, &str); 22] = [
+pub const REFUSALS: [(u32, &str); 24] = [
     (20, "format"),
     (20, "make"),
     (21, "read"),
@@ -283,6 +300,8 @@ pub const REFUSALS: [(u32, &str); 22] = [
     (26, "write"),
     (27, "make"),
     (27, "resize"),
+    (40, "bitmap"),
+    (40, "bitmap_differs"),
 ];
 
 /// The same for 28.

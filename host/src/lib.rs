@@ -4,6 +4,7 @@
 //! * `ffi`, with the feature `proved`: the proved library behind that trait.
 //! * [`stack`]: how much stack its calls need.
 //! * [`refusals`], [`disk`]: the numbers in words, and a disk with its tables behind safe methods.
+//! * [`bitmap`]: where the bytes of the hard disk edition's bitmap belong.
 //! * [`settings`]: settings files, and the trait of whoever converts them.
 //! * [`cli`]: the command line `pfs`.
 //!
@@ -20,6 +21,7 @@
 #[cfg(feature = "proved")]
 pub mod ffi;
 
+pub mod bitmap;
 pub mod calls;
 pub mod cli;
 pub mod compare;

@@ -3,7 +3,7 @@
 use std::fmt;
 
 /// Every refusal with what it means.
-const WORDS: [(u32, &str); 28] = [
+const WORDS: [(u32, &str); 29] = [
     (
         1,
         "the image is not a whole number of 512-byte blocks, or has fewer than 5 or more than 65,535 of them",
@@ -32,6 +32,7 @@ const WORDS: [(u32, &str); 28] = [
     (26, "the bytes asked for reach past the file's size"),
     (27, "no block is free"),
     (28, "no anode is free"),
+    (40, "the bitmap has not as many blocks as the disk needs"),
     (50, "not a settings file of the form asked for"),
     (51, "a time is longer than the old form can hold"),
     (52, "the output buffer is too short"),
@@ -77,7 +78,7 @@ mod tests {
     #[test]
     fn every_number_has_words() {
         let numbers: Vec<u32> = WORDS.iter().map(|row| row.0).collect();
-        assert_eq!(numbers, (1..=16).chain(20..=28).chain(50..=52).collect::<Vec<u32>>());
+        assert_eq!(numbers, (1..=16).chain(20..=28).chain([40]).chain(50..=52).collect::<Vec<u32>>());
         assert_eq!(Error::of(27).unwrap_err().to_string(), "27: no block is free");
         assert_eq!(Error::of(17).unwrap_err().to_string(), "17: unknown number");
         assert_eq!(Error::of(0), Ok(()));

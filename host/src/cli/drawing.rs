@@ -4,7 +4,7 @@ use std::collections::{HashMap, HashSet};
 
 use super::paths::Path;
 use super::{walk, Failure};
-use crate::calls::{Library, BLOCK, ROOT};
+use crate::calls::{Library, ROOT};
 use crate::disk::{Disk, Kind, Owner};
 
 /// What a block is used for.
@@ -66,9 +66,6 @@ pub struct Run {
     pub owner: Owner,
 }
 
-/// Where the image holds last reserved, in two bytes, the higher one first.
-const LAST_RESERVED: usize = 2 * BLOCK + 54;
-
 impl BlockMap {
     pub fn of<L: Library>(disk: &mut Disk<L>) -> Result<BlockMap, Failure> {
         let all = walk::below(disk, &Path::default())?;
@@ -87,9 +84,7 @@ impl BlockMap {
             Owner::Entry(_) => Use::File,
         };
         let blocks = disk.owners().map(|owner| (used(owner), owner)).collect();
-        let image = disk.image();
-        let last_reserved = u16::from_be_bytes([image[LAST_RESERVED], image[LAST_RESERVED + 1]]);
-        Ok(BlockMap { blocks, paths, last_reserved })
+        Ok(BlockMap { blocks, paths, last_reserved: disk.last_reserved() })
     }
 
     pub fn count(&self, used: Use) -> usize {

@@ -41,7 +41,7 @@ macro_rules! new_entry {
     };
 }
 
-pub const COMMANDS: [Syntax; 14] = [
+pub const COMMANDS: [Syntax; 15] = [
     Syntax {
         name: "info",
         operands: &["DISK"],
@@ -164,6 +164,18 @@ A bar stands behind the last reserved block.
 
   --owners        list the runs of blocks with their owners instead
   --svg           write a picture (SVG) to standard output instead",
+    },
+    Syntax {
+        name: "bitmap",
+        operands: &["DISK"],
+        flags: &[],
+        options: &["--check"],
+        short: "free space as the hard disk edition's bitmap",
+        long: "Writes the disk's free space to standard output as the bitmap of the hard disk edition: a block of 1024 bytes for
+every 8096 blocks behind last reserved, a set bit for a free one. It is empty if no block lies behind last reserved.
+
+  --check FILE    compare the bitmap in FILE with the disk instead, and say the first byte that differs, the bitmap
+                  block it is in and the disk block it speaks of; the exit status is then 1",
     },
     Syntax {
         name: "settings",

@@ -4,6 +4,7 @@
 //!
 //! * `arguments`, `help`: the words of a command line, and what is said about them.
 //! * `commands`, `put`, `map`: one function for each command.
+//! * `bitmap`: free space as the hard disk edition's bitmap.
 //! * `settings`: settings files, the one thing that is no disk.
 //! * `store`: disk files, replaced as a whole or not at all.
 //! * `paths`, `walk`: from names to entries, and all entries of a disk.
@@ -11,6 +12,7 @@
 //! * `drawing`, `svg`: who owns each block, as text and as a picture.
 
 mod arguments;
+mod bitmap;
 mod commands;
 mod drawing;
 mod help;
@@ -111,6 +113,7 @@ fn dispatch<L: Library + Converter>(name: &str, arguments: &Arguments, out: &mut
         "resize" => commands::resize::<L>(arguments),
         "format" => commands::format::<L>(arguments),
         "df" => map::df::<L>(arguments, out),
+        "bitmap" => bitmap::bitmap::<L>(arguments, out),
         "settings" => settings::settings_file::<L>(arguments, out),
         _ => map::map::<L>(arguments, out),
     }

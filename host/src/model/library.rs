@@ -1,6 +1,8 @@
 //! The model as a library of calls.
 
-use super::{check, format, list, make, read, remove, resize, summary, write, NewEntry};
+use super::{
+    bitmap, bitmap_differs, check, format, list, make, read, remove, resize, summary, write, NewEntry,
+};
 use crate::calls::{Call, Lent, Library, Output};
 
 /// The model.
@@ -30,6 +32,10 @@ impl Library for Model {
                 write(image, blocks, anodes, *directory, name, *offset, data)
             }
             Call::Remove { directory, name } => remove(image, blocks, anodes, *directory, name),
+            Call::Bitmap { .. } => bitmap(image, blocks, anodes, &mut output.bytes),
+            Call::BitmapDiffers { bitmap } => {
+                bitmap_differs(image, blocks, anodes, bitmap, &mut output.difference)
+            }
         }
     }
 }

@@ -9,10 +9,12 @@
 //!   other.
 //! * `space`: taking and giving back one block.
 //! * `calls`: the calls.
+//! * `bitmap`: free space as the hard disk edition's bitmap.
 //! * `totals`: the seven kinds of blocks.
 //! * `settings`: the conversions of settings files.
 //! * `library`: the calls behind one trait, as the proved library has them.
 
+mod bitmap;
 mod calls;
 mod check;
 pub mod layout;
@@ -22,6 +24,7 @@ mod settings;
 mod space;
 mod totals;
 
+pub use bitmap::{bitmap, bitmap_differs};
 pub use calls::{format, list, make, read, remove, resize, summary, write, NewEntry};
 pub use check::{check, survey, Survey};
 pub use library::Model;

@@ -93,6 +93,13 @@ impl Folder {
         run.out
     }
 
+    /// Runs a command that must be done, and gives the bytes that it wrote to standard output.
+    pub fn output(&self, words: &[&str]) -> Vec<u8> {
+        let output = self.command(words).output().expect("the program runs");
+        assert!(output.status.success() && output.stderr.is_empty(), "{words:?}");
+        output.stdout
+    }
+
     /// Runs a command that must fail with this status and one line of error, and leave every file as it was.
     pub fn fails(&self, status: i32, words: &[&str]) -> String {
         let before = self.files();

@@ -53,6 +53,29 @@ fn check_tells_a_half_cleared_anode() {
 }
 
 #[test]
+fn bitmap_is_made_and_checked() {
+    let folder = Folder::with_disk("bitmap");
+    let made = folder.output(&["bitmap", "disk.adf"]);
+    assert_eq!((made.len(), &made[..2], &made[8..12]), (1_024, &b"BM"[..], &[0; 4][..]));
+    folder.write("free.bm", &made);
+    assert_eq!(folder.done(&["bitmap", "--check", "free.bm", "disk.adf"]), "the bitmap is the disk's\n");
+    // The file pack7 has the first block behind last reserved, 64.
+    let mut wrong = made.clone();
+    wrong[12] |= 0x80;
+    folder.write("wrong.bm", &wrong);
+    let run = folder.run(&["bitmap", "--check", "wrong.bm", "disk.adf"]);
+    let told = "byte 12, in bitmap block 0: disk block 64 is marked available, and is not free\n";
+    assert_eq!((run.status, run.out.as_str(), run.errors.as_str()), (1, told, ""));
+    folder.write("short.bm", &made[..1_000]);
+    let error = folder.fails(1, &["bitmap", "--check", "short.bm", "disk.adf"]);
+    assert_eq!(
+        error,
+        "pfs: short.bm: 40: the bitmap has not as many blocks as the disk needs: 1000 bytes, and the disk needs 1024\n"
+    );
+    folder.fails(2, &["bitmap", "--check", "missing.bm", "disk.adf"]);
+}
+
+#[test]
 fn ls_shows_every_field() {
     let folder = Folder::with_disk("ls");
     let root = "dir           -  ----rwed  2024-07-18 10:00:00.00  recipes\n";

@@ -1,5 +1,6 @@
 //! Random histories of calls on the model against a plain tree in memory.
 
+use ovenknit_host::bitmap::{self, BITMAP_BLOCK};
 use ovenknit_host::calls::{run, tables, Call, Outcome, DIRECTORY, UNREAD};
 use ovenknit_host::compare::{junk_tables, totals, Histogram};
 use ovenknit_host::histories::{head_of, random_call, Trend, NO_ANODE, REFUSALS};
@@ -133,7 +134,19 @@ impl History {
                     _ => vec![0, 28],
                 }
             }
+            Call::Bitmap { length } => vec![self.bitmap_answer(*length)],
+            Call::BitmapDiffers { bitmap } => vec![self.bitmap_answer(bitmap.len())],
             _ => vec![0],
+        }
+    }
+
+    /// 40 unless the bitmap has exactly this length.
+    fn bitmap_answer(&self, length: usize) -> u32 {
+        let needed = bitmap::length(self.blocks(), layout::last_reserved(&self.image));
+        if length == needed {
+            0
+        } else {
+            40
         }
     }
 
@@ -155,6 +168,15 @@ impl History {
                 assert_eq!(output.bytes, self.tree.content(*directory, name, *offset, output.bytes.len()));
             }
             Call::List { directory, place } => self.compare_entry(*directory, *place, &output.entry),
+            Call::Bitmap { .. } => {
+                // As many bits as free blocks behind last reserved.
+                let (mut owners, mut heads) = tables(&self.image);
+                assert_eq!(model::check(&self.image, &mut owners, &mut heads), 0);
+                let behind = &owners[usize::from(layout::last_reserved(&self.image)) + 1..];
+                let free = behind.iter().filter(|&&owner| owner == 1).count();
+                let bits = output.bytes.chunks(BITMAP_BLOCK).flat_map(|block| &block[12..]);
+                assert_eq!(bits.map(|byte| byte.count_ones() as usize).sum::<usize>(), free);
+            }
             Call::Summary => {
                 let (files, directories) = self.tree.counts();
                 let counts = [self.blocks(), self.free_blocks(), files, directories];
@@ -169,6 +191,7 @@ impl History {
         match call {
             Call::List { .. } => assert_eq!(outcome.output.entry, [0; 11]),
             Call::Summary => assert_eq!(outcome.output.counts, [0; 4]),
+            Call::BitmapDiffers { .. } => assert_eq!(outcome.output.difference, [0; 2]),
             _ => {}
         }
     }

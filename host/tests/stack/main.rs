@@ -5,6 +5,8 @@ mod threads;
 
 use ovenknit_host::calls::{tables, Call, Library, Stamp, BLOCK, DIRECTORY, FILE, ROOT};
 use ovenknit_host::compare::{compare, History};
+use ovenknit_host::disk::Disk;
+use ovenknit_host::model::Model;
 use ovenknit_host::rng::Rng;
 use ovenknit_host::settings::{Conversion, Converter, Form, Setting, MOST_RECORDS};
 use ovenknit_host::shapes::{formatted, shaped, Recipe};
@@ -18,6 +20,7 @@ use threads::Threads;
 fn run_every_call<L: Library>(mut image: Vec<u8>, size: u64) {
     let (mut blocks, mut anodes) = tables(&image);
     let (directory, stamp) = (ROOT, Stamp::new(17_000, 600, 0));
+    let bitmap = Disk::<Model>::new(image.clone()).bitmap().expect("the disk is sound");
     let (file, other) = (b"pack8".to_vec(), b"line3".to_vec());
     let make = |kind, name: &Vec<u8>| {
         let (name, comment) = (name.clone(), b"white bread".to_vec());
@@ -32,6 +35,8 @@ fn run_every_call<L: Library>(mut image: Vec<u8>, size: u64) {
         Call::Read { directory, name: file.clone(), offset: 50, length: 4_500 },
         Call::List { directory, place: 1 },
         Call::Summary,
+        Call::Bitmap { length: bitmap.len() },
+        Call::BitmapDiffers { bitmap },
         Call::Resize { directory, name: file.clone(), size: 700 },
         Call::Resize { directory, name: file.clone(), size },
         Call::Remove { directory, name: file },
