@@ -68,7 +68,7 @@ fn other_call(tree: &Tree, blocks: usize, rng: &mut Rng) -> Call {
         1 => Call::Summary,
         2 if rng.percent(20) => random_format(blocks, rng),
         2 => bitmap_call(blocks, rng),
-        2..=6 => list_call(tree, rng),
+        3..=6 => list_call(tree, rng),
         7..=12 => write_call(tree, rng),
         _ => read_call(tree, rng),
     }

@@ -50,11 +50,11 @@ fn try_disk(image: &[u8], rng: &mut Rng) -> Vec<u8> {
 
 #[test]
 fn bitmaps_of_random_disks() {
-    seeded(1, 60, |rng| {
+    for mut seeded in seeded("bitmaps", 0..60) {
         for start in Start::SMALL {
-            try_disk(&start.disk(rng).image, rng);
+            try_disk(&start.disk(&mut seeded.rng).image, &mut seeded.rng);
         }
-    });
+    }
     let rng = &mut Rng::new(7);
     try_disk(&Start::Larger.disk(rng).image, rng);
     try_disk(&Start::Largest.disk(rng).image, rng);
