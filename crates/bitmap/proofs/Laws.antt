@@ -10,15 +10,15 @@ use native.Mathlib.Numerals.{add-one}
 use lib.Bits.{bitOr, bitAnd, or-add-and, and-high}
 use lib.Pow.{pow-add, shl-exact, shl-shr}
 use lib.Dec.{T, eqb, ltb}
-use lib.ListN.{length, length-append, getD, set, drop, drop-of-length-le, List·getD-append}
-use lib.Seq.{drop-cons, set-at, getD-at}
+use lib.ListN.{length, length-append, getD, set, take, drop, length-drop, drop-of-length-le, List·getD-append, List·getD-eq-default}
+use lib.Seq.{drop-cons, set-at, getD-at, getD-take, getD-drop, length-take-le}
 use borrow.Author.Tests.{le-ltb, lt-ltb, eq-eqb, ne-eqb, eqb-true, eqb-false}
 use Rattle.rules.specs.Counting.{least}
 use Rattle.laws.specs.Tests.{same?, less?}
 use Rattle.laws.specs.Sums.{least-cases}
 use Rattle.bitmap.specs.Bits.{bitOf, withBit, bitsFrom, byteOf}
 use Rattle.bitmap.specs.Bitmap.{bitmapWord, bitmapByte, tabulate, differsFrom, firstDiffering}
-use Rattle.bitmap.specs.Table.{freeBit, Carried}
+use Rattle.bitmap.specs.Table.{freeAt, freeBit, Carried}
 
 -- ---- one bit of a longword
 
@@ -77,39 +77,71 @@ module _ (f : ℕ → ℕ) (at : ℕ) where
       let even : b * 2 % 2 ≡ 0 = omega arith in
       rw (shifted i l, shl-shr (b * 2) (31 - i), even, next-place i, bits-more i, z) (sym (add-mul (b * 2) 1 (2 ^ (31 - i))))
 
--- all 32
-pub bits-whole : (f : ℕ → ℕ) (at i : ℕ) → i ≡ 32 → bitsFrom f at i * 2 ^ (32 - i) ≡ bitsFrom f at 32
-bits-whole f at i e = rw e (omega arith)
+  -- the bits from i on are 0: the first i are all
+  pub bits-rest : (k i : ℕ) → k + i ≡ 32 → ((j : ℕ) → i ≤ j → f (at + j) ≡ 0) → bitsFrom f at i * 2 ^ (32 - i) ≡ bitsFrom f at 32
+  bits-rest zero i e z = let q : i ≡ 32 = omega arith in rw q (omega arith)
+  bits-rest (suc k) i e z = bit-clear i (omega arith) (z i (omega arith)) ∙ bits-rest k (i + 1) (omega arith) (λ j l. z j (omega arith))
 
--- ---- a block's bit in the table
+-- bits by two rules that say the same
+bits-same : (f g : ℕ → ℕ) (a b n : ℕ) → ((i : ℕ) → i < n → f (a + i) ≡ g (b + i)) → bitsFrom f a n ≡ bitsFrom g b n
+unfolding bitsFrom
+bits-same f g a b zero h = refl
+bits-same f g a b (suc n) h = rw (bits-same f g a b n (λ i l. h i (omega arith)), h n (omega arith))
 
-module _ (table : List ℕ) (n first k : ℕ) where
-  pub free-out : n ≤ first + k → false ≡ eqb (freeBit table n first k) 1
+-- ---- a block's bit in a table
+
+module _ (table : List ℕ) where
+  pub free-set : (x : ℕ) → getD table x 0 ≡ 1 → freeAt table x ≡ 1
+  unfolding freeAt
+  free-set x e = rw (eq-eqb (getD table x 0) 1 e)
+
+  pub free-clear : (x : ℕ) → getD table x 0 ≢ 1 → freeAt table x ≡ 0
+  unfolding freeAt
+  free-clear x d = rw (ne-eqb (getD table x 0) 1 d)
+
+  pub free-past : (x : ℕ) → length table ≤ x → freeAt table x ≡ 0
+  unfolding freeAt
+  free-past x l = rw (List·getD-eq-default table 0 {n = x} l)
+
+module _ (table : List ℕ) (n first at : ℕ) where
+  free-in : (k : ℕ) → first + k < n → freeBit table n first k ≡ freeAt table (first + k)
   unfolding freeBit
-  free-out h = rw (le-ltb (first + k) n h)
+  free-in k l = rw (lt-ltb (first + k) n l)
 
-  pub free-in : first + k < n → eqb (getD table (first + k) 0) 1 ≡ eqb (freeBit table n first k) 1
+  free-out : (k : ℕ) → n ≤ first + k → freeBit table n first k ≡ 0
   unfolding freeBit
-  free-in h = rw (lt-ltb (first + k) n h) (go (eqb (getD table (first + k) 0) 1))
-    where
-      go : (b : Bool) → b ≡ eqb (cond b 1 0) 1
-      go true = refl
-      go false = refl
+  free-out k l = rw (le-ltb (first + k) n l)
 
-  pub free-two : freeBit table n first k < 2
-  unfolding freeBit
-  free-two = go (ltb (first + k) n) (eqb (getD table (first + k) 0) 1)
-    where
-      go : (a b : Bool) → cond a (cond b 1 0) 0 < 2
-      go true true = omega arith
-      go true false = omega arith
-      go false b = omega arith
+  -- no block is left
+  pub longword-none : n ≤ first + at → 0 ≡ bitsFrom (freeBit table n first) at 32
+  longword-none l =
+      let e = bits-rest (freeBit table n first) at 32 0 (omega arith) (λ j k. free-out (at + j) (omega arith)) in
+      omega (arith, rw (bits-none (freeBit table n first) at) at e)
 
-  pub free-one : true ≡ eqb (freeBit table n first k) 1 → freeBit table n first k ≡ 1
-  free-one e = eqb-true _ 1 (sym e)
+  -- the part from the first to `end` has all that are left of the 32
+  module _ (end : ℕ) (from : first + at ≤ end) (inside : end ≤ n) (long : n ≤ length table) (all : (i : ℕ) → i < 32 → end ≤ first + at + i → n ≤ first + at + i) where
+    abbrev part : List ℕ
+    part = take (end - (first + at)) (drop (first + at) table)
 
-  pub free-zero : false ≡ eqb (freeBit table n first k) 1 → freeBit table n first k ≡ 0
-  free-zero e = let d = eqb-false (freeBit table n first k) 1 (sym e) in let l = free-two in omega (arith, d, l)
+    part-length : length part ≡ end - (first + at)
+    part-length = length-take-le (end - (first + at)) (drop (first + at) table) (rw (length-drop (first + at) table) (omega arith))
+
+    part-free : (i : ℕ) → first + at + i < end → freeAt part i ≡ freeAt table (first + (at + i))
+    unfolding freeAt
+    part-free i l =
+        let e : first + (at + i) ≡ first + at + i = omega arith in
+        rw (getD-take (end - (first + at)) (drop (first + at) table) i 0 (omega arith), getD-drop (first + at) table i 0, e)
+
+    part-bit : (i : ℕ) → i < 32 → freeAt part (0 + i) ≡ freeBit table n first (at + i)
+    part-bit i k =
+        let z : 0 + i ≡ i = omega arith in
+        rw z (elim (less? (first + at + i) end) [
+          | inl l ↦ part-free i l ∙ sym (free-in (at + i) (omega arith))
+          | inr l ↦ free-past part i (omega (arith, part-length)) ∙ sym (free-out (at + i) (omega (arith, all i k (omega arith))))
+        ])
+
+    pub longword-part : bitsFrom (freeAt part) 0 32 ≡ bitsFrom (freeBit table n first) at 32
+    longword-part = bits-same (freeAt part) (freeBit table n first) 0 at 32 part-bit
 
 -- ---- lists by a rule
 

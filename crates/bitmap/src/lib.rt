@@ -1,11 +1,10 @@
 // The bytes of the hard disk edition's bitmap, from a block table: made in a buffer, or compared with it.
 ghost use mathlib.Core.Path.{_≡_};
 ghost use Prim.Native.Nat.{_+_, _*_, _/_, _%_, _<_, _≤_};
-ghost use lib.Dec.{eqb};
 ghost use lib.ListN.{length};
 ghost use Rattle.bitmap.specs.Bits.{withBit, bitsFrom, byteOf};
 ghost use Rattle.bitmap.specs.Bitmap.{bitmapWord, bitmapByte, tabulate, firstDiffering};
-ghost use Rattle.bitmap.specs.Table.{freeBit, Carried};
+ghost use Rattle.bitmap.specs.Table.{freeAt, freeBit, Carried};
 
 // Shift and mask: the longword with the bit of one block set, the highest bit for the first.
 fn set_bit(w: u32, i: u32) -> u32
@@ -15,32 +14,36 @@ fn set_bit(w: u32, i: u32) -> u32
     w | (1 << (31 - i))
 }
 
-// Whether block `first + k` is one of the `n` and free in the block table.
-fn is_available(table: &[u16], n: usize, first: usize, k: usize) -> bool
-    requires { ⌜ (n ≤ length (now table)) × (first ≤ 65536) × (k ≤ 1000000000) ⌝ }
-    ensures { λ r. ⌜ r ≡ eqb (freeBit (now (table .entry)) n first k) 1 ⌝ }
-{
-    let b = first + k;
-    if n <= b {
-        return false;
-    }
-    table[b] == 1
-}
-
-// 32 blocks' bits from bit `at` on.
-fn longword(table: &[u16], n: usize, first: usize, at: usize) -> u32
-    requires { ⌜ (n ≤ length (now table)) × (first ≤ 65536) × (at ≤ 900000000) ⌝ }
-    ensures { λ r. ⌜ r ≡ bitsFrom (freeBit (now (table .entry)) n first) at 32 ⌝ }
+// 32 blocks' bits from the owners of as many blocks as the part has; the bits past them are 0.
+fn bits_in(part: &[u16]) -> u32
+    requires { ⌜ length (now part) ≤ 32 ⌝ }
+    ensures { λ r. ⌜ r ≡ bitsFrom (freeAt (now (part .entry))) 0 32 ⌝ }
 {
     let mut w: u32 = 0;
-    let mut i: u32 = 0;
-    while i < 32 {
-        if is_available(table, n, first, at + i as usize) {
-            w = set_bit(w, i);
+    let mut i = 0;
+    while i < part.len() {
+        if part[i] == 1 {
+            w = set_bit(w, i as u32);
         }
         i += 1;
     }
     w
+}
+
+// 32 blocks' bits from bit `at` on, taken from a part of 32 owners, a length that the compiler knows, except where the blocks end.
+fn longword(table: &[u16], n: usize, first: usize, at: usize) -> u32
+    requires { ⌜ (n ≤ length (now table)) × (first ≤ 65536) × (at ≤ 900000000) ⌝ }
+    ensures { λ r. ⌜ r ≡ bitsFrom (freeBit (now (table .entry)) n first) at 32 ⌝ }
+{
+    let from = first + at;
+    let end = from + 32;
+    if end <= n {
+        return bits_in(&table[from..end]);
+    }
+    if from < n {
+        return bits_in(&table[from..n]);
+    }
+    0
 }
 
 // Longword `j` of the whole bitmap, 256 to a block.

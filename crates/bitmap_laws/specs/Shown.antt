@@ -30,7 +30,7 @@ use Rattle.laws.specs.Acceptance.{Passed, passed-of, size-bounds}
 use Rattle.laws.specs.OneOwner.{good}
 use Rattle.frames.specs.DisjointBlocks.{occurrences-held}
 use Rattle.bitmap.specs.Bitmap.{firstData, dataBlocks, available, blockBit}
-use Rattle.bitmap.specs.Table.{freeBit}
+use Rattle.bitmap.specs.Table.{freeAt, freeBit}
 
 module _ {ex : ℕ → Bool} {n last : ℕ} {s : Anodes} {system hd sd : ℕ → ℕ} (g : Good limit ex n last s system hd sd) where
   -- the head of the chain that owns a block is the one that holds it
@@ -102,7 +102,7 @@ module _ (img : List ℕ) (blocks anodes : ℕ) (ok : checkAnswer img blocks ano
 
   -- the bits that the code reads are the bitmap's
   pub bits-shown : (table rest : List ℕ) → table ≡ blockTable img s ++ rest → freeBit table (diskSize img) (firstData img) ≡ blockBit img
-  unfolding freeBit blockBit dataBlocks firstData blockTable
+  unfolding freeBit freeAt blockBit dataBlocks firstData blockTable
   bits-shown table rest is = fun-ext (λ k. elim (less? k (diskSize img - (lastReserved img + 1))) [
     | inl l ↦ (
         let x = lastReserved img + 1 + k in

@@ -1,67 +1,75 @@
-use mathlib.Core.Path.{_≡_, sym, _∙_, ap}
-use mathlib.Core.Logic.{⊎-elim}
-use Prim.Native.Nat.{ℕ, _*_, _-_, _^_, _≤_}
-use native.Mathlib.Omega.{arith}
-use Rattle.bitmap.specs.Bits.{bitsFrom, withBit}
-use Rattle.bitmap.specs.Table.{freeBit}
-use Rattle.bitmap.proofs.Laws.{bits-none, bit-clear, bit-set, bits-whole, free-one, free-zero}
+use mathlib.Core.Path.{_∙_}
+use Prim.Native.Nat.{_+_}
+use Rattle.bitmap.proofs.Laws.{longword-none, longword-part}
 use borrow.Author.Needs.{needs}
 use Rattle.bitmap.proofs.longword.Statement.{statement}
 use Rattle.bitmap.proofs.longword.Tie as tie
 
-abbrev Inv-loop : tie.InvT-loop
-Inv-loop table n first at w₀ i₀ w i = (i ≤ 32) × (w ≡ bitsFrom (freeBit table n first) at i * 2 ^ (32 - i))
+add-from : tie.Need-add-from
+add-from c = search needs
 
-abbrev μ-loop : tie.MeasureT-loop
-μ-loop table n first at w₀ i₀ w i = 32 - i
+add-end : tie.Need-add-end
+add-end c = search needs
 
-loop-holds : tie.Need-loop-holds Inv-loop μ-loop
-loop-holds c = (search needs, rw (bits-none (freeBit _ _ _) _) (omega arith))
+mul-bits-in : tie.Need-mul-bits-in
+mul-bits-in c = search needs
 
-cast-is-available : tie.Need-cast-is-available Inv-loop μ-loop
-cast-is-available c = search needs
+sub-bits-in : tie.Need-sub-bits-in
+sub-bits-in c = search needs
 
-add-is-available : tie.Need-add-is-available Inv-loop μ-loop
-add-is-available c = search needs
+part-bits-in-start : tie.Need-part-bits-in-start
+part-bits-in-start c = search needs
 
-is-available-requires : tie.Need-is-available-requires Inv-loop μ-loop
-is-available-requires c κs = search needs
+part-bits-in-end : tie.Need-part-bits-in-end
+part-bits-in-end c = search needs
 
-set-bit-requires : tie.Need-set-bit-requires Inv-loop μ-loop
-set-bit-requires c κs = search needs
+bits-in-requires : tie.Need-bits-in-requires
+bits-in-requires c κs = search needs
 
-add-i : tie.Need-add-i Inv-loop μ-loop
-add-i c = search needs
+returns : tie.Need-returns
+returns c =
+    let a = c .before .before .before .before .args in
+    c .bits-in .ensures ∙ longword-part _ _ _ _ (a .first + a .at + 32) (search needs) (search needs) (search needs) (λ i k l. search needs)
 
-loop-less : tie.Need-loop-less Inv-loop μ-loop
-loop-less c = search needs
+mul-bits-in-2 : tie.Need-mul-bits-in-2
+mul-bits-in-2 c = search needs
 
-loop-again : tie.Need-loop-again Inv-loop μ-loop
-loop-again c =
+sub-bits-in-2 : tie.Need-sub-bits-in-2
+sub-bits-in-2 c = search needs
+
+part-bits-in-start-2 : tie.Need-part-bits-in-start-2
+part-bits-in-start-2 c = search needs
+
+part-bits-in-end-2 : tie.Need-part-bits-in-end-2
+part-bits-in-end-2 c = search needs
+
+bits-in-requires-2 : tie.Need-bits-in-requires-2
+bits-in-requires-2 c κs = search needs
+
+returns-2 : tie.Need-returns-2
+returns-2 c =
     let a = c .before .before .before .before .before .args in
-    let f = freeBit (a .table .now) (a .n) (a .first) in
-    let i = c .before .before .before .loop .i in
-    let was = c .before .before .before .loop .inv .1 in
-    ⊎-elim
-    (λ w. (search needs, w .2 ∙ w .1 .ensures ∙ ap (λ (v : ℕ). withBit v i) was ∙ bit-set f (a .at) i (search needs) (free-one _ _ _ _ (sym (w .0 .taken) ∙ c .before .is-available .ensures))))
-    (λ w. (search needs, w .1 ∙ was ∙ bit-clear f (a .at) i (search needs) (free-zero _ _ _ _ (sym (w .0 .left) ∙ c .before .is-available .ensures))))
-    (c .if1 .came)
+    c .bits-in2 .ensures ∙ longword-part _ _ _ _ (a .n) (search needs) (search needs) (search needs) (λ i k l. search needs)
 
-returns : tie.Need-returns Inv-loop μ-loop
-returns c = c .before .loop .inv .1 ∙ bits-whole _ _ _ (omega arith)
+returns-3 : tie.Need-returns-3
+returns-3 c = longword-none _ _ _ _ (c .if2 .left)
 
 pub longword-spec : {M : Type 1} → statement M
 longword-spec =
     tie.close
     (tie.spec
-    Inv-loop
-    μ-loop
-    loop-holds
-    cast-is-available
-    add-is-available
-    is-available-requires
-    set-bit-requires
-    add-i
-    loop-less
-    loop-again
-    returns)
+    add-from
+    add-end
+    mul-bits-in
+    sub-bits-in
+    part-bits-in-start
+    part-bits-in-end
+    bits-in-requires
+    returns
+    mul-bits-in-2
+    sub-bits-in-2
+    part-bits-in-start-2
+    part-bits-in-end-2
+    bits-in-requires-2
+    returns-2
+    returns-3)
