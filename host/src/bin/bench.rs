@@ -6,6 +6,7 @@ use std::hint::black_box;
 use std::time::{Duration, Instant};
 
 use ovenknit_host::calls::{run, tables, Call, Lent, Library, Output, Stamp, BLOCK, FILE, ROOT};
+use ovenknit_host::disk;
 use ovenknit_host::ffi::Proved;
 use ovenknit_host::model::Model;
 use ovenknit_host::rng::Rng;
@@ -122,6 +123,8 @@ fn measure_calls(what: &str, disk: Disk) {
         run::<Model>(&call, &mut disk.image, &mut disk.blocks, &mut disk.anodes).answer != 0
     });
     let last = entries.unwrap_or(1) - 1;
+    let bitmap = disk::Disk::<Model>::new(disk.image.clone()).bitmap();
+    let bitmap = bitmap.expect("a disk of the bench has a bitmap");
     let (directory, name) = (ROOT, NAME.to_vec());
     let calls = [
         ("read 64 bytes", Call::Read { directory, name: name.clone(), offset: 480, length: 64 }),
@@ -130,6 +133,8 @@ fn measure_calls(what: &str, disk: Disk) {
         ("resize by one block", Call::Resize { directory, name: name.clone(), size: SIZE + 512 }),
         ("write 64 bytes", Call::Write { directory, name: name.clone(), offset: 480, data: vec![7; 64] }),
         ("remove a file of two blocks", Call::Remove { directory, name }),
+        ("make the bitmap", Call::Bitmap { length: bitmap.len() }),
+        ("compare the bitmap", Call::BitmapDiffers { bitmap }),
     ];
     println!("{what}");
     for (what, call) in calls {
