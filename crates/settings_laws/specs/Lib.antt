@@ -1,4 +1,4 @@
 -- Theorems about the conversions of settings files.
 pub mod Records
 pub mod Converted
-pub mod Kept
+pub mod Theorems
