@@ -17,10 +17,10 @@
  *
  *   image   A refused call leaves every byte as it was. So do the calls that take a const image.
  *   tables  Every call that is lent tables checks the whole image first and fills both. After 0 they are those of the
- *           image as the call left it, after 20 to 28 those of the unchanged image: the block table holds each block's owner
- *           (the head anode of its chain, 65535 for blocks 0 to 2, 65534 for anode blocks), the anode table each anode's
- *           chain head (0 for anode 0, free anodes, whose three fields are 0, and those that do not exist). Heads with a
- *           meaning of their own: 1 free blocks, 3 blocks to be freed, 4 bad blocks, 5 the root directory.
+ *           image as the call left it, after 20 to 28 and 40 those of the unchanged image: the block table holds each
+ *           block's owner (the head anode of its chain, 65535 for blocks 0 to 2, 65534 for anode blocks), the anode table
+ *           each anode's chain head (0 for anode 0, free anodes, whose three fields are 0, and those that do not exist).
+ *           Heads with a meaning of their own: 1 free blocks, 3 blocks to be freed, 4 bad blocks, 5 the root directory.
  *           1 to 4 touch no table. 5 to 16 leave both zeroed. Entries past the image's blocks and past 3,444 always keep
  *           their content.
  *
