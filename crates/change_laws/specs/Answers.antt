@@ -123,7 +123,7 @@ module _ (img : List ℕ) (s : Anodes) (h : ℕ) where
           let f = file-found (z .0) in
           (f .0, f .1, ltb-false (x .size) (offset + len) (rw is at (z .1)))
 
-      -- an entry that may go is no full directory's
+      -- an entry that may go names no directory that is not empty
       pub removable-found : removeRefusal img s h name ≡ 0 → (noDirectory img s h ≡ false) × (notEmptyDir img s (some x) ≡ false)
       removable-found e = row-found (notEmptyDir img s) 25 (removeRefusal img s h name) notEmpty-row (omega arith) e
 
