@@ -4,9 +4,10 @@ use std::ffi::{OsStr, OsString};
 use std::str::FromStr;
 
 use super::help::Syntax;
-use super::{stamps, text, Failure};
+use super::paths::Path;
+use super::text::{self, Charset};
+use super::{stamps, Failure};
 use crate::calls::Stamp;
-use crate::disk::{Kind, New};
 
 /// The operands and options of one command.
 pub struct Arguments {
@@ -14,6 +15,9 @@ pub struct Arguments {
     operands: Vec<OsString>,
     options: Vec<(&'static str, Vec<u8>)>,
 }
+
+/// The flag of every command that says how names and comments are read.
+pub const LATIN1: &str = "--latin1";
 
 impl Arguments {
     /// Sorts the words after a command's name; nothing if they ask for help.
@@ -26,13 +30,13 @@ impl Arguments {
                 found.operands.extend(words.by_ref().cloned());
             } else if bytes == b"--help" || bytes == b"-h" {
                 return Ok(None);
-            } else if bytes.starts_with(b"--") {
+            } else if bytes.len() > 1 && bytes.starts_with(b"-") {
                 found.take_option(syntax, word, &mut words)?;
             } else {
                 found.operands.push(word.clone());
             }
         }
-        if found.operands.len() < syntax.fewest() || found.operands.len() > syntax.operands.len() {
+        if !syntax.takes(found.operands.len()) {
             return Err(Failure::Trouble(format!("usage: {}", syntax.usage())));
         }
         Ok(Some(found))
@@ -46,7 +50,8 @@ impl Arguments {
         rest: &mut impl Iterator<Item = &'a OsString>,
     ) -> Result<(), Failure> {
         let bytes = word.as_encoded_bytes();
-        if let Some(flag) = syntax.flags.iter().find(|flag| flag.as_bytes() == bytes) {
+        let mut flags = syntax.flags.iter().chain(&[LATIN1]);
+        if let Some(flag) = flags.find(|flag| flag.as_bytes() == bytes) {
             self.options.push((flag, Vec::new()));
             return Ok(());
         }
@@ -80,6 +85,11 @@ impl Arguments {
         self.operands.get(place).map(OsString::as_os_str)
     }
 
+    /// The operands from a place on.
+    pub fn from(&self, place: usize) -> &[OsString] {
+        self.operands.get(place..).unwrap_or_default()
+    }
+
     pub fn has(&self, option: &str) -> bool {
         self.value(option).is_some()
     }
@@ -87,6 +97,26 @@ impl Arguments {
     /// The value of an option; the last one counts.
     pub fn value(&self, option: &str) -> Option<&[u8]> {
         self.options.iter().rev().find(|(name, _)| *name == option).map(|(_, value)| value.as_slice())
+    }
+
+    /// How names and comments are read.
+    pub fn charset(&self) -> Charset {
+        match self.has(LATIN1) {
+            true => Charset::Latin1,
+            false => Charset::Utf8,
+        }
+    }
+
+    /// A path in a word.
+    pub fn path(&self, word: &OsStr) -> Result<Path, Failure> {
+        let path = Path::parse(word.as_encoded_bytes(), self.charset());
+        path.map_err(|wrong| self.trouble(format!("{}: {wrong}", text::show_os(word))))
+    }
+
+    /// The bytes of an option that is a text with escapes.
+    pub fn text(&self, option: &str) -> Result<Option<Vec<u8>>, Failure> {
+        let value = self.value(option).map(|value| self.charset().bytes(value)).transpose();
+        value.map_err(|wrong| self.trouble(format!("{option}: {wrong}")))
     }
 
     /// An option that is a number.
@@ -105,19 +135,18 @@ impl Arguments {
         number.ok_or_else(|| self.trouble(format!("{what}: not a number that fits")))
     }
 
-    /// The option `--date`, or the clock.
-    pub fn stamp(&self) -> Result<Stamp, Failure> {
+    /// The option `--date`.
+    pub fn date(&self) -> Result<Option<Stamp>, Failure> {
         let Some(value) = self.value("--date") else {
-            return Ok(stamps::now());
+            return Ok(None);
         };
         let stamp = str::from_utf8(value).ok().and_then(stamps::parse);
-        stamp.ok_or_else(|| self.trouble("--date: not a date from 1978-01-01 to 2157-06-06"))
+        let wrong = || self.trouble("--date: not a date from 1978-01-01 to 2157-06-06");
+        stamp.map(Some).ok_or_else(wrong)
     }
 
-    /// An entry with the fields that the options give, still without a name.
-    pub fn new_entry(&self, kind: Kind) -> Result<New<'_>, Failure> {
-        let comment = self.value("--comment").unwrap_or_default();
-        let (stamp, protection) = (self.stamp()?, self.number("--protection", 0)?);
-        Ok(New { kind, name: b"", comment, stamp, protection })
+    /// The option `--date`, or the clock.
+    pub fn stamp(&self) -> Result<Stamp, Failure> {
+        Ok(self.date()?.unwrap_or_else(stamps::now))
     }
 }

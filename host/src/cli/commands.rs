@@ -6,15 +6,24 @@ use std::io::Write;
 use std::path;
 
 use super::arguments::Arguments;
+use super::help::JSON;
+use super::json::Json;
 use super::paths::Path;
 use super::store::{self, load, load_sound, refused_disk, replace};
-use super::{refused, stamps, text, walk, Done, Failure};
+use super::text::{self, Charset};
+use super::walk::{self, Found};
+use super::{refused, stamps, Done, Failure};
 use crate::calls::{Library, BLOCK};
-use crate::disk::{Disk, Entry, Format, Kind, New};
+use crate::disk::{Disk, Entry, Error, Format, Kind, New};
 
 /// The path in an operand; the root if it is left out.
 fn path(arguments: &Arguments, place: usize) -> Result<Path, Failure> {
-    arguments.optional(place).map_or(Ok(Path::default()), Path::parse)
+    arguments.optional(place).map_or(Ok(Path::root(arguments.charset())), |word| arguments.path(word))
+}
+
+/// A value as a line for programs.
+pub fn write_json(value: Json, out: &mut dyn Write) -> Done {
+    Ok(writeln!(out, "{value}")?)
 }
 
 pub fn info<L: Library>(arguments: &Arguments, out: &mut dyn Write) -> Done {
@@ -22,6 +31,18 @@ pub fn info<L: Library>(arguments: &Arguments, out: &mut dyn Write) -> Done {
     let mut disk = load::<L>(name)?;
     let summary = disk.summary().map_err(refused_disk(name))?;
     let anodes = disk.heads().iter().filter(|&&head| head != 0).count();
+    if arguments.has(JSON) {
+        let fields = vec![
+            ("disk", text::os(name).into()),
+            ("blocks", summary.blocks.into()),
+            ("bytes", (summary.blocks as usize * BLOCK).into()),
+            ("free_blocks", summary.free.into()),
+            ("files", summary.files.into()),
+            ("directories", summary.directories.into()),
+            ("anodes_in_use", anodes.into()),
+        ];
+        return write_json(Json::Object(fields), out);
+    }
     writeln!(out, "blocks          {}", summary.blocks)?;
     writeln!(out, "bytes           {}", summary.blocks as usize * BLOCK)?;
     writeln!(out, "free blocks     {}", summary.free)?;
@@ -31,14 +52,25 @@ pub fn info<L: Library>(arguments: &Arguments, out: &mut dyn Write) -> Done {
     Ok(())
 }
 
+/// What an accepted disk may still be wrong in.
+const NOT_COVERED: &str = "The bytes inside files are not checked: the disk holds nothing to check them by.";
+
 pub fn check<L: Library>(arguments: &Arguments, out: &mut dyn Write) -> Done {
-    match load::<L>(arguments.operand(0))?.check() {
-        Ok(()) => Ok(writeln!(out, "0: accepted")?),
-        Err(error) => {
-            writeln!(out, "{error}")?;
-            Err(Failure::Answered)
+    let name = arguments.operand(0);
+    let answer = load::<L>(name)?.check();
+    let words = answer.map_or_else(Error::words, |()| "accepted");
+    let number = answer.map_or_else(Error::number, |()| 0);
+    if arguments.has(JSON) {
+        let fields =
+            vec![("disk", text::os(name).into()), ("number", number.into()), ("words", words.into())];
+        write_json(Json::Object(fields), out)?;
+    } else {
+        writeln!(out, "{number}: {words}")?;
+        if answer.is_ok() {
+            writeln!(out, "{NOT_COVERED}")?;
         }
     }
+    answer.map_err(|_| Failure::Answered)
 }
 
 /// The protection bits as letters. The lowest four forbid what their letter allows.
@@ -47,42 +79,84 @@ fn protection(bits: u8) -> String {
     letters.map(|(letter, bit)| if ((bits ^ 0x0F) >> bit) & 1 == 1 { letter } else { '-' }).collect()
 }
 
+fn kind(entry: &Entry) -> &'static str {
+    match entry.kind {
+        Kind::File => "file",
+        Kind::Directory => "dir",
+    }
+}
+
 /// Type, size, protection, date and time, name and comment of an entry.
-fn line(entry: &Entry) -> String {
-    let (kind, size) = match entry.kind {
-        Kind::File => ("file", entry.size.to_string()),
-        Kind::Directory => ("dir ", String::from("-")),
+fn line(entry: &Entry, charset: Charset) -> String {
+    let size = match entry.kind {
+        Kind::File => entry.size.to_string(),
+        Kind::Directory => String::from("-"),
     };
     let (bits, date, name) =
-        (protection(entry.protection), stamps::show(entry.stamp), text::show(&entry.name));
+        (protection(entry.protection), stamps::show(entry.stamp), charset.quoted(&entry.name));
     let comment = match entry.comment.is_empty() {
         true => String::new(),
-        false => format!("  \"{}\"", text::show(&entry.comment)),
+        false => format!("  \"{}\"", charset.show(&entry.comment)),
     };
-    format!("{kind} {size:>10}  {bits}  {date}  {name}{comment}")
+    format!("{:<4} {size:>10}  {bits}  {date} UTC  {name}{comment}", kind(entry))
+}
+
+/// An entry and where it is, for programs.
+fn object(found: &Found, charset: Charset) -> Json {
+    let Found { path, entry } = found;
+    let size = (entry.kind == Kind::File).then_some(entry.size);
+    Json::Object(vec![
+        ("path", path.text().into()),
+        ("name", charset.show(&entry.name).into()),
+        ("type", kind(entry).into()),
+        ("size", size.into()),
+        ("protection", protection(entry.protection).into()),
+        ("date_utc", stamps::iso(entry.stamp).into()),
+        ("day", entry.stamp.day.into()),
+        ("minute", entry.stamp.minute.into()),
+        ("tick", entry.stamp.tick.into()),
+        ("comment", charset.show(&entry.comment).into()),
+    ])
+}
+
+/// All entries that were found, for programs.
+fn write_objects(arguments: &Arguments, path: &Path, all: &[Found], out: &mut dyn Write) -> Done {
+    let entries = all.iter().map(|found| object(found, arguments.charset())).collect();
+    let disk = text::os(arguments.operand(0));
+    let fields = vec![("disk", disk.into()), ("path", path.text().into()), ("entries", Json::List(entries))];
+    write_json(Json::Object(fields), out)
 }
 
 pub fn ls<L: Library>(arguments: &Arguments, out: &mut dyn Write) -> Done {
     let mut disk = load_sound::<L>(arguments.operand(0))?;
     let path = path(arguments, 1)?;
-    if path.is_directory(&mut disk) {
-        let directory = path.directory(&mut disk)?;
-        for found in walk::entries(&mut disk, &path, directory)? {
-            writeln!(out, "{}", line(&found.entry))?;
+    let all = match path.is_directory(&mut disk) {
+        true => {
+            let directory = path.directory(&mut disk)?;
+            walk::entries(&mut disk, &path, directory)?
         }
-        return Ok(());
+        false => vec![Found { entry: path.entry(&mut disk)?, path: path.clone() }],
+    };
+    if arguments.has(JSON) {
+        return write_objects(arguments, &path, &all, out);
     }
-    Ok(writeln!(out, "{}", line(&path.entry(&mut disk)?))?)
+    for found in all {
+        writeln!(out, "{}", line(&found.entry, arguments.charset()))?;
+    }
+    Ok(())
 }
 
 pub fn tree<L: Library>(arguments: &Arguments, out: &mut dyn Write) -> Done {
     let mut disk = load_sound::<L>(arguments.operand(0))?;
     let path = path(arguments, 1)?;
     let all = walk::below(&mut disk, &path)?;
+    if arguments.has(JSON) {
+        return write_objects(arguments, &path, &all, out);
+    }
     writeln!(out, "{path}")?;
     for found in all {
         let indent = 2 * (found.path.depth() - path.depth());
-        let name = text::show(found.path.name());
+        let name = arguments.charset().quoted(found.path.name());
         match found.entry.kind {
             Kind::File => writeln!(out, "{:indent$}{name}  {}", "", found.entry.size)?,
             Kind::Directory => writeln!(out, "{:indent$}{name}/", "")?,
@@ -91,14 +165,14 @@ pub fn tree<L: Library>(arguments: &Arguments, out: &mut dyn Write) -> Done {
     Ok(())
 }
 
-/// The bytes of a file of the disk, and its path.
-fn content<L: Library>(arguments: &Arguments) -> Result<(Vec<u8>, Path), Failure> {
+/// The bytes of a file of the disk, with its path and its entry.
+fn content<L: Library>(arguments: &Arguments) -> Result<(Vec<u8>, Path, Entry), Failure> {
     let mut disk = load_sound::<L>(arguments.operand(0))?;
-    let path = Path::parse(arguments.operand(1))?;
+    let path = arguments.path(arguments.operand(1))?;
     let (directory, name) = path.place(&mut disk)?;
-    let size = disk.find(directory, name).map_err(refused(&path))?.size;
-    let bytes = disk.read(directory, name, 0, size as usize).map_err(refused(&path))?;
-    Ok((bytes, path))
+    let entry = disk.find(directory, name).map_err(refused(&path))?;
+    let bytes = disk.read(directory, name, 0, entry.size as usize).map_err(refused(&path))?;
+    Ok((bytes, path, entry))
 }
 
 pub fn cat<L: Library>(arguments: &Arguments, out: &mut dyn Write) -> Done {
@@ -114,28 +188,31 @@ fn may_replace(arguments: &Arguments, file: &OsStr) -> Done {
 }
 
 pub fn get<L: Library>(arguments: &Arguments) -> Done {
-    let (bytes, path) = content::<L>(arguments)?;
-    let own_name = String::from_utf8(path.name().to_vec());
+    let (bytes, path, entry) = content::<L>(arguments)?;
+    let own_name = arguments.charset().file_name(path.name());
     let file = match (arguments.optional(2), &own_name) {
         (Some(file), _) => file,
-        (None, Ok(name)) if name != "." && name != ".." => OsStr::new(name),
+        (None, Some(name)) => OsStr::new(name),
         _ => return Err(arguments.trouble(format!("{path}: give FILE, for no file here can have that name"))),
     };
     may_replace(arguments, file)?;
-    replace(file, &bytes)
+    let time = stamps::time(entry.stamp).filter(|_| !arguments.has("--no-times"));
+    store::replace_dated(file, &bytes, time)
 }
 
 pub fn mkdir<L: Library>(arguments: &Arguments) -> Done {
-    let path = Path::parse(arguments.operand(1))?;
-    let new = arguments.new_entry(Kind::Directory)?;
+    let path = arguments.path(arguments.operand(1))?;
+    let (comment, stamp) = (arguments.text("--comment")?.unwrap_or_default(), arguments.stamp()?);
+    let protection = arguments.number("--protection", 0)?;
     store::change(arguments.operand(0), |disk: &mut Disk<L>| {
         let (parent, name) = path.place(disk)?;
-        disk.make(parent, &New { name, ..new }).map_err(refused(&path))
+        let new = New { kind: Kind::Directory, name, comment: &comment, stamp, protection };
+        disk.make(parent, &new).map_err(refused(&path))
     })
 }
 
 pub fn rm<L: Library>(arguments: &Arguments) -> Done {
-    let path = Path::parse(arguments.operand(1))?;
+    let path = arguments.path(arguments.operand(1))?;
     store::change(arguments.operand(0), |disk: &mut Disk<L>| {
         let (directory, name) = path.place(disk)?;
         disk.remove(directory, name).map_err(refused(&path))
@@ -143,7 +220,7 @@ pub fn rm<L: Library>(arguments: &Arguments) -> Done {
 }
 
 pub fn resize<L: Library>(arguments: &Arguments) -> Done {
-    let path = Path::parse(arguments.operand(1))?;
+    let path = arguments.path(arguments.operand(1))?;
     let size = arguments.number_operand(2)?;
     store::change(arguments.operand(0), |disk: &mut Disk<L>| {
         let (directory, name) = path.place(disk)?;
@@ -177,7 +254,7 @@ pub fn format<L: Library>(arguments: &Arguments) -> Done {
         false => old_blocks.unwrap_or(1_760),
     };
     let (last_reserved, anode_blocks) = default_shape(blocks);
-    let name = arguments.value("--name").map_or_else(|| default_name(file), <[u8]>::to_vec);
+    let name = arguments.text("--name")?.unwrap_or_else(|| default_name(file));
     let format = Format {
         last_reserved: arguments.number("--reserved", last_reserved)?,
         anode_blocks: arguments.number("--anode-blocks", anode_blocks)?,

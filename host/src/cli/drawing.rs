@@ -3,6 +3,7 @@
 use std::collections::{HashMap, HashSet};
 
 use super::paths::Path;
+use super::text::Charset;
 use super::{walk, Failure};
 use crate::calls::{Library, ROOT};
 use crate::disk::{Disk, Kind, Owner};
@@ -53,7 +54,7 @@ pub struct BlockMap {
     /// The use of each block, and its owner.
     pub blocks: Vec<(Use, Owner)>,
     /// The paths of files and directories by the heads of their chains.
-    pub paths: HashMap<u16, String>,
+    pub paths: HashMap<u16, Path>,
     /// The last block of the part where directories go first.
     pub last_reserved: u16,
 }
@@ -67,13 +68,13 @@ pub struct Run {
 }
 
 impl BlockMap {
-    pub fn of<L: Library>(disk: &mut Disk<L>) -> Result<BlockMap, Failure> {
-        let all = walk::below(disk, &Path::default())?;
+    pub fn of<L: Library>(disk: &mut Disk<L>, charset: Charset) -> Result<BlockMap, Failure> {
+        let root = Path::root(charset);
+        let all = walk::below(disk, &root)?;
         let directories = all.iter().filter(|found| found.entry.kind == Kind::Directory);
         let directories: HashSet<u16> = directories.map(|found| found.entry.anode).chain([ROOT]).collect();
-        let mut paths: HashMap<u16, String> =
-            all.iter().map(|found| (found.entry.anode, found.path.to_string())).collect();
-        paths.insert(ROOT, Path::default().to_string());
+        let paths =
+            all.into_iter().map(|found| (found.entry.anode, found.path)).chain([(ROOT, root)]).collect();
         let used = |owner: Owner| match owner {
             Owner::Start => Use::Start,
             Owner::AnodeBlock => Use::AnodeBlock,
@@ -103,12 +104,17 @@ impl BlockMap {
         runs
     }
 
-    /// Who owns a run: a path, or what it is used for.
-    pub fn owner(&self, run: &Run) -> &str {
+    /// The file or directory that owns a run.
+    pub fn path(&self, run: &Run) -> Option<&Path> {
         match run.owner {
-            Owner::Entry(head) => self.paths.get(&head).map_or(run.used.name(), String::as_str),
-            _ => run.used.name(),
+            Owner::Entry(head) => self.paths.get(&head),
+            _ => None,
         }
+    }
+
+    /// Who owns a run: a path, or what it is used for.
+    pub fn owner(&self, run: &Run) -> String {
+        self.path(run).map_or_else(|| run.used.name().to_string(), Path::to_string)
     }
 
     /// A letter for each block, in rows; a bar behind the last reserved block.

@@ -3,7 +3,7 @@
 /// What a command takes.
 pub struct Syntax {
     pub name: &'static str,
-    /// The operands as in the usage line; those in brackets may be left out.
+    /// The operands as in the usage line: those in brackets may be left out, and of those with `..` there may be several.
     pub operands: &'static [&'static str],
     /// Options without a value.
     pub flags: &'static [&'static str],
@@ -14,8 +14,14 @@ pub struct Syntax {
 }
 
 impl Syntax {
-    pub fn fewest(&self) -> usize {
-        self.operands.iter().filter(|operand| !operand.starts_with('[')).count()
+    /// Does it take so many operands?
+    pub fn takes(&self, operands: usize) -> bool {
+        let fewest = self.operands.iter().filter(|operand| !operand.starts_with('[')).count();
+        let most = match self.operands.iter().any(|operand| operand.contains("..")) {
+            true => usize::MAX,
+            false => self.operands.len(),
+        };
+        (fewest..=most).contains(&operands)
     }
 
     pub fn usage(&self) -> String {
@@ -27,54 +33,76 @@ impl Syntax {
     }
 }
 
-/// The options of commands that make an entry.
-pub const NEW_ENTRY: &[&str] = &["--comment", "--protection", "--date"];
+/// The flag of commands that can say what they say as JSON.
+pub const JSON: &str = "--json";
 
-/// What is said about them.
-macro_rules! new_entry {
+/// What is said about it.
+macro_rules! json {
     () => {
         "
-
-  --comment TEXT  up to 79 bytes
-  --protection N  the byte of protection bits, 0 if not given
-  --date D        as YYYY-MM-DD or YYYY-MM-DDTHH:MM:SS; the clock's date and time (UTC) if not given"
+  --json          the same for programs, as JSON; in texts, \\xNN is any byte and \\\\ a backslash"
     };
 }
 
-pub const COMMANDS: [Syntax; 15] = [
+/// The options of commands that make an entry.
+pub const NEW_ENTRY: &[&str] = &["--comment", "--protection", "--date"];
+
+/// What is said about them, but of the date.
+macro_rules! new_entry {
+    () => {
+        "
+  --comment TEXT  up to 79 bytes
+  --protection N  the byte of protection bits, 0 if not given
+  --date D        as YYYY-MM-DD or YYYY-MM-DDTHH:MM:SS, in UTC"
+    };
+}
+
+pub const COMMANDS: &[Syntax] = &[
     Syntax {
         name: "info",
         operands: &["DISK"],
-        flags: &[],
+        flags: &[JSON],
         options: &[],
         short: "size, free blocks, files and directories",
-        long: "Prints the disk's blocks and bytes, its free blocks, files and directories (with the root), and its anodes in use
-(anode 0 not counted).",
+        long: concat!("Prints the disk's blocks and bytes, its free blocks, files and directories (with the root), and its anodes in use
+(anode 0 not counted).
+", json!()),
     },
     Syntax {
         name: "check",
         operands: &["DISK"],
-        flags: &[],
+        flags: &[JSON],
         options: &[],
         short: "whether the disk is sound",
-        long: "Prints 0 for a sound disk, else the number of the first rule that it breaks, and in words what it means.",
+        long: concat!("Prints 0 for a disk that is accepted, else the number of the first rule that it breaks, and in words what it means.
+
+Accepted means that every block has one owner and that directories, names and sizes fit together. It says nothing of the
+bytes inside files: the format keeps no sum to check them by, so a file that was stored wrong, or changed by hand, is
+accepted like any other.
+", json!()),
     },
     Syntax {
         name: "ls",
         operands: &["DISK", "[PATH]"],
-        flags: &[],
+        flags: &[JSON],
         options: &[],
         short: "the entries of a directory",
-        long: "Prints each entry's type, size, protection, date and time, name and comment; of the root without PATH. If PATH is
-a file, prints that entry.",
+        long: concat!("Prints each entry's type, size, protection, date and time, name and comment; of the root without PATH. If PATH is
+a file, prints that entry.
+
+Dates and times are shown as they are stored. This program stores UTC; a machine that kept its own clock stored that.
+A name is in quotes unless it is a plain word, a comment always. In both \\xNN is a byte that cannot be shown, or a quote.
+", json!()),
     },
     Syntax {
         name: "tree",
         operands: &["DISK", "[PATH]"],
-        flags: &[],
+        flags: &[JSON],
         options: &[],
         short: "all directories and files below one",
-        long: "Prints the directories and files below PATH, or of the whole disk, with the sizes of files.",
+        long: concat!("Prints the directories and files below PATH, or of the whole disk, with the sizes of files. A name is in quotes unless
+it is a plain word.
+", json!()),
     },
     Syntax {
         name: "cat",
@@ -87,22 +115,29 @@ a file, prints that entry.",
     Syntax {
         name: "get",
         operands: &["DISK", "PATH", "[FILE]"],
-        flags: &["--force"],
+        flags: &["--force", "--no-times"],
         options: &[],
         short: "copy a file from the disk",
-        long: "Copies a file of the disk to FILE, or to a file of the same name in this folder.
+        long: "Copies a file of the disk to FILE, or to a file of the same name in this folder. It has the date and time that it has
+on the disk, read as UTC; where no clock shows them, those of the copy.
 
-  --force         replace FILE if it is there",
+  --force         replace FILE if it is there
+  --no-times      leave its date and time those of the copy",
     },
     Syntax {
         name: "put",
-        operands: &["DISK", "FILE", "[PATH]"],
-        flags: &[],
-        options: NEW_ENTRY,
-        short: "copy a file onto the disk",
-        long: concat!("Copies FILE (- is standard input) to PATH, or into PATH if that is a directory, or into the root. A file that is
-there already gets the new size and bytes and keeps its date, protection and comment, for which no option may then
-be given. The disk file changes only if all of it is done.", new_entry!()),
+        operands: &["DISK", "FILE..", "[DIR/]"],
+        flags: &["--force", "--keep", "--no-times"],
+        options: &["--as", "--comment", "--protection", "--date"],
+        short: "copy files onto the disk",
+        long: concat!("Copies files into DIR, a directory of the disk, or a single one into the root. All of them are copied, or none: the
+disk file is replaced once. A file has its own date and time on the disk, in UTC.
+
+  --as PATH       the one FILE, or - for standard input, goes to PATH
+  --force         replace files that are there; they get the new date, protection and comment
+  --keep          replace them too, but they keep date, protection and comment
+  --no-times      the date and time of the clock, not of the file",
+            new_entry!(), "; the file's own if not given"),
     },
     Syntax {
         name: "mkdir",
@@ -110,7 +145,8 @@ be given. The disk file changes only if all of it is done.", new_entry!()),
         flags: &[],
         options: NEW_ENTRY,
         short: "make a directory",
-        long: concat!("Makes an empty directory.", new_entry!()),
+        long: concat!("Makes an empty directory.
+", new_entry!(), "; the clock's if not given"),
     },
     Syntax {
         name: "rm",
@@ -147,23 +183,24 @@ be given. The disk file changes only if all of it is done.", new_entry!()),
     Syntax {
         name: "df",
         operands: &["DISK"],
-        flags: &[],
+        flags: &[JSON],
         options: &[],
         short: "how many blocks are used for what",
-        long: "Prints how many blocks, bytes and percent of the disk are free, in files, in directories, anode blocks, start
-blocks, to be freed, and bad.",
+        long: concat!("Prints how many blocks, bytes and percent of the disk are free, in files, in directories, anode blocks, start
+blocks, to be freed, and bad.
+", json!()),
     },
     Syntax {
         name: "map",
         operands: &["DISK"],
-        flags: &["--svg", "--owners"],
+        flags: &["--svg", "--owners", JSON],
         options: &[],
         short: "who owns each block",
-        long: "Draws the disk block by block: . free, F file, D directory, A anode block, S start block, - to be freed, X bad.
+        long: concat!("Draws the disk block by block: . free, F file, D directory, A anode block, S start block, - to be freed, X bad.
 A bar stands behind the last reserved block.
 
   --owners        list the runs of blocks with their owners instead
-  --svg           write a picture (SVG) to standard output instead",
+  --svg           write a picture (SVG) to standard output instead", json!()),
     },
     Syntax {
         name: "bitmap",
@@ -198,7 +235,7 @@ Records count from 1 and bytes from 0 in what is said about a file that is refus
 /// The help of the whole program.
 pub fn whole() -> String {
     let mut help = String::from("pfs COMMAND DISK ...: PFS floppy disks in image files\n\n");
-    for syntax in &COMMANDS {
+    for syntax in COMMANDS {
         help += &format!("  {:<10}{}\n", syntax.name, syntax.short);
     }
     help + "

@@ -3,17 +3,33 @@
 use std::io::Write;
 
 use super::arguments::Arguments;
-use super::drawing::{BlockMap, USES};
+use super::commands::write_json;
+use super::drawing::{BlockMap, Run, USES};
+use super::help::JSON;
+use super::json::Json;
+use super::paths::Path;
 use super::store::load_sound;
-use super::{svg, Done};
+use super::{svg, text, Done};
 use crate::calls::{Library, BLOCK};
 
 /// The blocks in a row of the map.
 const WIDTH: usize = 64;
 
 pub fn df<L: Library>(arguments: &Arguments, out: &mut dyn Write) -> Done {
-    let map = BlockMap::of(&mut load_sound::<L>(arguments.operand(0))?)?;
+    let name = arguments.operand(0);
+    let map = BlockMap::of(&mut load_sound::<L>(name)?, arguments.charset())?;
     let all = map.blocks.len();
+    if arguments.has(JSON) {
+        let uses = USES.iter().map(|&(used, _, name, _)| (name, map.count(used)));
+        let uses = uses.map(|(name, blocks)| {
+            let (blocks, bytes) = (blocks.into(), (blocks * BLOCK).into());
+            Json::Object(vec![("use", name.into()), ("blocks", blocks), ("bytes", bytes)])
+        });
+        let disk = text::os(name);
+        let fields =
+            vec![("disk", disk.into()), ("blocks", all.into()), ("uses", Json::List(uses.collect()))];
+        return write_json(Json::Object(fields), out);
+    }
     writeln!(out, "{:<14}{:>7}{:>11}{:>8}", "", "blocks", "bytes", "share")?;
     let rows = USES.iter().map(|&(used, _, name, _)| (name, map.count(used)));
     for (name, blocks) in rows.chain([("all", all)]) {
@@ -25,10 +41,14 @@ pub fn df<L: Library>(arguments: &Arguments, out: &mut dyn Write) -> Done {
 }
 
 pub fn map<L: Library>(arguments: &Arguments, out: &mut dyn Write) -> Done {
-    if arguments.has("--svg") && arguments.has("--owners") {
-        return Err(arguments.trouble("--svg or --owners, not both"));
+    if ["--svg", "--owners", JSON].iter().filter(|flag| arguments.has(flag)).count() > 1 {
+        return Err(arguments.trouble("one of --svg, --owners and --json"));
     }
-    let map = BlockMap::of(&mut load_sound::<L>(arguments.operand(0))?)?;
+    let name = arguments.operand(0);
+    let map = BlockMap::of(&mut load_sound::<L>(name)?, arguments.charset())?;
+    if arguments.has(JSON) {
+        return write_json(object(text::os(name), &map), out);
+    }
     if arguments.has("--svg") {
         return Ok(out.write_all(svg::picture(&map).as_bytes())?);
     }
@@ -40,4 +60,23 @@ pub fn map<L: Library>(arguments: &Arguments, out: &mut dyn Write) -> Done {
         writeln!(out, "{letter} {name} {}", map.count(used))?;
     }
     Ok(writeln!(out, "| behind last reserved {}", map.last_reserved)?)
+}
+
+/// The runs of blocks with their owners, for programs.
+fn object(disk: String, map: &BlockMap) -> Json {
+    let run = |run: Run| {
+        Json::Object(vec![
+            ("first", run.start.into()),
+            ("last", (run.start + run.count - 1).into()),
+            ("use", run.used.name().into()),
+            ("path", map.path(&run).map(Path::text).into()),
+        ])
+    };
+    let runs = map.runs(usize::MAX).into_iter().map(run).collect();
+    Json::Object(vec![
+        ("disk", disk.into()),
+        ("blocks", map.blocks.len().into()),
+        ("last_reserved", map.last_reserved.into()),
+        ("runs", Json::List(runs)),
+    ])
 }

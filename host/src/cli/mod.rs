@@ -8,7 +8,8 @@
 //! * `settings`: settings files, the one thing that is no disk.
 //! * `store`: disk files, replaced as a whole or not at all.
 //! * `paths`, `walk`: from names to entries, and all entries of a disk.
-//! * `stamps`, `text`: dates and names as people write them.
+//! * `stamps`, `text`, `json`: dates and names as people write them, and values for programs.
+//! * `items`: files and directories on their way from one place to another.
 //! * `drawing`, `svg`: who owns each block, as text and as a picture.
 
 mod arguments;
@@ -16,6 +17,8 @@ mod bitmap;
 mod commands;
 mod drawing;
 mod help;
+mod items;
+mod json;
 mod map;
 mod paths;
 mod put;

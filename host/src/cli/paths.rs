@@ -1,9 +1,9 @@
-//! Paths: names between slashes, walked from the root by list calls.
+//! Paths: names between slashes, walked from the root.
 
-use std::ffi::OsStr;
 use std::fmt;
 
-use super::{refused, text, Failure};
+use super::text::{self, Charset};
+use super::{refused, Failure};
 use crate::calls::{Library, ROOT};
 use crate::disk::{Disk, Entry, Kind};
 
@@ -11,23 +11,27 @@ use crate::disk::{Disk, Entry, Kind};
 #[derive(Clone, Default)]
 pub struct Path {
     names: Vec<Vec<u8>>,
+    charset: Charset,
 }
 
 impl Path {
-    /// Slashes at the ends, and several in a row, do not count.
-    pub fn parse(word: &OsStr) -> Result<Self, Failure> {
-        let parts = word.as_encoded_bytes().split(|&byte| byte == b'/').filter(|part| !part.is_empty());
-        let names: Option<_> = parts.map(text::bytes).collect();
-        let bad =
-            || Failure::Trouble(format!("{}: a backslash with no \\ or xNN behind it", text::show_os(word)));
-        names.map(|names| Path { names }).ok_or_else(bad)
+    /// The path in a text. Slashes at the ends, and several in a row, do not count.
+    pub fn parse(text: &[u8], charset: Charset) -> Result<Self, &'static str> {
+        let parts = text.split(|&byte| byte == b'/').filter(|part| !part.is_empty());
+        let names = parts.map(|part| charset.bytes(part)).collect::<Result<_, _>>()?;
+        Ok(Path { names, charset })
+    }
+
+    /// The root, with names to be read so.
+    pub fn root(charset: Charset) -> Path {
+        Path { names: Vec::new(), charset }
     }
 
     /// The path of a name in this directory.
     pub fn join(&self, name: &[u8]) -> Path {
         let mut names = self.names.clone();
         names.push(name.to_vec());
-        Path { names }
+        Path { names, charset: self.charset }
     }
 
     pub fn depth(&self) -> usize {
@@ -36,6 +40,12 @@ impl Path {
 
     pub fn name(&self) -> &[u8] {
         self.names.last().map_or(b"", |name| name)
+    }
+
+    /// The directory that it is in; the root is in none.
+    pub fn parent(&self) -> Option<Path> {
+        let (_, names) = self.names.split_last()?;
+        Some(Path { names: names.to_vec(), charset: self.charset })
     }
 
     /// The number of the directory that this path names. If it names something else, the library says so in the
@@ -50,11 +60,10 @@ impl Path {
 
     /// The directory's number and the name in it.
     pub fn place<L: Library>(&self, disk: &mut Disk<L>) -> Result<(u16, &[u8]), Failure> {
-        let Some((name, parents)) = self.names.split_last() else {
+        let Some(parent) = self.parent() else {
             return Err(Failure::Trouble("the root has no name; give the path of an entry".into()));
         };
-        let parent = Path { names: parents.to_vec() };
-        Ok((parent.directory(disk)?, name))
+        Ok((parent.directory(disk)?, self.name()))
     }
 
     /// The entry of this path.
@@ -67,13 +76,19 @@ impl Path {
     pub fn is_directory<L: Library>(&self, disk: &mut Disk<L>) -> bool {
         self.names.is_empty() || self.entry(disk).is_ok_and(|entry| entry.kind == Kind::Directory)
     }
+
+    /// The names between slashes, as they can be typed.
+    pub fn text(&self) -> String {
+        match self.names.as_slice() {
+            [] => String::from("/"),
+            names => names.iter().map(|name| self.charset.show(name)).collect::<Vec<_>>().join("/"),
+        }
+    }
 }
 
+/// In quotes unless it is a plain word.
 impl fmt::Display for Path {
     fn fmt(&self, f: &mut fmt::Formatter) -> fmt::Result {
-        match self.names.as_slice() {
-            [] => f.write_str("/"),
-            names => f.write_str(&names.iter().map(|name| text::show(name)).collect::<Vec<_>>().join("/")),
-        }
+        f.write_str(&text::quoted(&self.text()))
     }
 }

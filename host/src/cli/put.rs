@@ -1,45 +1,90 @@
-//! `put`: makes, resizes and writes a file, or does nothing.
+//! `put`: files from here onto a disk, all of them or none.
 
-use std::ffi::OsStr;
-use std::path;
+use std::ffi::{OsStr, OsString};
 
 use super::arguments::Arguments;
+use super::items::{name_on_disk, Bundle, Fields, Present};
 use super::paths::Path;
-use super::{help, refused, store, text, Done, Failure};
+use super::{help, stamps, store, text, Done, Failure};
 use crate::calls::Library;
-use crate::disk::{Disk, Kind, New};
+use crate::disk::Disk;
 
-/// Where the file goes: to the path, or under its own name into the directory that the path names. With a slash at
-/// its end a path can only be a directory's.
-fn target<L: Library>(disk: &mut Disk<L>, arguments: &Arguments) -> Result<Path, Failure> {
-    let (file, word) = (arguments.operand(1), arguments.optional(2).unwrap_or(OsStr::new("/")));
-    let path = Path::parse(word)?;
-    if !word.as_encoded_bytes().ends_with(b"/") && !path.is_directory(disk) {
-        return Ok(path);
+/// What the options say of the new entries.
+fn fields(arguments: &Arguments) -> Result<Fields, Failure> {
+    let date = match arguments.has("--no-times") {
+        true => Some(arguments.stamp()?),
+        false => arguments.date()?,
+    };
+    let comment = arguments.text("--comment")?.unwrap_or_default();
+    let (protection, charset) = (arguments.number("--protection", 0)?, arguments.charset());
+    Ok(Fields { date, protection, comment, charset })
+}
+
+/// What is done about files that are there.
+fn present(arguments: &Arguments) -> Result<Present, Failure> {
+    if !arguments.has("--keep") {
+        return Ok(if arguments.has("--force") { Present::Replace } else { Present::Refuse });
     }
-    match path::Path::new(file).file_name() {
-        Some(name) if file != "-" => Ok(path.join(name.as_encoded_bytes())),
-        _ => {
-            let file = text::show_os(file);
-            Err(arguments.trouble(format!("{file}: no name of its own, and PATH is a directory")))
-        }
+    match help::NEW_ENTRY.iter().find(|option| arguments.has(option)) {
+        Some(option) => Err(arguments.trouble(format!("--keep leaves what {option} would change"))),
+        None => Ok(Present::Keep),
+    }
+}
+
+/// A file from here, under its own name or that of a path.
+fn bundle(
+    arguments: &Arguments,
+    file: &OsStr,
+    target: Option<&Path>,
+    fields: &Fields,
+) -> Result<Bundle, Failure> {
+    if file == "-" {
+        let stamp = fields.date.unwrap_or_else(stamps::now);
+        let name =
+            target.ok_or_else(|| arguments.trouble("standard input has no name: give --as PATH"))?.name();
+        return Ok(Bundle::file(name.to_vec(), store::read(file)?, stamp, fields));
+    }
+    let name = match target {
+        Some(target) => target.name().to_vec(),
+        None => name_on_disk(file, fields.charset)
+            .map_err(|wrong| arguments.trouble(format!("{}: {wrong}", text::show_os(file))))?,
+    };
+    Bundle::from_here(file, name, fields)
+}
+
+/// The files, and the word for the directory that they go into. Of several words the last is the directory.
+fn sources(arguments: &Arguments) -> (&[OsString], Option<&OsStr>) {
+    match arguments.from(1) {
+        [files @ .., last] if !files.is_empty() => (files, Some(last)),
+        files => (files, None),
     }
 }
 
 pub fn put<L: Library>(arguments: &Arguments) -> Done {
-    let new = arguments.new_entry(Kind::File)?;
-    let bytes = store::read(arguments.operand(1))?;
+    let (fields, present) = (fields(arguments)?, present(arguments)?);
+    if let Some(word) = arguments.value("--as") {
+        return put_as::<L>(arguments, word, &fields, present);
+    }
+    let (files, directory) = sources(arguments);
+    let at = directory.map_or(Ok(Path::root(fields.charset)), |word| arguments.path(word))?;
+    let bundles = files.iter().map(|file| bundle(arguments, file, None, &fields));
+    let bundles: Vec<Bundle> = bundles.collect::<Result<_, _>>()?;
     store::change(arguments.operand(0), |disk: &mut Disk<L>| {
-        let path = target(disk, arguments)?;
-        let (directory, name) = path.place(disk)?;
-        if disk.find(directory, name).is_err() {
-            disk.make(directory, &New { name, ..new }).map_err(refused(&path))?;
-        } else if help::NEW_ENTRY.iter().any(|option| arguments.has(option)) {
-            return Err(
-                arguments.trouble(format!("{path}: there already, and keeps its comment, bits and date"))
-            );
+        if !at.is_directory(disk) {
+            let hint = "is no directory of the disk: several files go into one, and --as PATH gives a file another name";
+            return Err(arguments.trouble(format!("{at} {hint}")));
         }
-        disk.resize(directory, name, bytes.len() as u64).map_err(refused(&path))?;
-        disk.write(directory, name, 0, &bytes).map_err(refused(&path))
+        bundles.iter().try_for_each(|bundle| bundle.store(disk, &at, present))
     })
+}
+
+/// A single file, to a path.
+fn put_as<L: Library>(arguments: &Arguments, word: &[u8], fields: &Fields, present: Present) -> Done {
+    let path =
+        Path::parse(word, fields.charset).map_err(|wrong| arguments.trouble(format!("--as: {wrong}")))?;
+    let ([file], Some(parent)) = (arguments.from(1), path.parent()) else {
+        return Err(arguments.trouble("--as takes one FILE and the path of an entry"));
+    };
+    let bundle = bundle(arguments, file, Some(&path), fields)?;
+    store::change(arguments.operand(0), |disk: &mut Disk<L>| bundle.store(disk, &parent, present))
 }

@@ -1,6 +1,6 @@
 //! Stamps as dates: days since 1 January 1978, minutes of the day, ticks of 1/50 second.
 
-use std::time::{SystemTime, UNIX_EPOCH};
+use std::time::{Duration, SystemTime, UNIX_EPOCH};
 
 use crate::calls::Stamp;
 
@@ -91,14 +91,35 @@ fn numbers(text: &str, between: char) -> Option<Vec<u32>> {
     text.split(between).map(number).collect()
 }
 
-/// The clock's date and time, UTC. Before 1978 it is the first stamp, after the last day the last one.
-pub fn now() -> Stamp {
-    let since = SystemTime::now().duration_since(UNIX_EPOCH).unwrap_or_default();
+/// The same for programs, with a `Z` for UTC; nothing if no clock shows it.
+pub fn iso(stamp: Stamp) -> Option<String> {
+    time(stamp).map(|_| show(stamp).replacen(' ', "T", 1) + "Z")
+}
+
+/// The stamp of a time, UTC, cut to 1/50 second; nothing before 1978 and after the last day.
+pub fn of_time(time: SystemTime) -> Option<Stamp> {
+    let since = time.duration_since(UNIX_EPOCH).ok()?;
     let (days, seconds) = (since.as_secs() / 86_400, since.as_secs() % 86_400);
     let milliseconds = seconds % 60 * 1_000 + u64::from(since.subsec_millis());
     let tick = milliseconds * u64::from(TICKS_IN_SECOND) / 1_000;
-    let day = u16::try_from(days.saturating_sub(UNIX_DAYS)).unwrap_or(u16::MAX);
-    Stamp::new(day, (seconds / 60) as u16, tick as u16)
+    let day = u16::try_from(days.checked_sub(UNIX_DAYS)?).ok()?;
+    Some(Stamp::new(day, (seconds / 60) as u16, tick as u16))
+}
+
+/// The time of a stamp, UTC; nothing if no clock shows it.
+pub fn time(stamp: Stamp) -> Option<SystemTime> {
+    let Stamp { day, minute, tick } = stamp;
+    if minute > 1_439 || tick > 2_999 {
+        return None;
+    }
+    let seconds = (u64::from(day) + UNIX_DAYS) * 86_400 + u64::from(minute) * 60;
+    let ticks = Duration::from_millis(u64::from(tick) * 1_000 / u64::from(TICKS_IN_SECOND));
+    Some(UNIX_EPOCH + Duration::from_secs(seconds) + ticks)
+}
+
+/// The clock's date and time, UTC; the first stamp where it has none.
+pub fn now() -> Stamp {
+    of_time(SystemTime::now()).unwrap_or_default()
 }
 
 #[cfg(test)]
@@ -139,6 +160,22 @@ mod tests {
         ] {
             assert_eq!(parse(bad), None, "{bad}");
         }
+    }
+
+    #[test]
+    fn stamps_and_times() {
+        for stamp in [Stamp::default(), Stamp::new(17_000, 601, 151), Stamp::new(65_535, 1_439, 2_999)] {
+            assert_eq!(time(stamp).and_then(of_time), Some(stamp));
+        }
+        assert_eq!(time(Stamp::default()), Some(UNIX_EPOCH + Duration::from_secs(252_460_800)));
+        assert_eq!([Stamp::new(0, 1_440, 0), Stamp::new(0, 0, 3_000)].map(time), [None, None]);
+        let last = UNIX_EPOCH + Duration::from_secs((65_535 + UNIX_DAYS) * 86_400 + 86_399);
+        assert_eq!(of_time(last), Some(Stamp::new(65_535, 1_439, 2_950)));
+        for outside in [UNIX_EPOCH, last + Duration::from_secs(1), UNIX_EPOCH - Duration::from_secs(1)] {
+            assert_eq!(of_time(outside), None);
+        }
+        assert_eq!(iso(Stamp::new(1, 62, 150)).as_deref(), Some("1978-01-02T01:02:03.00Z"));
+        assert_eq!(iso(Stamp::new(0, 0, 3_000)), None);
     }
 
     #[test]

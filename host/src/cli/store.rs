@@ -7,6 +7,7 @@ use std::fs::{self, File, OpenOptions, Permissions};
 use std::io::{self, Read, Write};
 use std::path::{Path, PathBuf};
 use std::process;
+use std::time::SystemTime;
 
 use super::{refused, text, Failure};
 use crate::calls::{Library, BLOCK};
@@ -113,10 +114,18 @@ impl Temporary {
         }
     }
 
-    fn fill(&mut self, bytes: &[u8], permissions: Option<Permissions>) -> io::Result<()> {
+    fn fill(
+        &mut self,
+        bytes: &[u8],
+        permissions: Option<Permissions>,
+        time: Option<SystemTime>,
+    ) -> io::Result<()> {
         self.file.write_all(bytes)?;
         if let Some(permissions) = permissions {
             self.file.set_permissions(permissions)?;
+        }
+        if let Some(time) = time {
+            self.file.set_modified(time)?;
         }
         self.file.sync_all()
     }
@@ -140,6 +149,11 @@ impl Drop for Temporary {
 
 /// Gives a file new content, as a whole or not at all. Behind a symbolic link the file it leads to is replaced.
 pub fn replace(name: &OsStr, bytes: &[u8]) -> Result<(), Failure> {
+    replace_dated(name, bytes, None)
+}
+
+/// The same, with a date of change that is not the clock's.
+pub fn replace_dated(name: &OsStr, bytes: &[u8], time: Option<SystemTime>) -> Result<(), Failure> {
     let path = fs::canonicalize(name).unwrap_or_else(|_| PathBuf::from(name));
     let old = fs::metadata(&path).ok();
     if old.as_ref().is_some_and(|old| !old.is_file() || old.permissions().readonly()) {
@@ -147,7 +161,7 @@ pub fn replace(name: &OsStr, bytes: &[u8]) -> Result<(), Failure> {
     }
     let permissions = old.map(|old| old.permissions());
     let written = Temporary::beside(&path).and_then(|mut temporary| {
-        temporary.fill(bytes, permissions)?;
+        temporary.fill(bytes, permissions, time)?;
         temporary.rename(&path)
     });
     written.map_err(trouble(name))
@@ -170,7 +184,7 @@ mod tests {
         let second = Temporary::beside(&disk).expect("it is made");
         assert_eq!(count(), 3);
         drop(second);
-        first.fill(b"new", None).expect("it is filled");
+        first.fill(b"new", None, None).expect("it is filled");
         assert!(first.rename(&missing).is_err());
         assert_eq!((count(), fs::read(&disk).ok().as_deref()), (1, Some(&b"old"[..])));
 

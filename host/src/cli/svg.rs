@@ -47,7 +47,7 @@ fn rectangle(map: &BlockMap, run: &Run, width: usize) -> String {
         "<rect x=\"{x}\" y=\"{y}\" width=\"{}\" height=\"{CELL}\" fill=\"{}\" stroke=\"#ffffff\" stroke-width=\"0.5\"><title>{blocks}: {}</title></rect>\n",
         run.count * CELL,
         run.used.colour(),
-        escaped(map.owner(run)),
+        escaped(&map.owner(run)),
     )
 }
 

@@ -37,8 +37,13 @@ fn format_replaces_a_disk_only_by_force() {
     folder.done(&["format", "small.adf", "--force", "--date=1978-01-02T00:03"]);
     let image = folder.read("small.adf");
     assert_eq!((image.len(), &image[1024 + 12..1024 + 18]), (20 * 512, &[0, 1, 0, 3, 0, 0][..]));
-    assert_eq!(folder.done(&["check", "small.adf"]), "0: accepted\n");
+    assert_eq!(folder.done(&["check", "small.adf"]), ACCEPTED);
 }
+
+/// What check says of a sound disk.
+const ACCEPTED: &str = "0: accepted
+The bytes inside files are not checked: the disk holds nothing to check them by.
+";
 
 #[test]
 fn put_makes_replaces_and_finds_its_place() {
@@ -46,27 +51,85 @@ fn put_makes_replaces_and_finds_its_place() {
     folder.write("long", &[b'x'; 1_500]);
     folder.done(&["put", "disk.adf", "long"]);
     folder.done(&["put", "disk.adf", "long", "recipes/"]);
-    folder.done(&["put", "disk.adf", "long", "recipes/other"]);
+    folder.done(&["put", "disk.adf", "long", "--as", "recipes/other"]);
     assert_eq!(folder.done(&["tree", "disk.adf"]).lines().filter(|line| line.ends_with("1500")).count(), 3);
-    // A file that is there gets the bytes and keeps its fields.
-    folder.done(&["put", "disk.adf", "long", "recipes/pack7"]);
-    let line = "file       1500  ----rwe-  2024-07-18 10:01:02.00  pack7  \"white bread\"\n";
-    assert_eq!(folder.done(&["ls", "disk.adf", "recipes/pack7"]), line);
+    // A file that is there stays, unless it is to be replaced: as a whole, or its bytes alone.
+    let pack7 = ["put", "disk.adf", "long", "--as", "recipes/pack7"];
+    assert_eq!(folder.fails(1, &pack7), "pfs: recipes/pack7: 23: the name is already there\n");
+    folder.done(&[&pack7[..], &["--keep"]].concat());
+    let kept = "file       1500  ----rwe-  2024-07-18 10:01:02.00 UTC  pack7  \"white bread\"\n";
+    assert_eq!(folder.done(&["ls", "disk.adf", "recipes/pack7"]), kept);
     assert_eq!(folder.done(&["cat", "disk.adf", "recipes/pack7"]), "x".repeat(1_500));
-    folder.fails(2, &["put", "disk.adf", "long", "recipes/pack7", "--comment", "another"]);
-    folder.done(&["put", "disk.adf", "pack7", "recipes/pack7"]);
+    folder.fails(2, &[&pack7[..], &["--keep", "--comment", "another"]].concat());
+    folder.date("pack7", 1_700_000_000);
+    folder.done(&["put", "disk.adf", "pack7", "recipes/", "--force"]);
+    let new = "file         14  ----rwed  2023-11-14 22:13:20.00 UTC  pack7\n";
+    assert_eq!(folder.done(&["ls", "disk.adf", "recipes/pack7"]), new);
     assert_eq!(folder.done(&["cat", "disk.adf", "recipes/pack7"]), "180 C, 25 min\n");
+    // No directory is replaced by a file.
+    let error = folder.fails(1, &["put", "disk.adf", "pack7", "--as", "recipes", "--force"]);
+    assert_eq!(error, "pfs: recipes: 24: it is a directory, and a file is needed\n");
     assert_eq!(folder.names(), ["disk.adf", "long", "pack7"], "no temporary file stays");
+}
+
+/// Two files without a directory behind them never become one under the other's name.
+#[test]
+fn several_files_go_into_a_directory_or_none_goes() {
+    let folder = Folder::with_disk("put_several");
+    folder.write("a", b"one");
+    folder.write("b", b"two");
+    for words in [
+        &["put", "disk.adf", "a", "b"][..],
+        &["put", "disk.adf", "a", "b", "pack7"],
+        &["put", "disk.adf", "a", "nowhere/"],
+        &["put", "disk.adf", "a", "b", "recipes/pack7"],
+        &["put", "disk.adf", "a", "b", "--as", "c"],
+        &["put", "disk.adf", "a", "--as", "/"],
+        &["put", "disk.adf", "a", "missing", "recipes/"],
+    ] {
+        folder.fails(2, words);
+    }
+    // The second is there already, so the first does not come either.
+    folder.done(&["put", "disk.adf", "b"]);
+    assert!(folder.fails(1, &["put", "disk.adf", "a", "b", "/"]).starts_with("pfs: b: 23: "));
+    folder.done(&["put", "disk.adf", "a", "b", "recipes"]);
+    assert_eq!(
+        folder.done(&["tree", "disk.adf"]),
+        "/\n  recipes/\n    pack7  14\n    a  3\n    b  3\n  b  3\n"
+    );
+    assert_eq!(folder.done(&["cat", "disk.adf", "recipes/b"]), "two");
+}
+
+#[test]
+fn files_keep_their_dates() {
+    let folder = Folder::with_disk("dates");
+    folder.date("pack7", 1_700_000_000);
+    folder.done(&["put", "disk.adf", "pack7"]);
+    assert!(folder.done(&["ls", "disk.adf", "pack7"]).contains("  2023-11-14 22:13:20.00 UTC  "));
+    folder.done(&["get", "disk.adf", "pack7", "copy"]);
+    assert_eq!(folder.dated("copy"), 1_700_000_000_000);
+    folder.done(&["get", "disk.adf", "recipes/pack7", "other"]);
+    assert_eq!(folder.dated("other"), 1_721_296_862_000);
+    // Neither way, if that is asked for.
+    folder.done(&["get", "disk.adf", "pack7", "fresh", "--no-times"]);
+    assert!(folder.dated("fresh") > 1_700_000_000_000);
+    folder.done(&["put", "disk.adf", "pack7", "--no-times", "--force"]);
+    assert!(!folder.done(&["ls", "disk.adf", "pack7"]).contains("2023-11-14"));
+    // A date that no stamp has is told, and not changed into another.
+    folder.date("pack7", 0);
+    let error = folder.fails(2, &["put", "disk.adf", "pack7", "--force"]);
+    assert!(error.contains("its date is before 1978-01-01 or after 2157-06-06; give --date"), "{error}");
+    folder.done(&["put", "disk.adf", "pack7", "--force", "--date", "1978-01-01"]);
 }
 
 #[test]
 fn put_reads_standard_input() {
     let folder = Folder::with_disk("put_input");
-    let run = folder.run_with_input(&["put", "disk.adf", "-", "recipes/piped"], b"from a pipe");
+    let run = folder.run_with_input(&["put", "disk.adf", "-", "--as", "recipes/piped"], b"from a pipe");
     assert_eq!((run.status, run.errors.as_str()), (0, ""));
     assert_eq!(folder.done(&["cat", "disk.adf", "recipes/piped"]), "from a pipe");
     folder.write("empty", b"");
-    folder.done(&["put", "disk.adf", "empty", "recipes/piped"]);
+    folder.done(&["put", "disk.adf", "empty", "--as=recipes/piped", "--force"]);
     assert_eq!(folder.done(&["cat", "disk.adf", "recipes/piped"]), "");
     folder.fails(2, &["put", "disk.adf", "-", "recipes"]);
     folder.fails(2, &["put", "disk.adf", "-"]);
@@ -75,16 +138,17 @@ fn put_reads_standard_input() {
 #[test]
 fn names_of_any_bytes() {
     let folder = Folder::with_disk("names");
-    folder.done(&["put", "disk.adf", "pack7", "K\u{e4}se \\x1b[31m\\xff\\\\"]);
+    let odd = "K\u{e4}se \\x1b[31m\\xff\\\\";
+    folder.done(&["put", "disk.adf", "pack7", "--as", odd]);
     let tree = folder.done(&["tree", "disk.adf"]);
-    assert!(tree.ends_with("\n  K\u{e4}se \\x1b[31m\\xff\\\\  14\n"), "{tree}");
-    assert_eq!(folder.done(&["cat", "disk.adf", "K\u{e4}se \\x1b[31m\\xff\\\\"]), "180 C, 25 min\n");
-    folder.fails(2, &["get", "disk.adf", "K\u{e4}se \\x1b[31m\\xff\\\\"]);
+    assert!(tree.ends_with(&format!("\n  \"{odd}\"  14\n")), "{tree}");
+    assert_eq!(folder.done(&["cat", "disk.adf", odd]), "180 C, 25 min\n");
+    folder.fails(2, &["get", "disk.adf", odd]);
     folder.fails(2, &["cat", "disk.adf", "a\\b"]);
-    folder.done(&["put", "disk.adf", "pack7", "--", "--odd"]);
+    folder.done(&["put", "disk.adf", "pack7", "--as", "--odd"]);
     assert_eq!(folder.done(&["cat", "disk.adf", "--", "--odd"]), "180 C, 25 min\n");
     // A name of the disk never leads out of this folder.
-    folder.done(&["put", "disk.adf", "pack7", ".."]);
+    folder.done(&["put", "disk.adf", "pack7", "--as", ".."]);
     folder.fails(2, &["get", "disk.adf", ".."]);
 }
 
@@ -96,7 +160,7 @@ fn comments_of_any_bytes() {
     let words = [&b"--comment=a=\xff"[..], b"--date=1978-01-01"].map(std::ffi::OsStr::from_bytes);
     let output = folder.command(&["mkdir", "disk.adf", "new"]).args(words).output().expect("it runs");
     assert_eq!((output.status.code(), output.stderr), (Some(0), Vec::new()));
-    let line = "dir           -  ----rwed  1978-01-01 00:00:00.00  new  \"a=\\xff\"";
+    let line = "dir           -  ----rwed  1978-01-01 00:00:00.00 UTC  new  \"a=\\xff\"";
     assert_eq!(folder.done(&["ls", "disk.adf"]).lines().last(), Some(line));
 }
 
@@ -116,7 +180,7 @@ fn mkdir_resize_and_rm() {
     ]);
     assert_eq!(
         folder.done(&["ls", "disk.adf"]).lines().last(),
-        Some("dir           -  hsparwed  1978-01-01 00:00:00.00  a  \"one\"")
+        Some("dir           -  hsparwed  1978-01-01 00:00:00.00 UTC  a  \"one\"")
     );
     folder.done(&["mkdir", "disk.adf", "a/b"]);
     folder.done(&["resize", "disk.adf", "recipes/pack7", "600"]);
@@ -179,7 +243,7 @@ fn a_link_that_leads_nowhere_is_replaced_only_by_force() {
 fn changes_of_one_disk_at_the_same_time_are_all_kept() {
     let folder = Folder::with_disk("together");
     let names: Vec<String> = (0..24).map(|i| format!("record{i:02}")).collect();
-    let commands: Vec<_> = names.iter().map(|name| vec!["put", "disk.adf", "pack7", name]).collect();
+    let commands: Vec<_> = names.iter().map(|name| vec!["put", "disk.adf", "pack7", "--as", name]).collect();
     for run in folder.run_together(&commands) {
         assert_eq!((run.status, run.errors.as_str()), (0, ""));
     }
@@ -187,6 +251,6 @@ fn changes_of_one_disk_at_the_same_time_are_all_kept() {
     for name in &names {
         assert!(tree.contains(&format!("{name}  14\n")), "{name} is lost: {tree}");
     }
-    assert_eq!(folder.done(&["check", "disk.adf"]), "0: accepted\n");
+    assert_eq!(folder.done(&["check", "disk.adf"]), ACCEPTED);
     assert_eq!(folder.names(), ["disk.adf", "pack7"], "no temporary file stays");
 }

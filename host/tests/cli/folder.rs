@@ -4,6 +4,7 @@ use std::fs;
 use std::io::Write;
 use std::path::{Path, PathBuf};
 use std::process::{Child, Command, Stdio};
+use std::time::{Duration, UNIX_EPOCH};
 
 pub struct Folder {
     path: PathBuf,
@@ -48,7 +49,7 @@ impl Folder {
             "put",
             "disk.adf",
             "pack7",
-            "recipes",
+            "recipes/",
             "--date=2024-07-18T10:01:02",
             "--comment",
             "white bread",
@@ -117,6 +118,19 @@ impl Folder {
 
     pub fn read(&self, name: &str) -> Vec<u8> {
         fs::read(self.path(name)).expect("the file is read")
+    }
+
+    /// Gives a file a date of change, in seconds since 1970.
+    pub fn date(&self, name: &str, seconds: u64) {
+        let file = fs::File::open(self.path(name)).expect("the file is there");
+        file.set_modified(UNIX_EPOCH + Duration::from_secs(seconds)).expect("its date is set");
+    }
+
+    /// The date of change of a file, in milliseconds since 1970.
+    pub fn dated(&self, name: &str) -> u128 {
+        let modified = fs::metadata(self.path(name)).and_then(|metadata| metadata.modified());
+        let since = modified.expect("the file is there").duration_since(UNIX_EPOCH);
+        since.expect("it is of after 1970").as_millis()
     }
 
     pub fn path(&self, name: &str) -> PathBuf {

@@ -13,7 +13,10 @@ directories     2
 anodes in use   6
 ";
     assert_eq!(folder.done(&["info", "disk.adf"]), info);
-    assert_eq!(folder.done(&["check", "disk.adf"]), "0: accepted\n");
+    let accepted = "0: accepted
+The bytes inside files are not checked: the disk holds nothing to check them by.
+";
+    assert_eq!(folder.done(&["check", "disk.adf"]), accepted);
 }
 
 #[test]
@@ -78,8 +81,8 @@ fn bitmap_is_made_and_checked() {
 #[test]
 fn ls_shows_every_field() {
     let folder = Folder::with_disk("ls");
-    let root = "dir           -  ----rwed  2024-07-18 10:00:00.00  recipes\n";
-    let recipes = "file         14  ----rwe-  2024-07-18 10:01:02.00  pack7  \"white bread\"\n";
+    let root = "dir           -  ----rwed  2024-07-18 10:00:00.00 UTC  recipes\n";
+    let recipes = "file         14  ----rwe-  2024-07-18 10:01:02.00 UTC  pack7  \"white bread\"\n";
     assert_eq!(folder.done(&["ls", "disk.adf"]), root);
     assert_eq!(folder.done(&["ls", "disk.adf", "/"]), root);
     for path in ["recipes", "/recipes/", "recipes/pack7"] {
@@ -87,11 +90,101 @@ fn ls_shows_every_field() {
     }
 }
 
+/// A name that looks like a name with a comment, and others that look like what they are not.
+#[test]
+fn nothing_can_be_forged() {
+    let folder = Folder::with_disk("forged");
+    for name in ["a  \"line 3\"", "b  14", "c\u{202e}d"] {
+        folder.done(&[
+            "put",
+            "disk.adf",
+            "pack7",
+            "--as",
+            name,
+            "--date",
+            "1978-01-01",
+            "--comment",
+            "x\"  y",
+        ]);
+    }
+    folder.done(&["mkdir", "disk.adf", "d  e"]);
+    let ls = folder.done(&["ls", "disk.adf"]);
+    let names: Vec<&str> =
+        ls.lines().skip(1).filter_map(|line| line.split_once(" UTC  ")).map(|(_, rest)| rest).collect();
+    assert_eq!(
+        names,
+        [
+            "\"a  \\x22line 3\\x22\"  \"x\\x22  y\"",
+            "\"b  14\"  \"x\\x22  y\"",
+            "c\\xe2\\x80\\xaed  \"x\\x22  y\"",
+            "\"d  e\""
+        ]
+    );
+    let tree = folder.done(&["tree", "disk.adf"]);
+    let shown = "  \"a  \\x22line 3\\x22\"  14\n  \"b  14\"  14\n  c\\xe2\\x80\\xaed  14\n  \"d  e\"/\n";
+    assert!(tree.ends_with(shown), "{tree}");
+    // What is shown can be typed again.
+    assert_eq!(folder.done(&["cat", "disk.adf", "a  \\x22line 3\\x22"]), "180 C, 25 min\n");
+}
+
+#[test]
+fn looks_for_programs() {
+    let folder = Folder::with_disk("json");
+    folder.done(&["put", "disk.adf", "pack7", "--as", "a\\xff\"b", "--date=1978-01-02T01:02:03"]);
+    let recipes = r#"{"path": "recipes", "name": "recipes", "type": "dir", "size": null, "protection": "----rwed", "date_utc": "2024-07-18T10:00:00.00Z", "day": 17000, "minute": 600, "tick": 0, "comment": ""}"#;
+    let pack7 = r#"{"path": "recipes/pack7", "name": "pack7", "type": "file", "size": 14, "protection": "----rwe-", "date_utc": "2024-07-18T10:01:02.00Z", "day": 17000, "minute": 601, "tick": 100, "comment": "white bread"}"#;
+    let odd = r#"{"path": "a\\xff\\x22b", "name": "a\\xff\\x22b", "type": "file", "size": 14, "protection": "----rwed", "date_utc": "1978-01-02T01:02:03.00Z", "day": 1, "minute": 62, "tick": 150, "comment": ""}"#;
+    let entries = |path: &str, all: &[&str]| {
+        format!("{{\"disk\": \"disk.adf\", \"path\": \"{path}\", \"entries\": [{}]}}\n", all.join(", "))
+    };
+    assert_eq!(folder.done(&["ls", "disk.adf", "--json"]), entries("/", &[recipes, odd]));
+    assert_eq!(
+        folder.done(&["ls", "disk.adf", "recipes/pack7", "--json"]),
+        entries("recipes/pack7", &[pack7])
+    );
+    assert_eq!(folder.done(&["tree", "disk.adf", "--json"]), entries("/", &[recipes, pack7, odd]));
+    assert_eq!(
+        folder.done(&["info", "disk.adf", "--json"]),
+        "{\"disk\": \"disk.adf\", \"blocks\": 1760, \"bytes\": 901120, \"free_blocks\": 1751, \"files\": 2, \"directories\": 2, \"anodes_in_use\": 7}\n"
+    );
+    assert_eq!(
+        folder.done(&["check", "disk.adf", "--json"]),
+        "{\"disk\": \"disk.adf\", \"number\": 0, \"words\": \"accepted\"}\n"
+    );
+    let df = folder.done(&["df", "disk.adf", "--json"]);
+    assert!(df.starts_with("{\"disk\": \"disk.adf\", \"blocks\": 1760, \"uses\": [{\"use\": \"free\", \"blocks\": 1751, \"bytes\": 896512}, "));
+    assert!(df.ends_with("{\"use\": \"bad\", \"blocks\": 0, \"bytes\": 0}]}\n"), "{df}");
+    let map = folder.done(&["map", "disk.adf", "--json"]);
+    assert!(map.starts_with("{\"disk\": \"disk.adf\", \"blocks\": 1760, \"last_reserved\": 63, \"runs\": [{\"first\": 0, \"last\": 2, \"use\": \"start blocks\", \"path\": null}, "));
+    assert!(map.contains(r#"{"first": 65, "last": 65, "use": "files", "path": "a\\xff\\x22b"}"#), "{map}");
+    // A refused disk says so in the same form.
+    folder.write("cut.adf", b"PFS");
+    let run = folder.run(&["check", "cut.adf", "--json"]);
+    assert!(
+        run.status == 1 && run.out.starts_with("{\"disk\": \"cut.adf\", \"number\": 1, \"words\": \""),
+        "{}",
+        run.out
+    );
+}
+
+#[test]
+fn latin1_names_are_text() {
+    let folder = Folder::with_disk("latin1");
+    folder.done(&["put", "disk.adf", "pack7", "--latin1", "--as", "K\u{e4}se", "--comment", "\u{e9}t\u{e9}"]);
+    assert!(folder.done(&["ls", "disk.adf"]).ends_with("K\\xe4se  \"\\xe9t\\xe9\"\n"));
+    assert!(folder.done(&["ls", "disk.adf", "--latin1"]).ends_with("K\u{e4}se  \"\u{e9}t\u{e9}\"\n"));
+    assert_eq!(folder.done(&["cat", "disk.adf", "K\u{e4}se", "--latin1"]), "180 C, 25 min\n");
+    assert_eq!(folder.done(&["cat", "disk.adf", "K\\xe4se"]), "180 C, 25 min\n");
+    folder.fails(2, &["put", "disk.adf", "pack7", "--latin1", "--as", "\u{20ac}"]);
+    folder.done(&["get", "disk.adf", "K\u{e4}se", "--latin1"]);
+    assert_eq!(folder.read("K\u{e4}se"), b"180 C, 25 min\n");
+}
+
 #[test]
 fn tree_indents_what_is_inside() {
     let folder = Folder::with_disk("tree");
     folder.done(&["mkdir", "disk.adf", "recipes/old"]);
-    folder.done(&["put", "disk.adf", "pack7", "recipes/old/pack6"]);
+    folder.done(&["put", "disk.adf", "pack7", "--as", "recipes/old/pack6"]);
     folder.done(&["put", "disk.adf", "pack7"]);
     let all = "/
   recipes/
@@ -156,18 +249,18 @@ fn map_draws_every_block() {
 ";
     assert_eq!(folder.done(&["map", "disk.adf", "--owners"]), owners);
     let error = folder.fails(2, &["map", "disk.adf", "--owners", "--svg"]);
-    assert_eq!(error, "pfs: map: --svg or --owners, not both; see pfs map --help\n");
+    assert_eq!(error, "pfs: map: one of --svg, --owners and --json; see pfs map --help\n");
 }
 
 #[test]
 fn map_draws_a_picture() {
     let folder = Folder::with_disk("map_svg");
-    folder.done(&["put", "disk.adf", "pack7", "a<b&c"]);
+    folder.done(&["put", "disk.adf", "pack7", "--as", "a<b&c"]);
     let svg = folder.done(&["map", "disk.adf", "--svg"]);
     assert!(svg.starts_with("<svg xmlns=\"http://www.w3.org/2000/svg\"") && svg.ends_with("</svg>\n"));
     assert!(svg.contains("<title>3 to 4: anode blocks</title>"));
     assert!(svg.contains("<title>64: recipes/pack7</title>"));
-    assert!(svg.contains("<title>65: a&lt;b&amp;c</title>"));
+    assert!(svg.contains("<title>65: \"a&lt;b&amp;c\"</title>"));
     assert!(svg.contains("<title>behind last reserved</title>"));
     for name in [
         "free 1751",

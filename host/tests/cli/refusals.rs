@@ -19,7 +19,9 @@ fn refusals_end_with_1_and_say_which() {
         (&["resize", "disk.adf", "recipes", "5"], 24),
         (&["resize", "disk.adf", "recipes/pack7", "4294967296"], 27),
         (&["resize", "disk.adf", "recipes/pack7", "18446744073709551615"], 27),
-        (&["put", "disk.adf", "pack7", "nowhere/"], 22),
+        (&["put", "disk.adf", "pack7", "--as", "nowhere/x"], 22),
+        (&["put", "disk.adf", "pack7", "--as", "recipes/pack7/x"], 21),
+        (&["put", "disk.adf", "pack7", "--as", "a:b"], 20),
     ] {
         let error = folder.fails(1, words);
         assert!(error.contains(&format!(": {number}: ")), "{words:?}: {error}");
@@ -33,17 +35,17 @@ fn a_full_disk_is_left_byte_for_byte() {
     folder.write("eleven", &[2; 11 * 512]);
     // 20 blocks, of which 15 are free.
     folder.done(&["format", "disk.adf", "--blocks", "20", "--reserved", "9", "--anode-blocks", "1"]);
-    folder.done(&["put", "disk.adf", "ten", "a"]);
+    folder.done(&["put", "disk.adf", "ten", "--as", "a"]);
     // Made, but not resized: nothing of it stays.
-    let error = folder.fails(1, &["put", "disk.adf", "ten", "b"]);
+    let error = folder.fails(1, &["put", "disk.adf", "ten", "--as", "b"]);
     assert_eq!(error, "pfs: b: 27: no block is free\n");
     folder.done(&["resize", "disk.adf", "a", "7680"]);
     folder.fails(1, &["resize", "disk.adf", "a", "7681"]);
     folder.fails(1, &["mkdir", "disk.adf", "d"]);
     // A file that is there can be replaced by a shorter one, but by no longer one than there is room for.
-    folder.done(&["put", "disk.adf", "eleven", "a"]);
+    folder.done(&["put", "disk.adf", "eleven", "--as", "a", "--force"]);
     folder.write("long", &[3; 16 * 512]);
-    folder.fails(1, &["put", "disk.adf", "long", "a"]);
+    folder.fails(1, &["put", "disk.adf", "long", "--as", "a", "--force"]);
     assert_eq!(folder.done(&["cat", "disk.adf", "a"]).as_bytes(), [2; 11 * 512]);
     assert_eq!(folder.names(), ["disk.adf", "eleven", "long", "ten"]);
 }
@@ -62,12 +64,14 @@ fn bad_usage_ends_with_2() {
         &["resize", "disk.adf", "recipes/pack7", "18446744073709551616"],
         &["resize", "disk.adf", "recipes/pack7", "many"],
         &["ls", "disk.adf", "--long"],
+        &["ls", "disk.adf", "-l"],
+        &["ls", "-", "-"],
         &["format", "new.adf", "--blocks"],
         &["format", "new.adf", "--blocks", "65536"],
         &["format", "new.adf", "--reserved", "x"],
         &["format", "new.adf", "--date", "1977-12-31"],
-        &["put", "disk.adf", "pack7", "x", "--protection", "256"],
-        &["put", "disk.adf", "pack7", "x", "--date", "2024-02-30"],
+        &["put", "disk.adf", "pack7", "--as=x", "--protection", "256"],
+        &["put", "disk.adf", "pack7", "--as=x", "--date", "2024-02-30"],
         &["rm", "disk.adf", "/"],
         &["mkdir", "disk.adf", ""],
     ] {
