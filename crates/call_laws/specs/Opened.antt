@@ -54,18 +54,18 @@ module _ (img b₀ a₀ b a : List ℕ) (x : Checked) (e : outcomeOf (checkedNum
     number-k : checkedNumber x ≡ k
     number-k = ap checkedNumber is ∙ sym n
 
-    answers-k : checkAnswer img (length b₀) (length a₀) ≡ k
+    pub answers-k : checkAnswer img (length b₀) (length a₀) ≡ k
     answers-k = answers k number-k
 
     some : 1 ≤ k
     some = refused-some r k n
 
     -- its number comes before the call's own
-    first-k : (m : ℕ) → checkedFirst img b₀ a₀ m ≡ k
+    pub first-k : (m : ℕ) → checkedFirst img b₀ a₀ m ≡ k
     first-k m = firstOf-some (checkAnswer img (length b₀) (length a₀)) m k answers-k some
 
     -- a refused call leaves the image and the tables as the check does
-    settled-k : (output name : List ℕ) → outcomeOf k img b a output name ≡ settled (left k img) b₀ a₀ output name
+    pub settled-k : (output name : List ℕ) → outcomeOf k img b a output name ≡ settled (left k img) b₀ a₀ output name
     unfolding settled
     settled-k output name = rw (← blocks-left k number-k, ← anodes-left k number-k)
 
@@ -101,11 +101,11 @@ module _ (img b₀ a₀ b a : List ℕ) (x : Checked) (e : outcomeOf (checkedNum
     number-0 : checkedNumber x ≡ 0
     number-0 = ap checkedNumber is
 
-    answers-0 : checkAnswer img (length b₀) (length a₀) ≡ 0
+    pub answers-0 : checkAnswer img (length b₀) (length a₀) ≡ 0
     answers-0 = answers 0 number-0
 
     -- the call's own number is its answer
-    first-0 : (m : ℕ) → checkedFirst img b₀ a₀ m ≡ m
+    pub first-0 : (m : ℕ) → checkedFirst img b₀ a₀ m ≡ m
     first-0 m = firstOf-none (checkAnswer img (length b₀) (length a₀)) m answers-0
 
     accepted-answer : checkAnswer img (diskSize img) limit ≡ 0
@@ -120,7 +120,7 @@ module _ (img b₀ a₀ b a : List ℕ) (x : Checked) (e : outcomeOf (checkedNum
     anodes-late k l = late-tables k l limit (anodeTable (anodesOf img)) a₀ ∙ sym (anodes-left 0 number-0)
 
     -- an answered call that leaves the image leaves the tables too
-    settled-late : (k : ℕ) → Late k → (output name : List ℕ) → outcomeOf k img b a output name ≡ settled (left k img) b₀ a₀ output name
+    pub settled-late : (k : ℕ) → Late k → (output name : List ℕ) → outcomeOf k img b a output name ≡ settled (left k img) b₀ a₀ output name
     unfolding settled
     settled-late k l output name = rw (blocks-late k l, anodes-late k l)
 

@@ -46,7 +46,7 @@ fn answer_of(found: Lookup) -> Search
 }
 
 // The first entry with that name in the directory that `head` heads; 21, 22.
-fn find_named(
+pub fn find_named(
     image: &[u8],
     firsts: &[u16],
     nexts: &[u16],

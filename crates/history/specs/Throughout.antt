@@ -21,7 +21,9 @@ use Rattle.rules.specs.Calls.{checkedFirst, settled, checkOutcome, summaryOutco
 use Rattle.rules.specs.Totals.{Sound}
 use Rattle.bitmap.specs.Bitmap.{bitmapLength}
 use Rattle.bitmap.specs.Calls.{bitmapRefusal, bitmapAnswer, bitmapOutcome, bitmapDiffersOutcome}
-use Rattle.history.specs.History.{Call, check, summary, format, read, list, make, resize, write, remove, bitmap, bitmapDiffers, outcome, SoundThroughout}
+use Rattle.looks.specs.Calls.{findAnswer, findOutcome, labelOutcome}
+use Rattle.looks.specs.Laws.{find-late}
+use Rattle.history.specs.History.{Call, check, summary, format, read, list, make, resize, write, remove, bitmap, bitmapDiffers, find, label, outcome, SoundThroughout}
 use Rattle.counting.specs.Laws.{neither}
 use Rattle.laws.specs.Tests.{if-zero, firstOf-zero}
 use Rattle.format_laws.specs.Accepted.{formatted-accepted}
@@ -82,6 +84,10 @@ module _ (img : List ℕ) (ok : checkAnswer img (diskSize img) limit ≡ 0) wher
   list-kept : (blocks anodes : List ℕ) (h n : ℕ) → AcceptedAfter (left (listAnswer img blocks anodes h n) img)
   unfolding listAnswer
   list-kept blocks anodes h n = stays _ (answers (length blocks) (length anodes) _ (list-late img s h n))
+
+  find-kept : (blocks anodes : List ℕ) (h : ℕ) (name : List ℕ) → AcceptedAfter (left (findAnswer img blocks anodes h name) img)
+  unfolding findAnswer
+  find-kept blocks anodes h name = stays _ (answers (length blocks) (length anodes) _ (find-late img s h name))
 
   -- both calls of the bitmap: the check's answer, 40 or 0
   bitmap-kept : (blocks anodes : List ℕ) (len : ℕ) → AcceptedAfter (left (bitmapAnswer img blocks anodes len) img)
@@ -169,7 +175,7 @@ module _ (img : List ℕ) (ok : checkAnswer img (diskSize img) limit ≡ 0) wher
 
   -- every call leaves an accepted image and reports no damage
   call-kept : (c : Call) → AcceptedAfter (left (outcome img c .answer) (outcome img c .image))
-  unfolding outcome settled checkOutcome summaryOutcome readOutcome listOutcome makeOutcome resizeOutcome writeOutcome removeOutcome bitmapOutcome bitmapDiffersOutcome
+  unfolding outcome settled checkOutcome summaryOutcome readOutcome listOutcome makeOutcome resizeOutcome writeOutcome removeOutcome bitmapOutcome bitmapDiffersOutcome findOutcome labelOutcome
   call-kept (check blocks anodes) = check-kept (length blocks) (length anodes)
   call-kept (summary blocks anodes) = check-kept (length blocks) (length anodes)
   call-kept (format last k name day minute tick protection) = format-kept last k name day minute tick protection
@@ -181,6 +187,8 @@ module _ (img : List ℕ) (ok : checkAnswer img (diskSize img) limit ≡ 0) wher
   call-kept (remove blocks anodes h name) = remove-kept blocks anodes h name
   call-kept (bitmap blocks anodes out) = bitmap-kept blocks anodes (length out)
   call-kept (bitmapDiffers blocks anodes bytes) = bitmap-kept blocks anodes (length bytes)
+  call-kept (find blocks anodes h name) = find-kept blocks anodes h name
+  call-kept (label blocks anodes) = check-kept (length blocks) (length anodes)
 
 sound-of : (img : List ℕ) → checkAnswer img (diskSize img) limit ≡ 0 → Sound img
 sound-of img ok = record { accepted = ok; adds-up = accepted-total (accepted-own img ok) }

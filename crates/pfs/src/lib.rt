@@ -4,6 +4,7 @@ ghost use mathlib.Core.Path.{_≡_};
 ghost use Rattle.rules.specs.Changes.{left};
 ghost use Rattle.rules.specs.Calls.{outcomeOf, checkOutcome, summaryOutcome, formatOutcome, readOutcome, listOutcome, makeOutcome, resizeOutcome, writeOutcome, removeOutcome};
 ghost use Rattle.bitmap.specs.Calls.{bitmapOutcome, bitmapDiffersOutcome};
+ghost use Rattle.looks.specs.Calls.{findOutcome, labelOutcome};
 ghost use Rattle.settings.specs.Conversions.{conversionOf, widenOutcome, narrowOutcome};
 ghost use Rattle.pfs.specs.Listed.{nameGiven};
 
@@ -85,6 +86,34 @@ pub extern "C" fn pfs_list(
     let mut answer: u32 = 0;
     read_calls::list(image, blocks, anodes, directory, place, fields, &mut answer);
     answer
+}
+
+// The fields of the first entry with that name in a directory, as list hands them back; zero fields after a refusal.
+#[no_mangle]
+pub extern "C" fn pfs_find(
+    image: &[u8],
+    blocks: &mut [u16],
+    anodes: &mut [u16],
+    directory: u16,
+    name: &[u8],
+    fields: &mut [u32; 11],
+) -> u32
+    ensures { λ r. ⌜ outcomeOf r (now (image .entry)) (now (blocks .exit)) (now (anodes .exit)) (now (fields .exit)) [] ≡ findOutcome (now (image .entry)) (now (blocks .entry)) (now (anodes .entry)) directory (now (name .entry)) ⌝ }
+{
+    look_calls::find(image, blocks, anodes, directory, name, fields)
+}
+
+// The disk's last reserved block, stamp, protection and name, this by offset in the image and length; zero fields after a refusal.
+#[no_mangle]
+pub extern "C" fn pfs_label(
+    image: &[u8],
+    blocks: &mut [u16],
+    anodes: &mut [u16],
+    fields: &mut [u32; 7],
+) -> u32
+    ensures { λ r. ⌜ outcomeOf r (now (image .entry)) (now (blocks .exit)) (now (anodes .exit)) (now (fields .exit)) [] ≡ labelOutcome (now (image .entry)) (now (blocks .entry)) (now (anodes .entry)) ⌝ }
+{
+    look_calls::label(image, blocks, anodes, fields)
 }
 
 // Makes a file of type 253 or a directory of type 2; a refused call leaves the image.

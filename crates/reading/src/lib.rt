@@ -1,10 +1,11 @@
-// Reads a file and lists an entry in an accepted image.
+// Reads a file, lists an entry and finds one by name in an accepted image.
 ghost use mathlib.Core.Path.{_≡_};
 ghost use Prim.Native.Nat.{_+_, _*_, _<_};
 ghost use lib.ListN.{length, getD};
 ghost use Rattle.rules.specs.Anodes.{anodesOf};
 ghost use Rattle.rules.specs.Lookup.{entryNamed, entriesOf, nameAt, nth};
 ghost use Rattle.rules.specs.Calls.{spanRefusal, bytesRead, listRefusal, fieldsAt, fieldsListed, nameListed};
+ghost use Rattle.looks.specs.Calls.{findRefusal};
 ghost use Rattle.find.specs.Open.{OpenAnodes, OpenFor};
 ghost use Rattle.reading.specs.Parts.{StartsAt, NameStands};
 use contents::copy_out;
@@ -16,6 +17,7 @@ use endian::read8;
 use endian::read16;
 use endian::read32;
 use find::Search;
+use find::find_named;
 use find::find_nth;
 use find::find_span;
 
@@ -124,6 +126,35 @@ pub fn list_nth<'a>(
             *answer = number(r);
             *fields = [0u32; 11];
             &image[0..0]
+        }
+    }
+}
+
+// The fields of the first entry with that name in a directory; 21, 22.
+pub fn find_entry(
+    image: &[u8],
+    firsts: &[u16],
+    nexts: &[u16],
+    queue: &[u16],
+    heads: &[u16],
+    dirs: u16,
+    head: AnodeNo,
+    name: &[u8],
+    fields: &mut [u32; 11],
+) -> u32
+    requires { ⌜ OpenFor (now image) (now firsts) (now nexts) (now queue) (now heads) dirs ⌝ }
+    ensures answer { λ r. ⌜ r ≡ findRefusal (now (image .entry)) (anodesOf (now (image .entry))) (head .0) (now (name .entry)) ⌝ }
+    ensures fields { λ r. ⌜ now (fields .exit) ≡ fieldsListed r (now (image .entry)) (entryNamed (now (image .entry)) (anodesOf (now (image .entry))) (head .0) (now (name .entry))) ⌝ }
+{
+    let found = find_named(image, firsts, nexts, queue, heads, dirs, head, name);
+    match found {
+        Search::Found(e) => {
+            put_fields(image, e.start, fields);
+            0
+        }
+        Search::Refused(r) => {
+            *fields = [0u32; 11];
+            number(r)
         }
     }
 }
