@@ -30,7 +30,7 @@
  *   Measured on x86-64 Linux, and rounded up.
  *
  *    32 KiB  pfs_format, pfs_widen, pfs_narrow
- *    64 KiB  pfs_check, pfs_summary, pfs_read, pfs_list, pfs_write, pfs_bitmap, pfs_bitmap_differs
+ *    64 KiB  pfs_check, pfs_summary, pfs_read, pfs_list, pfs_find, pfs_label, pfs_write, pfs_bitmap, pfs_bitmap_differs
  *    96 KiB  pfs_make
  *   256 KiB  pfs_resize, pfs_remove
  *
@@ -132,6 +132,21 @@ uint32_t pfs_read(const uint8_t *image, size_t image_len, uint16_t *blocks, size
  * Eleven zeros after a refusal. Answers also 21, 22. */
 uint32_t pfs_list(const uint8_t *image, size_t image_len, uint16_t *blocks, size_t blocks_len, uint16_t *anodes,
                   size_t anodes_len, uint16_t directory, uint64_t place, uint32_t fields[11]);
+
+/* The first entry with that name in a directory, in the fields of pfs_list. Eleven zeros after a refusal. Answers also 21,
+ * 22. */
+uint32_t pfs_find(const uint8_t *image, size_t image_len, uint16_t *blocks, size_t blocks_len, uint16_t *anodes,
+                  size_t anodes_len, uint16_t directory, const uint8_t *name, size_t name_len, uint32_t fields[11]);
+
+/* What the disk says of itself. In fields:
+ *
+ *    0 last reserved                   3 tick                                  5 name's offset in the image
+ *    1 day                             4 protection                            6 name length
+ *    2 minute
+ *
+ * Seven zeros after a refusal. */
+uint32_t pfs_label(const uint8_t *image, size_t image_len, uint16_t *blocks, size_t blocks_len, uint16_t *anodes,
+                   size_t anodes_len, uint32_t fields[7]);
 
 /* Makes an empty file or directory.
  *

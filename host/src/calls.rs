@@ -40,6 +40,8 @@ pub enum Call {
     Remove { directory: u16, name: Vec<u8> },
     Bitmap { length: usize },
     BitmapDiffers { bitmap: Vec<u8> },
+    Find { directory: u16, name: Vec<u8> },
+    Label,
 }
 
 impl Call {
@@ -56,6 +58,8 @@ impl Call {
             Call::Remove { .. } => "remove",
             Call::Bitmap { .. } => "bitmap",
             Call::BitmapDiffers { .. } => "bitmap_differs",
+            Call::Find { .. } => "find",
+            Call::Label => "label",
         }
     }
 
@@ -83,11 +87,14 @@ pub struct Output {
     pub bytes: Vec<u8>,
     /// What summary counts: blocks, free blocks, files, directories with the root. Zeros after a refusal.
     pub counts: [u32; 4],
-    /// The entry that list gives: type, anode, size, day, minute, tick, protection, name offset in the image,
+    /// The entry that list or find gives: type, anode, size, day, minute, tick, protection, name offset in the image,
     /// name length, comment offset in the image, comment length. Zeros after a refusal.
     pub entry: [u32; 11],
     /// What the comparison with a bitmap says: 1 if a byte differs, and its place. Zeros otherwise.
     pub difference: [u32; 2],
+    /// The label of the disk: last reserved, day, minute, tick, protection, the name's offset in the image and length.
+    /// Zeros after a refusal.
+    pub label: [u32; 7],
 }
 
 impl Output {
@@ -102,6 +109,7 @@ impl Output {
             counts: [UNWRITTEN; 4],
             entry: [UNWRITTEN; 11],
             difference: [UNWRITTEN; 2],
+            label: [UNWRITTEN; 7],
         }
     }
 }

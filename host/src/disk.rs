@@ -16,10 +16,10 @@ pub use crate::refusals::Error;
 ///
 /// ```
 /// use ovenknit_host::calls::{Stamp, ROOT};
-/// use ovenknit_host::disk::{Disk, Entry, Format, Kind, New};
+/// use ovenknit_host::disk::{Disk, Entry, Error, Format, Kind, New};
 /// use ovenknit_host::model::Model;
 ///
-/// # fn main() -> Result<(), ovenknit_host::disk::Error> {
+/// # fn main() -> Result<(), Error> {
 /// let mut disk = Disk::<Model>::format(1_760, &Format::new(63, 2, b"bench 4"))?;
 /// disk.make(ROOT, &New { stamp: Stamp::new(17_000, 600, 0), ..New::directory(b"recipes") })?;
 ///
@@ -33,7 +33,7 @@ pub use crate::refusals::Error;
 /// assert_eq!((entries[0].name.as_slice(), entries[0].kind, entries[0].size), (&b"pack7"[..], Kind::File, 6));
 ///
 /// let full = disk.resize(recipes, b"pack7", 1 << 20).unwrap_err();
-/// assert_eq!((full.number(), full.words()), (27, "no block is free"));
+/// assert_eq!(full, Error::NoFreeBlock);
 /// let summary = disk.summary()?;
 /// assert_eq!((summary.blocks, summary.free, summary.files, summary.directories), (1_760, 1_752, 1, 2));
 /// # Ok(())
@@ -129,6 +129,17 @@ pub struct Summary {
     pub directories: u32,
 }
 
+/// What a disk says of itself.
+#[derive(Clone, Debug, PartialEq, Eq)]
+pub struct Label {
+    /// The last block of the part where directories are put first.
+    pub last_reserved: u16,
+    pub stamp: Stamp,
+    pub protection: u16,
+    /// 1 to 31 bytes of any value.
+    pub name: Vec<u8>,
+}
+
 /// Who owns a block.
 #[derive(Clone, Copy, Debug, PartialEq, Eq)]
 pub enum Owner {
@@ -208,16 +219,9 @@ impl<L: Library> Disk<L> {
         Error::of(outcome.answer).map(|()| outcome.output)
     }
 
-    /// The last block of the reserved part, as the root block of a sound disk says.
-    pub fn last_reserved(&self) -> u16 {
-        let at = 2 * BLOCK + 54;
-        u16::from_be_bytes([self.image[at], self.image[at + 1]])
-    }
-
     /// Free space as the hard disk edition's bitmap.
     pub fn bitmap(&mut self) -> Result<Vec<u8>, Error> {
-        self.check()?;
-        let length = bitmap::length(self.image.len() / BLOCK, self.last_reserved());
+        let length = bitmap::length(self.image.len() / BLOCK, self.label()?.last_reserved);
         Ok(self.call(&Call::Bitmap { length })?.bytes)
     }
 
@@ -249,16 +253,21 @@ impl<L: Library> Disk<L> {
         Ok(Entry::of(&self.image, &output.entry))
     }
 
-    /// The first entry of that name, by a call for each place up to it. Names match byte for byte.
+    /// The first entry of that name. Names match byte for byte.
     pub fn find(&mut self, directory: u16, name: &[u8]) -> Result<Entry, Error> {
-        let mut place = 0;
-        loop {
-            let entry = self.entry(directory, place)?;
-            if entry.name == name {
-                return Ok(entry);
-            }
-            place += 1;
-        }
+        let output = self.call(&Call::Find { directory, name: name.to_vec() })?;
+        Ok(Entry::of(&self.image, &output.entry))
+    }
+
+    /// What the disk says of itself.
+    pub fn label(&mut self) -> Result<Label, Error> {
+        let [last_reserved, day, minute, tick, protection, at, length] = self.call(&Call::Label)?.label;
+        Ok(Label {
+            last_reserved: last_reserved as u16,
+            stamp: Stamp::new(day as u16, minute as u16, tick as u16),
+            protection: protection as u16,
+            name: self.image[at as usize..][..length as usize].to_vec(),
+        })
     }
 
     /// Bytes of a file.
@@ -324,9 +333,6 @@ pub struct List<'a, L: Library> {
     ended: bool,
 }
 
-/// What list answers for a place after the last entry.
-const NOT_THERE: u32 = 22;
-
 impl<L: Library> Iterator for List<'_, L> {
     type Item = Result<Entry, Error>;
 
@@ -338,7 +344,7 @@ impl<L: Library> Iterator for List<'_, L> {
         self.place += 1;
         self.ended = entry.is_err();
         match entry {
-            Err(error) if error.number() == NOT_THERE => None,
+            Err(Error::NotFound) => None,
             other => Some(other),
         }
     }

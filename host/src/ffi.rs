@@ -34,6 +34,8 @@ mod c {
         pfs_resize(*mut u8, directory: u16, name: *const u8, name_len: usize, size: u64);
         pfs_write(*mut u8, directory: u16, name: *const u8, name_len: usize, offset: u64, data: *const u8, data_len: usize);
         pfs_remove(*mut u8, directory: u16, name: *const u8, name_len: usize);
+        pfs_find(*const u8, directory: u16, name: *const u8, name_len: usize, fields: *mut u32);
+        pfs_label(*const u8, fields: *mut u32);
         pfs_bitmap(*const u8, bitmap: *mut u8, bitmap_len: usize);
         pfs_bitmap_differs(*const u8, bitmap: *const u8, bitmap_len: usize, fields: *mut u32);
     }
@@ -88,7 +90,7 @@ impl Library for Proved {
                 )
             };
         }
-        let Output { bytes, counts, entry, difference } = output;
+        let Output { bytes, counts, entry, difference, label } = output;
         // SAFETY: slices are handed on as pointer and length, and the fields have the lengths that `pfs.h` asks. A
         // slice that is lent to be written shares no byte with any other, which is all the interface asks.
         unsafe {
@@ -141,6 +143,10 @@ impl Library for Proved {
                 Call::BitmapDiffers { bitmap } => {
                     lend!(pfs_bitmap_differs, bitmap.as_ptr(), bitmap.len(), difference.as_mut_ptr())
                 }
+                Call::Find { directory, name } => {
+                    lend!(pfs_find, *directory, name.as_ptr(), name.len(), entry.as_mut_ptr())
+                }
+                Call::Label => lend!(pfs_label, label.as_mut_ptr()),
             }
         }
     }

@@ -65,11 +65,16 @@ pub fn random_call(tree: &Tree, trend: Trend, blocks: usize, free: usize, rng: &
 fn other_call(tree: &Tree, blocks: usize, rng: &mut Rng) -> Call {
     match rng.below(20) {
         0 => Call::Check,
+        1 if rng.percent(50) => Call::Label,
         1 => Call::Summary,
         2 if rng.percent(20) => random_format(blocks, rng),
         2 => bitmap_call(blocks, rng),
-        3..=6 => list_call(tree, rng),
-        7..=12 => write_call(tree, rng),
+        3..=5 => list_call(tree, rng),
+        6 | 7 => {
+            let (directory, name) = any_entry(tree, |_| true, rng);
+            Call::Find { directory, name }
+        }
+        8..=12 => write_call(tree, rng),
         _ => read_call(tree, rng),
     }
 }
@@ -277,17 +282,19 @@ pub fn follow(tree: &mut Tree, call: &Call, image: &[u8]) {
 }
 
 /// Every refusal from 20 to 27, by every call that can give it.
-pub const REFUSALS: [(u32, &str); 24] = [
+pub const REFUSALS: [(u32, &str); 26] = [
     (20, "format"),
     (20, "make"),
     (21, "read"),
     (21, "list"),
+    (21, "find"),
     (21, "make"),
     (21, "resize"),
     (21, "write"),
     (21, "remove"),
     (22, "read"),
     (22, "list"),
+    (22, "find"),
     (22, "resize"),
     (22, "write"),
     (22, "remove"),

@@ -3,7 +3,7 @@
 
 /// Each call by its label, with the KiB of stack that a thread must have to make it. Upper bounds with room to spare: more
 /// than the call takes, the start of the thread with it.
-pub const NEEDED: [(&str, usize); 13] = [
+pub const NEEDED: [(&str, usize); 15] = [
     ("format", 32),
     ("widen", 32),
     ("narrow", 32),
@@ -11,6 +11,8 @@ pub const NEEDED: [(&str, usize); 13] = [
     ("summary", 64),
     ("read", 64),
     ("list", 64),
+    ("find", 64),
+    ("label", 64),
     ("write", 64),
     ("bitmap", 64),
     ("bitmap_differs", 64),

@@ -126,7 +126,10 @@ impl Tree {
     /// other call is done, unless space stops it, of which the tree knows nothing.
     pub fn refusal(&self, call: &Call, blocks: usize) -> Option<u32> {
         let passed = match call {
-            Call::Check | Call::Summary | Call::Bitmap { .. } | Call::BitmapDiffers { .. } => Ok(()),
+            Call::Check | Call::Summary | Call::Label | Call::Bitmap { .. } | Call::BitmapDiffers { .. } => {
+                Ok(())
+            }
+            Call::Find { directory, name } => self.pass_name(*directory, name).map(drop),
             Call::Format { last_reserved, anode_blocks, name, .. } => {
                 pass_format(blocks, usize::from(*last_reserved), usize::from(*anode_blocks), name)
             }
@@ -208,6 +211,7 @@ impl Tree {
     pub fn apply(&mut self, call: &Call, made: u16) {
         match call {
             Call::Check | Call::Summary | Call::Read { .. } | Call::List { .. } => {}
+            Call::Find { .. } | Call::Label => {}
             Call::Bitmap { .. } | Call::BitmapDiffers { .. } => {}
             Call::Format { .. } => *self = Tree::default(),
             Call::Make { directory, kind, name, comment, stamp, protection } => {

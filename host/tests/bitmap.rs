@@ -21,8 +21,8 @@ fn call(call: &Call, image: &[u8], rng: &mut Rng) -> (u32, Vec<u8>, [u32; 2]) {
 
 /// The bitmap of a sound disk, made, held to 40 in buffers that do not fit, and compared with copies of it.
 fn try_disk(image: &[u8], rng: &mut Rng) -> Vec<u8> {
-    let disk = Disk::<Model>::new(image.to_vec());
-    let needed = length(image.len() / BLOCK, disk.last_reserved());
+    let label = Disk::<Model>::new(image.to_vec()).label().expect("the disk is sound");
+    let needed = length(image.len() / BLOCK, label.last_reserved);
     let (answer, bitmap, _) = call(&Call::Bitmap { length: needed }, image, rng);
     assert_eq!(answer, 0);
     for length in [needed + 1, needed.saturating_sub(1), needed + BITMAP_BLOCK, needed / 2] {

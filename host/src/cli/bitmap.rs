@@ -7,7 +7,7 @@ use std::os::unix::ffi::OsStrExt;
 use super::arguments::Arguments;
 use super::store::{self, load_sound, refused_disk};
 use super::{text, Done, Failure};
-use crate::bitmap::{length, place, Speaks};
+use crate::bitmap::{place, Speaks};
 use crate::calls::{Library, BLOCK};
 use crate::disk::Disk;
 
@@ -26,14 +26,13 @@ fn check<L: Library>(disk: &mut Disk<L>, own: &[u8], file: &OsStr, out: &mut dyn
     let bitmap = store::read(file)?;
     let about = text::show_os(file);
     let difference = disk.bitmap_difference(&bitmap).map_err(|error| {
-        let (blocks, last) = (disk.image().len() / BLOCK, disk.last_reserved());
-        let needed = length(blocks, last);
+        let needed = own.len();
         Failure::Refused(format!("{about}: {error}: {} bytes, and the disk needs {needed}", bitmap.len()))
     })?;
     let Some(byte) = difference else {
         return Ok(writeln!(out, "the bitmap is the disk's")?);
     };
-    let first = usize::from(disk.last_reserved()) + 1;
+    let first = usize::from(disk.label().map_err(refused_disk(file))?.last_reserved) + 1;
     writeln!(out, "{}", told(byte, bitmap[byte], own[byte], first, disk.image().len() / BLOCK))?;
     Err(Failure::Answered)
 }

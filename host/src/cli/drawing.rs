@@ -4,7 +4,7 @@ use std::collections::{HashMap, HashSet};
 
 use super::paths::Path;
 use super::text::Charset;
-use super::{walk, Failure};
+use super::{refused, walk, Failure};
 use crate::calls::{Library, ROOT};
 use crate::disk::{Disk, Kind, Owner};
 
@@ -85,7 +85,8 @@ impl BlockMap {
             Owner::Entry(_) => Use::File,
         };
         let blocks = disk.owners().map(|owner| (used(owner), owner)).collect();
-        Ok(BlockMap { blocks, paths, last_reserved: disk.last_reserved() })
+        let last_reserved = disk.label().map_err(refused(Path::root(charset)))?.last_reserved;
+        Ok(BlockMap { blocks, paths, last_reserved })
     }
 
     pub fn count(&self, used: Use) -> usize {

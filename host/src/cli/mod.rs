@@ -1,6 +1,5 @@
 //! The command line `pfs`, over any [`Library`]. It knows nothing of the format: paths are walked by list calls,
-//! and all that is told of a disk comes from the calls' answers and tables. The one field read from the image
-//! itself is last reserved, for the drawing of the map.
+//! and all that is told of a disk comes from the calls' answers and tables.
 //!
 //! * `arguments`, `help`: the words of a command line, and what is said about them.
 //! * `commands`, `put`, `map`: one function for each command.

@@ -207,21 +207,64 @@ pub fn list(
         reached(&survey, directory)?;
         let place = usize::try_from(place).map_err(|_| 22u32)?;
         let (number, entry) = entries(image, &survey.table, directory).nth(place).ok_or(22u32)?;
-        let start = usize::from(number) * BLOCK;
-        *fields = [
-            u32::from(entry.kind),
-            u32::from(entry.anode),
-            entry.size,
-            u32::from(entry.day),
-            u32::from(entry.minute),
-            u32::from(entry.tick),
-            u32::from(entry.protection),
-            (start + entry.at + ENTRY_NAME) as u32,
-            entry.name.len() as u32,
-            (start + entry.comment_at()) as u32,
-            entry.comment.len() as u32,
-        ];
+        *fields = entry_fields(number, &entry);
         Ok(())
+    });
+    number(result)
+}
+
+/// What list hands back of an entry in a block.
+fn entry_fields(number: u16, entry: &Entry) -> [u32; 11] {
+    let start = usize::from(number) * BLOCK;
+    [
+        u32::from(entry.kind),
+        u32::from(entry.anode),
+        entry.size,
+        u32::from(entry.day),
+        u32::from(entry.minute),
+        u32::from(entry.tick),
+        u32::from(entry.protection),
+        (start + entry.at + ENTRY_NAME) as u32,
+        entry.name.len() as u32,
+        (start + entry.comment_at()) as u32,
+        entry.comment.len() as u32,
+    ]
+}
+
+/// Answers the first entry of a name in a directory, in the fields of list.
+pub fn find_entry(
+    image: &[u8],
+    blocks: &mut [u16],
+    anodes: &mut [u16],
+    directory: u16,
+    name: &[u8],
+    fields: &mut [u32; 11],
+) -> u32 {
+    *fields = [0; 11];
+    let result = survey(image, blocks, anodes).and_then(|survey| {
+        let (number, entry) = find(image, &survey, directory, name)?;
+        *fields = entry_fields(number, &entry);
+        Ok(())
+    });
+    number(result)
+}
+
+/// Answers the disk's label: last reserved, day, minute, tick, protection, and its name's offset in the image and length.
+/// All 0 after a refusal.
+pub fn label(image: &[u8], blocks: &mut [u16], anodes: &mut [u16], fields: &mut [u32; 7]) -> u32 {
+    *fields = [0; 7];
+    let result = survey(image, blocks, anodes).map(|survey| {
+        let root = root(image);
+        let name = usize::from(ROOT_BLOCK) * BLOCK + ROOT_NAME + 1;
+        *fields = [
+            u32::from(survey.last_reserved),
+            u32::from(word(root, ROOT_DAY)),
+            u32::from(word(root, ROOT_MINUTE)),
+            u32::from(word(root, ROOT_TICK)),
+            u32::from(word(root, ROOT_PROTECTION)),
+            name as u32,
+            u32::from(root[ROOT_NAME]),
+        ];
     });
     number(result)
 }

@@ -1,7 +1,8 @@
 //! The model as a library of calls.
 
 use super::{
-    bitmap, bitmap_differs, check, format, list, make, read, remove, resize, summary, write, NewEntry,
+    bitmap, bitmap_differs, check, find_entry, format, label, list, make, read, remove, resize, summary,
+    write, NewEntry,
 };
 use crate::calls::{Call, Lent, Library, Output};
 
@@ -36,6 +37,10 @@ impl Library for Model {
             Call::BitmapDiffers { bitmap } => {
                 bitmap_differs(image, blocks, anodes, bitmap, &mut output.difference)
             }
+            Call::Find { directory, name } => {
+                find_entry(image, blocks, anodes, *directory, name, &mut output.entry)
+            }
+            Call::Label => label(image, blocks, anodes, &mut output.label),
         }
     }
 }

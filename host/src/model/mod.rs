@@ -25,7 +25,7 @@ mod space;
 mod totals;
 
 pub use bitmap::{bitmap, bitmap_differs};
-pub use calls::{format, list, make, read, remove, resize, summary, write, NewEntry};
+pub use calls::{find_entry, format, label, list, make, read, remove, resize, summary, write, NewEntry};
 pub use check::{check, survey, Survey};
 pub use library::Model;
 pub use totals::{totals, Totals};

@@ -38,7 +38,7 @@ fn a_full_disk_is_left_byte_for_byte() {
     folder.done(&["put", "disk.adf", "ten", "--as", "a"]);
     // Made, but not resized: nothing of it stays.
     let error = folder.fails(1, &["put", "disk.adf", "ten", "--as", "b"]);
-    assert_eq!(error, "pfs: b: 27: no block is free\n");
+    assert_eq!(error, "pfs: b: 27: not enough blocks are free\n");
     folder.done(&["resize", "disk.adf", "a", "7680"]);
     folder.fails(1, &["resize", "disk.adf", "a", "7681"]);
     folder.fails(1, &["mkdir", "disk.adf", "d"]);

@@ -9,7 +9,7 @@ use ovenknit_host::model::{self, Model};
 use ovenknit_host::rng::{seeded, Rng};
 use ovenknit_host::shapes::{disk_blocks, shaped, Recipe, Shaped};
 use ovenknit_host::starts::Start;
-use ovenknit_host::tree::{entry_length, Tree};
+use ovenknit_host::tree::{entry_length, Node, Tree};
 
 use crate::checks::compare_with_junk;
 
@@ -167,7 +167,15 @@ impl History {
             Call::Read { directory, name, offset, .. } => {
                 assert_eq!(output.bytes, self.tree.content(*directory, name, *offset, output.bytes.len()));
             }
-            Call::List { directory, place } => self.compare_entry(*directory, *place, &output.entry),
+            Call::List { directory, place } => {
+                let node = self.tree.listed(*directory, *place).expect("the place is there");
+                self.compare_entry(node, &output.entry);
+            }
+            Call::Find { directory, name } => {
+                let node = self.tree.find(*directory, name).expect("the name is there");
+                self.compare_entry(node, &output.entry);
+            }
+            Call::Label => self.compare_label(&output.label),
             Call::Bitmap { .. } => {
                 // As many bits as free blocks behind last reserved.
                 let (mut owners, mut heads) = tables(&self.image);
@@ -189,15 +197,23 @@ impl History {
     fn compare_refused_output(&self, call: &Call, outcome: &Outcome) {
         assert!(outcome.output.bytes.iter().all(|&byte| byte == UNREAD));
         match call {
-            Call::List { .. } => assert_eq!(outcome.output.entry, [0; 11]),
+            Call::List { .. } | Call::Find { .. } => assert_eq!(outcome.output.entry, [0; 11]),
+            Call::Label => assert_eq!(outcome.output.label, [0; 7]),
             Call::Summary => assert_eq!(outcome.output.counts, [0; 4]),
             Call::BitmapDiffers { .. } => assert_eq!(outcome.output.difference, [0; 2]),
             _ => {}
         }
     }
 
-    fn compare_entry(&self, directory: u16, place: u64, fields: &[u32; 11]) {
-        let node = self.tree.listed(directory, place).expect("the place is there");
+    /// The label is what stands in the root block.
+    fn compare_label(&self, fields: &[u32; 7]) {
+        let root = &self.image[2 * BLOCK..][..BLOCK];
+        let number = |at: usize| u32::from(root[at]) * 256 + u32::from(root[at + 1]);
+        assert_eq!(fields[..5], [54, 12, 14, 16, 18].map(number));
+        assert_eq!(fields[5..], [1_045, u32::from(root[20])]);
+    }
+
+    fn compare_entry(&self, node: &Node, fields: &[u32; 11]) {
         let numbers = [
             u32::from(node.entry.kind.type_byte()),
             u32::from(node.entry.anode),

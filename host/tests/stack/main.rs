@@ -34,6 +34,8 @@ fn run_every_call<L: Library>(mut image: Vec<u8>, size: u64) {
         Call::Write { directory, name: file.clone(), offset: 100, data: vec![7; 4_000] },
         Call::Read { directory, name: file.clone(), offset: 50, length: 4_500 },
         Call::List { directory, place: 1 },
+        Call::Find { directory, name: file.clone() },
+        Call::Label,
         Call::Summary,
         Call::Bitmap { length: bitmap.len() },
         Call::BitmapDiffers { bitmap },
