@@ -284,6 +284,11 @@ impl<L: Library> Disk<L> {
         self.call(&call).map(|output| output.bytes)
     }
 
+    /// All bytes of the file of an entry in a directory.
+    pub fn read_file(&mut self, directory: u16, entry: &Entry) -> Result<Vec<u8>, Error> {
+        self.read(directory, &entry.name, 0, entry.size as usize)
+    }
+
     /// Makes an empty file or directory.
     pub fn make(&mut self, directory: u16, new: &New) -> Result<(), Error> {
         let kind = new.kind.type_byte();

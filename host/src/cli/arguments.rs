@@ -5,6 +5,7 @@ use std::str::FromStr;
 
 use super::help::Syntax;
 use super::paths::Path;
+use super::patterns::Pattern;
 use super::text::{self, Charset};
 use super::{stamps, Failure};
 use crate::calls::Stamp;
@@ -113,6 +114,12 @@ impl Arguments {
         path.map_err(|wrong| self.trouble(format!("{}: {wrong}", text::show_os(word))))
     }
 
+    /// A path in a word, perhaps with wildcards.
+    pub fn pattern(&self, word: &OsStr) -> Result<Pattern, Failure> {
+        let pattern = Pattern::parse(word.as_encoded_bytes(), self.charset());
+        pattern.map_err(|wrong| self.trouble(format!("{}: {wrong}", text::show_os(word))))
+    }
+
     /// The bytes of an option that is a text with escapes.
     pub fn text(&self, option: &str) -> Result<Option<Vec<u8>>, Failure> {
         let value = self.value(option).map(|value| self.charset().bytes(value)).transpose();
@@ -124,10 +131,38 @@ impl Arguments {
         self.value(option).map_or(Ok(default), |value| self.parsed(option, value))
     }
 
-    /// An operand that is a number.
-    pub fn number_operand(&self, place: usize) -> Result<u64, Failure> {
+    /// An operand that is a number of bytes, of 1,024 bytes with a `K` behind it, or of 1,048,576 with an `M`.
+    pub fn size(&self, place: usize) -> Result<u64, Failure> {
         let word = self.operand(place);
-        self.parsed(&text::show_os(word), word.as_encoded_bytes())
+        let (digits, unit) = match word.as_encoded_bytes() {
+            [digits @ .., b'K' | b'k'] => (digits, 1 << 10),
+            [digits @ .., b'M' | b'm'] => (digits, 1 << 20),
+            digits => (digits, 1),
+        };
+        let number: u64 = self.parsed(&text::show_os(word), digits)?;
+        number.checked_mul(unit).ok_or_else(|| self.trouble(format!("{}: too large", text::show_os(word))))
+    }
+
+    /// The option `--protection`: a number, or the letters of `ls`.
+    fn bits(&self, most: u16) -> Result<u16, Failure> {
+        let Some(value) = self.value("--protection") else {
+            return Ok(0);
+        };
+        let number = str::from_utf8(value).ok().and_then(|value| value.parse().ok());
+        let bits = number.or_else(|| letters(value)).filter(|&bits| bits <= most);
+        bits.ok_or_else(|| {
+            self.trouble(format!("--protection: not a number up to {most}, nor letters of hsparwed"))
+        })
+    }
+
+    /// The protection bits of an entry.
+    pub fn protection(&self) -> Result<u8, Failure> {
+        self.bits(255).map(|bits| bits as u8)
+    }
+
+    /// The protection bits of a disk.
+    pub fn disk_protection(&self) -> Result<u16, Failure> {
+        self.bits(u16::MAX)
     }
 
     fn parsed<N: FromStr>(&self, what: &str, word: &[u8]) -> Result<N, Failure> {
@@ -148,5 +183,29 @@ impl Arguments {
     /// The option `--date`, or the clock.
     pub fn stamp(&self) -> Result<Stamp, Failure> {
         Ok(self.date()?.unwrap_or_else(stamps::now))
+    }
+}
+
+/// The protection bits that some letters stand for: each letter that is there allows or sets what it stands for, as `ls`
+/// shows them.
+fn letters(text: &[u8]) -> Option<u16> {
+    let mut bits = 0x0F;
+    for letter in text.iter().filter(|&&letter| letter != b'-') {
+        let place = b"dewrapsh".iter().position(|other| other == letter)?;
+        bits ^= 1 << place;
+    }
+    let repeated = text.iter().enumerate().any(|(at, letter)| *letter != b'-' && text[..at].contains(letter));
+    (!text.is_empty() && !repeated).then_some(bits)
+}
+
+#[cfg(test)]
+mod tests {
+    use super::*;
+
+    #[test]
+    fn protection_by_letters() {
+        let bits = [&b"rwed"[..], b"----rwed", b"rw", b"hsparwed", b"-", b"p", b"der"].map(letters);
+        assert_eq!(bits, [Some(0), Some(0), Some(3), Some(0xF0), Some(0x0F), Some(0x2F), Some(4)]);
+        assert_eq!([&b""[..], b"x", b"rr", b"rwed "].map(letters), [None; 4]);
     }
 }

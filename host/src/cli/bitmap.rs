@@ -34,7 +34,7 @@ fn check<L: Library>(disk: &mut Disk<L>, own: &[u8], file: &OsStr, out: &mut dyn
     };
     let first = usize::from(disk.label().map_err(refused_disk(file))?.last_reserved) + 1;
     writeln!(out, "{}", told(byte, bitmap[byte], own[byte], first, disk.image().len() / BLOCK))?;
-    Err(Failure::Answered)
+    Err(Failure::Answered(1))
 }
 
 /// A difference in words: the byte, its bitmap block, and the first disk block whose bit differs. The bits begin with disk

@@ -52,7 +52,7 @@ macro_rules! new_entry {
     () => {
         "
   --comment TEXT  up to 79 bytes
-  --protection N  the byte of protection bits, 0 if not given
+  --protection P  the letters of ls, as rwed or ----rwe-, or a number up to 255; 0, which is ----rwed, if not given
   --date D        as YYYY-MM-DD or YYYY-MM-DDTHH:MM:SS, in UTC"
     };
 }
@@ -60,21 +60,22 @@ macro_rules! new_entry {
 pub const COMMANDS: &[Syntax] = &[
     Syntax {
         name: "info",
-        operands: &["DISK"],
+        operands: &["DISK.."],
         flags: &[JSON],
         options: &[],
-        short: "size, free blocks, files and directories",
-        long: concat!("Prints the disk's blocks and bytes, its free blocks, files and directories (with the root), and its anodes in use
+        short: "name, date, size, free blocks, files and directories",
+        long: concat!("Prints each disk's name, date and protection, its blocks and bytes, its free blocks, files and directories (with the root), and its anodes in use
 (anode 0 not counted).
 ", json!()),
     },
     Syntax {
         name: "check",
-        operands: &["DISK"],
+        operands: &["DISK.."],
         flags: &[JSON],
         options: &[],
         short: "whether the disk is sound",
-        long: concat!("Prints 0 for a disk that is accepted, else the number of the first rule that it breaks, and in words what it means.
+        long: concat!("Prints 0 for a disk that is accepted, else the number of the first rule that it breaks, and in words what it means. Of
+several disks the exit status is the highest.
 
 Accepted means that every block has one owner and that directories, names and sizes fit together. It says nothing of the
 bytes inside files: the format keeps no sum to check them by, so a file that was stored wrong, or changed by hand, is
@@ -83,12 +84,12 @@ accepted like any other.
     },
     Syntax {
         name: "ls",
-        operands: &["DISK", "[PATH]"],
+        operands: &["DISK", "[PATH..]"],
         flags: &[JSON],
         options: &[],
         short: "the entries of a directory",
-        long: concat!("Prints each entry's type, size, protection, date and time, name and comment; of the root without PATH. If PATH is
-a file, prints that entry.
+        long: concat!("Prints type, size, protection, date and time, name and comment of each entry of the directory PATH, or of the root. A
+file, or several entries, are shown as themselves.
 
 Dates and times are shown as they are stored. This program stores UTC; a machine that kept its own clock stored that.
 A name is in quotes unless it is a plain word, a comment always. In both \\xNN is a byte that cannot be shown, or a quote.
@@ -106,34 +107,37 @@ it is a plain word.
     },
     Syntax {
         name: "cat",
-        operands: &["DISK", "PATH"],
+        operands: &["DISK", "PATH.."],
         flags: &[],
         options: &[],
-        short: "print a file",
-        long: "Writes the bytes of a file to standard output.",
+        short: "print files",
+        long: "Writes the bytes of files to standard output, one after the other.",
     },
     Syntax {
         name: "get",
-        operands: &["DISK", "PATH", "[FILE]"],
-        flags: &["--force", "--no-times"],
+        operands: &["DISK", "PATH..", "[FILE]"],
+        flags: &["-r", "--force", "--no-times"],
         options: &[],
-        short: "copy a file from the disk",
-        long: "Copies a file of the disk to FILE, or to a file of the same name in this folder. It has the date and time that it has
-on the disk, read as UTC; where no clock shows them, those of the copy.
+        short: "copy files from the disk",
+        long: "Copies a file of the disk to FILE (- is standard output), to a file of the same name in the folder FILE, or in this
+folder. Several files go into a folder. Each has the date and time that it has on the disk, read as UTC; where no clock
+shows them, those of the copy.
 
-  --force         replace FILE if it is there
-  --no-times      leave its date and time those of the copy",
+  -r              take directories too, with all that is in them
+  --force         replace files that are there
+  --no-times      leave date and time those of the copy",
     },
     Syntax {
         name: "put",
         operands: &["DISK", "FILE..", "[DIR/]"],
-        flags: &["--force", "--keep", "--no-times"],
+        flags: &["-r", "--force", "--keep", "--no-times"],
         options: &["--as", "--comment", "--protection", "--date"],
         short: "copy files onto the disk",
         long: concat!("Copies files into DIR, a directory of the disk, or a single one into the root. All of them are copied, or none: the
 disk file is replaced once. A file has its own date and time on the disk, in UTC.
 
   --as PATH       the one FILE, or - for standard input, goes to PATH
+  -r              take folders too, with all that is in them
   --force         replace files that are there; they get the new date, protection and comment
   --keep          replace them too, but they keep date, protection and comment
   --no-times      the date and time of the clock, not of the file",
@@ -141,20 +145,47 @@ disk file is replaced once. A file has its own date and time on the disk, in UTC
     },
     Syntax {
         name: "mkdir",
-        operands: &["DISK", "PATH"],
-        flags: &[],
+        operands: &["DISK", "PATH.."],
+        flags: &["-p"],
         options: NEW_ENTRY,
-        short: "make a directory",
-        long: concat!("Makes an empty directory.
-", new_entry!(), "; the clock's if not given"),
+        short: "make directories",
+        long: concat!("Makes empty directories.
+
+  -p              make those that lead to them too, and say nothing of those that are there",
+            new_entry!(), "; the clock's if not given"),
     },
     Syntax {
         name: "rm",
-        operands: &["DISK", "PATH"],
-        flags: &[],
+        operands: &["DISK", "PATH.."],
+        flags: &["-r"],
         options: &[],
-        short: "remove a file or an empty directory",
-        long: "Removes a file or an empty directory.",
+        short: "remove files and directories",
+        long: "Removes files and empty directories: all that are named, or none.
+
+  -r              take directories with all that is in them",
+    },
+    Syntax {
+        name: "mv",
+        operands: &["DISK", "FROM..", "TO"],
+        flags: &["--force"],
+        options: &[],
+        short: "move or rename within the disk",
+        long: "Moves files and directories to the directory TO, or one of them to the path TO, which is then its new name. They keep
+date, protection and comment. All of them are moved, or none.
+
+  --force         replace files that are there",
+    },
+    Syntax {
+        name: "cp",
+        operands: &["DISK", "FROM..", "TO"],
+        flags: &["-r", "--force"],
+        options: &[],
+        short: "copy within the disk",
+        long: "Copies files into the directory TO, or one of them to the path TO. They keep date, protection and comment. All of them
+are copied, or none.
+
+  -r              take directories too, with all that is in them
+  --force         replace files that are there",
     },
     Syntax {
         name: "resize",
@@ -162,7 +193,8 @@ disk file is replaced once. A file has its own date and time on the disk, in UTC
         flags: &[],
         options: &[],
         short: "give a file another size",
-        long: "Gives a file a size in bytes. Bytes that come new are 0.",
+        long: "Gives a file a size in bytes; with a K behind it in units of 1024 bytes, with an M of 1048576. Bytes that come new
+are 0.",
     },
     Syntax {
         name: "format",
@@ -176,7 +208,7 @@ disk file is replaced once. A file has its own date and time on the disk, in UTC
   --reserved L      last block of the part where directories go first; 63 of 1760 blocks, and that share of others
   --anode-blocks K  1 to 42; one for each 880 blocks if not given
   --name NAME       1 to 31 bytes; the file's name without its ending if not given
-  --protection N    the disk's protection bits, 0 if not given
+  --protection P    the disk's protection bits, as letters or a number up to 65535; 0 if not given
   --date D          as YYYY-MM-DD or YYYY-MM-DDTHH:MM:SS; the clock's date and time (UTC) if not given
   --force           replace DISK if it is there; all that it holds is lost",
     },
@@ -239,8 +271,11 @@ pub fn whole() -> String {
         help += &format!("  {:<10}{}\n", syntax.name, syntax.short);
     }
     help + "
-`pfs COMMAND --help` tells more. PATH is like recipes/pack7; in it, \\xNN is any byte and \\\\ a backslash.
-Exit status: 0 done, 1 refused by the disk's rules, 2 bad usage or a file that cannot be read or written.
+`pfs COMMAND --help` tells more. PATH is like recipes/pack7. In it * stands for any letters of a name and ? for one, unless
+the name is there just so; quote it for the shell. In paths, names and comments \\xNN is any byte and \\\\ a backslash. With
+--latin1 they are text in Latin-1, else in UTF-8. A disk that is only looked at may be -, which is standard input.
+
+Exit status: 0 done, 1 refused by the disk's rules, 2 bad usage or a file that cannot be read or written, 3 a damaged disk.
 A command that changes a disk replaces the disk file as a whole, or leaves it as it was.
 "
 }

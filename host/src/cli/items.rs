@@ -1,13 +1,17 @@
 //! Files and directories on their way from one place to another: from here to a disk, back, or within a disk.
 
+use std::collections::HashMap;
 use std::ffi::OsStr;
 use std::fs;
 use std::io;
 use std::path::{Path as HostPath, PathBuf};
 
+use super::facts::{self, Told};
 use super::paths::Path;
+use super::progress::Progress;
 use super::store;
 use super::text::{self, Charset};
+use super::walk::{self, Found};
 use super::{refused, stamps, Done, Failure};
 use crate::calls::{Library, Stamp};
 use crate::disk::{Disk, Error, Kind, New};
@@ -55,9 +59,37 @@ pub enum Present {
     Keep,
 }
 
-/// What calls answer if the name is there, and if a directory is where a file is needed.
-const THERE: u32 = 23;
-const IS_DIRECTORY: u32 = 24;
+/// How many files, directories and bytes.
+#[derive(Clone, Copy, Debug, Default, PartialEq, Eq)]
+pub struct Count {
+    pub files: usize,
+    pub directories: usize,
+    pub bytes: usize,
+}
+
+impl Count {
+    pub fn add(&mut self, other: Count) {
+        self.files += other.files;
+        self.directories += other.directories;
+        self.bytes += other.bytes;
+    }
+
+    /// `2 files and 1 directory, 1540 bytes`.
+    pub fn words(&self) -> String {
+        let many = |count: usize, one: &str, several: &str| match count {
+            1 => format!("1 {one}"),
+            _ => format!("{count} {several}"),
+        };
+        format!(
+            "{} and {}, {}",
+            many(self.files, "file", "files"),
+            many(self.directories, "directory", "directories"),
+            many(self.bytes, "byte", "bytes")
+        )
+    }
+}
+
+// ---- from here
 
 impl Bundle {
     /// A single file.
@@ -66,25 +98,100 @@ impl Bundle {
         Bundle { items: vec![Item { parent: None, name, stamp, protection, comment, bytes: Some(bytes) }] }
     }
 
-    /// A file from here.
-    pub fn from_here(file: &OsStr, name: Vec<u8>, fields: &Fields) -> Result<Self, Failure> {
-        let stamp = own_date(HostPath::new(file), fields)?;
-        Ok(Bundle::file(name, store::read(file)?, stamp, fields))
+    /// A file from here or, if folders are taken too, a folder with all that is in it.
+    pub fn from_here(file: &OsStr, name: Vec<u8>, folders: bool, fields: &Fields) -> Result<Self, Failure> {
+        let mut items = Vec::new();
+        let mut sources = vec![(PathBuf::from(file), None, name)];
+        while let Some((source, parent, name)) = sources.pop() {
+            let stamp = own_date(&source, fields)?;
+            let bytes = match folders && source.is_dir() {
+                true => None,
+                false => Some(store::read(source.as_os_str())?),
+            };
+            if bytes.is_none() {
+                let mut inside = names_in(&source, fields.charset)?;
+                inside.sort_by(|one, other| other.1.cmp(&one.1));
+                sources.extend(inside.into_iter().map(|(path, name)| (path, Some(items.len()), name)));
+            }
+            let (protection, comment) = (fields.protection, fields.comment.clone());
+            items.push(Item { parent, name, stamp, protection, comment, bytes });
+        }
+        Ok(Bundle { items })
     }
 
-    /// The path of an item that goes into a directory.
-    fn path(&self, directory: &Path, place: usize) -> Path {
+    pub fn count(&self) -> Count {
+        let files = self.items.iter().filter_map(|item| item.bytes.as_ref());
+        let (files, bytes) = files.fold((0, 0), |(files, bytes), file| (files + 1, bytes + file.len()));
+        Count { files, directories: self.items.len() - files, bytes }
+    }
+
+    /// The names from the first item down to this one.
+    fn names(&self, place: usize) -> Vec<&[u8]> {
         let mut names = Vec::new();
         let mut at = Some(place);
         while let Some(place) = at {
-            names.push(&self.items[place].name);
+            names.push(self.items[place].name.as_slice());
             at = self.items[place].parent;
         }
-        names.iter().rev().fold(directory.clone(), |path, name| path.join(name))
+        names.reverse();
+        names
     }
+}
 
+/// What is in a folder, with the names that it has on the disk. Only files and folders are copied.
+fn names_in(folder: &HostPath, charset: Charset) -> Result<Vec<(PathBuf, Vec<u8>)>, Failure> {
+    let mut inside = Vec::new();
+    for entry in fs::read_dir(folder).map_err(trouble(folder))? {
+        let entry = entry.map_err(trouble(folder))?;
+        let (path, kind) = (entry.path(), entry.file_type().map_err(trouble(folder))?);
+        if !kind.is_file() && !kind.is_dir() {
+            let shown = text::show_os(path.as_os_str());
+            return Err(Failure::Trouble(format!(
+                "{shown}: neither a file nor a folder, so it cannot be copied"
+            )));
+        }
+        let name = name_on_disk(path.as_os_str(), charset);
+        let wrong = |wrong: String| Failure::Trouble(format!("{}: {wrong}", text::show_os(path.as_os_str())));
+        inside.push((path.clone(), name.map_err(wrong)?));
+    }
+    Ok(inside)
+}
+
+fn trouble(path: &HostPath) -> impl FnOnce(io::Error) -> Failure + '_ {
+    move |error| Failure::Trouble(format!("{}: {error}", text::show_os(path.as_os_str())))
+}
+
+/// The date that the options give, else the file's own.
+fn own_date(file: &HostPath, fields: &Fields) -> Result<Stamp, Failure> {
+    let Some(date) = fields.date else {
+        let time = fs::metadata(file).and_then(|metadata| metadata.modified()).map_err(trouble(file))?;
+        let outside = || {
+            let shown = text::show_os(file.as_os_str());
+            let wrong = "its date is before 1978-01-01 or after 2157-06-06; give --date or --no-times";
+            Failure::Trouble(format!("{shown}: {wrong}"))
+        };
+        return stamps::of_time(time).ok_or_else(outside);
+    };
+    Ok(date)
+}
+
+/// The name of a file here on the disk.
+pub fn name_on_disk(file: &OsStr, charset: Charset) -> Result<Vec<u8>, String> {
+    let name = HostPath::new(file).file_name().ok_or("no name of its own; give --as PATH")?;
+    Ok(charset.disk_name(name)?)
+}
+
+// ---- to a disk
+
+impl Bundle {
     /// Puts it all into a directory of the disk. A directory that is there already takes what comes in.
-    pub fn store<L: Library>(&self, disk: &mut Disk<L>, at: &Path, present: Present) -> Done {
+    pub fn store<L: Library>(
+        &self,
+        disk: &mut Disk<L>,
+        at: &Path,
+        present: Present,
+        progress: &mut Progress,
+    ) -> Done {
         let top = at.directory(disk)?;
         let mut numbers: Vec<u16> = Vec::new();
         for (place, item) in self.items.iter().enumerate() {
@@ -93,7 +200,9 @@ impl Bundle {
                 Some(bytes) => store_file(disk, directory, item, bytes, present).map(|()| 0),
                 None => store_directory(disk, directory, item),
             };
-            numbers.push(stored.map_err(|error| refused(self.path(at, place))(error))?);
+            let path = || self.names(place).into_iter().fold(at.clone(), |path, name| path.join(name));
+            numbers.push(stored.map_err(|told| told.about(path()))?);
+            progress.step();
         }
         Ok(())
     }
@@ -105,13 +214,16 @@ fn store_file<L: Library>(
     item: &Item,
     bytes: &[u8],
     present: Present,
-) -> Result<(), Error> {
-    match disk.make(directory, &item.entry()) {
-        Err(there) if there.number() == THERE => replace_file(disk, directory, item, present, there)?,
+) -> Result<(), Told> {
+    match facts::make(disk, directory, &item.entry()) {
+        Err(told) if told.error == Error::AlreadyThere => replace_file(disk, directory, item, present)?,
         made => made?,
     }
-    disk.resize(directory, &item.name, bytes.len() as u64)?;
-    disk.write(directory, &item.name, 0, bytes)
+    if !bytes.is_empty() || present == Present::Keep {
+        facts::resize(disk, directory, &item.name, bytes.len() as u64)?;
+        disk.write(directory, &item.name, 0, bytes)?;
+    }
+    Ok(())
 }
 
 /// Makes the new one in place of a file that is there, unless that is to stay; a directory there is never replaced.
@@ -120,52 +232,168 @@ fn replace_file<L: Library>(
     directory: u16,
     item: &Item,
     present: Present,
-    there: Error,
-) -> Result<(), Error> {
-    if present == Present::Refuse {
-        return Err(there);
+) -> Result<(), Told> {
+    let there = disk.find(directory, &item.name)?;
+    match (present, there.kind) {
+        (Present::Refuse, Kind::File) => Err(Told::new(Error::AlreadyThere, "--force replaces it")),
+        (Present::Refuse, Kind::Directory) => Err(Error::AlreadyThere.into()),
+        (_, Kind::Directory) => Err(Error::IsDirectory.into()),
+        (Present::Replace, Kind::File) => {
+            disk.remove(directory, &item.name)?;
+            facts::make(disk, directory, &item.entry())
+        }
+        (Present::Keep, Kind::File) => Ok(()),
     }
-    if disk.find(directory, &item.name)?.kind == Kind::Directory {
-        return Error::of(IS_DIRECTORY);
-    }
-    if present == Present::Replace {
-        disk.remove(directory, &item.name)?;
-        disk.make(directory, &item.entry())?;
-    }
-    Ok(())
 }
 
 /// Makes a directory, or takes one that is there, and answers its number.
-fn store_directory<L: Library>(disk: &mut Disk<L>, directory: u16, item: &Item) -> Result<u16, Error> {
-    let made = disk.make(directory, &item.entry());
-    let entry = disk.find(directory, &item.name);
-    match (made, entry) {
-        (Err(there), Ok(entry)) if there.number() == THERE && entry.kind == Kind::Directory => {
-            Ok(entry.anode)
-        }
-        (made, entry) => made.and(entry).map(|entry| entry.anode),
+fn store_directory<L: Library>(disk: &mut Disk<L>, directory: u16, item: &Item) -> Result<u16, Told> {
+    let made = facts::make(disk, directory, &item.entry());
+    match made {
+        Err(told) if told.error != Error::AlreadyThere => return Err(told),
+        _ => {}
+    }
+    let entry = disk.find(directory, &item.name)?;
+    match entry.kind {
+        Kind::Directory => Ok(entry.anode),
+        Kind::File => Err(Told::new(Error::AlreadyThere, "a file, and a directory is to come there")),
     }
 }
 
-/// The date that the options give, else the file's own.
-fn own_date(file: &HostPath, fields: &Fields) -> Result<Stamp, Failure> {
-    let Some(date) = fields.date else {
-        let shown = text::show_os(file.as_os_str());
-        let time = fs::metadata(file).and_then(|metadata| metadata.modified());
-        let time = time.map_err(|error: io::Error| Failure::Trouble(format!("{shown}: {error}")))?;
-        let outside = || {
-            Failure::Trouble(format!(
-                "{shown}: its date is before 1978-01-01 or after 2157-06-06; give --date or --no-times"
-            ))
+// ---- from a disk
+
+impl Bundle {
+    /// A file of the disk or, if directories are taken too, a directory with all that is in it.
+    pub fn from_disk<L: Library>(
+        disk: &mut Disk<L>,
+        found: Found,
+        directories: bool,
+        progress: &mut Progress,
+    ) -> Result<Self, Failure> {
+        let all = match directories {
+            true => walk::with_all_below(disk, found)?,
+            false => vec![found],
         };
-        return stamps::of_time(time).ok_or_else(outside);
-    };
-    Ok(date)
+        let mut places: HashMap<u16, usize> = HashMap::new();
+        let mut items = Vec::new();
+        for Found { path, directory, entry } in all {
+            let bytes = match entry.kind == Kind::Directory && directories {
+                true => None,
+                false => Some(disk.read_file(directory, &entry).map_err(refused(&path))?),
+            };
+            if bytes.is_none() {
+                places.insert(entry.anode, items.len());
+            }
+            items.push(Item {
+                parent: places.get(&directory).copied(),
+                name: entry.name,
+                stamp: entry.stamp,
+                protection: entry.protection,
+                comment: entry.comment,
+                bytes,
+            });
+            progress.step();
+        }
+        Ok(Bundle { items })
+    }
 }
 
-/// The name of a file here on the disk.
-pub fn name_on_disk(file: &OsStr, charset: Charset) -> Result<Vec<u8>, String> {
-    let name = PathBuf::from(file);
-    let name = name.file_name().ok_or("no name of its own; give --as PATH")?;
-    Ok(charset.disk_name(name)?)
+/// Removes an entry or, if that is asked for, a directory with all that is in it. Says how much went.
+pub fn remove<L: Library>(
+    disk: &mut Disk<L>,
+    found: Found,
+    directories: bool,
+    progress: &mut Progress,
+) -> Result<Count, Failure> {
+    let all = match directories {
+        true => walk::with_all_below(disk, found)?,
+        false => vec![found],
+    };
+    let mut count = Count::default();
+    for Found { path, directory, entry } in all.into_iter().rev() {
+        disk.remove(directory, &entry.name).map_err(refused(&path))?;
+        match entry.kind {
+            Kind::Directory => count.directories += 1,
+            Kind::File => {
+                count.files += 1;
+                count.bytes += entry.size as usize;
+            }
+        }
+        progress.step();
+    }
+    Ok(count)
+}
+
+// ---- to here
+
+/// How things are written here.
+pub struct Here {
+    pub force: bool,
+    pub times: bool,
+    pub charset: Charset,
+}
+
+impl Bundle {
+    /// Where each item goes if the first goes to a path.
+    fn targets(&self, first: &HostPath, here: &Here) -> Result<Vec<PathBuf>, Failure> {
+        let mut targets: Vec<PathBuf> = Vec::new();
+        for item in &self.items {
+            let Some(parent) = item.parent else {
+                targets.push(first.to_path_buf());
+                continue;
+            };
+            let name = here.charset.file_name(&item.name).ok_or_else(|| no_name(&item.name, here.charset))?;
+            targets.push(targets[parent].join(name));
+        }
+        Ok(targets)
+    }
+
+    /// Writes it here, the first item to a path. Nothing is written where something is there already, but by force.
+    pub fn write_here(&self, first: &HostPath, here: &Here, progress: &mut Progress) -> Done {
+        let targets = self.targets(first, here)?;
+        for (item, target) in self.items.iter().zip(&targets) {
+            may_write(item, target, here)?;
+        }
+        let mut made = Vec::new();
+        for (item, target) in self.items.iter().zip(&targets) {
+            let time = stamps::time(item.stamp).filter(|_| here.times);
+            match &item.bytes {
+                Some(bytes) => store::write_copy(target.as_os_str(), bytes, time)?,
+                None if target.is_dir() => {}
+                None => {
+                    fs::create_dir(target).map_err(trouble(target))?;
+                    made.extend(time.map(|time| (target, time)));
+                }
+            }
+            progress.step();
+        }
+        // Last, for what is written into a folder changes its date.
+        for (folder, time) in made.into_iter().rev() {
+            fs::File::open(folder).and_then(|folder| folder.set_modified(time)).map_err(trouble(folder))?;
+        }
+        Ok(())
+    }
+}
+
+/// No file here can have that name.
+pub fn no_name(name: &[u8], charset: Charset) -> Failure {
+    let name = charset.quoted(name);
+    Failure::Trouble(format!(
+        "{name}: no file here can have that name: give FILE, or --latin1 if it is text in Latin-1"
+    ))
+}
+
+/// What is there under a name, a link that leads nowhere too, is replaced only by force, and a folder takes a folder in.
+fn may_write(item: &Item, target: &HostPath, here: &Here) -> Done {
+    let there = fs::symlink_metadata(target).is_ok();
+    let trouble = |wrong: &str| {
+        let shown = text::show_os(target.as_os_str());
+        Err(Failure::Trouble(format!("{shown}: {wrong}")))
+    };
+    match (there, target.is_dir(), &item.bytes) {
+        (true, true, Some(_)) => trouble("a folder is there already"),
+        (true, false, None) => trouble("there already, and no folder"),
+        (true, false, Some(_)) if !here.force => trouble("there already; --force replaces it"),
+        _ => Ok(()),
+    }
 }

@@ -3,21 +3,27 @@
 use std::io::Write;
 
 use super::arguments::Arguments;
-use super::commands::write_json;
 use super::drawing::{BlockMap, Run, USES};
 use super::help::JSON;
 use super::json::Json;
+use super::looks::write_json;
 use super::paths::Path;
-use super::store::load_sound;
-use super::{svg, text, Done};
+use super::store;
+use super::{svg, text, Done, Failure};
 use crate::calls::{Library, BLOCK};
+use crate::disk::Disk;
 
 /// The blocks in a row of the map.
 const WIDTH: usize = 64;
 
+/// The blocks of the disk and who owns them.
+fn drawn<L: Library>(arguments: &Arguments) -> Result<BlockMap, Failure> {
+    store::look(arguments.operand(0), |disk: &mut Disk<L>| BlockMap::of(disk, arguments.charset()))
+}
+
 pub fn df<L: Library>(arguments: &Arguments, out: &mut dyn Write) -> Done {
     let name = arguments.operand(0);
-    let map = BlockMap::of(&mut load_sound::<L>(name)?, arguments.charset())?;
+    let map = drawn::<L>(arguments)?;
     let all = map.blocks.len();
     if arguments.has(JSON) {
         let uses = USES.iter().map(|&(used, _, name, _)| (name, map.count(used)));
@@ -45,7 +51,7 @@ pub fn map<L: Library>(arguments: &Arguments, out: &mut dyn Write) -> Done {
         return Err(arguments.trouble("one of --svg, --owners and --json"));
     }
     let name = arguments.operand(0);
-    let map = BlockMap::of(&mut load_sound::<L>(name)?, arguments.charset())?;
+    let map = drawn::<L>(arguments)?;
     if arguments.has(JSON) {
         return write_json(object(text::os(name), &map), out);
     }

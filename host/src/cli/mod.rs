@@ -2,24 +2,30 @@
 //! and all that is told of a disk comes from the calls' answers and tables.
 //!
 //! * `arguments`, `help`: the words of a command line, and what is said about them.
-//! * `commands`, `put`, `map`: one function for each command.
-//! * `bitmap`: free space as the hard disk edition's bitmap.
+//! * `looks`, `get`, `put`, `change`, `map`, `bitmap`: the commands.
 //! * `settings`: settings files, the one thing that is no disk.
-//! * `store`: disk files, replaced as a whole or not at all.
-//! * `paths`, `walk`: from names to entries, and all entries of a disk.
-//! * `stamps`, `text`, `json`: dates and names as people write them, and values for programs.
 //! * `items`: files and directories on their way from one place to another.
+//! * `facts`: refusals with what explains them.
+//! * `store`: disk files, replaced as a whole or not at all.
+//! * `paths`, `patterns`, `walk`: from names to entries, and all entries of a disk.
+//! * `stamps`, `text`, `json`: dates and names as people write them, and values for programs.
 //! * `drawing`, `svg`: who owns each block, as text and as a picture.
+//! * `progress`: how far a long command has come.
 
 mod arguments;
 mod bitmap;
-mod commands;
+mod change;
 mod drawing;
+mod facts;
+mod get;
 mod help;
 mod items;
 mod json;
+mod looks;
 mod map;
 mod paths;
+mod patterns;
+mod progress;
 mod put;
 mod settings;
 mod stamps;
@@ -28,7 +34,7 @@ mod svg;
 mod text;
 mod walk;
 
-use std::ffi::OsString;
+use std::ffi::{OsStr, OsString};
 use std::fmt::Display;
 use std::io::{self, Write};
 
@@ -41,10 +47,12 @@ use arguments::Arguments;
 enum Failure {
     /// The library refused; the exit status is 1.
     Refused(String),
-    /// The same, where the answer was printed already.
-    Answered,
     /// Bad usage, or a file that cannot be read or written; the exit status is 2.
     Trouble(String),
+    /// The disk is damaged; the exit status is 3.
+    Damaged(String),
+    /// All was said already; this is the exit status.
+    Answered(u8),
 }
 
 type Done = Result<(), Failure>;
@@ -52,33 +60,57 @@ type Done = Result<(), Failure>;
 impl Failure {
     fn status(&self) -> u8 {
         match self {
-            Failure::Refused(_) | Failure::Answered => 1,
+            Failure::Refused(_) => 1,
             Failure::Trouble(_) => 2,
+            Failure::Damaged(_) => 3,
+            Failure::Answered(status) => *status,
+        }
+    }
+
+    /// A failure that names the disk file too, where it is about what is on it.
+    fn on(self, disk: &OsStr) -> Failure {
+        match self {
+            Failure::Refused(message) => Failure::Refused(format!("{}: {message}", text::show_os(disk))),
+            Failure::Damaged(message) => Failure::Damaged(format!("{}: {message}", text::show_os(disk))),
+            other => other,
         }
     }
 }
 
-/// What could not be written was the output.
+/// What could not be written was the output. If nobody reads it any more, there is nothing to say.
 impl From<io::Error> for Failure {
     fn from(error: io::Error) -> Self {
-        Failure::Trouble(format!("standard output: {error}"))
+        match error.kind() {
+            io::ErrorKind::BrokenPipe => Failure::Answered(0),
+            _ => Failure::Trouble(format!("standard output: {error}")),
+        }
     }
 }
 
 /// Turns a refusal into a failure that says what it was about.
 fn refused(about: impl Display) -> impl FnOnce(Error) -> Failure {
-    move |error| Failure::Refused(format!("{about}: {error}"))
+    move |error| refused_with(about, error, "")
+}
+
+/// The same, with facts behind it.
+fn refused_with(about: impl Display, error: Error, facts: &str) -> Failure {
+    let message = format!("{about}: {error}{facts}");
+    match error.is_damage() {
+        true => Failure::Damaged(message),
+        false => Failure::Refused(message),
+    }
 }
 
 /// Runs a command line (without the program's name) and answers its exit status: 0 done, 1 refused, 2 bad usage
-/// or a file that cannot be read or written.
+/// or a file that cannot be read or written, 3 a damaged disk.
 pub fn run<L: Library + Converter>(words: &[OsString], out: &mut dyn Write, errors: &mut dyn Write) -> u8 {
     let done = command::<L>(words, out).and_then(|()| Ok(out.flush()?));
     let Err(failure) = done else {
         return 0;
     };
-    if let Failure::Refused(message) | Failure::Trouble(message) = &failure {
-        // If not even the error can be told, the status still can.
+    // What was said before the failure comes first; if not even the error can be told, the status still can.
+    let _ = out.flush();
+    if let Failure::Refused(message) | Failure::Trouble(message) | Failure::Damaged(message) = &failure {
         let _ = writeln!(errors, "pfs: {message}");
     }
     failure.status()
@@ -103,17 +135,19 @@ fn command<L: Library + Converter>(words: &[OsString], out: &mut dyn Write) -> D
 
 fn dispatch<L: Library + Converter>(name: &str, arguments: &Arguments, out: &mut dyn Write) -> Done {
     match name {
-        "info" => commands::info::<L>(arguments, out),
-        "check" => commands::check::<L>(arguments, out),
-        "ls" => commands::ls::<L>(arguments, out),
-        "tree" => commands::tree::<L>(arguments, out),
-        "cat" => commands::cat::<L>(arguments, out),
-        "get" => commands::get::<L>(arguments),
-        "put" => put::put::<L>(arguments),
-        "mkdir" => commands::mkdir::<L>(arguments),
-        "rm" => commands::rm::<L>(arguments),
-        "resize" => commands::resize::<L>(arguments),
-        "format" => commands::format::<L>(arguments),
+        "info" => looks::info::<L>(arguments, out),
+        "check" => looks::check::<L>(arguments, out),
+        "ls" => looks::ls::<L>(arguments, out),
+        "tree" => looks::tree::<L>(arguments, out),
+        "cat" => get::cat::<L>(arguments, out),
+        "get" => get::get::<L>(arguments, out),
+        "put" => put::put::<L>(arguments, out),
+        "mkdir" => change::mkdir::<L>(arguments),
+        "rm" => change::rm::<L>(arguments, out),
+        "mv" => change::mv::<L>(arguments),
+        "cp" => change::cp::<L>(arguments),
+        "resize" => change::resize::<L>(arguments),
+        "format" => change::format::<L>(arguments),
         "df" => map::df::<L>(arguments, out),
         "bitmap" => bitmap::bitmap::<L>(arguments, out),
         "settings" => settings::settings_file::<L>(arguments, out),

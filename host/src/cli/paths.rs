@@ -48,6 +48,21 @@ impl Path {
         Some(Path { names: names.to_vec(), charset: self.charset })
     }
 
+    /// The directories that it goes through, and itself.
+    pub fn with_parents(&self) -> Vec<Path> {
+        let lengths = 1..=self.names.len();
+        lengths.map(|length| Path { names: self.names[..length].to_vec(), charset: self.charset }).collect()
+    }
+
+    pub fn is(&self, other: &Path) -> bool {
+        self.names == other.names
+    }
+
+    /// Is it the other path, or below it?
+    pub fn is_below(&self, other: &Path) -> bool {
+        self.names.starts_with(&other.names)
+    }
+
     /// The number of the directory that this path names. If it names something else, the library says so in the
     /// call that is made with the number.
     pub fn directory<L: Library>(&self, disk: &mut Disk<L>) -> Result<u16, Failure> {

@@ -1,10 +1,13 @@
-//! `put`: files from here onto a disk, all of them or none.
+//! `put`: files and folders from here onto a disk, all of them or none.
 
 use std::ffi::{OsStr, OsString};
+use std::io::Write;
 
 use super::arguments::Arguments;
-use super::items::{name_on_disk, Bundle, Fields, Present};
+use super::get::RECURSIVE;
+use super::items::{name_on_disk, Bundle, Count, Fields, Present};
 use super::paths::Path;
+use super::progress::Progress;
 use super::{help, stamps, store, text, Done, Failure};
 use crate::calls::Library;
 use crate::disk::Disk;
@@ -16,7 +19,7 @@ fn fields(arguments: &Arguments) -> Result<Fields, Failure> {
         false => arguments.date()?,
     };
     let comment = arguments.text("--comment")?.unwrap_or_default();
-    let (protection, charset) = (arguments.number("--protection", 0)?, arguments.charset());
+    let (protection, charset) = (arguments.protection()?, arguments.charset());
     Ok(Fields { date, protection, comment, charset })
 }
 
@@ -31,7 +34,7 @@ fn present(arguments: &Arguments) -> Result<Present, Failure> {
     }
 }
 
-/// A file from here, under its own name or that of a path.
+/// A file or folder from here, under its own name or that of a path.
 fn bundle(
     arguments: &Arguments,
     file: &OsStr,
@@ -49,7 +52,7 @@ fn bundle(
         None => name_on_disk(file, fields.charset)
             .map_err(|wrong| arguments.trouble(format!("{}: {wrong}", text::show_os(file))))?,
     };
-    Bundle::from_here(file, name, fields)
+    Bundle::from_here(file, name, arguments.has(RECURSIVE), fields)
 }
 
 /// The files, and the word for the directory that they go into. Of several words the last is the directory.
@@ -60,31 +63,40 @@ fn sources(arguments: &Arguments) -> (&[OsString], Option<&OsStr>) {
     }
 }
 
-pub fn put<L: Library>(arguments: &Arguments) -> Done {
+pub fn put<L: Library>(arguments: &Arguments, out: &mut dyn Write) -> Done {
     let (fields, present) = (fields(arguments)?, present(arguments)?);
-    if let Some(word) = arguments.value("--as") {
-        return put_as::<L>(arguments, word, &fields, present);
-    }
-    let (files, directory) = sources(arguments);
-    let at = directory.map_or(Ok(Path::root(fields.charset)), |word| arguments.path(word))?;
-    let bundles = files.iter().map(|file| bundle(arguments, file, None, &fields));
-    let bundles: Vec<Bundle> = bundles.collect::<Result<_, _>>()?;
+    let (bundles, at) = match arguments.value("--as") {
+        Some(word) => one_as(arguments, word, &fields)?,
+        None => {
+            let (files, directory) = sources(arguments);
+            let at = directory.map_or(Ok(Path::root(fields.charset)), |word| arguments.path(word))?;
+            let bundles = files.iter().map(|file| bundle(arguments, file, None, &fields));
+            (bundles.collect::<Result<Vec<_>, _>>()?, at)
+        }
+    };
+    let mut progress = Progress::new("put");
     store::change(arguments.operand(0), |disk: &mut Disk<L>| {
-        if !at.is_directory(disk) {
+        if !arguments.has("--as") && !at.is_directory(disk) {
             let hint = "is no directory of the disk: several files go into one, and --as PATH gives a file another name";
             return Err(arguments.trouble(format!("{at} {hint}")));
         }
-        bundles.iter().try_for_each(|bundle| bundle.store(disk, &at, present))
-    })
+        bundles.iter().try_for_each(|bundle| bundle.store(disk, &at, present, &mut progress))
+    })?;
+    drop(progress);
+    if arguments.has(RECURSIVE) {
+        let mut count = Count::default();
+        bundles.iter().for_each(|bundle| count.add(bundle.count()));
+        writeln!(out, "put {}", count.words())?;
+    }
+    Ok(())
 }
 
-/// A single file, to a path.
-fn put_as<L: Library>(arguments: &Arguments, word: &[u8], fields: &Fields, present: Present) -> Done {
+/// A single file, with the directory of the path that it goes to.
+fn one_as(arguments: &Arguments, word: &[u8], fields: &Fields) -> Result<(Vec<Bundle>, Path), Failure> {
     let path =
         Path::parse(word, fields.charset).map_err(|wrong| arguments.trouble(format!("--as: {wrong}")))?;
     let ([file], Some(parent)) = (arguments.from(1), path.parent()) else {
         return Err(arguments.trouble("--as takes one FILE and the path of an entry"));
     };
-    let bundle = bundle(arguments, file, Some(&path), fields)?;
-    store::change(arguments.operand(0), |disk: &mut Disk<L>| bundle.store(disk, &parent, present))
+    Ok((vec![bundle(arguments, file, Some(&path), fields)?], parent))
 }

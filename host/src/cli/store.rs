@@ -37,9 +37,9 @@ pub fn read(name: &OsStr) -> Result<Vec<u8>, Failure> {
     read.map_err(trouble(name))
 }
 
-/// The disk in a file.
+/// The disk in a file or, for `-`, on standard input.
 pub fn load<L: Library>(name: &OsStr) -> Result<Disk<L>, Failure> {
-    File::open(name).and_then(bytes).map(Disk::new).map_err(trouble(name))
+    read(name).map(Disk::new)
 }
 
 /// The disk in a file, if the check accepts it.
@@ -47,6 +47,15 @@ pub fn load_sound<L: Library>(name: &OsStr) -> Result<Disk<L>, Failure> {
     let mut disk = load(name)?;
     disk.check().map_err(refused_disk(name))?;
     Ok(disk)
+}
+
+/// Looks at the disk in a file, if the check accepts it.
+pub fn look<L: Library, T>(
+    name: &OsStr,
+    work: impl FnOnce(&mut Disk<L>) -> Result<T, Failure>,
+) -> Result<T, Failure> {
+    let mut disk = load_sound(name)?;
+    work(&mut disk).map_err(|failure| failure.on(name))
 }
 
 /// Whether the open file still stands under this name. Where files have no numbers to tell, it is taken to.
@@ -81,9 +90,12 @@ pub fn change<L: Library>(
     name: &OsStr,
     work: impl FnOnce(&mut Disk<L>) -> Result<(), Failure>,
 ) -> Result<(), Failure> {
+    if name == "-" {
+        return Err(Failure::Trouble("a disk on standard input cannot be changed".into()));
+    }
     let _held = hold(name)?;
     let mut disk = load_sound(name)?;
-    work(&mut disk)?;
+    work(&mut disk).map_err(|failure| failure.on(name))?;
     replace(name, disk.image())
 }
 
@@ -119,6 +131,7 @@ impl Temporary {
         bytes: &[u8],
         permissions: Option<Permissions>,
         time: Option<SystemTime>,
+        flush: bool,
     ) -> io::Result<()> {
         self.file.write_all(bytes)?;
         if let Some(permissions) = permissions {
@@ -127,7 +140,10 @@ impl Temporary {
         if let Some(time) = time {
             self.file.set_modified(time)?;
         }
-        self.file.sync_all()
+        if flush {
+            self.file.sync_all()?;
+        }
+        Ok(())
     }
 
     /// Takes the place of the other file.
@@ -149,11 +165,16 @@ impl Drop for Temporary {
 
 /// Gives a file new content, as a whole or not at all. Behind a symbolic link the file it leads to is replaced.
 pub fn replace(name: &OsStr, bytes: &[u8]) -> Result<(), Failure> {
-    replace_dated(name, bytes, None)
+    replace_with(name, bytes, None, true)
 }
 
-/// The same, with a date of change that is not the clock's.
-pub fn replace_dated(name: &OsStr, bytes: &[u8], time: Option<SystemTime>) -> Result<(), Failure> {
+/// The same for a copy of a file that is on a disk: with a date of change that is not the clock's, and not waiting until it
+/// is safe from a power cut, since it can be had again.
+pub fn write_copy(name: &OsStr, bytes: &[u8], time: Option<SystemTime>) -> Result<(), Failure> {
+    replace_with(name, bytes, time, false)
+}
+
+fn replace_with(name: &OsStr, bytes: &[u8], time: Option<SystemTime>, flush: bool) -> Result<(), Failure> {
     let path = fs::canonicalize(name).unwrap_or_else(|_| PathBuf::from(name));
     let old = fs::metadata(&path).ok();
     if old.as_ref().is_some_and(|old| !old.is_file() || old.permissions().readonly()) {
@@ -161,7 +182,7 @@ pub fn replace_dated(name: &OsStr, bytes: &[u8], time: Option<SystemTime>) -> Re
     }
     let permissions = old.map(|old| old.permissions());
     let written = Temporary::beside(&path).and_then(|mut temporary| {
-        temporary.fill(bytes, permissions, time)?;
+        temporary.fill(bytes, permissions, time, flush)?;
         temporary.rename(&path)
     });
     written.map_err(trouble(name))
@@ -184,7 +205,7 @@ mod tests {
         let second = Temporary::beside(&disk).expect("it is made");
         assert_eq!(count(), 3);
         drop(second);
-        first.fill(b"new", None, None).expect("it is filled");
+        first.fill(b"new", None, None, true).expect("it is filled");
         assert!(first.rename(&missing).is_err());
         assert_eq!((count(), fs::read(&disk).ok().as_deref()), (1, Some(&b"old"[..])));
 

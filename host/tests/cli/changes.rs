@@ -55,7 +55,8 @@ fn put_makes_replaces_and_finds_its_place() {
     assert_eq!(folder.done(&["tree", "disk.adf"]).lines().filter(|line| line.ends_with("1500")).count(), 3);
     // A file that is there stays, unless it is to be replaced: as a whole, or its bytes alone.
     let pack7 = ["put", "disk.adf", "long", "--as", "recipes/pack7"];
-    assert_eq!(folder.fails(1, &pack7), "pfs: recipes/pack7: 23: the name is already there\n");
+    let there = "pfs: disk.adf: recipes/pack7: 23: the name is already there: --force replaces it\n";
+    assert_eq!(folder.fails(1, &pack7), there);
     folder.done(&[&pack7[..], &["--keep"]].concat());
     let kept = "file       1500  ----rwe-  2024-07-18 10:01:02.00 UTC  pack7  \"white bread\"\n";
     assert_eq!(folder.done(&["ls", "disk.adf", "recipes/pack7"]), kept);
@@ -68,7 +69,7 @@ fn put_makes_replaces_and_finds_its_place() {
     assert_eq!(folder.done(&["cat", "disk.adf", "recipes/pack7"]), "180 C, 25 min\n");
     // No directory is replaced by a file.
     let error = folder.fails(1, &["put", "disk.adf", "pack7", "--as", "recipes", "--force"]);
-    assert_eq!(error, "pfs: recipes: 24: it is a directory, and a file is needed\n");
+    assert_eq!(error, "pfs: disk.adf: recipes: 24: it is a directory, and a file is needed\n");
     assert_eq!(folder.names(), ["disk.adf", "long", "pack7"], "no temporary file stays");
 }
 
@@ -91,7 +92,7 @@ fn several_files_go_into_a_directory_or_none_goes() {
     }
     // The second is there already, so the first does not come either.
     folder.done(&["put", "disk.adf", "b"]);
-    assert!(folder.fails(1, &["put", "disk.adf", "a", "b", "/"]).starts_with("pfs: b: 23: "));
+    assert!(folder.fails(1, &["put", "disk.adf", "a", "b", "/"]).starts_with("pfs: disk.adf: b: 23: "));
     folder.done(&["put", "disk.adf", "a", "b", "recipes"]);
     assert_eq!(
         folder.done(&["tree", "disk.adf"]),

@@ -5,14 +5,37 @@ use crate::folder::Folder;
 #[test]
 fn info_and_check() {
     let folder = Folder::with_disk("info_and_check");
-    let info = "blocks          1760
+    let options = ["--name", "bench 5", "--date=2024-07-18T10:00", "--protection", "257"];
+    folder.done(&[&["format", "other.adf", "--blocks=20"][..], &options].concat());
+    let info = folder.done(&["info", "disk.adf", "other.adf"]);
+    let (disk, other) = info.split_once("\n\n").expect("there are two");
+    let numbers = "protection      ----rwed (0)
+blocks          1760
 bytes           901120
+last reserved   63
 free blocks     1752
 files           1
 directories     2
-anodes in use   6
+anodes in use   6";
+    assert!(
+        disk.starts_with("disk            disk.adf\nname            \"bench 4\"\ndate            20"),
+        "{disk}"
+    );
+    assert!(disk.ends_with(numbers), "{disk}");
+    let numbers = "disk            other.adf
+name            \"bench 5\"
+date            2024-07-18 10:00:00.00 UTC
+protection      ----rwe- (257)
+blocks          20
+bytes           10240
+last reserved   4
+free blocks     15
+files           0
+directories     1
+anodes in use   4
 ";
-    assert_eq!(folder.done(&["info", "disk.adf"]), info);
+    assert_eq!(other, numbers);
+    assert_eq!(folder.done(&["info", "other.adf"]), numbers);
     let accepted = "0: accepted
 The bytes inside files are not checked: the disk holds nothing to check them by.
 ";
@@ -27,15 +50,23 @@ fn check_says_the_number_of_damage_and_what_it_means() {
     folder.write("damaged.adf", &image);
     folder.write("cut.adf", &image[..1000]);
     let type_run = folder.run(&["check", "damaged.adf"]);
-    assert_eq!((type_run.status, type_run.out.as_str()), (1, "3: the disk type is not PFS\\0\n"));
+    assert_eq!((type_run.status, type_run.out.as_str()), (3, "3: the disk type is not PFS\\0\n"));
     assert_eq!(type_run.errors, "");
     let cut = folder.run(&["check", "cut.adf"]);
-    assert_eq!((cut.status, &cut.out[..3]), (1, "1: "));
+    assert_eq!((cut.status, &cut.out[..3]), (3, "1: "));
+    // Of several disks each has a line of its own, and the highest status counts.
+    let several = folder.run(&["check", "disk.adf", "damaged.adf", "disk.adf"]);
+    let lines = "disk.adf: 0: accepted
+damaged.adf: 3: the disk type is not PFS\\0
+disk.adf: 0: accepted
+The bytes inside files are not checked: the disk holds nothing to check them by.
+";
+    assert_eq!((several.status, several.out.as_str()), (3, lines));
     for command in ["info", "ls", "tree", "df", "map"] {
-        let error = folder.fails(1, &[command, "damaged.adf"]);
+        let error = folder.fails(3, &[command, "damaged.adf"]);
         assert_eq!(error, "pfs: damaged.adf: 3: the disk type is not PFS\\0\n");
     }
-    folder.fails(1, &["rm", "damaged.adf", "recipes"]);
+    folder.fails(3, &["rm", "damaged.adf", "recipes"]);
 }
 
 /// What a bench leaves that lost power while it cleared an anode.
@@ -47,10 +78,10 @@ fn check_tells_a_half_cleared_anode() {
     image[3 * 512 + 16 + 20 * 6..][..6].copy_from_slice(&[0, 3, 0, 0, 0, 17]);
     folder.write("damaged.adf", &image);
     let run = folder.run(&["check", "damaged.adf"]);
-    assert_eq!((run.status, run.errors.as_str()), (1, ""));
+    assert_eq!((run.status, run.errors.as_str()), (3, ""));
     assert!(run.out.starts_with("7: an anode is half cleared, "), "{}", run.out);
     for command in [&["info", "damaged.adf"][..], &["rm", "damaged.adf", "recipes/pack7"]] {
-        let error = folder.fails(1, command);
+        let error = folder.fails(3, command);
         assert!(error.ends_with(&format!(": {}", run.out)), "{error}");
     }
 }
@@ -134,22 +165,20 @@ fn looks_for_programs() {
     let recipes = r#"{"path": "recipes", "name": "recipes", "type": "dir", "size": null, "protection": "----rwed", "date_utc": "2024-07-18T10:00:00.00Z", "day": 17000, "minute": 600, "tick": 0, "comment": ""}"#;
     let pack7 = r#"{"path": "recipes/pack7", "name": "pack7", "type": "file", "size": 14, "protection": "----rwe-", "date_utc": "2024-07-18T10:01:02.00Z", "day": 17000, "minute": 601, "tick": 100, "comment": "white bread"}"#;
     let odd = r#"{"path": "a\\xff\\x22b", "name": "a\\xff\\x22b", "type": "file", "size": 14, "protection": "----rwed", "date_utc": "1978-01-02T01:02:03.00Z", "day": 1, "minute": 62, "tick": 150, "comment": ""}"#;
-    let entries = |path: &str, all: &[&str]| {
-        format!("{{\"disk\": \"disk.adf\", \"path\": \"{path}\", \"entries\": [{}]}}\n", all.join(", "))
-    };
-    assert_eq!(folder.done(&["ls", "disk.adf", "--json"]), entries("/", &[recipes, odd]));
-    assert_eq!(
-        folder.done(&["ls", "disk.adf", "recipes/pack7", "--json"]),
-        entries("recipes/pack7", &[pack7])
+    let entries = |all: &[&str]| format!("{{\"disk\": \"disk.adf\", \"entries\": [{}]}}\n", all.join(", "));
+    assert_eq!(folder.done(&["ls", "disk.adf", "--json"]), entries(&[recipes, odd]));
+    assert_eq!(folder.done(&["ls", "disk.adf", "recipes/pack7", "--json"]), entries(&[pack7]));
+    assert_eq!(folder.done(&["tree", "disk.adf", "--json"]), entries(&[recipes, pack7, odd]));
+    let info = folder.done(&["info", "disk.adf", "disk.adf", "--json"]);
+    let numbers = "\"protection\": 0, \"last_reserved\": 63, \"blocks\": 1760, \"bytes\": 901120, \"free_blocks\": 1751, \"files\": 2, \"directories\": 2, \"anodes_in_use\": 7}";
+    assert!(
+        info.starts_with("[{\"disk\": \"disk.adf\", \"name\": \"bench 4\", \"date_utc\": \"20"),
+        "{info}"
     );
-    assert_eq!(folder.done(&["tree", "disk.adf", "--json"]), entries("/", &[recipes, pack7, odd]));
-    assert_eq!(
-        folder.done(&["info", "disk.adf", "--json"]),
-        "{\"disk\": \"disk.adf\", \"blocks\": 1760, \"bytes\": 901120, \"free_blocks\": 1751, \"files\": 2, \"directories\": 2, \"anodes_in_use\": 7}\n"
-    );
+    assert!(info.matches(numbers).count() == 2 && info.ends_with("}]\n"), "{info}");
     assert_eq!(
         folder.done(&["check", "disk.adf", "--json"]),
-        "{\"disk\": \"disk.adf\", \"number\": 0, \"words\": \"accepted\"}\n"
+        "[{\"disk\": \"disk.adf\", \"number\": 0, \"words\": \"accepted\"}]\n"
     );
     let df = folder.done(&["df", "disk.adf", "--json"]);
     assert!(df.starts_with("{\"disk\": \"disk.adf\", \"blocks\": 1760, \"uses\": [{\"use\": \"free\", \"blocks\": 1751, \"bytes\": 896512}, "));
@@ -161,7 +190,7 @@ fn looks_for_programs() {
     folder.write("cut.adf", b"PFS");
     let run = folder.run(&["check", "cut.adf", "--json"]);
     assert!(
-        run.status == 1 && run.out.starts_with("{\"disk\": \"cut.adf\", \"number\": 1, \"words\": \""),
+        run.status == 3 && run.out.starts_with("[{\"disk\": \"cut.adf\", \"number\": 1, \"words\": \""),
         "{}",
         run.out
     );
@@ -293,7 +322,7 @@ fn help_is_there_for_the_whole_and_for_each() {
     let folder = Folder::new("help");
     let whole = folder.done(&["--help"]);
     assert_eq!(folder.done(&["help"]), whole);
-    let commands = "info check ls tree cat get put mkdir rm resize format df map";
+    let commands = "info check ls tree cat get put mkdir rm mv cp resize format df map";
     for command in commands.split(' ') {
         assert!(whole.contains(&format!("\n  {command} ")), "{command}");
         let help = folder.done(&[command, "--help"]);

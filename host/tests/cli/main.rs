@@ -1,6 +1,7 @@
 //! The command line `pfs`, run as a program.
 
 mod changes;
+mod daily;
 mod folder;
 mod looks;
 mod refusals;

@@ -13,6 +13,13 @@ fn refusals_end_with_1_and_say_which() {
         (&["rm", "disk.adf", "recipes"], 25),
         (&["rm", "disk.adf", "nothing"], 22),
         (&["mkdir", "disk.adf", "recipes"], 23),
+        (&["mkdir", "disk.adf", "-p", "recipes/pack7/x"], 23),
+        (&["rm", "disk.adf", "n*"], 22),
+        (&["rm", "disk.adf", "recipes/pack7", "nothing"], 22),
+        (&["cat", "disk.adf", "*/*/*"], 22),
+        (&["cp", "disk.adf", "recipes", "copy"], 24),
+        (&["mv", "disk.adf", "recipes/pack7", "nowhere/x"], 22),
+        (&["get", "disk.adf", "recipes"], 24),
         (&["mkdir", "disk.adf", "a:b"], 20),
         (&["mkdir", "disk.adf", "nowhere/x"], 22),
         (&["mkdir", "disk.adf", "recipes/pack7/x"], 21),
@@ -38,7 +45,7 @@ fn a_full_disk_is_left_byte_for_byte() {
     folder.done(&["put", "disk.adf", "ten", "--as", "a"]);
     // Made, but not resized: nothing of it stays.
     let error = folder.fails(1, &["put", "disk.adf", "ten", "--as", "b"]);
-    assert_eq!(error, "pfs: b: 27: not enough blocks are free\n");
+    assert_eq!(error, "pfs: disk.adf: b: 27: not enough blocks are free: 10 blocks more needed, 5 free\n");
     folder.done(&["resize", "disk.adf", "a", "7680"]);
     folder.fails(1, &["resize", "disk.adf", "a", "7681"]);
     folder.fails(1, &["mkdir", "disk.adf", "d"]);
@@ -57,7 +64,6 @@ fn bad_usage_ends_with_2() {
         &[][..],
         &["frobnicate", "disk.adf"],
         &["ls"],
-        &["ls", "disk.adf", "a", "b"],
         &["cat", "disk.adf"],
         &["resize", "disk.adf", "recipes/pack7"],
         &["resize", "disk.adf", "recipes/pack7", "-1"],
@@ -65,7 +71,19 @@ fn bad_usage_ends_with_2() {
         &["resize", "disk.adf", "recipes/pack7", "many"],
         &["ls", "disk.adf", "--long"],
         &["ls", "disk.adf", "-l"],
-        &["ls", "-", "-"],
+        &["ls"],
+        &["mkdir", "-", "x"],
+        &["resize", "disk.adf", "recipes/pack7", "99999999999999999M"],
+        &["mkdir", "disk.adf", "x", "--protection", "rwx"],
+        &["get", "disk.adf", "recipes/pack7", "nowhere/"],
+        &["get", "-r", "disk.adf", "recipes", "-"],
+        &["mv", "disk.adf", "recipes"],
+        &["mv", "disk.adf", "recipes", "recipes/old"],
+        &["mv", "disk.adf", "recipes", "recipes"],
+        &["cp", "disk.adf", "recipes/pack7", "recipes/pack7"],
+        &["mv", "disk.adf", "recipes", "recipes/pack7", "elsewhere"],
+        &["mv", "disk.adf", "recipes", "elsewhere/"],
+        &["rm", "disk.adf", "recipes/pack7", "/"],
         &["format", "new.adf", "--blocks"],
         &["format", "new.adf", "--blocks", "65536"],
         &["format", "new.adf", "--reserved", "x"],
@@ -116,7 +134,7 @@ fn a_write_protected_file_is_not_replaced() {
 fn a_file_without_end_is_refused() {
     let folder = Folder::with_disk("endless");
     let run = folder.run(&["check", "/dev/zero"]);
-    assert_eq!((run.status, &run.out[..2]), (1, "1:"));
+    assert_eq!((run.status, &run.out[..2]), (3, "1:"));
     assert!(folder.fails(1, &["put", "disk.adf", "/dev/zero"]).contains(": 27: "));
 }
 

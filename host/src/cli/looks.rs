@@ -1,0 +1,237 @@
+//! The commands that look at a disk as a whole or at its entries.
+
+use std::ffi::OsStr;
+use std::io::Write;
+
+use super::arguments::Arguments;
+use super::get::all_found;
+use super::help::JSON;
+use super::json::Json;
+use super::paths::Path;
+use super::store::{self, load, refused_disk};
+use super::text::{self, Charset};
+use super::walk::{self, Found};
+use super::{refused, stamps, Done, Failure};
+use crate::calls::{Library, BLOCK, ROOT};
+use crate::disk::{Disk, Entry, Error, Kind, Label, Summary};
+
+/// The path in an operand; the root if it is left out.
+fn path(arguments: &Arguments, place: usize) -> Result<Path, Failure> {
+    arguments.optional(place).map_or(Ok(Path::root(arguments.charset())), |word| arguments.path(word))
+}
+
+/// A value as a line for programs.
+pub fn write_json(value: Json, out: &mut dyn Write) -> Done {
+    Ok(writeln!(out, "{value}")?)
+}
+
+/// What is told of a disk.
+fn about<L: Library>(name: &OsStr) -> Result<(Summary, Label, usize), Failure> {
+    store::look(name, |disk: &mut Disk<L>| {
+        let told = disk.summary().and_then(|summary| Ok((summary, disk.label()?)));
+        let (summary, label) = told.map_err(refused_disk(name))?;
+        let anodes = disk.heads().iter().filter(|&&head| head != 0).count();
+        Ok((summary, label, anodes))
+    })
+}
+
+/// The protection bits of a disk, of which the lower eight have letters.
+fn disk_protection(bits: u16) -> String {
+    format!("{} ({bits})", protection(bits as u8))
+}
+
+pub fn info<L: Library>(arguments: &Arguments, out: &mut dyn Write) -> Done {
+    let charset = arguments.charset();
+    let mut objects = Vec::new();
+    for (place, name) in arguments.from(0).iter().enumerate() {
+        let (summary, label, anodes) = about::<L>(name)?;
+        if arguments.has(JSON) {
+            objects.push(Json::Object(vec![
+                ("disk", text::os(name).into()),
+                ("name", charset.show(&label.name).into()),
+                ("date_utc", stamps::iso(label.stamp).into()),
+                ("protection", label.protection.into()),
+                ("last_reserved", label.last_reserved.into()),
+                ("blocks", summary.blocks.into()),
+                ("bytes", (summary.blocks as usize * BLOCK).into()),
+                ("free_blocks", summary.free.into()),
+                ("files", summary.files.into()),
+                ("directories", summary.directories.into()),
+                ("anodes_in_use", anodes.into()),
+            ]));
+            continue;
+        }
+        if place > 0 {
+            writeln!(out)?;
+        }
+        writeln!(out, "disk            {}", text::show_os(name))?;
+        writeln!(out, "name            {}", charset.quoted(&label.name))?;
+        writeln!(out, "date            {} UTC", stamps::show(label.stamp))?;
+        writeln!(out, "protection      {}", disk_protection(label.protection))?;
+        writeln!(out, "blocks          {}", summary.blocks)?;
+        writeln!(out, "bytes           {}", summary.blocks as usize * BLOCK)?;
+        writeln!(out, "last reserved   {}", label.last_reserved)?;
+        writeln!(out, "free blocks     {}", summary.free)?;
+        writeln!(out, "files           {}", summary.files)?;
+        writeln!(out, "directories     {}", summary.directories)?;
+        writeln!(out, "anodes in use   {anodes}")?;
+    }
+    match arguments.has(JSON) {
+        true => write_json(Json::List(objects), out),
+        false => Ok(()),
+    }
+}
+
+/// What an accepted disk may still be wrong in.
+const NOT_COVERED: &str = "The bytes inside files are not checked: the disk holds nothing to check them by.";
+
+pub fn check<L: Library>(arguments: &Arguments, out: &mut dyn Write) -> Done {
+    let names = arguments.from(0);
+    let (mut objects, mut status, mut accepted) = (Vec::new(), 0, false);
+    for name in names {
+        let answer = load::<L>(name)?.check();
+        let words = answer.map_or_else(Error::words, |()| "accepted");
+        let number = answer.map_or_else(Error::number, |()| 0);
+        accepted |= answer.is_ok();
+        status = answer.map_or_else(|error| refused("")(error).status(), |()| 0).max(status);
+        if arguments.has(JSON) {
+            let disk = text::os(name);
+            objects.push(Json::Object(vec![
+                ("disk", disk.into()),
+                ("number", number.into()),
+                ("words", words.into()),
+            ]));
+            continue;
+        }
+        if names.len() > 1 {
+            write!(out, "{}: ", text::show_os(name))?;
+        }
+        writeln!(out, "{number}: {words}")?;
+    }
+    if arguments.has(JSON) {
+        write_json(Json::List(objects), out)?;
+    } else if accepted {
+        writeln!(out, "{NOT_COVERED}")?;
+    }
+    match status {
+        0 => Ok(()),
+        status => Err(Failure::Answered(status)),
+    }
+}
+
+/// The protection bits as letters. The lowest four forbid what their letter allows.
+fn protection(bits: u8) -> String {
+    let letters = "hsparwed".chars().zip((0..8).rev());
+    letters.map(|(letter, bit)| if ((bits ^ 0x0F) >> bit) & 1 == 1 { letter } else { '-' }).collect()
+}
+
+fn kind(entry: &Entry) -> &'static str {
+    match entry.kind {
+        Kind::File => "file",
+        Kind::Directory => "dir",
+    }
+}
+
+/// Type, size, protection, date and time, name and comment of an entry.
+fn line(entry: &Entry, name: &str, charset: Charset) -> String {
+    let size = match entry.kind {
+        Kind::File => entry.size.to_string(),
+        Kind::Directory => String::from("-"),
+    };
+    let (bits, date) = (protection(entry.protection), stamps::show(entry.stamp));
+    let comment = match entry.comment.is_empty() {
+        true => String::new(),
+        false => format!("  \"{}\"", charset.show(&entry.comment)),
+    };
+    format!("{:<4} {size:>10}  {bits}  {date} UTC  {name}{comment}", kind(entry))
+}
+
+/// An entry and where it is, for programs.
+fn object(found: &Found, charset: Charset) -> Json {
+    let Found { path, entry, .. } = found;
+    let size = (entry.kind == Kind::File).then_some(entry.size);
+    Json::Object(vec![
+        ("path", path.text().into()),
+        ("name", charset.show(&entry.name).into()),
+        ("type", kind(entry).into()),
+        ("size", size.into()),
+        ("protection", protection(entry.protection).into()),
+        ("date_utc", stamps::iso(entry.stamp).into()),
+        ("day", entry.stamp.day.into()),
+        ("minute", entry.stamp.minute.into()),
+        ("tick", entry.stamp.tick.into()),
+        ("comment", charset.show(&entry.comment).into()),
+    ])
+}
+
+/// All entries that were found, for programs.
+fn write_objects(arguments: &Arguments, all: &[Found], out: &mut dyn Write) -> Done {
+    let entries = all.iter().map(|found| object(found, arguments.charset())).collect();
+    let disk = text::os(arguments.operand(0));
+    write_json(Json::Object(vec![("disk", disk.into()), ("entries", Json::List(entries))]), out)
+}
+
+/// What `ls` shows: the entries of one directory, or those that the paths stand for. Says also whether their whole paths
+/// are to be shown.
+fn listed<L: Library>(arguments: &Arguments) -> Result<(Vec<Found>, bool), Failure> {
+    store::look(arguments.operand(0), |disk: &mut Disk<L>| {
+        let root = Path::root(arguments.charset());
+        let found = match arguments.from(1) {
+            [] => return Ok((walk::entries(disk, &root, ROOT)?, false)),
+            [word] => arguments.pattern(word)?.found(disk)?,
+            words => Some(all_found(arguments, disk, words)?),
+        };
+        let Some(found) = found else {
+            return Ok((walk::entries(disk, &root, ROOT)?, false));
+        };
+        let several = found.len() > 1;
+        match found.first().filter(|first| !several && first.entry.kind == Kind::Directory) {
+            Some(one) => Ok((walk::entries(disk, &one.path, one.entry.anode)?, false)),
+            None => Ok((found, several)),
+        }
+    })
+}
+
+pub fn ls<L: Library>(arguments: &Arguments, out: &mut dyn Write) -> Done {
+    let (all, paths) = listed::<L>(arguments)?;
+    if arguments.has(JSON) {
+        return write_objects(arguments, &all, out);
+    }
+    for found in all {
+        let name = match paths {
+            true => found.path.to_string(),
+            false => arguments.charset().quoted(&found.entry.name),
+        };
+        writeln!(out, "{}", line(&found.entry, &name, arguments.charset()))?;
+    }
+    Ok(())
+}
+
+pub fn tree<L: Library>(arguments: &Arguments, out: &mut dyn Write) -> Done {
+    let path = path(arguments, 1)?;
+    let all = store::look(arguments.operand(0), |disk: &mut Disk<L>| walk::below(disk, &path))?;
+    if arguments.has(JSON) {
+        return write_objects(arguments, &all, out);
+    }
+    writeln!(out, "{path}")?;
+    for found in all {
+        let indent = 2 * (found.path.depth() - path.depth());
+        let name = arguments.charset().quoted(found.path.name());
+        match found.entry.kind {
+            Kind::File => writeln!(out, "{:indent$}{name}  {}", "", found.entry.size)?,
+            Kind::Directory => writeln!(out, "{:indent$}{name}/", "")?,
+        }
+    }
+    Ok(())
+}
+
+#[cfg(test)]
+mod tests {
+    use super::*;
+
+    #[test]
+    fn protection_letters() {
+        assert_eq!([0, 0x0F, 0xF0, 1].map(protection), ["----rwed", "--------", "hsparwed", "----rwe-"]);
+        assert_eq!(disk_protection(0x0101), "----rwe- (257)");
+    }
+}
