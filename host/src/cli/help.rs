@@ -71,7 +71,7 @@ pub const COMMANDS: &[Syntax] = &[
     Syntax {
         name: "check",
         operands: &["DISK.."],
-        flags: &[JSON],
+        flags: &["--where", JSON],
         options: &[],
         short: "whether the disk is sound",
         long: concat!("Prints 0 for a disk that is accepted, else the number of the first rule that it breaks, and in words what it means. Of
@@ -80,7 +80,10 @@ several disks the exit status is the highest.
 Accepted means that every block has one owner and that directories, names and sizes fit together. It says nothing of the
 bytes inside files: the format keeps no sum to check them by, so a file that was stored wrong, or changed by hand, is
 accepted like any other.
-", json!()),
+
+  --where         name the block, anode, entry or path of the first fault. The number comes from the proved check. The
+                  place comes from a model of the rules that is tested and not proved; where it finds another number, it
+                  says so and names no place", json!()),
     },
     Syntax {
         name: "ls",

@@ -1,6 +1,6 @@
 //! The commands that look at a disk as a whole or at its entries.
 
-use std::ffi::OsStr;
+use std::ffi::{OsStr, OsString};
 use std::io::Write;
 
 use super::arguments::Arguments;
@@ -14,6 +14,7 @@ use super::walk::{self, Found};
 use super::{refused, stamps, Done, Failure};
 use crate::calls::{Library, BLOCK, ROOT};
 use crate::disk::{Disk, Entry, Error, Kind, Label, Summary};
+use crate::model;
 
 /// The path in an operand; the root if it is left out.
 fn path(arguments: &Arguments, place: usize) -> Result<Path, Failure> {
@@ -85,38 +86,89 @@ pub fn info<L: Library>(arguments: &Arguments, out: &mut dyn Write) -> Done {
 /// What an accepted disk may still be wrong in.
 const NOT_COVERED: &str = "The bytes inside files are not checked: the disk holds nothing to check them by.";
 
+/// What the check says of a disk.
+struct Verdict {
+    number: u32,
+    words: &'static str,
+    /// The exit status.
+    status: u8,
+    /// Where the fault is, if that was asked for.
+    place: Option<String>,
+}
+
+fn verdict<L: Library>(name: &OsStr, ask_where: bool, charset: Charset) -> Result<Verdict, Failure> {
+    let mut disk = load::<L>(name)?;
+    let Err(error) = disk.check() else {
+        return Ok(Verdict { number: 0, words: "accepted", status: 0, place: None });
+    };
+    let place = ask_where.then(|| located(disk.image(), error, charset));
+    let (number, words) = (error.number(), error.words());
+    Ok(Verdict { number, words, status: refused("")(error).status(), place })
+}
+
+/// Where a fault is, by the model, which must have found the same one.
+fn located(image: &[u8], error: Error, charset: Charset) -> String {
+    let show =
+        |names: &[Vec<u8>]| names.iter().fold(Path::root(charset), |path, name| path.join(name)).to_string();
+    match model::locate(image, &show) {
+        Some((number, place)) if number == error.number() => place,
+        Some((number, _)) => {
+            format!("not known: the search for the place finds {number} and not {}", error.number())
+        }
+        None => String::from("not known: the search for the place finds no fault"),
+    }
+}
+
+/// What is said of a place: it is found by code that is tested and not proved.
+const NOT_PROVED: &str =
+    "The place is found by a model of the rules that is tested and not proved; the number is proved.";
+
 pub fn check<L: Library>(arguments: &Arguments, out: &mut dyn Write) -> Done {
     let names = arguments.from(0);
-    let (mut objects, mut status, mut accepted) = (Vec::new(), 0, false);
+    let mut verdicts = Vec::new();
     for name in names {
-        let answer = load::<L>(name)?.check();
-        let words = answer.map_or_else(Error::words, |()| "accepted");
-        let number = answer.map_or_else(Error::number, |()| 0);
-        accepted |= answer.is_ok();
-        status = answer.map_or_else(|error| refused("")(error).status(), |()| 0).max(status);
-        if arguments.has(JSON) {
-            let disk = text::os(name);
-            objects.push(Json::Object(vec![
-                ("disk", disk.into()),
-                ("number", number.into()),
-                ("words", words.into()),
-            ]));
-            continue;
-        }
-        if names.len() > 1 {
-            write!(out, "{}: ", text::show_os(name))?;
-        }
-        writeln!(out, "{number}: {words}")?;
+        verdicts.push((name, verdict::<L>(name, arguments.has("--where"), arguments.charset())?));
     }
-    if arguments.has(JSON) {
-        write_json(Json::List(objects), out)?;
-    } else if accepted {
-        writeln!(out, "{NOT_COVERED}")?;
+    let status = verdicts.iter().map(|(_, verdict)| verdict.status).max().unwrap_or(0);
+    match arguments.has(JSON) {
+        true => write_json(
+            Json::List(verdicts.into_iter().map(|(name, verdict)| judged(name, verdict)).collect()),
+            out,
+        )?,
+        false => write_verdicts(&verdicts, out)?,
     }
     match status {
         0 => Ok(()),
         status => Err(Failure::Answered(status)),
     }
+}
+
+fn judged(name: &OsStr, verdict: Verdict) -> Json {
+    Json::Object(vec![
+        ("disk", text::os(name).into()),
+        ("number", verdict.number.into()),
+        ("words", verdict.words.into()),
+        ("where_not_proved", verdict.place.into()),
+    ])
+}
+
+fn write_verdicts(verdicts: &[(&OsString, Verdict)], out: &mut dyn Write) -> Done {
+    for (name, Verdict { number, words, place, .. }) in verdicts {
+        if verdicts.len() > 1 {
+            write!(out, "{}: ", text::show_os(name))?;
+        }
+        writeln!(out, "{number}: {words}")?;
+        if let Some(place) = place {
+            writeln!(out, "  {place}")?;
+        }
+    }
+    if verdicts.iter().any(|(_, verdict)| verdict.place.is_some()) {
+        writeln!(out, "{NOT_PROVED}")?;
+    }
+    if verdicts.iter().any(|(_, verdict)| verdict.number == 0) {
+        writeln!(out, "{NOT_COVERED}")?;
+    }
+    Ok(())
 }
 
 /// The protection bits as letters. The lowest four forbid what their letter allows.

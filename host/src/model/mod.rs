@@ -12,6 +12,7 @@
 //! * `bitmap`: free space as the hard disk edition's bitmap.
 //! * `totals`: the seven kinds of blocks.
 //! * `settings`: the conversions of settings files.
+//! * `locate`: where the first fault of a disk is.
 //! * `library`: the calls behind one trait, as the proved library has them.
 
 mod bitmap;
@@ -19,6 +20,7 @@ mod calls;
 mod check;
 pub mod layout;
 mod library;
+mod locate;
 pub mod naive;
 mod settings;
 mod space;
@@ -28,4 +30,5 @@ pub use bitmap::{bitmap, bitmap_differs};
 pub use calls::{find_entry, format, label, list, make, read, remove, resize, summary, write, NewEntry};
 pub use check::{check, survey, Survey};
 pub use library::Model;
+pub use locate::locate;
 pub use totals::{totals, Totals};

@@ -178,7 +178,7 @@ fn looks_for_programs() {
     assert!(info.matches(numbers).count() == 2 && info.ends_with("}]\n"), "{info}");
     assert_eq!(
         folder.done(&["check", "disk.adf", "--json"]),
-        "[{\"disk\": \"disk.adf\", \"number\": 0, \"words\": \"accepted\"}]\n"
+        "[{\"disk\": \"disk.adf\", \"number\": 0, \"words\": \"accepted\", \"where_not_proved\": null}]\n"
     );
     let df = folder.done(&["df", "disk.adf", "--json"]);
     assert!(df.starts_with("{\"disk\": \"disk.adf\", \"blocks\": 1760, \"uses\": [{\"use\": \"free\", \"blocks\": 1751, \"bytes\": 896512}, "));

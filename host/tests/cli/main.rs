@@ -2,6 +2,7 @@
 
 mod changes;
 mod daily;
+mod faults;
 mod folder;
 mod looks;
 mod refusals;

@@ -20,7 +20,13 @@ fn compare_checks(image: &[u8], blocks: Vec<u16>, anodes: Vec<u16>) -> u32 {
 
 pub fn compare_with_junk(image: &[u8], rng: &mut Rng) -> u32 {
     let (blocks, anodes) = junk_tables(image.len() / BLOCK, false, rng);
-    compare_checks(image, blocks, anodes)
+    let number = compare_checks(image, blocks, anodes);
+    // Every fault has a place, and a disk without one has none.
+    let show = |names: &[Vec<u8>]| format!("{names:?}");
+    let located = model::locate(image, &show);
+    assert_eq!(located.as_ref().map_or(0, |(number, _)| *number), number);
+    assert!(located.is_none_or(|(_, place)| place != "no place is known"), "{number} has no place");
+    number
 }
 
 /// Damages an accepted image in all ways; each aimed fault must give its number.
