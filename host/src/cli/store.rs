@@ -1,9 +1,9 @@
-//! Disk files. A file is never changed in place: the new bytes go into a temporary file beside it, which takes its
-//! name when they are all there. A change holds the disk file until then, so that changes of one disk by several
+//! Disk files. A file is never changed in place: the new bytes go into a temporary file beside it, which has its owner and
+//! mode before the first of them, and takes its name when they are all there. A change holds the disk file until then, so that changes of one disk by several
 //! processes come one after the other and none is lost.
 
 use std::ffi::OsStr;
-use std::fs::{self, File, OpenOptions, Permissions};
+use std::fs::{self, File, Metadata, OpenOptions};
 use std::io::{self, Read, Write};
 use std::path::{Path, PathBuf};
 use std::process;
@@ -93,6 +93,9 @@ pub fn change<L: Library>(
     if name == "-" {
         return Err(Failure::Trouble("a disk on standard input cannot be changed".into()));
     }
+    if let Some(wrong) = fs::metadata(name).ok().as_ref().and_then(unfit) {
+        return Err(Failure::Trouble(format!("{}: {wrong}", text::show_os(name))));
+    }
     let _held = hold(name)?;
     let mut disk = load_sound(name)?;
     work(&mut disk).map_err(|failure| failure.on(name))?;
@@ -104,53 +107,94 @@ pub fn refused_disk(name: &OsStr) -> impl FnOnce(Error) -> Failure {
     refused(text::show_os(name))
 }
 
-/// A new file that is removed unless it was given its name.
+/// What temporary files are called, between these and with a number.
+const TEMPORARY: (&str, &str) = (".pfs-", ".tmp");
+
+/// A new file that is removed unless it was given its name. It is locked as long as its process lives.
 struct Temporary {
     path: PathBuf,
     file: File,
     named: bool,
 }
 
+/// What a file is opened with that nobody but its owner can read until it has the mode of the one that it replaces.
+fn private() -> OpenOptions {
+    let mut options = OpenOptions::new();
+    options.write(true).create_new(true);
+    #[cfg(unix)]
+    std::os::unix::fs::OpenOptionsExt::mode(&mut options, 0o600);
+    options
+}
+
 impl Temporary {
-    /// A new file in the folder of another one.
-    fn beside(other: &Path) -> io::Result<Self> {
+    /// A new file in the folder of another one; with `old`, with the owner and mode of that.
+    fn beside(other: &Path, old: Option<&Metadata>) -> io::Result<Self> {
+        let options =
+            if old.is_some() { private() } else { OpenOptions::new().write(true).create_new(true).clone() };
         let mut tries = 0;
         loop {
-            let path = other.with_file_name(format!(".pfs-{}-{tries}.tmp", process::id()));
-            match OpenOptions::new().write(true).create_new(true).open(&path) {
-                Ok(file) => return Ok(Temporary { path, file, named: false }),
+            let (before, behind) = TEMPORARY;
+            let path = other.with_file_name(format!("{before}{}-{tries}{behind}", process::id()));
+            tries += 1;
+            let file = match options.open(&path) {
+                Ok(file) => file,
                 // Left behind by a process that had the same number and was stopped.
-                Err(error) if error.kind() == io::ErrorKind::AlreadyExists && tries < 100 => tries += 1,
+                Err(error) if error.kind() == io::ErrorKind::AlreadyExists && tries < 100 => continue,
                 Err(error) => return Err(error),
+            };
+            let temporary = Temporary { path, file, named: false };
+            if temporary.is_kept()? {
+                old.map_or(Ok(()), |old| temporary.take_after(old))?;
+                return Ok(temporary);
             }
         }
     }
 
-    fn fill(
-        &mut self,
-        bytes: &[u8],
-        permissions: Option<Permissions>,
-        time: Option<SystemTime>,
-        flush: bool,
-    ) -> io::Result<()> {
-        self.file.write_all(bytes)?;
-        if let Some(permissions) = permissions {
-            self.file.set_permissions(permissions)?;
+    /// Locks the file, unless another process has swept it away before that.
+    fn is_kept(&self) -> io::Result<bool> {
+        match self.file.lock() {
+            Err(error) if error.kind() != io::ErrorKind::Unsupported => Err(error),
+            _ => Ok(is_current(&self.file, self.path.as_os_str()).unwrap_or(false)),
         }
+    }
+
+    /// Gives it the owner and the mode of the file that it is to replace.
+    fn take_after(&self, old: &Metadata) -> io::Result<()> {
+        #[cfg(unix)]
+        {
+            use std::os::unix::fs::{fchown, MetadataExt};
+            let own = self.file.metadata()?;
+            if (own.uid(), own.gid()) != (old.uid(), old.gid()) {
+                fchown(&self.file, Some(old.uid()), Some(old.gid())).map_err(|error| {
+                    io::Error::new(
+                        error.kind(),
+                        format!("its owner {}:{} cannot be kept: {error}", old.uid(), old.gid()),
+                    )
+                })?;
+            }
+        }
+        self.file.set_permissions(old.permissions())
+    }
+
+    fn fill(&mut self, bytes: &[u8], time: Option<SystemTime>, flush: bool) -> io::Result<()> {
+        self.file.write_all(bytes)?;
         if let Some(time) = time {
             self.file.set_modified(time)?;
         }
-        if flush {
-            self.file.sync_all()?;
+        match flush {
+            true => self.file.sync_all(),
+            false => Ok(()),
         }
-        Ok(())
     }
 
     /// Takes the place of the other file.
-    fn rename(mut self, other: &Path) -> io::Result<()> {
+    fn rename(mut self, other: &Path, flush: bool) -> io::Result<()> {
         fs::rename(&self.path, other)?;
         self.named = true;
-        Ok(())
+        match flush {
+            true => flush_folder(other),
+            false => Ok(()),
+        }
     }
 }
 
@@ -160,6 +204,55 @@ impl Drop for Temporary {
             // Nothing better can be done if it cannot be removed.
             let _ = fs::remove_file(&self.path);
         }
+    }
+}
+
+/// The folder of a file.
+fn folder_of(file: &Path) -> &Path {
+    file.parent().filter(|folder| !folder.as_os_str().is_empty()).unwrap_or(Path::new("."))
+}
+
+/// Waits until the new name of a file is safe from a power cut.
+fn flush_folder(file: &Path) -> io::Result<()> {
+    #[cfg(unix)]
+    File::open(folder_of(file))?.sync_all()?;
+    #[cfg(not(unix))]
+    let _ = file;
+    Ok(())
+}
+
+/// Removes the temporary files in the folder of a file whose processes were stopped: those that nobody has locked. What
+/// cannot be looked at or removed stays.
+fn sweep(file: &Path) {
+    let is_temporary = |path: &Path| {
+        let name = path.file_name().and_then(OsStr::to_str).unwrap_or_default();
+        name.starts_with(TEMPORARY.0) && name.ends_with(TEMPORARY.1)
+    };
+    let entries = fs::read_dir(folder_of(file)).into_iter().flatten().flatten();
+    for path in entries.map(|entry| entry.path()).filter(|path| is_temporary(path)) {
+        let left = File::open(&path).is_ok_and(|file| file.try_lock().is_ok());
+        if left {
+            let _ = fs::remove_file(&path);
+        }
+    }
+}
+
+/// Why a file that is there cannot be replaced.
+fn unfit(old: &Metadata) -> Option<&'static str> {
+    #[cfg(unix)]
+    {
+        use std::os::unix::fs::FileTypeExt;
+        if old.file_type().is_block_device() {
+            return Some(
+                "a device can only be written in place, which is not safe and not done: copy it to a file",
+            );
+        }
+    }
+    match (old.is_file(), old.permissions().readonly()) {
+        (true, false) => None,
+        (true, true) => Some("the file is write-protected"),
+        (false, _) if old.is_dir() => Some("a folder and no file"),
+        (false, _) => Some("not a regular file"),
     }
 }
 
@@ -177,13 +270,15 @@ pub fn write_copy(name: &OsStr, bytes: &[u8], time: Option<SystemTime>) -> Resul
 fn replace_with(name: &OsStr, bytes: &[u8], time: Option<SystemTime>, flush: bool) -> Result<(), Failure> {
     let path = fs::canonicalize(name).unwrap_or_else(|_| PathBuf::from(name));
     let old = fs::metadata(&path).ok();
-    if old.as_ref().is_some_and(|old| !old.is_file() || old.permissions().readonly()) {
-        return Err(Failure::Trouble(format!("{}: not a file, or write-protected", text::show_os(name))));
+    if let Some(wrong) = old.as_ref().and_then(unfit) {
+        return Err(Failure::Trouble(format!("{}: {wrong}", text::show_os(name))));
     }
-    let permissions = old.map(|old| old.permissions());
-    let written = Temporary::beside(&path).and_then(|mut temporary| {
-        temporary.fill(bytes, permissions, time, flush)?;
-        temporary.rename(&path)
+    if flush {
+        sweep(&path);
+    }
+    let written = Temporary::beside(&path, old.as_ref()).and_then(|mut temporary| {
+        temporary.fill(bytes, time, flush)?;
+        temporary.rename(&path, flush)
     });
     written.map_err(trouble(name))
 }
@@ -191,6 +286,26 @@ fn replace_with(name: &OsStr, bytes: &[u8], time: Option<SystemTime>, flush: boo
 #[cfg(test)]
 mod tests {
     use super::*;
+
+    /// Nobody may read a byte of the new file who could not read the old one.
+    #[cfg(unix)]
+    #[test]
+    fn the_mode_comes_before_the_first_byte() {
+        use std::os::unix::fs::{MetadataExt, PermissionsExt};
+        let folder = std::env::temp_dir().join(format!("pfs-mode-{}", process::id()));
+        fs::create_dir_all(&folder).expect("the folder is made");
+        let disk = folder.join("disk.adf");
+        fs::write(&disk, b"old").expect("the file is written");
+        fs::set_permissions(&disk, fs::Permissions::from_mode(0o640)).expect("the mode is set");
+        let made = private().open(folder.join("new")).expect("it is made");
+        assert_eq!(made.metadata().expect("it is there").mode() & 0o777, 0o600);
+        let old = fs::metadata(&disk).expect("it is there");
+        let temporary = Temporary::beside(&disk, Some(&old)).expect("it is made");
+        let own = temporary.file.metadata().expect("it is there");
+        assert_eq!((own.len(), own.mode(), own.uid(), own.gid()), (0, old.mode(), old.uid(), old.gid()));
+        drop(temporary);
+        fs::remove_dir_all(&folder).expect("the folder is removed");
+    }
 
     #[test]
     fn a_temporary_file_never_stays() {
@@ -201,17 +316,25 @@ mod tests {
         let count = || fs::read_dir(&folder).expect("the folder is read").count();
 
         // Two at a time have names of their own; one that cannot take the other's place is removed.
-        let mut first = Temporary::beside(&disk).expect("it is made");
-        let second = Temporary::beside(&disk).expect("it is made");
+        let mut first = Temporary::beside(&disk, None).expect("it is made");
+        let second = Temporary::beside(&disk, None).expect("it is made");
         assert_eq!(count(), 3);
         drop(second);
-        first.fill(b"new", None, None, true).expect("it is filled");
-        assert!(first.rename(&missing).is_err());
+        first.fill(b"new", None, true).expect("it is filled");
+        assert!(first.rename(&missing, true).is_err());
         assert_eq!((count(), fs::read(&disk).ok().as_deref()), (1, Some(&b"old"[..])));
 
         assert!(replace(disk.as_os_str(), b"new").is_ok() && replace(missing.as_os_str(), b"new").is_err());
         assert!(replace(folder.as_os_str(), b"new").is_err());
         assert_eq!((count(), fs::read(&disk).ok().as_deref()), (1, Some(&b"new"[..])));
+        // What a stopped process has left is swept away, and what a living one still fills is not.
+        let (left, living) =
+            (folder.join(".pfs-1-0.tmp"), Temporary::beside(&disk, None).expect("it is made"));
+        fs::write(&left, b"half").expect("the file is written");
+        assert_eq!(count(), 3);
+        assert!(replace(disk.as_os_str(), b"newer").is_ok());
+        assert_eq!((count(), left.exists(), living.path.exists()), (2, false, true));
+        drop(living);
         fs::remove_dir_all(&folder).expect("the folder is removed");
     }
 }

@@ -229,6 +229,32 @@ fn permissions_and_links_stay() {
     assert!(folder.done(&["tree", "disk.adf"]).contains("  new/\n"));
 }
 
+/// The owner stays too. Only root can give a file away; anybody else keeps their own.
+#[cfg(unix)]
+#[test]
+fn the_owner_stays() {
+    use std::os::unix::fs::{chown, MetadataExt};
+    let folder = Folder::with_disk("owner");
+    let owner = |name: &str| {
+        let metadata = fs::metadata(folder.path(name)).expect("it is there");
+        (metadata.uid(), metadata.gid())
+    };
+    let _ = chown(folder.path("disk.adf"), Some(12_345), Some(23_456));
+    let before = owner("disk.adf");
+    folder.done(&["mkdir", "disk.adf", "new"]);
+    assert_eq!(owner("disk.adf"), before);
+}
+
+/// What a command left that was killed is gone after the next one.
+#[test]
+fn temporary_files_of_killed_commands_are_swept() {
+    let folder = Folder::with_disk("swept");
+    folder.write(".pfs-4000000-0.tmp", b"half a disk");
+    folder.write(".pfs-notes", b"not ours");
+    folder.done(&["mkdir", "disk.adf", "new"]);
+    assert_eq!(folder.names(), [".pfs-notes", "disk.adf", "pack7"]);
+}
+
 #[cfg(unix)]
 #[test]
 fn a_link_that_leads_nowhere_is_replaced_only_by_force() {

@@ -119,13 +119,49 @@ fn a_write_protected_file_is_not_replaced() {
     let mut permissions = std::fs::metadata(folder.path("disk.adf")).expect("it is there").permissions();
     permissions.set_readonly(true);
     std::fs::set_permissions(folder.path("disk.adf"), permissions).expect("it is protected");
+    folder.done(&["format", "other.adf", "--blocks", "4000"]);
     for words in [
         &["mkdir", "disk.adf", "new"][..],
         &["format", "disk.adf", "--force"],
         &["get", "disk.adf", "recipes/pack7", "disk.adf", "--force"],
     ] {
-        folder.fails(2, words);
+        assert_eq!(folder.fails(2, words), "pfs: disk.adf: the file is write-protected\n");
     }
+    // It is the file that is written that counts, not the one that is read.
+    folder.done(&["get", "disk.adf", "recipes/pack7", "copy"]);
+    folder.done(&["put", "other.adf", "disk.adf"]);
+    assert_eq!(folder.fails(2, &["mkdir", ".", "new"]), "pfs: .: a folder and no file\n");
+}
+
+#[cfg(unix)]
+#[test]
+fn what_is_no_file_is_not_written() {
+    let folder = Folder::with_disk("no_file");
+    assert_eq!(folder.fails(2, &["mkdir", "/dev/null", "new"]), "pfs: /dev/null: not a regular file\n");
+    assert_eq!(folder.fails(2, &["format", "/dev/null", "--force"]), "pfs: /dev/null: not a regular file\n");
+}
+
+#[test]
+fn refusals_come_with_the_facts() {
+    let folder = Folder::with_disk("facts");
+    let (long, comment) = ("n".repeat(108), "c".repeat(80));
+    for (words, facts) in [
+        (&["mkdir", "disk.adf", &long][..], "the name has 108 bytes, and 107 are the most"),
+        (&["mkdir", "disk.adf", "x", "--comment", &comment], "the comment has 80 bytes, and 79 are the most"),
+        (&["put", "disk.adf", "pack7", "--as", "a:b"], "no name can have a ':'"),
+        (&["resize", "disk.adf", "recipes/pack7", "1M"], "2047 blocks more needed, 1752 free"),
+        (&["format", "new.adf", "--name", &long], "the disk's name has 108 bytes, and 31 are the most"),
+        (&["format", "new.adf", "--reserved", "1760"], "last reserved is 1760, and must be 5 to 1759"),
+    ] {
+        let error = folder.fails(1, words);
+        assert!(error.ends_with(&format!(": {facts}\n")), "{error}");
+        assert!(error.starts_with("pfs: disk.adf: ") || error.starts_with("pfs: new.adf: "), "{error}");
+    }
+    // Sizes in units, and protection by letters.
+    folder.done(&["resize", "disk.adf", "recipes/pack7", "10K"]);
+    assert_eq!(folder.done(&["cat", "disk.adf", "recipes/pack7"]).len(), 10_240);
+    folder.done(&["mkdir", "disk.adf", "x", "--protection", "hsparw"]);
+    assert!(folder.done(&["ls", "disk.adf"]).contains("  hsparw--  "));
 }
 
 /// A file larger than any disk is refused without being read to its end.
