@@ -22,7 +22,15 @@ fn main() {
     }
     let folder = library_folder();
     let folder = folder.canonicalize().unwrap_or(folder);
-    println!("cargo:rerun-if-changed={}", folder.join("libpfs.a").display());
+    let library = folder.join("libpfs.a");
+    println!("cargo:rerun-if-changed={}", library.display());
+    if !library.exists() {
+        println!("cargo::error=the proved library is not there: {}", library.display());
+        println!(
+            "cargo::error=run `rt staticlib pfs` in the repository's root, or name its folder in PFS_LIB_DIR"
+        );
+        println!("cargo::error=without the proofs, `cargo run --example pfs_model` tries the command line on the model");
+    }
     println!("cargo:rustc-link-search=native={}", folder.display());
     println!("cargo:rustc-link-lib=static=pfs");
     // For the test that links it from C.

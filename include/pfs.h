@@ -85,6 +85,81 @@
 extern "C" {
 #endif
 
+/* The numbers by name. */
+enum pfs_refusal {
+    PFS_DONE = 0,
+    PFS_IMAGE_SIZE = 1,
+    PFS_TABLE_SIZE = 2,
+    PFS_DISK_TYPE = 3,
+    PFS_ROOT_BLOCK = 4,
+    PFS_ANODE_BLOCK = 5,
+    PFS_FIXED_ANODE = 6,
+    PFS_ANODE_RANGE = 7,
+    PFS_CHAIN_LINKS = 8,
+    PFS_FREE_LIST = 9,
+    PFS_TWO_OWNERS = 10,
+    PFS_NO_OWNER = 11,
+    PFS_DIRECTORY_BLOCK = 12,
+    PFS_ENTRY_ANODE = 13,
+    PFS_NAMED_TWICE = 14,
+    PFS_FILE_SIZE = 15,
+    PFS_UNNAMED_CHAIN = 16,
+    PFS_BAD_ARGUMENT = 20,
+    PFS_NO_DIRECTORY = 21,
+    PFS_NOT_FOUND = 22,
+    PFS_ALREADY_THERE = 23,
+    PFS_IS_DIRECTORY = 24,
+    PFS_NOT_EMPTY = 25,
+    PFS_PAST_END = 26,
+    PFS_NO_FREE_BLOCK = 27,
+    PFS_NO_FREE_ANODE = 28,
+    PFS_BITMAP_LENGTH = 40,
+    PFS_NOT_OF_FORM = 50,
+    PFS_TOO_LONG = 51,
+    PFS_OUTPUT_SIZE = 52
+};
+
+/* The places of what calls hand back in fields. The last of each says how many there are. */
+enum pfs_summary_field {
+    PFS_SUMMARY_BLOCKS,
+    PFS_SUMMARY_FREE,
+    PFS_SUMMARY_FILES,
+    PFS_SUMMARY_DIRECTORIES,
+    PFS_SUMMARY_FIELDS
+};
+
+/* Of pfs_list and pfs_find. */
+enum pfs_list_field {
+    PFS_LIST_TYPE,
+    PFS_LIST_ANODE,
+    PFS_LIST_SIZE,
+    PFS_LIST_DAY,
+    PFS_LIST_MINUTE,
+    PFS_LIST_TICK,
+    PFS_LIST_PROTECTION,
+    PFS_LIST_NAME,
+    PFS_LIST_NAME_LENGTH,
+    PFS_LIST_COMMENT,
+    PFS_LIST_COMMENT_LENGTH,
+    PFS_LIST_FIELDS
+};
+
+enum pfs_label_field {
+    PFS_LABEL_LAST_RESERVED,
+    PFS_LABEL_DAY,
+    PFS_LABEL_MINUTE,
+    PFS_LABEL_TICK,
+    PFS_LABEL_PROTECTION,
+    PFS_LABEL_NAME,
+    PFS_LABEL_NAME_LENGTH,
+    PFS_LABEL_FIELDS
+};
+
+enum pfs_bitmap_field { PFS_BITMAP_DIFFERS, PFS_BITMAP_PLACE, PFS_BITMAP_FIELDS };
+
+/* Of pfs_widen and pfs_narrow. */
+enum pfs_settings_field { PFS_SETTINGS_BYTES, PFS_SETTINGS_KEY, PFS_SETTINGS_FIELDS };
+
 /* Types of entries. */
 #define PFS_FILE 253
 #define PFS_DIRECTORY 2
@@ -94,6 +169,75 @@ extern "C" {
 
 /* The entries that an anode table needs. */
 #define PFS_ANODES 3444
+
+/* What a number means, in words. */
+static inline const char *pfs_words(uint32_t number)
+{
+    switch (number) {
+    case PFS_DONE:
+        return "done";
+    case PFS_IMAGE_SIZE:
+        return "the image is not a whole number of 512-byte blocks, or has fewer than 5 or more than 65,535 of them";
+    case PFS_TABLE_SIZE:
+        return "a table is too short";
+    case PFS_DISK_TYPE:
+        return "the disk type is not PFS\\0";
+    case PFS_ROOT_BLOCK:
+        return "the root block's reserved range or the length of the disk's name is wrong";
+    case PFS_ANODE_BLOCK:
+        return "an anode block is missing, out of place, or not marked as the one it should be";
+    case PFS_FIXED_ANODE:
+        return "one of the fixed anodes 0, 1, 2 and 5 is not as it must be";
+    case PFS_ANODE_RANGE:
+        return "an anode is half cleared, reaches past the end of the disk, or is followed by one that is not in use";
+    case PFS_CHAIN_LINKS:
+        return "the chains of anodes run together, never end, or run into a fixed one";
+    case PFS_FREE_LIST:
+        return "the free list does not pass through anode 2, or has blocks on the wrong side of last reserved";
+    case PFS_TWO_OWNERS:
+        return "a block has two owners";
+    case PFS_NO_OWNER:
+        return "a block has no owner";
+    case PFS_DIRECTORY_BLOCK:
+        return "a directory block or an entry in it breaks the rules";
+    case PFS_ENTRY_ANODE:
+        return "an entry names an anode that is under 6, missing, free, or not a chain's head";
+    case PFS_NAMED_TWICE:
+        return "two entries name the same anode";
+    case PFS_FILE_SIZE:
+        return "a file's chain does not hold as many blocks as its size needs";
+    case PFS_UNNAMED_CHAIN:
+        return "a chain is named by no entry that the root leads to";
+    case PFS_BAD_ARGUMENT:
+        return "an argument is against the rules: type, name, comment, or the shape of the disk to format";
+    case PFS_NO_DIRECTORY:
+        return "there is no such directory";
+    case PFS_NOT_FOUND:
+        return "the name or place is not there";
+    case PFS_ALREADY_THERE:
+        return "the name is already there";
+    case PFS_IS_DIRECTORY:
+        return "it is a directory, and a file is needed";
+    case PFS_NOT_EMPTY:
+        return "the directory is not empty";
+    case PFS_PAST_END:
+        return "the bytes asked for reach past the file's size";
+    case PFS_NO_FREE_BLOCK:
+        return "not enough blocks are free";
+    case PFS_NO_FREE_ANODE:
+        return "no anode is free";
+    case PFS_BITMAP_LENGTH:
+        return "the bitmap has not as many blocks as the disk needs";
+    case PFS_NOT_OF_FORM:
+        return "not a settings file of the form asked for";
+    case PFS_TOO_LONG:
+        return "a time is longer than the old form can hold";
+    case PFS_OUTPUT_SIZE:
+        return "the output buffer is too short";
+    default:
+        return "unknown number";
+    }
+}
 
 /* The check: 0 for an accepted image, else the first of 1 to 16 that applies. */
 uint32_t pfs_check(const uint8_t *image, size_t image_len, uint16_t *blocks, size_t blocks_len, uint16_t *anodes,

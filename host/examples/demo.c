@@ -24,37 +24,38 @@ static uint16_t blocks[BLOCKS], anodes[PFS_ANODES];
 static void must(uint32_t answer, const char *what)
 {
     if (answer != 0) {
-        fprintf(stderr, "%s: refused by %" PRIu32 "\n", what, answer);
+        fprintf(stderr, "%s: refused by %" PRIu32 ": %s\n", what, answer, pfs_words(answer));
         exit(1);
     }
 }
 
 static void print_summary(void)
 {
-    uint32_t counts[4];
+    uint32_t counts[PFS_SUMMARY_FIELDS];
     must(pfs_summary(DISK, counts), "summary");
-    printf("%" PRIu32 " blocks, %" PRIu32 " free\n", counts[0], counts[1]);
+    printf("%" PRIu32 " blocks, %" PRIu32 " free\n", counts[PFS_SUMMARY_BLOCKS], counts[PFS_SUMMARY_FREE]);
 }
 
 int main(void)
 {
     static const char text[] = "180 C, 25 min\n";
     uint8_t back[sizeof text - 1];
-    uint32_t entry[11];
+    uint32_t entry[PFS_LIST_FIELDS];
     uint16_t recipes;
 
     must(pfs_format(image, sizeof image, 63, 2, TEXT("bench 4"), DAY, MINUTE, 0, 0), "format");
     must(pfs_make(DISK, PFS_ROOT, PFS_DIRECTORY, TEXT("recipes"), TEXT(""), DAY, MINUTE, 0, 0), "make a directory");
-    must(pfs_list(DISK, PFS_ROOT, 0, entry), "list the root");
-    recipes = (uint16_t)entry[1];
+    must(pfs_find(DISK, PFS_ROOT, TEXT("recipes"), entry), "find");
+    recipes = (uint16_t)entry[PFS_LIST_ANODE];
 
     must(pfs_make(DISK, recipes, PFS_FILE, TEXT("pack7"), TEXT("white bread"), DAY, MINUTE, 0, 0), "make a file");
     must(pfs_resize(DISK, recipes, TEXT("pack7"), sizeof back), "resize");
     must(pfs_write(DISK, recipes, TEXT("pack7"), 0, TEXT(text)), "write");
 
     must(pfs_list(DISK, recipes, 0, entry), "list");
-    printf("%.*s: %" PRIu32 " bytes, %.*s\n", (int)entry[8], (const char *)image + entry[7], entry[2],
-           (int)entry[10], (const char *)image + entry[9]);
+    printf("%.*s: %" PRIu32 " bytes, %.*s\n", (int)entry[PFS_LIST_NAME_LENGTH],
+           (const char *)image + entry[PFS_LIST_NAME], entry[PFS_LIST_SIZE], (int)entry[PFS_LIST_COMMENT_LENGTH],
+           (const char *)image + entry[PFS_LIST_COMMENT]);
     must(pfs_read(DISK, recipes, TEXT("pack7"), 0, back, sizeof back), "read");
     fwrite(back, 1, sizeof back, stdout);
 

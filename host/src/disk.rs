@@ -3,7 +3,7 @@
 use std::marker::PhantomData;
 
 use crate::bitmap;
-use crate::calls::{run, tables, Call, Library, Output, Stamp, BLOCK, DIRECTORY, FILE};
+use crate::calls::{run, tables, Call, Library, Output, Stamp, BLOCK, DIRECTORY, FILE, ROOT};
 pub use crate::refusals::Error;
 
 /// A disk image and the two tables that the calls fill, over any [`Library`].
@@ -313,9 +313,19 @@ impl<L: Library> Disk<L> {
         self.call(&Call::Remove { directory, name: name.to_vec() }).map(drop)
     }
 
+    /// The root directory.
+    pub fn root(&mut self) -> Directory<'_, L> {
+        Directory { disk: self, number: ROOT }
+    }
+
     /// The image as it is now.
     pub fn image(&self) -> &[u8] {
         &self.image
+    }
+
+    /// The image, given back.
+    pub fn into_image(self) -> Vec<u8> {
+        self.image
     }
 
     /// The owner of each block, by the block table as the last call left it. After a damage number the table says
@@ -327,6 +337,79 @@ impl<L: Library> Disk<L> {
     /// The head of each anode's chain, as the last call left it; 0 for anode 0 and those not in use.
     pub fn heads(&self) -> &[u16] {
         &self.anodes
+    }
+}
+
+/// A directory of a disk. What it is called here needs no number:
+///
+/// ```
+/// use ovenknit_host::disk::{Disk, Error, Format, New};
+/// use ovenknit_host::model::Model;
+///
+/// # fn main() -> Result<(), Error> {
+/// let mut disk = Disk::<Model>::format(1_760, &Format::new(63, 2, b"bench 4"))?;
+/// disk.root().make(&New::directory(b"recipes"))?;
+/// let mut root = disk.root();
+/// let mut recipes = root.directory(b"recipes")?;
+/// recipes.store(&New::file(b"pack7"), b"180 C, 25 min\n")?;
+/// assert_eq!(recipes.read(b"pack7")?, b"180 C, 25 min\n");
+/// assert_eq!(recipes.directory(b"pack7").err(), Some(Error::NoDirectory));
+/// assert_eq!(disk.label()?.name, b"bench 4");
+/// assert_eq!(disk.into_image().len(), 1_760 * 512);
+/// # Ok(())
+/// # }
+/// ```
+pub struct Directory<'a, L: Library> {
+    disk: &'a mut Disk<L>,
+    number: u16,
+}
+
+impl<L: Library> Directory<'_, L> {
+    /// The number by which calls know it.
+    pub fn number(&self) -> u16 {
+        self.number
+    }
+
+    /// A directory in it.
+    pub fn directory(&mut self, name: &[u8]) -> Result<Directory<'_, L>, Error> {
+        let entry = self.find(name)?;
+        match entry.kind {
+            Kind::Directory => Ok(Directory { disk: self.disk, number: entry.anode }),
+            Kind::File => Err(Error::NoDirectory),
+        }
+    }
+
+    /// Its entries, in their order.
+    pub fn list(&mut self) -> List<'_, L> {
+        self.disk.list(self.number)
+    }
+
+    /// The first entry of that name.
+    pub fn find(&mut self, name: &[u8]) -> Result<Entry, Error> {
+        self.disk.find(self.number, name)
+    }
+
+    /// All bytes of a file.
+    pub fn read(&mut self, name: &[u8]) -> Result<Vec<u8>, Error> {
+        let entry = self.find(name)?;
+        self.disk.read_file(self.number, &entry)
+    }
+
+    /// Makes an empty file or directory.
+    pub fn make(&mut self, new: &New) -> Result<(), Error> {
+        self.disk.make(self.number, new)
+    }
+
+    /// Makes a file with these bytes. If there is no room for them, an empty file or none is left.
+    pub fn store(&mut self, new: &New, bytes: &[u8]) -> Result<(), Error> {
+        self.make(&New { kind: Kind::File, ..new.clone() })?;
+        self.disk.resize(self.number, new.name, bytes.len() as u64)?;
+        self.disk.write(self.number, new.name, 0, bytes)
+    }
+
+    /// Removes a file or an empty directory.
+    pub fn remove(&mut self, name: &[u8]) -> Result<(), Error> {
+        self.disk.remove(self.number, name)
     }
 }
 
@@ -358,7 +441,6 @@ impl<L: Library> Iterator for List<'_, L> {
 #[cfg(test)]
 mod tests {
     use super::*;
-    use crate::calls::ROOT;
     use crate::model::Model;
 
     fn disk() -> Disk<Model> {

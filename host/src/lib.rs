@@ -8,15 +8,14 @@
 //! * [`settings`]: settings files, and the trait of whoever converts them.
 //! * [`cli`]: the command line `pfs`.
 //!
-//! For the tests:
-//!
 //! * [`model`]: the rules of the disks behind the same trait, written from the paper alone in ordinary Rust. The proved
 //!   library is compared with it.
-//! * [`rng`]: the small deterministic generator behind all that is random.
-//! * [`tree`]: what a disk should hold, as a plain tree in memory.
-//! * [`shapes`]: generators of disk images: formatted ones, accepted ones that format never makes, and damaged ones.
-//! * [`starts`], [`histories`]: the disks that histories start from, and random calls, often at the very edge.
-//! * [`compare`]: a library against the model, call by call.
+//!
+//! What only the tests and the benchmark need is public for them, but not part of what is promised, and left out of this
+//! documentation: `rng`, the small deterministic generator behind all that is random; `tree`, what a disk should hold, as
+//! a plain tree in memory; `shapes`, generators of disk images: formatted ones, accepted ones that format never makes, and
+//! damaged ones; `starts` and `histories`, the disks that histories start from, and random calls, often at the very edge;
+//! `compare`, a library against the model, call by call.
 
 #[cfg(feature = "proved")]
 pub mod ffi;
@@ -24,14 +23,20 @@ pub mod ffi;
 pub mod bitmap;
 pub mod calls;
 pub mod cli;
+#[doc(hidden)]
 pub mod compare;
 pub mod disk;
+#[doc(hidden)]
 pub mod histories;
 pub mod model;
 pub mod refusals;
+#[doc(hidden)]
 pub mod rng;
 pub mod settings;
+#[doc(hidden)]
 pub mod shapes;
 pub mod stack;
+#[doc(hidden)]
 pub mod starts;
+#[doc(hidden)]
 pub mod tree;

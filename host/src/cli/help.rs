@@ -29,7 +29,8 @@ impl Syntax {
             0 => "",
             _ => " [OPTIONS]",
         };
-        format!("pfs {} {}{options}", self.name, self.operands.join(" "))
+        let words = [&["pfs", self.name][..], self.operands].concat();
+        words.join(" ") + options
     }
 }
 
@@ -265,16 +266,33 @@ a longer time (51) and names its first record, since cut to two bytes a day (24:
 
 Records count from 1 and bytes from 0 in what is said about a file that is refused.",
     },
+    Syntax {
+        name: "man",
+        operands: &[],
+        flags: &[],
+        options: &[],
+        short: "print the manual page",
+        long: "Prints the manual page, for `pfs man | man -l -` or for the folder man1 of an installation.",
+    },
+    Syntax {
+        name: "completion",
+        operands: &["bash|fish"],
+        flags: &[],
+        options: &[],
+        short: "print what completes command lines in a shell",
+        long: "Prints the completion of commands and options for a shell: `source <(pfs completion bash)`, or
+`pfs completion fish | source`.",
+    },
 ];
 
 /// The help of the whole program.
 pub fn whole() -> String {
     let mut help = String::from("pfs COMMAND DISK ...: PFS floppy disks in image files\n\n");
     for syntax in COMMANDS {
-        help += &format!("  {:<10}{}\n", syntax.name, syntax.short);
+        help += &format!("  {:<12}{}\n", syntax.name, syntax.short);
     }
     help + "
-`pfs COMMAND --help` tells more. PATH is like recipes/pack7. In it * stands for any letters of a name and ? for one, unless
+`pfs help COMMAND` tells more, and `pfs --version` which program this is. PATH is like recipes/pack7. In it * stands for any letters of a name and ? for one, unless
 the name is there just so; quote it for the shell. In paths, names and comments \\xNN is any byte and \\\\ a backslash. With
 --latin1 they are text in Latin-1, else in UTF-8. A disk that is only looked at may be -, which is standard input.
 

@@ -1,7 +1,7 @@
 //! The command line `pfs`, over any [`Library`]. It knows nothing of the format: paths are walked by list calls,
 //! and all that is told of a disk comes from the calls' answers and tables.
 //!
-//! * `arguments`, `help`: the words of a command line, and what is said about them.
+//! * `arguments`, `help`, `manual`: the words of a command line, and what is said about them.
 //! * `looks`, `get`, `put`, `change`, `map`, `bitmap`: the commands.
 //! * `settings`: settings files, the one thing that is no disk.
 //! * `items`: files and directories on their way from one place to another.
@@ -22,6 +22,7 @@ mod help;
 mod items;
 mod json;
 mod looks;
+mod manual;
 mod map;
 mod paths;
 mod patterns;
@@ -120,17 +121,23 @@ fn command<L: Library + Converter>(words: &[OsString], out: &mut dyn Write) -> D
     let Some((first, rest)) = words.split_first() else {
         return Err(Failure::Trouble("no command; see pfs --help".into()));
     };
-    let name = first.to_string_lossy();
-    if ["--help", "-h", "help"].contains(&&*name) {
-        return Ok(out.write_all(help::whole().as_bytes())?);
+    match (&*first.to_string_lossy(), rest) {
+        ("--version" | "-V", _) => return Ok(writeln!(out, "pfs {}", env!("CARGO_PKG_VERSION"))?),
+        ("--help" | "-h", _) | ("help", []) => return Ok(out.write_all(help::whole().as_bytes())?),
+        ("help", [name, ..]) => return Ok(out.write_all(help::one(syntax(name)?).as_bytes())?),
+        _ => {}
     }
-    let Some(syntax) = help::COMMANDS.iter().find(|syntax| syntax.name == name) else {
-        return Err(Failure::Trouble(format!("{}: no such command; see pfs --help", text::show_os(first))));
-    };
+    let syntax = syntax(first)?;
     match Arguments::parse(syntax, rest)? {
         Some(arguments) => dispatch::<L>(syntax.name, &arguments, out),
         None => Ok(out.write_all(help::one(syntax).as_bytes())?),
     }
+}
+
+/// What the command of this name takes.
+fn syntax(name: &OsStr) -> Result<&'static help::Syntax, Failure> {
+    let found = help::COMMANDS.iter().find(|syntax| name == syntax.name);
+    found.ok_or_else(|| Failure::Trouble(format!("{}: no such command; see pfs --help", text::show_os(name))))
 }
 
 fn dispatch<L: Library + Converter>(name: &str, arguments: &Arguments, out: &mut dyn Write) -> Done {
@@ -151,6 +158,8 @@ fn dispatch<L: Library + Converter>(name: &str, arguments: &Arguments, out: &mut
         "df" => map::df::<L>(arguments, out),
         "bitmap" => bitmap::bitmap::<L>(arguments, out),
         "settings" => settings::settings_file::<L>(arguments, out),
+        "man" => manual::man(out),
+        "completion" => manual::completion(arguments, out),
         _ => map::map::<L>(arguments, out),
     }
 }

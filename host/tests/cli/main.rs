@@ -5,5 +5,6 @@ mod daily;
 mod faults;
 mod folder;
 mod looks;
+mod manual;
 mod refusals;
 mod settings;
