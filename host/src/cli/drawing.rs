@@ -4,9 +4,9 @@ use std::collections::{HashMap, HashSet};
 
 use super::paths::Path;
 use super::text::Charset;
-use super::{refused, walk, Failure};
-use crate::calls::{Library, ROOT};
-use crate::disk::{Disk, Kind, Owner};
+use super::{refused, stamps, walk, Failure};
+use crate::calls::{Library, BLOCK, ROOT};
+use crate::disk::{Disk, Kind, Label, Owner};
 
 /// What a block is used for.
 #[derive(Clone, Copy, Debug, PartialEq, Eq)]
@@ -57,6 +57,8 @@ pub struct BlockMap {
     pub paths: HashMap<u16, Path>,
     /// The last block of the part where directories go first.
     pub last_reserved: u16,
+    /// The disk's name, date and size.
+    pub title: String,
 }
 
 /// A run of blocks with one owner.
@@ -85,8 +87,10 @@ impl BlockMap {
             Owner::Entry(_) => Use::File,
         };
         let blocks = disk.owners().map(|owner| (used(owner), owner)).collect();
-        let last_reserved = disk.label().map_err(refused(Path::root(charset)))?.last_reserved;
-        Ok(BlockMap { blocks, paths, last_reserved })
+        let Label { last_reserved, stamp, name, .. } = disk.label().map_err(refused(Path::root(charset)))?;
+        let (name, date) = (charset.quoted(&name), stamps::show(stamp));
+        let title = format!("{name}, {} UTC, {} blocks", date.trim_end(), disk.image().len() / BLOCK);
+        Ok(BlockMap { blocks, paths, last_reserved, title })
     }
 
     pub fn count(&self, used: Use) -> usize {

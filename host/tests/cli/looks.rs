@@ -284,6 +284,13 @@ fn map_draws_every_block() {
 #[test]
 fn map_draws_a_picture() {
     let folder = Folder::with_disk("map_svg");
+    let svg = folder.done(&["map", "disk.adf", "--svg"]);
+    // A ground to stand on, the title, and the rows' numbers.
+    assert!(svg.contains("<rect x=\"-8\" y=\"-8\" width=\"570\" height=\"314\" fill=\"#ffffff\"/>"), "{svg}");
+    assert!(svg.contains("font-weight=\"bold\">\"bench 4\", 20") && svg.contains(" UTC, 1760 blocks</text>"));
+    for row in ["0", "128", "1664"] {
+        assert!(svg.contains(&format!("text-anchor=\"end\">{row}</text>")), "{row}");
+    }
     folder.done(&["put", "disk.adf", "pack7", "--as", "a<b&c"]);
     let svg = folder.done(&["map", "disk.adf", "--svg"]);
     assert!(svg.starts_with("<svg xmlns=\"http://www.w3.org/2000/svg\"") && svg.ends_with("</svg>\n"));
@@ -310,22 +317,43 @@ fn map_draws_a_picture() {
         assert_eq!(open, svg.matches(&format!("</{element}>")).count(), "{element}");
     }
     // The boundary before block 64 is one line across the picture.
-    assert!(svg.contains("<path d=\"M512 36 H0\""));
+    assert!(svg.contains("<path d=\"M554 82 H42\""));
     // Before block 21 it goes along the rest of the row, down, and below the row's beginning.
     folder.done(&["format", "small.adf", "--blocks", "100", "--reserved", "20"]);
     let small = folder.done(&["map", "small.adf", "--svg"]);
-    assert!(small.contains("<path d=\"M512 28 H168 V36 H0\"") && small.contains(">last reserved 20</text>"));
+    assert!(small.contains("<path d=\"M554 74 H210 V82 H42\"") && small.contains(">last reserved 20</text>"));
+    // Files beside each other have shades of their own, and a file in pieces says which piece each is.
+    for (name, blocks) in [("a", "512"), ("b", "512"), ("c", "512")] {
+        folder.write(name, b"");
+        folder.done(&["put", "small.adf", name]);
+        folder.done(&["resize", "small.adf", name, blocks]);
+    }
+    folder.done(&["resize", "small.adf", "a", "1024"]);
+    let pieces = folder.done(&["map", "small.adf", "--svg"]);
+    for (block, shade, owner) in [
+        (21, "#4c78a8", "a, run 1 of 2"),
+        (22, "#86aed6", "b"),
+        (23, "#2f5580", "c"),
+        (24, "#4c78a8", "a, run 2 of 2"),
+    ] {
+        let shown =
+            format!("fill=\"{shade}\" stroke=\"#ffffff\" stroke-width=\"1\"><title>{block}: {owner}</title>");
+        assert!(pieces.contains(&shown), "{shown}");
+    }
 }
 
 #[test]
 fn help_is_there_for_the_whole_and_for_each() {
     let folder = Folder::new("help");
     let whole = folder.done(&["--help"]);
+    assert_eq!(folder.done(&["--version"]), format!("pfs {}\n", env!("CARGO_PKG_VERSION")));
+    folder.fails(2, &["help", "frobnicate"]);
     assert_eq!(folder.done(&["help"]), whole);
     let commands = "info check ls tree cat get put mkdir rm mv cp resize format df map";
     for command in commands.split(' ') {
         assert!(whole.contains(&format!("\n  {command} ")), "{command}");
         let help = folder.done(&[command, "--help"]);
+        assert_eq!(folder.done(&["help", command]), help);
         assert!(help.starts_with(&format!("usage: pfs {command} DISK")), "{help}");
     }
 }
