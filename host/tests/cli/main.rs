@@ -6,5 +6,6 @@ mod faults;
 mod folder;
 mod looks;
 mod manual;
+mod pages;
 mod refusals;
 mod settings;
