@@ -129,6 +129,8 @@ fn measure_calls(what: &str, disk: Disk) {
     let calls = [
         ("read 64 bytes", Call::Read { directory, name: name.clone(), offset: 480, length: 64 }),
         ("list the root's last entry", Call::List { directory, place: last }),
+        ("find it by name", Call::Find { directory, name: name.clone() }),
+        ("the label", Call::Label),
         ("make a file", make(b"new")),
         ("resize by one block", Call::Resize { directory, name: name.clone(), size: SIZE + 512 }),
         ("write 64 bytes", Call::Write { directory, name: name.clone(), offset: 480, data: vec![7; 64] }),

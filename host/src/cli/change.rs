@@ -6,7 +6,7 @@ use std::io::Write;
 use std::path;
 
 use super::arguments::Arguments;
-use super::get::{all_found, RECURSIVE};
+use super::get::{all_apart, RECURSIVE};
 use super::items::{self, Bundle, Count, Present};
 use super::paths::Path;
 use super::progress::Progress;
@@ -43,7 +43,7 @@ pub fn rm<L: Library>(arguments: &Arguments, out: &mut dyn Write) -> Done {
     let recursive = arguments.has(RECURSIVE);
     let (mut count, mut progress) = (Count::default(), Progress::new("removed"));
     store::change(arguments.operand(0), |disk: &mut Disk<L>| {
-        for found in all_found(arguments, disk, arguments.from(1))? {
+        for found in all_apart(arguments, disk, arguments.from(1))? {
             count.add(items::remove(disk, found, recursive, &mut progress)?);
         }
         Ok(())
@@ -87,35 +87,42 @@ fn transfer<L: Library>(
 
 /// Copies or moves entries within a disk. What is moved goes before it comes anew, so that little room is needed; the disk
 /// file is replaced only if all of it is done.
-fn transfer_all<L: Library>(arguments: &Arguments, moves: bool) -> Done {
+fn transfer_all<L: Library>(arguments: &Arguments, moves: bool, out: &mut dyn Write) -> Done {
     let [from @ .., _] = arguments.from(1) else {
         return Ok(());
     };
     let present = if arguments.has("--force") { Present::Replace } else { Present::Refuse };
     let directories = moves || arguments.has(RECURSIVE);
-    let progress = &mut Progress::new(if moves { "moved" } else { "copied" });
+    let word = if moves { "moved" } else { "copied" };
+    let (mut count, mut progress) = (Count::default(), Progress::new(word));
     store::change(arguments.operand(0), |disk: &mut Disk<L>| {
-        let all = all_found(arguments, disk, from)?;
+        let all = all_apart(arguments, disk, from)?;
         let several = all.len() > 1;
         for found in all {
             let Transfer { at, name } = transfer(arguments, disk, &found, several)?;
-            let mut bundle = Bundle::from_disk(disk, found.clone(), directories, progress)?;
+            let mut bundle = Bundle::from_disk(disk, found.clone(), directories, &mut progress)?;
             bundle.items[0].name = name;
             if moves {
-                items::remove(disk, found, true, progress)?;
+                items::remove(disk, found, true, &mut progress)?;
             }
-            bundle.store(disk, &at, present, progress)?;
+            bundle.store(disk, &at, present, &mut progress)?;
+            count.add(bundle.count());
         }
         Ok(())
-    })
+    })?;
+    drop(progress);
+    if count.directories > 0 {
+        writeln!(out, "{word} {}", count.words())?;
+    }
+    Ok(())
 }
 
-pub fn mv<L: Library>(arguments: &Arguments) -> Done {
-    transfer_all::<L>(arguments, true)
+pub fn mv<L: Library>(arguments: &Arguments, out: &mut dyn Write) -> Done {
+    transfer_all::<L>(arguments, true, out)
 }
 
-pub fn cp<L: Library>(arguments: &Arguments) -> Done {
-    transfer_all::<L>(arguments, false)
+pub fn cp<L: Library>(arguments: &Arguments, out: &mut dyn Write) -> Done {
+    transfer_all::<L>(arguments, false, out)
 }
 
 pub fn resize<L: Library>(arguments: &Arguments) -> Done {

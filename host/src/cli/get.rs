@@ -37,6 +37,23 @@ pub fn all_found<L: Library>(
     Ok(all)
 }
 
+/// The same for commands that take them away, or directories with all that is in them: none may be in another.
+pub fn all_apart<L: Library>(
+    arguments: &Arguments,
+    disk: &mut Disk<L>,
+    words: &[impl AsRef<OsStr>],
+) -> Result<Vec<Found>, Failure> {
+    let all = all_found(arguments, disk, words)?;
+    for (place, found) in all.iter().enumerate() {
+        let mut others = all.iter().enumerate().filter(|(other, _)| *other != place);
+        if let Some((_, other)) = others.find(|(_, other)| found.path.is_below(&other.path)) {
+            let message = format!("{} is in {}, which is named too", found.path, other.path);
+            return Err(arguments.trouble(message));
+        }
+    }
+    Ok(all)
+}
+
 /// All that some words stand for, with the bytes.
 fn bundles<L: Library>(
     arguments: &Arguments,

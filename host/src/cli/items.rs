@@ -354,6 +354,7 @@ impl Bundle {
         for (item, target) in self.items.iter().zip(&targets) {
             may_write(item, target, here)?;
         }
+        store::sweep(first);
         let mut made = Vec::new();
         for (item, target) in self.items.iter().zip(&targets) {
             let time = stamps::time(item.stamp).filter(|_| here.times);

@@ -41,45 +41,77 @@ fn disk_protection(bits: u16) -> String {
     format!("{} ({bits})", protection(bits as u8))
 }
 
+fn told_object(name: &OsStr, told: &(Summary, Label, usize), charset: Charset) -> Json {
+    let (summary, label, anodes) = told;
+    Json::Object(vec![
+        ("disk", text::os(name).into()),
+        ("name", charset.show(&label.name).into()),
+        ("date_utc", stamps::iso(label.stamp).into()),
+        ("protection", label.protection.into()),
+        ("last_reserved", label.last_reserved.into()),
+        ("blocks", summary.blocks.into()),
+        ("bytes", (summary.blocks as usize * BLOCK).into()),
+        ("free_blocks", summary.free.into()),
+        ("files", summary.files.into()),
+        ("directories", summary.directories.into()),
+        ("anodes_in_use", (*anodes).into()),
+    ])
+}
+
+fn write_told(name: &OsStr, told: &(Summary, Label, usize), charset: Charset, out: &mut dyn Write) -> Done {
+    let (summary, label, anodes) = told;
+    writeln!(out, "disk            {}", text::show_os(name))?;
+    writeln!(out, "name            {}", charset.quoted(&label.name))?;
+    writeln!(out, "date            {} UTC", stamps::show(label.stamp))?;
+    writeln!(out, "protection      {}", disk_protection(label.protection))?;
+    writeln!(out, "blocks          {}", summary.blocks)?;
+    writeln!(out, "bytes           {}", summary.blocks as usize * BLOCK)?;
+    writeln!(out, "last reserved   {}", label.last_reserved)?;
+    writeln!(out, "free blocks     {}", summary.free)?;
+    writeln!(out, "files           {}", summary.files)?;
+    writeln!(out, "directories     {}", summary.directories)?;
+    writeln!(out, "anodes in use   {anodes}")?;
+    Ok(())
+}
+
+/// A disk that cannot be told of is said among several others, and alone it is the failure of the command.
 pub fn info<L: Library>(arguments: &Arguments, out: &mut dyn Write) -> Done {
-    let charset = arguments.charset();
-    let mut objects = Vec::new();
-    for (place, name) in arguments.from(0).iter().enumerate() {
-        let (summary, label, anodes) = about::<L>(name)?;
-        if arguments.has(JSON) {
-            objects.push(Json::Object(vec![
-                ("disk", text::os(name).into()),
-                ("name", charset.show(&label.name).into()),
-                ("date_utc", stamps::iso(label.stamp).into()),
-                ("protection", label.protection.into()),
-                ("last_reserved", label.last_reserved.into()),
-                ("blocks", summary.blocks.into()),
-                ("bytes", (summary.blocks as usize * BLOCK).into()),
-                ("free_blocks", summary.free.into()),
-                ("files", summary.files.into()),
-                ("directories", summary.directories.into()),
-                ("anodes_in_use", anodes.into()),
-            ]));
-            continue;
+    let (names, charset) = (arguments.from(0), arguments.charset());
+    let (mut objects, mut status) = (Vec::new(), 0);
+    for (place, name) in names.iter().enumerate() {
+        let told = match about::<L>(name) {
+            Err(failure) if names.len() == 1 => return Err(failure),
+            told => told,
+        };
+        status = told.as_ref().map_or_else(Failure::status, |_| 0).max(status);
+        let separator = if place > 0 { "\n" } else { "" };
+        match (told, arguments.has(JSON)) {
+            (Ok(told), true) => objects.push(told_object(name, &told, charset)),
+            (Ok(told), false) => {
+                write!(out, "{separator}")?;
+                write_told(name, &told, charset, out)?;
+            }
+            (Err(failure), json) => {
+                let message = failure.message().unwrap_or_default().to_string();
+                match json {
+                    true => objects
+                        .push(Json::Object(vec![("disk", text::os(name).into()), ("error", message.into())])),
+                    false => writeln!(out, "{separator}disk            {}\n{message}", text::show_os(name))?,
+                }
+            }
         }
-        if place > 0 {
-            writeln!(out)?;
-        }
-        writeln!(out, "disk            {}", text::show_os(name))?;
-        writeln!(out, "name            {}", charset.quoted(&label.name))?;
-        writeln!(out, "date            {} UTC", stamps::show(label.stamp))?;
-        writeln!(out, "protection      {}", disk_protection(label.protection))?;
-        writeln!(out, "blocks          {}", summary.blocks)?;
-        writeln!(out, "bytes           {}", summary.blocks as usize * BLOCK)?;
-        writeln!(out, "last reserved   {}", label.last_reserved)?;
-        writeln!(out, "free blocks     {}", summary.free)?;
-        writeln!(out, "files           {}", summary.files)?;
-        writeln!(out, "directories     {}", summary.directories)?;
-        writeln!(out, "anodes in use   {anodes}")?;
     }
-    match arguments.has(JSON) {
-        true => write_json(Json::List(objects), out),
-        false => Ok(()),
+    if arguments.has(JSON) {
+        write_json(Json::List(objects), out)?;
+    }
+    ended(status)
+}
+
+/// The end of a command over several disks, by the highest status.
+fn ended(status: u8) -> Done {
+    match status {
+        0 => Ok(()),
+        status => Err(Failure::Answered(status)),
     }
 }
 
@@ -88,8 +120,9 @@ const NOT_COVERED: &str = "The bytes inside files are not checked: the disk hold
 
 /// What the check says of a disk.
 struct Verdict {
-    number: u32,
-    words: &'static str,
+    /// Nothing if the file cannot be read.
+    number: Option<u32>,
+    words: String,
     /// The exit status.
     status: u8,
     /// Where the fault is, if that was asked for.
@@ -99,11 +132,11 @@ struct Verdict {
 fn verdict<L: Library>(name: &OsStr, ask_where: bool, charset: Charset) -> Result<Verdict, Failure> {
     let mut disk = load::<L>(name)?;
     let Err(error) = disk.check() else {
-        return Ok(Verdict { number: 0, words: "accepted", status: 0, place: None });
+        return Ok(Verdict { number: Some(0), words: "accepted".into(), status: 0, place: None });
     };
     let place = ask_where.then(|| located(disk.image(), error, charset));
-    let (number, words) = (error.number(), error.words());
-    Ok(Verdict { number, words, status: refused("")(error).status(), place })
+    let status = refused("")(error).status();
+    Ok(Verdict { number: Some(error.number()), words: error.words().into(), status, place })
 }
 
 /// Where a fault is, by the model, which must have found the same one.
@@ -127,7 +160,14 @@ pub fn check<L: Library>(arguments: &Arguments, out: &mut dyn Write) -> Done {
     let names = arguments.from(0);
     let mut verdicts = Vec::new();
     for name in names {
-        verdicts.push((name, verdict::<L>(name, arguments.has("--where"), arguments.charset())?));
+        let verdict = match verdict::<L>(name, arguments.has("--where"), arguments.charset()) {
+            Err(failure) if names.len() > 1 => {
+                let words = failure.message().unwrap_or_default().to_string();
+                Verdict { number: None, words, status: failure.status(), place: None }
+            }
+            verdict => verdict?,
+        };
+        verdicts.push((name, verdict));
     }
     let status = verdicts.iter().map(|(_, verdict)| verdict.status).max().unwrap_or(0);
     match arguments.has(JSON) {
@@ -137,10 +177,7 @@ pub fn check<L: Library>(arguments: &Arguments, out: &mut dyn Write) -> Done {
         )?,
         false => write_verdicts(&verdicts, out)?,
     }
-    match status {
-        0 => Ok(()),
-        status => Err(Failure::Answered(status)),
-    }
+    ended(status)
 }
 
 fn judged(name: &OsStr, verdict: Verdict) -> Json {
@@ -154,10 +191,13 @@ fn judged(name: &OsStr, verdict: Verdict) -> Json {
 
 fn write_verdicts(verdicts: &[(&OsString, Verdict)], out: &mut dyn Write) -> Done {
     for (name, Verdict { number, words, place, .. }) in verdicts {
-        if verdicts.len() > 1 {
-            write!(out, "{}: ", text::show_os(name))?;
+        match number {
+            None => writeln!(out, "{words}")?,
+            Some(number) if verdicts.len() > 1 => {
+                writeln!(out, "{}: {number}: {words}", text::show_os(name))?
+            }
+            Some(number) => writeln!(out, "{number}: {words}")?,
         }
-        writeln!(out, "{number}: {words}")?;
         if let Some(place) = place {
             writeln!(out, "  {place}")?;
         }
@@ -165,7 +205,7 @@ fn write_verdicts(verdicts: &[(&OsString, Verdict)], out: &mut dyn Write) -> Don
     if verdicts.iter().any(|(_, verdict)| verdict.place.is_some()) {
         writeln!(out, "{NOT_PROVED}")?;
     }
-    if verdicts.iter().any(|(_, verdict)| verdict.number == 0) {
+    if verdicts.iter().any(|(_, verdict)| verdict.number == Some(0)) {
         writeln!(out, "{NOT_COVERED}")?;
     }
     Ok(())

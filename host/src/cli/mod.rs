@@ -68,6 +68,16 @@ impl Failure {
         }
     }
 
+    /// What is said of it, if it was not said already.
+    fn message(&self) -> Option<&str> {
+        match self {
+            Failure::Refused(message) | Failure::Trouble(message) | Failure::Damaged(message) => {
+                Some(message)
+            }
+            Failure::Answered(_) => None,
+        }
+    }
+
     /// A failure that names the disk file too, where it is about what is on it.
     fn on(self, disk: &OsStr) -> Failure {
         match self {
@@ -111,7 +121,7 @@ pub fn run<L: Library + Converter>(words: &[OsString], out: &mut dyn Write, erro
     };
     // What was said before the failure comes first; if not even the error can be told, the status still can.
     let _ = out.flush();
-    if let Failure::Refused(message) | Failure::Trouble(message) | Failure::Damaged(message) = &failure {
+    if let Some(message) = failure.message() {
         let _ = writeln!(errors, "pfs: {message}");
     }
     failure.status()
@@ -151,8 +161,8 @@ fn dispatch<L: Library + Converter>(name: &str, arguments: &Arguments, out: &mut
         "put" => put::put::<L>(arguments, out),
         "mkdir" => change::mkdir::<L>(arguments),
         "rm" => change::rm::<L>(arguments, out),
-        "mv" => change::mv::<L>(arguments),
-        "cp" => change::cp::<L>(arguments),
+        "mv" => change::mv::<L>(arguments, out),
+        "cp" => change::cp::<L>(arguments, out),
         "resize" => change::resize::<L>(arguments),
         "format" => change::format::<L>(arguments),
         "df" => map::df::<L>(arguments, out),

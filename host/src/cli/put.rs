@@ -2,6 +2,7 @@
 
 use std::ffi::{OsStr, OsString};
 use std::io::Write;
+use std::path::Path as HostPath;
 
 use super::arguments::Arguments;
 use super::get::RECURSIVE;
@@ -76,6 +77,14 @@ pub fn put<L: Library>(arguments: &Arguments, out: &mut dyn Write) -> Done {
     };
     let mut progress = Progress::new("put");
     store::change(arguments.operand(0), |disk: &mut Disk<L>| {
+        let word = sources(arguments).1.filter(|_| !arguments.has("--as")).unwrap_or_default();
+        let open = !word.is_empty() && !word.as_encoded_bytes().ends_with(b"/");
+        if open && HostPath::new(word).exists() && at.is_directory(disk) {
+            let word = text::show_os(word);
+            return Err(
+                arguments.trouble(format!("{word} is here and on the disk: the directory is {word}/"))
+            );
+        }
         if !arguments.has("--as") && !at.is_directory(disk) {
             let hint = "is no directory of the disk: several files go into one, and --as PATH gives a file another name";
             return Err(arguments.trouble(format!("{at} {hint}")));

@@ -223,7 +223,7 @@ fn flush_folder(file: &Path) -> io::Result<()> {
 
 /// Removes the temporary files in the folder of a file whose processes were stopped: those that nobody has locked. What
 /// cannot be looked at or removed stays.
-fn sweep(file: &Path) {
+pub fn sweep(file: &Path) {
     let is_temporary = |path: &Path| {
         let name = path.file_name().and_then(OsStr::to_str).unwrap_or_default();
         name.starts_with(TEMPORARY.0) && name.ends_with(TEMPORARY.1)

@@ -93,7 +93,10 @@ fn several_files_go_into_a_directory_or_none_goes() {
     // The second is there already, so the first does not come either.
     folder.done(&["put", "disk.adf", "b"]);
     assert!(folder.fails(1, &["put", "disk.adf", "a", "b", "/"]).starts_with("pfs: disk.adf: b: 23: "));
-    folder.done(&["put", "disk.adf", "a", "b", "recipes"]);
+    // A directory of the disk whose name is here too must be said to be one.
+    folder.write("recipes", b"three");
+    folder.fails(2, &["put", "disk.adf", "a", "b", "recipes"]);
+    folder.done(&["put", "disk.adf", "a", "b", "recipes/"]);
     assert_eq!(
         folder.done(&["tree", "disk.adf"]),
         "/\n  recipes/\n    pack7  14\n    a  3\n    b  3\n  b  3\n"

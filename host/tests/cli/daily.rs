@@ -113,7 +113,10 @@ fn moved_and_copied_within_the_disk() {
     assert_eq!(folder.done(&["ls", "disk.adf", "pack8"]), line.replace("pack7", "pack8"));
     // A directory with all that is in it, into another and under another name.
     folder.done(&["mkdir", "disk.adf", "store"]);
-    folder.done(&["mv", "disk.adf", "line3", "pack8", "store"]);
+    assert_eq!(
+        folder.done(&["mv", "disk.adf", "line3", "pack8", "store"]),
+        "moved 3 files and 3 directories, 3010 bytes\n"
+    );
     let moved = "/
   store/
     line3/
@@ -124,7 +127,13 @@ fn moved_and_copied_within_the_disk() {
     pack8  5
 ";
     assert_eq!(folder.done(&["tree", "disk.adf"]), moved);
-    folder.done(&["cp", "-r", "disk.adf", "store/line3/old", "older"]);
+    assert_eq!(
+        folder.done(&["cp", "-r", "disk.adf", "store/line3/old", "older"]),
+        "copied 2 files and 1 directory, 3005 bytes\n"
+    );
+    // What is named twice is not taken twice.
+    folder.fails(2, &["mv", "disk.adf", "store", "store/pack8", "older"]);
+    folder.fails(2, &["rm", "-r", "disk.adf", "store", "store/*"]);
     assert_eq!(folder.output(&["cat", "disk.adf", "older/long"]), [7; 3_000]);
     assert_eq!(
         folder.done(&["ls", "disk.adf", "older"]),

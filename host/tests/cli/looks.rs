@@ -62,6 +62,17 @@ disk.adf: 0: accepted
 The bytes inside files are not checked: the disk holds nothing to check them by.
 ";
     assert_eq!((several.status, several.out.as_str()), (3, lines));
+    let several = folder.run(&["check", "missing.adf", "disk.adf"]);
+    assert!(several.status == 2 && several.out.starts_with("missing.adf: No such file"), "{}", several.out);
+    assert!(several.out.contains("\ndisk.adf: 0: accepted\n"), "{}", several.out);
+    let several = folder.run(&["info", "damaged.adf", "disk.adf", "missing.adf"]);
+    let first = "disk            damaged.adf\ndamaged.adf: 3: the disk type is not PFS\\0\n\ndisk            disk.adf\n";
+    assert!(several.status == 3 && several.out.starts_with(first), "{}", several.out);
+    assert!(
+        several.out.contains("\ndisk            missing.adf\nmissing.adf: No such file"),
+        "{}",
+        several.out
+    );
     for command in ["info", "ls", "tree", "df", "map"] {
         let error = folder.fails(3, &[command, "damaged.adf"]);
         assert_eq!(error, "pfs: damaged.adf: 3: the disk type is not PFS\\0\n");
