@@ -7,7 +7,7 @@ use std::path;
 
 use super::arguments::Arguments;
 use super::get::{all_apart, RECURSIVE};
-use super::items::{self, Bundle, Count, Present};
+use super::items::{self, all_named_apart, Bundle, Count, Present};
 use super::paths::Path;
 use super::progress::Progress;
 use super::store::{self, replace};
@@ -98,6 +98,7 @@ fn transfer_all<L: Library>(arguments: &Arguments, moves: bool, out: &mut dyn Wr
     store::change(arguments.operand(0), |disk: &mut Disk<L>| {
         let all = all_apart(arguments, disk, from)?;
         let several = all.len() > 1;
+        all_named_apart(all.iter().map(|found| found.entry.name.as_slice()), arguments.charset())?;
         for found in all {
             let Transfer { at, name } = transfer(arguments, disk, &found, several)?;
             let mut bundle = Bundle::from_disk(disk, found.clone(), directories, &mut progress)?;

@@ -5,7 +5,7 @@ use std::io::Write;
 use std::path::{Path, PathBuf};
 
 use super::arguments::Arguments;
-use super::items::{no_name, Bundle, Count, Here};
+use super::items::{all_named_apart, no_name, Bundle, Count, Here};
 use super::progress::Progress;
 use super::walk::Found;
 use super::{store, text, Done, Failure};
@@ -115,18 +115,22 @@ pub fn get<L: Library>(arguments: &Arguments, out: &mut dyn Write) -> Done {
         times: !arguments.has("--no-times"),
         charset: arguments.charset(),
     };
-    let mut count = Count::default();
-    let several = bundles.len() > 1;
+    if matches!(target, Target::Output) {
+        return write_files(&bundles, out);
+    }
+    let mut plans = Vec::new();
     for bundle in &bundles {
         let first = match &target {
-            Target::Output => return write_files(&bundles, out),
-            Target::Name(_) if several => {
-                return Err(arguments.trouble("several files go into a folder that is there"));
-            }
-            Target::Name(path) => path.to_path_buf(),
+            Target::Name(path) if bundles.len() == 1 => path.to_path_buf(),
             Target::Folder(folder) => own_name(bundle, folder, &here)?,
+            _ => return Err(arguments.trouble("several files go into a folder that is there")),
         };
-        bundle.write_here(&first, &here, &mut progress)?;
+        plans.push(bundle.plan_here(&first, &here)?);
+    }
+    all_named_apart(bundles.iter().map(|bundle| bundle.items[0].name.as_slice()), here.charset)?;
+    let mut count = Count::default();
+    for (bundle, plan) in bundles.iter().zip(&plans) {
+        bundle.write_here(plan, &here, &mut progress)?;
         count.add(bundle.count());
     }
     drop(progress);

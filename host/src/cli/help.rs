@@ -292,9 +292,11 @@ pub fn whole() -> String {
         help += &format!("  {:<12}{}\n", syntax.name, syntax.short);
     }
     help + "
-`pfs help COMMAND` tells more, and `pfs --version` which program this is. PATH is like recipes/pack7. In it * stands for any letters of a name and ? for one, unless
-the name is there just so; quote it for the shell. In paths, names and comments \\xNN is any byte and \\\\ a backslash. With
---latin1 they are text in Latin-1, else in UTF-8. A disk that is only looked at may be -, which is standard input.
+`pfs help COMMAND` tells more, and `pfs --version` which program this is.
+
+PATH is like recipes/pack7. In it * stands for any letters of a name and ? for one, unless the name is there just so; quote
+it for the shell. In paths, names and comments \\xNN is any byte and \\\\ a backslash. With --latin1 they are text in
+Latin-1, else in UTF-8. A disk that is only looked at may be -, which is standard input.
 
 Exit status: 0 done, 1 refused by the disk's rules, 2 bad usage or a file that cannot be read or written, 3 a damaged disk.
 A command that changes a disk replaces the disk file as a whole, or leaves it as it was.

@@ -1,6 +1,6 @@
 //! Files and directories on their way from one place to another: from here to a disk, back, or within a disk.
 
-use std::collections::HashMap;
+use std::collections::{HashMap, HashSet};
 use std::ffi::OsStr;
 use std::fs;
 use std::io;
@@ -348,15 +348,20 @@ impl Bundle {
         Ok(targets)
     }
 
-    /// Writes it here, the first item to a path. Nothing is written where something is there already, but by force.
-    pub fn write_here(&self, first: &HostPath, here: &Here, progress: &mut Progress) -> Done {
+    /// Where each item goes if the first goes to a path. Nothing may be there already, but by force.
+    pub fn plan_here(&self, first: &HostPath, here: &Here) -> Result<Vec<PathBuf>, Failure> {
         let targets = self.targets(first, here)?;
         for (item, target) in self.items.iter().zip(&targets) {
             may_write(item, target, here)?;
         }
-        store::sweep(first);
+        Ok(targets)
+    }
+
+    /// Writes it here as planned.
+    pub fn write_here(&self, targets: &[PathBuf], here: &Here, progress: &mut Progress) -> Done {
+        targets.first().into_iter().for_each(|first| store::sweep(first));
         let mut made = Vec::new();
-        for (item, target) in self.items.iter().zip(&targets) {
+        for (item, target) in self.items.iter().zip(targets) {
             let time = stamps::time(item.stamp).filter(|_| here.times);
             match &item.bytes {
                 Some(bytes) => store::write_copy(target.as_os_str(), bytes, time)?,
@@ -373,6 +378,18 @@ impl Bundle {
             fs::File::open(folder).and_then(|folder| folder.set_modified(time)).map_err(trouble(folder))?;
         }
         Ok(())
+    }
+}
+
+/// Several things that go into one place must have different names there, or one would replace the other.
+pub fn all_named_apart<'a>(names: impl Iterator<Item = &'a [u8]>, charset: Charset) -> Done {
+    let mut seen = HashSet::new();
+    match names.into_iter().find(|name| !seen.insert(*name)) {
+        Some(name) => {
+            let name = charset.quoted(name);
+            Err(Failure::Trouble(format!("{name}: two of that name cannot go to the same place")))
+        }
+        None => Ok(()),
     }
 }
 

@@ -6,7 +6,7 @@ use std::path::Path as HostPath;
 
 use super::arguments::Arguments;
 use super::get::RECURSIVE;
-use super::items::{name_on_disk, Bundle, Count, Fields, Present};
+use super::items::{all_named_apart, name_on_disk, Bundle, Count, Fields, Present};
 use super::paths::Path;
 use super::progress::Progress;
 use super::{help, stamps, store, text, Done, Failure};
@@ -75,6 +75,7 @@ pub fn put<L: Library>(arguments: &Arguments, out: &mut dyn Write) -> Done {
             (bundles.collect::<Result<Vec<_>, _>>()?, at)
         }
     };
+    all_named_apart(bundles.iter().map(|bundle| bundle.items[0].name.as_slice()), fields.charset)?;
     let mut progress = Progress::new("put");
     store::change(arguments.operand(0), |disk: &mut Disk<L>| {
         let word = sources(arguments).1.filter(|_| !arguments.has("--as")).unwrap_or_default();
