@@ -101,10 +101,10 @@ fn transfer_all<L: Library>(arguments: &Arguments, moves: bool, out: &mut dyn Wr
         all_named_apart(all.iter().map(|found| found.entry.name.as_slice()), arguments.charset())?;
         for found in all {
             let Transfer { at, name } = transfer(arguments, disk, &found, several)?;
-            let mut bundle = Bundle::from_disk(disk, found.clone(), directories, &mut progress)?;
+            let mut bundle = Bundle::from_disk(disk, found.clone(), directories, &mut Progress::new("read"))?;
             bundle.items[0].name = name;
             if moves {
-                items::remove(disk, found, true, &mut progress)?;
+                items::remove(disk, found, true, &mut Progress::new("removed"))?;
             }
             bundle.store(disk, &at, present, &mut progress)?;
             count.add(bundle.count());

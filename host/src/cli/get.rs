@@ -55,15 +55,11 @@ pub fn all_apart<L: Library>(
 }
 
 /// All that some words stand for, with the bytes.
-fn bundles<L: Library>(
-    arguments: &Arguments,
-    words: &[impl AsRef<OsStr>],
-    progress: &mut Progress,
-) -> Result<Vec<Bundle>, Failure> {
-    let directories = arguments.has(RECURSIVE);
+fn bundles<L: Library>(arguments: &Arguments, words: &[impl AsRef<OsStr>]) -> Result<Vec<Bundle>, Failure> {
+    let (directories, mut progress) = (arguments.has(RECURSIVE), Progress::new("read"));
     store::look(arguments.operand(0), |disk: &mut Disk<L>| {
         let all = all_found(arguments, disk, words)?;
-        all.into_iter().map(|found| Bundle::from_disk(disk, found, directories, progress)).collect()
+        all.into_iter().map(|found| Bundle::from_disk(disk, found, directories, &mut progress)).collect()
     })
 }
 
@@ -75,7 +71,7 @@ fn write_files(bundles: &[Bundle], out: &mut dyn Write) -> Done {
 }
 
 pub fn cat<L: Library>(arguments: &Arguments, out: &mut dyn Write) -> Done {
-    let bundles = bundles::<L>(arguments, arguments.from(1), &mut Progress::new("read"))?;
+    let bundles = bundles::<L>(arguments, arguments.from(1))?;
     write_files(&bundles, out)
 }
 
@@ -108,8 +104,7 @@ pub fn get<L: Library>(arguments: &Arguments, out: &mut dyn Write) -> Done {
     if recursive && matches!(target, Target::Output) {
         return Err(arguments.trouble("-r makes folders, which standard output cannot have"));
     }
-    let mut progress = Progress::new("got");
-    let bundles = bundles::<L>(arguments, words, &mut progress)?;
+    let bundles = bundles::<L>(arguments, words)?;
     let here = Here {
         force: arguments.has("--force"),
         times: !arguments.has("--no-times"),
@@ -128,7 +123,7 @@ pub fn get<L: Library>(arguments: &Arguments, out: &mut dyn Write) -> Done {
         plans.push(bundle.plan_here(&first, &here)?);
     }
     all_named_apart(bundles.iter().map(|bundle| bundle.items[0].name.as_slice()), here.charset)?;
-    let mut count = Count::default();
+    let (mut count, mut progress) = (Count::default(), Progress::new("got"));
     for (bundle, plan) in bundles.iter().zip(&plans) {
         bundle.write_here(plan, &here, &mut progress)?;
         count.add(bundle.count());

@@ -8,7 +8,7 @@ use super::get::all_found;
 use super::help::JSON;
 use super::json::Json;
 use super::paths::Path;
-use super::store::{self, load, refused_disk};
+use super::store::{self, load};
 use super::text::{self, Charset};
 use super::walk::{self, Found};
 use super::{refused, stamps, Done, Failure};
@@ -30,7 +30,7 @@ pub fn write_json(value: Json, out: &mut dyn Write) -> Done {
 fn about<L: Library>(name: &OsStr) -> Result<(Summary, Label, usize), Failure> {
     store::look(name, |disk: &mut Disk<L>| {
         let told = disk.summary().and_then(|summary| Ok((summary, disk.label()?)));
-        let (summary, label) = told.map_err(refused_disk(name))?;
+        let (summary, label) = told.map_err(refused("its label"))?;
         let anodes = disk.heads().iter().filter(|&&head| head != 0).count();
         Ok((summary, label, anodes))
     })

@@ -1,5 +1,5 @@
-//! The command line `pfs`, over any [`Library`]. It knows nothing of the format: paths are walked by list calls,
-//! and all that is told of a disk comes from the calls' answers and tables.
+//! The command line `pfs`, over any [`Library`]. It knows nothing of the format: names are found by calls, and
+//! all that is told of a disk comes from the calls' answers and tables. Where a fault is comes from the model.
 //!
 //! * `arguments`, `help`, `manual`: the words of a command line, and what is said about them.
 //! * `looks`, `get`, `put`, `change`, `map`, `bitmap`: the commands.

@@ -1,6 +1,6 @@
 //! Disk files. A file is never changed in place: the new bytes go into a temporary file beside it, which has its owner and
-//! mode before the first of them, and takes its name when they are all there. A change holds the disk file until then, so that changes of one disk by several
-//! processes come one after the other and none is lost.
+//! mode before the first of them, and takes its name when they are all there. A change holds the disk file until then, so
+//! that changes of one disk by several processes come one after the other and none is lost.
 
 use std::ffi::OsStr;
 use std::fs::{self, File, Metadata, OpenOptions};
@@ -212,13 +212,19 @@ fn folder_of(file: &Path) -> &Path {
     file.parent().filter(|folder| !folder.as_os_str().is_empty()).unwrap_or(Path::new("."))
 }
 
-/// Waits until the new name of a file is safe from a power cut.
+/// Waits until the new name of a file is safe from a power cut, where folders can be flushed.
 fn flush_folder(file: &Path) -> io::Result<()> {
-    #[cfg(unix)]
-    File::open(folder_of(file))?.sync_all()?;
-    #[cfg(not(unix))]
-    let _ = file;
-    Ok(())
+    let flushed =
+        if cfg!(unix) { File::open(folder_of(file)).and_then(|folder| folder.sync_all()) } else { Ok(()) };
+    match flushed {
+        Err(error) if [io::ErrorKind::InvalidInput, io::ErrorKind::Unsupported].contains(&error.kind()) => {
+            Ok(())
+        }
+        Err(error) => {
+            Err(io::Error::new(error.kind(), format!("written, but its folder is not flushed: {error}")))
+        }
+        Ok(()) => Ok(()),
+    }
 }
 
 /// Removes the temporary files in the folder of a file whose processes were stopped: those that nobody has locked. What

@@ -25,6 +25,7 @@ mod bytes;
 mod disk;
 mod half_cleared;
 mod limits;
+mod looks;
 mod paper;
 mod settings;
 mod space;
