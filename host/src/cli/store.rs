@@ -236,8 +236,11 @@ pub fn sweep(file: &Path) {
     };
     let entries = fs::read_dir(folder_of(file)).into_iter().flatten().flatten();
     for path in entries.map(|entry| entry.path()).filter(|path| is_temporary(path)) {
-        let left = File::open(&path).is_ok_and(|file| file.try_lock().is_ok());
-        if left {
+        let Ok(left) = File::open(&path) else {
+            continue;
+        };
+        // The lock is held until the file is gone, so that who has just made it sees that.
+        if left.try_lock().is_ok() {
             let _ = fs::remove_file(&path);
         }
     }

@@ -284,3 +284,24 @@ fn changes_of_one_disk_at_the_same_time_are_all_kept() {
     assert_eq!(folder.done(&["check", "disk.adf"]), ACCEPTED);
     assert_eq!(folder.names(), ["disk.adf", "pack7"], "no temporary file stays");
 }
+
+/// Each disk is held by itself, and no command sweeps away what another one is still writing.
+#[test]
+fn changes_of_several_disks_at_the_same_time_are_all_kept() {
+    let folder = Folder::with_disk("several_together");
+    let disks: Vec<String> = (0..8).map(|i| format!("disk{i}.adf")).collect();
+    for disk in &disks {
+        folder.write(disk, &folder.read("disk.adf"));
+    }
+    let names: Vec<String> = (0..5).map(|i| format!("record{i}")).collect();
+    let pairs = names.iter().flat_map(|name| disks.iter().map(move |disk| (name, disk)));
+    let commands: Vec<_> =
+        pairs.map(|(name, disk)| vec!["put", disk.as_str(), "pack7", "--as", name.as_str()]).collect();
+    for run in folder.run_together(&commands) {
+        assert_eq!((run.status, run.errors.as_str()), (0, ""));
+    }
+    for disk in &disks {
+        assert_eq!(folder.done(&["ls", disk, "record?"]).lines().count(), 5, "{disk}");
+    }
+    assert_eq!(folder.names().len(), 10, "no temporary file stays");
+}
