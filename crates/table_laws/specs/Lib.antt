@@ -1,0 +1,2 @@
+-- What the block table of an accepted image shows of its chains.
+pub mod ShownOwners

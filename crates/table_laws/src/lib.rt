@@ -1,0 +1,1 @@
+// What the block table of an accepted image shows of its chains; specs/ has it all.
