@@ -2,7 +2,7 @@
 use Prim.Native.Nat.{ℕ, _≤_}
 use mathlib.Core.Path.{_≡_, refl, sym, ap, _∙_}
 use mathlib.Core.Logic.{inl, inr}
-use mathlib.Core.List.{List, [], _∷_}
+use mathlib.Core.List.{List, [], _∷_, _++_}
 use lib.Dec.{ltb}
 use borrow.Author.Tests.{ltb-false}
 use lib.ListN.{length, getD, drop, replicate}
@@ -57,7 +57,7 @@ module _ (img b₀ a₀ b a : List ℕ) (x : Checked) (e : outcomeOf (checkedNum
     pub answers-k : checkAnswer img (length b₀) (length a₀) ≡ k
     answers-k = answers k number-k
 
-    some : 1 ≤ k
+    pub some : 1 ≤ k
     some = refused-some r k n
 
     -- its number comes before the call's own
@@ -133,6 +133,11 @@ module _ (img b₀ a₀ b a : List ℕ) (x : Checked) (e : outcomeOf (checkedNum
     summary-accepted told n size =
         let v = rw is at told in
         rw (answers-0, ← size, ← (v .0), ← (v .1), ← (v .2)) (settled-late 0 (inl refl) (n ∷ t .free ∷ t .files ∷ t .dirs ∷ []) [])
+
+    -- the block table shows the image
+    pub table-left : b ≡ blockTable img (anodesOf img) ++ drop (diskSize img) b₀
+    unfolding blocksLeft tableLeft
+    table-left = blocks-left 0 number-0
 
     -- what the check loaded and filled
     pub opened : (counts firsts nexts queue parents : List ℕ) → Opened x img counts firsts nexts queue parents → Open img counts firsts nexts queue parents a (t .dirs)

@@ -38,7 +38,8 @@ module _ {img counts firsts nexts queue parents heads : List ℕ} {dirs : ℕ} (
   unfolding noDirectory
   reached-queued h r e = sym (e parents ∙ ap (λ (l : List Dir). noneHeaded l h) (o .queued))
 
-  queued-reached : (i : ℕ) → i < dirs → noDirectory img (anodesOf img) (getD queue i 0) ≡ false
+  -- a directory of the queue is reached
+  pub queued-reached : (i : ℕ) → i < dirs → noDirectory img (anodesOf img) (getD queue i 0) ≡ false
   queued-reached i l =
       let h = getD queue i 0 in
       let found = place-found queue h 0 dirs i (omega arith) (omega arith) refl in

@@ -1,19 +1,19 @@
 -- Laws of the totals: their two parts, when they are full, one more and the sums. Assumes nothing.
 use Prim.Native.Nat.{ℕ, zero, suc, _+_, _-_, _<_, _≤_}
 use mathlib.Core.Path.{_≡_, refl, sym, ap, _∙_}
-use mathlib.Core.Logic.{_≢_, inl, inr}
-use mathlib.Core.Bool.{Bool, true, false, _||_}
+use mathlib.Core.Logic.{inl, inr}
+use mathlib.Core.Bool.{Bool, true, false}
 use mathlib.Core.List.{List, [], _∷_, _++_, append-nil}
 use native.Mathlib.Omega.{arith}
 use native.Mathlib.Numerals.{add-one}
 use lib.Dec.{leb, ltb}
 use lib.ListN.{length, getD, set, take, drop, drop-of-length-le, length-drop, take-append-drop}
 use lib.Seq.{length-take-le, take-all, take-suc, drop-cons, take-at, drop-at, set-append-left, getD-append-add, getD-take}
-use borrow.Author.Tests.{le-leb, lt-leb, le-ltb, lt-ltb, leb-false, ltb-false}
+use borrow.Author.Tests.{le-leb, le-ltb, lt-ltb, leb-false, ltb-false}
 use Rattle.counting.specs.Laws.{neither}
 use Rattle.rules.specs.Counting.{sumList, anyIn}
 use Rattle.rules.specs.Calls.{doneOr}
-use Rattle.laws.specs.Tests.{same?, less?}
+use Rattle.laws.specs.Tests.{same?}
 use Rattle.laws.specs.Bags.{list-append, list-one, list-nil}
 use Rattle.report.specs.Report.{answersIn, sumsIn, imagesTaken, isFull, oneMoreAt, withFigures, withImage}
 use Rattle.report.specs.Room.{CountsLow, SumsLow}

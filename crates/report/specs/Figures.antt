@@ -2,14 +2,13 @@
 use Prim.Native.Nat.{ℕ}
 use mathlib.Core.Bool.{cond}
 use mathlib.Core.List.{List, [], _∷_}
-use lib.Dec.{ltb}
 use Rattle.rules.specs.Counting.{sumList, gather}
 use Rattle.rules.specs.Anodes.{Anodes}
 use Rattle.rules.specs.Walk.{Entered, reachedDirs}
 use Rattle.rules.specs.Lookup.{entriesOf}
 use Rattle.rules.specs.Totals.{freeBlocks}
 use Rattle.rules.specs.Calls.{fileCount, dirCount}
-use Rattle.report.specs.Runs.{fileRuns, longestFree}
+use Rattle.report.specs.Runs.{oneIfMany, fileRuns, longestFree}
 
 -- the reached entries, in the walk's order
 unfoldable pub reachedEntries : List ℕ → Anodes → List Entered
@@ -17,7 +16,7 @@ reachedEntries img s = gather (λ d. entriesOf img s (d .head)) (reachedDirs img
 
 -- 1 for a file in more than one run, else 0
 unfoldable pub oneIfSplit : List ℕ → Anodes → Entered → ℕ
-oneIfSplit img s e = cond (e .dir) 0 (cond (ltb 1 (fileRuns img s (e .anode))) 1 0)
+oneIfSplit img s e = cond (e .dir) 0 (oneIfMany (fileRuns img s (e .anode)))
 
 -- files in more than one run
 unfoldable pub splitFiles : List ℕ → Anodes → ℕ

@@ -2,7 +2,7 @@
 use Prim.Native.Nat.{ℕ, zero, suc, max}
 use mathlib.Core.Bool.{Bool, false, cond, not, _&&_}
 use mathlib.Core.List.{List}
-use lib.Dec.{leb}
+use lib.Dec.{leb, ltb}
 use Rattle.rules.specs.Counting.{sumBelow, occurrences}
 use Rattle.rules.specs.Anodes.{Anodes}
 use Rattle.rules.specs.Chains.{blocksOf}
@@ -20,6 +20,10 @@ startsRun test x = test x && not (passesBefore test x)
 -- how many runs the blocks below n that pass make
 unfoldable pub runsIn : (ℕ → Bool) → ℕ → ℕ
 runsIn test n = sumBelow (λ x. cond (startsRun test x) 1 0) n
+
+-- 1 for more than one run, else 0
+unfoldable pub oneIfMany : ℕ → ℕ
+oneIfMany runs = cond (ltb 1 runs) 1 0
 
 -- how many blocks next to each other pass that end just below n
 unfoldable pub endingRun : (ℕ → Bool) → ℕ → ℕ

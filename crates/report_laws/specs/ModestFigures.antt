@@ -1,12 +1,11 @@
 -- The figures of an accepted disk are modest, so that no sum over 100,000 disks comes above the limit.
-use Prim.Native.Nat.{ℕ, zero, suc, _+_, _*_, _/_, _≤_, _<_}
+use Prim.Native.Nat.{ℕ, zero, suc, _*_, _≤_}
 use mathlib.Core.Path.{_≡_, refl, sym, ap, _∙_}
 use mathlib.Core.Logic.{inl, inr}
 use mathlib.Core.Bool.{Bool, true, false, cond}
-use mathlib.Core.List.{List, [], _∷_, map}
+use mathlib.Core.List.{List, [], _∷_}
 use native.Mathlib.Omega.{arith}
 use lib.Dec.{ltb}
-use lib.ListN.{length, getD}
 use Rattle.rules.specs.Counting.{oneAt, sumList, occurrences, gather}
 use Rattle.rules.specs.Anodes.{Anodes, limit, anodesOf}
 use Rattle.rules.specs.Chains.{chainOf, blockCount}
@@ -17,7 +16,7 @@ use Rattle.rules.specs.Totals.{freeBlocks, fileBlocks, totalIn, total}
 use Rattle.rules.specs.Calls.{fileCount, dirCount}
 use Rattle.laws.specs.Tests.{less?}
 use Rattle.laws.specs.Acceptance.{size-bounds}
-use Rattle.laws.specs.Bags.{list-cons, list-mono, list-congr, list-scale, list-length, gather-sum, map-sum, pigeonhole}
+use Rattle.laws.specs.Bags.{list-mono, list-congr, list-scale, list-length, gather-sum, map-sum, pigeonhole}
 use Rattle.laws.specs.Items.{names, names-sum, namedIn, giving, below, below-items}
 use Rattle.laws.specs.Entries.{items-sum}
 use Rattle.laws.specs.Whole.{named-heads}
@@ -25,7 +24,7 @@ use Rattle.laws.specs.Members.{Member, member-first, member-later, member-congr
 use Rattle.change_laws.specs.Image.{AcceptedWhole, AcceptedImage, image-passed, accepted-whole}
 use Rattle.change_laws.specs.Reached.{its-items, EntryIn, member-reached, entry-facts}
 use Rattle.change_laws.specs.Totals.{accepted-total}
-use Rattle.report.specs.Runs.{longestRun, inChain, fileRuns, longestFree}
+use Rattle.report.specs.Runs.{oneIfMany, longestRun, inChain, fileRuns, longestFree}
 use Rattle.report.specs.Figures.{reachedEntries, oneIfSplit, splitFiles, fileSize, fileBytes, figuresOf}
 use Rattle.report.specs.Room.{Modest}
 use Rattle.report_laws.specs.RunsMean.{longest-there}
@@ -58,7 +57,7 @@ module _ {img : List ℕ} (image : AcceptedImage img) where
   w : AcceptedWhole img
   w = accepted-whole image
 
-  small-disk : diskSize img ≤ 65535
+  pub small-disk : diskSize img ≤ 65535
   small-disk = size-bounds img (image-passed image .size-right) .1
 
   -- ---- the reached entries are what the walk named
@@ -126,18 +125,18 @@ module _ {img : List ℕ} (image : AcceptedImage img) where
       go false = omega arith
 
   split-few : splitFiles img s ≤ 3444
-  unfolding splitFiles oneIfSplit
+  unfolding splitFiles oneIfSplit oneIfMany
   split-few = omega (arith, reached-weight v, weight-few v (λ d a. go d (ltb 1 (fileRuns img s a))))
     where
       v : Bool → ℕ → ℕ
-      v d a = cond d 0 (cond (ltb 1 (fileRuns img s a)) 1 0)
+      v d a = cond d 0 (oneIfMany (fileRuns img s a))
 
       go : (t u : Bool) → cond t 0 (cond u 1 0) ≤ 1
       go true u = omega arith
       go false true = omega arith
       go false false = omega arith
 
-  dirs-few : dirCount img s ≤ 3445
+  pub dirs-few : dirCount img s ≤ 3445
   unfolding dirCount reached itemsOf
   dirs-few = omega (
     arith,

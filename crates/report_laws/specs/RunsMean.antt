@@ -3,13 +3,12 @@ use Prim.Native.Nat.{ℕ, zero, suc, _+_, _-_, _<_, _≤_}
 use mathlib.Core.Path.{_≡_, refl, sym, ap, _∙_}
 use mathlib.Core.Logic.{_≢_, _⊎_, inl, inr}
 use mathlib.Core.Bool.{Bool, true, false, not, _&&_, true≢false, and-false}
-use mathlib.Core.List.{List}
 use native.Mathlib.Omega.{arith}
 use lib.Dec.{leb, ltb}
 use borrow.Author.Tests.{le-leb, lt-leb, lt-ltb, le-ltb}
 use Rattle.laws.specs.Tests.{same?, less?}
 use Rattle.report.specs.Runs.{passesBefore, startsRun, runsIn, endingRun, longestRun}
-use Rattle.report.proofs.Passes.{runs-none, runs-start, runs-same, ending-more, ending-ends, longest-more}
+use Rattle.report.proofs.Passes.{runs-none, runs-more, runs-start, runs-same, ending-more, ending-ends, longest-more}
 
 -- a test holds or not
 true-or-false : (b : Bool) → (b ≡ true) ⊎ (b ≡ false)
@@ -311,3 +310,28 @@ module _ (test : ℕ → Bool) where
       back (no-run e p) g = absurd (true≢false (sym (g .high-passes) ∙ p (g .high) (g .inside)))
       back (one-run e c) g = absurd (no-gap n c g)
       back (more-runs m k) g = m
+
+-- ---- tests that agree below n
+
+module _ (f g : ℕ → Bool) where
+  before-alike : (x : ℕ) → ((y : ℕ) → y < x → f y ≡ g y) → passesBefore f x ≡ passesBefore g x
+  unfolding passesBefore
+  before-alike zero h = refl
+  before-alike (suc x) h = h x (omega arith)
+
+  pub runs-alike : (n : ℕ) → ((x : ℕ) → x < n → f x ≡ g x) → runsIn f n ≡ runsIn g n
+  unfolding startsRun
+  runs-alike zero h = runs-none f ∙ sym (runs-none g)
+  runs-alike (suc n) h =
+      let same : startsRun f n ≡ startsRun g n = rw (h n (omega arith), before-alike n (λ y l. h y (omega arith))) in
+      rw (runs-more f n, runs-more g n, runs-alike n (λ x l. h x (omega arith)), same)
+
+  ending-alike : (n : ℕ) → ((x : ℕ) → x < n → f x ≡ g x) → endingRun f n ≡ endingRun g n
+  unfolding endingRun
+  ending-alike zero h = refl
+  ending-alike (suc n) h = rw (h n (omega arith), ending-alike n (λ x l. h x (omega arith)))
+
+  pub longest-alike : (n : ℕ) → ((x : ℕ) → x < n → f x ≡ g x) → longestRun f n ≡ longestRun g n
+  unfolding longestRun
+  longest-alike zero h = refl
+  longest-alike (suc n) h = rw (longest-alike n (λ x l. h x (omega arith)), ending-alike (suc n) h)

@@ -2,27 +2,28 @@
 use Prim.Native.Nat.{ℕ, zero, suc, _+_, _*_, _<_, _≤_}
 use mathlib.Core.Path.{_≡_, refl, sym, ap, _∙_}
 use mathlib.Core.Logic.{_⊎_, inl, inr}
-use mathlib.Core.Bool.{Bool, true, false, _||_, true≢false}
-use mathlib.Core.List.{List, [], _∷_, _++_}
+use mathlib.Core.Bool.{Bool, true, false}
+use mathlib.Core.List.{List, [], _∷_}
 use native.Mathlib.Omega.{arith}
-use lib.Dec.{leb, ltb}
-use lib.ListN.{length, getD, set, replicate, length-append, getD-replicate, List·getD-append, List·getD-eq-default}
+use lib.Dec.{ltb}
+use lib.ListN.{length, getD, set, length-append, List·getD-append}
 use lib.Seq.{getD-append-add, getD-take, getD-drop}
 use borrow.Author.Tests.{lt-leb, le-leb, le-ltb}
+use Rattle.endian.proofs.Laws.{getD-zeros}
 use Rattle.rules.specs.Counting.{oneAt, sumList, anyIn}
 use Rattle.rules.specs.Anodes.{anodesOf}
 use Rattle.rules.specs.Accepted.{wrongSize, shortTables, wrongType, wrongRoot, wrongSlots, damageIn, checkAnswer}
 use Rattle.rules.specs.Calls.{doneOr, settled}
-use Rattle.laws.specs.Tests.{same?, less?}
+use Rattle.laws.specs.Tests.{same?}
 use Rattle.laws.specs.Sums.{oneAt-same, oneAt-other}
 use Rattle.laws.specs.Bags.{list-nil, list-cons}
 use Rattle.laws.specs.Damage.{if-number, damage-range, wider}
 use Rattle.report.specs.Figures.{figuresOf}
-use Rattle.report.specs.Report.{emptyTotals, answersIn, sumsIn, imagesTaken, isFull, oneMoreAt, withFigures, withImage, takenOutcome, reportOutcome, reported}
+use Rattle.report.specs.Report.{emptyTotals, answersIn, sumsIn, imagesTaken, isFull, oneMoreAt, withFigures, withImage, takenOutcome, reportOutcome}
 use Rattle.report.specs.Shift.{Fed, answerOf, figuresIn, fed, fedAll, imagesAnswered, acceptedSum, TotalsOf}
 use Rattle.report.specs.Room.{Modest}
 use Rattle.report.proofs.Passes.{length-oneMoreAt, one-more-here, one-more-other}
-use Rattle.report.proofs.Totals.{length-answers, length-sums, answers-of, sums-of}
+use Rattle.report.proofs.Totals.{length-answers, length-sums, answers-of}
 use Rattle.report_laws.specs.ModestFigures.{modest-figures}
 
 -- ---- what one image adds
@@ -196,14 +197,8 @@ bounded-room : (t : List ℕ) (k : ℕ) → k < 100000 → Bounded t k → isFul
 unfolding isFull
 bounded-room t k l b = rw (lt-leb 100000 (imagesTaken t) (omega (arith, b .images, l))) (none-over 10000000000000 (sumsIn t) (λ i. omega (arith, sum-at t (b .len) i, b .sums i, l)))
 
-empty-at : (i : ℕ) → getD emptyTotals i 0 ≡ 0
-empty-at i = elim (less? i 24) [
-  | inl l ↦ getD-replicate {A = ℕ} 24 i 0 0 l
-  | inr l ↦ List·getD-eq-default {A = ℕ} emptyTotals 0 {n = i} l
-]
-
 bounded-empty : Bounded emptyTotals 0
-bounded-empty = record { len = refl; images = unfold imagesTaken answersIn sumList in omega arith; sums = λ i. omega (arith, empty-at (18 + i)) }
+bounded-empty = record { len = refl; images = unfold imagesTaken answersIn sumList in omega arith; sums = λ i. omega (arith, getD-zeros 24 (18 + i)) }
 
 -- u are the totals after a list of images, from totals t that k images have bounded
 record After (t : List ℕ) (k : ℕ) (fs : List Fed) (u : List ℕ) : Type 0 where
@@ -248,8 +243,8 @@ module _ (fs : List Fed) (few : length fs ≤ 100000) where
   after-empty =
       let r = from-empty in record {
         places = r .bounded .len;
-        answers = λ n l. omega (arith, r .answers n l, empty-at n);
-        sums = λ i. omega (arith, r .sums i, empty-at (18 + i));
+        answers = λ n l. omega (arith, r .answers n l, getD-zeros 24 n);
+        sums = λ i. omega (arith, r .sums i, getD-zeros 24 (18 + i));
       }
 
   -- they are not full before the last of them

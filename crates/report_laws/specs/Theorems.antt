@@ -12,9 +12,8 @@ use Rattle.rules.specs.Anodes.{Anodes}
 use Rattle.rules.specs.Accepted.{diskSize}
 use Rattle.rules.specs.Calls.{outcomeOf, doneOr}
 use Rattle.laws.specs.Tests.{less?}
-use Rattle.laws.specs.Bags.{list-cons}
-use Rattle.report.specs.Runs.{runsIn, inChain, fileRuns, longestFree}
-use Rattle.report.specs.Report.{emptyTotals, answersIn, sumsIn, meanIn, imagesTaken, isFull, oneMoreAt, withImage, reported, reportOutcome}
+use Rattle.report.specs.Runs.{inChain, fileRuns, longestFree}
+use Rattle.report.specs.Report.{emptyTotals, answersIn, sumsIn, meanIn, isFull, oneMoreAt, withImage, reported, reportOutcome}
 use Rattle.report.specs.Shift.{Fed, answerOf, figuresIn, fed, fedAll, imagesAnswered, acceptedSum, TotalsOf, Reordered, same, behind, swapped, both}
 use Rattle.report_laws.specs.RunsMean.{AllPass, RunOf, NonePass, Contiguous, Gap, longest-most, longest-there, no-run-exactly, one-run-exactly, more-runs-exactly}
 use Rattle.report_laws.specs.ShiftTotals.{answer-low, fed-taken, answer-full, answer-taken, full-after, after-empty, room-left}

@@ -1,6 +1,6 @@
 -- In an accepted image the block table gives a chain's head for owner to exactly the blocks of that chain.
 use Prim.Native.Nat.{ℕ, _≤_, _<_}
-use mathlib.Core.Path.{_≡_, refl, sym, ap, _∙_}
+use mathlib.Core.Path.{_≡_, sym, ap, _∙_}
 use mathlib.Core.Logic.{_≢_, inl, inr}
 use mathlib.Core.Bool.{Bool, false}
 use mathlib.Core.List.{List, _++_}
@@ -10,7 +10,7 @@ use lib.ListN.{getD, length, length-append}
 use borrow.Author.Tests.{le-ltb, lt-ltb, le-leb, lt-leb, eq-eqb, ne-eqb}
 use Rattle.disk.specs.AnodeBlocks.{listed}
 use Rattle.disk.proofs.Laws.{length-listed}
-use Rattle.rules.specs.Counting.{sumBelow, occurrences}
+use Rattle.rules.specs.Counting.{occurrences}
 use Rattle.rules.specs.Anodes.{Anodes, limit, anodesOf}
 use Rattle.rules.specs.Chains.{oneIfCovers, systemOwns, owners, blocksOf}
 use Rattle.rules.specs.Accepted.{diskSize, checkAnswer}

@@ -1,5 +1,4 @@
-use mathlib.Core.Path.{_≡_, _∙_}
-use lib.ListN.{length}
+use mathlib.Core.Path.{_∙_}
 use Rattle.report.proofs.Totals.{counts-low, sums-low, still-low, with-accepted}
 use borrow.Author.Needs.{needs}
 use Rattle.report.proofs.add_accepted.Statement.{statement}

@@ -1,7 +1,7 @@
-use Prim.Native.Nat.{_-_, _+_, _≤_}
-use mathlib.Core.Path.{_≡_, sym, _∙_}
+use Prim.Native.Nat.{_-_, _≤_}
+use mathlib.Core.Path.{_≡_, _∙_}
 use native.Mathlib.Omega.{arith}
-use lib.ListN.{length, getD, length-set}
+use lib.ListN.{length, length-set}
 use Rattle.report.proofs.Totals.{totalsTo, figures-none, figures-next, figures-more, figures-all}
 use borrow.Author.Needs.{needs}
 use Rattle.report.proofs.add_figures.Statement.{statement}

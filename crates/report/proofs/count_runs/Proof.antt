@@ -1,10 +1,8 @@
-use Rattle.report.specs.Table.{RunsCounted}
-use Prim.Native.Nat.{_+_, _-_, _<_, _≤_}
-use mathlib.Core.Path.{_≡_, refl, sym, ap, _∙_}
-use native.Mathlib.Omega.{arith}
-use native.Mathlib.Numerals.{add-one}
-use lib.ListN.{length, getD}
 use Rattle.report.specs.Table.{Surveyed}
+use Prim.Native.Nat.{_+_, _-_, _≤_}
+use mathlib.Core.Path.{_≡_}
+use native.Mathlib.Omega.{arith}
+use lib.ListN.{length, getD}
 use Rattle.report.proofs.Passes.{surveyed-first, surveyed-longest, counted-all}
 use borrow.Author.Needs.{needs}
 use Rattle.report.proofs.count_runs.Statement.{statement}

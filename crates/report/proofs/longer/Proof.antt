@@ -1,6 +1,5 @@
 use native.Mathlib.Omega.{arith}
 use Rattle.report.proofs.Passes.{free-ends, none-ends}
-use borrow.Author.Needs.{needs}
 use Rattle.report.proofs.longer.Statement.{statement}
 use Rattle.report.proofs.longer.Tie as tie
 

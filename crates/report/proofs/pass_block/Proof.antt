@@ -1,9 +1,7 @@
 use Prim.Native.Nat.{_+_}
-use mathlib.Core.Path.{_≡_, sym, ap, _∙_}
 use native.Mathlib.Omega.{arith}
 use native.Mathlib.Numerals.{add-one}
 use lib.ListN.{getD}
-use Rattle.report.specs.Report.{oneMoreAt}
 use Rattle.report.proofs.Passes.{counted-few, surveyed-same, surveyed-start}
 use borrow.Author.Needs.{needs}
 use Rattle.report.proofs.pass_block.Statement.{statement}

@@ -1,0 +1,2 @@
+-- The laws that the sums over entries are proved with.
+pub mod Laws

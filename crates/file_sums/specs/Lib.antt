@@ -1,0 +1,2 @@
+-- What the files of an accepted image add up to.
+pub mod Sums
