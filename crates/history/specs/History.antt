@@ -7,6 +7,7 @@ use Rattle.rules.specs.Changes.{Left}
 use Rattle.rules.specs.Calls.{Outcome, outcomeOf, checkOutcome, summaryOutcome, formatOutcome, readOutcome, listOutcome, makeOutcome, resizeOutcome, writeOutcome, removeOutcome}
 use Rattle.bitmap.specs.Calls.{bitmapOutcome, bitmapDiffersOutcome}
 use Rattle.looks.specs.Calls.{findOutcome, labelOutcome}
+use Rattle.report.specs.Report.{reportOutcome}
 
 -- a call with all that it is lent or handed but the image; tables and buffers may have any length and content
 pub data Call : Type 0 where
@@ -23,6 +24,7 @@ pub data Call : Type 0 where
   bitmapDiffers : (blocks anodes bytes : List ℕ) → Call
   find : (blocks anodes : List ℕ) (directory : ℕ) (name : List ℕ) → Call
   label : (blocks anodes : List ℕ) → Call
+  report : (blocks anodes totals disk : List ℕ) → Call
 
 -- format is lent no tables and hands nothing out
 abbrev pub ofLeft : Left → Outcome
@@ -44,6 +46,7 @@ outcome img (bitmap blocks anodes out) = bitmapOutcome img blocks anodes out
 outcome img (bitmapDiffers blocks anodes bytes) = bitmapDiffersOutcome img blocks anodes bytes
 outcome img (find blocks anodes h name) = findOutcome img blocks anodes h name
 outcome img (label blocks anodes) = labelOutcome img blocks anodes
+outcome img (report blocks anodes totals disk) = reportOutcome img blocks anodes totals disk .outcome
 
 -- sound at the start and after every call, and no call reports damage; only the image passes from call to call
 abbrev pub SoundThroughout : List ℕ → List Call → Type 0

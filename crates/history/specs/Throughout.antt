@@ -2,7 +2,7 @@
 use Prim.Native.Nat.{ℕ, zero, suc}
 use mathlib.Core.Path.{_≡_, refl}
 use mathlib.Core.Logic.{inl, inr}
-use mathlib.Core.Bool.{Bool, true, false, not, _||_}
+use mathlib.Core.Bool.{Bool, true, false, cond, not, _||_}
 use mathlib.Core.List.{List, [], _∷_}
 use mathlib.Core.Option.{Option, none, some}
 use native.Mathlib.Omega.{arith}
@@ -17,13 +17,14 @@ use Rattle.rules.specs.Accepted.{diskSize, wrongSize, checkAnswer, Damage}
 use Rattle.rules.specs.Lookup.{noDirectory, entryNamed, ofEntry, notEmpty}
 use Rattle.rules.specs.Format.{wrongFormat, formatAnswer, formatted}
 use Rattle.rules.specs.Changes.{Left, left, NewEntry, resized, made, written, removed}
-use Rattle.rules.specs.Calls.{checkedFirst, settled, checkOutcome, summaryOutcome, formatOutcome, doneOr, leftAfter, readAnswer, readOutcome, spanRefusal, listAnswer, listOutcome, makeOutcome, makeRefusal, wrongEntry, resizeOutcome, resizeRefusal, writeOutcome, removeOutcome, removeRefusal, changeNamed}
+use Rattle.rules.specs.Calls.{outcomeOf, checkedFirst, settled, checkOutcome, summaryOutcome, formatOutcome, doneOr, leftAfter, readAnswer, readOutcome, spanRefusal, listAnswer, listOutcome, makeOutcome, makeRefusal, wrongEntry, resizeOutcome, resizeRefusal, writeOutcome, removeOutcome, removeRefusal, changeNamed}
 use Rattle.rules.specs.Totals.{Sound}
 use Rattle.bitmap.specs.Bitmap.{bitmapLength}
 use Rattle.bitmap.specs.Calls.{bitmapRefusal, bitmapAnswer, bitmapOutcome, bitmapDiffersOutcome}
 use Rattle.looks.specs.Calls.{findAnswer, findOutcome, labelOutcome}
 use Rattle.looks.specs.Laws.{find-late}
-use Rattle.history.specs.History.{Call, check, summary, format, read, list, make, resize, write, remove, bitmap, bitmapDiffers, find, label, outcome, SoundThroughout}
+use Rattle.history.specs.History.{Call, check, summary, format, read, list, make, resize, write, remove, bitmap, bitmapDiffers, find, label, report, outcome, SoundThroughout}
+use Rattle.report.specs.Report.{isFull, reported, takenOutcome, reportOutcome}
 use Rattle.counting.specs.Laws.{neither}
 use Rattle.laws.specs.Tests.{if-zero, firstOf-zero}
 use Rattle.format_laws.specs.Accepted.{formatted-accepted}
@@ -97,6 +98,17 @@ module _ (img : List ℕ) (ok : checkAnswer img (diskSize img) limit ≡ 0) wher
       late : (t : Bool) → Late (40 if not t else 0)
       late true = inl refl
       late false = inr (omega arith)
+
+  -- a report: 31, or the check's answer
+  report-kept : (blocks anodes totals disk : List ℕ) →
+      AcceptedAfter (left (reportOutcome img blocks anodes totals disk .outcome .answer) (reportOutcome img blocks anodes totals disk .outcome .image))
+  unfolding reportOutcome takenOutcome settled
+  report-kept blocks anodes totals disk = go (isFull totals)
+    where
+      go : (full : Bool) → let o = cond full (reported (outcomeOf 31 img blocks anodes disk []) totals) (takenOutcome (checkAnswer img (length blocks) (length anodes)) img blocks anodes totals) in
+          AcceptedAfter (left (o .outcome .answer) (o .outcome .image))
+      go true = stays 31 (λ d. omega (arith, d .1))
+      go false = check-kept (length blocks) (length anodes)
 
   -- format leaves the image, or a formatted one
   format-kept : (last k : ℕ) (name : List ℕ) (day minute tick protection : ℕ) → AcceptedAfter (formatOutcome img last k name day minute tick protection)
@@ -189,6 +201,7 @@ module _ (img : List ℕ) (ok : checkAnswer img (diskSize img) limit ≡ 0) wher
   call-kept (bitmapDiffers blocks anodes bytes) = bitmap-kept blocks anodes (length bytes)
   call-kept (find blocks anodes h name) = find-kept blocks anodes h name
   call-kept (label blocks anodes) = check-kept (length blocks) (length anodes)
+  call-kept (report blocks anodes totals disk) = report-kept blocks anodes totals disk
 
 sound-of : (img : List ℕ) → checkAnswer img (diskSize img) limit ≡ 0 → Sound img
 sound-of img ok = record { accepted = ok; adds-up = accepted-total (accepted-own img ok) }
