@@ -5,6 +5,7 @@ ghost use Rattle.rules.specs.Changes.{left};
 ghost use Rattle.rules.specs.Calls.{outcomeOf, checkOutcome, summaryOutcome, formatOutcome, readOutcome, listOutcome, makeOutcome, resizeOutcome, writeOutcome, removeOutcome};
 ghost use Rattle.bitmap.specs.Calls.{bitmapOutcome, bitmapDiffersOutcome};
 ghost use Rattle.looks.specs.Calls.{findOutcome, labelOutcome};
+ghost use Rattle.report.specs.Report.{reported, reportOutcome};
 ghost use Rattle.settings.specs.Conversions.{conversionOf, widenOutcome, narrowOutcome};
 ghost use Rattle.pfs.specs.Listed.{nameGiven};
 
@@ -218,6 +219,20 @@ pub extern "C" fn pfs_bitmap_differs(
     ensures { λ r. ⌜ outcomeOf r (now (image .entry)) (now (blocks .exit)) (now (anodes .exit)) (now (fields .exit)) [] ≡ bitmapDiffersOutcome (now (image .entry)) (now (blocks .entry)) (now (anodes .entry)) (now (bitmap .entry)) ⌝ }
 {
     bitmap_calls::bitmap_differs(image, blocks, anodes, bitmap, fields)
+}
+
+// Feeds an image to the totals of a shift report: 31 before any check if they are full, else the check, this disk's five numbers and the totals with it.
+#[no_mangle]
+pub extern "C" fn pfs_report(
+    image: &[u8],
+    blocks: &mut [u16],
+    anodes: &mut [u16],
+    totals: &mut [u64; 24],
+    disk: &mut [u64; 5],
+) -> u32
+    ensures { λ r. ⌜ reported (outcomeOf r (now (image .entry)) (now (blocks .exit)) (now (anodes .exit)) (now (disk .exit)) []) (now (totals .exit)) ≡ reportOutcome (now (image .entry)) (now (blocks .entry)) (now (anodes .entry)) (now (totals .entry)) (now (disk .entry)) ⌝ }
+{
+    report_calls::report(image, blocks, anodes, totals, disk)
 }
 
 // Converts a settings file of old records to new ones; a refused call leaves the output buffer.
