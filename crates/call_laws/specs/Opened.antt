@@ -57,7 +57,7 @@ module _ (img b₀ a₀ b a : List ℕ) (x : Checked) (e : outcomeOf (checkedNum
     pub answers-k : checkAnswer img (length b₀) (length a₀) ≡ k
     answers-k = answers k number-k
 
-    pub some : 1 ≤ k
+    some : 1 ≤ k
     some = refused-some r k n
 
     -- its number comes before the call's own

@@ -48,9 +48,9 @@ module _ (starts : List ℕ) (t : FileSums) where
 -- ---- one entry
 
 module _ (starts : List ℕ) (e : Entry) (start : ℕ) (t : FileSums) where
-  pub entry-file : e .kind ≡ File → (one : ℕ) → one ≡ oneIfMany (getD starts (e .anode .0) 0) → sumsMade (t .bytes + e .size) (t .split + one) ≡ sumsWith starts t (enteredAt e start ∷ [])
+  pub entry-file : e .kind ≡ File → (size one : ℕ) → size ≡ e .size → one ≡ oneIfMany (getD starts (e .anode .0) 0) → sumsMade (t .bytes + size) (t .split + one) ≡ sumsWith starts t (enteredAt e start ∷ [])
   unfolding sumsWith fileSize oneIfApart
-  entry-file k one is = rw (list-one fileSize (enteredAt e start), list-one (oneIfApart starts) (enteredAt e start), k, is)
+  entry-file k size one bytes split = rw (list-one fileSize (enteredAt e start), list-one (oneIfApart starts) (enteredAt e start), k, bytes, split)
 
   pub entry-directory : e .kind ≡ Directory → t ≡ sumsWith starts t (enteredAt e start ∷ [])
   unfolding sumsWith fileSize oneIfApart

@@ -36,6 +36,13 @@ fn one_if_many(starts: &[u16], a: AnodeNo) -> u32
     0
 }
 
+// The bytes of a file of this size: not those of its blocks.
+fn file_bytes(size: u32) -> u64
+    ensures { λ r. ⌜ r ≡ size ⌝ }
+{
+    size as u64
+}
+
 // The sums with an entry more; a directory adds nothing.
 fn add_entry(starts: &[u16], e: Entry, t: FileSums) -> FileSums
     requires { ⌜ EntriesFit t 1 ⌝ }
@@ -44,7 +51,7 @@ fn add_entry(starts: &[u16], e: Entry, t: FileSums) -> FileSums
     let kind = e.kind;
     match kind {
         Kind::File => FileSums {
-            bytes: t.bytes + e.size as u64,
+            bytes: t.bytes + file_bytes(e.size),
             split: t.split + one_if_many(starts, e.anode),
         },
         Kind::Directory => t,

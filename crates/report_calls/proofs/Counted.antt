@@ -31,9 +31,9 @@ use Rattle.report_laws.specs.RunsMean.{runs-alike, longest-alike}
 use Rattle.report_laws.specs.ModestFigures.{dirs-few, modest-figures}
 use Rattle.file_sums.specs.declared.FileSums.{FileSums}
 use Rattle.file_sums.specs.Sums.{oneIfApart, sumsMade, sumsWith}
-use Rattle.report_calls.specs.Ready.{Ready}
+use Rattle.report_calls.specs.Reportable.{Reportable}
 
-module _ {img table firsts nexts queue : List ℕ} {t : Tally} (r : Ready img table firsts nexts queue t) where
+module _ {img table firsts nexts queue : List ℕ} {t : Tally} (r : Reportable img table firsts nexts queue t) where
   abbrev s : Anodes
   s = anodesOf img
 

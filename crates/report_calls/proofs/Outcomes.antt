@@ -1,5 +1,5 @@
 -- The outcome of a report, from the check's.
-use Prim.Native.Nat.{ℕ, _<_}
+use Prim.Native.Nat.{ℕ}
 use mathlib.Core.Path.{_≡_, refl, sym, ap}
 use mathlib.Core.Logic.{inl}
 use mathlib.Core.Bool.{true, false}
@@ -14,22 +14,18 @@ use Rattle.fsck.specs.declared.Tally.{Tally}
 use Rattle.fsck.specs.declared.Checked.{Checked}
 use Rattle.fsck.specs.declared.Checked.the-variants.{Accepted, Refused}
 use Rattle.fsck.specs.Answers.{checkedNumber, Tallied, Opened}
-use Rattle.find.proofs.Laws.{not-done}
-use Rattle.call_laws.specs.Opened.{answers-k, some, settled-k, answers-0, settled-late, table-left, opened}
+use Rattle.find.proofs.Laws.{refused-some, not-done}
+use Rattle.call_laws.specs.Opened.{answers-k, settled-k, answers-0, settled-late, table-left, opened}
 use Rattle.report.specs.Figures.{figuresOf}
 use Rattle.report.specs.Report.{isFull, withImage, reported, takenOutcome, reportOutcome}
 use Rattle.report_laws.specs.Theorems.{full-leaves}
-use Rattle.report_calls.specs.Ready.{Ready}
+use Rattle.report_calls.specs.Reportable.{Reportable}
 
 -- 31, and nothing changes
 pub report-full : (img blocks anodes totals disk : List ℕ) → isFull totals ≡ true → reported (outcomeOf 31 img blocks anodes disk []) totals ≡ reportOutcome img blocks anodes totals disk
 report-full img blocks anodes totals disk e = sym (full-leaves img blocks anodes totals disk e)
 
 module _ (img b₀ a₀ b a : List ℕ) (x : Checked) (e : outcomeOf (checkedNumber x) img b a [] [] ≡ checkOutcome img b₀ a₀) where
-  -- its refusals are above 0
-  pub refused-above : (r : Refusal) → x ≡ Refused r → (k : ℕ) → k ≡ numberOf r → 0 < k
-  refused-above r is k n = some img b₀ a₀ b a x e r is k n
-
   module _ (totals disk : List ℕ) (room : isFull totals ≡ false) where
     -- refused by the check
     module _ (r : Refusal) (is : x ≡ Refused r) (k : ℕ) (n : k ≡ numberOf r) where
@@ -39,7 +35,7 @@ module _ (img b₀ a₀ b a : List ℕ) (x : Checked) (e : outcomeOf (checkedNum
           rw (
             room,
             answers-k img b₀ a₀ b a x e r is k n,
-            not-done k (refused-above r is k n) (take 5 (figuresOf img (anodesOf img))) (replicate 5 0),
+            not-done k (refused-some r k n) (take 5 (figuresOf img (anodesOf img))) (replicate 5 0),
             ← added (figuresOf img (anodesOf img)),
           )
           (ap (λ (o : Outcome). reported o after) (settled-k img b₀ a₀ b a x e r is k n (replicate 5 0) []))
@@ -54,8 +50,8 @@ module _ (img b₀ a₀ b a : List ℕ) (x : Checked) (e : outcomeOf (checkedNum
           (ap (λ (o : Outcome). reported o after) (settled-late img b₀ a₀ b a x e t is 0 (inl refl) five []))
 
   -- what the check has filled and loaded of an accepted image
-  pub ready : (t : Tally) → x ≡ Accepted t → Tallied x img (anodesOf img) → (counts firsts nexts queue parents : List ℕ) → Opened x img counts firsts nexts queue parents → Ready img b firsts nexts queue t
-  ready t is told counts firsts nexts queue parents o =
+  pub reportable : (t : Tally) → x ≡ Accepted t → Tallied x img (anodesOf img) → (counts firsts nexts queue parents : List ℕ) → Opened x img counts firsts nexts queue parents → Reportable img b firsts nexts queue t
+  reportable t is told counts firsts nexts queue parents o =
       let v = rw is at told in record {
         counts = counts;
         parents = parents;

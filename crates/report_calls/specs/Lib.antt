@@ -1,2 +1,2 @@
 -- An accepted image with what the check filled and loaded of it for a report.
-pub mod Ready
+pub mod Reportable

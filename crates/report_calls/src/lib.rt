@@ -7,7 +7,7 @@ ghost use Rattle.rules.specs.Anodes.{anodesOf};
 ghost use Rattle.rules.specs.Calls.{outcomeOf};
 ghost use Rattle.report.specs.Figures.{figuresOf};
 ghost use Rattle.report.specs.Report.{isFull, withImage, reported, reportOutcome};
-ghost use Rattle.report_calls.specs.Ready.{Ready};
+ghost use Rattle.report_calls.specs.Reportable.{Reportable};
 use disk::number;
 use file_sums::sum_files;
 use fsck::Checked;
@@ -29,7 +29,7 @@ fn count_figures(
     t: Tally,
     figures: &mut [u64; 6],
 )
-    requires { ⌜ Ready (now image) (now table) (now firsts) (now nexts) (now queue) t ⌝ }
+    requires { ⌜ Reportable (now image) (now table) (now firsts) (now nexts) (now queue) t ⌝ }
     ensures { λ _. ⌜ now (figures .exit) ≡ figuresOf (now (image .entry)) (anodesOf (now (image .entry))) ⌝ }
 {
     let n = disk_size(image);
@@ -57,7 +57,7 @@ fn take_accepted(
     totals: &mut [u64; 24],
     disk: &mut [u64; 5],
 )
-    requires { ⌜ Ready (now image) (now table) (now firsts) (now nexts) (now queue) t ⌝ }
+    requires { ⌜ Reportable (now image) (now table) (now firsts) (now nexts) (now queue) t ⌝ }
     requires { ⌜ isFull (now totals) ≡ false ⌝ }
     ensures five { λ _. ⌜ now (disk .exit) ≡ take 5 (figuresOf (now (image .entry)) (anodesOf (now (image .entry)))) ⌝ }
     ensures added { λ _. ⌜ now (totals .exit) ≡ withImage (now (totals .entry)) 0 (figuresOf (now (image .entry)) (anodesOf (now (image .entry)))) ⌝ }

@@ -107,7 +107,7 @@ module _ (test : ℕ → Bool) where
     pub exactly : (x : ℕ) → x < n → test x ≡ leb start x && ltb x (start + len)
 
   -- between two blocks that pass lies one that does not
-  pub record Gap (n : ℕ) : Type 0 where
+  pub record Apart (n : ℕ) : Type 0 where
     pub low : ℕ
     pub mid : ℕ
     pub high : ℕ
@@ -137,8 +137,8 @@ module _ (test : ℕ → Bool) where
       | inr b ↦ absurd (true≢false (sym t ∙ behind-run x l b))
     ]
 
-    no-gap : Gap n → ⊥
-    no-gap g =
+    not-apart : Apart n → ⊥
+    not-apart g =
         let h = g .inside in
         let a = run-from (g .low) (omega (arith, g .above-low, g .below-high, h)) (g .low-passes) in
         let b = run-to (g .high) h (g .high-passes) in
@@ -170,9 +170,9 @@ module _ (test : ℕ → Bool) where
   data Runs (n : ℕ) : Type 0 where
     no-run : runsIn test n ≡ 0 → NonePass n → Runs n
     one-run : runsIn test n ≡ 1 → Contiguous n → Runs n
-    more-runs : 1 < runsIn test n → Gap n → Runs n
+    more-runs : 1 < runsIn test n → Apart n → Runs n
 
-  later : (n : ℕ) → Gap n → Gap (suc n)
+  later : (n : ℕ) → Apart n → Apart (suc n)
   later n g = record {
     low = g .low;
     mid = g .mid;
@@ -227,8 +227,8 @@ module _ (test : ℕ → Bool) where
   }
 
   -- behind a gap
-  gap-behind : (n : ℕ) → test n ≡ true → (c : Contiguous n) → c .start + c .len < n → Gap (suc n)
-  gap-behind n t c l = record {
+  apart-behind : (n : ℕ) → test n ≡ true → (c : Contiguous n) → c .start + c .len < n → Apart (suc n)
+  apart-behind n t c l = record {
     low = c .start;
     mid = c .start + c .len;
     high = n;
@@ -251,7 +251,7 @@ module _ (test : ℕ → Bool) where
     | inr d ↦ (
         let l : c .start + c .len < n = omega (arith, d, c .inside) in
         more-runs (omega (arith, z, runs-start test n (starts-true n t (before-fails n (λ x e. behind-run n c x (omega (arith, e)) (omega (arith, e, l)))))))
-        (gap-behind n t c l))
+        (apart-behind n t c l))
   ]
   passes-more n t (more-runs m g) = more-runs (go (startsRun test n) refl) (later n g)
     where
@@ -295,20 +295,20 @@ module _ (test : ℕ → Bool) where
       back : Runs n → Contiguous n → runsIn test n ≡ 1
       back (no-run e p) c = absurd (some-pass n c p)
       back (one-run e k) c = e
-      back (more-runs m g) c = absurd (no-gap n c g)
+      back (more-runs m g) c = absurd (not-apart n c g)
 
   -- more than one exactly if there is a gap
-  pub more-runs-exactly : (n : ℕ) → (1 < runsIn test n → Gap n) × (Gap n → 1 < runsIn test n)
+  pub more-runs-exactly : (n : ℕ) → (1 < runsIn test n → Apart n) × (Apart n → 1 < runsIn test n)
   more-runs-exactly n = (λ m. there (runs-of n) m, λ g. back (runs-of n) g)
     where
-      there : Runs n → 1 < runsIn test n → Gap n
+      there : Runs n → 1 < runsIn test n → Apart n
       there (no-run e p) m = absurd (omega arith)
       there (one-run e c) m = absurd (omega arith)
       there (more-runs k g) m = g
 
-      back : Runs n → Gap n → 1 < runsIn test n
+      back : Runs n → Apart n → 1 < runsIn test n
       back (no-run e p) g = absurd (true≢false (sym (g .high-passes) ∙ p (g .high) (g .inside)))
-      back (one-run e c) g = absurd (no-gap n c g)
+      back (one-run e c) g = absurd (not-apart n c g)
       back (more-runs m k) g = m
 
 -- ---- tests that agree below n

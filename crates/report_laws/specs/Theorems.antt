@@ -15,7 +15,7 @@ use Rattle.laws.specs.Tests.{less?}
 use Rattle.report.specs.Runs.{inChain, fileRuns, longestFree}
 use Rattle.report.specs.Report.{emptyTotals, answersIn, sumsIn, meanIn, isFull, oneMoreAt, withImage, reported, reportOutcome}
 use Rattle.report.specs.Shift.{Fed, answerOf, figuresIn, fed, fedAll, imagesAnswered, acceptedSum, TotalsOf, Reordered, same, behind, swapped, both}
-use Rattle.report_laws.specs.RunsMean.{AllPass, RunOf, NonePass, Contiguous, Gap, longest-most, longest-there, no-run-exactly, one-run-exactly, more-runs-exactly}
+use Rattle.report_laws.specs.RunsMean.{AllPass, RunOf, NonePass, Contiguous, Apart, longest-most, longest-there, no-run-exactly, one-run-exactly, more-runs-exactly}
 use Rattle.report_laws.specs.ShiftTotals.{answer-low, fed-taken, answer-full, answer-taken, full-after, after-empty, room-left}
 
 -- ---- runs
@@ -38,7 +38,7 @@ module _ (img : List ℕ) (s : Anodes) where
   no-run h = no-run-exactly (inChain s h) (diskSize img)
 
   -- in more than one exactly if a block that is not its own lies between two that are
-  pub more-runs : (h : ℕ) → (1 < fileRuns img s h → Gap (inChain s h) (diskSize img)) × (Gap (inChain s h) (diskSize img) → 1 < fileRuns img s h)
+  pub more-runs : (h : ℕ) → (1 < fileRuns img s h → Apart (inChain s h) (diskSize img)) × (Apart (inChain s h) (diskSize img) → 1 < fileRuns img s h)
   unfolding fileRuns
   more-runs h = more-runs-exactly (inChain s h) (diskSize img)
 

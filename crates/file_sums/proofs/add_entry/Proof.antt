@@ -7,11 +7,11 @@ use Rattle.file_sums.proofs.add_entry.Tie as tie
 enum-told : tie.Need-enum-told
 enum-told c = search needs
 
-cast-t6 : tie.Need-cast-t6
-cast-t6 c = search needs
+file-bytes-requires : tie.Need-file-bytes-requires
+file-bytes-requires c κs = search needs
 
 add-t7 : tie.Need-add-t7
-add-t7 c = search needs
+add-t7 c = omega (arith, c .before .before .before .before .before .pre .bytes, c .before .file-bytes .ensures)
 
 one-if-many-requires : tie.Need-one-if-many-requires
 one-if-many-requires c κs = search needs
@@ -23,7 +23,7 @@ enum-told-2 : tie.Need-enum-told-2
 enum-told-2 c = search needs
 
 returns : tie.Need-returns
-returns c = (λ start. entry-file _ (c .before .before .before .before .before .before .before .args .e) start _ (c .before .before .before .before .enum-told .given .1) _ (c .before .one-if-many .ensures .0), within-file _ _ _ (search needs) (c .before .one-if-many .ensures .1))
+returns c = (λ start. entry-file _ (c .before .before .before .before .before .before .before .args .e) start _ (c .before .before .before .before .enum-told .given .1) _ _ (c .before .before .before .file-bytes .ensures) (c .before .one-if-many .ensures .0), within-file _ _ _ (omega (arith, c .before .before .before .file-bytes .ensures)) (c .before .one-if-many .ensures .1))
 
 returns-2 : tie.Need-returns-2
 returns-2 c = (λ start. entry-directory _ (c .before .before .before .args .e) start _ (c .enum-told2 .given .1), within-wider _ _ 0 1 (omega arith) (within-none _))
@@ -31,4 +31,12 @@ returns-2 c = (λ start. entry-directory _ (c .before .before .before .args .e) 
 pub add-entry-spec : {M : Type 1} → statement M
 add-entry-spec =
     tie.close
-    (tie.spec enum-told cast-t6 add-t7 one-if-many-requires add-t9 enum-told-2 returns returns-2)
+    (tie.spec
+    enum-told
+    file-bytes-requires
+    add-t7
+    one-if-many-requires
+    add-t9
+    enum-told-2
+    returns
+    returns-2)

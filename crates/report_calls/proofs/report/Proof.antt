@@ -1,5 +1,6 @@
+use Rattle.find.proofs.Laws.{refused-some}
 use mathlib.Core.Path.{sym, _∙_}
-use Rattle.report_calls.proofs.Outcomes.{report-full, refused-above, report-refused, report-accepted, ready}
+use Rattle.report_calls.proofs.Outcomes.{report-full, report-refused, report-accepted, reportable}
 use borrow.Author.Needs.{needs}
 use Rattle.report_calls.proofs.report.Statement.{statement}
 use Rattle.report_calls.proofs.report.Tie as tie
@@ -41,7 +42,7 @@ slice-aggregate-take-accepted-3 : tie.Need-slice-aggregate-take-accepted-3
 slice-aggregate-take-accepted-3 c = search needs
 
 take-accepted-requires : tie.Need-take-accepted-requires
-take-accepted-requires c κs = (ready _ _ _ _ _ _ (c .before .before .before .before .before .before .before .before .before .before .before .before .before .before .before .before .before .before .open-disk .ensures .0) _ (c .before .before .before .before .before .before .before .c .given .1) (c .before .before .before .before .before .before .before .before .before .before .before .before .before .before .before .before .before .before .open-disk .ensures .1 .0) _ _ _ _ _ (c .before .before .before .before .before .before .before .before .before .before .before .before .before .before .before .before .before .before .open-disk .ensures .1 .1), sym (c .before .before .before .before .before .before .before .before .before .before .before .before .before .before .before .before .before .before .before .before .before .before .before .before .before .before .before .is-full .ensures) ∙ c .before .before .before .before .before .before .before .before .before .before .before .before .before .before .before .before .before .before .before .before .before .before .before .before .before .before .if1 .left)
+take-accepted-requires c κs = (reportable _ _ _ _ _ _ (c .before .before .before .before .before .before .before .before .before .before .before .before .before .before .before .before .before .before .open-disk .ensures .0) _ (c .before .before .before .before .before .before .before .c .given .1) (c .before .before .before .before .before .before .before .before .before .before .before .before .before .before .before .before .before .before .open-disk .ensures .1 .0) _ _ _ _ _ (c .before .before .before .before .before .before .before .before .before .before .before .before .before .before .before .before .before .before .open-disk .ensures .1 .1), sym (c .before .before .before .before .before .before .before .before .before .before .before .before .before .before .before .before .before .before .before .before .before .before .before .before .before .before .before .is-full .ensures) ∙ c .before .before .before .before .before .before .before .before .before .before .before .before .before .before .before .before .before .before .before .before .before .before .before .before .before .before .if1 .left)
 
 enum-known-c-2 : tie.Need-enum-known-c-2
 enum-known-c-2 c = search needs
@@ -50,7 +51,7 @@ number-requires : tie.Need-number-requires
 number-requires c κs = search needs
 
 add-refused-requires : tie.Need-add-refused-requires
-add-refused-requires c κs = (sym (c .before .before .before .before .before .before .before .before .before .before .before .before .before .before .before .before .before .before .before .before .before .before .before .is-full .ensures) ∙ c .before .before .before .before .before .before .before .before .before .before .before .before .before .before .before .before .before .before .before .before .before .before .if1 .left, refused-above _ _ _ _ _ _ (c .before .before .before .before .before .before .before .before .before .before .before .before .before .before .open-disk .ensures .0) _ (c .before .before .before .c2 .given .1) _ (c .before .number .ensures))
+add-refused-requires c κs = (sym (c .before .before .before .before .before .before .before .before .before .before .before .before .before .before .before .before .before .before .before .before .before .before .before .is-full .ensures) ∙ c .before .before .before .before .before .before .before .before .before .before .before .before .before .before .before .before .before .before .before .before .before .before .if1 .left, refused-some (c .before .before .before .c2 .given .0 .0) _ (c .before .number .ensures))
 
 same-length : tie.Need-same-length
 same-length c = search needs

@@ -10,7 +10,7 @@ use Rattle.fsck.specs.declared.Tally.{Tally}
 use Rattle.find.specs.Open.{Open}
 
 -- all that a report reads of it
-pub record Ready (img table firsts nexts queue : List ℕ) (t : Tally) : Type 0 where
+pub record Reportable (img table firsts nexts queue : List ℕ) (t : Tally) : Type 0 where
   pub counts : List ℕ
   pub parents : List ℕ
   pub heads : List ℕ
