@@ -1,6 +1,7 @@
 /* Ovenknit: proved calls over a PFS floppy disk image (PFS\0, 512-byte blocks) in lent memory.
  *
- * Every call answers a number: 0 for done, else why it was refused. Nothing is kept between calls; only the image counts.
+ * Every call answers a number: 0 for done, else why it was refused. Nothing is kept between calls; only the image counts, and
+ * for a report the totals that it is lent.
  *
  * What a call is lent
  *
@@ -16,11 +17,12 @@
  * What it leaves
  *
  *   image   A refused call leaves every byte as it was. So do the calls that take a const image.
- *   tables  Every call that is lent tables checks the whole image first and fills both. After 0 they are those of the
- *           image as the call left it, after 20 to 28 and 40 those of the unchanged image: the block table holds each
- *           block's owner (the head anode of its chain, 65535 for blocks 0 to 2, 65534 for anode blocks), the anode table
- *           each anode's chain head (0 for anode 0, free anodes, whose three fields are 0, and those that do not exist).
- *           Heads with a meaning of their own: 1 free blocks, 3 blocks to be freed, 4 bad blocks, 5 the root directory.
+ *   tables  Every call that is lent tables checks the whole image first and fills both; 31 alone comes before the check and
+ *           touches nothing at all. After 0 they are those of the image as the call left it, after 20 to 28 and 40 those of
+ *           the unchanged image: the block table holds each block's owner (the head anode of its chain, 65535 for blocks 0 to
+ *           2, 65534 for anode blocks), the anode table each anode's chain head (0 for anode 0, free anodes, whose three
+ *           fields are 0, and those that do not exist). Heads with a meaning of their own: 1 free blocks, 3 blocks to be
+ *           freed, 4 bad blocks, 5 the root directory.
  *           1 to 4 touch no table. 5 to 16 leave both zeroed. Entries past the image's blocks and past 3,444 always keep
  *           their content.
  *
@@ -30,11 +32,14 @@
  *   Measured on x86-64 Linux, and rounded up.
  *
  *    32 KiB  pfs_format, pfs_widen, pfs_narrow
- *    64 KiB  pfs_check, pfs_summary, pfs_read, pfs_list, pfs_find, pfs_label, pfs_write, pfs_bitmap, pfs_bitmap_differs
+ *    64 KiB  pfs_check, pfs_summary, pfs_read, pfs_list, pfs_find, pfs_label, pfs_write, pfs_bitmap, pfs_bitmap_differs,
+ *            pfs_report
  *    96 KiB  pfs_make
  *   256 KiB  pfs_resize, pfs_remove
  *
  * The numbers, in the order in which they are tried
+ *
+ *   31  the totals of a report take no further image (before anything else)
  *
  *    1  image size: not a multiple of 512, or under 5 or over 65,535 blocks
  *    2  a table is too short
@@ -113,6 +118,7 @@ enum pfs_refusal {
     PFS_PAST_END = 26,
     PFS_NO_FREE_BLOCK = 27,
     PFS_NO_FREE_ANODE = 28,
+    PFS_REPORT_FULL = 31,
     PFS_BITMAP_LENGTH = 40,
     PFS_NOT_OF_FORM = 50,
     PFS_TOO_LONG = 51,
@@ -226,6 +232,8 @@ static inline const char *pfs_words(uint32_t number)
         return "not enough blocks are free";
     case PFS_NO_FREE_ANODE:
         return "no anode is free";
+    case PFS_REPORT_FULL:
+        return "the report takes no further disk: it has 100,000, or a sum above 10,000,000,000,000";
     case PFS_BITMAP_LENGTH:
         return "the bitmap has not as many blocks as the disk needs";
     case PFS_NOT_OF_FORM:
@@ -332,6 +340,27 @@ uint32_t pfs_bitmap(const uint8_t *image, size_t image_len, uint16_t *blocks, si
  * zeros otherwise, and after a refusal. Answers also 40. */
 uint32_t pfs_bitmap_differs(const uint8_t *image, size_t image_len, uint16_t *blocks, size_t blocks_len, uint16_t *anodes,
                             size_t anodes_len, const uint8_t *bitmap, size_t bitmap_len, uint32_t fields[2]);
+
+/* Feeds an image to the totals of a shift report. Totals begin with 24 zeros, and are lent again with each image:
+ *
+ *   totals[0]         images that the check accepted
+ *   totals[1] to [17] images that it refused under that number
+ *   totals[18]        free blocks, summed over the accepted images, as are the others
+ *   totals[19]        files
+ *   totals[20]        directories, the root of each among them
+ *   totals[21]        the longest run of free blocks of each
+ *   totals[22]        files in more than one run of blocks
+ *   totals[23]        the bytes of all files, by their sizes
+ *
+ * In disk: the image's own five numbers, in the order of totals[18] to [22]; zeros if the check refuses it. A run is a run of
+ * block numbers, whatever anodes hold them and in whatever order. The mean file size is totals[23] bytes in totals[19] files.
+ *
+ * Answers what the check answers. An image that is refused adds to its number's count only. Answers 31, before any check, and
+ * changes nothing, tables, totals and disk included, if the counts add up to 100,000 or more, or one of totals[18] to [23] is
+ * above 10,000,000,000,000. Totals may hold anything. From 24 zeros the first 100,000 images are never answered 31, and in any
+ * order they give the same totals. */
+uint32_t pfs_report(const uint8_t *image, size_t image_len, uint16_t *blocks, size_t blocks_len, uint16_t *anodes,
+                    size_t anodes_len, uint64_t totals[24], uint64_t disk[5]);
 
 /* Settings files. They stand outside any disk: these two calls are lent the file's bytes, and neither image nor tables.
  *

@@ -11,6 +11,8 @@ pub const FILE: u8 = 253;
 pub const DIRECTORY: u8 = 2;
 /// The number of the root directory.
 pub const ROOT: u16 = 5;
+/// The numbers that the totals of a report have.
+pub const TOTALS: usize = 24;
 
 /// When something was made: days since 1 January 1978, minutes of the day, ticks of 1/50 second.
 #[derive(Clone, Copy, Debug, Default, PartialEq, Eq)]
@@ -42,6 +44,7 @@ pub enum Call {
     BitmapDiffers { bitmap: Vec<u8> },
     Find { directory: u16, name: Vec<u8> },
     Label,
+    Report { totals: [u64; TOTALS] },
 }
 
 impl Call {
@@ -60,6 +63,7 @@ impl Call {
             Call::BitmapDiffers { .. } => "bitmap_differs",
             Call::Find { .. } => "find",
             Call::Label => "label",
+            Call::Report { .. } => "report",
         }
     }
 
@@ -79,6 +83,7 @@ impl Call {
 /// What buffers hold before a call.
 pub const UNREAD: u8 = 0xA5;
 const UNWRITTEN: u32 = 0xA5A5_A5A5;
+pub const UNCOUNTED: u64 = 0xA5A5_A5A5_A5A5_A5A5;
 
 /// The buffers that some calls fill; any other call leaves them.
 #[derive(Clone, Debug, PartialEq, Eq)]
@@ -95,10 +100,15 @@ pub struct Output {
     /// The label of the disk: last reserved, day, minute, tick, protection, the name's offset in the image and length.
     /// Zeros after a refusal.
     pub label: [u32; 7],
+    /// The totals of a report, which are lent with what they hold; a call of number 31 leaves them.
+    pub totals: [u64; TOTALS],
+    /// What a report counts on this disk: free blocks, files, directories with the root, the longest free run, files in
+    /// more than one run. Zeros after a refusal of the check; 31 leaves them.
+    pub disk: [u64; 5],
 }
 
 impl Output {
-    /// Buffers for a call, with [`UNREAD`] in every byte.
+    /// Buffers for a call, with [`UNREAD`] in every byte but the totals that it comes with.
     pub fn for_call(call: &Call) -> Self {
         let length = match call {
             Call::Read { length, .. } | Call::Bitmap { length } => *length,
@@ -110,6 +120,11 @@ impl Output {
             entry: [UNWRITTEN; 11],
             difference: [UNWRITTEN; 2],
             label: [UNWRITTEN; 7],
+            totals: match call {
+                Call::Report { totals } => *totals,
+                _ => [UNCOUNTED; TOTALS],
+            },
+            disk: [UNCOUNTED; 5],
         }
     }
 }

@@ -5,6 +5,7 @@ use std::marker::PhantomData;
 use crate::bitmap;
 use crate::calls::{run, tables, Call, Library, Output, Stamp, BLOCK, DIRECTORY, FILE, ROOT};
 pub use crate::refusals::Error;
+use crate::report::{Figures, Report};
 
 /// A disk image and the two tables that the calls fill, over any [`Library`].
 ///
@@ -229,6 +230,15 @@ impl<L: Library> Disk<L> {
     pub fn bitmap_difference(&mut self, bitmap: &[u8]) -> Result<Option<usize>, Error> {
         let [differs, place] = self.call(&Call::BitmapDiffers { bitmap: bitmap.to_vec() })?.difference;
         Ok((differs == 1).then_some(place as usize))
+    }
+
+    /// Feeds the disk to a report. A disk that the check refuses is counted there under its number, and nowhere else; 31 means
+    /// that the report takes no further disk, and has not changed.
+    pub fn report(&mut self, report: &mut Report) -> Result<Figures, Error> {
+        let call = Call::Report { totals: report.totals };
+        let outcome = run::<L>(&call, &mut self.image, &mut self.blocks, &mut self.anodes);
+        report.totals = outcome.output.totals;
+        Error::of(outcome.answer).map(|()| Figures::of(outcome.output.disk))
     }
 
     /// Is the image a disk without damage?

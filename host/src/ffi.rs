@@ -38,6 +38,7 @@ mod c {
         pfs_label(*const u8, fields: *mut u32);
         pfs_bitmap(*const u8, bitmap: *mut u8, bitmap_len: usize);
         pfs_bitmap_differs(*const u8, bitmap: *const u8, bitmap_len: usize, fields: *mut u32);
+        pfs_report(*const u8, totals: *mut u64, disk: *mut u64);
     }
 
     extern "C" {
@@ -90,7 +91,7 @@ impl Library for Proved {
                 )
             };
         }
-        let Output { bytes, counts, entry, difference, label } = output;
+        let Output { bytes, counts, entry, difference, label, totals, disk } = output;
         // SAFETY: slices are handed on as pointer and length, and the fields have the lengths that `pfs.h` asks. A
         // slice that is lent to be written shares no byte with any other, which is all the interface asks.
         unsafe {
@@ -147,6 +148,7 @@ impl Library for Proved {
                     lend!(pfs_find, *directory, name.as_ptr(), name.len(), entry.as_mut_ptr())
                 }
                 Call::Label => lend!(pfs_label, label.as_mut_ptr()),
+                Call::Report { .. } => lend!(pfs_report, totals.as_mut_ptr(), disk.as_mut_ptr()),
             }
         }
     }

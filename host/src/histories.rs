@@ -2,7 +2,7 @@
 //! such that it must be refused, and often at the very edge.
 
 use crate::bitmap::{length, BITMAP_BLOCK};
-use crate::calls::{Call, BLOCK, DIRECTORY, FILE, ROOT};
+use crate::calls::{Call, BLOCK, DIRECTORY, FILE, ROOT, TOTALS};
 use crate::disk::{Disk, Kind};
 use crate::model::Model;
 use crate::rng::Rng;
@@ -68,7 +68,8 @@ fn other_call(tree: &Tree, blocks: usize, rng: &mut Rng) -> Call {
         1 if rng.percent(50) => Call::Label,
         1 => Call::Summary,
         2 if rng.percent(20) => random_format(blocks, rng),
-        2 => bitmap_call(blocks, rng),
+        2 if rng.percent(60) => bitmap_call(blocks, rng),
+        2 => report_call(rng),
         3..=5 => list_call(tree, rng),
         6 | 7 => {
             let (directory, name) = any_entry(tree, |_| true, rng);
@@ -92,6 +93,32 @@ fn bitmap_call(blocks: usize, rng: &mut Rng) -> Call {
         true => Call::Bitmap { length },
         false => Call::BitmapDiffers { bitmap: vec![[0, b'B'][rng.below(2)]; length] },
     }
+}
+
+/// A report, mostly to totals that take the disk; now and then at the very edge, or past it.
+fn report_call(rng: &mut Rng) -> Call {
+    let mut totals = [0; TOTALS];
+    for count in &mut totals[..18] {
+        *count = rng.below(5_000) as u64;
+    }
+    for sum in &mut totals[18..] {
+        *sum = rng.below(10_000_000_000_000) as u64;
+    }
+    let edge = |limit: u64, rng: &mut Rng| [limit - 1, limit, limit + 1, u64::MAX][rng.below(4)];
+    match rng.below(4) {
+        0 => {
+            let others: u64 = totals[1..18].iter().sum();
+            totals[0] = edge(100_000 - others, rng);
+        }
+        1 => totals[18 + rng.below(6)] = edge(10_000_000_000_000, rng),
+        2 if rng.percent(20) => {
+            let [first, second] = [rng.below(18), rng.below(18)];
+            totals[first] = 1 << 63;
+            totals[second] = 1 << 63;
+        }
+        _ => {}
+    }
+    Call::Report { totals }
 }
 
 /// A directory of the tree, or now and then a number that is none.
@@ -281,8 +308,8 @@ pub fn follow(tree: &mut Tree, call: &Call, image: &[u8]) {
     tree.apply(call, made);
 }
 
-/// Every refusal from 20 to 27, by every call that can give it.
-pub const REFUSALS: [(u32, &str); 26] = [
+/// Every refusal from 20 up but 28, by every call that can give it.
+pub const REFUSALS: [(u32, &str); 27] = [
     (20, "format"),
     (20, "make"),
     (21, "read"),
@@ -307,6 +334,7 @@ pub const REFUSALS: [(u32, &str); 26] = [
     (26, "write"),
     (27, "make"),
     (27, "resize"),
+    (31, "report"),
     (40, "bitmap"),
     (40, "bitmap_differs"),
 ];

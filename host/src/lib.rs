@@ -4,6 +4,7 @@
 //! * `ffi`, with the feature `proved`: the proved library behind that trait.
 //! * [`stack`]: how much stack its calls need.
 //! * [`refusals`], [`disk`]: the numbers in words, and a disk with its tables behind safe methods.
+//! * [`report`]: the totals of a shift report.
 //! * [`bitmap`]: where the bytes of the hard disk edition's bitmap belong.
 //! * [`settings`]: settings files, and the trait of whoever converts them.
 //! * [`cli`]: the command line `pfs`.
@@ -30,6 +31,7 @@ pub mod disk;
 pub mod histories;
 pub mod model;
 pub mod refusals;
+pub mod report;
 #[doc(hidden)]
 pub mod rng;
 pub mod settings;

@@ -3,7 +3,7 @@
 
 /// Each call by its label, with the KiB of stack that a thread must have to make it. Upper bounds with room to spare: more
 /// than the call takes, the start of the thread with it.
-pub const NEEDED: [(&str, usize); 15] = [
+pub const NEEDED: [(&str, usize); 16] = [
     ("format", 32),
     ("widen", 32),
     ("narrow", 32),
@@ -16,6 +16,7 @@ pub const NEEDED: [(&str, usize); 15] = [
     ("write", 64),
     ("bitmap", 64),
     ("bitmap_differs", 64),
+    ("report", 64),
     ("make", 96),
     ("resize", 256),
     ("remove", 256),

@@ -4,7 +4,7 @@
 
 use std::collections::BTreeMap;
 
-use crate::calls::{Call, BLOCK, DIRECTORY, FILE, ROOT};
+use crate::calls::{Call, BLOCK, DIRECTORY, FILE, ROOT, TOTALS};
 use crate::disk::{Entry, Kind};
 
 /// The bytes of a directory block that entries may fill.
@@ -105,6 +105,11 @@ impl Tree {
         (nodes.filter(|node| node.entry.kind == Kind::File).count(), self.directories.len())
     }
 
+    /// The bytes of all files.
+    pub fn bytes(&self) -> usize {
+        self.directories.values().flat_map(Directory::nodes).map(|node| node.content.len()).sum()
+    }
+
     /// The blocks that files and directories take.
     pub fn blocks(&self) -> (usize, usize) {
         let nodes = self.directories.values().flat_map(Directory::nodes);
@@ -130,6 +135,7 @@ impl Tree {
                 Ok(())
             }
             Call::Find { directory, name } => self.pass_name(*directory, name).map(drop),
+            Call::Report { totals } => pass_report(totals),
             Call::Format { last_reserved, anode_blocks, name, .. } => {
                 pass_format(blocks, usize::from(*last_reserved), usize::from(*anode_blocks), name)
             }
@@ -211,7 +217,7 @@ impl Tree {
     pub fn apply(&mut self, call: &Call, made: u16) {
         match call {
             Call::Check | Call::Summary | Call::Read { .. } | Call::List { .. } => {}
-            Call::Find { .. } | Call::Label => {}
+            Call::Find { .. } | Call::Label | Call::Report { .. } => {}
             Call::Bitmap { .. } | Call::BitmapDiffers { .. } => {}
             Call::Format { .. } => *self = Tree::default(),
             Call::Make { directory, kind, name, comment, stamp, protection } => {
@@ -256,6 +262,14 @@ impl Tree {
     fn find_mut(&mut self, directory: u16, name: &[u8]) -> Option<&mut Node> {
         self.directories.get_mut(&directory)?.find_mut(name)
     }
+}
+
+/// 31 where 100,000 images have been taken, or one of the sums is too large.
+fn pass_report(totals: &[u64; TOTALS]) -> Result<(), u32> {
+    let images = totals[..18].iter().try_fold(0u64, |images, &count| images.checked_add(count));
+    let room = images.is_some_and(|images| images < 100_000);
+    let small = totals[18..].iter().all(|&sum| sum <= 10_000_000_000_000);
+    (room && small).then_some(()).ok_or(31)
 }
 
 fn pass_format(blocks: usize, last_reserved: usize, anode_blocks: usize, name: &[u8]) -> Result<(), u32> {

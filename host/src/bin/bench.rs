@@ -5,7 +5,7 @@
 use std::hint::black_box;
 use std::time::{Duration, Instant};
 
-use ovenknit_host::calls::{run, tables, Call, Lent, Library, Output, Stamp, BLOCK, FILE, ROOT};
+use ovenknit_host::calls::{run, tables, Call, Lent, Library, Output, Stamp, BLOCK, FILE, ROOT, TOTALS};
 use ovenknit_host::disk;
 use ovenknit_host::ffi::Proved;
 use ovenknit_host::model::Model;
@@ -137,6 +137,7 @@ fn measure_calls(what: &str, disk: Disk) {
         ("remove a file of two blocks", Call::Remove { directory, name }),
         ("make the bitmap", Call::Bitmap { length: bitmap.len() }),
         ("compare the bitmap", Call::BitmapDiffers { bitmap }),
+        ("report", Call::Report { totals: [0; TOTALS] }),
     ];
     println!("{what}");
     for (what, call) in calls {

@@ -239,6 +239,20 @@ A bar stands behind the last reserved block.
   --svg           write a picture (SVG) to standard output instead", json!()),
     },
     Syntax {
+        name: "report",
+        operands: &["DISK.."],
+        flags: &["--json"],
+        options: &[],
+        short: "the totals of a shift: many disks added up",
+        long: "Prints a line for each disk: its free blocks, files, directories (with the root), longest run of free blocks, and
+files that lie in more than one run of blocks; or, for a disk that the check refuses, the number and in words what it
+means. Then the sums over the accepted disks, how many were accepted and refused under each number, and the mean file
+size as two whole numbers, bytes and files. A file that cannot be read is named and counted nowhere; the exit status is
+then 2. At most 100,000 disks are taken.
+
+  --json          the same for programs, as JSON",
+    },
+    Syntax {
         name: "bitmap",
         operands: &["DISK"],
         flags: &[],

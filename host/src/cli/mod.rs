@@ -2,7 +2,7 @@
 //! all that is told of a disk comes from the calls' answers and tables. Where a fault is comes from the model.
 //!
 //! * `arguments`, `help`, `manual`: the words of a command line, and what is said about them.
-//! * `looks`, `get`, `put`, `change`, `map`, `bitmap`: the commands.
+//! * `looks`, `get`, `put`, `change`, `map`, `report`, `bitmap`: the commands.
 //! * `settings`: settings files, the one thing that is no disk.
 //! * `items`: files and directories on their way from one place to another.
 //! * `facts`: refusals with what explains them.
@@ -28,6 +28,7 @@ mod paths;
 mod patterns;
 mod progress;
 mod put;
+mod report;
 mod settings;
 mod stamps;
 mod store;
@@ -166,6 +167,7 @@ fn dispatch<L: Library + Converter>(name: &str, arguments: &Arguments, out: &mut
         "resize" => change::resize::<L>(arguments),
         "format" => change::format::<L>(arguments),
         "df" => map::df::<L>(arguments, out),
+        "report" => report::report::<L>(arguments, out),
         "bitmap" => bitmap::bitmap::<L>(arguments, out),
         "settings" => settings::settings_file::<L>(arguments, out),
         "man" => manual::man(out),

@@ -1,8 +1,8 @@
 //! The model as a library of calls.
 
 use super::{
-    bitmap, bitmap_differs, check, find_entry, format, label, list, make, read, remove, resize, summary,
-    write, NewEntry,
+    bitmap, bitmap_differs, check, find_entry, format, label, list, make, read, remove, report, resize,
+    summary, write, NewEntry,
 };
 use crate::calls::{Call, Lent, Library, Output};
 
@@ -41,6 +41,7 @@ impl Library for Model {
                 find_entry(image, blocks, anodes, *directory, name, &mut output.entry)
             }
             Call::Label => label(image, blocks, anodes, &mut output.label),
+            Call::Report { .. } => report(image, blocks, anodes, &mut output.totals, &mut output.disk),
         }
     }
 }

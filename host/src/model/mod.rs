@@ -10,6 +10,7 @@
 //! * `space`: taking and giving back one block.
 //! * `calls`: the calls.
 //! * `bitmap`: free space as the hard disk edition's bitmap.
+//! * `report`: the shift report over many disks.
 //! * `totals`: the seven kinds of blocks.
 //! * `settings`: the conversions of settings files.
 //! * `locate`: where the first fault of a disk is.
@@ -22,6 +23,7 @@ pub mod layout;
 mod library;
 mod locate;
 pub mod naive;
+mod report;
 mod settings;
 mod space;
 mod totals;
@@ -31,4 +33,5 @@ pub use calls::{find_entry, format, label, list, make, read, remove, resize, sum
 pub use check::{check, survey, Survey};
 pub use library::Model;
 pub use locate::locate;
+pub use report::report;
 pub use totals::{totals, Totals};

@@ -8,4 +8,5 @@ mod looks;
 mod manual;
 mod pages;
 mod refusals;
+mod report;
 mod settings;

@@ -1,7 +1,7 @@
 //! Random histories of calls on the model against a plain tree in memory.
 
 use ovenknit_host::bitmap::{self, BITMAP_BLOCK};
-use ovenknit_host::calls::{run, tables, Call, Outcome, DIRECTORY, UNREAD};
+use ovenknit_host::calls::{run, tables, Call, Outcome, Output, DIRECTORY, TOTALS, UNCOUNTED, UNREAD};
 use ovenknit_host::compare::{junk_tables, totals, Histogram};
 use ovenknit_host::histories::{head_of, random_call, Trend, NO_ANODE, REFUSALS};
 use ovenknit_host::model::layout::{self, AnodeTable, BLOCK};
@@ -64,6 +64,8 @@ impl History {
         }
         if let Call::Format { .. } = call {
             assert_eq!((blocks, anodes), lent, "format is lent no tables");
+        } else if answer == 31 {
+            assert_eq!((blocks, anodes), lent, "31 comes before any check");
         } else {
             self.compare_tables(&lent, &blocks, &anodes);
         }
@@ -76,7 +78,7 @@ impl History {
         }
     }
 
-    /// With a table too short every call but format answers 2 and touches nothing.
+    /// With a table too short every call but format answers 2, unless 31 came before it, and touches nothing.
     fn call_with_short_tables(&mut self, call: &Call) {
         if let Call::Format { .. } = call {
             return;
@@ -84,7 +86,8 @@ impl History {
         let (mut blocks, mut anodes) = junk_tables(self.blocks(), true, &mut self.rng);
         let lent = (self.image.clone(), blocks.clone(), anodes.clone());
         let outcome = run::<Model>(call, &mut self.image, &mut blocks, &mut anodes);
-        assert_eq!(outcome.answer, 2);
+        let full = self.tree.refusal(call, self.blocks()) == Some(31);
+        assert_eq!(outcome.answer, if full { 31 } else { 2 });
         self.compare_refused_output(call, &outcome);
         assert_eq!((&self.image, blocks, anodes), (&lent.0, lent.1, lent.2));
     }
@@ -185,6 +188,7 @@ impl History {
                 let bits = output.bytes.chunks(BITMAP_BLOCK).flat_map(|block| &block[12..]);
                 assert_eq!(bits.map(|byte| byte.count_ones() as usize).sum::<usize>(), free);
             }
+            Call::Report { totals } => self.compare_report(totals, output),
             Call::Summary => {
                 let (files, directories) = self.tree.counts();
                 let counts = [self.blocks(), self.free_blocks(), files, directories];
@@ -201,6 +205,7 @@ impl History {
             Call::Label => assert_eq!(outcome.output.label, [0; 7]),
             Call::Summary => assert_eq!(outcome.output.counts, [0; 4]),
             Call::BitmapDiffers { .. } => assert_eq!(outcome.output.difference, [0; 2]),
+            Call::Report { totals } => compare_refused_report(totals, outcome),
             _ => {}
         }
     }
@@ -211,6 +216,19 @@ impl History {
         let number = |at: usize| u32::from(root[at]) * 256 + u32::from(root[at + 1]);
         assert_eq!(fields[..5], [54, 12, 14, 16, 18].map(number));
         assert_eq!(fields[5..], [1_045, u32::from(root[20])]);
+    }
+
+    /// Files, directories and bytes are the tree's, blocks free those of the other count, and all are added to the totals.
+    fn compare_report(&self, before: &[u64; TOTALS], output: &Output) {
+        let (files, directories) = self.tree.counts();
+        let [free, disk_files, disk_directories, longest, split] = output.disk;
+        let expected = [self.free_blocks(), files, directories].map(|count| count as u64);
+        assert_eq!([free, disk_files, disk_directories], expected);
+        assert!(longest <= free && (longest > 0) == (free > 0) && split <= disk_files);
+        let added: Vec<u64> =
+            output.totals.iter().zip(before).map(|(after, before)| after - before).collect();
+        assert_eq!((added[0], &added[1..18], &added[18..23]), (1, &[0; 17][..], &output.disk[..]));
+        assert_eq!(added[23], self.tree.bytes() as u64);
     }
 
     fn compare_entry(&self, node: &Node, fields: &[u32; 11]) {
@@ -307,6 +325,16 @@ fn shaped_disks_read_back_as_planned() {
     }
 }
 
+/// 31 leaves all that a report writes; a refusal of the check is counted, and the disk's numbers are zeros.
+fn compare_refused_report(before: &[u64; TOTALS], outcome: &Outcome) {
+    let mut totals = *before;
+    if outcome.answer != 31 {
+        totals[outcome.answer as usize] += 1;
+    }
+    let disk = if outcome.answer == 31 { [UNCOUNTED; 5] } else { [0; 5] };
+    assert_eq!((outcome.output.totals, outcome.output.disk), (totals, disk));
+}
+
 /// Runs histories from one kind of disk and gathers their answers.
 fn histories(start: Start, seeds: u64, calls: usize) -> Histogram {
     let mut answers = Histogram::default();
@@ -322,7 +350,7 @@ fn histories(start: Start, seeds: u64, calls: usize) -> Histogram {
 
 #[test]
 fn histories_from_formatted_disks() {
-    let answers = histories(Start::Formatted, 120, 250);
+    let answers = histories(Start::Formatted, 80, 600);
     answers.assert_met(&REFUSALS);
     answers.assert_answered([28]);
 }

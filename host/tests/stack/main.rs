@@ -3,7 +3,7 @@
 mod painted;
 mod threads;
 
-use ovenknit_host::calls::{tables, Call, Library, Stamp, BLOCK, DIRECTORY, FILE, ROOT};
+use ovenknit_host::calls::{tables, Call, Library, Stamp, BLOCK, DIRECTORY, FILE, ROOT, TOTALS};
 use ovenknit_host::compare::{compare, History};
 use ovenknit_host::disk::Disk;
 use ovenknit_host::model::Model;
@@ -39,6 +39,7 @@ fn run_every_call<L: Library>(mut image: Vec<u8>, size: u64) {
         Call::Summary,
         Call::Bitmap { length: bitmap.len() },
         Call::BitmapDiffers { bitmap },
+        Call::Report { totals: [0; TOTALS] },
         Call::Resize { directory, name: file.clone(), size: 700 },
         Call::Resize { directory, name: file.clone(), size },
         Call::Remove { directory, name: file },

@@ -27,6 +27,7 @@ mod half_cleared;
 mod limits;
 mod looks;
 mod paper;
+mod report;
 mod settings;
 mod space;
 mod stored;
