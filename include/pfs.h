@@ -32,8 +32,7 @@
  *   Measured on x86-64 Linux, and rounded up.
  *
  *    32 KiB  pfs_format, pfs_widen, pfs_narrow
- *    64 KiB  pfs_check, pfs_summary, pfs_read, pfs_list, pfs_find, pfs_label, pfs_write, pfs_bitmap, pfs_bitmap_differs,
- *            pfs_report
+ *    64 KiB  pfs_check, pfs_summary, pfs_read, pfs_list, pfs_find, pfs_label, pfs_write, pfs_bitmap, pfs_bitmap_differs, pfs_report
  *    96 KiB  pfs_make
  *   256 KiB  pfs_resize, pfs_remove
  *

@@ -7,9 +7,9 @@ fn shift(name: &str) -> Folder {
     let folder = Folder::with_disk(name);
     folder.write("long", &[7; 1_500]);
     folder.done(&["format", "b.adf", "--blocks", "100"]);
-    folder.done(&["put", "b.adf", "pack7", "first"]);
-    folder.done(&["put", "b.adf", "long", "second"]);
-    folder.done(&["put", "b.adf", "pack7", "third"]);
+    folder.done(&["put", "b.adf", "pack7", "--as", "first"]);
+    folder.done(&["put", "b.adf", "long", "--as", "second"]);
+    folder.done(&["put", "b.adf", "pack7", "--as", "third"]);
     folder.done(&["rm", "b.adf", "first"]);
     // Blocks 5 to 9 were the first's, the second's and the third's. The second goes on in 10 and 11; 5 and 12 to 99 are free.
     folder.done(&["resize", "b.adf", "second", "2500"]);
