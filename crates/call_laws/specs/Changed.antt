@@ -10,7 +10,8 @@ use Rattle.disk.specs.Refusals.{numberOf}
 use Rattle.rules.specs.Anodes.{anodesOf}
 use Rattle.rules.specs.Walk.{Entered}
 use Rattle.rules.specs.Lookup.{entryNamed, ofEntry}
-use Rattle.rules.specs.Changes.{Left, left, newEntry, resized, made, written, removed}
+use Rattle.rules.specs.Plans.{tableOf}
+use Rattle.rules.specs.Changes.{Left, left, newEntry, resized, made, written, removed, usualGrowth}
 use Rattle.rules.specs.Calls.{outcomeOf, settled, checkOutcome, checkedFirst, spanRefusal, readAnswer, resizeRefusal, removeRefusal, makeRefusal, leftAfter, changeNamed, makeOutcome, resizeOutcome, writeOutcome, removeOutcome}
 use Rattle.fsck.specs.declared.Tally.{Tally}
 use Rattle.fsck.specs.declared.Checked.{Checked}
@@ -33,16 +34,16 @@ module _ (img b₀ a₀ b a : List ℕ) (x : Checked) (e : outcomeOf (checkedNum
 
     pub resize-refused : (h : ℕ) (name : List ℕ) (size : ℕ) → outcomeOf k img b a [] [] ≡ resizeOutcome img b₀ a₀ h name size
     unfolding resizeOutcome
-    resize-refused h name size = named-not-made (resizeRefusal img (anodesOf img) h name) (entryNamed img (anodesOf img) h name) (λ y. resized img (anodesOf img) y size)
+    resize-refused h name size = named-not-made (resizeRefusal img (anodesOf img) h name) (entryNamed img (anodesOf img) h name) (λ y. resized usualGrowth img (tableOf img) y size)
 
     pub remove-refused : (h : ℕ) (name : List ℕ) → outcomeOf k img b a [] [] ≡ removeOutcome img b₀ a₀ h name
     unfolding removeOutcome
-    remove-refused h name = named-not-made (removeRefusal img (anodesOf img) h name) (entryNamed img (anodesOf img) h name) (λ y. removed img (anodesOf img) y)
+    remove-refused h name = named-not-made (removeRefusal img (anodesOf img) h name) (entryNamed img (anodesOf img) h name) (λ y. removed usualGrowth img (tableOf img) y)
 
     pub make-refused : (h type : ℕ) (name comment : List ℕ) (day minute tick protection : ℕ) → outcomeOf k img b a [] [] ≡ makeOutcome img b₀ a₀ h type name comment day minute tick protection
     unfolding makeOutcome
     make-refused h type name comment day minute tick protection = change-refused img b₀ a₀ b a x e r is k n (makeRefusal img (anodesOf img) h type name comment)
-        (made img (anodesOf img) h (newEntry (eqb type 2) name comment day minute tick protection))
+        (made usualGrowth img (tableOf img) h (newEntry (eqb type 2) name comment day minute tick protection))
 
   -- ---- the check accepted
 
@@ -58,18 +59,18 @@ module _ (img b₀ a₀ b a : List ℕ) (x : Checked) (e : outcomeOf (checkedNum
     write-answered h name offset bytes l = named-answered (spanRefusal img (anodesOf img) h name offset (length bytes)) (entryNamed img (anodesOf img) h name) (λ y. left 0 (written img (anodesOf img) y offset bytes)) l
 
     pub resize-answered : (h : ℕ) (name : List ℕ) (size : ℕ) →
-        Leaves r img b a img′ b′ a′ (changeNamed (resizeRefusal img (anodesOf img) h name) img (entryNamed img (anodesOf img) h name) (λ y. resized img (anodesOf img) y size)) → outcomeOf r img′ b′ a′ [] [] ≡ resizeOutcome img b₀ a₀ h name size
+        Leaves r img b a img′ b′ a′ (changeNamed (resizeRefusal img (anodesOf img) h name) img (entryNamed img (anodesOf img) h name) (λ y. resized usualGrowth img (tableOf img) y size)) → outcomeOf r img′ b′ a′ [] [] ≡ resizeOutcome img b₀ a₀ h name size
     unfolding resizeOutcome
-    resize-answered h name size l = named-answered (resizeRefusal img (anodesOf img) h name) (entryNamed img (anodesOf img) h name) (λ y. resized img (anodesOf img) y size) l
+    resize-answered h name size l = named-answered (resizeRefusal img (anodesOf img) h name) (entryNamed img (anodesOf img) h name) (λ y. resized usualGrowth img (tableOf img) y size) l
 
     pub remove-answered : (h : ℕ) (name : List ℕ) →
-        Leaves r img b a img′ b′ a′ (changeNamed (removeRefusal img (anodesOf img) h name) img (entryNamed img (anodesOf img) h name) (λ y. removed img (anodesOf img) y)) → outcomeOf r img′ b′ a′ [] [] ≡ removeOutcome img b₀ a₀ h name
+        Leaves r img b a img′ b′ a′ (changeNamed (removeRefusal img (anodesOf img) h name) img (entryNamed img (anodesOf img) h name) (λ y. removed usualGrowth img (tableOf img) y)) → outcomeOf r img′ b′ a′ [] [] ≡ removeOutcome img b₀ a₀ h name
     unfolding removeOutcome
-    remove-answered h name l = named-answered (removeRefusal img (anodesOf img) h name) (entryNamed img (anodesOf img) h name) (λ y. removed img (anodesOf img) y) l
+    remove-answered h name l = named-answered (removeRefusal img (anodesOf img) h name) (entryNamed img (anodesOf img) h name) (λ y. removed usualGrowth img (tableOf img) y) l
 
     pub make-answered : (h type : ℕ) (name comment : List ℕ) (day minute tick protection : ℕ) →
-        Leaves r img b a img′ b′ a′ (leftAfter (makeRefusal img (anodesOf img) h type name comment) img (made img (anodesOf img) h (newEntry (eqb type 2) name comment day minute tick protection))) →
+        Leaves r img b a img′ b′ a′ (leftAfter (makeRefusal img (anodesOf img) h type name comment) img (made usualGrowth img (tableOf img) h (newEntry (eqb type 2) name comment day minute tick protection))) →
         outcomeOf r img′ b′ a′ [] [] ≡ makeOutcome img b₀ a₀ h type name comment day minute tick protection
     unfolding makeOutcome
     make-answered h type name comment day minute tick protection l = change-answered img b₀ a₀ b a x e t is (makeRefusal img (anodesOf img) h type name comment)
-        (made img (anodesOf img) h (newEntry (eqb type 2) name comment day minute tick protection)) r img′ b′ a′ l
+        (made usualGrowth img (tableOf img) h (newEntry (eqb type 2) name comment day minute tick protection)) r img′ b′ a′ l

@@ -17,6 +17,7 @@ use Rattle.rules.specs.Counting.{oneAt, occurrences, anyIn}
 use Rattle.rules.specs.Anodes.{Anodes, limit, exists, anodesOf, withAnodes}
 use Rattle.rules.specs.Chains.{chainOf, run, blocksOf}
 use Rattle.rules.specs.Walk.{Dir, Entered, entriesFrom, entriesIn, isBlockOf, reachedDirs}
+use Rattle.rules.specs.Plans.{Slotted}
 use Rattle.rules.specs.Format.{newDirectoryBlock}
 use Rattle.rules.specs.Changes.{withBlocks, entriesEnd, noRoom, parentOf, entryStart, NewEntry, entryOf, madeImage}
 use Rattle.laws.specs.Tests.{not-above}
@@ -59,13 +60,16 @@ parents-right h (d ∷ l) e = elim (oneAt-cases (d .head) h) [
 ]
 
 -- a make that is planned
-pub record Making (img : List ℕ) (h : ℕ) (new : NewEntry) (f : ℕ) (room : Option ℕ) (ys : List ℕ) (t : Anodes) (zs : List ℕ) : Type 0 where
+pub record Making (img : List ℕ) (h : ℕ) (new : NewEntry) (f : ℕ) (room : Option ℕ) (ys : List ℕ) (u : Slotted) (zs : List ℕ) : Type 0 where
   pub fresh : Fresh img h f
-  pub steps : MakeSteps img (new .dir) (entryLength (length (new .name)) (length (new .comment))) h f room ys t zs
+  pub steps : MakeSteps img (new .dir) (entryLength (length (new .name)) (length (new .comment))) h f room ys u zs
   pub named : goodName (new .name) ≡ true
   pub commented : goodComment (new .comment) ≡ true
 
-module _ {img : List ℕ} {h : ℕ} {new : NewEntry} {f : ℕ} {room : Option ℕ} {ys : List ℕ} {t : Anodes} {zs : List ℕ} (m : Making img h new f room ys t zs) where
+module _ {img : List ℕ} {h : ℕ} {new : NewEntry} {f : ℕ} {room : Option ℕ} {ys : List ℕ} {u : Slotted} {zs : List ℕ} (m : Making img h new f room ys u zs) where
+  abbrev t : Anodes
+  t = u .anodes
+
   abbrev s : Anodes
   s = anodesOf img
 
@@ -86,7 +90,7 @@ module _ {img : List ℕ} {h : ℕ} {new : NewEntry} {f : ℕ} {room : Option �
   once = reached-headed parent
 
   pub plan : MadePlan img s (headIn img) f h (new .dir) (noRoom room) ys zs t
-  plan = made-plan img w f (m .fresh .below) spare h once (new .dir) (m .steps .between) ys (m .steps .own) (noRoom room) t zs (m .steps .parent)
+  plan = made-plan img w f (m .fresh .below) spare h once (new .dir) (m .steps .between) ys (m .steps .own) (noRoom room) u zs (m .steps .parent)
 
   abbrev pub grown : ParentGrown s (headIn img) h (noRoom room) zs t
   grown = plan .grown
@@ -183,7 +187,7 @@ module _ {img : List ℕ} {h : ℕ} {new : NewEntry} {f : ℕ} {room : Option �
 
   pub orphan : (hd′ : ℕ → ℕ) × (sd′ : ℕ → ℕ) × OrphanedOn img f t hd′ sd′ (entriesIn before) (isBlockOf before) dirs
   unfolding entriesIn
-  orphan = made-orphan img w f (m .fresh .below) spare h once (new .dir) (m .steps .between) ys (m .steps .own) (noRoom room) t zs (m .steps .parent) (entriesIn before) (isBlockOf before) cont
+  orphan = made-orphan img w f (m .fresh .below) spare h once (new .dir) (m .steps .between) ys (m .steps .own) (noRoom room) u zs (m .steps .parent) (entriesIn before) (isBlockOf before) cont
       (λ y e. rw (parent-new y (first-in y zs e)) (entries-new h (parentOf dirs h) y))
       (λ y e. each-map (λ d. d .head ≡ h → d .parent ≡ parentOf dirs h) (λ d. d .head ≡ h → T (isBlockOf before d y)) dirs
       (λ d p q. new-marked before y h (parentOf dirs h) (parent-new y (first-in y zs e)) d q (p q)) (parents-right h dirs once))
@@ -265,7 +269,7 @@ module _ {img : List ℕ} {h : ℕ} {new : NewEntry} {f : ℕ} {room : Option �
 
   -- the image that a make leaves
   abbrev j : List ℕ
-  j = madeImage img (anodesOf img) h new f room ys t zs
+  j = madeImage img (anodesOf img) h new f room ys u zs
 
   pub in-block : start / 512 ≡ t .block (spot .anode)
   in-block = omega (arith, spot .at, spot .fits)

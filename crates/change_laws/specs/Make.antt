@@ -12,17 +12,19 @@ use Rattle.disk.specs.Blocks.{blockOf}
 use Rattle.directory.specs.declared.Kind.the-variants.{File, Directory}
 use Rattle.directory.specs.Entries.{goodName, goodComment, entryLength, isDir}
 use Rattle.rules.specs.Counting.{sumList, occurrences}
-use Rattle.rules.specs.Anodes.{Anodes, limit, exists, anodesOf}
+use Rattle.rules.specs.Anodes.{Anodes, limit, existsBy, exists, anodesOf}
 use Rattle.rules.specs.Chains.{blocksOf, blockCount}
 use Rattle.rules.specs.Walk.{Dir, entriesIn, isBlockOf, blocksFor, itemsBy, reachedDirs, dirMade}
-use Rattle.rules.specs.Space.{Plan, refused, planned, rewritten, lowestFree}
+use Rattle.rules.specs.Plans.{Slotted, tableOf, Plan, refused, planned, Growth, noGrowth}
+use Rattle.rules.specs.Space.{lowestFree, needAnode, withSpare}
 use Rattle.rules.specs.Format.{newDirectoryBlock}
-use Rattle.rules.specs.Changes.{firstRoom, noRoom, neededBlock, NewEntry, entryOf, madeImage, Left, left, leftBy, madeWith, made}
+use Rattle.rules.specs.Changes.{noRoom, roomFor, headMade, neededBlock, NewEntry, entryOf, madeImage, Left, left, leftBy, made}
 use Rattle.laws.specs.Tests.{same?, less?}
 use Rattle.laws.specs.Sums.{oneAt-cases, oneAt-same}
 use Rattle.laws.specs.Bags.{list-cons, list-append, list-one, first-in}
-use Rattle.laws.specs.Plans.{planned≢refused}
-use Rattle.laws.specs.RefusedSteps.{take-refused}
+use Rattle.laws.specs.Plans.{planned≢refused, refused≢planned, planned-same, afresh-planned}
+use Rattle.laws.specs.Arriving.{need-cases}
+use Rattle.laws.specs.RefusedSteps.{spare-refused, take-refused}
 use Rattle.laws.specs.Entries.{weighEntry}
 use Rattle.laws.specs.Make.{SameMarks, EntryMore, enter-file, enter-directory}
 use Rattle.laws.specs.NewDirectory.{none-new}
@@ -31,7 +33,10 @@ use Rattle.change_laws.specs.Image.{WholeOn, StillAccepted, whole-accept
 use Rattle.change_laws.specs.Reached.{reached-head}
 use Rattle.change_laws.specs.MadeImage.{Making, spare, parent, once, plan, before, own-new, orphan, spot, entered, made-disk, entries-made, marks-made, entry-other, its-head, other-entries}
 
-module _ {img : List ℕ} {h : ℕ} {new : NewEntry} {f : ℕ} {room : Option ℕ} {ys : List ℕ} {t : Anodes} {zs : List ℕ} (m : Making img h new f room ys t zs) where
+module _ {img : List ℕ} {h : ℕ} {new : NewEntry} {f : ℕ} {room : Option ℕ} {ys : List ℕ} {u : Slotted} {zs : List ℕ} (m : Making img h new f room ys u zs) where
+  abbrev t : Anodes
+  t = u .anodes
+
   abbrev s : Anodes
   s = anodesOf img
 
@@ -40,7 +45,7 @@ module _ {img : List ℕ} {h : ℕ} {new : NewEntry} {f : ℕ} {room : Option �
 
   -- the image that a make leaves
   abbrev j : List ℕ
-  j = madeImage img s h new f room ys t zs
+  j = madeImage img s h new f room ys u zs
 
   -- the directory that it makes, where it makes one
   abbrev newDir : Dir
@@ -112,54 +117,74 @@ module _ {img : List ℕ} {h : ℕ} {new : NewEntry} {f : ℕ} {room : Option �
 -- ---- every way that a make can end
 
 -- the step for a directory block is refused with 27 or 28
-pub needed-refused : (img : List ℕ) (needed : Bool) (s : Anodes) (h n : ℕ) → neededBlock img needed s h ≡ refused n → (n ≡ 27) ⊎ (n ≡ 28)
+pub needed-refused : (growth : Growth) (needed : Bool) (h n : ℕ) (s : Slotted) → neededBlock growth needed h s ≡ refused n → (n ≡ 27) ⊎ (n ≡ 28)
 unfolding neededBlock
-needed-refused img true s h n e = take-refused limit (exists img) true s h n e
-needed-refused img false s h n e = absurd (planned≢refused s [] n e)
+needed-refused growth true h n s e = take-refused limit growth true h n s e
+needed-refused growth false h n s e = absurd (planned≢refused s [] n e)
 
-module _ (img : List ℕ) (s : Anodes) (h : ℕ) (new : NewEntry) where
-  abbrev first : ℕ
-  first = lowestFree limit (exists img) s
-
+module _ (growth : Growth) (img : List ℕ) (s : Slotted) (h : ℕ) (new : NewEntry) where
   abbrev space : Option ℕ
-  space = firstRoom img (entryLength (length (new .name)) (length (new .comment))) (blocksOf s h)
+  space = roomFor img (s .anodes) h new
+
+  -- the head that is taken in the state r
+  abbrev first : Slotted → ℕ
+  first r = lowestFree limit (existsBy (r .slots)) (r .anodes)
 
   -- refused with 27 or 28, or done by steps that are
   module _ (P : Left → Type 0) (full : P (left 27 img)) (no-anode : P (left 28 img))
-      (done : first < limit → (r : Anodes) (ys : List ℕ) → neededBlock img (new .dir) (rewritten s first 0 65535) first ≡ planned r ys → (t : Anodes) (zs : List ℕ) →
-      neededBlock img (noRoom space) r h ≡ planned t zs → P (left 0 (madeImage img s h new first space ys t zs))) where
+      (done : (q : Slotted) (xs : List ℕ) → withSpare limit growth s ≡ planned q xs → (r : Slotted) (ys : List ℕ) → neededBlock growth (new .dir) (first q) (headMade q (first q)) ≡ planned r ys → (t : Slotted) (zs : List ℕ) →
+      neededBlock growth (noRoom space) h r ≡ planned t zs → P (left 0 (madeImage img (s .anodes) h new (first q) space ys t zs))) where
     refused-with : (n : ℕ) → (n ≡ 27) ⊎ (n ≡ 28) → P (left n img)
     refused-with n (inl e) = rw e full
     refused-with n (inr e) = rw e no-anode
 
-    made-cases : P (made img s h new)
-    unfolding made madeWith
-    made-cases = elim (less? first limit) [
-      | inr l ↦ rw (le-ltb first limit l) no-anode
-      | inl l ↦ rw (lt-ltb first limit l) (owning (neededBlock img (new .dir) (rewritten s first 0 65535) first) refl l)
-    ]
+    made-cases : P (made growth img s h new)
+    unfolding made
+    made-cases = sparing (withSpare limit growth s) refl
       where
-        owning : (p : Plan) → neededBlock img (new .dir) (rewritten s first 0 65535) first ≡ p → first < limit → P (leftBy p img (λ r ys. leftBy (neededBlock img (noRoom space) r h) img (λ t zs. left 0 (madeImage img s h new first space ys t zs))))
-        owning (refused n) e l = refused-with n (needed-refused img (new .dir) (rewritten s first 0 65535) first n e)
-        owning (planned r ys) e l = taking (neededBlock img (noRoom space) r h) refl
+        sparing : (p : Plan Slotted) → withSpare limit growth s ≡ p → P (leftBy p img (λ q xs. leftBy (neededBlock growth (new .dir) (first q) (headMade q (first q))) img (λ r ys. leftBy (neededBlock growth (noRoom space) h r) img (λ t zs. left 0 (madeImage img (s .anodes) h new (first q) space ys t zs)))))
+        sparing (refused n) e = refused-with n (inr (spare-refused limit growth s n e))
+        sparing (planned q xs) e = owning (neededBlock growth (new .dir) (first q) (headMade q (first q))) refl
           where
-            taking : (p : Plan) → neededBlock img (noRoom space) r h ≡ p → P (leftBy p img (λ t zs. left 0 (madeImage img s h new first space ys t zs)))
-            taking (refused n) q = refused-with n (needed-refused img (noRoom space) r h n q)
-            taking (planned t zs) q = done l r ys e t zs q
+            owning : (p : Plan Slotted) → neededBlock growth (new .dir) (first q) (headMade q (first q)) ≡ p → P (leftBy p img (λ r ys. leftBy (neededBlock growth (noRoom space) h r) img (λ t zs. left 0 (madeImage img (s .anodes) h new (first q) space ys t zs))))
+            owning (refused n) f = refused-with n (needed-refused growth (new .dir) (first q) n (headMade q (first q)) f)
+            owning (planned r ys) f = taking (neededBlock growth (noRoom space) h r) refl
+              where
+                taking : (p : Plan Slotted) → neededBlock growth (noRoom space) h r ≡ p → P (leftBy p img (λ t zs. left 0 (madeImage img (s .anodes) h new (first q) space ys t zs)))
+                taking (refused n) i = refused-with n (needed-refused growth (noRoom space) h n r i)
+                taking (planned t zs) i = done q xs e r ys f t zs i
 
   -- it answers 0, 27 or 28
-  pub made-answer : StepsAnswer (made img s h new .answer)
-  made-answer = made-cases (λ o. StepsAnswer (o .answer)) (inr (inl refl)) (inr (inr refl)) (λ l r ys e t zs q. inl refl)
+  pub made-answer : StepsAnswer (made growth img s h new .answer)
+  made-answer = made-cases (λ o. StepsAnswer (o .answer)) (inr (inl refl)) (inr (inr refl)) (λ q xs e r ys f t zs i. inl refl)
+
+-- where slots do not grow, an anode that is to be had is one of the image's
+pub spare-there : (img : List ℕ) (q : Slotted) (xs : List ℕ) → withSpare limit noGrowth (tableOf img) ≡ planned q xs → (q ≡ tableOf img) × (lowestFree limit (exists img) (anodesOf img) < limit)
+unfolding withSpare
+spare-there img q xs e = elim (afresh-planned noGrowth (needAnode limit) (tableOf img) q xs e) [
+  | inr (r, f, i, j) ↦ absurd (let z : _≡_ {A = ℕ} 0 1 = cc in omega arith)
+  | inl (f, i) ↦ elim (need-cases limit (exists img) (anodesOf img)) [
+    | inr c ↦ absurd (refused≢planned 28 (q .anodes) xs (sym (c .0) ∙ f))
+    | inl c ↦ (let k = planned-same (anodesOf img) (q .anodes) [] xs (sym (c .2) ∙ f) in (rw (k .0, sym i), c .0))
+  ]
+]
 
 -- what a make leaves of an accepted image is accepted
 pub make-accepted : {img : List ℕ} {h : ℕ} (r : ReachedDir img h) (new : NewEntry) → goodName (new .name) ≡ true → goodComment (new .comment) ≡ true →
-    StillAccepted (r .image) (made img (anodesOf img) h new .image)
+    StillAccepted (r .image) (made noGrowth img (tableOf img) h new .image)
+unfolding roomFor
 make-accepted {img} {h} r new named commented =
     let a = r .image in
-    made-cases img (anodesOf img) h new (λ o. StillAccepted a (o .image)) (a .accepted) (a .accepted)
-    (λ l between ys e t zs q. image-accepted (record {
+    made-cases noGrowth img (tableOf img) h new (λ o. StillAccepted a (o .image)) (a .accepted) (a .accepted)
+    (λ q xs e between ys f t zs i. done-accepted q (spare-there img q xs e) between ys f t zs i)
+  where
+    done-accepted : (q : Slotted) → (q ≡ tableOf img) × (lowestFree limit (exists img) (anodesOf img) < limit) → (between : Slotted) (ys : List ℕ) →
+        neededBlock noGrowth (new .dir) (first noGrowth img (tableOf img) h new q) (headMade q (first noGrowth img (tableOf img) h new q)) ≡ planned between ys → (t : Slotted) (zs : List ℕ) →
+        neededBlock noGrowth (noRoom (space noGrowth img (tableOf img) h new)) h between ≡ planned t zs →
+        StillAccepted (r .image) (madeImage img (anodesOf img) h new (first noGrowth img (tableOf img) h new q) (space noGrowth img (tableOf img) h new) ys t zs)
+    done-accepted q (same, l) between ys f t zs i = rw same (image-accepted (record {
       fresh = record { parent = r; lowest = refl; below = l };
-      steps = record { between = between; own = e; roomy = refl; parent = q };
+      steps = record { between = between; own = rw same at f; roomy = refl; parent = i };
       named = named;
       commented = commented;
     }))

@@ -20,6 +20,7 @@ use Rattle.rules.specs.Counting.{oneAt, occurrences, gather}
 use Rattle.rules.specs.Anodes.{Anodes, limit, anodesOf}
 use Rattle.rules.specs.Chains.{chainOf, blocksOf}
 use Rattle.rules.specs.Walk.{Entered, entriesIn, reachedDirs}
+use Rattle.rules.specs.Plans.{Slotted}
 use Rattle.rules.specs.Lookup.{noDirectory, entriesOf, nameAt, contents}
 use Rattle.rules.specs.Changes.{entriesEnd, parentOf, entryStart, NewEntry, entryOf, madeImage}
 use Rattle.laws.specs.Tests.{same?, less?, not-above}
@@ -65,13 +66,16 @@ bytes-put {b} {y} {at} u x name comment =
     (part-same b′ b at at (getD b at 0) (omega (arith, length-putEntry b (entriesEnd b) x name comment, u .whole, found .room)) (omega (arith, u .whole, found .room))
     (λ i l. getD-putEntry-before b (entriesEnd b) x name comment (at + i) (omega (arith, l, st .before))))
 
-module _ {img : List ℕ} {h : ℕ} {new : NewEntry} {f : ℕ} {room : Option ℕ} {ys : List ℕ} {t : Anodes} {zs : List ℕ} (m : Making img h new f room ys t zs) where
+module _ {img : List ℕ} {h : ℕ} {new : NewEntry} {f : ℕ} {room : Option ℕ} {ys : List ℕ} {u : Slotted} {zs : List ℕ} (m : Making img h new f room ys u zs) where
+  abbrev t : Anodes
+  t = u .anodes
+
   abbrev s : Anodes
   s = anodesOf img
 
   -- the image that a make leaves
   abbrev j : List ℕ
-  j = madeImage img s h new f room ys t zs
+  j = madeImage img s h new f room ys u zs
 
   -- an anode of a directory that was reached
   module _ {k : ℕ} (r : ReachedDir img k) (a : ℕ) (on : Member a (chainOf (s .next) limit k)) where

@@ -7,29 +7,33 @@ use mathlib.Core.List.{List, [], _∷_, _++_, map, append-nil}
 use mathlib.Core.Option.{Option}
 use native.Mathlib.Omega.{arith}
 use lib.Dec.{T}
+use Rattle.disk.specs.Root.{slotOf}
 use Rattle.rules.specs.Counting.{occurrences, changed}
 use Rattle.rules.specs.Anodes.{Anodes, limit, exists, anodesOf}
 use Rattle.rules.specs.Chains.{chainOf, blocksOf, systemOwns}
 use Rattle.rules.specs.Walk.{Dir, Entered}
 use Rattle.rules.specs.Accepted.{diskSize, lastReserved}
-use Rattle.rules.specs.Space.{planned, rewritten, free, lowestFree}
-use Rattle.rules.specs.Changes.{firstRoom, noRoom, neededBlock}
+use Rattle.rules.specs.Plans.{Slotted, slotted, tableOf, planned, noGrowth}
+use Rattle.rules.specs.Space.{rewritten, free, lowestFree}
+use Rattle.rules.specs.Changes.{firstRoom, noRoom, headMade, neededBlock}
 use Rattle.laws.specs.Tests.{same?}
 use Rattle.laws.specs.Sums.{oneAt-cases, oneAt-same, oneAt-other, oneAt-le, changed-same, changed-other, least-cases}
 use Rattle.laws.specs.Bags.{occurrences-nil, occurrences-cons, occurrences-append}
 use Rattle.laws.specs.Heads.{Head, head-of-is, occurrences-on-chain}
-use Rattle.laws.specs.Space.{FreeAnode, free-is}
+use Rattle.laws.specs.Space.{FreeAnode, free-is, good-more}
 use Rattle.laws.specs.Plans.{planned-same}
-use Rattle.laws.specs.Take.{take-good}
-use Rattle.laws.specs.Moves.{Shift, shift-none, Moved}
+use Rattle.laws.specs.Take.{Takes, take-steps, takes-moved}
+use Rattle.laws.specs.Moves.{Shift, shift-none, none-grows, Moved}
+use Rattle.laws.specs.FixedSlots.{start-owned, take-slots}
 use Rattle.laws.specs.Frame.{shift-chain}
 use Rattle.laws.specs.Each.{Each}
 use Rattle.laws.specs.OwnBlock.{own-filled}
-use Rattle.laws.specs.Orphan.{Orphaned, not-dir, orphan-changed}
+use Rattle.laws.specs.Orphan.{Orphaned, orphan-good, not-dir, orphan-changed}
 use Rattle.laws.specs.DirectoryTakes.{find-headed, dir-head, dir-not-1, dir-taken, directory-takes}
 use Rattle.laws.specs.Make.{SameContents, contents-unchanged, fresh-stays, fresh-chain, fresh-orphan}
 use Rattle.laws.specs.Items.{headed}
 use Rattle.change_laws.specs.Image.{GoodOn, WholeWith, ReachedDir}
+use Rattle.change_laws.specs.ResizePlan.{exist-same, moves-good}
 
 -- anodes t on the disk of img, where no entry names the chain of f
 abbrev pub OrphanedOn : List ℕ → ℕ → Anodes → (ℕ → ℕ) → (ℕ → ℕ) → (ℕ → List Entered) → (Dir → ℕ → Bool) → List Dir → Type 0
@@ -50,11 +54,11 @@ fresh-free {img} {f = f} x = free-is (exists img) (anodesOf img) f (elim (least-
 ])
 
 -- the steps of a make that is planned: f is the fresh head, ys its own block, zs the block that the parent h takes where it has no room
-pub record MakeSteps (img : List ℕ) (dir : Bool) (len h f : ℕ) (room : Option ℕ) (ys : List ℕ) (t : Anodes) (zs : List ℕ) : Type 0 where
-  pub between : Anodes
-  pub own : neededBlock img dir (rewritten (anodesOf img) f 0 65535) f ≡ planned between ys
+pub record MakeSteps (img : List ℕ) (dir : Bool) (len h f : ℕ) (room : Option ℕ) (ys : List ℕ) (t : Slotted) (zs : List ℕ) : Type 0 where
+  pub between : Slotted
+  pub own : neededBlock noGrowth dir f (headMade (tableOf img) f) ≡ planned between ys
   pub roomy : firstRoom img len (blocksOf (anodesOf img) h) ≡ room
-  pub parent : neededBlock img (noRoom room) between h ≡ planned t zs
+  pub parent : neededBlock noGrowth (noRoom room) h between ≡ planned t zs
 
 -- what steps from s to t have made of the chain of the parent h, and of the others: zs is the block that it took where it needed one
 pub record ParentGrown (s : Anodes) (hd : ℕ → ℕ) (h : ℕ) (needed : Bool) (zs : List ℕ) (t : Anodes) : Type 0 where
@@ -120,25 +124,54 @@ module _ (img : List ℕ) {s : Anodes} {hd sd : ℕ → ℕ} {entries : ℕ → 
     blocks = refl;
   }
 
-  own-step : (dir : Bool) (t : Anodes) (ys : List ℕ) → neededBlock img dir begun f ≡ planned t ys → OwnStep dir t ys
+  abbrev last : ℕ
+  last = lastReserved img
+
+  -- the block that it takes
+  own-takes : (t : Slotted) (ys : List ℕ) → neededBlock noGrowth true f (headMade (slotted s (slotOf img)) f) ≡ planned t ys → Takes limit (diskSize img) last (slotted begun (slotOf img)) (systemOwns img) (changed hd f f) true f t ys
+  unfolding neededBlock
+  own-takes t ys e = take-steps (none-grows limit (diskSize img) last) (start-owned (slotOf img)) (orphan .good) f true t ys e
+
+  -- it leaves the slots
+  needed-slots : (dir : Bool) (h : ℕ) (r t : Slotted) (ys : List ℕ) → neededBlock noGrowth dir h r ≡ planned t ys → t .slots ≡ r .slots
+  unfolding neededBlock
+  needed-slots true h r t ys e = take-slots limit true h r t ys e
+  needed-slots false h r t ys e = ap (λ (q : Slotted). q .slots) (sym (planned-same r t [] ys e .0))
+
+  own-step : (dir : Bool) (t : Slotted) (ys : List ℕ) → neededBlock noGrowth dir f (headMade (slotted s (slotOf img)) f) ≡ planned t ys → OwnStep dir (t .anodes) ys
   unfolding neededBlock
   own-step true t ys e =
-      let m = take-good (orphan .good) f (orphan .head) fresh-not-1 true t ys e in
-      let q = own-filled (orphan .good) f (orphan .head) fresh-not-1 (own-none .chain) (own-none .count) t ys e in
-      record { hd′ = m .hd′; sd′ = m .sd′; good = m .good; shift = m .shift; chain = q .2 .chain; count = q .2 .one; blocks = q .1 ∙ ap (λ (y : ℕ). y ∷ []) (sym (q .2 .at)) }
-  own-step false t ys e = let q = planned-same begun t [] ys e in rw (q .0, sym (q .1)) at own-none
+      let k = own-takes t ys e in
+      let m = takes-moved f (orphan .head) fresh-not-1 k in
+      let q = own-filled (orphan .good) f (orphan .head) fresh-not-1 k (own-none .chain) (own-none .count) in
+      record {
+        hd′ = m .hd′;
+        sd′ = m .sd′;
+        good = moves-good img m refl (needed-slots true f (slotted begun (slotOf img)) t ys e);
+        shift = m .shift;
+        chain = q .2 .chain;
+        count = q .2 .one;
+        blocks = q .1 ∙ ap (λ (y : ℕ). y ∷ []) (sym (q .2 .at));
+      }
+  own-step false t ys e = let q = planned-same (slotted begun (slotOf img)) t [] ys e in rw (sym (q .0), q .1) own-none
 
   -- ---- the parent's block
 
-  module _ (h : ℕ) (reached : headed h dirs ≡ 1) (dir : Bool) (r : Anodes) (ys : List ℕ) (own : neededBlock img dir (rewritten s f 0 65535) f ≡ planned r ys) where
-    abbrev step : OwnStep dir r ys
-    step = own-step dir r ys own
+  module _ (h : ℕ) (reached : headed h dirs ≡ 1) (dir : Bool) (R : Slotted) (ys : List ℕ) (own : neededBlock noGrowth dir f (headMade (slotted s (slotOf img)) f) ≡ planned R ys) where
+    abbrev r : Anodes
+    r = R .anodes
+
+    abbrev step : OwnStep dir (R .anodes) ys
+    step = own-step dir R ys own
+
+    own-slots : R .slots ≡ slotOf img
+    own-slots = needed-slots dir f (slotted begun (slotOf img)) R ys own
 
     owned : (entries′ : ℕ → List Entered) (marked′ : Dir → ℕ → Bool) → SameContents s hd entries marked entries′ marked′ →
-        OrphanedOn img f r (step .hd′) (step .sd′) entries′ marked′ dirs
+        OrphanedOn img f (R .anodes) (step .hd′) (step .sd′) entries′ marked′ dirs
     owned entries′ marked′ cont = orphan-changed (fresh-orphan w f fA is-free entries′ marked′ cont) (is-free .from-6) (step .good) (step .shift)
 
-    o : OrphanedOn img f r (step .hd′) (step .sd′) entries marked dirs
+    o : OrphanedOn img f (R .anodes) (step .hd′) (step .sd′) entries marked dirs
     o = owned entries marked (contents-unchanged s hd entries marked)
 
     parent-none : ParentGrown r (step .hd′) h false [] r
@@ -155,22 +188,26 @@ module _ (img : List ℕ) {s : Anodes} {hd sd : ℕ → ℕ} {entries : ℕ → 
     }
 
     -- the block that it takes
-    parent-moved : (t : Anodes) (zs : List ℕ) → neededBlock img true r h ≡ planned t zs → Moved limit (exists img) (diskSize img) (lastReserved img) r (systemOwns img) (step .hd′) 1 h zs t
+    parent-takes : (t : Slotted) (zs : List ℕ) → neededBlock noGrowth true h R ≡ planned t zs → Takes limit (diskSize img) last R (systemOwns img) (step .hd′) true h t zs
     unfolding neededBlock
-    parent-moved t zs e = take-good (o .good) h (dir-head o h reached) (dir-not-1 o h reached) true t zs e
+    parent-takes t zs e =
+        take-steps (none-grows limit (diskSize img) last) (start-owned (slotOf img)) (good-more (o .good) (exist-same (slotOf img) (R .slots) (sym own-slots)) (λ x. refl)) h true t zs e
 
-    parent-grown : (needed : Bool) (t : Anodes) (zs : List ℕ) → neededBlock img needed r h ≡ planned t zs → ParentGrown r (step .hd′) h needed zs t
+    parent-moved : (t : Slotted) (zs : List ℕ) → neededBlock noGrowth true h R ≡ planned t zs → (gs : List ℕ) × Moved limit (diskSize img) last R (systemOwns img) (step .hd′) 1 h h zs gs t
+    parent-moved t zs e = let k = parent-takes t zs e in (k .gs, takes-moved h (dir-head o h reached) (dir-not-1 o h reached) k)
+
+    parent-grown : (needed : Bool) (t : Slotted) (zs : List ℕ) → neededBlock noGrowth needed h R ≡ planned t zs → ParentGrown r (step .hd′) h needed zs (t .anodes)
     unfolding neededBlock
-    parent-grown false t zs e = let q = planned-same r t [] zs e in rw (q .1, sym (q .0)) parent-none
+    parent-grown false t zs e = let q = planned-same R t [] zs e in rw (q .1, sym (q .0)) parent-none
     parent-grown true t zs e =
-        let x = dir-taken o h reached t zs e in
-        let m = parent-moved t zs e in
+        let x = dir-taken o h reached (parent-takes t zs e) in
+        let m = parent-moved t zs e .1 in
         let sh = m .shift in
         record {
           new = x .2 .anode ∷ [];
           chain = x .2 .chain;
           ones = λ a p. elim (oneAt-cases (x .2 .anode) a) [
-            | inl c ↦ ap (t .count) (sym (c .0)) ∙ x .2 .one
+            | inl c ↦ ap (t .anodes .count) (sym (c .0)) ∙ x .2 .one
             | inr c ↦ absurd (omega (arith, p, occurrences-cons a (x .2 .anode) [], occurrences-nil a, c .1))
           ];
           blocks = x .1 ∙ ap (λ (y : ℕ). y ∷ []) (sym (x .2 .at));
@@ -198,11 +235,11 @@ module _ (img : List ℕ) {s : Anodes} {hd sd : ℕ → ℕ} {entries : ℕ → 
           others = λ k d k1 kh. shift-chain (o .good) (m .good) sh k d k1 kh;
         }
 
-    parent-good : (needed : Bool) (t : Anodes) (zs : List ℕ) → neededBlock img needed r h ≡ planned t zs →
-        (hd′ : ℕ → ℕ) × (sd′ : ℕ → ℕ) × GoodOn img t hd′ sd′
+    parent-good : (needed : Bool) (t : Slotted) (zs : List ℕ) → neededBlock noGrowth needed h R ≡ planned t zs →
+        (hd′ : ℕ → ℕ) × (sd′ : ℕ → ℕ) × GoodOn img (t .anodes) hd′ sd′
     unfolding neededBlock
-    parent-good false t zs e = (step .hd′, step .sd′, rw (sym (planned-same r t [] zs e .0)) (step .good))
-    parent-good true t zs e = let m = parent-moved t zs e in (m .hd′, m .sd′, m .good)
+    parent-good false t zs e = (step .hd′, step .sd′, rw (sym (planned-same R t [] zs e .0)) (step .good))
+    parent-good true t zs e = let m = parent-moved t zs e .1 in (m .hd′, m .sd′, moves-good img m own-slots (needed-slots true h R t zs e))
 
     -- ---- both
 
@@ -239,7 +276,7 @@ module _ (img : List ℕ) {s : Anodes} {hd sd : ℕ → ℕ} {entries : ℕ → 
         let x = step .shift .apart a used not-1 not-f in
         (x .same-count ∙ changed-other (s .count) f 0 a af, x .same-block ∙ b, step .shift .same-hd a used not-1 not-f ∙ k)
 
-    pub made-plan : (needed : Bool) (t : Anodes) (zs : List ℕ) → neededBlock img needed r h ≡ planned t zs → MadePlan img s hd f h dir needed ys zs t
+    pub made-plan : (needed : Bool) (t : Slotted) (zs : List ℕ) → neededBlock noGrowth needed h R ≡ planned t zs → MadePlan img s hd f h dir needed ys zs (t .anodes)
     unfolding rewritten
     made-plan needed t zs e =
         let p = parent-grown needed t zs e in
@@ -268,11 +305,14 @@ module _ (img : List ℕ) {s : Anodes} {hd sd : ℕ → ℕ} {entries : ℕ → 
         }
 
     -- the chain of f is not named yet
-    pub made-orphan : (needed : Bool) (t : Anodes) (zs : List ℕ) → neededBlock img needed r h ≡ planned t zs → (entries′ : ℕ → List Entered) (marked′ : Dir → ℕ → Bool) →
+    pub made-orphan : (needed : Bool) (t : Slotted) (zs : List ℕ) → neededBlock noGrowth needed h R ≡ planned t zs → (entries′ : ℕ → List Entered) (marked′ : Dir → ℕ → Bool) →
         SameContents s hd entries marked entries′ marked′ →
         ((y : ℕ) → zs ≡ y ∷ [] → entries′ y ≡ []) → ((y : ℕ) → zs ≡ y ∷ [] → Each (λ d. d .head ≡ h → T (marked′ d y)) dirs) →
-        (hd′ : ℕ → ℕ) × (sd′ : ℕ → ℕ) × OrphanedOn img f t hd′ sd′ entries′ marked′ dirs
+        (hd′ : ℕ → ℕ) × (sd′ : ℕ → ℕ) × OrphanedOn img f (t .anodes) hd′ sd′ entries′ marked′ dirs
     unfolding neededBlock
-    made-orphan false t zs e entries′ marked′ same empty its =
-        (step .hd′, step .sd′, rw (sym (planned-same r t [] zs e .0)) (owned entries′ marked′ same))
-    made-orphan true t zs e entries′ marked′ same empty its = (_, _, directory-takes (owned entries′ marked′ same) h reached t zs e empty its)
+    made-orphan false t zs e entries′ marked′ same empty its = (step .hd′, step .sd′, rw (sym (planned-same R t [] zs e .0)) (owned entries′ marked′ same))
+    made-orphan true t zs e entries′ marked′ same empty its =
+        let k = parent-takes t zs e in
+        let o′ = owned entries′ marked′ same in
+        let w = takes-moved h (dir-head o′ h reached) (dir-not-1 o′ h reached) k in
+        (w .hd′, w .sd′, orphan-good (moves-good img w own-slots (needed-slots true h R t zs e)) (directory-takes o′ h reached k empty its))

@@ -8,7 +8,7 @@ use Rattle.rules.specs.Counting.{occurrences}
 use Rattle.rules.specs.Anodes.{Anodes, anodesOf}
 use Rattle.rules.specs.Chains.{blocksOf}
 use Rattle.rules.specs.Walk.{Entered}
-use Rattle.rules.specs.Space.{Plan, refused, planned}
+use Rattle.rules.specs.Plans.{Slotted, Plan, refused, planned}
 use Rattle.rules.specs.Changes.{Left, left, leftBy}
 use Rattle.laws.specs.Heads.{Head}
 use Rattle.frames.specs.DisjointBlocks.{chains-apart}
@@ -17,8 +17,8 @@ use Rattle.change_laws.specs.Reached.{EntryIn, EntryFacts, entry-not-1, 
 use Rattle.change_laws.specs.SingleBlocks.{single-apart}
 
 -- what a change leaves, by the two ways that its plan can end
-pub left-cases : (P : Left → Type 0) (img : List ℕ) (f : Anodes → List ℕ → List ℕ) (plan : Plan) → ((k : ℕ) → plan ≡ refused k → P (left k img)) →
-    ((t : Anodes) (ys : List ℕ) → plan ≡ planned t ys → P (left 0 (f t ys))) → P (leftBy plan img (λ t ys. left 0 (f t ys)))
+pub left-cases : (P : Left → Type 0) (img : List ℕ) (f : Slotted → List ℕ → List ℕ) (plan : Plan Slotted) → ((k : ℕ) → plan ≡ refused k → P (left k img)) →
+    ((t : Slotted) (ys : List ℕ) → plan ≡ planned t ys → P (left 0 (f t ys))) → P (leftBy plan img (λ t ys. left 0 (f t ys)))
 left-cases P img f (refused k) stopped done = stopped k refl
 left-cases P img f (planned t ys) stopped done = done t ys refl
 

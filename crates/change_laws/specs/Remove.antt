@@ -7,18 +7,22 @@ use mathlib.Core.List.{List, [], _∷_, map}
 use native.Mathlib.Omega.{arith}
 use lib.ListN.{getD}
 use Rattle.disk.specs.Blocks.{blockOf}
+use Rattle.disk.specs.Root.{slotOf}
 use Rattle.rules.specs.Counting.{sumList}
-use Rattle.rules.specs.Anodes.{Anodes, anodesOf}
+use Rattle.rules.specs.Anodes.{Anodes, limit, anodesOf}
 use Rattle.rules.specs.Chains.{blockCount, systemOwns}
 use Rattle.rules.specs.Walk.{Dir, Entered, entriesIn, isBlockOf, reachedDirs}
 use Rattle.rules.specs.Lookup.{entriesOf, nth, isThere, notEmpty}
-use Rattle.rules.specs.Space.{refused}
+use Rattle.rules.specs.Accepted.{diskSize, lastReserved}
+use Rattle.rules.specs.Plans.{Slotted, tableOf, refused, noGrowth}
 use Rattle.rules.specs.Changes.{removedImage, removed, removePlan}
 use Rattle.laws.specs.Tests.{same?}
 use Rattle.laws.specs.Sums.{oneAt-same, oneAt-other}
 use Rattle.laws.specs.Bags.{list-cons, list-append, map-sum}
 use Rattle.laws.specs.Entries.{weighEntry}
-use Rattle.laws.specs.Whole.{blocks-count}
+use Rattle.laws.specs.Whole.{whole-good, blocks-count}
+use Rattle.laws.specs.Moves.{none-grows}
+use Rattle.laws.specs.FixedSlots.{start-owned}
 use Rattle.laws.specs.RefusedSteps.{gives-refused}
 use Rattle.laws.specs.Make.{SameMarks, EntryMore}
 use Rattle.laws.specs.Remove as Laws
@@ -31,7 +35,7 @@ use Rattle.change_laws.specs.PlannedChange.{left-cases, image, w, facts}
 use Rattle.change_laws.specs.RemoveStores.{PlannedRemove, here, kept-data, entries-left, marks-left, apart}
 use Rattle.change_laws.specs.RemoveStores as Stores
 
-module _ {img : List ℕ} {e : Entered} {t : Anodes} {ys : List ℕ} (p : PlannedRemove img e t ys) where
+module _ {img : List ℕ} {e : Entered} {u : Slotted} {ys : List ℕ} (p : PlannedRemove img e u ys) where
   abbrev s : Anodes
   s = anodesOf img
 
@@ -40,7 +44,7 @@ module _ {img : List ℕ} {e : Entered} {t : Anodes} {ys : List ℕ} (p : Planne
 
   -- the image that a removal leaves
   abbrev j : List ℕ
-  j = removedImage img e t
+  j = removedImage img e u
 
   -- the anode whose block has it
   in-y : (a : ℕ) → a ≡ facts p .a₀ → s .block a ≡ y
@@ -89,7 +93,9 @@ module _ {img : List ℕ} {e : Entered} {t : Anodes} {ys : List ℕ} (p : Planne
     pub left-whole : (dirs : List Dir) × WholeOn img j (Stores.end p) (Stores.hdLeft p) (Stores.sdLeft p) dirs
         × ((x : ℕ) → x ≢ e .anode → headed x dirs ≡ headed x (reachedDirs img s))
     unfolding entriesOf
-    left-whole = Laws.removed (w p) e (e .anode) refl (facts p .a₀) (p .home) (reached-headed (p .entry .directory)) (facts p .block-facts .on-chain) (entriesIn j) lost no-entry (Stores.ran p) (isBlockOf j) same-marks
+    left-whole =
+        let (dirs, whole, rest) = Laws.removed (w p) e (e .anode) refl (facts p .a₀) (p .home) (reached-headed (p .entry .directory)) (facts p .block-facts .on-chain) (entriesIn j) lost no-entry (Stores.moves p) (Stores.none-left p) (isBlockOf j) same-marks in
+        (dirs, whole-good (Stores.end-good p) whole, rest)
 
     pub planned-accepted : StillAccepted (image p) j
     planned-accepted = whole-accepted (image p) (Stores.removed-disk p) (left-whole .1)
@@ -98,22 +104,22 @@ module _ {img : List ℕ} {h : ℕ} {e : Entered} (m : EntryIn img h e) where
   -- ---- the answers
 
   -- a removal is refused with 28 alone
-  pub remove-refused : (k : ℕ) → removePlan img (anodesOf img) (e .anode) ≡ refused k → k ≡ 28
+  pub remove-refused : (k : ℕ) → removePlan noGrowth (lastReserved img) (tableOf img) (e .anode) ≡ refused k → k ≡ 28
   remove-refused k q =
       let g = accepted-whole (m .directory .image) .good in
       let f = entry-facts m in
-      gives-refused (blockCount (anodesOf img) (e .anode)) (e .anode) (entry-not-1 f) k (anodesOf img) (systemOwns img) (headIn img) (sideIn img) g (f .head)
+      gives-refused (none-grows limit (diskSize img) (lastReserved img)) (blockCount (anodesOf img) (e .anode)) (e .anode) (entry-not-1 f) k (tableOf img) (systemOwns img) (headIn img) (sideIn img) (start-owned (slotOf img)) g (f .head)
       (omega (arith, blocks-count g (e .anode) (f .head))) q
 
   -- what a removal leaves of an accepted image is accepted, where a directory that goes is empty
-  pub remove-accepted : (e .dir ≡ true → notEmpty img (anodesOf img) e ≡ false) → StillAccepted (m .directory .image) (removed img (anodesOf img) e .image)
+  pub remove-accepted : (e .dir ≡ true → notEmpty img (anodesOf img) e ≡ false) → StillAccepted (m .directory .image) (removed noGrowth img (tableOf img) e .image)
   unfolding removed
   remove-accepted empty =
       let a = m .directory .image in
-      left-cases (λ l. StillAccepted a (l .image)) img (λ t ys. removedImage img e t) (removePlan img (anodesOf img) (e .anode)) (λ k q. a .accepted)
+      left-cases (λ l. StillAccepted a (l .image)) img (λ t ys. removedImage img e t) (removePlan noGrowth (lastReserved img) (tableOf img) (e .anode)) (λ k q. a .accepted)
       (λ t ys q. planned-accepted (record { home = h; entry = m; plan = q }) empty)
 
   -- it answers 0 or 28
-  pub remove-answers : (removed img (anodesOf img) e .answer ≡ 0) ⊎ (removed img (anodesOf img) e .answer ≡ 28)
+  pub remove-answers : (removed noGrowth img (tableOf img) e .answer ≡ 0) ⊎ (removed noGrowth img (tableOf img) e .answer ≡ 28)
   unfolding removed
-  remove-answers = left-cases (λ l. (l .answer ≡ 0) ⊎ (l .answer ≡ 28)) img (λ t ys. removedImage img e t) (removePlan img (anodesOf img) (e .anode)) (λ k q. inr (remove-refused k q)) (λ t ys q. inl refl)
+  remove-answers = left-cases (λ l. (l .answer ≡ 0) ⊎ (l .answer ≡ 28)) img (λ t ys. removedImage img e t) (removePlan noGrowth (lastReserved img) (tableOf img) (e .anode)) (λ k q. inr (remove-refused k q)) (λ t ys q. inl refl)

@@ -7,6 +7,7 @@ use mathlib.Core.List.{List}
 use Rattle.rules.specs.Counting.{oneAt}
 use Rattle.rules.specs.Anodes.{Anodes, anodesOf}
 use Rattle.rules.specs.Walk.{Entered, reachedDirs}
+use Rattle.rules.specs.Plans.{Slotted}
 use Rattle.rules.specs.Lookup.{noDirectory, entriesOf, notEmpty, contents}
 use Rattle.rules.specs.Changes.{removedImage}
 use Rattle.laws.specs.Heads.{Head}
@@ -19,21 +20,21 @@ use Rattle.change_laws.specs.Reached.{EntryIn, reached-head}
 use Rattle.change_laws.specs.EntryBytes.{entryBytes}
 use Rattle.change_laws.specs.KeptChains.{SameChain, same-chain-alike, entry-bytes-same, OthersLeft, contents-left, entries-left}
 use Rattle.change_laws.specs.PlannedChange.{image, w, facts, off-chain}
-use Rattle.change_laws.specs.RemoveStores.{PlannedRemove, end, ran, end-good, removed-disk, kept-data}
+use Rattle.change_laws.specs.RemoveStores.{PlannedRemove, end, moves, none-left, end-good, removed-disk, kept-data}
 use Rattle.change_laws.specs.Remove.{left-whole, planned-accepted}
 
-module _ {img : List ℕ} {e : Entered} {t : Anodes} {ys : List ℕ} (p : PlannedRemove img e t ys) where
+module _ {img : List ℕ} {e : Entered} {u : Slotted} {ys : List ℕ} (p : PlannedRemove img e u ys) where
   abbrev s : Anodes
   s = anodesOf img
 
   -- the image that a removal leaves
   abbrev j : List ℕ
-  j = removedImage img e t
+  j = removedImage img e u
 
   -- ---- what is left of the chains
 
   gone : Laws.Gone s (headIn img) (end p) (e .anode)
-  gone = Laws.dropped-gone (e .anode) (facts p .from-6) (facts p .head) (ran p)
+  gone = Laws.dropped-gone (e .anode) (facts p .from-6) (facts p .head) (moves p) (none-left p)
 
   module _ (m : ℕ) (head : Head (s .next) (s .block) m) where
     -- every other chain has its anodes

@@ -1,36 +1,47 @@
 -- The stores of a removal, and what they leave of an accepted image.
 use Prim.Native.Nat.{ℕ, _/_, _%_}
-use mathlib.Core.Path.{_≡_, sym, ap, _∙_}
+use mathlib.Core.Path.{_≡_, refl, sym, ap, _∙_}
 use mathlib.Core.Logic.{_≢_}
 use mathlib.Core.List.{List, _++_, map}
 use native.Mathlib.Omega.{arith}
 use lib.ListN.{length, getD}
 use Rattle.disk.specs.Blocks.{blockOf}
-use Rattle.rules.specs.Anodes.{Anodes, limit, exists, anodesOf, withAnodes}
+use Rattle.disk.specs.Root.{slotOf}
+use Rattle.rules.specs.Anodes.{Anodes, limit, anodesOf, withAnodes}
 use Rattle.rules.specs.Chains.{blockCount, systemOwns}
 use Rattle.rules.specs.Walk.{Dir, Entered, entriesIn, isBlockOf}
 use Rattle.rules.specs.Accepted.{diskSize, lastReserved}
-use Rattle.rules.specs.Space.{planned, onChain, dropped}
+use Rattle.rules.specs.Plans.{Slotted, tableOf, planned, noGrowth}
+use Rattle.rules.specs.Space.{onChain, dropped}
 use Rattle.rules.specs.Changes.{withoutEntry, removedImage, removePlan, entryClosed}
 use Rattle.laws.specs.LinkChanges.{without}
 use Rattle.laws.specs.Whole.{blocks-count}
-use Rattle.laws.specs.Resize.{Ran, shrink-ran}
+use Rattle.laws.specs.Sums.{oneAt-same, oneAt-other}
+use Rattle.laws.specs.Blocks.{blocks}
+use Rattle.laws.specs.Space.{good-more}
+use Rattle.laws.specs.Moves.{none-grows, Moved}
+use Rattle.laws.specs.FixedSlots.{start-owned, none-grown, gives-slots}
+use Rattle.laws.specs.Resize.{gives-moved}
 use Rattle.laws.specs.Remove.{dropped-good}
 use Rattle.frames.specs.Kept.{Kept, kept-both}
 use Rattle.frames.specs.StoredBlocks.{inBlock-kept, blockOf-inBlock}
 use Rattle.frames.specs.DisjointBlocks.{DataBlock}
 use Rattle.change_laws.specs.Image.{GoodOn, headIn, sideIn, DiskWith, stored-kept, disk-stored, not-one, disk-then}
 use Rattle.change_laws.specs.FoundEntries.{BlockEntry}
+use Rattle.change_laws.specs.ResizePlan.{exist-same}
 use Rattle.change_laws.specs.Reached.{block-data, block-entry}
 use Rattle.change_laws.specs.SingleBlocks.{single-data}
 use Rattle.change_laws.specs.PlannedChange.{PlannedChange, image, w, facts, not-1, off-anode}
 use Rattle.change_laws.specs.Gap.{lowered, length-closed, head-closed, entries-closed}
 
 -- a removal of an entry of an accepted image, and the steps that were planned
-abbrev pub PlannedRemove : List ℕ → Entered → Anodes → List ℕ → Type 0
-PlannedRemove img e t ys = PlannedChange img e (removePlan img (anodesOf img) (e .anode) ≡ planned t ys)
+abbrev pub PlannedRemove : List ℕ → Entered → Slotted → List ℕ → Type 0
+PlannedRemove img e t ys = PlannedChange img e (removePlan noGrowth (lastReserved img) (tableOf img) (e .anode) ≡ planned t ys)
 
-module _ {img : List ℕ} {e : Entered} {t : Anodes} {ys : List ℕ} (p : PlannedRemove img e t ys) where
+module _ {img : List ℕ} {e : Entered} {u : Slotted} {ys : List ℕ} (p : PlannedRemove img e u ys) where
+  abbrev t : Anodes
+  t = u .anodes
+
   abbrev s : Anodes
   s = anodesOf img
 
@@ -58,28 +69,38 @@ module _ {img : List ℕ} {e : Entered} {t : Anodes} {ys : List ℕ} (p : Planne
 
   -- the anodes that are left
   abbrev pub end : Anodes
-  end = dropped limit t (e .anode)
+  end = dropped limit (u .anodes) (e .anode)
 
   abbrev stored : List ℕ
   stored = withAnodes img end
 
   -- the image that a removal leaves
   abbrev j : List ℕ
-  j = removedImage img e t
+  j = removedImage img e u
 
-  pub ran : Ran limit (exists img) (diskSize img) (lastReserved img) s (systemOwns img) (headIn img) (e .anode) 1 (e .anode) 0 ys t
-  ran = shrink-ran (blockCount s (e .anode)) (e .anode) (not-1 p) t ys s (systemOwns img) (headIn img) (sideIn img) 0 (omega (arith, blocks-count (w p .good) (e .anode) (facts p .head))) (w p .good) (facts p .head)
-      (p .plan)
+  -- its blocks have gone to the free list
+  pub gave : (gs : List ℕ) × Moved limit (diskSize img) (lastReserved img) (tableOf img) (systemOwns img) (headIn img) (e .anode) 1 (e .anode) ys gs u × (length ys ≡ blockCount s (e .anode))
+  gave = gives-moved (none-grows limit (diskSize img) (lastReserved img)) (blockCount s (e .anode)) (e .anode) (not-1 p) u ys (tableOf img) (systemOwns img) (headIn img) (sideIn img) (start-owned (slotOf img)) (w p .good) (facts p .head) (p .plan)
+
+  abbrev pub moves : Moved limit (diskSize img) (lastReserved img) (tableOf img) (systemOwns img) (headIn img) (e .anode) 1 (e .anode) ys (gave .0) u
+  moves = gave .1
+
+  -- all of them
+  pub none-left : blocks limit (moves .hd′) (u .anodes .count) (e .anode) ≡ 0
+  none-left = omega (arith, gave .2, blocks-count (w p .good) (e .anode) (facts p .head), rw (oneAt-same (e .anode) (e .anode) refl, oneAt-other 1 (e .anode) (λ q. not-1 p (sym q))) at (moves .moved (e .anode)))
+
+  pub same-slots : u .slots ≡ slotOf img
+  same-slots = gives-slots limit (lastReserved img) (blockCount s (e .anode)) (e .anode) (tableOf img) u ys (p .plan)
 
   -- the heads of the chains that are left, and of the sides of the free list
   abbrev pub hdLeft : ℕ → ℕ
-  hdLeft = without (onChain limit t (e .anode)) (ran .hd′)
+  hdLeft = without (onChain limit (u .anodes) (e .anode)) (moves .hd′)
 
   abbrev pub sdLeft : ℕ → ℕ
-  sdLeft = without (onChain limit t (e .anode)) (ran .sd′)
+  sdLeft = without (onChain limit (u .anodes) (e .anode)) (moves .sd′)
 
   pub end-good : GoodOn img end hdLeft sdLeft
-  end-good = dropped-good (e .anode) (facts p .from-6) (facts p .head) ran
+  end-good = good-more (dropped-good (e .anode) (facts p .from-6) (facts p .head) moves none-left) (exist-same (u .slots) (slotOf img) same-slots) (λ x. omega (arith, none-grown moves same-slots x))
 
   same-block : blockOf stored y ≡ b
   same-block = stored-kept (image p) end .block-kept y (block-data (facts p) .unheld)

@@ -14,6 +14,7 @@ use Rattle.rules.specs.Counting.{occurrences, gather}
 use Rattle.rules.specs.Anodes.{Anodes, limit, anodesOf}
 use Rattle.rules.specs.Chains.{chainOf}
 use Rattle.rules.specs.Walk.{Entered, entriesIn}
+use Rattle.rules.specs.Plans.{Slotted}
 use Rattle.rules.specs.Lookup.{entriesOf, notEmpty}
 use Rattle.rules.specs.Changes.{removedImage}
 use Rattle.laws.specs.Bags.{gather-append}
@@ -44,13 +45,13 @@ pub record EntryGone (img j : List ℕ) (e : Entered) (old new : List Entered) :
   pub bytes-before : (f : Entered) → Member f before → entryBytes j (f .start) ≡ entryBytes img (f .start)
   pub bytes-behind : (f : Entered) → Member f behind → entryBytes j (movedDown img e f .start) ≡ entryBytes img (f .start)
 
-module _ {img : List ℕ} {e : Entered} {t : Anodes} {ys : List ℕ} (p : PlannedRemove img e t ys) where
+module _ {img : List ℕ} {e : Entered} {u : Slotted} {ys : List ℕ} (p : PlannedRemove img e u ys) where
   abbrev s : Anodes
   s = anodesOf img
 
   -- the image that a removal leaves
   abbrev j : List ℕ
-  j = removedImage img e t
+  j = removedImage img e u
 
   -- ---- the directory that had the entry
 

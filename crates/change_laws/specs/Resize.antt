@@ -11,10 +11,12 @@ use Rattle.disk.specs.Blocks.{blockOf}
 use Rattle.rules.specs.Anodes.{Anodes, limit, anodesOf}
 use Rattle.rules.specs.Chains.{chainOf}
 use Rattle.rules.specs.Walk.{Dir, Entered, entriesIn, isBlockOf, blocksFor, brokenItem, itemsFor, itemsAt, itemsBy, reachedDirs}
-use Rattle.rules.specs.Space.{Plan}
+use Rattle.rules.specs.Accepted.{lastReserved}
+use Rattle.rules.specs.Plans.{Slotted, tableOf, Plan, noGrowth}
 use Rattle.rules.specs.Changes.{resizePlan, resizedImage, resized}
 use Rattle.laws.specs.Tests.{same?}
 use Rattle.laws.specs.Resize as Laws
+use Rattle.laws.specs.Whole.{whole-good}
 use Rattle.laws.specs.Members.{Member, member-occurrences, gather-congr, map-kept}
 use Rattle.change_laws.specs.Answers.{StepsAnswer}
 use Rattle.change_laws.specs.Image.{WholeWith, WholeOn, StillAccepted, accepted-whole, whole-accepted, ReachedDir}
@@ -24,7 +26,7 @@ use Rattle.change_laws.specs.SameItems.{whole-same}
 use Rattle.change_laws.specs.NewSize.{sized, head-sized, entries-sized}
 use Rattle.change_laws.specs.ResizePlan.{plan-refused}
 use Rattle.change_laws.specs.PlannedChange.{left-cases, image, w, facts}
-use Rattle.change_laws.specs.ResizeStores.{PlannedResize, steps, dir-same, other-block, this-block, resized-disk}
+use Rattle.change_laws.specs.ResizeStores.{PlannedResize, steps, steps-good, dir-same, other-block, this-block, resized-disk}
 
 -- ---- the entries
 
@@ -60,16 +62,19 @@ one-resized h new before e after i n =
 
 -- ---- the directories
 
-module _ {img : List ℕ} {e : Entered} {new : ℕ} {t : Anodes} {ys : List ℕ} (p : PlannedResize img e new t ys) where
+module _ {img : List ℕ} {e : Entered} {new : ℕ} {u : Slotted} {ys : List ℕ} (p : PlannedResize img e new u ys) where
   abbrev s : Anodes
   s = anodesOf img
+
+  abbrev t : Anodes
+  t = u .anodes
 
   abbrev dirs : List Dir
   dirs = reachedDirs img s
 
   -- the image that a resize leaves
   abbrev j : List ℕ
-  j = resizedImage img s e new t ys
+  j = resizedImage img s e new u ys
 
   module _ (d : Dir) (in-tree : Member d dirs) (a : ℕ) (on : Member a (chainOf (s .next) limit (d .head))) where
     abbrev r : ReachedDir img (d .head)
@@ -109,12 +114,12 @@ module _ {img : List ℕ} {e : Entered} {new : ℕ} {t : Anodes} {ys : List ℕ}
     items-left = rw (dir-same p r .same-extents a (member-occurrences a (chainOf (s .next) limit (d .head)) on) .1, marks-left, block-left)
 
   -- the state after the steps is whole where the entries have the new size
-  sizes-whole : WholeWith img t (steps p .ran .hd′) (steps p .ran .sd′) (λ y. map (resizedEntry (e .anode) new) (entriesIn img y)) (isBlockOf img) dirs
-  sizes-whole = Laws.resized (w p) (e .anode) (facts p .file (p .plan .file)) (steps p .ran) (resizedEntry (e .anode) new) (λ y. map (resizedEntry (e .anode) new) (entriesIn img y)) (isBlockOf img)
+  sizes-whole : WholeWith img t (steps p .moves .hd′) (steps p .moves .sd′) (λ y. map (resizedEntry (e .anode) new) (entriesIn img y)) (isBlockOf img) dirs
+  sizes-whole = whole-good (steps-good p) (Laws.resized (w p) (e .anode) (facts p .file (p .plan .file)) (steps p .moves) (steps p .has) (resizedEntry (e .anode) new) (λ y. map (resizedEntry (e .anode) new) (entriesIn img y)) (isBlockOf img)
       (record { keeps = resized-fields (e .anode) new; other = λ x n. ap (λ (c : Entered). c .size) (resized-other (e .anode) new x n); there = λ a c q r. (refl, λ d. refl) })
-      (λ x i. ap (λ (c : Entered). blocksFor (c .size)) (resized-it (e .anode) new x i))
+      (λ x i. ap (λ (c : Entered). blocksFor (c .size)) (resized-it (e .anode) new x i)))
 
-  pub still-whole : WholeOn img j t (steps p .ran .hd′) (steps p .ran .sd′) dirs
+  pub still-whole : WholeOn img j (u .anodes) (steps p .moves .hd′) (steps p .moves .sd′) dirs
   unfolding itemsBy
   still-whole = whole-same sizes-whole (entriesIn j) (isBlockOf j) (λ d m.
       gather-congr (itemsAt (entriesIn j) (isBlockOf j) t d) (itemsAt (λ y. map (resizedEntry (e .anode) new) (entriesIn img y)) (isBlockOf img) t d) (chainOf (t .next) limit (d .head))
@@ -124,11 +129,11 @@ module _ {img : List ℕ} {e : Entered} {new : ℕ} {t : Anodes} {ys : List ℕ}
   resized-accepted = whole-accepted (image p) (resized-disk p) still-whole
 
 module _ {img : List ℕ} {h : ℕ} {e : Entered} (m : EntryIn img h e) (new : ℕ) where
-  abbrev plan : Plan
-  plan = resizePlan img (anodesOf img) (e .anode) (blocksFor new)
+  abbrev plan : Plan Slotted
+  plan = resizePlan noGrowth (lastReserved img) (tableOf img) (e .anode) (blocksFor new)
 
   -- what a resize leaves of an accepted image is accepted
-  pub resize-accepted : e .dir ≡ false → StillAccepted (m .directory .image) (resized img (anodesOf img) e new .image)
+  pub resize-accepted : e .dir ≡ false → StillAccepted (m .directory .image) (resized noGrowth img (tableOf img) e new .image)
   unfolding resized
   resize-accepted file =
       let a = m .directory .image in
@@ -136,7 +141,7 @@ module _ {img : List ℕ} {h : ℕ} {e : Entered} (m : EntryIn img h e) (new : �
       (λ t ys q. resized-accepted (record { home = h; entry = m; plan = record { file = file; steps = q } }))
 
   -- it answers 0, 27 or 28
-  pub resize-answers : StepsAnswer (resized img (anodesOf img) e new .answer)
+  pub resize-answers : StepsAnswer (resized noGrowth img (tableOf img) e new .answer)
   unfolding resized
   resize-answers =
       let f = entry-facts m in

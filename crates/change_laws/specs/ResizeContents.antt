@@ -16,6 +16,7 @@ use Rattle.rules.specs.Counting.{occurrences, gather}
 use Rattle.rules.specs.Anodes.{Anodes, anodesOf, withAnodes}
 use Rattle.rules.specs.Chains.{blocksOf, blockCount}
 use Rattle.rules.specs.Walk.{Entered, blocksFor}
+use Rattle.rules.specs.Plans.{Slotted}
 use Rattle.rules.specs.Lookup.{bytesOf, contents}
 use Rattle.rules.specs.Format.{zeroBlock}
 use Rattle.rules.specs.Changes.{inBlock, zeroTail, zeroTaken, resizedImage}
@@ -35,7 +36,7 @@ use Rattle.change_laws.specs.Read.{bytes-long, file-long}
 use Rattle.change_laws.specs.NewSize.{sized}
 use Rattle.change_laws.specs.ResizePlan.{handed-data, plan-longer, plan-shorter}
 use Rattle.change_laws.specs.PlannedChange.{w, facts, not-1}
-use Rattle.change_laws.specs.ResizeStores.{PlannedResize, steps, zeroed, stored, taken-kept, oldLast, tailCleared, tail-in, tail-long, tail-kept, size-kept, others-left, home-alone}
+use Rattle.change_laws.specs.ResizeStores.{PlannedResize, steps, steps-good, zeroed, stored, taken-kept, oldLast, tailCleared, tail-in, tail-long, tail-kept, size-kept, others-left, home-alone}
 
 gather-zeros : (f : ℕ → List ℕ) (l : List ℕ) → ((y : ℕ) → 0 < occurrences y l → f y ≡ zeroBlock) → gather f l ≡ replicate (length l * 512) 0
 unfolding gather
@@ -44,7 +45,10 @@ gather-zeros f (x ∷ l) z =
     let e : 512 + length l * 512 ≡ suc (length l) * 512 = omega arith in
     ap₂ _++_ (z x (occurrences-here x l)) (gather-zeros f l (λ y p. z y (occurrences-later y x l p))) ∙ replicate-append-replicate {A = ℕ} 512 (length l * 512) 0 ∙ ap (λ (n : ℕ). replicate n 0) e
 
-module _ {img : List ℕ} {e : Entered} {new : ℕ} {t : Anodes} {ys : List ℕ} (p : PlannedResize img e new t ys) where
+module _ {img : List ℕ} {e : Entered} {new : ℕ} {u : Slotted} {ys : List ℕ} (p : PlannedResize img e new u ys) where
+  abbrev t : Anodes
+  t = u .anodes
+
   abbrev s : Anodes
   s = anodesOf img
 
@@ -53,7 +57,7 @@ module _ {img : List ℕ} {e : Entered} {new : ℕ} {t : Anodes} {ys : List ℕ}
 
   -- the image that a resize leaves
   abbrev j : List ℕ
-  j = resizedImage img s e new t ys
+  j = resizedImage img s e new u ys
 
   -- ---- other files
 
@@ -73,7 +77,7 @@ module _ {img : List ℕ} {e : Entered} {new : ℕ} {t : Anodes} {ys : List ℕ}
   module _ (less : new ≤ e .size) where
     shorter : (rest : List ℕ) × (chain ≡ blocksOf t (e .anode) ++ rest)
     unfolding blocksFor
-    shorter = plan-shorter img (w p .good) (e .anode) (facts p .head) (not-1 p) (blocksFor new) t ys (p .plan .steps) (omega (arith, facts p .sized (p .plan .file)))
+    shorter = plan-shorter img (w p .good) (e .anode) (facts p .head) (not-1 p) (blocksFor new) u ys (p .plan .steps) (omega (arith, facts p .sized (p .plan .file)))
 
     abbrev left-blocks : List ℕ
     left-blocks = blocksOf t (e .anode)
@@ -98,8 +102,8 @@ module _ {img : List ℕ} {e : Entered} {new : ℕ} {t : Anodes} {ys : List ℕ}
           arith,
           length-gather img left-blocks (λ y q. inside y (still-in y q)),
           length-blocksOf t (e .anode),
-          blocks-count (steps p .ran .good) (e .anode) (steps p .ran .shift .stays (e .anode) (facts p .head)),
-          steps p .ran .has,
+          blocks-count (steps-good p) (e .anode) (steps p .moves .shift .stays (e .anode) (facts p .head)),
+          steps p .has,
         ) in
         ap (take new) kept ∙ sym (take-append-le new (gather (blockOf img) left-blocks) (gather (blockOf img) (shorter .0)) enough)
         ∙ ap (take new) (sym (gather-append (blockOf img) left-blocks (shorter .0))) ∙ ap (λ (l : List ℕ). take new (gather (blockOf img) l)) (sym (shorter .1))
@@ -108,7 +112,7 @@ module _ {img : List ℕ} {e : Entered} {new : ℕ} {t : Anodes} {ys : List ℕ}
   module _ (more : e .size < new) where
     longer : (blocksOf t (e .anode) ≡ chain ++ ys) × (length ys ≡ blocksFor new - blockCount s (e .anode))
     unfolding blocksFor
-    longer = plan-longer img (w p .good) (e .anode) (facts p .head) (not-1 p) (blocksFor new) t ys (p .plan .steps) (omega (arith, facts p .sized (p .plan .file)))
+    longer = plan-longer img (w p .good) (e .anode) (facts p .head) (not-1 p) (blocksFor new) u ys (p .plan .steps) (omega (arith, facts p .sized (p .plan .file)))
 
     big : ltb (e .size) new ≡ true
     big = lt-ltb (e .size) new more
@@ -118,7 +122,7 @@ module _ {img : List ℕ} {e : Entered} {new : ℕ} {t : Anodes} {ys : List ℕ}
     once y = omega (
       arith,
       occurrences-append y chain ys,
-      rw (longer .0) at (chain-once (steps p .ran .good) (e .anode) (steps p .ran .shift .stays (e .anode) (facts p .head)) y),
+      rw (longer .0) at (chain-once (steps-good p) (e .anode) (steps p .moves .shift .stays (e .anode) (facts p .head)) y),
     )
 
     -- a block that was taken is zeroed

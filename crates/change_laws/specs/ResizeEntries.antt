@@ -12,6 +12,7 @@ use Rattle.rules.specs.Counting.{oneAt}
 use Rattle.rules.specs.Anodes.{Anodes, limit, anodesOf}
 use Rattle.rules.specs.Chains.{chainOf}
 use Rattle.rules.specs.Walk.{Entered, entriesIn}
+use Rattle.rules.specs.Plans.{Slotted}
 use Rattle.rules.specs.Lookup.{noDirectory, entriesOf}
 use Rattle.rules.specs.Changes.{resizedImage}
 use Rattle.laws.specs.Tests.{same?}
@@ -27,13 +28,16 @@ use Rattle.change_laws.specs.PlannedChange.{image, facts}
 use Rattle.change_laws.specs.ResizeStores.{PlannedResize, others-left, head-not-file, dir-same, other-block, this-block, resized-disk}
 use Rattle.change_laws.specs.Resize.{resizedEntry, one-resized, block-left, still-whole}
 
-module _ {img : List ℕ} {e : Entered} {new : ℕ} {t : Anodes} {ys : List ℕ} (p : PlannedResize img e new t ys) where
+module _ {img : List ℕ} {e : Entered} {new : ℕ} {u : Slotted} {ys : List ℕ} (p : PlannedResize img e new u ys) where
+  abbrev t : Anodes
+  t = u .anodes
+
   abbrev s : Anodes
   s = anodesOf img
 
   -- the image that a resize leaves
   abbrev j : List ℕ
-  j = resizedImage img s e new t ys
+  j = resizedImage img s e new u ys
 
   -- the same directories are reached
   pub resized-reached : (k : ℕ) → noDirectory j t k ≡ noDirectory img s k

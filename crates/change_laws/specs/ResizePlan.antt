@@ -5,23 +5,26 @@ use mathlib.Core.Logic.{_≢_, _⊎_, inl, inr}
 use mathlib.Core.Bool.{false, cond}
 use mathlib.Core.List.{List, [], _++_, append-nil, reverse}
 use native.Mathlib.Omega.{arith}
-use lib.Dec.{leb}
+use lib.Dec.{T, leb}
 use lib.ListN.{length, drop-of-length-le}
 use borrow.Author.Tests.{le-leb, lt-leb}
+use Rattle.disk.specs.Root.{slotOf}
 use Rattle.rules.specs.Counting.{occurrences}
-use Rattle.rules.specs.Anodes.{Anodes, limit, exists}
+use Rattle.rules.specs.Anodes.{Anodes, limit, existsBy}
 use Rattle.rules.specs.Chains.{systemOwns, blocksOf, blockCount}
 use Rattle.rules.specs.Accepted.{diskSize, lastReserved}
-use Rattle.rules.specs.Space.{refused, planned}
+use Rattle.rules.specs.Plans.{Slotted, slotted, refused, planned, noGrowth}
 use Rattle.rules.specs.Changes.{resizePlan}
 use Rattle.laws.specs.Tests.{less?, not-above}
 use Rattle.laws.specs.Sums.{oneAt-same, oneAt-other}
 use Rattle.laws.specs.Heads.{Head}
 use Rattle.laws.specs.Blocks.{blocks}
 use Rattle.laws.specs.Held.{held}
-use Rattle.laws.specs.Space.{head-1}
+use Rattle.laws.specs.Space.{good-more, head-1}
+use Rattle.laws.specs.Moves.{none-grows, Moved}
+use Rattle.laws.specs.FixedSlots.{start-owned, none-grown, takes-slots, gives-slots}
 use Rattle.laws.specs.Whole.{blocks-count}
-use Rattle.laws.specs.Resize.{Ran, grow-ran, shrink-ran}
+use Rattle.laws.specs.Resize.{takes-moved, gives-moved}
 use Rattle.laws.specs.RefusedSteps.{takes-refused, gives-refused}
 use Rattle.laws.specs.TakenBlocks.{takes-blocks}
 use Rattle.laws.specs.GivenBlocks.{gives-blocks}
@@ -34,66 +37,93 @@ abbrev pub newOwner : ℕ → ℕ → ℕ → ℕ
 newOwner h have want = cond (leb have want) h 1
 
 -- the chain of h has so many blocks now; those of ys came from 1's chain, or went to it
-pub record Resizing (img : List ℕ) (s : Anodes) (hd : ℕ → ℕ) (h size : ℕ) (t : Anodes) (ys : List ℕ) : Type 0 where
+pub record Resizing (img : List ℕ) (s : Anodes) (hd : ℕ → ℕ) (h size : ℕ) (t : Slotted) (ys : List ℕ) : Type 0 where
   pub from : ℕ
   pub to : ℕ
   pub apart : from ≢ to
   pub from-is : (from ≡ 1) ⊎ (from ≡ h)
   pub to-is : to ≡ newOwner h (blockCount s h) size
-  pub ran : Ran limit (exists img) (diskSize img) (lastReserved img) s (systemOwns img) hd from to h size ys t
+  pub gs : List ℕ
+  pub moves : Moved limit (diskSize img) (lastReserved img) (slotted s (slotOf img)) (systemOwns img) hd from to h ys gs t
+  pub has : blocks limit (moves .hd′) (t .anodes .count) h ≡ size
+  pub same-slots : t .slots ≡ slotOf img
+
+-- anodes that exist by some slots exist by the same slots
+pub exist-same : (slots slots′ : ℕ → ℕ) → slots ≡ slots′ → (a : ℕ) → T (existsBy slots a) → T (existsBy slots′ a)
+exist-same slots slots′ e a t = rw e at t
+
+-- steps that leave the slots leave a good state of the disk
+pub moves-good : (img : List ℕ) {s t : Slotted} {hd : ℕ → ℕ} {from to h : ℕ} {ys gs : List ℕ} → (w : Moved limit (diskSize img) (lastReserved img) s (systemOwns img) hd from to h ys gs t) →
+    s .slots ≡ slotOf img → t .slots ≡ s .slots → GoodOn img (t .anodes) (w .hd′) (w .sd′)
+moves-good img {s} {t} w e f = good-more (w .good) (exist-same (t .slots) (slotOf img) (f ∙ e)) (λ x. omega (arith, none-grown w f x))
 
 module _ (img : List ℕ) {s : Anodes} {hd sd : ℕ → ℕ} (g : GoodOn img s hd sd)
     (h : ℕ) (d : Head (s .next) (s .block) h) (h1 : h ≢ 1) where
-  pub plan-runs : (size : ℕ) (t : Anodes) (ys : List ℕ) → resizePlan img s h size ≡ planned t ys → Resizing img s hd h size t ys
+  abbrev S : Slotted
+  S = slotted s (slotOf img)
+
+  abbrev last : ℕ
+  last = lastReserved img
+
+  pub plan-runs : (size : ℕ) (t : Slotted) (ys : List ℕ) → resizePlan noGrowth (lastReserved img) (slotted s (slotOf img)) h size ≡ planned t ys → Resizing img s hd h size t ys
   unfolding resizePlan
   plan-runs size t ys plan = elim (less? size (blockCount s h)) [
-    | inl l ↦ record {
-      from = h;
-      to = 1;
-      apart = h1;
-      from-is = inr refl;
-      to-is = rw (lt-leb (blockCount s h) size l);
-      ran = shrink-ran (blockCount s h - size) h h1 t ys s (systemOwns img) hd sd size (omega (arith, blocks-count g h d)) g d (rw (lt-leb (blockCount s h) size l) at plan);
-    }
-    | inr l ↦ (let fits : blocks limit hd (s .count) h + (size - blockCount s h) ≡ size = omega (arith, blocks-count g h d) in
+    | inl l ↦ (let gives = rw (lt-leb (blockCount s h) size l) at plan in
+        let (gs, w, len) = gives-moved (none-grows limit (diskSize img) last) (blockCount s h - size) h h1 t ys S (systemOwns img) hd sd (start-owned (slotOf img)) g d gives in
+        record {
+          from = h;
+          to = 1;
+          apart = h1;
+          from-is = inr refl;
+          to-is = rw (lt-leb (blockCount s h) size l);
+          gs = gs;
+          moves = w;
+          has = omega (arith, l, len, blocks-count g h d, rw (oneAt-same h h refl, oneAt-other 1 h (λ e. h1 (sym e))) at (w .moved h));
+          same-slots = gives-slots limit last (blockCount s h - size) h S t ys gives;
+        })
+    | inr l ↦ (let takes = rw (le-leb (blockCount s h) size l) at plan in
+        let (gs, w, len) = takes-moved (none-grows limit (diskSize img) last) (size - blockCount s h) h h1 false t ys S (systemOwns img) hd sd (start-owned (slotOf img)) g d takes in
         record {
           from = 1;
           to = h;
           apart = λ e. h1 (sym e);
           from-is = inl refl;
           to-is = rw (le-leb (blockCount s h) size l);
-          ran = rw fits at (grow-ran (size - blockCount s h) h h1 false t ys s (systemOwns img) hd sd g d (rw (le-leb (blockCount s h) size l) at plan));
+          gs = gs;
+          moves = w;
+          has = omega (arith, l, len, blocks-count g h d, rw (oneAt-same h h refl, oneAt-other 1 h (λ e. h1 (sym e))) at (w .moved h));
+          same-slots = takes-slots limit false (size - blockCount s h) h S t ys takes;
         })
   ]
 
-  pub plan-refused : (size k : ℕ) → resizePlan img s h size ≡ refused k → (k ≡ 27) ⊎ (k ≡ 28)
+  pub plan-refused : (size k : ℕ) → resizePlan noGrowth (lastReserved img) (slotted s (slotOf img)) h size ≡ refused k → (k ≡ 27) ⊎ (k ≡ 28)
   unfolding resizePlan
   plan-refused size k plan = elim (less? size (blockCount s h)) [
-    | inl l ↦ inr (gives-refused (blockCount s h - size) h h1 k s (systemOwns img) hd sd g d (omega (arith, blocks-count g h d)) (rw (lt-leb (blockCount s h) size l) at plan))
-    | inr l ↦ takes-refused limit (exists img) false (size - blockCount s h) s h k (rw (le-leb (blockCount s h) size l) at plan)
+    | inl l ↦ inr (gives-refused (none-grows limit (diskSize img) last) (blockCount s h - size) h h1 k S (systemOwns img) hd sd (start-owned (slotOf img)) g d (omega (arith, blocks-count g h d)) (rw (lt-leb (blockCount s h) size l) at plan))
+    | inr l ↦ takes-refused limit noGrowth false (size - blockCount s h) h k S (rw (le-leb (blockCount s h) size l) at plan)
   ]
 
   -- the list of blocks of the chain: more of them behind, or fewer
-  module _ (size : ℕ) (t : Anodes) (ys : List ℕ) (plan : resizePlan img s h size ≡ planned t ys) where
-    pub plan-longer : blockCount s h ≤ size → (blocksOf t h ≡ blocksOf s h ++ ys) × (length ys ≡ size - blockCount s h)
+  module _ (size : ℕ) (t : Slotted) (ys : List ℕ) (plan : resizePlan noGrowth (lastReserved img) (slotted s (slotOf img)) h size ≡ planned t ys) where
+    pub plan-longer : blockCount s h ≤ size → (blocksOf (t .anodes) h ≡ blocksOf s h ++ ys) × (length ys ≡ size - blockCount s h)
     unfolding resizePlan
-    plan-longer l = takes-blocks (size - blockCount s h) h h1 false t ys s (systemOwns img) hd sd g d (rw (le-leb (blockCount s h) size l) at plan)
+    plan-longer l = takes-blocks (none-grows limit (diskSize img) last) (size - blockCount s h) h h1 false t ys S (systemOwns img) hd sd (start-owned (slotOf img)) g d (rw (le-leb (blockCount s h) size l) at plan)
 
-    pub plan-shorter : size ≤ blockCount s h → (rest : List ℕ) × (blocksOf s h ≡ blocksOf t h ++ rest)
+    pub plan-shorter : size ≤ blockCount s h → (rest : List ℕ) × (blocksOf s h ≡ blocksOf (t .anodes) h ++ rest)
     unfolding resizePlan
     plan-shorter l = elim (less? size (blockCount s h)) [
-      | inl m ↦ (reverse ys, gives-blocks (blockCount s h - size) h h1 t ys s (systemOwns img) hd sd g d (rw (lt-leb (blockCount s h) size m) at plan) .0)
-      | inr m ↦ (let q = plan-longer m in ([], sym (append-nil (blocksOf s h)) ∙ ap (λ (l : List ℕ). blocksOf s h ++ l) (sym (drop-of-length-le ys {i = 0} (omega (arith, q .1)))) ∙ sym (q .0) ∙ sym (append-nil (blocksOf t h))))
+      | inl m ↦ (reverse ys, gives-blocks (none-grows limit (diskSize img) last) (blockCount s h - size) h h1 t ys S (systemOwns img) hd sd (start-owned (slotOf img)) g d (rw (lt-leb (blockCount s h) size m) at plan) .0)
+      | inr m ↦ (let q = plan-longer m in ([], sym (append-nil (blocksOf s h)) ∙ ap (λ (l : List ℕ). blocksOf s h ++ l) (sym (drop-of-length-le ys {i = 0} (omega (arith, q .1)))) ∙ sym (q .0) ∙ sym (append-nil (blocksOf (t .anodes) h))))
     ]
 
-  module _ {size : ℕ} {t : Anodes} {ys : List ℕ} (r : Resizing img s hd h size t ys) where
+  module _ {size : ℕ} {t : Slotted} {ys : List ℕ} (r : Resizing img s hd h size t ys) where
     from-head : Head (s .next) (s .block) (r .from)
     from-head = elim (r .from-is) [ inl e ↦ rw e (head-1 g) | inr e ↦ rw e d ]
 
     -- what changed hands was a block of the chain that it left
     was-there : (y : ℕ) → 0 < occurrences y ys → 0 < occurrences y (blocksOf s (r .from))
     was-there y p =
-        let held-there : 0 < held limit hd (s .count) (s .block) (r .from) y = omega (arith, p, rw (oneAt-same (r .from) (r .from) refl, oneAt-other (r .to) (r .from) (λ e. r .apart (sym e))) at (r .ran .passed (r .from) y)) in
+        let held-there : 0 < held limit hd (s .count) (s .block) (r .from) y = omega (arith, p, rw (oneAt-same (r .from) (r .from) refl, oneAt-other (r .to) (r .from) (λ e. r .apart (sym e)), none-grown (r .moves) (r .same-slots) y) at (r .moves .passed (r .from) y)) in
         rw (occurrences-held g (r .from) from-head y (held-data g (r .from) y held-there .0)) held-there
 
     pub handed-data : (y : ℕ) → 0 < occurrences y ys → DataBlock img y

@@ -16,7 +16,8 @@ use Rattle.rules.specs.Counting.{occurrences}
 use Rattle.rules.specs.Anodes.{Anodes, limit, anodesOf, withAnodes}
 use Rattle.rules.specs.Chains.{chainOf, blocksOf}
 use Rattle.rules.specs.Walk.{Entered, blocksFor}
-use Rattle.rules.specs.Space.{planned}
+use Rattle.rules.specs.Plans.{Slotted, tableOf, planned, noGrowth}
+use Rattle.rules.specs.Accepted.{lastReserved}
 use Rattle.rules.specs.Format.{zeroBlock}
 use Rattle.rules.specs.Changes.{inBlock, withBlocks, resizePlan, zeroTail, withSize, zeroTaken, resizedImage}
 use Rattle.laws.specs.Heads.{Head}
@@ -27,31 +28,37 @@ use Rattle.frames.specs.Kept.{Unheld, Kept, kept-all, kept-both}
 use Rattle.frames.specs.StoredBlocks.{inBlock-kept, blockOf-inBlock, withBlocks-kept}
 use Rattle.frames.specs.DisjointBlocks.{DataBlock, chains-apart, chain-block}
 use Rattle.frames.specs.StoredBytes.{BlocksKept}
-use Rattle.change_laws.specs.Image.{headIn, DiskWith, stored-kept, disk-stored, not-one, not-among, disk-then, ReachedDir}
+use Rattle.change_laws.specs.Image.{GoodOn, headIn, DiskWith, stored-kept, disk-stored, not-one, not-among, disk-then, ReachedDir}
 use Rattle.change_laws.specs.Reached.{block-on, reached-not-1, reached-head, dir-block, block-data, not-file, entry-data}
 use Rattle.change_laws.specs.KeptChains.{SameChain, same-chain-alike, OthersLeft}
 use Rattle.change_laws.specs.PlannedChange.{PlannedChange, image, w, facts, not-1, off-chain, off-anode}
-use Rattle.change_laws.specs.ResizePlan.{Resizing, plan-runs, handed-data, handed-apart}
+use Rattle.change_laws.specs.ResizePlan.{Resizing, moves-good, plan-runs, handed-data, handed-apart}
 
 -- a resize of a file of an accepted image, and the steps that were planned
-pub record FilePlan (img : List ℕ) (e : Entered) (new : ℕ) (t : Anodes) (ys : List ℕ) : Type 0 where
+pub record FilePlan (img : List ℕ) (e : Entered) (new : ℕ) (t : Slotted) (ys : List ℕ) : Type 0 where
   pub file : e .dir ≡ false
-  pub steps : resizePlan img (anodesOf img) (e .anode) (blocksFor new) ≡ planned t ys
+  pub steps : resizePlan noGrowth (lastReserved img) (tableOf img) (e .anode) (blocksFor new) ≡ planned t ys
 
-abbrev pub PlannedResize : List ℕ → Entered → ℕ → Anodes → List ℕ → Type 0
+abbrev pub PlannedResize : List ℕ → Entered → ℕ → Slotted → List ℕ → Type 0
 PlannedResize img e new t ys = PlannedChange img e (FilePlan img e new t ys)
 
 -- ---- the image that is left
 
-module _ {img : List ℕ} {e : Entered} {new : ℕ} {t : Anodes} {ys : List ℕ} (p : PlannedResize img e new t ys) where
+module _ {img : List ℕ} {e : Entered} {new : ℕ} {u : Slotted} {ys : List ℕ} (p : PlannedResize img e new u ys) where
   abbrev s : Anodes
   s = anodesOf img
+
+  abbrev t : Anodes
+  t = u .anodes
 
   abbrev chain : List ℕ
   chain = blocksOf s (e .anode)
 
-  pub steps : Resizing img s (headIn img) (e .anode) (blocksFor new) t ys
-  steps = plan-runs img (w p .good) (e .anode) (facts p .head) (not-1 p) (blocksFor new) t ys (p .plan .steps)
+  pub steps : Resizing img s (headIn img) (e .anode) (blocksFor new) u ys
+  steps = plan-runs img (w p .good) (e .anode) (facts p .head) (not-1 p) (blocksFor new) u ys (p .plan .steps)
+
+  pub steps-good : GoodOn img (u .anodes) (steps .moves .hd′) (steps .moves .sd′)
+  steps-good = moves-good img (steps .moves) refl (steps .same-slots)
 
   -- ---- its stores, one after the other
 
@@ -123,7 +130,7 @@ module _ {img : List ℕ} {e : Entered} {new : ℕ} {t : Anodes} {ys : List ℕ}
   stores-kept = kept-both (λ y o. o .0) (λ y o. o .1) zeros-kept size-kept
 
   -- from the image on: what no slot holds and none of the stores names is kept
-  left-kept : Kept (λ y. Unheld img y × (LeftAlone y × (y ≢ e .start / 512))) img (resizedImage img s e new t ys)
+  left-kept : Kept (λ y. Unheld img y × (LeftAlone y × (y ≢ e .start / 512))) img (resizedImage img s e new u ys)
   unfolding resizedImage
   left-kept = kept-both (λ y o. o .0) (λ y o. o .1) stored stores-kept
 
@@ -133,16 +140,16 @@ module _ {img : List ℕ} {e : Entered} {new : ℕ} {t : Anodes} {ys : List ℕ}
     not-one (block-data (facts p)) y n,
   )
 
-  pub resized-disk : DiskWith img t (resizedImage img s e new t ys)
+  pub resized-disk : DiskWith img t (resizedImage img s e new u ys)
   unfolding resizedImage
-  resized-disk = disk-then (disk-stored (image p) t (steps .ran .good)) stores-kept only-data
+  resized-disk = disk-then (disk-stored (image p) t (steps-good)) stores-kept only-data
 
   -- ---- other chains
 
   module _ (m : ℕ) (head : Head (s .next) (s .block) m) (m1 : m ≢ 1) (other : m ≢ e .anode) where
     -- each has its anodes
     others-same : SameChain s t m
-    others-same = same-chain-alike (shift-chain (w p .good) (steps .ran .good) (steps .ran .shift) m head m1 other) (shift-alike (w p .good) (steps .ran .good) (steps .ran .shift) m head m1 other)
+    others-same = same-chain-alike (shift-chain (w p .good) (steps-good) (steps .moves .shift) m head m1 other) (shift-alike (w p .good) (steps-good) (steps .moves .shift) m head m1 other)
 
     alone : (y : ℕ) → 0 < occurrences y (blocksOf s m) → LeftAlone y
     alone y q = (
@@ -151,10 +158,10 @@ module _ {img : List ℕ} {e : Entered} {new : ℕ} {t : Anodes} {ys : List ℕ}
     )
 
     -- and the blocks of each but its own directory's are kept
-    others-kept : m ≢ p .home → BlocksKept img (resizedImage img s e new t ys) s m
+    others-kept : m ≢ p .home → BlocksKept img (resizedImage img s e new u ys) s m
     others-kept o y q = left-kept .block-kept y (chain-block img (w p .good) m head y q .unheld, (alone y q, off-chain p m head o y q))
 
-  pub others-left : OthersLeft img (resizedImage img s e new t ys) t (e .anode) (p .home)
+  pub others-left : OthersLeft img (resizedImage img s e new u ys) t (e .anode) (p .home)
   others-left = record { same-chains = others-same; blocks-kept = others-kept }
 
   -- ---- the blocks of the directories
@@ -175,12 +182,12 @@ module _ {img : List ℕ} {e : Entered} {new : ℕ} {t : Anodes} {ys : List ℕ}
       before-size : blockOf tailed (s .block a) ≡ blockOf img (s .block a)
       before-size = zeros-kept .block-kept (s .block a) left-alone ∙ stored .block-kept (s .block a) (dir-block r a on .is-data .unheld)
 
-      pub other-block : a ≢ facts p .a₀ → blockOf (resizedImage img s e new t ys) (s .block a) ≡ blockOf img (s .block a)
+      pub other-block : a ≢ facts p .a₀ → blockOf (resizedImage img s e new u ys) (s .block a) ≡ blockOf img (s .block a)
       unfolding resizedImage
       other-block n =
           size-kept .block-kept (s .block a) (off-anode p a (dir-block r a on .one) n) ∙ before-size
 
-      pub this-block : a ≡ facts p .a₀ → blockOf (resizedImage img s e new t ys) (s .block a) ≡ put32 (blockOf img (s .block a)) (e .start % 512 + 4) new
+      pub this-block : a ≡ facts p .a₀ → blockOf (resizedImage img s e new u ys) (s .block a) ≡ put32 (blockOf img (s .block a)) (e .start % 512 + 4) new
       unfolding resizedImage withSize
       this-block i =
           let here : e .start / 512 ≡ s .block a = facts p .in-block ∙ ap (s .block) (sym i) in

@@ -10,7 +10,7 @@ use borrow.Author.Tests.{lt-ltb, le-ltb, eq-eqb, ne-eqb}
 use Rattle.disk.specs.Root.{slotOf}
 use Rattle.rules.specs.Counting.{oneAt, sumBelow, sumList}
 use Rattle.rules.specs.Anodes.{Anodes, limit, anodesOf}
-use Rattle.rules.specs.Chains.{oneIfCovers, oneIfHolds, systemOwns, blockCount}
+use Rattle.rules.specs.Chains.{oneIfCovers, oneIfHolds, systemBy, systemOwns, blockCount}
 use Rattle.rules.specs.Walk.{Dir, Item, entriesIn, isBlockOf, itemsBy, itemsOf, reached, reachedDirs}
 use Rattle.rules.specs.Accepted.{diskSize, wrongSlots}
 use Rattle.rules.specs.Totals.{freeBlocks, fileBlocks, directoryBlocks, chainBlocks, anodeBlocks, totalIn, total}
@@ -33,20 +33,20 @@ use Rattle.change_laws.specs.Image.{AcceptedWhole, headIn, AcceptedImage
 
 module _ (img : List ℕ) (right : wrongSlots img ≡ false) where
   -- blocks 0 to 2, and those that slots hold
-  start : (x : ℕ) → systemOwns img x ≡ oneIfCovers 3 0 x + sumBelow (oneIfHolds img x) 42
-  unfolding systemOwns
+  start : (x : ℕ) → systemOwns img x ≡ oneIfCovers 3 0 x + sumBelow (oneIfHolds (slotOf img) x) 42
+  unfolding systemBy
   start x = elim (less? x 3) [
-    | inl l ↦ rw (lt-ltb x 3 l) (omega (arith, covers-in 3 0 x (omega arith) (omega arith), sum-zero (oneIfHolds img x) 42 (λ s q. unheld s l)))
+    | inl l ↦ rw (lt-ltb x 3 l) (omega (arith, covers-in 3 0 x (omega arith) (omega arith), sum-zero (oneIfHolds (slotOf img) x) 42 (λ s q. unheld s l)))
     | inr l ↦ rw (le-ltb x 3 l) (omega (arith, covers-over 3 0 x (omega arith)))
   ]
     where
-      unheld : (s : ℕ) → x < 3 → oneIfHolds img x s ≡ 0
+      unheld : (s : ℕ) → x < 3 → oneIfHolds (slotOf img) x s ≡ 0
       unheld s l = unfold oneIfHolds in elim (same? (slotOf img s) 0) [
         | inl z ↦ rw z
         | inr u ↦ rw (ne-eqb (slotOf img s) 0 u) (oneAt-other (slotOf img s) x (λ e. omega (arith, e, l, right-slot img right s u .above)))
       ]
 
-  slot-once : (s : ℕ) → sumBelow (λ x. oneIfHolds img x s) (diskSize img) ≡ cond (eqb (slotOf img s) 0) 0 1
+  slot-once : (s : ℕ) → sumBelow (λ x. oneIfHolds (slotOf img) x s) (diskSize img) ≡ cond (eqb (slotOf img s) 0) 0 1
   unfolding oneIfHolds
   slot-once s = elim (same? (slotOf img s) 0) [
     | inl z ↦ rw z (sum-zero (λ x. 0) (diskSize img) (λ x l. refl))
@@ -56,13 +56,13 @@ module _ (img : List ℕ) (right : wrongSlots img ≡ false) where
   system-blocks : 3 ≤ diskSize img → sumBelow (systemOwns img) (diskSize img) ≡ anodeBlocks img + 3
   unfolding anodeBlocks
   system-blocks l =
-      sum-congr (systemOwns img) (λ x. oneIfCovers 3 0 x + sumBelow (oneIfHolds img x) 42) (diskSize img) (λ x q. start x)
+      sum-congr (systemOwns img) (λ x. oneIfCovers 3 0 x + sumBelow (oneIfHolds (slotOf img) x) 42) (diskSize img) (λ x q. start x)
       ∙ omega (
         arith,
-        sum-add (oneIfCovers 3 0) (λ x. sumBelow (oneIfHolds img x) 42) (diskSize img),
+        sum-add (oneIfCovers 3 0) (λ x. sumBelow (oneIfHolds (slotOf img) x) 42) (diskSize img),
         covers-sum 3 0 (diskSize img) l,
-        sum-swap (λ x s. oneIfHolds img x s) (diskSize img) 42,
-        sum-congr (λ s. sumBelow (λ x. oneIfHolds img x s) (diskSize img)) (λ s. cond (eqb (slotOf img s) 0) 0 1) 42 (λ s q. slot-once s),
+        sum-swap (λ x s. oneIfHolds (slotOf img) x s) (diskSize img) 42,
+        sum-congr (λ s. sumBelow (λ x. oneIfHolds (slotOf img) x s) (diskSize img)) (λ s. cond (eqb (slotOf img s) 0) 0 1) 42 (λ s q. slot-once s),
       )
 
 -- ---- the chains

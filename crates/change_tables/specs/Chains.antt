@@ -1,25 +1,29 @@
--- The chains of a loaded image, and how many blocks a chain may have.
+-- The chains of a loaded image, and the state in which steps on them start.
 use Prim.Native.Nat.{ℕ, _≤_, _<_}
 use mathlib.Core.Path.{_≡_, _∙_}
 use mathlib.Core.Bool.{false}
 use mathlib.Core.List.{List}
 use native.Mathlib.Omega.{arith}
-use lib.ListN.{length, take, length-take}
-use Rattle.rules.specs.Anodes.{Anodes, limit, exists, anodesOf}
+use Rattle.disk.specs.Root.{slotOf}
+use Rattle.rules.specs.Anodes.{Anodes, limit, anodesOf}
 use Rattle.rules.specs.Chains.{systemOwns, blockCount}
 use Rattle.rules.specs.Walk.{Entered}
-use Rattle.rules.specs.Accepted.{wrongSize, lastReserved}
-use Rattle.rules.specs.Space.{planned, giveMany}
-use Rattle.laws.specs.GivenBlocks.{gives-blocks}
-use Rattle.anodes.specs.Loaded.{anodesFrom, Loaded}
+use Rattle.rules.specs.Accepted.{diskSize, wrongSize, lastReserved}
+use Rattle.rules.specs.Plans.{slotted}
+use Rattle.laws.specs.FixedSlots.{start-owned}
+use Rattle.laws.specs.Acceptance.{size-bounds}
+use Rattle.anodes.specs.Loaded.{anodesFrom, slotsFrom, tableFrom, Loaded}
 use Rattle.tree.specs.Steps.{sumFrom}
 use Rattle.tree.proofs.Rules.{sumFrom-count}
-use Rattle.space.specs.Steps.{GoodAnodes, Ready}
-use Rattle.space.proofs.Many.{count-small}
+use Rattle.placing.specs.States.{GoodState, Ready}
 use Rattle.change_laws.specs.Image.{GoodOn, headIn, sideIn, AcceptedImage, accepted-own, image-passed, accepted-whole}
 use Rattle.change_laws.specs.Reached.{EntryIn, EntryFacts, entry-not-1, entry-facts}
 use Rattle.change_laws.specs.PlannedChange.{PlannedChange}
 use Rattle.change_tables.specs.Leaves.{ReachedEntry}
+
+-- good anodes on a disk, with its slots
+pub good-state : (img : List ℕ) → wrongSize img ≡ false → {s : Anodes} {hd sd : ℕ → ℕ} → GoodOn img s hd sd → GoodState (lastReserved img) (slotted s (slotOf img))
+good-state img right {hd = hd} {sd = sd} g = record { n = diskSize img; system = systemOwns img; hd = hd; sd = sd; small = size-bounds img right .1; start = start-owned (slotOf img); good = g }
 
 module _ {img counts firsts nexts : List ℕ} (l : Loaded img counts firsts nexts) where
   abbrev pub loaded-image : AcceptedImage img
@@ -30,9 +34,6 @@ module _ {img counts firsts nexts : List ℕ} (l : Loaded img counts firsts next
 
   pub image-good : GoodOn img (anodesOf img) (headIn img) (sideIn img)
   image-good = accepted-whole loaded-image .good
-
-  good-anodes : GoodAnodes img (anodesOf img)
-  good-anodes = (headIn img, sideIn img, image-good)
 
   pub loaded-good : GoodOn img (anodesFrom counts firsts nexts) (headIn img) (sideIn img)
   loaded-good = rw (l .is-loaded) image-good
@@ -57,15 +58,8 @@ module _ {img counts firsts nexts : List ℕ} (l : Loaded img counts firsts next
     pub planned-change : {Plans : Type 0} → Plans → PlannedChange img e Plans
     planned-change plan = record { home = r .0; entry = reached-entry; plan = plan }
 
-    -- what the steps on it ask of the copies, and the count that was read off the tables
-    pub plan-ready : (nc nf nn : List ℕ) → nc ≡ counts → nf ≡ firsts → nn ≡ nexts → (have : ℕ) → have ≡ sumFrom counts nexts limit (e .anode) →
-        Ready img (anodesFrom nc nf nn) (e .anode) × (have ≡ blockCount (anodesFrom nc nf nn) (e .anode))
-    plan-ready nc nf nn c f n have all = rw (loaded-copies nc nf nn c f n .is-loaded) (((loaded-size, good-anodes), (entry-known .head, entry-not-1 entry-known)), chain-counted (e .anode) have all)
-
-    -- fewer blocks can be given back than a table of 65,535 numbers holds
-    pub gave-few : (k : ℕ) (t : Anodes) (ys : List ℕ) → giveMany limit (exists img) (lastReserved img) k (anodesOf img) (e .anode) ≡ planned t ys → k ≤ blockCount (anodesOf img) (e .anode) → length ys < 65535
-    gave-few k t ys p fits = omega (arith, count-small img (anodesOf img) good-anodes (e .anode) (entry-known .head) loaded-size, gives-blocks k (e .anode) (entry-not-1 entry-known) t ys (anodesOf img) (systemOwns img) (headIn img) (sideIn img) image-good (entry-known .head) p .1)
-
--- a table of 65,535 numbers has all that were noted, where they are fewer
-pub noted-all : (n : ℕ) (moved : List ℕ) → length moved ≡ 65535 → length (take n moved) < 65535 → n ≤ length moved
-noted-all n moved long few = omega (arith, long, few, length-take n moved)
+    -- what the steps on it ask of copies of the tables and of the slots, and the count that was read off the tables
+    pub plan-ready : (nc nf nn : List ℕ) → nc ≡ counts → nf ≡ firsts → nn ≡ nexts → (slots : List ℕ) → slotsFrom slots ≡ slotOf img → (have : ℕ) → have ≡ sumFrom counts nexts limit (e .anode) →
+        Ready (lastReserved img) (tableFrom nc nf nn slots) (e .anode) × (have ≡ blockCount (anodesFrom nc nf nn) (e .anode))
+    plan-ready nc nf nn c f n slots held have all =
+        rw (loaded-copies nc nf nn c f n .is-loaded, held) ((good-state img loaded-size image-good, (entry-known .head, entry-not-1 entry-known)), chain-counted (e .anode) have all)

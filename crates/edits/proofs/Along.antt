@@ -1,22 +1,26 @@
--- The blocks along a chain, from an anode on: the i-th of them, and the first with room for an entry. Assumes nothing.
+-- The blocks along a chain, from an anode on: the i-th of them, those behind the first n, and the first with room for an entry. Assumes nothing.
 use Prim.Native.Nat.{ℕ, zero, suc, _+_, _-_, _*_, _<_, _≤_}
 use mathlib.Core.Path.{_≡_, refl, sym, ap, _∙_}
 use mathlib.Core.List.{List, [], _∷_, _++_}
 use mathlib.Core.Option.{none, some}
 use native.Mathlib.Numerals.{add-one}
 use native.Mathlib.Omega.{arith}
-use lib.ListN.{getD}
+use lib.ListN.{length, getD, drop}
+use lib.Seq.{drop-append-add}
 use borrow.Author.Tests.{le-leb, lt-leb, eq-eqb, ne-eqb}
 use Rattle.disk.specs.Blocks.{blockOf}
 use Rattle.rules.specs.Counting.{occurrences, gather}
 use Rattle.rules.specs.Anodes.{Anodes}
 use Rattle.rules.specs.Chains.{chainOf, run, blocksOf}
-use Rattle.rules.specs.Changes.{endFrom, entriesEnd, firstRoom}
+use Rattle.rules.specs.Format.{zeroBlock}
+use Rattle.rules.specs.Changes.{endFrom, entriesEnd, firstRoom, withBlocks}
 use Rattle.laws.specs.Bags.{occurrences-here, occurrences-later}
-use Rattle.laws.specs.Chains.{gathered-step}
+use Rattle.laws.specs.Chains.{gathered-step, length-run}
 use Rattle.laws.specs.ChainBlocks.{extent, blocksFrom}
+use Rattle.laws.specs.OwnerTable.{setAll}
 use Rattle.anodes.specs.Loaded.{anodesFrom}
 use Rattle.edits.specs.Entries.{OneBlockEach}
+use Rattle.edits.proofs.Blocks.{withBlocks-append, setAll-append}
 
 -- ---- the i-th block
 
@@ -43,6 +47,42 @@ module _ (s : Anodes) (k m a : ℕ) (fuel : k ≡ m + 1) (some-anode : a ≡ 0 �
   pub nth-later : s .count a ≤ i → getD (blocksFrom s k a) i 0 ≡ getD (blocksFrom s m (s .next a)) (i - s .count a) 0
   unfolding extent
   nth-later h = rw (gathered-step (extent s) (s .next) k m a fuel some-anode) (run-past (s .block a) (s .count a) i (blocksFrom s m (s .next a)) h)
+
+-- ---- the blocks behind the first n
+
+run-behind : (b c n : ℕ) (rest : List ℕ) → n ≤ c → drop n (run b c ++ rest) ≡ run (b + n) (c - n) ++ rest
+unfolding run
+run-behind b c zero rest h =
+    let e : b + 0 ≡ b = omega arith in
+    let f : c - 0 ≡ c = omega arith in
+    rw (e, f)
+run-behind b zero (suc n) rest h = absurd (omega arith)
+run-behind b (suc c) (suc n) rest h =
+    let e : b + suc n ≡ suc b + n = omega arith in
+    let f : suc c - suc n ≡ c - n = omega arith in
+    rw (e, f) (run-behind (suc b) c n rest (omega arith))
+
+run-passed : (b c n : ℕ) (rest : List ℕ) → c ≤ n → drop n (run b c ++ rest) ≡ drop (n - c) rest
+run-passed b c n rest h =
+    let l = length-run b c in
+    let e : n ≡ length (run b c) + (n - c) = omega arith in
+    ap (λ (k : ℕ). drop k (run b c ++ rest)) e ∙ drop-append-add (run b c) rest (n - c)
+
+module _ (s : Anodes) (k m a : ℕ) (fuel : k ≡ m + 1) (some-anode : a ≡ 0 → ⊥) where
+  pub zero-here : (n : ℕ) → n ≤ s .count a → (img j : List ℕ) → j ≡ withBlocks img (run (s .block a + n) (s .count a - n)) zeroBlock
+      → withBlocks j (blocksFrom s m (s .next a)) zeroBlock ≡ withBlocks img (drop n (blocksFrom s k a)) zeroBlock
+  unfolding extent
+  zero-here n h img j is =
+      rw (is, gathered-step (extent s) (s .next) k m a fuel some-anode, run-behind (s .block a) (s .count a) n (blocksFrom s m (s .next a)) h)
+      (withBlocks-append img (run (s .block a + n) (s .count a - n)) (blocksFrom s m (s .next a)) zeroBlock)
+
+  pub zero-later : (n : ℕ) → s .count a ≤ n → drop (n - s .count a) (blocksFrom s m (s .next a)) ≡ drop n (blocksFrom s k a)
+  unfolding extent
+  zero-later n h = rw (gathered-step (extent s) (s .next) k m a fuel some-anode) (sym (run-passed (s .block a) (s .count a) n (blocksFrom s m (s .next a)) h))
+
+  pub owners-step : (blocks : List ℕ) (v : ℕ) → setAll (setAll blocks (run (s .block a) (s .count a)) v) (blocksFrom s m (s .next a)) v ≡ setAll blocks (blocksFrom s k a) v
+  unfolding extent
+  owners-step blocks v = rw (gathered-step (extent s) (s .next) k m a fuel some-anode) (setAll-append blocks (run (s .block a) (s .count a)) (blocksFrom s m (s .next a)) v)
 
 -- ---- the end mark, from a place on
 

@@ -1,18 +1,18 @@
--- Blocks that are stored, the anodes stored one after the other, the zeroed tail of a growing file and the type of a new entry. Assumes nothing.
+-- Blocks that are stored or zeroed, owners that are set, the anodes stored one after the other, the zeroed tail of a growing file and the type of a new entry. Assumes nothing.
 use Prim.Native.Nat.{ℕ, zero, suc, _+_, _-_, _*_, _/_, _%_, _<_, _≤_}
-use mathlib.Core.Path.{_≡_, refl, sym, _∙_}
+use mathlib.Core.Path.{_≡_, refl, sym, ap, _∙_}
 use mathlib.Core.Logic.{⊎-elim}
 use mathlib.Core.Bool.{Bool, true, false, cond, not, _&&_, and-false}
-use mathlib.Core.List.{List, [], _∷_}
+use mathlib.Core.List.{List, [], _∷_, _++_}
 use native.Mathlib.Nat.{add-zero, add-suc}
 use native.Mathlib.Numerals.{add-one}
 use native.Mathlib.Omega.{arith}
-use lib.ListN.{length, getD, set, take, drop, length-replicate, drop-of-length-le, length-take}
-use lib.Seq.{drop-cons, getD-take, getD-drop, length-take-le, take-take, set-out, take-set-lt, take-set-le}
+use lib.ListN.{length, getD, set, take, drop, replicate, length-replicate, length-take, replicate-append-replicate}
+use lib.Seq.{getD-take, getD-drop, take-take, set-out, take-set-lt, take-set-le}
 use lib.Dec.{eqb, ltb}
 use borrow.Author.Tests.{lt-ltb, le-ltb, eq-eqb, ne-eqb, not-true, not-false}
-use Rattle.endian.specs.Bytes.{put16, cleared}
-use Rattle.endian.proofs.Laws.{less?, cleared-stored, cleared-front}
+use Rattle.endian.specs.Bytes.{put16, stored, cleared}
+use Rattle.endian.proofs.Laws.{less?, run-on, cleared-stored, cleared-none, cleared-front}
 use Rattle.disk.specs.Blocks.{blockOf, withBlock}
 use Rattle.disk.specs.declared.Anode.{Anode}
 use Rattle.disk.specs.AnodeBlocks.{anodeMade, setAnode}
@@ -22,10 +22,11 @@ use Rattle.directory.specs.declared.Kind.{Kind}
 use Rattle.directory.specs.declared.Kind.the-variants.{File, Directory}
 use Rattle.directory.specs.Entries.{directoryMark, putDirectoryHeader, isDir}
 use Rattle.rules.specs.Anodes.{Anodes, sameAnode, storeChanged}
-use Rattle.rules.specs.Chains.{blocksOf}
+use Rattle.rules.specs.Chains.{run, blocksOf}
 use Rattle.rules.specs.Walk.{Entered}
 use Rattle.rules.specs.Format.{zeroBlock, newDirectoryBlock}
 use Rattle.rules.specs.Changes.{inBlock, withBlocks, zeroTail}
+use Rattle.laws.specs.Chains.{run-step}
 use Rattle.laws.specs.OwnerTable.{setAll}
 use Rattle.tables.specs.Held.{HeldBelow}
 use Rattle.anodes.specs.Loaded.{anodesFrom}
@@ -53,37 +54,52 @@ pub new-head : (l m : List ℕ) (owner parent : ℕ) → length l ≤ 512 → m 
 unfolding putDirectoryHeader newDirectoryBlock
 new-head l m owner parent h is = rw (is, cleared-front l 512 h, take-put16, take-put16, take-put16)
 
--- ---- the first n of a list of blocks, from i on
+-- ---- blocks that are zeroed, and blocks whose owner is set
 
 withBlock-zero : (img : List ℕ) (b : ℕ) → cleared img (b * 512) 512 ≡ withBlock img b zeroBlock
 withBlock-zero img b =
     let n : length zeroBlock ≡ 512 = length-replicate {A = ℕ} 512 0 in
     cleared-stored img (b * 512) 512 ∙ sym (withBlock-stored img b zeroBlock (omega (arith, length-blockOf-min img b)) (omega arith))
 
-module _ (moved : List ℕ) (n i : ℕ) (enough : n ≤ length moved) where
-  list-end : n ≤ i → drop i (take n moved) ≡ []
-  list-end h = drop-of-length-le (take n moved) {i = i} (omega (arith, length-take-le n moved enough))
+-- zeros that go on where others end
+cleared-on : (l : List ℕ) (at m n : ℕ) → cleared l at (m + n) ≡ cleared (cleared l at m) (at + m) n
+cleared-on l at m n =
+    cleared-stored l at (m + n)
+    ∙ ap (stored l at) (sym (replicate-append-replicate {A = ℕ} m n 0))
+    ∙ sym (run-on l at (replicate m 0) (cleared l at m) (cleared-stored l at m) (at + m) (replicate n 0) (omega (arith, length-replicate {A = ℕ} m 0)))
+    ∙ sym (cleared-stored (cleared l at m) (at + m) n)
 
-  list-step : i < n → drop i (take n moved) ≡ getD moved i 0 ∷ drop (i + 1) (take n moved)
-  list-step h = drop-cons (take n moved) i 0 (omega (arith, length-take-le n moved enough)) ∙ rw (getD-take n moved i 0 h, add-one i)
+pub run-zeroed : (img : List ℕ) (b c : ℕ) → cleared img (b * 512) (c * 512) ≡ withBlocks img (run b c) zeroBlock
+unfolding withBlocks run
+run-zeroed img b zero = cleared-none img (b * 512)
+run-zeroed img b (suc c) =
+    let n : suc c * 512 ≡ 512 + c * 512 = omega arith in
+    let at : b * 512 + 512 ≡ suc b * 512 = omega arith in
+    rw (n, cleared-on img (b * 512) 512 (c * 512), at, withBlock-zero img b) (run-zeroed (withBlock img b zeroBlock) (suc b) c)
 
-  pub blocks-zeroed : (img new : List ℕ) → n ≤ i → withBlocks img (drop i (take n moved)) new ≡ img
-  unfolding withBlocks
-  blocks-zeroed img new h = rw (list-end h)
+-- nothing is left to store
+pub blocks-stored : (img ys new : List ℕ) → ys ≡ [] → img ≡ withBlocks img ys new
+unfolding withBlocks
+blocks-stored img ys new e = rw e
 
-  pub zero-next : (img j : List ℕ) → i < n → j ≡ cleared img (getD moved i 0 * 512) 512
-      → withBlocks j (drop (i + 1) (take n moved)) zeroBlock ≡ withBlocks img (drop i (take n moved)) zeroBlock
-  unfolding withBlocks
-  zero-next img j h is = rw (list-step h, is, withBlock-zero img (getD moved i 0))
+pub owners-set : (blocks ys : List ℕ) (v : ℕ) → ys ≡ [] → blocks ≡ setAll blocks ys v
+unfolding setAll
+owners-set blocks ys v e = rw e
 
-  pub owners-set : (blocks : List ℕ) (v : ℕ) → n ≤ i → setAll blocks (drop i (take n moved)) v ≡ blocks
-  unfolding setAll
-  owners-set blocks v h = rw (list-end h)
+-- some blocks and then others
+pub withBlocks-append : (img ys zs new : List ℕ) → withBlocks (withBlocks img ys new) zs new ≡ withBlocks img (ys ++ zs) new
+unfolding withBlocks
+withBlocks-append img [] zs new = refl
+withBlocks-append img (y ∷ ys) zs new = withBlocks-append (withBlock img y new) ys zs new
 
-  pub set-next : (blocks : List ℕ) (v : ℕ) → i < n
-      → setAll (set blocks (getD moved i 0) v) (drop (i + 1) (take n moved)) v ≡ setAll blocks (drop i (take n moved)) v
-  unfolding setAll
-  set-next blocks v h = rw (list-step h)
+pub setAll-append : (blocks ys zs : List ℕ) (v : ℕ) → setAll (setAll blocks ys v) zs v ≡ setAll blocks (ys ++ zs) v
+unfolding setAll
+setAll-append blocks [] zs v = refl
+setAll-append blocks (y ∷ ys) zs v = setAll-append (set blocks y v) ys zs v
+
+pub set-next : (blocks : List ℕ) (b c m v : ℕ) → c ≡ m + 1 → setAll (set blocks b v) (run (b + 1) m) v ≡ setAll blocks (run b c) v
+unfolding setAll
+set-next blocks b c m v e = rw (run-step b c m e)
 
 pub withBlocks-one : (img new : List ℕ) (b : ℕ) → withBlocks img (b ∷ []) new ≡ withBlock img b new
 unfolding withBlocks

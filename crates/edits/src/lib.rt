@@ -4,11 +4,11 @@ ghost use mathlib.Core.List.{List, [], _∷_};
 ghost use mathlib.Core.Path.{_≡_};
 ghost use Prim.Native.Nat.{ℕ, _+_, _/_, _%_, _<_, _≤_};
 ghost use lib.Dec.{eqb};
-ghost use lib.ListN.{length, getD, take};
+ghost use lib.ListN.{length, getD, take, drop};
 ghost use Rattle.disk.specs.AnodeBlocks.{anodeMade};
 ghost use Rattle.directory.specs.Entries.{goodName, goodComment, isDir, putEntry};
 ghost use Rattle.rules.specs.Anodes.{anodesOf, sameAnode, storeChanged, withAnodes};
-ghost use Rattle.rules.specs.Chains.{blocksOf};
+ghost use Rattle.rules.specs.Chains.{run, blocksOf};
 ghost use Rattle.rules.specs.Walk.{Entered};
 ghost use Rattle.rules.specs.Format.{zeroBlock, newDirectoryBlock};
 ghost use Rattle.rules.specs.Changes.{inBlock, withBlocks, zeroTail, withSize, entriesEnd, firstRoom, newEntry, entryOf, gapClosed, withoutEntry};
@@ -168,15 +168,42 @@ pub fn store_anodes(
     }
 }
 
-// Zeroes the first `n` blocks of the list.
-pub fn zero_blocks(image: &mut [u8], moved: &[u16], n: usize)
-    requires { ⌜ n ≤ length (now moved) ⌝ }
-    ensures { λ _. ⌜ now (image .exit) ≡ withBlocks (now (image .entry)) (take n (now (moved .entry))) zeroBlock ⌝ }
+// Zeroes the `count` blocks from `first` upward.
+fn zero_run(image: &mut [u8], first: BlockNo, count: u16)
+    ensures { λ _. ⌜ now (image .exit) ≡ withBlocks (now (image .entry)) (run (first .0) count) zeroBlock ⌝ }
 {
-    let mut i = 0;
-    while i < n {
-        clear(image, (moved[i] as usize) * 512, 512);
-        i += 1;
+    clear(image, (first.0 as usize) * 512, (count as usize) * 512);
+}
+
+// Zeroes the blocks of the chain that `head` heads behind its first `have`.
+pub fn zero_behind(
+    image: &mut [u8],
+    counts: &[u16],
+    firsts: &[u16],
+    nexts: &[u16],
+    head: AnodeNo,
+    have: u64,
+)
+    requires { ⌜ ExtentsFit (now counts) (now firsts) ⌝ }
+    ensures { λ _. ⌜ now (image .exit) ≡ withBlocks (now (image .entry)) (drop have (blocksOf (anodesFrom (now (counts .entry)) (now (firsts .entry)) (now (nexts .entry))) (head .0))) zeroBlock ⌝ }
+{
+    let mut before = have;
+    let mut at = head.0 as usize;
+    let mut fuel: usize = 3444;
+    while fuel > 0 {
+        if at == 0 {
+            return;
+        }
+        let count = entry(counts, at);
+        if before < count as u64 {
+            let passed = before as u16;
+            zero_run(image, BlockNo(entry(firsts, at) + passed), count - passed);
+            before = 0;
+        } else {
+            before -= count as u64;
+        }
+        at = entry(nexts, at) as usize;
+        fuel -= 1;
     }
 }
 
@@ -393,14 +420,30 @@ pub fn take_out(image: &mut [u8], start: usize)
     close_gap(&mut image[from..to], at, len, end);
 }
 
-// Notes the owner of the first `n` blocks of the list in the block table.
-pub fn set_owners(blocks: &mut [u16], moved: &[u16], n: usize, owner: AnodeNo)
-    requires { ⌜ n ≤ length (now moved) ⌝ }
-    ensures { λ _. ⌜ now (blocks .exit) ≡ setAll (now (blocks .entry)) (take n (now (moved .entry))) (owner .0) ⌝ }
+// Notes the owner of the `count` blocks from `first` upward in the block table.
+fn set_run(blocks: &mut [u16], first: BlockNo, count: u16, owner: AnodeNo)
+    ensures { λ _. ⌜ now (blocks .exit) ≡ setAll (now (blocks .entry)) (run (first .0) count) (owner .0) ⌝ }
 {
-    let mut i = 0;
-    while i < n {
-        set_entry(blocks, moved[i] as usize, owner.0);
+    let mut i = first.0 as usize;
+    let end = i + count as usize;
+    while i < end {
+        set_entry(blocks, i, owner.0);
         i += 1;
+    }
+}
+
+// Notes the head of a chain as the owner of every block of the chain in the block table.
+pub fn set_owners(blocks: &mut [u16], counts: &[u16], firsts: &[u16], nexts: &[u16], owner: AnodeNo)
+    ensures { λ _. ⌜ now (blocks .exit) ≡ setAll (now (blocks .entry)) (blocksOf (anodesFrom (now (counts .entry)) (now (firsts .entry)) (now (nexts .entry))) (owner .0)) (owner .0) ⌝ }
+{
+    let mut at = owner.0 as usize;
+    let mut fuel: usize = 3444;
+    while fuel > 0 {
+        if at == 0 {
+            return;
+        }
+        set_run(blocks, BlockNo(entry(firsts, at)), entry(counts, at), owner);
+        at = entry(nexts, at) as usize;
+        fuel -= 1;
     }
 }

@@ -7,11 +7,12 @@ use native.Mathlib.Omega.{arith}
 use borrow.Author.Tests.{lt-ltb, le-ltb, ne-eqb}
 use Rattle.rules.specs.Counting.{oneAt, sumBelow}
 use Rattle.rules.specs.Anodes.{Anodes, limit}
-use Rattle.rules.specs.Chains.{oneIfCovers, oneIfHolds, systemOwns, owners}
+use Rattle.rules.specs.Chains.{oneIfCovers, oneIfHolds, systemBy, systemOwns, owners}
 use Rattle.rules.specs.Format.{formatted}
 use Rattle.laws.specs.Tests.{less?}
 use Rattle.laws.specs.Sums.{oneAt-same, oneAt-other, sum-zero, sum-single, sum-three}
 use Rattle.laws.specs.Ownership.{covers-in, covers-over, covers-none, covers-join}
+use Rattle.disk.specs.Root.{slotOf}
 use Rattle.format.proofs.Laws.{Taken, slotOf-formatted-some, slotOf-formatted-none}
 use Rattle.format_laws.specs.Anodes.{Full, full-2, full-5, full-6, Owns, Laid}
 use Rattle.format_laws.specs.Links.{full}
@@ -55,26 +56,26 @@ module _ (img : List ℕ) (last k : ℕ) (name : List ℕ) (day minute tick prot
   disk = formatted img last k name day minute tick protection
 
   -- slot s holds block 3 + s where it is below k, else none
-  holds-some : (x s : ℕ) → s < k → oneIfHolds disk x s ≡ oneAt (3 + s) x
+  holds-some : (x s : ℕ) → s < k → oneIfHolds (slotOf disk) x s ≡ oneAt (3 + s) x
   unfolding oneIfHolds
   holds-some x s h = rw (slotOf-formatted-some img last k name day minute tick protection args s h, ne-eqb (3 + s) 0 (omega arith))
 
-  holds-none : (x s : ℕ) → (s < k → 3 + s ≢ x) → oneIfHolds disk x s ≡ 0
+  holds-none : (x s : ℕ) → (s < k → 3 + s ≢ x) → oneIfHolds (slotOf disk) x s ≡ 0
   unfolding oneIfHolds
   holds-none x s o = elim (less? s k) [
     | inl h ↦ holds-some x s h ∙ oneAt-other (3 + s) x (o h)
     | inr h ↦ rw (slotOf-formatted-none img last k name day minute tick protection args s h)
   ]
 
-  slots-hold : (x : ℕ) → 3 ≤ x → sumBelow (oneIfHolds disk x) 42 ≡ oneIfCovers (3 + k) 0 x
+  slots-hold : (x : ℕ) → 3 ≤ x → sumBelow (oneIfHolds (slotOf disk) x) 42 ≡ oneIfCovers (3 + k) 0 x
   slots-hold x l = elim (less? x (3 + k)) [
-    | inl h ↦ sum-single (oneIfHolds disk x) (x - 3) 42 (omega (arith, args)) (λ s g e. holds-none x s (λ i. omega arith))
+    | inl h ↦ sum-single (oneIfHolds (slotOf disk) x) (x - 3) 42 (omega (arith, args)) (λ s g e. holds-none x s (λ i. omega arith))
         ∙ holds-some x (x - 3) (omega arith) ∙ oneAt-same (3 + (x - 3)) x (omega arith) ∙ sym (covers-in (3 + k) 0 x (omega arith) (omega arith))
-    | inr h ↦ sum-zero (oneIfHolds disk x) 42 (λ s g. holds-none x s (λ i. omega arith)) ∙ sym (covers-over (3 + k) 0 x (omega arith))
+    | inr h ↦ sum-zero (oneIfHolds (slotOf disk) x) 42 (λ s g. holds-none x s (λ i. omega arith)) ∙ sym (covers-over (3 + k) 0 x (omega arith))
   ]
 
   pub system-owns : (x : ℕ) → systemOwns disk x ≡ oneIfCovers (3 + k) 0 x
-  unfolding systemOwns
+  unfolding systemBy
   system-owns x = elim (less? x 3) [
     | inl l ↦ rw (lt-ltb x 3 l) (sym (covers-in (3 + k) 0 x (omega arith) (omega arith)))
     | inr l ↦ rw (le-ltb x 3 l) (slots-hold x l)

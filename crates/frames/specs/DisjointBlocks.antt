@@ -10,7 +10,7 @@ use borrow.Author.Tests.{le-ltb, ne-eqb}
 use Rattle.disk.specs.Root.{slotOf}
 use Rattle.rules.specs.Counting.{oneAt, occurrences}
 use Rattle.rules.specs.Anodes.{Anodes, limit}
-use Rattle.rules.specs.Chains.{oneIfHolds, systemOwns, blocksOf}
+use Rattle.rules.specs.Chains.{oneIfHolds, systemBy, systemOwns, blocksOf}
 use Rattle.rules.specs.Accepted.{diskSize}
 use Rattle.laws.specs.Tests.{less?}
 use Rattle.laws.specs.Sums.{oneAt-same, oneAt-other, sum-zero, sum-single, sum-member, sum-members}
@@ -74,12 +74,12 @@ module _ {ex : ℕ → Bool} {n last : ℕ} {s : Anodes} {system hd sd : ℕ →
 
 -- what the system does not own is from 3 up, and no slot holds it
 system-none : (img : List ℕ) (y : ℕ) → systemOwns img y ≡ 0 → (3 ≤ y) × Unheld img y
-unfolding systemOwns oneIfHolds
+unfolding systemBy oneIfHolds
 system-none img y z =
     let l = not-system img y z in
-    (l, λ s u e. omega (arith, rw (le-ltb y 3 l) at z, sum-member (oneIfHolds img y) s 42 (slot-low img s u), held-one s u e))
+    (l, λ s u e. omega (arith, rw (le-ltb y 3 l) at z, sum-member (oneIfHolds (slotOf img) y) s 42 (slot-low img s u), held-one s u e))
   where
-    held-one : (s : ℕ) → slotOf img s ≢ 0 → slotOf img s ≡ y → oneIfHolds img y s ≡ 1
+    held-one : (s : ℕ) → slotOf img s ≢ 0 → slotOf img s ≡ y → oneIfHolds (slotOf img) y s ≡ 1
     held-one s u e = rw (ne-eqb (slotOf img s) 0 u) (oneAt-same (slotOf img s) y e)
 
 -- a block of the disk that is not the system's

@@ -10,7 +10,7 @@ use Rattle.disk.specs.Root.{rootIn, slotOf}
 use Rattle.disk.specs.AnodeBlocks.{anodeHeaderIn, anodesIn, anodeSlots, listed}
 use Rattle.disk.specs.declared.Anode.{Anode}
 use Rattle.rules.specs.Anodes.{anodesOf}
-use Rattle.rules.specs.Chains.{oneIfHolds, systemOwns}
+use Rattle.rules.specs.Chains.{oneIfHolds, systemBy, systemOwns}
 use Rattle.rules.specs.Walk.{Dir, entriesIn, isBlockOf}
 use Rattle.rules.specs.Accepted.{diskSize, wrongSize, shortTables, wrongType, lastReserved, wrongRoot, wrongSlot, wrongSlots}
 use Rattle.counting.specs.Laws.{anyBelow-same}
@@ -92,8 +92,8 @@ module _ {on : ℕ → Type 0} {img j : List ℕ} (k : Kept on img j) where
     wrongRoot-kept = rw (k .block-kept 2 root, lastReserved-kept, diskSize-kept)
 
     pub systemOwns-kept : systemOwns j ≡ systemOwns img
-    unfolding systemOwns oneIfHolds
-    systemOwns-kept = fun-ext (λ x. rw (sum-congr (oneIfHolds j x) (oneIfHolds img x) 42 (λ s l. rw (slotOf-kept s))))
+    unfolding systemBy oneIfHolds
+    systemOwns-kept = fun-ext (λ x. rw (sum-congr (oneIfHolds (slotOf j) x) (oneIfHolds (slotOf img) x) 42 (λ s l. rw (slotOf-kept s))))
 
     -- the anode blocks
     module _ (slots : (s : ℕ) → slotOf img s ≢ 0 → on (slotOf img s)) where

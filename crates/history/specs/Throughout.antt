@@ -16,7 +16,8 @@ use Rattle.rules.specs.Walk.{Entered}
 use Rattle.rules.specs.Accepted.{diskSize, wrongSize, checkAnswer, Damage}
 use Rattle.rules.specs.Lookup.{noDirectory, entryNamed, ofEntry, notEmpty}
 use Rattle.rules.specs.Format.{wrongFormat, formatAnswer, formatted}
-use Rattle.rules.specs.Changes.{Left, left, NewEntry, resized, made, written, removed}
+use Rattle.rules.specs.Plans.{tableOf}
+use Rattle.rules.specs.Changes.{Left, left, NewEntry, resized, made, written, removed, usualGrowth}
 use Rattle.rules.specs.Calls.{outcomeOf, checkedFirst, settled, checkOutcome, summaryOutcome, formatOutcome, doneOr, leftAfter, readAnswer, readOutcome, spanRefusal, listAnswer, listOutcome, makeOutcome, makeRefusal, wrongEntry, resizeOutcome, resizeRefusal, writeOutcome, removeOutcome, removeRefusal, changeNamed}
 use Rattle.rules.specs.Totals.{Sound}
 use Rattle.bitmap.specs.Bitmap.{bitmapLength}
@@ -155,35 +156,35 @@ module _ (img : List ℕ) (ok : checkAnswer img (diskSize img) limit ≡ 0) wher
       becomes (left 0 (written img s e offset bytes)) (write-accepted (named-in h name e (f .0) q) (f .1) offset bytes) (λ d. omega (arith, d .0)))
 
   resize-kept : (blocks anodes : List ℕ) (h : ℕ) (name : List ℕ) (new : ℕ) →
-      AcceptedAfter (changeNamed (checkedFirst img blocks anodes (resizeRefusal img s h name)) img (entryNamed img s h name) (λ e. resized img s e new))
+      AcceptedAfter (changeNamed (checkedFirst img blocks anodes (resizeRefusal img s h name)) img (entryNamed img s h name) (λ e. resized usualGrowth img (tableOf img) e new))
   resize-kept blocks anodes h name new =
-      named-kept blocks anodes (resizeRefusal img s h name) (resize-late img s h name) (entryNamed img s h name) (λ e. resized img s e new)
+      named-kept blocks anodes (resizeRefusal img s h name) (resize-late img s h name) (entryNamed img s h name) (λ e. resized usualGrowth img (tableOf img) e new)
       (λ z e q.
       let f = file-found img s h name e q z in
       let m = named-in h name e (f .0) q in
-      becomes (resized img s e new) (resize-accepted m new (f .1)) (steps-harmless _ (resize-answers m new)))
+      becomes (resized usualGrowth img (tableOf img) e new) (resize-accepted m new (f .1)) (steps-harmless _ (resize-answers m new)))
 
   remove-kept : (blocks anodes : List ℕ) (h : ℕ) (name : List ℕ) →
-      AcceptedAfter (changeNamed (checkedFirst img blocks anodes (removeRefusal img s h name)) img (entryNamed img s h name) (λ e. removed img s e))
+      AcceptedAfter (changeNamed (checkedFirst img blocks anodes (removeRefusal img s h name)) img (entryNamed img s h name) (λ e. removed usualGrowth img (tableOf img) e))
   unfolding notEmpty
   remove-kept blocks anodes h name =
-      named-kept blocks anodes (removeRefusal img s h name) (remove-late img s h name) (entryNamed img s h name) (λ e. removed img s e)
+      named-kept blocks anodes (removeRefusal img s h name) (remove-late img s h name) (entryNamed img s h name) (λ e. removed usualGrowth img (tableOf img) e)
       (λ z e q.
       let f = removable-found img s h name e q z in
       let m = named-in h name e (f .0) q in
-      becomes (removed img s e) (remove-accepted m (λ d. rw d at (f .1)))
+      becomes (removed usualGrowth img (tableOf img) e) (remove-accepted m (λ d. rw d at (f .1)))
       (steps-harmless _ (elim (remove-answers m) [ inl z ↦ inl z | inr k ↦ inr (inr k) ])))
 
   make-kept : (blocks anodes : List ℕ) (h type : ℕ) (name comment : List ℕ) (new : NewEntry) → new .name ≡ name → new .comment ≡ comment →
-      AcceptedAfter (leftAfter (checkedFirst img blocks anodes (makeRefusal img s h type name comment)) img (made img s h new))
+      AcceptedAfter (leftAfter (checkedFirst img blocks anodes (makeRefusal img s h type name comment)) img (made usualGrowth img (tableOf img) h new))
   unfolding makeRefusal wrongEntry
   make-kept blocks anodes h type name comment new en ec =
-      change-kept blocks anodes (makeRefusal img s h type name comment) (make-late img s h type name comment) (made img s h new)
+      change-kept blocks anodes (makeRefusal img s h type name comment) (make-late img s h type name comment) (made usualGrowth img (tableOf img) h new)
       (λ z.
       let w = if-zero 20 (wrongEntry type name comment) _ (omega arith) z in
       let r = if-zero 21 (noDirectory img s h) _ (omega arith) (w .1) in
       let n = neither (not (goodName name)) (not (goodComment comment)) (neither (not (eqb type 253 || eqb type 2)) (not (goodName name) || not (goodComment comment)) (w .0) .1) in
-      becomes (made img s h new) (make-accepted (record { image = image; reached = r .0 }) new (rw en (not-false _ (n .0))) (rw ec (not-false _ (n .1)))) (steps-harmless _ (made-answer img s h new)))
+      becomes (made usualGrowth img (tableOf img) h new) (make-accepted (record { image = image; reached = r .0 }) new (rw en (not-false _ (n .0))) (rw ec (not-false _ (n .1)))) (steps-harmless _ (made-answer usualGrowth img (tableOf img) h new)))
 
   -- every call leaves an accepted image and reports no damage
   call-kept : (c : Call) → AcceptedAfter (left (outcome img c .answer) (outcome img c .image))

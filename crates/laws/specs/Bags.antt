@@ -165,13 +165,13 @@ gather-none f [] h = refl
 gather-none f (x ∷ l) h = rw (h x (occurrences-here x l), gather-none f l (λ a p. h a (occurrences-later a x l p)))
 
 -- where the last number that gives anything gives y behind what it gives otherwise, so does the list
-pub gather-last : (f f′ : ℕ → List ℕ) (pre post : List ℕ) (x y : ℕ) → ((a : ℕ) → a ≢ x → f′ a ≡ f a) → occurrences x pre ≡ 0 → occurrences x post ≡ 0 → gather f post ≡ [] → f x ≡ f′ x ++ (y ∷ []) →
-    gather f (pre ++ (x ∷ post)) ≡ gather f′ (pre ++ (x ∷ post)) ++ (y ∷ [])
+pub gather-last : (f f′ : ℕ → List ℕ) (pre post : List ℕ) (x : ℕ) (zs : List ℕ) → ((a : ℕ) → a ≢ x → f′ a ≡ f a) → occurrences x pre ≡ 0 → occurrences x post ≡ 0 → gather f post ≡ [] → f x ≡ f′ x ++ zs →
+    gather f (pre ++ (x ∷ post)) ≡ gather f′ (pre ++ (x ∷ post)) ++ zs
 unfolding gather
-gather-last f f′ pre post x y same i j none lost =
-    let was : gather f (pre ++ (x ∷ post)) ≡ gather f pre ++ (f′ x ++ (y ∷ [])) = gather-append f pre (x ∷ post) ∙ rw (none, append-nil (f x), lost) in
+gather-last f f′ pre post x zs same i j none lost =
+    let was : gather f (pre ++ (x ∷ post)) ≡ gather f pre ++ (f′ x ++ zs) = gather-append f pre (x ∷ post) ∙ rw (none, append-nil (f x), lost) in
     let now : gather f′ (pre ++ (x ∷ post)) ≡ gather f pre ++ f′ x = gather-append f′ pre (x ∷ post) ∙ rw (gather-off f f′ x same pre i, gather-off f f′ x same post j, none, append-nil (f′ x)) in
-    was ∙ sym (append-assoc (gather f pre) (f′ x) (y ∷ [])) ∙ ap (λ (l : List ℕ). l ++ (y ∷ [])) (sym now)
+    was ∙ sym (append-assoc (gather f pre) (f′ x) zs) ∙ ap (λ (l : List ℕ). l ++ zs) (sym now)
 
 -- a number that stands in a list is a member of it
 pub occurrences-member : (x : ℕ) (l : List ℕ) → 0 < occurrences x l → Member x l

@@ -1,23 +1,22 @@
 -- The blocks of a chain in its order: the extents of its anodes, which changes leave other chains' blocks as they are, and a chain with an anode more or less.
-use Prim.Native.Nat.{ℕ, zero, suc, _+_, _-_, _≤_, _<_}
+use Prim.Native.Nat.{ℕ, _+_, _-_, _≤_, _<_}
 use mathlib.Core.Path.{_≡_, refl, sym, ap, _∙_}
 use mathlib.Core.Logic.{_≢_}
 use mathlib.Core.Bool.{Bool}
 use mathlib.Core.List.{List, [], _∷_, _++_, append-assoc}
 use native.Mathlib.Omega.{arith}
-use native.Mathlib.Numerals.{add-one}
 use lib.Dec.{T}
 use Rattle.rules.specs.Counting.{occurrences, gather, lastOf, sumList, changed}
 use lib.ListN.{length}
 use Rattle.rules.specs.Anodes.{Anodes, limit}
 use Rattle.rules.specs.Chains.{chainOf, run, blocksOf, blockCount}
-use Rattle.rules.specs.Space.{rewritten, onChain, dropped, insertedAfter, unlinked, lastBlock}
+use Rattle.rules.specs.Space.{rewritten, onChain, dropped, insertedAfter, unlinked, tailStart}
 use Rattle.laws.specs.Tests.{T-false}
 use Rattle.laws.specs.Sums.{oneAt-same, changed-other, changed-pos, changed-same}
 use Rattle.laws.specs.Bags.{occurrences-cons, occurrences-append, gather-kept, last-split, list-congr, list-length, gather-sum}
 use Rattle.laws.specs.LinkChanges.{without, drop-apart, insertAfter, insert-linked, insert-after, unlink, unlink-linked, unlink-after}
 use Rattle.laws.specs.Segments.{Seg, Chain, seg-split, seg-last, chain-end}
-use Rattle.laws.specs.Chains.{run-end}
+use Rattle.laws.specs.Chains.{run-split, length-run}
 use Rattle.laws.specs.Links.{chain-the, seg-once}
 use Rattle.laws.specs.Heads.{Head, head-chain}
 use Rattle.laws.specs.Space.{Alike, Good, on-chain, dead-head, dead-along, drop-good, FreeAnode, free-pos}
@@ -51,29 +50,20 @@ pub blocksOf-extents : (s : Anodes) (h : ℕ) → blocksOf s h ≡ blocksFrom s 
 unfolding blocksOf extent
 blocksOf-extents s h = refl
 
--- an empty one filled, one with a block more at its end or before its start, and without its last block
-pub extent-filled : (s : Anodes) (a y : ℕ) → s .count a ≡ 0 → run y 1 ≡ extent s a ++ (y ∷ [])
+-- an empty one filled, one with a run more at its end, and without its last blocks
+pub extent-filled : (s : Anodes) (a c b : ℕ) → s .count a ≡ 0 → run b c ≡ extent s a ++ run b c
 unfolding extent run
-extent-filled s a y e = rw e
+extent-filled s a c b e = rw e
 
-pub extent-longer : (s : Anodes) (a y : ℕ) → s .block a + s .count a ≡ y → run (s .block a) (s .count a + 1) ≡ extent s a ++ (y ∷ [])
+pub extent-longer : (s : Anodes) (a c b : ℕ) → s .block a + s .count a ≡ b → run (s .block a) (s .count a + c) ≡ extent s a ++ run b c
 unfolding extent
-extent-longer s a y e = rw (← e, add-one (s .count a)) (run-end (s .block a) (s .count a))
+extent-longer s a c b e = rw (← e) (run-split (s .block a) (s .count a) c)
 
-pub extent-before : (s : Anodes) (a y : ℕ) → y + 1 ≡ s .block a → run y (s .count a + 1) ≡ y ∷ extent s a
-unfolding extent run
-extent-before s a y e = rw (← e, add-one (s .count a), add-one y)
-
-pub extent-shorter : (s : Anodes) (x : ℕ) → 0 < s .count x → extent s x ≡ run (s .block x) (s .count x - 1) ++ (lastBlock s x ∷ [])
+pub extent-shorter : (s : Anodes) (x d : ℕ) → d ≤ s .count x → extent s x ≡ run (s .block x) (s .count x - d) ++ run (tailStart s x d) d
 unfolding extent
-extent-shorter s x full = let e : s .count x ≡ suc (s .count x - 1) = omega arith in ap (run (s .block x)) e ∙ run-end (s .block x) (s .count x - 1)
+extent-shorter s x d l = let e : s .count x ≡ s .count x - d + d = omega arith in ap (run (s .block x)) e ∙ run-split (s .block x) (s .count x - d) d
 
--- a run has as many blocks as its count says, and so has a chain
-length-run : (b c : ℕ) → length (run b c) ≡ c
-unfolding run
-length-run b zero = refl
-length-run b (suc c) = ap suc (length-run (suc b) c)
-
+-- a chain has as many blocks as its counts say
 pub length-blocksOf : (s : Anodes) (h : ℕ) → length (blocksOf s h) ≡ blockCount s h
 unfolding blocksOf blockCount
 length-blocksOf s h =
@@ -87,7 +77,7 @@ kept-blocks s t m e h = blocksOf-extents t m ∙ ap (gather (extent t)) e ∙ ga
 
 module _ {ex : ℕ → Bool} {n last : ℕ} {s : Anodes} {system hd sd : ℕ → ℕ} (g : Good limit ex n last s system hd sd) where
   -- steps on the chains of k and h leave every other
-  module _ {t : Anodes} {system′ hd′ sd′ : ℕ → ℕ} (g′ : Good limit ex n last t system′ hd′ sd′) {k h : ℕ} (shift : Shift s hd t hd′ k h) (m : ℕ) (d : Head (s .next) (s .block) m) (mk : m ≢ k) (mh : m ≢ h) where
+  module _ {t : Anodes} {ex′ : ℕ → Bool} {system′ hd′ sd′ : ℕ → ℕ} (g′ : Good limit ex′ n last t system′ hd′ sd′) {k h : ℕ} (shift : Shift s hd t hd′ k h) (m : ℕ) (d : Head (s .next) (s .block) m) (mk : m ≢ k) (mh : m ≢ h) where
     -- how many blocks it has
     pub shift-count : blockCount t m ≡ blockCount s m
     shift-count = kept-count s t m (shift-chain g g′ shift m d mk mh) (λ a p. shift-alike g g′ shift m d mk mh a p .same-count)

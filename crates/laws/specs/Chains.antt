@@ -1,6 +1,6 @@
 -- A chain and a run of blocks followed step by step, a table of the heads of chains, and blocks that an image has whole.
 use Prim.Native.Nat.{ℕ, zero, suc, _+_, _*_, _<_, _≤_}
-use mathlib.Core.Path.{_≡_, refl, ap}
+use mathlib.Core.Path.{_≡_, refl, sym, ap, _∙_}
 use mathlib.Core.Logic.{_≢_}
 use mathlib.Core.List.{List, [], _∷_, _++_}
 use native.Mathlib.Omega.{arith}
@@ -8,7 +8,9 @@ use native.Mathlib.Numerals.{add-one}
 use lib.ListN.{length, getD}
 use Rattle.rules.specs.Counting.{occurrences, gather}
 use Rattle.rules.specs.Anodes.{Anodes, limit}
-use Rattle.rules.specs.Chains.{chainOf, oneIfHead, run}
+use Rattle.rules.specs.Chains.{chainOf, oneIfHead, oneIfCovers, run}
+use Rattle.laws.specs.Bags.{occurrences-nil, occurrences-cons}
+use Rattle.laws.specs.Ownership.{covers-none, covers-front}
 
 module _ (next : ℕ → ℕ) where
   pub chain-none : (k a : ℕ) → k ≡ 0 → chainOf next k a ≡ []
@@ -48,11 +50,22 @@ pub run-step : (b n m : ℕ) → n ≡ m + 1 → run b n ≡ b ∷ run (b + 1) m
 unfolding run
 run-step b n m e = rw (e, add-one m, add-one b)
 
--- and ends with its last
-pub run-end : (b c : ℕ) → run b (suc c) ≡ run b c ++ ((b + c) ∷ [])
+-- and falls into two at any place
+pub run-split : (b c d : ℕ) → run b (c + d) ≡ run b c ++ run (b + c) d
 unfolding run
-run-end b zero = let e : b + 0 ≡ b = omega arith in rw e
-run-end b (suc c) = let e : b + suc c ≡ suc b + c = omega arith in rw e (ap (λ (l : List ℕ). b ∷ l) (run-end (suc b) c))
+run-split b zero d = let e : b + 0 ≡ b = omega arith in let f : 0 + d ≡ d = omega arith in rw (e, f)
+run-split b (suc c) d = let e : b + suc c ≡ suc b + c = omega arith in let f : suc c + d ≡ suc (c + d) = omega arith in rw (e, f) (ap (λ (l : List ℕ). b ∷ l) (run-split (suc b) c d))
+
+-- it has each block that it covers once, and as many as it counts
+pub occurrences-run : (b c x : ℕ) → occurrences x (run b c) ≡ oneIfCovers c b x
+unfolding run
+occurrences-run b zero x = occurrences-nil x ∙ sym (covers-none b x)
+occurrences-run b (suc c) x = omega (arith, occurrences-cons x b (run (suc b) c), occurrences-run (suc b) c x, covers-front c b x)
+
+pub length-run : (b c : ℕ) → length (run b c) ≡ c
+unfolding run
+length-run b zero = refl
+length-run b (suc c) = ap suc (length-run (suc b) c)
 
 -- a table in which exactly the heads of chains stand for themselves, from 6 up
 abbrev pub HeadTable : List ℕ → Anodes → Type 0

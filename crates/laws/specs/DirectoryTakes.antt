@@ -7,14 +7,14 @@ use mathlib.Core.List.{List, [], _∷_, map, map-id}
 use native.Mathlib.Omega.{arith}
 use lib.Dec.{T}
 use Rattle.rules.specs.Counting.{sumList, occurrences}
-use Rattle.rules.specs.Anodes.{limit, Anodes}
+use Rattle.rules.specs.Anodes.{limit, Anodes, existsBy}
 use Rattle.rules.specs.Chains.{chainOf}
 use Rattle.rules.specs.Walk.{Dir, Entered, Item, itemOf, itemsAt, itemsBy}
-use Rattle.rules.specs.Space.{planned, takeBlock}
+use Rattle.rules.specs.Plans.{Slotted, slotted}
 use Rattle.laws.specs.Bags.{list-nil, list-append, list-one, list-zero, kept-sum-where}
 use Rattle.laws.specs.Heads.{Head}
-use Rattle.laws.specs.Moves.{Moved}
-use Rattle.laws.specs.Take.{take-good}
+use Rattle.laws.specs.Moves.{withThese, Moved}
+use Rattle.laws.specs.Take.{Takes, takes-moved}
 use Rattle.laws.specs.OwnBlock.{Appended, own-appended}
 use Rattle.laws.specs.Each.{Each, each-both, each-pair, member-each, each-zero}
 use Rattle.laws.specs.Items.{wrong, faults, headed}
@@ -50,12 +50,15 @@ module _ {ex : ℕ → Bool} {n last f : ℕ} {s : Anodes} {system hd sd : ℕ �
   dir-ones : (a : ℕ) → 0 < occurrences a (chainOf (s .next) limit h) → s .count a ≡ 1
   dir-ones a p = anodes-fine entries marked s (the-dir .0) (the-dir .2 .1) a (rw (the-dir .1) p) .0
 
-  module _ (t : Anodes) (ys : List ℕ) (e : takeBlock limit ex true s h ≡ planned t ys) where
-    pub dir-taken : (y : ℕ) × (ys ≡ y ∷ []) × Appended limit s t h y
-    dir-taken = own-appended (o .good) h dir-head dir-not-1 dir-ones t ys e
+  module _ {slots : ℕ → ℕ} {u : Slotted} {ys : List ℕ} (k : Takes limit n last (slotted s slots) system hd true h u ys) where
+    abbrev t : Anodes
+    t = u .anodes
 
-    abbrev w : Moved limit ex n last s system hd 1 h ys t
-    w = take-good (o .good) h dir-head dir-not-1 true t ys e
+    pub dir-taken : (y : ℕ) × (ys ≡ y ∷ []) × Appended limit s (u .anodes) h y
+    dir-taken = own-appended (o .good) h dir-head dir-not-1 k dir-ones
+
+    abbrev w : Moved limit n last (slotted s slots) system hd 1 h h ys (k .gs) u
+    w = takes-moved h dir-head dir-not-1 k
 
     module _ (none : (y : ℕ) → ys ≡ y ∷ [] → entries y ≡ []) (its : (y : ℕ) → ys ≡ y ∷ [] → Each (λ d. d .head ≡ h → T (marked d y)) dirs) where
       abbrev items′ : Dir → List Item
@@ -99,7 +102,7 @@ module _ {ex : ℕ → Bool} {n last f : ℕ} {s : Anodes} {system hd sd : ℕ �
               (c .0) (c .1) (λ i. (sym (map-id (entries (s .block a))), refl)) z
 
       -- the state stays accepted but for the chain that nothing names
-      pub directory-takes : Orphaned ex n last f t system (take-good (o .good) h dir-head dir-not-1 true t ys e .hd′) (take-good (o .good) h dir-head dir-not-1 true t ys e .sd′) entries marked dirs
+      pub directory-takes : Orphaned (existsBy (u .slots)) n last f (u .anodes) (withThese system (k .gs)) (takes-moved h dir-head dir-not-1 k .hd′) (takes-moved h dir-head dir-not-1 k .sd′) entries marked dirs
       directory-takes = orphan-shift o h no-file (w .good) (w .shift)
           (each-both (λ d. d .head ≡ h → T (marked d (dir-taken .0))) (λ d. sumList (amiss h) (items d) ≡ 0) (λ d. d .head ≡ h → AlikeItems items items′ d) dirs
           (λ d a b q. alike d (a q, b) q) (its (dir-taken .0) (dir-taken .1)) (none-amiss o h no-file (w .good) (w .shift)))

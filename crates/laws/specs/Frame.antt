@@ -30,13 +30,13 @@ module _ {A : ℕ} {ex : ℕ → Bool} {n last : ℕ} {s : Anodes} {system hd sd
     apart-alike a p = let o = on-other m d mk mh a p in apart a (o .0) (o .1) (o .2)
 
     -- and it is the same list of anodes
-    pub apart-chain : {system′ hd′ sd′ : ℕ → ℕ} → Good A ex n last t system′ hd′ sd′ → Head (t .next) (t .block) m → chainOf (t .next) A m ≡ chainOf (s .next) A m
+    pub apart-chain : {ex′ : ℕ → Bool} {system′ hd′ sd′ : ℕ → ℕ} → Good A ex′ n last t system′ hd′ sd′ → Head (t .next) (t .block) m → chainOf (t .next) A m ≡ chainOf (s .next) A m
     apart-chain g′ d′ =
         chain-the (g′ .linked) m (chainOf (s .next) A m) (λ q. d′ .in-use)
         (seg-keep (s .next) (t .next) m 0 (chainOf (s .next) A m) (λ x p. apart-alike x p .same-next) (head-chain (g .linked) m d))
 
   -- and so for steps on these chains
-  module _ {t : Anodes} {system′ hd′ sd′ : ℕ → ℕ} (g′ : Good A ex n last t system′ hd′ sd′) {k h : ℕ} (shift : Shift s hd t hd′ k h) (m : ℕ) (d : Head (s .next) (s .block) m) (mk : m ≢ k) (mh : m ≢ h) where
+  module _ {t : Anodes} {ex′ : ℕ → Bool} {system′ hd′ sd′ : ℕ → ℕ} (g′ : Good A ex′ n last t system′ hd′ sd′) {k h : ℕ} (shift : Shift s hd t hd′ k h) (m : ℕ) (d : Head (s .next) (s .block) m) (mk : m ≢ k) (mh : m ≢ h) where
     pub shift-alike : (a : ℕ) → 0 < occurrences a (chainOf (s .next) A m) → Alike s t a
     shift-alike = apart-alike (shift .apart) m d mk mh
 

@@ -5,7 +5,8 @@ use mathlib.Core.Logic.{_⊎_, inl, inr}
 use mathlib.Core.Bool.{Bool, true, false, cond}
 use Rattle.rules.specs.Anodes.{Anodes}
 use Rattle.rules.specs.Chains.{cut, side}
-use Rattle.rules.specs.Space.{refused, Found, nowhere, found, firstExtent, freeExtent, takeFrom, takeBlock}
+use Rattle.rules.specs.Plans.{Slotted, refused, Growth}
+use Rattle.rules.specs.Space.{Found, nowhere, found, firstExtent, freeExtent, takeFrom, takeBlock}
 use Rattle.laws.specs.Space.{Good}
 use Rattle.laws.specs.Sides.{SideHead, side-chain}
 use Rattle.laws.specs.Searches.{FoundIn, one-found, none-found, firstExtent-found}
@@ -44,23 +45,23 @@ module _ (A : ℕ) (dir : Bool) (s : Anodes) where
       either false p q (inl i) = rw i p
       either false p q (inr i) = rw i q
 
-  module _ (ex : ℕ → Bool) (h : ℕ) where
-    -- a take without it is refused with 27
-    pub take-nowhere : freeExtent A dir s ≡ nowhere → takeBlock A ex dir s h ≡ refused 27
-    unfolding takeBlock
-    take-nowhere e = rw (e, takeBlock)
+module _ (A : ℕ) (growth : Growth) (dir : Bool) (h : ℕ) (s : Slotted) where
+  -- a take without it is refused with 27
+  pub take-nowhere : freeExtent A dir (s .anodes) ≡ nowhere → takeBlock A growth dir h s ≡ refused 27
+  unfolding takeBlock
+  take-nowhere e = rw (e, takeBlock)
 
-    -- and with it takes its first block
-    pub take-found : (p x : ℕ) → freeExtent A dir s ≡ found p x → takeBlock A ex dir s h ≡ takeFrom A ex dir s h p x
-    unfolding takeBlock
-    take-found p x e = rw (e, takeBlock)
+  -- and with it takes its first block
+  pub take-found : (p x : ℕ) → freeExtent A dir (s .anodes) ≡ found p x → takeBlock A growth dir h s ≡ takeFrom A growth dir h p x s
+  unfolding takeBlock
+  take-found p x e = rw (e, takeBlock)
 
-    -- which of the two a take is
-    pub take-cases : ((freeExtent A dir s ≡ nowhere) × (takeBlock A ex dir s h ≡ refused 27))
-        ⊎ ((p : ℕ) × (x : ℕ) × (freeExtent A dir s ≡ found p x) × (takeBlock A ex dir s h ≡ takeFrom A ex dir s h p x))
-    take-cases = go (freeExtent A dir s) refl
-      where
-        go : (c : Found) → freeExtent A dir s ≡ c → ((freeExtent A dir s ≡ nowhere) × (takeBlock A ex dir s h ≡ refused 27))
-            ⊎ ((p : ℕ) × (x : ℕ) × (freeExtent A dir s ≡ found p x) × (takeBlock A ex dir s h ≡ takeFrom A ex dir s h p x))
-        go nowhere e = inl (e, take-nowhere e)
-        go (found p x) e = inr (p, x, e, take-found p x e)
+  -- which of the two a take is
+  pub take-cases : ((freeExtent A dir (s .anodes) ≡ nowhere) × (takeBlock A growth dir h s ≡ refused 27))
+      ⊎ ((p : ℕ) × (x : ℕ) × (freeExtent A dir (s .anodes) ≡ found p x) × (takeBlock A growth dir h s ≡ takeFrom A growth dir h p x s))
+  take-cases = go (freeExtent A dir (s .anodes)) refl
+    where
+      go : (c : Found) → freeExtent A dir (s .anodes) ≡ c → ((freeExtent A dir (s .anodes) ≡ nowhere) × (takeBlock A growth dir h s ≡ refused 27))
+          ⊎ ((p : ℕ) × (x : ℕ) × (freeExtent A dir (s .anodes) ≡ found p x) × (takeBlock A growth dir h s ≡ takeFrom A growth dir h p x s))
+      go nowhere e = inl (e, take-nowhere e)
+      go (found p x) e = inr (p, x, e, take-found p x e)

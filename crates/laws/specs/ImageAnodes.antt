@@ -1,18 +1,17 @@
 -- What the anodes of an image are: as they are stored, missing ones (0, 0, 0); one in use exists, and where 7 finds nothing a block field of 0 means free.
-use Prim.Native.Nat.{ℕ, zero, suc, _/_, _%_, _≤_}
+use Prim.Native.Nat.{ℕ, _/_, _≤_}
 use mathlib.Core.Path.{_≡_, refl, ap}
 use mathlib.Core.Logic.{_≢_, inl, inr}
 use mathlib.Core.Bool.{true, false}
 use mathlib.Core.List.{List}
 use native.Mathlib.Omega.{arith}
-use borrow.Author.Tests.{le-ltb, lt-ltb}
+use borrow.Author.Tests.{ne-eqb}
 use Rattle.disk.specs.declared.Anode.{Anode}
-use Rattle.disk.specs.Blocks.{blockOf}
 use Rattle.disk.specs.Root.{slotOf}
-use Rattle.disk.specs.AnodeBlocks.{anodeMade, anodeIn, anodesIn, anodeOf}
-use Rattle.disk.proofs.Laws.{slotOf-high, anodeOf-missing, anodeSlots-at, length-listed}
+use Rattle.disk.specs.AnodeBlocks.{anodeMade, anodeOf}
+use Rattle.disk.proofs.Laws.{slotOf-high, anodeOf-missing}
 use Rattle.rules.specs.Counting.{anyBelow}
-use Rattle.rules.specs.Anodes.{limit, fieldsOf, existsIn, exists, anodesOf}
+use Rattle.rules.specs.Anodes.{limit, fieldsOf, existsBy, exists, anodesOf}
 use Rattle.rules.specs.Accepted.{outOfRange}
 use Rattle.laws.specs.Tests.{less?}
 use Rattle.laws.specs.TestsPassed.{block-cleared}
@@ -33,14 +32,13 @@ module _ (img : List ℕ) where
   slot-there a u z = u (read-missing a z .1)
 
   pub slot-exists : (a s : ℕ) → slotOf img (a / 82) ≡ s → s ≢ 0 → exists img a ≡ true
-  unfolding exists existsIn anodesIn
-  slot-exists a zero e n = absurd (n refl)
-  slot-exists a (suc s) e n = lt-ltb (a % 82) _ (rw (anodeSlots-at img (a / 82), e) (rw (length-listed (anodeIn (blockOf img (suc s))) 0 82) (omega arith)))
+  unfolding existsBy
+  slot-exists a s e n = rw (e, ne-eqb s 0 n)
 
   -- a slot that holds 0 has no anode
   pub slot-missing : (a : ℕ) → slotOf img (a / 82) ≡ 0 → exists img a ≡ false
-  unfolding exists existsIn anodesIn
-  slot-missing a z = rw (anodeSlots-at img (a / 82), z) (le-ltb (a % 82) 0 (omega arith))
+  unfolding existsBy
+  slot-missing a z = rw z
 
   -- an anode in use is one of the 3,444, and exists; where 7 finds nothing, one whose block field is 0 has no blocks and no next
   pub reading-of : (n : ℕ) → anyBelow (outOfRange (anodesOf img) n) limit ≡ false → Reading limit (exists img) (anodesOf img)

@@ -20,13 +20,14 @@ pub mod Passes
 pub mod TestsPassed
 pub mod Owners
 pub mod Searches
+pub mod Plans
 pub mod Moves
 pub mod Leaving
-pub mod Plans
 pub mod Arriving
 pub mod FreeExtent
 pub mod Take
 pub mod Give
+pub mod FixedSlots
 pub mod Frame
 pub mod Items
 pub mod Walks
@@ -39,9 +40,9 @@ pub mod ChainBlocks
 pub mod Whole
 pub mod Resize
 pub mod RefusedSteps
+pub mod Carried
 pub mod TakenBlocks
 pub mod GivenBlocks
-pub mod FreeBlocks
 pub mod OwnBlock
 pub mod Orphan
 pub mod DirectoryTakes

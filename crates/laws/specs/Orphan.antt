@@ -37,11 +37,16 @@ module _ (ex : ℕ → Bool) (n last : ℕ) where
     pub not-named : sumList (namedIn (itemsBy entries marked s) f) dirs ≡ 0
     pub all-named : (x : ℕ) → 6 ≤ x → x ≢ f → Head (s .next) (s .block) x → 1 ≤ sumList (namedIn (itemsBy entries marked s) x) dirs
 
+-- the same with another account of the anodes that exist and of the system's blocks
+pub orphan-good : {ex ex′ : ℕ → Bool} {n last f : ℕ} {s : Anodes} {system system′ hd sd hd′ sd′ : ℕ → ℕ} {entries : ℕ → List Entered} {marked : Dir → ℕ → Bool} {dirs : List Dir} → Good limit ex′ n last s system′ hd′ sd′ →
+    Orphaned ex n last f s system hd sd entries marked dirs → Orphaned ex′ n last f s system′ hd′ sd′ entries marked dirs
+orphan-good g o = record { good = g; tree = o .tree; head = o .head; not-named = o .not-named; all-named = o .all-named }
+
 -- the steps on the chain of a head h that no file's entry names
 module _ {ex : ℕ → Bool} {n last f : ℕ} {s : Anodes} {system hd sd : ℕ → ℕ} {entries : ℕ → List Entered} {marked : Dir → ℕ → Bool} {dirs : List Dir}
     (o : Orphaned ex n last f s system hd sd entries marked dirs)
     (h : ℕ) (no-file : namedByFiles (itemsBy entries marked s) h dirs ≡ 0)
-    {t : Anodes} {hd′ sd′ : ℕ → ℕ} (g′ : Good limit ex n last t system hd′ sd′) (sh : Shift s hd t hd′ 1 h) where
+    {t : Anodes} {ex′ : ℕ → Bool} {system′ hd′ sd′ : ℕ → ℕ} (g′ : Good limit ex′ n last t system′ hd′ sd′) (sh : Shift s hd t hd′ 1 h) where
   abbrev items : Dir → List Item
   items = itemsBy entries marked s
 
@@ -80,7 +85,7 @@ module _ {ex : ℕ → Bool} {n last f : ℕ} {s : Anodes} {system hd sd : ℕ �
     alikes = each-both (DirHead s) (λ d. (d .head ≡ h → AlikeItems items items′ d) × (sumList (amiss h) (items d) ≡ 0)) (AlikeItems items items′) dirs one (tree-heads (o .good) entries marked (o .tree))
         (each-pair (λ d. d .head ≡ h → AlikeItems items items′ d) (λ d. sumList (amiss h) (items d) ≡ 0) dirs own none-amiss)
 
-    pub orphan-shift : Orphaned ex n last f t system hd′ sd′ entries marked dirs
+    pub orphan-shift : Orphaned ex′ n last f t system′ hd′ sd′ entries marked dirs
     orphan-shift = record {
       good = g′;
       tree = alike-tree items items′ root dirs alikes (o .tree);
@@ -99,7 +104,7 @@ module _ {ex : ℕ → Bool} {n last f : ℕ} {s : Anodes} {system hd sd : ℕ �
   not-dir f6 = tree-unnamed given root dirs (o .tree) f (omega arith) (o .not-named)
 
   -- the chain that nothing names takes or gives
-  pub orphan-changed : 6 ≤ f → {t : Anodes} {hd′ sd′ : ℕ → ℕ} → Good limit ex n last t system hd′ sd′ → Shift s hd t hd′ 1 f → Orphaned ex n last f t system hd′ sd′ entries marked dirs
+  pub orphan-changed : 6 ≤ f → {t : Anodes} {ex′ : ℕ → Bool} {system′ hd′ sd′ : ℕ → ℕ} → Good limit ex′ n last t system′ hd′ sd′ → Shift s hd t hd′ 1 f → Orphaned ex′ n last f t system′ hd′ sd′ entries marked dirs
   orphan-changed f6 {t} g′ sh = orphan-shift o f (omega (arith, named-by-kind given f dirs, o .not-named)) g′ sh
       (each-map (λ d. d .head ≢ f) (λ d. d .head ≡ f → AlikeItems given (itemsBy entries marked t) d) dirs (λ d q e. absurd (q e)) (not-dir f6))
 

@@ -14,11 +14,12 @@ use Rattle.disk.specs.AnodeBlocks.{listed}
 use Rattle.disk.proofs.Laws.{getD-listed, length-listed}
 use Rattle.rules.specs.Counting.{oneAt, sumBelow, occurrences}
 use Rattle.rules.specs.Anodes.{Anodes, limit}
-use Rattle.rules.specs.Chains.{headOf, oneIfCovers, owners, systemOwns}
+use Rattle.rules.specs.Chains.{headOf, oneIfCovers, owners, systemBy, systemOwns}
 use Rattle.rules.specs.Accepted.{diskSize}
+use Rattle.rules.specs.Plans.{Slotted, slotted}
 use Rattle.rules.specs.Space.{rewritten, onChain, dropped}
 use Rattle.rules.specs.Tables.{chainHead, anodeEntry, anodeTable, headWhere, ownerHead, blockEntry, blockTable, entryOr}
-use Rattle.laws.specs.Tests.{same?, less?}
+use Rattle.laws.specs.Tests.{same?, less?, not-above}
 use Rattle.laws.specs.Sums.{oneAt-cases, oneAt-same, oneAt-other, sum-congr, sum-factor, sum-swap, sum-member, sum-single, sum-pick}
 use Rattle.laws.specs.Bags.{occurrences-nil, occurrences-cons, occurrences-here, occurrences-later}
 use Rattle.laws.specs.Ownership.{covers-cases, covers-in, covers-none}
@@ -29,7 +30,7 @@ use Rattle.laws.specs.Blocks.{blocks}
 use Rattle.laws.specs.Held.{held, held-some, held-fresh}
 use Rattle.laws.specs.Space.{Good, head-good, dead-head, drop-good, FreeAnode}
 use Rattle.laws.specs.Owners.{hd-below, holder, owner}
-use Rattle.laws.specs.Resize.{Ran}
+use Rattle.laws.specs.Moves.{Moved}
 
 -- the list of a function's values below k, by its entries
 listed-at : (f : ℕ → ℕ) (k i : ℕ) → i < k → getD (listed f 0 k) i 0 ≡ f i
@@ -145,7 +146,7 @@ held-dropped A hd count block dead none x m =
     ]
 
 -- a state in which every head holds what it held
-same-owner : {ex : ℕ → Bool} {n last : ℕ} {s t : Anodes} {system hd sd hd′ sd′ : ℕ → ℕ} → Good limit ex n last s system hd sd → Good limit ex n last t system hd′ sd′ → (x : ℕ) →
+same-owner : {ex ex′ : ℕ → Bool} {n last : ℕ} {s t : Anodes} {system system′ hd sd hd′ sd′ : ℕ → ℕ} → Good limit ex n last s system hd sd → Good limit ex′ n last t system′ hd′ sd′ → (x : ℕ) →
     ((m : ℕ) → held limit hd′ (t .count) (t .block) m x ≡ held limit hd (s .count) (s .block) m x) → ownerHead t x ≡ ownerHead s x
 same-owner {s = s} {t = t} {hd = hd} {hd′ = hd′} g g′ x same =
     owner-sum g′ x
@@ -153,21 +154,17 @@ same-owner {s = s} {t = t} {hd = hd} {hd′ = hd′} g g′ x same =
     ∙ sym (owner-sum g x)
 
 module _ {ex : ℕ → Bool} {n last : ℕ} {s : Anodes} {system hd sd : ℕ → ℕ} (g : Good limit ex n last s system hd sd) where
-  -- the blocks of ys have gone from one head's chain to another's
-  module _ {from to h size : ℕ} {ys : List ℕ} {t : Anodes} (ran : Ran limit ex n last s system hd from to h size ys t) (apart : from ≢ to) where
-    arrived : (x : ℕ) → 0 < occurrences x ys → 0 < held limit (ran .hd′) (t .count) (t .block) to x
-    arrived x p = omega (arith, rw (oneAt-other from to apart, oneAt-same to to refl) at (ran .passed to x), p)
-
-    -- they are on the disk, and none is the system's
-    pub ran-data : (x : ℕ) → 0 < occurrences x ys → (x < n) × (system x ≡ 0)
-    ran-data x p = held-data (ran .good) to x (arrived x p)
+  -- the blocks of ys have gone from one head's chain to another's, and x is none of those that became the system's
+  module _ {slots : ℕ → ℕ} {from to h : ℕ} {ys gs : List ℕ} {t : Slotted} (w : Moved limit n last (slotted s slots) system hd from to h ys gs t) (apart : from ≢ to) (x : ℕ) (none : occurrences x gs ≡ 0) where
+    arrived : 0 < occurrences x ys → 0 < held limit (w .hd′) (t .anodes .count) (t .anodes .block) to x
+    arrived p = omega (arith, rw (oneAt-other from to apart, oneAt-same to to refl, none) at (w .passed to x), p)
 
     -- the owner of a block of ys is now `to`, and that of any other block is as before
-    pub ran-owner : (x : ℕ) → ownerHead t x ≡ cond (leb 1 (occurrences x ys)) to (ownerHead s x)
-    ran-owner x = elim (less? 0 (occurrences x ys)) [
-      | inl p ↦ rw (le-leb 1 (occurrences x ys) p) (ownerHead-is (ran .good) to x (arrived x p))
-      | inr p ↦ rw (lt-leb 1 (occurrences x ys) (omega arith)) (same-owner g (ran .good) x
-          (λ m. (let z : occurrences x ys ≡ 0 = omega arith in omega (arith, rw z at (ran .passed m x)))))
+    pub moved-owner : ownerHead (t .anodes) x ≡ cond (leb 1 (occurrences x ys)) to (ownerHead s x)
+    moved-owner = elim (less? 0 (occurrences x ys)) [
+      | inl p ↦ rw (le-leb 1 (occurrences x ys) p) (ownerHead-is (w .good) to x (arrived p))
+      | inr p ↦ rw (lt-leb 1 (occurrences x ys) (omega arith)) (same-owner g (w .good) x
+          (λ m. (let z : occurrences x ys ≡ 0 = omega arith in omega (arith, rw (z, none) at (w .passed m x)))))
     ]
 
   -- a fresh head with no block
@@ -215,7 +212,7 @@ setAll-front l r (y ∷ ys) v below =
 
 -- blocks 0 to 2 are the system's
 pub not-system : (img : List ℕ) (x : ℕ) → systemOwns img x ≡ 0 → 3 ≤ x
-unfolding systemOwns
+unfolding systemBy
 not-system img x z = elim (less? x 3) [ inl l ↦ absurd (omega (arith, rw (lt-ltb x 3 l) at z)) | inr l ↦ l ]
 
 module _ (img j : List ℕ) (same-size : diskSize j ≡ diskSize img) (same-system : systemOwns j ≡ systemOwns img) (s t : Anodes) where
@@ -224,21 +221,27 @@ module _ (img j : List ℕ) (same-size : diskSize j ≡ diskSize img) (same-syst
   unfolding blockTable blockEntry entryOr
   kept-table same = rw same-size (listed-same (blockEntry j t) (blockEntry img s) (diskSize img) (λ x l. rw (same-system, same x)))
 
-  ran-entry : {ex : ℕ → Bool} {last : ℕ} {hd sd : ℕ → ℕ} → Good limit ex (diskSize img) last s (systemOwns img) hd sd → {from to h size : ℕ} {ys : List ℕ} →
-      Ran limit ex (diskSize img) last s (systemOwns img) hd from to h size ys t → from ≢ to → (x : ℕ) → blockEntry j t x ≡ cond (leb 1 (occurrences x ys)) to (blockEntry img s x)
-  unfolding blockEntry entryOr
-  ran-entry g {from} {to} {ys = ys} ran apart x = rw (same-system, ran-owner g ran apart x) (elim (less? 0 (occurrences x ys)) [
-    | inl p ↦ rw (le-leb 1 (occurrences x ys) p) (let z = ran-data g ran apart x p .1 in rw (le-ltb x 3 (not-system img x z), z))
-    | inr p ↦ rw (lt-leb 1 (occurrences x ys) (omega arith))
-  ])
+  -- where blocks have gone from one head's chain to another's and none became the system's, the block table has that head at each of zs: those that have gone, and others that the head has
+  module _ {ex : ℕ → Bool} {last : ℕ} {hd sd : ℕ → ℕ} (g : Good limit ex (diskSize img) last s (systemOwns img) hd sd) {slots slots′ : ℕ → ℕ} {from to h : ℕ} {ys gs : List ℕ}
+      (w : Moved limit (diskSize img) last (slotted s slots) (systemOwns img) hd from to h ys gs (slotted t slots′)) (apart : from ≢ to) (none : (x : ℕ) → occurrences x gs ≡ 0)
+      (zs : List ℕ) (with-all : (x : ℕ) → 0 < occurrences x ys → 0 < occurrences x zs) (its : (x : ℕ) → 0 < occurrences x zs → 0 < held limit (w .hd′) (t .count) (t .block) to x) where
+    -- they are on the disk, and none is the system's
+    pub its-data : (x : ℕ) → 0 < occurrences x zs → (x < diskSize img) × (systemOwns img x ≡ 0)
+    its-data x p = let d = held-data (w .good) to x (its x p) in (d .0, omega (arith, d .1))
 
-  -- where the blocks of ys have gone from one head's chain to another's, the block table has that head at each of them
-  pub ran-table : {ex : ℕ → Bool} {last : ℕ} {hd sd : ℕ → ℕ} → Good limit ex (diskSize img) last s (systemOwns img) hd sd → {from to h size : ℕ} {ys : List ℕ} →
-      Ran limit ex (diskSize img) last s (systemOwns img) hd from to h size ys t → from ≢ to → blockTable j t ≡ setAll (blockTable img s) ys to
-  unfolding blockTable
-  ran-table g {from} {to} {ys = ys} ran apart =
-      let n = diskSize img in
-      let old = listed (blockEntry img s) 0 n in
-      let long : length old ≡ n = length-listed (blockEntry img s) 0 n in
-      rw same-size (listed-is (blockEntry j t) n (setAll old ys to) (length-setAll old ys to ∙ long)
-      (λ x l. ran-entry g ran apart x ∙ sym (getD-setAll old ys to x (rw long l) ∙ ap (cond (leb 1 (occurrences x ys)) to) (listed-at (blockEntry img s) n x l))))
+    moved-entry : (x : ℕ) → blockEntry j t x ≡ cond (leb 1 (occurrences x zs)) to (blockEntry img s x)
+    unfolding blockEntry entryOr
+    moved-entry x = elim (less? 0 (occurrences x zs)) [
+      | inl p ↦ (let z = its-data x p .1 in rw (same-system, le-leb 1 (occurrences x zs) p, le-ltb x 3 (not-system img x z), z) (ownerHead-is (w .good) to x (its x p)))
+      | inr p ↦ (let off : occurrences x ys ≡ 0 = not-above (occurrences x ys) (λ q. omega (arith, p, with-all x q)) in
+          rw (same-system, lt-leb 1 (occurrences x zs) (omega arith), moved-owner g w apart x (none x), lt-leb 1 (occurrences x ys) (omega arith)))
+    ]
+
+    pub moved-table : blockTable j t ≡ setAll (blockTable img s) zs to
+    unfolding blockTable
+    moved-table =
+        let n = diskSize img in
+        let old = listed (blockEntry img s) 0 n in
+        let long : length old ≡ n = length-listed (blockEntry img s) 0 n in
+        rw same-size (listed-is (blockEntry j t) n (setAll old zs to) (length-setAll old zs to ∙ long)
+        (λ x l. moved-entry x ∙ sym (getD-setAll old zs to x (rw long l) ∙ ap (cond (leb 1 (occurrences x zs)) to) (listed-at (blockEntry img s) n x l))))

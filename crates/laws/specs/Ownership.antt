@@ -67,9 +67,9 @@ covers-sum (suc c) b n l =
       sum-oneAt (b + c) n (omega arith),
     )
 
--- the system's blocks, with the block y in hand
-abbrev pub hand : (ℕ → ℕ) → ℕ → ℕ → ℕ
-hand system y x = system x + oneAt y x
+-- the system's blocks, with the run of c blocks from b in hand
+abbrev pub handed : (ℕ → ℕ) → ℕ → ℕ → ℕ → ℕ
+handed system c b x = system x + oneIfCovers c b x
 
 module _ (A : ℕ) where
   -- what refusals 10 (two owners), 11 (none) and the first half of 7 compute
@@ -145,3 +145,12 @@ module _ (A : ℕ) where
   pub disjoint : (count block system : ℕ → ℕ) (n : ℕ) → EachOnce count block system n → (a b y : ℕ) → a < A → b < A → a ≢ b → y < n → system y + oneIfCovers (count a) (block a) y + oneIfCovers (count b) (block b) y ≤ 1
   unfolding owners
   disjoint count block system n e a b y la lb ne l = omega (arith, e .not-two y l, sum-members (λ i. oneIfCovers (count i) (block i) y) a b A la lb ne)
+
+-- the system's blocks may be written in another way
+pub own-system : (A : ℕ) (count block system system′ : ℕ → ℕ) (n : ℕ) → ((x : ℕ) → system′ x ≡ system x) → EachOnce A count block system n → EachOnce A count block system′ n
+unfolding owners
+own-system A count block system system′ n same e = record {
+  not-two = λ x l. omega (arith, e .not-two x l, same x);
+  not-none = λ x l. omega (arith, e .not-none x l, same x);
+  fits = e .fits;
+}

@@ -1,150 +1,174 @@
--- When steps are refused, and with which number: a take with 27 or 28, a give of a block that is there only with 28.
+-- When steps are refused, and with which number: a take with 27 or 28, a run that is released and a give of a block that is there only with 28.
 use Prim.Native.Nat.{ℕ, _+_, _-_, _*_, _≤_, _<_}
-use mathlib.Core.Path.{_≡_, refl, sym, _∙_}
+use mathlib.Core.Path.{_≡_, refl, sym, ap, _∙_}
 use mathlib.Core.Logic.{_≢_, _⊎_, inl, inr, _↔_}
 use mathlib.Core.Bool.{Bool, true≢false}
-use mathlib.Core.List.{[], _∷_}
+use mathlib.Core.List.{List, []}
+use mathlib.Core.Option.{none, some}
 use native.Mathlib.Omega.{arith}
-use Rattle.rules.specs.Counting.{oneAt, lastOf}
-use Rattle.rules.specs.Anodes.{Anodes}
-use Rattle.rules.specs.Chains.{chainOf, side}
-use Rattle.rules.specs.Space.{refused, rewritten, insertedAfter, withoutFirst, withoutLast, Found, nowhere, found, firstExtent, lastExtent, freeExtent, sideOf, lowestFree, append, put, takeFrom, takeBlock, join, release, giveFrom, giveBack, takeMany, giveMany, lastBlock}
+use lib.ListN.{length}
+use Rattle.rules.specs.Counting.{oneAt}
+use Rattle.rules.specs.Anodes.{Anodes, existsBy}
+use Rattle.rules.specs.Chains.{chainOf, run, side}
+use Rattle.rules.specs.Plans.{Slotted, slotted, Plan, refused, planned, Growth, afresh}
+use Rattle.rules.specs.Space.{rewritten, insertedAfter, withoutFirst, withoutTail, tailStart, Found, nowhere, found, firstExtent, lastExtent, freeExtent, chainEnd, sideEnd, lowestFree, append, needAnode, put, join, withSpare, putTo, takeFrom, takeBlock, takeMany, release, giveFrom, giveBack, giveMany}
 use Rattle.laws.specs.Tests.{not-above}
+use Rattle.laws.specs.Chains.{length-run}
 use Rattle.laws.specs.Sums.{oneAt-cases, oneAt-same, oneAt-other, sum-zero}
 use Rattle.laws.specs.LinkChanges.{first, second, third}
 use Rattle.laws.specs.Heads.{Head, on-own}
 use Rattle.laws.specs.Blocks.{blocks}
 use Rattle.laws.specs.Cut.{cut-linked}
-use Rattle.laws.specs.Space.{Good}
+use Rattle.laws.specs.Space.{Good, FreeAnode}
 use Rattle.laws.specs.Sides.{SideHead, on-side}
 use Rattle.laws.specs.Owners.{full-used, full-0, blocks-chain}
 use Rattle.laws.specs.Searches.{firstExtent-none, lastExtent-none}
 use Rattle.laws.specs.FreeExtent.{extent-found, extent-nowhere, take-found, take-cases}
-use Rattle.laws.specs.Plans.{refused-same, planned≢refused, repeated-refused}
-use Rattle.laws.specs.Arriving.{NeedsAnode, JoinsNone, NoneFree, fills, ends, starts, behind, append-cases, put-cases, join-cases}
-use Rattle.laws.specs.Take.{withoutFirst-out}
-use Rattle.laws.specs.Give.{give-good}
+use Rattle.laws.specs.Plans.{refused-same, planned≢refused, repeated-refused, afresh-refused, afresh-stuck}
+use Rattle.laws.specs.Moves.{Grows, withThese}
+use Rattle.laws.specs.Arriving.{NeedsAnode, JoinsNone, NoneFree, fills, ends, starts, behind, lowest-cases, append-cases, need-cases, put-cases, join-cases}
+use Rattle.laws.specs.Take.{StartOwned, withoutFirst-out}
+use Rattle.laws.specs.Give.{give-steps, released-moved}
 
--- ---- with which number
+-- ---- at fixed slots
 
-module _ (A : ℕ) (ex : ℕ → Bool) where
-  append-refused : (s : Anodes) (z y k : ℕ) → append A ex s z y ≡ refused k → (k ≡ 28) × NoneFree A ex s
-  append-refused s z y k e = elim (append-cases A ex s z y) [
-    | inl c ↦ absurd (planned≢refused (insertedAfter s z (lowestFree A ex s) 1 y) (y ∷ []) k (sym (c .2) ∙ e))
-    | inr c ↦ (refused-same k 28 (sym e ∙ c .0), c .1)
+module _ (A : ℕ) (ex : ℕ → Bool) (s : Anodes) where
+  -- an append is refused with 28, exactly if no anode is free
+  append-28 : (z c b k : ℕ) → (append A ex s z c b ≡ refused k) ↔ ((k ≡ 28) × NoneFree A ex s)
+  append-28 z c b k = elim (append-cases A ex s z c b) [
+    | inl q ↦ (λ e. absurd (planned≢refused (insertedAfter s z (lowestFree A ex s) c b) (run b c) k (sym (q .2) ∙ e)), λ n. absurd (n .1 (lowestFree A ex s) (q .0) (q .1)))
+    | inr q ↦ (λ e. (refused-same k 28 (sym e ∙ q .0), q .1), λ n. q .0 ∙ rw (n .0))
   ]
+
+  -- and so a need of an anode
+  need-28 : (k : ℕ) → (needAnode A ex s ≡ refused k) ↔ ((k ≡ 28) × Unit {0} × NoneFree A ex s)
+  need-28 k = elim (need-cases A ex s) [
+    | inl q ↦ (λ e. absurd (planned≢refused s [] k (sym (q .2) ∙ e)), λ n. absurd (n .2 (lowestFree A ex s) (q .0) (q .1)))
+    | inr q ↦ (λ e. (refused-same k 28 (sym e ∙ q .0), tt, q .1), λ n. q .0 ∙ rw (n .0))
+  ]
+
+  -- a put, if the taker's last anode cannot have the block besides
+  put-28 : (dir : Bool) (z y k : ℕ) → (put A dir z y ex s ≡ refused k) ↔ ((k ≡ 28) × NeedsAnode dir s z y × NoneFree A ex s)
+  put-28 dir z y k = elim (put-cases A ex dir s z y) [
+    | first c ↦ (λ e. absurd (planned≢refused (rewritten s z 1 y) (run y 1) k (sym (c .1) ∙ e)), λ n. absurd (n .1 .0 (c .0)))
+    | second c ↦ (
+      λ e. absurd (planned≢refused (rewritten s z (s .count z + 1) (s .block z)) (run y 1) k (sym (c .3) ∙ e)),
+      λ n. absurd (elim (n .1 .1) [ inl i ↦ true≢false (sym i ∙ c .1) | inr i ↦ i (c .2) ]),
+    )
+    | third c ↦ (let q = append-28 z 1 y k in (λ e. (let r = q .0 (sym (c .1) ∙ e) in (r .0, c .0, r .1)), λ n. c .1 ∙ q .1 (n .0, n .2)))
+  ]
+
+  -- a join, if the run can join the last anode of its side in no way
+  join-28 : (z c b k : ℕ) → (join A z c b ex s ≡ refused k) ↔ ((k ≡ 28) × JoinsNone s z c b × NoneFree A ex s)
+  unfolding join
+  join-28 z c b k = elim (join-cases s z c b (append A ex s z c b)) [
+    | fills q ↦ (λ e. absurd (planned≢refused (rewritten s z c b) (run b c) k (sym (q .2) ∙ e)), λ n. absurd (elim (n .1) [ inl i ↦ q .0 i | inr i ↦ i .0 (q .1) ]))
+    | ends q ↦ (λ e. absurd (planned≢refused (rewritten s z (s .count z + c) (s .block z)) (run b c) k (sym (q .3) ∙ e)), λ n. absurd (elim (n .1) [ inl i ↦ q .0 i | inr i ↦ i .1 (q .2) ]))
+    | starts q ↦ (λ e. absurd (planned≢refused (rewritten s z (s .count z + c) b) (run b c) k (sym (q .3) ∙ e)), λ n. absurd (elim (n .1) [ inl i ↦ q .0 i | inr i ↦ i .2 (q .2) ]))
+    | behind q ↦ (let r = append-28 z c b k in (λ e. (let i = r .0 (sym (q .1) ∙ e) in (i .0, q .0, i .1)), λ n. q .1 ∙ r .1 (n .0, n .2)))
+  ]
+
+-- ---- with growth
+
+-- where slots grow, an anode is free
+abbrev pub Spares : ℕ → Growth → Slotted → Type 0
+Spares A growth s = (r : Slotted) → growth s ≡ some r → (a : ℕ) × (a < A) × FreeAnode (existsBy (r .slots)) (r .anodes) a
+
+-- no anode from 6 up is free, and none can be had
+abbrev pub NoAnode : ℕ → Growth → Slotted → Type 0
+NoAnode A growth s = NoneFree A (existsBy (s .slots)) (s .anodes) × (growth s ≡ none)
+
+module _ (A : ℕ) (growth : Growth) (step : (ℕ → Bool) → Anodes → Plan Anodes) (Needs : Anodes → Type 0)
+    (exactly : (ex : ℕ → Bool) (t : Anodes) (k : ℕ) → (step ex t ≡ refused k) ↔ ((k ≡ 28) × Needs t × NoneFree A ex t)) (s : Slotted) where
+  -- what is made afresh is refused with 28
+  afresh-28-only : (k : ℕ) → afresh growth step s ≡ refused k → k ≡ 28
+  afresh-28-only k e = elim (afresh-refused growth step s k e) [
+    | inl p ↦ exactly (existsBy (s .slots)) (s .anodes) k .0 (p .0) .0
+    | inr (r, q, f) ↦ exactly (existsBy (r .slots)) (r .anodes) k .0 f .0
+  ]
+
+  -- exactly if it needs an anode and none can be had
+  afresh-28 : Spares A growth s → (k : ℕ) → (afresh growth step s ≡ refused k) ↔ ((k ≡ 28) × Needs (s .anodes) × NoAnode A growth s)
+  afresh-28 spares k = (
+    λ e. elim (afresh-refused growth step s k e) [
+      | inl p ↦ (let q = exactly (existsBy (s .slots)) (s .anodes) k .0 (p .0) in (q .0, q .1, (q .2, p .1)))
+      | inr (r, q, f) ↦ (let (a, l, u) = spares r q in absurd (exactly (existsBy (r .slots)) (r .anodes) k .0 f .2 a l u))
+    ],
+    λ n. afresh-stuck growth step s k (exactly (existsBy (s .slots)) (s .anodes) k .1 (n .0, n .1, n .2 .0)) (n .2 .1),
+  )
+
+module _ (A : ℕ) (growth : Growth) where
+  -- a state with an anode to be had: 28 exactly if none can be had
+  pub spare-28-exactly : (s : Slotted) → Spares A growth s → (k : ℕ) → (withSpare A growth s ≡ refused k) ↔ ((k ≡ 28) × NoAnode A growth s)
+  unfolding withSpare
+  spare-28-exactly s spares k = let e = afresh-28 A growth (needAnode A) (λ t. Unit {0}) (λ ex t k. need-28 A ex t k) s spares k in (λ q. (e .0 q .0, e .0 q .2), λ n. e .1 (n .0, tt, n .1))
+
+  pub spare-refused : (s : Slotted) (k : ℕ) → withSpare A growth s ≡ refused k → k ≡ 28
+  unfolding withSpare
+  spare-refused s = afresh-28-only A growth (needAnode A) (λ t. Unit {0}) (λ ex t k. need-28 A ex t k) s
 
   -- ---- take
 
-  put-refused : (dir : Bool) (s : Anodes) (z y k : ℕ) → put A ex dir s z y ≡ refused k → (k ≡ 28) × NeedsAnode dir s z y × NoneFree A ex s
-  put-refused dir s z y k e = elim (put-cases A ex dir s z y) [
-    | first c ↦ absurd (planned≢refused (rewritten s z 1 y) (y ∷ []) k (sym (c .1) ∙ e))
-    | second c ↦ absurd (planned≢refused (rewritten s z (s .count z + 1) (s .block z)) (y ∷ []) k (sym (c .3) ∙ e))
-    | third c ↦ (let r = append-refused s z y k (sym (c .1) ∙ e) in (r .0, c .0, r .1))
-  ]
-
   -- x after p has a free block: 28 alone
-  found-refused : (dir : Bool) (s : Anodes) (h p x k : ℕ) → takeFrom A ex dir s h p x ≡ refused k → k ≡ 28
-  unfolding takeFrom
-  found-refused dir s h p x k e = put-refused dir (withoutFirst s p x) (lastOf h (chainOf (withoutFirst s p x .next) A h)) (s .block x) k e .0
+  found-refused : (dir : Bool) (h p x k : ℕ) (s : Slotted) → takeFrom A growth dir h p x s ≡ refused k → k ≡ 28
+  unfolding takeFrom putTo
+  found-refused dir h p x k s =
+      afresh-28-only A growth (λ ex t. put A dir (chainEnd A t h) (s .anodes .block x) ex t) (λ t. NeedsAnode dir t (chainEnd A t h) (s .anodes .block x)) (λ ex t k. put-28 A ex t dir (chainEnd A t h) (s .anodes .block x) k)
+      (slotted (withoutFirst (s .anodes) p x) (s .slots)) k
 
-  pub take-refused : (dir : Bool) (s : Anodes) (h k : ℕ) → takeBlock A ex dir s h ≡ refused k → (k ≡ 27) ⊎ (k ≡ 28)
-  take-refused dir s h k e = elim (take-cases A dir s ex h) [
+  pub take-refused : (dir : Bool) (h k : ℕ) (s : Slotted) → takeBlock A growth dir h s ≡ refused k → (k ≡ 27) ⊎ (k ≡ 28)
+  take-refused dir h k s e = elim (take-cases A growth dir h s) [
     | inl c ↦ inl (refused-same k 27 (sym e ∙ c .1))
-    | inr (p, x, q, i) ↦ inr (found-refused dir s h p x k (sym i ∙ e))
+    | inr (p, x, q, i) ↦ inr (found-refused dir h p x k s (sym i ∙ e))
   ]
 
-  pub takes-refused : (dir : Bool) (i : ℕ) (s : Anodes) (h k : ℕ) → takeMany A ex dir i s h ≡ refused k → (k ≡ 27) ⊎ (k ≡ 28)
+  pub takes-refused : (dir : Bool) (i h k : ℕ) (s : Slotted) → takeMany A growth dir i h s ≡ refused k → (k ≡ 27) ⊎ (k ≡ 28)
   unfolding takeMany
-  takes-refused dir i s h k e = let (j, r, at, q) = repeated-refused (λ s. takeBlock A ex dir s h) (λ i s. Unit {0}) (λ i s t ys at q. tt) i s k tt e in take-refused dir r h k q
+  takes-refused dir i h k s e = let (j, r, at, q) = repeated-refused (takeBlock A growth dir h) (λ i s. Unit {0}) (λ i s t ys at q. tt) i s k tt e in take-refused dir h k r q
 
-  -- ---- give
+  -- with a free block there, x after p the first extent that has one, a take is refused with 28 exactly if an anode is needed and none can be had, the one just emptied counted
+  pub take-28-exactly : (dir : Bool) (h p x : ℕ) (s : Slotted) → Spares A growth (slotted (withoutFirst (s .anodes) p x) (s .slots)) → freeExtent A dir (s .anodes) ≡ found p x →
+      (takeBlock A growth dir h s ≡ refused 28)
+      ↔ (NeedsAnode dir (withoutFirst (s .anodes) p x) (chainEnd A (withoutFirst (s .anodes) p x) h) (s .anodes .block x) × NoAnode A growth (slotted (withoutFirst (s .anodes) p x) (s .slots)))
+  unfolding takeFrom putTo
+  take-28-exactly dir h p x s spares e =
+      let y = s .anodes .block x in
+      let b = afresh-28 A growth (λ ex t. put A dir (chainEnd A t h) y ex t) (λ t. NeedsAnode dir t (chainEnd A t h) y) (λ ex t k. put-28 A ex t dir (chainEnd A t h) y k) (slotted (withoutFirst (s .anodes) p x) (s .slots)) spares 28 in
+      (λ q. (let r = b .0 (sym (take-found A growth dir h s p x e) ∙ q) in (r .1, r .2)), λ n. take-found A growth dir h s p x e ∙ b .1 (refl, n .0, n .1))
 
-  join-refused : (s : Anodes) (z y k : ℕ) → join A ex s z y ≡ refused k → (k ≡ 28) × JoinsNone s z y × NoneFree A ex s
-  join-refused s z y k e = elim (join-cases A ex s z y) [
-    | fills c ↦ absurd (planned≢refused (rewritten s z 1 y) (y ∷ []) k (sym (c .2) ∙ e))
-    | ends c ↦ absurd (planned≢refused (rewritten s z (s .count z + 1) (s .block z)) (y ∷ []) k (sym (c .3) ∙ e))
-    | starts c ↦ absurd (planned≢refused (rewritten s z (s .count z + 1) y) (y ∷ []) k (sym (c .3) ∙ e))
-    | behind c ↦ (let r = append-refused s z y k (sym (c .1) ∙ e) in (r .0, c .0, r .1))
-  ]
+  -- ---- a run that is released
 
-module _ {A : ℕ} {ex : ℕ → Bool} {n last : ℕ} where
-  -- a head with a block has a last anode with one
-  last-block : {s : Anodes} {system hd sd : ℕ → ℕ} → Good A ex n last s system hd sd → (h : ℕ) → Head (s .next) (s .block) h → 0 < blocks A hd (s .count) h →
-      (p : ℕ) × (x : ℕ) × (lastExtent (s .count) 0 (chainOf (s .next) A h) ≡ found p x)
-  last-block {s} {hd = hd} g h d some = go (lastExtent (s .count) 0 (chainOf (s .next) A h)) refl
-    where
-      go : (c : Found) → lastExtent (s .count) 0 (chainOf (s .next) A h) ≡ c → (p : ℕ) × (x : ℕ) × (lastExtent (s .count) 0 (chainOf (s .next) A h) ≡ found p x)
-      go nowhere e = absurd (omega (arith, some, blocks-chain g h d, lastExtent-none (s .count) 0 (chainOf (s .next) A h) e))
-      go (found p x) e = (p, x, e)
+  module _ (last c b : ℕ) (s : Slotted) where
+    pub release-refused : (k : ℕ) → release A growth last c b s ≡ refused k → k ≡ 28
+    unfolding release
+    release-refused = afresh-28-only A growth (λ ex t. join A (sideEnd A last t b) c b ex t) (λ t. JoinsNone t (sideEnd A last t b) c b) (λ ex t k. join-28 A ex t (sideEnd A last t b) c b k) s
 
-  -- so a give is refused with 28 alone
-  give-refused : {s : Anodes} {system hd sd : ℕ → ℕ} → Good A ex n last s system hd sd → (h : ℕ) → Head (s .next) (s .block) h → 0 < blocks A hd (s .count) h →
-      (k : ℕ) → giveBack A ex last s h ≡ refused k → k ≡ 28
-  unfolding giveBack giveFrom release
-  give-refused {s} g h d some k e =
-      let f = last-block g h d some in
-      let r = withoutLast s h (f .0) (f .1) in
-      let y = lastBlock s (f .1) in
-      join-refused A ex r (lastOf (sideOf last y) (side A r (sideOf last y))) y k (rw (f .2, giveBack) at e) .0
+    -- exactly if it can join the last anode of its side in no way and none can be had
+    pub release-28-exactly : Spares A growth s → (k : ℕ) → (release A growth last c b s ≡ refused k) ↔ ((k ≡ 28) × JoinsNone (s .anodes) (sideEnd A last (s .anodes) b) c b × NoAnode A growth s)
+    unfolding release
+    release-28-exactly spares = afresh-28 A growth (λ ex t. join A (sideEnd A last t b) c b ex t) (λ t. JoinsNone t (sideEnd A last t b) c b) (λ ex t k. join-28 A ex t (sideEnd A last t b) c b k) s spares
 
-  -- as many as it has
-  pub gives-refused : (i h : ℕ) → h ≢ 1 → (k : ℕ) (s : Anodes) (system hd sd : ℕ → ℕ) → Good A ex n last s system hd sd → Head (s .next) (s .block) h → i ≤ blocks A hd (s .count) h →
-      giveMany A ex last i s h ≡ refused k → k ≡ 28
-  unfolding giveMany
-  gives-refused i h h1 k s system hd sd g d some e =
-      let (j, r, (hd, sd, g, d, some), q) = repeated-refused (λ s. giveBack A ex last s h)
-      (λ i s. (hd : ℕ → ℕ) × (sd : ℕ → ℕ) × Good A ex n last s system hd sd × Head (s .next) (s .block) h × (i ≤ blocks A hd (s .count) h))
-      (λ i s t ys (hd, sd, g, d, some) q. let w = give-good g h d h1 t ys q in
-      (w .hd′, w .sd′, w .good, w .shift .stays h d, omega (arith, some, w .moved h, oneAt-same h h refl, oneAt-other 1 h (λ j. h1 (sym j)))))
-      i s k (hd, sd, g, d, some) e in
-      give-refused g h d (omega arith) k q
+  -- a give of the last block of x, after p the last extent that has one, exactly if it can join nothing and none can be had, the anode just emptied counted
+  pub give-28-exactly : (last h p x : ℕ) (s : Slotted) → Spares A growth (slotted (withoutTail (s .anodes) h p x 1) (s .slots)) → lastExtent (s .anodes .count) 0 (chainOf (s .anodes .next) A h) ≡ found p x →
+      (giveBack A growth last h s ≡ refused 28)
+      ↔ (JoinsNone (withoutTail (s .anodes) h p x 1) (sideEnd A last (withoutTail (s .anodes) h p x 1) (tailStart (s .anodes) x 1)) 1 (tailStart (s .anodes) x 1)
+      × NoAnode A growth (slotted (withoutTail (s .anodes) h p x 1) (s .slots)))
+  unfolding giveBack giveFrom
+  give-28-exactly last h p x s spares e =
+      let r = release-28-exactly last 1 (tailStart (s .anodes) x 1) (slotted (withoutTail (s .anodes) h p x 1) (s .slots)) spares 28 in
+      rw (e, giveBack) (λ q. (let i = r .0 q in (i .1, i .2)), λ n. r .1 (refl, n .0, n .1))
 
--- ---- exactly when
-
-module _ (A : ℕ) (ex : ℕ → Bool) (s : Anodes) (z y : ℕ) where
-  none-append : NoneFree A ex s → append A ex s z y ≡ refused 28
-  none-append none = elim (append-cases A ex s z y) [ inl c ↦ absurd (none (lowestFree A ex s) (c .0) (c .1)) | inr c ↦ c .0 ]
-
-  put-28 : (dir : Bool) → (put A ex dir s z y ≡ refused 28) ↔ (NeedsAnode dir s z y × NoneFree A ex s)
-  put-28 dir = (
-    λ e. (let r = put-refused A ex dir s z y 28 e in (r .1, r .2)),
-    λ n. elim (put-cases A ex dir s z y) [
-      | first c ↦ absurd (n .0 .0 (c .0))
-      | second c ↦ absurd (elim (n .0 .1) [ inl i ↦ true≢false (sym i ∙ c .1) | inr i ↦ i (c .2) ])
-      | third c ↦ c .1 ∙ none-append (n .1)
-    ],
-  )
-
-  join-28 : (join A ex s z y ≡ refused 28) ↔ (JoinsNone s z y × NoneFree A ex s)
-  join-28 = (
-    λ e. (let r = join-refused A ex s z y 28 e in (r .1, r .2)),
-    λ n. elim (join-cases A ex s z y) [
-      | fills c ↦ absurd (elim (n .0) [ inl i ↦ c .0 i | inr i ↦ i .0 (c .1) ])
-      | ends c ↦ absurd (elim (n .0) [ inl i ↦ c .0 i | inr i ↦ i .1 (c .2) ])
-      | starts c ↦ absurd (elim (n .0) [ inl i ↦ c .0 i | inr i ↦ i .2 (c .2) ])
-      | behind c ↦ c .1 ∙ none-append (n .1)
-    ],
-  )
-
-module _ (A : ℕ) (ex : ℕ → Bool) (s : Anodes) (h p x : ℕ) where
-  -- with a free block there, x after p the first extent that has one, a take is refused with 28 exactly if an anode is needed and none is free, the one just emptied counted
-  pub take-28-exactly : (dir : Bool) → freeExtent A dir s ≡ found p x →
-      (takeBlock A ex dir s h ≡ refused 28)
-      ↔ (NeedsAnode dir (withoutFirst s p x) (lastOf h (chainOf (withoutFirst s p x .next) A h)) (s .block x) × NoneFree A ex (withoutFirst s p x))
-  unfolding takeFrom
-  take-28-exactly dir e =
-      let b = put-28 A ex (withoutFirst s p x) (lastOf h (chainOf (withoutFirst s p x .next) A h)) (s .block x) dir in
-      (λ q. b .0 (sym (take-found A dir s ex h p x e) ∙ q), λ n. take-found A dir s ex h p x e ∙ b .1 n)
-
-  -- a give of the last block y of x, after p the last extent that has one, exactly if y can join the last anode of its side in no way and none is free, the one just emptied counted
-  pub give-28-exactly : (last y z : ℕ) → lastExtent (s .count) 0 (chainOf (s .next) A h) ≡ found p x → y ≡ lastBlock s x →
-      z ≡ lastOf (sideOf last y) (side A (withoutLast s h p x) (sideOf last y)) →
-      (giveBack A ex last s h ≡ refused 28) ↔ (JoinsNone (withoutLast s h p x) z y × NoneFree A ex (withoutLast s h p x))
-  unfolding giveBack giveFrom release
-  give-28-exactly last y z e f i = rw (e, giveBack, ← f, ← i) (join-28 A ex (withoutLast s h p x) z y)
+-- ---- a give
 
 module _ {A : ℕ} {ex : ℕ → Bool} {n last : ℕ} {s : Anodes} {system hd sd : ℕ → ℕ} (g : Good A ex n last s system hd sd) where
+  -- a head with a block has a last anode with one
+  pub last-block : (h : ℕ) → Head (s .next) (s .block) h → 0 < blocks A hd (s .count) h → (p : ℕ) × (x : ℕ) × (lastExtent (s .count) 0 (chainOf (s .next) A h) ≡ found p x)
+  last-block h d full = go (lastExtent (s .count) 0 (chainOf (s .next) A h)) refl
+    where
+      go : (c : Found) → lastExtent (s .count) 0 (chainOf (s .next) A h) ≡ c → (p : ℕ) × (x : ℕ) × (lastExtent (s .count) 0 (chainOf (s .next) A h) ≡ found p x)
+      go nowhere e = absurd (omega (arith, full, blocks-chain g h d, lastExtent-none (s .count) 0 (chainOf (s .next) A h) e))
+      go (found p x) e = (p, x, e)
+
   -- no anode of either side has a block: the free chain has none
   no-block : ((m : ℕ) → SideHead m → firstExtent (s .count) 0 (side A s m) ≡ nowhere) → blocks A hd (s .count) 1 ≡ 0
   unfolding blocks side
@@ -160,11 +184,39 @@ module _ {A : ℕ} {ex : ℕ → Bool} {n last : ℕ} {s : Anodes} {system hd sd
           omega (arith, p, firstExtent-none (s .count) 0 (side A s (sd a)) (e (sd a) (on-side g a a0 u q)) a (omega (arith, on-own (cut-linked (g .linked)) (g .sides) a a0 u))))
 
   -- a take is refused with 27 exactly if no free block is left
-  pub take-27-exactly : (dir : Bool) (h : ℕ) → (takeBlock A ex dir s h ≡ refused 27) ↔ (blocks A hd (s .count) 1 ≡ 0)
-  take-27-exactly dir h = elim (take-cases A dir s ex h) [
+  pub take-27-exactly : (growth : Growth) (slots : ℕ → ℕ) (dir : Bool) (h : ℕ) → (takeBlock A growth dir h (slotted s slots) ≡ refused 27) ↔ (blocks A hd (s .count) 1 ≡ 0)
+  take-27-exactly growth slots dir h = elim (take-cases A growth dir h (slotted s slots)) [
     | inl c ↦ (λ e. no-block (extent-nowhere A dir s (c .0)), λ z. c .1)
     | inr (p, x, q, i) ↦ (
-      λ e. absurd (omega (arith, found-refused A ex dir s h p x 27 (sym i ∙ e))),
+      λ e. absurd (omega (arith, found-refused A growth dir h p x 27 (slotted s slots) (sym i ∙ e))),
       λ z. (let (m, o, f) = extent-found A dir s g p x q in absurd (omega (arith, z, withoutFirst-out g m o p x f .fewer 1, oneAt-same 1 1 refl))),
     )
   ]
+
+module _ {A n last : ℕ} {growth : Growth} (grows : Grows A n last growth) where
+  -- a give of a block that is there is refused with 28 alone
+  give-refused : (s : Slotted) {ex : ℕ → Bool} {system hd sd : ℕ → ℕ} → Good A ex n last (s .anodes) system hd sd → (h : ℕ) → Head (s .anodes .next) (s .anodes .block) h → 0 < blocks A hd (s .anodes .count) h →
+      (k : ℕ) → giveBack A growth last h s ≡ refused k → k ≡ 28
+  unfolding giveBack giveFrom
+  give-refused s g h d full k e =
+      let f = last-block g h d full in
+      release-refused A growth last 1 (tailStart (s .anodes) (f .1) 1) (slotted (withoutTail (s .anodes) h (f .0) (f .1) 1) (s .slots)) k (rw (f .2, giveBack) at e)
+
+  -- as many as it has
+  pub gives-refused : (i h : ℕ) → h ≢ 1 → (k : ℕ) (s : Slotted) (system hd sd : ℕ → ℕ) → StartOwned system → Good A (existsBy (s .slots)) n last (s .anodes) system hd sd → Head (s .anodes .next) (s .anodes .block) h → i ≤ blocks A hd (s .anodes .count) h →
+      giveMany A growth last i h s ≡ refused k → k ≡ 28
+  unfolding giveMany
+  gives-refused i h h1 k s system hd sd start g d full e =
+      let (j, r, (system, hd, sd, start, g, d, full), q) = repeated-refused (giveBack A growth last h)
+      (λ i s. (system : ℕ → ℕ) × (hd : ℕ → ℕ) × (sd : ℕ → ℕ) × StartOwned system × Good A (existsBy (s .slots)) n last (s .anodes) system hd sd × Head (s .anodes .next) (s .anodes .block) h × (i ≤ blocks A hd (s .anodes .count) h))
+      (λ i s t ys (system, hd, sd, start, g, d, full) q. let k = give-steps grows start g h d h1 t ys q in let w = released-moved (k .out) (k .back) in (
+        withThese system (k .back .gs),
+        w .hd′,
+        w .sd′,
+        λ x l. omega (arith, start x l),
+        w .good,
+        w .shift .stays h d,
+        omega (arith, full, rw (oneAt-same h h refl, oneAt-other 1 h (λ j. h1 (sym j))) at (w .moved h), ap length (k .back .handed-are) ∙ length-run (tailStart (s .anodes) (k .x) 1) 1),
+      ))
+      i s k (system, hd, sd, start, g, d, full) e in
+      give-refused r g h d (omega arith) k q

@@ -6,9 +6,10 @@ use mathlib.Core.Bool.{Bool, true, false}
 use mathlib.Core.List.{List, [], _∷_, _++_, map-id, append-eq-nil-iff}
 use native.Mathlib.Omega.{arith}
 use Rattle.rules.specs.Counting.{oneAt, sumList, occurrences, gather}
-use Rattle.rules.specs.Anodes.{limit, Anodes}
+use Rattle.rules.specs.Anodes.{limit, Anodes, existsBy}
 use Rattle.rules.specs.Chains.{chainOf}
 use Rattle.rules.specs.Walk.{Dir, dirMade, root, Entered, Item, itemOf, itemsAt, itemsBy}
+use Rattle.rules.specs.Plans.{Slotted, slotted}
 use Rattle.rules.specs.Space.{onChain, dropped}
 use Rattle.laws.specs.Tests.{same?, less?}
 use Rattle.laws.specs.Sums.{oneAt-same, oneAt-other, sum-none}
@@ -26,7 +27,7 @@ use Rattle.laws.specs.TreeChanges.{tree-unnamed, Gain, sum-named, dir-th
 use Rattle.laws.specs.Entries.{broken-wrong, sized-still, item-anode, item-dir, items-sum, itemsAt-fine, anodes-fine, items-alike}
 use Rattle.laws.specs.Whole.{DirHead, Whole, fine-still, dir-heads, named-heads}
 use Rattle.laws.specs.Make.{SameMarks, EntryMore, entry-gain}
-use Rattle.laws.specs.Resize.{Ran}
+use Rattle.laws.specs.Moves.{withThese, Moved}
 
 -- a directory with nothing wrong and no entry has no item
 no-items : (entries : ℕ → List Entered) (marked : Dir → ℕ → Bool) (s : Anodes) (d : Dir) → sumList wrong (itemsBy entries marked s d) ≡ 0 →
@@ -51,10 +52,13 @@ pub record Gone (s : Anodes) (hd : ℕ → ℕ) (t : Anodes) (h : ℕ) : Type 0 
   pub apart : (a : ℕ) → s .block a ≢ 0 → hd a ≢ 1 → hd a ≢ h → Alike s t a
 
 -- after steps on the chain of h that leave it no block, it is dropped
-module _ {ex : ℕ → Bool} {n last : ℕ} {s : Anodes} {system hd : ℕ → ℕ} (h : ℕ) (h6 : 6 ≤ h) (d : Head (s .next) (s .block) h) {ys : List ℕ} {t : Anodes}
-    (ran : Ran limit ex n last s system hd h 1 h 0 ys t) where
+module _ {n last : ℕ} {s : Anodes} {slots system hd : ℕ → ℕ} (h : ℕ) (h6 : 6 ≤ h) (d : Head (s .next) (s .block) h) {ys gs : List ℕ} {u : Slotted}
+    (moves : Moved limit n last (slotted s slots) system hd h 1 h ys gs u) (none : blocks limit (moves .hd′) (u .anodes .count) h ≡ 0) where
   abbrev hd′ : ℕ → ℕ
-  hd′ = ran .hd′
+  hd′ = moves .hd′
+
+  abbrev t : Anodes
+  t = u .anodes
 
   abbrev left : Anodes
   left = dropped limit t h
@@ -63,21 +67,21 @@ module _ {ex : ℕ → Bool} {n last : ℕ} {s : Anodes} {system hd : ℕ → �
   dead = onChain limit t h
 
   pub still : Head (t .next) (t .block) h
-  still = ran .shift .stays h d
+  still = moves .shift .stays h d
 
   -- no anode of the chain has a block left
   pub none-left : (a : ℕ) → hd′ a ≡ h → t .count a ≡ 0
   unfolding blocks
   none-left a q = elim (less? a limit) [
-    | inl l ↦ omega (arith, sum-none (λ b. oneAt (hd′ b) h * t .count b) limit (ran .has) a l, ap (λ (k : ℕ). k * t .count a) (oneAt-same (hd′ a) h q))
-    | inr l ↦ elim (same? (t .block a) 0) [ inl z ↦ ran .good .present .free-none a z | inr u ↦ absurd (omega (arith, l, ran .good .linked .view .below a u)) ]
+    | inl l ↦ omega (arith, sum-none (λ b. oneAt (hd′ b) h * t .count b) limit (none) a l, ap (λ (k : ℕ). k * t .count a) (oneAt-same (hd′ a) h q))
+    | inr l ↦ elim (same? (t .block a) 0) [ inl z ↦ moves .good .present .free-none a z | inr u ↦ absurd (omega (arith, l, moves .good .linked .view .below a u)) ]
   ]
 
-  pub dropped-good : Good limit ex n last left system (without dead hd′) (without dead (ran .sd′))
-  dropped-good = drop-good (ran .good) h h6 still none-left
+  pub dropped-good : Good limit (existsBy (u .slots)) n last left (withThese system gs) (without dead hd′) (without dead (moves .sd′))
+  dropped-good = drop-good (moves .good) h h6 still none-left
 
   alive : (F : ℕ → ℕ) (a : ℕ) → hd′ a ≢ h → without dead F a ≡ F a
-  alive F a q = without-other dead F a (λ i. q (dead-head (ran .good) h h6 still none-left a i))
+  alive F a q = without-other dead F a (λ i. q (dead-head (moves .good) h h6 still none-left a i))
 
   alike : (a : ℕ) → hd′ a ≢ h → Alike t left a
   unfolding dropped without
@@ -86,19 +90,19 @@ module _ {ex : ℕ → Bool} {n last : ℕ} {s : Anodes} {system hd : ℕ → �
   pub dropped-gone : Gone s hd left h
   unfolding dropped without
   dropped-gone = record {
-    stays = λ m q i. let j = ran .shift .stays m i in
+    stays = λ m q i. let j = moves .shift .stays m i in
         record {
           pos = j .pos;
-          in-use = rw (alive (t .block) m (λ k. q (sym (ran .good .heads .at-head m j) ∙ k))) (j .in-use);
+          in-use = rw (alive (t .block) m (λ k. q (sym (moves .good .heads .at-head m j) ∙ k))) (j .in-use);
           no-pred = λ p k. elim (without-cases dead (t .next) p) [ inl c ↦ j .pos (sym k ∙ c .1) | inr c ↦ j .no-pred p (sym (c .1) ∙ k) ];
         };
-    was = λ m i. let k = drop-head-was dead (dead-along (ran .good) h h6 still none-left) m i in
-        (λ q. k .0 (head-dead (ran .good) h h6 still none-left m (ran .good .heads .at-head m (k .1) ∙ q)), ran .shift .no-new m (k .1));
-    apart = λ a u q i. alike-trans (ran .shift .apart a u q i) (alike a (λ k. i (sym (ran .shift .same-hd a u q i) ∙ k)));
+    was = λ m i. let k = drop-head-was dead (dead-along (moves .good) h h6 still none-left) m i in
+        (λ q. k .0 (head-dead (moves .good) h h6 still none-left m (moves .good .heads .at-head m (k .1) ∙ q)), moves .shift .no-new m (k .1));
+    apart = λ a u q i. alike-trans (moves .shift .apart a u q i) (alike a (λ k. i (sym (moves .shift .same-hd a u q i) ∙ k)));
   }
 
 -- every other chain but 1's is the same
-module _ {ex : ℕ → Bool} {n last : ℕ} {s t : Anodes} {system hd sd hd′ sd′ : ℕ → ℕ} (g : Good limit ex n last s system hd sd) (g′ : Good limit ex n last t system hd′ sd′)
+module _ {ex ex′ : ℕ → Bool} {n last : ℕ} {s t : Anodes} {system system′ hd sd hd′ sd′ : ℕ → ℕ} (g : Good limit ex n last s system hd sd) (g′ : Good limit ex′ n last t system′ hd′ sd′)
     (h : ℕ) (gone : Gone s hd t h) (m : ℕ) (m1 : m ≢ 1) (mh : m ≢ h) (d : Head (s .next) (s .block) m) where
   pub gone-alike : (a : ℕ) → 0 < occurrences a (chainOf (s .next) limit m) → Alike s t a
   gone-alike = apart-alike g (gone .apart) m d m1 mh
@@ -208,19 +212,19 @@ module _ {ex : ℕ → Bool} {n last : ℕ} {s : Anodes} {system hd sd : ℕ →
 
   -- ---- the chain goes, which nothing names
 
-  module _ {ys : List ℕ} {t : Anodes} (ran : Ran limit ex n last s system hd h 1 h 0 ys t) (marked′ : Dir → ℕ → Bool)
+  module _ {slots : ℕ → ℕ} {ys gs : List ℕ} {u : Slotted} (moves : Moved limit n last (slotted s slots) system hd h 1 h ys gs u) (no-block : blocks limit (moves .hd′) (u .anodes .count) h ≡ 0) (marked′ : Dir → ℕ → Bool)
       (same-marks : SameMarks s hd marked marked′) where
     abbrev end : Anodes
-    end = dropped limit t h
+    end = dropped limit (u .anodes) h
 
     abbrev items′ : Dir → List Item
     items′ = itemsBy entries′ marked′ end
 
-    good : Good limit ex n last end system (without (onChain limit t h) (ran .hd′)) (without (onChain limit t h) (ran .sd′))
-    good = dropped-good h (head-h .0) (head-h .2) ran
+    good : Good limit (existsBy (u .slots)) n last end (withThese system gs) (without (onChain limit (u .anodes) h) (moves .hd′)) (without (onChain limit (u .anodes) h) (moves .sd′))
+    good = dropped-good h (head-h .0) (head-h .2) moves no-block
 
     gone : Gone s hd end h
-    gone = dropped-gone h (head-h .0) (head-h .2) ran
+    gone = dropped-gone h (head-h .0) (head-h .2) moves no-block
 
     -- what is wrong, or names h
     guard : Item → ℕ
@@ -255,7 +259,7 @@ module _ {ex : ℕ → Bool} {n last : ℕ} {s : Anodes} {system hd sd : ℕ →
 
     -- the directories that are left are those that were, but for one with the head h
     pub removed : (dirs′ : List Dir)
-        × Whole ex n last (dropped limit t h) system (without (onChain limit t h) (ran .hd′)) (without (onChain limit t h) (ran .sd′)) entries′ marked′ dirs′
+        × Whole (existsBy (u .slots)) n last (dropped limit (u .anodes) h) (withThese system gs) (without (onChain limit (u .anodes) h) (moves .hd′)) (without (onChain limit (u .anodes) h) (moves .sd′)) entries′ marked′ dirs′
         × ((x : ℕ) → x ≢ h → headed x dirs′ ≡ headed x dirs)
     removed = (
       rest .dirs′,

@@ -9,9 +9,9 @@ use Rattle.rules.specs.Counting.{occurrences, changed}
 use Rattle.rules.specs.Anodes.{Anodes}
 use Rattle.rules.specs.Chains.{chainOf, oneIfCovers, cut}
 use Rattle.rules.specs.Space.{rewritten, insertedAfter, unlinked, onChain, dropped, free}
-use Rattle.laws.specs.Tests.{same?, not-above, T-same, both}
+use Rattle.laws.specs.Tests.{same?, not-above, T-same, both, and, eq→eqb}
 use Rattle.laws.specs.Sums.{oneAt-cases, oneAt-same, changed-cases, changed-same, changed-other}
-use Rattle.laws.specs.Ownership.{covers-none, EachOnce, own-same, move}
+use Rattle.laws.specs.Ownership.{covers-none, EachOnce, own-same, own-system, move}
 use Rattle.laws.specs.Links.{Linked}
 use Rattle.laws.specs.Heads.{Head, Heads, occurrences-on-chain}
 use Rattle.laws.specs.LinkChanges.{first, second, third, insertAfter, insertAfter-cases, unlink, unlink-cases, without, without-cases, without-other, insert-linked, unlink-linked, head-linked, drop-linked, same-use, use-same, rewrite-linked}
@@ -44,6 +44,10 @@ free-is ex s f t =
     let a = both (leb 6 f) (eqb (s .block f) 0 && ex f) t in
     let b = both (eqb (s .block f) 0) (ex f) (a .1) in
     record { from-6 = leb→le 6 f (a .0); unused = eqb→eq (s .block f) 0 (b .0); there = b .1 }
+
+pub free-has : {ex : ℕ → Bool} {s : Anodes} {f : ℕ} → FreeAnode ex s f → T (free ex s f)
+unfolding free
+free-has {ex} {s} {f} u = and (leb 6 f) (eqb (s .block f) 0 && ex f) (le→leb 6 f (u .from-6)) (and (eqb (s .block f) 0) (ex f) (eq→eqb (s .block f) 0 (u .unused)) (u .there))
 
 pub free-pos : {ex : ℕ → Bool} {s : Anodes} {f : ℕ} → FreeAnode ex s f → f ≢ 0
 free-pos u z = omega (arith, u .from-6, z)
@@ -88,6 +92,25 @@ module _ (A : ℕ) (ex : ℕ → Bool) (n last : ℕ) where
     pub sides : Heads (cut (s .next)) (s .block) sd
     pub high : (a : ℕ) → sd a ≡ 1 → 0 < s .count a → last < s .block a
     pub low : (a : ℕ) → sd a ≡ 2 → 0 < s .count a → s .block a + s .count a ≤ suc last
+
+-- more anodes may exist, and the system's blocks may be written in another way
+pub good-more : {A : ℕ} {ex ex′ : ℕ → Bool} {n last : ℕ} {s : Anodes} {system system′ hd sd : ℕ → ℕ} → Good A ex n last s system hd sd → ((a : ℕ) → T (ex a) → T (ex′ a)) → ((x : ℕ) → system′ x ≡ system x) →
+    Good A ex′ n last s system′ hd sd
+good-more {A} {n = n} {s = s} {system} {system′} g more same = record {
+  linked = g .linked;
+  present = record { exist = λ a u. more a (g .present .exist a u); free-none = g .present .free-none };
+  own = own-system A (s .count) (s .block) system system′ n same (g .own);
+  fixed = g .fixed;
+  first = g .first;
+  heads = g .heads;
+  two-on = g .two-on;
+  sides = g .sides;
+  high = g .high;
+  low = g .low;
+}
+
+pub good-same : {A : ℕ} {ex : ℕ → Bool} {n last : ℕ} {s : Anodes} {system system′ hd sd : ℕ → ℕ} → Good A ex n last s system hd sd → ((x : ℕ) → system′ x ≡ system x) → Good A ex n last s system′ hd sd
+good-same g same = good-more g (λ a t. t) same
 
 module _ {A : ℕ} {ex : ℕ → Bool} {n last : ℕ} {s : Anodes} {system hd sd : ℕ → ℕ} (g : Good A ex n last s system hd sd) where
   pub head-1 : Head (s .next) (s .block) 1

@@ -90,6 +90,11 @@ module _ (ex : ℕ → Bool) (n last : ℕ) where
     pub tree : Tree (itemsBy entries marked s) root dirs
     pub all-named : AllNamed s entries marked dirs
 
+-- the same with another account of the anodes that exist and of the system's blocks
+pub whole-good : {ex ex′ : ℕ → Bool} {n last : ℕ} {s : Anodes} {system system′ hd sd hd′ sd′ : ℕ → ℕ} {entries : ℕ → List Entered} {marked : Dir → ℕ → Bool} {dirs : List Dir} → Good limit ex′ n last s system′ hd′ sd′ →
+    Whole ex n last s system hd sd entries marked dirs → Whole ex′ n last s system′ hd′ sd′ entries marked dirs
+whole-good g w = record { good = g; tree = w .tree; all-named = w .all-named }
+
 -- φ changes entries in their sizes alone, and only those that name h; the blocks of directories then hold the entries under φ, and are marked as before
 pub record SizesChanged (s : Anodes) (hd : ℕ → ℕ) (h : ℕ) (φ : Entered → Entered) (entries entries′ : ℕ → List Entered) (marked marked′ : Dir → ℕ → Bool) : Type 0 where
   pub keeps : (e : Entered) → (φ e .broken ≡ e .broken) × (φ e .dir ≡ e .dir) × (φ e .anode ≡ e .anode)
@@ -128,7 +133,7 @@ module _ {ex : ℕ → Bool} {n last : ℕ} {s : Anodes} {system hd sd : ℕ →
   ]
 
 -- an entry with nothing wrong stays so in another state, its size aside, where the head that it names stays one and its size is right there
-pub fine-still : {ex : ℕ → Bool} {n last : ℕ} {s t : Anodes} {system hd sd hd′ sd′ : ℕ → ℕ} → Good limit ex n last s system hd sd → Good limit ex n last t system hd′ sd′ →
+pub fine-still : {ex ex′ : ℕ → Bool} {n last : ℕ} {s t : Anodes} {system system′ hd sd hd′ sd′ : ℕ → ℕ} → Good limit ex n last s system hd sd → Good limit ex′ n last t system′ hd′ sd′ →
     (e e′ : Entered) → e′ .broken ≡ e .broken → e′ .anode ≡ e .anode → wrong (itemOf s e) ≡ 0 →
     (6 ≤ e .anode → Head (s .next) (s .block) (e .anode) → Sized s e → Head (t .next) (t .block) (e .anode) × Sized t e′) → wrong (itemOf t e′) ≡ 0
 fine-still {s = s} {t = t} g g′ e e′ b a z keep =
@@ -187,10 +192,10 @@ module _ {ex : ℕ → Bool} {n last : ℕ} {s : Anodes} {system hd sd : ℕ →
     not-dir = none-headed h dirs (omega (arith, w .tree .exact (λ d. oneAt (d .head) h), oneAt-other 5 h (λ e. omega (arith, e, file-head .0)), w .tree .once h, file, named-by-kind items h dirs))
 
     -- a file's chain is changed, by takes or gives, its entry's size with it, and nothing else of the directories
-    pub change-file : {t : Anodes} {hd′ sd′ : ℕ → ℕ} → Good limit ex n last t system hd′ sd′ → Shift s hd t hd′ 1 h →
+    pub change-file : {t : Anodes} {ex′ : ℕ → Bool} {system′ hd′ sd′ : ℕ → ℕ} → Good limit ex′ n last t system′ hd′ sd′ → Shift s hd t hd′ 1 h →
         (φ : Entered → Entered) (entries′ : ℕ → List Entered) (marked′ : Dir → ℕ → Bool) → SizesChanged s hd h φ entries entries′ marked marked′ →
-        ((e : Entered) → e .anode ≡ h → blockCount t h ≡ blocksFor (φ e .size)) → Whole ex n last t system hd′ sd′ entries′ marked′ dirs
-    change-file {t} {hd′} {sd′} g′ sh φ entries′ marked′ c mine = record {
+        ((e : Entered) → e .anode ≡ h → blockCount t h ≡ blocksFor (φ e .size)) → Whole ex′ n last t system′ hd′ sd′ entries′ marked′ dirs
+    change-file {t} {hd′ = hd′} {sd′ = sd′} g′ sh φ entries′ marked′ c mine = record {
       good = g′;
       tree = alike-tree items items′ root dirs alikes (w .tree);
       all-named = λ x l d. omega (arith, w .all-named x l (sh .no-new x d), alike-named items items′ dirs alikes x);

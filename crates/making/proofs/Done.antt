@@ -10,17 +10,20 @@ use borrow.Author.Tests.{lt-ltb, le-ltb}
 use Rattle.disk.specs.declared.Refusal.{Refusal}
 use Rattle.disk.specs.declared.Refusal.the-variants.{NoFreeAnode}
 use Rattle.disk.specs.Refusals.{numberOf}
+use Rattle.disk.specs.Root.{slotOf}
 use Rattle.directory.specs.Entries.{goodName, goodComment, entryLength}
-use Rattle.rules.specs.Anodes.{Anodes, limit, exists, anodesOf}
+use Rattle.rules.specs.Anodes.{Anodes, limit, existsBy, exists, anodesOf}
 use Rattle.rules.specs.Chains.{chainOf, blocksOf}
 use Rattle.rules.specs.Lookup.{noDirectory}
-use Rattle.rules.specs.Space.{rewritten, lowestFree}
+use Rattle.rules.specs.Plans.{Slotted, slotted, tableOf, noGrowth, atSlots}
+use Rattle.rules.specs.Space.{rewritten, lowestFree, needAnode, withSpare}
 use Rattle.rules.specs.Tables.{anodeTable}
-use Rattle.rules.specs.Changes.{firstRoom, noRoom, entryStart, NewEntry, madeImage, madeWith, made}
+use Rattle.rules.specs.Changes.{firstRoom, noRoom, neededBlock, entryStart, NewEntry, headMade, madeImage, roomFor, made}
 use Rattle.laws.specs.Bags.{occurrences-member}
 use Rattle.laws.specs.Links.{Linked}
 use Rattle.laws.specs.OwnerTable.{setAll, fresh-owner}
-use Rattle.anodes.specs.Loaded.{anodesFrom, Loaded}
+use Rattle.laws.specs.Plans.{afresh-fixed}
+use Rattle.anodes.specs.Loaded.{anodesFrom, slotsFrom, Loaded}
 use Rattle.edits.specs.Entries.{OneBlockEach}
 use Rattle.change_laws.specs.Image.{ReachedDir}
 use Rattle.change_laws.specs.Reached.{dir-block}
@@ -32,16 +35,16 @@ use Rattle.change_tables.specs.Chains.{loaded-image}
 use Rattle.making.specs.declared.MakePlan.{MakePlan}
 use Rattle.making.specs.declared.Planned.the-variants.{Stopped}
 use Rattle.making.specs.Steps.{someBlock, Plans, PlanOf}
-use Rattle.making.proofs.Steps.{no-block, one-block, step-shows, free-f, whole, first-ready, next-ready}
+use Rattle.making.proofs.Steps.{no-block, one-block, step-shows, free-f, whole, spare-is, first-orphan, fresh-not-1, next-good, next-head, next-state}
 
 module _ {img counts firsts nexts : List ℕ} (l : Loaded img counts firsts nexts) where
   -- the lowest free anode in the tables is the image's
-  pub lowest-is : (f : ℕ) → ((c n : List ℕ) → f ≡ lowestFree 3444 (exists img) (anodesFrom c firsts n)) → lowestFree limit (exists img) (anodesOf img) ≡ f
-  lowest-is f e = sym (e counts nexts ∙ ap (lowestFree limit (exists img)) (l .is-loaded))
+  pub lowest-is : (slots : List ℕ) → slotsFrom slots ≡ slotOf img → (f : ℕ) → ((c n : List ℕ) → f ≡ lowestFree 3444 (existsBy (slotsFrom slots)) (anodesFrom c firsts n)) → lowestFree limit (exists img) (anodesOf img) ≡ f
+  lowest-is slots held f e = sym (e counts nexts ∙ rw (held, l .is-loaded))
 
   -- and with it as an empty head the tables hold the anodes that the steps start from
-  pub begun-is : (f : ℕ) (s : Anodes) → s ≡ rewritten (anodesFrom counts firsts nexts) f 0 65535 → s ≡ rewritten (anodesOf img) f 0 65535
-  begun-is f s e = e ∙ ap (λ (u : Anodes). rewritten u f 0 65535) (l .is-loaded)
+  pub begun-is : (slots : List ℕ) → slotsFrom slots ≡ slotOf img → (f : ℕ) (s : Anodes) → s ≡ rewritten (anodesFrom counts firsts nexts) f 0 65535 → slotted s (slotsFrom slots) ≡ headMade (tableOf img) f
+  begun-is slots held f s e = rw (e, held, l .is-loaded)
 
   module _ (h : ℕ) (reached : noDirectory img (anodesOf img) h ≡ false) where
     abbrev home : ReachedDir img h
@@ -69,17 +72,17 @@ module _ {img counts firsts nexts : List ℕ} (l : Loaded img counts firsts next
 
 -- with no free anode it is refused
 pub no-anode : (img : List ℕ) (dir : Bool) (len h f : ℕ) → lowestFree limit (exists img) (anodesOf img) ≡ f → limit ≤ f →
-    PlanOf (Stopped NoFreeAnode) img dir len h (anodesOf img)
-unfolding made
-no-anode img dir len h f lowest l = (omega arith, λ new d n. rw (lowest, le-ltb f limit l))
+    PlanOf (Stopped NoFreeAnode) img dir len h (tableOf img)
+unfolding made withSpare needAnode atSlots
+no-anode img dir len h f lowest l = (omega arith, λ new d n. rw (afresh-fixed (needAnode limit) (tableOf img), lowest, le-ltb f limit l))
 
 -- refused in its planning it leaves everything
-pub stopped : (img : List ℕ) (h : ℕ) (new : NewEntry) (k : Refusal) → PlanOf (Stopped k) img (new .dir) (entryLength (length (new .name)) (length (new .comment))) h (anodesOf img) → (b a : List ℕ) →
-    Leaves (numberOf k) img b a img b a (made img (anodesOf img) h new)
+pub stopped : (img : List ℕ) (h : ℕ) (new : NewEntry) (k : Refusal) → PlanOf (Stopped k) img (new .dir) (entryLength (length (new .name)) (length (new .comment))) h (tableOf img) → (b a : List ℕ) →
+    Leaves (numberOf k) img b a img b a (made noGrowth img (tableOf img) h new)
 stopped img h new k p b a = rw (p .1 new refl refl) (leaves-refused (numberOf k) (p .0) img b a)
 
 -- by its plan it is done
-module _ (img : List ℕ) (h : ℕ) (new : NewEntry) (m : MakePlan) (t : Anodes) (p : Plans img (new .dir) (entryLength (length (new .name)) (length (new .comment))) h m t)
+module _ (img : List ℕ) (h : ℕ) (new : NewEntry) (m : MakePlan) (t : Slotted) (p : Plans img (new .dir) (entryLength (length (new .name)) (length (new .comment))) h m t)
     (named : goodName (new .name) ≡ true) (commented : goodComment (new .comment) ≡ true) where
   abbrev f : ℕ
   f = m .fresh .0
@@ -97,17 +100,18 @@ module _ (img : List ℕ) (h : ℕ) (new : NewEntry) (m : MakePlan) (t : Anodes)
   making = record { fresh = p .fresh; steps = p .steps; named = named; commented = commented }
 
   -- show_heads asks it of the new anodes
-  pub new-links : Linked limit (t .next) (t .block)
+  pub new-links : Linked limit (t .anodes .next) (t .anodes .block)
   new-links = good making .linked
 
   -- the block table shows both blocks
-  shown : (b r : List ℕ) → Shows img (anodesOf img) b r → Shows img t (setAll (setAll b ys f) zs h) r
+  shown : (b r : List ℕ) → Shows img (anodesOf img) b r → Shows img (t .anodes) (setAll (setAll b ys f) zs h) r
   shown b r q =
       let u = rewritten (anodesOf img) f 0 65535 in
-      let one = first-ready x u refl in
-      let two = next-ready x u refl (new .dir) (m .own) (p .steps .between) (sym (p .steps .own)) in
-      step-shows img (two .0 .1 .2) h (two .1 .0) (two .1 .1) (noRoom (p .room)) t zs (p .steps .parent) (setAll b ys f) r
-      (step-shows img (one .0 .1 .2) f (one .1 .0) (one .1 .1) (new .dir) (p .steps .between) ys (p .steps .own) b r
+      let own = p .steps .own in
+      let parent = ap (neededBlock noGrowth (noRoom (p .room)) h) (next-state x (new .dir) ys (p .steps .between) own) ∙ p .steps .parent in
+      let head = next-head x (new .dir) ys (p .steps .between) own in
+      step-shows img (next-good x (new .dir) ys (p .steps .between) own) h (head .0) (head .1) (noRoom (p .room)) t zs parent (setAll b ys f) r
+      (step-shows img (first-orphan x .good) f (first-orphan x .head) (fresh-not-1 x) (new .dir) (p .steps .between) ys own b r
       (shows-kept img (anodesOf img) u (fresh-owner (whole x .good) f (x .below) (free-f x)) b r q))
 
   -- with no room the parent has a new block
@@ -122,8 +126,8 @@ module _ (img : List ℕ) (h : ℕ) (new : NewEntry) (m : MakePlan) (t : Anodes)
 
   -- what it leaves of the image and the tables
   pub done-leaves : (b a : List ℕ) →
-      Leaves 0 img b a (madeImage img (anodesOf img) h new f (p .room) ys t zs) (setAll (setAll b ys f) zs h) (anodeTable t ++ drop limit a) (made img (anodesOf img) h new)
-  unfolding made madeWith
-  done-leaves b a = rw (x .lowest, lt-ltb f limit (x .below), p .steps .roomy, p .steps .own, p .steps .parent)
-      (leaves-done img (madeImage img (anodesOf img) h new f (p .room) ys t zs) (made-disk making) b a (setAll (setAll b ys f) zs h) (anodeTable t ++ drop limit a)
+      Leaves 0 img b a (madeImage img (anodesOf img) h new f (p .room) ys t zs) (setAll (setAll b ys f) zs h) (anodeTable (t .anodes) ++ drop limit a) (made noGrowth img (tableOf img) h new)
+  unfolding made roomFor
+  done-leaves b a = rw (spare-is x, x .lowest, p .steps .roomy, p .steps .own, p .steps .parent)
+      (leaves-done img (madeImage img (anodesOf img) h new f (p .room) ys t zs) (made-disk making) b a (setAll (setAll b ys f) zs h) (anodeTable (t .anodes) ++ drop limit a)
       (shown b) refl)

@@ -8,10 +8,9 @@ use lib.Dec.{eqb}
 use lib.ListN.{length}
 use Rattle.disk.specs.Refusals.{numberOf}
 use Rattle.directory.specs.Entries.{entryLength}
-use Rattle.rules.specs.Anodes.{Anodes, anodesOf}
 use Rattle.rules.specs.Accepted.{PastDamage}
-use Rattle.rules.specs.Space.{Plan, refused, planned}
-use Rattle.rules.specs.Changes.{entryStart, NewEntry, left, made}
+use Rattle.rules.specs.Plans.{Slotted, tableOf, Plan, refused, planned, noGrowth}
+use Rattle.rules.specs.Changes.{entryStart, headMade, NewEntry, left, made}
 use Rattle.change_laws.specs.MakePlan.{Fresh, MakeSteps}
 use Rattle.placing.specs.declared.Step.{Step}
 use Rattle.placing.specs.declared.Step.the-variants.{Moved, Refused}
@@ -24,19 +23,24 @@ unfoldable pub someBlock : ℕ → List ℕ
 someBlock y = cond (eqb y 0) [] (y ∷ [])
 
 -- the plan that such a step answers
-abbrev pub neededPlan : Step → Anodes → Plan
+abbrev pub neededPlan : Step → Slotted → Plan Slotted
 neededPlan (Moved y) t = planned t (someBlock (y .0))
 neededPlan (Refused r) t = refused (numberOf r)
 
--- m plans a make in the directory of h, of a directory or a file whose entry has len bytes, and leaves the anodes t
-pub record Plans (img : List ℕ) (dir : Bool) (len h : ℕ) (m : MakePlan) (t : Anodes) : Type 0 where
+-- s is the state that the steps of a make in the directory of h start from: that of img with f as a head
+pub record Begun (img : List ℕ) (h f : ℕ) (s : Slotted) : Type 0 where
+  pub fresh : Fresh img h f
+  pub state : s ≡ headMade (tableOf img) f
+
+-- m plans a make in the directory of h, of a directory or a file whose entry has len bytes, and leaves the state t
+pub record Plans (img : List ℕ) (dir : Bool) (len h : ℕ) (m : MakePlan) (t : Slotted) : Type 0 where
   pub fresh : Fresh img h (m .fresh .0)
   pub room : Option ℕ
   pub steps : MakeSteps img dir len h (m .fresh .0) room (someBlock (m .own .0)) t (someBlock (m .parents .0))
   pub start : m .start ≡ entryStart room (m .parents .0 ∷ [])
 
 -- what the planning of a make answers: the plan, or a refusal of the whole make
-abbrev pub PlanOf : Planned → List ℕ → Bool → ℕ → ℕ → Anodes → Type 0
+abbrev pub PlanOf : Planned → List ℕ → Bool → ℕ → ℕ → Slotted → Type 0
 PlanOf (Make m) img dir len h t = Plans img dir len h m t
 PlanOf (Stopped x) img dir len h t =
-    (PastDamage (numberOf x)) × ((new : NewEntry) → new .dir ≡ dir → entryLength (length (new .name)) (length (new .comment)) ≡ len → made img (anodesOf img) h new ≡ left (numberOf x) img)
+    (PastDamage (numberOf x)) × ((new : NewEntry) → new .dir ≡ dir → entryLength (length (new .name)) (length (new .comment)) ≡ len → made noGrowth img (tableOf img) h new ≡ left (numberOf x) img)

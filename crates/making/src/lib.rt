@@ -1,24 +1,24 @@
 // Makes an entry in a directory: a fresh head, a block of its own for a directory, a block for the parent where it has no room, then the entry.
 ghost use mathlib.Core.Bool.{true, false};
-ghost use mathlib.Core.List.{[], _∷_};
+ghost use mathlib.Core.List.{List, [], _∷_};
 ghost use mathlib.Core.Path.{_≡_};
 ghost use Prim.Native.Nat.{ℕ, _≤_};
 ghost use lib.ListN.{length};
+ghost use Rattle.disk.specs.Root.{slotOf};
 ghost use Rattle.directory.specs.Entries.{goodName, goodComment, isDir, entryLength};
 ghost use Rattle.rules.specs.Anodes.{anodesOf};
 ghost use Rattle.rules.specs.Chains.{blocksOf};
 ghost use Rattle.rules.specs.Walk.{reachedDirs};
 ghost use Rattle.rules.specs.Lookup.{noDirectory};
-ghost use Rattle.rules.specs.Space.{rewritten};
+ghost use Rattle.rules.specs.Plans.{slotted, tableOf, noGrowth};
 ghost use Rattle.rules.specs.Format.{newDirectoryBlock};
 ghost use Rattle.rules.specs.Changes.{withBlocks, firstRoom, noRoom, neededBlock, parentOf, entryStart, newEntry, made};
 ghost use Rattle.laws.specs.OwnerTable.{setAll};
-ghost use Rattle.anodes.specs.Loaded.{anodesFrom, AnodeTables, Loaded};
+ghost use Rattle.anodes.specs.Loaded.{anodesFrom, tableFrom, AnodeTables, Loaded};
 ghost use Rattle.change_tables.specs.Leaves.{Leaves};
-ghost use Rattle.change_laws.specs.MakePlan.{Fresh};
 ghost use Rattle.edits.specs.Entries.{roomOf};
-ghost use Rattle.space.specs.Steps.{Ready};
-ghost use Rattle.making.specs.Steps.{someBlock, neededPlan, Plans, PlanOf};
+ghost use Rattle.placing.specs.States.{Ready};
+ghost use Rattle.making.specs.Steps.{someBlock, neededPlan, Begun, Plans, PlanOf};
 use chains::show_heads;
 use directory::Kind;
 use directory::entry_len;
@@ -32,11 +32,12 @@ use edits::first_room;
 use edits::put_header;
 use edits::put_new_entry;
 use edits::store_anodes;
+use giving::copied;
 use placing::Step;
 use searches::lowest_free;
-use space::copied;
-use space::take_block;
+use searches::slots_of;
 use tables::set_entry;
+use taking::take_block;
 
 // A planned make: the fresh head, the entry's place, and the blocks that it takes, 0 for none: the new directory's own and its parent's.
 struct MakePlan {
@@ -64,7 +65,7 @@ fn no_room(room: Room) -> bool
 
 // Takes a block for the directory that `head` heads, where it needs one; block 0 where it does not.
 fn take_needed(
-    image: &[u8],
+    slots: &[u16],
     needed: bool,
     head: AnodeNo,
     counts: &mut [u16],
@@ -72,11 +73,11 @@ fn take_needed(
     nexts: &mut [u16],
 ) -> Step
     requires { ⌜ AnodeTables (now counts) (now firsts) (now nexts) ⌝ }
-    requires { ⌜ Ready (now image) (anodesFrom (now counts) (now firsts) (now nexts)) (head .0) ⌝ }
-    ensures { λ r. ⌜ neededPlan r (anodesFrom (now (counts .exit)) (now (firsts .exit)) (now (nexts .exit))) ≡ neededBlock (now (image .entry)) needed (anodesFrom (now (counts .entry)) (now (firsts .entry)) (now (nexts .entry))) (head .0) ⌝ }
+    requires { ⌜ ((last : ℕ) × Ready last (tableFrom (now counts) (now firsts) (now nexts) (now slots)) (head .0)) ⌝ }
+    ensures { λ r. ⌜ neededPlan r (tableFrom (now (counts .exit)) (now (firsts .exit)) (now (nexts .exit)) (now (slots .entry))) ≡ neededBlock noGrowth needed (head .0) (tableFrom (now (counts .entry)) (now (firsts .entry)) (now (nexts .entry)) (now (slots .entry))) ⌝ }
 {
     if needed {
-        return take_block(image, true, head, counts, firsts, nexts);
+        return take_block(slots, true, head, counts, firsts, nexts);
     }
     Step::Moved(BlockNo(0))
 }
@@ -93,7 +94,7 @@ fn start_for(room: Room, parents: BlockNo) -> usize
 
 // Takes the blocks of a make: one of its own for a directory that `fresh` heads, then one for its parent, where that has no room.
 fn take_blocks(
-    image: &[u8],
+    slots: &[u16],
     kind: Kind,
     room: Room,
     fresh: AnodeNo,
@@ -103,15 +104,15 @@ fn take_blocks(
     nexts: &mut [u16],
 ) -> Planned
     requires { ⌜ AnodeTables (now counts) (now firsts) (now nexts) ⌝ }
-    requires { ⌜ Fresh (now image) (head .0) (fresh .0) × (anodesFrom (now counts) (now firsts) (now nexts) ≡ rewritten (anodesOf (now image)) (fresh .0) 0 65535) ⌝ }
-    ensures { λ r. ⌜ ((len : ℕ) → roomOf room ≡ firstRoom (now (image .entry)) len (blocksOf (anodesOf (now (image .entry))) (head .0)) → PlanOf r (now (image .entry)) (isDir kind) len (head .0) (anodesFrom (now (counts .exit)) (now (firsts .exit)) (now (nexts .exit)))) ⌝ }
+    requires { ⌜ ((img : List ℕ) × Begun img (head .0) (fresh .0) (tableFrom (now counts) (now firsts) (now nexts) (now slots))) ⌝ }
+    ensures { λ r. ⌜ ((img : List ℕ) (len : ℕ) → Begun img (head .0) (fresh .0) (tableFrom (now (counts .entry)) (now (firsts .entry)) (now (nexts .entry)) (now (slots .entry))) → roomOf room ≡ firstRoom img len (blocksOf (anodesOf img) (head .0)) → PlanOf r img (isDir kind) len (head .0) (tableFrom (now (counts .exit)) (now (firsts .exit)) (now (nexts .exit)) (now (slots .entry)))) ⌝ }
 {
-    let first = take_needed(image, is_directory(kind), fresh, counts, firsts, nexts);
+    let first = take_needed(slots, is_directory(kind), fresh, counts, firsts, nexts);
     let own = match first {
         Step::Moved(b) => b,
         Step::Refused(r) => return Planned::Stopped(r),
     };
-    let second = take_needed(image, no_room(room), head, counts, firsts, nexts);
+    let second = take_needed(slots, no_room(room), head, counts, firsts, nexts);
     let parents = match second {
         Step::Moved(b) => b,
         Step::Refused(r) => return Planned::Stopped(r),
@@ -136,16 +137,17 @@ fn plan_make(
     nexts: &mut [u16],
 ) -> Planned
     requires { ⌜ Loaded (now image) (now counts) (now firsts) (now nexts) × (noDirectory (now image) (anodesOf (now image)) (head .0) ≡ false) ⌝ }
-    ensures { λ r. ⌜ PlanOf r (now (image .entry)) (isDir kind) len (head .0) (anodesFrom (now (counts .exit)) (now (firsts .exit)) (now (nexts .exit))) ⌝ }
+    ensures { λ r. ⌜ PlanOf r (now (image .entry)) (isDir kind) len (head .0) (slotted (anodesFrom (now (counts .exit)) (now (firsts .exit)) (now (nexts .exit))) (slotOf (now (image .entry)))) ⌝ }
 {
-    let fresh = lowest_free(image, firsts);
+    let slots = slots_of(image);
+    let fresh = lowest_free(&slots, firsts);
     if 3444 <= fresh.0 {
         return Planned::Stopped(Refusal::NoFreeAnode);
     }
     let room = first_room(image, firsts, nexts, head, len);
     set_entry(counts, fresh.0 as usize, 0);
     set_entry(firsts, fresh.0 as usize, 65535);
-    take_blocks(image, kind, room, fresh, head, counts, firsts, nexts)
+    take_blocks(&slots, kind, room, fresh, head, counts, firsts, nexts)
 }
 
 // Makes block `b` a directory's new block, unless it is 0.
@@ -193,8 +195,8 @@ fn commit_make(
     requires { ⌜ Loaded (now image) (now counts) (now firsts) (now nexts) × (3444 ≤ length (now anodes)) × (length (now «new_nexts») ≡ 3444) ⌝ }
     requires { ⌜ (noDirectory (now image) (anodesOf (now image)) (head .0) ≡ false) × (parent .0 ≡ parentOf (reachedDirs (now image) (anodesOf (now image))) (head .0)) ⌝ }
     requires { ⌜ (goodName (now name) ≡ true) × (goodComment (now comment) ≡ true) ⌝ }
-    requires { ⌜ Plans (now image) (isDir kind) (entryLength (length (now name)) (length (now comment))) (head .0) plan (anodesFrom (now «new_counts») (now «new_firsts») (now «new_nexts»)) ⌝ }
-    ensures { λ _. ⌜ Leaves 0 (now (image .entry)) (now (blocks .entry)) (now (anodes .entry)) (now (image .exit)) (now (blocks .exit)) (now (anodes .exit)) (made (now (image .entry)) (anodesOf (now (image .entry))) (head .0) (newEntry (isDir kind) (now (name .entry)) (now (comment .entry)) day minute tick protection)) ⌝ }
+    requires { ⌜ Plans (now image) (isDir kind) (entryLength (length (now name)) (length (now comment))) (head .0) plan (slotted (anodesFrom (now «new_counts») (now «new_firsts») (now «new_nexts»)) (slotOf (now image))) ⌝ }
+    ensures { λ _. ⌜ Leaves 0 (now (image .entry)) (now (blocks .entry)) (now (anodes .entry)) (now (image .exit)) (now (blocks .exit)) (now (anodes .exit)) (made noGrowth (now (image .entry)) (tableOf (now (image .entry))) (head .0) (newEntry (isDir kind) (now (name .entry)) (now (comment .entry)) day minute tick protection)) ⌝ }
 {
     store_anodes(
         image,
@@ -245,7 +247,7 @@ pub fn make_entry(
     requires { ⌜ Loaded (now image) (now counts) (now firsts) (now nexts) × (3444 ≤ length (now anodes)) ⌝ }
     requires { ⌜ (noDirectory (now image) (anodesOf (now image)) (head .0) ≡ false) × (parent .0 ≡ parentOf (reachedDirs (now image) (anodesOf (now image))) (head .0)) ⌝ }
     requires { ⌜ (goodName (now name) ≡ true) × (goodComment (now comment) ≡ true) ⌝ }
-    ensures { λ r. ⌜ Leaves r (now (image .entry)) (now (blocks .entry)) (now (anodes .entry)) (now (image .exit)) (now (blocks .exit)) (now (anodes .exit)) (made (now (image .entry)) (anodesOf (now (image .entry))) (head .0) (newEntry (isDir kind) (now (name .entry)) (now (comment .entry)) day minute tick protection)) ⌝ }
+    ensures { λ r. ⌜ Leaves r (now (image .entry)) (now (blocks .entry)) (now (anodes .entry)) (now (image .exit)) (now (blocks .exit)) (now (anodes .exit)) (made noGrowth (now (image .entry)) (tableOf (now (image .entry))) (head .0) (newEntry (isDir kind) (now (name .entry)) (now (comment .entry)) day minute tick protection)) ⌝ }
 {
     let mut new_counts = copied(counts);
     let mut new_firsts = copied(firsts);

@@ -20,7 +20,8 @@ use Rattle.rules.specs.Chains.{blocksOf}
 use Rattle.rules.specs.Walk.{Entered}
 use Rattle.rules.specs.Accepted.{PastDamage}
 use Rattle.rules.specs.Lookup.{noDirectory, entryNamed}
-use Rattle.rules.specs.Changes.{Left, left, NewEntry, made, written}
+use Rattle.rules.specs.Plans.{tableOf}
+use Rattle.rules.specs.Changes.{Left, left, NewEntry, made, usualGrowth, written}
 use Rattle.rules.specs.Calls.{makeRefusal, wrongEntry, doneOr, leftAfter, changeNamed, wrongText}
 use Rattle.counting.specs.Laws.{neither}
 use Rattle.laws.specs.Tests.{same?, less?}
@@ -140,7 +141,7 @@ module _ (img : List ℕ) (s : Anodes) (h type : ℕ) (name comment : List ℕ) 
     unfolding makeRefusal
     make-fine e found = rw (right, e, found)
 
-pub leaves-made : (img : List ℕ) (h : ℕ) (new : NewEntry) (n : ℕ) → n ≡ 0 → (other : NewEntry) → other ≡ new → (r : ℕ) (b a img′ b′ a′ : List ℕ) → Leaves r img b a img′ b′ a′ (made img (anodesOf img) h other) →
-    Leaves r img b a img′ b′ a′ (leftAfter n img (made img (anodesOf img) h new))
+pub leaves-made : (img : List ℕ) (h : ℕ) (new : NewEntry) (n : ℕ) → n ≡ 0 → (other : NewEntry) → other ≡ new → (r : ℕ) (b a img′ b′ a′ : List ℕ) → Leaves r img b a img′ b′ a′ (made usualGrowth img (tableOf img) h other) →
+    Leaves r img b a img′ b′ a′ (leftAfter n img (made usualGrowth img (tableOf img) h new))
 unfolding doneOr
 leaves-made img h new n e other same r b a img′ b′ a′ l = rw (e, ← same) l

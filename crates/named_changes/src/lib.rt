@@ -7,7 +7,8 @@ ghost use lib.Dec.{eqb};
 ghost use lib.ListN.{length};
 ghost use Rattle.rules.specs.Anodes.{anodesOf};
 ghost use Rattle.rules.specs.Lookup.{entryNamed};
-ghost use Rattle.rules.specs.Changes.{left, newEntry, made, written, resized, removed};
+ghost use Rattle.rules.specs.Plans.{tableOf};
+ghost use Rattle.rules.specs.Changes.{left, newEntry, made, written, resized, removed, usualGrowth};
 ghost use Rattle.rules.specs.Calls.{spanRefusal, resizeRefusal, removeRefusal, wrongText, makeRefusal, leftAfter, changeNamed};
 ghost use Rattle.find.specs.Open.{Open, OpenAnodes};
 ghost use Rattle.change_tables.specs.Leaves.{Leaves};
@@ -83,7 +84,7 @@ pub fn resize_named(
     size: u64,
 ) -> u32
     requires { ⌜ OpenAnodes (now image) (now counts) (now firsts) (now nexts) (now queue) (now heads) dirs × (3444 ≤ length (now heads)) ⌝ }
-    ensures { λ r. ⌜ Leaves r (now (image .entry)) (now (blocks .entry)) (now (heads .entry)) (now (image .exit)) (now (blocks .exit)) (now (heads .exit)) (changeNamed (resizeRefusal (now (image .entry)) (anodesOf (now (image .entry))) (head .0) (now (name .entry))) (now (image .entry)) (entryNamed (now (image .entry)) (anodesOf (now (image .entry))) (head .0) (now (name .entry))) (λ e. resized (now (image .entry)) (anodesOf (now (image .entry))) e size)) ⌝ }
+    ensures { λ r. ⌜ Leaves r (now (image .entry)) (now (blocks .entry)) (now (heads .entry)) (now (image .exit)) (now (blocks .exit)) (now (heads .exit)) (changeNamed (resizeRefusal (now (image .entry)) (anodesOf (now (image .entry))) (head .0) (now (name .entry))) (now (image .entry)) (entryNamed (now (image .entry)) (anodesOf (now (image .entry))) (head .0) (now (name .entry))) (λ e. resized usualGrowth (now (image .entry)) (tableOf (now (image .entry))) e size)) ⌝ }
 {
     let found = find_file(image, firsts, nexts, queue, heads, dirs, head, name);
     let e = match found {
@@ -107,7 +108,7 @@ pub fn remove_named(
     name: &[u8],
 ) -> u32
     requires { ⌜ OpenAnodes (now image) (now counts) (now firsts) (now nexts) (now queue) (now heads) dirs × (3444 ≤ length (now heads)) ⌝ }
-    ensures { λ r. ⌜ Leaves r (now (image .entry)) (now (blocks .entry)) (now (heads .entry)) (now (image .exit)) (now (blocks .exit)) (now (heads .exit)) (changeNamed (removeRefusal (now (image .entry)) (anodesOf (now (image .entry))) (head .0) (now (name .entry))) (now (image .entry)) (entryNamed (now (image .entry)) (anodesOf (now (image .entry))) (head .0) (now (name .entry))) (λ e. removed (now (image .entry)) (anodesOf (now (image .entry))) e)) ⌝ }
+    ensures { λ r. ⌜ Leaves r (now (image .entry)) (now (blocks .entry)) (now (heads .entry)) (now (image .exit)) (now (blocks .exit)) (now (heads .exit)) (changeNamed (removeRefusal (now (image .entry)) (anodesOf (now (image .entry))) (head .0) (now (name .entry))) (now (image .entry)) (entryNamed (now (image .entry)) (anodesOf (now (image .entry))) (head .0) (now (name .entry))) (λ e. removed usualGrowth (now (image .entry)) (tableOf (now (image .entry))) e)) ⌝ }
 {
     let found = find_removable(image, firsts, nexts, queue, heads, dirs, head, name);
     let e = match found {
@@ -148,7 +149,7 @@ pub fn make_named(
     protection: u8,
 ) -> u32
     requires { ⌜ Open (now image) (now counts) (now firsts) (now nexts) (now queue) (now parents) (now heads) dirs × (3444 ≤ length (now heads)) ⌝ }
-    ensures { λ r. ⌜ Leaves r (now (image .entry)) (now (blocks .entry)) (now (heads .entry)) (now (image .exit)) (now (blocks .exit)) (now (heads .exit)) (leftAfter (makeRefusal (now (image .entry)) (anodesOf (now (image .entry))) (head .0) kind (now (name .entry)) (now (comment .entry))) (now (image .entry)) (made (now (image .entry)) (anodesOf (now (image .entry))) (head .0) (newEntry (eqb kind 2) (now (name .entry)) (now (comment .entry)) day minute tick protection))) ⌝ }
+    ensures { λ r. ⌜ Leaves r (now (image .entry)) (now (blocks .entry)) (now (heads .entry)) (now (image .exit)) (now (blocks .exit)) (now (heads .exit)) (leftAfter (makeRefusal (now (image .entry)) (anodesOf (now (image .entry))) (head .0) kind (now (name .entry)) (now (comment .entry))) (now (image .entry)) (made usualGrowth (now (image .entry)) (tableOf (now (image .entry))) (head .0) (newEntry (eqb kind 2) (now (name .entry)) (now (comment .entry)) day minute tick protection))) ⌝ }
 {
     let read = kind_of(kind);
     let KindRead::Is(k) = read else {

@@ -11,7 +11,7 @@ use lib.ListN.{getD}
 use borrow.Author.Tests.{lt-ltb, le-ltb, eq-eqb, ne-eqb}
 use Rattle.disk.specs.Root.{slotOf}
 use Rattle.rules.specs.Counting.{sumBelow}
-use Rattle.rules.specs.Chains.{oneIfCovers, oneIfHolds, systemOwns, owners}
+use Rattle.rules.specs.Chains.{oneIfCovers, oneIfHolds, systemBy, systemOwns, owners}
 use Rattle.rules.specs.Accepted.{diskSize, wrongSize, wrongSlots, ownersOf, twoOwners}
 use Rattle.rules.specs.Tables.{entryOr}
 use Rattle.counting.specs.Laws.{anyBelow-hit, anyBelow-all, sumBelow-none, sumBelow-more, sumBelow-upto}
@@ -41,31 +41,31 @@ slot-within img s b h e some =
 
 -- the owners of block x that are marked once the slots below k are
 unfoldable pub systemBelow : List ℕ → ℕ → ℕ → ℕ
-systemBelow img k x = oneIfCovers 3 0 x + sumBelow (oneIfHolds img x) k
+systemBelow img k x = oneIfCovers 3 0 x + sumBelow (oneIfHolds (slotOf img) x) k
 
 -- and its entry then
 unfoldable pub systemEntryBelow : List ℕ → ℕ → ℕ → ℕ
-systemEntryBelow img k x = oneIfCovers 3 0 x * 65535 + sumBelow (oneIfHolds img x) k * 65534
+systemEntryBelow img k x = oneIfCovers 3 0 x * 65535 + sumBelow (oneIfHolds (slotOf img) x) k * 65534
 
 -- a slot holds a block as a run of one covers it
-holds-covers : (img : List ℕ) (x s b : ℕ) → slotOf img s ≡ b → b ≢ 0 → oneIfHolds img x s ≡ oneIfCovers 1 b x
+holds-covers : (img : List ℕ) (x s b : ℕ) → slotOf img s ≡ b → b ≢ 0 → oneIfHolds (slotOf img) x s ≡ oneIfCovers 1 b x
 unfolding oneIfHolds
 holds-covers img x s b e some = elim (covers-cases 1 b x) [
   | inl c ↦ rw (e, ne-eqb b 0 some) (oneAt-same b x (omega arith) ∙ sym (c .2))
   | inr c ↦ rw (e, ne-eqb b 0 some) (oneAt-other b x (λ q. c .0 (omega arith) (omega arith)) ∙ sym (c .1))
 ]
 
-holds-none : (img : List ℕ) (x s : ℕ) → slotOf img s ≡ 0 → oneIfHolds img x s ≡ 0
+holds-none : (img : List ℕ) (x s : ℕ) → slotOf img s ≡ 0 → oneIfHolds (slotOf img) x s ≡ 0
 unfolding oneIfHolds
 holds-none img x s e = rw (eq-eqb (slotOf img s) 0 e)
 
 -- below block 3 the system owns, from there on the slots hold
 systemOwns-low : (img : List ℕ) (x : ℕ) → x < 3 → systemOwns img x ≡ 1
-unfolding systemOwns
+unfolding systemBy
 systemOwns-low img x l = rw (lt-ltb x 3 l)
 
-systemOwns-high : (img : List ℕ) (x : ℕ) → 3 ≤ x → systemOwns img x ≡ sumBelow (oneIfHolds img x) 42
-unfolding systemOwns
+systemOwns-high : (img : List ℕ) (x : ℕ) → 3 ≤ x → systemOwns img x ≡ sumBelow (oneIfHolds (slotOf img) x) 42
+unfolding systemBy
 systemOwns-high img x l = rw (le-ltb x 3 l)
 
 -- with one owner at most, the sums are what the rules say
@@ -93,7 +93,7 @@ module _ (img : List ℕ) (n : ℕ) where
   unfolding systemBelow systemEntryBelow
   system-first t t′ zeros run kept =
       marked-run n (λ x. 0) (λ x. 0) t (marked-none n t zeros) 0 3 (systemBelow img 0) (systemEntryBelow img 0) t′ 65535 run kept (λ l e. omega arith)
-      (λ x l. let none = sumBelow-none (oneIfHolds img x) in (omega arith, omega arith))
+      (λ x l. let none = sumBelow-none (oneIfHolds (slotOf img) x) in (omega arith, omega arith))
 
   module _ (s : ℕ) (t : List ℕ) (m : Marked n (systemBelow img s) (systemEntryBelow img s) t) where
     -- an empty slot
@@ -101,7 +101,7 @@ module _ (img : List ℕ) (n : ℕ) where
     unfolding systemBelow systemEntryBelow
     system-skip e =
         marked-same n (systemBelow img s) (systemEntryBelow img s) (systemBelow img (s + 1)) (systemEntryBelow img (s + 1)) t m
-        (λ x l. let more = sumBelow-more (oneIfHolds img x) s in let none = holds-none img x s e in (omega arith, omega arith))
+        (λ x l. let more = sumBelow-more (oneIfHolds (slotOf img) x) s in let none = holds-none img x s e in (omega arith, omega arith))
 
     -- the block of a slot
     pub system-more : (t′ : List ℕ) (b : ℕ) → slotOf img s ≡ b → b ≢ 0 → RunFilled t t′ b (b + 1) 65534 → KeptOutside t t′ b (b + 1)
@@ -109,7 +109,7 @@ module _ (img : List ℕ) (n : ℕ) where
     unfolding systemBelow systemEntryBelow
     system-more t′ b e some run kept =
         marked-run n (systemBelow img s) (systemEntryBelow img s) t m b 1 (systemBelow img (s + 1)) (systemEntryBelow img (s + 1)) t′ 65534 run kept (λ l e. omega arith)
-        (λ x l. let more = sumBelow-more (oneIfHolds img x) s in let one = holds-covers img x s b e some in (omega arith, omega arith))
+        (λ x l. let more = sumBelow-more (oneIfHolds (slotOf img) x) s in let one = holds-covers img x s b e some in (omega arith, omega arith))
 
     -- the block of a slot, marked already
     pub system-hit : (b : ℕ) → s < 42 → slotOf img s ≡ b → b ≢ 0 → 3 ≤ b → b + 1 ≤ n → RunHit t b (b + 1) → OwnedTwice n (systemOwns img)
@@ -123,8 +123,8 @@ module _ (img : List ℕ) (n : ℕ) where
             arith,
             covers-over 3 0 x z,
             holds-covers img x s b e some,
-            sumBelow-more (oneIfHolds img x) s,
-            sumBelow-upto (oneIfHolds img x) (s + 1) 42 (omega arith),
+            sumBelow-more (oneIfHolds (slotOf img) x) s,
+            sumBelow-upto (oneIfHolds (slotOf img) x) (s + 1) 42 (omega arith),
             systemOwns-high img x z,
           )
         ])

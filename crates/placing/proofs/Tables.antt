@@ -38,6 +38,6 @@ module _ (c f n : List ℕ) where
   unfolding anodesFrom rewritten unlinked
   unlinked-tables p a h k = rw (set-changed (set n p (getD n a 0)) a 0 (rw (length-set n p (getD n a 0)) k), set-changed n p (getD n a 0) h)
 
-  pub inserted-tables : (p a b : ℕ) → p < length n → a < length n → rewritten (anodesFrom c f (set (set n a (getD n p 0)) p a)) a 1 b ≡ insertedAfter (anodesFrom c f n) p a 1 b
+  pub inserted-tables : (p a v b : ℕ) → p < length n → a < length n → rewritten (anodesFrom c f (set (set n a (getD n p 0)) p a)) a v b ≡ insertedAfter (anodesFrom c f n) p a v b
   unfolding anodesFrom rewritten insertedAfter
-  inserted-tables p a b h k = rw (set-changed (set n a (getD n p 0)) p a (rw (length-set n a (getD n p 0)) h), set-changed n a (getD n p 0) k)
+  inserted-tables p a v b h k = rw (set-changed (set n a (getD n p 0)) p a (rw (length-set n a (getD n p 0)) h), set-changed n a (getD n p 0) k)

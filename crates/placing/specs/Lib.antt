@@ -1,2 +1,3 @@
--- What a one-block step answers.
+-- What the steps answer, in the terms of the rules, and the state that they start from.
 pub mod Steps
+pub mod States

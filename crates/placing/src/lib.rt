@@ -1,24 +1,51 @@
-// Puts one block into an anode and takes one out of it, on the anodes in three lent tables. The contracts do not say what a refused step leaves in the tables.
+// Puts a run of blocks into an anode and takes one out of it, on the anodes in three lent tables, at the slots of a fourth. A refused step leaves the tables.
 ghost use mathlib.Core.List.{List};
 ghost use mathlib.Core.Logic.{_≢_};
 ghost use mathlib.Core.Path.{_≡_};
 ghost use Prim.Native.Nat.{ℕ, _+_, _<_, _≤_};
 ghost use lib.ListN.{length, getD};
-ghost use Rattle.rules.specs.Anodes.{exists};
-ghost use Rattle.rules.specs.Space.{rewritten, insertedAfter, unlinked, withoutBlock, append, put, join};
-ghost use Rattle.anodes.specs.Loaded.{anodesFrom, AnodeTables};
-ghost use Rattle.placing.specs.Steps.{stepPlan};
+ghost use Rattle.rules.specs.Anodes.{existsBy};
+ghost use Rattle.rules.specs.Space.{rewritten, insertedAfter, unlinked, withoutRun, append, put, join};
+ghost use Rattle.anodes.specs.Loaded.{anodesFrom, slotsFrom, AnodeTables};
+ghost use Rattle.placing.specs.Steps.{stepPlan, UnlessMoved, stoppedBy, movesNumber, Grows};
 use disk::AnodeNo;
 use disk::BlockNo;
 use disk::Refusal;
+use disk::number;
 use searches::lowest_free;
 use tables::entry;
 use tables::set_entry;
 
-// What a one-block step answers: the block that changed hands, or the refusal.
+// What a step answers: the first of the blocks that changed hands, or the refusal.
 pub enum Step {
     Moved(BlockNo),
     Refused(Refusal),
+}
+
+// What a run of steps answers: done, or the refusal that stopped it.
+pub enum Moves {
+    Done,
+    Stopped(Refusal),
+}
+
+// The answer of a run that a refused step stops.
+pub fn stopped(step: Step) -> Moves
+    ensures { λ r. ⌜ r ≡ stoppedBy step ⌝ }
+{
+    match step {
+        Step::Moved(_) => Moves::Done,
+        Step::Refused(r) => Moves::Stopped(r),
+    }
+}
+
+// The number that a run of steps answers: 0 where it is done, else the refusal's.
+pub fn moves_number(moves: Moves) -> u32
+    ensures { λ r. ⌜ r ≡ movesNumber moves ⌝ }
+{
+    match moves {
+        Moves::Done => 0,
+        Moves::Stopped(r) => number(r),
+    }
 }
 
 // Makes anode `a` hold `count` blocks from `first` on; its next stays.
@@ -41,47 +68,50 @@ fn unlink(counts: &mut [u16], firsts: &mut [u16], nexts: &mut [u16], p: AnodeNo,
     rewrite(counts, firsts, a, 0, BlockNo(0));
 }
 
-// Puts anode `a` into the chain behind `p`, with the one block `y`.
-fn insert_after(
+// Puts anode `a` into the chain behind `p`, with `count` blocks from `first` on.
+pub fn insert_after(
     counts: &mut [u16],
     firsts: &mut [u16],
     nexts: &mut [u16],
     p: AnodeNo,
     a: AnodeNo,
-    y: BlockNo,
+    count: u16,
+    first: BlockNo,
 )
     requires { ⌜ (p .0 < 3444) × (a .0 < 3444) × AnodeTables (now counts) (now firsts) (now nexts) ⌝ }
-    ensures { λ _. ⌜ anodesFrom (now (counts .exit)) (now (firsts .exit)) (now (nexts .exit)) ≡ insertedAfter (anodesFrom (now (counts .entry)) (now (firsts .entry)) (now (nexts .entry))) (p .0) (a .0) 1 (y .0) ⌝ }
+    ensures { λ _. ⌜ anodesFrom (now (counts .exit)) (now (firsts .exit)) (now (nexts .exit)) ≡ insertedAfter (anodesFrom (now (counts .entry)) (now (firsts .entry)) (now (nexts .entry))) (p .0) (a .0) count (first .0) ⌝ }
 {
     let next = entry(nexts, p.0 as usize);
     set_entry(nexts, a.0 as usize, next);
     set_entry(nexts, p.0 as usize, a.0);
-    rewrite(counts, firsts, a, 1, y);
+    rewrite(counts, firsts, a, count, first);
 }
 
-// Puts block `y` into the lowest free anode, behind anode `z`.
+// Puts `count` blocks from `first` on into the lowest free anode, behind anode `z`.
 fn append(
-    image: &[u8],
+    slots: &[u16],
     z: AnodeNo,
-    y: BlockNo,
+    count: u16,
+    first: BlockNo,
     counts: &mut [u16],
     firsts: &mut [u16],
     nexts: &mut [u16],
 ) -> Step
     requires { ⌜ (z .0 < 3444) × AnodeTables (now counts) (now firsts) (now nexts) ⌝ }
-    ensures { λ r. ⌜ stepPlan r (anodesFrom (now (counts .exit)) (now (firsts .exit)) (now (nexts .exit))) ≡ append 3444 (exists (now (image .entry))) (anodesFrom (now (counts .entry)) (now (firsts .entry)) (now (nexts .entry))) (z .0) (y .0) ⌝ }
+    ensures plan { λ r. ⌜ stepPlan r count (anodesFrom (now (counts .exit)) (now (firsts .exit)) (now (nexts .exit))) ≡ append 3444 (existsBy (slotsFrom (now (slots .entry)))) (anodesFrom (now (counts .entry)) (now (firsts .entry)) (now (nexts .entry))) (z .0) count (first .0) ⌝ }
+    ensures unmoved { λ r. ⌜ UnlessMoved r (anodesFrom (now (counts .entry)) (now (firsts .entry)) (now (nexts .entry))) (anodesFrom (now (counts .exit)) (now (firsts .exit)) (now (nexts .exit))) ⌝ }
 {
-    let f = lowest_free(image, firsts);
+    let f = lowest_free(slots, firsts);
     if 3444 <= f.0 {
         return Step::Refused(Refusal::NoFreeAnode);
     }
-    insert_after(counts, firsts, nexts, z, f, y);
-    Step::Moved(y)
+    insert_after(counts, firsts, nexts, z, f, count, first);
+    Step::Moved(first)
 }
 
 // Puts block `y` behind the blocks of a chain whose last anode is `z`; `dir`: into an anode of its own.
 pub fn put(
-    image: &[u8],
+    slots: &[u16],
     dir: bool,
     z: AnodeNo,
     y: BlockNo,
@@ -90,7 +120,8 @@ pub fn put(
     nexts: &mut [u16],
 ) -> Step
     requires { ⌜ (z .0 < 3444) × AnodeTables (now counts) (now firsts) (now nexts) × (getD (now firsts) (z .0) 0 ≢ 0) ⌝ }
-    ensures { λ r. ⌜ stepPlan r (anodesFrom (now (counts .exit)) (now (firsts .exit)) (now (nexts .exit))) ≡ put 3444 (exists (now (image .entry))) dir (anodesFrom (now (counts .entry)) (now (firsts .entry)) (now (nexts .entry))) (z .0) (y .0) ⌝ }
+    ensures plan { λ r. ⌜ stepPlan r 1 (anodesFrom (now (counts .exit)) (now (firsts .exit)) (now (nexts .exit))) ≡ put 3444 dir (z .0) (y .0) (existsBy (slotsFrom (now (slots .entry)))) (anodesFrom (now (counts .entry)) (now (firsts .entry)) (now (nexts .entry))) ⌝ }
+    ensures unmoved { λ r. ⌜ UnlessMoved r (anodesFrom (now (counts .entry)) (now (firsts .entry)) (now (nexts .entry))) (anodesFrom (now (counts .exit)) (now (firsts .exit)) (now (nexts .exit))) ⌝ }
 {
     let count = entry(counts, z.0 as usize);
     if count == 0 {
@@ -103,25 +134,26 @@ pub fn put(
         rewrite(counts, firsts, z, count + 1, BlockNo(first));
         return Step::Moved(y);
     }
-    append(image, z, y, counts, firsts, nexts)
+    append(slots, z, 1, y, counts, firsts, nexts)
 }
 
-// Takes a block from anode `x`, which stands after `p`; its first block is then `first`. Emptied, `kept` stays and any other is unlinked.
-pub fn without_block(
+// Takes `d` blocks from anode `x`, which stands after `p`; its first block is then `first`. Emptied, `kept` stays and any other is unlinked.
+pub fn without_run(
     counts: &mut [u16],
     firsts: &mut [u16],
     nexts: &mut [u16],
     kept: AnodeNo,
     p: AnodeNo,
     x: AnodeNo,
+    d: u16,
     first: BlockNo,
 )
-    requires { ⌜ (p .0 < 3444) × (x .0 < 3444) × AnodeTables (now counts) (now firsts) (now nexts) × (0 < getD (now counts) (x .0) 0) ⌝ }
-    ensures { λ _. ⌜ anodesFrom (now (counts .exit)) (now (firsts .exit)) (now (nexts .exit)) ≡ withoutBlock (anodesFrom (now (counts .entry)) (now (firsts .entry)) (now (nexts .entry))) (kept .0) (p .0) (x .0) (first .0) ⌝ }
+    requires { ⌜ (p .0 < 3444) × (x .0 < 3444) × AnodeTables (now counts) (now firsts) (now nexts) × (d ≤ getD (now counts) (x .0) 0) ⌝ }
+    ensures { λ _. ⌜ anodesFrom (now (counts .exit)) (now (firsts .exit)) (now (nexts .exit)) ≡ withoutRun (anodesFrom (now (counts .entry)) (now (firsts .entry)) (now (nexts .entry))) (kept .0) (p .0) (x .0) d (first .0) ⌝ }
 {
     let count = entry(counts, x.0 as usize);
-    if count != 1 {
-        rewrite(counts, firsts, x, count - 1, first);
+    if count != d {
+        rewrite(counts, firsts, x, count - d, first);
         return;
     }
     if x.0 == kept.0 {
@@ -131,27 +163,49 @@ pub fn without_block(
     unlink(counts, firsts, nexts, p, x);
 }
 
-// Joins block `y` to its side of the free list, whose last anode is `z`.
+// Whether `count` blocks from `first` on can be had by anode `z`, the last of their side; if so it has them then.
+fn grow(z: AnodeNo, count: u16, first: BlockNo, counts: &mut [u16], firsts: &mut [u16]) -> bool
+    requires { ⌜ (z .0 < 3444) × (length (now counts) ≡ 3444) × (length (now firsts) ≡ 3444) ⌝ }
+    requires { ⌜ (0 < getD (now counts) (z .0) 0 → getD (now firsts) (z .0) 0 + getD (now counts) (z .0) 0 ≤ 65535) × (first .0 + count ≤ 65535) ⌝ }
+    ensures { λ r. ⌜ ((n : List ℕ) → Grows r (anodesFrom (now (counts .entry)) (now (firsts .entry)) n) (z .0) count (first .0) (anodesFrom (now (counts .exit)) (now (firsts .exit)) n)) ⌝ }
+{
+    let has = entry(counts, z.0 as usize);
+    let from = entry(firsts, z.0 as usize);
+    if has == 0 {
+        rewrite(counts, firsts, z, count, first);
+        return true;
+    }
+    if from as u32 + has as u32 == first.0 as u32 {
+        rewrite(counts, firsts, z, has + count, BlockNo(from));
+        return true;
+    }
+    if first.0 as u32 + count as u32 == from as u32 {
+        rewrite(counts, firsts, z, has + count, first);
+        return true;
+    }
+    false
+}
+
+// Joins `count` blocks from `first` on to their side of the free list, whose last anode is `z`.
 pub fn join(
-    image: &[u8],
+    slots: &[u16],
     z: AnodeNo,
-    y: BlockNo,
+    count: u16,
+    first: BlockNo,
     counts: &mut [u16],
     firsts: &mut [u16],
     nexts: &mut [u16],
 ) -> Step
     requires { ⌜ (z .0 < 3444) × AnodeTables (now counts) (now firsts) (now nexts) ⌝ }
-    requires { ⌜ (getD (now firsts) (z .0) 0 ≢ 0) × (0 < getD (now counts) (z .0) 0 → getD (now firsts) (z .0) 0 + getD (now counts) (z .0) 0 ≤ 65535) ⌝ }
-    ensures { λ r. ⌜ stepPlan r (anodesFrom (now (counts .exit)) (now (firsts .exit)) (now (nexts .exit))) ≡ join 3444 (exists (now (image .entry))) (anodesFrom (now (counts .entry)) (now (firsts .entry)) (now (nexts .entry))) (z .0) (y .0) ⌝ }
+    requires { ⌜ (0 < getD (now counts) (z .0) 0 → getD (now firsts) (z .0) 0 + getD (now counts) (z .0) 0 ≤ 65535) × (first .0 + count ≤ 65535) ⌝ }
+    ensures plan { λ r. ⌜ stepPlan r count (anodesFrom (now (counts .exit)) (now (firsts .exit)) (now (nexts .exit))) ≡ join 3444 (z .0) count (first .0) (existsBy (slotsFrom (now (slots .entry)))) (anodesFrom (now (counts .entry)) (now (firsts .entry)) (now (nexts .entry))) ⌝ }
+    ensures unmoved { λ r. ⌜ UnlessMoved r (anodesFrom (now (counts .entry)) (now (firsts .entry)) (now (nexts .entry))) (anodesFrom (now (counts .exit)) (now (firsts .exit)) (now (nexts .exit))) ⌝ }
 {
     if z.0 == 1 {
-        return append(image, z, y, counts, firsts, nexts);
+        return append(slots, z, count, first, counts, firsts, nexts);
     }
-    let count = entry(counts, z.0 as usize);
-    let first = entry(firsts, z.0 as usize);
-    if count != 0 && y.0 as u32 + 1 == first as u32 {
-        rewrite(counts, firsts, z, count + 1, y);
-        return Step::Moved(y);
+    if grow(z, count, first, counts, firsts) {
+        return Step::Moved(first);
     }
-    put(image, false, z, y, counts, firsts, nexts)
+    append(slots, z, count, first, counts, firsts, nexts)
 }

@@ -1,9 +1,11 @@
 // Removes an entry of an accepted image: its blocks go back to the free list, its anodes become free, and its directory block closes the gap.
+ghost use mathlib.Core.List.{List};
 ghost use mathlib.Core.Path.{_≡_};
-ghost use Prim.Native.Nat.{_≤_};
-ghost use lib.ListN.{length, take};
-ghost use Rattle.rules.specs.Anodes.{anodesOf};
-ghost use Rattle.rules.specs.Space.{planned};
+ghost use Prim.Native.Nat.{ℕ, _≤_};
+ghost use lib.ListN.{length};
+ghost use Rattle.disk.specs.Root.{slotOf};
+ghost use Rattle.rules.specs.Accepted.{lastReserved};
+ghost use Rattle.rules.specs.Plans.{slotted, tableOf, planned, noGrowth};
 ghost use Rattle.rules.specs.Changes.{removePlan, removed};
 ghost use Rattle.anodes.specs.Loaded.{anodesFrom, Loaded};
 ghost use Rattle.lookup.specs.Answers.{entered};
@@ -13,12 +15,14 @@ use disk::AnodeNo;
 use edits::set_owners;
 use edits::store_anodes;
 use edits::take_out;
+use giving::copied;
+use giving::drop_chain;
+use giving::give_many;
 use lookup::EntryAt;
-use space::Moves;
-use space::copied;
-use space::drop_chain;
-use space::move_many;
-use space::moves_number;
+use placing::Moves;
+use placing::moves_number;
+use searches::last_reserved;
+use searches::slots_of;
 use tree::chain_sum;
 
 // Writes a removal whose blocks are given back into the image, and shows it in the two tables.
@@ -32,15 +36,14 @@ fn commit_remove(
     new_counts: &mut [u16],
     new_firsts: &mut [u16],
     new_nexts: &mut [u16],
-    moved: &[u16],
-    n: usize,
     e: EntryAt,
 )
     requires { ⌜ Loaded (now image) (now counts) (now firsts) (now nexts) × ReachedEntry (now image) (entered e) ⌝ }
-    requires { ⌜ (3444 ≤ length (now anodes)) × (length (now «new_nexts») ≡ 3444) × (length (now moved) ≡ 65535) ⌝ }
-    requires { ⌜ removePlan (now image) (anodesOf (now image)) (e .anode .0) ≡ planned (anodesFrom (now «new_counts») (now «new_firsts») (now «new_nexts»)) (take n (now moved)) ⌝ }
-    ensures { λ _. ⌜ Leaves 0 (now (image .entry)) (now (blocks .entry)) (now (anodes .entry)) (now (image .exit)) (now (blocks .exit)) (now (anodes .exit)) (removed (now (image .entry)) (anodesOf (now (image .entry))) (entered e)) ⌝ }
+    requires { ⌜ (3444 ≤ length (now anodes)) × (length (now «new_nexts») ≡ 3444) ⌝ }
+    requires { ⌜ ((ys : List ℕ) × (removePlan noGrowth (lastReserved (now image)) (tableOf (now image)) (e .anode .0) ≡ planned (slotted (anodesFrom (now «new_counts») (now «new_firsts») (now «new_nexts»)) (slotOf (now image))) ys)) ⌝ }
+    ensures { λ _. ⌜ Leaves 0 (now (image .entry)) (now (blocks .entry)) (now (anodes .entry)) (now (image .exit)) (now (blocks .exit)) (now (anodes .exit)) (removed noGrowth (now (image .entry)) (tableOf (now (image .entry))) (entered e)) ⌝ }
 {
+    set_owners(blocks, new_counts, new_firsts, new_nexts, AnodeNo(1));
     drop_chain(e.anode, new_counts, new_firsts, new_nexts);
     store_anodes(
         image,
@@ -52,7 +55,6 @@ fn commit_remove(
         new_nexts,
     );
     take_out(image, e.start);
-    set_owners(blocks, moved, n, AnodeNo(1));
     show_heads(new_firsts, new_nexts, anodes);
 }
 
@@ -68,24 +70,22 @@ pub fn remove_entry(
 ) -> u32
     requires { ⌜ Loaded (now image) (now counts) (now firsts) (now nexts) × ReachedEntry (now image) (entered e) ⌝ }
     requires { ⌜ 3444 ≤ length (now anodes) ⌝ }
-    ensures { λ r. ⌜ Leaves r (now (image .entry)) (now (blocks .entry)) (now (anodes .entry)) (now (image .exit)) (now (blocks .exit)) (now (anodes .exit)) (removed (now (image .entry)) (anodesOf (now (image .entry))) (entered e)) ⌝ }
+    ensures { λ r. ⌜ Leaves r (now (image .entry)) (now (blocks .entry)) (now (anodes .entry)) (now (image .exit)) (now (blocks .exit)) (now (anodes .exit)) (removed noGrowth (now (image .entry)) (tableOf (now (image .entry))) (entered e)) ⌝ }
 {
     let have = chain_sum(counts, nexts, e.anode) as u64;
     let mut new_counts = copied(counts);
     let mut new_firsts = copied(firsts);
     let mut new_nexts = copied(nexts);
-    let mut moved = [0u16; 65535];
-    let plan = move_many(
-        image,
-        false,
+    let plan = give_many(
+        &slots_of(image),
+        last_reserved(image),
         have,
         e.anode,
         &mut new_counts,
         &mut new_firsts,
         &mut new_nexts,
-        &mut moved,
     );
-    let Moves::Done(n) = plan else {
+    let Moves::Done = plan else {
         return moves_number(plan);
     };
     commit_remove(
@@ -98,8 +98,6 @@ pub fn remove_entry(
         &mut new_counts,
         &mut new_firsts,
         &mut new_nexts,
-        &moved,
-        n,
         e,
     );
     0

@@ -1,104 +1,135 @@
 -- A resize by its plan: how much it asks for, and what it leaves of an accepted image and of its two tables.
-use Prim.Native.Nat.{ℕ, _-_, _<_, _≤_}
-use mathlib.Core.Path.{_≡_, refl, sym, _∙_}
-use mathlib.Core.Logic.{inl, inr}
+use Prim.Native.Nat.{ℕ, _+_, _-_, _*_, _<_, _≤_}
+use mathlib.Core.Path.{_≡_, refl, sym, ap, _∙_, subst}
+use mathlib.Core.Logic.{_≢_, _⊎_, inl, inr}
 use mathlib.Core.Bool.{true, false}
 use mathlib.Core.List.{List, _++_}
+use native.Mathlib.Nat.{add-zero}
 use native.Mathlib.Omega.{arith}
 use lib.ListN.{length, drop}
+use lib.Seq.{drop-append-add}
 use borrow.Author.Tests.{le-leb, lt-leb, lt-ltb, le-ltb}
+use Rattle.disk.specs.Root.{slotOf}
 use Rattle.rules.specs.Anodes.{Anodes, limit, anodesOf}
-use Rattle.rules.specs.Chains.{blockCount}
+use Rattle.rules.specs.Counting.{oneAt}
+use Rattle.rules.specs.Chains.{systemOwns, blocksOf, blockCount}
 use Rattle.rules.specs.Walk.{Entered, blocksFor}
 use Rattle.rules.specs.Tables.{anodeTable}
-use Rattle.rules.specs.Space.{Plan, refused, planned, takeMany, giveMany}
+use Rattle.rules.specs.Accepted.{diskSize, wrongSize, lastReserved}
+use Rattle.rules.specs.Plans.{Slotted, slotted, tableOf, Plan, refused, planned, noGrowth}
+use Rattle.rules.specs.Space.{takeMany, giveMany}
 use Rattle.rules.specs.Format.{zeroBlock}
 use Rattle.rules.specs.Changes.{withBlocks, resizePlan, zeroTaken, resizedImage, resized}
 use Rattle.laws.specs.Tests.{less?}
+use Rattle.laws.specs.Sums.{oneAt-cases, sum-mono}
+use Rattle.laws.specs.Heads.{Head}
+use Rattle.laws.specs.Blocks.{blocks}
+use Rattle.laws.specs.ChainBlocks.{length-blocksOf}
 use Rattle.laws.specs.Links.{Linked}
-use Rattle.laws.specs.Whole.{blocks-count}
+use Rattle.laws.specs.Space.{head-1}
+use Rattle.laws.specs.Owners.{full-inside}
+use Rattle.laws.specs.Ownership.{total}
+use Rattle.laws.specs.FixedSlots.{none-grown}
 use Rattle.laws.specs.OwnerTable.{setAll}
+use Rattle.laws.specs.Acceptance.{size-bounds}
 use Rattle.change_laws.specs.Answers.{step-late}
+use Rattle.change_laws.specs.Image.{GoodOn}
 use Rattle.change_laws.specs.Reached.{entry-not-1}
 use Rattle.change_laws.specs.ResizePlan.{newOwner, plan-refused, plan-longer}
-use Rattle.change_laws.specs.ResizeStores.{PlannedResize, steps, resized-disk}
-use Rattle.anodes.specs.Loaded.{anodesFrom, Loaded}
+use Rattle.change_laws.specs.ResizeStores.{PlannedResize, steps, steps-good, resized-disk}
+use Rattle.anodes.specs.Loaded.{anodesFrom, slotsFrom, tableFrom, Loaded}
 use Rattle.tree.specs.Steps.{sumFrom}
-use Rattle.space.specs.Steps.{moveBlock, moveMany}
-use Rattle.space.proofs.Many.{count-small}
 use Rattle.change_tables.specs.Leaves.{Leaves, ReachedEntry}
-use Rattle.change_tables.specs.Laws.{Shows, leaves-refused, shows-ran, leaves-done}
-use Rattle.change_tables.specs.Chains.{loaded-size, image-good, entry-known, loaded-copies, chain-counted, planned-change, gave-few}
+use Rattle.change_tables.specs.Laws.{Shows, leaves-refused, shows-chain, leaves-done}
+use Rattle.change_tables.specs.Chains.{loaded-size, image-good, entry-known, loaded-copies, chain-counted, planned-change}
+
+-- the end of every extent fits into two bytes
+pub extents-fit : (img : List ℕ) → wrongSize img ≡ false → {t : Anodes} {hd sd : ℕ → ℕ} → GoodOn img t hd sd → (a : ℕ) → 0 < t .count a → t .block a + t .count a ≤ 65535
+extents-fit img right g a p = omega (arith, full-inside g a p, size-bounds img right .1)
 
 module _ {img counts firsts nexts : List ℕ} (l : Loaded img counts firsts nexts) (e : Entered) (r : ReachedEntry img e) (size : ℕ) where
   abbrev s : Anodes
   s = anodesOf img
 
+  abbrev plan : Plan Slotted
+  plan = resizePlan noGrowth (lastReserved img) (tableOf img) (e .anode) (blocksFor size)
+
   abbrev owner : ℕ
   owner = newOwner (e .anode) (blockCount s (e .anode)) (blocksFor size)
 
   -- the plan on copies of the tables is that of the image
-  pub plan-made : (nc nf nn : List ℕ) → nc ≡ counts → nf ≡ firsts → nn ≡ nexts → (want : ℕ) → want ≡ blocksFor size → (p : Plan) → p ≡ resizePlan img (anodesFrom nc nf nn) (e .anode) want → resizePlan img s (e .anode) (blocksFor size) ≡ p
-  plan-made nc nf nn c f n want q p made = sym (made ∙ rw (loaded-copies l nc nf nn c f n .is-loaded, q))
+  pub plan-made : (nc nf nn : List ℕ) → nc ≡ counts → nf ≡ firsts → nn ≡ nexts → (slots : List ℕ) → slotsFrom slots ≡ slotOf img → (want : ℕ) → want ≡ blocksFor size →
+      (last : ℕ) → last ≡ lastReserved img → resizePlan noGrowth last (tableFrom nc nf nn slots) (e .anode) want ≡ plan
+  plan-made nc nf nn c f n slots held want q last is = rw (loaded-copies l nc nf nn c f n .is-loaded, held, q, is)
 
   -- by what was counted it is the same
   pub owner-is : (have want o : ℕ) → have ≡ sumFrom counts nexts limit (e .anode) → want ≡ blocksFor size → o ≡ newOwner (e .anode) have want → o ≡ owner
   owner-is have want o i q is = is ∙ rw (chain-counted l (e .anode) have i, q)
 
   -- refused it leaves everything
-  pub refused-leaves : (k : ℕ) → resizePlan img s (e .anode) (blocksFor size) ≡ refused k → (b a : List ℕ) → Leaves k img b a img b a (resized img s e size)
+  pub refused-leaves : (k : ℕ) → plan ≡ refused k → (b a : List ℕ) → Leaves k img b a img b a (resized noGrowth img (tableOf img) e size)
   unfolding resized
-  refused-leaves k plan b a = rw plan (leaves-refused k (step-late k (plan-refused img (image-good l) (e .anode) (entry-known l e r .head) (entry-not-1 (entry-known l e r)) (blocksFor size) k plan)) img b a)
+  refused-leaves k is b a = rw is (leaves-refused k (step-late k (plan-refused img (image-good l) (e .anode) (entry-known l e r .head) (entry-not-1 (entry-known l e r)) (blocksFor size) k is)) img b a)
 
-  module _ (file : e .dir ≡ false) (t : Anodes) (ys : List ℕ) (plan : resizePlan img s (e .anode) (blocksFor size) ≡ planned t ys) where
-    p : PlannedResize img e size t ys
-    p = planned-change l e r (record { file = file; steps = plan })
+  module _ (file : e .dir ≡ false) (t : Anodes) (ys : List ℕ) (is : plan ≡ planned (slotted t (slotOf img)) ys) where
+    pub p : PlannedResize img e size (slotted t (slotOf img)) ys
+    p = planned-change l e r (record { file = file; steps = is })
 
-    -- the links that show_heads asks for
-    pub resized-linked : Linked limit (t .next) (t .block)
-    resized-linked = steps p .ran .good .linked
+    -- the new anodes are in good order
+    pub resized-good : GoodOn img t (steps p .moves .hd′) (steps p .moves .sd′)
+    resized-good = steps-good p
 
-    -- a planned resize asks for fewer than 65,535 blocks
-    asked-less : blocksFor size < 65535
-    asked-less =
-        let ran = steps p .ran in
-        let head = ran .shift .stays (e .anode) (entry-known l e r .head) in
-        omega (arith, ran .has, blocks-count (ran .good) (e .anode) head, count-small img t (ran .hd′, ran .sd′, ran .good) (e .anode) head (loaded-size l))
+    head : Head (t .next) (t .block) (e .anode)
+    head = steps p .moves .shift .stays (e .anode) (entry-known l e r .head)
 
     -- the size fits the entry's field
     pub size-fits : size < 4294967296
+    unfolding blocksFor blocks
+    size-fits = omega (arith, steps p .has, chain-fits (steps p .moves .hd′) (e .anode), size-bounds img (loaded-size l) .1)
+      where
+        -- a chain has no more blocks than the disk
+        chain-fits : (hd : ℕ → ℕ) (m : ℕ) → blocks limit hd (t .count) m ≤ diskSize img
+        chain-fits hd m = omega (
+          arith,
+          total limit (t .count) (t .block) (systemOwns img) (diskSize img) (resized-good .own),
+          sum-mono (λ a. oneAt (hd a) m * t .count a) (t .count) limit (λ a l. elim (oneAt-cases (hd a) m) [ inl q ↦ rw (q .1) (omega arith) | inr q ↦ rw (q .1) (omega arith) ]),
+        )
+
+    -- where the file grows, the blocks behind those it had are those that it took
+    pub grown-blocks : e .size < size → drop (blockCount s (e .anode)) (blocksOf t (e .anode)) ≡ ys
     unfolding blocksFor
-    size-fits = omega (arith, asked-less)
+    grown-blocks m =
+        let longer = plan-longer img (image-good l) (e .anode) (entry-known l e r .head) (entry-not-1 (entry-known l e r)) (blocksFor size) (slotted t (slotOf img)) ys is (omega (arith, entry-known l e r .sized file, m)) in
+        ap (λ (n : ℕ). drop n (blocksOf t (e .anode))) (sym (length-blocksOf s (e .anode)) ∙ sym (add-zero (length (blocksOf s (e .anode)))))
+        ∙ ap (drop (length (blocksOf s (e .anode)) + 0)) (longer .0) ∙ drop-append-add (blocksOf s (e .anode)) ys 0
 
-    -- fewer blocks changed hands than the table of moved blocks holds
-    pub moved-few : length ys < 65535
-    unfolding resizePlan
-    moved-few = elim (less? (blocksFor size) (blockCount s (e .anode))) [
-      | inl m ↦ gave-few l e r (blockCount s (e .anode) - blocksFor size) t ys (rw (lt-leb (blockCount s (e .anode)) (blocksFor size) m) at plan) (omega arith)
-      | inr m ↦ omega (arith, asked-less, plan-longer img (image-good l) (e .anode) (entry-known l e r .head) (entry-not-1 (entry-known l e r)) (blocksFor size) t ys plan m .1)
-    ]
-
-    -- the block table with the moved blocks under their new head
-    owners-shown : (b rest : List ℕ) → Shows img s b rest → Shows img t (setAll b ys owner) rest
-    owners-shown b rest q = rw (← (steps p .to-is)) (shows-ran img s t (image-good l) (steps p .ran) (steps p .apart) b rest q)
+    -- the block table with the chain of the owner under its head
+    owners-shown : (b rest : List ℕ) → Shows img s b rest → Shows img t (setAll b (blocksOf t owner) owner) rest
+    owners-shown b rest q = rw (← (steps p .to-is)) (shows-chain img s t (image-good l) (steps p .moves) (steps p .apart) (none-grown (steps p .moves) (steps p .same-slots)) to-head b rest q)
+      where
+        to-head : Head (t .next) (t .block) (steps p .to)
+        to-head = elim (less? (blocksFor size) (blockCount s (e .anode))) [
+          | inl m ↦ subst (Head (t .next) (t .block)) (sym (rw (lt-leb (blockCount s (e .anode)) (blocksFor size) m) at (steps p .to-is))) (head-1 resized-good)
+          | inr m ↦ subst (Head (t .next) (t .block)) (sym (rw (le-leb (blockCount s (e .anode)) (blocksFor size) m) at (steps p .to-is))) head
+        ]
 
     -- what it leaves of the image and the tables
     pub done-leaves : (o : ℕ) → o ≡ owner → (b a : List ℕ) →
-        Leaves 0 img b a (resizedImage img s e size t ys) (setAll b ys o) (anodeTable t ++ drop limit a) (resized img s e size)
+        Leaves 0 img b a (resizedImage img s e size (slotted t (slotOf img)) ys) (setAll b (blocksOf t o) o) (anodeTable t ++ drop limit a) (resized noGrowth img (tableOf img) e size)
     unfolding resized
-    done-leaves o i b a = rw (plan, i)
-        (leaves-done img (resizedImage img s e size t ys) (resized-disk p) b a (setAll b ys owner) (anodeTable t ++ drop limit a)
+    done-leaves o i b a = rw (is, i)
+        (leaves-done img (resizedImage img s e size (slotted t (slotOf img)) ys) (resized-disk p) b a (setAll b (blocksOf t owner) owner) (anodeTable t ++ drop limit a)
         (owners-shown b) refl)
 
 -- ---- the plan by its two ways
 
-module _ (img : List ℕ) (s : Anodes) (h have want : ℕ) (is : have ≡ blockCount s h) where
-  pub plan-grows : have ≤ want → moveMany img true (want - have) s h ≡ resizePlan img s h want
-  unfolding resizePlan moveMany moveBlock takeMany giveMany
+module _ (last : ℕ) (s : Slotted) (h have want : ℕ) (is : have ≡ blockCount (s .anodes) h) where
+  pub plan-grows : have ≤ want → takeMany limit noGrowth false (want - have) h s ≡ resizePlan noGrowth last s h want
+  unfolding resizePlan
   plan-grows l = rw (← is, le-leb have want l)
 
-  pub plan-shrinks : want < have → moveMany img false (have - want) s h ≡ resizePlan img s h want
-  unfolding resizePlan moveMany moveBlock takeMany giveMany
+  pub plan-shrinks : want < have → giveMany limit noGrowth last (have - want) h s ≡ resizePlan noGrowth last s h want
+  unfolding resizePlan
   plan-shrinks l = rw (← is, lt-leb have want l)
 
 -- ---- the blocks that a growing file takes

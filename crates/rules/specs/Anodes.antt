@@ -1,11 +1,11 @@
 -- 01, "Anodes, chains, free list": the anodes of an image, as three functions of the anode's number.
 use Prim.Native.Nat.{ℕ, zero, suc}
-use mathlib.Core.Bool.{Bool, cond, _&&_}
-use mathlib.Core.List.{List, []}
-use lib.ListN.{length, getD}
-use lib.Dec.{eqb, ltb}
+use mathlib.Core.Bool.{Bool, cond, not, _&&_}
+use mathlib.Core.List.{List}
+use lib.Dec.{eqb}
 use Rattle.disk.specs.declared.Anode.{Anode}
-use Rattle.disk.specs.AnodeBlocks.{anodeMade, anodeSlots, anodeAt, slotFor, placeFor, setAnode}
+use Rattle.disk.specs.Root.{slotOf}
+use Rattle.disk.specs.AnodeBlocks.{anodeMade, anodeSlots, anodeAt, slotFor, setAnode}
 
 -- at most 3,444 anodes
 abbrev pub limit : ℕ
@@ -18,12 +18,12 @@ pub record Anodes : Type 0 where
   pub next : ℕ → ℕ
 
 -- an anode exists where its slot holds a block
-unfoldable pub existsIn : List (List Anode) → ℕ → Bool
-existsIn slots a = ltb (placeFor a) (length (getD slots (slotFor a) []))
+unfoldable pub existsBy : (ℕ → ℕ) → ℕ → Bool
+existsBy slots a = not (eqb (slots (slotFor a)) 0)
 
 -- the anodes that exist in an image
-unfoldable pub exists : List ℕ → ℕ → Bool
-exists img = existsIn (anodeSlots img)
+abbrev pub exists : List ℕ → ℕ → Bool
+exists img = existsBy (slotOf img)
 
 -- the fields as they are stored; a missing anode reads (0, 0, 0)
 unfoldable pub fieldsOf : List (List Anode) → Anodes

@@ -18,7 +18,8 @@ use Rattle.rules.specs.Accepted.{diskSize, checkAnswer}
 use Rattle.rules.specs.Tables.{blocksLeft, anodesLeft}
 use Rattle.rules.specs.Lookup.{noDirectory, entriesOf, nameAt, entryNamed, nth, ofEntry, isThere, namesDir, notEmptyDir, pastEnd, contents}
 use Rattle.rules.specs.Format.{formatAnswer, formatted}
-use Rattle.rules.specs.Changes.{Left, left, newEntry, resized, made, written, removed}
+use Rattle.rules.specs.Plans.{tableOf}
+use Rattle.rules.specs.Changes.{Left, left, newEntry, resized, made, written, removed, usualGrowth}
 
 -- all that a call settles: its answer, the image, both tables, the output and, of list, the name
 pub record Outcome : Type 0 where
@@ -183,7 +184,7 @@ unfoldable pub makeOutcome : List ℕ → List ℕ → List ℕ → ℕ → ℕ 
 makeOutcome img blocks anodes h type name comment day minute tick protection =
     settled
     (leftAfter (checkedFirst img blocks anodes (makeRefusal img (anodesOf img) h type name comment)) img
-    (made img (anodesOf img) h (newEntry (eqb type 2) name comment day minute tick protection)))
+    (made usualGrowth img (tableOf img) h (newEntry (eqb type 2) name comment day minute tick protection)))
     blocks anodes [] []
 
 -- Resize
@@ -191,7 +192,7 @@ unfoldable pub resizeOutcome : List ℕ → List ℕ → List ℕ → ℕ → Li
 resizeOutcome img blocks anodes h name new =
     settled
     (changeNamed (checkedFirst img blocks anodes (resizeRefusal img (anodesOf img) h name)) img
-    (entryNamed img (anodesOf img) h name) (λ e. resized img (anodesOf img) e new))
+    (entryNamed img (anodesOf img) h name) (λ e. resized usualGrowth img (tableOf img) e new))
     blocks anodes [] []
 
 -- Write
@@ -207,5 +208,5 @@ unfoldable pub removeOutcome : List ℕ → List ℕ → List ℕ → ℕ → Li
 removeOutcome img blocks anodes h name =
     settled
     (changeNamed (checkedFirst img blocks anodes (removeRefusal img (anodesOf img) h name)) img
-    (entryNamed img (anodesOf img) h name) (λ e. removed img (anodesOf img) e))
+    (entryNamed img (anodesOf img) h name) (λ e. removed usualGrowth img (tableOf img) e))
     blocks anodes [] []

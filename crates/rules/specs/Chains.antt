@@ -34,13 +34,17 @@ headOf A next block a = sumBelow (λ h. oneIfHead A next block h * (occurrences 
 unfoldable pub oneIfCovers : ℕ → ℕ → ℕ → ℕ
 oneIfCovers c b x = cond (leb b x && ltb x (b + c)) 1 0
 
--- 1 where slot s holds block x
-unfoldable pub oneIfHolds : List ℕ → ℕ → ℕ → ℕ
-oneIfHolds img x s = cond (eqb (slotOf img s) 0) 0 (oneAt (slotOf img s) x)
+-- 1 where slot k holds block x
+unfoldable pub oneIfHolds : (ℕ → ℕ) → ℕ → ℕ → ℕ
+oneIfHolds slots x k = cond (eqb (slots k) 0) 0 (oneAt (slots k) x)
 
 -- the system owns blocks 0 to 2 and the anode blocks
-unfoldable pub systemOwns : List ℕ → ℕ → ℕ
-systemOwns img x = cond (ltb x 3) 1 (sumBelow (oneIfHolds img x) 42)
+unfoldable pub systemBy : (ℕ → ℕ) → ℕ → ℕ
+systemBy slots x = cond (ltb x 3) 1 (sumBelow (oneIfHolds slots x) 42)
+
+-- the blocks that the system owns in an image
+abbrev pub systemOwns : List ℕ → ℕ → ℕ
+systemOwns img = systemBy (slotOf img)
 
 -- how many owners a block has: the system, and each anode that covers it
 unfoldable pub owners : ℕ → (ℕ → ℕ) → (ℕ → ℕ) → (ℕ → ℕ) → ℕ → ℕ

@@ -1,4 +1,4 @@
--- 01, "The changes", Resize, Make, Write and Remove: the steps that are planned on the anodes, and the image that they leave. A refused plan leaves the image that came.
+-- 01, "The changes", Resize, Make, Write and Remove: the steps that are planned on the anodes and slots, and the image that they leave. A refused plan leaves the image that came.
 use Prim.Native.Nat.{ℕ, zero, suc, _+_, _-_, _*_, _/_, _%_}
 use mathlib.Core.Bool.{Bool, true, false, cond, not, _&&_}
 use mathlib.Core.List.{List, [], _∷_, _++_}
@@ -10,13 +10,13 @@ use Rattle.disk.specs.Blocks.{blockOf, withBlock}
 use Rattle.directory.specs.declared.Entry.{Entry}
 use Rattle.directory.specs.declared.Kind.the-variants.{File, Directory}
 use Rattle.directory.specs.Entries.{entryLength, putEntry}
-use Rattle.rules.specs.Anodes.{Anodes, limit, exists, withAnodes}
+use Rattle.rules.specs.Anodes.{Anodes, limit, existsBy, withAnodes}
 use Rattle.rules.specs.Chains.{blocksOf, blockCount}
 use Rattle.rules.specs.Walk.{Dir, Entered, blocksFor, reachedDirs}
 use Rattle.rules.specs.Accepted.{lastReserved}
 use Rattle.rules.specs.Lookup.{bytesOf}
-use Rattle.rules.specs.Space as Space
-use Rattle.rules.specs.Space.{Plan, refused, planned, rewritten}
+use Rattle.rules.specs.Plans.{Slotted, slotted, Plan, refused, planned, Growth, noGrowth}
+use Rattle.rules.specs.Space.{rewritten, lowestFree, withSpare, takeBlock, takeMany, giveMany, dropped}
 use Rattle.rules.specs.Format.{zeroBlock, newDirectoryBlock}
 
 -- what a change answers, and the image that it leaves
@@ -28,8 +28,8 @@ pub record Left : Type 0 where
 abbrev pub left : ℕ → List ℕ → Left
 left answer image = record { answer = answer; image = image }
 
--- refused if any step is, and then the image stays; a done plan leaves what f makes of its anodes and blocks
-abbrev pub leftBy : Plan → List ℕ → (Anodes → List ℕ → Left) → Left
+-- refused if any step is, and then the image stays; a done plan leaves what f makes of its state and blocks
+abbrev pub leftBy : Plan Slotted → List ℕ → (Slotted → List ℕ → Left) → Left
 leftBy (refused n) img f = left n img
 leftBy (planned t ys) img f = f t ys
 
@@ -43,13 +43,6 @@ withBlocks img [] new = img
 withBlocks img (y ∷ ys) new = withBlocks (withBlock img y new) ys new
 
 -- ---- Resize
-
--- takes or gives back one block at a time until the count fits
-unfoldable pub resizePlan : List ℕ → Anodes → ℕ → ℕ → Plan
-resizePlan img s h blocks =
-    cond (leb (blockCount s h) blocks)
-    (Space.takeMany limit (exists img) false (blocks - blockCount s h) s h)
-    (Space.giveMany limit (exists img) (lastReserved img) (blockCount s h - blocks) s h)
 
 -- when the size grows, the old last block is zeroed from the old size to its end
 unfoldable pub zeroTail : List ℕ → Anodes → Entered → ℕ → List ℕ
@@ -66,13 +59,21 @@ withSize img start new = inBlock img (start / 512) (λ b. put32 b (start % 512 +
 unfoldable pub zeroTaken : List ℕ → Entered → ℕ → List ℕ → List ℕ
 zeroTaken img e new ys = cond (ltb (e .size) new) (withBlocks img ys zeroBlock) img
 
--- the image after a resize whose steps left the anodes t and moved the blocks ys
-unfoldable pub resizedImage : List ℕ → Anodes → Entered → ℕ → Anodes → List ℕ → List ℕ
-resizedImage img s e new t ys = withSize (zeroTail (zeroTaken (withAnodes img t) e new ys) s e new) (e .start) new
+-- the image after a resize whose steps left the state t and moved the blocks ys
+unfoldable pub resizedImage : List ℕ → Anodes → Entered → ℕ → Slotted → List ℕ → List ℕ
+resizedImage img s e new t ys = withSize (zeroTail (zeroTaken (withAnodes img (t .anodes)) e new ys) s e new) (e .start) new
 
--- Resize: refused by its first step that fails, else that image
-unfoldable pub resized : List ℕ → Anodes → Entered → ℕ → Left
-resized img s e new = leftBy (resizePlan img s (e .anode) (blocksFor new)) img (λ t ys. left 0 (resizedImage img s e new t ys))
+module _ (growth : Growth) where
+  -- takes or gives back one block at a time until the count fits (last: last reserved)
+  unfoldable pub resizePlan : ℕ → Slotted → ℕ → ℕ → Plan Slotted
+  resizePlan last s h blocks =
+      cond (leb (blockCount (s .anodes) h) blocks)
+      (takeMany limit growth false (blocks - blockCount (s .anodes) h) h s)
+      (giveMany limit growth last (blockCount (s .anodes) h - blocks) h s)
+
+  -- Resize: refused by its first step that fails, else that image
+  unfoldable pub resized : List ℕ → Slotted → Entered → ℕ → Left
+  resized img s e new = leftBy (resizePlan (lastReserved img) s (e .anode) (blocksFor new)) img (λ t ys. left 0 (resizedImage img (s .anodes) e new t ys))
 
 -- ---- Make
 
@@ -95,11 +96,6 @@ firstRoom img len (y ∷ ys) =
 abbrev pub noRoom : Option ℕ → Bool
 noRoom none = true
 noRoom (some start) = false
-
--- a new directory takes one block into its head, and the parent takes one where it has no room
-unfoldable pub neededBlock : List ℕ → Bool → Anodes → ℕ → Plan
-neededBlock img true s h = Space.takeBlock limit (exists img) true s h
-neededBlock img false s h = planned s []
 
 -- the head of a reached directory's parent; the root's is 0
 unfoldable pub parentOf : List Dir → ℕ → ℕ
@@ -142,32 +138,41 @@ entryOf new f = record {
 }
 
 -- the image with the entry, after its blocks, f's own (ys) and the parent's (zs), are zeroed, then headed
-unfoldable pub madeImage : List ℕ → Anodes → ℕ → NewEntry → ℕ → Option ℕ → List ℕ → Anodes → List ℕ → List ℕ
+unfoldable pub madeImage : List ℕ → Anodes → ℕ → NewEntry → ℕ → Option ℕ → List ℕ → Slotted → List ℕ → List ℕ
 madeImage img s h new f room ys t zs =
     inBlock
     (withBlocks
-    (withBlocks (withAnodes img t)
+    (withBlocks (withAnodes img (t .anodes))
     ys (newDirectoryBlock f h))
     zs (newDirectoryBlock h (parentOf (reachedDirs img s) h)))
     (entryStart room zs / 512)
     (λ b. putEntry b (entryStart room zs % 512) (entryOf new f) (new .name) (new .comment))
 
--- the steps, with head f, (0, 65535, 0), and the room that was found: the new directory's block, then the parent's
-abbrev pub madeIn : List ℕ → Anodes → ℕ → NewEntry → ℕ → Option ℕ → Left
-madeIn img s h new f room =
-    leftBy (neededBlock img (new .dir) (rewritten s f 0 65535) f) img (λ r ys.
-    leftBy (neededBlock img (noRoom room) r h) img (λ t zs. left 0 (madeImage img s h new f room ys t zs)))
+-- the room for the entry in the directory of h: the first block that has it
+unfoldable pub roomFor : List ℕ → Anodes → ℕ → NewEntry → Option ℕ
+roomFor img s h new = firstRoom img (entryLength (length (new .name)) (length (new .comment))) (blocksOf s h)
 
--- the entry goes to the first block of the parent with room
-unfoldable pub madeWith : List ℕ → Anodes → ℕ → NewEntry → ℕ → Left
-madeWith img s h new f = madeIn img s h new f (firstRoom img (entryLength (length (new .name)) (length (new .comment))) (blocksOf s h))
+-- the state with the head f, (0, 65535, 0)
+abbrev pub headMade : Slotted → ℕ → Slotted
+headMade s f = slotted (rewritten (s .anodes) f 0 65535) (s .slots)
 
--- Make: 28 if there is no free anode, else its steps with the lowest one as head
-unfoldable pub made : List ℕ → Anodes → ℕ → NewEntry → Left
-made img s h new =
-    cond (ltb (Space.lowestFree limit (exists img) s) limit)
-    (madeWith img s h new (Space.lowestFree limit (exists img) s))
-    (left 28 img)
+module _ (growth : Growth) where
+  -- a new directory takes one block into its head, and the parent takes one where it has no room
+  unfoldable pub neededBlock : Bool → ℕ → Slotted → Plan Slotted
+  neededBlock true h s = takeBlock limit growth true h s
+  neededBlock false h s = planned s []
+
+  -- the steps from the state r, with head f and the room that was found: the new directory's block, then the parent's
+  abbrev pub madeIn : List ℕ → Anodes → ℕ → NewEntry → Option ℕ → Slotted → ℕ → Left
+  madeIn img s h new room r f =
+      leftBy (neededBlock (new .dir) f (headMade r f)) img (λ q ys.
+      leftBy (neededBlock (noRoom room) h q) img (λ t zs. left 0 (madeImage img s h new f room ys t zs)))
+
+  -- Make: 28 if there is no free anode, else its steps with the lowest one as head
+  unfoldable pub made : List ℕ → Slotted → ℕ → NewEntry → Left
+  made img s h new =
+      leftBy (withSpare limit growth s) img (λ r ys.
+      madeIn img (s .anodes) h new (roomFor img (s .anodes) h new) r (lowestFree limit (existsBy (r .slots)) (r .anodes)))
 
 -- ---- Write
 
@@ -194,14 +199,19 @@ entryClosed b at = gapClosed b at (getD b at 0) (entriesEnd b)
 unfoldable pub withoutEntry : List ℕ → ℕ → List ℕ
 withoutEntry img start = inBlock img (start / 512) (λ b. entryClosed b (start % 512))
 
--- gives back all blocks, last first
-abbrev pub removePlan : List ℕ → Anodes → ℕ → Plan
-removePlan img s h = Space.giveMany limit (exists img) (lastReserved img) (blockCount s h) s h
+-- the image after a removal whose steps left the state t: those still in the chain are zeroed, and the entry goes
+unfoldable pub removedImage : List ℕ → Entered → Slotted → List ℕ
+removedImage img e t = withoutEntry (withAnodes img (dropped limit (t .anodes) (e .anode))) (e .start)
 
--- the image after a removal whose steps left the anodes t: those still in the chain are zeroed, and the entry goes
-unfoldable pub removedImage : List ℕ → Entered → Anodes → List ℕ
-removedImage img e t = withoutEntry (withAnodes img (Space.dropped limit t (e .anode))) (e .start)
+module _ (growth : Growth) where
+  -- gives back all blocks, last first (last: last reserved)
+  abbrev pub removePlan : ℕ → Slotted → ℕ → Plan Slotted
+  removePlan last s h = giveMany limit growth last (blockCount (s .anodes) h) h s
 
--- Remove: refused by its first step that fails, else that image
-unfoldable pub removed : List ℕ → Anodes → Entered → Left
-removed img s e = leftBy (removePlan img s (e .anode)) img (λ t ys. left 0 (removedImage img e t))
+  -- Remove: refused by its first step that fails, else that image
+  unfoldable pub removed : List ℕ → Slotted → Entered → Left
+  removed img s e = leftBy (removePlan (lastReserved img) s (e .anode)) img (λ t ys. left 0 (removedImage img e t))
+
+-- ---- how slots grow in these changes: not at all
+abbrev pub usualGrowth : Growth
+usualGrowth = noGrowth

@@ -6,6 +6,7 @@ pub mod Walk
 pub mod Accepted
 pub mod Tables
 pub mod Lookup
+pub mod Plans
 pub mod Space
 pub mod Format
 pub mod Changes

@@ -6,9 +6,9 @@ use mathlib.Core.List.{List, [], _∷_, _++_}
 use Rattle.endian.specs.Bytes.{stored}
 use Rattle.disk.specs.AnodeBlocks.{listed}
 use Rattle.rules.specs.Counting.{gather}
-use Rattle.rules.specs.Anodes.{anodesOf}
 use Rattle.rules.specs.Walk.{Entered}
-use Rattle.rules.specs.Changes.{inBlock, newEntry, made, resized, removed}
+use Rattle.rules.specs.Plans.{tableOf}
+use Rattle.rules.specs.Changes.{inBlock, newEntry, made, resized, removed, usualGrowth}
 use Rattle.rules.specs.Everything.{everything}
 use Rattle.samples.specs.Disks.{anodeBytes, withAnode, disk8}
 use Rattle.sample_files.specs.Files.{grown}
@@ -38,10 +38,10 @@ file = record { broken = false; dir = false; anode = 7; size = 600; start = 2064
 -- what four changes answer: a file made, the file grown by a block that is not its end, the file shrunk by a block, the file removed
 unfoldable answers : List ℕ → List ℕ
 answers img =
-    made img (anodesOf img) 5 (newEntry false (100 ∷ []) [] 0 0 0 0) .answer
-    ∷ resized img (anodesOf img) file 1536 .answer
-    ∷ resized img (anodesOf img) file 512 .answer
-    ∷ removed img (anodesOf img) file .answer
+    made usualGrowth img (tableOf img) 5 (newEntry false (100 ∷ []) [] 0 0 0 0) .answer
+    ∷ resized usualGrowth img (tableOf img) file 1536 .answer
+    ∷ resized usualGrowth img (tableOf img) file 512 .answer
+    ∷ removed usualGrowth img (tableOf img) file .answer
     ∷ []
 
 -- each wants a free anode, and there is none

@@ -8,31 +8,24 @@ use native.Mathlib.Omega.{arith}
 use lib.Dec.{T, eqb}
 use lib.ListN.{getD}
 use borrow.Author.Tests.{le-leb, lt-leb, ne-eqb}
-use Rattle.disk.specs.Root.{slotOf}
 use Rattle.rules.specs.Counting.{least, lastOf}
-use Rattle.rules.specs.Anodes.{exists}
+use Rattle.rules.specs.Anodes.{existsBy}
 use Rattle.rules.specs.Chains.{chainOf, cut, side}
 use Rattle.rules.specs.Space.{Found, nowhere, found, firstFound, firstExtent, lastExtent, freeExtent, free, lowestFree}
 use Rattle.laws.specs.Chains.{chain-none, chain-end, chain-step}
 use Rattle.laws.specs.Tests.{less?}
 use Rattle.laws.specs.Sums.{least-cases}
 use Rattle.laws.specs.Searches.{full-at, nowhere-at}
-use Rattle.laws.specs.ImageAnodes.{slot-exists, slot-missing}
-use Rattle.anodes.specs.Loaded.{anodesFrom}
+use Rattle.anodes.specs.Loaded.{anodesFrom, slotsFrom}
 use Rattle.searches.specs.Found.{freeIn}
 
 -- ---- free anodes
 
--- an anode exists where its slot does not hold 0
-pub exists-by-slot : (img : List ℕ) (a s : ℕ) → s ≡ slotOf img (a / 82) → not (eqb s 0) ≡ exists img a
-exists-by-slot img a zero e = sym (slot-missing img a (sym e))
-exists-by-slot img a (suc s) e = rw (ne-eqb (suc s) 0 (λ z. omega arith)) (sym (slot-exists img a (suc s) (sym e) (λ z. omega arith)))
-
-module _ (img firsts c n : List ℕ) where
+module _ (slots firsts c n : List ℕ) where
   abbrev isFree : ℕ → Bool
-  isFree = free (exists img) (anodesFrom c firsts n)
+  isFree = free (existsBy (slotsFrom slots)) (anodesFrom c firsts n)
 
-  free-from-6 : (a : ℕ) → 6 ≤ a → freeIn img firsts a ≡ isFree a
+  free-from-6 : (a : ℕ) → 6 ≤ a → freeIn slots firsts a ≡ isFree a
   unfolding free anodesFrom
   free-from-6 a l = rw (le-leb 6 a l)
 
@@ -41,7 +34,7 @@ module _ (img firsts c n : List ℕ) where
   none-below-6 a l = rw (lt-leb 6 a l)
 
   -- none of the anodes from 6 to a is free
-  module _ (a : ℕ) (up : a ≤ 3444) (none : (j : ℕ) → 6 ≤ j → j < a → freeIn img firsts j ≡ false) where
+  module _ (a : ℕ) (up : a ≤ 3444) (none : (j : ℕ) → 6 ≤ j → j < a → freeIn slots firsts j ≡ false) where
     none-below : (j : ℕ) → j < a → T (isFree j) → ⊥
     none-below j l t = elim (less? j 6) [
       | inl q ↦ rw (none-below-6 j q) at t
@@ -49,14 +42,14 @@ module _ (img firsts c n : List ℕ) where
     ]
 
     -- so the lowest is not below a
-    not-below : a ≤ lowestFree 3444 (exists img) (anodesFrom c firsts n)
+    not-below : a ≤ lowestFree 3444 (existsBy (slotsFrom slots)) (anodesFrom c firsts n)
     unfolding lowestFree
     not-below = elim (least-cases isFree 3444) [
       | inl d ↦ elim (less? (least isFree 3444) a) [ inl q ↦ absurd (none-below (least isFree 3444) q (d .1)) | inr q ↦ q ]
       | inr d ↦ omega (arith, up, d .0)
     ]
 
-    pub lowest-hit : 6 ≤ a → a < 3444 → freeIn img firsts a ≡ true → a ≡ lowestFree 3444 (exists img) (anodesFrom c firsts n)
+    pub lowest-hit : 6 ≤ a → a < 3444 → freeIn slots firsts a ≡ true → a ≡ lowestFree 3444 (existsBy (slotsFrom slots)) (anodesFrom c firsts n)
     unfolding lowestFree
     lowest-hit l k h = elim (least-cases isFree 3444) [
       | inl d ↦ elim (less? a (least isFree 3444)) [ inl q ↦ absurd (d .2 a q here) | inr q ↦ omega (arith, q, not-below) ]
@@ -66,7 +59,7 @@ module _ (img firsts c n : List ℕ) where
         here : T (isFree a)
         here = rw (sym (free-from-6 a l) ∙ h) tt
 
-    pub lowest-none : a ≡ 3444 → 3444 ≡ lowestFree 3444 (exists img) (anodesFrom c firsts n)
+    pub lowest-none : a ≡ 3444 → 3444 ≡ lowestFree 3444 (existsBy (slotsFrom slots)) (anodesFrom c firsts n)
     unfolding lowestFree
     lowest-none e = elim (least-cases isFree 3444) [ inl d ↦ omega (arith, d .0, e, not-below) | inr d ↦ sym (d .0) ]
 

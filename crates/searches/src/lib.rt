@@ -5,11 +5,12 @@ ghost use mathlib.Core.Path.{_≡_};
 ghost use Prim.Native.Nat.{ℕ};
 ghost use lib.ListN.{getD};
 ghost use Rattle.rules.specs.Counting.{lastOf};
-ghost use Rattle.rules.specs.Anodes.{exists};
+ghost use Rattle.disk.specs.Root.{slotOf};
+ghost use Rattle.rules.specs.Anodes.{existsBy};
 ghost use Rattle.rules.specs.Chains.{chainOf, cut};
 ghost use Rattle.rules.specs.Accepted.{lastReserved};
 ghost use Rattle.rules.specs.Space.{firstExtent, lastExtent, freeExtent, sideOf, lowestFree};
-ghost use Rattle.anodes.specs.Loaded.{anodesFrom};
+ghost use Rattle.anodes.specs.Loaded.{anodesFrom, slotsFrom};
 ghost use Rattle.searches.specs.Found.{freeIn, foundOf};
 use disk::AnodeNo;
 use disk::BlockNo;
@@ -24,22 +25,33 @@ pub enum Extent {
     At(AnodeNo, AnodeNo),
 }
 
+// The blocks that the 42 slots of an image hold.
+pub fn slots_of(image: &[u8]) -> [u16; 42]
+    ensures { λ r. ⌜ slotsFrom r ≡ slotOf (now (image .entry)) ⌝ }
+{
+    let mut slots = [0u16; 42];
+    for k in 0..42 {
+        slots[k] = slot_of(image, k).0;
+    }
+    slots
+}
+
 // Whether anode `a` exists and is free.
-fn is_free(image: &[u8], firsts: &[u16], a: AnodeNo) -> bool
-    ensures { λ r. ⌜ r ≡ freeIn (now (image .entry)) (now (firsts .entry)) (a .0) ⌝ }
+fn is_free(slots: &[u16], firsts: &[u16], a: AnodeNo) -> bool
+    ensures { λ r. ⌜ r ≡ freeIn (now (slots .entry)) (now (firsts .entry)) (a .0) ⌝ }
 {
     if entry(firsts, a.0 as usize) != 0 {
         return false;
     }
-    slot_of(image, (a.0 as usize) / 82).0 != 0
+    entry(slots, (a.0 as usize) / 82) != 0
 }
 
 // The lowest free anode from 6 up, or 3,444 where there is none.
-pub fn lowest_free(image: &[u8], firsts: &[u16]) -> AnodeNo
-    ensures { λ r. ⌜ ((c n : List ℕ) → r .0 ≡ lowestFree 3444 (exists (now (image .entry))) (anodesFrom c (now (firsts .entry)) n)) ⌝ }
+pub fn lowest_free(slots: &[u16], firsts: &[u16]) -> AnodeNo
+    ensures { λ r. ⌜ ((c n : List ℕ) → r .0 ≡ lowestFree 3444 (existsBy (slotsFrom (now (slots .entry)))) (anodesFrom c (now (firsts .entry)) n)) ⌝ }
 {
     for a in 6..3444 {
-        if is_free(image, firsts, AnodeNo(a)) {
+        if is_free(slots, firsts, AnodeNo(a)) {
             return AnodeNo(a);
         }
     }
@@ -139,12 +151,18 @@ pub fn last_anode(nexts: &[u16], from: AnodeNo) -> AnodeNo
     last
 }
 
-// The anode where the side of block `y` starts: 1 above last reserved, else 2.
-pub fn side_of(image: &[u8], y: BlockNo) -> AnodeNo
-    ensures { λ r. ⌜ r .0 ≡ sideOf (lastReserved (now (image .entry))) (y .0) ⌝ }
+// The last block of the part where directories are put first.
+pub fn last_reserved(image: &[u8]) -> BlockNo
+    ensures { λ r. ⌜ r .0 ≡ lastReserved (now (image .entry)) ⌝ }
 {
-    let root = root_in(block_part(image, BlockNo(2)));
-    if root.last.0 < y.0 {
+    root_in(block_part(image, BlockNo(2))).last
+}
+
+// The anode where the side of block `y` starts: 1 above last reserved, else 2.
+pub fn side_of(last: BlockNo, y: BlockNo) -> AnodeNo
+    ensures { λ r. ⌜ r .0 ≡ sideOf (last .0) (y .0) ⌝ }
+{
+    if last.0 < y.0 {
         return AnodeNo(1);
     }
     AnodeNo(2)

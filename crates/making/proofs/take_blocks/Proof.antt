@@ -1,3 +1,7 @@
+use mathlib.Core.Path.{sym, subst}
+use Rattle.rules.specs.Accepted.{lastReserved}
+use Rattle.rules.specs.Plans.{Slotted}
+use Rattle.placing.specs.States.{Ready}
 use Rattle.making.proofs.Steps.{first-ready, next-ready, first-stopped, next-stopped, both-taken}
 use borrow.Author.Needs.{needs}
 use Rattle.making.proofs.take_blocks.Statement.{statement}
@@ -9,7 +13,7 @@ is-directory-requires c κs = search needs
 take-needed-requires : tie.Need-take-needed-requires
 take-needed-requires c κs =
     let begun = c .before .before .before .before .before .before .before .before .pre .1 in
-    ((search needs, search needs, search needs), first-ready (begun .0) _ (begun .1))
+    ((search needs, search needs, search needs), (lastReserved (begun .0), subst (λ (s : Slotted). Ready (lastReserved (begun .0)) s (c .before .before .before .before .before .before .before .before .args .fresh .0)) (sym (begun .1 .state)) (first-ready (begun .1 .fresh))))
 
 enum-known-first : tie.Need-enum-known-first
 enum-known-first c = search needs
@@ -28,9 +32,9 @@ same-length-3 c = search needs
 
 returns : tie.Need-returns
 returns c =
-    let begun = c .before .before .before .before .before .before .before .before .before .before .before .before .before .before .before .before .before .before .pre .1 in
     let told = c .before .first2 .given in
-    λ len found. first-stopped (begun .0) _ len _ found _ (begun .1) (told .0 .0) (rw (told .1, c .before .before .before .before .before .before .before .before .before .before .before .before .before .is-directory .ensures) at (c .before .before .before .before .before .before .before .before .before .take-needed .ensures))
+    λ img len begun found.
+    first-stopped (begun .fresh) _ len _ found (told .0 .0) (rw (told .1, c .before .before .before .before .before .before .before .before .before .before .before .before .before .is-directory .ensures, begun .state) at (c .before .before .before .before .before .before .before .before .before .take-needed .ensures))
 
 no-room-requires : tie.Need-no-room-requires
 no-room-requires c κs = search needs
@@ -39,7 +43,7 @@ take-needed-requires-2 : tie.Need-take-needed-requires-2
 take-needed-requires-2 c κs =
     let begun = c .before .before .before .before .before .before .before .before .before .before .before .before .before .before .before .before .before .before .before .before .before .before .pre .1 in
     let told = c .before .before .before .before .before .first .given in
-    ((search needs, search needs, search needs), next-ready (begun .0) _ (begun .1) _ (told .0 .0) _ (rw (told .1) at (c .before .before .before .before .before .before .before .before .before .before .before .before .before .take-needed .ensures)))
+    ((search needs, search needs, search needs), (_, next-ready (begun .1 .fresh) _ _ _ (sym (rw (told .1, begun .1 .state) at (c .before .before .before .before .before .before .before .before .before .before .before .before .before .take-needed .ensures)))))
 
 enum-known-second : tie.Need-enum-known-second
 enum-known-second c = search needs
@@ -58,11 +62,10 @@ same-length-6 c = search needs
 
 returns-2 : tie.Need-returns-2
 returns-2 c =
-    let begun = c .before .before .before .before .before .before .before .before .before .before .before .before .before .before .before .before .before .before .before .before .before .before .before .before .before .before .before .before .before .before .before .before .pre .1 in
     let own = c .before .before .before .before .before .before .before .before .before .before .before .before .before .before .before .first .given in
     let told = c .before .second2 .given in
-    λ len found.
-    next-stopped (begun .0) _ len _ found _ (begun .1) (own .0 .0) _ (rw (own .1, c .before .before .before .before .before .before .before .before .before .before .before .before .before .before .before .before .before .before .before .before .before .before .before .before .before .before .before .is-directory .ensures) at (c .before .before .before .before .before .before .before .before .before .before .before .before .before .before .before .before .before .before .before .before .before .before .before .take-needed .ensures))
+    λ img len begun found.
+    next-stopped (begun .fresh) _ len _ found (own .0 .0) _ (rw (own .1, c .before .before .before .before .before .before .before .before .before .before .before .before .before .before .before .before .before .before .before .before .before .before .before .before .before .before .before .is-directory .ensures, begun .state) at (c .before .before .before .before .before .before .before .before .before .before .before .before .before .before .before .before .before .before .before .before .before .before .before .take-needed .ensures))
     (told .0 .0) (rw (told .1, c .before .before .before .before .before .before .before .before .before .before .before .before .before .no-room .ensures) at (c .before .before .before .before .before .before .before .before .before .take-needed2 .ensures))
 
 start-for-requires : tie.Need-start-for-requires
@@ -79,11 +82,10 @@ same-length-9 c = search needs
 
 returns-3 : tie.Need-returns-3
 returns-3 c =
-    let begun = c .before .before .before .before .before .before .before .before .before .before .before .before .before .before .before .before .before .before .before .before .before .before .before .before .before .before .before .before .before .before .before .before .before .pre .1 in
     let own = c .before .before .before .before .before .before .before .before .before .before .before .before .before .before .before .before .first .given in
     let parents = c .before .before .second .given in
-    λ len found.
-    both-taken (begun .0) _ len _ found _ (begun .1) (own .0 .0) _ (rw (own .1, c .before .before .before .before .before .before .before .before .before .before .before .before .before .before .before .before .before .before .before .before .before .before .before .before .before .before .before .before .is-directory .ensures) at (c .before .before .before .before .before .before .before .before .before .before .before .before .before .before .before .before .before .before .before .before .before .before .before .before .take-needed .ensures))
+    λ img len begun found.
+    both-taken (begun .fresh) _ len _ found (own .0 .0) _ (rw (own .1, c .before .before .before .before .before .before .before .before .before .before .before .before .before .before .before .before .before .before .before .before .before .before .before .before .before .before .before .before .is-directory .ensures, begun .state) at (c .before .before .before .before .before .before .before .before .before .before .before .before .before .before .before .before .before .before .before .before .before .before .before .before .take-needed .ensures))
     (parents .0 .0) _ (rw (parents .1, c .before .before .before .before .before .before .before .before .before .before .before .before .before .before .no-room .ensures) at (c .before .before .before .before .before .before .before .before .before .before .take-needed2 .ensures)) _ (c .start-for .ensures)
 
 pub take-blocks-spec : {M : Type 1} → statement M

@@ -1,4 +1,4 @@
-use Rattle.anodes.specs.Loaded.{anodesFrom}
+use Rattle.anodes.specs.Loaded.{tableFrom}
 use Rattle.making.proofs.Steps.{step-none, step-taken}
 use borrow.Author.Needs.{needs}
 use Rattle.making.proofs.take_needed.Statement.{statement}
@@ -21,10 +21,10 @@ returns c =
     let p = c .before .before .before .before .before .before .before .before .before .before .before .before .before .before .before .pre in
     let w = c .before .before .before .before .before .before .take-block in
     rw (c .before .before .before .before .before .before .before .before .before .before .if1 .taken)
-    (step-taken (c .before .before .before .before .before .before .before .before .before .before .before .before .before .before .before .args .image .now) (p .1 .0 .1 .2) _ (p .1 .1 .0) (p .1 .1 .1) (w .result) (anodesFrom (w .last .1 .1 .1 .0) (w .last .1 .1 .1 .1 .0) (w .last .1 .1 .1 .1 .1 .0)) (w .ensures))
+    (step-taken (p .1 .1) (w .result) (tableFrom (w .last .1 .1 .1 .0) (w .last .1 .1 .1 .1 .0) (w .last .1 .1 .1 .1 .1 .0) (c .before .before .before .before .before .before .before .before .before .before .before .before .before .before .before .args .slots .now)) (w .ensures))
 
 returns-2 : tie.Need-returns-2
-returns-2 c = rw (c .if1 .left) (step-none _ _ _)
+returns-2 c = rw (c .if1 .left) (step-none _ _)
 
 pub take-needed-spec : {M : Type 1} → statement M
 take-needed-spec =

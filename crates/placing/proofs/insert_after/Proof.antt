@@ -36,7 +36,7 @@ same-length-3 : tie.Need-same-length-3
 same-length-3 c = search needs
 
 returns : tie.Need-returns
-returns c = let pre = c .before .before .before .before .before .before .before .before .before .before .before .before .before .before .before .before .before .before .before .before .before .before .before .pre in c .before .before .before .before .rewrite .ensures _ ∙ rw (c .before .before .before .before .before .before .before .before .before .set-entry2 .ensures, c .before .before .before .before .before .before .before .before .before .before .before .before .before .before .set-entry .ensures, c .before .before .before .before .before .before .before .before .before .before .before .before .before .before .before .before .before .entry .ensures) (inserted-tables _ _ _ _ _ _ (omega (arith, pre .0, pre .2 .2)) (omega (arith, pre .1, pre .2 .2)))
+returns c = let pre = c .before .before .before .before .before .before .before .before .before .before .before .before .before .before .before .before .before .before .before .before .before .before .before .pre in c .before .before .before .before .rewrite .ensures _ ∙ rw (c .before .before .before .before .before .before .before .before .before .set-entry2 .ensures, c .before .before .before .before .before .before .before .before .before .before .before .before .before .before .set-entry .ensures, c .before .before .before .before .before .before .before .before .before .before .before .before .before .before .before .before .before .entry .ensures) (inserted-tables _ _ _ _ _ _ _ (omega (arith, pre .0, pre .2 .2)) (omega (arith, pre .1, pre .2 .2)))
 
 pub insert-after-spec : {M : Type 1} → statement M
 insert-after-spec =

@@ -35,7 +35,7 @@ same-length-2 : tie.Need-same-length-2
 same-length-2 c = search needs
 
 returns : tie.Need-returns
-returns c = rw (c .before .before .before .before .rewrite .ensures _) (sym (put-empty _ _ _ _ _ _ _ (sym (c .before .before .before .before .before .before .before .before .entry .ensures) ∙ c .before .before .before .before .before .before .before .if1 .taken)))
+returns c = (rw (c .before .before .before .before .rewrite .ensures _) (sym (put-empty _ _ _ _ _ _ _ (sym (c .before .before .before .before .before .before .before .before .entry .ensures) ∙ c .before .before .before .before .before .before .before .if1 .taken))), tt)
 
 cast-entry-2 : tie.Need-cast-entry-2
 cast-entry-2 c = search needs
@@ -68,7 +68,7 @@ same-length-4 : tie.Need-same-length-4
 same-length-4 c = search needs
 
 returns-2 : tie.Need-returns-2
-returns-2 c = rw (c .before .before .before .before .rewrite2 .ensures _, c .before .before .before .before .before .before .before .before .before .before .entry2 .ensures, c .before .before .before .before .before .before .before .before .before .before .before .before .before .before .entry .ensures) (sym (put-grown _ _ _ _ _ _ (full (c .before .before .before .before .before .before .before .before .before .before .before .before .before)) _ (not-true _ (c .before .before .before .before .before .before .before .before .before .if2 .taken)) (ends (c .before .before .before .before .before .before .before))))
+returns-2 c = (rw (c .before .before .before .before .rewrite2 .ensures _, c .before .before .before .before .before .before .before .before .before .before .entry2 .ensures, c .before .before .before .before .before .before .before .before .before .before .before .before .before .before .entry .ensures) (sym (put-grown _ _ _ _ _ _ (full (c .before .before .before .before .before .before .before .before .before .before .before .before .before)) _ (not-true _ (c .before .before .before .before .before .before .before .before .before .if2 .taken)) (ends (c .before .before .before .before .before .before .before)))), tt)
 
 append-requires : tie.Need-append-requires
 append-requires c κs = search needs
@@ -83,10 +83,13 @@ same-length-7 : tie.Need-same-length-7
 same-length-7 c = search needs
 
 returns-3 : tie.Need-returns-3
-returns-3 c = c .before .before .before .before .before .before .append .ensures ∙ ⊎-elim
-    (λ w. let e : c .before .before .before .before .before .before .before .before .before .before .before .entry2 .result + c .before .before .before .before .before .before .before .before .before .before .before .before .before .before .before .entry .result ≢ c .before .before .before .before .before .before .before .before .before .before .before .before .before .before .before .before .before .before .before .before .before .before .args .y .0 = eqb-false _ _ (w .2 .left) in sym (put-apart _ _ _ _ _ _ (full (c .before .before .before .before .before .before .before .before .before .before .before .before .before .before)) _ (rw (c .before .before .before .before .before .before .before .before .before .before .before .entry2 .ensures, c .before .before .before .before .before .before .before .before .before .before .before .before .before .before .before .entry .ensures) at e)))
-    (λ w. sym (put-own _ _ _ _ _ _ (full (c .before .before .before .before .before .before .before .before .before .before .before .before .before .before)) _ (not-false _ (w .left))))
-    (c .before .before .before .before .before .before .before .before .before .before .if2 .came)
+returns-3 c = (
+  c .before .before .before .before .before .before .append .ensures .0 ∙ ⊎-elim
+      (λ w. let e : c .before .before .before .before .before .before .before .before .before .before .before .entry2 .result + c .before .before .before .before .before .before .before .before .before .before .before .before .before .before .before .entry .result ≢ c .before .before .before .before .before .before .before .before .before .before .before .before .before .before .before .before .before .before .before .before .before .before .args .y .0 = eqb-false _ _ (w .2 .left) in sym (put-apart _ _ _ _ _ _ (full (c .before .before .before .before .before .before .before .before .before .before .before .before .before .before)) _ (rw (c .before .before .before .before .before .before .before .before .before .before .before .entry2 .ensures, c .before .before .before .before .before .before .before .before .before .before .before .before .before .before .before .entry .ensures) at e)))
+      (λ w. sym (put-own _ _ _ _ _ _ (full (c .before .before .before .before .before .before .before .before .before .before .before .before .before .before)) _ (not-false _ (w .left))))
+      (c .before .before .before .before .before .before .before .before .before .before .if2 .came),
+  c .before .before .before .before .before .before .append .ensures .1,
+)
 
 pub put-spec : {M : Type 1} → statement M
 put-spec =

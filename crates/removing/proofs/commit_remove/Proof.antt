@@ -1,38 +1,34 @@
 use mathlib.Core.Path.{_∙_}
-use native.Mathlib.Omega.{arith}
 use Rattle.rules.specs.Changes.{removedImage}
 use Rattle.anodes.specs.Loaded.{anodesFrom}
 use Rattle.lookup.specs.Answers.{entered}
-use Rattle.change_tables.specs.Chains.{gave-few, noted-all}
 use Rattle.removing.proofs.Laws.{drops-ready, removed-links, stands, done-leaves}
 use borrow.Author.Needs.{needs}
 use Rattle.removing.proofs.commit_remove.Statement.{statement}
 use Rattle.removing.proofs.commit_remove.Tie as tie
 
+set-owners-requires : tie.Need-set-owners-requires
+set-owners-requires c κs = search needs
+
 drop-chain-requires : tie.Need-drop-chain-requires
 drop-chain-requires c κs =
-    let g = c .before .before .before .before .before .before .before .before .before .before .before .before .before in
-    drops-ready (g .pre .0 .0) (entered (g .args .e)) (g .pre .0 .1) _ _ (g .pre .1 .1)
+    let g = c .before .before .before .before .before .before .before .before .before .before .before .before .before .before .before .before .before .before .before in
+    drops-ready (g .pre .0 .0) (entered (g .args .e)) (g .pre .0 .1) _ _ (g .pre .1 .1 .1)
 
 store-anodes-requires : tie.Need-store-anodes-requires
 store-anodes-requires c κs = search needs
 
 take-out-requires : tie.Need-take-out-requires
 take-out-requires c κs =
-    let g = c .before .before .before .before .before .before .before .before .before .before .before .before .before .before .before .before .before .before .before .before .before .before .before .before .before .before .before .before in
-    rw (c .before .before .before .store-anodes .ensures, c .before .before .before .before .before .before .before .before .before .before .before .before .before .before .drop-chain .ensures) (stands (g .pre .0 .0) (entered (g .args .e)) (g .pre .0 .1) _ _ (g .pre .1 .1))
-
-set-owners-requires : tie.Need-set-owners-requires
-set-owners-requires c κs =
-    let g = c .before .before .before .before .before .before .before .before .before .before .before .before .before .before .before .before .before .before .before .before .before .before .before .before .before .before .before .before .before .before .before .before in
-    noted-all _ _ (g .pre .1 .0 .2) (gave-few (g .pre .0 .0) (entered (g .args .e)) (g .pre .0 .1) _ _ _ (g .pre .1 .1) (omega arith))
+    let g = c .before .before .before .before .before .before .before .before .before .before .before .before .before .before .before .before .before .before .before .before .before .before .before .before .before .before .before .before .before .before .before .before .before .before in
+    rw (c .before .before .before .store-anodes .ensures, c .before .before .before .before .before .before .before .before .before .before .before .before .before .before .drop-chain .ensures) (stands (g .pre .0 .0) (entered (g .args .e)) (g .pre .0 .1) _ _ (g .pre .1 .1 .1))
 
 show-heads-requires : tie.Need-show-heads-requires
 unfolding anodesFrom
 show-heads-requires c κs =
-    let g = c .before .before .before .before .before .before .before .before .before .before .before .before .before .before .before .before .before .before .before .before .before .before .before .before .before .before .before .before .before .before .before .before .before .before .before .before .before .before in
-    let dropped = c .before .before .before .before .before .before .before .before .before .before .before .before .before .before .before .before .before .before .before .before .before .before .before .before .drop-chain in
-    let links = removed-links (g .pre .0 .0) (entered (g .args .e)) (g .pre .0 .1) _ _ (g .pre .1 .1) _ (dropped .ensures) in
+    let g = c .before .before .before .before .before .before .before .before .before .before .before .before .before .before .before .before .before .before .before .before .before .before .before .before .before .before .before .before .before .before .before .before .before .before .before .before .before .before .before .before in
+    let dropped = c .before .before .before .before .before .before .before .before .before .before .before .before .before .before .before .before .before .before .before .before .drop-chain in
+    let links = removed-links (g .pre .0 .0) (entered (g .args .e)) (g .pre .0 .1) _ _ (g .pre .1 .1 .1) _ (dropped .ensures) in
     (g .pre .1 .0 .0, dropped .kept .1 .1 .1 .0 ∙ g .pre .1 .0 .1, links)
 
 same-length : tie.Need-same-length
@@ -56,19 +52,19 @@ same-length-6 c = search needs
 returns : tie.Need-returns
 unfolding removedImage
 returns c =
-    let g = c .before .before .before .before .before .before .before .before .before .before .before .before .before .before .before .before .before .before .before .before .before .before .before .before .before .before .before .before .before .before .before .before .before .before .before .before .before .before .before .before .before in
-    let dropped = c .before .before .before .before .before .before .before .before .before .before .before .before .before .before .before .before .before .before .before .before .before .before .before .before .before .before .before .drop-chain in
-    rw (c .before .before .before .before .before .before .before .before .before .before .before .before .take-out .ensures, c .before .before .before .before .before .before .before .before .before .before .before .before .before .before .before .before .store-anodes .ensures, c .before .before .before .before .before .before .before .before .set-owners .ensures, c .before .before .show-heads .ensures (dropped .last .1 .0), dropped .ensures)
-    (done-leaves (g .pre .0 .0) (entered (g .args .e)) (g .pre .0 .1) _ _ (g .pre .1 .1) _ _)
+    let g = c .before .before .before .before .before .before .before .before .before .before .before .before .before .before .before .before .before .before .before .before .before .before .before .before .before .before .before .before .before .before .before .before .before .before .before .before .before .before .before .before .before .before .before in
+    let dropped = c .before .before .before .before .before .before .before .before .before .before .before .before .before .before .before .before .before .before .before .before .before .before .before .drop-chain in
+    rw (c .before .before .before .before .before .before .before .before .take-out .ensures, c .before .before .before .before .before .before .before .before .before .before .before .before .store-anodes .ensures, c .before .before .before .before .before .before .before .before .before .before .before .before .before .before .before .before .before .before .before .before .before .before .before .before .before .before .before .before .before .set-owners .ensures, c .before .before .show-heads .ensures (dropped .last .1 .0), dropped .ensures)
+    (done-leaves (g .pre .0 .0) (entered (g .args .e)) (g .pre .0 .1) _ _ (g .pre .1 .1 .1) _ _)
 
 pub commit-remove-spec : {M : Type 1} → statement M
 commit-remove-spec =
     tie.close
     (tie.spec
+    set-owners-requires
     drop-chain-requires
     store-anodes-requires
     take-out-requires
-    set-owners-requires
     show-heads-requires
     same-length
     same-length-2

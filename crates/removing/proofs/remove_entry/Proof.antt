@@ -1,24 +1,28 @@
 use mathlib.Core.Path.{_≡_, ap, _∙_}
 use native.Mathlib.Nat.{le-of-eq}
-use Rattle.rules.specs.Anodes.{anodesOf}
+use lib.ListN.{length}
+use Rattle.disk.specs.Root.{slotOf}
+use Rattle.rules.specs.Accepted.{lastReserved}
+use Rattle.rules.specs.Plans.{slotted, tableOf, noGrowth}
 use Rattle.rules.specs.Changes.{removePlan}
 use Rattle.anodes.specs.Loaded.{anodesFrom}
 use Rattle.lookup.specs.Answers.{entered}
-use Rattle.space.specs.declared.Moves.{Moves}
-use Rattle.space.specs.Steps.{manyPlan, movesNumber}
+use Rattle.placing.specs.Steps.{movesNumber, EndsIn}
 use Rattle.change_tables.specs.Chains.{plan-ready}
 use Rattle.removing.proofs.Laws.{gives-made, refused-leaves}
 use borrow.Author.Needs.{needs}
 use Rattle.removing.proofs.remove_entry.Statement.{statement}
 use Rattle.removing.proofs.remove_entry.Tie as tie
 
--- the plan on the copies is that of the image
-given-as : (c : tie.After-move-many) →
-    let g = c .before .before .before .before .before .before .before .before .before .before .before .before .before .before .before .before .args in let s = anodesOf (g .image .now) in let p = c .move-many in let q = p .last .1 .1 .1 .1 in
-    removePlan (g .image .now) s (g .e .anode .0) ≡ manyPlan (p .result) (anodesFrom (q .0) (q .1 .0) (q .1 .1 .0)) (q .1 .1 .1 .0)
+-- the gives on the copies end as the plan of the image
+given-as : (c : tie.After-give-many) →
+    let g = c .before .before .before .before .before .before .before .before .before .before .before .before .before .before .before .before .before .before .before .args in let p = c .give-many in let q = p .last .1 .1 .1 .1 in
+    EndsIn (p .result) (slotted (anodesFrom (q .0) (q .1 .0) (q .1 .1 .0)) (slotOf (g .image .now))) (removePlan noGrowth (lastReserved (g .image .now)) (tableOf (g .image .now)) (g .e .anode .0))
 given-as c =
-    let pre = c .before .before .before .before .before .before .before .before .before .before .before .before .before .before .before .before .pre in
-    gives-made (pre .0 .0) (entered (c .before .before .before .before .before .before .before .before .before .before .before .before .before .before .before .before .args .e)) (pre .0 .1) _ _ _ (c .before .before .before .before .before .before .before .before .copied .ensures) (c .before .before .before .before .before .before .before .copied2 .ensures) (c .before .before .before .before .before .before .copied3 .ensures) _ (c .before .before .before .before .before .before .before .before .before .chain-sum .ensures) _ (c .move-many .ensures)
+    let s = c .before .before .before .before .before .before .before .before .before .before .before .before .before .before .before .before .before .before .before in
+    let slots = c .before .before .before .before .before .before .before .slots-of in
+    let made = gives-made (s .pre .0 .0) (entered (s .args .e)) (s .pre .0 .1) _ _ _ (c .before .before .before .before .before .before .before .before .before .before .before .copied .ensures) (c .before .before .before .before .before .before .before .before .before .before .copied2 .ensures) (c .before .before .before .before .before .before .before .before .before .copied3 .ensures) (slots .result) (slots .ensures) _ (c .before .before .before .before .before .before .before .before .before .before .before .before .chain-sum .ensures) _ (c .before .before .before .before .last-reserved .ensures) in
+    rw (made, slots .ensures) at (c .give-many .ensures)
 
 chain-sum-requires : tie.Need-chain-sum-requires
 chain-sum-requires c κs = search needs
@@ -35,29 +39,36 @@ copied-requires-2 c κs = search needs
 copied-requires-3 : tie.Need-copied-requires-3
 copied-requires-3 c κs = search needs
 
-slice-aggregate-move-many : tie.Need-slice-aggregate-move-many
-slice-aggregate-move-many c = search needs
+slots-of-requires : tie.Need-slots-of-requires
+slots-of-requires c κs = search needs
 
-slice-aggregate-move-many-2 : tie.Need-slice-aggregate-move-many-2
-slice-aggregate-move-many-2 c = search needs
+slice-aggregate-give-many : tie.Need-slice-aggregate-give-many
+slice-aggregate-give-many c = search needs
 
-slice-aggregate-move-many-3 : tie.Need-slice-aggregate-move-many-3
-slice-aggregate-move-many-3 c = search needs
+last-reserved-requires : tie.Need-last-reserved-requires
+last-reserved-requires c κs = search needs
 
-slice-aggregate-move-many-4 : tie.Need-slice-aggregate-move-many-4
-slice-aggregate-move-many-4 c = search needs
+slice-aggregate-give-many-2 : tie.Need-slice-aggregate-give-many-2
+slice-aggregate-give-many-2 c = search needs
 
-move-many-requires : tie.Need-move-many-requires
-move-many-requires c κs =
-    let pre = c .before .before .before .before .before .before .before .before .before .before .before .before .before .before .before .pre in
-    let w = plan-ready (pre .0 .0) (entered (c .before .before .before .before .before .before .before .before .before .before .before .before .before .before .before .args .e)) (pre .0 .1) _ _ _ (c .before .before .before .before .before .before .before .copied .ensures) (c .before .before .before .before .before .before .copied2 .ensures) (c .before .before .before .before .before .copied3 .ensures) _ (c .before .before .before .before .before .before .before .before .chain-sum .ensures) in
-    (((search needs, search needs, search needs), search needs), (w .0, λ q. le-of-eq (w .1)))
+slice-aggregate-give-many-3 : tie.Need-slice-aggregate-give-many-3
+slice-aggregate-give-many-3 c = search needs
 
-enum-known-plan : tie.Need-enum-known-plan
-enum-known-plan c = search needs
+slice-aggregate-give-many-4 : tie.Need-slice-aggregate-give-many-4
+slice-aggregate-give-many-4 c = search needs
+
+give-many-requires : tie.Need-give-many-requires
+give-many-requires c κs =
+    let g = c .before .before .before .before .before .before .before .before .before .before .before .before .before .before .before .before .before .before in
+    let w = plan-ready (g .pre .0 .0) (entered (g .args .e)) (g .pre .0 .1) _ _ _ (c .before .before .before .before .before .before .before .before .before .before .copied .ensures) (c .before .before .before .before .before .before .before .before .before .copied2 .ensures) (c .before .before .before .before .before .before .before .before .copied3 .ensures) (c .before .before .before .before .before .before .slots-of .result) (c .before .before .before .before .before .before .slots-of .ensures) _ (c .before .before .before .before .before .before .before .before .before .before .before .chain-sum .ensures) in
+    let t = g .pre .0 .0 .tables in
+    ((ap length (c .before .before .before .before .before .before .before .before .before .before .copied .ensures) ∙ t .0, ap length (c .before .before .before .before .before .before .before .before .before .copied2 .ensures) ∙ t .1, ap length (c .before .before .before .before .before .before .before .before .copied3 .ensures) ∙ t .2), (rw (c .before .before .before .last-reserved .ensures) (w .0), le-of-eq (w .1)))
 
 enum-told : tie.Need-enum-told
 enum-told c = search needs
+
+enum-told-2 : tie.Need-enum-told-2
+enum-told-2 c = search needs
 
 moves-number-requires : tie.Need-moves-number-requires
 moves-number-requires c κs = search needs
@@ -67,11 +78,10 @@ same-length c = search needs
 
 returns : tie.Need-returns
 returns c =
-    let l = c .before .before .before .before .before .before .before in
-    let s = l .before .before .before .before .before .before .before .before .before .before .before .before .before .before .before .before in
-    let q = l .move-many .last .1 .1 .1 .1 in
-    let stopped = c .before .enum-told .given .1 in
-    rw (c .moves-number .ensures ∙ ap movesNumber stopped) (refused-leaves (s .pre .0 .0) (entered (s .args .e)) (s .pre .0 .1) _ (given-as l ∙ ap (λ (m : Moves). manyPlan m (anodesFrom (q .0) (q .1 .0) (q .1 .1 .0)) (q .1 .1 .1 .0)) stopped) _ _)
+    let l = c .before .before .before .before .before .before in
+    let s = c .before .before .before .before .before .before .before .before .before .before .before .before .before .before .before .before .before .before .before .before .before .before .before .before .before in
+    let told = c .before .enum-told2 .given in
+    rw (c .moves-number .ensures ∙ ap movesNumber (told .1)) (refused-leaves (s .pre .0 .0) (entered (s .args .e)) (s .pre .0 .1) _ (rw (told .1) at (given-as l)) _ _)
 
 slice-aggregate-commit-remove : tie.Need-slice-aggregate-commit-remove
 slice-aggregate-commit-remove c = search needs
@@ -82,15 +92,10 @@ slice-aggregate-commit-remove-2 c = search needs
 slice-aggregate-commit-remove-3 : tie.Need-slice-aggregate-commit-remove-3
 slice-aggregate-commit-remove-3 c = search needs
 
-slice-aggregate-commit-remove-4 : tie.Need-slice-aggregate-commit-remove-4
-slice-aggregate-commit-remove-4 c = search needs
-
 commit-remove-requires : tie.Need-commit-remove-requires
 commit-remove-requires c κs =
-    let l = c .before .before .before .before .before .before .before .before .before .before .before .before .before .before in
-    let pre = l .before .before .before .before .before .before .before .before .before .before .before .before .before .before .before .before .pre in
-    let q = l .move-many .last .1 .1 .1 .1 in
-    (pre .0, ((pre .1, search needs, search needs), given-as l ∙ ap (λ (m : Moves). manyPlan m (anodesFrom (q .0) (q .1 .0) (q .1 .1 .0)) (q .1 .1 .1 .0)) (c .before .before .before .before .before .before .before .before .plan .given .1)))
+    let s = c .before .before .before .before .before .before .before .before .before .before .before .before .before .before .before .before .before .before .before .before .before .before .before .before .before .before .before .before .before .before in
+    (s .pre .0, ((s .pre .1, search needs), rw (c .before .before .before .before .before .before .enum-told .given .1) at (given-as (c .before .before .before .before .before .before .before .before .before .before .before))))
 
 same-length-2 : tie.Need-same-length-2
 same-length-2 c = search needs
@@ -113,20 +118,21 @@ remove-entry-spec =
     copied-requires
     copied-requires-2
     copied-requires-3
-    slice-aggregate-move-many
-    slice-aggregate-move-many-2
-    slice-aggregate-move-many-3
-    slice-aggregate-move-many-4
-    move-many-requires
-    enum-known-plan
+    slots-of-requires
+    slice-aggregate-give-many
+    last-reserved-requires
+    slice-aggregate-give-many-2
+    slice-aggregate-give-many-3
+    slice-aggregate-give-many-4
+    give-many-requires
     enum-told
+    enum-told-2
     moves-number-requires
     same-length
     returns
     slice-aggregate-commit-remove
     slice-aggregate-commit-remove-2
     slice-aggregate-commit-remove-3
-    slice-aggregate-commit-remove-4
     commit-remove-requires
     same-length-2
     same-length-3

@@ -1,13 +1,14 @@
-use mathlib.Core.Path.{_∙_}
-use mathlib.Core.Bool.{true≢false}
+use mathlib.Core.Path.{subst}
 use native.Mathlib.Omega.{arith}
+use Rattle.anodes.specs.Loaded.{tableFrom}
+use Rattle.placing.specs.Steps.{EndsIn}
 use Rattle.resizing.proofs.Laws.{plan-grows, plan-shrinks}
 use borrow.Author.Needs.{needs}
 use Rattle.resizing.proofs.plan_resize.Statement.{statement}
 use Rattle.resizing.proofs.plan_resize.Tie as tie
 
-move-many-requires : tie.Need-move-many-requires
-move-many-requires c κs = let pre = c .before .before .before .before .before .before .before .before .before .before .pre in (pre .0, (pre .1 .0, λ q. absurd (true≢false q)))
+take-many-requires : tie.Need-take-many-requires
+take-many-requires c κs = let pre = c .before .before .before .before .before .before .before .before .pre in (pre .0, (_, pre .1 .0))
 
 same-length : tie.Need-same-length
 same-length c = search needs
@@ -18,17 +19,20 @@ same-length-2 c = search needs
 same-length-3 : tie.Need-same-length-3
 same-length-3 c = search needs
 
+returns : tie.Need-returns
+returns c =
+    let s = c .before .before .before .before .before .before .before .before .before .before .before .before .before .before .before in
+    let w = c .before .before .before .before .before .before .take-many in
+    subst (EndsIn (w .result) (tableFrom (w .last .1 .1 .1 .0) (w .last .1 .1 .1 .1 .0) (w .last .1 .1 .1 .1 .1 .0) (s .args .slots .now))) (plan-grows (s .args .last .0) _ _ _ _ (s .pre .1 .1) (c .before .before .before .before .before .before .before .before .before .before .if1 .taken)) (w .ensures)
+
+sub-give-many : tie.Need-sub-give-many
+sub-give-many c = search needs
+
+give-many-requires : tie.Need-give-many-requires
+give-many-requires c κs = let pre = c .before .before .before .before .before .before .before .before .pre in (pre .0, (pre .1 .0, omega (arith, pre .1 .1)))
+
 same-length-4 : tie.Need-same-length-4
 same-length-4 c = search needs
-
-returns : tie.Need-returns
-returns c = c .before .before .before .before .before .before .before .before .move-many .ensures ∙ plan-grows _ _ _ _ _ (c .before .before .before .before .before .before .before .before .before .before .before .before .before .before .before .before .before .before .before .pre .1 .1) (c .before .before .before .before .before .before .before .before .before .before .before .before .before .if1 .taken)
-
-sub-move-many : tie.Need-sub-move-many
-sub-move-many c = search needs
-
-move-many-requires-2 : tie.Need-move-many-requires-2
-move-many-requires-2 c κs = let pre = c .before .before .before .before .before .before .before .before .before .before .pre in (pre .0, (pre .1 .0, λ q. omega (arith, pre .1 .1)))
 
 same-length-5 : tie.Need-same-length-5
 same-length-5 c = search needs
@@ -36,29 +40,24 @@ same-length-5 c = search needs
 same-length-6 : tie.Need-same-length-6
 same-length-6 c = search needs
 
-same-length-7 : tie.Need-same-length-7
-same-length-7 c = search needs
-
-same-length-8 : tie.Need-same-length-8
-same-length-8 c = search needs
-
 returns-2 : tie.Need-returns-2
-returns-2 c = c .before .before .before .before .before .before .before .before .move-many2 .ensures ∙ plan-shrinks _ _ _ _ _ (c .before .before .before .before .before .before .before .before .before .before .before .before .before .before .before .before .before .before .before .pre .1 .1) (c .before .before .before .before .before .before .before .before .before .before .before .before .before .if1 .left)
+returns-2 c =
+    let s = c .before .before .before .before .before .before .before .before .before .before .before .before .before .before .before in
+    let w = c .before .before .before .before .before .before .give-many in
+    subst (EndsIn (w .result) (tableFrom (w .last .1 .1 .1 .1 .0) (w .last .1 .1 .1 .1 .1 .0) (w .last .1 .1 .1 .1 .1 .1 .0) (s .args .slots .now))) (plan-shrinks (s .args .last .0) _ _ _ _ (s .pre .1 .1) (c .before .before .before .before .before .before .before .before .before .before .if1 .left)) (w .ensures)
 
 pub plan-resize-spec : {M : Type 1} → statement M
 plan-resize-spec =
     tie.close
     (tie.spec
-    move-many-requires
+    take-many-requires
     same-length
     same-length-2
     same-length-3
-    same-length-4
     returns
-    sub-move-many
-    move-many-requires-2
+    sub-give-many
+    give-many-requires
+    same-length-4
     same-length-5
     same-length-6
-    same-length-7
-    same-length-8
     returns-2)

@@ -1,6 +1,7 @@
 use borrow.Author.Tests.{eq-eqb, ne-eqb}
-use Rattle.searches.proofs.Searches.{exists-by-slot}
 use mathlib.Core.Path.{sym, _∙_}
+use Rattle.rules.specs.Anodes.{existsBy}
+use Rattle.anodes.specs.Loaded.{slotsFrom}
 use borrow.Author.Needs.{needs}
 use Rattle.searches.proofs.is_free.Statement.{statement}
 use Rattle.searches.proofs.is_free.Tie as tie
@@ -14,22 +15,16 @@ entry-requires c κs = search needs
 returns : tie.Need-returns
 returns c = rw (ne-eqb _ 0 (rw (c .before .entry .ensures) at (c .if1 .taken)))
 
-cast-slot-of : tie.Need-cast-slot-of
-cast-slot-of c = search needs
+cast-entry-2 : tie.Need-cast-entry-2
+cast-entry-2 c = search needs
 
-slot-of-requires : tie.Need-slot-of-requires
-slot-of-requires c κs = search needs
+entry-requires-2 : tie.Need-entry-requires-2
+entry-requires-2 c κs = search needs
 
 returns-2 : tie.Need-returns-2
-returns-2 c = rw (eq-eqb _ 0 (sym (c .before .before .before .before .entry .ensures) ∙ c .before .before .before .if1 .left)) (exists-by-slot _ _ _ (c .before .slot-of .ensures))
+unfolding existsBy slotsFrom
+returns-2 c = rw (eq-eqb _ 0 (sym (c .before .before .before .entry .ensures) ∙ c .before .before .if1 .left), sym (c .entry2 .ensures))
 
 pub is-free-spec : {M : Type 1} → statement M
 is-free-spec =
-    tie.close
-    (tie.spec
-    cast-entry
-    entry-requires
-    returns
-    cast-slot-of
-    slot-of-requires
-    returns-2)
+    tie.close (tie.spec cast-entry entry-requires returns cast-entry-2 entry-requires-2 returns-2)

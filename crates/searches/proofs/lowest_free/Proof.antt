@@ -11,10 +11,10 @@ use Rattle.searches.proofs.lowest_free.Statement.{statement}
 use Rattle.searches.proofs.lowest_free.Tie as tie
 
 abbrev Inv-loop : tie.InvT-loop
-Inv-loop image firsts a₀ a = (6 ≤ a) × (a ≤ 3444) × ((j : ℕ) → 6 ≤ j → j < a → freeIn image firsts j ≡ false)
+Inv-loop slots firsts a₀ a = (6 ≤ a) × (a ≤ 3444) × ((j : ℕ) → 6 ≤ j → j < a → freeIn slots firsts j ≡ false)
 
 abbrev μ-loop : tie.MeasureT-loop
-μ-loop image firsts a₀ a = 3444 - a
+μ-loop slots firsts a₀ a = 3444 - a
 
 loop-holds : tie.Need-loop-holds Inv-loop μ-loop
 loop-holds c = (search needs, search needs, λ j l h. absurd (omega arith))

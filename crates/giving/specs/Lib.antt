@@ -1,0 +1,2 @@
+-- What is asked where a chain is zeroed.
+pub mod Steps

@@ -1,0 +1,2 @@
+-- Laws of a take and of many.
+pub mod Taking

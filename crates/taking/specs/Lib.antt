@@ -1,0 +1,2 @@
+-- What the takes carry from one to the next.
+pub mod Extents
