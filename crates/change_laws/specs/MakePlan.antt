@@ -24,7 +24,7 @@ use Rattle.laws.specs.Space.{FreeAnode, free-is, good-more}
 use Rattle.laws.specs.Plans.{planned-same}
 use Rattle.laws.specs.Take.{Takes, take-steps, takes-moved}
 use Rattle.laws.specs.Moves.{Shift, shift-none, none-grows, Moved}
-use Rattle.laws.specs.FixedSlots.{start-owned, take-slots}
+use Rattle.laws.specs.FixedSlots.{start-owned, needed-slots}
 use Rattle.laws.specs.Frame.{shift-chain}
 use Rattle.laws.specs.Each.{Each}
 use Rattle.laws.specs.OwnBlock.{own-filled}
@@ -131,12 +131,6 @@ module _ (img : List ℕ) {s : Anodes} {hd sd : ℕ → ℕ} {entries : ℕ → 
   own-takes : (t : Slotted) (ys : List ℕ) → neededBlock noGrowth true f (headMade (slotted s (slotOf img)) f) ≡ planned t ys → Takes limit (diskSize img) last (slotted begun (slotOf img)) (systemOwns img) (changed hd f f) true f t ys
   unfolding neededBlock
   own-takes t ys e = take-steps (none-grows limit (diskSize img) last) (start-owned (slotOf img)) (orphan .good) f true t ys e
-
-  -- it leaves the slots
-  needed-slots : (dir : Bool) (h : ℕ) (r t : Slotted) (ys : List ℕ) → neededBlock noGrowth dir h r ≡ planned t ys → t .slots ≡ r .slots
-  unfolding neededBlock
-  needed-slots true h r t ys e = take-slots limit true h r t ys e
-  needed-slots false h r t ys e = ap (λ (q : Slotted). q .slots) (sym (planned-same r t [] ys e .0))
 
   own-step : (dir : Bool) (t : Slotted) (ys : List ℕ) → neededBlock noGrowth dir f (headMade (slotted s (slotOf img)) f) ≡ planned t ys → OwnStep dir (t .anodes) ys
   unfolding neededBlock

@@ -2,18 +2,20 @@
 use Prim.Native.Nat.{ℕ, _/_, _%_}
 use mathlib.Core.Path.{_≡_, refl, sym, ap, _∙_}
 use mathlib.Core.Logic.{_≢_}
-use mathlib.Core.List.{List, _++_, map}
+use mathlib.Core.List.{List, [], _++_, map, reverse}
 use native.Mathlib.Omega.{arith}
-use lib.ListN.{length, getD}
+use lib.ListN.{length, length-append, length-reverse, getD, drop-of-length-le}
 use Rattle.disk.specs.Blocks.{blockOf}
 use Rattle.disk.specs.Root.{slotOf}
 use Rattle.rules.specs.Anodes.{Anodes, limit, anodesOf, withAnodes}
-use Rattle.rules.specs.Chains.{blockCount, systemOwns}
+use Rattle.rules.specs.Counting.{occurrences}
+use Rattle.rules.specs.Chains.{blocksOf, blockCount, systemOwns}
 use Rattle.rules.specs.Walk.{Dir, Entered, entriesIn, isBlockOf}
 use Rattle.rules.specs.Accepted.{diskSize, lastReserved}
 use Rattle.rules.specs.Plans.{Slotted, tableOf, planned, noGrowth}
 use Rattle.rules.specs.Space.{onChain, dropped}
 use Rattle.rules.specs.Changes.{withoutEntry, removedImage, removePlan, entryClosed}
+use Rattle.laws.specs.Bags.{occurrences-reverse}
 use Rattle.laws.specs.LinkChanges.{without}
 use Rattle.laws.specs.Whole.{blocks-count}
 use Rattle.laws.specs.Sums.{oneAt-same, oneAt-other}
@@ -22,6 +24,8 @@ use Rattle.laws.specs.Space.{good-more}
 use Rattle.laws.specs.Moves.{none-grows, Moved}
 use Rattle.laws.specs.FixedSlots.{start-owned, none-grown, gives-slots}
 use Rattle.laws.specs.Resize.{gives-moved}
+use Rattle.laws.specs.GivenBlocks.{gives-blocks}
+use Rattle.laws.specs.ChainBlocks.{length-blocksOf}
 use Rattle.laws.specs.Remove.{dropped-good}
 use Rattle.frames.specs.Kept.{Kept, kept-both}
 use Rattle.frames.specs.StoredBlocks.{inBlock-kept, blockOf-inBlock}
@@ -88,6 +92,14 @@ module _ {img : List ℕ} {e : Entered} {u : Slotted} {ys : List ℕ} (p : Plann
   -- all of them
   pub none-left : blocks limit (moves .hd′) (u .anodes .count) (e .anode) ≡ 0
   none-left = omega (arith, gave .2, blocks-count (w p .good) (e .anode) (facts p .head), rw (oneAt-same (e .anode) (e .anode) refl, oneAt-other 1 (e .anode) (λ q. not-1 p (sym q))) at (moves .moved (e .anode)))
+
+  -- in some order
+  pub given-all : (x : ℕ) → occurrences x (blocksOf s (e .anode)) ≡ occurrences x ys
+  given-all x =
+      let (all, long) = gives-blocks (none-grows limit (diskSize img) (lastReserved img)) (blockCount s (e .anode)) (e .anode) (not-1 p) u ys (tableOf img) (systemOwns img) (headIn img) (sideIn img) (start-owned (slotOf img)) (w p .good) (facts p .head) (p .plan) in
+      let parts = ap length all ∙ length-append (blocksOf t (e .anode)) (reverse ys) in
+      let none : blocksOf t (e .anode) ≡ [] = drop-of-length-le (blocksOf t (e .anode)) {i = 0} (omega (arith, parts, long, length-blocksOf s (e .anode), length-reverse ys)) in
+      ap (occurrences x) (all ∙ rw none) ∙ occurrences-reverse x ys
 
   pub same-slots : u .slots ≡ slotOf img
   same-slots = gives-slots limit (lastReserved img) (blockCount s (e .anode)) (e .anode) (tableOf img) u ys (p .plan)

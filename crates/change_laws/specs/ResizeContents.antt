@@ -77,7 +77,9 @@ module _ {img : List ℕ} {e : Entered} {new : ℕ} {u : Slotted} {ys : List ℕ
   module _ (less : new ≤ e .size) where
     shorter : (rest : List ℕ) × (chain ≡ blocksOf t (e .anode) ++ rest)
     unfolding blocksFor
-    shorter = plan-shorter img (w p .good) (e .anode) (facts p .head) (not-1 p) (blocksFor new) u ys (p .plan .steps) (omega (arith, facts p .sized (p .plan .file)))
+    shorter =
+        let q = plan-shorter img (w p .good) (e .anode) (facts p .head) (not-1 p) (blocksFor new) u ys (p .plan .steps) (omega (arith, facts p .sized (p .plan .file))) in
+        (q .0, q .1)
 
     abbrev left-blocks : List ℕ
     left-blocks = blocksOf t (e .anode)

@@ -6,7 +6,7 @@ use mathlib.Core.Bool.{false, cond}
 use mathlib.Core.List.{List, [], _++_, append-nil, reverse}
 use native.Mathlib.Omega.{arith}
 use lib.Dec.{T, leb}
-use lib.ListN.{length, drop-of-length-le}
+use lib.ListN.{length, drop, drop-of-length-le}
 use borrow.Author.Tests.{le-leb, lt-leb}
 use Rattle.disk.specs.Root.{slotOf}
 use Rattle.rules.specs.Counting.{occurrences}
@@ -17,6 +17,7 @@ use Rattle.rules.specs.Plans.{Slotted, slotted, refused, planned, noGrowth}
 use Rattle.rules.specs.Changes.{resizePlan}
 use Rattle.laws.specs.Tests.{less?, not-above}
 use Rattle.laws.specs.Sums.{oneAt-same, oneAt-other}
+use Rattle.laws.specs.Bags.{occurrences-reverse}
 use Rattle.laws.specs.Heads.{Head}
 use Rattle.laws.specs.Blocks.{blocks}
 use Rattle.laws.specs.Held.{held}
@@ -35,6 +36,10 @@ use Rattle.change_laws.specs.Image.{GoodOn}
 -- the head whose chain the moved blocks come to: h where it does not shrink, else the free list's
 abbrev pub newOwner : ℕ → ℕ → ℕ → ℕ
 newOwner h have want = cond (leb have want) h 1
+
+-- the blocks that change hands: those behind the first that it had, where it does not shrink, else those behind the first that it keeps
+abbrev pub movedBlocks : Anodes → Anodes → ℕ → ℕ → ℕ → List ℕ
+movedBlocks s t h have want = cond (leb have want) (drop have (blocksOf t h)) (drop want (blocksOf s h))
 
 -- the chain of h has so many blocks now; those of ys came from 1's chain, or went to it
 pub record Resizing (img : List ℕ) (s : Anodes) (hd : ℕ → ℕ) (h size : ℕ) (t : Slotted) (ys : List ℕ) : Type 0 where
@@ -109,11 +114,12 @@ module _ (img : List ℕ) {s : Anodes} {hd sd : ℕ → ℕ} (g : GoodOn img s h
     unfolding resizePlan
     plan-longer l = takes-blocks (none-grows limit (diskSize img) last) (size - blockCount s h) h h1 false t ys S (systemOwns img) hd sd (start-owned (slotOf img)) g d (rw (le-leb (blockCount s h) size l) at plan)
 
-    pub plan-shorter : size ≤ blockCount s h → (rest : List ℕ) × (blocksOf s h ≡ blocksOf (t .anodes) h ++ rest)
+    pub plan-shorter : size ≤ blockCount s h → (rest : List ℕ) × (blocksOf s h ≡ blocksOf (t .anodes) h ++ rest) × ((x : ℕ) → occurrences x rest ≡ occurrences x ys)
     unfolding resizePlan
     plan-shorter l = elim (less? size (blockCount s h)) [
-      | inl m ↦ (reverse ys, gives-blocks (none-grows limit (diskSize img) last) (blockCount s h - size) h h1 t ys S (systemOwns img) hd sd (start-owned (slotOf img)) g d (rw (lt-leb (blockCount s h) size m) at plan) .0)
-      | inr m ↦ (let q = plan-longer m in ([], sym (append-nil (blocksOf s h)) ∙ ap (λ (l : List ℕ). blocksOf s h ++ l) (sym (drop-of-length-le ys {i = 0} (omega (arith, q .1)))) ∙ sym (q .0) ∙ sym (append-nil (blocksOf (t .anodes) h))))
+      | inl m ↦ (reverse ys, gives-blocks (none-grows limit (diskSize img) last) (blockCount s h - size) h h1 t ys S (systemOwns img) hd sd (start-owned (slotOf img)) g d (rw (lt-leb (blockCount s h) size m) at plan) .0, λ x. occurrences-reverse x ys)
+      | inr m ↦ (let q = plan-longer m in let none : ys ≡ [] = drop-of-length-le ys {i = 0} (omega (arith, q .1)) in
+          ([], sym (append-nil (blocksOf s h)) ∙ ap (λ (l : List ℕ). blocksOf s h ++ l) (sym none) ∙ sym (q .0) ∙ sym (append-nil (blocksOf (t .anodes) h)), λ x. ap (occurrences x) (sym none)))
     ]
 
   module _ {size : ℕ} {t : Slotted} {ys : List ℕ} (r : Resizing img s hd h size t ys) where

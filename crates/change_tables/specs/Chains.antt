@@ -1,5 +1,5 @@
 -- The chains of a loaded image, and the state in which steps on them start.
-use Prim.Native.Nat.{ℕ, _≤_, _<_}
+use Prim.Native.Nat.{ℕ, _+_, _≤_, _<_}
 use mathlib.Core.Path.{_≡_, _∙_}
 use mathlib.Core.Bool.{false}
 use mathlib.Core.List.{List}
@@ -11,6 +11,7 @@ use Rattle.rules.specs.Walk.{Entered}
 use Rattle.rules.specs.Accepted.{diskSize, wrongSize, lastReserved}
 use Rattle.rules.specs.Plans.{slotted}
 use Rattle.laws.specs.FixedSlots.{start-owned}
+use Rattle.laws.specs.Owners.{full-inside}
 use Rattle.laws.specs.Acceptance.{size-bounds}
 use Rattle.anodes.specs.Loaded.{anodesFrom, slotsFrom, tableFrom, Loaded}
 use Rattle.tree.specs.Steps.{sumFrom}
@@ -24,6 +25,10 @@ use Rattle.change_tables.specs.Leaves.{ReachedEntry}
 -- good anodes on a disk, with its slots
 pub good-state : (img : List ℕ) → wrongSize img ≡ false → {s : Anodes} {hd sd : ℕ → ℕ} → GoodOn img s hd sd → GoodState (lastReserved img) (slotted s (slotOf img))
 good-state img right {hd = hd} {sd = sd} g = record { n = diskSize img; system = systemOwns img; hd = hd; sd = sd; small = size-bounds img right .1; start = start-owned (slotOf img); good = g }
+
+-- the end of every extent fits into two bytes
+pub extents-fit : (img : List ℕ) → wrongSize img ≡ false → {t : Anodes} {hd sd : ℕ → ℕ} → GoodOn img t hd sd → (a : ℕ) → 0 < t .count a → t .block a + t .count a ≤ 65535
+extents-fit img right g a p = omega (arith, full-inside g a p, size-bounds img right .1)
 
 module _ {img counts firsts nexts : List ℕ} (l : Loaded img counts firsts nexts) where
   abbrev pub loaded-image : AcceptedImage img

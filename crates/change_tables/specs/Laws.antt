@@ -20,7 +20,7 @@ use Rattle.laws.specs.Heads.{Head}
 use Rattle.laws.specs.Held.{held}
 use Rattle.laws.specs.Space.{Good, good-more}
 use Rattle.laws.specs.Moves.{Moved}
-use Rattle.laws.specs.OwnerTable.{held-data, setAll, setAll-front, kept-table, its-data, moved-table, heads-past}
+use Rattle.laws.specs.OwnerTable.{setAll, setAll-front, kept-table, moved-data, moved-table, heads-past}
 use Rattle.frames.specs.Kept.{diskSize-kept, systemOwns-kept}
 use Rattle.frames.specs.DisjointBlocks.{occurrences-held, chain-block}
 use Rattle.change_laws.specs.Image.{GoodOn, DiskWith}
@@ -45,31 +45,13 @@ Shows img s b r = b ≡ blockTable img s ++ r
 -- blocks of ys went from one head's chain to another's, and none became the system's
 module _ (img : List ℕ) (s t : Anodes) {hd sd : ℕ → ℕ} (g : GoodOn img s hd sd) {slots slots′ : ℕ → ℕ} {from to h : ℕ} {ys gs : List ℕ}
     (w : Moved limit (diskSize img) (lastReserved img) (slotted s slots) (systemOwns img) hd from to h ys gs (slotted t slots′)) (apart : from ≢ to) (none : (x : ℕ) → occurrences x gs ≡ 0) where
-  plain : Good limit (existsBy slots′) (diskSize img) (lastReserved img) t (systemOwns img) (w .hd′) (w .sd′)
-  plain = good-more (w .good) (λ a q. q) (λ x. omega (arith, none x))
-
-  -- each of them is the other head's now
-  pub came : (x : ℕ) → 0 < occurrences x ys → 0 < held limit (w .hd′) (t .count) (t .block) to x
-  came x p = omega (arith, rw (oneAt-other from to apart, oneAt-same to to refl, none x) at (w .passed to x), p)
-
-  shows-with : (zs : List ℕ) → ((x : ℕ) → 0 < occurrences x ys → 0 < occurrences x zs) → ((x : ℕ) → 0 < occurrences x zs → 0 < held limit (w .hd′) (t .count) (t .block) to x) →
-      (b r : List ℕ) → Shows img s b r → Shows img t (setAll b zs to) r
+  -- the block table has the other head at each of them, in whatever order they are listed
+  pub shows-moved : (zs : List ℕ) → ((x : ℕ) → occurrences x zs ≡ occurrences x ys) → (b r : List ℕ) → Shows img s b r → Shows img t (setAll b zs to) r
   unfolding blockTable
-  shows-with zs with-all its b r p =
+  shows-moved zs all b r p =
       ap (λ (l : List ℕ). setAll l zs to) p
-      ∙ setAll-front (blockTable img s) r zs to (λ y q. rw (length-listed (blockEntry img s) 0 (diskSize img)) (its-data img img refl refl s t g w apart none zs with-all its y q .0))
-      ∙ ap (λ (l : List ℕ). l ++ r) (sym (moved-table img img refl refl s t g w apart none zs with-all its))
-
-  -- the block table has it at each of them
-  pub shows-moved : (b r : List ℕ) → Shows img s b r → Shows img t (setAll b ys to) r
-  shows-moved = shows-with ys (λ x p. p) came
-
-  -- as it has at each block of its chain
-  pub shows-chain : Head (t .next) (t .block) to → (b r : List ℕ) → Shows img s b r → Shows img t (setAll b (blocksOf t to) to) r
-  shows-chain d = shows-with (blocksOf t to) (λ x p. rw (occurrences-held (w .good) to d x (held-data (w .good) to x (came x p) .0)) (came x p)) (λ x p. chain-held x p)
-    where
-      chain-held : (x : ℕ) → 0 < occurrences x (blocksOf t to) → 0 < held limit (w .hd′) (t .count) (t .block) to x
-      chain-held x p = rw (occurrences-held (w .good) to d x (chain-block img plain to d x p .below)) at p
+      ∙ setAll-front (blockTable img s) r zs to (λ y q. rw (length-listed (blockEntry img s) 0 (diskSize img)) (moved-data img img refl refl s t g w apart none zs all y q .0))
+      ∙ ap (λ (l : List ℕ). l ++ r) (sym (moved-table img img refl refl s t g w apart none zs all))
 
 -- every block has the owner that it had
 pub shows-kept : (img : List ℕ) (s t : Anodes) → ((x : ℕ) → ownerHead t x ≡ ownerHead s x) → (b r : List ℕ) → Shows img s b r → Shows img t b r

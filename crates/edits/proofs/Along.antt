@@ -68,21 +68,21 @@ run-passed b c n rest h =
     let e : n ≡ length (run b c) + (n - c) = omega arith in
     ap (λ (k : ℕ). drop k (run b c ++ rest)) e ∙ drop-append-add (run b c) rest (n - c)
 
-module _ (s : Anodes) (k m a : ℕ) (fuel : k ≡ m + 1) (some-anode : a ≡ 0 → ⊥) where
-  pub zero-here : (n : ℕ) → n ≤ s .count a → (img j : List ℕ) → j ≡ withBlocks img (run (s .block a + n) (s .count a - n)) zeroBlock
+module _ (s : Anodes) (k m a : ℕ) (fuel : k ≡ m + 1) (some-anode : a ≡ 0 → ⊥) (n : ℕ) where
+  pub behind-here : n ≤ s .count a → drop n (blocksFrom s k a) ≡ run (s .block a + n) (s .count a - n) ++ blocksFrom s m (s .next a)
+  unfolding extent
+  behind-here h = rw (gathered-step (extent s) (s .next) k m a fuel some-anode) (run-behind (s .block a) (s .count a) n (blocksFrom s m (s .next a)) h)
+
+  pub behind-later : s .count a ≤ n → drop n (blocksFrom s k a) ≡ drop (n - s .count a) (blocksFrom s m (s .next a))
+  unfolding extent
+  behind-later h = rw (gathered-step (extent s) (s .next) k m a fuel some-anode) (run-passed (s .block a) (s .count a) n (blocksFrom s m (s .next a)) h)
+
+  pub zero-here : n ≤ s .count a → (img j : List ℕ) → j ≡ withBlocks img (run (s .block a + n) (s .count a - n)) zeroBlock
       → withBlocks j (blocksFrom s m (s .next a)) zeroBlock ≡ withBlocks img (drop n (blocksFrom s k a)) zeroBlock
-  unfolding extent
-  zero-here n h img j is =
-      rw (is, gathered-step (extent s) (s .next) k m a fuel some-anode, run-behind (s .block a) (s .count a) n (blocksFrom s m (s .next a)) h)
-      (withBlocks-append img (run (s .block a + n) (s .count a - n)) (blocksFrom s m (s .next a)) zeroBlock)
+  zero-here h img j is = rw (is, behind-here h) (withBlocks-append img (run (s .block a + n) (s .count a - n)) (blocksFrom s m (s .next a)) zeroBlock)
 
-  pub zero-later : (n : ℕ) → s .count a ≤ n → drop (n - s .count a) (blocksFrom s m (s .next a)) ≡ drop n (blocksFrom s k a)
-  unfolding extent
-  zero-later n h = rw (gathered-step (extent s) (s .next) k m a fuel some-anode) (sym (run-passed (s .block a) (s .count a) n (blocksFrom s m (s .next a)) h))
-
-  pub owners-step : (blocks : List ℕ) (v : ℕ) → setAll (setAll blocks (run (s .block a) (s .count a)) v) (blocksFrom s m (s .next a)) v ≡ setAll blocks (blocksFrom s k a) v
-  unfolding extent
-  owners-step blocks v = rw (gathered-step (extent s) (s .next) k m a fuel some-anode) (setAll-append blocks (run (s .block a) (s .count a)) (blocksFrom s m (s .next a)) v)
+  pub set-here : n ≤ s .count a → (v : ℕ) (blocks j : List ℕ) → j ≡ setAll blocks (run (s .block a + n) (s .count a - n)) v → setAll j (blocksFrom s m (s .next a)) v ≡ setAll blocks (drop n (blocksFrom s k a)) v
+  set-here h v blocks j is = rw (is, behind-here h) (setAll-append blocks (run (s .block a + n) (s .count a - n)) (blocksFrom s m (s .next a)) v)
 
 -- ---- the end mark, from a place on
 

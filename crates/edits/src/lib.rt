@@ -432,17 +432,39 @@ fn set_run(blocks: &mut [u16], first: BlockNo, count: u16, owner: AnodeNo)
     }
 }
 
-// Notes the head of a chain as the owner of every block of the chain in the block table.
-pub fn set_owners(blocks: &mut [u16], counts: &[u16], firsts: &[u16], nexts: &[u16], owner: AnodeNo)
-    ensures { λ _. ⌜ now (blocks .exit) ≡ setAll (now (blocks .entry)) (blocksOf (anodesFrom (now (counts .entry)) (now (firsts .entry)) (now (nexts .entry))) (owner .0)) (owner .0) ⌝ }
+// Notes `owner` in the block table for the blocks of the chain that `head` heads behind its first `have`.
+pub fn set_behind(
+    blocks: &mut [u16],
+    counts: &[u16],
+    firsts: &[u16],
+    nexts: &[u16],
+    head: AnodeNo,
+    have: u64,
+    owner: AnodeNo,
+)
+    requires { ⌜ ExtentsFit (now counts) (now firsts) ⌝ }
+    ensures { λ _. ⌜ now (blocks .exit) ≡ setAll (now (blocks .entry)) (drop have (blocksOf (anodesFrom (now (counts .entry)) (now (firsts .entry)) (now (nexts .entry))) (head .0))) (owner .0) ⌝ }
 {
-    let mut at = owner.0 as usize;
+    let mut before = have;
+    let mut at = head.0 as usize;
     let mut fuel: usize = 3444;
     while fuel > 0 {
         if at == 0 {
             return;
         }
-        set_run(blocks, BlockNo(entry(firsts, at)), entry(counts, at), owner);
+        let count = entry(counts, at);
+        if before < count as u64 {
+            let passed = before as u16;
+            set_run(
+                blocks,
+                BlockNo(entry(firsts, at) + passed),
+                count - passed,
+                owner,
+            );
+            before = 0;
+        } else {
+            before -= count as u64;
+        }
         at = entry(nexts, at) as usize;
         fuel -= 1;
     }

@@ -1,17 +1,18 @@
 -- Without growth, steps leave the slots, and no block becomes the system's.
 use Prim.Native.Nat.{ℕ, _+_, _<_}
-use mathlib.Core.Path.{_≡_, refl, sym, _∙_}
+use mathlib.Core.Path.{_≡_, refl, sym, ap, _∙_}
 use mathlib.Core.Logic.{inl, inr}
-use mathlib.Core.Bool.{Bool}
-use mathlib.Core.List.{List}
+use mathlib.Core.Bool.{Bool, true, false}
+use mathlib.Core.List.{List, []}
 use native.Mathlib.Omega.{arith}
 use borrow.Author.Tests.{lt-ltb}
 use Rattle.rules.specs.Counting.{occurrences}
-use Rattle.rules.specs.Anodes.{Anodes}
+use Rattle.rules.specs.Anodes.{Anodes, limit}
 use Rattle.rules.specs.Chains.{chainOf, systemBy}
 use Rattle.rules.specs.Plans.{Slotted, Plan, refused, planned, noGrowth, afresh}
 use Rattle.rules.specs.Space.{Found, nowhere, found, lastExtent, needAnode, withSpare, putTo, takeFrom, takeBlock, takeMany, release, giveFrom, giveBack, giveMany}
-use Rattle.laws.specs.Plans.{refused≢planned, repeated-kept, afresh-planned}
+use Rattle.rules.specs.Changes.{neededBlock}
+use Rattle.laws.specs.Plans.{refused≢planned, planned-same, repeated-kept, afresh-planned}
 use Rattle.laws.specs.FreeExtent.{take-cases}
 use Rattle.laws.specs.Moves.{Moved}
 use Rattle.laws.specs.Take.{StartOwned}
@@ -63,3 +64,9 @@ module _ (A : ℕ) where
     pub gives-slots : (k h : ℕ) (s t : Slotted) (ys : List ℕ) → giveMany A noGrowth last k h s ≡ planned t ys → t .slots ≡ s .slots
     unfolding giveMany
     gives-slots k h s t ys e = repeated-kept (giveBack A noGrowth last h) (λ r. r .slots ≡ s .slots) (λ r q zs p f. give-slots h r q zs f ∙ p) k s t ys refl e
+
+-- and so does a block that a make takes where it needs one
+pub needed-slots : (needed : Bool) (h : ℕ) (s t : Slotted) (ys : List ℕ) → neededBlock noGrowth needed h s ≡ planned t ys → t .slots ≡ s .slots
+unfolding neededBlock
+needed-slots true h s t ys e = take-slots limit true h s t ys e
+needed-slots false h s t ys e = ap (λ (q : Slotted). q .slots) (sym (planned-same s t [] ys e .0))

@@ -156,6 +156,7 @@ same-owner {s = s} {t = t} {hd = hd} {hd′ = hd′} g g′ x same =
 module _ {ex : ℕ → Bool} {n last : ℕ} {s : Anodes} {system hd sd : ℕ → ℕ} (g : Good limit ex n last s system hd sd) where
   -- the blocks of ys have gone from one head's chain to another's, and x is none of those that became the system's
   module _ {slots : ℕ → ℕ} {from to h : ℕ} {ys gs : List ℕ} {t : Slotted} (w : Moved limit n last (slotted s slots) system hd from to h ys gs t) (apart : from ≢ to) (x : ℕ) (none : occurrences x gs ≡ 0) where
+    -- a block of ys is held by the other head
     arrived : 0 < occurrences x ys → 0 < held limit (w .hd′) (t .anodes .count) (t .anodes .block) to x
     arrived p = omega (arith, rw (oneAt-other from to apart, oneAt-same to to refl, none) at (w .passed to x), p)
 
@@ -221,20 +222,19 @@ module _ (img j : List ℕ) (same-size : diskSize j ≡ diskSize img) (same-syst
   unfolding blockTable blockEntry entryOr
   kept-table same = rw same-size (listed-same (blockEntry j t) (blockEntry img s) (diskSize img) (λ x l. rw (same-system, same x)))
 
-  -- where blocks have gone from one head's chain to another's and none became the system's, the block table has that head at each of zs: those that have gone, and others that the head has
+  -- where blocks have gone from one head's chain to another's and none became the system's, the block table has that head at each of them, in whatever order they are listed
   module _ {ex : ℕ → Bool} {last : ℕ} {hd sd : ℕ → ℕ} (g : Good limit ex (diskSize img) last s (systemOwns img) hd sd) {slots slots′ : ℕ → ℕ} {from to h : ℕ} {ys gs : List ℕ}
       (w : Moved limit (diskSize img) last (slotted s slots) (systemOwns img) hd from to h ys gs (slotted t slots′)) (apart : from ≢ to) (none : (x : ℕ) → occurrences x gs ≡ 0)
-      (zs : List ℕ) (with-all : (x : ℕ) → 0 < occurrences x ys → 0 < occurrences x zs) (its : (x : ℕ) → 0 < occurrences x zs → 0 < held limit (w .hd′) (t .count) (t .block) to x) where
+      (zs : List ℕ) (listed-all : (x : ℕ) → occurrences x zs ≡ occurrences x ys) where
     -- they are on the disk, and none is the system's
-    pub its-data : (x : ℕ) → 0 < occurrences x zs → (x < diskSize img) × (systemOwns img x ≡ 0)
-    its-data x p = let d = held-data (w .good) to x (its x p) in (d .0, omega (arith, d .1))
+    pub moved-data : (x : ℕ) → 0 < occurrences x zs → (x < diskSize img) × (systemOwns img x ≡ 0)
+    moved-data x p = let d = held-data (w .good) to x (arrived g w apart x (none x) (rw (listed-all x) at p)) in (d .0, omega (arith, d .1))
 
     moved-entry : (x : ℕ) → blockEntry j t x ≡ cond (leb 1 (occurrences x zs)) to (blockEntry img s x)
     unfolding blockEntry entryOr
     moved-entry x = elim (less? 0 (occurrences x zs)) [
-      | inl p ↦ (let z = its-data x p .1 in rw (same-system, le-leb 1 (occurrences x zs) p, le-ltb x 3 (not-system img x z), z) (ownerHead-is (w .good) to x (its x p)))
-      | inr p ↦ (let off : occurrences x ys ≡ 0 = not-above (occurrences x ys) (λ q. omega (arith, p, with-all x q)) in
-          rw (same-system, lt-leb 1 (occurrences x zs) (omega arith), moved-owner g w apart x (none x), lt-leb 1 (occurrences x ys) (omega arith)))
+      | inl p ↦ (let z = moved-data x p .1 in rw (same-system, le-leb 1 (occurrences x zs) p, le-ltb x 3 (not-system img x z), z) (ownerHead-is (w .good) to x (arrived g w apart x (none x) (rw (listed-all x) at p))))
+      | inr p ↦ rw (same-system, lt-leb 1 (occurrences x zs) (omega arith), moved-owner g w apart x (none x), lt-leb 1 (occurrences x ys) (omega (arith, listed-all x)))
     ]
 
     pub moved-table : blockTable j t ≡ setAll (blockTable img s) zs to

@@ -28,7 +28,7 @@ use Rattle.laws.specs.Space.{FreeAnode}
 use Rattle.laws.specs.Plans.{afresh-fixed, planned-same}
 use Rattle.laws.specs.Moves.{none-grows, Moved}
 use Rattle.laws.specs.Take.{take-steps, takes-moved}
-use Rattle.laws.specs.FixedSlots.{start-owned, none-grown, take-slots}
+use Rattle.laws.specs.FixedSlots.{start-owned, none-grown, take-slots, needed-slots}
 use Rattle.laws.specs.OwnerTable.{held-data, setAll}
 use Rattle.laws.specs.DirectoryTakes.{dir-head, dir-not-1}
 use Rattle.laws.specs.Make.{contents-unchanged, fresh-orphan}
@@ -66,12 +66,6 @@ step-none s h = ap (planned s) (no-block 0 refl)
 late : (needed : Bool) (s : Slotted) (h k : ℕ) → neededBlock noGrowth needed h s ≡ refused k → PastDamage k
 late needed s h k e = step-late k (needed-refused noGrowth needed h k s e)
 
--- a step leaves the slots
-needed-slots : (needed : Bool) (h : ℕ) (s t : Slotted) (ys : List ℕ) → neededBlock noGrowth needed h s ≡ planned t ys → t .slots ≡ s .slots
-unfolding neededBlock
-needed-slots true h s t ys e = take-slots limit true h s t ys e
-needed-slots false h s t ys e = ap (λ (q : Slotted). q .slots) (sym (planned-same s t [] ys e .0))
-
 -- a step in a good state
 module _ {last : ℕ} {s : Slotted} {h : ℕ} (ready : Ready last s h) where
   -- a block that was taken is not 0
@@ -94,7 +88,7 @@ module _ (img : List ℕ) {s : Anodes} {hd sd : ℕ → ℕ} (g : GoodOn img s h
   step-shows true t ys e b r p =
       let k = take-steps (none-grows limit (diskSize img) (lastReserved img)) (start-owned (slotOf img)) g h true t ys e in
       let m = takes-moved h d h1 k in
-      shows-moved img s (t .anodes) g m (λ i. h1 (sym i)) (none-grown m (take-slots limit true h (slotted s (slotOf img)) t ys e)) b r p
+      shows-moved img s (t .anodes) g m (λ i. h1 (sym i)) (none-grown m (take-slots limit true h (slotted s (slotOf img)) t ys e)) ys (λ x. refl) b r p
 
 -- ---- both steps
 

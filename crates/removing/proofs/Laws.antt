@@ -16,7 +16,6 @@ use Rattle.rules.specs.Plans.{Slotted, slotted, tableOf, Plan, refused, planned
 use Rattle.rules.specs.Space.{giveMany, dropped}
 use Rattle.rules.specs.Changes.{removedImage, removed, removePlan}
 use Rattle.laws.specs.Links.{Linked}
-use Rattle.laws.specs.Space.{head-1}
 use Rattle.laws.specs.FixedSlots.{none-grown}
 use Rattle.laws.specs.Remove as remove-laws
 use Rattle.laws.specs.OwnerTable.{dropped-owner, setAll}
@@ -25,12 +24,12 @@ use Rattle.change_laws.specs.Image.{accepted-slots}
 use Rattle.change_laws.specs.FoundEntries.{block-standing, end-within}
 use Rattle.change_laws.specs.Reached.{entry-not-1, block-data, block-entry}
 use Rattle.change_laws.specs.Remove.{remove-refused}
-use Rattle.change_laws.specs.RemoveStores.{PlannedRemove, moves, none-left, same-slots, end-good, removed-disk}
+use Rattle.change_laws.specs.RemoveStores.{PlannedRemove, moves, none-left, given-all, same-slots, end-good, removed-disk}
 use Rattle.anodes.specs.Loaded.{slotsFrom, tableFrom, Loaded}
 use Rattle.edits.specs.Entries.{EntryStands}
 use Rattle.tree.specs.Steps.{sumFrom}
 use Rattle.change_tables.specs.Leaves.{Leaves, ReachedEntry}
-use Rattle.change_tables.specs.Laws.{leaves-refused, shows-kept, shows-chain, leaves-done}
+use Rattle.change_tables.specs.Laws.{leaves-refused, shows-kept, shows-moved, leaves-done}
 use Rattle.change_tables.specs.Chains.{loaded-image, image-good, reached-entry, entry-known, loaded-copies, chain-counted, planned-change}
 
 module _ {img counts firsts nexts : List ℕ} (l : Loaded img counts firsts nexts) (e : Entered) (r : ReachedEntry img e) where
@@ -73,12 +72,13 @@ module _ {img counts firsts nexts : List ℕ} (l : Loaded img counts firsts next
         rw (kept .length-kept, kept .block-kept (e .start / 512) (block-data facts .unheld)) (block-data facts .inside, block-standing (block-entry facts) .before, end-within (block-entry facts))
 
     -- what it leaves of the image and the tables
-    pub done-leaves : (b a : List ℕ) → Leaves 0 img b a (removedImage img e (slotted t (slotOf img))) (setAll b (blocksOf t 1) 1) (anodeTable end ++ drop limit a) (removed noGrowth img (tableOf img) e)
+    pub done-leaves : (b a : List ℕ) → Leaves 0 img b a (removedImage img e (slotted t (slotOf img))) (setAll b (blocksOf s (e .anode)) 1) (anodeTable end ++ drop limit a) (removed noGrowth img (tableOf img) e)
     unfolding removed
     done-leaves b a =
         let h6 = entry-known l e r .from-6 in
         let d = entry-known l e r .head in
         let none = none-grown (moves p) refl in
         let owners = dropped-owner (moves p .good) (e .anode) h6 (moves p .shift .stays (e .anode) d) (remove-laws.none-left (e .anode) h6 d (moves p) (none-left p)) in
-        rw gives (leaves-done img (removedImage img e (slotted t (slotOf img))) (removed-disk p) b a (setAll b (blocksOf t 1) 1) (anodeTable end ++ drop limit a)
-        (λ rest q. shows-kept img t end owners (setAll b (blocksOf t 1) 1) rest (shows-chain img s t (image-good l) (moves p) (entry-not-1 (entry-known l e r)) none (head-1 (moves p .good)) b rest q)) refl)
+        let given = blocksOf s (e .anode) in
+        rw gives (leaves-done img (removedImage img e (slotted t (slotOf img))) (removed-disk p) b a (setAll b given 1) (anodeTable end ++ drop limit a)
+        (λ rest q. shows-kept img t end owners (setAll b given 1) rest (shows-moved img s t (image-good l) (moves p) (entry-not-1 (entry-known l e r)) none given (given-all p) b rest q)) refl)

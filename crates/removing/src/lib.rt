@@ -12,7 +12,7 @@ ghost use Rattle.lookup.specs.Answers.{entered};
 ghost use Rattle.change_tables.specs.Leaves.{Leaves, ReachedEntry};
 use chains::show_heads;
 use disk::AnodeNo;
-use edits::set_owners;
+use edits::set_behind;
 use edits::store_anodes;
 use edits::take_out;
 use giving::copied;
@@ -43,7 +43,7 @@ fn commit_remove(
     requires { ⌜ ((ys : List ℕ) × (removePlan noGrowth (lastReserved (now image)) (tableOf (now image)) (e .anode .0) ≡ planned (slotted (anodesFrom (now «new_counts») (now «new_firsts») (now «new_nexts»)) (slotOf (now image))) ys)) ⌝ }
     ensures { λ _. ⌜ Leaves 0 (now (image .entry)) (now (blocks .entry)) (now (anodes .entry)) (now (image .exit)) (now (blocks .exit)) (now (anodes .exit)) (removed noGrowth (now (image .entry)) (tableOf (now (image .entry))) (entered e)) ⌝ }
 {
-    set_owners(blocks, new_counts, new_firsts, new_nexts, AnodeNo(1));
+    set_behind(blocks, counts, firsts, nexts, e.anode, 0, AnodeNo(1));
     drop_chain(e.anode, new_counts, new_firsts, new_nexts);
     store_anodes(
         image,

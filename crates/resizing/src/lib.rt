@@ -16,13 +16,12 @@ ghost use Rattle.anodes.specs.Loaded.{anodesFrom, tableFrom, AnodeTables, Loade
 ghost use Rattle.placing.specs.Steps.{EndsIn};
 ghost use Rattle.placing.specs.States.{Ready};
 ghost use Rattle.lookup.specs.Answers.{entered};
-ghost use Rattle.change_laws.specs.ResizePlan.{newOwner};
 ghost use Rattle.change_tables.specs.Leaves.{Leaves, ReachedEntry};
 use chains::show_heads;
 use disk::AnodeNo;
 use disk::BlockNo;
 use edits::put_size;
-use edits::set_owners;
+use edits::set_behind;
 use edits::store_anodes;
 use edits::zero_behind;
 use edits::zero_tail;
@@ -71,14 +70,14 @@ fn commit_resize(
     new_firsts: &[u16],
     new_nexts: &[u16],
     have: u64,
-    owner: AnodeNo,
+    want: u64,
     e: EntryAt,
     size: u64,
 )
     requires { ⌜ Loaded (now image) (now counts) (now firsts) (now nexts) × ReachedEntry (now image) (entered e) ⌝ }
     requires { ⌜ (isDir (e .kind) ≡ false) × (3444 ≤ length (now anodes)) × (length (now «new_nexts») ≡ 3444) ⌝ }
     requires { ⌜ ((ys : List ℕ) × (resizePlan noGrowth (lastReserved (now image)) (tableOf (now image)) (e .anode .0) (blocksFor size) ≡ planned (slotted (anodesFrom (now «new_counts») (now «new_firsts») (now «new_nexts»)) (slotOf (now image))) ys)) ⌝ }
-    requires { ⌜ (have ≡ blockCount (anodesOf (now image)) (e .anode .0)) × (owner .0 ≡ newOwner (e .anode .0) (blockCount (anodesOf (now image)) (e .anode .0)) (blocksFor size)) ⌝ }
+    requires { ⌜ (have ≡ blockCount (anodesOf (now image)) (e .anode .0)) × (want ≡ blocksFor size) ⌝ }
     ensures { λ _. ⌜ Leaves 0 (now (image .entry)) (now (blocks .entry)) (now (anodes .entry)) (now (image .exit)) (now (blocks .exit)) (now (anodes .exit)) (resized noGrowth (now (image .entry)) (tableOf (now (image .entry))) (entered e) size) ⌝ }
 {
     store_anodes(
@@ -95,18 +94,20 @@ fn commit_resize(
     }
     zero_tail(image, counts, firsts, nexts, e.anode, e.size, size);
     put_size(image, e.start, size as u32);
-    set_owners(blocks, new_counts, new_firsts, new_nexts, owner);
-    show_heads(new_firsts, new_nexts, anodes);
-}
-
-// The head of the chain that the moved blocks are in: the file's, or 1 where they were given back.
-fn new_owner(have: u64, want: u64, head: AnodeNo) -> AnodeNo
-    ensures { λ r. ⌜ r .0 ≡ newOwner (head .0) have want ⌝ }
-{
     if have <= want {
-        return head;
+        set_behind(
+            blocks,
+            new_counts,
+            new_firsts,
+            new_nexts,
+            e.anode,
+            have,
+            e.anode,
+        );
+    } else {
+        set_behind(blocks, counts, firsts, nexts, e.anode, want, AnodeNo(1));
     }
-    AnodeNo(1)
+    show_heads(new_firsts, new_nexts, anodes);
 }
 
 // Resizes the file of an entry; 27 and 28 leave everything as it was.
@@ -153,7 +154,7 @@ pub fn resize_entry(
         &new_firsts,
         &new_nexts,
         have,
-        new_owner(have, want, e.anode),
+        want,
         e,
         size,
     );

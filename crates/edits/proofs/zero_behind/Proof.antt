@@ -12,7 +12,7 @@ use Rattle.laws.specs.Chains.{gathered-none, gathered-end}
 use Rattle.laws.specs.ChainBlocks.{blocksOf-extents, blocksFrom}
 use Rattle.anodes.specs.Loaded.{anodesFrom}
 use Rattle.edits.proofs.Blocks.{blocks-stored}
-use Rattle.edits.proofs.Along.{zero-here, zero-later}
+use Rattle.edits.proofs.Along.{zero-here, behind-later}
 use Rattle.edits.proofs.zero_behind.Statement.{statement}
 use Rattle.edits.proofs.zero_behind.Tie as tie
 
@@ -90,7 +90,7 @@ loop-again c =
     (search needs, rw (z, c .entry3 .ensures) (zero-here s (l .fuel) (l .fuel - 1) (l .at) (omega arith) (c .before .before .before .if1 .left) (l .before) (omega (arith, w .0 .taken, n)) (l .image) (c .before .if2 .image) e) ∙ l .inv .1))
     (λ w. let z : c .before .if2 .before ≡ l .before - s .count (l .at) = w .2 ∙ rw n in
     let e : c .before .if2 .image ≡ l .image = w .1 in
-    (search needs, rw (e, z, c .entry3 .ensures, zero-later s (l .fuel) (l .fuel - 1) (l .at) (omega arith) (c .before .before .before .if1 .left) (l .before) (omega (arith, w .0 .left, n))) (l .inv .1)))
+    (search needs, rw (e, z, c .entry3 .ensures, ← behind-later s (l .fuel) (l .fuel - 1) (l .at) (omega arith) (c .before .before .before .if1 .left) (l .before) (omega (arith, w .0 .left, n))) (l .inv .1)))
     (c .before .if2 .came)
 
 same-length-2 : tie.Need-same-length-2 Inv-loop μ-loop

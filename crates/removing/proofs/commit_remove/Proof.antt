@@ -2,17 +2,19 @@ use mathlib.Core.Path.{_∙_}
 use Rattle.rules.specs.Changes.{removedImage}
 use Rattle.anodes.specs.Loaded.{anodesFrom}
 use Rattle.lookup.specs.Answers.{entered}
+use Rattle.change_tables.specs.Chains.{extents-fit, loaded-size, loaded-good}
 use Rattle.removing.proofs.Laws.{drops-ready, removed-links, stands, done-leaves}
 use borrow.Author.Needs.{needs}
 use Rattle.removing.proofs.commit_remove.Statement.{statement}
 use Rattle.removing.proofs.commit_remove.Tie as tie
 
-set-owners-requires : tie.Need-set-owners-requires
-set-owners-requires c κs = search needs
+set-behind-requires : tie.Need-set-behind-requires
+unfolding anodesFrom
+set-behind-requires c κs = let l = c .before .before .before .before .before .before .before .before .before .before .pre .0 .0 in extents-fit _ (loaded-size l) (loaded-good l)
 
 drop-chain-requires : tie.Need-drop-chain-requires
 drop-chain-requires c κs =
-    let g = c .before .before .before .before .before .before .before .before .before .before .before .before .before .before .before .before .before .before .before in
+    let g = c .before .before .before .before .before .before .before .before .before .before .before .before .before .before .before .before in
     drops-ready (g .pre .0 .0) (entered (g .args .e)) (g .pre .0 .1) _ _ (g .pre .1 .1 .1)
 
 store-anodes-requires : tie.Need-store-anodes-requires
@@ -20,13 +22,13 @@ store-anodes-requires c κs = search needs
 
 take-out-requires : tie.Need-take-out-requires
 take-out-requires c κs =
-    let g = c .before .before .before .before .before .before .before .before .before .before .before .before .before .before .before .before .before .before .before .before .before .before .before .before .before .before .before .before .before .before .before .before .before .before in
+    let g = c .before .before .before .before .before .before .before .before .before .before .before .before .before .before .before .before .before .before .before .before .before .before .before .before .before .before .before .before .before .before .before in
     rw (c .before .before .before .store-anodes .ensures, c .before .before .before .before .before .before .before .before .before .before .before .before .before .before .drop-chain .ensures) (stands (g .pre .0 .0) (entered (g .args .e)) (g .pre .0 .1) _ _ (g .pre .1 .1 .1))
 
 show-heads-requires : tie.Need-show-heads-requires
 unfolding anodesFrom
 show-heads-requires c κs =
-    let g = c .before .before .before .before .before .before .before .before .before .before .before .before .before .before .before .before .before .before .before .before .before .before .before .before .before .before .before .before .before .before .before .before .before .before .before .before .before .before .before .before in
+    let g = c .before .before .before .before .before .before .before .before .before .before .before .before .before .before .before .before .before .before .before .before .before .before .before .before .before .before .before .before .before .before .before .before .before .before .before .before .before in
     let dropped = c .before .before .before .before .before .before .before .before .before .before .before .before .before .before .before .before .before .before .before .before .drop-chain in
     let links = removed-links (g .pre .0 .0) (entered (g .args .e)) (g .pre .0 .1) _ _ (g .pre .1 .1 .1) _ (dropped .ensures) in
     (g .pre .1 .0 .0, dropped .kept .1 .1 .1 .0 ∙ g .pre .1 .0 .1, links)
@@ -52,16 +54,16 @@ same-length-6 c = search needs
 returns : tie.Need-returns
 unfolding removedImage
 returns c =
-    let g = c .before .before .before .before .before .before .before .before .before .before .before .before .before .before .before .before .before .before .before .before .before .before .before .before .before .before .before .before .before .before .before .before .before .before .before .before .before .before .before .before .before .before .before in
+    let g = c .before .before .before .before .before .before .before .before .before .before .before .before .before .before .before .before .before .before .before .before .before .before .before .before .before .before .before .before .before .before .before .before .before .before .before .before .before .before .before .before in
     let dropped = c .before .before .before .before .before .before .before .before .before .before .before .before .before .before .before .before .before .before .before .before .before .before .before .drop-chain in
-    rw (c .before .before .before .before .before .before .before .before .take-out .ensures, c .before .before .before .before .before .before .before .before .before .before .before .before .store-anodes .ensures, c .before .before .before .before .before .before .before .before .before .before .before .before .before .before .before .before .before .before .before .before .before .before .before .before .before .before .before .before .before .set-owners .ensures, c .before .before .show-heads .ensures (dropped .last .1 .0), dropped .ensures)
+    rw (c .before .before .before .before .before .before .before .before .take-out .ensures, c .before .before .before .before .before .before .before .before .before .before .before .before .store-anodes .ensures, c .before .before .before .before .before .before .before .before .before .before .before .before .before .before .before .before .before .before .before .before .before .before .before .before .before .before .before .before .before .set-behind .ensures, c .before .before .show-heads .ensures (dropped .last .1 .0), dropped .ensures, g .pre .0 .0 .is-loaded)
     (done-leaves (g .pre .0 .0) (entered (g .args .e)) (g .pre .0 .1) _ _ (g .pre .1 .1 .1) _ _)
 
 pub commit-remove-spec : {M : Type 1} → statement M
 commit-remove-spec =
     tie.close
     (tie.spec
-    set-owners-requires
+    set-behind-requires
     drop-chain-requires
     store-anodes-requires
     take-out-requires

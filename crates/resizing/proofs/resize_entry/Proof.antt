@@ -9,7 +9,7 @@ use Rattle.anodes.specs.Loaded.{anodesFrom}
 use Rattle.lookup.specs.Answers.{entered}
 use Rattle.placing.specs.Steps.{movesNumber, EndsIn}
 use Rattle.change_tables.specs.Chains.{plan-ready, chain-counted}
-use Rattle.resizing.proofs.Laws.{plan-made, owner-is, refused-leaves}
+use Rattle.resizing.proofs.Laws.{plan-made, refused-leaves}
 use borrow.Author.Needs.{needs}
 use Rattle.resizing.proofs.resize_entry.Statement.{statement}
 use Rattle.resizing.proofs.resize_entry.Tie as tie
@@ -95,23 +95,15 @@ slice-aggregate-commit-resize-2 c = search needs
 slice-aggregate-commit-resize-3 : tie.Need-slice-aggregate-commit-resize-3
 slice-aggregate-commit-resize-3 c = search needs
 
-new-owner-requires : tie.Need-new-owner-requires
-new-owner-requires c κs = search needs
-
 commit-resize-requires : tie.Need-commit-resize-requires
 commit-resize-requires c κs =
-    let s = c .before .before .before .before .before .before .before .before .before .before .before .before .before .before .before .before .before .before .before .before .before .before .before .before .before .before .before .before .before .before .before .before in
-    let l = s .pre .0 .0 in
-    let counted = c .before .before .before .before .before .before .before .before .before .before .before .before .before .before .before .before .before .before .before .before .before .before .before .before .before .chain-sum .ensures in (
+    let s = c .before .before .before .before .before .before .before .before .before .before .before .before .before .before .before .before .before .before .before .before .before .before .before .before .before .before .before .before .before .before .before in (
       s .pre .0,
       (
         (s .pre .1 .0, s .pre .1 .1, search needs),
         (
-          rw (c .before .before .before .before .before .before .before .enum-told .given .1) at (planned-as (c .before .before .before .before .before .before .before .before .before .before .before .before)),
-          (
-            chain-counted l _ _ counted,
-            owner-is l (entered (s .args .e)) (s .pre .0 .1) (s .args .size) _ _ _ counted (c .before .before .before .before .before .before .before .before .before .before .before .before .before .before .before .before .before .before .before .before .before .before .before .before .blocks-for .ensures) (c .new-owner .ensures),
-          ),
+          rw (c .before .before .before .before .before .before .enum-told .given .1) at (planned-as (c .before .before .before .before .before .before .before .before .before .before .before)),
+          (chain-counted (s .pre .0 .0) _ _ (c .before .before .before .before .before .before .before .before .before .before .before .before .before .before .before .before .before .before .before .before .before .before .before .before .chain-sum .ensures), c .before .before .before .before .before .before .before .before .before .before .before .before .before .before .before .before .before .before .before .before .before .before .before .blocks-for .ensures),
         ),
       ),
     )
@@ -153,7 +145,6 @@ resize-entry-spec =
     slice-aggregate-commit-resize
     slice-aggregate-commit-resize-2
     slice-aggregate-commit-resize-3
-    new-owner-requires
     commit-resize-requires
     same-length-2
     same-length-3
