@@ -18,8 +18,8 @@ pub const NEEDED: [(&str, usize); 16] = [
     ("bitmap_differs", 64),
     ("report", 64),
     ("make", 96),
-    ("resize", 256),
-    ("remove", 256),
+    ("resize", 96),
+    ("remove", 96),
 ];
 
 /// The bytes of stack that a thread must have to make the call of this label.

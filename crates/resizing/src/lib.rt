@@ -94,18 +94,11 @@ fn commit_resize(
     }
     zero_tail(image, counts, firsts, nexts, e.anode, e.size, size);
     put_size(image, e.start, size as u32);
+    let head = e.anode;
     if have <= want {
-        set_behind(
-            blocks,
-            new_counts,
-            new_firsts,
-            new_nexts,
-            e.anode,
-            have,
-            e.anode,
-        );
+        set_behind(blocks, new_counts, new_firsts, new_nexts, head, have, head);
     } else {
-        set_behind(blocks, counts, firsts, nexts, e.anode, want, AnodeNo(1));
+        set_behind(blocks, counts, firsts, nexts, head, want, AnodeNo(1));
     }
     show_heads(new_firsts, new_nexts, anodes);
 }

@@ -37,23 +37,23 @@ put-size-requires c κs = search needs
 set-behind-requires : tie.Need-set-behind-requires
 unfolding anodesFrom
 set-behind-requires c κs =
-    let s = c .before .before .before .before .before .before .before .before .before .before .before .before .before .before .before .before .before .before .before .before .before .before .before .before .before in
+    let s = c .before .before .before .before .before .before .before .before .before .before .before .before .before .before .before .before .before .before .before .before .before .before .before .before .before .before in
     extents-fit _ (loaded-size (s .pre .0 .0)) (resized-good (s .pre .0 .0) (entered (s .args .e)) (s .pre .0 .1) (s .args .size) (s .pre .1 .0 .0) _ _ (s .pre .1 .1 .0 .1))
 
 set-behind-requires-2 : tie.Need-set-behind-requires-2
 unfolding anodesFrom
-set-behind-requires-2 c κs = let l = c .before .before .before .before .before .before .before .before .before .before .before .before .before .before .before .before .before .before .before .before .before .before .before .before .before .pre .0 .0 in extents-fit _ (loaded-size l) (loaded-good l)
+set-behind-requires-2 c κs = let l = c .before .before .before .before .before .before .before .before .before .before .before .before .before .before .before .before .before .before .before .before .before .before .before .before .before .before .pre .0 .0 in extents-fit _ (loaded-size l) (loaded-good l)
 
 show-heads-requires : tie.Need-show-heads-requires
 unfolding anodesFrom
 show-heads-requires c κs =
-    let s = c .before .before .before .before .before .before .before .before .before .before .before .before .before .before .before .before .before .before .before .before .before .before .before .before .before in
+    let s = c .before .before .before .before .before .before .before .before .before .before .before .before .before .before .before .before .before .before .before .before .before .before .before .before .before .before in
     (s .pre .1 .0 .1, s .pre .1 .0 .2, resized-good (s .pre .0 .0) (entered (s .args .e)) (s .pre .0 .1) (s .args .size) (s .pre .1 .0 .0) _ _ (s .pre .1 .1 .0 .1) .linked)
 
 same-length : tie.Need-same-length
 same-length c =
-    let before = c .before .before .before .before .before .before .before .before .before .before .before .before .before .before .before .before .before .store-anodes .kept .0 in
-    c .before .before .before .before .before .before .before .put-size .kept .0 ∙ c .before .before .before .before .before .before .before .before .before .before .before .zero-tail .kept .0 ∙ ⊎-elim (λ w. ap length (w .5) ∙ w .2 .kept .0 ∙ before) (λ w. ap length (w .1) ∙ before) (c .before .before .before .before .before .before .before .before .before .before .before .before .before .if1 .came)
+    let before = c .before .before .before .before .before .before .before .before .before .before .before .before .before .before .before .before .before .before .store-anodes .kept .0 in
+    c .before .before .before .before .before .before .before .before .put-size .kept .0 ∙ c .before .before .before .before .before .before .before .before .before .before .before .before .zero-tail .kept .0 ∙ ⊎-elim (λ w. ap length (w .5) ∙ w .2 .kept .0 ∙ before) (λ w. ap length (w .1) ∙ before) (c .before .before .before .before .before .before .before .before .before .before .before .before .before .before .if1 .came)
 
 same-length-2 : tie.Need-same-length-2
 same-length-2 c = ⊎-elim (λ w. ap length (w .5) ∙ w .2 .kept .0) (λ w. ap length (w .5) ∙ w .2 .kept .0) (c .before .before .before .before .if2 .came)
@@ -64,16 +64,16 @@ same-length-3 c = search needs
 returns : tie.Need-returns
 unfolding resizedImage
 returns c =
-    let s = c .before .before .before .before .before .before .before .before .before .before .before .before .before .before .before .before .before .before .before .before .before .before .before .before .before .before .before .before in
+    let s = c .before .before .before .before .before .before .before .before .before .before .before .before .before .before .before .before .before .before .before .before .before .before .before .before .before .before .before .before .before in
     let a = s .args in
     let pre = s .pre in
     let e = entered (a .e) in
-    let stored = c .before .before .before .before .before .before .before .before .before .before .before .before .before .before .before .before .before .store-anodes in
-    let zeroed : c .before .before .before .before .before .before .before .before .before .before .before .before .before .if1 .image ≡ zeroTaken (stored .last .0) e (a .size) (pre .1 .1 .0 .0) =
-    ⊎-elim (λ w. w .5 ∙ w .2 .ensures ∙ rw (pre .1 .1 .1 .0, grown-blocks (pre .0 .0) e (pre .0 .1) (a .size) (pre .1 .0 .0) _ _ (pre .1 .1 .0 .1) (w .0 .taken)) (zeroed-some _ _ _ _ (w .0 .taken))) (λ w. w .1 ∙ zeroed-none _ _ _ _ (w .0 .left)) (c .before .before .before .before .before .before .before .before .before .before .before .before .before .if1 .came) in
+    let stored = c .before .before .before .before .before .before .before .before .before .before .before .before .before .before .before .before .before .before .store-anodes in
+    let zeroed : c .before .before .before .before .before .before .before .before .before .before .before .before .before .before .if1 .image ≡ zeroTaken (stored .last .0) e (a .size) (pre .1 .1 .0 .0) =
+    ⊎-elim (λ w. w .5 ∙ w .2 .ensures ∙ rw (pre .1 .1 .1 .0, grown-blocks (pre .0 .0) e (pre .0 .1) (a .size) (pre .1 .0 .0) _ _ (pre .1 .1 .0 .1) (w .0 .taken)) (zeroed-some _ _ _ _ (w .0 .taken))) (λ w. w .1 ∙ zeroed-none _ _ _ _ (w .0 .left)) (c .before .before .before .before .before .before .before .before .before .before .before .before .before .before .if1 .came) in
     let shown = owners-set (anodesFrom (a .counts .now) (a .firsts .now) (a .nexts .now)) (anodesFrom (a .new-counts .now) (a .new-firsts .now) (a .new-nexts .now)) (a .e .anode .0) (a .have) (a .want) (a .blocks .now) (c .before .before .before .before .if2 .blocks) in
     let owned = ⊎-elim (λ w. shown .0 (w .0 .taken) (w .5 ∙ w .2 .ensures)) (λ w. shown .1 (w .0 .left) (w .5 ∙ w .2 .ensures)) (c .before .before .before .before .if2 .came) in
-    rw (c .before .before .before .before .before .before .before .put-size .ensures, c .before .before .before .before .before .before .before .before .before .before .before .zero-tail .ensures e refl refl, zeroed, stored .ensures, owned, c .before .before .show-heads .ensures (a .new-counts .now), pre .0 .0 .is-loaded)
+    rw (c .before .before .before .before .before .before .before .before .put-size .ensures, c .before .before .before .before .before .before .before .before .before .before .before .before .zero-tail .ensures e refl refl, zeroed, stored .ensures, owned, c .before .before .show-heads .ensures (a .new-counts .now), pre .0 .0 .is-loaded)
     (done-leaves (pre .0 .0) e (pre .0 .1) (a .size) (pre .1 .0 .0) _ _ (pre .1 .1 .0 .1) _ _ (pre .1 .1 .1 .0) (pre .1 .1 .1 .1) _ _)
 
 pub commit-resize-spec : {M : Type 1} → statement M
