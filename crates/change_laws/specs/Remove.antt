@@ -1,7 +1,7 @@
 -- Remove: an accepted image stays accepted, and its answers.
 use Prim.Native.Nat.{ℕ, _+_, _/_, _%_}
 use mathlib.Core.Path.{_≡_, refl, sym, ap, _∙_}
-use mathlib.Core.Logic.{_≢_, _⊎_, inl, inr}
+use mathlib.Core.Logic.{_≢_, _⊎_, inl, inr, _↔_}
 use mathlib.Core.Bool.{Bool, true, false, true≢false}
 use mathlib.Core.List.{List, [], _∷_, map}
 use native.Mathlib.Omega.{arith}
@@ -10,20 +10,23 @@ use Rattle.disk.specs.Blocks.{blockOf}
 use Rattle.disk.specs.Root.{slotOf}
 use Rattle.rules.specs.Counting.{sumList}
 use Rattle.rules.specs.Anodes.{Anodes, limit, anodesOf}
-use Rattle.rules.specs.Chains.{blockCount, systemOwns}
+use Rattle.rules.specs.Chains.{systemOwns}
 use Rattle.rules.specs.Walk.{Dir, Entered, entriesIn, isBlockOf, reachedDirs}
 use Rattle.rules.specs.Lookup.{entriesOf, nth, isThere, notEmpty}
 use Rattle.rules.specs.Accepted.{diskSize, lastReserved}
 use Rattle.rules.specs.Plans.{Slotted, tableOf, refused, noGrowth}
+use Rattle.rules.specs.Space.{beforeHead}
 use Rattle.rules.specs.Changes.{removedImage, removed, removePlan}
 use Rattle.laws.specs.Tests.{same?}
 use Rattle.laws.specs.Sums.{oneAt-same, oneAt-other}
 use Rattle.laws.specs.Bags.{list-cons, list-append, map-sum}
 use Rattle.laws.specs.Entries.{weighEntry}
-use Rattle.laws.specs.Whole.{whole-good, blocks-count}
+use Rattle.laws.specs.Whole.{whole-good}
 use Rattle.laws.specs.Moves.{none-grows}
+use Rattle.laws.specs.Plans.{refused-same, planned≢refused}
 use Rattle.laws.specs.FixedSlots.{start-owned}
-use Rattle.laws.specs.RefusedSteps.{gives-refused}
+use Rattle.laws.specs.GiveRuns.{Meets}
+use Rattle.laws.specs.RefusedRuns.{GiveStuck, all-refused, none-spares, give-all-28-exactly, NoneCrosses, uncrossed-done}
 use Rattle.laws.specs.Make.{SameMarks, EntryMore}
 use Rattle.laws.specs.Remove as Laws
 use Rattle.laws.specs.Items.{headed}
@@ -94,7 +97,7 @@ module _ {img : List ℕ} {e : Entered} {u : Slotted} {ys : List ℕ} (p : Plann
         × ((x : ℕ) → x ≢ e .anode → headed x dirs ≡ headed x (reachedDirs img s))
     unfolding entriesOf
     left-whole =
-        let (dirs, whole, rest) = Laws.removed (w p) e (e .anode) refl (facts p .a₀) (p .home) (reached-headed (p .entry .directory)) (facts p .block-facts .on-chain) (entriesIn j) lost no-entry (Stores.moves p) (Stores.none-left p) (isBlockOf j) same-marks in
+        let (dirs, whole, rest) = Laws.removed (w p) e (e .anode) refl (facts p .a₀) (p .home) (reached-headed (p .entry .directory)) (facts p .block-facts .on-chain) (entriesIn j) lost no-entry (Stores.goes p) (isBlockOf j) same-marks in
         (dirs, whole-good (Stores.end-good p) whole, rest)
 
     pub planned-accepted : StillAccepted (image p) j
@@ -105,11 +108,7 @@ module _ {img : List ℕ} {h : ℕ} {e : Entered} (m : EntryIn img h e) where
 
   -- a removal is refused with 28 alone
   pub remove-refused : (k : ℕ) → removePlan noGrowth (lastReserved img) (tableOf img) (e .anode) ≡ refused k → k ≡ 28
-  remove-refused k q =
-      let g = accepted-whole (m .directory .image) .good in
-      let f = entry-facts m in
-      gives-refused (none-grows limit (diskSize img) (lastReserved img)) (blockCount (anodesOf img) (e .anode)) (e .anode) (entry-not-1 f) k (tableOf img) (systemOwns img) (headIn img) (sideIn img) (start-owned (slotOf img)) g (f .head)
-      (omega (arith, blocks-count g (e .anode) (f .head))) q
+  remove-refused k q = all-refused limit noGrowth (lastReserved img) (e .anode) k (tableOf img) q
 
   -- what a removal leaves of an accepted image is accepted, where a directory that goes is empty
   pub remove-accepted : (e .dir ≡ true → notEmpty img (anodesOf img) e ≡ false) → StillAccepted (m .directory .image) (removed noGrowth img (tableOf img) e .image)
@@ -123,3 +122,26 @@ module _ {img : List ℕ} {h : ℕ} {e : Entered} (m : EntryIn img h e) where
   pub remove-answers : (removed noGrowth img (tableOf img) e .answer ≡ 0) ⊎ (removed noGrowth img (tableOf img) e .answer ≡ 28)
   unfolding removed
   remove-answers = left-cases (λ l. (l .answer ≡ 0) ⊎ (l .answer ≡ 28)) img (λ t ys. removedImage img e t) (removePlan noGrowth (lastReserved img) (tableOf img) (e .anode)) (λ k q. inr (remove-refused k q)) (λ t ys q. inl refl)
+
+  -- 28 exactly if a run that it comes to needs an anode and finds none
+  pub remove-28-exactly : (removed noGrowth img (tableOf img) e .answer ≡ 28)
+      ↔ ((j : ℕ) × (r : Slotted) × (zs : List ℕ) × Meets limit noGrowth (lastReserved img) (e .anode) (beforeHead limit (lastReserved img) (anodesOf img) (e .anode)) (tableOf img) j r zs × GiveStuck limit noGrowth (lastReserved img) (e .anode) j r)
+  unfolding removed
+  remove-28-exactly =
+      let last = lastReserved img in
+      let plan = removePlan noGrowth last (tableOf img) (e .anode) in
+      let f = entry-facts m in
+      let exactly = give-all-28-exactly (none-grows limit (diskSize img) last) (none-spares limit (diskSize img) last) (e .anode) (entry-not-1 f) (tableOf img) (systemOwns img) (headIn img) (sideIn img) (start-owned (slotOf img)) (accepted-whole (m .directory .image) .good) (f .head) 28 in
+      let same : (removed noGrowth img (tableOf img) e .answer ≡ 28) ↔ (plan ≡ refused 28) = left-cases (λ l. (l .answer ≡ 28) ↔ (plan ≡ refused 28)) img (λ t ys. removedImage img e t) plan
+      (λ k q. (λ i. q ∙ ap refused i, λ i. refused-same k 28 (sym q ∙ i))) (λ t ys q. (λ i. absurd (omega arith), λ i. absurd (planned≢refused t ys 28 (sym q ∙ i)))) in
+      (λ i. exactly .0 (same .0 i) .1, λ n. same .1 (exactly .1 (refl, n)))
+
+  -- a removal of a chain of which no extent crosses last reserved is never refused
+  pub remove-uncrossed : NoneCrosses limit (lastReserved img) (e .anode) (anodesOf img) → removed noGrowth img (tableOf img) e .answer ≡ 0
+  unfolding removed
+  remove-uncrossed none =
+      let last = lastReserved img in
+      let f = entry-facts m in
+      left-cases (λ l. l .answer ≡ 0) img (λ t ys. removedImage img e t) (removePlan noGrowth last (tableOf img) (e .anode))
+      (λ k q. absurd (uncrossed-done (none-grows limit (diskSize img) last) (e .anode) (entry-not-1 f) (tableOf img) (systemOwns img) (headIn img) (sideIn img) (start-owned (slotOf img)) (accepted-whole (m .directory .image) .good) (f .head) none k q))
+      (λ t ys q. refl)

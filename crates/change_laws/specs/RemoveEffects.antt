@@ -11,7 +11,7 @@ use Rattle.rules.specs.Plans.{Slotted}
 use Rattle.rules.specs.Lookup.{noDirectory, entriesOf, notEmpty, contents}
 use Rattle.rules.specs.Changes.{removedImage}
 use Rattle.laws.specs.Heads.{Head}
-use Rattle.laws.specs.Remove as Laws
+use Rattle.laws.specs.ChainGone.{Gone, gone-alike, gone-chain}
 use Rattle.laws.specs.Items.{headed}
 use Rattle.frames.specs.DisjointBlocks.{chain-block}
 use Rattle.frames.specs.StoredBytes.{BlocksKept}
@@ -19,8 +19,8 @@ use Rattle.change_laws.specs.Image.{headIn, reached-sum, headed-same, Re
 use Rattle.change_laws.specs.Reached.{EntryIn, reached-head}
 use Rattle.change_laws.specs.EntryBytes.{entryBytes}
 use Rattle.change_laws.specs.KeptChains.{SameChain, same-chain-alike, entry-bytes-same, OthersLeft, contents-left, entries-left}
-use Rattle.change_laws.specs.PlannedChange.{image, w, facts, off-chain}
-use Rattle.change_laws.specs.RemoveStores.{PlannedRemove, end, moves, none-left, end-good, removed-disk, kept-data}
+use Rattle.change_laws.specs.PlannedChange.{image, w, off-chain}
+use Rattle.change_laws.specs.RemoveStores.{PlannedRemove, end, goes, end-good, removed-disk, kept-data}
 use Rattle.change_laws.specs.Remove.{left-whole, planned-accepted}
 
 module _ {img : List ℕ} {e : Entered} {u : Slotted} {ys : List ℕ} (p : PlannedRemove img e u ys) where
@@ -33,13 +33,13 @@ module _ {img : List ℕ} {e : Entered} {u : Slotted} {ys : List ℕ} (p : Plann
 
   -- ---- what is left of the chains
 
-  gone : Laws.Gone s (headIn img) (end p) (e .anode)
-  gone = Laws.dropped-gone (e .anode) (facts p .from-6) (facts p .head) (moves p) (none-left p)
+  gone : Gone s (headIn img) (end p) (e .anode)
+  gone = goes p .gone
 
   module _ (m : ℕ) (head : Head (s .next) (s .block) m) where
     -- every other chain has its anodes
     pub others-same : m ≢ 1 → m ≢ e .anode → SameChain s (end p) m
-    others-same m1 other = same-chain-alike (Laws.gone-chain (w p .good) (end-good p) (e .anode) gone m m1 other head) (Laws.gone-alike (w p .good) (end-good p) (e .anode) gone m m1 other head)
+    others-same m1 other = same-chain-alike (gone-chain (w p .good) (end-good p) (e .anode) gone m m1 other head) (gone-alike (w p .good) (end-good p) (e .anode) gone m m1 other head)
 
     -- and the blocks of every chain but its own directory's are kept
     others-kept : m ≢ p .home → BlocksKept img j s m

@@ -1,36 +1,30 @@
 -- The stores of a removal, and what they leave of an accepted image.
-use Prim.Native.Nat.{ℕ, _/_, _%_}
-use mathlib.Core.Path.{_≡_, refl, sym, ap, _∙_}
-use mathlib.Core.Logic.{_≢_}
-use mathlib.Core.List.{List, [], _++_, map, reverse}
+use Prim.Native.Nat.{ℕ, _<_, _/_, _%_}
+use mathlib.Core.Path.{_≡_, sym, ap, _∙_}
+use mathlib.Core.Logic.{_≢_, inl, inr}
+use mathlib.Core.List.{List, _++_, map}
 use native.Mathlib.Omega.{arith}
-use lib.ListN.{length, length-append, length-reverse, getD, drop-of-length-le}
+use lib.ListN.{length, getD}
 use Rattle.disk.specs.Blocks.{blockOf}
 use Rattle.disk.specs.Root.{slotOf}
 use Rattle.rules.specs.Anodes.{Anodes, limit, anodesOf, withAnodes}
 use Rattle.rules.specs.Counting.{occurrences}
-use Rattle.rules.specs.Chains.{blocksOf, blockCount, systemOwns}
+use Rattle.rules.specs.Chains.{blocksOf, systemOwns}
 use Rattle.rules.specs.Walk.{Dir, Entered, entriesIn, isBlockOf}
 use Rattle.rules.specs.Accepted.{diskSize, lastReserved}
 use Rattle.rules.specs.Plans.{Slotted, tableOf, planned, noGrowth}
-use Rattle.rules.specs.Space.{onChain, dropped}
 use Rattle.rules.specs.Changes.{withoutEntry, removedImage, removePlan, entryClosed}
-use Rattle.laws.specs.Bags.{occurrences-reverse}
-use Rattle.laws.specs.LinkChanges.{without}
-use Rattle.laws.specs.Whole.{blocks-count}
-use Rattle.laws.specs.Sums.{oneAt-same, oneAt-other}
-use Rattle.laws.specs.Blocks.{blocks}
+use Rattle.laws.specs.Tests.{less?, not-above}
+use Rattle.laws.specs.Held.{held}
+use Rattle.laws.specs.OwnerTable.{held-data}
 use Rattle.laws.specs.Space.{good-more}
-use Rattle.laws.specs.Moves.{none-grows, Moved}
-use Rattle.laws.specs.FixedSlots.{start-owned, none-grown, gives-slots}
-use Rattle.laws.specs.Resize.{gives-moved}
-use Rattle.laws.specs.GivenBlocks.{gives-blocks}
-use Rattle.laws.specs.ChainBlocks.{length-blocksOf}
-use Rattle.laws.specs.Remove.{dropped-good}
+use Rattle.laws.specs.Moves.{none-grows}
+use Rattle.laws.specs.FixedSlots.{start-owned, none-got, all-slots}
+use Rattle.laws.specs.ChainGone.{ChainGone, gone-blocks, all-gone}
 use Rattle.frames.specs.Kept.{Kept, kept-both}
 use Rattle.frames.specs.StoredBlocks.{inBlock-kept, blockOf-inBlock}
-use Rattle.frames.specs.DisjointBlocks.{DataBlock}
-use Rattle.change_laws.specs.Image.{GoodOn, headIn, sideIn, DiskWith, stored-kept, disk-stored, not-one, disk-then}
+use Rattle.frames.specs.DisjointBlocks.{DataBlock, occurrences-held, chain-block}
+use Rattle.change_laws.specs.Image.{GoodOn, headIn, DiskWith, stored-kept, disk-stored, not-one, disk-then}
 use Rattle.change_laws.specs.FoundEntries.{BlockEntry}
 use Rattle.change_laws.specs.ResizePlan.{exist-same}
 use Rattle.change_laws.specs.Reached.{block-data, block-entry}
@@ -43,9 +37,6 @@ abbrev pub PlannedRemove : List ℕ → Entered → Slotted → List ℕ → Typ
 PlannedRemove img e t ys = PlannedChange img e (removePlan noGrowth (lastReserved img) (tableOf img) (e .anode) ≡ planned t ys)
 
 module _ {img : List ℕ} {e : Entered} {u : Slotted} {ys : List ℕ} (p : PlannedRemove img e u ys) where
-  abbrev t : Anodes
-  t = u .anodes
-
   abbrev s : Anodes
   s = anodesOf img
 
@@ -73,7 +64,7 @@ module _ {img : List ℕ} {e : Entered} {u : Slotted} {ys : List ℕ} (p : Plann
 
   -- the anodes that are left
   abbrev pub end : Anodes
-  end = dropped limit (u .anodes) (e .anode)
+  end = u .anodes
 
   abbrev stored : List ℕ
   stored = withAnodes img end
@@ -82,37 +73,35 @@ module _ {img : List ℕ} {e : Entered} {u : Slotted} {ys : List ℕ} (p : Plann
   abbrev j : List ℕ
   j = removedImage img e u
 
-  -- its blocks have gone to the free list
-  pub gave : (gs : List ℕ) × Moved limit (diskSize img) (lastReserved img) (tableOf img) (systemOwns img) (headIn img) (e .anode) 1 (e .anode) ys gs u × (length ys ≡ blockCount s (e .anode))
-  gave = gives-moved (none-grows limit (diskSize img) (lastReserved img)) (blockCount s (e .anode)) (e .anode) (not-1 p) u ys (tableOf img) (systemOwns img) (headIn img) (sideIn img) (start-owned (slotOf img)) (w p .good) (facts p .head) (p .plan)
+  -- its chain is gone, and the blocks of it are free
+  pub gave : (gs : List ℕ) × ChainGone limit (diskSize img) (lastReserved img) (tableOf img) (systemOwns img) (headIn img) (e .anode) ys gs u
+  gave = all-gone (none-grows limit (diskSize img) (lastReserved img)) (start-owned (slotOf img)) (w p .good) (e .anode) (facts p .from-6) (facts p .head) u ys (p .plan)
 
-  abbrev pub moves : Moved limit (diskSize img) (lastReserved img) (tableOf img) (systemOwns img) (headIn img) (e .anode) 1 (e .anode) ys (gave .0) u
-  moves = gave .1
+  abbrev pub goes : ChainGone limit (diskSize img) (lastReserved img) (tableOf img) (systemOwns img) (headIn img) (e .anode) ys (gave .0) u
+  goes = gave .1
 
-  -- all of them
-  pub none-left : blocks limit (moves .hd′) (u .anodes .count) (e .anode) ≡ 0
-  none-left = omega (arith, gave .2, blocks-count (w p .good) (e .anode) (facts p .head), rw (oneAt-same (e .anode) (e .anode) refl, oneAt-other 1 (e .anode) (λ q. not-1 p (sym q))) at (moves .moved (e .anode)))
-
-  -- in some order
+  -- they are those of ys, in some order
   pub given-all : (x : ℕ) → occurrences x (blocksOf s (e .anode)) ≡ occurrences x ys
   given-all x =
-      let (all, long) = gives-blocks (none-grows limit (diskSize img) (lastReserved img)) (blockCount s (e .anode)) (e .anode) (not-1 p) u ys (tableOf img) (systemOwns img) (headIn img) (sideIn img) (start-owned (slotOf img)) (w p .good) (facts p .head) (p .plan) in
-      let parts = ap length all ∙ length-append (blocksOf t (e .anode)) (reverse ys) in
-      let none : blocksOf t (e .anode) ≡ [] = drop-of-length-le (blocksOf t (e .anode)) {i = 0} (omega (arith, parts, long, length-blocksOf s (e .anode), length-reverse ys)) in
-      ap (occurrences x) (all ∙ rw none) ∙ occurrences-reverse x ys
+      let same = gone-blocks goes (not-1 p) x in
+      elim (less? x (diskSize img)) [
+        | inl l ↦ occurrences-held (w p .good) (e .anode) (facts p .head) x l ∙ sym same
+        | inr l ↦ not-above (occurrences x (blocksOf s (e .anode))) (λ q. omega (arith, l, chain-block img (w p .good) (e .anode) (facts p .head) x q .below))
+            ∙ sym (same ∙ not-above (held limit (headIn img) (s .count) (s .block) (e .anode) x) (λ q. omega (arith, l, held-data (w p .good) (e .anode) x q .0)))
+      ]
 
   pub same-slots : u .slots ≡ slotOf img
-  same-slots = gives-slots limit (lastReserved img) (blockCount s (e .anode)) (e .anode) (tableOf img) u ys (p .plan)
+  same-slots = all-slots limit (lastReserved img) (e .anode) (tableOf img) u ys (p .plan)
 
   -- the heads of the chains that are left, and of the sides of the free list
   abbrev pub hdLeft : ℕ → ℕ
-  hdLeft = without (onChain limit (u .anodes) (e .anode)) (moves .hd′)
+  hdLeft = goes .hd′
 
   abbrev pub sdLeft : ℕ → ℕ
-  sdLeft = without (onChain limit (u .anodes) (e .anode)) (moves .sd′)
+  sdLeft = goes .sd′
 
   pub end-good : GoodOn img end hdLeft sdLeft
-  end-good = good-more (dropped-good (e .anode) (facts p .from-6) (facts p .head) moves none-left) (exist-same (u .slots) (slotOf img) same-slots) (λ x. omega (arith, none-grown moves same-slots x))
+  end-good = good-more (goes .good) (exist-same (u .slots) (slotOf img) same-slots) (λ x. omega (arith, none-got (slotOf img) (u .slots) (gave .0) (goes .system-got) same-slots x))
 
   same-block : blockOf stored y ≡ b
   same-block = stored-kept (image p) end .block-kept y (block-data (facts p) .unheld)

@@ -3,7 +3,7 @@ use Prim.Native.Nat.{ℕ, _+_, _-_, _≤_, _<_}
 use mathlib.Core.Path.{_≡_, refl, sym, ap, _∙_}
 use mathlib.Core.Logic.{_≢_, _⊎_, inl, inr}
 use mathlib.Core.Bool.{false, cond}
-use mathlib.Core.List.{List, [], _++_, append-nil, reverse}
+use mathlib.Core.List.{List, [], _++_, append-nil}
 use native.Mathlib.Omega.{arith}
 use lib.Dec.{T, leb}
 use lib.ListN.{length, drop, drop-of-length-le}
@@ -17,18 +17,19 @@ use Rattle.rules.specs.Plans.{Slotted, slotted, refused, planned, noGrowth}
 use Rattle.rules.specs.Changes.{resizePlan}
 use Rattle.laws.specs.Tests.{less?, not-above}
 use Rattle.laws.specs.Sums.{oneAt-same, oneAt-other}
-use Rattle.laws.specs.Bags.{occurrences-reverse}
 use Rattle.laws.specs.Heads.{Head}
 use Rattle.laws.specs.Blocks.{blocks}
 use Rattle.laws.specs.Held.{held}
 use Rattle.laws.specs.Space.{good-more, head-1}
 use Rattle.laws.specs.Moves.{none-grows, Moved}
-use Rattle.laws.specs.FixedSlots.{start-owned, none-grown, takes-slots, gives-slots}
+use Rattle.laws.specs.FixedSlots.{start-owned, none-grown, takes-slots, runs-slots}
 use Rattle.laws.specs.Whole.{blocks-count}
-use Rattle.laws.specs.Resize.{takes-moved, gives-moved}
-use Rattle.laws.specs.RefusedSteps.{takes-refused, gives-refused}
+use Rattle.laws.specs.GiveRuns.{runs-moved}
+use Rattle.laws.specs.Resize.{takes-moved}
+use Rattle.laws.specs.RefusedSteps.{takes-refused}
+use Rattle.laws.specs.RefusedRuns.{runs-refused}
 use Rattle.laws.specs.TakenBlocks.{takes-blocks}
-use Rattle.laws.specs.GivenBlocks.{gives-blocks}
+use Rattle.laws.specs.GivenBlocks.{runs-blocks}
 use Rattle.laws.specs.OwnerTable.{held-data}
 use Rattle.frames.specs.DisjointBlocks.{DataBlock, occurrences-held, chains-apart, chain-block}
 use Rattle.change_laws.specs.Image.{GoodOn}
@@ -74,7 +75,7 @@ module _ (img : List ℕ) {s : Anodes} {hd sd : ℕ → ℕ} (g : GoodOn img s h
   unfolding resizePlan
   plan-runs size t ys plan = elim (less? size (blockCount s h)) [
     | inl l ↦ (let gives = rw (lt-leb (blockCount s h) size l) at plan in
-        let (gs, w, len) = gives-moved (none-grows limit (diskSize img) last) (blockCount s h - size) h h1 t ys S (systemOwns img) hd sd (start-owned (slotOf img)) g d gives in
+        let (gs, w, len) = runs-moved (none-grows limit (diskSize img) last) h h1 (blockCount s h - size) t ys S (systemOwns img) hd sd (start-owned (slotOf img)) g d (omega (arith, blocks-count g h d)) gives in
         record {
           from = h;
           to = 1;
@@ -84,7 +85,7 @@ module _ (img : List ℕ) {s : Anodes} {hd sd : ℕ → ℕ} (g : GoodOn img s h
           gs = gs;
           moves = w;
           has = omega (arith, l, len, blocks-count g h d, rw (oneAt-same h h refl, oneAt-other 1 h (λ e. h1 (sym e))) at (w .moved h));
-          same-slots = gives-slots limit last (blockCount s h - size) h S t ys gives;
+          same-slots = runs-slots limit last (blockCount s h - size) h S t ys gives;
         })
     | inr l ↦ (let takes = rw (le-leb (blockCount s h) size l) at plan in
         let (gs, w, len) = takes-moved (none-grows limit (diskSize img) last) (size - blockCount s h) h h1 false t ys S (systemOwns img) hd sd (start-owned (slotOf img)) g d takes in
@@ -104,7 +105,7 @@ module _ (img : List ℕ) {s : Anodes} {hd sd : ℕ → ℕ} (g : GoodOn img s h
   pub plan-refused : (size k : ℕ) → resizePlan noGrowth (lastReserved img) (slotted s (slotOf img)) h size ≡ refused k → (k ≡ 27) ⊎ (k ≡ 28)
   unfolding resizePlan
   plan-refused size k plan = elim (less? size (blockCount s h)) [
-    | inl l ↦ inr (gives-refused (none-grows limit (diskSize img) last) (blockCount s h - size) h h1 k S (systemOwns img) hd sd (start-owned (slotOf img)) g d (omega (arith, blocks-count g h d)) (rw (lt-leb (blockCount s h) size l) at plan))
+    | inl l ↦ inr (runs-refused limit noGrowth last (blockCount s h - size) h k S (rw (lt-leb (blockCount s h) size l) at plan))
     | inr l ↦ takes-refused limit noGrowth false (size - blockCount s h) h k S (rw (le-leb (blockCount s h) size l) at plan)
   ]
 
@@ -117,7 +118,7 @@ module _ (img : List ℕ) {s : Anodes} {hd sd : ℕ → ℕ} (g : GoodOn img s h
     pub plan-shorter : size ≤ blockCount s h → (rest : List ℕ) × (blocksOf s h ≡ blocksOf (t .anodes) h ++ rest) × ((x : ℕ) → occurrences x rest ≡ occurrences x ys)
     unfolding resizePlan
     plan-shorter l = elim (less? size (blockCount s h)) [
-      | inl m ↦ (reverse ys, gives-blocks (none-grows limit (diskSize img) last) (blockCount s h - size) h h1 t ys S (systemOwns img) hd sd (start-owned (slotOf img)) g d (rw (lt-leb (blockCount s h) size m) at plan) .0, λ x. occurrences-reverse x ys)
+      | inl m ↦ (let b = runs-blocks (none-grows limit (diskSize img) last) h h1 (blockCount s h - size) t ys S (systemOwns img) hd sd (start-owned (slotOf img)) g d (omega (arith, blocks-count g h d)) (rw (lt-leb (blockCount s h) size m) at plan) in (b .0, b .1, b .3))
       | inr m ↦ (let q = plan-longer m in let none : ys ≡ [] = drop-of-length-le ys {i = 0} (omega (arith, q .1)) in
           ([], sym (append-nil (blocksOf s h)) ∙ ap (λ (l : List ℕ). blocksOf s h ++ l) (sym none) ∙ sym (q .0) ∙ sym (append-nil (blocksOf (t .anodes) h)), λ x. ap (occurrences x) (sym none)))
     ]

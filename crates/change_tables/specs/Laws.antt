@@ -1,5 +1,6 @@
 -- What a refused and a done change leave of the tables.
 use Prim.Native.Nat.{ℕ, zero, suc, _<_}
+use mathlib.Core.Bool.{Bool}
 use mathlib.Core.Path.{_≡_, refl, sym, ap, _∙_}
 use mathlib.Core.Logic.{_≢_}
 use mathlib.Core.List.{List, _++_}
@@ -15,11 +16,8 @@ use Rattle.rules.specs.Tables.{anodeTable, blockTable, blockEntry, ownerHead, t
 use Rattle.rules.specs.Plans.{slotted}
 use Rattle.rules.specs.Changes.{left}
 use Rattle.rules.specs.Calls.{settled}
-use Rattle.laws.specs.Sums.{oneAt-same, oneAt-other}
-use Rattle.laws.specs.Heads.{Head}
-use Rattle.laws.specs.Held.{held}
-use Rattle.laws.specs.Space.{Good, good-more}
-use Rattle.laws.specs.Moves.{Moved}
+use Rattle.laws.specs.Space.{Good}
+use Rattle.laws.specs.Moves.{withThese, Passed}
 use Rattle.laws.specs.OwnerTable.{setAll, setAll-front, kept-table, moved-data, moved-table, heads-past}
 use Rattle.frames.specs.Kept.{diskSize-kept, systemOwns-kept}
 use Rattle.frames.specs.DisjointBlocks.{occurrences-held, chain-block}
@@ -43,15 +41,15 @@ abbrev pub Shows : List ℕ → Anodes → List ℕ → List ℕ → Type 0
 Shows img s b r = b ≡ blockTable img s ++ r
 
 -- blocks of ys went from one head's chain to another's, and none became the system's
-module _ (img : List ℕ) (s t : Anodes) {hd sd : ℕ → ℕ} (g : GoodOn img s hd sd) {slots slots′ : ℕ → ℕ} {from to h : ℕ} {ys gs : List ℕ}
-    (w : Moved limit (diskSize img) (lastReserved img) (slotted s slots) (systemOwns img) hd from to h ys gs (slotted t slots′)) (apart : from ≢ to) (none : (x : ℕ) → occurrences x gs ≡ 0) where
+module _ (img : List ℕ) (s t : Anodes) {hd sd hd′ sd′ : ℕ → ℕ} (g : GoodOn img s hd sd) {ex : ℕ → Bool} (from to : ℕ) (ys gs : List ℕ)
+    (g′ : Good limit ex (diskSize img) (lastReserved img) t (withThese (systemOwns img) gs) hd′ sd′) (passed : Passed limit s hd t hd′ from to ys gs) (apart : from ≢ to) (none : (x : ℕ) → occurrences x gs ≡ 0) where
   -- the block table has the other head at each of them, in whatever order they are listed
   pub shows-moved : (zs : List ℕ) → ((x : ℕ) → occurrences x zs ≡ occurrences x ys) → (b r : List ℕ) → Shows img s b r → Shows img t (setAll b zs to) r
   unfolding blockTable
   shows-moved zs all b r p =
       ap (λ (l : List ℕ). setAll l zs to) p
-      ∙ setAll-front (blockTable img s) r zs to (λ y q. rw (length-listed (blockEntry img s) 0 (diskSize img)) (moved-data img img refl refl s t g w apart none zs all y q .0))
-      ∙ ap (λ (l : List ℕ). l ++ r) (sym (moved-table img img refl refl s t g w apart none zs all))
+      ∙ setAll-front (blockTable img s) r zs to (λ y q. rw (length-listed (blockEntry img s) 0 (diskSize img)) (moved-data img img refl refl s t g from to ys gs g′ passed apart none zs all y q .0))
+      ∙ ap (λ (l : List ℕ). l ++ r) (sym (moved-table img img refl refl s t g from to ys gs g′ passed apart none zs all))
 
 -- every block has the owner that it had
 pub shows-kept : (img : List ℕ) (s t : Anodes) → ((x : ℕ) → ownerHead t x ≡ ownerHead s x) → (b r : List ℕ) → Shows img s b r → Shows img t b r

@@ -1,3 +1,3 @@
--- Laws of a give and of many, and of a chain zeroed.
-pub mod Giving
+-- Laws of a give and of many, of runs that go back, and of a chain zeroed.
 pub mod Dropping
+pub mod Runs

@@ -170,7 +170,7 @@ module _ {A : ℕ} {ex : ℕ → Bool} {n last : ℕ} {s : Anodes} (system : ℕ
       }
 
   -- a plan for the run that is done
-  placed-by : (r t : Anodes) (ys : List ℕ) → planned r (run b c) ≡ planned t ys → RunIn A ex n last s system hd (hd z) c b r → RunIn A ex n last s system hd (hd z) c b t × (ys ≡ run b c)
+  pub placed-by : (r t : Anodes) (ys : List ℕ) → planned r (run b c) ≡ planned t ys → RunIn A ex n last s system hd (hd z) c b r → RunIn A ex n last s system hd (hd z) c b t × (ys ≡ run b c)
   placed-by r t ys e w = let q = planned-same r t (run b c) ys e in (rw (q .0) at w, q .1)
 
   append-in : (t : Anodes) (ys : List ℕ) → append A ex s z c b ≡ planned t ys → RunIn A ex n last s system hd (hd z) c b t × (ys ≡ run b c)

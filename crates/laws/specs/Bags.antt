@@ -2,7 +2,7 @@
 use Prim.Native.Nat.{ℕ, _+_, _*_, _≤_, _<_}
 use mathlib.Core.Path.{_≡_, refl, sym, ap, _∙_}
 use mathlib.Core.Logic.{_≢_, _⊎_, inl, inr}
-use mathlib.Core.List.{List, [], _∷_, _++_, map, append-nil, append-assoc, reverse, reverse-cons}
+use mathlib.Core.List.{List, [], _∷_, _++_, map, append-nil, append-assoc}
 use native.Mathlib.Omega.{arith}
 use lib.ListN.{length}
 use Rattle.rules.specs.Counting.{oneAt, sumBelow, sumList, occurrences, gather, lastOf}
@@ -116,12 +116,6 @@ occurrences-cons x y l = list-cons (λ z. oneAt z x) y l
 pub occurrences-append : (x : ℕ) (l m : List ℕ) → occurrences x (l ++ m) ≡ occurrences x l + occurrences x m
 unfolding occurrences
 occurrences-append x l m = list-append (λ z. oneAt z x) l m
-
-pub occurrences-reverse : (x : ℕ) (l : List ℕ) → occurrences x (reverse l) ≡ occurrences x l
-occurrences-reverse x [] = refl
-occurrences-reverse x (y ∷ l) =
-    ap (occurrences x) (reverse-cons y l)
-    ∙ omega (arith, occurrences-append x (reverse l) (y ∷ []), occurrences-reverse x l, occurrences-cons x y l, occurrences-cons x y [], occurrences-nil x)
 
 -- the first number of a list stands in it, and so does each of the rest
 pub occurrences-here : (x : ℕ) (l : List ℕ) → 0 < occurrences x (x ∷ l)

@@ -9,19 +9,18 @@ use lib.Dec.{eqb}
 use borrow.Author.Tests.{eq-eqb, ne-eqb}
 use Rattle.rules.specs.Counting.{occurrences, lastOf}
 use Rattle.rules.specs.Anodes.{Anodes, existsBy}
-use Rattle.rules.specs.Chains.{chainOf, run, cut, side}
+use Rattle.rules.specs.Chains.{chainOf, run, side}
 use Rattle.rules.specs.Plans.{Slotted, slotted, planned}
 use Rattle.rules.specs.Space.{rewritten, insertedAfter, withoutFirst, Found, firstExtent, extentAt, firstFound, freeExtent, found, chainEnd, lowestFree, put}
 use Rattle.laws.specs.Tests.{same?}
 use Rattle.laws.specs.Sums.{changed-same, changed-other, changed-cases}
 use Rattle.laws.specs.Bags.{occurrences-here, occurrences-later}
-use Rattle.laws.specs.Segments.{seg-keep, seg-last, chain-end}
+use Rattle.laws.specs.Segments.{seg-last}
 use Rattle.laws.specs.LinkChanges.{first, second, third}
-use Rattle.laws.specs.Links.{chain-the}
 use Rattle.laws.specs.Heads.{Head, head-chain}
-use Rattle.laws.specs.Cut.{cut-linked}
-use Rattle.laws.specs.Space.{Alike, Good, FreeAnode, free-pos, head-1}
-use Rattle.laws.specs.Sides.{SideHead, side-free, side-sd, side-chain}
+use Rattle.laws.specs.Space.{Alike, Good, FreeAnode, free-pos}
+use Rattle.laws.specs.Sides.{SideHead}
+use Rattle.laws.specs.SideEnds.{side-on, side-kept, last-cons}
 use Rattle.laws.specs.Owners.{last-0, last-used}
 use Rattle.laws.specs.Searches.{full-at, nowhere-at}
 use Rattle.laws.specs.Moves.{Shift}
@@ -71,22 +70,10 @@ shrunk-extent A dir s p x full more = rw (run-shrunk s 2 p x 1 (s .block x + 1) 
 module _ {A : ℕ} {ex ex′ : ℕ → Bool} {n last : ℕ} {s t : Anodes} {system system′ hd sd hd′ sd′ : ℕ → ℕ} (g : Good A ex n last s system hd sd) (g′ : Good A ex′ n last t system′ hd′ sd′)
     (h : ℕ) (h1 : h ≢ 1) (shift : Shift s hd t hd′ h h) where
   side-alike : (m : ℕ) → SideHead m → (a : ℕ) → 0 < occurrences a (side A s m) → Alike s t a
-  side-alike m o a p =
-      let q = side-sd g m o a p in
-      let m0 : m ≢ 0 = λ z. elim o [ inl e ↦ omega (arith, e, z) | inr e ↦ omega (arith, e, z) ] in
-      let u : s .block a ≢ 0 = λ z. m0 (sym q ∙ g .sides .off a z) in
-      let a0 : a ≢ 0 = λ z. m0 (sym q ∙ ap sd z ∙ g .sides .off-zero) in
-      let off : hd a ≢ h = λ e. h1 (sym e ∙ side-free g m o a a0 u q) in
-      shift .apart a u off off
+  side-alike m o a p = let (u, q) = side-on g m o a p in shift .apart a u (λ e. h1 (sym e ∙ q)) (λ e. h1 (sym e ∙ q))
 
   side-same : (m : ℕ) → SideHead m → side A t m ≡ side A s m
-  unfolding side cut
-  side-same m o = chain-the (cut-linked (g′ .linked)) m (side A s m) (λ q. used o)
-      (seg-keep (cut (s .next)) (cut (t .next)) m 0 (side A s m) (λ x p. rw (side-alike m o x p .same-next)) (side-chain g m o))
-    where
-      used : SideHead m → t .block m ≢ 0
-      used (inl e) = rw e (head-1 g′ .in-use)
-      used (inr e) = rw e (g′ .fixed .block-2)
+  side-same = side-kept g t (λ a u q. shift .apart a u (λ e. h1 (sym e ∙ q)) (λ e. h1 (sym e ∙ q)) .same-next)
 
   pub kept-extent : (dir : Bool) → freeExtent A dir t ≡ freeExtent A dir s
   kept-extent dir = extents-same A dir s t (λ m o. ap (firstExtent (t .count) 0) (side-same m o)
@@ -97,11 +84,6 @@ module _ {A : ℕ} {ex ex′ : ℕ → Bool} {n last : ℕ} {s t : Anodes} {syst
 -- the anode behind z, if there is one, else z
 unfoldable pub endAfter : (ℕ → ℕ) → ℕ → ℕ
 endAfter next z = cond (eqb (next z) 0) z (next z)
-
-last-cons : (h : ℕ) (l : List ℕ) (f : ℕ) → lastOf h (l ++ (f ∷ [])) ≡ f
-unfolding lastOf
-last-cons h [] f = refl
-last-cons h (a ∷ l) f = last-cons a l f
 
 -- nothing follows the last anode of a chain
 chain-stops : {A : ℕ} {ex : ℕ → Bool} {n last : ℕ} {s : Anodes} {system hd sd : ℕ → ℕ} → Good A ex n last s system hd sd → (h : ℕ) → Head (s .next) (s .block) h → s .next (lastOf h (chainOf (s .next) A h)) ≡ 0

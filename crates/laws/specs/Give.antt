@@ -1,4 +1,4 @@
--- A run that is released leaves a good state, and has gone to the free list; and so a give that is done.
+-- A run that is released leaves a good state, and has gone to the free list; the last extent of a chain.
 use Prim.Native.Nat.{ℕ, _+_, _-_, _*_, _≤_, _<_}
 use mathlib.Core.Path.{_≡_, refl, sym, ap, _∙_}
 use mathlib.Core.Logic.{_≢_, _⊎_, inl, inr}
@@ -10,8 +10,8 @@ use lib.ListN.{length}
 use Rattle.rules.specs.Anodes.{Anodes, existsBy}
 use Rattle.rules.specs.Counting.{oneAt, occurrences}
 use Rattle.rules.specs.Chains.{chainOf, oneIfCovers, run, systemBy}
-use Rattle.rules.specs.Plans.{Slotted, slotted, Plan, refused, planned, Growth}
-use Rattle.rules.specs.Space.{withoutTail, tailStart, Found, nowhere, found, lastExtent, sideOf, sideEnd, join, release, giveFrom, giveBack}
+use Rattle.rules.specs.Plans.{Slotted, slotted, planned, Growth}
+use Rattle.rules.specs.Space.{withoutTail, tailStart, found, lastExtent, sideOf, sideEnd, join, release}
 use Rattle.laws.specs.Tests.{less?}
 use Rattle.laws.specs.Chains.{occurrences-run, length-run}
 use Rattle.laws.specs.Ownership.{covers-none, handed}
@@ -19,12 +19,11 @@ use Rattle.laws.specs.Heads.{Head, head-chain}
 use Rattle.laws.specs.Blocks.{blocks}
 use Rattle.laws.specs.Held.{held}
 use Rattle.laws.specs.Space.{Good, good-same, on-chain}
-use Rattle.laws.specs.Owners.{full-used, full-inside}
+use Rattle.laws.specs.Owners.{full-used}
 use Rattle.laws.specs.Sides.{SideHead, side-free, side-last, side-last-used, side-last-0}
 use Rattle.laws.specs.Searches.{FoundIn, found-after, lastExtent-found}
 use Rattle.laws.specs.Moves.{Shift, shift-trans, shift-into, RunOut, RunIn, withThese, Grows, InHand, Moved, hand-none, afresh-hand}
 use Rattle.laws.specs.Leaving.{last-gone, withoutRun-out}
-use Rattle.laws.specs.Plans.{refused≢planned}
 use Rattle.laws.specs.Arriving.{join-in}
 use Rattle.laws.specs.Take.{StartOwned}
 
@@ -149,38 +148,9 @@ released-moved {m = m} {c} {b} o w = record {
   system-got = w .system-got;
 }
 
--- ---- a give
+-- ---- the last extent of a chain
 
 module _ {A : ℕ} {ex : ℕ → Bool} {n last : ℕ} {s : Anodes} {system hd sd : ℕ → ℕ} (g : Good A ex n last s system hd sd) (h : ℕ) (d : Head (s .next) (s .block) h) where
   -- what the search for the last block finds stands on the chain
   pub given-found : (p x : ℕ) → lastExtent (s .count) 0 (chainOf (s .next) A h) ≡ found p x → FoundIn (s .count) (s .next) h (chainOf (s .next) A h) 0 p x
   given-found = lastExtent-found (s .count) (s .next) h 0 0 (chainOf (s .next) A h) (head-chain (g .linked) h d)
-
--- a give that is done: x after p is the last anode of the giver's chain with a block, its last block is out, and has gone to the free list
-pub record Gives (A n last : ℕ) (s : Slotted) (system hd : ℕ → ℕ) (h : ℕ) (t : Slotted) (ys : List ℕ) : Type 0 where
-  pub p : ℕ
-  pub x : ℕ
-  pub is-last : lastExtent (s .anodes .count) 0 (chainOf (s .anodes .next) A h) ≡ found p x
-  pub full : 0 < s .anodes .count x
-  pub out : RunOut A (existsBy (s .slots)) n last (s .anodes) system hd h 1 (tailStart (s .anodes) x 1) (withoutTail (s .anodes) h p x 1)
-  pub back : Released A n last (slotted (withoutTail (s .anodes) h p x 1) (s .slots)) system (out .hd′) 1 (tailStart (s .anodes) x 1) t ys
-
-pub give-steps : {A n last : ℕ} {growth : Growth} → Grows A n last growth → {s : Slotted} {system hd sd : ℕ → ℕ} → StartOwned system → Good A (existsBy (s .slots)) n last (s .anodes) system hd sd → (h : ℕ) →
-    Head (s .anodes .next) (s .anodes .block) h → h ≢ 1 → (t : Slotted) (ys : List ℕ) → giveBack A growth last h s ≡ planned t ys → Gives A n last s system hd h t ys
-unfolding giveBack giveFrom
-give-steps {A} {n} {last} {growth} grows {s} {system} {hd} start g h d h1 t ys e = go (lastExtent (s .anodes .count) 0 (chainOf (s .anodes .next) A h)) refl e
-  where
-    go : (c : Found) → lastExtent (s .anodes .count) 0 (chainOf (s .anodes .next) A h) ≡ c → _≡_ {A = Plan Slotted} (elim c [ nowhere ↦ refused 27 | found p x ↦ giveFrom A growth last h p x s ]) (planned t ys) → Gives A n last s system hd h t ys
-    go nowhere q e = absurd (refused≢planned 27 t ys e)
-    go (found p x) q e =
-        let f = given-found g h d p x q in
-        let u = full-used g x (f .full) in
-        let out = withoutTail-out g h d h1 p x f 1 (f .full) in
-        record {
-          p = p;
-          x = x;
-          is-last = q;
-          full = f .full;
-          out = out;
-          back = released grows start 1 (tailStart (s .anodes) x 1) (out .good) (λ z. u (omega arith)) (omega (arith, full-inside g x (f .full), f .full)) (λ l. omega arith) t ys e;
-        }

@@ -1,27 +1,28 @@
--- A give takes the last block off the giver's chain.
-use Prim.Native.Nat.{ℕ, zero, suc, _+_, _-_, _≤_}
+-- Giving back takes the last blocks off the giver's chain.
+use Prim.Native.Nat.{ℕ, _+_, _-_, _≤_}
 use mathlib.Core.Path.{_≡_, refl, sym, ap, _∙_}
 use mathlib.Core.Logic.{_≢_}
 use mathlib.Core.Bool.{Bool}
-use mathlib.Core.List.{List, [], _∷_, _++_, reverse, append-nil, append-assoc, reverse-cons}
+use mathlib.Core.List.{List, [], _∷_, _++_, append-nil, append-assoc}
 use native.Mathlib.Omega.{arith}
-use lib.ListN.{length}
-use Rattle.rules.specs.Counting.{sumList, gather}
+use lib.ListN.{length, length-append}
+use Rattle.rules.specs.Counting.{sumList, occurrences, gather}
 use Rattle.rules.specs.Anodes.{Anodes, limit, existsBy}
 use Rattle.rules.specs.Chains.{chainOf, run, blocksOf}
 use Rattle.rules.specs.Plans.{Slotted, planned, Growth}
-use Rattle.rules.specs.Space.{rewritten, unlinked, withoutTail, tailStart, found, lastExtent, giveBack, giveMany}
-use Rattle.laws.specs.Bags.{none-at, gather-none, gather-skip, gather-last}
+use Rattle.rules.specs.Space.{rewritten, unlinked, withoutTail, tailStart, found, lastExtent, giveRun, giveBlocks}
+use Rattle.laws.specs.Bags.{occurrences-append, none-at, gather-none, gather-skip, gather-last}
 use Rattle.laws.specs.LinkChanges.{first, second, third}
 use Rattle.laws.specs.Heads.{Head}
+use Rattle.laws.specs.Blocks.{blocks}
 use Rattle.laws.specs.Space.{Good}
 use Rattle.laws.specs.Owners.{full-0}
 use Rattle.laws.specs.Searches.{FoundIn, found-after, lastExtent-split}
 use Rattle.laws.specs.Leaving.{withoutRun-cases}
 use Rattle.laws.specs.Moves.{Grows, withThese}
 use Rattle.laws.specs.Take.{StartOwned}
-use Rattle.laws.specs.Give.{given-found, Gives, give-steps, released-moved}
-use Rattle.laws.specs.Plans.{repeated-none, repeated-done}
+use Rattle.laws.specs.Give.{given-found, released-moved}
+use Rattle.laws.specs.GiveRuns.{tail-out, run-released, NextRun, Meets, now, later, next-fits, runs-meet, runs-moved}
 use Rattle.laws.specs.ChainBlocks.{extent, extent-here, extent-other, blocksOf-extents, extent-shorter, shift-blocks, stands-once, unlinked-chain}
 
 -- ---- out of the giver's chain
@@ -74,30 +75,49 @@ module _ {ex : ℕ → Bool} {n last : ℕ} {s : Anodes} {system hd sd : ℕ →
       | third c ↦ rw (c .2) (unlinked-blocks (c .1) (c .0))
     ]
 
--- ---- the whole
+-- ---- run by run
 
--- a give takes the last block off the blocks of the giver's chain
-pub give-blocks : {n last : ℕ} {s : Slotted} {system hd sd : ℕ → ℕ} → Good limit (existsBy (s .slots)) n last (s .anodes) system hd sd → (h : ℕ) → Head (s .anodes .next) (s .anodes .block) h → h ≢ 1 →
-    {t : Slotted} {ys : List ℕ} → Gives limit n last s system hd h t ys → blocksOf (s .anodes) h ≡ blocksOf (t .anodes) h ++ ys
-give-blocks {s = s} g h d h1 {t} {ys} k =
-    withoutTail-blocks g h d (k .p) (k .x) (k .is-last) 1 (k .full)
-    ∙ ap (λ (l : List ℕ). l ++ run (tailStart (s .anodes) (k .x) 1) 1) (sym (shift-blocks (k .out .good) (k .back .good) (k .back .shift) h (k .out .shift .stays h d) h1 h1))
-    ∙ ap (λ (l : List ℕ). blocksOf (t .anodes) h ++ l) (sym (k .back .handed-are))
+-- the blocks of the chain of h before, from those after: the last ones, in the chain's order, are those of zs
+pub record Shorter (s t : Anodes) (h : ℕ) (zs : List ℕ) : Type 0 where
+  pub rest : List ℕ
+  pub parted : blocksOf s h ≡ blocksOf t h ++ rest
+  pub as-many : length rest ≡ length zs
+  pub the-same : (x : ℕ) → occurrences x rest ≡ occurrences x zs
 
--- k gives, one after the other: the last of the chain's blocks, last first
-pub gives-blocks : {n last : ℕ} {growth : Growth} → Grows limit n last growth → (k h : ℕ) → h ≢ 1 → (t : Slotted) (zs : List ℕ) (s : Slotted) (system hd sd : ℕ → ℕ) → StartOwned system →
-    Good limit (existsBy (s .slots)) n last (s .anodes) system hd sd → Head (s .anodes .next) (s .anodes .block) h → giveMany limit growth last k h s ≡ planned t zs →
-    (blocksOf (s .anodes) h ≡ blocksOf (t .anodes) h ++ reverse zs) × (length zs ≡ k)
-unfolding giveMany run
-gives-blocks {last = last} {growth} grows zero h h1 t zs s system hd sd start g d e = let q = repeated-none (giveBack limit growth last h) s t zs e in rw (← (q .0), q .1) (sym (append-nil (blocksOf (s .anodes) h)), refl)
-gives-blocks {last = last} {growth} grows (suc k) h h1 t zs s system hd sd start g d e =
-    let (r, ys, xs, q, f, z) = repeated-done (giveBack limit growth last h) k s t zs e in
-    let k₁ = give-steps grows start g h d h1 r ys q in
-    let w = released-moved (k₁ .out) (k₁ .back) in
-    let b = gives-blocks grows k h h1 t xs r (withThese system (k₁ .back .gs)) (w .hd′) (w .sd′) (λ x l. omega (arith, start x l)) (w .good) (w .shift .stays h d) f in
-    let y = tailStart (s .anodes) (k₁ .x) 1 in
-    let all : zs ≡ y ∷ xs = z ∙ ap (λ (l : List ℕ). l ++ xs) (k₁ .back .handed-are) in (
-      give-blocks g h d h1 k₁ ∙ ap (λ (l : List ℕ). blocksOf (r .anodes) h ++ l) (k₁ .back .handed-are) ∙ ap (λ (l : List ℕ). l ++ (y ∷ [])) (b .0)
-          ∙ append-assoc (blocksOf (t .anodes) h) (reverse xs) (y ∷ []) ∙ ap (λ (l : List ℕ). blocksOf (t .anodes) h ++ l) (sym (reverse-cons y xs) ∙ ap reverse (sym all)),
-      ap length all ∙ ap suc (b .1),
-    )
+module _ {n last : ℕ} {growth : Growth} (grows : Grows limit n last growth) (h : ℕ) (h1 : h ≢ 1) where
+  -- a run takes the last blocks off the giver's chain
+  run-blocks : (s : Slotted) {system hd sd : ℕ → ℕ} → StartOwned system → Good limit (existsBy (s .slots)) n last (s .anodes) system hd sd → Head (s .anodes .next) (s .anodes .block) h →
+      {k p x d : ℕ} → NextRun limit last h k s p x d → (t : Slotted) (ys : List ℕ) → giveRun limit growth last h p x d s ≡ planned t ys →
+      blocksOf (s .anodes) h ≡ blocksOf (t .anodes) h ++ ys
+  run-blocks s start g dh {p = p} {x} {d} next t ys gives =
+      let (some, few, most, one) = next-fits next in
+      let out = tail-out g h dh h1 p x d (next .is-last) most in
+      let back = run-released grows s start g h dh h1 p x d (next .is-last) most one t ys gives in
+      withoutTail-blocks g h dh p x (next .is-last) d most
+      ∙ ap (λ (l : List ℕ). l ++ run (tailStart (s .anodes) x d) d) (sym (shift-blocks (out .good) (back .good) (back .shift) h (out .shift .stays h dh) h1 h1))
+      ∙ ap (λ (l : List ℕ). blocksOf (t .anodes) h ++ l) (sym (back .handed-are))
+
+  -- and so runs one after the other
+  pub meets-blocks : {k j : ℕ} {s r : Slotted} {zs : List ℕ} → Meets limit growth last h k s j r zs → (system hd sd : ℕ → ℕ) → StartOwned system → Good limit (existsBy (s .slots)) n last (s .anodes) system hd sd →
+      Head (s .anodes .next) (s .anodes .block) h → Shorter (s .anodes) (r .anodes) h zs
+  meets-blocks {s = s} now system hd sd start g dh = record { rest = []; parted = sym (append-nil (blocksOf (s .anodes) h)); as-many = refl; the-same = λ x. refl }
+  meets-blocks (later {k} {j} {s} {t} {r} {zs} p x d ys next gives m) system hd sd start g dh =
+      let (some, few, most, one) = next-fits next in
+      let back = run-released grows s start g h dh h1 p x d (next .is-last) most one t ys gives in
+      let w = released-moved (tail-out g h dh h1 p x d (next .is-last) most) back in
+      let b = meets-blocks m (withThese system (back .gs)) (w .hd′) (w .sd′) (λ x l. omega (arith, start x l)) (w .good) (w .shift .stays h dh) in
+      record {
+        rest = b .rest ++ ys;
+        parted = run-blocks s start g dh next t ys gives ∙ ap (λ (l : List ℕ). l ++ ys) (b .parted) ∙ append-assoc (blocksOf (r .anodes) h) (b .rest) ys;
+        as-many = omega (arith, length-append (b .rest) ys, length-append ys zs, b .as-many);
+        the-same = λ x. omega (arith, occurrences-append x (b .rest) ys, occurrences-append x ys zs, b .the-same x);
+      }
+
+  -- k blocks of a chain that has as many go back: the last k of its blocks
+  pub runs-blocks : (k : ℕ) (t : Slotted) (zs : List ℕ) (s : Slotted) (system hd sd : ℕ → ℕ) → StartOwned system → Good limit (existsBy (s .slots)) n last (s .anodes) system hd sd →
+      Head (s .anodes .next) (s .anodes .block) h → k ≤ blocks limit hd (s .anodes .count) h → giveBlocks limit growth last k h s ≡ planned t zs →
+      (rest : List ℕ) × (blocksOf (s .anodes) h ≡ blocksOf (t .anodes) h ++ rest) × (length rest ≡ k) × ((x : ℕ) → occurrences x rest ≡ occurrences x zs)
+  unfolding giveBlocks
+  runs-blocks k t zs s system hd sd start g dh few e =
+      let b = meets-blocks (runs-meet limit growth last k k h (omega arith) s t zs e .1) system hd sd start g dh in
+      (b .rest, b .parted, b .as-many ∙ runs-moved grows h h1 k t zs s system hd sd start g dh few e .2, b .the-same)

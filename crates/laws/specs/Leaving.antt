@@ -33,7 +33,7 @@ last-gone c b d x l = omega (arith, covers-join (c - d) d b c (b + (c - d)) x re
 
 module _ {A : ℕ} {ex : ℕ → Bool} {n last : ℕ} {s : Anodes} {system hd sd : ℕ → ℕ} (g : Good A ex n last s system hd sd) (x : ℕ) (full : 0 < s .count x) where
   -- one that is another's next, and not 2, is from 6 up
-  full-6 : (p : ℕ) → s .next p ≡ x → x ≢ 2 → 6 ≤ x
+  pub full-6 : (p : ℕ) → s .next p ≡ x → x ≢ 2 → 6 ≤ x
   full-6 p e x2 = from-6 x (full-0 g x full) (full-1 g x full) x2 (λ q. g .first 3 (inr (inl refl)) p (e ∙ q)) (λ q. g .first 4 (inr (inr (inl refl))) p (e ∙ q)) (λ q. g .first 5 (inr (inr (inr refl))) p (e ∙ q))
 
   -- x becomes (k, y), within its old extent, and has lost the run (c, b)

@@ -27,6 +27,7 @@ pub mod Arriving
 pub mod FreeExtent
 pub mod Take
 pub mod Give
+pub mod GiveRuns
 pub mod FixedSlots
 pub mod Frame
 pub mod Items
@@ -40,9 +41,12 @@ pub mod ChainBlocks
 pub mod Whole
 pub mod Resize
 pub mod RefusedSteps
+pub mod SideEnds
 pub mod Carried
 pub mod TakenBlocks
 pub mod GivenBlocks
+pub mod ChainGone
+pub mod RefusedRuns
 pub mod OwnBlock
 pub mod Orphan
 pub mod DirectoryTakes

@@ -102,6 +102,12 @@ module _ (A : ℕ) (ex : ℕ → Bool) (n last : ℕ) where
 abbrev pub withThese : (ℕ → ℕ) → List ℕ → ℕ → ℕ
 withThese system gs x = system x + occurrences x gs
 
+-- from s to t the blocks of ys have gone from one head to another, and those of gs from the free list to the system: what each head holds
+abbrev pub Passed : ℕ → Anodes → (ℕ → ℕ) → Anodes → (ℕ → ℕ) → ℕ → ℕ → List ℕ → List ℕ → Type 0
+Passed A s hd t hd′ from to ys gs = (m x : ℕ) →
+    held A hd′ (t .count) (t .block) m x + oneAt from m * occurrences x ys + oneAt 1 m * occurrences x gs
+    ≡ held A hd (s .count) (s .block) m x + oneAt to m * occurrences x ys
+
 module _ (A n last : ℕ) where
   -- from s to r slots have grown by the block w of the free list, which is the system's now
   pub record Grew (s : Slotted) (system hd : ℕ → ℕ) (w : ℕ) (r : Slotted) : Type 0 where
@@ -138,9 +144,7 @@ module _ (A n last : ℕ) where
     pub good : Good A (existsBy (t .slots)) n last (t .anodes) (withThese system gs) hd′ sd′
     pub shift : Shift (s .anodes) hd (t .anodes) hd′ 1 h
     pub moved : (m : ℕ) → blocks A hd′ (t .anodes .count) m + oneAt from m * length ys + oneAt 1 m * length gs ≡ blocks A hd (s .anodes .count) m + oneAt to m * length ys
-    pub passed : (m x : ℕ) →
-        held A hd′ (t .anodes .count) (t .anodes .block) m x + oneAt from m * occurrences x ys + oneAt 1 m * occurrences x gs
-        ≡ held A hd (s .anodes .count) (s .anodes .block) m x + oneAt to m * occurrences x ys
+    pub passed : Passed A (s .anodes) hd (t .anodes) hd′ from to ys gs
     pub system-got : (x : ℕ) → systemBy (t .slots) x ≡ systemBy (s .slots) x + occurrences x gs
 
 module _ {A n last : ℕ} where

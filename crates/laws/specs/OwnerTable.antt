@@ -16,21 +16,19 @@ use Rattle.rules.specs.Counting.{oneAt, sumBelow, occurrences}
 use Rattle.rules.specs.Anodes.{Anodes, limit}
 use Rattle.rules.specs.Chains.{headOf, oneIfCovers, owners, systemBy, systemOwns}
 use Rattle.rules.specs.Accepted.{diskSize}
-use Rattle.rules.specs.Plans.{Slotted, slotted}
 use Rattle.rules.specs.Space.{rewritten, onChain, dropped}
 use Rattle.rules.specs.Tables.{chainHead, anodeEntry, anodeTable, headWhere, ownerHead, blockEntry, blockTable, entryOr}
 use Rattle.laws.specs.Tests.{same?, less?, not-above}
 use Rattle.laws.specs.Sums.{oneAt-cases, oneAt-same, oneAt-other, sum-congr, sum-factor, sum-swap, sum-member, sum-single, sum-pick}
 use Rattle.laws.specs.Bags.{occurrences-nil, occurrences-cons, occurrences-here, occurrences-later}
 use Rattle.laws.specs.Ownership.{covers-cases, covers-in, covers-none}
-use Rattle.laws.specs.LinkChanges.{without, without-cases, without-other}
 use Rattle.laws.specs.Links.{Linked}
 use Rattle.laws.specs.Heads.{Head, heads-one, headOf-heads}
 use Rattle.laws.specs.Blocks.{blocks}
 use Rattle.laws.specs.Held.{held, held-some, held-fresh}
-use Rattle.laws.specs.Space.{Good, head-good, dead-head, drop-good, FreeAnode}
+use Rattle.laws.specs.Space.{Good, head-good, FreeAnode}
 use Rattle.laws.specs.Owners.{hd-below, holder, owner}
-use Rattle.laws.specs.Moves.{Moved}
+use Rattle.laws.specs.Moves.{withThese, Passed}
 
 -- the list of a function's values below k, by its entries
 listed-at : (f : ℕ → ℕ) (k i : ℕ) → i < k → getD (listed f 0 k) i 0 ≡ f i
@@ -132,19 +130,6 @@ module _ {ex : ℕ → Bool} {n last : ℕ} {s : Anodes} {system hd sd : ℕ →
 
 -- ---- after steps
 
--- anodes with no block dropped
-held-dropped : (A : ℕ) (hd count block : ℕ → ℕ) (dead : ℕ → Bool) → ((a : ℕ) → T (dead a) → count a ≡ 0) → (x m : ℕ) →
-    held A (without dead hd) (without dead count) (without dead block) m x ≡ held A hd count block m x
-unfolding held blocks
-held-dropped A hd count block dead none x m =
-    sum-congr (λ a. oneAt (without dead hd a) m * oneIfCovers (without dead count a) (without dead block a) x) (λ a. oneAt (hd a) m * oneIfCovers (count a) (block a) x) A (λ a l. same a)
-  where
-    same : (a : ℕ) → oneAt (without dead hd a) m * oneIfCovers (without dead count a) (without dead block a) x ≡ oneAt (hd a) m * oneIfCovers (count a) (block a) x
-    same a = elim (without-cases dead count a) [
-      | inl c ↦ rw (c .1, none a (c .0), covers-none (without dead block a) x, covers-none (block a) x) (omega arith)
-      | inr c ↦ rw (c .1, without-other dead hd a (c .0), without-other dead block a (c .0))
-    ]
-
 -- a state in which every head holds what it held
 same-owner : {ex ex′ : ℕ → Bool} {n last : ℕ} {s t : Anodes} {system system′ hd sd hd′ sd′ : ℕ → ℕ} → Good limit ex n last s system hd sd → Good limit ex′ n last t system′ hd′ sd′ → (x : ℕ) →
     ((m : ℕ) → held limit hd′ (t .count) (t .block) m x ≡ held limit hd (s .count) (s .block) m x) → ownerHead t x ≡ ownerHead s x
@@ -155,17 +140,18 @@ same-owner {s = s} {t = t} {hd = hd} {hd′ = hd′} g g′ x same =
 
 module _ {ex : ℕ → Bool} {n last : ℕ} {s : Anodes} {system hd sd : ℕ → ℕ} (g : Good limit ex n last s system hd sd) where
   -- the blocks of ys have gone from one head's chain to another's, and x is none of those that became the system's
-  module _ {slots : ℕ → ℕ} {from to h : ℕ} {ys gs : List ℕ} {t : Slotted} (w : Moved limit n last (slotted s slots) system hd from to h ys gs t) (apart : from ≢ to) (x : ℕ) (none : occurrences x gs ≡ 0) where
+  module _ {ex′ : ℕ → Bool} {t : Anodes} {hd′ sd′ : ℕ → ℕ} (from to : ℕ) (ys gs : List ℕ) (g′ : Good limit ex′ n last t (withThese system gs) hd′ sd′) (passed : Passed limit s hd t hd′ from to ys gs) (apart : from ≢ to)
+      (x : ℕ) (none : occurrences x gs ≡ 0) where
     -- a block of ys is held by the other head
-    arrived : 0 < occurrences x ys → 0 < held limit (w .hd′) (t .anodes .count) (t .anodes .block) to x
-    arrived p = omega (arith, rw (oneAt-other from to apart, oneAt-same to to refl, none) at (w .passed to x), p)
+    arrived : 0 < occurrences x ys → 0 < held limit hd′ (t .count) (t .block) to x
+    arrived p = omega (arith, rw (oneAt-other from to apart, oneAt-same to to refl, none) at (passed to x), p)
 
     -- the owner of a block of ys is now `to`, and that of any other block is as before
-    pub moved-owner : ownerHead (t .anodes) x ≡ cond (leb 1 (occurrences x ys)) to (ownerHead s x)
+    pub moved-owner : ownerHead t x ≡ cond (leb 1 (occurrences x ys)) to (ownerHead s x)
     moved-owner = elim (less? 0 (occurrences x ys)) [
-      | inl p ↦ rw (le-leb 1 (occurrences x ys) p) (ownerHead-is (w .good) to x (arrived p))
-      | inr p ↦ rw (lt-leb 1 (occurrences x ys) (omega arith)) (same-owner g (w .good) x
-          (λ m. (let z : occurrences x ys ≡ 0 = omega arith in omega (arith, rw (z, none) at (w .passed m x)))))
+      | inl p ↦ rw (le-leb 1 (occurrences x ys) p) (ownerHead-is g′ to x (arrived p))
+      | inr p ↦ rw (lt-leb 1 (occurrences x ys) (omega arith)) (same-owner g g′ x
+          (λ m. (let z : occurrences x ys ≡ 0 = omega arith in omega (arith, rw (z, none) at (passed m x)))))
     ]
 
   -- a fresh head with no block
@@ -173,12 +159,6 @@ module _ {ex : ℕ → Bool} {n last : ℕ} {s : Anodes} {system hd sd : ℕ →
   unfolding rewritten
   fresh-owner f fA u x = same-owner g (head-good g f 65535 fA u (omega arith)) x
       (λ m. omega (arith, held-fresh limit hd (s .count) (s .block) f f 0 65535 fA (g .present .free-none f (u .unused)) m x, ap (λ (k : ℕ). oneAt f m * k) (covers-none 65535 x)))
-
-  -- a chain with no block dropped
-  pub dropped-owner : (h : ℕ) → 6 ≤ h → (d : Head (s .next) (s .block) h) → (none : (a : ℕ) → hd a ≡ h → s .count a ≡ 0) → (x : ℕ) → ownerHead (dropped limit s h) x ≡ ownerHead s x
-  unfolding dropped without
-  dropped-owner h h6 d none x = same-owner g (drop-good g h h6 d none) x
-      (held-dropped limit hd (s .count) (s .block) (onChain limit s h) (λ a t. none a (dead-head g h h6 d none a t)) x)
 
 -- ---- the block table
 
@@ -223,18 +203,18 @@ module _ (img j : List ℕ) (same-size : diskSize j ≡ diskSize img) (same-syst
   kept-table same = rw same-size (listed-same (blockEntry j t) (blockEntry img s) (diskSize img) (λ x l. rw (same-system, same x)))
 
   -- where blocks have gone from one head's chain to another's and none became the system's, the block table has that head at each of them, in whatever order they are listed
-  module _ {ex : ℕ → Bool} {last : ℕ} {hd sd : ℕ → ℕ} (g : Good limit ex (diskSize img) last s (systemOwns img) hd sd) {slots slots′ : ℕ → ℕ} {from to h : ℕ} {ys gs : List ℕ}
-      (w : Moved limit (diskSize img) last (slotted s slots) (systemOwns img) hd from to h ys gs (slotted t slots′)) (apart : from ≢ to) (none : (x : ℕ) → occurrences x gs ≡ 0)
+  module _ {ex ex′ : ℕ → Bool} {last : ℕ} {hd sd hd′ sd′ : ℕ → ℕ} (g : Good limit ex (diskSize img) last s (systemOwns img) hd sd) (from to : ℕ) (ys gs : List ℕ)
+      (g′ : Good limit ex′ (diskSize img) last t (withThese (systemOwns img) gs) hd′ sd′) (passed : Passed limit s hd t hd′ from to ys gs) (apart : from ≢ to) (none : (x : ℕ) → occurrences x gs ≡ 0)
       (zs : List ℕ) (listed-all : (x : ℕ) → occurrences x zs ≡ occurrences x ys) where
     -- they are on the disk, and none is the system's
     pub moved-data : (x : ℕ) → 0 < occurrences x zs → (x < diskSize img) × (systemOwns img x ≡ 0)
-    moved-data x p = let d = held-data (w .good) to x (arrived g w apart x (none x) (rw (listed-all x) at p)) in (d .0, omega (arith, d .1))
+    moved-data x p = let d = held-data g′ to x (arrived g from to ys gs g′ passed apart x (none x) (rw (listed-all x) at p)) in (d .0, omega (arith, d .1))
 
     moved-entry : (x : ℕ) → blockEntry j t x ≡ cond (leb 1 (occurrences x zs)) to (blockEntry img s x)
     unfolding blockEntry entryOr
     moved-entry x = elim (less? 0 (occurrences x zs)) [
-      | inl p ↦ (let z = moved-data x p .1 in rw (same-system, le-leb 1 (occurrences x zs) p, le-ltb x 3 (not-system img x z), z) (ownerHead-is (w .good) to x (arrived g w apart x (none x) (rw (listed-all x) at p))))
-      | inr p ↦ rw (same-system, lt-leb 1 (occurrences x zs) (omega arith), moved-owner g w apart x (none x), lt-leb 1 (occurrences x ys) (omega (arith, listed-all x)))
+      | inl p ↦ (let z = moved-data x p .1 in rw (same-system, le-leb 1 (occurrences x zs) p, le-ltb x 3 (not-system img x z), z) (ownerHead-is g′ to x (arrived g from to ys gs g′ passed apart x (none x) (rw (listed-all x) at p))))
+      | inr p ↦ rw (same-system, lt-leb 1 (occurrences x zs) (omega arith), moved-owner g from to ys gs g′ passed apart x (none x), lt-leb 1 (occurrences x ys) (omega (arith, listed-all x)))
     ]
 
     pub moved-table : blockTable j t ≡ setAll (blockTable img s) zs to

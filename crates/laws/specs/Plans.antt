@@ -57,6 +57,16 @@ unfolding _andThen_
 then-refused (refused n) f k e = inl (rw (refused-same n k e))
 then-refused (planned r ys) f k e = inr (r, ys, refl, after-refused ys (f r) k e)
 
+-- the first refused
+pub then-stop : {X Y : Type 0} (p : Plan X) (f : X → Plan Y) (k : ℕ) → p ≡ refused k → p andThen f ≡ refused k
+unfolding _andThen_
+then-stop p f k e = rw (e, _andThen_)
+
+-- the first done, and the second refused
+pub then-stops : {X Y : Type 0} (p : Plan X) (f : X → Plan Y) (r : X) (ys : List ℕ) (k : ℕ) → p ≡ planned r ys → f r ≡ refused k → p andThen f ≡ refused k
+unfolding _andThen_ after
+then-stops p f r ys k e q = rw (e, _andThen_, q, after)
+
 module _ {X : Type 0} (step : X → Plan X) where
   -- ---- a run, step by step
 

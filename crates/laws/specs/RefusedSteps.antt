@@ -1,34 +1,30 @@
--- When steps are refused, and with which number: a take with 27 or 28, a run that is released and a give of a block that is there only with 28.
-use Prim.Native.Nat.{ℕ, _+_, _-_, _*_, _≤_, _<_}
-use mathlib.Core.Path.{_≡_, refl, sym, ap, _∙_}
+-- When steps are refused, and with which number: a take with 27 or 28, a run that is released with 28 alone.
+use Prim.Native.Nat.{ℕ, _+_, _-_, _*_, _<_}
+use mathlib.Core.Path.{_≡_, refl, sym, _∙_}
 use mathlib.Core.Logic.{_≢_, _⊎_, inl, inr, _↔_}
 use mathlib.Core.Bool.{Bool, true≢false}
-use mathlib.Core.List.{List, []}
+use mathlib.Core.List.{[]}
 use mathlib.Core.Option.{none, some}
 use native.Mathlib.Omega.{arith}
-use lib.ListN.{length}
 use Rattle.rules.specs.Counting.{oneAt}
 use Rattle.rules.specs.Anodes.{Anodes, existsBy}
-use Rattle.rules.specs.Chains.{chainOf, run, side}
-use Rattle.rules.specs.Plans.{Slotted, slotted, Plan, refused, planned, Growth, afresh}
-use Rattle.rules.specs.Space.{rewritten, insertedAfter, withoutFirst, withoutTail, tailStart, Found, nowhere, found, firstExtent, lastExtent, freeExtent, chainEnd, sideEnd, lowestFree, append, needAnode, put, join, withSpare, putTo, takeFrom, takeBlock, takeMany, release, giveFrom, giveBack, giveMany}
+use Rattle.rules.specs.Chains.{run, side}
+use Rattle.rules.specs.Plans.{Slotted, slotted, Plan, refused, Growth, afresh}
+use Rattle.rules.specs.Space.{rewritten, insertedAfter, withoutFirst, nowhere, found, firstExtent, freeExtent, chainEnd, sideEnd, lowestFree, append, needAnode, put, join, withSpare, putTo, takeFrom, takeBlock, takeMany, release}
 use Rattle.laws.specs.Tests.{not-above}
-use Rattle.laws.specs.Chains.{length-run}
-use Rattle.laws.specs.Sums.{oneAt-cases, oneAt-same, oneAt-other, sum-zero}
+use Rattle.laws.specs.Sums.{oneAt-cases, oneAt-same, sum-zero}
 use Rattle.laws.specs.LinkChanges.{first, second, third}
-use Rattle.laws.specs.Heads.{Head, on-own}
+use Rattle.laws.specs.Heads.{on-own}
 use Rattle.laws.specs.Blocks.{blocks}
 use Rattle.laws.specs.Cut.{cut-linked}
 use Rattle.laws.specs.Space.{Good, FreeAnode}
 use Rattle.laws.specs.Sides.{SideHead, on-side}
-use Rattle.laws.specs.Owners.{full-used, full-0, blocks-chain}
-use Rattle.laws.specs.Searches.{firstExtent-none, lastExtent-none}
+use Rattle.laws.specs.Owners.{full-used, full-0}
+use Rattle.laws.specs.Searches.{firstExtent-none}
 use Rattle.laws.specs.FreeExtent.{extent-found, extent-nowhere, take-found, take-cases}
 use Rattle.laws.specs.Plans.{refused-same, planned≢refused, repeated-refused, afresh-refused, afresh-stuck}
-use Rattle.laws.specs.Moves.{Grows, withThese}
-use Rattle.laws.specs.Arriving.{NeedsAnode, JoinsNone, NoneFree, fills, ends, starts, behind, lowest-cases, append-cases, need-cases, put-cases, join-cases}
-use Rattle.laws.specs.Take.{StartOwned, withoutFirst-out}
-use Rattle.laws.specs.Give.{give-steps, released-moved}
+use Rattle.laws.specs.Arriving.{NeedsAnode, JoinsNone, NoneFree, fills, ends, starts, behind, append-cases, need-cases, put-cases, join-cases}
+use Rattle.laws.specs.Take.{withoutFirst-out}
 
 -- ---- at fixed slots
 
@@ -148,27 +144,9 @@ module _ (A : ℕ) (growth : Growth) where
     unfolding release
     release-28-exactly spares = afresh-28 A growth (λ ex t. join A (sideEnd A last t b) c b ex t) (λ t. JoinsNone t (sideEnd A last t b) c b) (λ ex t k. join-28 A ex t (sideEnd A last t b) c b k) s spares
 
-  -- a give of the last block of x, after p the last extent that has one, exactly if it can join nothing and none can be had, the anode just emptied counted
-  pub give-28-exactly : (last h p x : ℕ) (s : Slotted) → Spares A growth (slotted (withoutTail (s .anodes) h p x 1) (s .slots)) → lastExtent (s .anodes .count) 0 (chainOf (s .anodes .next) A h) ≡ found p x →
-      (giveBack A growth last h s ≡ refused 28)
-      ↔ (JoinsNone (withoutTail (s .anodes) h p x 1) (sideEnd A last (withoutTail (s .anodes) h p x 1) (tailStart (s .anodes) x 1)) 1 (tailStart (s .anodes) x 1)
-      × NoAnode A growth (slotted (withoutTail (s .anodes) h p x 1) (s .slots)))
-  unfolding giveBack giveFrom
-  give-28-exactly last h p x s spares e =
-      let r = release-28-exactly last 1 (tailStart (s .anodes) x 1) (slotted (withoutTail (s .anodes) h p x 1) (s .slots)) spares 28 in
-      rw (e, giveBack) (λ q. (let i = r .0 q in (i .1, i .2)), λ n. r .1 (refl, n .0, n .1))
-
--- ---- a give
+-- ---- no free block
 
 module _ {A : ℕ} {ex : ℕ → Bool} {n last : ℕ} {s : Anodes} {system hd sd : ℕ → ℕ} (g : Good A ex n last s system hd sd) where
-  -- a head with a block has a last anode with one
-  pub last-block : (h : ℕ) → Head (s .next) (s .block) h → 0 < blocks A hd (s .count) h → (p : ℕ) × (x : ℕ) × (lastExtent (s .count) 0 (chainOf (s .next) A h) ≡ found p x)
-  last-block h d full = go (lastExtent (s .count) 0 (chainOf (s .next) A h)) refl
-    where
-      go : (c : Found) → lastExtent (s .count) 0 (chainOf (s .next) A h) ≡ c → (p : ℕ) × (x : ℕ) × (lastExtent (s .count) 0 (chainOf (s .next) A h) ≡ found p x)
-      go nowhere e = absurd (omega (arith, full, blocks-chain g h d, lastExtent-none (s .count) 0 (chainOf (s .next) A h) e))
-      go (found p x) e = (p, x, e)
-
   -- no anode of either side has a block: the free chain has none
   no-block : ((m : ℕ) → SideHead m → firstExtent (s .count) 0 (side A s m) ≡ nowhere) → blocks A hd (s .count) 1 ≡ 0
   unfolding blocks side
@@ -192,31 +170,3 @@ module _ {A : ℕ} {ex : ℕ → Bool} {n last : ℕ} {s : Anodes} {system hd sd
       λ z. (let (m, o, f) = extent-found A dir s g p x q in absurd (omega (arith, z, withoutFirst-out g m o p x f .fewer 1, oneAt-same 1 1 refl))),
     )
   ]
-
-module _ {A n last : ℕ} {growth : Growth} (grows : Grows A n last growth) where
-  -- a give of a block that is there is refused with 28 alone
-  give-refused : (s : Slotted) {ex : ℕ → Bool} {system hd sd : ℕ → ℕ} → Good A ex n last (s .anodes) system hd sd → (h : ℕ) → Head (s .anodes .next) (s .anodes .block) h → 0 < blocks A hd (s .anodes .count) h →
-      (k : ℕ) → giveBack A growth last h s ≡ refused k → k ≡ 28
-  unfolding giveBack giveFrom
-  give-refused s g h d full k e =
-      let f = last-block g h d full in
-      release-refused A growth last 1 (tailStart (s .anodes) (f .1) 1) (slotted (withoutTail (s .anodes) h (f .0) (f .1) 1) (s .slots)) k (rw (f .2, giveBack) at e)
-
-  -- as many as it has
-  pub gives-refused : (i h : ℕ) → h ≢ 1 → (k : ℕ) (s : Slotted) (system hd sd : ℕ → ℕ) → StartOwned system → Good A (existsBy (s .slots)) n last (s .anodes) system hd sd → Head (s .anodes .next) (s .anodes .block) h → i ≤ blocks A hd (s .anodes .count) h →
-      giveMany A growth last i h s ≡ refused k → k ≡ 28
-  unfolding giveMany
-  gives-refused i h h1 k s system hd sd start g d full e =
-      let (j, r, (system, hd, sd, start, g, d, full), q) = repeated-refused (giveBack A growth last h)
-      (λ i s. (system : ℕ → ℕ) × (hd : ℕ → ℕ) × (sd : ℕ → ℕ) × StartOwned system × Good A (existsBy (s .slots)) n last (s .anodes) system hd sd × Head (s .anodes .next) (s .anodes .block) h × (i ≤ blocks A hd (s .anodes .count) h))
-      (λ i s t ys (system, hd, sd, start, g, d, full) q. let k = give-steps grows start g h d h1 t ys q in let w = released-moved (k .out) (k .back) in (
-        withThese system (k .back .gs),
-        w .hd′,
-        w .sd′,
-        λ x l. omega (arith, start x l),
-        w .good,
-        w .shift .stays h d,
-        omega (arith, full, rw (oneAt-same h h refl, oneAt-other 1 h (λ j. h1 (sym j))) at (w .moved h), ap length (k .back .handed-are) ∙ length-run (tailStart (s .anodes) (k .x) 1) 1),
-      ))
-      i s k (system, hd, sd, start, g, d, full) e in
-      give-refused r g h d (omega arith) k q

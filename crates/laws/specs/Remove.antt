@@ -1,25 +1,20 @@
 -- An entry removed: it goes, and so does the chain that it names, which has given back its blocks. A directory that goes has no entry.
-use Prim.Native.Nat.{ℕ, _+_, _*_, _≤_, _<_}
+use Prim.Native.Nat.{ℕ, _+_, _≤_, _<_}
 use mathlib.Core.Path.{_≡_, refl, sym, ap, _∙_, subst}
-use mathlib.Core.Logic.{_≢_, inl, inr}
+use mathlib.Core.Logic.{_≢_}
 use mathlib.Core.Bool.{Bool, true, false}
 use mathlib.Core.List.{List, [], _∷_, _++_, map-id, append-eq-nil-iff}
 use native.Mathlib.Omega.{arith}
-use Rattle.rules.specs.Counting.{oneAt, sumList, occurrences, gather}
+use Rattle.rules.specs.Counting.{oneAt, sumList, gather}
 use Rattle.rules.specs.Anodes.{limit, Anodes, existsBy}
 use Rattle.rules.specs.Chains.{chainOf}
 use Rattle.rules.specs.Walk.{Dir, dirMade, root, Entered, Item, itemOf, itemsAt, itemsBy}
 use Rattle.rules.specs.Plans.{Slotted, slotted}
-use Rattle.rules.specs.Space.{onChain, dropped}
-use Rattle.laws.specs.Tests.{same?, less?}
-use Rattle.laws.specs.Sums.{oneAt-same, oneAt-other, sum-none}
+use Rattle.laws.specs.Sums.{oneAt-same, oneAt-other}
 use Rattle.laws.specs.Bags.{list-nil, list-cons, list-without, list-add}
 use Rattle.laws.specs.Heads.{Head}
-use Rattle.laws.specs.Blocks.{blocks}
-use Rattle.laws.specs.LinkChanges.{without, without-cases, without-other}
-use Rattle.laws.specs.HeadChanges.{drop-head-was}
-use Rattle.laws.specs.Space.{Alike, alike-trans, Good, on-chain, dead-head, head-dead, dead-along, drop-good}
-use Rattle.laws.specs.Frame.{kept-count, apart-alike, apart-chain}
+use Rattle.laws.specs.Space.{Good, on-chain}
+use Rattle.laws.specs.Frame.{kept-count}
 use Rattle.laws.specs.Each.{Each, Member, each-both, each-pair, member-each, each-less, each-zero}
 use Rattle.laws.specs.Items.{wrong, names-sum, namedIn, faults, headed}
 use Rattle.laws.specs.Trees.{Tree}
@@ -27,7 +22,8 @@ use Rattle.laws.specs.TreeChanges.{tree-unnamed, Gain, sum-named, dir-th
 use Rattle.laws.specs.Entries.{broken-wrong, sized-still, item-anode, item-dir, items-sum, itemsAt-fine, anodes-fine, items-alike}
 use Rattle.laws.specs.Whole.{DirHead, Whole, fine-still, dir-heads, named-heads}
 use Rattle.laws.specs.Make.{SameMarks, EntryMore, entry-gain}
-use Rattle.laws.specs.Moves.{withThese, Moved}
+use Rattle.laws.specs.Moves.{withThese}
+use Rattle.laws.specs.ChainGone.{Gone, gone-alike, gone-chain, ChainGone}
 
 -- a directory with nothing wrong and no entry has no item
 no-items : (entries : ℕ → List Entered) (marked : Dir → ℕ → Bool) (s : Anodes) (d : Dir) → sumList wrong (itemsBy entries marked s d) ≡ 0 →
@@ -42,73 +38,6 @@ no-items entries marked s d z none = each (chainOf (s .next) limit (d .head)) (s
         let right = list-cons (λ a. sumList wrong (itemsAt entries marked s d a)) a l in
         let k = itemsAt-fine entries marked s d wrong (λ q. omega (arith, q, broken-wrong)) a (omega arith) in
         rw (k .2, both .0) (each l (omega arith) (both .1))
-
--- ---- a chain goes
-
--- from s to t: h's chain is gone, and of the others only 1's is touched
-pub record Gone (s : Anodes) (hd : ℕ → ℕ) (t : Anodes) (h : ℕ) : Type 0 where
-  pub stays : (m : ℕ) → m ≢ h → Head (s .next) (s .block) m → Head (t .next) (t .block) m
-  pub was : (m : ℕ) → Head (t .next) (t .block) m → (m ≢ h) × Head (s .next) (s .block) m
-  pub apart : (a : ℕ) → s .block a ≢ 0 → hd a ≢ 1 → hd a ≢ h → Alike s t a
-
--- after steps on the chain of h that leave it no block, it is dropped
-module _ {n last : ℕ} {s : Anodes} {slots system hd : ℕ → ℕ} (h : ℕ) (h6 : 6 ≤ h) (d : Head (s .next) (s .block) h) {ys gs : List ℕ} {u : Slotted}
-    (moves : Moved limit n last (slotted s slots) system hd h 1 h ys gs u) (none : blocks limit (moves .hd′) (u .anodes .count) h ≡ 0) where
-  abbrev hd′ : ℕ → ℕ
-  hd′ = moves .hd′
-
-  abbrev t : Anodes
-  t = u .anodes
-
-  abbrev left : Anodes
-  left = dropped limit t h
-
-  abbrev dead : ℕ → Bool
-  dead = onChain limit t h
-
-  pub still : Head (t .next) (t .block) h
-  still = moves .shift .stays h d
-
-  -- no anode of the chain has a block left
-  pub none-left : (a : ℕ) → hd′ a ≡ h → t .count a ≡ 0
-  unfolding blocks
-  none-left a q = elim (less? a limit) [
-    | inl l ↦ omega (arith, sum-none (λ b. oneAt (hd′ b) h * t .count b) limit (none) a l, ap (λ (k : ℕ). k * t .count a) (oneAt-same (hd′ a) h q))
-    | inr l ↦ elim (same? (t .block a) 0) [ inl z ↦ moves .good .present .free-none a z | inr u ↦ absurd (omega (arith, l, moves .good .linked .view .below a u)) ]
-  ]
-
-  pub dropped-good : Good limit (existsBy (u .slots)) n last left (withThese system gs) (without dead hd′) (without dead (moves .sd′))
-  dropped-good = drop-good (moves .good) h h6 still none-left
-
-  alive : (F : ℕ → ℕ) (a : ℕ) → hd′ a ≢ h → without dead F a ≡ F a
-  alive F a q = without-other dead F a (λ i. q (dead-head (moves .good) h h6 still none-left a i))
-
-  alike : (a : ℕ) → hd′ a ≢ h → Alike t left a
-  unfolding dropped without
-  alike a q = record { same-count = alive (t .count) a q; same-block = alive (t .block) a q; same-next = alive (t .next) a q }
-
-  pub dropped-gone : Gone s hd left h
-  unfolding dropped without
-  dropped-gone = record {
-    stays = λ m q i. let j = moves .shift .stays m i in
-        record {
-          pos = j .pos;
-          in-use = rw (alive (t .block) m (λ k. q (sym (moves .good .heads .at-head m j) ∙ k))) (j .in-use);
-          no-pred = λ p k. elim (without-cases dead (t .next) p) [ inl c ↦ j .pos (sym k ∙ c .1) | inr c ↦ j .no-pred p (sym (c .1) ∙ k) ];
-        };
-    was = λ m i. let k = drop-head-was dead (dead-along (moves .good) h h6 still none-left) m i in
-        (λ q. k .0 (head-dead (moves .good) h h6 still none-left m (moves .good .heads .at-head m (k .1) ∙ q)), moves .shift .no-new m (k .1));
-    apart = λ a u q i. alike-trans (moves .shift .apart a u q i) (alike a (λ k. i (sym (moves .shift .same-hd a u q i) ∙ k)));
-  }
-
--- every other chain but 1's is the same
-module _ {ex ex′ : ℕ → Bool} {n last : ℕ} {s t : Anodes} {system system′ hd sd hd′ sd′ : ℕ → ℕ} (g : Good limit ex n last s system hd sd) (g′ : Good limit ex′ n last t system′ hd′ sd′)
-    (h : ℕ) (gone : Gone s hd t h) (m : ℕ) (m1 : m ≢ 1) (mh : m ≢ h) (d : Head (s .next) (s .block) m) where
-  pub gone-alike : (a : ℕ) → 0 < occurrences a (chainOf (s .next) limit m) → Alike s t a
-  gone-alike = apart-alike g (gone .apart) m d m1 mh
-
-  pub gone-chain : chainOf (t .next) limit m ≡ chainOf (s .next) limit m
-  gone-chain = apart-chain g (gone .apart) m d m1 mh g′ (gone .stays m mh d)
 
 -- ---- the entry goes while the chain is still there
 
@@ -212,19 +141,18 @@ module _ {ex : ℕ → Bool} {n last : ℕ} {s : Anodes} {system hd sd : ℕ →
 
   -- ---- the chain goes, which nothing names
 
-  module _ {slots : ℕ → ℕ} {ys gs : List ℕ} {u : Slotted} (moves : Moved limit n last (slotted s slots) system hd h 1 h ys gs u) (no-block : blocks limit (moves .hd′) (u .anodes .count) h ≡ 0) (marked′ : Dir → ℕ → Bool)
-      (same-marks : SameMarks s hd marked marked′) where
+  module _ {slots : ℕ → ℕ} {ys gs : List ℕ} {u : Slotted} (goes : ChainGone limit n last (slotted s slots) system hd h ys gs u) (marked′ : Dir → ℕ → Bool) (same-marks : SameMarks s hd marked marked′) where
     abbrev end : Anodes
-    end = dropped limit (u .anodes) h
+    end = u .anodes
 
     abbrev items′ : Dir → List Item
     items′ = itemsBy entries′ marked′ end
 
-    good : Good limit (existsBy (u .slots)) n last end (withThese system gs) (without (onChain limit (u .anodes) h) (moves .hd′)) (without (onChain limit (u .anodes) h) (moves .sd′))
-    good = dropped-good h (head-h .0) (head-h .2) moves no-block
+    good : Good limit (existsBy (u .slots)) n last end (withThese system gs) (goes .hd′) (goes .sd′)
+    good = goes .good
 
     gone : Gone s hd end h
-    gone = dropped-gone h (head-h .0) (head-h .2) moves no-block
+    gone = goes .gone
 
     -- what is wrong, or names h
     guard : Item → ℕ
@@ -258,9 +186,7 @@ module _ {ex : ℕ → Bool} {n last : ℕ} {s : Anodes} {system hd sd : ℕ →
         (each-pair (λ d. d .head ≢ h) (λ d. namedIn between h d ≡ 0) (rest .dirs′) not-h (each-zero (namedIn between h) (rest .dirs′) unnamed)))
 
     -- the directories that are left are those that were, but for one with the head h
-    pub removed : (dirs′ : List Dir)
-        × Whole (existsBy (u .slots)) n last (dropped limit (u .anodes) h) (withThese system gs) (without (onChain limit (u .anodes) h) (moves .hd′)) (without (onChain limit (u .anodes) h) (moves .sd′)) entries′ marked′ dirs′
-        × ((x : ℕ) → x ≢ h → headed x dirs′ ≡ headed x dirs)
+    pub removed : (dirs′ : List Dir) × Whole (existsBy (u .slots)) n last (u .anodes) (withThese system gs) (goes .hd′) (goes .sd′) entries′ marked′ dirs′ × ((x : ℕ) → x ≢ h → headed x dirs′ ≡ headed x dirs)
     removed = (
       rest .dirs′,
       record {

@@ -1,4 +1,4 @@
--- A file resized: takes or gives, one block at a time, and its entry's new size.
+-- A file resized: takes, one block at a time, or runs that go back, and its entry's new size.
 use Prim.Native.Nat.{ℕ, zero, suc, _≤_}
 use mathlib.Core.Path.{_≡_, refl, sym, ap, _∙_}
 use mathlib.Core.Logic.{_≢_}
@@ -9,15 +9,13 @@ use lib.ListN.{length, length-append}
 use Rattle.rules.specs.Anodes.{limit, existsBy}
 use Rattle.rules.specs.Walk.{Dir, Entered, blocksFor, itemsBy}
 use Rattle.rules.specs.Plans.{Slotted, Plan, planned, repeated, Growth}
-use Rattle.rules.specs.Space.{tailStart, takeBlock, giveBack, takeMany, giveMany}
-use Rattle.laws.specs.Chains.{length-run}
+use Rattle.rules.specs.Space.{takeBlock, takeMany}
 use Rattle.laws.specs.Heads.{Head}
 use Rattle.laws.specs.Blocks.{blocks}
 use Rattle.laws.specs.Space.{Good}
 use Rattle.laws.specs.Moves.{withThese, Grows, Moved, moved-none, moved-after}
 use Rattle.laws.specs.Plans.{repeated-none, repeated-done}
 use Rattle.laws.specs.Take.{StartOwned, take-moved}
-use Rattle.laws.specs.Give.{give-steps, released-moved}
 use Rattle.laws.specs.Totals.{namedByFiles}
 use Rattle.laws.specs.Whole.{Whole, SizesChanged, blocks-count, file-head, change-file}
 
@@ -42,14 +40,6 @@ module _ {A n last : ℕ} {growth : Growth} (grows : Grows A n last growth) wher
   unfolding takeMany
   takes-moved k h h1 dir t zs s system hd sd start g d e =
       steps-moved 1 h h (takeBlock A growth dir h) (λ s system hd sd start g d t ys q. take-moved grows start g h d h1 dir t ys q) k t zs s system hd sd start g d e
-
-  -- k gives that are done
-  pub gives-moved : (k h : ℕ) → h ≢ 1 → (t : Slotted) (zs : List ℕ) (s : Slotted) (system hd sd : ℕ → ℕ) → StartOwned system → Good A (existsBy (s .slots)) n last (s .anodes) system hd sd →
-      Head (s .anodes .next) (s .anodes .block) h → giveMany A growth last k h s ≡ planned t zs → (gs : List ℕ) × Moved A n last s system hd h 1 h zs gs t × (length zs ≡ k)
-  unfolding giveMany
-  gives-moved k h h1 t zs s system hd sd start g d e =
-      steps-moved h 1 h (giveBack A growth last h) (λ s system hd sd start g d t ys q. let k = give-steps grows start g h d h1 t ys q in
-      (k .back .gs, released-moved (k .out) (k .back), ap length (k .back .handed-are) ∙ length-run (tailStart (s .anodes) (k .x) 1) 1)) k t zs s system hd sd start g d e
 
 -- a file resized leaves an accepted state: after the steps its chain has as many blocks as its entry's new size asks for
 pub resized : {ex : ℕ → Bool} {n last : ℕ} {s : Slotted} {system hd sd : ℕ → ℕ} {entries : ℕ → List Entered} {marked : Dir → ℕ → Bool} {dirs : List Dir} →

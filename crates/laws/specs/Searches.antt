@@ -106,6 +106,15 @@ lastExtent-none count p (b ∷ l) e =
     let n = none-found (lastExtent count b l) (extentAt count p b) e in
     omega (arith, list-cons count b l, lastExtent-none count b l (n .0), empty-at count p b (n .1))
 
+-- the last anode with a block has one
+pub lastExtent-full : (count : ℕ → ℕ) (p : ℕ) (l : List ℕ) (q x : ℕ) → lastExtent count p l ≡ found q x → 0 < count x
+unfolding lastExtent
+lastExtent-full count p [] q x e = absurd (nowhere≢found q x e)
+lastExtent-full count p (b ∷ l) q x e = elim (one-found (lastExtent count b l) (extentAt count p b) q x e) [
+  | inl f ↦ lastExtent-full count b l q x f
+  | inr f ↦ (let k = found-at count p b q x f in rw (← (k .2)) (k .0))
+]
+
 -- around the last anode with a block: no anode behind it has one
 pub lastExtent-split : (count : ℕ → ℕ) (p : ℕ) (l : List ℕ) (q x : ℕ) → lastExtent count p l ≡ found q x →
     (pre : List ℕ) × (post : List ℕ) × (l ≡ pre ++ (x ∷ post)) × (sumList count post ≡ 0)

@@ -88,7 +88,7 @@ module _ (img : List ℕ) {s : Anodes} {hd sd : ℕ → ℕ} (g : GoodOn img s h
   step-shows true t ys e b r p =
       let k = take-steps (none-grows limit (diskSize img) (lastReserved img)) (start-owned (slotOf img)) g h true t ys e in
       let m = takes-moved h d h1 k in
-      shows-moved img s (t .anodes) g m (λ i. h1 (sym i)) (none-grown m (take-slots limit true h (slotted s (slotOf img)) t ys e)) ys (λ x. refl) b r p
+      shows-moved img s (t .anodes) g 1 h ys _ (m .good) (m .passed) (λ i. h1 (sym i)) (none-grown m (take-slots limit true h (slotted s (slotOf img)) t ys e)) ys (λ x. refl) b r p
 
 -- ---- both steps
 

@@ -5,12 +5,13 @@ use mathlib.Core.Logic.{_≢_}
 use mathlib.Core.Bool.{Bool, true, false}
 use mathlib.Core.List.{List}
 use native.Mathlib.Omega.{arith}
+use lib.Dec.{eqb}
 use lib.ListN.{getD}
 use borrow.Author.Tests.{lt-ltb, le-ltb, eq-eqb, ne-eqb}
 use Rattle.rules.specs.Anodes.{Anodes}
 use Rattle.rules.specs.Chains.{run}
 use Rattle.rules.specs.Plans.{Plan, refused, planned}
-use Rattle.rules.specs.Space.{rewritten, insertedAfter, fillOr, growOr, growBeforeOr, joinOr, lowestFree, append, put, join}
+use Rattle.rules.specs.Space.{rewritten, insertedAfter, fillOr, growOr, growBeforeOr, joinOr, lowestFree, append, put, join, joinWith}
 use Rattle.anodes.specs.Loaded.{anodesFrom}
 use Rattle.placing.specs.Steps.{Grows}
 
@@ -82,6 +83,19 @@ module _ (ex : ℕ → Bool) (s : Anodes) (z k b : ℕ) where
   pub join-other : z ≢ 1 → join 3444 z k b ex s ≡ fillOr s z k b (growOr s z k b (growBeforeOr s z k b (append 3444 ex s z k b)))
   unfolding join joinOr
   join-other e = rw (ne-eqb z 1 e)
+
+-- ---- a run to the last anode z of its side, with anode x
+
+module _ (s : Anodes) (x z k b : ℕ) where
+  -- anode 1 is not joined
+  pub with-one : eqb z 1 ≡ true → joinWith x z k b s ≡ planned (insertedAfter s z x k b) (run b k)
+  unfolding joinWith joinOr
+  with-one e = rw e
+
+  -- any other is, where it can have the run
+  pub with-other : eqb z 1 ≡ false → joinWith x z k b s ≡ fillOr s z k b (growOr s z k b (growBeforeOr s z k b (planned (insertedAfter s z x k b) (run b k))))
+  unfolding joinWith joinOr
+  with-other e = rw e
 
 -- what it means that an anode could have a run, or could not
 module _ (r : Bool) (s : Anodes) (z k b : ℕ) (t : Anodes) (g : Grows r s z k b t) where

@@ -5,7 +5,9 @@ ghost use mathlib.Core.Path.{_≡_};
 ghost use Prim.Native.Nat.{ℕ, _+_, _<_, _≤_};
 ghost use lib.ListN.{length, getD};
 ghost use Rattle.rules.specs.Anodes.{existsBy};
-ghost use Rattle.rules.specs.Space.{rewritten, insertedAfter, unlinked, withoutRun, append, put, join};
+ghost use Rattle.rules.specs.Chains.{run};
+ghost use Rattle.rules.specs.Plans.{planned};
+ghost use Rattle.rules.specs.Space.{rewritten, insertedAfter, unlinked, withoutRun, append, put, join, joinWith};
 ghost use Rattle.anodes.specs.Loaded.{anodesFrom, slotsFrom, AnodeTables};
 ghost use Rattle.placing.specs.Steps.{stepPlan, UnlessMoved, stoppedBy, movesNumber, Grows};
 use disk::AnodeNo;
@@ -208,4 +210,29 @@ pub fn join(
         return Step::Moved(first);
     }
     append(slots, z, count, first, counts, firsts, nexts)
+}
+
+// Joins `count` blocks from `first` on to their side of the free list, whose last anode is `z`; where they cannot join it, anode `x`, zeroed before, has them behind it.
+pub fn join_with(
+    x: AnodeNo,
+    z: AnodeNo,
+    count: u16,
+    first: BlockNo,
+    counts: &mut [u16],
+    firsts: &mut [u16],
+    nexts: &mut [u16],
+)
+    requires { ⌜ (x .0 < 3444) × (z .0 < 3444) × AnodeTables (now counts) (now firsts) (now nexts) ⌝ }
+    requires { ⌜ (0 < getD (now counts) (z .0) 0 → getD (now firsts) (z .0) 0 + getD (now counts) (z .0) 0 ≤ 65535) × (first .0 + count ≤ 65535) ⌝ }
+    ensures { λ _. ⌜ planned (anodesFrom (now (counts .exit)) (now (firsts .exit)) (now (nexts .exit))) (run (first .0) count) ≡ joinWith (x .0) (z .0) count (first .0) (anodesFrom (now (counts .entry)) (now (firsts .entry)) (now (nexts .entry))) ⌝ }
+{
+    let one = z.0 == 1;
+    if one {
+        insert_after(counts, firsts, nexts, z, x, count, first);
+        return;
+    }
+    if grow(z, count, first, counts, firsts) {
+        return;
+    }
+    insert_after(counts, firsts, nexts, z, x, count, first);
 }

@@ -16,8 +16,7 @@ use edits::set_behind;
 use edits::store_anodes;
 use edits::take_out;
 use giving::copied;
-use giving::drop_chain;
-use giving::give_many;
+use giving::give_all;
 use lookup::EntryAt;
 use placing::Moves;
 use placing::moves_number;
@@ -33,9 +32,9 @@ fn commit_remove(
     counts: &[u16],
     firsts: &[u16],
     nexts: &[u16],
-    new_counts: &mut [u16],
-    new_firsts: &mut [u16],
-    new_nexts: &mut [u16],
+    new_counts: &[u16],
+    new_firsts: &[u16],
+    new_nexts: &[u16],
     e: EntryAt,
 )
     requires { ⌜ Loaded (now image) (now counts) (now firsts) (now nexts) × ReachedEntry (now image) (entered e) ⌝ }
@@ -44,7 +43,6 @@ fn commit_remove(
     ensures { λ _. ⌜ Leaves 0 (now (image .entry)) (now (blocks .entry)) (now (anodes .entry)) (now (image .exit)) (now (blocks .exit)) (now (anodes .exit)) (removed noGrowth (now (image .entry)) (tableOf (now (image .entry))) (entered e)) ⌝ }
 {
     set_behind(blocks, counts, firsts, nexts, e.anode, 0, AnodeNo(1));
-    drop_chain(e.anode, new_counts, new_firsts, new_nexts);
     store_anodes(
         image,
         counts,
@@ -76,7 +74,7 @@ pub fn remove_entry(
     let mut new_counts = copied(counts);
     let mut new_firsts = copied(firsts);
     let mut new_nexts = copied(nexts);
-    let plan = give_many(
+    let plan = give_all(
         &slots_of(image),
         last_reserved(image),
         have,
@@ -95,9 +93,9 @@ pub fn remove_entry(
         counts,
         firsts,
         nexts,
-        &mut new_counts,
-        &mut new_firsts,
-        &mut new_nexts,
+        &new_counts,
+        &new_firsts,
+        &new_nexts,
         e,
     );
     0

@@ -17,7 +17,7 @@ use Rattle.rules.specs.Walk.{Entered, blocksFor}
 use Rattle.rules.specs.Tables.{anodeTable}
 use Rattle.rules.specs.Accepted.{diskSize, lastReserved}
 use Rattle.rules.specs.Plans.{Slotted, slotted, tableOf, Plan, refused, planned, noGrowth}
-use Rattle.rules.specs.Space.{takeMany, giveMany}
+use Rattle.rules.specs.Space.{takeMany, giveBlocks}
 use Rattle.rules.specs.Format.{zeroBlock}
 use Rattle.rules.specs.Changes.{withBlocks, resizePlan, zeroTaken, resizedImage, resized}
 use Rattle.laws.specs.Tests.{less?}
@@ -113,7 +113,7 @@ module _ {img counts firsts nexts : List ℕ} (l : Loaded img counts firsts next
     -- the block table with their new owner
     owners-shown : (b rest : List ℕ) → Shows img s b rest → Shows img t (setAll b (movedBlocks s t (e .anode) (blockCount s (e .anode)) (blocksFor size)) owner) rest
     owners-shown b rest q = rw (← (steps p .to-is))
-        (shows-moved img s t (image-good l) (steps p .moves) (steps p .apart) (none-grown (steps p .moves) (steps p .same-slots)) (movedBlocks s t (e .anode) (blockCount s (e .anode)) (blocksFor size)) moved-all b rest q)
+        (shows-moved img s t (image-good l) (steps p .from) (steps p .to) ys (steps p .gs) (steps p .moves .good) (steps p .moves .passed) (steps p .apart) (none-grown (steps p .moves) (steps p .same-slots)) (movedBlocks s t (e .anode) (blockCount s (e .anode)) (blocksFor size)) moved-all b rest q)
 
     -- what it leaves of the image and the tables
     pub done-leaves : (have want : ℕ) → have ≡ blockCount s (e .anode) → want ≡ blocksFor size → (b a : List ℕ) →
@@ -130,7 +130,7 @@ module _ (last : ℕ) (s : Slotted) (h have want : ℕ) (is : have ≡ blockCoun
   unfolding resizePlan
   plan-grows l = rw (← is, le-leb have want l)
 
-  pub plan-shrinks : want < have → giveMany limit noGrowth last (have - want) h s ≡ resizePlan noGrowth last s h want
+  pub plan-shrinks : want < have → giveBlocks limit noGrowth last (have - want) h s ≡ resizePlan noGrowth last s h want
   unfolding resizePlan
   plan-shrinks l = rw (← is, lt-leb have want l)
 

@@ -26,7 +26,7 @@ use edits::store_anodes;
 use edits::zero_behind;
 use edits::zero_tail;
 use giving::copied;
-use giving::give_many;
+use giving::give_blocks;
 use lookup::EntryAt;
 use placing::Moves;
 use placing::moves_number;
@@ -36,7 +36,7 @@ use taking::take_many;
 use tree::blocks_for;
 use tree::chain_sum;
 
-// Takes or gives back blocks, one at a time, until the chain of `head`, which has `have` blocks, has `want`; `last`: last reserved.
+// Takes blocks one at a time, or gives them back run by run, until the chain of `head`, which has `have` blocks, has `want`; `last`: last reserved.
 fn plan_resize(
     slots: &[u16],
     last: BlockNo,
@@ -55,7 +55,7 @@ fn plan_resize(
     if have <= want {
         return take_many(slots, want - have, head, counts, firsts, nexts);
     }
-    give_many(slots, last, have - want, head, counts, firsts, nexts)
+    give_blocks(slots, last, have - want, head, counts, firsts, nexts)
 }
 
 // Writes a planned resize into the image, and shows it in the two tables.

@@ -16,7 +16,7 @@ use Rattle.rules.specs.Walk.{Dir, Entered, blocksFor, reachedDirs}
 use Rattle.rules.specs.Accepted.{lastReserved}
 use Rattle.rules.specs.Lookup.{bytesOf}
 use Rattle.rules.specs.Plans.{Slotted, slotted, Plan, refused, planned, Growth, noGrowth}
-use Rattle.rules.specs.Space.{rewritten, lowestFree, withSpare, takeBlock, takeMany, giveMany, dropped}
+use Rattle.rules.specs.Space.{rewritten, lowestFree, withSpare, takeBlock, takeMany, giveBlocks, giveAll}
 use Rattle.rules.specs.Format.{zeroBlock, newDirectoryBlock}
 
 -- what a change answers, and the image that it leaves
@@ -64,12 +64,12 @@ unfoldable pub resizedImage : List ℕ → Anodes → Entered → ℕ → Slotte
 resizedImage img s e new t ys = withSize (zeroTail (zeroTaken (withAnodes img (t .anodes)) e new ys) s e new) (e .start) new
 
 module _ (growth : Growth) where
-  -- takes or gives back one block at a time until the count fits (last: last reserved)
+  -- takes one block at a time, or gives back run by run, until the count fits (last: last reserved)
   unfoldable pub resizePlan : ℕ → Slotted → ℕ → ℕ → Plan Slotted
   resizePlan last s h blocks =
       cond (leb (blockCount (s .anodes) h) blocks)
       (takeMany limit growth false (blocks - blockCount (s .anodes) h) h s)
-      (giveMany limit growth last (blockCount (s .anodes) h - blocks) h s)
+      (giveBlocks limit growth last (blockCount (s .anodes) h - blocks) h s)
 
   -- Resize: refused by its first step that fails, else that image
   unfoldable pub resized : List ℕ → Slotted → Entered → ℕ → Left
@@ -199,14 +199,14 @@ entryClosed b at = gapClosed b at (getD b at 0) (entriesEnd b)
 unfoldable pub withoutEntry : List ℕ → ℕ → List ℕ
 withoutEntry img start = inBlock img (start / 512) (λ b. entryClosed b (start % 512))
 
--- the image after a removal whose steps left the state t: those still in the chain are zeroed, and the entry goes
+-- the image after a removal whose steps left the state t: its anodes are stored, and the entry goes
 unfoldable pub removedImage : List ℕ → Entered → Slotted → List ℕ
-removedImage img e t = withoutEntry (withAnodes img (dropped limit (t .anodes) (e .anode))) (e .start)
+removedImage img e t = withoutEntry (withAnodes img (t .anodes)) (e .start)
 
 module _ (growth : Growth) where
-  -- gives back all blocks, last first (last: last reserved)
+  -- gives back the whole chain (last: last reserved)
   abbrev pub removePlan : ℕ → Slotted → ℕ → Plan Slotted
-  removePlan last s h = giveMany limit growth last (blockCount (s .anodes) h) h s
+  removePlan last s h = giveAll limit growth last h s
 
   -- Remove: refused by its first step that fails, else that image
   unfoldable pub removed : List ℕ → Slotted → Entered → Left

@@ -1,12 +1,12 @@
--- 01, "The changes", Take a block and Give back a block: steps on the anodes and the slots. A step that is refused answers 27 or 28.
+-- 01, "The changes", Take a block, and 02, No. 3, Whole runs go back: steps on the anodes and the slots. A step that is refused answers 27 or 28.
 use Prim.Native.Nat.{ℕ, zero, suc, _+_, _-_}
-use mathlib.Core.Bool.{Bool, cond, _&&_}
+use mathlib.Core.Bool.{Bool, cond, not, _&&_}
 use mathlib.Core.List.{List, [], _∷_}
 use lib.Dec.{eqb, leb, ltb}
-use Rattle.rules.specs.Counting.{least, occurrences, lastOf, changed}
+use Rattle.rules.specs.Counting.{least, sumList, occurrences, lastOf, changed}
 use Rattle.rules.specs.Anodes.{Anodes}
 use Rattle.rules.specs.Chains.{chainOf, run, side}
-use Rattle.rules.specs.Plans.{Slotted, slotted, Plan, refused, planned, repeated, Growth, afresh}
+use Rattle.rules.specs.Plans.{Slotted, slotted, Plan, refused, planned, _andThen_, repeated, atSlots, Growth, afresh}
 
 -- ---- what a step makes of the anodes
 
@@ -49,6 +49,24 @@ withoutTail s h p x d = withoutRun s h p x d (s .block x)
 -- the first of them
 abbrev pub tailStart : Anodes → ℕ → ℕ → ℕ
 tailStart s x d = s .block x + (s .count x - d)
+
+-- ---- the two runs of an extent of c blocks from b upward (last: last reserved)
+
+-- it crosses last reserved
+unfoldable pub crosses : ℕ → ℕ → ℕ → Bool
+crosses last c b = leb b last && ltb (last + 1) (b + c)
+
+-- how many blocks its upper run has: those above last reserved if it crosses, else all
+unfoldable pub upperRun : ℕ → ℕ → ℕ → ℕ
+upperRun last c b = cond (crosses last c b) (b + c - (last + 1)) c
+
+-- and its lower run: those up to last reserved if it crosses, else all
+unfoldable pub lowerRun : ℕ → ℕ → ℕ → ℕ
+lowerRun last c b = cond (crosses last c b) (last + 1 - b) c
+
+-- how many of the k blocks that are to go are in the upper run
+unfoldable pub runLength : ℕ → ℕ → ℕ → ℕ → ℕ
+runLength last k c b = cond (leb k (upperRun last c b)) k (upperRun last c b)
 
 -- ---- the searches
 
@@ -106,6 +124,10 @@ growBeforeOr s z c b other = cond (eqb (b + c) (s .block z)) (planned (rewritten
 unfoldable pub joinOr : Anodes → ℕ → ℕ → ℕ → Plan Anodes → Plan Anodes
 joinOr s z c b other = cond (eqb z 1) other (fillOr s z c b (growOr s z c b (growBeforeOr s z c b other)))
 
+-- the run joins z; otherwise anode x, zeroed before, has it behind z
+unfoldable pub joinWith : ℕ → ℕ → ℕ → ℕ → Anodes → Plan Anodes
+joinWith x z c b s = joinOr s z c b (planned (insertedAfter s z x c b) (run b c))
+
 -- A: how many anodes there may be
 module _ (A : ℕ) where
   -- the last anode of h's chain
@@ -138,7 +160,38 @@ module _ (A : ℕ) where
   unfoldable pub join : ℕ → ℕ → ℕ → (ℕ → Bool) → Anodes → Plan Anodes
   join z c b ex s = joinOr s z c b (append ex s z c b)
 
+-- ---- a chain that goes
+
+-- anode a is in h's chain
+unfoldable pub onChain : ℕ → Anodes → ℕ → ℕ → Bool
+onChain A s h a = leb 1 (occurrences a (chainOf (s .next) A h))
+
+-- the anodes of h's chain zeroed
+unfoldable pub dropped : ℕ → Anodes → ℕ → Anodes
+dropped A s h = record {
+  count = λ a. cond (onChain A s h a) 0 (s .count a);
+  block = λ a. cond (onChain A s h a) 0 (s .block a);
+  next = λ a. cond (onChain A s h a) 0 (s .next a);
+}
+
 -- ---- the steps
+
+-- last: last reserved
+module _ (A last : ℕ) where
+  -- a run of c blocks from b, now nobody's, joins its side, or goes there with anode x, zeroed before
+  unfoldable pub moveBack : ℕ → ℕ → ℕ → Slotted → Plan Slotted
+  moveBack x c b s = atSlots (s .slots) (joinWith x (sideEnd A last (s .anodes) b) c b (s .anodes))
+
+  -- the end of a removal: the anodes still in the chain of h are zeroed, and the run that the head still has, if any, goes back with the head itself
+  unfoldable pub headBack : ℕ → Slotted → Plan Slotted
+  headBack h s =
+      cond (eqb (s .anodes .count h) 0)
+      (planned (slotted (dropped A (s .anodes) h) (s .slots)) [])
+      (moveBack h (s .anodes .count h) (s .anodes .block h) (slotted (dropped A (s .anodes) h) (s .slots)))
+
+  -- how many blocks of the chain of h go back before it: all but the head's, or but its lower run where it crosses
+  unfoldable pub beforeHead : Anodes → ℕ → ℕ
+  beforeHead s h = sumList (s .count) (chainOf (s .next) A h) - lowerRun last (s .count h) (s .block h)
 
 module _ (A : ℕ) (growth : Growth) where
   -- a state with an anode to be had
@@ -167,28 +220,27 @@ module _ (A : ℕ) (growth : Growth) where
     unfoldable pub release : ℕ → ℕ → Slotted → Plan Slotted
     release c b s = afresh growth (λ ex t. join A (sideEnd A last t b) c b ex t) s
 
-    -- the last block of anode x of h's chain, after p, goes back
-    unfoldable pub giveFrom : ℕ → ℕ → ℕ → Slotted → Plan Slotted
-    giveFrom h p x s = release 1 (tailStart (s .anodes) x 1) (slotted (withoutTail (s .anodes) h p x 1) (s .slots))
+    -- the last d blocks of x, after p on the chain of h, go back: a whole extent goes with its anode; a cut piece, an upper part and the run of a head that stays are released
+    unfoldable pub giveRun : ℕ → ℕ → ℕ → ℕ → Slotted → Plan Slotted
+    giveRun h p x d s =
+        cond (eqb (s .anodes .count x) d && not (eqb x h))
+        (moveBack A last x d (tailStart (s .anodes) x d) (slotted (withoutTail (s .anodes) h p x d) (s .slots)))
+        (release d (tailStart (s .anodes) x d) (slotted (withoutTail (s .anodes) h p x d) (s .slots)))
 
-    -- GIVE BACK A BLOCK of h's chain: the last block of the last non-empty extent; a chain that has none gives none, 27, which nobody meets: no more are given back than there are
-    unfoldable pub giveBack : ℕ → Slotted → Plan Slotted
-    giveBack h s = elim (lastExtent (s .anodes .count) 0 (chainOf (s .anodes .next) A h)) [ nowhere ↦ refused 27 | found p x ↦ giveFrom h p x s ]
+    -- k blocks of the chain of h go back run by run, last first, in at most f runs
+    unfoldable pub giveRuns : ℕ → ℕ → ℕ → Slotted → Plan Slotted
+    giveRuns zero k h s = planned s []
+    giveRuns (suc f) zero h s = planned s []
+    giveRuns (suc f) (suc k) h s = elim (lastExtent (s .anodes .count) 0 (chainOf (s .anodes .next) A h)) [
+      | nowhere ↦ planned s []
+      | found p x ↦ giveRun h p x (runLength last (suc k) (s .anodes .count x) (s .anodes .block x)) s
+          andThen giveRuns f (suc k - runLength last (suc k) (s .anodes .count x) (s .anodes .block x)) h
+    ]
 
-    -- k gives
-    unfoldable pub giveMany : ℕ → ℕ → Slotted → Plan Slotted
-    giveMany k h s = repeated (giveBack h) k s
+    -- GIVE BACK k blocks of the chain of h: a run has one at least, so no more runs than blocks
+    unfoldable pub giveBlocks : ℕ → ℕ → Slotted → Plan Slotted
+    giveBlocks k h s = giveRuns k k h s
 
--- ---- a chain that goes
-
--- anode a is in h's chain
-unfoldable pub onChain : ℕ → Anodes → ℕ → ℕ → Bool
-onChain A s h a = leb 1 (occurrences a (chainOf (s .next) A h))
-
--- the anodes of h's chain zeroed
-unfoldable pub dropped : ℕ → Anodes → ℕ → Anodes
-dropped A s h = record {
-  count = λ a. cond (onChain A s h a) 0 (s .count a);
-  block = λ a. cond (onChain A s h a) 0 (s .block a);
-  next = λ a. cond (onChain A s h a) 0 (s .next a);
-}
+    -- GIVE BACK the whole chain of h, as a removal does
+    unfoldable pub giveAll : ℕ → Slotted → Plan Slotted
+    giveAll h s = giveBlocks (beforeHead A last (s .anodes) h) h s andThen headBack A last h

@@ -65,8 +65,14 @@ taken-from-far : sameBytes (resizeOutcome grown blocks8 anodes3444 5 a 1536 .ima
 unfolding everything disk8 grown
 taken-from-far = refl
 
--- removed, the disk is as format left it: block 7 goes to anode 6, and block 6 joins it before its start
-grown-removed : sameBytes (removeOutcome grown blocks8 anodes3444 5 a .image) disk8 ≡ true
+-- removed, the disk is as format left it but for the anode above last reserved: the head itself, 7, goes back with the run
+grown-removed : sameBytes (removeOutcome grown blocks8 anodes3444 5 a .image)
+    (withAnode
+    (withAnode
+    (withAnode disk8
+    1 0 65535 7)
+    6 0 0 0)
+    7 2 6 2) ≡ true
 unfolding everything disk8 grown
 grown-removed = refl
 
@@ -87,6 +93,11 @@ short =
 written-and-shrunk : sameBytes (resizeOutcome (writeOutcome grown blocks8 anodes3444 5 a 510 (1 ∷ 2 ∷ 3 ∷ 4 ∷ []) .image) blocks8 anodes3444 5 a 511 .image) short ≡ true
 unfolding everything disk8 grown short
 written-and-shrunk = refl
+
+-- removed, block 6 joins anode 6 before its start and the head is zeroed: the disk is as format left it, but for the bytes of the free blocks
+short-removed : sameBytes (removeOutcome short blocks8 anodes3444 5 a .image) (stored disk8 3582 (1 ∷ 2 ∷ 3 ∷ 4 ∷ [])) ≡ true
+unfolding everything disk8 grown short
+short-removed = refl
 
 -- grown again, the old last block's tail and the block taken are zero
 tail-zeroed : readOutcome (resizeOutcome short blocks8 anodes3444 5 a 600 .image) blocks8 anodes3444 5 a 508 (replicate 8 9) .output ≡ 0 ∷ 0 ∷ 1 ∷ 0 ∷ 0 ∷ 0 ∷ 0 ∷ 0 ∷ []

@@ -44,8 +44,8 @@ answers img =
     ∷ removed usualGrowth img (tableOf img) file .answer
     ∷ []
 
--- each wants a free anode, and there is none
-no-anode : answers full ≡ 28 ∷ 28 ∷ 28 ∷ 28 ∷ []
+-- all but the removal want a free anode, and there is none; a removed file's run goes back with its head
+no-anode : answers full ≡ 28 ∷ 28 ∷ 28 ∷ 0 ∷ []
 unfolding everything disk8 grown full answers
 no-anode = refl
 

@@ -11,7 +11,7 @@ use borrow.Author.Tests.{le-leb, lt-leb, ne-eqb}
 use Rattle.rules.specs.Counting.{least, lastOf}
 use Rattle.rules.specs.Anodes.{existsBy}
 use Rattle.rules.specs.Chains.{chainOf, cut, side}
-use Rattle.rules.specs.Space.{Found, nowhere, found, firstFound, firstExtent, lastExtent, freeExtent, free, lowestFree}
+use Rattle.rules.specs.Space.{Found, nowhere, found, firstFound, firstExtent, freeExtent, free, lowestFree}
 use Rattle.laws.specs.Chains.{chain-none, chain-end, chain-step}
 use Rattle.laws.specs.Tests.{less?}
 use Rattle.laws.specs.Sums.{least-cases}
@@ -82,36 +82,6 @@ module _ (count next : ℕ → ℕ) where
     pub first-step : count a ≡ 0 → firstExtent count p (chainOf next k a) ≡ firstExtent count a (chainOf next m (next a))
     unfolding firstExtent firstFound
     first-step h = rw (chain-step next k m a fuel some, nowhere-at count p a h)
-
--- ---- the last anode with a block
-
-pub or-nowhere : (f : Found) → firstFound f nowhere ≡ f
-unfolding firstFound
-or-nowhere nowhere = refl
-or-nowhere (found p x) = refl
-
-or-assoc : (f g h : Found) → firstFound (firstFound f g) h ≡ firstFound f (firstFound g h)
-unfolding firstFound
-or-assoc nowhere g h = refl
-or-assoc (found p x) g h = refl
-
-module _ (count next : ℕ → ℕ) where
-  pub last-none : (k p a : ℕ) (b : Found) → k ≡ 0 → firstFound (lastExtent count p (chainOf next k a)) b ≡ b
-  unfolding lastExtent firstFound
-  last-none k p a b e = rw (chain-none next k a e)
-
-  pub last-end : (k p a : ℕ) (b : Found) → a ≡ 0 → firstFound (lastExtent count p (chainOf next k a)) b ≡ b
-  unfolding lastExtent firstFound
-  last-end k p a b e = rw (chain-end next k a e)
-
-  module _ (k m p a : ℕ) (b : Found) (fuel : k ≡ m + 1) (some : a ≢ 0) where
-    pub last-hit : count a ≢ 0 → firstFound (lastExtent count p (chainOf next k a)) b ≡ firstFound (lastExtent count a (chainOf next m (next a))) (found p a)
-    unfolding lastExtent firstFound
-    last-hit h = rw (chain-step next k m a fuel some, full-at count p a (count a) refl h) (or-assoc (lastExtent count a (chainOf next m (next a))) (found p a) b)
-
-    pub last-step : count a ≡ 0 → firstFound (lastExtent count p (chainOf next k a)) b ≡ firstFound (lastExtent count a (chainOf next m (next a))) b
-    unfolding lastExtent firstFound
-    last-step h = rw (chain-step next k m a fuel some, nowhere-at count p a h) (or-assoc (lastExtent count a (chainOf next m (next a))) nowhere b)
 
 -- ---- the last anode
 

@@ -1,4 +1,4 @@
-// Searches among the anodes in lent tables: the extent that a block is taken from or given back from, the last anode of a chain, the side of a block, and the lowest free anode.
+// Searches among the anodes in lent tables: the extent that a block is taken from, the last anode of a chain, the side of a block, and the lowest free anode.
 ghost use mathlib.Core.Bool.{cond};
 ghost use mathlib.Core.List.{List};
 ghost use mathlib.Core.Path.{_≡_};
@@ -9,7 +9,7 @@ ghost use Rattle.disk.specs.Root.{slotOf};
 ghost use Rattle.rules.specs.Anodes.{existsBy};
 ghost use Rattle.rules.specs.Chains.{chainOf, cut};
 ghost use Rattle.rules.specs.Accepted.{lastReserved};
-ghost use Rattle.rules.specs.Space.{firstExtent, lastExtent, freeExtent, sideOf, lowestFree};
+ghost use Rattle.rules.specs.Space.{firstExtent, freeExtent, sideOf, lowestFree};
 ghost use Rattle.anodes.specs.Loaded.{anodesFrom, slotsFrom};
 ghost use Rattle.searches.specs.Found.{freeIn, foundOf};
 use disk::AnodeNo;
@@ -59,7 +59,7 @@ pub fn lowest_free(slots: &[u16], firsts: &[u16]) -> AnodeNo
 }
 
 // The anode after `a`, or 0 where that is 2: the free list's side above last reserved ends before 2.
-fn next_before_two(nexts: &[u16], a: AnodeNo) -> AnodeNo
+pub fn next_before_two(nexts: &[u16], a: AnodeNo) -> AnodeNo
     ensures { λ r. ⌜ r .0 ≡ cut (λ x. getD (now (nexts .entry)) x 0) (a .0) ⌝ }
 {
     let next = entry(nexts, a.0 as usize);
@@ -109,28 +109,6 @@ pub fn free_extent(dir: bool, counts: &[u16], nexts: &[u16]) -> Extent
         return found;
     }
     first_extent(counts, nexts, near_side(!dir))
-}
-
-// The last anode with a block on the chain from `from`.
-pub fn last_extent(counts: &[u16], nexts: &[u16], from: AnodeNo) -> Extent
-    ensures { λ r. ⌜ foundOf r ≡ lastExtent (λ a. getD (now (counts .entry)) a 0) 0 (chainOf (λ a. getD (now (nexts .entry)) a 0) 3444 (from .0)) ⌝ }
-{
-    let mut found = Extent::Nowhere;
-    let mut before = AnodeNo(0);
-    let mut at = from;
-    let mut fuel: usize = 3444;
-    while 0 < fuel {
-        if at.0 == 0 {
-            return found;
-        }
-        if entry(counts, at.0 as usize) != 0 {
-            found = Extent::At(before, at);
-        }
-        before = at;
-        at = AnodeNo(entry(nexts, at.0 as usize));
-        fuel -= 1;
-    }
-    found
 }
 
 // The last anode from `from` on, before 2.

@@ -15,14 +15,14 @@ use Rattle.removing.proofs.remove_entry.Statement.{statement}
 use Rattle.removing.proofs.remove_entry.Tie as tie
 
 -- the gives on the copies end as the plan of the image
-given-as : (c : tie.After-give-many) →
-    let g = c .before .before .before .before .before .before .before .before .before .before .before .before .before .before .before .before .before .before .before .args in let p = c .give-many in let q = p .last .1 .1 .1 .1 in
+given-as : (c : tie.After-give-all) →
+    let g = c .before .before .before .before .before .before .before .before .before .before .before .before .before .before .before .before .before .before .before .args in let p = c .give-all in let q = p .last .1 .1 .1 .1 in
     EndsIn (p .result) (slotted (anodesFrom (q .0) (q .1 .0) (q .1 .1 .0)) (slotOf (g .image .now))) (removePlan noGrowth (lastReserved (g .image .now)) (tableOf (g .image .now)) (g .e .anode .0))
 given-as c =
     let s = c .before .before .before .before .before .before .before .before .before .before .before .before .before .before .before .before .before .before .before in
     let slots = c .before .before .before .before .before .before .before .slots-of in
-    let made = gives-made (s .pre .0 .0) (entered (s .args .e)) (s .pre .0 .1) _ _ _ (c .before .before .before .before .before .before .before .before .before .before .before .copied .ensures) (c .before .before .before .before .before .before .before .before .before .before .copied2 .ensures) (c .before .before .before .before .before .before .before .before .before .copied3 .ensures) (slots .result) (slots .ensures) _ (c .before .before .before .before .before .before .before .before .before .before .before .before .chain-sum .ensures) _ (c .before .before .before .before .last-reserved .ensures) in
-    rw (made, slots .ensures) at (c .give-many .ensures)
+    let made = gives-made (s .pre .0 .0) (entered (s .args .e)) (s .pre .0 .1) _ _ _ (c .before .before .before .before .before .before .before .before .before .before .before .copied .ensures) (c .before .before .before .before .before .before .before .before .before .before .copied2 .ensures) (c .before .before .before .before .before .before .before .before .before .copied3 .ensures) (slots .result) (slots .ensures) _ (c .before .before .before .before .last-reserved .ensures) in
+    rw (made, slots .ensures) at (c .give-all .ensures)
 
 chain-sum-requires : tie.Need-chain-sum-requires
 chain-sum-requires c κs = search needs
@@ -42,27 +42,27 @@ copied-requires-3 c κs = search needs
 slots-of-requires : tie.Need-slots-of-requires
 slots-of-requires c κs = search needs
 
-slice-aggregate-give-many : tie.Need-slice-aggregate-give-many
-slice-aggregate-give-many c = search needs
+slice-aggregate-give-all : tie.Need-slice-aggregate-give-all
+slice-aggregate-give-all c = search needs
 
 last-reserved-requires : tie.Need-last-reserved-requires
 last-reserved-requires c κs = search needs
 
-slice-aggregate-give-many-2 : tie.Need-slice-aggregate-give-many-2
-slice-aggregate-give-many-2 c = search needs
+slice-aggregate-give-all-2 : tie.Need-slice-aggregate-give-all-2
+slice-aggregate-give-all-2 c = search needs
 
-slice-aggregate-give-many-3 : tie.Need-slice-aggregate-give-many-3
-slice-aggregate-give-many-3 c = search needs
+slice-aggregate-give-all-3 : tie.Need-slice-aggregate-give-all-3
+slice-aggregate-give-all-3 c = search needs
 
-slice-aggregate-give-many-4 : tie.Need-slice-aggregate-give-many-4
-slice-aggregate-give-many-4 c = search needs
+slice-aggregate-give-all-4 : tie.Need-slice-aggregate-give-all-4
+slice-aggregate-give-all-4 c = search needs
 
-give-many-requires : tie.Need-give-many-requires
-give-many-requires c κs =
+give-all-requires : tie.Need-give-all-requires
+give-all-requires c κs =
     let g = c .before .before .before .before .before .before .before .before .before .before .before .before .before .before .before .before .before .before in
     let w = plan-ready (g .pre .0 .0) (entered (g .args .e)) (g .pre .0 .1) _ _ _ (c .before .before .before .before .before .before .before .before .before .before .copied .ensures) (c .before .before .before .before .before .before .before .before .before .copied2 .ensures) (c .before .before .before .before .before .before .before .before .copied3 .ensures) (c .before .before .before .before .before .before .slots-of .result) (c .before .before .before .before .before .before .slots-of .ensures) _ (c .before .before .before .before .before .before .before .before .before .before .before .chain-sum .ensures) in
     let t = g .pre .0 .0 .tables in
-    ((ap length (c .before .before .before .before .before .before .before .before .before .before .copied .ensures) ∙ t .0, ap length (c .before .before .before .before .before .before .before .before .before .copied2 .ensures) ∙ t .1, ap length (c .before .before .before .before .before .before .before .before .copied3 .ensures) ∙ t .2), (rw (c .before .before .before .last-reserved .ensures) (w .0), le-of-eq (w .1)))
+    ((ap length (c .before .before .before .before .before .before .before .before .before .before .copied .ensures) ∙ t .0, ap length (c .before .before .before .before .before .before .before .before .before .copied2 .ensures) ∙ t .1, ap length (c .before .before .before .before .before .before .before .before .copied3 .ensures) ∙ t .2), (rw (c .before .before .before .last-reserved .ensures) (w .0), w .1))
 
 enum-told : tie.Need-enum-told
 enum-told c = search needs
@@ -107,7 +107,7 @@ same-length-4 : tie.Need-same-length-4
 same-length-4 c = search needs
 
 returns-2 : tie.Need-returns-2
-returns-2 c = c .before .before .before .before .before .before .before .before .before .commit-remove .ensures
+returns-2 c = c .before .before .before .before .before .before .commit-remove .ensures
 
 pub remove-entry-spec : {M : Type 1} → statement M
 remove-entry-spec =
@@ -119,12 +119,12 @@ remove-entry-spec =
     copied-requires-2
     copied-requires-3
     slots-of-requires
-    slice-aggregate-give-many
+    slice-aggregate-give-all
     last-reserved-requires
-    slice-aggregate-give-many-2
-    slice-aggregate-give-many-3
-    slice-aggregate-give-many-4
-    give-many-requires
+    slice-aggregate-give-all-2
+    slice-aggregate-give-all-3
+    slice-aggregate-give-all-4
+    give-all-requires
     enum-told
     enum-told-2
     moves-number-requires

@@ -25,11 +25,11 @@ returns c =
     let w = c .before .before .before .before .before .before .take-many in
     subst (EndsIn (w .result) (tableFrom (w .last .1 .1 .1 .0) (w .last .1 .1 .1 .1 .0) (w .last .1 .1 .1 .1 .1 .0) (s .args .slots .now))) (plan-grows (s .args .last .0) _ _ _ _ (s .pre .1 .1) (c .before .before .before .before .before .before .before .before .before .before .if1 .taken)) (w .ensures)
 
-sub-give-many : tie.Need-sub-give-many
-sub-give-many c = search needs
+sub-give-blocks : tie.Need-sub-give-blocks
+sub-give-blocks c = search needs
 
-give-many-requires : tie.Need-give-many-requires
-give-many-requires c κs = let pre = c .before .before .before .before .before .before .before .before .pre in (pre .0, (pre .1 .0, omega (arith, pre .1 .1)))
+give-blocks-requires : tie.Need-give-blocks-requires
+give-blocks-requires c κs = let pre = c .before .before .before .before .before .before .before .before .pre in (pre .0, (pre .1 .0, omega (arith, pre .1 .1)))
 
 same-length-4 : tie.Need-same-length-4
 same-length-4 c = search needs
@@ -43,7 +43,7 @@ same-length-6 c = search needs
 returns-2 : tie.Need-returns-2
 returns-2 c =
     let s = c .before .before .before .before .before .before .before .before .before .before .before .before .before .before .before in
-    let w = c .before .before .before .before .before .before .give-many in
+    let w = c .before .before .before .before .before .before .give-blocks in
     subst (EndsIn (w .result) (tableFrom (w .last .1 .1 .1 .1 .0) (w .last .1 .1 .1 .1 .1 .0) (w .last .1 .1 .1 .1 .1 .1 .0) (s .args .slots .now))) (plan-shrinks (s .args .last .0) _ _ _ _ (s .pre .1 .1) (c .before .before .before .before .before .before .before .before .before .before .if1 .left)) (w .ensures)
 
 pub plan-resize-spec : {M : Type 1} → statement M
@@ -55,8 +55,8 @@ plan-resize-spec =
     same-length-2
     same-length-3
     returns
-    sub-give-many
-    give-many-requires
+    sub-give-blocks
+    give-blocks-requires
     same-length-4
     same-length-5
     same-length-6

@@ -1,0 +1,3 @@
+-- Laws of a run that is given, and of what is carried to the next.
+pub mod Picking
+pub mod Turning

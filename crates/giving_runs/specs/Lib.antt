@@ -1,0 +1,2 @@
+-- What the gives of whole runs look for, answer and carry.
+pub mod Runs
