@@ -5,6 +5,7 @@ use std::collections::BTreeMap;
 
 use crate::calls::{run, Call, Library, Outcome, ANODES, BLOCK};
 use crate::histories::{follow, random_call, Trend};
+use crate::met::Met;
 use crate::model::{self, Model, Totals};
 use crate::rng::Rng;
 use crate::shapes::Shaped;
@@ -109,21 +110,23 @@ pub struct History<'a> {
     disk: Shaped,
     rng: &'a mut Rng,
     pub answers: Histogram,
+    pub met: Met,
 }
 
 impl<'a> History<'a> {
     pub fn new(disk: Shaped, rng: &'a mut Rng) -> Self {
-        History { disk, rng, answers: Histogram::default() }
+        History { disk, rng, answers: Histogram::default(), met: Met::default() }
     }
 
     /// Makes random calls. After each one the disk is accepted, and its seven kinds of blocks add up to its size.
     pub fn run<L: Library>(&mut self, calls: usize) {
-        let blocks = self.disk.image.len() / BLOCK;
         let mut trend = Trend::random(self.rng);
         let mut free = self.free_blocks();
         for _ in 0..calls {
             trend = trend.next(self.rng);
-            let call = random_call(&self.disk.tree, trend, blocks, free, self.rng);
+            let Shaped { image, tree } = &self.disk;
+            let call = random_call(image, tree, trend, free, self.rng);
+            self.met.note(image, tree, &call);
             self.call::<L>(&call);
             free = self.free_blocks();
         }
@@ -177,7 +180,7 @@ mod tests {
     fn histories<L: Library>() {
         for seed in 0..60 {
             let rng = &mut Rng::new(seed);
-            let disk = Start::SMALL[seed as usize % 4].disk(rng);
+            let disk = Start::SMALL[seed as usize % Start::SMALL.len()].disk(rng);
             History::new(disk, rng).run::<L>(100);
         }
     }

@@ -1,9 +1,12 @@
 //! Random calls for histories: their arguments are mostly such that the call can be done on the disk, at times
 //! such that it must be refused, and often at the very edge.
 
+use std::ops::RangeInclusive;
+
 use crate::bitmap::{length, BITMAP_BLOCK};
 use crate::calls::{Call, BLOCK, DIRECTORY, FILE, ROOT, TOTALS};
 use crate::disk::{Disk, Kind};
+use crate::model::layout::{last_reserved, AnodeTable};
 use crate::model::Model;
 use crate::rng::Rng;
 use crate::shapes::format_call;
@@ -45,20 +48,20 @@ impl Trend {
     }
 }
 
-/// A call on a disk of `blocks` blocks that holds this tree and has this many blocks free.
-pub fn random_call(tree: &Tree, trend: Trend, blocks: usize, free: usize, rng: &mut Rng) -> Call {
+/// A call on an accepted disk that holds this tree and has this many blocks free.
+pub fn random_call(image: &[u8], tree: &Tree, trend: Trend, free: usize, rng: &mut Rng) -> Call {
     let [make, resize, remove] = trend.shares();
     let throw = rng.below(100);
     let bare = tree.counts().0 == 0;
     if throw < make || (bare && rng.percent(60)) {
         make_call(tree, rng)
     } else if throw < make + resize {
-        resize_call(tree, trend, free, rng)
+        resize_call(image, tree, trend, free, rng)
     } else if throw < make + resize + remove {
         let (directory, name) = any_entry(tree, |_| true, rng);
         Call::Remove { directory, name }
     } else {
-        other_call(tree, blocks, rng)
+        other_call(tree, image.len() / BLOCK, rng)
     }
 }
 
@@ -210,11 +213,13 @@ fn make_call(tree: &Tree, rng: &mut Rng) -> Call {
     }
 }
 
-fn resize_call(tree: &Tree, trend: Trend, free: usize, rng: &mut Rng) -> Call {
+fn resize_call(image: &[u8], tree: &Tree, trend: Trend, free: usize, rng: &mut Rng) -> Call {
     let (directory, name) = any_file(tree, rng);
     let old = tree.size(directory, &name);
     let held = old.next_multiple_of(BLOCK);
     let most = held + free * BLOCK;
+    let shrinks = trend != Trend::Growing && old > 0;
+    let head = tree.find(directory, &name).map_or(0, |node| node.entry.anode);
     let size = match rng.below(12) {
         0 => old as u64,
         1 => held as u64,
@@ -222,12 +227,55 @@ fn resize_call(tree: &Tree, trend: Trend, free: usize, rng: &mut Rng) -> Call {
         3 => most as u64,
         4 => most as u64 + 1,
         5 => impossible_size(rng),
-        6 | 7 if trend != Trend::Growing => rng.within(0..=old) as u64,
-        8 if trend != Trend::Growing => 0,
-        _ if trend == Trend::Shrinking => rng.within(0..=old) as u64,
+        6 | 7 if shrinks => aimed_size(image, head, rng),
+        8 if shrinks => 0,
+        _ if shrinks && trend == Trend::Shrinking => aimed_size(image, head, rng),
         _ => rng.within(old..=(old + 2_000).min(most.max(old))) as u64,
     };
     Call::Resize { directory, name, size }
+}
+
+/// A size for a file that has blocks, mostly smaller: its new end lies at the end of an extent, a block beside it, in the
+/// extent that crosses last reserved, or anywhere, and half of the time only the last extents go.
+fn aimed_size(image: &[u8], head: u16, rng: &mut Rng) -> u64 {
+    let Ends { ends, crossing } = Ends::of(image, head);
+    let held = ends[ends.len() - 1];
+    let far = if rng.percent(50) { ends.len() } else { 4 };
+    let end = rng.pick(&ends[ends.len().saturating_sub(far)..]).copied().unwrap_or(held);
+    let blocks = match (rng.below(6), crossing) {
+        (0..=2, Some(range)) => rng.within(range),
+        (0 | 1, _) => end,
+        (2, _) => end.saturating_sub(1),
+        (3, _) => held.min(end + 1),
+        (4, _) => rng.within(end..=held),
+        _ => rng.within(0..=held),
+    };
+    let missing = if rng.percent(50) { 0 } else { rng.below(BLOCK) };
+    (blocks * BLOCK).saturating_sub(missing) as u64
+}
+
+/// Where the extents of a file end, in blocks of the file.
+struct Ends {
+    /// Its start, and the end of each extent.
+    ends: Vec<usize>,
+    /// From the start of the extent that crosses last reserved up to there.
+    crossing: Option<RangeInclusive<usize>>,
+}
+
+impl Ends {
+    fn of(image: &[u8], head: u16) -> Self {
+        let above = usize::from(last_reserved(image)) + 1;
+        let (mut held, mut ends, mut crossing) = (0, vec![0], None);
+        for (_, anode) in AnodeTable::read(image).chain(head) {
+            let start = usize::from(anode.block);
+            if start < above && above < anode.end() {
+                crossing = Some(held..=held + above - start);
+            }
+            held += usize::from(anode.count);
+            ends.push(held);
+        }
+        Ends { ends, crossing }
+    }
 }
 
 /// A size that no disk can hold.

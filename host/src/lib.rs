@@ -16,7 +16,7 @@
 //! documentation: `rng`, the small deterministic generator behind all that is random; `tree`, what a disk should hold, as
 //! a plain tree in memory; `shapes`, generators of disk images: formatted ones, accepted ones that format never makes, and
 //! damaged ones; `starts` and `histories`, the disks that histories start from, and random calls, often at the very edge;
-//! `compare`, a library against the model, call by call.
+//! `met`, what the shrinks and removals among them met; `compare`, a library against the model, call by call.
 
 #[cfg(feature = "proved")]
 pub mod ffi;
@@ -29,6 +29,8 @@ pub mod compare;
 pub mod disk;
 #[doc(hidden)]
 pub mod histories;
+#[doc(hidden)]
+pub mod met;
 pub mod model;
 pub mod refusals;
 pub mod report;

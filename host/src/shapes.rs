@@ -4,6 +4,7 @@
 //! * [`shaped`]: accepted disks that format never makes, built from a plan that gives every block an owner. `recipe`
 //!   says what such a disk should be like, `outline` and `chains` are parts of the plan, `writer` writes it.
 //! * [`accepted`]: one or the other.
+//! * [`grown_in_turn`]: a long file in many extents.
 //! * [`random_bytes`]: junk, mostly with a root block that may pass.
 //! * [`Damager`]: accepted disks with a fault aimed at one refusal number, and disks with random damage.
 
@@ -19,7 +20,8 @@ pub use damage::Damager;
 pub use plan::{shaped, Shaped};
 pub use recipe::Recipe;
 
-use crate::calls::{run, Call};
+use crate::calls::{run, Call, ROOT};
+use crate::disk::{Disk, Error, Format, New};
 use crate::model::layout::*;
 use crate::model::Model;
 use crate::rng::Rng;
@@ -56,6 +58,29 @@ pub fn formatted(blocks: usize, rng: &mut Rng) -> Vec<u8> {
     let outcome = run::<Model>(&call, &mut image, &mut [], &mut []);
     assert_eq!(outcome.answer, 0, "{call:?} is refused on {blocks} blocks");
     image
+}
+
+/// The long one of the files of [`grown_in_turn`].
+pub const LONG_FILE: &[u8] = b"long";
+
+/// A disk of 65,535 blocks on which two files have grown in turn, the long one by 41 or 42 blocks to 62,000, the other by
+/// one each time. So the long one has 1,500 extents, and no two of them touch.
+pub fn grown_in_turn() -> Vec<u8> {
+    grow_in_turn().expect("there are blocks and anodes enough")
+}
+
+fn grow_in_turn() -> Result<Vec<u8>, Error> {
+    let other = b"other";
+    let mut disk = Disk::<Model>::format(MOST_BLOCKS, &Format::new(2_000, 42, b"disk"))?;
+    disk.make(ROOT, &New::file(LONG_FILE))?;
+    disk.make(ROOT, &New::file(other))?;
+    let mut blocks = 0;
+    for turn in 0..1_500 {
+        blocks += if turn % 3 == 0 { 42 } else { 41 };
+        disk.resize(ROOT, LONG_FILE, blocks * BLOCK as u64)?;
+        disk.resize(ROOT, other, (turn + 1) * BLOCK as u64)?;
+    }
+    Ok(disk.into_image())
 }
 
 /// A number of blocks: mostly few, at times many, never more than `most`.

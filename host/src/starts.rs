@@ -15,6 +15,8 @@ pub enum Start {
     FullAnodes,
     /// No block is free, or next to none.
     FullBlocks,
+    /// Files with empty anodes and across last reserved, and at most three anodes to spare.
+    FewAnodes,
     /// 1,000 to 3,000 blocks.
     Larger,
     /// Up to 65,535 blocks.
@@ -23,7 +25,8 @@ pub enum Start {
 
 impl Start {
     /// Those of at most 400 blocks.
-    pub const SMALL: [Start; 4] = [Start::Formatted, Start::Shaped, Start::FullAnodes, Start::FullBlocks];
+    pub const SMALL: [Start; 5] =
+        [Start::Formatted, Start::Shaped, Start::FullAnodes, Start::FullBlocks, Start::FewAnodes];
 
     pub fn disk(self, rng: &mut Rng) -> Shaped {
         match self {
@@ -37,6 +40,7 @@ impl Start {
             }
             Start::FullAnodes => shaped(&full_anodes(rng), rng),
             Start::FullBlocks => shaped(&full_blocks(rng), rng),
+            Start::FewAnodes => shaped(&few_anodes(rng), rng),
             Start::Larger => {
                 let blocks = rng.within(1_000..=3_000);
                 shaped(&many_files(blocks, rng), rng)
@@ -62,6 +66,22 @@ fn full_anodes(rng: &mut Rng) -> Recipe {
 fn full_blocks(rng: &mut Rng) -> Recipe {
     let blocks = rng.within(8..=80);
     Recipe { files: 1 + rng.below(8), free_percent: rng.below(6), ..Recipe::random(blocks, rng) }
+}
+
+/// Long extents, so that one of a file often crosses last reserved.
+fn few_anodes(rng: &mut Rng) -> Recipe {
+    let blocks = rng.within(12..=60);
+    Recipe {
+        last_reserved: rng.within16(blocks as u16 / 4..=blocks as u16 * 3 / 4),
+        slots: 1,
+        directories: rng.below(4),
+        files: 1 + rng.below(3),
+        cuts: rng.below(12),
+        empties: rng.below(8),
+        spare: Some(rng.below(4)),
+        free_percent: [10, 30, 50][rng.below(3)],
+        ..Recipe::random(blocks, rng)
+    }
 }
 
 fn many_files(blocks: usize, rng: &mut Rng) -> Recipe {

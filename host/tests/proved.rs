@@ -4,12 +4,15 @@
 use std::collections::BTreeSet;
 use std::env;
 
-use ovenknit_host::calls::{Call, BLOCK};
+use ovenknit_host::calls::{tables, Call, BLOCK, ROOT};
 use ovenknit_host::compare::{compare, junk_tables, Histogram, History};
 use ovenknit_host::ffi::Proved;
 use ovenknit_host::histories::{random_call, Trend, NO_ANODE, REFUSALS};
+use ovenknit_host::met::Met;
 use ovenknit_host::rng::{seeded, Rng};
-use ovenknit_host::shapes::{accepted, formatted, random_bytes, shaped, Damager, Recipe, Shaped};
+use ovenknit_host::shapes::{
+    accepted, formatted, grown_in_turn, random_bytes, shaped, Damager, Recipe, Shaped, LONG_FILE,
+};
 use ovenknit_host::starts::Start;
 
 /// One image with junk in the tables, checked by both libraries. One case in some twenty has a table too short.
@@ -90,7 +93,7 @@ fn compare_histories(first_seed: u64, calls: usize) -> Histogram {
         let (start, calls_here) = match case.seed % 100 {
             0 => (Start::Largest, 12),
             1..=3 => (Start::Larger, 60),
-            other => (Start::SMALL[other as usize % 4], 100),
+            other => (Start::SMALL[other as usize % Start::SMALL.len()], 100),
         };
         let disk = start.disk(rng);
         sizes.insert(disk.image.len() / BLOCK);
@@ -121,19 +124,56 @@ fn histories_equal_the_model() {
     answers.assert_met(&NO_ANODE);
 }
 
+/// Short histories where shrinks and removals go back every way that there is (02, No. 3).
+#[test]
+fn giving_back_equals_the_model() {
+    let (mut answers, mut met) = (Histogram::default(), Met::default());
+    for mut case in seeded("giving_back_equals_the_model", 0..3_000) {
+        let rng = &mut case.rng;
+        let mut history = History::new(Start::FewAnodes.disk(rng), rng);
+        history.run::<Proved>(30);
+        answers.merge(&history.answers);
+        met.merge(&history.met);
+    }
+    answers.print("short histories");
+    met.print("short histories");
+    answers.assert_met(&NO_ANODE);
+    met.assert_all_met();
+}
+
+/// The long file of the benchmark, shrunk inside an extent, at its end and over many, and removed.
+#[test]
+fn a_long_file_goes_back_like_the_model() {
+    let mut image = grown_in_turn();
+    let (directory, name) = (ROOT, LONG_FILE.to_vec());
+    let mut calls: Vec<Call> = [61_990, 61_959, 61_918, 30_000, 200, 42, 7]
+        .map(|blocks: u64| Call::Resize { directory, name: name.clone(), size: blocks * BLOCK as u64 })
+        .to_vec();
+    calls.push(Call::Remove { directory, name });
+    let (mut blocks, mut anodes) = tables(&image);
+    // Each from the start, then one after the other.
+    for call in &calls {
+        let outcome = compare::<Proved>(call, &mut image.clone(), &mut blocks, &mut anodes);
+        assert_eq!(outcome.answer, 0, "{call:?}");
+    }
+    for call in &calls {
+        assert_eq!(compare::<Proved>(call, &mut image, &mut blocks, &mut anodes).answer, 0, "{call:?}");
+    }
+}
+
 /// Every call on images that are damaged or too small: the check's number, and tables to match.
 #[test]
 fn every_call_refuses_damage_like_the_model() {
     let mut answers = Histogram::default();
     for mut case in seeded("every_call_refuses_damage_like_the_model", 0..300) {
         let rng = &mut case.rng;
-        let Shaped { image, tree } = Start::SMALL[rng.below(4)].disk(rng);
+        let Shaped { image, tree } = Start::SMALL[rng.below(Start::SMALL.len())].disk(rng);
         let damager = Damager::new(&image).expect("the model accepts its own shapes");
         for number in 1..=16 {
             let Some(mut damaged) = damager.damage(number, rng) else {
                 continue;
             };
-            let call = random_call(&tree, Trend::random(rng), image.len() / BLOCK, 3, rng);
+            let call = random_call(&image, &tree, Trend::random(rng), 3, rng);
             let (mut blocks, mut anodes) = junk_tables(damaged.len() / BLOCK, false, rng);
             let answer = compare::<Proved>(&call, &mut damaged, &mut blocks, &mut anodes).answer;
             answers.add(answer, call.label());

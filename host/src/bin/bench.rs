@@ -1,8 +1,11 @@
 //! Times the proved library against the model: the same process, the same buffers, the two in turn. Prints medians in
 //! microseconds and ratios: first the check, then each call with its ratio to the model's same call and to one proved
-//! check of the same image. Run it with `--release --features proved`.
+//! check of the same image. With the argument `least`, prints the least time of many checks, so that two libraries can be
+//! compared. Run it with `--release --features proved`.
 
+use std::env;
 use std::hint::black_box;
+use std::process::ExitCode;
 use std::time::{Duration, Instant};
 
 use ovenknit_host::calls::{run, tables, Call, Lent, Library, Output, Stamp, BLOCK, FILE, ROOT, TOTALS};
@@ -10,9 +13,13 @@ use ovenknit_host::disk;
 use ovenknit_host::ffi::Proved;
 use ovenknit_host::model::Model;
 use ovenknit_host::rng::Rng;
-use ovenknit_host::shapes::{shaped, Recipe};
+use ovenknit_host::shapes::{grown_in_turn, shaped, Recipe, LONG_FILE};
 
 const RUNS: usize = 1_001;
+/// Of a change that may take as long as thousands of checks.
+const LONG_RUNS: usize = 101;
+/// Of a check whose least time is asked for.
+const LEAST_RUNS: usize = 10_001;
 /// A file in the root of every disk that the calls are timed on.
 const NAME: &[u8] = b"bench";
 const SIZE: u64 = 1_000;
@@ -71,12 +78,12 @@ impl Disk {
 
     /// The medians of a call on the model and on the proved library and of a proved check, the three in turn, so that
     /// all meet the same load. What the call changed is mended between the runs.
-    fn medians(&mut self, call: &Call) -> Medians {
+    fn medians(&mut self, call: &Call, runs: usize) -> Medians {
         let changed = self.changed_by(call);
         let mut output = Output::for_call(call);
         let mut unused = Output::for_call(&Call::Check);
         let (mut by_model, mut by_proved, mut by_check) = (Vec::new(), Vec::new(), Vec::new());
-        for run in 0..RUNS {
+        for run in 0..runs {
             // Each goes first a third of the time.
             for turn in [run % 3, (run + 1) % 3, (run + 2) % 3] {
                 match turn {
@@ -91,6 +98,13 @@ impl Disk {
         }
         Medians { model: median(by_model), proved: median(by_proved), check: median(by_check) }
     }
+
+    /// The least time of a proved check.
+    fn least_check(&mut self) -> Duration {
+        let mut unused = Output::for_call(&Call::Check);
+        let times = (0..LEAST_RUNS).map(|_| self.time::<Proved>(&Call::Check, &mut unused));
+        times.min().unwrap_or_default()
+    }
 }
 
 /// Microseconds.
@@ -100,9 +114,21 @@ struct Medians {
     check: f64,
 }
 
+impl Medians {
+    /// A line of the second table.
+    fn print(&self, what: &str) {
+        let Medians { model, proved, check } = self;
+        println!("  {what:<42} {model:>10.1} {proved:>10.1} {:>9.2} {:>9.2}", proved / model, proved / check);
+    }
+}
+
+fn microseconds(time: Duration) -> f64 {
+    time.as_secs_f64() * 1e6
+}
+
 fn median(mut times: Vec<Duration>) -> f64 {
     times.sort_unstable();
-    times[times.len() / 2].as_secs_f64() * 1e6
+    microseconds(times[times.len() / 2])
 }
 
 fn make(name: &[u8]) -> Call {
@@ -111,7 +137,7 @@ fn make(name: &[u8]) -> Call {
 }
 
 fn measure_check(what: &str, mut disk: Disk) {
-    let Medians { model, proved, .. } = disk.medians(&Call::Check);
+    let Medians { model, proved, .. } = disk.medians(&Call::Check, RUNS);
     println!("{what:<44} {model:>10.1} {proved:>10.1} {:>9.2}", proved / model);
 }
 
@@ -141,8 +167,20 @@ fn measure_calls(what: &str, disk: Disk) {
     ];
     println!("{what}");
     for (what, call) in calls {
-        let Medians { model, proved, check } = disk.medians(&call);
-        println!("  {what:<42} {model:>10.1} {proved:>10.1} {:>9.2} {:>9.2}", proved / model, proved / check);
+        disk.medians(&call, RUNS).print(what);
+    }
+}
+
+/// A long file in many extents, shrunk and removed (02, No. 3).
+fn measure_long_file() {
+    println!("65,535 blocks, a file of 62,000 in 1,500 extents");
+    let mut disk = Disk::new(grown_in_turn());
+    let (directory, name) = (ROOT, LONG_FILE.to_vec());
+    for (what, call) in [
+        ("shrink it to 200 blocks", Call::Resize { directory, name: name.clone(), size: 200 * BLOCK as u64 }),
+        ("remove it", Call::Remove { directory, name }),
+    ] {
+        disk.medians(&call, LONG_RUNS).print(what);
     }
 }
 
@@ -161,16 +199,24 @@ fn fragmented(blocks: usize) -> Recipe {
     Recipe { files, directories, cuts, empties, slots, ..Recipe::fragmented(blocks) }
 }
 
-fn main() {
-    let rng = &mut Rng::new(1);
-    println!("{:<44} {:>10} {:>10} {:>9} {:>9}", "disk", "model us", "proved us", "to model", "to check");
-    measure_check("1,760 blocks, empty", Disk::empty(1_760, 63, 2));
-    measure_check("65,535 blocks, empty", Disk::empty(65_535, 2_000, 42));
-    let full = Disk::new(shaped(&Recipe::small_files(65_535), rng).image);
-    measure_check("65,535 blocks, full of small files", full);
-    let pieces = Disk::new(shaped(&Recipe::fragmented(65_535), rng).image);
-    measure_check("65,535 blocks, fragmented, no anode free", pieces);
+/// The disks that the check is timed on.
+fn checked_disks(rng: &mut Rng) -> [(&'static str, Disk); 4] {
+    [
+        ("1,760 blocks, empty", Disk::empty(1_760, 63, 2)),
+        ("65,535 blocks, empty", Disk::empty(65_535, 2_000, 42)),
+        ("65,535 blocks, full of small files", Disk::new(shaped(&Recipe::small_files(65_535), rng).image)),
+        (
+            "65,535 blocks, fragmented, no anode free",
+            Disk::new(shaped(&Recipe::fragmented(65_535), rng).image),
+        ),
+    ]
+}
 
+fn print_all(rng: &mut Rng) {
+    println!("{:<44} {:>10} {:>10} {:>9} {:>9}", "disk", "model us", "proved us", "to model", "to check");
+    for (what, disk) in checked_disks(rng) {
+        measure_check(what, disk);
+    }
     for (blocks, size, last_reserved, anode_blocks) in
         [(1_760, "1,760", 63, 2), (65_535, "65,535", 2_000, 42)]
     {
@@ -181,4 +227,27 @@ fn main() {
         let disk = Disk::new(shaped(&fragmented(blocks), rng).image);
         measure_calls(&format!("{size} blocks, fragmented"), disk);
     }
+    println!();
+    measure_long_file();
+}
+
+fn print_least(rng: &mut Rng) {
+    println!("{:<44} {:>10}", format!("check, least of {LEAST_RUNS}"), "proved us");
+    for (what, mut disk) in checked_disks(rng) {
+        println!("{what:<44} {:>10.1}", microseconds(disk.least_check()));
+    }
+}
+
+fn main() -> ExitCode {
+    let rng = &mut Rng::new(1);
+    let words: Vec<String> = env::args().skip(1).collect();
+    match words.iter().map(String::as_str).collect::<Vec<_>>()[..] {
+        [] => print_all(rng),
+        ["least"] => print_least(rng),
+        _ => {
+            eprintln!("usage: bench [least]");
+            return ExitCode::from(2);
+        }
+    }
+    ExitCode::SUCCESS
 }

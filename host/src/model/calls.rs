@@ -353,7 +353,7 @@ pub fn make(image: &mut [u8], blocks: &mut [u16], anodes: &mut [u16], directory:
     })
 }
 
-/// Gives a file a new size, taking or giving back one block at a time.
+/// Gives a file a new size, taking one block at a time or giving back whole runs.
 pub fn resize(
     image: &mut [u8],
     blocks: &mut [u16],
@@ -374,9 +374,7 @@ pub fn resize(
         for _ in old_blocks..new_blocks {
             taken.push(space.take(head, Purpose::Data)?);
         }
-        for _ in new_blocks..old_blocks {
-            space.give_back(head)?;
-        }
+        space.shorten(head, old_blocks.saturating_sub(new_blocks) as usize)?;
         // More than four bytes hold is more than any disk has: a step was refused before.
         let new_size = u32::try_from(size).map_err(|_| 27u32)?;
 
@@ -429,13 +427,9 @@ pub fn remove(image: &mut [u8], blocks: &mut [u16], anodes: &mut [u16], director
         if entry.kind == DIRECTORY && entries(image, &survey.table, head).next().is_some() {
             return Err(25);
         }
-        let held = survey.table.chain_blocks(head).count();
 
         let mut space = Space::new(survey.table, survey.last_reserved);
-        for _ in 0..held {
-            space.give_back(head)?;
-        }
-        space.zero_chain(head);
+        space.dissolve(head)?;
 
         space.table.write(image);
         close_gap(block_mut(image, number), at, length);

@@ -5,9 +5,10 @@
 //!
 //! * `layout`: where the fields are.
 //! * `check`: the check, linear in blocks, anodes and entries.
-//! * [`naive`]: the same check by the words of the table, row by row and quadratic; it shares no code with the
-//!   other.
-//! * `space`: taking and giving back one block.
+//! * `space`: taking a block.
+//! * `giving`: giving back whole runs.
+//! * [`naive`]: the check by the words of the table, row by row and quadratic, and giving back on plain lists; it
+//!   shares no code with the others.
 //! * `calls`: the calls.
 //! * `bitmap`: free space as the hard disk edition's bitmap.
 //! * `report`: the shift report over many disks.
@@ -19,6 +20,7 @@
 mod bitmap;
 mod calls;
 mod check;
+mod giving;
 pub mod layout;
 mod library;
 mod locate;

@@ -1,5 +1,5 @@
-//! Taking and giving back one block. The steps work on a draft of the anode table, which is written to the image
-//! only when all steps of a change are done; a refused change throws the draft away.
+//! Taking a block. The steps of a change work on a draft of the anode table, which is written to the image only when
+//! all of them are done; a refused change throws the draft away.
 
 use super::layout::*;
 
@@ -22,7 +22,7 @@ enum Side {
 /// A draft of the anode table.
 pub struct Space {
     pub table: AnodeTable,
-    last_reserved: u16,
+    pub(super) last_reserved: u16,
 }
 
 impl Space {
@@ -101,80 +101,5 @@ impl Space {
 
     fn last_of(&self, head: u16) -> u16 {
         self.table.chain(head).last().map_or(head, |(number, _)| number)
-    }
-
-    /// Gives back the last block of the chain of `head`, if it has one; 28 if an anode is needed and none is
-    /// free.
-    pub fn give_back(&mut self, head: u16) -> Result<(), u32> {
-        let Some((before, extent)) = self.last_extent(head) else {
-            return Ok(());
-        };
-        let anode = self.table[extent];
-        let block = (anode.end() - 1) as u16;
-        if anode.count > 1 {
-            self.table[extent].count -= 1;
-        } else if extent == head {
-            self.table[extent] = Anode::empty(anode.next);
-        } else {
-            self.unlink(before, extent);
-        }
-        self.join(block)
-    }
-
-    /// The last extent with blocks of a chain, with its predecessor (the head has none and stands for it).
-    fn last_extent(&self, head: u16) -> Option<(u16, u16)> {
-        let mut before = head;
-        let mut found = None;
-        for (number, anode) in self.table.chain(head) {
-            if anode.count > 0 {
-                found = Some((before, number));
-            }
-            before = number;
-        }
-        found
-    }
-
-    /// Adds a block to its side of the free list.
-    fn join(&mut self, block: u16) -> Result<(), u32> {
-        let last = match block > self.last_reserved {
-            true => self.before_reserved(),
-            false => self.last_of(FREE_LIST),
-        };
-        let anode = self.table[last];
-        if last == FREE_LIST {
-            self.insert_after(last, block)
-        } else if anode.count == 0 {
-            self.table[last] = Anode::new(1, block, anode.next);
-            Ok(())
-        } else if anode.end() == usize::from(block) {
-            self.table[last].count += 1;
-            Ok(())
-        } else if usize::from(block) + 1 == usize::from(anode.block) {
-            self.table[last] = Anode::new(anode.count + 1, block, anode.next);
-            Ok(())
-        } else {
-            self.insert_after(last, block)
-        }
-    }
-
-    fn insert_after(&mut self, last: u16, block: u16) -> Result<(), u32> {
-        let fresh = self.free_anode()?;
-        self.table[fresh] = Anode::new(1, block, self.table[last].next);
-        self.table[last].next = fresh;
-        Ok(())
-    }
-
-    /// The predecessor of anode 2.
-    fn before_reserved(&self) -> u16 {
-        let before = self.table.chain(FREE_LIST).find(|(_, anode)| anode.next == RESERVED);
-        before.map_or(FREE_LIST, |(number, _)| number)
-    }
-
-    /// Zeroes the anodes of a chain.
-    pub fn zero_chain(&mut self, head: u16) {
-        let chain: Vec<u16> = self.table.chain(head).map(|(number, _)| number).collect();
-        for number in chain {
-            self.table[number] = Anode::ZERO;
-        }
     }
 }

@@ -144,6 +144,13 @@ fn complete(chains: &mut Chains, rng: &mut Rng) {
     }
 }
 
+/// Hangs empty anodes on the chain of 4 until the chains have so many anodes.
+pub(super) fn hang(chains: &mut Chains, anodes: usize, rng: &mut Rng) {
+    while chains.anodes() < anodes {
+        chains.bad.push(empty(rng));
+    }
+}
+
 /// Strews empty anodes into the chains, each costing one anode.
 pub(super) fn strew(chains: &mut Chains, empties: usize, rng: &mut Rng) {
     for _ in 0..empties {

@@ -7,7 +7,7 @@
 
 use std::collections::BTreeMap;
 
-use super::chains::{draw_chains, strew, Chains, Extent};
+use super::chains::{draw_chains, hang, strew, Chains, Extent};
 use super::outline::{Draft, Item, Outline};
 use super::recipe::Recipe;
 use super::writer::Writer;
@@ -64,6 +64,9 @@ impl Plan {
         let mut chains = draw_chains(recipe, &free.intervals(), outline.files, pool, rng)?;
         let spare = pool - chains.anodes();
         strew(&mut chains, recipe.empties.min(spare), rng);
+        if let Some(spare) = recipe.spare {
+            hang(&mut chains, pool.saturating_sub(spare), rng);
+        }
         Some(Plan { outline, slots, directory_blocks, chains })
     }
 

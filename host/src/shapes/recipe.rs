@@ -27,6 +27,8 @@ pub struct Recipe {
     pub cuts: usize,
     /// Empty anodes strewn into chains; as many as there are anodes for, if it is too many.
     pub empties: usize,
+    /// If told, all other anodes but so many hang empty on the chain of 4.
+    pub spare: Option<usize>,
     /// How many runs in a hundred stay free.
     pub free_percent: usize,
     /// How many runs in a hundred go to the chains of 3 and 4.
@@ -85,6 +87,7 @@ impl Recipe {
             files,
             cuts,
             empties,
+            spare: None,
             free_percent: *rng.pick(&[0, 10, 40, 80, 100]).unwrap_or(&40),
             special_percent: *rng.pick(&[0, 5, 30]).unwrap_or(&5),
             deal: if rng.percent(50) { Deal::Random } else { Deal::Round },
@@ -105,6 +108,7 @@ impl Recipe {
             files: 3_000,
             cuts: 2_999,
             empties: 0,
+            spare: None,
             free_percent: 0,
             special_percent: 0,
             deal: Deal::Round,
@@ -125,6 +129,7 @@ impl Recipe {
             files: 400,
             cuts: 2_500,
             empties: usize::MAX,
+            spare: None,
             free_percent: 25,
             special_percent: 4,
             deal: Deal::Random,

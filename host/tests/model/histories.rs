@@ -4,7 +4,9 @@ use ovenknit_host::bitmap::{self, BITMAP_BLOCK};
 use ovenknit_host::calls::{run, tables, Call, Outcome, Output, DIRECTORY, TOTALS, UNCOUNTED, UNREAD};
 use ovenknit_host::compare::{junk_tables, totals, Histogram};
 use ovenknit_host::histories::{head_of, random_call, Trend, NO_ANODE, REFUSALS};
-use ovenknit_host::model::layout::{self, AnodeTable, BLOCK};
+use ovenknit_host::met::{given_back, Met};
+use ovenknit_host::model::layout::{self, Anode, AnodeTable, BLOCK};
+use ovenknit_host::model::naive::giving;
 use ovenknit_host::model::{self, Model};
 use ovenknit_host::rng::{seeded, Rng};
 use ovenknit_host::shapes::{disk_blocks, shaped, Recipe, Shaped};
@@ -19,12 +21,13 @@ struct History {
     tree: Tree,
     rng: Rng,
     answers: Histogram,
+    met: Met,
 }
 
 impl History {
     fn new(disk: Shaped, seed: u64) -> Self {
         let Shaped { image, tree } = disk;
-        History { image, tree, rng: Rng::new(!seed), answers: Histogram::default() }
+        History { image, tree, rng: Rng::new(!seed), answers: Histogram::default(), met: Met::default() }
     }
 
     fn blocks(&self) -> usize {
@@ -41,7 +44,8 @@ impl History {
         let mut free = self.free_blocks();
         for _ in 0..calls {
             trend = trend.next(&mut self.rng);
-            let call = random_call(&self.tree, trend, self.blocks(), free, &mut self.rng);
+            let call = random_call(&self.image, &self.tree, trend, free, &mut self.rng);
+            self.met.note(&self.image, &self.tree, &call);
             self.call(&call);
             free = self.free_blocks();
         }
@@ -100,8 +104,12 @@ impl History {
         assert!(possible.contains(&answer), "{answer}, not one of {possible:?}, for {call:?}");
     }
 
-    /// What a call that only space can stop may answer, from counts of free blocks and free anodes alone.
+    /// What a call that only space can stop may answer: where it gives back, as worked out on lists, else from counts of
+    /// free blocks and free anodes alone.
     fn possible_answers(&self, call: &Call, before: &[u8]) -> Vec<u32> {
+        if let Some((_, outcome)) = given_back(before, &self.tree, call) {
+            return vec![outcome.answer];
+        }
         let table = AnodeTable::read(before);
         let anodes = table.existing().filter(|&number| number >= 6 && !table[number].in_use()).count();
         let free = model::totals(before).expect("the disk was accepted").free;
@@ -121,19 +129,9 @@ impl History {
             Call::Resize { directory, name, size } => {
                 let old = self.tree.size(*directory, name).div_ceil(BLOCK) as u64;
                 let new = size.div_ceil(BLOCK as u64);
-                match new.saturating_sub(old) {
-                    0 if old == new => vec![0],
-                    0 if anodes as u64 >= old - new => vec![0],
-                    0 => vec![0, 28],
+                match new - old {
                     blocks if blocks > free as u64 => vec![27, 28],
                     blocks if anodes as u64 >= blocks => vec![0],
-                    _ => vec![0, 28],
-                }
-            }
-            Call::Remove { directory, name } => {
-                let head = self.tree.find(*directory, name).map_or(0, |node| node.entry.anode);
-                match table.chain_blocks(head).count() {
-                    blocks if blocks <= anodes => vec![0],
                     _ => vec![0, 28],
                 }
             }
@@ -260,7 +258,20 @@ impl History {
         if !matches!(call, Call::Format { .. }) {
             self.compare_untouched(call, before, made);
         }
+        if let Some((_, outcome)) = given_back(before, &self.tree, call) {
+            self.compare_given(&outcome, before);
+        }
         self.tree.apply(call, made);
+    }
+
+    /// The free list, the chain and the free anodes are as worked out on lists, and all other anodes as they were.
+    fn compare_given(&self, outcome: &giving::Outcome, before: &[u8]) {
+        let (old, new) = (AnodeTable::read(before), AnodeTable::read(&self.image));
+        for number in old.existing() {
+            let given = outcome.anodes.get(&number);
+            let expected = given.map_or(old[number], |&(count, block, next)| Anode::new(count, block, next));
+            assert_eq!(new[number], expected, "anode {number} is not as worked out on lists");
+        }
     }
 
     /// Bytes that the change is not about are as they were: other blocks, what no rule examines in anode
@@ -335,44 +346,55 @@ fn compare_refused_report(before: &[u64; TOTALS], outcome: &Outcome) {
     assert_eq!((outcome.output.totals, outcome.output.disk), (totals, disk));
 }
 
-/// Runs histories from one kind of disk and gathers their answers.
-fn histories(start: Start, seeds: u64, calls: usize) -> Histogram {
-    let mut answers = Histogram::default();
+/// Runs histories from one kind of disk and gathers their answers, and what their shrinks and removals met.
+fn histories(start: Start, seeds: u64, calls: usize) -> (Histogram, Met) {
+    let (mut answers, mut met) = (Histogram::default(), Met::default());
     for mut case in seeded("histories", 0..seeds) {
         let mut history = History::new(start.disk(&mut case.rng), case.seed);
         history.go_on(calls);
         history.read_everything();
         answers.merge(&history.answers);
+        met.merge(&history.met);
     }
     answers.print(&format!("histories, {start:?}"));
-    answers
+    (answers, met)
 }
 
 #[test]
 fn histories_from_formatted_disks() {
-    let answers = histories(Start::Formatted, 80, 600);
+    let (answers, _) = histories(Start::Formatted, 80, 600);
     answers.assert_met(&REFUSALS);
     answers.assert_answered([28]);
 }
 
 #[test]
 fn histories_from_shaped_disks() {
-    let answers = histories(Start::Shaped, 250, 150);
+    let (answers, _) = histories(Start::Shaped, 250, 150);
     answers.assert_met(&REFUSALS);
-    answers.assert_met(&NO_ANODE);
+    answers.assert_met(&[(28, "make"), (28, "resize")]);
 }
 
+/// A removal is refused with 28 only where an upper part needs an anode (02, No. 3), which is rare here.
 #[test]
 fn histories_with_full_anode_tables() {
-    histories(Start::FullAnodes, 250, 100).assert_met(&NO_ANODE);
+    histories(Start::FullAnodes, 250, 100).0.assert_met(&[(28, "make"), (28, "resize")]);
+}
+
+/// Every way that a run can go back (02, No. 3).
+#[test]
+fn histories_with_few_anodes() {
+    let (answers, met) = histories(Start::FewAnodes, 3_000, 40);
+    answers.assert_met(&NO_ANODE);
+    met.print("histories with few anodes");
+    met.assert_all_met();
 }
 
 #[test]
 fn histories_on_full_disks() {
-    histories(Start::FullBlocks, 150, 100).assert_met(&[(27, "make"), (27, "resize")]);
+    histories(Start::FullBlocks, 150, 100).0.assert_met(&[(27, "make"), (27, "resize")]);
 }
 
 #[test]
 fn histories_on_larger_disks() {
-    histories(Start::Larger, 4, 120).assert_answered([0, 22]);
+    histories(Start::Larger, 4, 120).0.assert_answered([0, 22]);
 }

@@ -3,11 +3,11 @@
 use std::collections::BTreeMap;
 
 use ovenknit_host::calls::ROOT;
-use ovenknit_host::disk::Kind;
-use ovenknit_host::model;
+use ovenknit_host::disk::{Disk, Kind};
 use ovenknit_host::model::layout::{self, Anode, AnodeTable, ANODES};
+use ovenknit_host::model::{self, Model};
 use ovenknit_host::rng::{seeded, Rng};
-use ovenknit_host::shapes::{disk_blocks, shaped, Recipe, Shaped};
+use ovenknit_host::shapes::{disk_blocks, grown_in_turn, shaped, Recipe, Shaped, LONG_FILE};
 
 /// A count of what a few hundred shapes have.
 #[test]
@@ -87,4 +87,18 @@ fn the_disks_of_the_bench_are_what_they_say() {
     let table = AnodeTable::read(&image);
     let pieces = table.existing().filter(|&number| table[number].count > 0).count();
     assert!(pieces > 2_500, "only {pieces} pieces");
+}
+
+#[test]
+fn the_long_file_of_the_bench_is_what_it_says() {
+    let mut disk = Disk::<Model>::new(grown_in_turn());
+    let head = disk.find(ROOT, LONG_FILE).expect("the file is there").anode;
+    let table = AnodeTable::read(disk.image());
+    let extents: Vec<Anode> = table.chain(head).map(|(_, anode)| anode).collect();
+    assert_eq!((extents.len(), table.chain_blocks(head).count()), (1_500, 62_000));
+    assert!(extents.windows(2).all(|pair| pair[0].end() < usize::from(pair[1].block)), "two extents touch");
+    // The last upper anode of the free list touches none of them either: the other file's last block is between.
+    let last = table.chain(1).find(|(_, anode)| anode.next == 2).expect("2 is on the free list").1;
+    assert_eq!((last.count, last.end()), (34, 65_535));
+    assert_eq!(extents[1_499].end() + 1, usize::from(last.block));
 }

@@ -43,7 +43,7 @@ fn a_file_crosses_last_reserved<L: Library>() {
     // The same bytes in one extent from 5 to 19, of which last reserved is in the middle.
     disk.set(&[(7, (15, 5, 0)), (6, (0, 0, 0))]);
     assert_eq!(disk.read(b"f", 0, 512).1, data[5_120..5_632]);
-    // Given back one by one: 19 down to 10 go above, where nothing stands, 9 and 8 fill anode 2.
+    // Given back as two runs: 10 to 19 go above, where nothing stands, 8 and 9 fill anode 2.
     assert_eq!(disk.resize(b"f", 3 * 512), 0);
     assert_eq!((disk.anode(7), disk.anode(6), disk.anode(2)), ((3, 5, 0), (10, 10, 2), (2, 8, 0)));
     assert_eq!(disk.resize(b"f", 4 * 512), 0);

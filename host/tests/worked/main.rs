@@ -28,6 +28,7 @@ mod limits;
 mod looks;
 mod paper;
 mod report;
+mod runs;
 mod settings;
 mod space;
 mod stored;
