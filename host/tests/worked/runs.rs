@@ -5,7 +5,9 @@
 use std::collections::BTreeSet;
 
 use ovenknit_host::calls::{Call, Library, BLOCK, DIRECTORY, FILE, ROOT};
-use ovenknit_host::model::layout::{put_word, Anode, ENTRY_ANODE, ENTRY_TYPE, FIRST_ENTRY};
+use ovenknit_host::model::layout::{
+    put_word, Anode, DIRECTORY_MARK, DIRECTORY_OWNER, DIRECTORY_PARENT, ENTRY_ANODE, FIRST_ENTRY,
+};
 
 use crate::disk::Disk;
 
@@ -18,24 +20,41 @@ const FREE: (u16, u16, u16) = (0, 0, 0);
 /// A head that stays without blocks.
 const EMPTIED: (u16, u16, u16) = (0, 65_535, 0);
 
-/// A disk with these anodes besides 5, where so many others are free.
-fn disk_with_spare<L: Library>(blocks: usize, spare: &[u16], anodes: &[Numbered]) -> Disk<L> {
+/// A disk of so many blocks with these anodes besides 5, where f is of this kind. Of the anodes that are not mentioned only
+/// the spare ones are free.
+fn disk_of<L: Library>(kind: u8, blocks: usize, spare: &[u16], anodes: &[Numbered]) -> Disk<L> {
     let mut disk = Disk::<L>::format(blocks, 9, 1);
-    assert_eq!(disk.make(ROOT, FILE, b"f"), 0);
+    assert_eq!(disk.make(ROOT, kind, b"f"), 0);
     put_word(disk.block_mut(4), FIRST_ENTRY + ENTRY_ANODE, HEAD);
     disk.set(&[(6, FREE), (7, FREE)]);
     disk.set(anodes);
-    let size = disk.table().chain_blocks(HEAD).count() * BLOCK;
-    disk.set_size(size as u32);
+    let chain: Vec<u16> = disk.table().chain_blocks(HEAD).collect();
+    match kind {
+        DIRECTORY => chain.iter().for_each(|&block| head_directory_block(disk.block_mut(block))),
+        _ => disk.set_size((chain.len() * BLOCK) as u32),
+    }
     hang_blocks(&mut disk);
     hang_anodes(&mut disk, spare);
     assert_eq!(disk.check(), 0, "{anodes:?}");
     disk
 }
 
-/// The disk of 20 blocks on which no anode is free.
+/// Makes a block one of the directory f, without entries.
+fn head_directory_block(block: &mut [u8]) {
+    block.fill(0);
+    block[..2].copy_from_slice(&DIRECTORY_MARK);
+    put_word(block, DIRECTORY_OWNER, HEAD);
+    put_word(block, DIRECTORY_PARENT, ROOT);
+}
+
+/// The disk of 20 blocks where f is a file.
+fn with_spare<L: Library>(spare: &[u16], anodes: &[Numbered]) -> Disk<L> {
+    disk_of(FILE, 20, spare, anodes)
+}
+
+/// The same on which no anode is free.
 fn full<L: Library>(anodes: &[Numbered]) -> Disk<L> {
-    disk_with_spare(20, &[], anodes)
+    with_spare(&[], anodes)
 }
 
 /// Puts the blocks that nobody owns on the chain of 3, in 3 itself and in the highest free anodes.
@@ -51,16 +70,11 @@ fn hang_blocks<L: Library>(disk: &mut Disk<L>) {
             _ => runs.push(Anode::new(1, block as u16, 0)),
         }
     }
-    let mut before = None;
-    for run in runs {
-        let number = match before {
-            None => 3,
-            Some(_) => (6..82).rfind(|&number| table[number].is_free()).expect("an anode is free"),
-        };
-        table[number] = run;
-        if let Some(before) = before.replace(number) {
-            table[before].next = number;
-        }
+    let highest = (6..82).rev().filter(|&number| table[number].is_free());
+    let numbers: Vec<u16> = [3].into_iter().chain(highest).take(runs.len()).collect();
+    for (place, &run) in runs.iter().enumerate() {
+        let next = numbers.get(place + 1).copied().unwrap_or(0);
+        table[numbers[place]] = Anode { next, ..run };
     }
     table.write(&mut disk.image);
 }
@@ -109,7 +123,7 @@ fn refused<L: Library>(mut disk: Disk<L>, call: Call) {
 }
 
 fn a_long_file_is_removed_without_a_spare_anode<L: Library>() {
-    // Six extents apart from each other, of which 6 to 8 are on the lower side.
+    // Six extents apart from each other; 7 and 8 are on the lower side.
     let anodes = [
         (1, (0, 65_535, 2)),
         (2, (1, 5, 0)),
@@ -186,7 +200,7 @@ fn empty_anodes_of_a_removed_chain_are_zeroed_last<L: Library>() {
         (24, FREE),
         (50, (2, 10, 2)),
     ];
-    done(disk_with_spare::<L>(20, &[50], &anodes), remove(), &after);
+    done(with_spare::<L>(&[50], &anodes), remove(), &after);
     // Without any block, all of them are only zeroed.
     let anodes = [(1, (0, 65_535, 2)), (2, (5, 5, 0)), (20, (0, 77, 21)), (21, (0, 65_535, 0))];
     done(full::<L>(&anodes), remove(), &[(20, FREE), (21, FREE)]);
@@ -260,11 +274,11 @@ fn a_whole_extent_takes_its_anode_along_and_a_cut_piece_needs_one<L: Library>() 
     let after = [(1, (0, 65_535, 21)), (20, (2, 10, 0)), (21, (3, 14, 2))];
     done(full::<L>(&anodes), shrink(2), &after);
     // 21 itself goes, not the lower 7, which is free.
-    done(disk_with_spare::<L>(20, &[7], &anodes), shrink(2), &after);
+    done(with_spare::<L>(&[7], &anodes), shrink(2), &after);
     for blocks in [1, 3, 4] {
         refused(full::<L>(&anodes), shrink(blocks));
     }
-    let spare = || disk_with_spare::<L>(20, &[50, 60], &anodes);
+    let spare = || with_spare::<L>(&[50, 60], &anodes);
     let after = [(1, (0, 65_535, 50)), (21, (2, 14, 0)), (50, (1, 16, 2))];
     done(spare(), shrink(4), &after);
     let after = [(1, (0, 65_535, 50)), (21, (1, 14, 0)), (50, (2, 15, 2))];
@@ -283,11 +297,11 @@ fn the_head_stays_in_a_resize_and_moves_in_a_removal<L: Library>() {
     let anodes = [(1, (0, 65_535, 2)), (2, (5, 5, 0)), (20, (2, 12, 0))];
     refused(full::<L>(&anodes), shrink(0));
     let after = [(1, (0, 65_535, 50)), (20, EMPTIED), (50, (2, 12, 2))];
-    done(disk_with_spare::<L>(20, &[50, 60], &anodes), shrink(0), &after);
+    done(with_spare::<L>(&[50, 60], &anodes), shrink(0), &after);
     done(full::<L>(&anodes), remove(), &[(1, (0, 65_535, 20)), (20, (2, 12, 2))]);
     // 7 is free and lower, but it is the head that moves.
     let after = [(1, (0, 65_535, 20)), (20, (2, 12, 2))];
-    done(disk_with_spare::<L>(20, &[7], &anodes), remove(), &after);
+    done(with_spare::<L>(&[7], &anodes), remove(), &after);
     // The head's next is the free list's now; what came behind it is zeroed.
     let anodes = [(1, (0, 65_535, 2)), (2, (1, 5, 0)), (20, (2, 7, 21)), (21, (0, 300, 0))];
     done(full::<L>(&anodes), remove(), &[(2, (1, 5, 20)), (20, (2, 7, 0)), (21, FREE)]);
@@ -304,7 +318,7 @@ fn the_upper_part_of_a_crossing_extent_needs_an_anode<L: Library>() {
     let anodes = [(1, (0, 65_535, 2)), (2, (3, 5, 0)), (20, (4, 8, 0))];
     refused(full::<L>(&anodes), remove());
     let after = [(1, (0, 65_535, 50)), (2, (5, 5, 0)), (20, FREE), (50, (2, 10, 2))];
-    done(disk_with_spare::<L>(20, &[50], &anodes), remove(), &after);
+    done(with_spare::<L>(&[50], &anodes), remove(), &after);
     // With none to spare it goes where the upper part joins or fills; the anode serves the lower part, or is zeroed.
     for (six, after) in [((2, 12, 2), (4, 10, 2)), ((0, 300, 2), (2, 10, 2))] {
         let mut anodes = [(1, (0, 65_535, 6)), (2, (3, 5, 0)), (6, six), (20, (4, 8, 0))];
@@ -319,7 +333,7 @@ fn the_upper_part_of_a_crossing_extent_needs_an_anode<L: Library>() {
         [(1, (0, 65_535, 2)), (2, (2, 5, 0)), (20, (1, 13, 21)), (21, (4, 8, 22)), (22, (0, 300, 0))];
     refused(full::<L>(&anodes), shrink(1));
     let after = [(1, (0, 65_535, 50)), (2, (2, 5, 21)), (20, (1, 13, 22)), (21, (2, 8, 0)), (50, (2, 10, 2))];
-    done(disk_with_spare::<L>(20, &[50, 60], &anodes), shrink(1), &after);
+    done(with_spare::<L>(&[50, 60], &anodes), shrink(1), &after);
 }
 
 /// Reading 4: a cut piece or a kept head's run that crosses needs up to two anodes, the upper part's first.
@@ -327,9 +341,9 @@ fn a_run_without_an_anode_that_crosses_needs_two<L: Library>() {
     let anodes = [(1, (0, 65_535, 2)), (2, (1, 5, 0)), (20, (5, 7, 0))];
     for blocks in [0, 1] {
         refused(full::<L>(&anodes), shrink(blocks));
-        refused(disk_with_spare::<L>(20, &[50], &anodes), shrink(blocks));
+        refused(with_spare::<L>(&[50], &anodes), shrink(blocks));
     }
-    let spare = || disk_with_spare::<L>(20, &[50, 60], &anodes);
+    let spare = || with_spare::<L>(&[50, 60], &anodes);
     let free_list = [(1, (0, 65_535, 50)), (2, (1, 5, 60))];
     let after = [&free_list[..], &[(20, EMPTIED), (50, (2, 10, 2)), (60, (3, 7, 0))]].concat();
     done(spare(), shrink(0), &after);
@@ -339,24 +353,24 @@ fn a_run_without_an_anode_that_crosses_needs_two<L: Library>() {
     done(spare(), shrink(2), &after);
     // A cut at last reserved, or above it, is no crossing.
     let after = [(1, (0, 65_535, 50)), (20, (3, 7, 0)), (50, (2, 10, 2))];
-    done(disk_with_spare::<L>(20, &[50], &anodes), shrink(3), &after);
+    done(with_spare::<L>(&[50], &anodes), shrink(3), &after);
     let after = [(1, (0, 65_535, 50)), (20, (4, 7, 0)), (50, (1, 11, 2))];
-    done(disk_with_spare::<L>(20, &[50], &anodes), shrink(4), &after);
+    done(with_spare::<L>(&[50], &anodes), shrink(4), &after);
     // One anode is enough where one of the two joins or fills.
     let anodes = [(1, (0, 65_535, 6)), (6, (2, 12, 2)), (2, (1, 5, 0)), (20, (5, 7, 0))];
     let after = [(2, (1, 5, 50)), (6, (4, 10, 2)), (20, (1, 7, 0)), (50, (2, 8, 0))];
     refused(full::<L>(&anodes), shrink(1));
-    done(disk_with_spare::<L>(20, &[50], &anodes), shrink(1), &after);
+    done(with_spare::<L>(&[50], &anodes), shrink(1), &after);
     let anodes = [(1, (0, 65_535, 2)), (2, (2, 5, 0)), (20, (5, 7, 0))];
     let after = [(1, (0, 65_535, 50)), (2, (5, 5, 0)), (20, EMPTIED), (50, (2, 10, 2))];
     refused(full::<L>(&anodes), shrink(0));
-    done(disk_with_spare::<L>(20, &[50], &anodes), shrink(0), &after);
+    done(with_spare::<L>(&[50], &anodes), shrink(0), &after);
 }
 
 /// Reading 5: on 65,535 blocks the end of the last block's run is anode 1's block field, but anode 1 is never joined.
 fn anode_1_is_never_joined<L: Library>() {
     let anodes = [(1, (0, 65_535, 2)), (2, (5, 5, 0)), (20, (2, 65_533, 0))];
-    let disk = |spare: &[u16]| disk_with_spare::<L>(65_535, spare, &anodes);
+    let disk = |spare: &[u16]| disk_of::<L>(FILE, 65_535, spare, &anodes);
     refused(disk(&[]), shrink(1));
     let after = [(1, (0, 65_535, 6)), (6, (1, 65_534, 2)), (20, (1, 65_533, 0))];
     done(disk(&[6, 7]), shrink(1), &after);
@@ -370,7 +384,7 @@ fn an_anode_zeroed_by_the_call_serves_a_later_run<L: Library>() {
     // 9 fills 2, and 11, its anode, serves the cut piece, 21.
     let anodes = [(1, (0, 65_535, 2)), (2, (0, 65_535, 0)), (20, (2, 20, 11)), (11, (1, 9, 0))];
     let after = [(1, (0, 65_535, 11)), (2, (1, 9, 0)), (11, (1, 21, 2)), (20, (1, 20, 0))];
-    done(disk_with_spare::<L>(24, &[], &anodes), shrink(1), &after);
+    done(disk_of::<L>(FILE, 24, &[], &anodes), shrink(1), &after);
     // 14 joins 6, and 21, its anode, serves the upper part of the extent before it.
     let anodes = [(1, (0, 65_535, 6)), (6, (1, 15, 2)), (2, (3, 5, 0)), (20, (4, 8, 21)), (21, (1, 14, 0))];
     let after = [(2, (5, 5, 0)), (6, (2, 14, 21)), (20, FREE), (21, (2, 10, 2))];
@@ -382,7 +396,7 @@ fn an_anode_zeroed_by_the_call_serves_a_later_run<L: Library>() {
     for (spare, fresh) in [(12, 12), (30, 21)] {
         let anodes =
             [(1, (0, 65_535, 6)), (6, (1, 15, 2)), (2, (5, 5, 0)), (20, (2, 10, 21)), (21, (1, 14, 0))];
-        let disk = disk_with_spare::<L>(20, &[spare], &anodes);
+        let disk = with_spare::<L>(&[spare], &anodes);
         let mut after = vec![(6, (2, 14, fresh)), (fresh, (1, 11, 2)), (20, (1, 10, 0))];
         if fresh != 21 {
             after.push((21, FREE));
@@ -394,24 +408,6 @@ fn an_anode_zeroed_by_the_call_serves_a_later_run<L: Library>() {
 
 /// Reading 7: a removed directory's anodes go back like a file's.
 fn a_removed_directory_goes_back_like_a_file<L: Library>() {
-    let mut disk = Disk::<L>::format(20, 9, 1);
-    assert_eq!(disk.make(ROOT, DIRECTORY, b"f"), 0);
-    let with_directory = |anodes: &[Numbered], spare: &[u16]| {
-        let mut disk = disk.image.clone();
-        let blocks: Vec<u16> = directory_blocks(anodes);
-        for &block in &blocks {
-            disk.copy_within(5 * BLOCK..6 * BLOCK, usize::from(block) * BLOCK);
-            put_word(&mut disk[usize::from(block) * BLOCK..], 12, HEAD);
-        }
-        let mut disk = Disk::<L>::new(disk);
-        put_word(disk.block_mut(4), FIRST_ENTRY + ENTRY_ANODE, HEAD);
-        disk.set(&[(6, FREE), (7, FREE)]);
-        disk.set(anodes);
-        hang_blocks(&mut disk);
-        hang_anodes(&mut disk, spare);
-        assert_eq!((disk.check(), disk.block(4)[FIRST_ENTRY + ENTRY_TYPE]), (0, DIRECTORY));
-        disk
-    };
     // Blocks on both sides, each in an anode of its own; 15 and 16 join.
     let anodes = [
         (1, (0, 65_535, 2)),
@@ -431,13 +427,9 @@ fn a_removed_directory_goes_back_like_a_file<L: Library>() {
         (23, (1, 8, 0)),
         (24, FREE),
     ];
-    done(with_directory(&anodes, &[]), remove(), &after);
-    done(with_directory(&anodes, &[7, 50]), remove(), &after);
-}
-
-/// The blocks of the chain from the head on.
-fn directory_blocks(anodes: &[Numbered]) -> Vec<u16> {
-    anodes.iter().filter(|(number, _)| *number >= HEAD).map(|(_, (_, block, _))| *block).collect()
+    for spare in [&[][..], &[7, 50]] {
+        done(disk_of::<L>(DIRECTORY, 20, spare, &anodes), remove(), &after);
+    }
 }
 
 both!(
