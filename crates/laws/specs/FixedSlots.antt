@@ -1,11 +1,12 @@
 -- Without growth, steps leave the slots, and no block becomes the system's.
 use Prim.Native.Nat.{ℕ, _+_}
 use mathlib.Core.Path.{_≡_, refl, sym, ap, _∙_}
-use mathlib.Core.Logic.{inl, inr}
+use mathlib.Core.Logic.{_≢_, inl, inr}
 use mathlib.Core.Bool.{Bool, true, false}
 use mathlib.Core.List.{List, []}
 use native.Mathlib.Omega.{arith}
 use borrow.Author.Tests.{lt-ltb}
+use lib.ListN.{length}
 use Rattle.rules.specs.Counting.{occurrences}
 use Rattle.rules.specs.Anodes.{Anodes, limit}
 use Rattle.rules.specs.Chains.{systemBy}
@@ -14,6 +15,9 @@ use Rattle.rules.specs.Space.{needAnode, sideEnd, joinWith, moveBack, withSpare
 use Rattle.rules.specs.Changes.{neededBlock}
 use Rattle.laws.specs.Plans.{refused≢planned, planned-same, then-planned, repeated-kept, slots-planned, afresh-planned}
 use Rattle.laws.specs.Tests.{eqb-cases}
+use Rattle.laws.specs.Sums.{oneAt-same, oneAt-other}
+use Rattle.laws.specs.Bags.{pigeonhole}
+use Rattle.laws.specs.Blocks.{blocks}
 use Rattle.laws.specs.FreeExtent.{take-cases}
 use Rattle.laws.specs.Moves.{Moved}
 use Rattle.laws.specs.Take.{StartOwned}
@@ -31,6 +35,13 @@ none-got slots slots′ gs got e x = let r : systemBy slots x ≡ systemBy slots
 -- and so steps that leave them
 pub none-grown : {A n last : ℕ} {s t : Slotted} {system hd : ℕ → ℕ} {from to h : ℕ} {ys gs : List ℕ} → Moved A n last s system hd from to h ys gs t → t .slots ≡ s .slots → (x : ℕ) → occurrences x gs ≡ 0
 none-grown {s = s} {t} {gs = gs} w e x = none-got (s .slots) (t .slots) gs (w .system-got) e x
+
+-- where blocks have gone from the free list to the chain of h and the slots stay, the free blocks and those that have gone are the free ones of before
+pub taken-sum : {A n last : ℕ} {s t : Slotted} {system hd : ℕ → ℕ} {h : ℕ} {ys gs : List ℕ} → (w : Moved A n last s system hd 1 h h ys gs t) → h ≢ 1 → t .slots ≡ s .slots →
+    blocks A (w .hd′) (t .anodes .count) 1 + length ys ≡ blocks A hd (s .anodes .count) 1
+taken-sum {gs = gs} w h1 e =
+    let none = none-grown w e in
+    omega (arith, rw (oneAt-same 1 1 refl, oneAt-other _ 1 h1) at (w .moved 1), pigeonhole gs 0 (λ x l. none x) (λ x. omega (arith, none x)))
 
 fixed-afresh : (step : (ℕ → Bool) → Anodes → Plan Anodes) (s t : Slotted) (ys : List ℕ) → afresh noGrowth step s ≡ planned t ys → t .slots ≡ s .slots
 fixed-afresh step s t ys e = elim (afresh-planned noGrowth step s t ys e) [

@@ -47,6 +47,7 @@ pub mod TakenBlocks
 pub mod GivenBlocks
 pub mod ChainGone
 pub mod RefusedRuns
+pub mod RefusedTakes
 pub mod OwnBlock
 pub mod Orphan
 pub mod DirectoryTakes
