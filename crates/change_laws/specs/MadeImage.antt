@@ -18,6 +18,7 @@ use Rattle.rules.specs.Anodes.{Anodes, limit, exists, anodesOf, withAnodes}
 use Rattle.rules.specs.Chains.{chainOf, run, blocksOf}
 use Rattle.rules.specs.Walk.{Dir, Entered, entriesFrom, entriesIn, isBlockOf, reachedDirs}
 use Rattle.rules.specs.Plans.{Slotted}
+use Rattle.rules.specs.Totals.{freeBlocks}
 use Rattle.rules.specs.Format.{newDirectoryBlock}
 use Rattle.rules.specs.Changes.{withBlocks, entriesEnd, noRoom, parentOf, entryStart, NewEntry, entryOf, madeImage}
 use Rattle.laws.specs.Tests.{not-above}
@@ -41,7 +42,7 @@ use Rattle.change_laws.specs.FoundEntries.{enteredAt, end-bounds}
 use Rattle.change_laws.specs.Reached.{DirBlock, reached-not-1, dir-block}
 use Rattle.change_laws.specs.SingleBlocks.{single-used, single-apart, single-data}
 use Rattle.change_laws.specs.NewEntry.{entries-put, head-put, end-new, room-found}
-use Rattle.change_laws.specs.MakePlan.{OrphanedOn, Fresh, fresh-free, MakeSteps, ParentGrown, MadePlan, made-plan, made-orphan}
+use Rattle.change_laws.specs.MakePlan.{OrphanedOn, Fresh, fresh-free, MakeSteps, ParentGrown, MadePlan, made-plan, made-orphan, steps-sum}
 
 -- where one directory alone has the head h, its parent is found
 parents-right : (h : ℕ) (l : List Dir) → headed h l ≡ 1 → Each (λ d. d .head ≡ h → d .parent ≡ parentOf l h) l
@@ -294,6 +295,12 @@ module _ {img : List ℕ} {h : ℕ} {new : NewEntry} {f : ℕ} {room : Option �
 
   pub made-disk : DiskWith img t j
   made-disk = disk-then before-disk entry-kept (not-one spot-data)
+
+  -- the free blocks of the image that a make leaves and the blocks that it took, the new directory's own and the parent's, are the free blocks of the image before
+  pub made-sum : freeBlocks (anodesOf (madeImage img (anodesOf img) h new f room ys u zs)) + (length ys + length zs) ≡ freeBlocks (anodesOf img)
+  made-sum =
+      ap (λ (a : Anodes). freeBlocks a + (length ys + length zs)) (made-disk .anodes)
+      ∙ steps-sum img w f (m .fresh .below) spare h once (new .dir) (m .steps .between) ys (m .steps .own) (noRoom room) u zs (m .steps .parent)
 
   pub entries-made : entriesIn j (t .block (spot .anode)) ≡ entriesIn before (t .block (spot .anode)) ++ (entered ∷ [])
   unfolding entriesIn entryOf goodComment

@@ -1,5 +1,5 @@
 -- The anodes that a make plans: a fresh head, a block of its own for a directory, and a block for the parent where it has no room.
-use Prim.Native.Nat.{ℕ, _<_}
+use Prim.Native.Nat.{ℕ, _+_, _<_}
 use mathlib.Core.Path.{_≡_, refl, sym, ap, _∙_, subst}
 use mathlib.Core.Logic.{_≢_, inl, inr}
 use mathlib.Core.Bool.{Bool, true, false, cond, true≢false}
@@ -7,6 +7,7 @@ use mathlib.Core.List.{List, [], _∷_, _++_, map, append-nil}
 use mathlib.Core.Option.{Option}
 use native.Mathlib.Omega.{arith}
 use lib.Dec.{T}
+use lib.ListN.{length}
 use Rattle.disk.specs.Root.{slotOf}
 use Rattle.rules.specs.Counting.{occurrences, changed}
 use Rattle.rules.specs.Anodes.{Anodes, limit, exists, anodesOf}
@@ -15,21 +16,25 @@ use Rattle.rules.specs.Walk.{Dir, Entered}
 use Rattle.rules.specs.Accepted.{diskSize, lastReserved}
 use Rattle.rules.specs.Plans.{Slotted, slotted, tableOf, planned, noGrowth}
 use Rattle.rules.specs.Space.{rewritten, free, lowestFree}
+use Rattle.rules.specs.Totals.{freeBlocks}
 use Rattle.rules.specs.Changes.{firstRoom, noRoom, headMade, neededBlock}
-use Rattle.laws.specs.Tests.{same?}
+use Rattle.laws.specs.Tests.{same?, not-above}
 use Rattle.laws.specs.Sums.{oneAt-cases, oneAt-same, oneAt-other, oneAt-le, changed-same, changed-other, least-cases}
 use Rattle.laws.specs.Bags.{occurrences-nil, occurrences-cons, occurrences-append}
 use Rattle.laws.specs.Heads.{Head, head-of-is, occurrences-on-chain}
-use Rattle.laws.specs.Space.{FreeAnode, free-is, good-more}
+use Rattle.laws.specs.Blocks.{blocks, blocks-fresh}
+use Rattle.laws.specs.Space.{Good, FreeAnode, free-is, good-more, head-1}
+use Rattle.laws.specs.Owners.{full-used}
 use Rattle.laws.specs.Plans.{planned-same}
 use Rattle.laws.specs.Take.{Takes, take-steps, takes-moved}
 use Rattle.laws.specs.Moves.{Shift, shift-none, none-grows, Moved}
-use Rattle.laws.specs.FixedSlots.{start-owned, needed-slots}
+use Rattle.laws.specs.FixedSlots.{start-owned, needed-slots, taken-sum}
 use Rattle.laws.specs.Frame.{shift-chain}
 use Rattle.laws.specs.Each.{Each}
 use Rattle.laws.specs.OwnBlock.{own-filled}
 use Rattle.laws.specs.Orphan.{Orphaned, orphan-good, not-dir, orphan-changed}
 use Rattle.laws.specs.DirectoryTakes.{find-headed, dir-head, dir-not-1, dir-taken, directory-takes}
+use Rattle.laws.specs.Whole.{blocks-count}
 use Rattle.laws.specs.Make.{SameContents, contents-unchanged, fresh-stays, fresh-chain, fresh-orphan}
 use Rattle.laws.specs.Items.{headed}
 use Rattle.change_laws.specs.Image.{GoodOn, WholeWith, ReachedDir}
@@ -85,6 +90,11 @@ pub record MadePlan (img : List ℕ) (s : Anodes) (hd : ℕ → ℕ) (f h : ℕ)
   pub own-blocks : ys ≡ cond dir (t .block f ∷ []) []
   pub grown : ParentGrown s hd h needed zs t
   pub not-own : (a : ℕ) → 0 < occurrences a (grown .new) → a ≢ f
+
+-- the free blocks of a good state, as the table of heads has them
+free-count : {ex : ℕ → Bool} {n last : ℕ} {s : Anodes} {system hd sd : ℕ → ℕ} → Good limit ex n last s system hd sd → blocks limit hd (s .count) 1 ≡ freeBlocks s
+unfolding freeBlocks
+free-count g = blocks-count g 1 (head-1 g)
 
 module _ (img : List ℕ) {s : Anodes} {hd sd : ℕ → ℕ} {entries : ℕ → List Entered} {marked : Dir → ℕ → Bool} {dirs : List Dir}
     (w : WholeWith img s hd sd entries marked dirs)
@@ -148,6 +158,21 @@ module _ (img : List ℕ) {s : Anodes} {hd sd : ℕ → ℕ} {entries : ℕ → 
         blocks = q .1 ∙ ap (λ (y : ℕ). y ∷ []) (sym (q .2 .at));
       }
   own-step false t ys e = let q = planned-same (slotted begun (slotOf img)) t [] ys e in rw (sym (q .0), q .1) own-none
+
+  -- the fresh head takes none of the free blocks
+  begun-free : freeBlocks begun ≡ freeBlocks s
+  unfolding rewritten
+  begun-free =
+      let none : s .count f ≡ 0 = not-above (s .count f) (λ p. full-used (w .good) f p (is-free .unused)) in
+      omega (arith, free-count (orphan .good), free-count (w .good), blocks-fresh limit hd (s .count) f f 0 fA none 1)
+
+  -- the free blocks and the own block are the free ones of before
+  own-sum : (dir : Bool) (t : Slotted) (ys : List ℕ) → neededBlock noGrowth dir f (headMade (slotted s (slotOf img)) f) ≡ planned t ys → freeBlocks (t .anodes) + length ys ≡ freeBlocks s
+  unfolding neededBlock
+  own-sum true t ys e =
+      let m = takes-moved f (orphan .head) fresh-not-1 (own-takes t ys e) in
+      omega (arith, taken-sum m fresh-not-1 (needed-slots true f (slotted begun (slotOf img)) t ys e), free-count (m .good), free-count (orphan .good), begun-free)
+  own-sum false t ys e = let q = planned-same (slotted begun (slotOf img)) t [] ys e in rw (sym (q .0), q .1) (omega (arith, begun-free))
 
   -- ---- the parent's block
 
@@ -310,3 +335,11 @@ module _ (img : List ℕ) {s : Anodes} {hd sd : ℕ → ℕ} {entries : ℕ → 
         let o′ = owned entries′ marked′ same in
         let w = takes-moved h (dir-head o′ h reached) (dir-not-1 o′ h reached) k in
         (w .hd′, w .sd′, orphan-good (moves-good img w own-slots (needed-slots true h R t zs e)) (directory-takes o′ h reached k empty its))
+
+    -- the free blocks and those that the steps took, the own and the parent's, are the free ones of before
+    pub steps-sum : (needed : Bool) (t : Slotted) (zs : List ℕ) → neededBlock noGrowth needed h R ≡ planned t zs → freeBlocks (t .anodes) + (length ys + length zs) ≡ freeBlocks s
+    unfolding neededBlock
+    steps-sum true t zs e =
+        let m = parent-moved t zs e .1 in
+        omega (arith, taken-sum m (dir-not-1 o h reached) (needed-slots true h R t zs e), free-count (m .good), free-count (step .good), own-sum dir R ys own)
+    steps-sum false t zs e = let q = planned-same R t [] zs e in rw (sym (q .0), q .1) (omega (arith, own-sum dir R ys own))

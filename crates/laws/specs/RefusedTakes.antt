@@ -17,7 +17,7 @@ use Rattle.laws.specs.Blocks.{blocks}
 use Rattle.laws.specs.Space.{Good, head-1}
 use Rattle.laws.specs.Owners.{blocks-chain}
 use Rattle.laws.specs.Plans.{refused-same, planned≢refused, then-refused, repeated-next, repeated-stop, repeated-none, repeated-done}
-use Rattle.laws.specs.Moves.{withThese, Grows, none-grows, Moved}
+use Rattle.laws.specs.Moves.{Grows, none-grows, Moved}
 use Rattle.laws.specs.FreeExtent.{extent-found, take-nowhere, take-cases}
 use Rattle.laws.specs.Arriving.{NeedsAnode}
 use Rattle.laws.specs.Take.{StartOwned, withoutFirst-out}
