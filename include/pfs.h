@@ -311,7 +311,9 @@ uint32_t pfs_make(uint8_t *image, size_t image_len, uint16_t *blocks, size_t blo
                   size_t comment_len, uint16_t day, uint16_t minute, uint16_t tick, uint8_t protection);
 
 /* Gives a file a size in bytes. Bytes that come new are 0; the stamp stays. Answers also 21, 22, 24, 27, 28. A size that no
- * disk can hold is refused by 27 or 28, whichever step fails first. */
+ * disk can hold is refused by 27 or 28, whichever step fails first. Blocks go back in whole runs; 28 comes to a smaller size
+ * only where a run that the file's own anodes cannot carry (part of an extent, or the blocks of its first anode) joins
+ * nothing on the free list, and no anode is free. */
 uint32_t pfs_resize(uint8_t *image, size_t image_len, uint16_t *blocks, size_t blocks_len, uint16_t *anodes,
                     size_t anodes_len, uint16_t directory, const uint8_t *name, size_t name_len, uint64_t size);
 
@@ -320,7 +322,8 @@ uint32_t pfs_write(uint8_t *image, size_t image_len, uint16_t *blocks, size_t bl
                    uint16_t directory, const uint8_t *name, size_t name_len, uint64_t offset, const uint8_t *data,
                    size_t data_len);
 
-/* Removes a file or an empty directory. Answers also 21, 22, 25, 28. */
+/* Removes a file or an empty directory. Answers also 21, 22, 25, 28. Its blocks go back with its own anodes; 28 comes only
+ * where an extent of it lies across the last reserved block and no anode is free for the upper part. */
 uint32_t pfs_remove(uint8_t *image, size_t image_len, uint16_t *blocks, size_t blocks_len, uint16_t *anodes,
                     size_t anodes_len, uint16_t directory, const uint8_t *name, size_t name_len);
 
