@@ -5,6 +5,7 @@
 //!   says what such a disk should be like, `outline` and `chains` are parts of the plan, `writer` writes it.
 //! * [`accepted`]: one or the other.
 //! * [`grown_in_turn`]: a long file in many extents.
+//! * [`one_free_anode`]: a disk whose only free anode is the last of all.
 //! * [`random_bytes`]: junk, mostly with a root block that may pass.
 //! * [`Damager`]: accepted disks with a fault aimed at one refusal number, and disks with random damage.
 
@@ -81,6 +82,31 @@ fn grow_in_turn() -> Result<Vec<u8>, Error> {
         disk.resize(ROOT, other, (turn + 1) * BLOCK as u64)?;
     }
     Ok(disk.into_image())
+}
+
+/// A disk of 1,760 blocks with anodes in slots 0 and 41 alone, of which only the last is free. The others that hold
+/// nothing hang on the chain of bad blocks.
+pub fn one_free_anode() -> Vec<u8> {
+    let formatted = Disk::<Model>::format(1_760, &Format::new(63, 2, b"disk"));
+    let mut image = formatted.expect("the disk can be formatted").into_image();
+    let number = slots(&image)[1];
+    let root = block_mut(&mut image, ROOT_BLOCK);
+    put_word(root, ROOT_SLOTS + 2, 0);
+    put_word(root, ROOT_SLOTS + 2 * (SLOTS - 1), number);
+    put_word(block_mut(&mut image, number), ANODE_SEQUENCE, SLOTS as u16 - 1);
+    let mut table = AnodeTable::read(&image);
+    let last = ANODES as u16 - 1;
+    let unused: Vec<u16> =
+        table.existing().filter(|&a| (FIRST_USER..last).contains(&a) && !table.in_use(a)).collect();
+    let mut before = BAD_BLOCKS;
+    table[before] = Anode::empty(0);
+    for number in unused {
+        table[before].next = number;
+        table[number] = Anode::empty(0);
+        before = number;
+    }
+    table.write(&mut image);
+    image
 }
 
 /// A number of blocks: mostly few, at times many, never more than `most`.

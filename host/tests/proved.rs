@@ -4,14 +4,15 @@
 use std::collections::BTreeSet;
 use std::env;
 
-use ovenknit_host::calls::{tables, Call, BLOCK, ROOT};
+use ovenknit_host::calls::{tables, Call, Stamp, BLOCK, FILE, ROOT};
 use ovenknit_host::compare::{compare, junk_tables, Histogram, History};
 use ovenknit_host::ffi::Proved;
 use ovenknit_host::histories::{random_call, Trend, NO_ANODE, REFUSALS};
 use ovenknit_host::met::Met;
 use ovenknit_host::rng::{seeded, Rng};
 use ovenknit_host::shapes::{
-    accepted, formatted, grown_in_turn, random_bytes, shaped, Damager, Recipe, Shaped, LONG_FILE,
+    accepted, formatted, grown_in_turn, one_free_anode, random_bytes, shaped, Damager, Recipe, Shaped,
+    LONG_FILE,
 };
 use ovenknit_host::starts::Start;
 
@@ -159,6 +160,19 @@ fn a_long_file_goes_back_like_the_model() {
     for call in &calls {
         assert_eq!(compare::<Proved>(call, &mut image, &mut blocks, &mut anodes).answer, 0, "{call:?}");
     }
+}
+
+/// The search for a free anode finds the last of all behind 40 empty slots, and then none.
+#[test]
+fn the_only_free_anode_is_found_like_the_model() {
+    let mut image = one_free_anode();
+    let (mut blocks, mut anodes) = tables(&image);
+    for (name, answer) in [(b"one", 0), (b"two", 28)] {
+        let (name, comment, stamp) = (name.to_vec(), Vec::new(), Stamp::default());
+        let call = Call::Make { directory: ROOT, kind: FILE, name, comment, stamp, protection: 0 };
+        assert_eq!(compare::<Proved>(&call, &mut image, &mut blocks, &mut anodes).answer, answer, "{call:?}");
+    }
+    assert_eq!(anodes[3_443], 3_443, "the new head is the last anode");
 }
 
 /// Every call on images that are damaged or too small: the check's number, and tables to match.

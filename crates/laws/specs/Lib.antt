@@ -20,6 +20,7 @@ pub mod Passes
 pub mod TestsPassed
 pub mod Owners
 pub mod Searches
+pub mod SlotSearch
 pub mod Plans
 pub mod Moves
 pub mod Leaving

@@ -17,6 +17,7 @@ use Rattle.rules.specs.Chains.{chainOf, blocksOf}
 use Rattle.rules.specs.Lookup.{noDirectory}
 use Rattle.rules.specs.Plans.{Slotted, slotted, tableOf, noGrowth, atSlots}
 use Rattle.rules.specs.Space.{rewritten, lowestFree, needAnode, withSpare}
+use Rattle.rules.specs.Searched.{searchedTo, searched}
 use Rattle.rules.specs.Tables.{anodeTable}
 use Rattle.rules.specs.Changes.{firstRoom, noRoom, neededBlock, entryStart, NewEntry, headMade, madeImage, roomFor, made}
 use Rattle.laws.specs.Bags.{occurrences-member}
@@ -24,6 +25,7 @@ use Rattle.laws.specs.Links.{Linked}
 use Rattle.laws.specs.OwnerTable.{setAll, fresh-owner}
 use Rattle.laws.specs.Plans.{afresh-fixed}
 use Rattle.anodes.specs.Loaded.{anodesFrom, slotsFrom, Loaded}
+use Rattle.searches.proofs.Searches.{anode-found}
 use Rattle.edits.specs.Entries.{OneBlockEach}
 use Rattle.change_laws.specs.Image.{ReachedDir}
 use Rattle.change_laws.specs.Reached.{dir-block}
@@ -39,8 +41,8 @@ use Rattle.making.proofs.Steps.{no-block, one-block, step-shows, free-f
 
 module _ {img counts firsts nexts : List ℕ} (l : Loaded img counts firsts nexts) where
   -- the lowest free anode in the tables is the image's
-  pub lowest-is : (slots : List ℕ) → slotsFrom slots ≡ slotOf img → (f : ℕ) → ((c n : List ℕ) → f ≡ lowestFree 3444 (existsBy (slotsFrom slots)) (anodesFrom c firsts n)) → lowestFree limit (exists img) (anodesOf img) ≡ f
-  lowest-is slots held f e = sym (e counts nexts ∙ rw (held, l .is-loaded))
+  pub lowest-is : (slots : List ℕ) → slotsFrom slots ≡ slotOf img → (f m : ℕ) → ((c n : List ℕ) → searchedTo f m ≡ searched 3444 (existsBy (slotsFrom slots)) (anodesFrom c firsts n)) → lowestFree limit (exists img) (anodesOf img) ≡ f
+  lowest-is slots held f m e = sym (anode-found 3444 (existsBy (slotsFrom slots)) (anodesFrom counts firsts nexts) f m (e counts nexts) ∙ rw (held, l .is-loaded))
 
   -- and with it as an empty head the tables hold the anodes that the steps start from
   pub begun-is : (slots : List ℕ) → slotsFrom slots ≡ slotOf img → (f : ℕ) (s : Anodes) → s ≡ rewritten (anodesFrom counts firsts nexts) f 0 65535 → slotted s (slotsFrom slots) ≡ headMade (tableOf img) f

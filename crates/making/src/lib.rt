@@ -140,7 +140,7 @@ fn plan_make(
     ensures { λ r. ⌜ PlanOf r (now (image .entry)) (isDir kind) len (head .0) (slotted (anodesFrom (now (counts .exit)) (now (firsts .exit)) (now (nexts .exit))) (slotOf (now (image .entry)))) ⌝ }
 {
     let slots = slots_of(image);
-    let fresh = lowest_free(&slots, firsts);
+    let fresh = lowest_free(&slots, firsts).anode;
     if 3444 <= fresh.0 {
         return Planned::Stopped(Refusal::NoFreeAnode);
     }

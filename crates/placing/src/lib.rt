@@ -103,7 +103,7 @@ fn append(
     ensures plan { λ r. ⌜ stepPlan r count (anodesFrom (now (counts .exit)) (now (firsts .exit)) (now (nexts .exit))) ≡ append 3444 (existsBy (slotsFrom (now (slots .entry)))) (anodesFrom (now (counts .entry)) (now (firsts .entry)) (now (nexts .entry))) (z .0) count (first .0) ⌝ }
     ensures unmoved { λ r. ⌜ UnlessMoved r (anodesFrom (now (counts .entry)) (now (firsts .entry)) (now (nexts .entry))) (anodesFrom (now (counts .exit)) (now (firsts .exit)) (now (nexts .exit))) ⌝ }
 {
-    let f = lowest_free(slots, firsts);
+    let f = lowest_free(slots, firsts).anode;
     if 3444 <= f.0 {
         return Step::Refused(Refusal::NoFreeAnode);
     }

@@ -8,6 +8,7 @@ pub mod Tables
 pub mod Lookup
 pub mod Plans
 pub mod Space
+pub mod Searched
 pub mod Format
 pub mod Changes
 pub mod Calls

@@ -1,3 +1,4 @@
 -- Facts that the checker computes.
 pub mod Disks
 pub mod Formatted
+pub mod Search

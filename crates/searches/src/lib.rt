@@ -2,16 +2,17 @@
 ghost use mathlib.Core.Bool.{cond};
 ghost use mathlib.Core.List.{List};
 ghost use mathlib.Core.Path.{_≡_};
-ghost use Prim.Native.Nat.{ℕ};
+ghost use Prim.Native.Nat.{ℕ, _-_, _≤_, _<_};
 ghost use lib.ListN.{getD};
 ghost use Rattle.rules.specs.Counting.{lastOf};
 ghost use Rattle.disk.specs.Root.{slotOf};
 ghost use Rattle.rules.specs.Anodes.{existsBy};
 ghost use Rattle.rules.specs.Chains.{chainOf, cut};
 ghost use Rattle.rules.specs.Accepted.{lastReserved};
-ghost use Rattle.rules.specs.Space.{firstExtent, freeExtent, sideOf, lowestFree};
+ghost use Rattle.rules.specs.Space.{firstExtent, freeExtent, sideOf};
+ghost use Rattle.rules.specs.Searched.{searchedTo, searched, slotStart, throughUsed, throughSlots};
 ghost use Rattle.anodes.specs.Loaded.{anodesFrom, slotsFrom};
-ghost use Rattle.searches.specs.Found.{freeIn, foundOf};
+ghost use Rattle.searches.specs.Found.{foundOf, searchedOf};
 use disk::AnodeNo;
 use disk::BlockNo;
 use disk::block_part;
@@ -25,6 +26,12 @@ pub enum Extent {
     At(AnodeNo, AnodeNo),
 }
 
+// Where the search for a free anode stops, and how many anodes it has read.
+pub struct Searched {
+    pub anode: AnodeNo,
+    pub read: u16,
+}
+
 // The blocks that the 42 slots of an image hold.
 pub fn slots_of(image: &[u8]) -> [u16; 42]
     ensures { λ r. ⌜ slotsFrom r ≡ slotOf (now (image .entry)) ⌝ }
@@ -36,26 +43,68 @@ pub fn slots_of(image: &[u8]) -> [u16; 42]
     slots
 }
 
-// Whether anode `a` exists and is free.
-fn is_free(slots: &[u16], firsts: &[u16], a: AnodeNo) -> bool
-    ensures { λ r. ⌜ r ≡ freeIn (now (slots .entry)) (now (firsts .entry)) (a .0) ⌝ }
+// The first anode of slot `k` that is looked at: 6 in slot 0.
+fn slot_start(k: u16) -> u16
+    requires { ⌜ k < 42 ⌝ }
+    ensures { λ r. ⌜ r ≡ slotStart k ⌝ }
 {
-    if entry(firsts, a.0 as usize) != 0 {
-        return false;
+    if k == 0 {
+        return 6;
     }
-    entry(slots, (a.0 as usize) / 82) != 0
+    k * 82
 }
 
-// The lowest free anode from 6 up, or 3,444 where there is none.
-pub fn lowest_free(slots: &[u16], firsts: &[u16]) -> AnodeNo
-    ensures { λ r. ⌜ ((c n : List ℕ) → r .0 ≡ lowestFree 3444 (existsBy (slotsFrom (now (slots .entry)))) (anodesFrom c (now (firsts .entry)) n)) ⌝ }
+// Looks at the anodes of a used slot, from `from` up, until the first free one; none: it stops at `end`.
+fn search_used(firsts: &[u16], from: u16, end: u16) -> Searched
+    requires { ⌜ from ≤ end ⌝ }
+    ensures { λ r. ⌜ ((c n : List ℕ) → searchedOf r ≡ throughUsed (anodesFrom c (now (firsts .entry)) n) (end - from) from (searchedTo end 0)) ⌝ }
 {
-    for a in 6..3444 {
-        if is_free(slots, firsts, AnodeNo(a)) {
-            return AnodeNo(a);
+    for a in from..end {
+        if entry(firsts, a as usize) == 0 {
+            return Searched {
+                anode: AnodeNo(a),
+                read: a - from + 1,
+            };
         }
     }
-    AnodeNo(3444)
+    Searched {
+        anode: AnodeNo(end),
+        read: end - from,
+    }
+}
+
+// Searches slot `k`: an empty one is passed by one test.
+fn search_slot(slots: &[u16], firsts: &[u16], k: u16) -> Searched
+    requires { ⌜ k < 42 ⌝ }
+    ensures { λ r. ⌜ ((c n : List ℕ) → searchedOf r ≡ throughSlots (slotsFrom (now (slots .entry))) (anodesFrom c (now (firsts .entry)) n) 1 k) ⌝ }
+{
+    let end = k * 82 + 82;
+    if entry(slots, k as usize) == 0 {
+        return Searched {
+            anode: AnodeNo(end),
+            read: 0,
+        };
+    }
+    search_used(firsts, slot_start(k), end)
+}
+
+// The lowest free anode from 6 up, or 3,444 where there is none, and how many anodes were read.
+pub fn lowest_free(slots: &[u16], firsts: &[u16]) -> Searched
+    ensures { λ r. ⌜ ((c n : List ℕ) → searchedOf r ≡ searched 3444 (existsBy (slotsFrom (now (slots .entry)))) (anodesFrom c (now (firsts .entry)) n)) ⌝ }
+{
+    let mut read = 0;
+    for k in 0..42 {
+        let stop = search_slot(slots, firsts, k);
+        let anode = stop.anode;
+        read += stop.read;
+        if anode.0 < k * 82 + 82 {
+            return Searched { anode, read };
+        }
+    }
+    Searched {
+        anode: AnodeNo(3444),
+        read,
+    }
 }
 
 // The anode after `a`, or 0 where that is 2: the free list's side above last reserved ends before 2.

@@ -13,7 +13,7 @@ use ovenknit_host::disk;
 use ovenknit_host::ffi::Proved;
 use ovenknit_host::model::Model;
 use ovenknit_host::rng::Rng;
-use ovenknit_host::shapes::{grown_in_turn, shaped, Recipe, LONG_FILE};
+use ovenknit_host::shapes::{grown_in_turn, one_free_anode, shaped, Recipe, LONG_FILE};
 
 const RUNS: usize = 1_001;
 /// Of a change that may take as long as thousands of checks.
@@ -184,6 +184,12 @@ fn measure_long_file() {
     }
 }
 
+/// A file made where the only free anode is the last of slot 41, and slots 1 to 40 are empty (02, No. 4).
+fn measure_far_anode() {
+    println!("1,760 blocks, the only free anode in slot 41");
+    Disk::new(one_free_anode()).medians(&make(b"new"), RUNS).print("make a file");
+}
+
 /// Files of some blocks each, with some blocks and anodes free.
 fn small_files(blocks: usize) -> Recipe {
     let (files, directories) = ((blocks / 22).min(2_800), (blocks / 550).min(100));
@@ -229,6 +235,7 @@ fn print_all(rng: &mut Rng) {
     }
     println!();
     measure_long_file();
+    measure_far_anode();
 }
 
 fn print_least(rng: &mut Rng) {

@@ -24,7 +24,7 @@ same-length : tie.Need-same-length
 same-length c = search needs
 
 returns : tie.Need-returns
-returns c = no-anode _ _ _ _ _ (lowest-is (c .before .before .before .before .before .before .before .before .before .before .pre .0) _ (c .before .before .before .before .before .slots-of .ensures) _ (c .before .before .lowest-free .ensures)) (c .if1 .taken)
+returns c = no-anode _ _ _ _ _ (lowest-is (c .before .before .before .before .before .before .before .before .before .before .before .pre .0) _ (c .before .before .before .before .before .before .slots-of .ensures) _ _ (c .before .before .before .lowest-free .ensures)) (c .if1 .taken)
 
 first-room-requires : tie.Need-first-room-requires
 first-room-requires c κs = search needs
@@ -46,17 +46,17 @@ slice-aggregate-take-blocks c = search needs
 
 take-blocks-requires : tie.Need-take-blocks-requires
 take-blocks-requires c κs =
-    let f = c .before .before .before .before .before .before .before .before .before .before .before .before .before .before .before .before .before .before .before .lowest-free in
-    let slots = c .before .before .before .before .before .before .before .before .before .before .before .before .before .before .before .before .before .before .before .before .before .before .slots-of in
-    let a = c .before .before .before .before .before .before .before .before .before .before .before .before .before .before .before .before .before .before .before .before .before .before .before .before .before .before .before .args in
-    let l = c .before .before .before .before .before .before .before .before .before .before .before .before .before .before .before .before .before .before .before .before .before .before .before .before .before .before .before .pre .0 in
-    let set = rewritten-tables (a .counts .now) (a .firsts .now) (a .nexts .now) (f .result .0) 0 65535 (omega arith) (omega arith) in (
+    let f = c .before .before .before .before .before .before .before .before .before .before .before .before .before .before .before .before .before .before .before .before .lowest-free in
+    let slots = c .before .before .before .before .before .before .before .before .before .before .before .before .before .before .before .before .before .before .before .before .before .before .before .slots-of in
+    let a = c .before .before .before .before .before .before .before .before .before .before .before .before .before .before .before .before .before .before .before .before .before .before .before .before .before .before .before .before .args in
+    let l = c .before .before .before .before .before .before .before .before .before .before .before .before .before .before .before .before .before .before .before .before .before .before .before .before .before .before .before .before .pre .0 in
+    let set = rewritten-tables (a .counts .now) (a .firsts .now) (a .nexts .now) (f .result .anode .0) 0 65535 (omega arith) (omega arith) in (
       (search needs, search needs, search needs),
       (
         a .image .now,
         record {
-          fresh = lowest-fresh l _ (c .before .before .before .before .before .before .before .before .before .before .before .before .before .before .before .before .before .before .before .before .before .before .before .before .before .before .before .pre .1) _ (lowest-is l _ (slots .ensures) _ (f .ensures)) (c .before .before .before .before .before .before .before .before .before .before .before .before .before .before .before .before .before .if1 .left);
-          state = rw (c .before .before .before .before .before .before .before .before .before .before .before .set-entry .ensures, c .before .before .before .before .before .before .set-entry2 .ensures) (begun-is l (slots .result) (slots .ensures) (f .result .0) _ set);
+          fresh = lowest-fresh l _ (c .before .before .before .before .before .before .before .before .before .before .before .before .before .before .before .before .before .before .before .before .before .before .before .before .before .before .before .before .pre .1) _ (lowest-is l _ (slots .ensures) _ _ (f .ensures)) (c .before .before .before .before .before .before .before .before .before .before .before .before .before .before .before .before .before .if1 .left);
+          state = rw (c .before .before .before .before .before .before .before .before .before .before .before .set-entry .ensures, c .before .before .before .before .before .before .set-entry2 .ensures) (begun-is l (slots .result) (slots .ensures) (f .result .anode .0) _ set);
         },
       ),
     )
@@ -72,16 +72,16 @@ same-length-4 c = search needs
 
 returns-2 : tie.Need-returns-2
 returns-2 c =
-    let f = c .before .before .before .before .before .before .before .before .before .before .before .before .before .before .before .before .before .before .before .before .before .before .before .before .before .before .lowest-free in
-    let slots = c .before .before .before .before .before .before .before .before .before .before .before .before .before .before .before .before .before .before .before .before .before .before .before .before .before .before .before .before .before .slots-of in
-    let a = c .before .before .before .before .before .before .before .before .before .before .before .before .before .before .before .before .before .before .before .before .before .before .before .before .before .before .before .before .before .before .before .before .before .before .args in
-    let pre = c .before .before .before .before .before .before .before .before .before .before .before .before .before .before .before .before .before .before .before .before .before .before .before .before .before .before .before .before .before .before .before .before .before .before .pre in
+    let f = c .before .before .before .before .before .before .before .before .before .before .before .before .before .before .before .before .before .before .before .before .before .before .before .before .before .before .before .lowest-free in
+    let slots = c .before .before .before .before .before .before .before .before .before .before .before .before .before .before .before .before .before .before .before .before .before .before .before .before .before .before .before .before .before .before .slots-of in
+    let a = c .before .before .before .before .before .before .before .before .before .before .before .before .before .before .before .before .before .before .before .before .before .before .before .before .before .before .before .before .before .before .before .before .before .before .before .args in
+    let pre = c .before .before .before .before .before .before .before .before .before .before .before .before .before .before .before .before .before .before .before .before .before .before .before .before .before .before .before .before .before .before .before .before .before .before .before .pre in
     let w = c .before .before .before .before .before .before .take-blocks in
-    let set = rewritten-tables (a .counts .now) (a .firsts .now) (a .nexts .now) (f .result .0) 0 65535 (omega (arith, c .before .before .before .before .before .before .before .before .before .before .before .before .before .before .before .before .before .before .before .before .before .before .before .before .if1 .left, pre .0 .tables .0)) (omega (arith, c .before .before .before .before .before .before .before .before .before .before .before .before .before .before .before .before .before .before .before .before .before .before .before .before .if1 .left, pre .0 .tables .1)) in
+    let set = rewritten-tables (a .counts .now) (a .firsts .now) (a .nexts .now) (f .result .anode .0) 0 65535 (omega (arith, c .before .before .before .before .before .before .before .before .before .before .before .before .before .before .before .before .before .before .before .before .before .before .before .before .if1 .left, pre .0 .tables .0)) (omega (arith, c .before .before .before .before .before .before .before .before .before .before .before .before .before .before .before .before .before .before .before .before .before .before .before .before .if1 .left, pre .0 .tables .1)) in
     subst (λ (held : ℕ → ℕ). PlanOf (w .result) (a .image .now) (isDir (a .kind)) (a .len) (a .head .0) (slotted (anodesFrom (w .last .1 .1 .1 .1 .1 .0) (w .last .1 .1 .1 .1 .1 .1 .0) (w .last .1 .1 .1 .1 .1 .1 .1 .0)) held)) (slots .ensures)
     (w .ensures (a .image .now) _ (record {
-      fresh = lowest-fresh (pre .0) _ (pre .1) _ (lowest-is (pre .0) _ (slots .ensures) _ (f .ensures)) (c .before .before .before .before .before .before .before .before .before .before .before .before .before .before .before .before .before .before .before .before .before .before .before .before .if1 .left);
-      state = rw (c .before .before .before .before .before .before .before .before .before .before .before .before .before .before .before .before .before .before .set-entry .ensures, c .before .before .before .before .before .before .before .before .before .before .before .before .before .set-entry2 .ensures) (begun-is (pre .0) (slots .result) (slots .ensures) (f .result .0) _ set);
+      fresh = lowest-fresh (pre .0) _ (pre .1) _ (lowest-is (pre .0) _ (slots .ensures) _ _ (f .ensures)) (c .before .before .before .before .before .before .before .before .before .before .before .before .before .before .before .before .before .before .before .before .before .before .before .before .if1 .left);
+      state = rw (c .before .before .before .before .before .before .before .before .before .before .before .before .before .before .before .before .before .before .set-entry .ensures, c .before .before .before .before .before .before .before .before .before .before .before .before .before .set-entry2 .ensures) (begun-is (pre .0) (slots .result) (slots .ensures) (f .result .anode .0) _ set);
     }) (room-is (pre .0) _ (pre .1) _ _ (c .before .before .before .before .before .before .before .before .before .before .before .before .before .before .before .before .before .before .before .before .before .first-room .ensures)))
 
 pub plan-make-spec : {M : Type 1} → statement M
