@@ -11,6 +11,8 @@ use Rattle.rules.specs.Anodes.{Anodes}
 use Rattle.rules.specs.Chains.{chainOf, side, blockCount}
 use Rattle.rules.specs.Plans.{Slotted, Plan, refused, after, noGrowth}
 use Rattle.rules.specs.Space.{runLength, withoutTail, tailStart, joinWith, join, giveRuns}
+use Rattle.placing.specs.declared.Step.{Step}
+use Rattle.placing.specs.declared.Step.the-variants.{Moved, Refused}
 use Rattle.placing.specs.States.{Ready}
 use Rattle.giving_runs.specs.declared.Run.{Run}
 use Rattle.giving_runs.specs.declared.Going.{Going}
@@ -51,6 +53,11 @@ pub record Carries (last h : ℕ) (chain : List ℕ) (g : Going) (s : Slotted) :
   pub empty : sumList (s .anodes .count) rest ≡ 0
   pub upper-end : g .upper .0 ≡ lastOf 1 (side 3444 (s .anodes) 1)
   pub lower-end : g .lower .0 ≡ lastOf 2 (side 3444 (s .anodes) 2)
+
+-- the answer of a turn that a refused run stops, where g was carried to it
+abbrev pub stoppedRun : Step → Going → Turn
+stoppedRun (Moved y) g = Goes g
+stoppedRun (Refused why) g = Stops why
 
 -- a turn: a run is given and t is left, where fewer blocks are to go, or it is refused, and so is all
 abbrev pub Turns : Turn → ℕ → ℕ → List ℕ → ℕ → Slotted → Slotted → Type 0

@@ -12,7 +12,7 @@ ghost use Rattle.rules.specs.Space.{upperRun, lowerRun, runLength, tailStart};
 ghost use Rattle.laws.specs.Carried.{endAfter};
 ghost use Rattle.anodes.specs.Loaded.{anodesFrom, slotsFrom, tableFrom, AnodeTables};
 ghost use Rattle.placing.specs.Steps.{stepPlan};
-ghost use Rattle.giving_runs.specs.Runs.{lastFull, anodeBefore, runTo, Picked, Carries, Turns};
+ghost use Rattle.giving_runs.specs.Runs.{lastFull, anodeBefore, runTo, stoppedRun, Picked, Carries, Turns};
 use disk::AnodeNo;
 use disk::BlockNo;
 use disk::Refusal;
@@ -239,6 +239,16 @@ fn carry_on(nexts: &[u16], above: bool, g: Going, run: Run) -> Going
     }
 }
 
+// The answer of a turn that a refused run stops; `g`: what was carried to it.
+fn stopped_run(step: Step, g: Going) -> Turn
+    ensures { λ r. ⌜ r ≡ stoppedRun step g ⌝ }
+{
+    match step {
+        Step::Moved(_) => Turn::Goes(g),
+        Step::Refused(why) => Turn::Stops(why),
+    }
+}
+
 // Gives back the last run of the chain of `head`, whose anodes are in `chain`, by what is carried; `last`: last reserved.
 pub fn give_turn(
     slots: &[u16],
@@ -258,8 +268,8 @@ pub fn give_turn(
     let above = last.0 < run.first.0;
     let z = side_end(above, g);
     let step = give_run(slots, head, z, run, counts, firsts, nexts);
-    if let Step::Refused(why) = step {
-        return Turn::Stops(why);
-    }
+    let Step::Moved(_) = step else {
+        return stopped_run(step, g);
+    };
     Turn::Goes(carry_on(nexts, above, g, run))
 }

@@ -4,6 +4,7 @@ use Rattle.rules.specs.Anodes.{Anodes}
 use Rattle.anodes.specs.Loaded.{anodesFrom, slotsFrom}
 use Rattle.placing.specs.declared.Step.{Step}
 use Rattle.placing.specs.Steps.{stepPlan}
+use Rattle.giving_runs.specs.Runs.{stoppedRun}
 use Rattle.giving_runs.proofs.Turning.{fits-all, picked-full, picked-fits, picked-some, picked-stops, picked-goes}
 use borrow.Author.Needs.{needs}
 use Rattle.giving_runs.proofs.give_turn.Statement.{statement}
@@ -32,8 +33,14 @@ give-run-requires c κs =
     let w = picked-fits _ (held s) (kept-slots s) _ _ _ (s .pre .0 .1) (s .pre .1) _ k _ (c .before .before .before .side-end .ensures) in
     ((s .pre .0 .0, w .0, w .1, w .2, w .3), ((w .4, w .5, w .6), (k .first-is, k .whole-is)))
 
-enum-known-step : tie.Need-enum-known-step
-enum-known-step c = search needs
+enum-told : tie.Need-enum-told
+enum-told c = search needs
+
+enum-told-2 : tie.Need-enum-told-2
+enum-told-2 c = search needs
+
+stopped-run-requires : tie.Need-stopped-run-requires
+stopped-run-requires c κs = search needs
 
 same-length : tie.Need-same-length
 same-length c = search needs
@@ -51,10 +58,8 @@ returns c =
     let k = c .before .before .before .before .before .before .before .before .before .before .before .before .before .before .before .before .pick-run .ensures (s .args .nexts .now) in
     let w = c .before .before .before .before .before .before .before .before .before .give-run in
     let t = anodesFrom (w .last .1 .1 .1 .1 .0) (w .last .1 .1 .1 .1 .1 .0) (w .last .1 .1 .1 .1 .1 .1 .0) in
-    picked-stops _ (held s) (kept-slots s) _ _ _ (s .pre .0 .1) (s .pre .1) _ k _ (c .before .before .before .before .before .before .before .before .before .before .before .before .before .side-end .ensures) _ (sym (w .ensures) ∙ ap (λ (i : Step). stepPlan i (c .before .before .before .before .before .before .before .before .before .before .before .before .before .before .before .before .pick-run .result .length) t) (c .before .step .given .1))
-
-enum-told : tie.Need-enum-told
-enum-told c = search needs
+    let told = c .before .enum-told2 .given in
+    rw (c .stopped-run .ensures ∙ ap (λ (i : Step). stoppedRun i (s .args .g)) (told .1)) (picked-stops _ (held s) (kept-slots s) _ _ _ (s .pre .0 .1) (s .pre .1) _ k _ (c .before .before .before .before .before .before .before .before .before .before .before .before .before .side-end .ensures) _ (sym (w .ensures) ∙ ap (λ (i : Step). stepPlan i (c .before .before .before .before .before .before .before .before .before .before .before .before .before .before .before .before .pick-run .result .length) t) (told .1)))
 
 carry-on-requires : tie.Need-carry-on-requires
 carry-on-requires c κs =
@@ -89,12 +94,13 @@ give-turn-spec =
     pick-run-requires
     side-end-requires
     give-run-requires
-    enum-known-step
+    enum-told
+    enum-told-2
+    stopped-run-requires
     same-length
     same-length-2
     same-length-3
     returns
-    enum-told
     carry-on-requires
     same-length-4
     same-length-5
