@@ -5,7 +5,7 @@ use std::collections::BTreeMap;
 
 use crate::calls::{run, Call, Library, Outcome, ANODES, BLOCK};
 use crate::histories::{follow, random_call, Trend};
-use crate::met::Met;
+use crate::met::{Met, NamesMet};
 use crate::model::{self, Model, Totals};
 use crate::rng::Rng;
 use crate::shapes::Shaped;
@@ -111,11 +111,13 @@ pub struct History<'a> {
     rng: &'a mut Rng,
     pub answers: Histogram,
     pub met: Met,
+    pub names: NamesMet,
 }
 
 impl<'a> History<'a> {
     pub fn new(disk: Shaped, rng: &'a mut Rng) -> Self {
-        History { disk, rng, answers: Histogram::default(), met: Met::default() }
+        let (answers, met, names) = (Histogram::default(), Met::default(), NamesMet::default());
+        History { disk, rng, answers, met, names }
     }
 
     /// Makes random calls. After each one the disk is accepted, and its seven kinds of blocks add up to its size.
@@ -127,6 +129,7 @@ impl<'a> History<'a> {
             let Shaped { image, tree } = &self.disk;
             let call = random_call(image, tree, trend, free, self.rng);
             self.met.note(image, tree, &call);
+            self.names.note(tree, &call);
             self.call::<L>(&call);
             free = self.free_blocks();
         }

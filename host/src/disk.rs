@@ -263,7 +263,7 @@ impl<L: Library> Disk<L> {
         Ok(Entry::of(&self.image, &output.entry))
     }
 
-    /// The first entry of that name. Names match byte for byte.
+    /// The entry of that name, where the capitals A to Z are the same as small letters.
     pub fn find(&mut self, directory: u16, name: &[u8]) -> Result<Entry, Error> {
         let output = self.call(&Call::Find { directory, name: name.to_vec() })?;
         Ok(Entry::of(&self.image, &output.entry))
@@ -394,7 +394,7 @@ impl<L: Library> Directory<'_, L> {
         self.disk.list(self.number)
     }
 
-    /// The first entry of that name.
+    /// The entry of that name.
     pub fn find(&mut self, name: &[u8]) -> Result<Entry, Error> {
         self.disk.find(self.number, name)
     }

@@ -8,6 +8,7 @@ use crate::calls::{Call, BLOCK, DIRECTORY, FILE, ROOT, TOTALS};
 use crate::disk::{Disk, Kind};
 use crate::model::layout::{last_reserved, AnodeTable};
 use crate::model::Model;
+use crate::names::{near, recased};
 use crate::rng::Rng;
 use crate::shapes::format_call;
 use crate::tree::{Node, Tree};
@@ -140,7 +141,8 @@ fn any_directory(tree: &Tree, rng: &mut Rng) -> u16 {
     }
 }
 
-/// An entry that fits, by directory and name; now and then the directory or the name is another one.
+/// An entry that fits, by directory and name; now and then the directory or the name is another one, and often the name is
+/// written in another case.
 fn any_entry(tree: &Tree, fits: impl Fn(&Node) -> bool, rng: &mut Rng) -> (u16, Vec<u8>) {
     let all =
         tree.directories.iter().flat_map(|(&directory, d)| d.nodes().map(move |node| (directory, node)));
@@ -148,11 +150,16 @@ fn any_entry(tree: &Tree, fits: impl Fn(&Node) -> bool, rng: &mut Rng) -> (u16, 
     let Some(&(directory, node)) = rng.pick(&fitting) else {
         return (any_directory(tree, rng), fresh_name(rng));
     };
+    let name = match rng.percent(30) {
+        true => recased(&node.entry.name, rng),
+        false => node.entry.name.clone(),
+    };
     match rng.below(100) {
-        0..=2 => (any_directory(tree, rng), node.entry.name.clone()),
+        0..=2 => (any_directory(tree, rng), name),
         3 | 4 => (directory, fresh_name(rng)),
         5 => (directory, impossible_name(rng)),
-        _ => (directory, node.entry.name.clone()),
+        6..=10 => (directory, near(&name, rng).unwrap_or(name)),
+        _ => (directory, name),
     }
 }
 
@@ -169,7 +176,13 @@ fn fresh_name(rng: &mut Rng) -> Vec<u8> {
         2 => rng.within(1..=20),
         _ => rng.within(100..=107),
     };
-    (0..length).map(|_| b'a' + rng.below(26) as u8).collect()
+    // Some of them have bytes that look as if they were folded too, and are not.
+    let odd = if rng.percent(20) { 30 } else { 0 };
+    let letter = |rng: &mut Rng| [b'a', b'A'][rng.below(2)] + rng.below(26) as u8;
+    let not_folded = [b'@', b'`', b'[', b'{', b'^', b'~', 196, 228, 222, 254];
+    (0..length)
+        .map(|_| if rng.percent(odd) { not_folded[rng.below(not_folded.len())] } else { letter(rng) })
+        .collect()
 }
 
 /// A name that no entry can have.
@@ -195,6 +208,11 @@ fn make_call(tree: &Tree, rng: &mut Rng) -> Call {
     let (directory, name) = match rng.below(20) {
         0 => (any_directory(tree, rng), impossible_name(rng)),
         1 | 2 => any_entry(tree, |_| true, rng),
+        3 => (any_directory(tree, rng), any_entry(tree, |_| true, rng).1),
+        4 => {
+            let (directory, name) = any_entry(tree, |_| true, rng);
+            (directory, near(&name, rng).unwrap_or(name))
+        }
         _ => (any_directory(tree, rng), fresh_name(rng)),
     };
     let comment_length = match rng.below(20) {
@@ -235,15 +253,16 @@ fn resize_call(image: &[u8], tree: &Tree, trend: Trend, free: usize, rng: &mut R
     Call::Resize { directory, name, size }
 }
 
-/// A size for a file that has blocks, mostly smaller: its new end lies at the end of an extent, a block beside it, in the
-/// extent that crosses last reserved, or anywhere, and half of the time only the last extents go.
+/// A size for a file that has blocks, mostly smaller: its new end lies at the end of an extent, a block beside it, before or
+/// in the extent that crosses last reserved, or anywhere, and half of the time only the last extents go.
 fn aimed_size(image: &[u8], head: u16, rng: &mut Rng) -> u64 {
     let Ends { ends, crossing } = Ends::of(image, head);
     let held = ends[ends.len() - 1];
     let far = if rng.percent(50) { ends.len() } else { 4 };
     let end = rng.pick(&ends[ends.len().saturating_sub(far)..]).copied().unwrap_or(held);
     let blocks = match (rng.below(6), crossing) {
-        (0..=2, Some(range)) => rng.within(range),
+        (0, Some(range)) => *range.start(),
+        (1 | 2, Some(range)) => rng.within(range),
         (0 | 1, _) => end,
         (2, _) => end.saturating_sub(1),
         (3, _) => held.min(end + 1),
@@ -342,7 +361,7 @@ fn random_format(blocks: usize, rng: &mut Rng) -> Call {
     call
 }
 
-/// The anode of the first entry of this name in an accepted image, by the model; 0 if there is none.
+/// The anode of the entry of this name in an accepted image, by the model; 0 if there is none.
 pub fn head_of(image: &[u8], directory: u16, name: &[u8]) -> u16 {
     Disk::<Model>::new(image.to_vec()).find(directory, name).map_or(0, |entry| entry.anode)
 }

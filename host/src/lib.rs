@@ -4,6 +4,7 @@
 //! * `ffi`, with the feature `proved`: the proved library behind that trait.
 //! * [`stack`]: how much stack its calls need.
 //! * [`refusals`], [`disk`]: the numbers in words, and a disk with its tables behind safe methods.
+//! * [`names`]: which names a disk takes for one.
 //! * [`report`]: the totals of a shift report.
 //! * [`bitmap`]: where the bytes of the hard disk edition's bitmap belong.
 //! * [`settings`]: settings files, and the trait of whoever converts them.
@@ -16,7 +17,7 @@
 //! documentation: `rng`, the small deterministic generator behind all that is random; `tree`, what a disk should hold, as
 //! a plain tree in memory; `shapes`, generators of disk images: formatted ones, accepted ones that format never makes, and
 //! damaged ones; `starts` and `histories`, the disks that histories start from, and random calls, often at the very edge;
-//! `met`, what the shrinks and removals among them met; `compare`, a library against the model, call by call.
+//! `met`, what the shrinks, removals and names among them met; `compare`, a library against the model, call by call.
 
 #[cfg(feature = "proved")]
 pub mod ffi;
@@ -32,6 +33,7 @@ pub mod histories;
 #[doc(hidden)]
 pub mod met;
 pub mod model;
+pub mod names;
 pub mod refusals;
 pub mod report;
 #[doc(hidden)]

@@ -1,4 +1,8 @@
-//! What the shrinks and removals of histories met of 02, No. 3, counted.
+//! What the shrinks and removals of histories met of 02, No. 3, counted; in `names` what their names met of No. 5.
+
+mod names;
+
+pub use names::NamesMet;
 
 use std::collections::BTreeMap;
 

@@ -22,6 +22,7 @@ pub enum Error {
     NamedTwice,
     FileSize,
     UnnamedChain,
+    NamesAlike,
     BadArgument,
     NoDirectory,
     NotFound,
@@ -41,7 +42,7 @@ pub enum Error {
 }
 
 /// Every refusal with its number and what it means. The header's names for them and its words are the same.
-pub const REFUSALS: [(Error, u32, &str); 30] = [
+pub const REFUSALS: [(Error, u32, &str); 31] = [
     (
         Error::ImageSize,
         1,
@@ -70,6 +71,7 @@ pub const REFUSALS: [(Error, u32, &str); 30] = [
     (Error::NamedTwice, 14, "two entries name the same anode"),
     (Error::FileSize, 15, "a file's chain does not hold as many blocks as its size needs"),
     (Error::UnnamedChain, 16, "a chain is named by no entry that the root leads to"),
+    (Error::NamesAlike, 17, "two entries of a directory have the same name, capitals A to Z counted as small letters"),
     (
         Error::BadArgument,
         20,
@@ -133,7 +135,7 @@ mod tests {
     #[test]
     fn every_number_has_words() {
         let numbers: Vec<u32> = REFUSALS.iter().map(|row| row.1).collect();
-        assert_eq!(numbers, (1..=16).chain(20..=28).chain([31, 40]).chain(50..=52).collect::<Vec<u32>>());
+        assert_eq!(numbers, (1..=17).chain(20..=28).chain([31, 40]).chain(50..=52).collect::<Vec<u32>>());
         for (error, number, words) in REFUSALS {
             assert_eq!((Error::of(number), error.number(), error.words()), (Err(error), number, words));
         }

@@ -17,7 +17,7 @@ mod plan;
 mod recipe;
 mod writer;
 
-pub use damage::Damager;
+pub use damage::{Damager, Mixed, Place};
 pub use plan::{shaped, Shaped};
 pub use recipe::Recipe;
 

@@ -1,11 +1,12 @@
 //! What a disk should hold, as a plain tree in memory. It knows names and bytes but nothing of blocks and anodes,
 //! except that a directory's entries are packed into blocks of 494 bytes. From it follow the refusals 20 to 26,
-//! what a read and a list give, and what a done change leaves.
+//! what a read and a list give, and what a done change leaves. No two names of a directory look alike.
 
 use std::collections::BTreeMap;
 
 use crate::calls::{Call, BLOCK, DIRECTORY, FILE, ROOT, TOTALS};
 use crate::disk::{Entry, Kind};
+use crate::names::alike;
 
 /// The bytes of a directory block that entries may fill.
 pub const ENTRY_SPACE: usize = 494;
@@ -45,11 +46,11 @@ impl Directory {
     }
 
     pub fn find(&self, name: &[u8]) -> Option<&Node> {
-        self.nodes().find(|node| node.entry.name == name)
+        self.nodes().find(|node| alike(&node.entry.name, name))
     }
 
     fn find_mut(&mut self, name: &[u8]) -> Option<&mut Node> {
-        self.blocks.iter_mut().flatten().find(|node| node.entry.name == name)
+        self.blocks.iter_mut().flatten().find(|node| alike(&node.entry.name, name))
     }
 
     pub fn is_empty(&self) -> bool {
@@ -72,7 +73,7 @@ impl Directory {
 
     fn take(&mut self, name: &[u8]) -> Option<Node> {
         for block in &mut self.blocks {
-            if let Some(place) = block.iter().position(|node| node.entry.name == name) {
+            if let Some(place) = block.iter().position(|node| alike(&node.entry.name, name)) {
                 return Some(block.remove(place));
             }
         }

@@ -1,18 +1,18 @@
 //! The proved library against the model, call by call: the same image, arguments and junk in the tables must give the
 //! same answer and output, and leave the same image and tables to the last entry.
 
-use std::collections::BTreeSet;
+use std::collections::{BTreeMap, BTreeSet};
 use std::env;
 
 use ovenknit_host::calls::{tables, Call, Stamp, BLOCK, FILE, ROOT};
 use ovenknit_host::compare::{compare, junk_tables, Histogram, History};
 use ovenknit_host::ffi::Proved;
 use ovenknit_host::histories::{random_call, Trend, NO_ANODE, REFUSALS};
-use ovenknit_host::met::Met;
+use ovenknit_host::met::{Met, NamesMet};
 use ovenknit_host::rng::{seeded, Rng};
 use ovenknit_host::shapes::{
-    accepted, formatted, grown_in_turn, one_free_anode, random_bytes, shaped, Damager, Recipe, Shaped,
-    LONG_FILE,
+    accepted, formatted, grown_in_turn, one_free_anode, random_bytes, shaped, Damager, Mixed, Place, Recipe,
+    Shaped, LONG_FILE,
 };
 use ovenknit_host::starts::Start;
 
@@ -30,14 +30,14 @@ fn compare_case(image: &mut [u8], cases: &mut Histogram, rng: &mut Rng) -> u32 {
 fn compare_disk(image: &mut [u8], turns: usize, cases: &mut Histogram, rng: &mut Rng) {
     compare_case(image, cases, rng);
     let damager = Damager::new(image).expect("the model accepts its own shapes");
-    for number in 6..=16 {
+    for number in 6..=17 {
         if let Some(mut damaged) = damager.damage_and_half_clear(number, rng) {
             let answer = compare_case(&mut damaged, cases, rng);
             assert!(answer == number.min(7) || answer == 2, "{answer} where {number} was aimed at first");
         }
     }
     for _ in 0..turns {
-        for number in 1..=16 {
+        for number in 1..=17 {
             if let Some(mut damaged) = damager.damage(number, rng) {
                 let answer = compare_case(&mut damaged, cases, rng);
                 assert!(answer == number || answer == 2, "{answer} where {number} was aimed at");
@@ -63,7 +63,7 @@ fn check_and_summary_equal_the_model() {
     }
     cases.print("check and summary");
     assert!(cases.total() >= 100_000);
-    cases.assert_answered(0..=16);
+    cases.assert_answered(0..=17);
 }
 
 #[test]
@@ -84,9 +84,38 @@ fn check_and_summary_equal_the_model_on_large_disks() {
     cases.assert_answered([0, 7]);
 }
 
+/// Two names of a directory that look alike, alone and beside every other fault, and names that look alike where that is no
+/// fault.
+#[test]
+fn names_that_look_alike_equal_the_model() {
+    let mut cases = Histogram::default();
+    let mut met: BTreeMap<(u32, Place), usize> = BTreeMap::new();
+    for mut case in seeded("names_that_look_alike_equal_the_model", 0..1_500) {
+        let rng = &mut case.rng;
+        let image = accepted(600, rng);
+        let damager = Damager::new(&image).expect("the model accepts its own shapes");
+        for number in (3..=16).flat_map(|number| vec![number; if number < 12 { 1 } else { 4 }]) {
+            if let Some(Mixed { mut image, place, answer }) = damager.damage_and_alike(number, rng) {
+                let given = compare_case(&mut image, &mut cases, rng);
+                assert!(given == answer || given == 2, "{given} for {number}, {place:?}");
+                *met.entry((number, place)).or_default() += 1;
+            }
+        }
+        for mut image in [damager.alike_elsewhere(rng), damager.nearly_alike(rng)].into_iter().flatten() {
+            assert!([0, 2].contains(&compare_case(&mut image, &mut cases, rng)));
+        }
+    }
+    cases.print("names that look alike");
+    println!("{met:?}");
+    cases.assert_answered((0..=17).filter(|number| ![1, 16].contains(number)));
+    let beside = (12..=15)
+        .flat_map(|number| [Place::Before, Place::There, Place::Behind].map(|place| (number, place)));
+    assert!(beside.chain([(16, Place::Behind)]).all(|case| met.contains_key(&case)), "{met:?}");
+}
+
 /// Runs histories of random calls on both libraries until so many calls are made, seed after seed.
-fn compare_histories(first_seed: u64, calls: usize) -> Histogram {
-    let mut answers = Histogram::default();
+fn compare_histories(first_seed: u64, calls: usize) -> (Histogram, NamesMet) {
+    let (mut answers, mut names) = (Histogram::default(), NamesMet::default());
     let mut sizes = BTreeSet::new();
     for mut case in seeded("compare_histories", first_seed..) {
         let rng = &mut case.rng;
@@ -101,13 +130,14 @@ fn compare_histories(first_seed: u64, calls: usize) -> Histogram {
         let mut history = History::new(disk, rng);
         history.run::<Proved>(calls_here);
         answers.merge(&history.answers);
+        names.merge(&history.names);
         if answers.total() >= calls {
             break;
         }
     }
     println!("disks of {} to {} blocks", sizes.first().unwrap_or(&0), sizes.last().unwrap_or(&0));
     assert!(sizes.contains(&5) && sizes.contains(&65_535));
-    answers
+    (answers, names)
 }
 
 fn number_of(variable: &str, default: u64) -> u64 {
@@ -118,11 +148,13 @@ fn number_of(variable: &str, default: u64) -> u64 {
 #[test]
 fn histories_equal_the_model() {
     let calls = number_of("PFS_CALLS", 0).max(60_000) as usize;
-    let answers = compare_histories(number_of("PFS_SEED", 0), calls);
+    let (answers, names) = compare_histories(number_of("PFS_SEED", 0), calls);
     answers.print("histories");
+    names.print("histories");
     answers.assert_answered([0, 2]);
     answers.assert_met(&REFUSALS);
     answers.assert_met(&NO_ANODE);
+    names.assert_all_met();
 }
 
 /// Short histories where shrinks and removals go back every way that there is (02, No. 3).
@@ -183,7 +215,7 @@ fn every_call_refuses_damage_like_the_model() {
         let rng = &mut case.rng;
         let Shaped { image, tree } = Start::SMALL[rng.below(Start::SMALL.len())].disk(rng);
         let damager = Damager::new(&image).expect("the model accepts its own shapes");
-        for number in 1..=16 {
+        for number in 1..=17 {
             let Some(mut damaged) = damager.damage(number, rng) else {
                 continue;
             };
@@ -194,8 +226,8 @@ fn every_call_refuses_damage_like_the_model() {
         }
     }
     answers.print("damaged disks");
-    answers.assert_answered((1..=16).filter(|&number| number != 2));
-    for number in [7, 12] {
+    answers.assert_answered((1..=17).filter(|&number| number != 2));
+    for number in [7, 12, 17] {
         answers.assert_met(&["make", "resize", "remove", "write", "read", "list"].map(|call| (number, call)));
     }
 }

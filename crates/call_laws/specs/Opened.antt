@@ -159,7 +159,7 @@ module _ (img b₀ a₀ b a : List ℕ) (x : Checked) (e : outcomeOf (checkedNum
         (settled-late k (rw span (span-late img (anodesOf img) h name offset (length out))) out′ [])
 
     pub list-answered : (h n : ℕ) (fields name : List ℕ) (k : ℕ) → k ≡ listRefusal img (anodesOf img) h n → fields ≡ fieldsListed k img (nth (entriesOf img (anodesOf img) h) n) →
-        name ≡ nameListed k img (nth (entriesOf img (anodesOf img) h) n) → outcomeOf k img b a fields name ≡ listOutcome img b₀ a₀ h n
+        name ≡ nameListed k (nth (entriesOf img (anodesOf img) h) n) → outcomeOf k img b a fields name ≡ listOutcome img b₀ a₀ h n
     unfolding listOutcome listAnswer
     list-answered h n fields name k is-k f m =
         rw (first-0 (listRefusal img (anodesOf img) h n), ← is-k, ← f, ← m)

@@ -2,9 +2,9 @@
 use Prim.Native.Nat.{ℕ, zero, suc, _+_, _≤_}
 use mathlib.Core.Path.{_≡_, refl, sym, ap, _∙_}
 use mathlib.Core.Logic.{_⊎_, inl, inr}
-use mathlib.Core.Bool.{Bool, true, false, not}
+use mathlib.Core.Bool.{Bool, true, false, not, true≢false}
 use mathlib.Core.List.{List}
-use mathlib.Core.Option.{Option, some}
+use mathlib.Core.Option.{Option, none, some}
 use native.Mathlib.Omega.{arith}
 use borrow.Author.Tests.{le-ltb, ltb-false}
 use Rattle.rules.specs.Counting.{_if_else_, firstOf}
@@ -54,6 +54,11 @@ module _ (img : List ℕ) where
 -- 21 where the directory is none, 22 where there is no entry
 abbrev pub searchNumber : Bool → Option Entered → ℕ
 searchNumber missing o = 21 if missing else 22 if not (isThere o) else 0
+
+-- an entry that is not there
+pub not-there : (o : Option Entered) → isThere o ≡ false → o ≡ none
+not-there none e = refl
+not-there (some x) e = absurd (true≢false e)
 
 -- a row in front of a table and its last rows
 row-first : (n : ℕ) (t : Bool) (a b c : ℕ) → 1 ≤ n → c ≡ firstOf a b → (n if t else c) ≡ firstOf (n if t else a) b

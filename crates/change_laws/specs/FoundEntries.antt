@@ -49,7 +49,7 @@ module _ (b b′ : List ℕ) (at at′ : ℕ) (whole : length b ≡ 512) (whole�
   unfolding commentLength entryLength
   same-comment = rw (same-name, add-assoc at′ 16 (nameLength b at), add-assoc at 16 (nameLength b at)) (same (16 + nameLength b at) (omega (arith, f .exact)))
 
-  same-nameIn : nameIn b′ at′ ≡ nameIn b at
+  pub same-nameIn : nameIn b′ at′ ≡ nameIn b at
   unfolding nameIn entryLength
   same-nameIn = rw same-name
       (part-same b′ b (at′ + 16) (at + 16) (nameLength b at) (omega (arith, f .exact)) (omega (arith, f .exact, f .room))
@@ -92,7 +92,7 @@ pub unbroken-cases : (b : List ℕ) (y m at : ℕ) → Unbroken (entriesFrom (su
 unfolding entriesFrom anyIn
 unbroken-cases b y m at u = go (walkedAt b at) refl u
   where
-    go : (w : Walked) → walkedAt b at ≡ w → Unbroken (withRest w (y * 512 + at) (entriesFrom m b y (at + getD b at 0))) → EndOrEntry b y m at
+    go : (w : Walked) → walkedAt b at ≡ w → Unbroken (withRest w (nameIn b at) (y * 512 + at) (entriesFrom m b y (at + getD b at 0))) → EndOrEntry b y m at
     go (Found x) e v = inr (x, e, v)
     go End e v = inl e
     go (Fault r) e v = absurd (true≢false v)
@@ -120,7 +120,7 @@ end-bounds b y (suc m) at u l f = elim (unbroken-cases b y m at u) [
 pub record Standing (b : List ℕ) (y at end : ℕ) (e : Entered) : Type 0 where
   pub entry : Entry
   pub walked : walkedAt b at ≡ Found entry
-  pub is : e ≡ enteredAt entry (y * 512 + at)
+  pub is : e ≡ enteredAt entry (nameIn b at) (y * 512 + at)
   pub before : at + getD b at 0 ≤ end
 
 -- what its bytes say
@@ -192,7 +192,7 @@ reaches b y at e start ys (z ∷ zs) (suc m) p i u =
       end = end-more b m p (s .entry) (s .walked) ∙ r .end;
       front = λ b′ w w′ same.
           entries-more b′ y m p (s .entry) (walked-same b b′ p p w w′ g (g .room) (λ i l. same (p + i) (omega arith)) ∙ s .walked)
-          ∙ rw (same p (omega (arith, before, g .long)), ← (s .is), r .front b′ w w′ same);
+          ∙ rw (same p (omega (arith, before, g .long)), same-nameIn b b′ p p w w′ g (g .room) (λ i l. same (p + i) (omega arith)), ← (s .is), r .front b′ w w′ same);
     }
 
 -- an entry of the list stands in the block

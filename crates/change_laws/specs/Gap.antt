@@ -13,13 +13,13 @@ use Rattle.directory.specs.Entries.{directoryHeaderIn, walkedAt}
 use Rattle.directory.proofs.Laws.{found-at}
 use Rattle.rules.specs.Walk.{Entered, entriesFrom}
 use Rattle.rules.specs.Changes.{endFrom, entriesEnd, gapClosed, entryClosed}
-use Rattle.change_laws.specs.FoundEntries.{head-same, walked-same, entry-standing, entries-more, entries-end, unbroken-cases, end-more, end-here, end-bounds, standing-found, start-after, start-order, reaches, BlockEntry, block-standing, end-within}
+use Rattle.change_laws.specs.FoundEntries.{head-same, same-nameIn, walked-same, entry-standing, entries-more, entries-end, unbroken-cases, end-more, end-here, end-bounds, standing-found, start-after, start-order, reaches, BlockEntry, block-standing, end-within}
 use Rattle.laws.specs.Members.{Member}
 use Rattle.laws.specs.Entries.{Unbroken}
 
 -- the same entry, so many bytes earlier
 abbrev pub lowered : ℕ → Entered → Entered
-lowered len e = record { broken = e .broken; dir = e .dir; anode = e .anode; size = e .size; start = e .start - len }
+lowered len e = record { broken = e .broken; dir = e .dir; anode = e .anode; size = e .size; name = e .name; start = e .start - len }
 
 -- b′ is b with the bytes from at + len up to end moved down by len, and zeros behind them
 module _ (b b′ : List ℕ) (y at len end : ℕ) (whole : length b ≡ 512) (whole′ : length b′ ≡ 512)
@@ -42,7 +42,7 @@ module _ (b b′ : List ℕ) (y at len end : ℕ) (whole : length b ≡ 512) (wh
       let start : y * 512 + p ≡ y * 512 + (p + len) - len = omega arith in
       let swap : p + getD b (p + len) 0 + len ≡ p + len + getD b (p + len) 0 = omega arith in
       entries-more b′ y (suc m) p x (walked-same b b′ (p + len) p whole whole′ g (omega (arith, g .room)) same ∙ q)
-      ∙ rw (first, rest, swap, entries-more b y m (p + len) x q, start)
+      ∙ rw (first, same-nameIn b b′ (p + len) p whole whole′ g (omega (arith, g .room)) same, rest, swap, entries-more b y m (p + len) x q, start)
 
   moved : (k p : ℕ) → at ≤ p → Unbroken (entriesFrom k b y (p + len)) → p + len ≤ 510 → 520 ≤ p + len + 18 * k → endFrom k b (p + len) ≡ end →
       entriesFrom (suc k) b′ y p ≡ map (lowered len) (entriesFrom k b y (p + len))

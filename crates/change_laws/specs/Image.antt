@@ -3,22 +3,24 @@ use Prim.Native.Nat.{ℕ, _+_, _≤_, _<_}
 use mathlib.Core.Path.{_≡_, refl, sym, ap, _∙_}
 use mathlib.Core.Logic.{_≢_}
 use mathlib.Core.Bool.{Bool, false, _&&_}
-use mathlib.Core.List.{List, map}
+use mathlib.Core.List.{List, [], _∷_, map}
 use native.Mathlib.Omega.{arith}
 use lib.Dec.{eqb, leb}
 use borrow.Author.Tests.{leb-true, ne-eqb, eqb-true, eqb-false}
 use Rattle.disk.specs.Root.{slotOf}
 use Rattle.disk.specs.AnodeBlocks.{anodeHeaderIn}
-use Rattle.rules.specs.Counting.{oneAt, sumList, occurrences}
+use Rattle.rules.specs.Counting.{oneAt, sumList, occurrences, gather}
 use Rattle.rules.specs.Anodes.{Anodes, limit, exists, anodesOf, withAnodes}
 use Rattle.rules.specs.Chains.{oneIfHead, headOf, cut, systemOwns}
-use Rattle.rules.specs.Walk.{Dir, Entered, root, entriesIn, isBlockOf, itemsBy, itemsOf, Walk, fault, done, walkOf, faultIn, dirsIn, reached, reachedDirs, naming}
+use Rattle.rules.specs.Walk.{Dir, Entered, Item, root, entriesIn, isBlockOf, itemsBy, itemsOf, Walk, fault, done, walk, walkOf, faultIn, dirsIn, reached, reachedDirs, naming}
 use Rattle.rules.specs.Accepted.{diskSize, lastReserved, wrongSlots, unnamed, unnamedChain, checkAnswer}
 use Rattle.rules.specs.Lookup.{noDirectory}
 use Rattle.counting.specs.Laws.{none-and, anyBelow-all}
 use Rattle.laws.specs.Tests.{not-above}
 use Rattle.laws.specs.Bags.{list-mono, map-sum}
 use Rattle.laws.specs.Items.{below, namedIn, subs-named, headed}
+use Rattle.laws.specs.Each.{gather-congr-each}
+use Rattle.laws.specs.Apart.{walked-lone, walked-plain}
 use Rattle.laws.specs.Trees.{heads-once, tree-one}
 use Rattle.laws.specs.Space.{Good}
 use Rattle.laws.specs.Passes.{passes-of}
@@ -55,7 +57,7 @@ sideIn img = headOf limit (cut (anodesOf img .next)) (anodesOf img .block)
 abbrev pub AcceptedWhole : List ℕ → Type 0
 AcceptedWhole img = WholeOn img img (anodesOf img) (headIn img) (sideIn img) (reachedDirs img (anodesOf img))
 
--- the anodes and directories of j, an image of the disk of img, pass 6 to 16
+-- the anodes and directories of j, an image of the disk of img, pass 6 to 17
 abbrev AcceptedOn : List ℕ → List ℕ → List Dir → Type 0
 AcceptedOn img j dirs = Accepted (exists img) (diskSize img) (lastReserved img) (anodesOf j) (systemOwns img) (entriesIn j) (isBlockOf j) dirs
 
@@ -64,10 +66,21 @@ walk-done : (w : Walk) → Faulted w → faultIn w ≡ 0 → w ≡ done (dirsIn 
 walk-done (fault n) p z = absurd (omega (arith, p .0, z))
 walk-done (done ds) p z = refl
 
+-- a walk that is done met no twins: it is the walk over the items as they stand
+plain-walk : (img : List ℕ) (s : Anodes) (Q : List Dir) → walkOf img s ≡ done Q → walk (itemsBy (entriesIn img) (isBlockOf img) s) limit (root ∷ []) [] ≡ done Q
+unfolding walkOf itemsOf
+plain-walk img s Q e = walked-plain (itemsBy (entriesIn img) (isBlockOf img) s) limit (root ∷ []) [] Q e
+
+-- and what is reached are these
+reached-plain : (img : List ℕ) (s : Anodes) → walkOf img s ≡ done (reachedDirs img s) → reached img s ≡ gather (itemsBy (entriesIn img) (isBlockOf img) s) (reachedDirs img s)
+unfolding reached walkOf itemsOf
+reached-plain img s e =
+    gather-congr-each (itemsOf img s) (itemsBy (entriesIn img) (isBlockOf img) s) (reachedDirs img s) (walked-lone (itemsBy (entriesIn img) (isBlockOf img) s) limit (root ∷ []) [] (reachedDirs img s) e)
+
 -- how often reached entries name an anode, directory by directory
-naming-is : (img : List ℕ) (s : Anodes) (x : ℕ) → naming img s x ≡ sumList (namedIn (itemsBy (entriesIn img) (isBlockOf img) s) x) (reachedDirs img s)
-unfolding naming reached itemsOf
-naming-is img s x = naming-sum (itemsBy (entriesIn img) (isBlockOf img) s) x (reachedDirs img s)
+naming-is : (img : List ℕ) (s : Anodes) (x : ℕ) → walkOf img s ≡ done (reachedDirs img s) → naming img s x ≡ sumList (namedIn (itemsBy (entriesIn img) (isBlockOf img) s) x) (reachedDirs img s)
+unfolding naming
+naming-is img s x e = ap (λ (l : List Item). occurrences x (map (λ i. i .anode) l)) (reached-plain img s e) ∙ naming-sum (itemsBy (entriesIn img) (isBlockOf img) s) x (reachedDirs img s)
 
 -- ---- an accepted image
 
@@ -96,6 +109,13 @@ module _ {img : List ℕ} (a : AcceptedImage img) where
   unfolding reachedDirs
   accepted-walk = walk-done (walkOf img (anodesOf img)) (walk-faulted img (anodesOf img)) (image-passed .walked)
 
+  -- the walk over the items as they stand, and what is reached
+  pub accepted-plain : walk (itemsBy (entriesIn img) (isBlockOf img) (anodesOf img)) limit (root ∷ []) [] ≡ done (reachedDirs img (anodesOf img))
+  accepted-plain = plain-walk img (anodesOf img) (reachedDirs img (anodesOf img)) accepted-walk
+
+  pub accepted-reached : reached img (anodesOf img) ≡ gather (itemsBy (entriesIn img) (isBlockOf img) (anodesOf img)) (reachedDirs img (anodesOf img))
+  accepted-reached = reached-plain img (anodesOf img) accepted-walk
+
   accepted-state : AcceptedOn img img (reachedDirs img (anodesOf img))
   unfolding walkOf itemsOf
   accepted-state = record {
@@ -104,7 +124,7 @@ module _ {img : List ℕ} (a : AcceptedImage img) where
     walked = accepted-walk;
     all-named = λ x l d. omega (
       arith,
-      naming-is img (anodesOf img) x,
+      naming-is img (anodesOf img) x accepted-walk,
       accepted-one-owner img (a .blocks) (a .anodes) (a .accepted) .named-once x (head-counts (good img (a .blocks) (a .anodes) image-passed) x d) l,
     );
   }
@@ -196,7 +216,7 @@ module _ {img j : List ℕ} (a : AcceptedImage img) {t : Anodes} (d : DiskWith i
       ne-eqb (naming j (anodesOf j) x) 0 (λ z. omega (
         arith,
         z,
-        naming-is j (anodesOf j) x,
+        naming-is j (anodesOf j) x (rw reached-are walk-found),
         ap (sumList (namedIn (itemsBy (entriesIn j) (isBlockOf j) (anodesOf j)) x)) reached-are,
         found .1 .all-named x (leb-true 6 x p) (counts-head (w .good) x (eqb-true _ _ q)),
       ))))

@@ -16,7 +16,7 @@ use Rattle.directory.proofs.Laws.{goodName-length, length-putEntry}
 use Rattle.rules.specs.Counting.{oneAt, occurrences, anyIn}
 use Rattle.rules.specs.Anodes.{Anodes, limit, exists, anodesOf, withAnodes}
 use Rattle.rules.specs.Chains.{chainOf, run, blocksOf}
-use Rattle.rules.specs.Walk.{Dir, Entered, entriesFrom, entriesIn, isBlockOf, reachedDirs}
+use Rattle.rules.specs.Walk.{Dir, Entered, entriesFrom, entriesIn, isBlockOf, itemsBy, reachedDirs}
 use Rattle.rules.specs.Plans.{Slotted}
 use Rattle.rules.specs.Totals.{freeBlocks}
 use Rattle.rules.specs.Format.{newDirectoryBlock}
@@ -186,7 +186,7 @@ module _ {img : List ℕ} {h : ℕ} {new : NewEntry} {f : ℕ} {room : Option �
   unfolding entriesIn isBlockOf
   cont = record { same-entries = λ a one q. rw (old-block a one q); same-marks = λ a one q d. rw (old-block a one q) }
 
-  pub orphan : (hd′ : ℕ → ℕ) × (sd′ : ℕ → ℕ) × OrphanedOn img f t hd′ sd′ (entriesIn before) (isBlockOf before) dirs
+  pub orphan : (hd′ : ℕ → ℕ) × (sd′ : ℕ → ℕ) × OrphanedOn img f (itemsBy (entriesIn img) (isBlockOf img) (anodesOf img)) t hd′ sd′ (entriesIn before) (isBlockOf before) dirs
   unfolding entriesIn
   orphan = made-orphan img w f (m .fresh .below) spare h once (new .dir) (m .steps .between) ys (m .steps .own) (noRoom room) u zs (m .steps .parent) (entriesIn before) (isBlockOf before) cont
       (λ y e. rw (parent-new y (first-in y zs e)) (entries-new h (parentOf dirs h) y))
@@ -266,7 +266,7 @@ module _ {img : List ℕ} {h : ℕ} {new : NewEntry} {f : ℕ} {room : Option �
 
   -- the new entry, as it stands in its block
   abbrev pub entered : Entered
-  entered = enteredAt (entryOf new f) (entryStart room zs)
+  entered = enteredAt (entryOf new f) (new .name) (entryStart room zs)
 
   -- the image that a make leaves
   abbrev j : List ℕ
@@ -308,7 +308,7 @@ module _ {img : List ℕ} {h : ℕ} {new : NewEntry} {f : ℕ} {room : Option �
       let y = t .block (spot .anode) in
       ap (λ (b : List ℕ). entriesFrom 28 b y 16) entry-block
       ∙ entries-put (blockOf before y) y (entryOf new f) (new .name) (new .comment) (length-blockOf before y (inside-before y spot-data)) (spot .fits) refl refl (m .named) (leb-true (length (new .comment)) 79 (m .commented)) (spot .unbroken)
-      ∙ ap (λ (p : ℕ). entriesFrom 28 (blockOf before y) y 16 ++ (enteredAt (entryOf new f) p ∷ [])) (sym (spot .at))
+      ∙ ap (λ (p : ℕ). entriesFrom 28 (blockOf before y) y 16 ++ (enteredAt (entryOf new f) (new .name) p ∷ [])) (sym (spot .at))
 
   pub marks-made : (d : Dir) → isBlockOf j d (t .block (spot .anode)) ≡ isBlockOf before d (t .block (spot .anode))
   unfolding isBlockOf entriesIn entriesEnd

@@ -4,17 +4,19 @@ use mathlib.Core.Path.{_≡_, refl, sym, ap, _∙_}
 use mathlib.Core.Logic.{_≢_, _⊎_, inl, inr}
 use mathlib.Core.Bool.{Bool, true, false, cond}
 use mathlib.Core.List.{List, [], _∷_}
-use mathlib.Core.Option.{Option}
+use mathlib.Core.Option.{Option, none}
 use native.Mathlib.Omega.{arith}
 use lib.ListN.{length}
 use borrow.Author.Tests.{lt-ltb, le-ltb}
 use Rattle.disk.specs.Blocks.{blockOf}
 use Rattle.directory.specs.declared.Kind.the-variants.{File, Directory}
 use Rattle.directory.specs.Entries.{goodName, goodComment, entryLength, isDir}
-use Rattle.rules.specs.Counting.{sumList, occurrences}
+use Rattle.rules.specs.Counting.{sumList, occurrences, gather}
+use Rattle.rules.specs.Folding.{folded}
 use Rattle.rules.specs.Anodes.{Anodes, limit, existsBy, exists, anodesOf}
-use Rattle.rules.specs.Chains.{blocksOf, blockCount}
-use Rattle.rules.specs.Walk.{Dir, entriesIn, isBlockOf, blocksFor, itemsBy, reachedDirs, dirMade}
+use Rattle.rules.specs.Chains.{chainOf, blocksOf, blockCount}
+use Rattle.rules.specs.Walk.{Dir, Item, entriesIn, isBlockOf, blocksFor, itemsBy, reachedDirs, dirMade}
+use Rattle.rules.specs.Lookup.{entriesOf, firstNamed, entryNamed}
 use Rattle.rules.specs.Plans.{Slotted, tableOf, Plan, refused, planned, Growth, noGrowth}
 use Rattle.rules.specs.Space.{lowestFree, needAnode, withSpare}
 use Rattle.rules.specs.Format.{newDirectoryBlock}
@@ -25,13 +27,17 @@ use Rattle.laws.specs.Bags.{list-cons, list-append, list-one, first-in}
 use Rattle.laws.specs.Plans.{planned≢refused, refused≢planned, planned-same, afresh-planned}
 use Rattle.laws.specs.Arriving.{need-cases}
 use Rattle.laws.specs.RefusedSteps.{spare-refused, take-refused}
+use Rattle.laws.specs.Each.{Each, each-map, each-zero}
+use Rattle.laws.specs.Items.{faults}
+use Rattle.laws.specs.Apart.{nameCount}
 use Rattle.laws.specs.Entries.{weighEntry}
 use Rattle.laws.specs.Make.{SameMarks, EntryMore, enter-file, enter-directory}
 use Rattle.laws.specs.NewDirectory.{none-new}
+use Rattle.laws.specs.NamesApart.{NamesApart, unnamed-count, accepted-names-apart}
 use Rattle.change_laws.specs.Answers.{StepsAnswer}
 use Rattle.change_laws.specs.Image.{WholeOn, StillAccepted, whole-accepted, reached-sum, ReachedDir}
 use Rattle.change_laws.specs.Reached.{reached-head}
-use Rattle.change_laws.specs.MadeImage.{Making, spare, parent, once, plan, before, own-new, orphan, spot, entered, made-disk, entries-made, marks-made, entry-other, its-head, other-entries}
+use Rattle.change_laws.specs.MadeImage.{Making, spare, parent, w, once, plan, before, own-new, orphan, spot, entered, made-disk, entries-made, marks-made, entry-other, its-head, other-entries}
 
 module _ {img : List ℕ} {h : ℕ} {new : NewEntry} {f : ℕ} {room : Option ℕ} {ys : List ℕ} {u : Slotted} {zs : List ℕ} (m : Making img h new f room ys u zs) where
   abbrev t : Anodes
@@ -89,29 +95,44 @@ module _ {img : List ℕ} {h : ℕ} {new : NewEntry} {f : ℕ} {room : Option �
   abbrev grown : Bool → List Dir
   grown b = cond b (newDir ∷ dirs) dirs
 
-  made-whole : WholeOn img j t (orphan m .0) (orphan m .1) (grown (new .dir))
+  is-dir : (b : Bool) → isDir (cond b Directory File) ≡ b
+  is-dir true = refl
+  is-dir false = refl
+
+-- where the directory has no entry of that name
+module _ {img : List ℕ} {h : ℕ} {new : NewEntry} {f : ℕ} {room : Option ℕ} {ys : List ℕ} {u : Slotted} {zs : List ℕ} (m : Making img h new f room ys u zs)
+    (unused : entryNamed img (anodesOf img) h (new .name) ≡ none) where
+  abbrev items : Dir → List Item
+  items = itemsBy (entriesIn img) (isBlockOf img) (anodesOf img)
+
+  -- no item of it has the name
+  free-name : Each (λ d. d .head ≡ h → nameCount (folded (new .name)) (items d) ≡ 0) (dirs m)
+  unfolding entryNamed entriesOf
+  free-name = each-map (λ d. faults items d ≡ 0) (λ d. d .head ≡ h → nameCount (folded (new .name)) (items d) ≡ 0) (dirs m)
+      (λ d z q. unnamed-count (entriesIn img) (isBlockOf img) (s m) d z (new .name)
+      (ap (λ (k : ℕ). firstNamed (new .name) (gather (λ a. entriesIn img (s m .block a)) (chainOf (s m .next) limit k))) q ∙ unused))
+      (each-zero (faults items) (dirs m) (w m .tree .faultless))
+
+  made-whole : WholeOn img (j m) (t m) (orphan m .0) (orphan m .1) (grown m (new .dir))
   unfolding entryOf
   made-whole = go (new .dir) refl
     where
-      is-dir : (b : Bool) → isDir (cond b Directory File) ≡ b
-      is-dir true = refl
-      is-dir false = refl
+      go : (b : Bool) → new .dir ≡ b → WholeOn img (j m) (t m) (orphan m .0) (orphan m .1) (grown m b)
+      go true d = enter-directory (entered m) (orphan m .2) (spare m .from-6) refl (inl (is-dir m (new .dir) ∙ d)) (spot m .anode) h (once m) (its-head m) (entriesIn (j m)) (isBlockOf (j m))
+          (gained m) (same-marks m) (w m .apart) free-name (is-dir m (new .dir) ∙ d) (own-empty m d)
+      go false d = enter-file (entered m) (orphan m .2) (spare m .from-6) refl (inr (none-yet m d)) (spot m .anode) h (once m) (its-head m) (entriesIn (j m)) (isBlockOf (j m))
+          (gained m) (same-marks m) (w m .apart) free-name (is-dir m (new .dir) ∙ d)
 
-      go : (b : Bool) → new .dir ≡ b → WholeOn img j t (orphan m .0) (orphan m .1) (grown b)
-      go true d = enter-directory (entered m) (orphan m .2) (spare m .from-6) refl (inl (is-dir (new .dir) ∙ d)) (spot m .anode) h (once m) (its-head m) (entriesIn j) (isBlockOf j)
-          gained same-marks (is-dir (new .dir) ∙ d) (own-empty d)
-      go false d = enter-file (entered m) (orphan m .2) (spare m .from-6) refl (inr (none-yet d)) (spot m .anode) h (once m) (its-head m) (entriesIn j) (isBlockOf j)
-          gained same-marks (is-dir (new .dir) ∙ d)
-
-  image-accepted : StillAccepted (parent m .image) j
+  image-accepted : StillAccepted (parent m .image) (j m)
   image-accepted = whole-accepted (parent m .image) (made-disk m) made-whole
 
   -- the directories that were reached are reached, and the new one
-  pub made-dirs : (weight : Dir → ℕ) → sumList weight (reachedDirs j (anodesOf j)) ≡ sumList weight dirs + cond (new .dir) (weight newDir) 0
+  pub made-dirs : (weight : Dir → ℕ) → sumList weight (reachedDirs (madeImage img (anodesOf img) h new f room ys u zs) (anodesOf (madeImage img (anodesOf img) h new f room ys u zs)))
+      ≡ sumList weight (reachedDirs img (anodesOf img)) + cond (new .dir) (weight (dirMade f h)) 0
   made-dirs weight = reached-sum (parent m .image) (made-disk m) made-whole weight ∙ go (new .dir)
     where
-      go : (b : Bool) → sumList weight (grown b) ≡ sumList weight dirs + cond b (weight newDir) 0
-      go true = omega (arith, list-cons weight newDir dirs)
+      go : (b : Bool) → sumList weight (grown m b) ≡ sumList weight (dirs m) + cond b (weight (newDir m)) 0
+      go true = omega (arith, list-cons weight (newDir m) (dirs m))
       go false = omega arith
 
 -- ---- every way that a make can end
@@ -169,11 +190,11 @@ spare-there img q xs e = elim (afresh-planned noGrowth (needAnode limit) (tableO
   ]
 ]
 
--- what a make leaves of an accepted image is accepted
-pub make-accepted : {img : List ℕ} {h : ℕ} (r : ReachedDir img h) (new : NewEntry) → goodName (new .name) ≡ true → goodComment (new .comment) ≡ true →
+-- what a make leaves of an accepted image is accepted, where the directory has no entry of that name
+pub make-accepted : {img : List ℕ} {h : ℕ} (r : ReachedDir img h) (new : NewEntry) → goodName (new .name) ≡ true → goodComment (new .comment) ≡ true → entryNamed img (anodesOf img) h (new .name) ≡ none →
     StillAccepted (r .image) (made noGrowth img (tableOf img) h new .image)
 unfolding roomFor
-make-accepted {img} {h} r new named commented =
+make-accepted {img} {h} r new named commented unused =
     let a = r .image in
     made-cases noGrowth img (tableOf img) h new (λ o. StillAccepted a (o .image)) (a .accepted) (a .accepted)
     (λ q xs e between ys f t zs i. done-accepted q (spare-there img q xs e) between ys f t zs i)
@@ -187,4 +208,9 @@ make-accepted {img} {h} r new named commented =
       steps = record { between = between; own = rw same at f; roomy = refl; parent = i };
       named = named;
       commented = commented;
-    }))
+    }) unused)
+
+-- and so its names are apart: a make keeps them so
+pub make-names-apart : {img : List ℕ} {h : ℕ} (r : ReachedDir img h) (new : NewEntry) → goodName (new .name) ≡ true → goodComment (new .comment) ≡ true → entryNamed img (anodesOf img) h (new .name) ≡ none →
+    NamesApart (made noGrowth img (tableOf img) h new .image)
+make-names-apart r new named commented unused = accepted-names-apart _ (r .image .blocks) (r .image .anodes) (make-accepted r new named commented unused)

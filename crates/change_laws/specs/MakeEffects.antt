@@ -4,7 +4,7 @@ use mathlib.Core.Path.{_≡_, refl, sym, ap, ap₂, _∙_}
 use mathlib.Core.Logic.{_≢_, inl, inr}
 use mathlib.Core.Bool.{Bool, true, false, cond}
 use mathlib.Core.List.{List, [], _∷_, _++_, append-assoc, append-nil}
-use mathlib.Core.Option.{Option}
+use mathlib.Core.Option.{Option, none}
 use native.Mathlib.Omega.{arith}
 use lib.ListN.{length, getD, take, drop}
 use borrow.Author.Tests.{leb-true}
@@ -21,7 +21,7 @@ use Rattle.rules.specs.Anodes.{Anodes, limit, anodesOf}
 use Rattle.rules.specs.Chains.{chainOf, blocksOf}
 use Rattle.rules.specs.Walk.{Entered, entriesIn, reachedDirs}
 use Rattle.rules.specs.Plans.{Slotted}
-use Rattle.rules.specs.Lookup.{noDirectory, entriesOf, nameAt, contents}
+use Rattle.rules.specs.Lookup.{noDirectory, entriesOf, nameAt, entryNamed, contents}
 use Rattle.rules.specs.Changes.{entriesEnd, parentOf, entryStart, NewEntry, entryOf, madeImage}
 use Rattle.laws.specs.Tests.{same?, less?, not-above}
 use Rattle.laws.specs.Sums.{oneAt-same, oneAt-other}
@@ -131,7 +131,7 @@ module _ {img : List ℕ} {h : ℕ} {new : NewEntry} {f : ℕ} {room : Option �
 
   -- along other anodes of it nothing has changed
   now-was : (l : List ℕ) → ((a : ℕ) → occurrences a l ≤ occurrences a (chainOf (t .next) limit h)) → occurrences (spot m .anode) l ≡ 0 → gather now l ≡ gather was l
-  now-was l part none = gather-kept was now l (λ a p. other-entries m a (ones a (omega (arith, p, part a))) (λ e. omega (arith, p, none, ap (λ (x : ℕ). occurrences x l) e)))
+  now-was l part off = gather-kept was now l (λ a p. other-entries m a (ones a (omega (arith, p, part a))) (λ e. omega (arith, p, off, ap (λ (x : ℕ). occurrences x l) e)))
 
   -- the directory has its entries and the new one
   pub entry-added : OneMore (entered m) (entriesOf img s h) (entriesOf j (anodesOf j) h)
@@ -153,22 +153,23 @@ module _ {img : List ℕ} {h : ℕ} {new : NewEntry} {f : ℕ} {room : Option �
                 ∙ append-assoc (gather was front ++ was a) (entered m ∷ []) (gather was back),
           )
 
-  -- ---- the directories
+  -- ---- the directories, where the name was not there
 
-  headed-made : (x : ℕ) → headed x (reachedDirs j (anodesOf j)) ≡ headed x (reachedDirs img s) + cond (new .dir) (oneAt f x) 0
-  headed-made x = made-dirs m (λ d. oneAt (d .head) x)
+  module _ (unused : entryNamed img (anodesOf img) h (new .name) ≡ none) where
+    headed-made : (x : ℕ) → headed x (reachedDirs j (anodesOf j)) ≡ headed x (reachedDirs img s) + cond (new .dir) (oneAt f x) 0
+    headed-made x = made-dirs m unused (λ d. oneAt (d .head) x)
 
-  -- those that were reached are reached, and but for the new one no other
-  pub reached-kept : (x : ℕ) → x ≢ f → noDirectory j (anodesOf j) x ≡ noDirectory img s x
-  reached-kept x o = headed-same img j s (anodesOf j) x (omega (arith, headed-made x, none (new .dir)))
-    where
-      none : (b : Bool) → cond b (oneAt f x) 0 ≡ 0
-      none true = oneAt-other f x (λ e. o (sym e))
-      none false = refl
+    -- those that were reached are reached, and but for the new one no other
+    pub reached-kept : (x : ℕ) → x ≢ f → noDirectory j (anodesOf j) x ≡ noDirectory img s x
+    reached-kept x o = headed-same img j s (anodesOf j) x (omega (arith, headed-made x, nowhere (new .dir)))
+      where
+        nowhere : (b : Bool) → cond b (oneAt f x) 0 ≡ 0
+        nowhere true = oneAt-other f x (λ e. o (sym e))
+        nowhere false = refl
 
-  -- a new directory is reached
-  pub new-reached : new .dir ≡ true → noDirectory j (anodesOf j) f ≡ false
-  new-reached d = headed-reached j (anodesOf j) f (omega (arith, headed-made f, ap (λ (b : Bool). cond b (oneAt f f) 0) d, oneAt-same f f refl))
+    -- a new directory is reached
+    pub new-reached : new .dir ≡ true → noDirectory j (anodesOf j) f ≡ false
+    new-reached d = headed-reached j (anodesOf j) f (omega (arith, headed-made f, ap (λ (b : Bool). cond b (oneAt f f) 0) d, oneAt-same f f refl))
 
   -- ---- other chains
 

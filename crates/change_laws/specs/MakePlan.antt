@@ -12,7 +12,7 @@ use Rattle.disk.specs.Root.{slotOf}
 use Rattle.rules.specs.Counting.{occurrences, changed}
 use Rattle.rules.specs.Anodes.{Anodes, limit, exists, anodesOf}
 use Rattle.rules.specs.Chains.{chainOf, blocksOf, systemOwns}
-use Rattle.rules.specs.Walk.{Dir, Entered}
+use Rattle.rules.specs.Walk.{Dir, Entered, Item, itemsBy}
 use Rattle.rules.specs.Accepted.{diskSize, lastReserved}
 use Rattle.rules.specs.Plans.{Slotted, slotted, tableOf, planned, noGrowth}
 use Rattle.rules.specs.Space.{rewritten, free, lowestFree}
@@ -40,9 +40,9 @@ use Rattle.laws.specs.Items.{headed}
 use Rattle.change_laws.specs.Image.{GoodOn, WholeWith, ReachedDir}
 use Rattle.change_laws.specs.ResizePlan.{exist-same, moves-good}
 
--- anodes t on the disk of img, where no entry names the chain of f
-abbrev pub OrphanedOn : List ℕ → ℕ → Anodes → (ℕ → ℕ) → (ℕ → ℕ) → (ℕ → List Entered) → (Dir → ℕ → Bool) → List Dir → Type 0
-OrphanedOn img f t hd sd entries marked dirs = Orphaned (exists img) (diskSize img) (lastReserved img) f t (systemOwns img) hd sd entries marked dirs
+-- anodes t on the disk of img, where no entry names the chain of f, and the names are those of the items `old`
+abbrev pub OrphanedOn : List ℕ → ℕ → (Dir → List Item) → Anodes → (ℕ → ℕ) → (ℕ → ℕ) → (ℕ → List Entered) → (Dir → ℕ → Bool) → List Dir → Type 0
+OrphanedOn img f old t hd sd entries marked dirs = Orphaned (exists img) (diskSize img) (lastReserved img) f old t (systemOwns img) hd sd entries marked dirs
 
 -- h heads a reached directory of an accepted image, and f is the lowest free anode
 pub record Fresh (img : List ℕ) (h f : ℕ) : Type 0 where
@@ -107,7 +107,7 @@ module _ (img : List ℕ) {s : Anodes} {hd sd : ℕ → ℕ} {entries : ℕ → 
   fresh-not-1 q = omega (arith, is-free .from-6, q)
 
   -- the fresh head, while the directories stay as they are
-  orphan : OrphanedOn img f begun (changed hd f f) (changed sd f f) entries marked dirs
+  orphan : OrphanedOn img f (itemsBy entries marked s) begun (changed hd f f) (changed sd f f) entries marked dirs
   orphan = fresh-orphan w f fA is-free entries marked (contents-unchanged s hd entries marked)
 
   -- ---- the own block
@@ -187,10 +187,10 @@ module _ (img : List ℕ) {s : Anodes} {hd sd : ℕ → ℕ} {entries : ℕ → 
     own-slots = needed-slots dir f (slotted begun (slotOf img)) R ys own
 
     owned : (entries′ : ℕ → List Entered) (marked′ : Dir → ℕ → Bool) → SameContents s hd entries marked entries′ marked′ →
-        OrphanedOn img f (R .anodes) (step .hd′) (step .sd′) entries′ marked′ dirs
+        OrphanedOn img f (itemsBy entries marked s) (R .anodes) (step .hd′) (step .sd′) entries′ marked′ dirs
     owned entries′ marked′ cont = orphan-changed (fresh-orphan w f fA is-free entries′ marked′ cont) (is-free .from-6) (step .good) (step .shift)
 
-    o : OrphanedOn img f (R .anodes) (step .hd′) (step .sd′) entries marked dirs
+    o : OrphanedOn img f (itemsBy entries marked s) (R .anodes) (step .hd′) (step .sd′) entries marked dirs
     o = owned entries marked (contents-unchanged s hd entries marked)
 
     parent-none : ParentGrown r (step .hd′) h false [] r
@@ -327,7 +327,7 @@ module _ (img : List ℕ) {s : Anodes} {hd sd : ℕ → ℕ} {entries : ℕ → 
     pub made-orphan : (needed : Bool) (t : Slotted) (zs : List ℕ) → neededBlock noGrowth needed h R ≡ planned t zs → (entries′ : ℕ → List Entered) (marked′ : Dir → ℕ → Bool) →
         SameContents s hd entries marked entries′ marked′ →
         ((y : ℕ) → zs ≡ y ∷ [] → entries′ y ≡ []) → ((y : ℕ) → zs ≡ y ∷ [] → Each (λ d. d .head ≡ h → T (marked′ d y)) dirs) →
-        (hd′ : ℕ → ℕ) × (sd′ : ℕ → ℕ) × OrphanedOn img f (t .anodes) hd′ sd′ entries′ marked′ dirs
+        (hd′ : ℕ → ℕ) × (sd′ : ℕ → ℕ) × OrphanedOn img f (itemsBy entries marked s) (t .anodes) hd′ sd′ entries′ marked′ dirs
     unfolding neededBlock
     made-orphan false t zs e entries′ marked′ same empty its = (step .hd′, step .sd′, rw (sym (planned-same R t [] zs e .0)) (owned entries′ marked′ same))
     made-orphan true t zs e entries′ marked′ same empty its =

@@ -14,7 +14,7 @@ use Rattle.disk.specs.Blocks.{blockOf}
 use Rattle.directory.specs.declared.Entry.{Entry}
 use Rattle.directory.specs.declared.Walked.the-variants.{Found}
 use Rattle.directory.specs.Entries.{directoryHeaderIn, goodName, entryLength, entryIn, walkedAt, putEntry}
-use Rattle.directory.proofs.Laws.{length-putEntry, getD-putEntry-before, walkedAt-putEntry-end, entryIn-putEntry, walkedAt-putEntry, found-at}
+use Rattle.directory.proofs.Laws.{length-putEntry, getD-putEntry-before, walkedAt-putEntry-end, entryIn-putEntry, nameIn-putEntry, walkedAt-putEntry, found-at}
 use Rattle.rules.specs.Counting.{occurrences}
 use Rattle.rules.specs.Walk.{Entered, entriesFrom}
 use Rattle.rules.specs.Format.{newDirectoryBlock}
@@ -22,7 +22,7 @@ use Rattle.rules.specs.Changes.{endFrom, entriesEnd, firstRoom}
 use Rattle.laws.specs.Bags.{occurrences-cons, occurrences-here}
 use Rattle.laws.specs.NewDirectory.{mark-new}
 use Rattle.laws.specs.Entries.{Unbroken}
-use Rattle.change_laws.specs.FoundEntries.{head-same, walked-same, enteredAt, entries-more, entries-end, EndOrEntry, unbroken-cases, end-more, end-here, end-bounds}
+use Rattle.change_laws.specs.FoundEntries.{head-same, same-nameIn, walked-same, enteredAt, entries-more, entries-end, EndOrEntry, unbroken-cases, end-more, end-here, end-bounds}
 
 -- ---- an entry at the end mark's place
 
@@ -43,20 +43,20 @@ module _ (b : List ℕ) (y : ℕ) (e : Entry) (name comment : List ℕ) (whole :
       let is = entryIn-putEntry b end e name comment named commented whole room in
       found-at b′ end e found .exact ∙ ap₂ entryLength (ap (λ (x : Entry). x .name) is) (ap (λ (x : Entry). x .comment) is)
 
-  put-here : (k : ℕ) → entriesFrom (suc k) b′ y end ≡ enteredAt e (y * 512 + end) ∷ []
+  put-here : (k : ℕ) → entriesFrom (suc k) b′ y end ≡ enteredAt e name (y * 512 + end) ∷ []
   put-here k =
       entries-more b′ y k end e found
-      ∙ ap (λ (l : List Entered). enteredAt e (y * 512 + end) ∷ l) (entries-end b′ y k (end + getD b′ end 0) (rw first (walkedAt-putEntry-end b end e name comment)))
+      ∙ ap₂ (λ (v : List ℕ) (l : List Entered). enteredAt e v (y * 512 + end) ∷ l) (nameIn-putEntry b end e name comment named commented whole room) (entries-end b′ y k (end + getD b′ end 0) (rw first (walkedAt-putEntry-end b end e name comment)))
 
   put-behind : (k at : ℕ) → at ≤ 510 → 520 ≤ at + 18 * k → Unbroken (entriesFrom k b y at) → endFrom k b at ≡ end →
-      entriesFrom k b′ y at ≡ entriesFrom k b y at ++ (enteredAt e (y * 512 + end) ∷ [])
+      entriesFrom k b′ y at ≡ entriesFrom k b y at ++ (enteredAt e name (y * 512 + end) ∷ [])
   put-behind zero at l m u q = absurd (omega arith)
   put-behind (suc k) at l m u q = go (unbroken-cases b y k at u) (put-behind k)
     where
       go : EndOrEntry b y k at →
           ((at : ℕ) → at ≤ 510 → 520 ≤ at + 18 * k → Unbroken (entriesFrom k b y at) → endFrom k b at ≡ end →
-          entriesFrom k b′ y at ≡ entriesFrom k b y at ++ (enteredAt e (y * 512 + end) ∷ [])) →
-          entriesFrom (suc k) b′ y at ≡ entriesFrom (suc k) b y at ++ (enteredAt e (y * 512 + end) ∷ [])
+          entriesFrom k b′ y at ≡ entriesFrom k b y at ++ (enteredAt e name (y * 512 + end) ∷ [])) →
+          entriesFrom (suc k) b′ y at ≡ entriesFrom (suc k) b y at ++ (enteredAt e name (y * 512 + end) ∷ [])
       go (inl z) rec =
           let here : at ≡ end = sym (end-here b k at z) ∙ q in
           rw (entries-end b y (suc k) at z, here) (put-here k)
@@ -69,11 +69,12 @@ module _ (b : List ℕ) (y : ℕ) (e : Entry) (name comment : List ℕ) (whole :
           let w′ = walked-same b b′ at at whole (length-putEntry b end e name comment ∙ whole) f (f .room) same ∙ w in
           let next : at + getD b′ at 0 ≡ at + getD b at 0 = ap (λ (i : ℕ). at + i) (getD-putEntry-before b end e name comment at (omega (arith, f .long))) in
           entries-more b′ y k at x w′
-          ∙ ap (λ (l : List Entered). enteredAt x (y * 512 + at) ∷ l) (ap (entriesFrom k b′ y) next ∙ rec (at + getD b at 0) (f .room) fuel r further)
-          ∙ sym (ap (λ (l : List Entered). l ++ (enteredAt e (y * 512 + end) ∷ [])) (entries-more b y k at x w))
+          ∙ ap₂ (λ (v : List ℕ) (l : List Entered). enteredAt x v (y * 512 + at) ∷ l) (same-nameIn b b′ at at whole (length-putEntry b end e name comment ∙ whole) f (f .room) same)
+          (ap (entriesFrom k b′ y) next ∙ rec (at + getD b at 0) (f .room) fuel r further)
+          ∙ sym (ap (λ (l : List Entered). l ++ (enteredAt e name (y * 512 + end) ∷ [])) (entries-more b y k at x w))
 
   -- a block's entries, with one more behind the last
-  pub entries-put : Unbroken (entriesFrom 28 b y 16) → entriesFrom 28 b′ y 16 ≡ entriesFrom 28 b y 16 ++ (enteredAt e (y * 512 + end) ∷ [])
+  pub entries-put : Unbroken (entriesFrom 28 b y 16) → entriesFrom 28 b′ y 16 ≡ entriesFrom 28 b y 16 ++ (enteredAt e name (y * 512 + end) ∷ [])
   unfolding entriesEnd
   entries-put u = put-behind 28 16 (omega arith) (omega arith) u refl
 

@@ -19,12 +19,12 @@ use Rattle.directory.specs.declared.Walked.the-variants.{Found, End, Fault}
 use Rattle.directory.specs.Entries.{directoryHeaderIn, kindRead, nameLength, commentLength, nameIn, entryShaped, entryIn, walkedKind, walkedAt}
 use Rattle.directory.proofs.Laws.{found-at, end-at}
 use Rattle.rules.specs.Walk.{Entered, entriesFrom}
-use Rattle.change_laws.specs.FoundEntries.{head-same, walked-same, entries-more, entries-end, unbroken-cases, standing-found, reaches}
+use Rattle.change_laws.specs.FoundEntries.{head-same, same-nameIn, walked-same, entries-more, entries-end, unbroken-cases, standing-found, reaches}
 use Rattle.laws.specs.Entries.{Unbroken}
 
 -- the same entry with another size
 abbrev pub sized : ℕ → Entered → Entered
-sized new e = record { broken = e .broken; dir = e .dir; anode = e .anode; size = new; start = e .start }
+sized new e = record { broken = e .broken; dir = e .dir; anode = e .anode; size = new; name = e .name; start = e .start }
 
 -- an entry with another size
 abbrev withNew : ℕ → Entry → Entry
@@ -114,7 +114,7 @@ entries-later b b′ y whole whole′ (suc m) at same u = elim (unbroken-cases b
   | inl o ↦ entries-end b′ y (suc m) at (rw (same at (omega arith) ∙ end-at b at o)) ∙ sym (entries-end b y (suc m) at o)
   | inr o ↦ (let g = found-at b at (o .0) (o .1) in
       entries-more b′ y m at (o .0) (walked-same b b′ at at whole whole′ g (g .room) (λ i l. same (at + i) (omega arith)) ∙ o .1)
-      ∙ rw (same at (omega arith), entries-later b b′ y whole whole′ m (at + getD b at 0) (λ i l. same i (omega arith)) (o .2)) (sym (entries-more b y m at (o .0) (o .1))))
+      ∙ rw (same at (omega arith), same-nameIn b b′ at at whole whole′ g (g .room) (λ i l. same (at + i) (omega arith)), entries-later b b′ y whole whole′ m (at + getD b at 0) (λ i l. same i (omega arith)) (o .2)) (sym (entries-more b y m at (o .0) (o .1))))
 ]
 
 module _ (b : List ℕ) (y at new : ℕ) (whole : length b ≡ 512) (e : Entered) (ys : List Entered) (start : e .start ≡ y * 512 + at) where
@@ -133,6 +133,7 @@ module _ (b : List ℕ) (y at new : ℕ) (whole : length b ≡ 512) (e : Entered
       ∙ ap (λ (l : List Entered). xs ++ l) (entries-more c y (r .m) at (withNew new (s .entry)) (walked-new b at new (omega (arith, whole, g .long, g .room)) ∙ ap (onFound new) (s .walked))
       ∙ rw (
         others b at new at (inl (omega arith)),
+        name-sized b at new,
         entries-later b c y whole whole′ (r .m) (at + getD b at 0) (λ i l. others b at new i (inr (omega (arith, l, g .long)))) (o .unbroken),
       )
       (ap₂ _∷_ (ap (sized new) (sym (s .is))) (o .rest)))

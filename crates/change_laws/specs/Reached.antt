@@ -13,7 +13,7 @@ use Rattle.rules.specs.Counting.{oneAt, sumList, occurrences, gather}
 use Rattle.rules.specs.Anodes.{Anodes, limit, anodesOf}
 use Rattle.rules.specs.Chains.{chainOf, oneIfHead, run, blocksOf, blockCount}
 use Rattle.rules.specs.Walk.{Dir, dirMade, root, Entered, Item, entriesIn, isBlockOf, blocksFor, itemOf, brokenItem, itemsAt, itemsBy, itemsOf, subDirs, walkOf, reachedDirs}
-use Rattle.rules.specs.Lookup.{noDirectory, entriesOf, isNamed, firstNamed, entryNamed, nth}
+use Rattle.rules.specs.Lookup.{noDirectory, entriesOf, nameAt, isNamed, firstNamed, entryNamed, nth}
 use Rattle.laws.specs.Tests.{T-true}
 use Rattle.laws.specs.Sums.{oneAt-cases, oneAt-same}
 use Rattle.laws.specs.Bags.{list-one, list-congr, map-sum}
@@ -28,23 +28,23 @@ use Rattle.laws.specs.Entries.{broken-wrong, item-fine, item-anode, item-dir, i
 use Rattle.laws.specs.Whole.{Whole, counts-head, not-dir, dir-heads, named-heads}
 use Rattle.laws.specs.Members.{Member, no-member, member-first, member-cons, member-left, member-right, member-later, member-each, member-sum, none-pass, member-gather, member-occurrences, gather-part}
 use Rattle.frames.specs.DisjointBlocks.{DataBlock, chain-block}
-use Rattle.change_laws.specs.Image.{AcceptedWhole, headIn, AcceptedImage, accepted-walk, accepted-whole, headed-named, headed-reached, reached-some, ReachedDir}
+use Rattle.change_laws.specs.Image.{AcceptedWhole, headIn, AcceptedImage, accepted-plain, accepted-whole, headed-named, headed-reached, reached-some, ReachedDir}
 use Rattle.change_laws.specs.FoundEntries.{Standing, standing-start, entry-start, BlockEntry}
 
 -- ---- lookups
 
-first-member : (img name : List ℕ) (l : List Entered) (e : Entered) → firstNamed img name l ≡ some e → Member e l
+first-member : (name : List ℕ) (l : List Entered) (e : Entered) → firstNamed name l ≡ some e → Member e l
 unfolding firstNamed
-first-member img name [] e is = absurd (Option·none-ne-some e is)
-first-member img name (x ∷ l) e is = go (isNamed img name x) is (first-member img name l e)
+first-member name [] e is = absurd (Option·none-ne-some e is)
+first-member name (x ∷ l) e is = go (isNamed name x) is (first-member name l e)
   where
-    go : (t : Bool) → elim t [ true ↦ some x | false ↦ firstNamed img name l ] ≡ some e → (firstNamed img name l ≡ some e → Member e l) → Member e (x ∷ l)
+    go : (t : Bool) → elim t [ true ↦ some x | false ↦ firstNamed name l ] ≡ some e → (firstNamed name l ≡ some e → Member e l) → Member e (x ∷ l)
     go true is rest = ([], l, cc)
     go false is rest = member-later e x l (rest is)
 
 pub named-member : (img : List ℕ) (s : Anodes) (h : ℕ) (name : List ℕ) (e : Entered) → entryNamed img s h name ≡ some e → Member e (entriesOf img s h)
 unfolding entryNamed
-named-member img s h name e is = first-member img name (entriesOf img s h) e is
+named-member img s h name e is = first-member name (entriesOf img s h) e is
 
 pub nth-member : (l : List Entered) (n : ℕ) (e : Entered) → nth l n ≡ some e → Member e l
 unfolding nth
@@ -271,6 +271,11 @@ module _ {img : List ℕ} {h : ℕ} (r : ReachedDir img h) where
 pub entry-facts : {img : List ℕ} {h : ℕ} {e : Entered} → EntryIn img h e → EntryFacts img h e
 entry-facts {e = e} m = facts-of (m .directory) e (m .member)
 
+-- its name is what stands at its place
+pub entry-name : {img : List ℕ} {h : ℕ} {e : Entered} → EntryIn img h e → e .name ≡ nameAt img (e .start)
+unfolding nameAt
+entry-name m = ap (λ (x : Entered). x .name) (entry-facts m .stands .is)
+
 -- a block of its chain is a data block
 pub entry-data : {img : List ℕ} {h : ℕ} {e : Entered} → EntryIn img h e → (y : ℕ) → 0 < occurrences y (blocksOf (anodesOf img) (e .anode)) → DataBlock img y
 entry-data {img} {e = e} m = chain-block img (accepted-whole (m .directory .image) .good) (e .anode) (entry-facts m .head)
@@ -343,8 +348,7 @@ module _ {img : List ℕ} (a : AcceptedImage img) where
       (p′ .0, in-order Q (q′ ++ subs given d) o (both-each Good-dir q′ (subs given d) (p′ .1) (all-each Good-dir (subs given d) (λ c m. sub-reached d (p′ .0) c m))))
 
   dirs-reached : Each Good-dir (reachedDirs img (anodesOf img))
-  unfolding walkOf itemsOf
-  dirs-reached = in-order (reachedDirs img (anodesOf img)) (root ∷ []) (walk-found given limit (root ∷ []) [] (reachedDirs img (anodesOf img)) (accepted-walk a) .order) (top, tt)
+  dirs-reached = in-order (reachedDirs img (anodesOf img)) (root ∷ []) (walk-found given limit (root ∷ []) [] (reachedDirs img (anodesOf img)) (accepted-plain a) .order) (top, tt)
 
   -- the walk reaches no other directory
   pub walked-reaches : (h : ℕ) → noDirectory img (anodesOf img) h ≡ false → Reaches img h

@@ -54,7 +54,7 @@ module _ {img : List ℕ} {e : Entered} {u : Slotted} {ys : List ℕ} (p : Plann
   in-y a q = ap (s .block) q ∙ sym (facts p .in-block)
 
   -- its block has one entry less
-  one-less : (v : Bool → Bool → ℕ → ℕ → ℕ) → sumList (weighEntry v) (entriesIn img y) ≡ sumList (weighEntry v) (entriesIn j y) + weighEntry v e
+  one-less : (v : Bool → Bool → ℕ → ℕ → List ℕ → ℕ) → sumList (weighEntry v) (entriesIn img y) ≡ sumList (weighEntry v) (entriesIn j y) + weighEntry v e
   unfolding entriesIn
   one-less v =
       let low = lowered (getD (blockOf img y) (e .start % 512) 0) in

@@ -42,13 +42,13 @@ resized-other : (h new : ℕ) (x : Entered) → x .anode ≢ h → resizedEntry 
 unfolding resizedEntry
 resized-other h new x n = rw (ne-eqb (x .anode) h n)
 
-resized-fields : (h new : ℕ) (x : Entered) → (resizedEntry h new x .broken ≡ x .broken) × (resizedEntry h new x .dir ≡ x .dir) × (resizedEntry h new x .anode ≡ x .anode)
+resized-fields : (h new : ℕ) (x : Entered) → (resizedEntry h new x .broken ≡ x .broken) × (resizedEntry h new x .dir ≡ x .dir) × (resizedEntry h new x .anode ≡ x .anode) × (resizedEntry h new x .name ≡ x .name)
 unfolding resizedEntry
 resized-fields h new x = go (eqb (x .anode) h)
   where
-    go : (t : Bool) → (cond t (sized new x) x .broken ≡ x .broken) × (cond t (sized new x) x .dir ≡ x .dir) × (cond t (sized new x) x .anode ≡ x .anode)
-    go true = (refl, refl, refl)
-    go false = (refl, refl, refl)
+    go : (t : Bool) → (cond t (sized new x) x .broken ≡ x .broken) × (cond t (sized new x) x .dir ≡ x .dir) × (cond t (sized new x) x .anode ≡ x .anode) × (cond t (sized new x) x .name ≡ x .name)
+    go true = (refl, refl, refl, refl)
+    go false = (refl, refl, refl, refl)
 
 -- entries that do not name h stay
 others-stay : (h new : ℕ) (l : List Entered) → ((x : Entered) → Member x l → x .anode ≢ h) → map (resizedEntry h new) l ≡ l

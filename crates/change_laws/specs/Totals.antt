@@ -11,7 +11,7 @@ use Rattle.disk.specs.Root.{slotOf}
 use Rattle.rules.specs.Counting.{oneAt, sumBelow, sumList}
 use Rattle.rules.specs.Anodes.{Anodes, limit, anodesOf}
 use Rattle.rules.specs.Chains.{oneIfCovers, oneIfHolds, systemBy, systemOwns, blockCount}
-use Rattle.rules.specs.Walk.{Dir, Item, entriesIn, isBlockOf, itemsBy, itemsOf, reached, reachedDirs}
+use Rattle.rules.specs.Walk.{Dir, Item, entriesIn, isBlockOf, itemsBy, reachedDirs}
 use Rattle.rules.specs.Accepted.{diskSize, wrongSlots}
 use Rattle.rules.specs.Totals.{freeBlocks, fileBlocks, directoryBlocks, chainBlocks, anodeBlocks, totalIn, total}
 use Rattle.laws.specs.Tests.{same?, less?}
@@ -27,7 +27,7 @@ use Rattle.laws.specs.Totals.{file-size, filesOf, dirsOf}
 use Rattle.laws.specs.Whole.{blocks-count, named-heads, whole-total}
 use Rattle.laws.specs.TestsPassed.{right-slot}
 use Rattle.laws.specs.Members.{Member, member-sum, member-congr}
-use Rattle.change_laws.specs.Image.{AcceptedWhole, headIn, AcceptedImage, image-passed, accepted-slots, accepted-whole}
+use Rattle.change_laws.specs.Image.{AcceptedWhole, headIn, AcceptedImage, image-passed, accepted-slots, accepted-reached, accepted-whole}
 
 -- ---- the system's blocks
 
@@ -95,14 +95,14 @@ module _ {img : List ℕ} (image : AcceptedImage img) where
   )) .2)
 
   files : filesOf items has dirs ≡ fileBlocks img s
-  unfolding fileBlocks reached itemsOf
+  unfolding fileBlocks
   files =
       member-congr (λ d. sumList (file-size has) (items d)) (λ d. sumList (file-size (blockCount s)) (items d)) dirs
       (λ d m. member-congr (file-size has) (file-size (blockCount s)) (items d) (λ i n. ap (λ (k : ℕ). cond (i .dir) 0 k) (item-blocks d m i n)))
-      ∙ sym (gather-sum items (file-size (blockCount s)) dirs)
+      ∙ sym (gather-sum items (file-size (blockCount s)) dirs) ∙ sym (ap (sumList (file-size (blockCount s))) (accepted-reached image))
 
   directories : dirsOf has dirs ≡ directoryBlocks img s
-  unfolding directoryBlocks reached itemsOf
+  unfolding directoryBlocks
   directories = omega (
     arith,
     w .tree .exact (λ d. has (d .head)),
@@ -111,6 +111,7 @@ module _ {img : List ℕ} (image : AcceptedImage img) where
         (λ d m. below-items items (λ e. has (e .head)) d
         ∙ member-congr (giving (λ e. has (e .head)) (d .head)) (λ i. cond (i .dir) (blockCount s (i .anode)) 0) (items d) (λ i n. ap (λ (k : ℕ). cond (i .dir) k 0) (item-blocks d m i n))),
     gather-sum items (λ i. cond (i .dir) (blockCount s (i .anode)) 0) dirs,
+    ap (sumList (λ i. cond (i .dir) (blockCount s (i .anode)) 0)) (accepted-reached image),
   )
 
   -- a chain of the system's that may be free

@@ -10,15 +10,16 @@ use Rattle.endian.proofs.Laws.{take-stored}
 use Rattle.rules.specs.Counting.{occurrences}
 use Rattle.rules.specs.Anodes.{Anodes, limit, anodesOf}
 use Rattle.rules.specs.Chains.{chainOf, blocksOf}
-use Rattle.rules.specs.Walk.{Dir, root, Entered, entriesIn, isBlockOf, itemsFor, itemsAt, itemsBy, itemsOf, done, walk, walkOf, dirsIn, reachedDirs}
+use Rattle.rules.specs.Walk.{Dir, root, Entered, entriesIn, isBlockOf, itemsFor, itemsAt, itemsBy, twins, itemsOf, done, walkOf, dirsIn, reachedDirs}
 use Rattle.rules.specs.Lookup.{entriesOf, bytesOf, contents}
 use Rattle.rules.specs.Changes.{written}
 use Rattle.laws.specs.Members.{Member, gather-congr}
+use Rattle.laws.specs.Walks.{walk-same}
 use Rattle.frames.specs.Kept.{Kept}
 use Rattle.frames.specs.DisjointBlocks.{chains-apart}
 use Rattle.frames.specs.StoredBytes.{BlocksKept, written-kept, bytesOf-written, bytesOf-written-other}
 use Rattle.change_laws.specs.Image.{WholeOn, AcceptedWhole, headIn, sideIn, AcceptedImage, StillAccepted, accepted-whole, accepted-walk, DiskWith, disk-own, not-among, disk-then, whole-accepted, ReachedDir}
-use Rattle.change_laws.specs.SameItems.{whole-same, walk-same}
+use Rattle.change_laws.specs.SameItems.{whole-same}
 use Rattle.change_laws.specs.EntryBytes.{entryBytes}
 use Rattle.change_laws.specs.KeptChains.{same-chain-own, block-same, entries-same, entry-bytes-same}
 use Rattle.change_laws.specs.Reached.{EntryIn, EntryFacts, member-reached, reached-head, entry-facts, entry-data, not-file}
@@ -67,14 +68,13 @@ module _ {img : List ℕ} {h : ℕ} {e : Entered} (m : EntryIn img h e) (file : 
       gather-congr (itemsAt (entriesIn j) (isBlockOf j) s d) (itemsAt (entriesIn img) (isBlockOf img) s d) (chainOf (s .next) limit (d .head)) (λ a on.
       rw (block-same r j (dir-kept r) a on))
 
-  same-walk : walk (itemsBy (entriesIn j) (isBlockOf j) s) limit (root ∷ []) [] ≡ done (reachedDirs img s)
+  same-walk : walkOf j s ≡ done (reachedDirs img s)
   unfolding walkOf itemsOf
-  same-walk = walk-same (itemsBy (entriesIn img) (isBlockOf img) s) (itemsBy (entriesIn j) (isBlockOf j) s) limit (root ∷ []) [] (reachedDirs img s)
-      (accepted-walk image) same-items
+  same-walk = walk-same (itemsOf img s) (itemsOf j s) limit (root ∷ []) [] (reachedDirs img s) (accepted-walk image) (λ d in-tree. ap (twins []) (same-items d in-tree))
 
   -- the same directories are reached
   pub written-dirs : reachedDirs j s ≡ reachedDirs img s
-  unfolding reachedDirs walkOf itemsOf
+  unfolding reachedDirs
   written-dirs = ap dirsIn same-walk
 
   still-whole : WholeOn img j s (headIn img) (sideIn img) (reachedDirs img s)

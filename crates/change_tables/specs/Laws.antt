@@ -28,7 +28,7 @@ use Rattle.change_tables.specs.Leaves.{Leaves}
 pub late-table : (k : ℕ) → PastDamage k → (range : ℕ) (shown old : List ℕ) → tableLeft k range shown old ≡ tableLeft 0 range shown old
 unfolding tableLeft
 late-table zero l range shown old = absurd (omega arith)
-late-table (suc k) l range shown old = rw (le-leb 1 (suc k) (omega arith), le-leb 5 (suc k) (omega arith), lt-leb (suc k) 4 (omega arith), lt-leb (suc k) 16 (omega arith))
+late-table (suc k) l range shown old = rw (le-leb 1 (suc k) (omega arith), le-leb 5 (suc k) (omega arith), lt-leb (suc k) 4 (omega arith), lt-leb (suc k) 17 (omega arith))
 
 -- a refused change leaves image and tables
 pub leaves-refused : (k : ℕ) → PastDamage k → (img b a : List ℕ) → Leaves k img b a img b a (left k img)

@@ -11,7 +11,7 @@ use borrow.Author.Tests.{le-ltb, lt-ltb, eq-eqb, ne-eqb}
 use borrow.Rule.Slice.PartMut.{putMid, post-is}
 use Rattle.endian.proofs.Laws.{less?, length-put16}
 use Rattle.disk.specs.declared.Refusal.{Refusal}
-use Rattle.disk.specs.declared.Refusal.the-variants.{ImageSize, TableSize, DiskType, RootBlock, AnodeBlock, FixedAnode, AnodeRange, ChainLinks, FreeList, TwoOwners, NoOwner, DirectoryBlock, EntryAnode, NamedTwice, FileSize, UnnamedChain, BadArgument, NoDirectory, NotFound, AlreadyThere, IsDirectory, NotEmpty, PastEnd, NoFreeBlock, NoFreeAnode}
+use Rattle.disk.specs.declared.Refusal.the-variants.{ImageSize, TableSize, DiskType, RootBlock, AnodeBlock, FixedAnode, AnodeRange, ChainLinks, FreeList, TwoOwners, NoOwner, DirectoryBlock, EntryAnode, NamedTwice, FileSize, UnnamedChain, NamesAlike, BadArgument, NoDirectory, NotFound, AlreadyThere, IsDirectory, NotEmpty, PastEnd, NoFreeBlock, NoFreeAnode}
 use Rattle.disk.specs.Refusals.{numberOf}
 use Rattle.disk.specs.Blocks.{blockOf, withBlock}
 use Rattle.disk.specs.Root.{slotIn, slotOf}
@@ -168,6 +168,7 @@ number-some EntryAnode = omega arith
 number-some NamedTwice = omega arith
 number-some FileSize = omega arith
 number-some UnnamedChain = omega arith
+number-some NamesAlike = omega arith
 number-some BadArgument = omega arith
 number-some NoDirectory = omega arith
 number-some NotFound = omega arith

@@ -1,7 +1,7 @@
--- 01, "Refusal numbers, in the order they are tried": the number of each case of the refusal enum.
+-- 01, "Refusal numbers, in the order they are tried", and 02: the number of each case of the refusal enum.
 use Prim.Native.Nat.{ℕ}
 use Rattle.disk.specs.declared.Refusal.{Refusal}
-use Rattle.disk.specs.declared.Refusal.the-variants.{ImageSize, TableSize, DiskType, RootBlock, AnodeBlock, FixedAnode, AnodeRange, ChainLinks, FreeList, TwoOwners, NoOwner, DirectoryBlock, EntryAnode, NamedTwice, FileSize, UnnamedChain, BadArgument, NoDirectory, NotFound, AlreadyThere, IsDirectory, NotEmpty, PastEnd, NoFreeBlock, NoFreeAnode}
+use Rattle.disk.specs.declared.Refusal.the-variants.{ImageSize, TableSize, DiskType, RootBlock, AnodeBlock, FixedAnode, AnodeRange, ChainLinks, FreeList, TwoOwners, NoOwner, DirectoryBlock, EntryAnode, NamedTwice, FileSize, UnnamedChain, NamesAlike, BadArgument, NoDirectory, NotFound, AlreadyThere, IsDirectory, NotEmpty, PastEnd, NoFreeBlock, NoFreeAnode}
 
 -- one number for each case
 abbrev pub numberOf : Refusal → ℕ
@@ -21,6 +21,7 @@ numberOf EntryAnode = 13
 numberOf NamedTwice = 14
 numberOf FileSize = 15
 numberOf UnnamedChain = 16
+numberOf NamesAlike = 17
 numberOf BadArgument = 20
 numberOf NoDirectory = 21
 numberOf NotFound = 22

@@ -47,21 +47,21 @@ module _ (starts : List ℕ) (t : FileSums) where
 
 -- ---- one entry
 
-module _ (starts : List ℕ) (e : Entry) (start : ℕ) (t : FileSums) where
-  pub entry-file : e .kind ≡ File → (size one : ℕ) → size ≡ e .size → one ≡ oneIfMany (getD starts (e .anode .0) 0) → sumsMade (t .bytes + size) (t .split + one) ≡ sumsWith starts t (enteredAt e start ∷ [])
+module _ (starts : List ℕ) (e : Entry) (name : List ℕ) (start : ℕ) (t : FileSums) where
+  pub entry-file : e .kind ≡ File → (size one : ℕ) → size ≡ e .size → one ≡ oneIfMany (getD starts (e .anode .0) 0) → sumsMade (t .bytes + size) (t .split + one) ≡ sumsWith starts t (enteredAt e name start ∷ [])
   unfolding sumsWith fileSize oneIfApart
-  entry-file k size one bytes split = rw (list-one fileSize (enteredAt e start), list-one (oneIfApart starts) (enteredAt e start), k, bytes, split)
+  entry-file k size one bytes split = rw (list-one fileSize (enteredAt e name start), list-one (oneIfApart starts) (enteredAt e name start), k, bytes, split)
 
-  pub entry-directory : e .kind ≡ Directory → t ≡ sumsWith starts t (enteredAt e start ∷ [])
+  pub entry-directory : e .kind ≡ Directory → t ≡ sumsWith starts t (enteredAt e name start ∷ [])
   unfolding sumsWith fileSize oneIfApart
   entry-directory k =
       let b : t .bytes + 0 ≡ t .bytes = omega arith in
       let s : t .split + 0 ≡ t .split = omega arith in
-      rw (list-one fileSize (enteredAt e start), list-one (oneIfApart starts) (enteredAt e start), k, b, s)
+      rw (list-one fileSize (enteredAt e name start), list-one (oneIfApart starts) (enteredAt e name start), k, b, s)
 
 -- what is read at a place, with the entries behind it
-pub sums-found : (starts : List ℕ) (t : FileSums) (w : Walked) (start : ℕ) (rest : List Entered) (e : Entry) (r : FileSums) → w ≡ Found e → r ≡ sumsWith starts t (enteredAt e start ∷ []) → sumsWith starts r rest ≡ sumsWith starts t (withRest w start rest)
-sums-found starts t w start rest e r is added = rw (is, added) (sym (sums-join starts t (enteredAt e start ∷ []) rest))
+pub sums-found : (starts : List ℕ) (t : FileSums) (w : Walked) (name : List ℕ) (start : ℕ) (rest : List Entered) (e : Entry) (r : FileSums) → w ≡ Found e → r ≡ sumsWith starts t (enteredAt e name start ∷ []) → sumsWith starts r rest ≡ sumsWith starts t (withRest w name start rest)
+sums-found starts t w name start rest e r is added = rw (is, added) (sym (sums-join starts t (enteredAt e name start ∷ []) rest))
 
 -- ---- along a chain and along the queue
 

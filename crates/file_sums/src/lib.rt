@@ -46,7 +46,7 @@ fn file_bytes(size: u32) -> u64
 // The sums with an entry more; a directory adds nothing.
 fn add_entry(starts: &[u16], e: Entry, t: FileSums) -> FileSums
     requires { ⌜ EntriesFit t 1 ⌝ }
-    ensures { λ r. ⌜ ((start : ℕ) → r ≡ sumsWith (now (starts .entry)) t (enteredAt e start ∷ [])) × Within t r 1 ⌝ }
+    ensures { λ r. ⌜ ((name : List ℕ) (start : ℕ) → r ≡ sumsWith (now (starts .entry)) t (enteredAt e name start ∷ [])) × Within t r 1 ⌝ }
 {
     let kind = e.kind;
     match kind {

@@ -63,9 +63,9 @@ module _ {img counts firsts nexts queue parents heads : List ℕ} {dirs : ℕ} (
   by-image f x e = e counts ∙ ap f (o .loaded .is-loaded)
 
   -- a search in a reached directory answers what the lookup found
-  pub search-answered : (h : ℕ) → noDirectory img (anodesOf img) h ≡ false → (f : Anodes → Option Entered) (l : Lookup) → ((c : List ℕ) → entryOf l ≡ f (anodesFrom c firsts nexts)) → (r : Search) →
-      Finds r (searchNumber false (entryOf l)) (entryOf l) → Finds r (searchNumber (noDirectory img (anodesOf img) h) (f (anodesOf img))) (f (anodesOf img))
-  search-answered h reached f l same r a = rw (reached, ← by-image f (entryOf l) same) a
+  pub search-answered : (h : ℕ) → noDirectory img (anodesOf img) h ≡ false → (f : Anodes → Option Entered) (l : Lookup) → ((c : List ℕ) → entryOf img l ≡ f (anodesFrom c firsts nexts)) → (r : Search) →
+      ((i : List ℕ) → Finds i r (searchNumber false (entryOf i l)) (entryOf i l)) → Finds img r (searchNumber (noDirectory img (anodesOf img) h) (f (anodesOf img))) (f (anodesOf img))
+  search-answered h reached f l same r a = rw (reached, ← by-image f (entryOf img l) same) (a img)
 
   -- the test of 25, by the blocks and nexts alone
   pub nonempty-by : (e : Entered) (r : Bool) → ((c : List ℕ) → r ≡ cond (e .dir) (isThere (nth (entriesOf img (anodesFrom c firsts nexts) (e .anode)) 0)) false) → notEmptyDir img (anodesOf img) (some e) ≡ r
@@ -73,8 +73,8 @@ module _ {img counts firsts nexts queue parents heads : List ℕ} {dirs : ℕ} (
   nonempty-by e r same = sym (by-image (λ (s : Anodes). cond (e .dir) (isThere (nth (entriesOf img s (e .anode)) 0)) false) r same)
 
 -- what a lookup found, an entry or none, is what is looked for
-pub search-is : (e : Option Entered) (r q : Lookup) → entryOf r ≡ e → r ≡ q → e ≡ entryOf q
-search-is e r q found is = sym found ∙ ap entryOf is
+pub search-is : (img : List ℕ) (e : Option Entered) (r q : Lookup) → entryOf img r ≡ e → r ≡ q → e ≡ entryOf img q
+search-is img e r q found is = sym found ∙ ap (entryOf img) is
 
 pub search-there : (o : Option Entered) (x : Entered) → o ≡ some x → searchNumber false o ≡ 0
 search-there o x is = rw is

@@ -37,7 +37,7 @@ pub enum Search {
 
 // The answer of a search in a reached directory: the entry that was found, or 22.
 fn answer_of(found: Lookup) -> Search
-    ensures { λ r. ⌜ Finds r (searchNumber false (entryOf found)) (entryOf found) ⌝ }
+    ensures { λ r. ⌜ ((img : List ℕ) → Finds img r (searchNumber false (entryOf img found)) (entryOf img found)) ⌝ }
 {
     match found {
         Lookup::Found(e) => Search::Found(e),
@@ -57,7 +57,7 @@ pub fn find_named(
     name: &[u8],
 ) -> Search
     requires { ⌜ OpenFor (now image) (now firsts) (now nexts) (now queue) (now heads) dirs ⌝ }
-    ensures { λ r. ⌜ Finds r (searchNumber (noDirectory (now (image .entry)) (anodesOf (now (image .entry))) (head .0)) (entryNamed (now (image .entry)) (anodesOf (now (image .entry))) (head .0) (now (name .entry)))) (entryNamed (now (image .entry)) (anodesOf (now (image .entry))) (head .0) (now (name .entry))) ⌝ }
+    ensures { λ r. ⌜ Finds (now (image .entry)) r (searchNumber (noDirectory (now (image .entry)) (anodesOf (now (image .entry))) (head .0)) (entryNamed (now (image .entry)) (anodesOf (now (image .entry))) (head .0) (now (name .entry)))) (entryNamed (now (image .entry)) (anodesOf (now (image .entry))) (head .0) (now (name .entry))) ⌝ }
 {
     if !is_reached(heads, queue, dirs, head) {
         return Search::Refused(Refusal::NoDirectory);
@@ -78,7 +78,7 @@ pub fn find_nth(
     n: u64,
 ) -> Search
     requires { ⌜ OpenFor (now image) (now firsts) (now nexts) (now queue) (now heads) dirs ⌝ }
-    ensures { λ r. ⌜ Finds r (listRefusal (now (image .entry)) (anodesOf (now (image .entry))) (head .0) n) (nth (entriesOf (now (image .entry)) (anodesOf (now (image .entry))) (head .0)) n) ⌝ }
+    ensures { λ r. ⌜ Finds (now (image .entry)) r (listRefusal (now (image .entry)) (anodesOf (now (image .entry))) (head .0) n) (nth (entriesOf (now (image .entry)) (anodesOf (now (image .entry))) (head .0)) n) ⌝ }
 {
     if !is_reached(heads, queue, dirs, head) {
         return Search::Refused(Refusal::NoDirectory);
@@ -99,7 +99,7 @@ pub fn find_file(
     name: &[u8],
 ) -> Search
     requires { ⌜ OpenFor (now image) (now firsts) (now nexts) (now queue) (now heads) dirs ⌝ }
-    ensures { λ r. ⌜ Finds r (resizeRefusal (now (image .entry)) (anodesOf (now (image .entry))) (head .0) (now (name .entry))) (entryNamed (now (image .entry)) (anodesOf (now (image .entry))) (head .0) (now (name .entry))) ⌝ }
+    ensures { λ r. ⌜ Finds (now (image .entry)) r (resizeRefusal (now (image .entry)) (anodesOf (now (image .entry))) (head .0) (now (name .entry))) (entryNamed (now (image .entry)) (anodesOf (now (image .entry))) (head .0) (now (name .entry))) ⌝ }
 {
     let found = find_named(image, firsts, nexts, queue, heads, dirs, head, name);
     let e = match found {
@@ -138,7 +138,7 @@ pub fn find_span(
     len: usize,
 ) -> Search
     requires { ⌜ OpenFor (now image) (now firsts) (now nexts) (now queue) (now heads) dirs ⌝ }
-    ensures { λ r. ⌜ Finds r (spanRefusal (now (image .entry)) (anodesOf (now (image .entry))) (head .0) (now (name .entry)) offset len) (entryNamed (now (image .entry)) (anodesOf (now (image .entry))) (head .0) (now (name .entry))) ⌝ }
+    ensures { λ r. ⌜ Finds (now (image .entry)) r (spanRefusal (now (image .entry)) (anodesOf (now (image .entry))) (head .0) (now (name .entry)) offset len) (entryNamed (now (image .entry)) (anodesOf (now (image .entry))) (head .0) (now (name .entry))) ⌝ }
 {
     let found = find_file(image, firsts, nexts, queue, heads, dirs, head, name);
     let e = match found {
@@ -205,7 +205,7 @@ pub fn find_removable(
     name: &[u8],
 ) -> Search
     requires { ⌜ OpenFor (now image) (now firsts) (now nexts) (now queue) (now heads) dirs ⌝ }
-    ensures { λ r. ⌜ Finds r (removeRefusal (now (image .entry)) (anodesOf (now (image .entry))) (head .0) (now (name .entry))) (entryNamed (now (image .entry)) (anodesOf (now (image .entry))) (head .0) (now (name .entry))) ⌝ }
+    ensures { λ r. ⌜ Finds (now (image .entry)) r (removeRefusal (now (image .entry)) (anodesOf (now (image .entry))) (head .0) (now (name .entry))) (entryNamed (now (image .entry)) (anodesOf (now (image .entry))) (head .0) (now (name .entry))) ⌝ }
 {
     let found = find_named(image, firsts, nexts, queue, heads, dirs, head, name);
     let e = match found {

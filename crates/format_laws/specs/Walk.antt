@@ -5,7 +5,7 @@ use mathlib.Core.List.{List, [], _∷_}
 use Rattle.disk.specs.Blocks.{blockOf}
 use Rattle.rules.specs.Anodes.{Anodes}
 use Rattle.rules.specs.Accepted.{diskSize}
-use Rattle.rules.specs.Walk.{Dir, root, Item, itemsOf, scan, done, visited, walk, walkOf}
+use Rattle.rules.specs.Walk.{Dir, root, Item, twins, itemsOf, scan, done, visited, walk, walkOf}
 use Rattle.rules.specs.Format.{formatted}
 use Rattle.laws.specs.NewDirectory.{none-new}
 use Rattle.format.proofs.Laws.{Taken, blockOf-formatted-directory}
@@ -30,8 +30,8 @@ module _ (img : List ℕ) (last k : ℕ) (name : List ℕ) (day minute tick prot
 
   module _ (s : Anodes) (m : Laid s (diskSize img) last k) where
     pub no-items : itemsOf disk s root ≡ []
-    unfolding itemsOf
-    no-items = none-new disk s root (root-is m) (m .at-5 .count) (ap (blockOf disk) (m .at-5 .block) ∙ blockOf-formatted-directory img last k name day minute tick protection args)
+    unfolding itemsOf twins
+    no-items = ap (twins []) (none-new disk s root (root-is m) (m .at-5 .count) (ap (blockOf disk) (m .at-5 .block) ∙ blockOf-formatted-directory img last k name day minute tick protection args))
 
     pub walked : walkOf disk s ≡ done (root ∷ [])
     unfolding walkOf

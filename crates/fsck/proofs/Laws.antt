@@ -70,7 +70,7 @@ module _ (img : List ℕ) (b a : ℕ) where
   pub headed : (t : Test) → t ≡ Passed → HeaderTested t img b a → Headed img b a
   headed t is e = rw is at e
 
--- ---- 6 to 16
+-- ---- 6 to 17
 
 -- tables that are not touched are kept
 pub kept-all : (img b a : List ℕ) → PastKept img b a b a
@@ -116,9 +116,9 @@ module _ (range : ℕ) (shown old : List ℕ) where
   unfolding tableLeft
   left-early k l m = rw (le-leb 1 k l, le-leb k 4 m)
 
-  left-zeroed : (k : ℕ) → 5 ≤ k → k ≤ 16 → tableLeft k range shown old ≡ zeroedFirst range old
+  left-zeroed : (k : ℕ) → 5 ≤ k → k ≤ 17 → tableLeft k range shown old ≡ zeroedFirst range old
   unfolding tableLeft
-  left-zeroed k l m = rw (le-leb 1 k (omega arith), lt-leb k 4 (omega arith), le-leb 5 k l, le-leb k 16 m)
+  left-zeroed k l m = rw (le-leb 1 k (omega arith), lt-leb k 4 (omega arith), le-leb 5 k l, le-leb k 17 m)
 
   left-shown : tableLeft 0 range shown old ≡ shown ++ drop range old
   unfolding tableLeft
@@ -131,7 +131,7 @@ once n t₀ t₁ t₂ shown t₃ z k e =
 
 -- ---- the outcome
 
--- what is known once 5 to 16 are tried: what 1 to 4 said, both tables as they were zeroed before, the answer, and both tables as they are left
+-- what is known once 5 to 17 are tried: what 1 to 4 said, both tables as they were zeroed before, the answer, and both tables as they are left
 pub record Examined (img b₀ a₀ : List ℕ) (n : ℕ) (b₂ a₂ : List ℕ) (x : Checked) : Type 0 where
   pub size : n ≡ diskSize img
   pub header : Headed img (length b₀) (length a₀)
@@ -142,10 +142,10 @@ pub record Examined (img b₀ a₀ : List ℕ) (n : ℕ) (b₂ a₂ : List ℕ) 
   pub answer : checkedNumber x ≡ (5 if wrongSlots img else damageIn img (anodesOf img))
   pub left : TablesLeft x img (anodesOf img) b₁ a₁ b₂ a₂
 
-late-range : (img : List ℕ) → NoneOr 5 16 (5 if wrongSlots img else damageIn img (anodesOf img))
+late-range : (img : List ℕ) → NoneOr 5 17 (5 if wrongSlots img else damageIn img (anodesOf img))
 late-range img =
-    if-number 5 (wrongSlots img) 5 16 (damageIn img (anodesOf img)) (omega arith) (omega arith)
-    (wider 6 16 5 16 (damageIn img (anodesOf img)) (omega arith) (omega arith) (damage-range img (anodesOf img)))
+    if-number 5 (wrongSlots img) 5 17 (damageIn img (anodesOf img)) (omega arith) (omega arith)
+    (wider 6 17 5 17 (damageIn img (anodesOf img)) (omega arith) (omega arith) (damage-range img (anodesOf img)))
 
 module _ (img b₀ a₀ : List ℕ) where
   outcome : (k : ℕ) (b a : List ℕ) → checkAnswer img (length b₀) (length a₀) ≡ k → b ≡ blocksLeft k img b₀ → a ≡ anodesLeft k img a₀
@@ -185,7 +185,7 @@ module _ (img b₀ a₀ : List ℕ) where
         let k : PastKept img (w .b₁) (w .a₁) b₂ a₂ = rw is at (w .left) in
         let m : numberOf r ≡ (5 if wrongSlots img else damageIn img (anodesOf img)) = rw is at (w .answer) in
         let some = number-some r in
-        let within : (5 ≤ numberOf r) × (numberOf r ≤ 16) = elim (late-range img) [ inl z ↦ absurd (omega arith) | inr l ↦ (omega (arith, l .0), omega (arith, l .1)) ] in
+        let within : (5 ≤ numberOf r) × (numberOf r ≤ 17) = elim (late-range img) [ inl z ↦ absurd (omega arith) | inr l ↦ (omega (arith, l .0), omega (arith, l .1)) ] in
         rw is (outcome (numberOf r) b₃ a₃ (w .header .answered ∙ sym m)
         (once (diskSize img) b₀ (w .b₁) b₂ (replicate (diskSize img) 0) b₃ (rw (w .size) at (w .blocks-zeroed)) (k .blocks-kept) (rw (w .size) at wb) ∙ sym (left-zeroed (diskSize img) (blockTable img (anodesOf img)) b₀ (numberOf r) (within .0) (within .1)))
         (once limit a₀ (w .a₁) a₂ (replicate limit 0) a₃ (w .anodes-zeroed) (k .anodes-kept) wa ∙ sym (left-zeroed limit (anodeTable (anodesOf img)) a₀ (numberOf r) (within .0) (within .1))))

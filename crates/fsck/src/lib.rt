@@ -113,7 +113,7 @@ fn test_space(
     Test::Passed
 }
 
-// 6 to 16, over the loaded anodes; fills both tables, which come zeroed, and the queue.
+// 6 to 17, over the loaded anodes; fills both tables, which come zeroed, and the queue.
 fn test_all(
     image: &[u8],
     counts: &[u16],
@@ -147,7 +147,7 @@ fn test_all(
     }
 }
 
-// 5 to 16; fills both tables, which come zeroed, and loads the other five.
+// 5 to 17; fills both tables, which come zeroed, and loads the other five.
 fn examine(
     image: &[u8],
     blocks: &mut [u16],

@@ -14,7 +14,7 @@ use Rattle.rules.specs.Counting.{_if_else_, firstOf}
 use Rattle.rules.specs.Anodes.{Anodes, limit, anodesOf}
 use Rattle.rules.specs.Walk.{Entered}
 use Rattle.rules.specs.Accepted.{diskSize, wrongSize, checkAnswer, Damage}
-use Rattle.rules.specs.Lookup.{noDirectory, entryNamed, ofEntry, notEmpty}
+use Rattle.rules.specs.Lookup.{noDirectory, entryNamed, ofEntry, isThere, notEmpty}
 use Rattle.rules.specs.Format.{wrongFormat, formatAnswer, formatted}
 use Rattle.rules.specs.Plans.{tableOf}
 use Rattle.rules.specs.Changes.{Left, left, NewEntry, resized, made, written, removed, usualGrowth}
@@ -29,7 +29,7 @@ use Rattle.report.specs.Report.{isFull, reported, takenOutcome, reportOutcome}
 use Rattle.counting.specs.Laws.{neither}
 use Rattle.laws.specs.Tests.{if-zero, firstOf-zero}
 use Rattle.format_laws.specs.Accepted.{formatted-accepted}
-use Rattle.change_laws.specs.Answers.{Late, StepsAnswer, step-late, own-tables, any-tables, span-late, list-late, resize-late, remove-late, make-late, file-found, span-found, removable-found}
+use Rattle.change_laws.specs.Answers.{Late, StepsAnswer, step-late, own-tables, any-tables, span-late, list-late, resize-late, remove-late, make-late, not-there, file-found, span-found, removable-found}
 use Rattle.change_laws.specs.Image.{AcceptedImage, accepted-own}
 use Rattle.change_laws.specs.Reached.{named-member, EntryIn}
 use Rattle.change_laws.specs.Write.{write-accepted}
@@ -183,8 +183,9 @@ module _ (img : List ℕ) (ok : checkAnswer img (diskSize img) limit ≡ 0) wher
       (λ z.
       let w = if-zero 20 (wrongEntry type name comment) _ (omega arith) z in
       let r = if-zero 21 (noDirectory img s h) _ (omega arith) (w .1) in
+      let free = not-there (entryNamed img s h name) (if-zero 23 (isThere (entryNamed img s h name)) 0 (omega arith) (r .1) .0) in
       let n = neither (not (goodName name)) (not (goodComment comment)) (neither (not (eqb type 253 || eqb type 2)) (not (goodName name) || not (goodComment comment)) (w .0) .1) in
-      becomes (made usualGrowth img (tableOf img) h new) (make-accepted (record { image = image; reached = r .0 }) new (rw en (not-false _ (n .0))) (rw ec (not-false _ (n .1)))) (steps-harmless _ (made-answer usualGrowth img (tableOf img) h new)))
+      becomes (made usualGrowth img (tableOf img) h new) (make-accepted (record { image = image; reached = r .0 }) new (rw en (not-false _ (n .0))) (rw ec (not-false _ (n .1))) (rw en free)) (steps-harmless _ (made-answer usualGrowth img (tableOf img) h new)))
 
   -- every call leaves an accepted image and reports no damage
   call-kept : (c : Call) → AcceptedAfter (left (outcome img c .answer) (outcome img c .image))

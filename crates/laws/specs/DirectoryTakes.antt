@@ -17,7 +17,7 @@ use Rattle.laws.specs.Moves.{withThese, Moved}
 use Rattle.laws.specs.Take.{Takes, takes-moved}
 use Rattle.laws.specs.OwnBlock.{Appended, own-appended}
 use Rattle.laws.specs.Each.{Each, each-both, each-pair, member-each, each-zero}
-use Rattle.laws.specs.Items.{wrong, faults, headed}
+use Rattle.laws.specs.Items.{wrong, weighNamed, faults, headed}
 use Rattle.laws.specs.TreeChanges.{headed-member, AlikeItems}
 use Rattle.laws.specs.Totals.{namedByFiles}
 use Rattle.laws.specs.Entries.{broken-wrong, items-sum, itemsAt-whole, anodes-fine, at-alike}
@@ -28,8 +28,8 @@ use Rattle.laws.specs.Orphan.{Orphaned, amiss, still-fine, none-amiss, o
 pub find-headed : (P : Dir → Type 0) (h : ℕ) (l : List Dir) → Each P l → 0 < headed h l → (d : Dir) × (d .head ≡ h) × P d
 find-headed P h l e p = let (d, m, q) = headed-member h l p in (d, q, member-each P d l m e)
 
-module _ {ex : ℕ → Bool} {n last f : ℕ} {s : Anodes} {system hd sd : ℕ → ℕ} {entries : ℕ → List Entered} {marked : Dir → ℕ → Bool} {dirs : List Dir}
-    (o : Orphaned ex n last f s system hd sd entries marked dirs) (h : ℕ) (reached : headed h dirs ≡ 1) where
+module _ {ex : ℕ → Bool} {n last f : ℕ} {old : Dir → List Item} {s : Anodes} {system hd sd : ℕ → ℕ} {entries : ℕ → List Entered} {marked : Dir → ℕ → Bool} {dirs : List Dir}
+    (o : Orphaned ex n last f old s system hd sd entries marked dirs) (h : ℕ) (reached : headed h dirs ≡ 1) where
   abbrev items : Dir → List Item
   items = itemsBy entries marked s
 
@@ -90,19 +90,19 @@ module _ {ex : ℕ → Bool} {n last f : ℕ} {s : Anodes} {system hd sd : ℕ �
 
       alike : (d : Dir) → T (marked d (dir-taken .0)) × (sumList (amiss h) (items d) ≡ 0) → d .head ≡ h → AlikeItems items items′ d
       alike d p q = (
-        λ k. longer d q (p .0) (λ j. k (j .dir) (j .anode)) (λ j. k (j .dir) (j .anode)) (λ a on z. at-a a on z .0 k) (p .1),
+        λ k. longer d q (p .0) (weighNamed k) (weighNamed k) (λ a on z. at-a a on z .0 k) (p .1),
         longer d q (p .0) wrong (λ j. 0) (λ a on z. at-a a on z .1 ∙ sym (list-zero {X = Item} (λ j. 0) (itemsAt entries marked s d a) (λ j. refl))) (p .1) ∙ list-zero {X = Item} (λ j. 0) (items d) (λ j. refl),
       )
         where
           at-a : (a : ℕ) → 0 < occurrences a (chainOf (s .next) limit h) → sumList (amiss h) (itemsAt entries marked s d a) ≡ 0 →
-              ((k : Bool → ℕ → ℕ) → sumList (λ j. k (j .dir) (j .anode)) (itemsAt entries marked t d a) ≡ sumList (λ j. k (j .dir) (j .anode)) (itemsAt entries marked s d a))
+              ((k : Bool → ℕ → List ℕ → ℕ) → sumList (weighNamed k) (itemsAt entries marked t d a) ≡ sumList (weighNamed k) (itemsAt entries marked s d a))
               × (sumList wrong (itemsAt entries marked t d a) ≡ 0)
           at-a a on z = let c = dir-taken .2 .kept a on in
-              at-alike s t (λ j. j) (amiss h) (λ y. omega (arith, y, broken-wrong)) (λ j y. (refl, refl, still-fine o h no-file (w .good) (w .shift) j y)) entries entries marked marked d a
+              at-alike s t (λ j. j) (amiss h) (λ y. omega (arith, y, broken-wrong)) (λ j y. (refl, refl, refl, still-fine o h no-file (w .good) (w .shift) j y)) entries entries marked marked d a
               (c .0) (c .1) (λ i. (sym (map-id (entries (s .block a))), refl)) z
 
       -- the state stays accepted but for the chain that nothing names
-      pub directory-takes : Orphaned (existsBy (u .slots)) n last f (u .anodes) (withThese system (k .gs)) (takes-moved h dir-head dir-not-1 k .hd′) (takes-moved h dir-head dir-not-1 k .sd′) entries marked dirs
+      pub directory-takes : Orphaned (existsBy (u .slots)) n last f old (u .anodes) (withThese system (k .gs)) (takes-moved h dir-head dir-not-1 k .hd′) (takes-moved h dir-head dir-not-1 k .sd′) entries marked dirs
       directory-takes = orphan-shift o h no-file (w .good) (w .shift)
           (each-both (λ d. d .head ≡ h → T (marked d (dir-taken .0))) (λ d. sumList (amiss h) (items d) ≡ 0) (λ d. d .head ≡ h → AlikeItems items items′ d) dirs
           (λ d a b q. alike d (a q, b) q) (its (dir-taken .0) (dir-taken .1)) (none-amiss o h no-file (w .good) (w .shift)))

@@ -14,27 +14,29 @@ use Rattle.disk.specs.Refusals.{numberOf}
 use Rattle.disk.specs.Blocks.{blockOf}
 use Rattle.directory.specs.declared.Entry.{Entry}
 use Rattle.directory.specs.declared.Walked.the-variants.{Found, End, Fault}
-use Rattle.directory.specs.Entries.{isDir, walkedAt}
+use Rattle.directory.specs.Entries.{isDir, nameIn, walkedAt}
 use Rattle.directory.proofs.Laws.{found-at, fault-at}
 use Rattle.reader.specs.declared.EntryRead.{EntryRead}
 use Rattle.reader.specs.Reads.{placeAfter, entryRead}
-use Rattle.rules.specs.Counting.{sumList, occurrences, anyIn}
+use Rattle.rules.specs.Counting.{sumList, occurrences, anyIn, gather}
+use Rattle.rules.specs.Folding.{folded}
 use Rattle.rules.specs.Anodes.{limit, Anodes}
 use Rattle.rules.specs.Chains.{chainOf, oneIfHead, blockCount}
 use Rattle.rules.specs.Walk.{Dir, Entered, withRest, entriesFrom, Item, blocksFor, wrongAnode, wrongFileSize, itemOf, brokenItem, itemsFor, itemsAt, itemsBy, entriesIn}
 use Rattle.laws.specs.Tests.{cond-cases, T-true, both, tested-from}
-use Rattle.laws.specs.Bags.{list-one, list-mono, list-congr, list-congr-where, list-zero, gather-sum, map-sum, none-at, kept-sum-where}
+use Rattle.laws.specs.Bags.{list-one, list-mono, list-congr, list-congr-where, list-zero, gather-sum, map-sum, none-at, kept-sum, kept-sum-where}
 use Rattle.laws.specs.Space.{Alike}
-use Rattle.laws.specs.Items.{wrong, weighItem}
+use Rattle.laws.specs.Items.{wrong, weighItem, weighNamed}
+use Rattle.laws.specs.Apart.{oneSame, nameCount}
 use Rattle.laws.specs.TreeChanges.{AlikeItems}
 
 -- ---- the entries of a block, from a place on
 
--- an entry that stands at a place, as the walk has it
-abbrev pub enteredAt : Entry → ℕ → Entered
-enteredAt x start = record { broken = false; dir = isDir (x .kind); anode = x .anode .0; size = x .size; start = start }
+-- an entry with its name that stands at a place, as the walk has it
+abbrev pub enteredAt : Entry → List ℕ → ℕ → Entered
+enteredAt x name start = record { broken = false; dir = isDir (x .kind); anode = x .anode .0; size = x .size; name = name; start = start }
 
-pub entries-more : (b : List ℕ) (y m at : ℕ) (x : Entry) → walkedAt b at ≡ Found x → entriesFrom (suc m) b y at ≡ enteredAt x (y * 512 + at) ∷ entriesFrom m b y (at + getD b at 0)
+pub entries-more : (b : List ℕ) (y m at : ℕ) (x : Entry) → walkedAt b at ≡ Found x → entriesFrom (suc m) b y at ≡ enteredAt x (nameIn b at) (y * 512 + at) ∷ entriesFrom m b y (at + getD b at 0)
 unfolding entriesFrom
 entries-more b y m at x e = rw e
 
@@ -60,7 +62,7 @@ module _ (b : List ℕ) (at : ℕ) (r : EntryRead) (read : r ≡ entryRead b at)
   here-is = ap (λ x. x .walked) read
 
   -- the entries from the place on: what is read there, then those from the place behind it on
-  pub entries-read : (y k m : ℕ) → k ≡ m + 1 → entriesFrom k b y at ≡ withRest (r .walked) (y * 512 + at) (entriesFrom m b y (r .after))
+  pub entries-read : (y k m : ℕ) → k ≡ m + 1 → entriesFrom k b y at ≡ withRest (r .walked) (nameIn b at) (y * 512 + at) (entriesFrom m b y (r .after))
   unfolding entriesFrom entryRead placeAfter
   entries-read y k m fuel = rw (fuel, add-one m, read)
 
@@ -78,9 +80,9 @@ Unbroken l = anyIn (λ e. e .broken) l ≡ false
 
 -- ---- weights
 
--- a weight of an entry, its place aside
-abbrev pub weighEntry : (Bool → Bool → ℕ → ℕ → ℕ) → Entered → ℕ
-weighEntry v e = v (e .broken) (e .dir) (e .anode) (e .size)
+-- a weight of an entry with its name, its place aside
+abbrev pub weighEntry : (Bool → Bool → ℕ → ℕ → List ℕ → ℕ) → Entered → ℕ
+weighEntry v e = v (e .broken) (e .dir) (e .anode) (e .size) (e .name)
 
 pub broken-wrong : wrong brokenItem ≡ 12
 unfolding wrong
@@ -152,14 +154,14 @@ module _ (s : Anodes) where
   item-dir e = refl
 
   -- a weight of an item, as one of its entry
-  pub asEntry : (ℕ → Bool → ℕ → ℕ) → Bool → Bool → ℕ → ℕ → ℕ
-  asEntry w b d a z = weighItem w (itemOf s (record { broken = b; dir = d; anode = a; size = z; start = 0 }))
+  pub asEntry : (ℕ → Bool → ℕ → List ℕ → ℕ) → Bool → Bool → ℕ → ℕ → List ℕ → ℕ
+  asEntry w b d a z v = weighItem w (itemOf s (record { broken = b; dir = d; anode = a; size = z; name = v; start = 0 }))
 
-  pub weigh-item : (w : ℕ → Bool → ℕ → ℕ) (e : Entered) → weighItem w (itemOf s e) ≡ weighEntry (asEntry w) e
+  pub weigh-item : (w : ℕ → Bool → ℕ → List ℕ → ℕ) (e : Entered) → weighItem w (itemOf s e) ≡ weighEntry (asEntry w) e
   unfolding asEntry wrong itemOf wrongFileSize
   weigh-item w e = refl
 
-  pub entries-sum : (w : ℕ → Bool → ℕ → ℕ) (l : List Entered) → sumList (weighItem w) (map (itemOf s) l) ≡ sumList (weighEntry (asEntry w)) l
+  pub entries-sum : (w : ℕ → Bool → ℕ → List ℕ → ℕ) (l : List Entered) → sumList (weighItem w) (map (itemOf s) l) ≡ sumList (weighEntry (asEntry w)) l
   entries-sum w l = map-sum (itemOf s) (weighItem w) l ∙ list-congr (λ e. weighItem w (itemOf s e)) (weighEntry (asEntry w)) l (weigh-item w)
 
 -- ---- the items of a directory
@@ -194,6 +196,16 @@ module _ (entries : ℕ → List Entered) (marked : Dir → ℕ → Bool) (s : A
   unfolding itemsFor
   itemsAt-whole a c m = rw (eq-eqb (s .count a) 1 c, T-true (marked d (s .block a)) m)
 
+  -- where nothing is wrong, a folded name stands as often as entries have it
+  pub names-count : sumList wrong (itemsBy entries marked s d) ≡ 0 → (v : List ℕ) →
+      nameCount v (itemsBy entries marked s d) ≡ sumList (λ e. oneSame (folded (e .name)) v) (gather (λ a. entries (s .block a)) (chainOf (s .next) limit (d .head)))
+  unfolding itemOf
+  names-count z v =
+      items-sum (λ i. oneSame (i .name) v)
+      ∙ kept-sum (λ a. sumList (λ e. oneSame (folded (e .name)) v) (entries (s .block a))) (λ a. sumList (λ i. oneSame (i .name) v) (itemsAt entries marked s d a)) (chainOf (s .next) limit (d .head))
+      (λ a p. ap (sumList (λ i. oneSame (i .name) v)) (anodes-fine z a p .2) ∙ map-sum (itemOf s) (λ i. oneSame (i .name) v) (entries (s .block a)))
+      ∙ sym (gather-sum (λ a. entries (s .block a)) (λ e. oneSame (folded (e .name)) v) (chainOf (s .next) limit (d .head)))
+
   -- a weight that is at most another at every entry
   pub items-mono : (w u : Item → ℕ) → ((e : Entered) → w (itemOf s e) ≤ u (itemOf s e)) → w brokenItem ≤ u brokenItem → sumList w (itemsBy entries marked s d) ≤ sumList u (itemsBy entries marked s d)
   items-mono w u h b = omega (
@@ -212,27 +224,27 @@ module _ (entries : ℕ → List Entered) (marked : Dir → ℕ → Bool) (s : A
 -- ---- the same entries, their sizes apart
 
 module _ (s t : Anodes) (φ : Entered → Entered) (guard : Item → ℕ) (guard-broken : guard brokenItem ≢ 0)
-    (like : (e : Entered) → guard (itemOf s e) ≡ 0 → (φ e .dir ≡ e .dir) × (φ e .anode ≡ e .anode) × (wrong (itemOf t (φ e)) ≡ 0)) where
-  entries-alike : (l : List Entered) → sumList guard (map (itemOf s) l) ≡ 0 → (w : Bool → ℕ → ℕ) →
-      sumList (λ j. w (j .dir) (j .anode)) (map (itemOf t) (map φ l)) ≡ sumList (λ j. w (j .dir) (j .anode)) (map (itemOf s) l)
+    (like : (e : Entered) → guard (itemOf s e) ≡ 0 → (φ e .dir ≡ e .dir) × (φ e .anode ≡ e .anode) × (φ e .name ≡ e .name) × (wrong (itemOf t (φ e)) ≡ 0)) where
+  entries-alike : (l : List Entered) → sumList guard (map (itemOf s) l) ≡ 0 → (w : Bool → ℕ → List ℕ → ℕ) →
+      sumList (weighNamed w) (map (itemOf t) (map φ l)) ≡ sumList (weighNamed w) (map (itemOf s) l)
   unfolding itemOf
   entries-alike l z w =
-      map-sum (itemOf t) (λ j. w (j .dir) (j .anode)) (map φ l) ∙ map-sum φ (λ e. w (e .dir) (e .anode)) l
-      ∙ list-congr-where (λ e. guard (itemOf s e)) (λ e. w (φ e .dir) (φ e .anode)) (λ e. w (e .dir) (e .anode)) l (sym (map-sum (itemOf s) guard l) ∙ z)
-      (λ e q. let k = like e q in rw (k .0, k .1))
-      ∙ sym (map-sum (itemOf s) (λ j. w (j .dir) (j .anode)) l)
+      map-sum (itemOf t) (weighNamed w) (map φ l) ∙ map-sum φ (λ e. w (e .dir) (e .anode) (folded (e .name))) l
+      ∙ list-congr-where (λ e. guard (itemOf s e)) (λ e. w (φ e .dir) (φ e .anode) (folded (φ e .name))) (λ e. w (e .dir) (e .anode) (folded (e .name))) l (sym (map-sum (itemOf s) guard l) ∙ z)
+      (λ e q. let k = like e q in rw (k .0, k .1, k .2))
+      ∙ sym (map-sum (itemOf s) (weighNamed w) l)
 
   entries-fine : (l : List Entered) → sumList guard (map (itemOf s) l) ≡ 0 → sumList wrong (map (itemOf t) (map φ l)) ≡ 0
   entries-fine l z =
       map-sum (itemOf t) wrong (map φ l) ∙ map-sum φ (λ e. wrong (itemOf t e)) l
-      ∙ list-congr-where (λ e. guard (itemOf s e)) (λ e. wrong (itemOf t (φ e))) (λ e. 0) l (sym (map-sum (itemOf s) guard l) ∙ z) (λ e q. like e q .2)
+      ∙ list-congr-where (λ e. guard (itemOf s e)) (λ e. wrong (itemOf t (φ e))) (λ e. 0) l (sym (map-sum (itemOf s) guard l) ∙ z) (λ e q. like e q .3)
       ∙ list-zero {X = Entered} (λ e. 0) l (λ e. refl)
 
   module _ (entries entries′ : ℕ → List Entered) (marked marked′ : Dir → ℕ → Bool) (d : Dir) where
     -- one anode of the directory
     pub at-alike : (a : ℕ) → t .count a ≡ s .count a → t .block a ≡ s .block a → (s .count a ≡ 1 → (entries′ (s .block a) ≡ map φ (entries (s .block a))) × (marked′ d (s .block a) ≡ marked d (s .block a))) →
         sumList guard (itemsAt entries marked s d a) ≡ 0 →
-        ((w : Bool → ℕ → ℕ) → sumList (λ j. w (j .dir) (j .anode)) (itemsAt entries′ marked′ t d a) ≡ sumList (λ j. w (j .dir) (j .anode)) (itemsAt entries marked s d a))
+        ((w : Bool → ℕ → List ℕ → ℕ) → sumList (weighNamed w) (itemsAt entries′ marked′ t d a) ≡ sumList (weighNamed w) (itemsAt entries marked s d a))
         × (sumList wrong (itemsAt entries′ marked′ t d a) ≡ 0)
     at-alike a e b cont z =
         let q = itemsAt-fine entries marked s d guard guard-broken a z in
@@ -247,11 +259,11 @@ module _ (s t : Anodes) (φ : Entered → Entered) (guard : Item → ℕ) (guard
         ((a : ℕ) → 0 < occurrences a (chainOf (s .next) limit (d .head)) → s .count a ≡ 1 → (entries′ (s .block a) ≡ map φ (entries (s .block a))) × (marked′ d (s .block a) ≡ marked d (s .block a))) →
         sumList guard (itemsBy entries marked s d) ≡ 0 → AlikeItems (itemsBy entries marked s) (itemsBy entries′ marked′ t) d
     items-alike same on cont z = (
-      λ w. items-sum entries′ marked′ t d (λ j. w (j .dir) (j .anode)) ∙ ap (sumList (λ a. sumList (λ j. w (j .dir) (j .anode)) (itemsAt entries′ marked′ t d a))) same
-          ∙ kept-sum-where (λ a. sumList guard (itemsAt entries marked s d a)) (λ a. sumList (λ j. w (j .dir) (j .anode)) (itemsAt entries marked s d a))
-          (λ a. sumList (λ j. w (j .dir) (j .anode)) (itemsAt entries′ marked′ t d a)) (chainOf (s .next) limit (d .head)) (sym (items-sum entries marked s d guard) ∙ z)
+      λ w. items-sum entries′ marked′ t d (weighNamed w) ∙ ap (sumList (λ a. sumList (weighNamed w) (itemsAt entries′ marked′ t d a))) same
+          ∙ kept-sum-where (λ a. sumList guard (itemsAt entries marked s d a)) (λ a. sumList (weighNamed w) (itemsAt entries marked s d a))
+          (λ a. sumList (weighNamed w) (itemsAt entries′ marked′ t d a)) (chainOf (s .next) limit (d .head)) (sym (items-sum entries marked s d guard) ∙ z)
           (λ a k q. at-alike a (on a k .same-count) (on a k .same-block) (cont a k) q .0 w)
-          ∙ sym (items-sum entries marked s d (λ j. w (j .dir) (j .anode))),
+          ∙ sym (items-sum entries marked s d (weighNamed w)),
       items-sum entries′ marked′ t d wrong ∙ ap (sumList (λ a. sumList wrong (itemsAt entries′ marked′ t d a))) same
           ∙ kept-sum-where (λ a. sumList guard (itemsAt entries marked s d a)) (λ a. 0) (λ a. sumList wrong (itemsAt entries′ marked′ t d a)) (chainOf (s .next) limit (d .head))
           (sym (items-sum entries marked s d guard) ∙ z) (λ a k q. at-alike a (on a k .same-count) (on a k .same-block) (cont a k) q .1)

@@ -24,9 +24,13 @@ each-item P item h b entries marked s d a = go (eqb (s .count a) 1 && marked d (
 unfoldable pub wrong : Item → ℕ
 wrong i = i .early + i .late
 
--- a weight of an item, its place aside: what is wrong, whether it names a directory, and the anode
-abbrev pub weighItem : (ℕ → Bool → ℕ → ℕ) → Item → ℕ
-weighItem w i = w (wrong i) (i .dir) (i .anode)
+-- a weight of an item, its place aside: what is wrong, whether it names a directory, the anode and the name
+abbrev pub weighItem : (ℕ → Bool → ℕ → List ℕ → ℕ) → Item → ℕ
+weighItem w i = w (wrong i) (i .dir) (i .anode) (i .name)
+
+-- a weight of what an item names, its faults aside too
+abbrev pub weighNamed : (Bool → ℕ → List ℕ → ℕ) → Item → ℕ
+weighNamed w i = w (i .dir) (i .anode) (i .name)
 
 abbrev pub names : List Item → List ℕ
 names is = map (λ i. i .anode) is

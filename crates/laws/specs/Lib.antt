@@ -33,6 +33,7 @@ pub mod FixedSlots
 pub mod Frame
 pub mod Items
 pub mod Walks
+pub mod Apart
 pub mod Trees
 pub mod TreeChanges
 pub mod Totals
@@ -59,4 +60,5 @@ pub mod Accepted
 pub mod Acceptance
 pub mod ImageAnodes
 pub mod OneOwner
+pub mod NamesApart
 pub mod Damage

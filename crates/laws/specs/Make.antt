@@ -7,13 +7,14 @@ use mathlib.Core.List.{List, [], _∷_, map-id}
 use native.Mathlib.Omega.{arith}
 use lib.Dec.{T}
 use Rattle.rules.specs.Counting.{oneAt, sumList, occurrences, changed}
+use Rattle.rules.specs.Folding.{folded}
 use Rattle.rules.specs.Anodes.{limit, Anodes}
 use Rattle.rules.specs.Chains.{chainOf}
 use Rattle.rules.specs.Walk.{Dir, dirMade, root, Entered, Item, itemOf, brokenItem, itemsAt, itemsBy}
 use Rattle.rules.specs.Space.{rewritten}
 use Rattle.laws.specs.Tests.{same?, not-above}
 use Rattle.laws.specs.Sums.{oneAt-same, changed-same, changed-other}
-use Rattle.laws.specs.Bags.{list-cons, list-gain, each-in}
+use Rattle.laws.specs.Bags.{list-nil, list-cons, list-gain, each-in}
 use Rattle.laws.specs.Links.{chain-the}
 use Rattle.laws.specs.Heads.{Head, head-while}
 use Rattle.laws.specs.LinkChanges.{used-not-free, fresh-no-next}
@@ -21,7 +22,8 @@ use Rattle.laws.specs.Space.{Alike, FreeAnode, free-pos, Good, head-good
 use Rattle.laws.specs.Frame.{kept-count}
 use Rattle.laws.specs.Each.{Each, each-both, each-zero}
 use Rattle.laws.specs.Items.{wrong, weighItem, namedIn, faults, headed}
-use Rattle.laws.specs.TreeChanges.{Gain, sum-named, add-file, add-dir, AlikeItems, alike-named, alike-tree}
+use Rattle.laws.specs.Apart.{oneSame, nameCount, Apart, apart-same}
+use Rattle.laws.specs.TreeChanges.{Gain, more-apart, sum-named, add-file, add-dir, AlikeItems, alike-named, alike-names, alike-tree}
 use Rattle.laws.specs.Entries.{weighEntry, broken-wrong, Sized, sized-still, fine-item, item-anode, asEntry, weigh-item, entries-sum, items-sum, anodes-fine, itemsAt-whole, items-alike}
 use Rattle.laws.specs.Whole.{DirHead, AllNamed, Whole, head-counts, fine-still, on-dir, tree-heads, dir-heads, named-heads}
 use Rattle.laws.specs.Orphan.{Orphaned}
@@ -40,7 +42,7 @@ contents-unchanged s hd entries marked = record { same-entries = λ a i q. refl;
 
 -- of two tables of entries, `more` has e more in the block of the anode a₀, and the same in the blocks of the other anodes of chains but 1's
 abbrev pub EntryMore : Anodes → (ℕ → ℕ) → Entered → ℕ → (ℕ → List Entered) → (ℕ → List Entered) → Type 0
-EntryMore s hd e a₀ less more = (a : ℕ) → s .count a ≡ 1 → hd a ≢ 1 → (v : Bool → Bool → ℕ → ℕ → ℕ) →
+EntryMore s hd e a₀ less more = (a : ℕ) → s .count a ≡ 1 → hd a ≢ 1 → (v : Bool → Bool → ℕ → ℕ → List ℕ → ℕ) →
     sumList (weighEntry v) (more (s .block a)) ≡ sumList (weighEntry v) (less (s .block a)) + oneAt a a₀ * weighEntry v e
 
 -- the directory h₀ of that anode gains the item of e
@@ -116,7 +118,7 @@ module _ {ex : ℕ → Bool} {n last : ℕ} {s : Anodes} {system hd sd : ℕ →
 
     one : (d : Dir) → DirHead s d → faults items d ≡ 0 → AlikeItems items items′ d
     unfolding rewritten
-    one d p z = items-alike s made (λ j. j) wrong (λ q. omega (arith, q, broken-wrong)) (λ j q. (refl, refl, still-fine j q)) entries entries′ marked marked′ d refl
+    one d p z = items-alike s made (λ j. j) wrong (λ q. omega (arith, q, broken-wrong)) (λ j q. (refl, refl, refl, still-fine j q)) entries entries′ marked marked′ d refl
         (λ a k. like-a a (on-chain (w .good) (d .head) (p .0) a k .1))
         (λ a k i. let not-1 : hd a ≢ 1 = λ q. p .1 (sym (on-chain (w .good) (d .head) (p .0) a k .0) ∙ q) in (cont .same-entries a i not-1 ∙ sym (map-id (entries (s .block a))), cont .same-marks a i not-1 d)) z
 
@@ -126,23 +128,25 @@ module _ {ex : ℕ → Bool} {n last : ℕ} {s : Anodes} {system hd sd : ℕ →
     unnamed : sumList (namedIn items f) dirs ≡ 0
     unnamed = not-above (sumList (namedIn items f) dirs) (λ p. named-heads w f p .2 .in-use (is-free .unused))
 
-    pub fresh-orphan : Orphaned ex n last f (rewritten s f 0 65535) system (changed hd f f) (changed sd f f) entries′ marked′ dirs
+    pub fresh-orphan : Orphaned ex n last f (itemsBy entries marked s) (rewritten s f 0 65535) system (changed hd f f) (changed sd f f) entries′ marked′ dirs
     fresh-orphan = record {
       good = good;
       tree = alike-tree items items′ root dirs alikes (w .tree);
       head = head-f;
       not-named = alike-named items items′ dirs alikes f ∙ unnamed;
       all-named = λ x l q d. omega (arith, alike-named items items′ dirs alikes x, w .all-named x l (was x q d));
+      same-names = alike-names items items′ dirs alikes;
     }
 
 -- ---- its entry e, in the block of the anode a₀ of the directory h₀
 
 module _ {ex : ℕ → Bool} {n last : ℕ} {s : Anodes} {system hd sd : ℕ → ℕ} {entries : ℕ → List Entered} {marked : Dir → ℕ → Bool} {dirs : List Dir}
-    (e : Entered) (o : Orphaned ex n last (e .anode) s system hd sd entries marked dirs) (from-6 : 6 ≤ e .anode) (in-rules : e .broken ≡ false)
+    (e : Entered) {old : Dir → List Item} (o : Orphaned ex n last (e .anode) old s system hd sd entries marked dirs) (from-6 : 6 ≤ e .anode) (in-rules : e .broken ≡ false)
     (sized : Sized s e)
     (a₀ h₀ : ℕ) (reached : headed h₀ dirs ≡ 1) (at₀ : hd a₀ ≡ h₀) (entries′ : ℕ → List Entered) (marked′ : Dir → ℕ → Bool)
     (cont : EntryMore s hd e a₀ entries entries′)
-    (same-marks : SameMarks s hd marked marked′) where
+    (same-marks : SameMarks s hd marked marked′)
+    (were-apart : Apart old dirs) (unused : Each (λ d. d .head ≡ h₀ → nameCount (folded (e .name)) (old d) ≡ 0) dirs) where
   abbrev before : Dir → List Item
   before = itemsBy entries marked s
 
@@ -167,6 +171,14 @@ module _ {ex : ℕ → Bool} {n last : ℕ} {s : Anodes} {system hd sd : ℕ →
     | inr i ↦ omega (arith, sum-named before after h₀ (itemOf s e) dirs reached gains x, o .all-named x l i d)
   ]
 
+  -- its name is no other's of its directory
+  names-apart : Apart after dirs
+  unfolding itemOf
+  names-apart = more-apart before after h₀ (itemOf s e) dirs gains
+      (each-both (λ d. nameCount (folded (e .name)) (before d) ≡ nameCount (folded (e .name)) (old d)) (λ d. d .head ≡ h₀ → nameCount (folded (e .name)) (old d) ≡ 0) (λ d. d .head ≡ h₀ → nameCount (folded (e .name)) (before d) ≡ 0) dirs
+      (λ d same none q. same ∙ none q) (o .same-names (folded (e .name))) unused)
+      (apart-same old before dirs (o .same-names) were-apart)
+
   -- with the entry of a file in its block, the state is accepted
   pub enter-file : e .dir ≡ false → Whole ex n last s system hd sd entries′ marked′ dirs
   unfolding itemOf
@@ -174,6 +186,7 @@ module _ {ex : ℕ → Bool} {n last : ℕ} {s : Anodes} {system hd sd : ℕ →
     good = o .good;
     tree = add-file before after h₀ (itemOf s e) dirs reached gains root (o .tree) file new-fine (o .not-named);
     all-named = named;
+    apart = names-apart;
   }
 
   -- and so with the entry of a directory that has no item
@@ -184,4 +197,5 @@ module _ {ex : ℕ → Bool} {n last : ℕ} {s : Anodes} {system hd sd : ℕ →
     good = o .good;
     tree = add-dir before after h₀ (itemOf s e) dirs reached gains root (o .tree) directory new-fine (o .not-named) (λ i. omega (arith, from-6, i)) empty;
     all-named = λ x l d. omega (arith, named x l d, list-cons (namedIn after x) (dirMade (e .anode) h₀) dirs);
+    apart = λ v. (omega (arith, ap (nameCount v) empty, list-nil {X = Item} (λ i. oneSame (i .name) v)), names-apart v);
   }

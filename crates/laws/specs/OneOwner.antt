@@ -10,16 +10,17 @@ use borrow.Author.Tests.{le-leb, eq-eqb, eqb-false}
 use Rattle.rules.specs.Counting.{oneAt, occurrences, sumList, gather}
 use Rattle.rules.specs.Anodes.{Anodes, limit, exists, anodesOf}
 use Rattle.rules.specs.Chains.{chainOf, followed, oneIfHead, headOf, systemOwns, cut}
-use Rattle.rules.specs.Walk.{Dir, Item, Walk, fault, done, entriesIn, isBlockOf, walkOf, faultIn, dirsIn, itemsOf, reached, reachedDirs, naming, root}
+use Rattle.rules.specs.Walk.{Dir, Item, Walk, fault, done, entriesIn, isBlockOf, walkOf, faultIn, dirsIn, itemsBy, twins, itemsOf, reached, reachedDirs, naming, root}
 use Rattle.rules.specs.Accepted.{diskSize, lastReserved, ownersOf, unnamed, unnamedChain, checkAnswer}
 use Rattle.counting.specs.Laws.{and-none, anyBelow-each}
 use Rattle.laws.specs.Tests.{same?}
-use Rattle.laws.specs.Bags.{occurrences-nil, list-congr, list-mono, gather-sum}
+use Rattle.laws.specs.Bags.{occurrences-nil, list-congr, list-mono-where, list-zero, gather-sum}
 use Rattle.laws.specs.Heads.{Head, head-of-is, occurrences-on-chain}
 use Rattle.laws.specs.Space.{FixedHead, Good}
 use Rattle.laws.specs.Passes.{Reading, Passes, good-of}
-use Rattle.laws.specs.Items.{names-sum, namedIn, faults}
+use Rattle.laws.specs.Items.{wrong, names-sum, namedIn, faults}
 use Rattle.laws.specs.Walks.{walk-found}
+use Rattle.laws.specs.Apart.{twins-fine}
 use Rattle.laws.specs.Whole.{counts-head, head-counts, names-head, named-le}
 use Rattle.laws.specs.Acceptance.{Passed, passed-of, tested-passes}
 use Rattle.laws.specs.ImageAnodes.{reading-of}
@@ -75,17 +76,25 @@ module _ (img : List ℕ) (blocks anodes : ℕ) (p : Passed img blocks anodes) w
       (and-none (leb 6 h) (eqb (oneIfHead limit (s .next) (s .block) h) 1 && unnamed img s h) (anyBelow-each (unnamedChain img s) h limit (reading .view .below h u) (p .all-named)) (le-leb 6 h l))
       (eq-eqb (oneIfHead limit (s .next) (s .block) h) 1 e))
 
+  -- a directory with no fault names no anode that is no head from 6 up
+  none-named : (x : ℕ) → (6 ≤ x → oneIfHead limit (s .next) (s .block) x ≡ 1 → ⊥) → (d : Dir) → faults (itemsOf img s) d ≡ 0 → namedIn (itemsOf img s) x d ≡ 0
+  unfolding itemsOf
+  none-named x k d z =
+      let items = itemsBy (entriesIn img) (isBlockOf img) s in
+      let plain : twins [] (items d) ≡ items d = twins-fine [] (items d) z in
+      omega (arith, z, ap (sumList wrong) plain, ap (λ (l : List Item). occurrences x (map (λ i. i .anode) l)) plain, named-le (entriesIn img) (isBlockOf img) s x k d)
+
   -- what is named in the walked directories is a head from 6 up
   walk-names : (w : Walk) → walkOf img s ≡ w → faultIn w ≡ 0 → (x : ℕ) → (6 ≤ x → oneIfHead limit (s .next) (s .block) x ≡ 1 → ⊥) →
       occurrences x (map (λ i. i .anode) (gather (itemsOf img s) (dirsIn w))) ≡ 0
-  unfolding walkOf gather itemsOf
+  unfolding walkOf gather
   walk-names (fault n) e z x k = occurrences-nil x
   walk-names (done dirs) e z x k =
       omega (
         arith,
         naming-sum (itemsOf img s) x dirs,
-        walk-found (itemsOf img s) limit (root ∷ []) [] dirs e .faultless,
-        list-mono (namedIn (itemsOf img s) x) (faults (itemsOf img s)) dirs (named-le (entriesIn img) (isBlockOf img) s x k),
+        list-mono-where (faults (itemsOf img s)) (namedIn (itemsOf img s) x) (λ d. 0) dirs (walk-found (itemsOf img s) limit (root ∷ []) [] dirs e .faultless) (λ d q. omega (arith, none-named x k d q)),
+        list-zero {X = Dir} (λ d. 0) dirs (λ d. refl),
       )
 
   pub names : (x : ℕ) → naming img s x ≢ 0 → (6 ≤ x) × (oneIfHead limit (s .next) (s .block) x ≡ 1)

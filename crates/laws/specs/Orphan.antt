@@ -19,7 +19,8 @@ use Rattle.laws.specs.ChainBlocks.{shift-count}
 use Rattle.laws.specs.Each.{Each, each-map, each-both, each-pair, each-zero}
 use Rattle.laws.specs.Items.{wrong, namedIn, faults, headed}
 use Rattle.laws.specs.Trees.{Tree}
-use Rattle.laws.specs.TreeChanges.{tree-unnamed, AlikeItems, alike-named, alike-tree}
+use Rattle.laws.specs.Apart.{SameNames, names-still}
+use Rattle.laws.specs.TreeChanges.{tree-unnamed, AlikeItems, alike-named, alike-names, alike-tree}
 use Rattle.laws.specs.Totals.{file-size, namedByFiles, named-by-kind}
 use Rattle.laws.specs.Entries.{broken-wrong, Sized, sized-still, item-anode, item-dir, items-alike}
 use Rattle.laws.specs.Whole.{named-le, DirHead, fine-still, tree-heads}
@@ -29,22 +30,23 @@ abbrev pub amiss : ℕ → Item → ℕ
 amiss h i = wrong i + file-size (λ x. oneAt x h) i
 
 module _ (ex : ℕ → Bool) (n last : ℕ) where
-  -- f heads a chain that nothing names
-  pub record Orphaned (f : ℕ) (s : Anodes) (system hd sd : ℕ → ℕ) (entries : ℕ → List Entered) (marked : Dir → ℕ → Bool) (dirs : List Dir) : Type 0 where
+  -- f heads a chain that nothing names; the directories have the names that they had with the items `old`
+  pub record Orphaned (f : ℕ) (old : Dir → List Item) (s : Anodes) (system hd sd : ℕ → ℕ) (entries : ℕ → List Entered) (marked : Dir → ℕ → Bool) (dirs : List Dir) : Type 0 where
     pub good : Good limit ex n last s system hd sd
     pub tree : Tree (itemsBy entries marked s) root dirs
     pub head : Head (s .next) (s .block) f
     pub not-named : sumList (namedIn (itemsBy entries marked s) f) dirs ≡ 0
     pub all-named : (x : ℕ) → 6 ≤ x → x ≢ f → Head (s .next) (s .block) x → 1 ≤ sumList (namedIn (itemsBy entries marked s) x) dirs
+    pub same-names : SameNames old (itemsBy entries marked s) dirs
 
 -- the same with another account of the anodes that exist and of the system's blocks
-pub orphan-good : {ex ex′ : ℕ → Bool} {n last f : ℕ} {s : Anodes} {system system′ hd sd hd′ sd′ : ℕ → ℕ} {entries : ℕ → List Entered} {marked : Dir → ℕ → Bool} {dirs : List Dir} → Good limit ex′ n last s system′ hd′ sd′ →
-    Orphaned ex n last f s system hd sd entries marked dirs → Orphaned ex′ n last f s system′ hd′ sd′ entries marked dirs
-orphan-good g o = record { good = g; tree = o .tree; head = o .head; not-named = o .not-named; all-named = o .all-named }
+pub orphan-good : {ex ex′ : ℕ → Bool} {n last f : ℕ} {old : Dir → List Item} {s : Anodes} {system system′ hd sd hd′ sd′ : ℕ → ℕ} {entries : ℕ → List Entered} {marked : Dir → ℕ → Bool} {dirs : List Dir} → Good limit ex′ n last s system′ hd′ sd′ →
+    Orphaned ex n last f old s system hd sd entries marked dirs → Orphaned ex′ n last f old s system′ hd′ sd′ entries marked dirs
+orphan-good g o = record { good = g; tree = o .tree; head = o .head; not-named = o .not-named; all-named = o .all-named; same-names = o .same-names }
 
 -- the steps on the chain of a head h that no file's entry names
-module _ {ex : ℕ → Bool} {n last f : ℕ} {s : Anodes} {system hd sd : ℕ → ℕ} {entries : ℕ → List Entered} {marked : Dir → ℕ → Bool} {dirs : List Dir}
-    (o : Orphaned ex n last f s system hd sd entries marked dirs)
+module _ {ex : ℕ → Bool} {n last f : ℕ} {old : Dir → List Item} {s : Anodes} {system hd sd : ℕ → ℕ} {entries : ℕ → List Entered} {marked : Dir → ℕ → Bool} {dirs : List Dir}
+    (o : Orphaned ex n last f old s system hd sd entries marked dirs)
     (h : ℕ) (no-file : namedByFiles (itemsBy entries marked s) h dirs ≡ 0)
     {t : Anodes} {ex′ : ℕ → Bool} {system′ hd′ sd′ : ℕ → ℕ} (g′ : Good limit ex′ n last t system′ hd′ sd′) (sh : Shift s hd t hd′ 1 h) where
   abbrev items : Dir → List Item
@@ -73,7 +75,7 @@ module _ {ex : ℕ → Bool} {n last f : ℕ} {s : Anodes} {system hd sd : ℕ �
     one : (d : Dir) → DirHead s d → (d .head ≡ h → AlikeItems items items′ d) × (sumList (amiss h) (items d) ≡ 0) → AlikeItems items items′ d
     one d p q = elim (same? (d .head) h) [
       | inl e ↦ q .0 e
-      | inr e ↦ items-alike s t (λ j. j) (amiss h) amiss-broken (λ j z. (refl, refl, still-fine j z)) entries entries marked marked d
+      | inr e ↦ items-alike s t (λ j. j) (amiss h) amiss-broken (λ j z. (refl, refl, refl, still-fine j z)) entries entries marked marked d
           (shift-chain (o .good) g′ sh (d .head) (p .0) (p .1) e) (shift-alike (o .good) g′ sh (d .head) (p .0) (p .1) e)
           (λ a k i. (sym (map-id (entries (s .block a))), refl)) (q .1)
     ]
@@ -85,17 +87,18 @@ module _ {ex : ℕ → Bool} {n last f : ℕ} {s : Anodes} {system hd sd : ℕ �
     alikes = each-both (DirHead s) (λ d. (d .head ≡ h → AlikeItems items items′ d) × (sumList (amiss h) (items d) ≡ 0)) (AlikeItems items items′) dirs one (tree-heads (o .good) entries marked (o .tree))
         (each-pair (λ d. d .head ≡ h → AlikeItems items items′ d) (λ d. sumList (amiss h) (items d) ≡ 0) dirs own none-amiss)
 
-    pub orphan-shift : Orphaned ex′ n last f t system′ hd′ sd′ entries marked dirs
+    pub orphan-shift : Orphaned ex′ n last f old t system′ hd′ sd′ entries marked dirs
     orphan-shift = record {
       good = g′;
       tree = alike-tree items items′ root dirs alikes (o .tree);
       head = sh .stays f (o .head);
       not-named = alike-named items items′ dirs alikes f ∙ o .not-named;
       all-named = λ x l q d. omega (arith, alike-named items items′ dirs alikes x, o .all-named x l q (sh .no-new x d));
+      same-names = names-still old items items′ dirs (o .same-names) (alike-names items items′ dirs alikes);
     }
 
-module _ {ex : ℕ → Bool} {n last f : ℕ} {s : Anodes} {system hd sd : ℕ → ℕ} {entries : ℕ → List Entered} {marked : Dir → ℕ → Bool} {dirs : List Dir}
-    (o : Orphaned ex n last f s system hd sd entries marked dirs) where
+module _ {ex : ℕ → Bool} {n last f : ℕ} {old : Dir → List Item} {s : Anodes} {system hd sd : ℕ → ℕ} {entries : ℕ → List Entered} {marked : Dir → ℕ → Bool} {dirs : List Dir}
+    (o : Orphaned ex n last f old s system hd sd entries marked dirs) where
   abbrev given : Dir → List Item
   given = itemsBy entries marked s
 
@@ -104,7 +107,7 @@ module _ {ex : ℕ → Bool} {n last f : ℕ} {s : Anodes} {system hd sd : ℕ �
   not-dir f6 = tree-unnamed given root dirs (o .tree) f (omega arith) (o .not-named)
 
   -- the chain that nothing names takes or gives
-  pub orphan-changed : 6 ≤ f → {t : Anodes} {ex′ : ℕ → Bool} {system′ hd′ sd′ : ℕ → ℕ} → Good limit ex′ n last t system′ hd′ sd′ → Shift s hd t hd′ 1 f → Orphaned ex′ n last f t system′ hd′ sd′ entries marked dirs
+  pub orphan-changed : 6 ≤ f → {t : Anodes} {ex′ : ℕ → Bool} {system′ hd′ sd′ : ℕ → ℕ} → Good limit ex′ n last t system′ hd′ sd′ → Shift s hd t hd′ 1 f → Orphaned ex′ n last f old t system′ hd′ sd′ entries marked dirs
   orphan-changed f6 {t} g′ sh = orphan-shift o f (omega (arith, named-by-kind given f dirs, o .not-named)) g′ sh
       (each-map (λ d. d .head ≢ f) (λ d. d .head ≡ f → AlikeItems given (itemsBy entries marked t) d) dirs (λ d q e. absurd (q e)) (not-dir f6))
 

@@ -18,7 +18,8 @@ use Rattle.laws.specs.Frame.{kept-count}
 use Rattle.laws.specs.Each.{Each, Member, each-both, each-pair, member-each, each-less, each-zero}
 use Rattle.laws.specs.Items.{wrong, names-sum, namedIn, faults, headed}
 use Rattle.laws.specs.Trees.{Tree}
-use Rattle.laws.specs.TreeChanges.{tree-unnamed, Gain, sum-named, dir-there, remove-file, remove-dir, AlikeItems, alike-named, alike-tree}
+use Rattle.laws.specs.Apart.{nameCount}
+use Rattle.laws.specs.TreeChanges.{tree-unnamed, Gain, less-apart, sum-named, dir-there, remove-file, remove-dir, AlikeItems, alike-named, alike-apart, alike-tree}
 use Rattle.laws.specs.Entries.{broken-wrong, sized-still, item-anode, item-dir, items-sum, itemsAt-fine, anodes-fine, items-alike}
 use Rattle.laws.specs.Whole.{DirHead, Whole, fine-still, dir-heads, named-heads}
 use Rattle.laws.specs.Make.{SameMarks, EntryMore, entry-gain}
@@ -121,7 +122,7 @@ module _ {ex : ℕ → Bool} {n last : ℕ} {s : Anodes} {system hd sd : ℕ →
       gone-named x = omega (
         arith,
         names-sum x (between c),
-        member-each (Gain between items h₀ (itemOf s e)) c dirs there gains (λ f b a. oneAt a x),
+        member-each (Gain between items h₀ (itemOf s e)) c dirs there gains (λ f b a v. oneAt a x),
         ap (sumList (λ i. oneAt (i .anode) x)) none-in,
         list-nil {X = Item} (λ i. oneAt (i .anode) x),
       )
@@ -158,9 +159,10 @@ module _ {ex : ℕ → Bool} {n last : ℕ} {s : Anodes} {system hd sd : ℕ →
     guard : Item → ℕ
     guard i = wrong i + oneAt (i .anode) h
 
-    like : (j : Entered) → guard (itemOf s j) ≡ 0 → (j .dir ≡ j .dir) × (j .anode ≡ j .anode) × (wrong (itemOf end j) ≡ 0)
+    like : (j : Entered) → guard (itemOf s j) ≡ 0 → (j .dir ≡ j .dir) × (j .anode ≡ j .anode) × (j .name ≡ j .name) × (wrong (itemOf end j) ≡ 0)
     unfolding guard
     like j z = (
+      refl,
       refl,
       refl,
       fine-still (w .good) good j j refl refl (omega arith) (λ l d q. (let j1 : j .anode ≢ 1 = λ i. omega (arith, i, l) in (
@@ -201,6 +203,7 @@ module _ {ex : ℕ → Bool} {n last : ℕ} {s : Anodes} {system hd sd : ℕ →
               rest .names x,
               alike-named between items′ (rest .dirs′) alikes x,
             );
+        apart = alike-apart between items′ (rest .dirs′) alikes (λ v. rest .each (λ d. nameCount v (between d) ≤ 1) (less-apart between items h₀ (itemOf s e) dirs gains (w .apart) v));
       },
       rest .heads,
     )

@@ -9,9 +9,10 @@ use Rattle.rules.specs.Counting.{oneAt, sumList, occurrences, changed}
 use Rattle.rules.specs.Walk.{Dir, dirMade, Item}
 use Rattle.laws.specs.Sums.{oneAt-cases, oneAt-same, oneAt-some, oneAt-other, oneBelow, oneBelow-none, oneBelow-suc, changed-same, changed-other}
 use Rattle.laws.specs.Bags.{list-nil, list-cons, list-without, list-some, list-add, list-gain, list-mono, list-congr-where, list-zero}
-use Rattle.laws.specs.Each.{Each, Member, each-map, each-both, member-each, list-congr-each, list-mono-each, each-zero}
-use Rattle.laws.specs.Items.{wrong, weighItem, names, names-sum, giving, subs, below, namedIn, faults, below-items, subs-named, headed}
+use Rattle.laws.specs.Each.{Each, Member, each-map, each-both, each-pair, member-each, list-congr-each, list-mono-each, each-zero}
+use Rattle.laws.specs.Items.{wrong, weighItem, weighNamed, names, names-sum, giving, subs, below, namedIn, faults, below-items, subs-named, headed}
 use Rattle.laws.specs.Trees.{not-lower, lowering, Tree}
+use Rattle.laws.specs.Apart.{oneSame, oneSame-cases, nameCount, Apart, SameNames, apart-same}
 
 not-lower-is : (height : ℕ → ℕ) (m : ℕ) (e : Dir) → not-lower height m e ≡ oneBelow m (suc (height (e .head)))
 unfolding not-lower
@@ -47,12 +48,12 @@ tree-unnamed items top dirs t h other z = none-headed h dirs (omega (
 
 -- under items′ the directory d has what it had, places aside, and i too if its head is h
 abbrev pub Gain : (Dir → List Item) → (Dir → List Item) → ℕ → Item → Dir → Type 0
-Gain items items′ h i d = (w : ℕ → Bool → ℕ → ℕ) → sumList (weighItem w) (items′ d) ≡ sumList (weighItem w) (items d) + oneAt (d .head) h * weighItem w i
+Gain items items′ h i d = (w : ℕ → Bool → ℕ → List ℕ → ℕ) → sumList (weighItem w) (items′ d) ≡ sumList (weighItem w) (items d) + oneAt (d .head) h * weighItem w i
 
 module _ (items items′ : Dir → List Item) (h : ℕ) (i : Item) where
   gain-below : (w : Dir → ℕ) (d : Dir) → Gain items items′ h i d → below items′ w d ≡ below items w d + oneAt (d .head) h * giving w h i
   gain-below w d g =
-      below-items items′ w d ∙ g (λ f b a. cond b (w (dirMade a (d .head))) 0) ∙ omega (arith, below-items items w d, at-h)
+      below-items items′ w d ∙ g (λ f b a v. cond b (w (dirMade a (d .head))) 0) ∙ omega (arith, below-items items w d, at-h)
     where
       at-h : oneAt (d .head) h * giving w (d .head) i ≡ oneAt (d .head) h * giving w h i
       at-h = elim (oneAt-cases (d .head) h) [
@@ -61,7 +62,29 @@ module _ (items items′ : Dir → List Item) (h : ℕ) (i : Item) where
       ]
 
   gain-named : (x : ℕ) (d : Dir) → Gain items items′ h i d → namedIn items′ x d ≡ namedIn items x d + oneAt (d .head) h * oneAt (i .anode) x
-  gain-named x d g = omega (arith, names-sum x (items′ d), names-sum x (items d), g (λ f b a. oneAt a x))
+  gain-named x d g = omega (arith, names-sum x (items′ d), names-sum x (items d), g (λ f b a v. oneAt a x))
+
+  -- a name stands as often as before, and once more where the item is
+  gain-names : (v : List ℕ) (d : Dir) → Gain items items′ h i d → nameCount v (items′ d) ≡ nameCount v (items d) + oneAt (d .head) h * oneSame (i .name) v
+  gain-names v d g = g (λ f b a u. oneSame u v)
+
+  -- where the directory that gains the item had no such name, names stay apart
+  pub more-apart : (dirs : List Dir) → Each (Gain items items′ h i) dirs → Each (λ d. d .head ≡ h → nameCount (i .name) (items d) ≡ 0) dirs → Apart items dirs → Apart items′ dirs
+  more-apart dirs gains unused a v = each-both (λ d. Gain items items′ h i d × (d .head ≡ h → nameCount (i .name) (items d) ≡ 0)) (λ d. nameCount v (items d) ≤ 1) (λ d. nameCount v (items′ d) ≤ 1) dirs one
+      (each-pair (Gain items items′ h i) (λ d. d .head ≡ h → nameCount (i .name) (items d) ≡ 0) dirs gains unused) (a v)
+    where
+      one : (d : Dir) → Gain items items′ h i d × (d .head ≡ h → nameCount (i .name) (items d) ≡ 0) → nameCount v (items d) ≤ 1 → nameCount v (items′ d) ≤ 1
+      one d (g, none) l = elim (oneAt-cases (d .head) h) [
+        | inr c ↦ omega (arith, l, gain-names v d g, ap (λ (k : ℕ). k * oneSame (i .name) v) (c .1))
+        | inl c ↦ elim (oneSame-cases (i .name) v) [
+          | inl q ↦ omega (arith, gain-names v d g, ap (λ (k : ℕ). k * oneSame (i .name) v) (c .1), q .1, none (c .0), ap (λ (u : List ℕ). nameCount u (items d)) (q .0))
+          | inr q ↦ omega (arith, l, gain-names v d g, ap (λ (k : ℕ). k * oneSame (i .name) v) (c .1), q .1)
+        ]
+      ]
+
+  -- and so they are where the item is left out
+  pub less-apart : (dirs : List Dir) → Each (Gain items items′ h i) dirs → Apart items′ dirs → Apart items dirs
+  less-apart dirs gains a v = each-both (Gain items items′ h i) (λ d. nameCount v (items′ d) ≤ 1) (λ d. nameCount v (items d) ≤ 1) dirs (λ d g l. omega (arith, l, gain-names v d g)) gains (a v)
 
   module _ (dirs : List Dir) (once : headed h dirs ≡ 1) (gains : Each (Gain items items′ h i) dirs) where
     -- a weight that the item adds in the directory with the head h
@@ -79,7 +102,7 @@ module _ (items items′ : Dir → List Item) (h : ℕ) (i : Item) where
     sum-named x = sum-gain (namedIn items x) (namedIn items′ x) (oneAt (i .anode) x) (gain-named x)
 
     sum-faults : sumList (faults items′) dirs ≡ sumList (faults items) dirs + wrong i
-    sum-faults = sum-gain (faults items) (faults items′) (wrong i) (λ d g. g (λ f b a. f))
+    sum-faults = sum-gain (faults items) (faults items′) (wrong i) (λ d g. g (λ f b a v. f))
 
     module _ (top : Dir) where
       once-named : Tree items top dirs → sumList (namedIn items (i .anode)) dirs ≡ 0 → (x : ℕ) → sumList (namedIn items′ x) dirs ≤ 1
@@ -232,12 +255,20 @@ module _ (items items′ : Dir → List Item) (h : ℕ) (i : Item) (top : Dir) w
 -- ---- the items stay, but for the numbers of their faults: a size changes
 
 abbrev pub AlikeItems : (Dir → List Item) → (Dir → List Item) → Dir → Type 0
-AlikeItems items items′ d = ((w : Bool → ℕ → ℕ) → sumList (λ j. w (j .dir) (j .anode)) (items′ d) ≡ sumList (λ j. w (j .dir) (j .anode)) (items d)) × (faults items′ d ≡ 0)
+AlikeItems items items′ d = ((w : Bool → ℕ → List ℕ → ℕ) → sumList (weighNamed w) (items′ d) ≡ sumList (weighNamed w) (items d)) × (faults items′ d ≡ 0)
 
 -- each anode is named as often
 pub alike-named : (items items′ : Dir → List Item) (dirs : List Dir) → Each (AlikeItems items items′) dirs → (x : ℕ) → sumList (namedIn items′ x) dirs ≡ sumList (namedIn items x) dirs
 alike-named items items′ dirs each x = list-congr-each (namedIn items′ x) (namedIn items x) dirs
-    (each-map (AlikeItems items items′) (λ d. namedIn items′ x d ≡ namedIn items x d) dirs (λ d g. names-sum x (items′ d) ∙ g .0 (λ b a. oneAt a x) ∙ sym (names-sum x (items d))) each)
+    (each-map (AlikeItems items items′) (λ d. namedIn items′ x d ≡ namedIn items x d) dirs (λ d g. names-sum x (items′ d) ∙ g .0 (λ b a v. oneAt a x) ∙ sym (names-sum x (items d))) each)
+
+-- and each name stands as often in its directory
+pub alike-names : (items items′ : Dir → List Item) (dirs : List Dir) → Each (AlikeItems items items′) dirs → SameNames items items′ dirs
+alike-names items items′ dirs each v = each-map (AlikeItems items items′) (λ d. nameCount v (items′ d) ≡ nameCount v (items d)) dirs (λ d g. g .0 (λ b a u. oneSame u v)) each
+
+-- and so names that were apart still are
+pub alike-apart : (items items′ : Dir → List Item) (dirs : List Dir) → Each (AlikeItems items items′) dirs → Apart items dirs → Apart items′ dirs
+alike-apart items items′ dirs each = apart-same items items′ dirs (alike-names items items′ dirs each)
 
 pub alike-tree : (items items′ : Dir → List Item) (top : Dir) (dirs : List Dir) → Each (AlikeItems items items′) dirs → Tree items top dirs → Tree items′ top dirs
 alike-tree items items′ top dirs each t = record {
@@ -253,4 +284,4 @@ alike-tree items items′ top dirs each t = record {
     to Q f = each-map (AlikeItems items items′) Q dirs f each
 
     at : (w : Dir → ℕ) (d : Dir) → AlikeItems items items′ d → below items′ w d ≡ below items w d
-    at w d g = below-items items′ w d ∙ g .0 (λ b a. cond b (w (dirMade a (d .head))) 0) ∙ sym (below-items items w d)
+    at w d g = below-items items′ w d ∙ g .0 (λ b a v. cond b (w (dirMade a (d .head))) 0) ∙ sym (below-items items w d)

@@ -12,6 +12,7 @@ use Rattle.laws.specs.Sums.{oneAt-cases, oneAt-same}
 use Rattle.laws.specs.Bags.{list-nil, list-cons, list-append, gather-sum, occurrences-nil, occurrences-cons}
 use Rattle.laws.specs.Tests.{if-zero, firstOf-zero}
 use Rattle.laws.specs.Items.{wrong, names, subs, below, namedIn, faults}
+use Rattle.laws.specs.Members.{Member, member-first, member-later}
 
 -- ---- one directory
 
@@ -162,3 +163,29 @@ module _ (items : Dir → List Item) where
 
   pub order-sum : (Q q : List Dir) → Order q Q → (w : Dir → ℕ) → sumList w Q ≡ sumList w q + sumList (below items w) Q
   order-sum Q q r w = ap (sumList w) (order-list Q q r) ∙ list-append w q (gather (subs items) Q) ∙ ap (λ (n : ℕ). sumList w q + n) (gather-sum (subs items) w Q)
+
+-- ---- the same items
+
+visited-done : (d : Dir) (o : Walk) (Q : List Dir) → visited d o ≡ done Q → (R : List Dir) × (o ≡ done R) × (Q ≡ d ∷ R)
+unfolding visited
+visited-done d (fault n) Q e = absurd (let z : _≡_ {A = ℕ} 0 1 = cc in omega arith)
+visited-done d (done R) Q e = (R, refl, cc)
+
+-- where the directories that are visited have the same items, the walk goes the same way
+pub walk-same : (items items′ : Dir → List Item) (k : ℕ) (q : List Dir) (named : List ℕ) (Q : List Dir) → walk items k q named ≡ done Q →
+    ((d : Dir) → Member d Q → items′ d ≡ items d) → walk items′ k q named ≡ done Q
+unfolding walk visited
+walk-same items items′ zero [] named Q e f = e
+walk-same items items′ zero (d ∷ q) named Q e f = e
+walk-same items items′ (suc k) [] named Q e f = e
+walk-same items items′ (suc k) (d ∷ q) named Q e f = go (scan d (items d) q named) refl e (walk-same items items′ k)
+  where
+    go : (c : Scanned) → scan d (items d) q named ≡ c → elim c [ faulty n ↦ fault n | fine r l ↦ visited d (walk items k r l) ] ≡ done Q →
+        ((q : List Dir) (named : List ℕ) (Q : List Dir) → walk items k q named ≡ done Q → ((d : Dir) → Member d Q → items′ d ≡ items d) → walk items′ k q named ≡ done Q) →
+        elim (scan d (items′ d) q named) [ faulty n ↦ fault n | fine r l ↦ visited d (walk items′ k r l) ] ≡ done Q
+    go (faulty n) c e rest = absurd (let z : _≡_ {A = ℕ} 0 1 = cc in omega arith)
+    go (fine r l) c e rest =
+        let v = visited-done d (walk items k r l) Q e in
+        let here : items′ d ≡ items d = f d (rw (v .2) (member-first d (v .0))) in
+        let later : walk items′ k r l ≡ done (v .0) = rest r l (v .0) (v .1) (λ x m. f x (rw (v .2) (member-later x d (v .0) m))) in
+        rw (here, c, later) (ap done (sym (v .2)))

@@ -1,4 +1,4 @@
--- The whole accepted state, refusals 6 to 16, in the form to prove with, and that a change of one file's chain and size keeps it.
+-- The whole accepted state, refusals 6 to 17, in the form to prove with, and that a change of one file's chain and size keeps it.
 use Prim.Native.Nat.{ℕ, _+_, _*_, _≤_, _<_}
 use mathlib.Core.Path.{_≡_, refl, sym, ap, _∙_}
 use mathlib.Core.Logic.{_≢_, _⊎_, inl, inr}
@@ -24,7 +24,8 @@ use Rattle.laws.specs.ChainBlocks.{shift-count}
 use Rattle.laws.specs.Each.{Each, each-map, each-both, each-pair, each-zero}
 use Rattle.laws.specs.Items.{wrong, names-sum, giving, giving-le, below, namedIn, faults, below-items}
 use Rattle.laws.specs.Trees.{Tree}
-use Rattle.laws.specs.TreeChanges.{none-headed, AlikeItems, alike-named, alike-tree}
+use Rattle.laws.specs.Apart.{Apart}
+use Rattle.laws.specs.TreeChanges.{none-headed, AlikeItems, alike-named, alike-apart, alike-tree}
 use Rattle.laws.specs.Totals.{namedByFiles, named-by-kind, filesOf, dirsOf, tree-total}
 use Rattle.laws.specs.Entries.{broken-wrong, Sized, item-fine, fine-item, item-anode, items-mono, items-alike}
 
@@ -89,15 +90,16 @@ module _ (ex : ℕ → Bool) (n last : ℕ) where
     pub good : Good limit ex n last s system hd sd
     pub tree : Tree (itemsBy entries marked s) root dirs
     pub all-named : AllNamed s entries marked dirs
+    pub apart : Apart (itemsBy entries marked s) dirs
 
 -- the same with another account of the anodes that exist and of the system's blocks
 pub whole-good : {ex ex′ : ℕ → Bool} {n last : ℕ} {s : Anodes} {system system′ hd sd hd′ sd′ : ℕ → ℕ} {entries : ℕ → List Entered} {marked : Dir → ℕ → Bool} {dirs : List Dir} → Good limit ex′ n last s system′ hd′ sd′ →
     Whole ex n last s system hd sd entries marked dirs → Whole ex′ n last s system′ hd′ sd′ entries marked dirs
-whole-good g w = record { good = g; tree = w .tree; all-named = w .all-named }
+whole-good g w = record { good = g; tree = w .tree; all-named = w .all-named; apart = w .apart }
 
 -- φ changes entries in their sizes alone, and only those that name h; the blocks of directories then hold the entries under φ, and are marked as before
 pub record SizesChanged (s : Anodes) (hd : ℕ → ℕ) (h : ℕ) (φ : Entered → Entered) (entries entries′ : ℕ → List Entered) (marked marked′ : Dir → ℕ → Bool) : Type 0 where
-  pub keeps : (e : Entered) → (φ e .broken ≡ e .broken) × (φ e .dir ≡ e .dir) × (φ e .anode ≡ e .anode)
+  pub keeps : (e : Entered) → (φ e .broken ≡ e .broken) × (φ e .dir ≡ e .dir) × (φ e .anode ≡ e .anode) × (φ e .name ≡ e .name)
   pub other : (e : Entered) → e .anode ≢ h → φ e .size ≡ e .size
   pub there : (a : ℕ) → s .count a ≡ 1 → hd a ≢ 1 → hd a ≢ h → (entries′ (s .block a) ≡ map φ (entries (s .block a))) × ((d : Dir) → marked′ d (s .block a) ≡ marked d (s .block a))
 
@@ -199,6 +201,7 @@ module _ {ex : ℕ → Bool} {n last : ℕ} {s : Anodes} {system hd sd : ℕ →
       good = g′;
       tree = alike-tree items items′ root dirs alikes (w .tree);
       all-named = λ x l d. omega (arith, w .all-named x l (sh .no-new x d), alike-named items items′ dirs alikes x);
+      apart = alike-apart items items′ dirs alikes (w .apart);
     }
       where
         items′ : Dir → List Item
@@ -211,8 +214,8 @@ module _ {ex : ℕ → Bool} {n last : ℕ} {s : Anodes} {system hd sd : ℕ →
           | inr i ↦ inr (ap (blockCount t) (c .keeps e .2) ∙ shift-count (w .good) g′ sh (e .anode) d (omega arith) i ∙ q ∙ ap blocksFor (sym (c .other e i)))
         ]
 
-        like : (e : Entered) → wrong (itemOf s e) ≡ 0 → (φ e .dir ≡ e .dir) × (φ e .anode ≡ e .anode) × (wrong (itemOf t (φ e)) ≡ 0)
-        like e z = (c .keeps e .1, c .keeps e .2, fine-still (w .good) g′ e (φ e) (c .keeps e .0) (c .keeps e .2) z (λ l d q. (sh .stays (e .anode) d, size e l d q)))
+        like : (e : Entered) → wrong (itemOf s e) ≡ 0 → (φ e .dir ≡ e .dir) × (φ e .anode ≡ e .anode) × (φ e .name ≡ e .name) × (wrong (itemOf t (φ e)) ≡ 0)
+        like e z = (c .keeps e .1, c .keeps e .2, c .keeps e .3, fine-still (w .good) g′ e (φ e) (c .keeps e .0) (c .keeps e .2) z (λ l d q. (sh .stays (e .anode) d, size e l d q)))
 
         one : (d : Dir) → DirHead s d → (d .head ≢ h) × (faults items d ≡ 0) → AlikeItems items items′ d
         one d p q = items-alike s t φ wrong (λ z. omega (arith, z, broken-wrong)) like entries entries′ marked marked′ d

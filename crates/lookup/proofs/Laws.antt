@@ -18,51 +18,30 @@ use Rattle.directory.specs.declared.Walked.the-variants.{Found, Fault}
 use Rattle.directory.specs.Entries.{nameIn}
 use Rattle.counting.specs.Laws.{neither}
 use Rattle.rules.specs.Counting.{anyIn, gather, sameBytes}
+use Rattle.rules.specs.Folding.{folded}
 use Rattle.rules.specs.Anodes.{limit}
 use Rattle.rules.specs.Chains.{chainOf}
 use Rattle.rules.specs.Walk.{Entered, withRest, entriesIn}
 use Rattle.rules.specs.Lookup.{nameAt, isNamed, firstNamed, entryNamed, entriesOf, nth}
 use Rattle.anodes.specs.Loaded.{anodesFrom}
-use Rattle.laws.specs.Entries.{enteredAt, Unbroken}
+use Rattle.laws.specs.Entries.{Unbroken}
 use Rattle.laws.specs.Chains.{gathered-step}
 use Rattle.lookup.specs.Answers.{orElse, onlyIf}
 
--- ---- bytes from `i` on
-
-pub same-length : (l m : List ℕ) → (length l ≡ length m → ⊥) → sameBytes l m ≡ false
-unfolding sameBytes
-same-length [] [] n = absurd (n refl)
-same-length [] (y ∷ m) n = refl
-same-length (x ∷ l) [] n = refl
-same-length (x ∷ l) (y ∷ m) n = rw (same-length l m (λ e. n (ap suc e))) (and-false (eqb x y))
-
-module _ (l m : List ℕ) (i : ℕ) (whole : length l ≡ length m) where
-  pub same-end : length l ≤ i → sameBytes (drop i l) (drop i m) ≡ true
-  unfolding sameBytes
-  same-end h = rw (drop-of-length-le l {i = i} h, drop-of-length-le m {i = i} (omega arith))
-
-  pub same-not : i < length l → (getD l i 0 ≡ getD m i 0 → ⊥) → sameBytes (drop i l) (drop i m) ≡ false
-  unfolding sameBytes
-  same-not h n = rw (drop-cons l i 0 h, drop-cons m i 0 (omega arith), ne-eqb (getD l i 0) (getD m i 0) n)
-
-  pub same-step : i < length l → getD l i 0 ≡ getD m i 0 → sameBytes (drop i l) (drop i m) ≡ sameBytes (drop (i + 1) l) (drop (i + 1) m)
-  unfolding sameBytes
-  same-step h e = rw (drop-cons l i 0 h, drop-cons m i 0 (omega arith), eq-eqb (getD l i 0) (getD m i 0) e, add-one i)
-
 -- ---- the entries of a block, from a place on
 
-is-named : (img : List ℕ) (y : ℕ) (block : List ℕ) (at : ℕ) (name : List ℕ) (e : Entry) → block ≡ blockOf img y → at < 512
-    → isNamed img name (enteredAt e (y * 512 + at)) ≡ sameBytes (nameIn block at) name
-unfolding isNamed nameAt
-is-named img y block at name e is h =
+-- the name that stands at a place
+pub name-at : (img : List ℕ) (y : ℕ) (block : List ℕ) (at : ℕ) → block ≡ blockOf img y → at < 512 → nameAt img (y * 512 + at) ≡ nameIn block at
+unfolding nameAt
+name-at img y block at is h =
     let p : (y * 512 + at) / 512 ≡ y = omega arith in
     let q : (y * 512 + at) % 512 ≡ at = omega arith in
     rw (p, q, is)
 
-first-step : (img name : List ℕ) (e : Entered) (es : List Entered) → firstNamed img name (e ∷ es) ≡ orElse (onlyIf (isNamed img name e) e) (firstNamed img name es)
+first-step : (name : List ℕ) (e : Entered) (es : List Entered) → firstNamed name (e ∷ es) ≡ orElse (onlyIf (isNamed name e) e) (firstNamed name es)
 unfolding firstNamed
-first-step img name e es = cases (isNamed img name e) where
-  cases : (b : Bool) → elim b [ true ↦ some e | false ↦ firstNamed img name es ] ≡ orElse (onlyIf b e) (firstNamed img name es)
+first-step name e es = cases (isNamed name e) where
+  cases : (b : Bool) → elim b [ true ↦ some e | false ↦ firstNamed name es ] ≡ orElse (onlyIf b e) (firstNamed name es)
   cases true = refl
   cases false = refl
 
@@ -75,29 +54,27 @@ or-none none = refl
 or-none (some e) = refl
 
 -- what is read at a place, with the entries behind it
-module _ (w : Walked) (start : ℕ) (rest : List Entered) where
-  pub unbroken-no-fault : (r : Refusal) → w ≡ Fault r → Unbroken (withRest w start rest) → ⊥
+module _ (w : Walked) (name : List ℕ) (start : ℕ) (rest : List Entered) where
+  pub unbroken-no-fault : (r : Refusal) → w ≡ Fault r → Unbroken (withRest w name start rest) → ⊥
   unfolding anyIn
   unbroken-no-fault r e u = true≢false (rw e at u)
 
-  pub unbroken-rest : (e : Entry) → w ≡ Found e → Unbroken (withRest w start rest) → Unbroken rest
+  pub unbroken-rest : (e : Entry) → w ≡ Found e → Unbroken (withRest w name start rest) → Unbroken rest
   unfolding anyIn
   unbroken-rest e is u = rw is at u
 
 -- an entry passed: the first found so far with the entries from the place on, and with the one at the place before those behind it
-pub named-passed : (img name : List ℕ) (y : ℕ) (block : List ℕ) (at : ℕ) (e : Entry) → block ≡ blockOf img y → at < 512 → (rest : List Entered) (found : Option Entered)
-    → orElse (orElse found (onlyIf (sameBytes (nameIn block at) name) (enteredAt e (y * 512 + at)))) (firstNamed img name rest)
-    ≡ orElse found (firstNamed img name (enteredAt e (y * 512 + at) ∷ rest))
-named-passed img name y block at e part within rest found =
-    rw (first-step img name (enteredAt e (y * 512 + at)) rest, is-named img y block at name e part within)
-    (or-assoc found (onlyIf (sameBytes (nameIn block at) name) (enteredAt e (y * 512 + at))) (firstNamed img name rest))
+pub named-passed : (name : List ℕ) (e : Entered) (rest : List Entered) (found : Option Entered)
+    → orElse (orElse found (onlyIf (sameBytes (folded (e .name)) (folded name)) e)) (firstNamed name rest) ≡ orElse found (firstNamed name (e ∷ rest))
+unfolding isNamed
+named-passed name e rest found = rw (first-step name e rest) (or-assoc found (onlyIf (sameBytes (folded (e .name)) (folded name)) e) (firstNamed name rest))
 
-pub named-none : (img name : List ℕ) (es : List Entered) → es ≡ [] → firstNamed img name es ≡ none
+pub named-none : (name : List ℕ) (es : List Entered) → es ≡ [] → firstNamed name es ≡ none
 unfolding firstNamed
-named-none img name es e = rw e
+named-none name es e = rw e
 
-pub named-ended : (img name : List ℕ) (es : List Entered) (found : Option Entered) → es ≡ [] → orElse found (firstNamed img name es) ≡ found
-named-ended img name es found e = rw (named-none img name es e) (or-none found)
+pub named-ended : (name : List ℕ) (es : List Entered) (found : Option Entered) → es ≡ [] → orElse found (firstNamed name es) ≡ found
+named-ended name es found e = rw (named-none name es e) (or-none found)
 
 -- ---- counting down over the entries of a block, with others behind them
 
@@ -132,12 +109,12 @@ unbroken-append (x ∷ xs) ys u =
     let each = unbroken-append xs ys (both .1) in
     (rw (both .0, each .0), each .1)
 
-first-append : (img name : List ℕ) (xs ys : List Entered) → firstNamed img name (xs ++ ys) ≡ orElse (firstNamed img name xs) (firstNamed img name ys)
+first-append : (name : List ℕ) (xs ys : List Entered) → firstNamed name (xs ++ ys) ≡ orElse (firstNamed name xs) (firstNamed name ys)
 unfolding firstNamed
-first-append img name [] ys = refl
-first-append img name (e ∷ xs) ys =
-    rw (first-step img name e (xs ++ ys), first-step img name e xs, first-append img name xs ys)
-    (sym (or-assoc (onlyIf (isNamed img name e) e) (firstNamed img name xs) (firstNamed img name ys)))
+first-append name [] ys = refl
+first-append name (e ∷ xs) ys =
+    rw (first-step name e (xs ++ ys), first-step name e xs, first-append name xs ys)
+    (sym (or-assoc (onlyIf (isNamed name e) e) (firstNamed name xs) (firstNamed name ys)))
 
 module _ (img firsts nexts : List ℕ) (k m a : ℕ) (fuel : k ≡ m + 1) (some-anode : a ≡ 0 → ⊥) where
   -- the entries of anode a's block, and those behind it
@@ -150,15 +127,15 @@ module _ (img firsts nexts : List ℕ) (k m a : ℕ) (fuel : k ≡ m + 1) (some-
   unbroken-along u = unbroken-append (entriesIn img (getD firsts a 0)) (entriesAlong img firsts nexts m (getD nexts a 0)) (rw along at u)
 
   -- the first in the block of anode a, else the first behind it
-  pub named-along : (name : List ℕ) (o : Option Entered) → o ≡ firstNamed img name (entriesIn img (getD firsts a 0))
-      → orElse o (firstNamed img name (entriesAlong img firsts nexts m (getD nexts a 0))) ≡ firstNamed img name (entriesAlong img firsts nexts k a)
-  named-along name o h = rw (along, first-append img name (entriesIn img (getD firsts a 0)) (entriesAlong img firsts nexts m (getD nexts a 0)), h)
+  pub named-along : (name : List ℕ) (o : Option Entered) → o ≡ firstNamed name (entriesIn img (getD firsts a 0))
+      → orElse o (firstNamed name (entriesAlong img firsts nexts m (getD nexts a 0))) ≡ firstNamed name (entriesAlong img firsts nexts k a)
+  named-along name o h = rw (along, first-append name (entriesIn img (getD firsts a 0)) (entriesAlong img firsts nexts m (getD nexts a 0)), h)
 
   pub nth-along : (n : ℕ) (o : Option Entered) → o ≡ nth (entriesIn img (getD firsts a 0) ++ entriesAlong img firsts nexts m (getD nexts a 0)) n
       → o ≡ nth (entriesAlong img firsts nexts k a) n
   nth-along n o h = rw along h
 
-pub named-whole : (img firsts nexts c : List ℕ) (h : ℕ) (name : List ℕ) → entryNamed img (anodesFrom c firsts nexts) h name ≡ firstNamed img name (entriesAlong img firsts nexts limit h)
+pub named-whole : (img firsts nexts c : List ℕ) (h : ℕ) (name : List ℕ) → entryNamed img (anodesFrom c firsts nexts) h name ≡ firstNamed name (entriesAlong img firsts nexts limit h)
 unfolding entryNamed
 named-whole img firsts nexts c h name = rw (along-whole img firsts nexts c h)
 

@@ -7,7 +7,8 @@ ghost use Rattle.directory.specs.Entries.{nameIn};
 ghost use Rattle.rules.specs.Counting.{sameBytes};
 ghost use Rattle.rules.specs.Walk.{Entered, entriesIn};
 ghost use Rattle.rules.specs.Changes.{parentOf};
-ghost use Rattle.rules.specs.Lookup.{firstNamed, entryNamed, entriesOf, nth, noneHeaded};
+ghost use Rattle.rules.specs.Folding.{folded};
+ghost use Rattle.rules.specs.Lookup.{nameAt, firstNamed, entryNamed, entriesOf, nth, noneHeaded};
 ghost use Rattle.laws.specs.Entries.{enteredAt, Unbroken};
 ghost use Rattle.anodes.specs.Loaded.{anodesFrom};
 ghost use Rattle.lookup.specs.Answers.{entryOf, orElse, onlyIf, placed, orRest};
@@ -21,6 +22,7 @@ use disk::BlockNo;
 use disk::block_part;
 use endian::part;
 use endian::read8;
+use folding::same_folded;
 use reader::read_entry;
 use tables::entry;
 
@@ -95,35 +97,18 @@ fn entry_in_image(b: BlockNo, at: usize, e: Entry) -> EntryAt
     }
 }
 
-// Whether two runs of bytes are the same.
-fn same_bytes(one: &[u8], other: &[u8]) -> bool
-    ensures { λ r. ⌜ r ≡ sameBytes (now (one .entry)) (now (other .entry)) ⌝ }
-{
-    if one.len() != other.len() {
-        return false;
-    }
-    let mut i = 0;
-    while i < one.len() {
-        if one[i] != other[i] {
-            return false;
-        }
-        i += 1;
-    }
-    true
-}
-
-// Whether the entry at a place of a directory block has that name.
+// Whether the entry at a place of a directory block has that name, A to Z folded onto a to z.
 fn has_name(block: &[u8], at: usize, name: &[u8]) -> bool
     requires { ⌜ at ≤ 65535 ⌝ }
-    ensures { λ r. ⌜ r ≡ sameBytes (nameIn (now (block .entry)) at) (now (name .entry)) ⌝ }
+    ensures { λ r. ⌜ r ≡ sameBytes (folded (nameIn (now (block .entry)) at)) (folded (now (name .entry))) ⌝ }
 {
     let len = read8(block, at + 15) as usize;
-    same_bytes(part(block, at + 16, len), name)
+    same_folded(part(block, at + 16, len), name)
 }
 
 // The first of two answers that found an entry.
 fn first_of(one: Lookup, later: Lookup) -> Lookup
-    ensures { λ r. ⌜ entryOf r ≡ orElse (entryOf one) (entryOf later) ⌝ }
+    ensures { λ r. ⌜ ((img : List ℕ) → entryOf img r ≡ orElse (entryOf img one) (entryOf img later)) ⌝ }
 {
     if let Lookup::Found(_) = one {
         return one;
@@ -134,7 +119,7 @@ fn first_of(one: Lookup, later: Lookup) -> Lookup
 // The entry at a place of block `b`, if it has that name.
 fn named_at(block: &[u8], b: BlockNo, at: usize, e: Entry, name: &[u8]) -> Lookup
     requires { ⌜ at ≤ 65535 ⌝ }
-    ensures { λ r. ⌜ entryOf r ≡ onlyIf (sameBytes (nameIn (now (block .entry)) at) (now (name .entry))) (enteredAt e (b .0 * 512 + at)) ⌝ }
+    ensures { λ r. ⌜ ((img : List ℕ) → nameAt img (b .0 * 512 + at) ≡ nameIn (now (block .entry)) at → entryOf img r ≡ onlyIf (sameBytes (folded (nameIn (now (block .entry)) at)) (folded (now (name .entry)))) (enteredAt e (nameIn (now (block .entry)) at) (b .0 * 512 + at))) ⌝ }
 {
     if has_name(block, at, name) {
         return Lookup::Found(entry_in_image(b, at, e));
@@ -145,7 +130,7 @@ fn named_at(block: &[u8], b: BlockNo, at: usize, e: Entry, name: &[u8]) -> Looku
 // The first entry with that name in block `b`.
 fn named_in(image: &[u8], b: BlockNo, name: &[u8]) -> Lookup
     requires { ⌜ Unbroken (entriesIn (now image) (b .0)) ⌝ }
-    ensures { λ r. ⌜ entryOf r ≡ firstNamed (now (image .entry)) (now (name .entry)) (entriesIn (now (image .entry)) (b .0)) ⌝ }
+    ensures { λ r. ⌜ entryOf (now (image .entry)) r ≡ firstNamed (now (name .entry)) (entriesIn (now (image .entry)) (b .0)) ⌝ }
 {
     let block = block_part(image, b);
     let mut found = Lookup::Missing;
@@ -176,7 +161,7 @@ pub fn entry_named(
     name: &[u8],
 ) -> Lookup
     requires { ⌜ Unbroken (entriesOf (now image) (anodesFrom [] (now firsts) (now nexts)) (head .0)) ⌝ }
-    ensures { λ r. ⌜ ((c : List ℕ) → entryOf r ≡ entryNamed (now (image .entry)) (anodesFrom c (now (firsts .entry)) (now (nexts .entry))) (head .0) (now (name .entry))) ⌝ }
+    ensures { λ r. ⌜ ((c : List ℕ) → entryOf (now (image .entry)) r ≡ entryNamed (now (image .entry)) (anodesFrom c (now (firsts .entry)) (now (nexts .entry))) (head .0) (now (name .entry))) ⌝ }
 {
     let mut at = head.0 as usize;
     let mut fuel: usize = 3444;
@@ -197,7 +182,7 @@ pub fn entry_named(
 // The n-th entry, from 0, of block `b`, or how many are still to be passed after the block.
 fn nth_in(image: &[u8], b: BlockNo, n: u64) -> Passed
     requires { ⌜ Unbroken (entriesIn (now image) (b .0)) ⌝ }
-    ensures { λ r. ⌜ ((rest : List Entered) → orRest r rest ≡ nth (entriesIn (now (image .entry)) (b .0) ++ rest) n) ⌝ }
+    ensures { λ r. ⌜ ((rest : List Entered) → orRest (now (image .entry)) r rest ≡ nth (entriesIn (now (image .entry)) (b .0) ++ rest) n) ⌝ }
 {
     let block = block_part(image, b);
     let mut left = n;
@@ -224,7 +209,7 @@ fn nth_in(image: &[u8], b: BlockNo, n: u64) -> Passed
 // The n-th entry, from 0, of the directory that `head` heads.
 pub fn nth_entry(image: &[u8], firsts: &[u16], nexts: &[u16], head: AnodeNo, n: u64) -> Lookup
     requires { ⌜ Unbroken (entriesOf (now image) (anodesFrom [] (now firsts) (now nexts)) (head .0)) ⌝ }
-    ensures { λ r. ⌜ ((c : List ℕ) → entryOf r ≡ nth (entriesOf (now (image .entry)) (anodesFrom c (now (firsts .entry)) (now (nexts .entry))) (head .0)) n) ⌝ }
+    ensures { λ r. ⌜ ((c : List ℕ) → entryOf (now (image .entry)) r ≡ nth (entriesOf (now (image .entry)) (anodesFrom c (now (firsts .entry)) (now (nexts .entry))) (head .0)) n) ⌝ }
 {
     let mut left = n;
     let mut at = head.0 as usize;

@@ -16,7 +16,7 @@ use Rattle.disk.specs.Root.{slotOf}
 use Rattle.rules.specs.Counting.{changed}
 use Rattle.rules.specs.Anodes.{Anodes, limit, exists, anodesOf}
 use Rattle.rules.specs.Chains.{run, systemBy, systemOwns, blocksOf}
-use Rattle.rules.specs.Walk.{entriesIn, isBlockOf, reachedDirs}
+use Rattle.rules.specs.Walk.{entriesIn, isBlockOf, itemsBy, reachedDirs}
 use Rattle.rules.specs.Accepted.{diskSize, wrongSize, lastReserved, PastDamage}
 use Rattle.rules.specs.Plans.{Slotted, slotted, tableOf, refused, planned, noGrowth, atSlots}
 use Rattle.rules.specs.Space.{rewritten, takeBlock, needAnode, withSpare}
@@ -111,7 +111,7 @@ module _ {img : List ℕ} {h f : ℕ} (x : Fresh img h f) where
   spare-is = afresh-fixed (needAnode limit) (tableOf img) ∙ rw (x .lowest, lt-ltb f limit (x .below))
 
   -- the anodes with the fresh head
-  pub first-orphan : OrphanedOn img f (rewritten (anodesOf img) f 0 65535) (changed (headIn img) f f) (changed (sideIn img) f f) (entriesIn img) (isBlockOf img) (reachedDirs img (anodesOf img))
+  pub first-orphan : OrphanedOn img f (itemsBy (entriesIn img) (isBlockOf img) (anodesOf img)) (rewritten (anodesOf img) f 0 65535) (changed (headIn img) f f) (changed (sideIn img) f f) (entriesIn img) (isBlockOf img) (reachedDirs img (anodesOf img))
   first-orphan = fresh-orphan whole f (x .below) free-f (entriesIn img) (isBlockOf img) (contents-unchanged _ _ _ _)
 
   pub fresh-not-1 : f ≢ 1
@@ -123,7 +123,7 @@ module _ {img : List ℕ} {h f : ℕ} (x : Fresh img h f) where
 
   -- after the first step, a block for the fresh head
   module _ (dir : Bool) (ys : List ℕ) (r : Slotted) (first : neededBlock noGrowth dir f (headMade (tableOf img) f) ≡ planned r ys) where
-    pub orphan : (hd : ℕ → ℕ) × (sd : ℕ → ℕ) × OrphanedOn img f (r .anodes) hd sd (entriesIn img) (isBlockOf img) (reachedDirs img (anodesOf img))
+    pub orphan : (hd : ℕ → ℕ) × (sd : ℕ → ℕ) × OrphanedOn img f (itemsBy (entriesIn img) (isBlockOf img) (anodesOf img)) (r .anodes) hd sd (entriesIn img) (isBlockOf img) (reachedDirs img (anodesOf img))
     unfolding neededBlock
     orphan = made-orphan img whole f (x .below) free-f h once dir r ys first false r [] refl (entriesIn img) (isBlockOf img) (contents-unchanged _ _ _ _) (λ z i. absurd (nil≢cons i)) (λ z i. absurd (nil≢cons i))
 

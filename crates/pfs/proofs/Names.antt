@@ -8,25 +8,26 @@ use Rattle.directory.specs.Entries.{entryIn, entryLength}
 use Rattle.rules.specs.Anodes.{anodesOf}
 use Rattle.rules.specs.Walk.{Entered}
 use Rattle.rules.specs.Accepted.{checkAnswer}
-use Rattle.rules.specs.Lookup.{entriesOf, nameAt, nth}
+use Rattle.rules.specs.Lookup.{entriesOf, nth}
 use Rattle.rules.specs.Calls.{Outcome, outcomeOf, settled, doneOr, fieldList, fieldsAt, fieldsListed, nameListed, listRefusal, listAnswer, listOutcome}
 use Rattle.laws.specs.Tests.{firstOf-zero}
 use Rattle.change_laws.specs.Image.{AcceptedImage}
-use Rattle.change_laws.specs.Reached.{nth-member}
+use Rattle.change_laws.specs.Reached.{EntryIn, nth-member, entry-name}
 use Rattle.change_laws.specs.Answers.{list-reached}
 use Rattle.reading.proofs.Laws.{name-standing, named-part}
 use Rattle.pfs.specs.Listed.{nameGiven}
 
 module _ (img b₀ a₀ : List ℕ) (h n : ℕ) where
   -- the name of the entry that is listed is the one that its fields give
-  found-name : checkAnswer img (length b₀) (length a₀) ≡ 0 → listRefusal img (anodesOf img) h n ≡ 0 → (x : Entered) → nth (entriesOf img (anodesOf img) h) n ≡ some x → nameAt img (x .start) ≡ nameGiven img (fieldsAt img (x .start))
+  found-name : checkAnswer img (length b₀) (length a₀) ≡ 0 → listRefusal img (anodesOf img) h n ≡ 0 → (x : Entered) → nth (entriesOf img (anodesOf img) h) n ≡ some x → x .name ≡ nameGiven img (fieldsAt img (x .start))
   unfolding nameGiven fieldsAt fieldList entryIn entryLength
   found-name accepted listed x is =
       let image : AcceptedImage img = record { blocks = length b₀; anodes = length a₀; accepted = accepted } in
-      named-part img (x .start) (name-standing (record { directory = record { image = image; reached = list-reached img (anodesOf img) h n listed }; member = nth-member _ n x is }))
+      let entry : EntryIn img h x = record { directory = record { image = image; reached = list-reached img (anodesOf img) h n listed }; member = nth-member _ n x is } in
+      entry-name entry ∙ named-part img (x .start) (name-standing entry)
 
   -- and so it is for every answer: a refused list gives zero fields and an empty name
-  of-answer : (k : ℕ) → k ≡ listAnswer img b₀ a₀ h n → (o : Option Entered) → nth (entriesOf img (anodesOf img) h) n ≡ o → nameListed k img o ≡ nameGiven img (fieldsListed k img o)
+  of-answer : (k : ℕ) → k ≡ listAnswer img b₀ a₀ h n → (o : Option Entered) → nth (entriesOf img (anodesOf img) h) n ≡ o → nameListed k o ≡ nameGiven img (fieldsListed k img o)
   unfolding nameGiven listAnswer doneOr
   of-answer (suc k) e o is = refl
   of-answer zero e none is = refl

@@ -112,7 +112,7 @@ pub fn list_nth<'a>(
     requires { ⌜ OpenFor (now image) (now firsts) (now nexts) (now queue) (now heads) dirs ⌝ }
     ensures answer { λ _. ⌜ now (answer .exit) ≡ listRefusal (now (image .entry)) (anodesOf (now (image .entry))) (head .0) n ⌝ }
     ensures fields { λ _. ⌜ now (fields .exit) ≡ fieldsListed (now (answer .exit)) (now (image .entry)) (nth (entriesOf (now (image .entry)) (anodesOf (now (image .entry))) (head .0)) n) ⌝ }
-    ensures name { λ r. ⌜ now r ≡ nameListed (now (answer .exit)) (now (image .entry)) (nth (entriesOf (now (image .entry)) (anodesOf (now (image .entry))) (head .0)) n) ⌝ }
+    ensures name { λ r. ⌜ now r ≡ nameListed (now (answer .exit)) (nth (entriesOf (now (image .entry)) (anodesOf (now (image .entry))) (head .0)) n) ⌝ }
     ensures part { λ r. ⌜ StartsAt (image .entry) r (getD (now (fields .exit)) 7 0) ⌝ }
 {
     let found = find_nth(image, firsts, nexts, queue, heads, dirs, head, n);

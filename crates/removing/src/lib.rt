@@ -37,10 +37,10 @@ fn commit_remove(
     new_nexts: &[u16],
     e: EntryAt,
 )
-    requires { ⌜ Loaded (now image) (now counts) (now firsts) (now nexts) × ReachedEntry (now image) (entered e) ⌝ }
+    requires { ⌜ Loaded (now image) (now counts) (now firsts) (now nexts) × ReachedEntry (now image) (entered (now image) e) ⌝ }
     requires { ⌜ (3444 ≤ length (now anodes)) × (length (now «new_nexts») ≡ 3444) ⌝ }
     requires { ⌜ ((ys : List ℕ) × (removePlan noGrowth (lastReserved (now image)) (tableOf (now image)) (e .anode .0) ≡ planned (slotted (anodesFrom (now «new_counts») (now «new_firsts») (now «new_nexts»)) (slotOf (now image))) ys)) ⌝ }
-    ensures { λ _. ⌜ Leaves 0 (now (image .entry)) (now (blocks .entry)) (now (anodes .entry)) (now (image .exit)) (now (blocks .exit)) (now (anodes .exit)) (removed noGrowth (now (image .entry)) (tableOf (now (image .entry))) (entered e)) ⌝ }
+    ensures { λ _. ⌜ Leaves 0 (now (image .entry)) (now (blocks .entry)) (now (anodes .entry)) (now (image .exit)) (now (blocks .exit)) (now (anodes .exit)) (removed noGrowth (now (image .entry)) (tableOf (now (image .entry))) (entered (now (image .entry)) e)) ⌝ }
 {
     set_behind(blocks, counts, firsts, nexts, e.anode, 0, AnodeNo(1));
     store_anodes(
@@ -66,9 +66,9 @@ pub fn remove_entry(
     nexts: &[u16],
     e: EntryAt,
 ) -> u32
-    requires { ⌜ Loaded (now image) (now counts) (now firsts) (now nexts) × ReachedEntry (now image) (entered e) ⌝ }
+    requires { ⌜ Loaded (now image) (now counts) (now firsts) (now nexts) × ReachedEntry (now image) (entered (now image) e) ⌝ }
     requires { ⌜ 3444 ≤ length (now anodes) ⌝ }
-    ensures { λ r. ⌜ Leaves r (now (image .entry)) (now (blocks .entry)) (now (anodes .entry)) (now (image .exit)) (now (blocks .exit)) (now (anodes .exit)) (removed noGrowth (now (image .entry)) (tableOf (now (image .entry))) (entered e)) ⌝ }
+    ensures { λ r. ⌜ Leaves r (now (image .entry)) (now (blocks .entry)) (now (anodes .entry)) (now (image .exit)) (now (blocks .exit)) (now (anodes .exit)) (removed noGrowth (now (image .entry)) (tableOf (now (image .entry))) (entered (now (image .entry)) e)) ⌝ }
 {
     let have = chain_sum(counts, nexts, e.anode) as u64;
     let mut new_counts = copied(counts);

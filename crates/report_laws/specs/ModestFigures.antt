@@ -9,7 +9,7 @@ use lib.Dec.{ltb}
 use Rattle.rules.specs.Counting.{oneAt, sumList, occurrences, gather}
 use Rattle.rules.specs.Anodes.{Anodes, limit, anodesOf}
 use Rattle.rules.specs.Chains.{chainOf, blockCount}
-use Rattle.rules.specs.Walk.{Dir, Entered, Item, entriesIn, isBlockOf, itemOf, itemsAt, itemsBy, itemsOf, blocksFor, reached, reachedDirs}
+use Rattle.rules.specs.Walk.{Dir, Entered, Item, entriesIn, isBlockOf, itemOf, itemsAt, itemsBy, blocksFor, reached, reachedDirs}
 use Rattle.rules.specs.Accepted.{diskSize}
 use Rattle.rules.specs.Lookup.{entriesOf}
 use Rattle.rules.specs.Totals.{freeBlocks, fileBlocks, totalIn, total}
@@ -21,7 +21,7 @@ use Rattle.laws.specs.Items.{names, names-sum, namedIn, giving, below, below-it
 use Rattle.laws.specs.Entries.{items-sum}
 use Rattle.laws.specs.Whole.{named-heads}
 use Rattle.laws.specs.Members.{Member, member-first, member-later, member-congr, member-gather}
-use Rattle.change_laws.specs.Image.{AcceptedWhole, AcceptedImage, image-passed, accepted-whole}
+use Rattle.change_laws.specs.Image.{AcceptedWhole, AcceptedImage, image-passed, accepted-reached, accepted-whole}
 use Rattle.change_laws.specs.Reached.{its-items, EntryIn, member-reached, entry-facts}
 use Rattle.change_laws.specs.Totals.{accepted-total}
 use Rattle.report.specs.Runs.{oneIfMany, longestRun, inChain, fileRuns, longestFree}
@@ -83,9 +83,9 @@ module _ {img : List ℕ} (image : AcceptedImage img) where
 
     -- a weight by type and anode has the same sum over both
     pub reached-weight : sumList ofItem (reached img s) ≡ sumList ofEntry (reachedEntries img s)
-    unfolding reached itemsOf reachedEntries
+    unfolding reachedEntries
     reached-weight =
-        gather-sum items ofItem dirs
+        ap (sumList ofItem) (accepted-reached image) ∙ gather-sum items ofItem dirs
         ∙ member-congr (λ d. sumList ofItem (items d)) (λ d. sumList ofEntry (entriesOf img s (d .head))) dirs dir-weight
         ∙ sym (gather-sum (λ d. entriesOf img s (d .head)) ofEntry dirs)
 
@@ -93,9 +93,8 @@ module _ {img : List ℕ} (image : AcceptedImage img) where
 
   -- the entries are named once each, and below 3,444
   names-all : (x : ℕ) → occurrences x (names (reached img s)) ≡ sumList (namedIn items x) dirs
-  unfolding reached itemsOf
   names-all x =
-      names-sum x (gather items dirs) ∙ gather-sum items (λ i. oneAt (i .anode) x) dirs
+      ap (λ (l : List Item). occurrences x (names l)) (accepted-reached image) ∙ names-sum x (gather items dirs) ∙ gather-sum items (λ i. oneAt (i .anode) x) dirs
       ∙ list-congr (λ d. sumList (λ i. oneAt (i .anode) x) (items d)) (namedIn items x) dirs (λ d. sym (names-sum x (items d)))
 
   reached-few : sumList (λ i. 1) (reached img s) ≤ 3444
@@ -137,7 +136,7 @@ module _ {img : List ℕ} (image : AcceptedImage img) where
       go false false = omega arith
 
   pub dirs-few : dirCount img s ≤ 3445
-  unfolding dirCount reached itemsOf
+  unfolding dirCount
   dirs-few = omega (
     arith,
     list-length dirs,
@@ -148,12 +147,10 @@ module _ {img : List ℕ} (image : AcceptedImage img) where
       list-mono (giving (λ d. 1) (d .head)) (λ i. 1) (items d) (λ i. go (i .dir)),
     )),
     gather-sum items (λ i. 1) dirs,
-    few,
+    ap (sumList (λ (i : Item). 1)) (accepted-reached image),
+    reached-few,
   )
     where
-      few : sumList (λ i. 1) (gather items dirs) ≤ 3444
-      few = reached-few
-
       go : (t : Bool) → cond t 1 0 ≤ 1
       go true = omega arith
       go false = omega arith

@@ -110,7 +110,7 @@ answer-low f = elim (
     (if-number 3 (wrongType (f .image)) 1 17 _ (omega arith) (omega arith)
     (if-number 4 (wrongRoot (f .image)) 1 17 _ (omega arith) (omega arith)
     (if-number 5 (wrongSlots (f .image)) 1 17 _ (omega arith) (omega arith)
-    (wider 6 16 1 17 (damageIn (f .image) (anodesOf (f .image))) (omega arith) (omega arith) (damage-range (f .image) (anodesOf (f .image))))))))
+    (wider 6 17 1 17 (damageIn (f .image) (anodesOf (f .image))) (omega arith) (omega arith) (damage-range (f .image) (anodesOf (f .image))))))))
     ) [ inl z ↦ omega (arith, z) | inr r ↦ omega (arith, r .1) ]
 
 -- ---- an image fed

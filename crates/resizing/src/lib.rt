@@ -74,11 +74,11 @@ fn commit_resize(
     e: EntryAt,
     size: u64,
 )
-    requires { ⌜ Loaded (now image) (now counts) (now firsts) (now nexts) × ReachedEntry (now image) (entered e) ⌝ }
+    requires { ⌜ Loaded (now image) (now counts) (now firsts) (now nexts) × ReachedEntry (now image) (entered (now image) e) ⌝ }
     requires { ⌜ (isDir (e .kind) ≡ false) × (3444 ≤ length (now anodes)) × (length (now «new_nexts») ≡ 3444) ⌝ }
     requires { ⌜ ((ys : List ℕ) × (resizePlan noGrowth (lastReserved (now image)) (tableOf (now image)) (e .anode .0) (blocksFor size) ≡ planned (slotted (anodesFrom (now «new_counts») (now «new_firsts») (now «new_nexts»)) (slotOf (now image))) ys)) ⌝ }
     requires { ⌜ (have ≡ blockCount (anodesOf (now image)) (e .anode .0)) × (want ≡ blocksFor size) ⌝ }
-    ensures { λ _. ⌜ Leaves 0 (now (image .entry)) (now (blocks .entry)) (now (anodes .entry)) (now (image .exit)) (now (blocks .exit)) (now (anodes .exit)) (resized noGrowth (now (image .entry)) (tableOf (now (image .entry))) (entered e) size) ⌝ }
+    ensures { λ _. ⌜ Leaves 0 (now (image .entry)) (now (blocks .entry)) (now (anodes .entry)) (now (image .exit)) (now (blocks .exit)) (now (anodes .exit)) (resized noGrowth (now (image .entry)) (tableOf (now (image .entry))) (entered (now (image .entry)) e) size) ⌝ }
 {
     store_anodes(
         image,
@@ -114,9 +114,9 @@ pub fn resize_entry(
     e: EntryAt,
     size: u64,
 ) -> u32
-    requires { ⌜ Loaded (now image) (now counts) (now firsts) (now nexts) × ReachedEntry (now image) (entered e) ⌝ }
+    requires { ⌜ Loaded (now image) (now counts) (now firsts) (now nexts) × ReachedEntry (now image) (entered (now image) e) ⌝ }
     requires { ⌜ (isDir (e .kind) ≡ false) × (3444 ≤ length (now anodes)) ⌝ }
-    ensures { λ r. ⌜ Leaves r (now (image .entry)) (now (blocks .entry)) (now (anodes .entry)) (now (image .exit)) (now (blocks .exit)) (now (anodes .exit)) (resized noGrowth (now (image .entry)) (tableOf (now (image .entry))) (entered e) size) ⌝ }
+    ensures { λ r. ⌜ Leaves r (now (image .entry)) (now (blocks .entry)) (now (anodes .entry)) (now (image .exit)) (now (blocks .exit)) (now (anodes .exit)) (resized noGrowth (now (image .entry)) (tableOf (now (image .entry))) (entered (now (image .entry)) e) size) ⌝ }
 {
     let have = chain_sum(counts, nexts, e.anode) as u64;
     let want = blocks_for(size);

@@ -1,4 +1,4 @@
--- 01, "Refusal numbers, in the order they are tried", 1 to 16: the test of each row, and the table.
+-- 01, "Refusal numbers, in the order they are tried", 1 to 16, and 02's 17: the test of each row, and the table.
 use Prim.Native.Nat.{ℕ, _+_, _/_, _%_, _≤_}
 use mathlib.Core.Bool.{Bool, not, _&&_, _||_}
 use mathlib.Core.List.{List}
@@ -132,7 +132,7 @@ unnamed img s x = eqb (naming img s x) 0
 unfoldable pub unnamedChain : List ℕ → Anodes → ℕ → Bool
 unnamedChain img s x = leb 6 x && (eqb (oneIfHead limit (s .next) (s .block) x) 1 && unnamed img s x)
 
--- the walk's own fault, 12 to 15, then 16
+-- the walk's own fault, 12 to 15 or 17, then 16
 unfoldable pub treeFault : List ℕ → Anodes → ℕ
 treeFault img s = firstOf (faultIn (walkOf img s)) (16 if anyBelow (unnamedChain img s) limit else 0)
 
@@ -145,7 +145,7 @@ anodeFault s n last rest =
     else 9 if wrongFreeList s last
     else rest
 
--- the damage that the anodes and directories show: 6 to 9, 10 and 11, then 12 to 16
+-- the damage that the anodes and directories show: 6 to 9, 10 and 11, then 12 to 17
 unfoldable pub damageIn : List ℕ → Anodes → ℕ
 damageIn img s =
     anodeFault s (diskSize img) (lastReserved img) (
@@ -163,10 +163,10 @@ checkAnswer img blocks anodes =
     else 5 if wrongSlots img
     else damageIn img (anodesOf img)
 
--- 3 to 16 are damage: to report damage in the image is to answer one of them
+-- 3 to 17 are damage: to report damage in the image is to answer one of them
 abbrev pub Damage : ℕ → Type 0
-Damage n = (3 ≤ n) × (n ≤ 16)
+Damage n = (3 ≤ n) × (n ≤ 17)
 
 -- a number past those of damage, as a call's own refusals are
 abbrev pub PastDamage : ℕ → Type 0
-PastDamage n = 17 ≤ n
+PastDamage n = 18 ≤ n

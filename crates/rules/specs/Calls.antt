@@ -16,7 +16,7 @@ use Rattle.rules.specs.Chains.{blockCount}
 use Rattle.rules.specs.Walk.{Entered, reached, reachedDirs}
 use Rattle.rules.specs.Accepted.{diskSize, checkAnswer}
 use Rattle.rules.specs.Tables.{blocksLeft, anodesLeft}
-use Rattle.rules.specs.Lookup.{noDirectory, entriesOf, nameAt, entryNamed, nth, ofEntry, isThere, namesDir, notEmptyDir, pastEnd, contents}
+use Rattle.rules.specs.Lookup.{noDirectory, entriesOf, entryNamed, nth, ofEntry, isThere, namesDir, notEmptyDir, pastEnd, contents}
 use Rattle.rules.specs.Format.{formatAnswer, formatted}
 use Rattle.rules.specs.Plans.{tableOf}
 use Rattle.rules.specs.Changes.{Left, left, newEntry, resized, made, written, removed, usualGrowth}
@@ -164,9 +164,9 @@ fieldsAt img start =
 abbrev pub fieldsListed : ℕ → List ℕ → Option Entered → List ℕ
 fieldsListed n img e = foundOr n e (λ e. fieldsAt img (e .start)) (replicate 11 0)
 
--- its name; empty after a refusal
-abbrev pub nameListed : ℕ → List ℕ → Option Entered → List ℕ
-nameListed n img e = foundOr n e (λ e. nameAt img (e .start)) []
+-- its name, as stored; empty after a refusal
+abbrev pub nameListed : ℕ → Option Entered → List ℕ
+nameListed n e = foundOr n e (λ e. e .name) []
 
 -- the check first, then 21, 22
 unfoldable pub listAnswer : List ℕ → List ℕ → List ℕ → ℕ → ℕ → ℕ
@@ -177,7 +177,7 @@ unfoldable pub listOutcome : List ℕ → List ℕ → List ℕ → ℕ → ℕ 
 listOutcome img blocks anodes h n =
     settled (left (listAnswer img blocks anodes h n) img) blocks anodes
     (fieldsListed (listAnswer img blocks anodes h n) img (nth (entriesOf img (anodesOf img) h) n))
-    (nameListed (listAnswer img blocks anodes h n) img (nth (entriesOf img (anodesOf img) h) n))
+    (nameListed (listAnswer img blocks anodes h n) (nth (entriesOf img (anodesOf img) h) n))
 
 -- Make: the check first, then 20, 21, 23, then the steps
 unfoldable pub makeOutcome : List ℕ → List ℕ → List ℕ → ℕ → ℕ → List ℕ → List ℕ → ℕ → ℕ → ℕ → ℕ → Outcome

@@ -1,5 +1,6 @@
 -- The rules of 01, a file for each chapter.
 pub mod Counting
+pub mod Folding
 pub mod Anodes
 pub mod Chains
 pub mod Walk

@@ -8,6 +8,7 @@ use lib.Dec.{eqb, ltb}
 use Rattle.disk.specs.Blocks.{blockOf}
 use Rattle.directory.specs.Entries.{nameIn}
 use Rattle.rules.specs.Counting.{occurrences, gather, sameBytes}
+use Rattle.rules.specs.Folding.{folded}
 use Rattle.rules.specs.Anodes.{Anodes, limit}
 use Rattle.rules.specs.Chains.{chainOf, blocksOf}
 use Rattle.rules.specs.Walk.{Entered, entriesIn, reachedDirs, Dir}
@@ -28,18 +29,18 @@ entriesOf img s h = gather (λ a. entriesIn img (s .block a)) (chainOf (s .next)
 unfoldable pub nameAt : List ℕ → ℕ → List ℕ
 nameAt img start = nameIn (blockOf img (start / 512)) (start % 512)
 
--- names match byte for byte
-unfoldable pub isNamed : List ℕ → List ℕ → Entered → Bool
-isNamed img name e = sameBytes (nameAt img (e .start)) name
+-- names match byte for byte after folding
+unfoldable pub isNamed : List ℕ → Entered → Bool
+isNamed name e = sameBytes (folded (e .name)) (folded name)
 
 -- the first match counts
-unfoldable pub firstNamed : List ℕ → List ℕ → List Entered → Option Entered
-firstNamed img name [] = none
-firstNamed img name (e ∷ es) = elim (isNamed img name e) [ true ↦ some e | false ↦ firstNamed img name es ]
+unfoldable pub firstNamed : List ℕ → List Entered → Option Entered
+firstNamed name [] = none
+firstNamed name (e ∷ es) = elim (isNamed name e) [ true ↦ some e | false ↦ firstNamed name es ]
 
 -- the entry of that name in the directory that h heads
 unfoldable pub entryNamed : List ℕ → Anodes → ℕ → List ℕ → Option Entered
-entryNamed img s h name = firstNamed img name (entriesOf img s h)
+entryNamed img s h name = firstNamed name (entriesOf img s h)
 
 -- the n-th entry of a list, from 0
 unfoldable pub nth : List Entered → ℕ → Option Entered

@@ -42,12 +42,12 @@ blockEntry img s x = entryOr img (ownerHead s x) x
 unfoldable pub blockTable : List ℕ → Anodes → List ℕ
 blockTable img s = listed (blockEntry img s) 0 (diskSize img)
 
--- refusals 1 to 4 touch no table; 5 to 16 leave both zeroed in their ranges; after anything else they show the image that is left;
+-- refusals 1 to 4 touch no table; 5 to 17 leave both zeroed in their ranges; after anything else they show the image that is left;
 -- entries past the range keep their content
 unfoldable pub tableLeft : ℕ → ℕ → List ℕ → List ℕ → List ℕ
 tableLeft answer range shown old =
     cond (leb 1 answer && leb answer 4) old
-    (cond (leb 5 answer && leb answer 16) (replicate range 0) shown ++ drop range old)
+    (cond (leb 5 answer && leb answer 17) (replicate range 0) shown ++ drop range old)
 
 -- the block table after a call that answers so and leaves this image
 unfoldable pub blocksLeft : ℕ → List ℕ → List ℕ → List ℕ

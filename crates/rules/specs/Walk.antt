@@ -1,4 +1,4 @@
--- 01, "Refusal numbers", 12 to 15: one walk, directories breadth first from the root, blocks in chain order, entries in byte order; the first fault met answers.
+-- 01, "Refusal numbers", 12 to 15, and 02, No. 5, 17: one walk, directories breadth first from the root, blocks in chain order, entries in byte order; the first fault met answers.
 use Prim.Native.Nat.{ℕ, zero, suc, _+_, _*_, _/_}
 use mathlib.Core.Bool.{Bool, true, false, cond, _&&_, _||_}
 use mathlib.Core.List.{List, [], _∷_, _++_, map}
@@ -7,8 +7,9 @@ use lib.Dec.{eqb, leb}
 use Rattle.disk.specs.Blocks.{blockOf}
 use Rattle.directory.specs.declared.Walked.{Walked}
 use Rattle.directory.specs.declared.Walked.the-variants.{Found, End, Fault}
-use Rattle.directory.specs.Entries.{isDir, directoryMark, directoryHeaderIn, walkedAt}
-use Rattle.rules.specs.Counting.{_if_else_, firstOf, occurrences, gather}
+use Rattle.directory.specs.Entries.{isDir, directoryMark, directoryHeaderIn, nameIn, walkedAt}
+use Rattle.rules.specs.Counting.{_if_else_, firstOf, occurrences, anyIn, gather, sameBytes}
+use Rattle.rules.specs.Folding.{folded}
 use Rattle.rules.specs.Anodes.{Anodes, limit}
 use Rattle.rules.specs.Chains.{chainOf, oneIfHead, blockCount}
 
@@ -25,24 +26,25 @@ dirMade head parent = record { head = head; parent = parent }
 abbrev pub root : Dir
 root = dirMade 5 0
 
--- an entry as it stands in a directory block: whether it breaks the entry rules, whether it names a directory, its anode and size, its first byte's place in the image
+-- an entry as it stands in a directory block: whether it breaks the entry rules, whether it names a directory, its anode and size, its name as stored, its first byte's place in the image
 pub record Entered : Type 0 where
   pub broken : Bool
   pub dir : Bool
   pub anode : ℕ
   pub size : ℕ
+  pub name : List ℕ
   pub start : ℕ
 
--- what stands at a place, with the entries behind it
-abbrev pub withRest : Walked → ℕ → List Entered → List Entered
-withRest (Found e) start rest = record { broken = false; dir = isDir (e .kind); anode = e .anode .0; size = e .size; start = start } ∷ rest
-withRest End start rest = []
-withRest (Fault r) start rest = record { broken = true; dir = false; anode = 0; size = 0; start = start } ∷ []
+-- what stands at a place, with the name there and the entries behind it
+abbrev pub withRest : Walked → List ℕ → ℕ → List Entered → List Entered
+withRest (Found e) name start rest = record { broken = false; dir = isDir (e .kind); anode = e .anode .0; size = e .size; name = name; start = start } ∷ rest
+withRest End name start rest = []
+withRest (Fault r) name start rest = record { broken = true; dir = false; anode = 0; size = 0; name = []; start = start } ∷ []
 
 -- the entries of block y from a place of it on, in byte order, up to the end mark or the first that breaks the rules
 unfoldable pub entriesFrom : ℕ → List ℕ → ℕ → ℕ → List Entered
 entriesFrom zero block y at = []
-entriesFrom (suc k) block y at = withRest (walkedAt block at) (y * 512 + at) (entriesFrom k block y (at + getD block at 0))
+entriesFrom (suc k) block y at = withRest (walkedAt block at) (nameIn block at) (y * 512 + at) (entriesFrom k block y (at + getD block at 0))
 
 -- the entries of a directory block, from 16 on; 27 of the shortest fill it
 unfoldable pub entriesIn : List ℕ → ℕ → List Entered
@@ -55,12 +57,13 @@ isBlockOf img d y =
     && (eqb (directoryHeaderIn (blockOf img y) .owner .0) (d .head)
     && (eqb (d .head) 5 || eqb (directoryHeaderIn (blockOf img y) .parent .0) (d .parent)))
 
--- what the walk meets: the number that is tried before 14, the one after it, and what is named where
+-- what the walk meets: the number that is tried before 14, the one after it, what is named under which folded name, and where
 pub record Item : Type 0 where
   pub early : ℕ
   pub late : ℕ
   pub dir : Bool
   pub anode : ℕ
+  pub name : List ℕ
   pub start : ℕ
 
 -- 15: the blocks that a size asks for: size / 512, rounded up
@@ -82,12 +85,13 @@ itemOf s e = record {
   late = wrongFileSize s e;
   dir = e .dir;
   anode = e .anode;
+  name = folded (e .name);
   start = e .start;
 }
 
 -- a directory anode with count other than 1, or whose block is not the directory's: 12
 abbrev pub brokenItem : Item
-brokenItem = record { early = 12; late = 0; dir = false; anode = 0; start = 0 }
+brokenItem = record { early = 12; late = 0; dir = false; anode = 0; name = []; start = 0 }
 
 -- what anode a of directory d gives, where `entries` are those of a block, `marked` says whether a block is a directory's and `item` looks at an entry
 unfoldable pub itemsFor : (Entered → Item) → (ℕ → List Entered) → (Dir → ℕ → Bool) → Anodes → Dir → ℕ → List Item
@@ -102,9 +106,25 @@ itemsAt entries marked s d a = itemsFor (itemOf s) entries marked s d a
 unfoldable pub itemsBy : (ℕ → List Entered) → (Dir → ℕ → Bool) → Anodes → Dir → List Item
 itemsBy entries marked s d = gather (itemsAt entries marked s d) (chainOf (s .next) limit (d .head))
 
+-- 17: an item whose name an earlier one has; its 12 is tried before
+unfoldable pub asTwin : Item → Item
+asTwin i = record {
+  early = cond (eqb (i .early) 12) 12 17;
+  late = i .late;
+  dir = i .dir;
+  anode = i .anode;
+  name = i .name;
+  start = i .start;
+}
+
+-- the items of one directory behind others with the names `seen`: 17 stands before 13 where an earlier item has the same name
+unfoldable pub twins : List (List ℕ) → List Item → List Item
+twins seen [] = []
+twins seen (i ∷ is) = cond (anyIn (sameBytes (i .name)) seen) (asTwin i) i ∷ twins (i .name ∷ seen) is
+
 -- what directory d of an image gives
 unfoldable pub itemsOf : List ℕ → Anodes → Dir → List Item
-itemsOf img s = itemsBy (entriesIn img) (isBlockOf img) s
+itemsOf img s d = twins [] (itemsBy (entriesIn img) (isBlockOf img) s d)
 
 -- the directory that an item of d names
 unfoldable pub subDirs : Dir → Item → List Dir

@@ -1,14 +1,17 @@
--- 01, "Worked values": W1 to W11, one table under one statement.
+-- 01, "Worked values": W1 to W11, and names of 02, No. 5, one table under one statement.
 use Prim.Native.Nat.{ℕ}
 use mathlib.Core.Path.{_≡_, refl}
+use mathlib.Core.Bool.{false, cond}
 use mathlib.Core.List.{List, [], _∷_, map}
 use Rattle.disk.specs.AnodeBlocks.{anodeByte, slotFor, placeFor}
 use Rattle.directory.specs.Entries.{entryLength}
-use Rattle.rules.specs.Counting.{_if_else_, oneAt, sumBelow, anyBelow, anyIn, sumList, occurrences, changed}
+use Rattle.rules.specs.Counting.{_if_else_, oneAt, sumBelow, anyBelow, anyIn, sumList, occurrences, changed, sameBytes}
+use Rattle.rules.specs.Folding.{fold, folded}
 use Rattle.rules.specs.Chains.{chainOf, followed, preds, cut, side}
 use Rattle.rules.specs.Anodes.{Anodes, isFree}
-use Rattle.rules.specs.Walk.{blocksFor}
+use Rattle.rules.specs.Walk.{blocksFor, Item, asTwin, twins}
 use Rattle.rules.specs.Accepted.{endOf, wrongFixed, halfCleared, wrongExtent, outOfRange, wrongLink, wrongAt, hasPred, wrongLinks, notAbove, notUpTo, wrongFreeList, anodeFault}
+use Rattle.rules.specs.Lookup.{isNamed}
 
 -- a row: what the definitions give, and what the paper states
 pub record Row : Type 0 where
@@ -30,6 +33,14 @@ oneExtent c b = record {
 abbrev extent : ℕ → ℕ → ℕ → List ℕ
 extent c b n = endOf (oneExtent c b) 6 ∷ anodeFault (oneExtent c b) n 63 0 ∷ []
 
+-- an item of the walk with this early number and name
+abbrev named : ℕ → List ℕ → Item
+named early name = record { early = early; late = 0; dir = false; anode = 6; name = folded name; start = 0 }
+
+-- whether a lookup of the second name finds an entry of the first: 1 or 0
+abbrev finds : List ℕ → List ℕ → ℕ
+finds stored name = cond (isNamed name (record { broken = false; dir = false; anode = 6; size = 0; name = stored; start = 0 })) 1 0
+
 -- the rows, by the definitions
 abbrev pub rows : List Row
 rows =
@@ -48,9 +59,14 @@ rows =
     ∷ row (slotFor 81 ∷ anodeByte (placeFor 81) ∷ []) (0 ∷ 502 ∷ [])
     ∷ row (slotFor 82 ∷ anodeByte (placeFor 82) ∷ []) (1 ∷ 16 ∷ [])
     ∷ row (slotFor 3443 ∷ placeFor 3443 ∷ []) (41 ∷ 81 ∷ [])
+    -- 02, No. 5: bytes 64, A, Z, 91 and 196 folded; a lookup of `BATCH7` finds `Batch7`, one of `{` not `[`, one of `ab` not `a`
+    ∷ row (folded (64 ∷ 65 ∷ 90 ∷ 91 ∷ 196 ∷ [])) (64 ∷ 97 ∷ 122 ∷ 91 ∷ 196 ∷ [])
+    ∷ row (finds (66 ∷ 97 ∷ 116 ∷ 99 ∷ 104 ∷ 55 ∷ []) (66 ∷ 65 ∷ 84 ∷ 67 ∷ 72 ∷ 55 ∷ []) ∷ finds (91 ∷ []) (123 ∷ []) ∷ finds (97 ∷ []) (97 ∷ 98 ∷ []) ∷ []) (1 ∷ 0 ∷ 0 ∷ [])
+    -- entries named a, b, A and B of one directory, where 0, 0, 12 and 13 would be tried before 14
+    ∷ row (map (λ i. i .early) (twins [] (named 0 (97 ∷ []) ∷ named 0 (98 ∷ []) ∷ named 12 (65 ∷ []) ∷ named 13 (66 ∷ []) ∷ []))) (0 ∷ 0 ∷ 12 ∷ 17 ∷ [])
     ∷ []
 
 -- they give what the paper states
 pub worked-values : map (λ r. r .given) rows ≡ map (λ r. r .stated) rows
-unfolding entryLength changed blocksFor oneAt sumBelow anyBelow anyIn sumList occurrences chainOf followed preds cut side isFree wrongFixed halfCleared wrongExtent outOfRange wrongLink wrongAt hasPred wrongLinks notAbove notUpTo wrongFreeList
+unfolding fold folded sameBytes asTwin twins isNamed entryLength changed blocksFor oneAt sumBelow anyBelow anyIn sumList occurrences chainOf followed preds cut side isFree wrongFixed halfCleared wrongExtent outOfRange wrongLink wrongAt hasPred wrongLinks notAbove notUpTo wrongFreeList
 worked-values = refl

@@ -91,6 +91,11 @@ named-twice-refused : answer (stored withFile 2084 (shortEntry 253 6 0 98)) ≡ 
 unfolding everything disk5 withFile answer
 named-twice-refused = refl
 
+-- a second entry called A beside a, or a beside a: 17, before 14 for the same anode and 13 for a free one, but after 12 for a type that is none
+alike-refused : map (λ e. answer (stored withFile 2084 e)) (shortEntry 253 6 0 65 ∷ shortEntry 253 7 0 65 ∷ shortEntry 253 6 0 97 ∷ shortEntry 1 6 0 65 ∷ []) ≡ 17 ∷ 17 ∷ 17 ∷ 12 ∷ []
+unfolding everything disk5 withFile answer
+alike-refused = refl
+
 -- a size of 1 and no block
 size-of-file-refused : answer (put32 withFile 2068 1) ≡ 15
 unfolding everything disk5 withFile answer
@@ -122,7 +127,7 @@ unreached-refused : checkAnswer namingEachOther 8 3444 ≡ 16
 unfolding everything disk8 namingEachOther
 unreached-refused = refl
 
--- 5 to 16 leave the block table zeroed in its range
+-- 5 to 17 leave the block table zeroed in its range
 blocks-zeroed : checkOutcome (withAnode disk5 6 0 65535 0) blocks7 anodes3446 .blocks ≡ 0 ∷ 0 ∷ 0 ∷ 0 ∷ 0 ∷ 9 ∷ 9 ∷ []
 unfolding everything disk5
 blocks-zeroed = refl

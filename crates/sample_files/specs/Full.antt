@@ -33,7 +33,7 @@ oneFree = withAnode (withAnode full 80 0 65535 0) 81 0 0 0
 
 -- the file's entry
 abbrev file : Entered
-file = record { broken = false; dir = false; anode = 7; size = 600; start = 2064 }
+file = record { broken = false; dir = false; anode = 7; size = 600; name = 97 ∷ []; start = 2064 }
 
 -- what four changes answer: a file made, the file grown by a block that is not its end, the file shrunk by a block, the file removed
 unfoldable answers : List ℕ → List ℕ

@@ -1,5 +1,5 @@
 -- Laws of the definitions of `specs/`. Assumes nothing.
-use Prim.Native.Nat.{ℕ, zero, suc, _+_, _*_, _<_, _≤_}
+use Prim.Native.Nat.{ℕ, zero, suc, _+_, _-_, _<_, _≤_}
 use mathlib.Core.Path.{_≡_, refl, sym, ap, _∙_}
 use mathlib.Core.Bool.{Bool, true, false, cond, false≢true}
 use mathlib.Core.List.{List, [], _∷_, _++_, map}
@@ -15,14 +15,17 @@ use Rattle.disk.specs.Refusals.{numberOf}
 use Rattle.directory.specs.declared.Kind.the-variants.{File, Directory}
 use Rattle.directory.specs.declared.Entry.{Entry}
 use Rattle.directory.specs.declared.Walked.{Walked}
-use Rattle.directory.specs.declared.Walked.the-variants.{End, Fault}
-use Rattle.rules.specs.Counting.{sumList}
+use Rattle.directory.specs.declared.Walked.the-variants.{Found, End, Fault}
+use Rattle.rules.specs.Counting.{sumList, anyIn, sameBytes}
+use Rattle.rules.specs.Folding.{folded}
 use Rattle.rules.specs.Anodes.{Anodes, limit}
-use Rattle.rules.specs.Walk.{Dir, Entered, Item, withRest, entriesIn, isBlockOf, itemsFor, blocksFor, dirMade}
+use Rattle.rules.specs.Walk.{Dir, Entered, Item, withRest, entriesIn, isBlockOf, itemsFor, brokenItem, asTwin, twins, blocksFor, dirMade}
+use Rattle.laws.specs.Apart.{seenAfter, twins-append}
 use Rattle.laws.specs.Entries.{enteredAt}
 use Rattle.laws.specs.Chains.{chain-none, chain-step, gathered-step, chain-end}
+use Rattle.names.specs.Index.{seenIn, Indexed}
 use Rattle.tree.specs.declared.Tally.{Tally}
-use Rattle.tree.specs.Steps.{sumFrom, headAt, itemIn, Progress, stopped, going, refuse, enterItem, onward, enterAll, itemsFrom, itemsAlong, halted, ended, afterDir, runFrom, dirsFrom, queueOf, marked, WalkRoom}
+use Rattle.tree.specs.Steps.{sumFrom, headAt, itemIn, Progress, stopped, going, refuse, enterItem, onward, enterAll, itemsFrom, itemsAlong, halted, ended, afterDir, runFrom, dirsFrom, queueOf, marked, Fits, WalkRoom, numberIn, seenBy, Numbered}
 
 -- ---- the sum along a chain
 
@@ -127,28 +130,28 @@ length-queue queue parents n = length-dirs queue parents 0 n
 
 -- ---- one entry
 
-module _ (counts nexts heads : List ℕ) (head : ℕ) (e : Entry) (start : ℕ) (queue : List Dir) (marks : List ℕ) (files : ℕ) where
-  pub enter-no-head : headAt heads (e .anode .0) ≡ false → enterItem head (itemIn counts nexts heads (enteredAt e start)) queue marks files ≡ stopped 13
+module _ (counts nexts heads : List ℕ) (head : ℕ) (e : Entry) (name : List ℕ) (start : ℕ) (queue : List Dir) (marks : List ℕ) (files : ℕ) where
+  pub enter-no-head : headAt heads (e .anode .0) ≡ false → enterItem head (itemIn counts nexts heads (enteredAt e name start)) queue marks files ≡ stopped 13
   unfolding enterItem itemIn
   enter-no-head h = rw h
 
   pub enter-twice : headAt heads (e .anode .0) ≡ true → (getD marks (e .anode .0) 0 ≡ 0 → ⊥)
-      → enterItem head (itemIn counts nexts heads (enteredAt e start)) queue marks files ≡ stopped 14
+      → enterItem head (itemIn counts nexts heads (enteredAt e name start)) queue marks files ≡ stopped 14
   unfolding enterItem itemIn
   enter-twice h n = rw (h, ne-eqb (getD marks (e .anode .0) 0) 0 n)
 
   pub enter-size : headAt heads (e .anode .0) ≡ true → getD marks (e .anode .0) 0 ≡ 0 → e .kind ≡ File → (sumFrom counts nexts limit (e .anode .0) ≡ blocksFor (e .size) → ⊥)
-      → enterItem head (itemIn counts nexts heads (enteredAt e start)) queue marks files ≡ stopped 15
+      → enterItem head (itemIn counts nexts heads (enteredAt e name start)) queue marks files ≡ stopped 15
   unfolding enterItem itemIn
   enter-size h m k n = rw (h, eq-eqb (getD marks (e .anode .0) 0) 0 m, k, ne-eqb (sumFrom counts nexts limit (e .anode .0)) (blocksFor (e .size)) n)
 
   pub enter-file : headAt heads (e .anode .0) ≡ true → getD marks (e .anode .0) 0 ≡ 0 → e .kind ≡ File → sumFrom counts nexts limit (e .anode .0) ≡ blocksFor (e .size)
-      → enterItem head (itemIn counts nexts heads (enteredAt e start)) queue marks files ≡ going queue (set marks (e .anode .0) 1) (files + 1)
+      → enterItem head (itemIn counts nexts heads (enteredAt e name start)) queue marks files ≡ going queue (set marks (e .anode .0) 1) (files + 1)
   unfolding enterItem itemIn
   enter-file h m k n = rw (h, eq-eqb (getD marks (e .anode .0) 0) 0 m, k, eq-eqb (sumFrom counts nexts limit (e .anode .0)) (blocksFor (e .size)) n)
 
   pub enter-dir : headAt heads (e .anode .0) ≡ true → getD marks (e .anode .0) 0 ≡ 0 → e .kind ≡ Directory
-      → enterItem head (itemIn counts nexts heads (enteredAt e start)) queue marks files ≡ going (queue ++ (dirMade (e .anode .0) head ∷ [])) (set marks (e .anode .0) 1) files
+      → enterItem head (itemIn counts nexts heads (enteredAt e name start)) queue marks files ≡ going (queue ++ (dirMade (e .anode .0) head ∷ [])) (set marks (e .anode .0) 1) files
   unfolding enterItem itemIn
   enter-dir h m k = rw (h, eq-eqb (getD marks (e .anode .0) 0) 0 m, k)
 
@@ -158,26 +161,52 @@ pub enter-none : (head : ℕ) (is : List Item) (queue : List Dir) (marks : List 
 unfolding enterAll
 enter-none head is queue marks files e = rw e
 
-module _ (head : ℕ) (i : Item) (is : List Item) (queue : List Dir) (marks : List ℕ) (files : ℕ) where
-  pub enter-stop : (n : ℕ) → enterItem head i queue marks files ≡ stopped n → enterAll head (i ∷ is) queue marks files ≡ stopped n
-  unfolding enterAll
-  enter-stop n h = rw h
-
-  pub enter-step : (q : List Dir) (l : List ℕ) (f : ℕ) → enterItem head i queue marks files ≡ going q l f → enterAll head (i ∷ is) queue marks files ≡ enterAll head is q l f
-  unfolding enterAll
-  enter-step q l f h = rw h
+-- ---- the entries of a block behind names seen, one after the other
 
 -- what is read at a place, with the entries behind it
-module _ (counts nexts heads : List ℕ) (head start : ℕ) (rest : List Entered) (queue : List Dir) (marks : List ℕ) (files : ℕ) (w : Walked) where
-  pub enter-end : w ≡ End → enterAll head (map (itemIn counts nexts heads) (withRest w start rest)) queue marks files ≡ going queue marks files
-  unfolding enterAll
-  enter-end is = rw is
+module _ (counts nexts heads : List ℕ) (head : ℕ) (seen : List (List ℕ)) (name : List ℕ) (start : ℕ) (rest : List Entered) (queue : List Dir) (marks : List ℕ) (files : ℕ) where
+  pub enter-end : (w : Walked) → w ≡ End → enterAll head (twins seen (map (itemIn counts nexts heads) (withRest w name start rest))) queue marks files ≡ going queue marks files
+  unfolding enterAll twins
+  enter-end w is = rw is
 
-  -- an entry that breaks the rules stops the walk with the number of its fault
-  pub enter-fault : (r : Refusal) → w ≡ Fault r → numberOf r ≡ 12
-      → enterAll head (map (itemIn counts nexts heads) (withRest w start rest)) queue marks files ≡ stopped (numberOf r)
-  unfolding enterAll enterItem itemIn
-  enter-fault r is n = rw (is, n)
+  pub seen-end : (w : Walked) → w ≡ End → seenAfter (map (itemIn counts nexts heads) (withRest w name start rest)) seen ≡ seen
+  unfolding seenAfter
+  seen-end w is = rw is
+
+  -- an entry that breaks the rules stops the walk with the number of its fault, whatever was seen
+  pub enter-fault : (w : Walked) (r : Refusal) → w ≡ Fault r → numberOf r ≡ 12
+      → enterAll head (twins seen (map (itemIn counts nexts heads) (withRest w name start rest))) queue marks files ≡ stopped (numberOf r)
+  unfolding enterAll twins enterItem itemIn asTwin
+  enter-fault w r is n = rw (is, n) (go (anyIn (sameBytes (folded [])) seen) refl) where
+    go : (t : Bool) → anyIn (sameBytes (folded [])) seen ≡ t → enterAll head (twins seen (map (itemIn counts nexts heads) (withRest (Fault r) name start rest))) queue marks files ≡ stopped 12
+    go true e = rw e
+    go false e = rw e
+
+  module _ (e : Entry) where
+    -- 17: the name was seen
+    pub enter-alike : anyIn (sameBytes (folded name)) seen ≡ true
+        → enterAll head (twins seen (map (itemIn counts nexts heads) (withRest (Found e) name start rest))) queue marks files ≡ stopped 17
+    unfolding enterAll twins enterItem itemIn asTwin
+    enter-alike h = go (headAt heads (e .anode .0)) refl where
+      go : (t : Bool) → headAt heads (e .anode .0) ≡ t → enterAll head (twins seen (map (itemIn counts nexts heads) (withRest (Found e) name start rest))) queue marks files ≡ stopped 17
+      go true i = rw (h, i)
+      go false i = rw (h, i)
+
+    module _ (new : anyIn (sameBytes (folded name)) seen ≡ false) where
+      pub enter-stop : (n : ℕ) → enterItem head (itemIn counts nexts heads (enteredAt e name start)) queue marks files ≡ stopped n
+          → enterAll head (twins seen (map (itemIn counts nexts heads) (withRest (Found e) name start rest))) queue marks files ≡ stopped n
+      unfolding enterAll twins enterItem anyIn sameBytes asTwin itemIn
+      enter-stop n h = rw (new, h)
+
+      pub enter-step : (more : List (List ℕ)) (q : List Dir) (l : List ℕ) (f : ℕ) → more ≡ folded name ∷ seen → enterItem head (itemIn counts nexts heads (enteredAt e name start)) queue marks files ≡ going q l f
+          → enterAll head (twins seen (map (itemIn counts nexts heads) (withRest (Found e) name start rest))) queue marks files ≡ enterAll head (twins more (map (itemIn counts nexts heads) rest)) q l f
+      unfolding enterAll twins enterItem itemIn
+      enter-step more q l f m h = rw (new, h, m)
+
+    pub seen-step : (more : List (List ℕ)) → more ≡ folded name ∷ seen
+        → seenAfter (map (itemIn counts nexts heads) (withRest (Found e) name start rest)) seen ≡ seenAfter (map (itemIn counts nexts heads) rest) more
+    unfolding seenAfter itemIn
+    seen-step more m = rw m
 
 -- ---- the anodes of a directory
 
@@ -195,32 +224,99 @@ enter-append head (i ∷ is) js queue marks files =
     onward-twice (enterItem head i queue marks files) (enterAll head (is ++ js)) (enterAll head is) (enterAll head js)
     (λ q m n. enter-append head is js q m n)
 
-module _ (item : Entered → Item) (img : List ℕ) (s : Anodes) (d : Dir) (a head : ℕ) (queue : List Dir) (marks : List ℕ) (files : ℕ) where
-  pub anode-count : (s .count a ≡ 1 → ⊥) → enterAll head (itemsFrom item img s d a) queue marks files ≡ stopped 12
-  unfolding itemsFor enterAll enterItem
-  anode-count n = rw (ne-eqb (s .count a) 1 n)
+-- what breaks the rules as a whole is 12, whatever was seen
+broken-stops : (head : ℕ) (seen : List (List ℕ)) (queue : List Dir) (marks : List ℕ) (files : ℕ) → enterAll head (twins seen (brokenItem ∷ [])) queue marks files ≡ stopped 12
+unfolding enterAll twins enterItem asTwin
+broken-stops head seen queue marks files = go (anyIn (sameBytes []) seen) refl where
+  go : (t : Bool) → anyIn (sameBytes []) seen ≡ t → enterAll head (twins seen (brokenItem ∷ [])) queue marks files ≡ stopped 12
+  go true e = rw e
+  go false e = rw e
 
-  pub anode-mark : s .count a ≡ 1 → isBlockOf img d (s .block a) ≡ false → enterAll head (itemsFrom item img s d a) queue marks files ≡ stopped 12
-  unfolding itemsFor enterAll enterItem
-  anode-mark n h = rw (eq-eqb (s .count a) 1 n, h)
-
-  pub anode-block : s .count a ≡ 1 → isBlockOf img d (s .block a) ≡ true
-      → enterAll head (itemsFrom item img s d a) queue marks files ≡ enterAll head (map item (entriesIn img (s .block a))) queue marks files
+module _ (item : Entered → Item) (img : List ℕ) (s : Anodes) (d : Dir) (a head : ℕ) (seen : List (List ℕ)) (queue : List Dir) (marks : List ℕ) (files : ℕ) where
+  pub anode-count : (s .count a ≡ 1 → ⊥) → enterAll head (twins seen (itemsFrom item img s d a)) queue marks files ≡ stopped 12
   unfolding itemsFor
-  anode-block n h = rw (eq-eqb (s .count a) 1 n, h)
+  anode-count n = rw (ne-eqb (s .count a) 1 n) (broken-stops head seen queue marks files)
 
-module _ (item : Entered → Item) (img : List ℕ) (s : Anodes) (d : Dir) (a head : ℕ) (queue : List Dir) (marks : List ℕ) (files k m : ℕ) (fuel : k ≡ m + 1) (some : a ≡ 0 → ⊥) where
+  pub anode-mark : s .count a ≡ 1 → isBlockOf img d (s .block a) ≡ false → enterAll head (twins seen (itemsFrom item img s d a)) queue marks files ≡ stopped 12
+  unfolding itemsFor
+  anode-mark n h = rw (eq-eqb (s .count a) 1 n, h) (broken-stops head seen queue marks files)
+
+-- an anode with one block that is the directory's gives that block's items
+pub anode-block : (item : Entered → Item) (img : List ℕ) (s : Anodes) (d : Dir) (a : ℕ) → s .count a ≡ 1 → isBlockOf img d (s .block a) ≡ true → itemsFrom item img s d a ≡ map item (entriesIn img (s .block a))
+unfolding itemsFor
+anode-block item img s d a n h = rw (eq-eqb (s .count a) 1 n, h)
+
+module _ (item : Entered → Item) (img : List ℕ) (s : Anodes) (d : Dir) (a head : ℕ) (seen : List (List ℕ)) (queue : List Dir) (marks : List ℕ) (files k m : ℕ) (fuel : k ≡ m + 1) (some : a ≡ 0 → ⊥) where
   -- the items of anode a, and those behind it
-  along-items : enterAll head (itemsAlong item img s d k a) queue marks files ≡ onward (enterAll head (itemsFrom item img s d a) queue marks files) (enterAll head (itemsAlong item img s d m (s .next a)))
-  along-items = rw (gathered-step (itemsFrom item img s d) (s .next) k m a fuel some) (enter-append head (itemsFrom item img s d a) (itemsAlong item img s d m (s .next a)) queue marks files)
+  along-items : enterAll head (twins seen (itemsAlong item img s d k a)) queue marks files
+      ≡ onward (enterAll head (twins seen (itemsFrom item img s d a)) queue marks files) (enterAll head (twins (seenAfter (itemsFrom item img s d a) seen) (itemsAlong item img s d m (s .next a))))
+  along-items =
+      rw (gathered-step (itemsFrom item img s d) (s .next) k m a fuel some, twins-append seen (itemsFrom item img s d a) (itemsAlong item img s d m (s .next a)))
+      (enter-append head (twins seen (itemsFrom item img s d a)) (twins (seenAfter (itemsFrom item img s d a) seen) (itemsAlong item img s d m (s .next a))) queue marks files)
 
-  pub along-stop : (n : ℕ) → enterAll head (itemsFrom item img s d a) queue marks files ≡ stopped n
-      → enterAll head (itemsAlong item img s d k a) queue marks files ≡ stopped n
+  pub along-stop : (n : ℕ) → enterAll head (twins seen (itemsFrom item img s d a)) queue marks files ≡ stopped n
+      → enterAll head (twins seen (itemsAlong item img s d k a)) queue marks files ≡ stopped n
   along-stop n h = along-items ∙ rw h
 
-  pub along-step : (q : List Dir) (l : List ℕ) (f : ℕ) → enterAll head (itemsFrom item img s d a) queue marks files ≡ going q l f
-      → enterAll head (itemsAlong item img s d k a) queue marks files ≡ enterAll head (itemsAlong item img s d m (s .next a)) q l f
-  along-step q l f h = along-items ∙ rw h
+  pub along-step : (more : List (List ℕ)) (q : List Dir) (l : List ℕ) (f : ℕ) → more ≡ seenAfter (itemsFrom item img s d a) seen → enterAll head (twins seen (itemsFrom item img s d a)) queue marks files ≡ going q l f
+      → enterAll head (twins seen (itemsAlong item img s d k a)) queue marks files ≡ enterAll head (twins more (itemsAlong item img s d m (s .next a))) q l f
+  along-step more q l f e h = along-items ∙ rw (h, e)
+
+-- nothing is left
+pub twins-none : (seen : List (List ℕ)) (is : List Item) → is ≡ [] → twins seen is ≡ []
+unfolding twins
+twins-none seen is e = rw e
+
+pub seen-none : (seen : List (List ℕ)) (is : List Item) → is ≡ [] → seenAfter is seen ≡ seen
+unfolding seenAfter
+seen-none seen is e = rw e
+
+-- ---- the numbers of the entries
+
+-- one entry more was met
+abbrev Grown : ℕ → ℕ → Progress → Type 0
+Grown last files (stopped n) = Unit {0}
+Grown last files (going queue marks f) = (length queue + f ≡ last + files + 1) × (last ≤ length queue)
+
+cases-grown : (early : ℕ) (new : Bool) (late : ℕ) (dir : Bool) (queue : List Dir) (x : Dir) (marks : List ℕ) (files : ℕ)
+    → Grown (length queue) files (refuse early (cond new (refuse late (cond dir (going (queue ++ (x ∷ [])) marks files) (going queue marks (files + 1)))) (stopped 14)))
+cases-grown (suc e) new late dir queue x marks files = tt
+cases-grown zero false late dir queue x marks files = tt
+cases-grown zero true (suc l) dir queue x marks files = tt
+cases-grown zero true zero false queue x marks files = (omega arith, omega arith)
+cases-grown zero true zero true queue x marks files = let l = length-append queue (x ∷ []) in (omega (arith, l), omega (arith, l))
+
+module _ (head : ℕ) (i : Item) (queue parents marks : List ℕ) (t : Tally) (queue′ parents′ marks′ : List ℕ) (u : Tally) where
+  -- so the next number is the one after this
+  pub number-more : going (queueOf queue′ parents′ (u .last)) marks′ (u .files) ≡ enterItem head i (queueOf queue parents (t .last)) marks (t .files)
+      → (u .last + u .files ≡ t .last + t .files + 1) × (t .last ≤ u .last)
+  unfolding enterItem
+  number-more e =
+      let g = cases-grown (i .early) (eqb (getD marks (i .anode) 0) 0) (i .late) (i .dir) (queueOf queue parents (t .last)) (dirMade (i .anode) head) (set marks (i .anode) 1) (t .files) in
+      let h : Grown (length (queueOf queue parents (t .last))) (t .files) (going (queueOf queue′ parents′ (u .last)) marks′ (u .files)) = rw (← e) at g in
+      let p = length-queue queue parents (t .last) in
+      let q = length-queue queue′ parents′ (u .last) in
+      (omega (arith, h .0, p, q), omega (arith, h .1, p, q))
+
+module _ (img index index′ : List ℕ) (from : ℕ) (name : List ℕ) (t u : Tally) (next : (u .last + u .files ≡ t .last + t .files + 1) × (t .last ≤ u .last)) (old : Numbered img index from t) where
+  number-next : numberIn u ≡ numberIn t + 1
+  number-next = omega (arith, next .0, old .1)
+
+  -- the index with the name of that entry
+  pub numbered-more : Indexed img index′ (numberIn t + 1) → Numbered img index′ from u
+  numbered-more i = (rw number-next i, omega (arith, next .1, old .1), omega (arith, number-next, old .2))
+
+  pub seen-more : seenIn img index′ from (numberIn t + 1 - from) ≡ name ∷ seenBy img index from t → seenBy img index′ from u ≡ name ∷ seenBy img index from t
+  seen-more e = rw number-next e
+
+-- numbers fit
+pub number-room : (img index marks : List ℕ) (from : ℕ) (t : Tally) → Numbered img index from t → Fits t marks → length marks ≡ limit → (numberIn t < limit) × (t .last ≤ limit)
+number-room img index marks from t n f w = let most = marked-most marks in (omega (arith, most, n .1, f, w), omega (arith, most, f, w))
+
+-- at the start of a directory none was seen
+pub seen-start : (img index : List ℕ) (t : Tally) → seenBy img index (numberIn t) t ≡ []
+unfolding seenIn
+seen-start img index t = let e : numberIn t - numberIn t ≡ 0 = omega arith in rw e
 
 -- ---- the queue without the directories taken from it, and those
 

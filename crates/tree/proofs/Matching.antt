@@ -83,22 +83,22 @@ unfolding faultOf firstOf
 fault-late i named e h = rw (e, lt-leb 1 (occurrences (i .anode) named) (omega arith))
 
 -- an item, by its fields
-abbrev itemMade : ℕ → ℕ → Bool → ℕ → ℕ → Item
-itemMade early late dir a start = record { early = early; late = late; dir = dir; anode = a; start = start }
+abbrev itemMade : ℕ → ℕ → Bool → ℕ → List ℕ → ℕ → Item
+itemMade early late dir a name start = record { early = early; late = late; dir = dir; anode = a; name = name; start = start }
 
 module _ (d : Dir) where
-  item-match : (early late : ℕ) (dir : Bool) (a start : ℕ) (is : List Item) (queue : List Dir) (marks : List ℕ) (files : ℕ) (named : List ℕ)
+  item-match : (early late : ℕ) (dir : Bool) (a : ℕ) (name : List ℕ) (start : ℕ) (is : List Item) (queue : List Dir) (marks : List ℕ) (files : ℕ) (named : List ℕ)
       → (early ≡ 0 → (6 ≤ a) × (a < limit)) → length marks ≡ limit → Agree marks (λ x. occurrences x named)
       → ((q : List Dir) (m : List ℕ) (f : ℕ) (l : List ℕ) → length m ≡ limit → Agree m (λ x. occurrences x l) → ScanMatch is f l (enterAll (d .head) is q m f) (scan d is q l))
-      → ScanMatch (itemMade early late dir a start ∷ is) files named
-      (enterAll (d .head) (itemMade early late dir a start ∷ is) queue marks files)
-      (scan d (itemMade early late dir a start ∷ is) queue named)
+      → ScanMatch (itemMade early late dir a name start ∷ is) files named
+      (enterAll (d .head) (itemMade early late dir a name start ∷ is) queue marks files)
+      (scan d (itemMade early late dir a name start ∷ is) queue named)
   unfolding enterAll enterItem faultOf firstOf subDirs
-  item-match (suc e) late dir a start is queue marks files named range whole agree ih = rw (scan-stops d (itemMade (suc e) late dir a start) is queue named e refl) (refl, omega arith)
-  item-match zero late dir a start is queue marks files named range whole agree ih = go (eqb (getD marks a 0) 0) refl late dir where
+  item-match (suc e) late dir a name start is queue marks files named range whole agree ih = rw (scan-stops d (itemMade (suc e) late dir a name start) is queue named e refl) (refl, omega arith)
+  item-match zero late dir a name start is queue marks files named range whole agree ih = go (eqb (getD marks a 0) 0) refl late dir where
     -- the item without an early fault
     made : ℕ → Bool → Item
-    made late dir = itemMade 0 late dir a start
+    made late dir = itemMade 0 late dir a name start
 
     none : eqb (getD marks a 0) 0 ≡ true → occurrences a named ≡ 0
     none e = agree a (range refl .0) (range refl .1) .0 (eqb-true (getD marks a 0) 0 e)
@@ -127,7 +127,7 @@ module _ (d : Dir) where
   unfolding enterAll scan namings filesIn sumList
   scan-match [] queue marks files named range whole agree = (refl, whole, agree, λ x. omega arith, omega arith)
   scan-match (i ∷ is) queue marks files named range whole agree =
-      item-match (i .early) (i .late) (i .dir) (i .anode) (i .start) is queue marks files named (range .0) whole agree
+      item-match (i .early) (i .late) (i .dir) (i .anode) (i .name) (i .start) is queue marks files named (range .0) whole agree
       (λ q m f l. scan-match is q m f l (range .1))
 
 -- ---- the whole walk

@@ -2,7 +2,7 @@
 use Prim.Native.Nat.{ℕ, _+_, _<_, _≤_}
 use mathlib.Core.Path.{_≡_, refl, sym, ap, _∙_, subst, fun-ext}
 use mathlib.Core.Bool.{Bool, true, false, cond, and-false}
-use mathlib.Core.Logic.{⊎-elim}
+use mathlib.Core.Logic.{⊎-elim, inl, inr}
 use mathlib.Core.List.{List, [], _∷_}
 use native.Mathlib.Omega.{arith}
 use lib.Dec.{eqb}
@@ -11,10 +11,10 @@ use lib.Seq.{getD-set-same, getD-set-other}
 use borrow.Author.Tests.{eq-eqb, ne-eqb, le-leb, lt-leb, le-ltb, lt-ltb}
 use Rattle.endian.proofs.Laws.{less?, same?, getD-zeros}
 use Rattle.disk.specs.Refusals.{numberOf}
-use Rattle.rules.specs.Counting.{_if_else_, firstOf, anyBelow, sumList, occurrences, gather}
+use Rattle.rules.specs.Counting.{_if_else_, firstOf, anyBelow, anyIn, sumList, occurrences, gather, sameBytes}
 use Rattle.rules.specs.Anodes.{Anodes, limit}
 use Rattle.rules.specs.Chains.{chainOf, oneIfHead, blockCount}
-use Rattle.rules.specs.Walk.{Dir, root, Entered, entriesIn, isBlockOf, Item, wrongAnode, wrongFileSize, itemOf, itemsBy, itemsOf, Walk, fault, done, walk, walkOf, faultIn, reachedDirs, reached, naming}
+use Rattle.rules.specs.Walk.{Dir, root, Entered, entriesIn, isBlockOf, Item, wrongAnode, wrongFileSize, itemOf, itemsBy, asTwin, twins, itemsOf, Walk, fault, done, walk, walkOf, faultIn, reachedDirs, reached, naming}
 use Rattle.rules.specs.Accepted.{unnamed, unnamedChain, treeFault}
 use Rattle.rules.specs.Calls.{fileCount, dirCount}
 use Rattle.counting.specs.Laws.{anyBelow-same}
@@ -22,7 +22,7 @@ use Rattle.laws.specs.Bags.{occurrences-nil}
 use Rattle.laws.specs.Chains.{HeadTable}
 use Rattle.laws.specs.Each.{Each, each-gather}
 use Rattle.laws.specs.Items.{each-item, names-sum}
-use Rattle.laws.specs.Tests.{firstOf-some}
+use Rattle.laws.specs.Tests.{eqb-cases, firstOf-some}
 use Rattle.anodes.specs.Loaded.{anodesFrom}
 use Rattle.tree.specs.declared.TreeRead.{TreeRead}
 use Rattle.tree.specs.declared.TreeRead.the-variants.{Counted, Fault}
@@ -40,6 +40,17 @@ early-range heads false a e = go (headAt heads a) refl e where
   go true h e = head-range heads a h
   go false h e = absurd (omega arith)
 
+-- a twin has a fault
+range-twin : (i : Item) (t : Bool) → InRange i → InRange (cond t (asTwin i) i)
+unfolding asTwin
+range-twin i true r e = absurd (elim (eqb-cases {A = ℕ} (i .early) 12 12 17) [ inl c ↦ omega (arith, e, c .1) | inr c ↦ omega (arith, e, c .1) ])
+range-twin i false r e = r e
+
+range-twins : (seen : List (List ℕ)) (is : List Item) → Each InRange is → Each InRange (twins seen is)
+unfolding twins
+range-twins seen [] r = tt
+range-twins seen (i ∷ is) r = (range-twin i (anyIn (sameBytes (i .name)) seen) (r .0), range-twins (i .name ∷ seen) is (r .1))
+
 module _ (counts nexts heads : List ℕ) where
   range-item : (e : Entered) → InRange (itemIn counts nexts heads e)
   unfolding itemIn
@@ -49,8 +60,9 @@ module _ (counts nexts heads : List ℕ) where
     range-items : (d : Dir) → Each InRange (itemsWith (itemIn counts nexts heads) img s d)
     unfolding itemsWith
     range-items d =
-        each-gather InRange (itemsFrom (itemIn counts nexts heads) img s d)
-        (each-item InRange (itemIn counts nexts heads) range-item (λ e. absurd (omega arith)) (entriesIn img) (isBlockOf img) s d) (chainOf (s .next) limit (d .head))
+        range-twins [] (gather (itemsFrom (itemIn counts nexts heads) img s d) (chainOf (s .next) limit (d .head)))
+        (each-gather InRange (itemsFrom (itemIn counts nexts heads) img s d)
+        (each-item InRange (itemIn counts nexts heads) range-item (λ e. absurd (omega arith)) (entriesIn img) (isBlockOf img) s d) (chainOf (s .next) limit (d .head)))
 
 -- an anode without a block heads no chain
 heads-none : (next block : ℕ → ℕ) (a : ℕ) → block a ≡ 0 → oneIfHead limit next block a ≡ 0

@@ -1,5 +1,5 @@
 -- The walk as the code makes it: a table of marks for the named anodes, two tables for the queue, and counts.
-use Prim.Native.Nat.{ℕ, zero, suc, _+_, _≤_}
+use Prim.Native.Nat.{ℕ, zero, suc, _+_, _-_, _≤_}
 use mathlib.Core.Path.{_≡_}
 use mathlib.Core.Bool.{Bool, false, cond, _&&_}
 use mathlib.Core.List.{List, [], _∷_, _++_}
@@ -7,9 +7,11 @@ use lib.ListN.{length, getD, set}
 use lib.Dec.{eqb, leb, ltb}
 use Rattle.disk.specs.Refusals.{numberOf}
 use Rattle.rules.specs.Counting.{sumList, gather}
+use Rattle.rules.specs.Folding.{folded}
 use Rattle.rules.specs.Anodes.{Anodes, limit}
 use Rattle.rules.specs.Chains.{chainOf}
-use Rattle.rules.specs.Walk.{Dir, Entered, Item, entriesIn, isBlockOf, blocksFor, itemsFor, dirMade}
+use Rattle.rules.specs.Walk.{Dir, Entered, Item, entriesIn, isBlockOf, blocksFor, itemsFor, twins, dirMade}
+use Rattle.names.specs.Index.{seenIn, Indexed}
 use Rattle.tree.specs.declared.Tally.{Tally}
 use Rattle.tree.specs.declared.WalkStep.{WalkStep}
 use Rattle.tree.specs.declared.WalkStep.the-variants.{Go, Fault}
@@ -31,6 +33,7 @@ itemIn counts nexts heads e = record {
   late = cond (e .dir) 0 (cond (eqb (sumFrom counts nexts limit (e .anode)) (blocksFor (e .size))) 0 15);
   dir = e .dir;
   anode = e .anode;
+  name = folded (e .name);
   start = e .start;
 }
 
@@ -72,9 +75,9 @@ itemsFrom item img s d a = itemsFor item (entriesIn img) (isBlockOf img) s d a
 abbrev pub itemsAlong : (Entered → Item) → List ℕ → Anodes → Dir → ℕ → ℕ → List Item
 itemsAlong item img s d k a = gather (itemsFrom item img s d) (chainOf (s .next) k a)
 
--- what directory d gives
+-- what directory d gives, with 17 for a name that came before
 unfoldable pub itemsWith : (Entered → Item) → List ℕ → Anodes → Dir → List Item
-itemsWith item img s d = itemsAlong item img s d limit (d .head)
+itemsWith item img s d = twins [] (itemsAlong item img s d limit (d .head))
 
 -- the end of the walk: the first fault, or the marks, the files and the directories in the order they were taken from the queue
 pub data Run : Type 0 where
@@ -146,3 +149,25 @@ StepFits (Fault r) marks = Unit {0}
 -- a step that comes to p and leaves tables that suffice
 abbrev pub Proceeds : WalkStep → List ℕ → List ℕ → List ℕ → Progress → Type 0
 Proceeds r marks queue parents p = (progress r marks queue parents ≡ p) × StepFits r marks
+
+-- the number of the next entry: how many were met before it; the root is queued and has no entry
+abbrev pub numberIn : Tally → ℕ
+numberIn t = t .last + t .files - 1
+
+-- the folded names met from number `from` on, the last first
+abbrev pub seenBy : List ℕ → List ℕ → ℕ → Tally → List (List ℕ)
+seenBy img index from t = seenIn img index from (numberIn t - from)
+
+-- the names of all entries met are in the index; those of this directory have numbers from `from` on
+abbrev pub Numbered : List ℕ → List ℕ → ℕ → Tally → Type 0
+Numbered img index from t = Indexed img index (numberIn t) × (1 ≤ t .last) × (from ≤ numberIn t)
+
+-- what a step that goes on leaves in the index: the names of all entries met
+abbrev pub StepNumbered : WalkStep → List ℕ → List ℕ → Type 0
+StepNumbered (Go t) img index = Numbered img index (numberIn t) t
+StepNumbered (Fault r) img index = Unit {0}
+
+-- and those of this directory are `seen`
+abbrev pub StepSeen : WalkStep → List ℕ → List ℕ → ℕ → List (List ℕ) → Type 0
+StepSeen (Go t) img index from seen = Numbered img index from t × (seenBy img index from t ≡ seen)
+StepSeen (Fault r) img index from seen = Unit {0}

@@ -1,16 +1,18 @@
-// Refusals 12 to 16: the walk over the directories, breadth first from the root.
+// Refusals 12 to 17: the walk over the directories, breadth first from the root.
 ghost use mathlib.Core.Path.{_≡_};
-ghost use Prim.Native.Nat.{ℕ, _+_, _<_};
-ghost use mathlib.Core.List.{[], map};
+ghost use Prim.Native.Nat.{ℕ, _+_, _<_, _≤_};
+ghost use mathlib.Core.List.{List, [], map};
 ghost use lib.ListN.{length};
 ghost use Rattle.rules.specs.Accepted.{treeFault};
 ghost use Rattle.rules.specs.Counting.{anyBelow};
-ghost use Rattle.rules.specs.Walk.{blocksFor, isBlockOf, entriesIn, dirMade};
+ghost use Rattle.rules.specs.Walk.{blocksFor, isBlockOf, entriesIn, twins, dirMade};
 ghost use Rattle.laws.specs.Chains.{HeadTable};
+ghost use Rattle.laws.specs.Apart.{seenAfter};
 ghost use Rattle.laws.specs.Entries.{enteredAt};
 ghost use Rattle.anodes.specs.Loaded.{anodesFrom, AnodeTables};
+ghost use Rattle.names.specs.Index.{Indexed};
 ghost use Rattle.tree.specs.Tree.{treeNumber, Counts, Queued};
-ghost use Rattle.tree.specs.Steps.{sumFrom, headAt, itemIn, enterItem, itemsFrom, itemsWith, queueOf, entering, Proceeds, runFrom, conclusion, tallyMade, WalkRoom, unnamedAt};
+ghost use Rattle.tree.specs.Steps.{sumFrom, headAt, itemIn, enterItem, itemsFrom, itemsWith, queueOf, entering, Proceeds, runFrom, conclusion, tallyMade, WalkRoom, numberIn, seenBy, Numbered, StepNumbered, StepSeen, unnamedAt};
 use directory::Entry;
 use directory::Kind;
 use directory::Walked;
@@ -19,6 +21,7 @@ use disk::AnodeNo;
 use disk::BlockNo;
 use disk::Refusal;
 use disk::block_part;
+use names::enter_name;
 use reader::read_entry;
 use tables::entry;
 use tables::set_entry;
@@ -119,6 +122,14 @@ fn with_directory(t: Tally) -> Tally
     }
 }
 
+// The number of the next entry: how many were met before it.
+fn number_in(t: Tally) -> usize
+    requires { ⌜ (1 ≤ t .last) × (t .last ≤ 3444) ⌝ }
+    ensures { λ r. ⌜ r ≡ numberIn t ⌝ }
+{
+    t.last + (t.files as usize) - 1
+}
+
 // Tests one entry of the directory with this head by 13, 14 and 15, marks its anode, and counts the file or queues the directory.
 fn enter(
     counts: &[u16],
@@ -132,7 +143,7 @@ fn enter(
     t: Tally,
 ) -> WalkStep
     requires { ⌜ WalkRoom t (now marks) (now queue) (now parents) ⌝ }
-    ensures { λ r. ⌜ ((start : ℕ) → Proceeds r (now (marks .exit)) (now (queue .exit)) (now (parents .exit)) (enterItem (head .0) (itemIn (now (counts .entry)) (now (nexts .entry)) (now (heads .entry)) (enteredAt e start)) (queueOf (now (queue .entry)) (now (parents .entry)) (t .last)) (now (marks .entry)) (t .files))) ⌝ }
+    ensures { λ r. ⌜ ((name : List ℕ) (start : ℕ) → Proceeds r (now (marks .exit)) (now (queue .exit)) (now (parents .exit)) (enterItem (head .0) (itemIn (now (counts .entry)) (now (nexts .entry)) (now (heads .entry)) (enteredAt e name start)) (queueOf (now (queue .entry)) (now (parents .entry)) (t .last)) (now (marks .entry)) (t .files))) ⌝ }
 {
     let a = e.anode;
     let kind = e.kind;
@@ -160,7 +171,7 @@ fn enter(
     }
 }
 
-// Enters the entries of block `b` of the directory with this head, in byte order.
+// Enters the entries of block `b` of the directory with this head, in byte order: 17 for a name that an entry from number `from` on has.
 fn enter_block(
     image: &[u8],
     counts: &[u16],
@@ -169,12 +180,15 @@ fn enter_block(
     marks: &mut [u16],
     queue: &mut [u16],
     parents: &mut [u16],
+    index: &mut [u16],
+    from: usize,
     head: AnodeNo,
     b: BlockNo,
     t: Tally,
 ) -> WalkStep
-    requires { ⌜ WalkRoom t (now marks) (now queue) (now parents) ⌝ }
-    ensures { λ r. ⌜ Proceeds r (now (marks .exit)) (now (queue .exit)) (now (parents .exit)) (entering t (now (marks .entry)) (now (queue .entry)) (now (parents .entry)) (head .0) (map (itemIn (now (counts .entry)) (now (nexts .entry)) (now (heads .entry))) (entriesIn (now (image .entry)) (b .0)))) ⌝ }
+    requires { ⌜ WalkRoom t (now marks) (now queue) (now parents) × Numbered (now image) (now index) from t ⌝ }
+    ensures entered { λ r. ⌜ Proceeds r (now (marks .exit)) (now (queue .exit)) (now (parents .exit)) (entering t (now (marks .entry)) (now (queue .entry)) (now (parents .entry)) (head .0) (twins (seenBy (now (image .entry)) (now (index .entry)) from t) (map (itemIn (now (counts .entry)) (now (nexts .entry)) (now (heads .entry))) (entriesIn (now (image .entry)) (b .0))))) ⌝ }
+    ensures seen { λ r. ⌜ StepSeen r (now (image .entry)) (now (index .exit)) from (seenAfter (map (itemIn (now (counts .entry)) (now (nexts .entry)) (now (heads .entry))) (entriesIn (now (image .entry)) (b .0))) (seenBy (now (image .entry)) (now (index .entry)) from t)) ⌝ }
 {
     let block = block_part(image, b);
     let mut tally = t;
@@ -188,6 +202,9 @@ fn enter_block(
             Walked::End => return WalkStep::Go(tally),
             Walked::Fault(r) => return WalkStep::Fault(r),
         };
+        if enter_name(image, index, from, number_in(tally), b, at) {
+            return WalkStep::Fault(Refusal::NamesAlike);
+        }
         let step = enter(counts, nexts, heads, marks, queue, parents, head, e, tally);
         let WalkStep::Go(after) = step else {
             return step;
@@ -209,13 +226,16 @@ fn enter_anode(
     marks: &mut [u16],
     queue: &mut [u16],
     parents: &mut [u16],
+    index: &mut [u16],
+    from: usize,
     head: AnodeNo,
     parent: AnodeNo,
     a: AnodeNo,
     t: Tally,
 ) -> WalkStep
-    requires { ⌜ WalkRoom t (now marks) (now queue) (now parents) ⌝ }
-    ensures { λ r. ⌜ Proceeds r (now (marks .exit)) (now (queue .exit)) (now (parents .exit)) (entering t (now (marks .entry)) (now (queue .entry)) (now (parents .entry)) (head .0) (itemsFrom (itemIn (now (counts .entry)) (now (nexts .entry)) (now (heads .entry))) (now (image .entry)) (anodesFrom (now (counts .entry)) (now (firsts .entry)) (now (nexts .entry))) (dirMade (head .0) (parent .0)) (a .0))) ⌝ }
+    requires { ⌜ WalkRoom t (now marks) (now queue) (now parents) × Numbered (now image) (now index) from t ⌝ }
+    ensures entered { λ r. ⌜ Proceeds r (now (marks .exit)) (now (queue .exit)) (now (parents .exit)) (entering t (now (marks .entry)) (now (queue .entry)) (now (parents .entry)) (head .0) (twins (seenBy (now (image .entry)) (now (index .entry)) from t) (itemsFrom (itemIn (now (counts .entry)) (now (nexts .entry)) (now (heads .entry))) (now (image .entry)) (anodesFrom (now (counts .entry)) (now (firsts .entry)) (now (nexts .entry))) (dirMade (head .0) (parent .0)) (a .0)))) ⌝ }
+    ensures seen { λ r. ⌜ StepSeen r (now (image .entry)) (now (index .exit)) from (seenAfter (itemsFrom (itemIn (now (counts .entry)) (now (nexts .entry)) (now (heads .entry))) (now (image .entry)) (anodesFrom (now (counts .entry)) (now (firsts .entry)) (now (nexts .entry))) (dirMade (head .0) (parent .0)) (a .0)) (seenBy (now (image .entry)) (now (index .entry)) from t)) ⌝ }
 {
     if entry(counts, a.0 as usize) != 1 {
         return WalkStep::Fault(Refusal::DirectoryBlock);
@@ -232,6 +252,8 @@ fn enter_anode(
         marks,
         queue,
         parents,
+        index,
+        from,
         head,
         b,
         t,
@@ -248,13 +270,16 @@ fn enter_directory(
     marks: &mut [u16],
     queue: &mut [u16],
     parents: &mut [u16],
+    index: &mut [u16],
     head: AnodeNo,
     parent: AnodeNo,
     t: Tally,
 ) -> WalkStep
-    requires { ⌜ WalkRoom t (now marks) (now queue) (now parents) ⌝ }
-    ensures { λ r. ⌜ Proceeds r (now (marks .exit)) (now (queue .exit)) (now (parents .exit)) (entering t (now (marks .entry)) (now (queue .entry)) (now (parents .entry)) (head .0) (itemsWith (itemIn (now (counts .entry)) (now (nexts .entry)) (now (heads .entry))) (now (image .entry)) (anodesFrom (now (counts .entry)) (now (firsts .entry)) (now (nexts .entry))) (dirMade (head .0) (parent .0)))) ⌝ }
+    requires { ⌜ WalkRoom t (now marks) (now queue) (now parents) × Numbered (now image) (now index) (numberIn t) t ⌝ }
+    ensures entered { λ r. ⌜ Proceeds r (now (marks .exit)) (now (queue .exit)) (now (parents .exit)) (entering t (now (marks .entry)) (now (queue .entry)) (now (parents .entry)) (head .0) (itemsWith (itemIn (now (counts .entry)) (now (nexts .entry)) (now (heads .entry))) (now (image .entry)) (anodesFrom (now (counts .entry)) (now (firsts .entry)) (now (nexts .entry))) (dirMade (head .0) (parent .0)))) ⌝ }
+    ensures numbered { λ r. ⌜ StepNumbered r (now (image .entry)) (now (index .exit)) ⌝ }
 {
+    let from = number_in(t);
     let mut tally = t;
     let mut at = head;
     let mut fuel: usize = 3444;
@@ -271,6 +296,8 @@ fn enter_directory(
             marks,
             queue,
             parents,
+            index,
+            from,
             head,
             parent,
             at,
@@ -296,8 +323,9 @@ fn walk_queue(
     marks: &mut [u16],
     queue: &mut [u16],
     parents: &mut [u16],
+    index: &mut [u16],
 ) -> TreeRead
-    requires { ⌜ WalkRoom (tallyMade 1 0) (now marks) (now queue) (now parents) ⌝ }
+    requires { ⌜ WalkRoom (tallyMade 1 0) (now marks) (now queue) (now parents) × Indexed (now image) (now index) 0 ⌝ }
     ensures { λ r. ⌜ conclusion r (now (marks .exit)) (now (queue .exit)) (now (parents .exit)) ≡ runFrom (itemsWith (itemIn (now (counts .entry)) (now (nexts .entry)) (now (heads .entry))) (now (image .entry)) (anodesFrom (now (counts .entry)) (now (firsts .entry)) (now (nexts .entry)))) 3444 (queueOf (now (queue .entry)) (now (parents .entry)) 1) (now (marks .entry)) 0 [] ⌝ }
 {
     let mut tally = Tally { last: 1, files: 0 };
@@ -314,6 +342,7 @@ fn walk_queue(
             marks,
             queue,
             parents,
+            index,
             head,
             parent,
             tally,
@@ -373,6 +402,7 @@ pub fn walk_tree(
     ensures queued { λ r. ⌜ Queued r (now (image .entry)) (anodesFrom (now (counts .entry)) (now (firsts .entry)) (now (nexts .entry))) (now (queue .exit)) (now (parents .exit)) ⌝ }
 {
     let mut marks = [0u16; 3444];
+    let mut index = [0u16; 17872];
     // the root counts as marked, so that there is a mark for each directory in the queue
     marks[5] = 1;
     queue[0] = 5;
@@ -386,6 +416,7 @@ pub fn walk_tree(
         &mut marks,
         queue,
         parents,
+        &mut index,
     );
     if let TreeRead::Fault(_) = found {
         return found;

@@ -206,7 +206,7 @@ fn fragmented(blocks: usize) -> Recipe {
 }
 
 /// The disks that the check is timed on.
-fn checked_disks(rng: &mut Rng) -> [(&'static str, Disk); 4] {
+fn checked_disks(rng: &mut Rng) -> [(&'static str, Disk); 5] {
     [
         ("1,760 blocks, empty", Disk::empty(1_760, 63, 2)),
         ("65,535 blocks, empty", Disk::empty(65_535, 2_000, 42)),
@@ -215,6 +215,7 @@ fn checked_disks(rng: &mut Rng) -> [(&'static str, Disk); 4] {
             "65,535 blocks, fragmented, no anode free",
             Disk::new(shaped(&Recipe::fragmented(65_535), rng).image),
         ),
+        ("65,535 blocks, 3,250 names in the root", Disk::new(shaped(&Recipe::many_names(65_535), rng).image)),
     ]
 }
 

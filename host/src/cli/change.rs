@@ -63,23 +63,26 @@ struct Transfer {
     name: Vec<u8>,
 }
 
-/// Where an entry goes: into a directory that is there, under its own name, or to a path of its own.
+/// Where an entry goes: into a directory that is there, under its own name, or to a path of its own. One that moves may
+/// have its own name in another case.
 fn transfer<L: Library>(
     arguments: &Arguments,
     disk: &mut Disk<L>,
     found: &Found,
     several: bool,
+    moves: bool,
 ) -> Result<Transfer, Failure> {
     let word = arguments.from(1).last().map_or(OsStr::new(""), |word| word);
     let to = arguments.path(word)?;
-    let transfer = match (to.is_directory(disk), to.parent()) {
+    let one_name = !several && !word.as_encoded_bytes().ends_with(b"/");
+    let recased = moves && one_name && to.is(&found.path) && to.name() != found.entry.name;
+    let transfer = match (to.is_directory(disk) && !recased, to.parent()) {
         (true, _) => Transfer { at: to, name: found.entry.name.clone() },
-        (false, Some(at)) if !several && !word.as_encoded_bytes().ends_with(b"/") => {
-            Transfer { at, name: to.name().to_vec() }
-        }
+        (false, Some(at)) if one_name => Transfer { at, name: to.name().to_vec() },
         _ => return Err(arguments.trouble(format!("{to} is no directory of the disk"))),
     };
-    if transfer.at.is_below(&found.path) || transfer.at.join(&transfer.name).is(&found.path) {
+    let onto_itself = transfer.at.join(&transfer.name).is(&found.path) && !recased;
+    if transfer.at.is_below(&found.path) || onto_itself {
         return Err(arguments.trouble(format!("{} cannot go into itself or onto itself", found.path)));
     }
     Ok(transfer)
@@ -100,7 +103,7 @@ fn transfer_all<L: Library>(arguments: &Arguments, moves: bool, out: &mut dyn Wr
         let several = all.len() > 1;
         all_named_apart(all.iter().map(|found| found.entry.name.as_slice()), arguments.charset())?;
         for found in all {
-            let Transfer { at, name } = transfer(arguments, disk, &found, several)?;
+            let Transfer { at, name } = transfer(arguments, disk, &found, several, moves)?;
             let mut bundle = Bundle::from_disk(disk, found.clone(), directories, &mut Progress::new("read"))?;
             bundle.items[0].name = name;
             if moves {

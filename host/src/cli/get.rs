@@ -5,7 +5,7 @@ use std::io::Write;
 use std::path::{Path, PathBuf};
 
 use super::arguments::Arguments;
-use super::items::{all_named_apart, no_name, Bundle, Count, Here};
+use super::items::{all_named_apart_here, no_name, Bundle, Count, Here};
 use super::progress::Progress;
 use super::walk::Found;
 use super::{store, text, Done, Failure};
@@ -122,7 +122,7 @@ pub fn get<L: Library>(arguments: &Arguments, out: &mut dyn Write) -> Done {
         };
         plans.push(bundle.plan_here(&first, &here)?);
     }
-    all_named_apart(bundles.iter().map(|bundle| bundle.items[0].name.as_slice()), here.charset)?;
+    all_named_apart_here(bundles.iter().map(|bundle| bundle.items[0].name.as_slice()), here.charset)?;
     let (mut count, mut progress) = (Count::default(), Progress::new("got"));
     for (bundle, plan) in bundles.iter().zip(&plans) {
         bundle.write_here(plan, &here, &mut progress)?;

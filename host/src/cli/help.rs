@@ -78,9 +78,9 @@ pub const COMMANDS: &[Syntax] = &[
         long: concat!("Prints 0 for a disk that is accepted, else the number of the first rule that it breaks, and in words what it means. Of
 several disks the exit status is the highest.
 
-Accepted means that every block has one owner and that directories, names and sizes fit together. It says nothing of the
-bytes inside files: the format keeps no sum to check them by, so a file that was stored wrong, or changed by hand, is
-accepted like any other.
+Accepted means that every block has one owner, that directories, names and sizes fit together, and that no two names of a
+directory differ only in capitals A to Z. It says nothing of the bytes inside files: the format keeps no sum to check them
+by, so a file that was stored wrong, or changed by hand, is accepted like any other.
 
   --where         name the block, anode, entry or path of the first fault. The number comes from the proved check. The
                   place comes from a model of the rules that is tested and not proved; where it finds another number, it
@@ -174,8 +174,8 @@ disk file is replaced once. A file has its own date and time on the disk, in UTC
         flags: &["--force"],
         options: &[],
         short: "move or rename within the disk",
-        long: "Moves files and directories to the directory TO, or one of them to the path TO, which is then its new name. They keep
-date, protection and comment. All of them are moved, or none.
+        long: "Moves files and directories to the directory TO, or one of them to the path TO, which is then its new name and may be the
+old one with other capitals. They keep date, protection and comment. All of them are moved, or none.
 
   --force         replace files that are there",
     },
@@ -308,9 +308,10 @@ pub fn whole() -> String {
     help + "
 `pfs help COMMAND` tells more, and `pfs --version` which program this is.
 
-PATH is like recipes/pack7. In it * stands for any letters of a name and ? for one, unless the name is there just so; quote
-it for the shell. In paths, names and comments \\xNN is any byte and \\\\ a backslash. With --latin1 they are text in
-Latin-1, else in UTF-8. A disk that is only looked at may be -, which is standard input.
+PATH is like recipes/pack7, and A to Z are the same as a to z in it: a disk takes BATCH7 and Batch7 for one name, and shows
+it as it was made. In PATH * stands for any letters of a name and ? for one, unless the name is there just so; quote it for
+the shell. In paths, names and comments \\xNN is any byte and \\\\ a backslash. With --latin1 they are text in Latin-1,
+else in UTF-8. A disk that is only looked at may be -, which is standard input.
 
 Exit status: 0 done, 1 refused by the disk's rules, 2 bad usage or a file that cannot be read or written, 3 a damaged disk.
 A command that changes a disk replaces the disk file as a whole, or leaves it as it was.

@@ -15,6 +15,7 @@ use super::walk::{self, Found};
 use super::{refused, stamps, Done, Failure};
 use crate::calls::{Library, Stamp};
 use crate::disk::{Disk, Error, Kind, New};
+use crate::names;
 
 /// A file or a directory.
 pub struct Item {
@@ -109,8 +110,7 @@ impl Bundle {
                 false => Some(store::read(source.as_os_str())?),
             };
             if bytes.is_none() {
-                let mut inside = names_in(&source, fields.charset)?;
-                inside.sort_by(|one, other| other.1.cmp(&one.1));
+                let inside = names_in(&source, fields.charset)?;
                 sources.extend(inside.into_iter().map(|(path, name)| (path, Some(items.len()), name)));
             }
             let (protection, comment) = (fields.protection, fields.comment.clone());
@@ -138,7 +138,8 @@ impl Bundle {
     }
 }
 
-/// What is in a folder, with the names that it has on the disk. Only files and folders are copied.
+/// What is in a folder, with the names that it has on the disk, last first. Only files and folders are copied, and no two of
+/// them may have one name on the disk.
 fn names_in(folder: &HostPath, charset: Charset) -> Result<Vec<(PathBuf, Vec<u8>)>, Failure> {
     let mut inside = Vec::new();
     for entry in fs::read_dir(folder).map_err(trouble(folder))? {
@@ -154,7 +155,15 @@ fn names_in(folder: &HostPath, charset: Charset) -> Result<Vec<(PathBuf, Vec<u8>
         let wrong = |wrong: String| Failure::Trouble(format!("{}: {wrong}", text::show_os(path.as_os_str())));
         inside.push((path.clone(), name.map_err(wrong)?));
     }
-    Ok(inside)
+    inside.sort_by(|one, other| other.1.cmp(&one.1));
+    match names::first_alike(inside.iter().map(|(_, name)| name.as_slice())) {
+        Some(name) => {
+            let (folder, name) = (text::show_os(folder.as_os_str()), charset.quoted(name));
+            let wrong = "another name there is the same on a disk, capitals counted as small letters";
+            Err(Failure::Trouble(format!("{folder}: {name}: {wrong}")))
+        }
+        None => Ok(inside),
+    }
 }
 
 fn trouble(path: &HostPath) -> impl FnOnce(io::Error) -> Failure + '_ {
@@ -381,16 +390,22 @@ impl Bundle {
     }
 }
 
-/// Several things that go into one place must have different names there, or one would replace the other.
+/// Several things that go into one directory of a disk must have different names there, capitals counted as small letters,
+/// or one would replace the other.
 pub fn all_named_apart<'a>(names: impl Iterator<Item = &'a [u8]>, charset: Charset) -> Done {
+    names::first_alike(names).map_or(Ok(()), |name| Err(two_of_a_name(name, charset)))
+}
+
+/// The same for a folder here, where every byte counts.
+pub fn all_named_apart_here<'a>(names: impl Iterator<Item = &'a [u8]>, charset: Charset) -> Done {
     let mut seen = HashSet::new();
-    match names.into_iter().find(|name| !seen.insert(*name)) {
-        Some(name) => {
-            let name = charset.quoted(name);
-            Err(Failure::Trouble(format!("{name}: two of that name cannot go to the same place")))
-        }
-        None => Ok(()),
-    }
+    let twice = names.into_iter().find(|name| !seen.insert(*name));
+    twice.map_or(Ok(()), |name| Err(two_of_a_name(name, charset)))
+}
+
+fn two_of_a_name(name: &[u8], charset: Charset) -> Failure {
+    let name = charset.quoted(name);
+    Failure::Trouble(format!("{name}: two of that name cannot go to the same place"))
 }
 
 /// No file here can have that name.

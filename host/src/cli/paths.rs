@@ -6,6 +6,7 @@ use super::text::{self, Charset};
 use super::{refused, Failure};
 use crate::calls::{Library, ROOT};
 use crate::disk::{Disk, Entry, Kind};
+use crate::names::alike;
 
 /// The names of a path; none is the root.
 #[derive(Clone, Default)]
@@ -54,13 +55,15 @@ impl Path {
         lengths.map(|length| Path { names: self.names[..length].to_vec(), charset: self.charset }).collect()
     }
 
+    /// Do both lead to one entry? Names that look alike are one.
     pub fn is(&self, other: &Path) -> bool {
-        self.names == other.names
+        self.names.len() == other.names.len() && self.is_below(other)
     }
 
     /// Is it the other path, or below it?
     pub fn is_below(&self, other: &Path) -> bool {
-        self.names.starts_with(&other.names)
+        let mut pairs = self.names.iter().zip(&other.names);
+        self.names.len() >= other.names.len() && pairs.all(|(one, other)| alike(one, other))
     }
 
     /// The number of the directory that this path names. If it names something else, the library says so in the

@@ -6,6 +6,7 @@ use super::walk::{self, Found};
 use super::{refused, Failure};
 use crate::calls::{Library, ROOT};
 use crate::disk::{Disk, Error, Kind};
+use crate::names::alike;
 
 #[derive(Clone, Copy, Debug, PartialEq, Eq)]
 enum Token {
@@ -69,7 +70,7 @@ impl Pattern {
     ) -> Result<Vec<Found>, Failure> {
         let name = literal(tokens);
         match disk.find(directory, &name) {
-            Ok(entry) => return Ok(vec![Found { path: path.join(&name), directory, entry }]),
+            Ok(entry) => return Ok(vec![Found { path: path.join(&entry.name), directory, entry }]),
             Err(Error::NotFound) => {}
             Err(error) => return Err(refused(&self.text)(error)),
         }
@@ -93,7 +94,7 @@ fn literal(tokens: &[Token]) -> Vec<u8> {
     tokens.iter().map(byte).collect()
 }
 
-/// Does a name fit a pattern? Goes back only to the last `*`, which is enough.
+/// Does a name fit a pattern, where capitals are the same as small letters? Goes back only to the last `*`, which is enough.
 fn matches(tokens: &[Token], name: &[u8], charset: Charset) -> bool {
     let (mut token, mut at) = (0, 0);
     let mut any: Option<(usize, usize)> = None;
@@ -107,7 +108,7 @@ fn matches(tokens: &[Token], name: &[u8], charset: Charset) -> bool {
                 at += charset.first_letter(&name[at..]);
                 token += 1;
             }
-            (Some(Token::Byte(byte)), _) if *byte == name[at] => {
+            (Some(Token::Byte(byte)), _) if alike(&[*byte], &name[at..=at]) => {
                 at += 1;
                 token += 1;
             }
@@ -141,6 +142,8 @@ mod tests {
             ("a\\x2ab", "a*b"),
             ("**", "x"),
             ("a*", "a"),
+            ("PACK?", "pack7"),
+            ("p*K", "PacK"),
         ] {
             assert!(fits(pattern, name), "{pattern} {name}");
         }
@@ -151,6 +154,8 @@ mod tests {
             ("a\\x2ab", "axb"),
             ("?", ""),
             ("a", "ab"),
+            ("[*", "{x"),
+            ("K\u{c4}*", "K\u{e4}se"),
         ] {
             assert!(!fits(pattern, name), "{pattern} {name}");
         }

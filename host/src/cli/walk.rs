@@ -1,7 +1,5 @@
 //! All that a disk holds, by list calls.
 
-use std::collections::HashSet;
-
 use super::paths::Path;
 use super::{refused, Failure};
 use crate::calls::Library;
@@ -29,17 +27,9 @@ pub fn below<L: Library>(disk: &mut Disk<L>, path: &Path) -> Result<Vec<Found>, 
     all_of(disk, inside)
 }
 
-/// An entry and all that is below it; each directory is followed by what is in it. Each can be reached by its name.
+/// An entry and all that is below it; each directory is followed by what is in it.
 pub fn with_all_below<L: Library>(disk: &mut Disk<L>, found: Found) -> Result<Vec<Found>, Failure> {
-    let all = all_of(disk, vec![found])?;
-    let mut names = HashSet::new();
-    match all.iter().find(|found| !names.insert((found.directory, &found.entry.name))) {
-        Some(found) => {
-            let wrong = "two entries of the directory have this name, and only the first can be reached";
-            Err(Failure::Refused(format!("{}: {wrong}", found.path)))
-        }
-        None => Ok(all),
-    }
+    all_of(disk, vec![found])
 }
 
 fn all_of<L: Library>(disk: &mut Disk<L>, mut waiting: Vec<Found>) -> Result<Vec<Found>, Failure> {

@@ -115,7 +115,7 @@ fn reached(survey: &Survey, directory: u16) -> Result<(), u32> {
     parent.map(drop).ok_or(21)
 }
 
-/// 21, 22: the first entry of that name, with the block it is in.
+/// 21, 22: the entry of that name after folding, with the block it is in.
 fn find<'a>(
     image: &'a [u8],
     survey: &'a Survey,
@@ -123,7 +123,8 @@ fn find<'a>(
     name: &[u8],
 ) -> Result<(u16, Entry<'a>), u32> {
     reached(survey, directory)?;
-    entries(image, &survey.table, directory).find(|(_, entry)| entry.name == name).ok_or(22)
+    let name = folded(name);
+    entries(image, &survey.table, directory).find(|(_, entry)| folded(entry.name) == name).ok_or(22)
 }
 
 /// 21, 22, 24: the same for a file.
@@ -231,7 +232,7 @@ fn entry_fields(number: u16, entry: &Entry) -> [u32; 11] {
     ]
 }
 
-/// Answers the first entry of a name in a directory, in the fields of list.
+/// Answers the entry of a name in a directory, in the fields of list.
 pub fn find_entry(
     image: &[u8],
     blocks: &mut [u16],

@@ -1,8 +1,11 @@
 //! The check, linear in blocks, anodes and entries.
 
+use std::collections::HashSet;
+
 use super::layout::*;
 
 /// What the check learned about a disk that it accepts.
+#[derive(Clone)]
 pub struct Survey {
     /// N.
     pub blocks: usize,
@@ -17,7 +20,7 @@ pub struct Survey {
     pub parents: Vec<Option<u16>>,
 }
 
-/// The check: answers 0 or the number of the first rule that is broken. Refusals 1 to 4 touch no table, 5 to 16
+/// The check: answers 0 or the number of the first rule that is broken. Refusals 1 to 4 touch no table, 5 to 17
 /// leave both zeroed, and a disk that is accepted has its owners and heads there.
 pub fn check(image: &[u8], blocks: &mut [u16], anodes: &mut [u16]) -> u32 {
     number(survey(image, blocks, anodes))
@@ -47,7 +50,7 @@ pub fn survey(image: &[u8], blocks: &mut [u16], anodes: &mut [u16]) -> Result<Su
     found
 }
 
-/// Numbers 5 to 16, on tables that are zeroed.
+/// Numbers 5 to 17, on tables that are zeroed.
 fn examine(image: &[u8], owners: &mut [u16], heads: &mut [u16]) -> Result<Survey, u32> {
     let size = owners.len();
     let last_reserved = last_reserved(image);
@@ -208,7 +211,7 @@ fn check_owners(table: &AnodeTable, in_use: &[u16], heads: &[u16], owners: &mut 
     }
 }
 
-/// The walk over the directories, breadth first from the root, that gives 12 to 15.
+/// The walk over the directories, breadth first from the root, that gives 12 to 15 and 17.
 struct Walk<'a> {
     table: &'a AnodeTable,
     followers: &'a [bool],
@@ -245,6 +248,7 @@ impl<'a> Walk<'a> {
     }
 
     fn visit(&mut self, image: &[u8], directory: u16) -> Result<(), u32> {
+        let mut names = HashSet::new();
         for (_, anode) in self.table.chain(directory) {
             if anode.count != 1 {
                 return Err(12);
@@ -259,6 +263,9 @@ impl<'a> Walk<'a> {
             }
             for entry in Entries::of(bytes) {
                 let entry = entry.map_err(|BrokenEntry| 12u32)?;
+                if !names.insert(folded(entry.name)) {
+                    return Err(17);
+                }
                 self.meet(&entry, directory)?;
             }
         }

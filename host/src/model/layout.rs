@@ -257,6 +257,15 @@ pub fn good_name(name: &[u8]) -> bool {
     (1..=LONGEST_NAME).contains(&name.len()) && !name.iter().any(|byte| matches!(byte, 0 | b':' | b'/'))
 }
 
+/// A name with A to Z folded onto a to z, and no other byte.
+pub fn folded(name: &[u8]) -> Vec<u8> {
+    let fold = |&byte: &u8| match byte {
+        b'A'..=b'Z' => byte - b'A' + b'a',
+        _ => byte,
+    };
+    name.iter().map(fold).collect()
+}
+
 /// An entry that keeps the rules. `at` is its place in the directory block.
 #[derive(Clone, Copy, Debug)]
 pub struct Entry<'a> {

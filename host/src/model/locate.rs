@@ -98,7 +98,7 @@ fn behind_slots(image: &[u8], number: u32, show: Show) -> Option<String> {
         8 => anodes.links(),
         9 => anodes.free_list(),
         10 | 11 => anodes.owners(number),
-        12..=15 => Walk::run(image, &anodes, show),
+        12..=15 | 17 => Walk::run(image, &anodes, show),
         16 => anodes.unnamed(image),
         _ => None,
     }
@@ -279,6 +279,7 @@ impl<'a> Walk<'a> {
 
     fn visit(&mut self, image: &[u8], directory: u16, path: &[Vec<u8>], parent: u16) -> Option<String> {
         let about = format!("directory {}", (self.show)(path));
+        let mut names = HashMap::new();
         for (number, anode) in self.anodes.table.chain(directory) {
             if anode.count != 1 {
                 return Some(format!("{about}: anode {number} has {} blocks and not 1", anode.count));
@@ -294,14 +295,21 @@ impl<'a> Walk<'a> {
             if directory != ROOT_DIRECTORY && above != parent {
                 return Some(format!("{at} has the parent {above} and not {parent}"));
             }
-            if let Some(fault) = self.entries(bytes, anode.block, directory, path) {
+            if let Some(fault) = self.entries(bytes, anode.block, directory, path, &mut names) {
                 return Some(fault);
             }
         }
         None
     }
 
-    fn entries(&mut self, bytes: &[u8], block: u16, directory: u16, path: &[Vec<u8>]) -> Option<String> {
+    fn entries(
+        &mut self,
+        bytes: &[u8],
+        block: u16,
+        directory: u16,
+        path: &[Vec<u8>],
+        seen: &mut HashMap<Vec<u8>, String>,
+    ) -> Option<String> {
         let mut end = FIRST_ENTRY;
         for entry in Entries::of(bytes) {
             let Ok(entry) = entry else {
@@ -313,6 +321,10 @@ impl<'a> Walk<'a> {
             end = entry.at + entry.length;
             let mut names = path.to_vec();
             names.push(entry.name.to_vec());
+            let about = format!("{}, at byte {} of block {block}", (self.show)(&names), entry.at);
+            if let Some(other) = seen.insert(folded(entry.name), about.clone()) {
+                return Some(format!("{about}, has the name of {other}, capitals counted as small letters"));
+            }
             if let Some(fault) = self.meet(&entry, block, directory, names) {
                 return Some(fault);
             }

@@ -29,7 +29,7 @@ pub fn check(image: &[u8], blocks: &mut [u16], anodes: &mut [u16]) -> u32 {
         return 6;
     }
     let chart = Chart::of(disk);
-    let answer = chart.rows_7_to_16();
+    let answer = chart.rows_7_to_17();
     if answer == 0 {
         blocks[..disk.n].iter_mut().enumerate().for_each(|(b, owner)| *owner = chart.owner(b));
         anodes[..3_444].iter_mut().enumerate().for_each(|(a, head)| *head = chart.head(a));
@@ -184,7 +184,7 @@ impl<'a> Chart<'a> {
         self.in_use.iter().find(|&&a| self.owns(a, b)).map_or(0, |&a| self.head(a))
     }
 
-    fn rows_7_to_16(&self) -> u32 {
+    fn rows_7_to_17(&self) -> u32 {
         if self.row_7() {
             7
         } else if self.row_8() {
@@ -196,7 +196,7 @@ impl<'a> Chart<'a> {
         } else if self.row_11() {
             11
         } else {
-            self.rows_12_to_16()
+            self.rows_12_to_17()
         }
     }
 
@@ -243,18 +243,25 @@ impl<'a> Chart<'a> {
         (0..self.disk.n).any(|b| self.owner_count(b) == 0)
     }
 
-    fn rows_12_to_16(&self) -> u32 {
+    fn rows_12_to_17(&self) -> u32 {
         let mut named = Vec::new();
         // Directories met so far, with their parents; the root has none.
         let mut directories: Vec<(usize, Option<usize>)> = vec![(5, None)];
         let mut turn = 0;
         while turn < directories.len() {
             let (directory, parent) = directories[turn];
+            let mut earlier = Vec::new();
             for a in self.chain(directory).unwrap_or_default() {
                 if self.disk.count(a) != 1 || self.badly_headed(self.disk.block(a), directory, parent) {
                     return 12;
                 }
-                let fault = self.meet_entries(self.disk.block(a), directory, &mut named, &mut directories);
+                let fault = self.meet_entries(
+                    self.disk.block(a),
+                    directory,
+                    &mut earlier,
+                    &mut named,
+                    &mut directories,
+                );
                 if fault != 0 {
                     return fault;
                 }
@@ -277,6 +284,7 @@ impl<'a> Chart<'a> {
         &self,
         b: usize,
         directory: usize,
+        earlier: &mut Vec<(usize, usize)>,
         named: &mut Vec<usize>,
         directories: &mut Vec<(usize, Option<usize>)>,
     ) -> u32 {
@@ -286,6 +294,10 @@ impl<'a> Chart<'a> {
             if self.breaks_rules(b, at) {
                 return 12;
             }
+            if earlier.iter().any(|&entry| self.alike(entry, (b, at))) {
+                return 17;
+            }
+            earlier.push((b, at));
             let a = disk.number(b, at + 2);
             if a < 6 || !disk.in_use(a) || !self.predecessors[a].is_empty() {
                 return 13;
@@ -324,6 +336,21 @@ impl<'a> Chart<'a> {
         comment > 79
             || length != rounded
             || disk.bytes(b, at + 16, name).iter().any(|byte| forbidden.contains(byte))
+    }
+
+    /// Do two entries, each told by its block and byte, have one name, where a letter of the alphabet is the same as its
+    /// capital?
+    fn alike(&self, one: (usize, usize), other: (usize, usize)) -> bool {
+        let alphabet = *b"ABCDEFGHIJKLMNOPQRSTUVWXYZabcdefghijklmnopqrstuvwxyz";
+        let letter =
+            |byte| alphabet.iter().position(|&letter| usize::from(letter) == byte).map(|place| place % 26);
+        let name = |(b, at): (usize, usize), place: usize| self.disk.byte(b, at + 16 + place);
+        let length = |(b, at): (usize, usize)| self.disk.byte(b, at + 15);
+        length(one) == length(other)
+            && (0..length(one)).all(|place| {
+                let (one, other) = (name(one, place), name(other, place));
+                one == other || (letter(one).is_some() && letter(one) == letter(other))
+            })
     }
 
     fn wrong_size(&self, a: usize, size: usize) -> bool {

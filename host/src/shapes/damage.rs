@@ -2,10 +2,12 @@
 //!
 //! Each fault is chosen so that the image breaks the rule of its number and none of the rules that are tried
 //! before, so the check must answer exactly that number. Number 2 is about the tables, not the image, and has no
-//! fault here. Besides these there are disks with two faults, one of them a half-cleared anode, and damage without an
-//! aim.
+//! fault here. Besides these there are disks with two faults, one of them a half-cleared anode or two names that look
+//! alike, disks with names that look alike without a fault, and damage without an aim.
 
-use super::faults::{faults, wrong_length};
+use super::faults::entries::entry_faults;
+use super::faults::names::{alike_elsewhere, any_alike, nearly_alike};
+use super::faults::{faults, wrong_length, Fault};
 use crate::calls::tables;
 use crate::model::layout::*;
 use crate::model::{survey, Survey};
@@ -15,11 +17,38 @@ use crate::rng::Rng;
 #[derive(Clone, Copy, Debug)]
 pub(super) struct Named {
     pub place: usize,
+    /// The directory that it is in.
+    pub directory: u16,
     pub kind: u8,
     pub anode: u16,
     pub size: u32,
     pub name: usize,
     pub comment: usize,
+}
+
+impl Named {
+    /// The block that it is in.
+    pub fn block(&self) -> u16 {
+        (self.place / BLOCK) as u16
+    }
+}
+
+/// Where a fault is in the walk, seen from the later of two entries whose names look alike.
+#[derive(Clone, Copy, Debug, PartialEq, Eq, PartialOrd, Ord)]
+pub enum Place {
+    Before,
+    /// In that entry itself.
+    There,
+    Behind,
+}
+
+/// An image with two faults, one of them two names that look alike.
+pub struct Mixed {
+    pub image: Vec<u8>,
+    /// Where the other fault is; one that is met before the walk is before, and 16 behind.
+    pub place: Place,
+    /// What the check must answer.
+    pub answer: u32,
 }
 
 /// An accepted image, and what a fault needs to know of it.
@@ -40,6 +69,11 @@ impl<'a> Damager<'a> {
     pub fn new(image: &'a [u8]) -> Option<Self> {
         let (mut owners, mut heads) = tables(image);
         let survey = survey(image, &mut owners, &mut heads).ok()?;
+        Some(Damager::surveyed(image, survey, heads))
+    }
+
+    /// Looks at an image that has the anodes and directories of this survey.
+    fn surveyed(image: &'a [u8], survey: Survey, heads: Vec<u16>) -> Self {
         let mut before = vec![0; ANODES];
         for number in survey.table.existing().filter(|&number| survey.table[number].in_use()) {
             before[usize::from(survey.table[number].next)] = number;
@@ -52,7 +86,7 @@ impl<'a> Damager<'a> {
             damager.meet(directory);
             turn += 1;
         }
-        Some(damager)
+        damager
     }
 
     fn meet(&mut self, directory: u16) {
@@ -63,6 +97,7 @@ impl<'a> Damager<'a> {
                 }
                 self.entries.push(Named {
                     place: usize::from(number) * BLOCK + entry.at,
+                    directory,
                     kind: entry.kind,
                     anode: entry.anode,
                     size: entry.size,
@@ -97,6 +132,73 @@ impl<'a> Damager<'a> {
         let candidates: Vec<u16> = table.existing().filter(left_alone).collect();
         self.half_clear(&mut image, *rng.pick(&candidates)?, rng);
         Some(image)
+    }
+
+    /// The image with two faults: one aimed at this number, from 3 to 16, and two names that look alike. Of the numbers 12
+    /// to 15 that one is in an entry before the later of the two, in this, or behind it, or of 12 in a block.
+    pub fn damage_and_alike(&self, number: u32, rng: &mut Rng) -> Option<Mixed> {
+        let mut image = self.image.to_vec();
+        let later = any_alike(self, &mut image, rng)?;
+        // The entries have moved, and nothing else.
+        let moved = Damager::surveyed(&image, self.survey.clone(), self.heads.clone());
+        match number {
+            3..=11 => Some(Mixed { image: moved.damage(number, rng)?, place: Place::Before, answer: number }),
+            12 if rng.percent(30) => moved.head_spoiled(later, rng),
+            12..=15 => moved.entry_spoiled(number, later, rng),
+            _ => {
+                let free = moved.any_free(rng, FIRST_USER)?;
+                let mut image = image.clone();
+                moved.put_anode(&mut image, free, Anode::empty(0));
+                Some(Mixed { image, place: Place::Behind, answer: 17 })
+            }
+        }
+    }
+
+    /// A fault aimed at this number in an entry before the later of two that look alike, in this, or behind it.
+    fn entry_spoiled(&self, number: u32, later: usize, rng: &mut Rng) -> Option<Mixed> {
+        let (place, range) = match rng.below(3) {
+            0 => (Place::Before, 0..later),
+            1 => (Place::There, later..later + 1),
+            _ => (Place::Behind, later + 1..self.entries.len()),
+        };
+        let spoiled = range.start + rng.below(range.len());
+        let entry = *self.entries.get(spoiled).filter(|_| !range.is_empty())?;
+        // An entry before it, for 14, which is a fault of the later one.
+        let known = if number == 14 { rng.pick(&self.entries[..spoiled]) } else { None };
+        let (survey, heads, before) = (self.survey.clone(), self.heads.clone(), self.before.clone());
+        let entries = known.copied().into_iter().chain([entry]).collect();
+        let narrowed = Damager { image: self.image, survey, heads, before, entries, directories: Vec::new() };
+        let mut image = self.image.to_vec();
+        let faults: &[Fault] = entry_faults(number);
+        (0..8).find_map(|_| rng.pick(faults)?(&narrowed, &mut image, rng))?;
+        let first = place == Place::Before || (place == Place::There && number == 12);
+        Some(Mixed { image, place, answer: if first { number } else { 17 } })
+    }
+
+    /// The head of a directory block spoiled: before the later of two entries that look alike if it is its block or one that
+    /// the walk meets before it.
+    fn head_spoiled(&self, later: usize, rng: &mut Rng) -> Option<Mixed> {
+        let blocks: Vec<u16> =
+            self.directories.iter().flat_map(|&head| self.survey.table.chain_blocks(head)).collect();
+        let spoiled = rng.below(blocks.len());
+        let own = blocks.iter().position(|&number| number == self.entries[later].block())?;
+        let mut image = self.image.to_vec();
+        block_mut(&mut image, blocks[spoiled])[[0, 1, DIRECTORY_OWNER, DIRECTORY_OWNER + 1][rng.below(4)]] ^=
+            0x40;
+        let (place, answer) = if spoiled <= own { (Place::Before, 12) } else { (Place::Behind, 17) };
+        Some(Mixed { image, place, answer })
+    }
+
+    /// The image with a name that looks like one of another directory, which the check accepts.
+    pub fn alike_elsewhere(&self, rng: &mut Rng) -> Option<Vec<u8>> {
+        let mut image = self.image.to_vec();
+        alike_elsewhere(self, &mut image, rng).map(|()| image)
+    }
+
+    /// The image with a name that only nearly looks like another of its directory, which the check accepts.
+    pub fn nearly_alike(&self, rng: &mut Rng) -> Option<Vec<u8>> {
+        let mut image = self.image.to_vec();
+        nearly_alike(self, &mut image, rng).map(|()| image)
     }
 
     /// The image with some bytes of the root block, anode blocks and directory blocks changed at random.
@@ -282,6 +384,11 @@ impl<'a> Damager<'a> {
         let head = *rng.pick(&fitting)?;
         let blocks: Vec<u16> = self.survey.table.chain_blocks(head).collect();
         rng.pick(&blocks).map(|&number| usize::from(number) * BLOCK)
+    }
+
+    /// What an entry is called.
+    pub(super) fn name(&self, entry: Named) -> &'a [u8] {
+        &self.image[entry.place + ENTRY_NAME..][..entry.name]
     }
 
     pub(super) fn any_entry(&self, rng: &mut Rng) -> Option<Named> {

@@ -3,8 +3,10 @@
 //!
 //! * `space`: 3 to 11, in the root block, the anode blocks and the anodes.
 //! * `entries`: 12 to 16, in directories and in what their entries name.
+//! * `names`: 17, in what their entries are called.
 
-mod entries;
+pub(super) mod entries;
+pub(super) mod names;
 mod space;
 
 use super::damage::Damager;
@@ -12,12 +14,13 @@ use crate::model::layout::{BLOCK, FEWEST_BLOCKS};
 use crate::rng::Rng;
 
 /// Damages an image, or answers nothing where the disk has nothing to damage in this way.
-type Fault = fn(&Damager, &mut [u8], &mut Rng) -> Option<()>;
+pub(super) type Fault = fn(&Damager, &mut [u8], &mut Rng) -> Option<()>;
 
 /// The faults that are aimed at a number from 3 up; 1 is about the length of the image, 2 about the tables.
 pub(super) fn faults(number: u32) -> &'static [Fault] {
     match number {
         3..=11 => space::faults(number),
+        17 => names::FAULTS,
         _ => entries::faults(number),
     }
 }
@@ -48,11 +51,11 @@ mod tests {
     /// Each fault is possible on some disk, and gives its number wherever it is.
     #[test]
     fn every_fault_gives_its_number() {
-        let mut met: Vec<Vec<usize>> = (3..=16).map(|number| vec![0; faults(number).len()]).collect();
+        let mut met: Vec<Vec<usize>> = (3..=17).map(|number| vec![0; faults(number).len()]).collect();
         for mut case in seeded("every_fault_gives_its_number", 0..400) {
             let image = accepted(300, &mut case.rng);
             let damager = Damager::new(&image).expect("the image is accepted");
-            for (number, met) in (3..=16).zip(&mut met) {
+            for (number, met) in (3..=17).zip(&mut met) {
                 for (place, fault) in faults(number).iter().enumerate() {
                     let mut damaged = image.clone();
                     if fault(&damager, &mut damaged, &mut case.rng).is_some() {
@@ -63,7 +66,7 @@ mod tests {
                 }
             }
         }
-        for (number, met) in (3..=16).zip(met) {
+        for (number, met) in (3..=17).zip(met) {
             assert!(!met.is_empty() && met.iter().all(|&count| count > 0), "{number}: met {met:?} times");
         }
     }

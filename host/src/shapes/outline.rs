@@ -1,6 +1,9 @@
 //! The directories and files of a shaped disk, before they have blocks and anodes.
 
+use std::collections::HashSet;
+
 use super::recipe::Recipe;
+use crate::names::{folded, near, recased};
 use crate::rng::Rng;
 use crate::tree::{entry_length, ENTRY_SPACE};
 
@@ -51,7 +54,8 @@ impl Outline {
             items[rng.below(directories + 1)].push(Item::File(file));
         }
         let extra = directories + files > 0;
-        let blocks = items.into_iter().map(|items| pack(items, recipe, extra, rng)).collect();
+        let mut known = Vec::new();
+        let blocks = items.into_iter().map(|items| pack(items, &mut known, recipe, extra, rng)).collect();
         Outline { parents, blocks, files }
     }
 
@@ -61,18 +65,26 @@ impl Outline {
 }
 
 /// Names the entries of a directory, shuffles them, and packs them into blocks, now and then leaving a block
-/// early or empty.
-fn pack(mut items: Vec<Item>, recipe: &Recipe, extra: bool, rng: &mut Rng) -> Vec<Vec<Draft>> {
+/// early or empty. The names of this directory and those before it become known.
+fn pack(
+    mut items: Vec<Item>,
+    known: &mut Vec<Vec<u8>>,
+    recipe: &Recipe,
+    extra: bool,
+    rng: &mut Rng,
+) -> Vec<Vec<Draft>> {
     rng.shuffle(&mut items);
-    let mut names: Vec<Vec<u8>> = Vec::new();
+    let mut here: HashSet<Vec<u8>> = HashSet::new();
     let mut blocks: Vec<Vec<Draft>> = vec![Vec::new()];
     let mut used = 0;
     for item in items {
-        let name = match rng.pick(&names) {
-            Some(name) if recipe.junk && rng.percent(5) => name.clone(),
-            _ => random_name(recipe.name, rng),
+        let name = loop {
+            let name = telling_name(known, recipe, rng);
+            if here.insert(folded(&name)) {
+                break name;
+            }
         };
-        names.push(name.clone());
+        known.push(name.clone());
         let comment_length = rng.within(0..=recipe.comment);
         let draft = Draft { item, name, comment: rng.bytes(comment_length) };
         if used + draft.length() > ENTRY_SPACE || (recipe.junk && rng.percent(3)) {
@@ -91,12 +103,25 @@ fn pack(mut items: Vec<Item>, recipe: &Recipe, extra: bool, rng: &mut Rng) -> Ve
     blocks
 }
 
+/// A name that looks like a known one, or nearly so, or any.
+fn telling_name(known: &[Vec<u8>], recipe: &Recipe, rng: &mut Rng) -> Vec<u8> {
+    let told = match rng.pick(known) {
+        Some(name) if recipe.junk && rng.percent(10) => Some(recased(name, rng)),
+        Some(name) if recipe.junk && rng.percent(10) => near(name, rng),
+        _ => None,
+    };
+    told.unwrap_or_else(|| random_name(recipe.name, rng))
+}
+
 /// A name of any bytes that a name may have, up to this long.
 fn random_name(longest: usize, rng: &mut Rng) -> Vec<u8> {
     let mut name = vec![0; rng.within(1..=longest)];
     for byte in &mut name {
         while matches!(*byte, 0 | b':' | b'/') {
-            *byte = if rng.percent(80) { b'A' + rng.below(26) as u8 } else { rng.byte() };
+            *byte = match rng.percent(80) {
+                true => [b'A', b'a'][rng.below(2)] + rng.below(26) as u8,
+                false => rng.byte(),
+            };
         }
     }
     name

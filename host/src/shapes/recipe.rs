@@ -119,6 +119,11 @@ impl Recipe {
         }
     }
 
+    /// A disk with next to as many files in its root as there are anodes for, none of which has a block.
+    pub fn many_names(blocks: usize) -> Self {
+        Recipe { directories: 0, files: 3_250, cuts: 0, free_percent: 100, ..Recipe::small_files(blocks) }
+    }
+
     /// A disk in as many pieces as there are anodes for.
     pub fn fragmented(blocks: usize) -> Self {
         Recipe {

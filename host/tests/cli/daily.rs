@@ -171,30 +171,6 @@ fn two_of_a_name_do_not_go_to_one_place() {
     assert_eq!(fs::read_dir(folder.path("here")).expect("it is there").count(), 0);
 }
 
-/// A directory may hold two entries of one name, of which only the first can be reached by it.
-#[test]
-fn an_entry_that_cannot_be_reached_is_told() {
-    let folder = with_tree("hidden");
-    folder.done(&["put", "-r", "disk.adf", "line3"]);
-    let mut image = folder.read("disk.adf");
-    let long = image.windows(4).position(|bytes| bytes == b"long").expect("the name is there");
-    image[long..long + 4].copy_from_slice(b"dupl");
-    folder.write("disk.adf", &image);
-    folder.done(&["put", "disk.adf", "line3/pack7", "--as", "line3/old/DUPL"]);
-    let mut image = folder.read("disk.adf");
-    let other = image.windows(4).position(|bytes| bytes == b"DUPL").expect("the name is there");
-    image[other..other + 4].copy_from_slice(b"dupl");
-    folder.write("disk.adf", &image);
-    folder.done(&["check", "disk.adf"]);
-    let wrong = "pfs: disk.adf: line3/old/dupl: two entries of the directory have this name, and only the first can be reached\n";
-    for words in [&["get", "-r", "disk.adf", "line3", "copy"][..], &["rm", "-r", "disk.adf", "line3"]] {
-        assert_eq!(folder.fails(1, words), wrong);
-    }
-    // The first can be taken away, and then the other is reached.
-    folder.done(&["rm", "disk.adf", "line3/old/dupl"]);
-    assert_eq!(folder.done(&["cat", "disk.adf", "line3/old/dupl"]), "180 C");
-}
-
 /// A disk without a free block can still have its files moved.
 #[test]
 fn a_full_disk_can_be_put_in_order() {

@@ -104,6 +104,12 @@ fn every_number_has_its_place() {
         "\"d/a b\", at byte 16 of block 5: 1025 bytes need 3 blocks, and its chain of anode 8 has 2",
     );
     check(16, &[(4 * 512 + 34, &[0])], "the chain of anode 9 is named by no entry: block 12");
+    for name in ["D", "d"] {
+        let place = format!(
+            "{name}, at byte 34 of block 4, has the name of d, at byte 16 of block 4, capitals counted as small letters"
+        );
+        check(17, &[(4 * 512 + 50, name.as_bytes())], &place);
+    }
 }
 
 #[test]

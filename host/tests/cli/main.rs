@@ -1,5 +1,6 @@
 //! The command line `pfs`, run as a program.
 
+mod alike;
 mod changes;
 mod daily;
 mod faults;

@@ -1,10 +1,12 @@
 //! The linear check against the naive one.
 
+use std::collections::BTreeMap;
+
 use ovenknit_host::compare::{junk_tables, Histogram};
 use ovenknit_host::model::layout::{self, AnodeTable, ANODES, BLOCK};
 use ovenknit_host::model::{self, naive};
 use ovenknit_host::rng::{seeded, Rng};
-use ovenknit_host::shapes::{accepted, formatted, random_bytes, shaped, Damager, Recipe};
+use ovenknit_host::shapes::{accepted, formatted, random_bytes, shaped, Damager, Mixed, Place, Recipe};
 
 /// Runs both checks with the same junk in the tables, compares all that they leave, and answers their number.
 fn compare_checks(image: &[u8], blocks: Vec<u16>, anodes: Vec<u16>) -> u32 {
@@ -32,14 +34,14 @@ pub fn compare_with_junk(image: &[u8], rng: &mut Rng) -> u32 {
 /// Damages an accepted image in all ways; each aimed fault must give its number.
 fn compare_bent(image: &[u8], histogram: &mut Histogram, rng: &mut Rng) {
     let damager = Damager::new(image).expect("the image is accepted");
-    for number in (1..=16).filter(|&number| number != 2) {
+    for number in (1..=17).filter(|&number| number != 2) {
         if let Some(damaged) = damager.damage(number, rng) {
             let answer = compare_with_junk(&damaged, rng);
             assert_eq!(answer, number, "a fault missed its aim");
             histogram.add(answer, "check");
         }
     }
-    for number in 6..=16 {
+    for number in 6..=17 {
         if let Some(damaged) = damager.damage_and_half_clear(number, rng) {
             let answer = compare_with_junk(&damaged, rng);
             assert_eq!(answer, number.min(7), "the first fault was aimed at {number}");
@@ -68,7 +70,44 @@ fn linear_check_equals_naive_check() {
         compare_bent(&image, &mut histogram, rng);
     }
     histogram.print("linear and naive check");
-    histogram.assert_answered(0..=16);
+    histogram.assert_answered(0..=17);
+}
+
+/// Two names of a directory that look alike beside every other fault: which of the two the walk meets first answers. Names
+/// that look alike in two directories, or only nearly, are no fault.
+#[test]
+fn names_that_look_alike_beside_other_faults() {
+    let mut met: BTreeMap<(u32, Place, u32), usize> = BTreeMap::new();
+    let mut accepted_names = [0; 2];
+    for mut case in seeded("names_that_look_alike_beside_other_faults", 0..1_000) {
+        let rng = &mut case.rng;
+        let image = accepted(600, rng);
+        let damager = Damager::new(&image).expect("the image is accepted");
+        for number in (3..=16).flat_map(|number| vec![number; if number < 12 { 1 } else { 4 }]) {
+            if let Some(Mixed { image, place, answer }) = damager.damage_and_alike(number, rng) {
+                assert_eq!(compare_with_junk(&image, rng), answer, "{number}, {place:?}");
+                *met.entry((number, place, answer)).or_default() += 1;
+            }
+        }
+        for (made, met) in
+            [damager.alike_elsewhere(rng), damager.nearly_alike(rng)].iter().zip(&mut accepted_names)
+        {
+            if let Some(image) = made {
+                assert_eq!(compare_with_junk(image, rng), 0);
+                *met += 1;
+            }
+        }
+    }
+    println!("alike in two directories and nearly alike: {accepted_names:?}");
+    for ((number, place, answer), count) in &met {
+        println!("{count:5} {number} {place:?}: {answer}");
+    }
+    let mut cases: Vec<(u32, Place, u32)> = (3..=15).map(|number| (number, Place::Before, number)).collect();
+    cases.extend([12, 13, 14, 15].map(|number| (number, Place::There, if number == 12 { 12 } else { 17 })));
+    cases.extend([12, 13, 14, 15, 16].map(|number| (number, Place::Behind, 17)));
+    cases.sort();
+    assert_eq!(met.keys().copied().collect::<Vec<_>>(), cases, "these were met, and no others");
+    assert!(accepted_names.iter().all(|&count| count > 0));
 }
 
 #[test]

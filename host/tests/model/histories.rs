@@ -4,7 +4,7 @@ use ovenknit_host::bitmap::{self, BITMAP_BLOCK};
 use ovenknit_host::calls::{run, tables, Call, Outcome, Output, DIRECTORY, TOTALS, UNCOUNTED, UNREAD};
 use ovenknit_host::compare::{junk_tables, totals, Histogram};
 use ovenknit_host::histories::{head_of, random_call, Trend, NO_ANODE, REFUSALS};
-use ovenknit_host::met::{given_back, Met};
+use ovenknit_host::met::{given_back, Met, NamesMet};
 use ovenknit_host::model::layout::{self, Anode, AnodeTable, BLOCK};
 use ovenknit_host::model::naive::giving;
 use ovenknit_host::model::{self, Model};
@@ -22,12 +22,14 @@ struct History {
     rng: Rng,
     answers: Histogram,
     met: Met,
+    names: NamesMet,
 }
 
 impl History {
     fn new(disk: Shaped, seed: u64) -> Self {
         let Shaped { image, tree } = disk;
-        History { image, tree, rng: Rng::new(!seed), answers: Histogram::default(), met: Met::default() }
+        let (answers, met, names) = (Histogram::default(), Met::default(), NamesMet::default());
+        History { image, tree, rng: Rng::new(!seed), answers, met, names }
     }
 
     fn blocks(&self) -> usize {
@@ -46,6 +48,7 @@ impl History {
             trend = trend.next(&mut self.rng);
             let call = random_call(&self.image, &self.tree, trend, free, &mut self.rng);
             self.met.note(&self.image, &self.tree, &call);
+            self.names.note(&self.tree, &call);
             self.call(&call);
             free = self.free_blocks();
         }
@@ -346,32 +349,37 @@ fn compare_refused_report(before: &[u64; TOTALS], outcome: &Outcome) {
     assert_eq!((outcome.output.totals, outcome.output.disk), (totals, disk));
 }
 
-/// Runs histories from one kind of disk and gathers their answers, and what their shrinks and removals met.
-fn histories(start: Start, seeds: u64, calls: usize) -> (Histogram, Met) {
-    let (mut answers, mut met) = (Histogram::default(), Met::default());
+/// Runs histories from one kind of disk and gathers their answers, what their shrinks and removals met, and what names.
+fn histories(start: Start, seeds: u64, calls: usize) -> (Histogram, Met, NamesMet) {
+    let (mut answers, mut met, mut names) = (Histogram::default(), Met::default(), NamesMet::default());
     for mut case in seeded("histories", 0..seeds) {
         let mut history = History::new(start.disk(&mut case.rng), case.seed);
         history.go_on(calls);
         history.read_everything();
         answers.merge(&history.answers);
         met.merge(&history.met);
+        names.merge(&history.names);
     }
     answers.print(&format!("histories, {start:?}"));
-    (answers, met)
+    (answers, met, names)
 }
 
 #[test]
 fn histories_from_formatted_disks() {
-    let (answers, _) = histories(Start::Formatted, 80, 600);
+    let (answers, _, names) = histories(Start::Formatted, 80, 600);
     answers.assert_met(&REFUSALS);
     answers.assert_answered([28]);
+    names.print("histories from formatted disks");
+    names.assert_all_met();
 }
 
 #[test]
 fn histories_from_shaped_disks() {
-    let (answers, _) = histories(Start::Shaped, 250, 150);
+    let (answers, _, names) = histories(Start::Shaped, 250, 150);
     answers.assert_met(&REFUSALS);
     answers.assert_met(&[(28, "make"), (28, "resize")]);
+    names.print("histories from shaped disks");
+    names.assert_all_met();
 }
 
 /// A removal is refused with 28 only where an upper part needs an anode (02, No. 3), which is rare here.
@@ -383,7 +391,7 @@ fn histories_with_full_anode_tables() {
 /// Every way that a run can go back (02, No. 3).
 #[test]
 fn histories_with_few_anodes() {
-    let (answers, met) = histories(Start::FewAnodes, 3_000, 40);
+    let (answers, met, _) = histories(Start::FewAnodes, 3_000, 40);
     answers.assert_met(&NO_ANODE);
     met.print("histories with few anodes");
     met.assert_all_met();

@@ -6,8 +6,10 @@ use ovenknit_host::calls::ROOT;
 use ovenknit_host::disk::{Disk, Kind};
 use ovenknit_host::model::layout::{self, Anode, AnodeTable, ANODES};
 use ovenknit_host::model::{self, Model};
+use ovenknit_host::names::{first_alike, folded, is_near};
 use ovenknit_host::rng::{seeded, Rng};
 use ovenknit_host::shapes::{disk_blocks, grown_in_turn, shaped, Recipe, Shaped, LONG_FILE};
+use ovenknit_host::tree::Directory;
 
 /// A count of what a few hundred shapes have.
 #[test]
@@ -34,11 +36,19 @@ fn shapes_have_what_format_never_makes() {
             anode.count > 0 && anode.block <= last_reserved && anode.end() > usize::from(last_reserved) + 1
         };
         let used: Vec<usize> = (0..42).filter(|&slot| slots[slot] != 0).collect();
-        let duplicates = tree.directories.values().any(|directory| {
-            let mut names: Vec<_> = directory.nodes().map(|node| &node.entry.name).collect();
-            names.sort();
-            names.windows(2).any(|pair| pair[0] == pair[1])
-        });
+        let names = |directory: &Directory| {
+            directory.nodes().map(|node| node.entry.name.clone()).collect::<Vec<Vec<u8>>>()
+        };
+        let by_directory: Vec<Vec<Vec<u8>>> = tree.directories.values().map(names).collect();
+        for names in &by_directory {
+            assert_eq!(first_alike(names.iter().map(Vec::as_slice)), None, "names of a directory are apart");
+        }
+        let mut all = by_directory.concat();
+        all.sort_by_key(|name| (folded(name), name.clone()));
+        let alike = all.windows(2).any(|pair| pair[0] != pair[1] && folded(&pair[0]) == folded(&pair[1]));
+        let nearly = by_directory
+            .iter()
+            .any(|names| names.iter().any(|one| names.iter().any(|other| is_near(one, other))));
         note("empty anode in the upper free list", list[..two].iter().any(empty));
         note("empty anode 2", empty(&list[two]));
         note("empty anode in the lower free list", list[two + 1..].iter().any(empty));
@@ -64,7 +74,8 @@ fn shapes_have_what_format_never_makes() {
                 head != ROOT && directory.nodes().any(|node| node.entry.kind == Kind::Directory)
             }),
         );
-        note("duplicate name", duplicates);
+        note("name that is alike in another directory", alike);
+        note("names of a directory that are nearly alike", nearly);
         note("no free anode", table.existing().all(|number| number < 6 || table[number].in_use()));
         note("no free block", list.iter().all(empty));
     }
@@ -81,6 +92,9 @@ fn the_disks_of_the_bench_are_what_they_say() {
     let image = shaped(&Recipe::small_files(65_535), rng).image;
     assert_eq!(model::summary(&image, &mut blocks, &mut anodes, &mut fields), 0);
     assert_eq!(fields, [65_535, 0, 3_000, 121]);
+    let Shaped { image, tree } = shaped(&Recipe::many_names(65_535), rng);
+    assert_eq!(model::summary(&image, &mut blocks, &mut anodes, &mut fields), 0);
+    assert_eq!((fields[2], fields[3], tree.directories[&ROOT].nodes().count()), (3_250, 1, 3_250));
     let image = shaped(&Recipe::fragmented(65_535), rng).image;
     assert_eq!(model::summary(&image, &mut blocks, &mut anodes, &mut fields), 0);
     assert!(anodes[1..].iter().all(|&head| head != 0), "an anode is free");

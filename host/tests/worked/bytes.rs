@@ -58,7 +58,7 @@ fn refusals_come_in_table_order<L: Library>() {
     assert_eq!(disk.make(99, FILE, b"d"), 21);
     assert_eq!(disk.make(8, FILE, b"d"), 21, "a file's head is no directory");
     assert_eq!(disk.make(ROOT, FILE, b"d"), 23);
-    assert_eq!(disk.make(ROOT, FILE, b"D"), 0, "names match byte for byte");
+    assert_eq!(disk.make(ROOT, FILE, b"D"), 23, "names match after folding");
     assert_eq!(disk.read(b"d", 9, 9).0, 24);
     assert_eq!(disk.resize(b"d", u64::MAX), 24);
     assert_eq!(disk.remove(ROOT, b"d"), 25);
@@ -107,9 +107,9 @@ fn an_emptied_directory_block_stays_and_is_used_again<L: Library>() {
     assert!(disk.block(5)[16..].iter().all(|&byte| byte == 0));
     // There is room in the first block again, so that is where the next one goes.
     assert_eq!(disk.remove(ROOT, b"A"), 0);
-    assert_eq!(disk.make(ROOT, FILE, b"z"), 0);
+    assert_eq!(disk.make(ROOT, FILE, b"1"), 0);
     assert_eq!(disk.list(ROOT, 26).1[7], 4 * 512 + 16 + 26 * 18 + 16);
-    assert_eq!(disk.make(ROOT, FILE, b"y"), 0);
+    assert_eq!(disk.make(ROOT, FILE, b"2"), 0);
     assert_eq!(disk.list(ROOT, 27).1[7], 5 * 512 + 32);
 }
 

@@ -1,5 +1,5 @@
-//! Find and label, by hand: names in the second block of a directory, the first of two, and names that no entry can have;
-//! the fields of the root block.
+//! Find and label, by hand: names in the second block of a directory, and names that no entry can have; the fields of the
+//! root block.
 
 use ovenknit_host::calls::{Call, Library, Outcome, DIRECTORY, FILE, ROOT};
 
@@ -27,7 +27,7 @@ fn what_is_found_is_what_is_listed<L: Library>() {
 fn what_is_not_there_is_not_found<L: Library>() {
     let mut disk = Disk::<L>::format(20, 9, 1);
     assert_eq!((disk.make(ROOT, FILE, b"f"), disk.make(ROOT, DIRECTORY, b"d")), (0, 0));
-    for name in [&b"F"[..], b"", b"ff", b"f\0", b"a:b", &[b'x'; 300]] {
+    for name in [&b"g"[..], b"", b"ff", b"f\0", b"a:b", &[b'x'; 300]] {
         assert_eq!(find(&mut disk, ROOT, name), (22, [0; 11]), "{name:?}");
     }
     // 7 is the file, 8 the directory, and no other number is one.
@@ -35,16 +35,6 @@ fn what_is_not_there_is_not_found<L: Library>() {
     for directory in [0, 1, 2, 6, 7, 9, 3_443, 65_535] {
         assert_eq!(find(&mut disk, directory, b"f"), (21, [0; 11]), "{directory}");
     }
-}
-
-fn the_first_of_two_is_found<L: Library>() {
-    let mut disk = Disk::<L>::format(20, 9, 1);
-    assert_eq!((disk.make(ROOT, FILE, b"ab"), disk.make(ROOT, FILE, b"ac")), (0, 0));
-    let second = disk.list(ROOT, 1).1[7] as usize;
-    disk.image[second + 1] = b'b';
-    assert_eq!(find(&mut disk, ROOT, b"ab"), disk.list(ROOT, 0));
-    assert_eq!(disk.remove(ROOT, b"ab"), 0);
-    assert_eq!(find(&mut disk, ROOT, b"ab"), disk.list(ROOT, 0));
 }
 
 fn the_label_is_the_root_blocks<L: Library>() {
@@ -63,9 +53,4 @@ fn the_label_is_the_root_blocks<L: Library>() {
     assert_eq!(label(&mut disk), (4, [0; 7]));
 }
 
-both!(
-    what_is_found_is_what_is_listed,
-    what_is_not_there_is_not_found,
-    the_first_of_two_is_found,
-    the_label_is_the_root_blocks,
-);
+both!(what_is_found_is_what_is_listed, what_is_not_there_is_not_found, the_label_is_the_root_blocks,);

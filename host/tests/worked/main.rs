@@ -21,6 +21,7 @@ macro_rules! both {
     };
 }
 
+mod alike;
 mod bytes;
 mod disk;
 mod half_cleared;

@@ -173,24 +173,24 @@ fn make_with_a_full_parent<L: Library>() {
     // No block for the parent.
     let mut disk = Disk::<L>::format(5, 4, 1);
     full(&mut disk);
-    assert_eq!(disk.make(ROOT, FILE, b"x"), 27);
+    assert_eq!(disk.make(ROOT, FILE, b"1"), 27);
     // One block: the new directory has it, the parent none.
     let mut disk = Disk::<L>::format(6, 5, 1);
     full(&mut disk);
-    assert_eq!(disk.make(ROOT, DIRECTORY, b"x"), 27);
-    assert_eq!(disk.make(ROOT, FILE, b"x"), 0);
+    assert_eq!(disk.make(ROOT, DIRECTORY, b"1"), 27);
+    assert_eq!(disk.make(ROOT, FILE, b"1"), 0);
     // Blocks enough, but one anode only: the parent's block has none.
     let mut disk = Disk::<L>::format(20, 9, 1);
     full(&mut disk);
     disk.use_up_anodes(&[50]);
-    assert_eq!(disk.make(ROOT, FILE, b"x"), 28);
-    assert_eq!(disk.make(ROOT, DIRECTORY, b"x"), 28);
+    assert_eq!(disk.make(ROOT, FILE, b"1"), 28);
+    assert_eq!(disk.make(ROOT, DIRECTORY, b"1"), 28);
     // The parent's block empties an anode, which it gets; the head was chosen before.
     let mut disk = Disk::<L>::format(20, 9, 1);
     full(&mut disk);
     disk.set(&[(2, (0, 65_535, 40)), (40, (1, 5, 41)), (41, (4, 6, 0))]);
     disk.use_up_anodes(&[50]);
-    assert_eq!(disk.make(ROOT, FILE, b"x"), 0);
+    assert_eq!(disk.make(ROOT, FILE, b"1"), 0);
     assert_eq!((disk.anode(50), disk.anode(40), disk.anode(5)), ((0, 65_535, 0), (1, 5, 0), (1, 4, 40)));
     assert_eq!(disk.anode(2), (0, 65_535, 41));
 }

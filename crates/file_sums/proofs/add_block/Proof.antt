@@ -2,6 +2,7 @@ use Rattle.file_sums.proofs.Laws.{sums-none, sums-found, within-none, w
 use Prim.Native.Nat.{ℕ, _+_, _-_, _*_, _≤_}
 use mathlib.Core.Path.{_≡_, refl, sym, _∙_}
 use native.Mathlib.Omega.{arith}
+use Rattle.directory.specs.Entries.{nameIn}
 use Rattle.rules.specs.Walk.{withRest, entriesFrom, entriesIn}
 use Rattle.laws.specs.Entries.{entries-none, block-whole, entries-read, Unbroken}
 use Rattle.lookup.proofs.Laws.{unbroken-no-fault, unbroken-rest}
@@ -19,7 +20,7 @@ abbrev μ-loop : tie.MeasureT-loop
 -- what is left in the loop, by what is read there
 read : (c : tie.After-read-entry Inv-loop μ-loop) → let l = c .before .before .loop in
     let block = c .before .before .before .block-part .result .now in
-    (y : ℕ) → entriesFrom (l .fuel) block y (l .at) ≡ withRest (c .read-entry .result .walked) (y * 512 + l .at) (entriesFrom (l .fuel - 1) block y (c .read-entry .result .after))
+    (y : ℕ) → entriesFrom (l .fuel) block y (l .at) ≡ withRest (c .read-entry .result .walked) (nameIn block (l .at)) (y * 512 + l .at) (entriesFrom (l .fuel - 1) block y (c .read-entry .result .after))
 read c y = entries-read _ _ _ (c .read-entry .ensures) y (c .before .before .loop .fuel) (c .before .before .loop .fuel - 1) (omega arith)
 
 -- what is left comes to what the whole block comes to
@@ -49,7 +50,7 @@ enum-told-2 : tie.Need-enum-told-2 Inv-loop μ-loop
 enum-told-2 c = search needs
 
 returns-2 : tie.Need-returns-2 Inv-loop μ-loop
-returns-2 c = absurd (unbroken-no-fault _ _ _ _ (c .enum-told2 .given .1) (rw (read (c .before .before)) at (c .before .before .before .before .loop .inv .2 .1)))
+returns-2 c = absurd (unbroken-no-fault _ _ _ _ _ (c .enum-told2 .given .1) (rw (read (c .before .before)) at (c .before .before .before .before .loop .inv .2 .1)))
 
 add-entry-requires : tie.Need-add-entry-requires Inv-loop μ-loop
 add-entry-requires c κs = fit-within _ _ (28 - c .before .before .before .before .before .loop .fuel) 28 1 (omega arith) (c .before .before .before .before .before .before .before .before .before .pre .1) (c .before .before .before .before .before .loop .inv .1)
@@ -67,8 +68,8 @@ loop-again c =
     let step = read (c .before .before .before .before) in (
       search needs,
       within-join _ _ _ (28 - l .fuel) 1 _ (omega arith) (l .inv .1) (c .add-entry .ensures .1),
-      (l .inv .2 .0, unbroken-rest _ _ _ _ (f .1) (rw step at (l .inv .2 .1))),
-      λ y. sums-found _ _ _ _ _ _ _ (f .1) (c .add-entry .ensures .0 _) ∙ (rw step at (l .inv .3 y)),
+      (l .inv .2 .0, unbroken-rest _ _ _ _ _ (f .1) (rw step at (l .inv .2 .1))),
+      λ y. sums-found _ _ _ _ _ _ _ _ (f .1) (c .add-entry .ensures .0 _ _) ∙ (rw step at (l .inv .3 y)),
     )
 
 returns-3 : tie.Need-returns-3 Inv-loop μ-loop

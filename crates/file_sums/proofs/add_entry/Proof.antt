@@ -23,10 +23,10 @@ enum-told-2 : tie.Need-enum-told-2
 enum-told-2 c = search needs
 
 returns : tie.Need-returns
-returns c = (λ start. entry-file _ (c .before .before .before .before .before .before .before .args .e) start _ (c .before .before .before .before .enum-told .given .1) _ _ (c .before .before .before .file-bytes .ensures) (c .before .one-if-many .ensures .0), within-file _ _ _ (omega (arith, c .before .before .before .file-bytes .ensures)) (c .before .one-if-many .ensures .1))
+returns c = (λ name start. entry-file _ (c .before .before .before .before .before .before .before .args .e) name start _ (c .before .before .before .before .enum-told .given .1) _ _ (c .before .before .before .file-bytes .ensures) (c .before .one-if-many .ensures .0), within-file _ _ _ (omega (arith, c .before .before .before .file-bytes .ensures)) (c .before .one-if-many .ensures .1))
 
 returns-2 : tie.Need-returns-2
-returns-2 c = (λ start. entry-directory _ (c .before .before .before .args .e) start _ (c .enum-told2 .given .1), within-wider _ _ 0 1 (omega arith) (within-none _))
+returns-2 c = (λ name start. entry-directory _ (c .before .before .before .args .e) name start _ (c .enum-told2 .given .1), within-wider _ _ 0 1 (omega arith) (within-none _))
 
 pub add-entry-spec : {M : Type 1} → statement M
 add-entry-spec =

@@ -10,8 +10,8 @@ use Rattle.find.proofs.find_removable.Statement.{statement}
 use Rattle.find.proofs.find_removable.Tie as tie
 
 -- the test of 25
-nonempty-as : (c : tie.After-is-nonempty-dir) → let i = c .before .before .before .before .before .before .before .before .before .before .before .args .image .now in notEmptyDir i (anodesOf i) (some (entered (c .before .before .found .given .0 .0))) ≡ c .is-nonempty-dir .result
-nonempty-as c = nonempty-by (c .before .before .before .before .before .before .before .before .before .before .before .pre .2) (entered (c .before .before .found .given .0 .0)) _ (c .is-nonempty-dir .ensures)
+nonempty-as : (c : tie.After-is-nonempty-dir) → let i = c .before .before .before .before .before .before .before .before .before .before .before .args .image .now in notEmptyDir i (anodesOf i) (some (entered i (c .before .before .found .given .0 .0))) ≡ c .is-nonempty-dir .result
+nonempty-as c = nonempty-by (c .before .before .before .before .before .before .before .before .before .before .before .pre .2) (entered (c .before .before .before .before .before .before .before .before .before .before .before .args .image .now) (c .before .before .found .given .0 .0)) _ (c .is-nonempty-dir .ensures)
 
 find-named-requires : tie.Need-find-named-requires
 find-named-requires c κs = search needs

@@ -13,7 +13,7 @@ use Rattle.lookup.proofs.entry_named.Tie as tie
 abbrev Inv-loop : tie.InvT-loop
 Inv-loop image firsts nexts name at₀ fuel₀ at fuel =
     Unbroken (entriesAlong image firsts nexts fuel at)
-    × (firstNamed image name (entriesAlong image firsts nexts fuel at) ≡ firstNamed image name (entriesAlong image firsts nexts fuel₀ at₀))
+    × (firstNamed name (entriesAlong image firsts nexts fuel at) ≡ firstNamed name (entriesAlong image firsts nexts fuel₀ at₀))
 
 abbrev μ-loop : tie.MeasureT-loop
 μ-loop image firsts nexts name at₀ fuel₀ at fuel = fuel
@@ -28,7 +28,7 @@ returns : tie.Need-returns Inv-loop μ-loop
 unfolding entriesAlong
 returns c =
     let l = c .before .before .loop in
-    λ counts. sym (named-none _ _ _ (gathered-end _ _ (l .fuel) _ (c .if1 .taken))) ∙ l .inv .1 ∙ sym (named-whole _ _ _ counts _ _)
+    λ counts. sym (named-none _ _ (gathered-end _ _ (l .fuel) _ (c .if1 .taken))) ∙ l .inv .1 ∙ sym (named-whole _ _ _ counts _ _)
 
 entry-requires : tie.Need-entry-requires Inv-loop μ-loop
 entry-requires c κs = search needs
@@ -74,7 +74,7 @@ returns-3 : tie.Need-returns-3 Inv-loop μ-loop
 unfolding entriesAlong
 returns-3 c =
     let l = c .before .loop in
-    λ counts. sym (named-none _ _ _ (gathered-none _ _ (l .fuel) _ (omega arith))) ∙ l .inv .1 ∙ sym (named-whole _ _ _ counts _ _)
+    λ counts. sym (named-none _ _ (gathered-none _ _ (l .fuel) _ (omega arith))) ∙ l .inv .1 ∙ sym (named-whole _ _ _ counts _ _)
 
 pub entry-named-spec : {M : Type 1} → statement M
 entry-named-spec =

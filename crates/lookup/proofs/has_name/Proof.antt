@@ -18,8 +18,8 @@ add-part c = search needs
 part-requires : tie.Need-part-requires
 part-requires c κs = search needs
 
-same-bytes-requires : tie.Need-same-bytes-requires
-same-bytes-requires c κs = search needs
+same-folded-requires : tie.Need-same-folded-requires
+same-folded-requires c κs = search needs
 
 returns : tie.Need-returns
 unfolding nameIn nameLength
@@ -28,4 +28,4 @@ returns c = cc
 pub has-name-spec : {M : Type 1} → statement M
 has-name-spec =
     tie.close
-    (tie.spec add-read8 read8-requires cast-len add-part part-requires same-bytes-requires returns)
+    (tie.spec add-read8 read8-requires cast-len add-part part-requires same-folded-requires returns)

@@ -1,11 +1,12 @@
 use mathlib.Core.Path.{_≡_, sym, _∙_}
 use Prim.Native.Nat.{_+_, _-_, _*_}
 use native.Mathlib.Omega.{arith}
+use Rattle.directory.specs.Entries.{nameIn}
 use Rattle.rules.specs.Walk.{withRest, entriesFrom, entriesIn}
 use Rattle.rules.specs.Lookup.{firstNamed}
 use Rattle.lookup.specs.Answers.{entryOf, orElse}
 use Rattle.laws.specs.Entries.{entries-none, block-whole, entries-read, read-within, Unbroken}
-use Rattle.lookup.proofs.Laws.{unbroken-no-fault, unbroken-rest, named-passed, named-ended}
+use Rattle.lookup.proofs.Laws.{unbroken-no-fault, unbroken-rest, name-at, named-passed, named-ended}
 use borrow.Author.Needs.{needs}
 use Rattle.lookup.proofs.named_in.Statement.{statement}
 use Rattle.lookup.proofs.named_in.Tie as tie
@@ -13,7 +14,7 @@ use Rattle.lookup.proofs.named_in.Tie as tie
 abbrev Inv-loop : tie.InvT-loop
 Inv-loop image b name block found₀ at₀ fuel₀ found at fuel =
     Unbroken (entriesFrom fuel block (b .0) at)
-    × (orElse (entryOf found) (firstNamed image name (entriesFrom fuel block (b .0) at)) ≡ firstNamed image name (entriesIn image (b .0)))
+    × (orElse (entryOf image found) (firstNamed name (entriesFrom fuel block (b .0) at)) ≡ firstNamed name (entriesIn image (b .0)))
 
 abbrev μ-loop : tie.MeasureT-loop
 μ-loop image b name block found₀ at₀ fuel₀ found at fuel = fuel
@@ -21,7 +22,7 @@ abbrev μ-loop : tie.MeasureT-loop
 -- what is left in the loop, by what is read there
 read : (c : tie.After-read-entry Inv-loop μ-loop) → let l = c .before .before .loop in let y = c .before .before .before .before .before .before .args .b .0 in
     let block = c .before .before .before .block-part .result .now in
-    entriesFrom (l .fuel) block y (l .at) ≡ withRest (c .read-entry .result .walked) (y * 512 + l .at) (entriesFrom (l .fuel - 1) block y (c .read-entry .result .after))
+    entriesFrom (l .fuel) block y (l .at) ≡ withRest (c .read-entry .result .walked) (nameIn block (l .at)) (y * 512 + l .at) (entriesFrom (l .fuel - 1) block y (c .read-entry .result .after))
 read c = entries-read _ _ _ (c .read-entry .ensures) _ (c .before .before .loop .fuel) (c .before .before .loop .fuel - 1) (omega arith)
 
 block-part-requires : tie.Need-block-part-requires Inv-loop μ-loop
@@ -44,13 +45,13 @@ enum-told c = search needs
 returns : tie.Need-returns Inv-loop μ-loop
 returns c =
     let l = c .before .before .before .before .loop in
-    sym (named-ended _ _ _ (entryOf (l .found)) (read (c .before .before) ∙ rw (c .enum-told .given .1))) ∙ l .inv .1
+    sym (named-ended _ _ (entryOf _ (l .found)) (read (c .before .before) ∙ rw (c .enum-told .given .1))) ∙ l .inv .1
 
 enum-told-2 : tie.Need-enum-told-2 Inv-loop μ-loop
 enum-told-2 c = search needs
 
 returns-2 : tie.Need-returns-2 Inv-loop μ-loop
-returns-2 c = absurd (unbroken-no-fault _ _ _ _ (c .enum-told2 .given .1) (rw (read (c .before .before)) at (c .before .before .before .before .loop .inv .0)))
+returns-2 c = absurd (unbroken-no-fault _ _ _ _ _ (c .enum-told2 .given .1) (rw (read (c .before .before)) at (c .before .before .before .before .loop .inv .0)))
 
 named-at-requires : tie.Need-named-at-requires Inv-loop μ-loop
 named-at-requires c κs = omega (arith, read-within _ _ _ (c .before .before .before .read-entry .ensures) _ (c .before .walked .given .1))
@@ -69,15 +70,15 @@ loop-again c =
     let l = c .before .before .before .before .before .before .before .loop in
     let f = c .before .before .before .walked .given in
     let step = read (c .before .before .before .before .before) in (
-      unbroken-rest _ _ _ _ (f .1) (rw step at (l .inv .0)),
-      rw (c .first-of .ensures, c .before .named-at .ensures)
-          (named-passed _ _ _ _ _ (f .0 .0) (c .before .before .before .before .before .before .before .before .block-part .ensures) (read-within _ _ _ (c .before .before .before .before .before .read-entry .ensures) _ (f .1)) _ (entryOf (l .found)) ∙ (rw (step, f .1) at (l .inv .1))),
+      unbroken-rest _ _ _ _ _ (f .1) (rw step at (l .inv .0)),
+      rw (c .first-of .ensures _, c .before .named-at .ensures _ (name-at _ _ _ _ (c .before .before .before .before .before .before .before .before .block-part .ensures) (read-within _ _ _ (c .before .before .before .before .before .read-entry .ensures) _ (f .1))))
+          (named-passed _ _ _ (entryOf _ (l .found)) ∙ (rw (step, f .1) at (l .inv .1))),
     )
 
 returns-3 : tie.Need-returns-3 Inv-loop μ-loop
 returns-3 c =
     let l = c .before .loop in
-    sym (named-ended _ _ _ (entryOf (l .found)) (entries-none _ _ (l .fuel) _ (omega arith))) ∙ l .inv .1
+    sym (named-ended _ _ (entryOf _ (l .found)) (entries-none _ _ (l .fuel) _ (omega arith))) ∙ l .inv .1
 
 pub named-in-spec : {M : Type 1} → statement M
 named-in-spec =

@@ -2,10 +2,11 @@ use mathlib.Core.Path.{_≡_, sym, _∙_}
 use mathlib.Core.List.{List, _++_}
 use Prim.Native.Nat.{_+_, _-_, _*_}
 use native.Mathlib.Omega.{arith}
+use Rattle.directory.specs.Entries.{nameIn}
 use Rattle.rules.specs.Walk.{Entered, withRest, entriesFrom, entriesIn}
 use Rattle.rules.specs.Lookup.{nth}
 use Rattle.laws.specs.Entries.{entries-none, block-whole, entries-read, read-within, Unbroken}
-use Rattle.lookup.proofs.Laws.{unbroken-no-fault, unbroken-rest, nth-none, nth-here, nth-behind}
+use Rattle.lookup.proofs.Laws.{unbroken-no-fault, unbroken-rest, name-at, nth-none, nth-here, nth-behind}
 use borrow.Author.Needs.{needs}
 use Rattle.lookup.proofs.nth_in.Statement.{statement}
 use Rattle.lookup.proofs.nth_in.Tie as tie
@@ -21,7 +22,7 @@ abbrev μ-loop : tie.MeasureT-loop
 -- what is left in the loop, by what is read there
 read : (c : tie.After-read-entry Inv-loop μ-loop) → let l = c .before .before .loop in let y = c .before .before .before .before .before .args .b .0 in
     let block = c .before .before .before .block-part .result .now in
-    entriesFrom (l .fuel) block y (l .at) ≡ withRest (c .read-entry .result .walked) (y * 512 + l .at) (entriesFrom (l .fuel - 1) block y (c .read-entry .result .after))
+    entriesFrom (l .fuel) block y (l .at) ≡ withRest (c .read-entry .result .walked) (nameIn block (l .at)) (y * 512 + l .at) (entriesFrom (l .fuel - 1) block y (c .read-entry .result .after))
 read c = entries-read _ _ _ (c .read-entry .ensures) _ (c .before .before .loop .fuel) (c .before .before .loop .fuel - 1) (omega arith)
 
 block-part-requires : tie.Need-block-part-requires Inv-loop μ-loop
@@ -50,7 +51,7 @@ enum-told-2 : tie.Need-enum-told-2 Inv-loop μ-loop
 enum-told-2 c = search needs
 
 returns-2 : tie.Need-returns-2 Inv-loop μ-loop
-returns-2 c = absurd (unbroken-no-fault _ _ _ _ (c .enum-told2 .given .1) (rw (read (c .before .before)) at (c .before .before .before .before .loop .inv .0)))
+returns-2 c = absurd (unbroken-no-fault _ _ _ _ _ (c .enum-told2 .given .1) (rw (read (c .before .before)) at (c .before .before .before .before .loop .inv .0)))
 
 entry-in-image-requires : tie.Need-entry-in-image-requires Inv-loop μ-loop
 entry-in-image-requires c κs = omega (arith, read-within _ _ _ (c .before .before .before .before .read-entry .ensures) _ (c .before .before .walked .given .1))
@@ -59,7 +60,7 @@ returns-3 : tie.Need-returns-3 Inv-loop μ-loop
 returns-3 c =
     let l = c .before .before .before .before .before .before .before .loop in
     let f = c .before .before .before .walked .given in
-    λ rest. rw (c .entry-in-image .ensures) (sym (nth-here _ _ _ (c .before .if1 .taken)) ∙ (rw (read (c .before .before .before .before .before), f .1) at (l .inv .1 rest)))
+    λ rest. rw (c .entry-in-image .ensures, name-at _ _ _ _ (c .before .before .before .before .before .before .before .before .block-part .ensures) (read-within _ _ _ (c .before .before .before .before .before .read-entry .ensures) _ (f .1))) (sym (nth-here _ _ _ (c .before .if1 .taken)) ∙ (rw (read (c .before .before .before .before .before), f .1) at (l .inv .1 rest)))
 
 sub-left : tie.Need-sub-left Inv-loop μ-loop
 sub-left c = search needs
@@ -75,7 +76,7 @@ loop-again c =
     let l = c .before .before .before .before .before .before .loop in
     let f = c .before .before .walked .given in
     let step = read (c .before .before .before .before) in (
-      unbroken-rest _ _ _ _ (f .1) (rw step at (l .inv .0)),
+      unbroken-rest _ _ _ _ _ (f .1) (rw step at (l .inv .0)),
       λ rest. sym (nth-behind _ _ _ (l .left - 1) (omega arith)) ∙ (rw (step, f .1) at (l .inv .1 rest)),
     )
 

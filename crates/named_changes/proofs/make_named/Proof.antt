@@ -88,7 +88,7 @@ returns-4 c =
     let o = r .before .before .before .before .before .before .before .before .before .before .before .before .before .before .before .before .before .before .pre .0 in
     let a = r .before .before .before .before .before .before .before .before .before .before .before .before .before .before .before .before .before .before .args in
     rw (c .number4 .ensures) (leaves-unmade _ _ _ 23 (omega arith) (make-there _ _ _ _ _ _ (wrong-as (r .before .before .before) ∙ r .before .before .if1 .left) _ (reached-as r ∙ c .before .before .before .before .before .if2 .left)
-    (search-is _ _ _ (by-image o (λ (s : Anodes). entryNamed (a .image .now) s (a .head .0) (a .name .now)) _ (c .before .before .before .entry-named .ensures)) (c .before .enum-told2 .given .1))) _ _)
+    (search-is _ _ _ _ (by-image o (λ (s : Anodes). entryNamed (a .image .now) s (a .head .0) (a .name .now)) _ (c .before .before .before .entry-named .ensures)) (c .before .enum-told2 .given .1))) _ _)
 
 enum-told-3 : tie.Need-enum-told-3
 enum-told-3 c = search needs
@@ -119,7 +119,7 @@ returns-5 c =
     let o = r .before .before .before .before .before .before .before .before .before .before .before .before .before .before .before .before .before .before .pre .0 in
     let a = r .before .before .before .before .before .before .before .before .before .before .before .before .before .before .before .before .before .before .args in
     leaves-made _ _ _ _ (make-fine _ _ _ _ _ _ (wrong-as (r .before .before .before) ∙ r .before .before .if1 .left) (reached-as r ∙ c .before .before .before .before .before .before .before .before .before .before .before .before .before .before .before .if2 .left)
-    (search-is _ _ _ (by-image o (λ (s : Anodes). entryNamed (a .image .now) s (a .head .0) (a .name .now)) _ (c .before .before .before .before .before .before .before .before .before .before .before .before .before .entry-named .ensures)) (c .before .before .before .before .before .before .before .before .before .before .before .enum-told3 .given .1)))
+    (search-is _ _ _ _ (by-image o (λ (s : Anodes). entryNamed (a .image .now) s (a .head .0) (a .name .now)) _ (c .before .before .before .before .before .before .before .before .before .before .before .before .before .entry-named .ensures)) (c .before .before .before .before .before .before .before .before .before .before .before .enum-told3 .given .1)))
     _ (ap (λ (d : Bool). newEntry d (a .name .now) (a .comment .now) (a .day) (a .minute) (a .tick) (a .protection)) (made-kind _ _ (read-as (r .before .before .before .before .before))))
     _ _ _ _ _ _ (c .before .before .before .before .before .before .make-entry .ensures)
 

@@ -33,7 +33,7 @@ write-along-requires : tie.Need-write-along-requires
 write-along-requires c κs =
     let f = rw (c .before .before .found .given .1) at (c .before .before .before .before .find-span .ensures) in
     let l = c .before .before .before .before .before .before .before .before .before .before .before .before .before .before .pre .1 .loaded in
-    rw (l .is-loaded) (chain-inside l (entered (c .before .before .found .given .0 .0)) (_, span-found _ _ _ _ _ (f .1) _ _ (f .0) .0, named-member _ _ _ _ _ (f .1)))
+    rw (l .is-loaded) (chain-inside l (entered (c .before .before .before .before .before .before .before .before .before .before .before .before .before .before .args .image .now) (c .before .before .found .given .0 .0)) (_, span-found _ _ _ _ _ (f .1) _ _ (f .0) .0, named-member _ _ _ _ _ (f .1)))
 
 same-length-2 : tie.Need-same-length-2
 same-length-2 c = search needs
@@ -43,7 +43,7 @@ returns-2 c =
     let f = rw (c .before .before .before .before .before .found .given .1) at (c .before .before .before .before .before .before .before .find-span .ensures) in
     let a = c .before .before .before .before .before .before .before .before .before .before .before .before .before .before .before .before .before .args in
     let l = c .before .before .before .before .before .before .before .before .before .before .before .before .before .before .before .before .before .pre .1 .loaded in
-    let e = entered (c .before .before .before .before .before .found .given .0 .0) in
+    let e = entered (a .image .now) (c .before .before .before .before .before .found .given .0 .0) in
     let d = span-found _ _ _ _ _ (f .1) _ _ (f .0) in
     let is = c .before .before .write-along .ensures e refl ∙ ap (λ (s : Anodes). written (a .image .now) s e (a .offset) (a .bytes .now)) (l .is-loaded) in
     λ b h. leaves-named _ _ _ _ _ (f .0) (f .1) _ _ _ _ _ _ (leaves-written l e (_, d .0, named-member _ _ _ _ _ (f .1)) (d .1) _ _ _ is b h)

@@ -10,7 +10,7 @@ use Rattle.reading.proofs.list_nth.Statement.{statement}
 use Rattle.reading.proofs.list_nth.Tie as tie
 
 -- the entry that was found stands in a reached directory
-standing : (c : tie.After-found) → let g = c .before .before .before .before .before .before .before .before .args in EntryIn (g .image .now) (g .head .0) (entered (c .found .given .0 .0))
+standing : (c : tie.After-found) → let g = c .before .before .before .before .before .before .before .before .args in EntryIn (g .image .now) (g .head .0) (entered (g .image .now) (c .found .given .0 .0))
 standing c =
     let f = rw (c .found .given .1) at (c .before .before .find-nth .ensures) in
     open-entry (c .before .before .before .before .before .before .before .before .pre .2) _ (list-reached _ _ _ _ (f .0)) _ (nth-member _ _ _ (f .1))

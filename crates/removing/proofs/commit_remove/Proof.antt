@@ -17,13 +17,13 @@ store-anodes-requires c κs = search needs
 take-out-requires : tie.Need-take-out-requires
 take-out-requires c κs =
     let g = c .before .before .before .before .before .before .before .before .before .before .before .before .before .before .before .before .before .before in
-    rw (c .before .before .before .store-anodes .ensures) (stands (g .pre .0 .0) (entered (g .args .e)) (g .pre .0 .1) _ _ (g .pre .1 .1 .1))
+    rw (c .before .before .before .store-anodes .ensures) (stands (g .pre .0 .0) (entered (g .args .image .now) (g .args .e)) (g .pre .0 .1) _ _ (g .pre .1 .1 .1))
 
 show-heads-requires : tie.Need-show-heads-requires
 unfolding anodesFrom
 show-heads-requires c κs =
     let g = c .before .before .before .before .before .before .before .before .before .before .before .before .before .before .before .before .before .before .before .before .before .before in
-    (g .pre .1 .0 .0, g .pre .1 .0 .1, removed-links (g .pre .0 .0) (entered (g .args .e)) (g .pre .0 .1) _ _ (g .pre .1 .1 .1))
+    (g .pre .1 .0 .0, g .pre .1 .0 .1, removed-links (g .pre .0 .0) (entered (g .args .image .now) (g .args .e)) (g .pre .0 .1) _ _ (g .pre .1 .1 .1))
 
 same-length : tie.Need-same-length
 same-length c = search needs
@@ -39,7 +39,7 @@ unfolding removedImage
 returns c =
     let g = c .before .before .before .before .before .before .before .before .before .before .before .before .before .before .before .before .before .before .before .before .before .before .before .before .before in
     rw (c .before .before .before .before .before .before .take-out .ensures, c .before .before .before .before .before .before .before .before .before .before .store-anodes .ensures, c .before .before .before .before .before .before .before .before .before .before .before .before .before .before .set-behind .ensures, c .before .before .show-heads .ensures (g .args .new-counts .now), g .pre .0 .0 .is-loaded)
-    (done-leaves (g .pre .0 .0) (entered (g .args .e)) (g .pre .0 .1) _ _ (g .pre .1 .1 .1) _ _)
+    (done-leaves (g .pre .0 .0) (entered (g .args .image .now) (g .args .e)) (g .pre .0 .1) _ _ (g .pre .1 .1 .1) _ _)
 
 pub commit-remove-spec : {M : Type 1} → statement M
 commit-remove-spec =

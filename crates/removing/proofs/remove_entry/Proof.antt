@@ -21,7 +21,7 @@ given-as : (c : tie.After-give-all) →
 given-as c =
     let s = c .before .before .before .before .before .before .before .before .before .before .before .before .before .before .before .before .before .before .before in
     let slots = c .before .before .before .before .before .before .before .slots-of in
-    let made = gives-made (s .pre .0 .0) (entered (s .args .e)) (s .pre .0 .1) _ _ _ (c .before .before .before .before .before .before .before .before .before .before .before .copied .ensures) (c .before .before .before .before .before .before .before .before .before .before .copied2 .ensures) (c .before .before .before .before .before .before .before .before .before .copied3 .ensures) (slots .result) (slots .ensures) _ (c .before .before .before .before .last-reserved .ensures) in
+    let made = gives-made (s .pre .0 .0) (entered (s .args .image .now) (s .args .e)) (s .pre .0 .1) _ _ _ (c .before .before .before .before .before .before .before .before .before .before .before .copied .ensures) (c .before .before .before .before .before .before .before .before .before .before .copied2 .ensures) (c .before .before .before .before .before .before .before .before .before .copied3 .ensures) (slots .result) (slots .ensures) _ (c .before .before .before .before .last-reserved .ensures) in
     rw (made, slots .ensures) at (c .give-all .ensures)
 
 chain-sum-requires : tie.Need-chain-sum-requires
@@ -60,7 +60,7 @@ slice-aggregate-give-all-4 c = search needs
 give-all-requires : tie.Need-give-all-requires
 give-all-requires c κs =
     let g = c .before .before .before .before .before .before .before .before .before .before .before .before .before .before .before .before .before .before in
-    let w = plan-ready (g .pre .0 .0) (entered (g .args .e)) (g .pre .0 .1) _ _ _ (c .before .before .before .before .before .before .before .before .before .before .copied .ensures) (c .before .before .before .before .before .before .before .before .before .copied2 .ensures) (c .before .before .before .before .before .before .before .before .copied3 .ensures) (c .before .before .before .before .before .before .slots-of .result) (c .before .before .before .before .before .before .slots-of .ensures) _ (c .before .before .before .before .before .before .before .before .before .before .before .chain-sum .ensures) in
+    let w = plan-ready (g .pre .0 .0) (entered (g .args .image .now) (g .args .e)) (g .pre .0 .1) _ _ _ (c .before .before .before .before .before .before .before .before .before .before .copied .ensures) (c .before .before .before .before .before .before .before .before .before .copied2 .ensures) (c .before .before .before .before .before .before .before .before .copied3 .ensures) (c .before .before .before .before .before .before .slots-of .result) (c .before .before .before .before .before .before .slots-of .ensures) _ (c .before .before .before .before .before .before .before .before .before .before .before .chain-sum .ensures) in
     let t = g .pre .0 .0 .tables in
     ((ap length (c .before .before .before .before .before .before .before .before .before .before .copied .ensures) ∙ t .0, ap length (c .before .before .before .before .before .before .before .before .before .copied2 .ensures) ∙ t .1, ap length (c .before .before .before .before .before .before .before .before .copied3 .ensures) ∙ t .2), (rw (c .before .before .before .last-reserved .ensures) (w .0), w .1))
 
@@ -81,7 +81,7 @@ returns c =
     let l = c .before .before .before .before .before .before in
     let s = c .before .before .before .before .before .before .before .before .before .before .before .before .before .before .before .before .before .before .before .before .before .before .before .before .before in
     let told = c .before .enum-told2 .given in
-    rw (c .moves-number .ensures ∙ ap movesNumber (told .1)) (refused-leaves (s .pre .0 .0) (entered (s .args .e)) (s .pre .0 .1) _ (rw (told .1) at (given-as l)) _ _)
+    rw (c .moves-number .ensures ∙ ap movesNumber (told .1)) (refused-leaves (s .pre .0 .0) (entered (s .args .image .now) (s .args .e)) (s .pre .0 .1) _ (rw (told .1) at (given-as l)) _ _)
 
 slice-aggregate-commit-remove : tie.Need-slice-aggregate-commit-remove
 slice-aggregate-commit-remove c = search needs

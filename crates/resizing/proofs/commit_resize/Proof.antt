@@ -20,7 +20,7 @@ zero-behind-requires : tie.Need-zero-behind-requires
 unfolding anodesFrom
 zero-behind-requires c κs =
     let s = c .before .before .before .before .before .before .before .before .before .before .before .before .before .before .before .before in
-    extents-fit _ (loaded-size (s .pre .0 .0)) (resized-good (s .pre .0 .0) (entered (s .args .e)) (s .pre .0 .1) (s .args .size) (s .pre .1 .0 .0) _ _ (s .pre .1 .1 .0 .1))
+    extents-fit _ (loaded-size (s .pre .0 .0)) (resized-good (s .pre .0 .0) (entered (s .args .image .now) (s .args .e)) (s .pre .0 .1) (s .args .size) (s .pre .1 .0 .0) _ _ (s .pre .1 .1 .0 .1))
 
 zero-tail-requires : tie.Need-zero-tail-requires
 unfolding anodesFrom
@@ -29,7 +29,7 @@ zero-tail-requires c κs = let l = c .before .before .before .before .before .be
 cast-put-size : tie.Need-cast-put-size
 cast-put-size c =
     let s = c .before .before .before .before .before .before .before .before .before .before .before .before .before .before .before .before .before .before .before .before in
-    record { fits = size-fits (s .pre .0 .0) (entered (s .args .e)) (s .pre .0 .1) (s .args .size) (s .pre .1 .0 .0) _ _ (s .pre .1 .1 .0 .1) }
+    record { fits = size-fits (s .pre .0 .0) (entered (s .args .image .now) (s .args .e)) (s .pre .0 .1) (s .args .size) (s .pre .1 .0 .0) _ _ (s .pre .1 .1 .0 .1) }
 
 put-size-requires : tie.Need-put-size-requires
 put-size-requires c κs = search needs
@@ -38,7 +38,7 @@ set-behind-requires : tie.Need-set-behind-requires
 unfolding anodesFrom
 set-behind-requires c κs =
     let s = c .before .before .before .before .before .before .before .before .before .before .before .before .before .before .before .before .before .before .before .before .before .before .before .before .before .before in
-    extents-fit _ (loaded-size (s .pre .0 .0)) (resized-good (s .pre .0 .0) (entered (s .args .e)) (s .pre .0 .1) (s .args .size) (s .pre .1 .0 .0) _ _ (s .pre .1 .1 .0 .1))
+    extents-fit _ (loaded-size (s .pre .0 .0)) (resized-good (s .pre .0 .0) (entered (s .args .image .now) (s .args .e)) (s .pre .0 .1) (s .args .size) (s .pre .1 .0 .0) _ _ (s .pre .1 .1 .0 .1))
 
 set-behind-requires-2 : tie.Need-set-behind-requires-2
 unfolding anodesFrom
@@ -48,7 +48,7 @@ show-heads-requires : tie.Need-show-heads-requires
 unfolding anodesFrom
 show-heads-requires c κs =
     let s = c .before .before .before .before .before .before .before .before .before .before .before .before .before .before .before .before .before .before .before .before .before .before .before .before .before .before in
-    (s .pre .1 .0 .1, s .pre .1 .0 .2, resized-good (s .pre .0 .0) (entered (s .args .e)) (s .pre .0 .1) (s .args .size) (s .pre .1 .0 .0) _ _ (s .pre .1 .1 .0 .1) .linked)
+    (s .pre .1 .0 .1, s .pre .1 .0 .2, resized-good (s .pre .0 .0) (entered (s .args .image .now) (s .args .e)) (s .pre .0 .1) (s .args .size) (s .pre .1 .0 .0) _ _ (s .pre .1 .1 .0 .1) .linked)
 
 same-length : tie.Need-same-length
 same-length c =
@@ -67,7 +67,7 @@ returns c =
     let s = c .before .before .before .before .before .before .before .before .before .before .before .before .before .before .before .before .before .before .before .before .before .before .before .before .before .before .before .before .before in
     let a = s .args in
     let pre = s .pre in
-    let e = entered (a .e) in
+    let e = entered (a .image .now) (a .e) in
     let stored = c .before .before .before .before .before .before .before .before .before .before .before .before .before .before .before .before .before .before .store-anodes in
     let zeroed : c .before .before .before .before .before .before .before .before .before .before .before .before .before .before .if1 .image ≡ zeroTaken (stored .last .0) e (a .size) (pre .1 .1 .0 .0) =
     ⊎-elim (λ w. w .5 ∙ w .2 .ensures ∙ rw (pre .1 .1 .1 .0, grown-blocks (pre .0 .0) e (pre .0 .1) (a .size) (pre .1 .0 .0) _ _ (pre .1 .1 .0 .1) (w .0 .taken)) (zeroed-some _ _ _ _ (w .0 .taken))) (λ w. w .1 ∙ zeroed-none _ _ _ _ (w .0 .left)) (c .before .before .before .before .before .before .before .before .before .before .before .before .before .before .if1 .came) in

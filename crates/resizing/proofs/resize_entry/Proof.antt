@@ -21,7 +21,7 @@ planned-as : (c : tie.After-plan-resize) →
 planned-as c =
     let s = c .before .before .before .before .before .before .before .before .before .before .before .before .before .before .before .before .before .before .before .before in
     let slots = c .before .before .before .before .before .before .before .slots-of in
-    let made = plan-made (s .pre .0 .0) (entered (s .args .e)) (s .pre .0 .1) (s .args .size) _ _ _ (c .before .before .before .before .before .before .before .before .before .before .before .copied .ensures) (c .before .before .before .before .before .before .before .before .before .before .copied2 .ensures) (c .before .before .before .before .before .before .before .before .before .copied3 .ensures) (slots .result) (slots .ensures) _ (c .before .before .before .before .before .before .before .before .before .before .before .before .blocks-for .ensures) _ (c .before .before .before .before .last-reserved .ensures) in
+    let made = plan-made (s .pre .0 .0) (entered (s .args .image .now) (s .args .e)) (s .pre .0 .1) (s .args .size) _ _ _ (c .before .before .before .before .before .before .before .before .before .before .before .copied .ensures) (c .before .before .before .before .before .before .before .before .before .before .copied2 .ensures) (c .before .before .before .before .before .before .before .before .before .copied3 .ensures) (slots .result) (slots .ensures) _ (c .before .before .before .before .before .before .before .before .before .before .before .before .blocks-for .ensures) _ (c .before .before .before .before .last-reserved .ensures) in
     rw (made, slots .ensures) at (c .plan-resize .ensures)
 
 chain-sum-requires : tie.Need-chain-sum-requires
@@ -64,7 +64,7 @@ plan-resize-requires : tie.Need-plan-resize-requires
 plan-resize-requires c κs =
     let s = c .before .before .before .before .before .before .before .before .before .before .before .before .before .before .before .before .before .before .before in
     let slots = c .before .before .before .before .before .before .slots-of in
-    let w = plan-ready (s .pre .0 .0) (entered (s .args .e)) (s .pre .0 .1) _ _ _ (c .before .before .before .before .before .before .before .before .before .before .copied .ensures) (c .before .before .before .before .before .before .before .before .before .copied2 .ensures) (c .before .before .before .before .before .before .before .before .copied3 .ensures) (slots .result) (slots .ensures) _ (c .before .before .before .before .before .before .before .before .before .before .before .before .chain-sum .ensures) in
+    let w = plan-ready (s .pre .0 .0) (entered (s .args .image .now) (s .args .e)) (s .pre .0 .1) _ _ _ (c .before .before .before .before .before .before .before .before .before .before .copied .ensures) (c .before .before .before .before .before .before .before .before .before .copied2 .ensures) (c .before .before .before .before .before .before .before .before .copied3 .ensures) (slots .result) (slots .ensures) _ (c .before .before .before .before .before .before .before .before .before .before .before .before .chain-sum .ensures) in
     let t = s .pre .0 .0 .tables in
     ((ap length (c .before .before .before .before .before .before .before .before .before .before .copied .ensures) ∙ t .0, ap length (c .before .before .before .before .before .before .before .before .before .copied2 .ensures) ∙ t .1, ap length (c .before .before .before .before .before .before .before .before .copied3 .ensures) ∙ t .2), (rw (c .before .before .before .last-reserved .ensures) (w .0), w .1))
 
@@ -84,7 +84,7 @@ returns : tie.Need-returns
 returns c =
     let s = c .before .before .before .before .before .before .before .before .before .before .before .before .before .before .before .before .before .before .before .before .before .before .before .before .before .before in
     let told = c .before .enum-told2 .given in
-    rw (c .moves-number .ensures ∙ ap movesNumber (told .1)) (refused-leaves (s .pre .0 .0) (entered (s .args .e)) (s .pre .0 .1) (s .args .size) _ (rw (told .1) at (planned-as (c .before .before .before .before .before .before))) _ _)
+    rw (c .moves-number .ensures ∙ ap movesNumber (told .1)) (refused-leaves (s .pre .0 .0) (entered (s .args .image .now) (s .args .e)) (s .pre .0 .1) (s .args .size) _ (rw (told .1) at (planned-as (c .before .before .before .before .before .before))) _ _)
 
 slice-aggregate-commit-resize : tie.Need-slice-aggregate-commit-resize
 slice-aggregate-commit-resize c = search needs

@@ -40,7 +40,7 @@ head-at-requires : tie.Need-head-at-requires
 head-at-requires c κs = search needs
 
 returns : tie.Need-returns
-returns c = λ start. (sym (enter-no-head _ _ _ _ (c .before .before .before .before .before .before .before .before .before .before .args .e) start _ _ _ (sym (c .before .head-at .ensures) ∙ not-true _ (c .if1 .taken))), search needs)
+returns c = λ name start. (sym (enter-no-head _ _ _ _ (c .before .before .before .before .before .before .before .before .before .before .args .e) name start _ _ _ (sym (c .before .head-at .ensures) ∙ not-true _ (c .if1 .taken))), search needs)
 
 entry-requires : tie.Need-entry-requires
 entry-requires c κs = search needs
@@ -49,7 +49,7 @@ same-length : tie.Need-same-length
 same-length c = search needs
 
 returns-2 : tie.Need-returns-2
-returns-2 c = λ start. (sym (enter-twice _ _ _ _ (c .before .before .before .before .before .before .before .before .before .before .before .before .before .args .e) start _ _ _ (a-head (c .before .before .before)) (λ z. c .if2 .taken (c .before .entry .ensures ∙ z))), search needs)
+returns-2 c = λ name start. (sym (enter-twice _ _ _ _ (c .before .before .before .before .before .before .before .before .before .before .before .before .before .args .e) name start _ _ _ (a-head (c .before .before .before)) (λ z. c .if2 .taken (c .before .entry .ensures ∙ z))), search needs)
 
 enum-told : tie.Need-enum-told
 enum-told c = search needs
@@ -70,7 +70,7 @@ same-length-2 : tie.Need-same-length-2
 same-length-2 c = search needs
 
 returns-3 : tie.Need-returns-3
-returns-3 c = λ start. (sym (enter-size _ _ _ _ (c .before .before .before .before .before .before .before .before .before .before .before .before .before .before .before .before .before .before .before .args .e) start _ _ _ (a-head (c .before .before .before .before .before .before .before .before .before)) (unmarked (c .before .before .before .before .before .before)) (c .before .before .before .before .enum-told .given .1) (λ z. c .if3 .taken (c .before .before .before .chain-sum .ensures ∙ z ∙ sym (c .before .blocks-for .ensures)))), search needs)
+returns-3 c = λ name start. (sym (enter-size _ _ _ _ (c .before .before .before .before .before .before .before .before .before .before .before .before .before .before .before .before .before .before .before .args .e) name start _ _ _ (a-head (c .before .before .before .before .before .before .before .before .before)) (unmarked (c .before .before .before .before .before .before)) (c .before .before .before .before .enum-told .given .1) (λ z. c .if3 .taken (c .before .before .before .chain-sum .ensures ∙ z ∙ sym (c .before .blocks-for .ensures)))), search needs)
 
 set-entry-requires : tie.Need-set-entry-requires
 set-entry-requires c κs = search needs
@@ -100,7 +100,7 @@ returns-4 : tie.Need-returns-4
 returns-4 c =
     let size = sym (c .before .before .before .before .before .before .before .before .chain-sum .ensures) ∙ c .before .before .before .before .before .if3 .left ∙ c .before .before .before .before .before .before .blocks-for .ensures in
     rw (c .with-file .ensures, c .before .before .before .set-entry .ensures)
-    (λ start. (sym (enter-file _ _ _ _ (c .before .before .before .before .before .before .before .before .before .before .before .before .before .before .before .before .before .before .before .before .before .before .before .before .args .e) start _ _ _ (a-head (c .before .before .before .before .before .before .before .before .before .before .before .before .before .before)) (unmarked (c .before .before .before .before .before .before .before .before .before .before .before)) (c .before .before .before .before .before .before .before .before .before .enum-told .given .1) size), omega (arith, room (c .before .before .before .before .before .before .before .before .before .before .before) .1)))
+    (λ name start. (sym (enter-file _ _ _ _ (c .before .before .before .before .before .before .before .before .before .before .before .before .before .before .before .before .before .before .before .before .before .before .before .before .args .e) name start _ _ _ (a-head (c .before .before .before .before .before .before .before .before .before .before .before .before .before .before)) (unmarked (c .before .before .before .before .before .before .before .before .before .before .before)) (c .before .before .before .before .before .before .before .before .before .enum-told .given .1) size), omega (arith, room (c .before .before .before .before .before .before .before .before .before .before .before) .1)))
 
 same-length-4 : tie.Need-same-length-4
 same-length-4 c = search needs
@@ -118,7 +118,7 @@ returns-5 c =
     let r = room (c .before .before .before .before .before .before .before .before .before .before .before .before .before .before .before) in
     let push = queue-push (x .queue .now) (x .parents .now) (x .t .last) (x .e .anode .0) (x .head .0) (omega (arith, r .0, s .pre .1)) (omega (arith, r .0, s .pre .2)) in
     rw (c .with-directory .ensures, c .before .before .before .before .before .before .before .before .before .before .before .set-entry2 .ensures, c .before .before .before .before .before .before .before .set-entry3 .ensures, c .before .before .before .set-entry4 .ensures)
-    (λ start. (rw push (sym (enter-dir _ _ _ _ (x .e) start _ _ _ (a-head (c .before .before .before .before .before .before .before .before .before .before .before .before .before .before .before .before .before .before)) (unmarked (c .before .before .before .before .before .before .before .before .before .before .before .before .before .before .before)) (c .before .before .before .before .before .before .before .before .before .before .before .before .before .enum-told2 .given .1))), omega (arith, r .1)))
+    (λ name start. (rw push (sym (enter-dir _ _ _ _ (x .e) name start _ _ _ (a-head (c .before .before .before .before .before .before .before .before .before .before .before .before .before .before .before .before .before .before)) (unmarked (c .before .before .before .before .before .before .before .before .before .before .before .before .before .before .before)) (c .before .before .before .before .before .before .before .before .before .before .before .before .before .enum-told2 .given .1))), omega (arith, r .1)))
 
 pub enter-spec : {M : Type 1} → statement M
 enter-spec =

@@ -31,6 +31,15 @@ pub(super) fn faults(number: u32) -> &'static [Fault] {
     }
 }
 
+/// Those of the numbers 12 to 15 that are in an entry itself.
+pub(in crate::shapes) fn entry_faults(number: u32) -> &'static [Fault] {
+    match number {
+        12 => &[entry_type, name_length, name_byte, entry_length_byte, comment_length],
+        13..=15 => faults(number),
+        _ => &[],
+    }
+}
+
 // 12: directories and entries.
 
 fn empty_in_directory(damager: &Damager, image: &mut [u8], rng: &mut Rng) -> Option<()> {

@@ -1,0 +1,2 @@
+-- Laws of folded names.
+pub mod Laws

@@ -1,0 +1,2 @@
+-- The index of names that the walk keeps.
+pub mod Index
