@@ -1,4 +1,2 @@
--- Laws of the definitions of `specs/`.
-pub mod Laws
-pub mod Matching
+-- Laws of the walk's answer.
 pub mod Rules

@@ -6,7 +6,8 @@ use lib.ListN.{length, getD, take, drop}
 use Rattle.anodes.specs.Loaded.{anodesFrom}
 use Rattle.rules.specs.Walk.{dirMade}
 use Rattle.tree.specs.Steps.{itemIn, itemsWith, runFrom, queueOf, entering, progress, tallyMade, WalkRoom, numberIn, Numbered}
-use Rattle.tree.proofs.Laws.{SameLengths, same-lengths, marked-most, run-end, run-stop, run-step}
+use Rattle.walk_steps.proofs.Tallies.{SameLengths, same-lengths}
+use Rattle.walk_steps.proofs.Laws.{marked-most, run-end, run-stop, run-step}
 use borrow.Author.Needs.{needs}
 use Rattle.tree.proofs.walk_queue.Statement.{statement}
 use Rattle.tree.proofs.walk_queue.Tie as tie

@@ -3,7 +3,8 @@ use mathlib.Core.Bool.{true, false}
 use lib.ListN.{length, length-set}
 use Rattle.anodes.specs.Loaded.{anodesFrom}
 use Rattle.names.proofs.Laws.{indexed-none}
-use Rattle.tree.proofs.Rules.{Says, start-fits, answered}
+use Rattle.walk_steps.proofs.Rules.{start-fits, answered}
+use Rattle.tree.proofs.Rules.{Says, says}
 use borrow.Author.Needs.{needs}
 use Rattle.tree.proofs.walk_tree.Statement.{statement}
 use Rattle.tree.proofs.walk_tree.Tie as tie
@@ -13,7 +14,7 @@ said : (c : tie.After-walk-queue) → let g = c .before .before .before .before 
 said c =
     let s = c .before .before .before .before .before .before .before .before .before .before .before .before in
     let w = c .walk-queue in
-    answered _ _ _ _ _ (s .pre .0 .1 .1) (s .pre .0 .0) (s .args .queue .now) (s .args .parents .now) (s .pre .1 .0) (s .pre .1 .1) (w .result) (w .last .1 .1 .1 .1 .1 .0) (w .last .1 .1 .1 .1 .1 .1 .0) (w .last .1 .1 .1 .1 .1 .1 .1 .0) (w .ensures)
+    says _ _ _ (w .result) (w .last .1 .1 .1 .1 .1 .0) (w .last .1 .1 .1 .1 .1 .1 .0) (w .last .1 .1 .1 .1 .1 .1 .1 .0) (answered _ _ _ _ _ (s .pre .0 .1 .1) (s .pre .0 .0) (s .args .queue .now) (s .args .parents .now) (s .pre .1 .0) (s .pre .1 .1) _ (w .ensures))
 
 -- both lent tables keep their lengths
 lengths : (c : tie.After-walk-queue) → let g = c .before .before .before .before .before .before .before .before .before .before .before .before .args in let w = c .walk-queue in (length (w .last .1 .1 .1 .1 .1 .1 .0) ≡ length (g .queue .now)) × (length (w .last .1 .1 .1 .1 .1 .1 .1 .0) ≡ length (g .parents .now))

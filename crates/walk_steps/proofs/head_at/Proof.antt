@@ -1,8 +1,8 @@
 use borrow.Author.Tests.{le-ltb, lt-ltb, le-leb, lt-leb}
-use Rattle.tree.specs.Steps.{headAt}
+use Rattle.walk_steps.specs.Steps.{headAt}
 use borrow.Author.Needs.{needs}
-use Rattle.tree.proofs.head_at.Statement.{statement}
-use Rattle.tree.proofs.head_at.Tie as tie
+use Rattle.walk_steps.proofs.head_at.Statement.{statement}
+use Rattle.walk_steps.proofs.head_at.Tie as tie
 
 cast-i : tie.Need-cast-i
 cast-i c = search needs

@@ -5,8 +5,8 @@ use borrow.Author.Tests.{eq-eqb, ne-eqb}
 use Rattle.directory.specs.Entries.{directoryMark}
 use Rattle.rules.specs.Walk.{isBlockOf, dirMade}
 use borrow.Author.Needs.{needs}
-use Rattle.tree.proofs.is_block_of.Statement.{statement}
-use Rattle.tree.proofs.is_block_of.Tie as tie
+use Rattle.walk_steps.proofs.is_block_of.Statement.{statement}
+use Rattle.walk_steps.proofs.is_block_of.Tie as tie
 
 block-part-requires : tie.Need-block-part-requires
 block-part-requires c κs = search needs

@@ -1,7 +1,7 @@
 use Rattle.rules.specs.Walk.{blocksFor}
 use borrow.Author.Needs.{needs}
-use Rattle.tree.proofs.blocks_for.Statement.{statement}
-use Rattle.tree.proofs.blocks_for.Tie as tie
+use Rattle.walk_steps.proofs.blocks_for.Statement.{statement}
+use Rattle.walk_steps.proofs.blocks_for.Tie as tie
 
 add-result : tie.Need-add-result
 add-result c = search needs

@@ -17,7 +17,7 @@ use Rattle.laws.specs.Sums.{oneAt-same, oneAt-other}
 use Rattle.laws.specs.Bags.{list-append, occurrences-cons}
 use Rattle.laws.specs.Each.{Each}
 use Rattle.laws.specs.Walks.{scan-next, scan-stops}
-use Rattle.tree.specs.Steps.{Progress, stopped, going, enterItem, enterAll, Run, halted, ended, afterDir, runFrom}
+use Rattle.walk_steps.specs.Steps.{Progress, stopped, going, enterItem, enterAll, Run, halted, ended, afterDir, runFrom}
 
 -- ---- counts over a list of items
 

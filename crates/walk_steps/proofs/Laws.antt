@@ -1,5 +1,5 @@
--- Laws of the definitions of `specs/`. Assumes nothing.
-use Prim.Native.Nat.{ℕ, zero, suc, _+_, _-_, _<_, _≤_}
+-- Laws of the walk's steps. Assumes nothing.
+use Prim.Native.Nat.{ℕ, zero, suc, _+_, _<_, _≤_}
 use mathlib.Core.Path.{_≡_, refl, sym, ap, _∙_}
 use mathlib.Core.Bool.{Bool, true, false, cond, false≢true}
 use mathlib.Core.List.{List, [], _∷_, _++_, map}
@@ -23,9 +23,7 @@ use Rattle.rules.specs.Walk.{Dir, Entered, Item, withRest, entriesIn, isBlockOf
 use Rattle.laws.specs.Apart.{seenAfter, twins-append}
 use Rattle.laws.specs.Entries.{enteredAt}
 use Rattle.laws.specs.Chains.{chain-none, chain-step, gathered-step, chain-end}
-use Rattle.names.specs.Index.{seenIn, Indexed}
-use Rattle.tree.specs.declared.Tally.{Tally}
-use Rattle.tree.specs.Steps.{sumFrom, headAt, itemIn, Progress, stopped, going, refuse, enterItem, onward, enterAll, itemsFrom, itemsAlong, halted, ended, afterDir, runFrom, dirsFrom, queueOf, marked, Fits, WalkRoom, numberIn, seenBy, Numbered}
+use Rattle.walk_steps.specs.Steps.{sumFrom, headAt, itemIn, Progress, stopped, going, refuse, enterItem, onward, enterAll, itemsFrom, itemsAlong, halted, ended, afterDir, runFrom, dirsFrom, queueOf, marked}
 
 -- ---- the sum along a chain
 
@@ -77,17 +75,6 @@ marked-room heads marks a n h e whole fits =
     let most = marked-most (set marks a 1) in
     let same = length-set marks a 1 in
     (omega arith, omega arith)
-
--- the three tables are as long as they were
-pub record SameLengths (marks queue parents marks₀ queue₀ parents₀ : List ℕ) : Type 0 where
-  pub of-marks : length marks ≡ length marks₀
-  pub of-queue : length queue ≡ length queue₀
-  pub of-parents : length parents ≡ length parents₀
-
--- as tables that suffice are
-pub same-lengths : {marks queue parents marks₀ queue₀ parents₀ : List ℕ} (t u : Tally) → WalkRoom t marks queue parents → WalkRoom u marks₀ queue₀ parents₀
-    → SameLengths marks queue parents marks₀ queue₀ parents₀
-same-lengths t u r s = record { of-marks = r .0 ∙ sym (s .0); of-queue = r .1 ∙ sym (s .1); of-parents = r .2 ∙ sym (s .2) }
 
 -- ---- the queue
 
@@ -274,7 +261,7 @@ seen-none seen is e = rw e
 -- ---- the numbers of the entries
 
 -- one entry more was met
-abbrev Grown : ℕ → ℕ → Progress → Type 0
+abbrev pub Grown : ℕ → ℕ → Progress → Type 0
 Grown last files (stopped n) = Unit {0}
 Grown last files (going queue marks f) = (length queue + f ≡ last + files + 1) × (last ≤ length queue)
 
@@ -286,37 +273,10 @@ cases-grown zero true (suc l) dir queue x marks files = tt
 cases-grown zero true zero false queue x marks files = (omega arith, omega arith)
 cases-grown zero true zero true queue x marks files = let l = length-append queue (x ∷ []) in (omega (arith, l), omega (arith, l))
 
-module _ (head : ℕ) (i : Item) (queue parents marks : List ℕ) (t : Tally) (queue′ parents′ marks′ : List ℕ) (u : Tally) where
-  -- so the next number is the one after this
-  pub number-more : going (queueOf queue′ parents′ (u .last)) marks′ (u .files) ≡ enterItem head i (queueOf queue parents (t .last)) marks (t .files)
-      → (u .last + u .files ≡ t .last + t .files + 1) × (t .last ≤ u .last)
-  unfolding enterItem
-  number-more e =
-      let g = cases-grown (i .early) (eqb (getD marks (i .anode) 0) 0) (i .late) (i .dir) (queueOf queue parents (t .last)) (dirMade (i .anode) head) (set marks (i .anode) 1) (t .files) in
-      let h : Grown (length (queueOf queue parents (t .last))) (t .files) (going (queueOf queue′ parents′ (u .last)) marks′ (u .files)) = rw (← e) at g in
-      let p = length-queue queue parents (t .last) in
-      let q = length-queue queue′ parents′ (u .last) in
-      (omega (arith, h .0, p, q), omega (arith, h .1, p, q))
-
-module _ (img index index′ : List ℕ) (from : ℕ) (name : List ℕ) (t u : Tally) (next : (u .last + u .files ≡ t .last + t .files + 1) × (t .last ≤ u .last)) (old : Numbered img index from t) where
-  number-next : numberIn u ≡ numberIn t + 1
-  number-next = omega (arith, next .0, old .1)
-
-  -- the index with the name of that entry
-  pub numbered-more : Indexed img index′ (numberIn t + 1) → Numbered img index′ from u
-  numbered-more i = (rw number-next i, omega (arith, next .1, old .1), omega (arith, number-next, old .2))
-
-  pub seen-more : seenIn img index′ from (numberIn t + 1 - from) ≡ name ∷ seenBy img index from t → seenBy img index′ from u ≡ name ∷ seenBy img index from t
-  seen-more e = rw number-next e
-
--- numbers fit
-pub number-room : (img index marks : List ℕ) (from : ℕ) (t : Tally) → Numbered img index from t → Fits t marks → length marks ≡ limit → (numberIn t < limit) × (t .last ≤ limit)
-number-room img index marks from t n f w = let most = marked-most marks in (omega (arith, most, n .1, f, w), omega (arith, most, f, w))
-
--- at the start of a directory none was seen
-pub seen-start : (img index : List ℕ) (t : Tally) → seenBy img index (numberIn t) t ≡ []
-unfolding seenIn
-seen-start img index t = let e : numberIn t - numberIn t ≡ 0 = omega arith in rw e
+-- so does an item that the walk goes on from
+pub item-grown : (head : ℕ) (i : Item) (queue : List Dir) (marks : List ℕ) (files : ℕ) → Grown (length queue) files (enterItem head i queue marks files)
+unfolding enterItem
+item-grown head i queue marks files = cases-grown (i .early) (eqb (getD marks (i .anode) 0) 0) (i .late) (i .dir) queue (dirMade (i .anode) head) (set marks (i .anode) 1) files
 
 -- ---- the queue without the directories taken from it, and those
 

@@ -1,11 +1,11 @@
 use mathlib.Core.Path.{_≡_}
 use Prim.Native.Nat.{_+_, _-_, _*_, _≤_}
 use native.Mathlib.Omega.{arith}
-use Rattle.tree.specs.Steps.{sumFrom}
-use Rattle.tree.proofs.Laws.{sum-none, sum-end, sum-step}
+use Rattle.walk_steps.specs.Steps.{sumFrom}
+use Rattle.walk_steps.proofs.Laws.{sum-none, sum-end, sum-step}
 use borrow.Author.Needs.{needs}
-use Rattle.tree.proofs.chain_sum.Statement.{statement}
-use Rattle.tree.proofs.chain_sum.Tie as tie
+use Rattle.walk_steps.proofs.chain_sum.Statement.{statement}
+use Rattle.walk_steps.proofs.chain_sum.Tie as tie
 
 abbrev Inv-loop : tie.InvT-loop
 Inv-loop counts nexts sum₀ at₀ fuel₀ sum at fuel = (sum + sumFrom counts nexts fuel at ≡ sumFrom counts nexts 3444 at₀) × (sum + fuel * 65535 ≤ 3444 * 65535)

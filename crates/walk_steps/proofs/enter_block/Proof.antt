@@ -10,11 +10,12 @@ use Rattle.rules.specs.Walk.{withRest, entriesFrom, entriesIn, twins}
 use Rattle.names.specs.Index.{foldedIn, seenIn, Indexed}
 use Rattle.laws.specs.Apart.{seenAfter}
 use Rattle.laws.specs.Entries.{entries-none, block-whole, entries-read, read-within, read-fault}
-use Rattle.tree.specs.Steps.{itemIn, entering, queueOf, WalkRoom, numberIn, seenBy, Numbered}
-use Rattle.tree.proofs.Laws.{SameLengths, same-lengths, enter-none, enter-end, seen-end, enter-fault, enter-alike, enter-stop, enter-step, seen-step, twins-none, seen-none, number-more, numbered-more, seen-more, number-room}
+use Rattle.walk_steps.specs.Steps.{itemIn, entering, queueOf, WalkRoom, numberIn, seenBy, Numbered}
+use Rattle.walk_steps.proofs.Laws.{enter-none, enter-end, seen-end, enter-fault, enter-alike, enter-stop, enter-step, seen-step, twins-none, seen-none}
+use Rattle.walk_steps.proofs.Tallies.{SameLengths, same-lengths, number-more, numbered-more, seen-more, number-room}
 use borrow.Author.Needs.{needs}
-use Rattle.tree.proofs.enter_block.Statement.{statement}
-use Rattle.tree.proofs.enter_block.Tie as tie
+use Rattle.walk_steps.proofs.enter_block.Statement.{statement}
+use Rattle.walk_steps.proofs.enter_block.Tie as tie
 
 abbrev Inv-loop : tie.InvT-loop
 Inv-loop image counts nexts heads marks₀ queue₀ parents₀ index₀ from head b block tally₀ at₀ fuel₀ marks queue parents index tally at fuel =

@@ -4,11 +4,11 @@ use Prim.Native.Nat.{_+_, _<_, _≤_}
 use native.Mathlib.Omega.{arith}
 use lib.ListN.{getD, set}
 use borrow.Author.Tests.{not-true, not-false}
-use Rattle.tree.specs.Steps.{headAt, marked}
-use Rattle.tree.proofs.Laws.{marked-room, queue-push, enter-no-head, enter-twice, enter-size, enter-file, enter-dir}
+use Rattle.walk_steps.specs.Steps.{headAt, marked}
+use Rattle.walk_steps.proofs.Laws.{marked-room, queue-push, enter-no-head, enter-twice, enter-size, enter-file, enter-dir}
 use borrow.Author.Needs.{needs}
-use Rattle.tree.proofs.enter.Statement.{statement}
-use Rattle.tree.proofs.enter.Tie as tie
+use Rattle.walk_steps.proofs.enter.Statement.{statement}
+use Rattle.walk_steps.proofs.enter.Tie as tie
 
 -- ---- what is known of the entry's anode once a test is passed
 

@@ -1,15 +1,15 @@
 use mathlib.Core.List.{map}
 use Rattle.rules.specs.Walk.{entriesIn}
-use Rattle.tree.specs.Steps.{itemIn, itemsFrom}
+use Rattle.walk_steps.specs.Steps.{itemIn, itemsFrom}
 use mathlib.Core.Path.{_≡_, sym, _∙_}
 use lib.ListN.{getD}
 use borrow.Author.Tests.{not-true, not-false}
 use Rattle.rules.specs.Walk.{isBlockOf, dirMade}
 use Rattle.anodes.specs.Loaded.{anodesFrom}
-use Rattle.tree.proofs.Laws.{anode-count, anode-mark, anode-block}
+use Rattle.walk_steps.proofs.Laws.{anode-count, anode-mark, anode-block}
 use borrow.Author.Needs.{needs}
-use Rattle.tree.proofs.enter_anode.Statement.{statement}
-use Rattle.tree.proofs.enter_anode.Tie as tie
+use Rattle.walk_steps.proofs.enter_anode.Statement.{statement}
+use Rattle.walk_steps.proofs.enter_anode.Tie as tie
 
 -- the anode holds one block
 one-block : (c : tie.Else1) → let g = c .before .before .before .before .before .before .before .before .before .before .before .before .args in getD (g .counts .now) (g .a .0) 0 ≡ 1

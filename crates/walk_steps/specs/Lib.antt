@@ -1,0 +1,2 @@
+-- The walk by tables, step by step.
+pub mod Steps
