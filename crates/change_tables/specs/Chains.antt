@@ -14,8 +14,8 @@ use Rattle.laws.specs.FixedSlots.{start-owned}
 use Rattle.laws.specs.Owners.{full-inside}
 use Rattle.laws.specs.Acceptance.{size-bounds}
 use Rattle.anodes.specs.Loaded.{anodesFrom, slotsFrom, tableFrom, Loaded}
-use Rattle.tree.specs.Steps.{sumFrom}
-use Rattle.tree.proofs.Rules.{sumFrom-count}
+use Rattle.walk_steps.specs.Steps.{sumFrom}
+use Rattle.walk_steps.proofs.Rules.{sumFrom-count}
 use Rattle.placing.specs.States.{GoodState, Ready}
 use Rattle.change_laws.specs.Image.{GoodOn, headIn, sideIn, AcceptedImage, accepted-own, image-passed, accepted-whole}
 use Rattle.change_laws.specs.Reached.{EntryIn, EntryFacts, entry-not-1, entry-facts}

@@ -17,7 +17,7 @@ use Rattle.laws.specs.Bags.{list-nil, list-one, list-append}
 use Rattle.laws.specs.Chains.{gathered-none, gathered-end, gathered-step}
 use Rattle.laws.specs.Entries.{enteredAt}
 use Rattle.lookup.proofs.Laws.{entriesAlong}
-use Rattle.tree.specs.Steps.{dirsFrom, queueOf}
+use Rattle.walk_steps.specs.Steps.{dirsFrom, queueOf}
 use Rattle.report.specs.Runs.{oneIfMany}
 use Rattle.report.specs.Figures.{fileSize}
 use Rattle.file_sums.specs.declared.FileSums.{FileSums}

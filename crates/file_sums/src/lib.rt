@@ -9,7 +9,7 @@ ghost use Rattle.rules.specs.Lookup.{entriesOf};
 ghost use Rattle.laws.specs.Entries.{enteredAt, Unbroken};
 ghost use Rattle.report.specs.Runs.{oneIfMany};
 ghost use Rattle.anodes.specs.Loaded.{anodesFrom};
-ghost use Rattle.tree.specs.Steps.{queueOf};
+ghost use Rattle.walk_steps.specs.Steps.{queueOf};
 ghost use Rattle.file_sums.specs.Sums.{sumsMade, sumsWith, EntriesFit, Within};
 use directory::Entry;
 use directory::Kind;

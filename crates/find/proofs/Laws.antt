@@ -17,7 +17,7 @@ use Rattle.rules.specs.Walk.{Entered, Dir}
 use Rattle.rules.specs.Lookup.{noDirectory, entriesOf, nth, isThere, notEmpty, notEmptyDir, noneHeaded}
 use Rattle.rules.specs.Calls.{doneOr}
 use Rattle.anodes.specs.Loaded.{anodesFrom}
-use Rattle.tree.specs.Steps.{queueOf}
+use Rattle.walk_steps.specs.Steps.{queueOf}
 use Rattle.laws.specs.Tests.{firstOf-some, firstOf-none}
 use Rattle.laws.specs.OwnerTable.{anodeEntry-is}
 use Rattle.laws.specs.Entries.{Unbroken}

@@ -7,7 +7,7 @@ use Rattle.rules.specs.Anodes.{limit, anodesOf}
 use Rattle.rules.specs.Walk.{reachedDirs}
 use Rattle.rules.specs.Tables.{anodeEntry}
 use Rattle.anodes.specs.Loaded.{Loaded}
-use Rattle.tree.specs.Steps.{queueOf}
+use Rattle.walk_steps.specs.Steps.{queueOf}
 
 -- counts, firsts and nexts hold the anodes, queue and parents the reached directories, heads the head of each anode's chain
 pub record Open (img counts firsts nexts queue parents heads : List ℕ) (dirs : ℕ) : Type 0 where

@@ -24,7 +24,7 @@ use Rattle.tables.specs.Held.{zeroedFirst}
 use Rattle.tables.proofs.Laws.{zeroed-past}
 use Rattle.laws.specs.Chains.{HeadTable}
 use Rattle.tree.specs.Tree.{treeNumber, Counts, Queued}
-use Rattle.tree.specs.Steps.{queueOf}
+use Rattle.walk_steps.specs.Steps.{queueOf}
 use Rattle.tree.specs.declared.TreeRead.{TreeRead}
 use Rattle.tree.specs.declared.TreeRead.the-variants.{Counted, Fault}
 use Rattle.fsck.specs.declared.Tally.{Tally}

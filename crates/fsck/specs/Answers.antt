@@ -15,7 +15,7 @@ use Rattle.rules.specs.Calls.{fileCount, dirCount}
 use Rattle.tables.specs.Held.{ZeroBelow}
 use Rattle.anodes.specs.Loaded.{anodesFrom, AnodeTables}
 use Rattle.laws.specs.Chains.{HeadTable}
-use Rattle.tree.specs.Steps.{queueOf}
+use Rattle.walk_steps.specs.Steps.{queueOf}
 use Rattle.fsck.specs.declared.Checked.{Checked}
 use Rattle.fsck.specs.declared.Checked.the-variants.{Accepted, Refused}
 use Rattle.fsck.specs.declared.Test.{Test}

@@ -31,7 +31,7 @@ use owners::mark_owners;
 use owners::no_owner;
 use tables::zero_first;
 use tree::TreeRead;
-use tree::chain_sum;
+use walk_steps::chain_sum;
 use tree::walk_tree;
 
 // Free blocks, files, and directories with the root.

@@ -16,7 +16,7 @@ use Rattle.rules.specs.Changes.{parentOf}
 use Rattle.rules.specs.Lookup.{noneHeaded}
 use Rattle.laws.specs.Sums.{oneAt-same, oneAt-other}
 use Rattle.laws.specs.Bags.{occurrences-nil, occurrences-cons}
-use Rattle.tree.specs.Steps.{dirsFrom, queueOf}
+use Rattle.walk_steps.specs.Steps.{dirsFrom, queueOf}
 use Rattle.lookup.specs.Queued.{placeOf, OwnHeads}
 
 module _ (queue : List ℕ) (h : ℕ) where

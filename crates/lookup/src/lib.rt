@@ -13,7 +13,7 @@ ghost use Rattle.laws.specs.Entries.{enteredAt, Unbroken};
 ghost use Rattle.anodes.specs.Loaded.{anodesFrom};
 ghost use Rattle.lookup.specs.Answers.{entryOf, orElse, onlyIf, placed, orRest};
 ghost use Rattle.lookup.specs.Queued.{placeOf, OwnHeads};
-ghost use Rattle.tree.specs.Steps.{queueOf};
+ghost use Rattle.walk_steps.specs.Steps.{queueOf};
 use directory::Entry;
 use directory::Kind;
 use directory::Walked;

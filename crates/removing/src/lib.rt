@@ -22,7 +22,7 @@ use placing::Moves;
 use placing::moves_number;
 use searches::last_reserved;
 use searches::slots_of;
-use tree::chain_sum;
+use walk_steps::chain_sum;
 
 // Writes a removal whose blocks are given back into the image, and shows it in the two tables.
 fn commit_remove(

@@ -20,7 +20,7 @@ use Rattle.table_laws.specs.ShownOwners.{shown-on, table-long}
 use Rattle.change_laws.specs.Image.{AcceptedImage, accepted-own, accepted-whole, image-passed}
 use Rattle.change_laws.specs.Reached.{EntryIn, member-reached, entry-facts}
 use Rattle.anodes.specs.Loaded.{anodesFrom}
-use Rattle.tree.specs.Steps.{queueOf}
+use Rattle.walk_steps.specs.Steps.{queueOf}
 use Rattle.find.proofs.Laws.{queued-reached, open-unbroken}
 use Rattle.fsck.specs.declared.Tally.{Tally}
 use Rattle.report.specs.Runs.{oneIfMany, longestRun, inChain, fileRuns, longestFree}

@@ -37,7 +37,7 @@ use Rattle.change_laws.specs.Reached.{entry-not-1}
 use Rattle.change_laws.specs.ResizePlan.{newOwner, movedBlocks, plan-refused, plan-longer, plan-shorter}
 use Rattle.change_laws.specs.ResizeStores.{PlannedResize, steps, steps-good, resized-disk}
 use Rattle.anodes.specs.Loaded.{anodesFrom, slotsFrom, tableFrom, Loaded}
-use Rattle.tree.specs.Steps.{sumFrom}
+use Rattle.walk_steps.specs.Steps.{sumFrom}
 use Rattle.change_tables.specs.Leaves.{Leaves, ReachedEntry}
 use Rattle.change_tables.specs.Laws.{Shows, leaves-refused, shows-moved, leaves-done}
 use Rattle.change_tables.specs.Chains.{loaded-size, image-good, entry-known, loaded-copies, chain-counted, planned-change}

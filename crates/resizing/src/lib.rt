@@ -33,8 +33,8 @@ use placing::moves_number;
 use searches::last_reserved;
 use searches::slots_of;
 use taking::take_many;
-use tree::blocks_for;
-use tree::chain_sum;
+use walk_steps::blocks_for;
+use walk_steps::chain_sum;
 
 // Takes blocks one at a time, or gives them back run by run, until the chain of `head`, which has `have` blocks, has `want`; `last`: last reserved.
 fn plan_resize(

@@ -11,10 +11,10 @@ use Rattle.rules.specs.Accepted.{treeFault}
 use Rattle.rules.specs.Calls.{fileCount, dirCount}
 use Rattle.walk_steps.proofs.Laws.{length-queue}
 use Rattle.walk_steps.proofs.Rules.{Said}
-pub use Rattle.walk_steps.proofs.Rules.{sumFrom-count}
 use Rattle.tree.specs.declared.TreeRead.{TreeRead}
 use Rattle.tree.specs.declared.TreeRead.the-variants.{Counted, Fault}
-use Rattle.tree.specs.Steps.{conclusion, queueOf, unnamedAt}
+use Rattle.walk_steps.specs.Steps.{queueOf, unnamedAt}
+use Rattle.tree.specs.Steps.{conclusion}
 
 -- what the walk's answer, with the marks and the queue that it leaves, says by the rules
 abbrev pub Says : List ℕ → Anodes → List ℕ → TreeRead → List ℕ → List ℕ → List ℕ → Type 0

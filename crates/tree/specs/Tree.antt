@@ -8,7 +8,7 @@ use Rattle.rules.specs.Walk.{reachedDirs}
 use Rattle.rules.specs.Calls.{fileCount, dirCount}
 use Rattle.tree.specs.declared.TreeRead.{TreeRead}
 use Rattle.tree.specs.declared.TreeRead.the-variants.{Counted, Fault}
-use Rattle.tree.specs.Steps.{queueOf}
+use Rattle.walk_steps.specs.Steps.{queueOf}
 
 -- 0, or the refusal's number
 abbrev pub treeNumber : TreeRead → ℕ

@@ -5,7 +5,7 @@ use native.Mathlib.Omega.{arith}
 use Rattle.rules.specs.Counting.{gather}
 use Rattle.rules.specs.Lookup.{entriesOf}
 use Rattle.anodes.specs.Loaded.{anodesFrom}
-use Rattle.tree.specs.Steps.{dirsFrom, queueOf}
+use Rattle.walk_steps.specs.Steps.{dirsFrom, queueOf}
 use Rattle.file_sums.specs.Sums.{sumsMade, sumsWith, Within}
 use Rattle.file_sums.proofs.Laws.{queued-none, queued-more, queued-all, within-none, within-join, fit-within, fit-all}
 use borrow.Author.Needs.{needs}

@@ -1,5 +1,5 @@
 use mathlib.Core.Path.{_∙_}
-use Rattle.tree.proofs.Rules.{sumFrom-count}
+use Rattle.walk_steps.proofs.Rules.{sumFrom-count}
 use Rattle.fsck.proofs.Laws.{all-failed, all-heads, all-fault, all-counted}
 use borrow.Author.Needs.{needs}
 use Rattle.fsck.proofs.test_all.Statement.{statement}

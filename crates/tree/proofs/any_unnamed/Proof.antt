@@ -3,7 +3,7 @@ use mathlib.Core.Bool.{false}
 use Prim.Native.Nat.{_-_, _≤_}
 use native.Mathlib.Omega.{arith}
 use Rattle.rules.specs.Counting.{anyBelow}
-use Rattle.tree.specs.Steps.{unnamedAt}
+use Rattle.walk_steps.specs.Steps.{unnamedAt}
 use Rattle.counting.specs.Laws.{anyBelow-none, anyBelow-more, anyBelow-hit}
 use borrow.Author.Needs.{needs}
 use Rattle.tree.proofs.any_unnamed.Statement.{statement}

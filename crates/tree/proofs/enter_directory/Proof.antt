@@ -6,7 +6,7 @@ use lib.ListN.{length}
 use Rattle.laws.specs.Chains.{gathered-none, gathered-end}
 use Rattle.anodes.specs.Loaded.{anodesFrom}
 use Rattle.rules.specs.Walk.{dirMade, twins}
-use Rattle.tree.specs.Steps.{itemIn, itemsAlong, itemsWith, entering, WalkRoom, numberIn, seenBy, Numbered}
+use Rattle.walk_steps.specs.Steps.{itemIn, itemsAlong, itemsWith, entering, WalkRoom, numberIn, seenBy, Numbered}
 use Rattle.walk_steps.proofs.Tallies.{SameLengths, same-lengths, number-room, seen-start}
 use Rattle.walk_steps.proofs.Laws.{enter-none, along-stop, along-step, twins-none}
 use borrow.Author.Needs.{needs}

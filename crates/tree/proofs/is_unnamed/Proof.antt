@@ -1,5 +1,5 @@
 use borrow.Author.Tests.{le-leb, lt-leb, eq-eqb, ne-eqb}
-use Rattle.tree.specs.Steps.{unnamedAt}
+use Rattle.walk_steps.specs.Steps.{unnamedAt}
 use borrow.Author.Needs.{needs}
 use Rattle.tree.proofs.is_unnamed.Statement.{statement}
 use Rattle.tree.proofs.is_unnamed.Tie as tie

@@ -5,7 +5,7 @@ use mathlib.Core.List.{[]}
 use lib.ListN.{length, getD, take, drop}
 use Rattle.anodes.specs.Loaded.{anodesFrom}
 use Rattle.rules.specs.Walk.{dirMade}
-use Rattle.tree.specs.Steps.{itemIn, itemsWith, runFrom, queueOf, entering, progress, tallyMade, WalkRoom, numberIn, Numbered}
+use Rattle.walk_steps.specs.Steps.{itemIn, itemsWith, runFrom, queueOf, entering, progress, tallyMade, WalkRoom, numberIn, Numbered}
 use Rattle.walk_steps.proofs.Tallies.{SameLengths, same-lengths}
 use Rattle.walk_steps.proofs.Laws.{marked-most, run-end, run-stop, run-step}
 use borrow.Author.Needs.{needs}
