@@ -12,7 +12,7 @@
  *   blocks     block table: at least as many entries as the image has blocks
  *   anodes     anode table: at least 3,444 entries
  *   directory  a directory's number: 5 for the root, else the anode that pfs_list gives for its entry
- *   name       the bytes of an entry's name, without a 0 at the end; names match byte for byte, and the first match counts
+ *   name       the bytes of an entry's name, without a 0 at the end; a capital A to Z matches its small letter
  *
  * What it leaves
  *
@@ -23,7 +23,7 @@
  *           2, 65534 for anode blocks), the anode table each anode's chain head (0 for anode 0, free anodes, whose three
  *           fields are 0, and those that do not exist). Heads with a meaning of their own: 1 free blocks, 3 blocks to be
  *           freed, 4 bad blocks, 5 the root directory.
- *           1 to 4 touch no table. 5 to 16 leave both zeroed. Entries past the image's blocks and past 3,444 always keep
+ *           1 to 4 touch no table. 5 to 17 leave both zeroed. Entries past the image's blocks and past 3,444 always keep
  *           their content.
  *
  * Stack
@@ -54,6 +54,7 @@
  *   10  a block has two owners
  *   11  a block has no owner
  *   12  a directory's block or an entry in it
+ *   17  two entries of a directory have the same name, capitals A to Z counted as small letters
  *   13  an entry's anode is under 6, missing, free, or not a chain's head
  *   14  an entry's anode is already named
  *   15  a file's chain does not hold as many blocks as its size needs
@@ -76,7 +77,7 @@
  *   51  seconds that two bytes cannot hold
  *   52  the output buffer is too short
  *
- * Every call that is lent tables may answer 1 to 16; what else it may answer stands with it.
+ * Every call that is lent tables may answer 1 to 17; what else it may answer stands with it.
  */
 #ifndef PFS_H
 #define PFS_H
@@ -107,6 +108,7 @@ enum pfs_refusal {
     PFS_NAMED_TWICE = 14,
     PFS_FILE_SIZE = 15,
     PFS_UNNAMED_CHAIN = 16,
+    PFS_NAMES_ALIKE = 17,
     PFS_BAD_ARGUMENT = 20,
     PFS_NO_DIRECTORY = 21,
     PFS_NOT_FOUND = 22,
@@ -212,6 +214,8 @@ static inline const char *pfs_words(uint32_t number)
         return "a file's chain does not hold as many blocks as its size needs";
     case PFS_UNNAMED_CHAIN:
         return "a chain is named by no entry that the root leads to";
+    case PFS_NAMES_ALIKE:
+        return "two entries of a directory have the same name, capitals A to Z counted as small letters";
     case PFS_BAD_ARGUMENT:
         return "an argument is against the rules: type, name, comment, or the shape of the disk to format";
     case PFS_NO_DIRECTORY:
@@ -245,7 +249,7 @@ static inline const char *pfs_words(uint32_t number)
     }
 }
 
-/* The check: 0 for an accepted image, else the first of 1 to 16 that applies. */
+/* The check: 0 for an accepted image, else the first of 1 to 17 that applies, in the order above. */
 uint32_t pfs_check(const uint8_t *image, size_t image_len, uint16_t *blocks, size_t blocks_len, uint16_t *anodes,
                    size_t anodes_len);
 
