@@ -32,8 +32,8 @@
  *   Measured on x86-64 Linux, and rounded up.
  *
  *    32 KiB  pfs_format, pfs_widen, pfs_narrow
- *    64 KiB  pfs_check, pfs_summary, pfs_read, pfs_list, pfs_find, pfs_label, pfs_write, pfs_bitmap, pfs_bitmap_differs, pfs_report
- *    96 KiB  pfs_make, pfs_resize, pfs_remove
+ *    96 KiB  pfs_check, pfs_summary, pfs_read, pfs_list, pfs_find, pfs_label, pfs_write, pfs_bitmap, pfs_bitmap_differs, pfs_report
+ *   128 KiB  pfs_make, pfs_resize, pfs_remove
  *
  * The numbers, in the order in which they are tried
  *
