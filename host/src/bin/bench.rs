@@ -18,6 +18,8 @@ use ovenknit_host::shapes::{grown_in_turn, one_free_anode, shaped, Recipe, LONG_
 const RUNS: usize = 1_001;
 /// Of a change that may take as long as thousands of checks.
 const LONG_RUNS: usize = 101;
+/// Of a check that takes as long as a thousand others.
+const SLOW_RUNS: usize = 11;
 /// Of a check whose least time is asked for.
 const LEAST_RUNS: usize = 10_001;
 /// A file in the root of every disk that the calls are timed on.
@@ -190,6 +192,23 @@ fn measure_far_anode() {
     Disk::new(one_free_anode()).medians(&make(b"new"), RUNS).print("make a file");
 }
 
+/// A name that the check's index cannot tell from any other of these without comparing all its bytes up to the last
+/// ones: those are pairs that weigh the same in the hash, as often as the bits of the number ask.
+fn colliding_name(number: usize) -> Vec<u8> {
+    let pairs = (0..12).rev().map(|bit| if number >> bit & 1 == 0 { [128, 192] } else { [129, 161] });
+    [vec![b'n'; 83], pairs.flatten().collect()].concat()
+}
+
+/// The check of a directory whose names are chosen to collide (02, No. 5).
+fn measure_colliding_names() {
+    println!("65,535 blocks, 2,500 names of 107 bytes in the root, all of one hash");
+    let mut disk = Disk::empty(65_535, 2_000, 42);
+    for number in 0..2_500 {
+        disk.must(&make(&colliding_name(number)));
+    }
+    disk.medians(&Call::Check, SLOW_RUNS).print("check");
+}
+
 /// Files of some blocks each, with some blocks and anodes free.
 fn small_files(blocks: usize) -> Recipe {
     let (files, directories) = ((blocks / 22).min(2_800), (blocks / 550).min(100));
@@ -237,6 +256,7 @@ fn print_all(rng: &mut Rng) {
     println!();
     measure_long_file();
     measure_far_anode();
+    measure_colliding_names();
 }
 
 fn print_least(rng: &mut Rng) {
