@@ -17,7 +17,6 @@ use tables::entry;
 use walk_steps::Tally;
 use walk_steps::WalkStep;
 use walk_steps::enter_anode;
-use walk_steps::number_in;
 
 // What the walk finds: the files and the directories with the root, or the first fault.
 pub enum TreeRead {
@@ -61,7 +60,7 @@ fn enter_directory(
             queue,
             parents,
             index,
-            number_in(t),
+            t,
             head,
             parent,
             at,

@@ -111,7 +111,7 @@ fn with_directory(t: Tally) -> Tally
 }
 
 // The number of the next entry: how many were met before it.
-pub fn number_in(t: Tally) -> usize
+fn number_in(t: Tally) -> usize
     requires { ⌜ (1 ≤ t .last) × (t .last ≤ 3444) ⌝ }
     ensures { λ r. ⌜ r ≡ numberIn t ⌝ }
 {
@@ -204,7 +204,7 @@ fn enter_block(
     WalkStep::Go(tally)
 }
 
-// Enters what anode `a` of a directory holds: one block that is marked as the directory's.
+// Enters what anode `a` of a directory holds: one block that is marked as the directory's; `start`: the tally at the directory's start.
 pub fn enter_anode(
     image: &[u8],
     counts: &[u16],
@@ -215,15 +215,16 @@ pub fn enter_anode(
     queue: &mut [u16],
     parents: &mut [u16],
     index: &mut [u16],
-    from: usize,
+    start: Tally,
     head: AnodeNo,
     parent: AnodeNo,
     a: AnodeNo,
     t: Tally,
 ) -> WalkStep
-    requires { ⌜ WalkRoom t (now marks) (now queue) (now parents) × Numbered (now image) (now index) from t ⌝ }
-    ensures entered { λ r. ⌜ Proceeds r (now (marks .exit)) (now (queue .exit)) (now (parents .exit)) (entering t (now (marks .entry)) (now (queue .entry)) (now (parents .entry)) (head .0) (twins (seenBy (now (image .entry)) (now (index .entry)) from t) (itemsFrom (itemIn (now (counts .entry)) (now (nexts .entry)) (now (heads .entry))) (now (image .entry)) (anodesFrom (now (counts .entry)) (now (firsts .entry)) (now (nexts .entry))) (dirMade (head .0) (parent .0)) (a .0)))) ⌝ }
-    ensures seen { λ r. ⌜ StepSeen r (now (image .entry)) (now (index .exit)) from (seenAfter (itemsFrom (itemIn (now (counts .entry)) (now (nexts .entry)) (now (heads .entry))) (now (image .entry)) (anodesFrom (now (counts .entry)) (now (firsts .entry)) (now (nexts .entry))) (dirMade (head .0) (parent .0)) (a .0)) (seenBy (now (image .entry)) (now (index .entry)) from t)) ⌝ }
+    requires { ⌜ WalkRoom t (now marks) (now queue) (now parents) × Numbered (now image) (now index) (numberIn start) t ⌝ }
+    requires { ⌜ (1 ≤ start .last) × (start .last ≤ 3444) ⌝ }
+    ensures entered { λ r. ⌜ Proceeds r (now (marks .exit)) (now (queue .exit)) (now (parents .exit)) (entering t (now (marks .entry)) (now (queue .entry)) (now (parents .entry)) (head .0) (twins (seenBy (now (image .entry)) (now (index .entry)) (numberIn start) t) (itemsFrom (itemIn (now (counts .entry)) (now (nexts .entry)) (now (heads .entry))) (now (image .entry)) (anodesFrom (now (counts .entry)) (now (firsts .entry)) (now (nexts .entry))) (dirMade (head .0) (parent .0)) (a .0)))) ⌝ }
+    ensures seen { λ r. ⌜ StepSeen r (now (image .entry)) (now (index .exit)) (numberIn start) (seenAfter (itemsFrom (itemIn (now (counts .entry)) (now (nexts .entry)) (now (heads .entry))) (now (image .entry)) (anodesFrom (now (counts .entry)) (now (firsts .entry)) (now (nexts .entry))) (dirMade (head .0) (parent .0)) (a .0)) (seenBy (now (image .entry)) (now (index .entry)) (numberIn start) t)) ⌝ }
 {
     if entry(counts, a.0 as usize) != 1 {
         return WalkStep::Fault(Refusal::DirectoryBlock);
@@ -241,7 +242,7 @@ pub fn enter_anode(
         queue,
         parents,
         index,
-        from,
+        number_in(start),
         head,
         b,
         t,

@@ -57,13 +57,11 @@ returns c =
     let l = c .before .before .before .loop in
     ((sym (enter-none _ _ _ _ _ (twins-none _ _ (gathered-end _ _ (l .fuel) _ (c .if1 .taken)))) ∙ left (c .before .before .before), l .inv .0 .3), (l .inv .1 .0, l .inv .1 .1, omega arith))
 
-number-in-requires : tie.Need-number-in-requires Inv-loop μ-loop
-number-in-requires c κs =
-    let p = c .before .before .before .before .before .before .before .before .before .before .before .before .before .before .before .before .before .pre in
-    (p .1 .1, number-room _ _ (c .before .before .before .before .before .before .before .before .before .before .before .before .before .before .before .before .before .args .marks .now) _ (c .before .before .before .before .before .before .before .before .before .before .before .before .before .before .before .before .before .args .t) (p .1) (p .0 .3) (p .0 .0) .1)
-
 enter-anode-requires : tie.Need-enter-anode-requires Inv-loop μ-loop
-enter-anode-requires c κs = (c .before .before .before .before .before .before .before .before .loop .inv .0, rw (c .number-in .ensures) (c .before .before .before .before .before .before .before .before .loop .inv .1))
+enter-anode-requires c κs =
+    let g = c .before .before .before .before .before .before .before .before .before .before .before .before .before .before .before .before .before .args in
+    let p = c .before .before .before .before .before .before .before .before .before .before .before .before .before .before .before .before .before .pre in
+    ((c .before .before .before .before .before .before .before .loop .inv .0, c .before .before .before .before .before .before .before .loop .inv .1), (p .1 .1, number-room _ _ (g .marks .now) _ (g .t) (p .1) (p .0 .3) (p .0 .0) .1))
 
 enum-known-step : tie.Need-enum-known-step Inv-loop μ-loop
 enum-known-step c = search needs
@@ -72,23 +70,23 @@ enum-told : tie.Need-enum-told Inv-loop μ-loop
 enum-told c = search needs
 
 same-length-5 : tie.Need-same-length-5 Inv-loop μ-loop
-same-length-5 c = c .before .before .before .before .before .before .before .before .before .before .enter-anode .kept .1 .1 .1 .1 .1 .0 ∙ lengths (c .before .before .before .before .before .before .before .before .before .before .before .before .before .before .before .before .before .before .before) .of-marks
+same-length-5 c = c .before .before .before .before .before .before .before .before .before .before .enter-anode .kept .1 .1 .1 .1 .1 .0 ∙ lengths (c .before .before .before .before .before .before .before .before .before .before .before .before .before .before .before .before .before .before) .of-marks
 
 same-length-6 : tie.Need-same-length-6 Inv-loop μ-loop
-same-length-6 c = c .before .before .before .before .before .before .before .before .before .before .enter-anode .kept .1 .1 .1 .1 .1 .1 .0 ∙ lengths (c .before .before .before .before .before .before .before .before .before .before .before .before .before .before .before .before .before .before .before) .of-queue
+same-length-6 c = c .before .before .before .before .before .before .before .before .before .before .enter-anode .kept .1 .1 .1 .1 .1 .1 .0 ∙ lengths (c .before .before .before .before .before .before .before .before .before .before .before .before .before .before .before .before .before .before) .of-queue
 
 same-length-7 : tie.Need-same-length-7 Inv-loop μ-loop
-same-length-7 c = c .before .before .before .before .before .before .before .before .before .before .enter-anode .kept .1 .1 .1 .1 .1 .1 .1 .0 ∙ lengths (c .before .before .before .before .before .before .before .before .before .before .before .before .before .before .before .before .before .before .before) .of-parents
+same-length-7 c = c .before .before .before .before .before .before .before .before .before .before .enter-anode .kept .1 .1 .1 .1 .1 .1 .1 .0 ∙ lengths (c .before .before .before .before .before .before .before .before .before .before .before .before .before .before .before .before .before .before) .of-parents
 
 same-length-8 : tie.Need-same-length-8 Inv-loop μ-loop
-same-length-8 c = c .before .before .before .before .before .before .before .before .before .before .enter-anode .kept .1 .1 .1 .1 .1 .1 .1 .1 .0 ∙ index-length (c .before .before .before .before .before .before .before .before .before .before .before .before .before .before .before .before .before .before .before)
+same-length-8 c = c .before .before .before .before .before .before .before .before .before .before .enter-anode .kept .1 .1 .1 .1 .1 .1 .1 .1 .0 ∙ index-length (c .before .before .before .before .before .before .before .before .before .before .before .before .before .before .before .before .before .before)
 
 returns-2 : tie.Need-returns-2 Inv-loop μ-loop
 returns-2 c =
-    let l = c .before .before .before .before .before .before .before .before .before .before .before .before .before .before .before .before .before .before .before .loop in
+    let l = c .before .before .before .before .before .before .before .before .before .before .before .before .before .before .before .before .before .before .loop in
     let g = c .enum-told .given in
-    let e = rw (c .before .before .before .before .before .before .before .before .before .before .before .number-in .ensures) at (c .before .before .before .before .before .before .before .before .before .before .enter-anode .ensures) in
-    ((rw (g .1) (sym (along-stop _ _ _ _ _ _ _ _ _ _ _ (l .fuel - 1) (omega arith) (c .before .before .before .before .before .before .before .before .before .before .before .before .before .before .before .before .if1 .left) _ (rw (g .1) at (sym (e .0 .0)))) ∙ left (c .before .before .before .before .before .before .before .before .before .before .before .before .before .before .before .before .before .before .before)), e .0 .1), rw (g .1) tt)
+    let e = c .before .before .before .before .before .before .before .before .before .before .enter-anode .ensures in
+    ((rw (g .1) (sym (along-stop _ _ _ _ _ _ _ _ _ _ _ (l .fuel - 1) (omega arith) (c .before .before .before .before .before .before .before .before .before .before .before .before .before .before .before .if1 .left) _ (rw (g .1) at (sym (e .0 .0)))) ∙ left (c .before .before .before .before .before .before .before .before .before .before .before .before .before .before .before .before .before .before)), e .0 .1), rw (g .1) tt)
 
 cast-entry : tie.Need-cast-entry Inv-loop μ-loop
 cast-entry c = search needs
@@ -105,13 +103,13 @@ loop-less c = search needs
 loop-again : tie.Need-loop-again Inv-loop μ-loop
 unfolding anodesFrom
 loop-again c =
-    let l = c .before .before .before .before .before .before .before .before .before .before .before .before .before .before .before .before .before .before .before .before .before .before .loop in
+    let l = c .before .before .before .before .before .before .before .before .before .before .before .before .before .before .before .before .before .before .before .before .before .loop in
     let g = c .before .before .before .step .given in
-    let e = rw (c .before .before .before .before .before .before .before .before .before .before .before .before .before .before .number-in .ensures) at (c .before .before .before .before .before .before .before .before .before .before .before .before .before .enter-anode .ensures) in
+    let e = c .before .before .before .before .before .before .before .before .before .before .before .before .before .enter-anode .ensures in
     let seen = rw (g .1) at (e .1) in (
       (search needs, search needs, search needs, rw (g .1) at (e .0 .1)),
       seen .0,
-      rw (c .entry .ensures) (sym (along-step _ _ _ _ _ _ _ _ _ _ _ (l .fuel - 1) (omega arith) (c .before .before .before .before .before .before .before .before .before .before .before .before .before .before .before .before .before .before .before .if1 .left) _ _ _ _ (seen .1) (rw (g .1) at (sym (e .0 .0)))) ∙ l .inv .2),
+      rw (c .entry .ensures) (sym (along-step _ _ _ _ _ _ _ _ _ _ _ (l .fuel - 1) (omega arith) (c .before .before .before .before .before .before .before .before .before .before .before .before .before .before .before .before .before .before .if1 .left) _ _ _ _ (seen .1) (rw (g .1) at (sym (e .0 .0)))) ∙ l .inv .2),
     )
 
 same-length-9 : tie.Need-same-length-9 Inv-loop μ-loop
@@ -143,7 +141,6 @@ enter-directory-spec =
     same-length-3
     same-length-4
     returns
-    number-in-requires
     enter-anode-requires
     enum-known-step
     enum-told

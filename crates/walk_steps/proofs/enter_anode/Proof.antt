@@ -48,8 +48,11 @@ returns-2 : tie.Need-returns-2
 unfolding anodesFrom
 returns-2 c = ((sym (anode-mark _ _ _ _ _ _ _ _ _ _ (one-block (c .before .before .before .before)) (its-mark (c .before) ∙ not-true _ (c .if2 .taken))), tt), tt)
 
+number-in-requires : tie.Need-number-in-requires
+number-in-requires c κs = c .before .before .before .before .before .before .before .before .before .before .before .before .before .before .before .before .before .before .before .before .pre .1
+
 enter-block-requires : tie.Need-enter-block-requires
-enter-block-requires c κs = search needs
+enter-block-requires c κs = let p = c .before .before .before .before .before .before .before .before .before .before .before .before .before .before .before .before .before .before .before .before .before .pre .0 in (p .0, rw (c .number-in .ensures) (p .1))
 
 same-length : tie.Need-same-length
 same-length c = search needs
@@ -64,7 +67,7 @@ same-length-4 : tie.Need-same-length-4
 same-length-4 c = search needs
 
 returns-3 : tie.Need-returns-3
-returns-3 c = rw (its-items (c .before .before .before .before .before .before .before .before .before .before .before .before .before), ← c .before .before .before .before .before .before .before .before .before .before .before .before .before .before .before .entry2 .ensures) (c .before .before .before .before .before .before .before .before .enter-block .ensures)
+returns-3 c = rw (its-items (c .before .before .before .before .before .before .before .before .before .before .before .before .before .before), ← c .before .before .before .before .before .before .before .before .before .before .before .before .before .before .before .before .entry2 .ensures) (rw (c .before .before .before .before .before .before .before .before .before .number-in .ensures) at (c .before .before .before .before .before .before .before .before .enter-block .ensures))
 
 pub enter-anode-spec : {M : Type 1} → statement M
 enter-anode-spec =
@@ -77,6 +80,7 @@ enter-anode-spec =
     entry-requires-2
     is-block-of-requires
     returns-2
+    number-in-requires
     enter-block-requires
     same-length
     same-length-2
