@@ -1,4 +1,4 @@
--- From the check's answer to the whole accepted state, and back for an image that has the same root block and anode block heads.
+-- From the check's answer to the whole accepted state, and back for an image of a disk that passes 1 to 5: that of the image, or the same with other slots.
 use Prim.Native.Nat.{ℕ, _+_, _≤_, _<_}
 use mathlib.Core.Path.{_≡_, refl, sym, ap, _∙_}
 use mathlib.Core.Logic.{_≢_}
@@ -6,15 +6,18 @@ use mathlib.Core.Bool.{Bool, false, _&&_}
 use mathlib.Core.List.{List, [], _∷_, map}
 use native.Mathlib.Omega.{arith}
 use lib.Dec.{eqb, leb}
+use lib.ListN.{length}
 use borrow.Author.Tests.{leb-true, ne-eqb, eqb-true, eqb-false}
 use Rattle.disk.specs.Root.{slotOf}
 use Rattle.disk.specs.AnodeBlocks.{anodeHeaderIn}
 use Rattle.rules.specs.Counting.{oneAt, sumList, occurrences, gather}
-use Rattle.rules.specs.Anodes.{Anodes, limit, exists, anodesOf, withAnodes}
-use Rattle.rules.specs.Chains.{oneIfHead, headOf, cut, systemOwns}
+use Rattle.rules.specs.Anodes.{Anodes, limit, existsBy, exists, anodesOf}
+use Rattle.rules.specs.Chains.{oneIfHead, headOf, cut, systemBy, systemOwns}
 use Rattle.rules.specs.Walk.{Dir, Entered, Item, root, entriesIn, isBlockOf, itemsBy, itemsOf, Walk, fault, done, walk, walkOf, faultIn, dirsIn, reached, reachedDirs, naming}
 use Rattle.rules.specs.Accepted.{diskSize, lastReserved, wrongSlots, unnamed, unnamedChain, checkAnswer}
 use Rattle.rules.specs.Lookup.{noDirectory}
+use Rattle.rules.specs.Plans.{Slotted}
+use Rattle.rules.specs.Table.{withSlotTable, withTable}
 use Rattle.counting.specs.Laws.{none-and, anyBelow-all}
 use Rattle.laws.specs.Tests.{not-above}
 use Rattle.laws.specs.Bags.{list-mono, map-sum}
@@ -22,15 +25,17 @@ use Rattle.laws.specs.Items.{below, namedIn, subs-named, headed}
 use Rattle.laws.specs.Each.{gather-congr-each}
 use Rattle.laws.specs.Apart.{walked-lone, walked-plain}
 use Rattle.laws.specs.Trees.{heads-once, tree-one}
-use Rattle.laws.specs.Space.{Good}
+use Rattle.laws.specs.Space.{Good, good-same}
+use Rattle.laws.specs.Moves.{withThese, SlotsGrew}
 use Rattle.laws.specs.Passes.{passes-of}
-use Rattle.laws.specs.Whole.{Whole, head-counts, counts-head}
+use Rattle.laws.specs.Whole.{Whole, whole-good, head-counts, counts-head}
 use Rattle.laws.specs.Accepted.{Accepted, named-range, whole-of, accepted-of}
 use Rattle.laws.specs.Acceptance.{Passed, passed-of, passed-accepted, Tested, passes-tested}
 use Rattle.laws.specs.Damage.{Faulted, walk-faulted}
 use Rattle.laws.specs.OneOwner.{reading, naming-sum, passes, accepted-one-owner, good}
-use Rattle.frames.specs.Kept.{Unheld, Kept, HeadsKept, kept-all, kept-both, diskSize-kept, wrongSize-kept, shortTables-kept, slotOf-kept, lastReserved-kept, wrongType-kept, wrongRoot-kept, systemOwns-kept, anodesOf-kept, wrongSlots-kept}
+use Rattle.frames.specs.Kept.{Kept, HeadsKept, kept-all, kept-both, diskSize-kept, wrongSize-kept, shortTables-kept, slotOf-kept, lastReserved-kept, wrongType-kept, wrongRoot-kept, systemOwns-kept, anodesOf-kept, wrongSlots-kept}
 use Rattle.frames.specs.StoredAnodes.{AnodesStored, root-unheld, withAnodes-stored, anodesOf-withAnodes}
+use Rattle.frames.specs.StoredSlots.{SlotsFor, RightDisk, slots-kept, slots-stored, slots-size, slots-last, slots-right, table-kept, grown-slots}
 use Rattle.frames.specs.DisjointBlocks.{DataBlock}
 
 -- what the laws ask of anodes t on the disk of img, and of their blocks
@@ -133,6 +138,12 @@ module _ {img : List ℕ} (a : AcceptedImage img) where
   pub accepted-whole : AcceptedWhole img
   accepted-whole = whole-of accepted-state
 
+  -- it passes 1 to 5
+  pub accepted-right : RightDisk img (a .blocks) (a .anodes)
+  accepted-right =
+      let p = image-passed in
+      record { size-right = p .size-right; tables-long = p .tables-long; type-right = p .type-right; root-right = p .root-right; slots-right = p .slots-right }
+
 -- ---- the same disk
 
 -- j has the length of img, its root block and the heads of its anode blocks
@@ -153,15 +164,61 @@ pub record DiskWith (img : List ℕ) (t : Anodes) (j : List ℕ) : Type 0 where
 pub disk-own : (img : List ℕ) → DiskWith img (anodesOf img) img
 disk-own img = record { same = record { kept = kept-all img; heads-kept = λ s u. refl }; anodes = refl }
 
--- an accepted image in which other anodes are stored
-module _ {img : List ℕ} (a : AcceptedImage img) (t : Anodes) where
-  pub stored-kept : Kept (Unheld img) img (withAnodes img t)
-  stored-kept = withAnodes-stored img (accepted-slots a) t .kept
+-- ---- the disk with other slots
 
-  pub disk-stored : {n last : ℕ} {system hd sd : ℕ → ℕ} → Good limit (exists img) n last t system hd sd → DiskWith img t (withAnodes img t)
-  disk-stored g =
-      let right = accepted-slots a in
-      record { same = same-stored right (withAnodes-stored img right t); anodes = anodesOf-withAnodes img right t (passes-of g .0) }
+-- the disk of img with the slots of t
+abbrev pub diskAt : List ℕ → Slotted → List ℕ
+diskAt img t = withSlotTable img (t .slots)
+
+-- t may be stored in img: its slots may stand there, and its anodes are good with them
+pub record TableFor (img : List ℕ) (t : Slotted) (hd sd : ℕ → ℕ) : Type 0 where
+  pub slots-for : SlotsFor img (t .slots)
+  pub good : Good limit (existsBy (t .slots)) (diskSize img) (lastReserved img) (t .anodes) (systemBy (t .slots)) hd sd
+
+-- where slots have grown by the blocks of gs and the anodes are good, the system having those too
+pub table-grown : {img : List ℕ} → AcceptedImage img → {t : Slotted} {hd sd : ℕ → ℕ} (gs : List ℕ) → Good limit (existsBy (t .slots)) (diskSize img) (lastReserved img) (t .anodes) (withThese (systemOwns img) gs) hd sd →
+    ((x : ℕ) → systemBy (t .slots) x ≡ systemOwns img x + occurrences x gs) → SlotsGrew (diskSize img) (slotOf img) (t .slots) → TableFor img t hd sd
+table-grown {img} a {t} gs g got grew = let good = good-same g got in record { slots-for = grown-slots img (t .slots) (accepted-slots a) good grew; good = good }
+
+-- a table stored in an accepted image
+module _ {img : List ℕ} (a : AcceptedImage img) {t : Slotted} {hd sd : ℕ → ℕ} (p : TableFor img t hd sd) where
+  -- the disk with its slots passes 1 to 5
+  pub disk-right : RightDisk (diskAt img t) (a .blocks) (a .anodes)
+  disk-right = slots-right img (accepted-right a) (t .slots) (p .slots-for)
+
+  pub disk-long : length (diskAt img t) ≡ length img
+  disk-long = slots-kept img (accepted-right a) (t .slots) (p .slots-for) .length-kept
+
+  pub disk-size : diskSize (diskAt img t) ≡ diskSize img
+  disk-size = slots-size img (accepted-right a) (t .slots) (p .slots-for)
+
+  pub disk-last : lastReserved (diskAt img t) ≡ lastReserved img
+  disk-last = slots-last img (accepted-right a) (t .slots) (p .slots-for)
+
+  pub disk-slots : slotOf (diskAt img t) ≡ t .slots
+  disk-slots = slots-stored img (accepted-right a) (t .slots) (p .slots-for)
+
+  -- its anodes are good there
+  pub disk-good : GoodOn (diskAt img t) (t .anodes) hd sd
+  disk-good = rw (disk-slots, disk-size, disk-last) (p .good)
+
+  -- and a whole state of its anodes is one of that disk
+  pub disk-whole : {ex : ℕ → Bool} {system hd′ sd′ : ℕ → ℕ} {entries : ℕ → List Entered} {marked : Dir → ℕ → Bool} {dirs : List Dir} → Whole ex (diskSize img) (lastReserved img) (t .anodes) system hd′ sd′ entries marked dirs →
+      WholeWith (diskAt img t) (t .anodes) hd sd entries marked dirs
+  disk-whole w = rw (disk-slots, disk-size, disk-last) (whole-good (p .good) w)
+
+  -- the data blocks of that disk are those of img
+  pub stored-kept : Kept (DataBlock (diskAt img t)) img (withTable img t)
+  stored-kept =
+      let k = table-kept img (accepted-right a) t (p .slots-for) in
+      record { length-kept = k .length-kept; block-kept = λ d o. k .block-kept d (λ e. omega (arith, e, o .above), o .unheld) }
+
+  -- and the image with the table is that disk with its anodes
+  pub disk-stored : DiskWith (diskAt img t) (t .anodes) (withTable img t)
+  unfolding withTable
+  disk-stored =
+      let right = disk-right .slots-right in
+      record { same = same-stored right (withAnodes-stored (diskAt img t) right (t .anodes)); anodes = anodesOf-withAnodes (diskAt img t) right (t .anodes) (passes-of disk-good .0) }
 
 -- what is no data block is not one of some data blocks
 pub not-one : {img : List ℕ} {b : ℕ} → DataBlock img b → (y : ℕ) → (DataBlock img y → ⊥) → y ≢ b
@@ -189,8 +246,7 @@ module _ {img i j : List ℕ} {t : Anodes} {on : ℕ → Type 0} (d : DiskWith i
 
 -- ---- back to the check's answer
 
-module _ {img j : List ℕ} (a : AcceptedImage img) {t : Anodes} (d : DiskWith img t j) {hd sd : ℕ → ℕ} {dirs : List Dir}
-    (left : WholeOn img j t hd sd dirs) where
+module _ {img j : List ℕ} {t : Anodes} (d : DiskWith img t j) {hd sd : ℕ → ℕ} {dirs : List Dir} (left : WholeOn img j t hd sd dirs) where
   w : WholeOn img j (anodesOf j) hd sd dirs
   w = rw (d .anodes) left
 
@@ -226,17 +282,16 @@ module _ {img j : List ℕ} (a : AcceptedImage img) {t : Anodes} (d : DiskWith i
       let r = found .1 .reading in
       passes-tested (anodesOf j) (diskSize img) (lastReserved img) (systemOwns img) (λ a z. (r .present .free-none a z, r .view .free-end a z)) (found .1 .passes)
 
-  -- an image of the same disk with a whole state is accepted
-  pub whole-accepted : StillAccepted a j
-  whole-accepted =
-      let p = image-passed a in
+  -- an image with a whole state, of a disk that passes 1 to 5, is accepted
+  pub whole-accepted : {blocks anodes : ℕ} → RightDisk img blocks anodes → checkAnswer j blocks anodes ≡ 0
+  whole-accepted {blocks} {anodes} r =
       let k = d .same .kept in
-      passed-accepted j (a .blocks) (a .anodes) (record {
-        size-right = wrongSize-kept k ∙ p .size-right;
-        tables-long = shortTables-kept k (a .blocks) (a .anodes) ∙ p .tables-long;
-        type-right = wrongType-kept k refl ∙ p .type-right;
-        root-right = wrongRoot-kept k refl ∙ p .root-right;
-        slots-right = wrongSlots-kept (d .same) refl ∙ p .slots-right;
+      passed-accepted j blocks anodes (record {
+        size-right = wrongSize-kept k ∙ r .size-right;
+        tables-long = shortTables-kept k blocks anodes ∙ r .tables-long;
+        type-right = wrongType-kept k refl ∙ r .type-right;
+        root-right = wrongRoot-kept k refl ∙ r .root-right;
+        slots-right = wrongSlots-kept (d .same) refl ∙ r .slots-right;
         tested = rw (diskSize-kept k, lastReserved-kept k refl, systemOwns-kept k refl) tested;
         walked = ap faultIn walk-found;
         all-named = anyBelow-all (unnamedChain j (anodesOf j)) limit none-unnamed;

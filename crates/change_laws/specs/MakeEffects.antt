@@ -36,13 +36,13 @@ use Rattle.laws.specs.NewDirectory.{entries-new}
 use Rattle.laws.specs.Items.{headed}
 use Rattle.frames.specs.DisjointBlocks.{chains-apart, chain-block}
 use Rattle.frames.specs.StoredBytes.{BlocksKept}
-use Rattle.change_laws.specs.Image.{headIn, headed-reached, headed-same, ReachedDir}
+use Rattle.change_laws.specs.Image.{headIn, diskAt, headed-reached, headed-same, ReachedDir}
 use Rattle.change_laws.specs.FoundEntries.{standing-found, BlockEntry, block-standing}
 use Rattle.change_laws.specs.Reached.{EntryIn, block-on, reached-not-1, dir-block, entry-facts, block-entry, not-file}
 use Rattle.change_laws.specs.KeptChains.{SameChain, same-blocks, OthersLeft, contents-left, entries-left}
 use Rattle.change_laws.specs.EntryBytes.{entryBytes, bytes-at, with-length}
 use Rattle.change_laws.specs.NewEntry.{comment-put}
-use Rattle.change_laws.specs.MadeImage.{Making, spare, parent, w, once, plan, grown, own-block, parent-block, before, kept-block, parent-new, cont, old-block, orphan, spot, entered, inside-before, spot-data, in-block, at-end, entry-kept, entry-block, entry-other, made-disk, entries-made, other-entries}
+use Rattle.change_laws.specs.MadeImage.{Making, parent, w, once, plan, not-fresh, grown, own-block, parent-block, before, kept-block, parent-new, cont, old-block, orphan, spot, entered, inside-before, spot-data, in-block, at-end, entry-kept, entry-block, entry-other, made-disk, entries-made, other-entries}
 use Rattle.change_laws.specs.Make.{made-dirs}
 
 -- the first element's list joined to what stands before
@@ -92,7 +92,7 @@ module _ {img : List ℕ} {h : ℕ} {new : NewEntry} {f : ℕ} {room : Option �
     before-same = ap (entriesIn (before m)) (same-place .1) ∙ cont m .same-entries a one head-not-1
 
   head-now : Head (t .next) (t .block) h
-  head-now = dir-head (orphan m .2) h (once m)
+  head-now = dir-head (orphan m) h (once m)
 
   -- ---- the entries of the directory itself
 
@@ -140,7 +140,7 @@ module _ {img : List ℕ} {h : ℕ} {new : NewEntry} {f : ℕ} {room : Option �
       go : Member (spot m .anode) (chainOf (t .next) limit h) → OneMore (entered m) (entriesOf img s h) (entriesOf j (anodesOf j) h)
       go (front, back, parted) =
           let a = spot m .anode in
-          let alone = stands-once (orphan m .2 .good) h head-now a front back parted in
+          let alone = stands-once (orphan m .good) h head-now a front back parted in
           let all : (x : ℕ) → occurrences x (chainOf (t .next) limit h) ≡ occurrences x front + (oneAt a x + occurrences x back) = λ x.
           ap (occurrences x) parted ∙ occurrences-append x front (a ∷ back) ∙ ap (λ (n : ℕ). occurrences x front + n) (occurrences-cons x a back) in (
             gather was front ++ was a,
@@ -184,7 +184,7 @@ module _ {img : List ℕ} {h : ℕ} {new : NewEntry} {f : ℕ} {room : Option �
     now-head = grown m .stays k d
 
     not-f : k ≢ f
-    not-f e = d .in-use (ap (s .block) e ∙ spare m .unused)
+    not-f = not-fresh m k d k1
 
     -- its blocks are none of the new ones, and not the one that has the entry
     apart-f : (y : ℕ) → 0 < occurrences y (blocksOf t k) → 0 < occurrences y ys → ⊥
@@ -192,21 +192,21 @@ module _ {img : List ℕ} {h : ℕ} {new : NewEntry} {f : ℕ} {room : Option �
         let o = own-block m y q in
         omega (
           arith,
-          chains-apart (orphan m .2 .good) k f now-head (orphan m .2 .head) not-f y p,
+          chains-apart (orphan m .good) k f now-head (orphan m .head) not-f y p,
           rw (← (o .1)) at (block-on t f f (rw (plan m .own-chain) (member-first f [])) (o .0)),
         )
 
     apart-h : (a : ℕ) → 0 < occurrences a (chainOf (t .next) limit h) → 0 < occurrences (t .block a) (blocksOf t k) → ⊥
     apart-h a on p = omega (
       arith,
-      chains-apart (orphan m .2 .good) k h now-head head-now kh (t .block a) p,
+      chains-apart (orphan m .good) k h now-head head-now kh (t .block a) p,
       block-on t h a (occurrences-member a (chainOf (t .next) limit h) on) (ones a on),
     )
 
     block-same : (y : ℕ) → 0 < occurrences y (blocksOf t k) → blockOf j y ≡ blockOf img y
     block-same y p =
         entry-kept m .block-kept y (λ e. apart-h (spot m .anode) (spot m .on) (rw (← e) p))
-        ∙ kept-block m y (chain-block img (orphan m .2 .good) k now-head y p) (not-above (occurrences y ys) (apart-f y p))
+        ∙ kept-block m y (chain-block (diskAt img u) (orphan m .good) k now-head y p) (not-above (occurrences y ys) (apart-f y p))
         (not-above (occurrences y zs) (λ q. let b = parent-block m y q in
         apart-h (b .0) (omega (arith, b .1, ap (occurrences (b .0)) (grown m .chain), occurrences-append (b .0) (chainOf (s .next) limit h) (grown m .new))) (rw (← (b .2)) p)))
 

@@ -15,13 +15,14 @@ use Rattle.rules.specs.Chains.{chainOf, oneIfHead, run, blocksOf, blockCount}
 use Rattle.rules.specs.Walk.{Dir, dirMade, root, Entered, Item, entriesIn, isBlockOf, blocksFor, itemOf, brokenItem, itemsAt, itemsBy, itemsOf, subDirs, walkOf, reachedDirs}
 use Rattle.rules.specs.Lookup.{noDirectory, entriesOf, nameAt, isNamed, firstNamed, entryNamed, nth}
 use Rattle.laws.specs.Tests.{T-true}
-use Rattle.laws.specs.Sums.{oneAt-cases, oneAt-same}
+use Rattle.laws.specs.Sums.{oneAt-cases, oneAt-same, oneBelow, oneBelow-cases}
 use Rattle.laws.specs.Bags.{list-one, list-congr, map-sum}
 use Rattle.laws.specs.Heads.{Head}
 use Rattle.laws.specs.Space.{on-chain}
 use Rattle.laws.specs.Each.{Each, each-zero}
 use Rattle.laws.specs.Items.{wrong, giving, subs, below, below-items, namedIn, faults, headed}
 use Rattle.laws.specs.Walks.{Order, walk-found}
+use Rattle.laws.specs.Trees.{not-lower, lowering}
 use Rattle.laws.specs.TreeChanges.{headed-member}
 use Rattle.laws.specs.Totals.{file-size}
 use Rattle.laws.specs.Entries.{broken-wrong, item-fine, item-anode, item-dir, items-sum, itemsAt-cases, Unbroken}
@@ -94,17 +95,33 @@ module _ {ex : ℕ → Bool} {n last : ℕ} {s : Anodes} {system hd sd : ℕ →
           rw (its-items .2) at fine-at,
         ))
 
-        -- what is summed over the items of all directories has it
-        item-sum : (f : Item → ℕ) → f (itemOf s e) ≤ sumList (λ d. sumList f (items d)) dirs
-        item-sum f = omega (
+        -- what is summed over the items of the directory has it
+        item-in : (f : Item → ℕ) → f (itemOf s e) ≤ sumList f (items d)
+        item-in f = omega (
           arith,
           member-sum (λ x. f (itemOf s x)) e (entries (s .block a)) in-block,
           map-sum (itemOf s) f (entries (s .block a)),
           ap (sumList f) (its-items .2),
           member-sum (λ b. sumList f (itemsAt entries marked s d b)) a (chainOf (s .next) limit (d .head)) on,
           items-sum entries marked s d f,
-          member-sum (λ d. sumList f (items d)) d dirs in-tree,
         )
+
+        -- and over those of all directories
+        item-sum : (f : Item → ℕ) → f (itemOf s e) ≤ sumList (λ d. sumList f (items d)) dirs
+        item-sum f = omega (arith, item-in f, member-sum (λ d. sumList f (items d)) d dirs in-tree)
+
+        -- a directory that it names is lower in the tree
+        named-lower : e .dir ≡ true → d .head ≢ e .anode
+        unfolding not-lower
+        named-lower isdir q =
+            let height = w .tree .height in
+            let weight = not-lower height (height (d .head)) in
+            let none : sumList (giving weight (d .head)) (items d) ≡ 0 = sym (below-items items weight d) ∙ member-each (λ c. lowering items height c ≡ 0) d dirs in-tree (each-zero (lowering items height) dirs (w .tree .lower)) in
+            let one : giving weight (d .head) (itemOf s e) ≡ oneBelow (height (d .head)) (suc (height (e .anode))) = rw (item-dir s e ∙ isdir, item-anode s e) in
+            elim (oneBelow-cases (height (d .head)) (suc (height (e .anode)))) [
+              | inl c ↦ omega (arith, item-in (giving weight (d .head)), none, one, c .1)
+              | inr c ↦ omega (arith, c .0, ap height q)
+            ]
 
 -- ---- in an accepted image
 
@@ -263,6 +280,14 @@ module _ {img : List ℕ} {h : ℕ} (r : ReachedDir img h) where
   pub not-file : {k : ℕ} {e : Entered} → EntryFacts img k e → e .dir ≡ false → h ≢ e .anode
   not-file {e = e} f i q =
       member-each (λ d. d .head ≢ e .anode) (reached-dir .0) (reachedDirs img (anodesOf img)) (reached-dir .1) (not-dir w (e .anode) (f .file i)) (reached-dir .2 ∙ q)
+
+  -- an entry of it does not name it
+  pub not-itself : {e : Entered} → EntryFacts img h e → h ≢ e .anode
+  not-itself {e} f q = go (e .dir) refl
+    where
+      go : (b : Bool) → e .dir ≡ b → ⊥
+      go true i = named-lower w (reached-dir .0) (reached-dir .1) (f .a₀) (rw (reached-dir .2) (f .member-chain)) e (f .member) i (reached-dir .2 ∙ q)
+      go false i = not-file f i q
 
   -- no entry of it breaks the entry rules
   pub reached-unbroken : Unbroken (entriesOf img (anodesOf img) h)

@@ -1,8 +1,8 @@
 -- The directory that had the removed entry: the others stay, in their order, and have the bytes that they had.
 use Prim.Native.Nat.{ℕ, _+_, _-_, _*_, _/_, _%_, _≤_}
-use mathlib.Core.Path.{_≡_, refl, sym, ap, ap₂, _∙_}
+use mathlib.Core.Path.{_≡_, sym, ap, ap₂, _∙_}
 use mathlib.Core.Logic.{_≢_, inl, inr}
-use mathlib.Core.Bool.{Bool, true, false, cond}
+use mathlib.Core.Bool.{cond}
 use mathlib.Core.List.{List, _∷_, _++_, map, append-assoc, map-append}
 use native.Mathlib.Omega.{arith}
 use lib.Dec.{eqb}
@@ -15,22 +15,21 @@ use Rattle.rules.specs.Anodes.{Anodes, limit, anodesOf}
 use Rattle.rules.specs.Chains.{chainOf}
 use Rattle.rules.specs.Walk.{Entered, entriesIn}
 use Rattle.rules.specs.Plans.{Slotted}
-use Rattle.rules.specs.Lookup.{entriesOf, notEmpty}
+use Rattle.rules.specs.Lookup.{entriesOf}
 use Rattle.rules.specs.Changes.{removedImage}
 use Rattle.laws.specs.Bags.{gather-append}
 use Rattle.laws.specs.ChainBlocks.{stands-once}
-use Rattle.laws.specs.Members.{Member, no-member, member-later, member-append, member-left, member-right, member-gather, member-occurrences, gather-congr, map-members, map-kept}
+use Rattle.laws.specs.Members.{Member, member-later, member-append, member-left, member-right, member-gather, member-occurrences, gather-congr, map-members, map-kept}
 use Rattle.frames.specs.Kept.{entriesIn-kept}
 use Rattle.frames.specs.DisjointBlocks.{DataBlock}
 use Rattle.change_laws.specs.FoundEntries.{standing-found, standing-start}
-use Rattle.change_laws.specs.Reached.{reached-not-1, dir-block, start-in, not-file}
+use Rattle.change_laws.specs.Reached.{reached-not-1, dir-block, start-in, not-itself}
+use Rattle.change_laws.specs.Image.{diskAt}
 use Rattle.change_laws.specs.Gap.{lowered, bytes-earlier, bytes-later}
 use Rattle.change_laws.specs.EntryBytes.{entryBytes, bytes-at, with-length}
-use Rattle.change_laws.specs.PlannedChange.{w, facts, home-head}
-use Rattle.change_laws.specs.RemoveStores.{PlannedRemove, y, b, len, closed, here, block-left, removed-disk, kept-data, entries-left, apart}
-use Rattle.change_laws.specs.Remove.{no-entry}
+use Rattle.change_laws.specs.PlannedChange.{w, facts, home-head, off-anode}
+use Rattle.change_laws.specs.RemoveStores.{PlannedRemove, y, b, len, closed, here, others-same, home-data, block-left, removed-disk, kept-data, entries-left}
 use Rattle.change_laws.specs.KeptChains.{entries-along}
-use Rattle.change_laws.specs.RemoveEffects.{others-same}
 
 -- an entry behind the removed one: in the same block it stands earlier by as many bytes as that had
 unfoldable pub movedDown : List ℕ → Entered → Entered → Entered
@@ -126,8 +125,8 @@ module _ {img : List ℕ} {e : Entered} {u : Slotted} {ys : List ℕ} (p : Plann
   abbrev new : ℕ → List Entered
   new a = entriesIn j (s .block a)
 
-  other-anode : (a : ℕ) → Member a chain × (a ≢ facts p .a₀) → DataBlock img (s .block a) × (s .block a ≢ y p)
-  other-anode a u = apart p a (dir-block (p .entry .directory) a (u .0) .one) (u .1)
+  other-anode : (a : ℕ) → Member a chain × (a ≢ facts p .a₀) → DataBlock (diskAt img u) (s .block a) × (s .block a ≢ y p)
+  other-anode a o = (home-data p a (o .0), off-anode p a (dir-block (p .entry .directory) a (o .0) .one) (o .1))
 
   same-along : (l : List ℕ) → ((a : ℕ) → Member a l → Member a chain × (a ≢ facts p .a₀)) → gather new l ≡ gather old l
   same-along l o = gather-congr new old l (λ a m. entriesIn-kept (kept-data p) (s .block a) (other-anode a (o a m)))
@@ -166,32 +165,23 @@ module _ {img : List ℕ} {e : Entered} {u : Slotted} {ys : List ℕ} (p : Plann
       ∙ ap₂ _++_ (map-members (movedDown img e) (lowered (len p)) later (λ f m. is-moved f (same-behind f m .0)))
       (map-kept (movedDown img e) (gather old back) (λ f m. not-moved f (along back in-back f m .0)))
 
-  module _ (empty : e .dir ≡ true → notEmpty img s e ≡ false) where
-    -- a directory that goes is not the one that had its entry
-    not-itself : p .home ≢ e .anode
-    not-itself q = go (e .dir) refl
-      where
-        go : (d : Bool) → e .dir ≡ d → ⊥
-        go true i = no-member e (rw (ap (entriesOf img s) q ∙ no-entry p empty i) at (p .entry .member))
-        go false i = not-file (p .entry .directory) (facts p) i q
+  new-entries : entriesOf j (anodesOf j) (p .home) ≡ were ++ map (movedDown img e) behind
+  unfolding gather
+  new-entries = rw (removed-disk p .anodes, all-moved)
+      (entries-along (others-same p (p .home) (home-head p) (reached-not-1 (p .entry .directory)) (not-itself (p .entry .directory) (facts p))) j
+      ∙ ap (gather new) (facts p .member-chain .2) ∙ gather-append new front (facts p .a₀ ∷ back)
+      ∙ rw (same-along front in-front, same-along back in-back, ← (facts p .in-block), entries-left p j (block-left p)) (joined (map (lowered (len p)) later) (gather old back)))
 
-    new-entries : entriesOf j (anodesOf j) (p .home) ≡ were ++ map (movedDown img e) behind
-    unfolding gather
-    new-entries = rw (removed-disk p .anodes, all-moved)
-        (entries-along (others-same p (p .home) (home-head p) (reached-not-1 (p .entry .directory)) not-itself) j
-        ∙ ap (gather new) (facts p .member-chain .2) ∙ gather-append new front (facts p .a₀ ∷ back)
-        ∙ rw (same-along front in-front, same-along back in-back, ← (facts p .in-block), entries-left p) (joined (map (lowered (len p)) later) (gather old back)))
-
-    -- its own directory has one entry less
-    pub entry-gone : EntryGone img j e (entriesOf img s (p .home)) (entriesOf j (anodesOf j) (p .home))
-    entry-gone = record {
-      before = were;
-      behind = behind;
-      were = old-entries;
-      are = new-entries;
-      bytes-before = λ f m. elim (member-append f (gather old front) earlier m) [ inl q ↦ along front in-front f q .1 | inr q ↦ same-before f q ];
-      bytes-behind = λ f m. elim (member-append f later (gather old back) m) [
-        | inl q ↦ (let r = same-behind f q in rw (is-moved f (r .0)) (r .1))
-        | inr q ↦ (let r = along back in-back f q in rw (not-moved f (r .0)) (r .1))
-      ];
-    }
+  -- its own directory has one entry less
+  pub entry-gone : EntryGone img j e (entriesOf img s (p .home)) (entriesOf j (anodesOf j) (p .home))
+  entry-gone = record {
+    before = were;
+    behind = behind;
+    were = old-entries;
+    are = new-entries;
+    bytes-before = λ f m. elim (member-append f (gather old front) earlier m) [ inl q ↦ along front in-front f q .1 | inr q ↦ same-before f q ];
+    bytes-behind = λ f m. elim (member-append f later (gather old back) m) [
+      | inl q ↦ (let r = same-behind f q in rw (is-moved f (r .0)) (r .1))
+      | inr q ↦ (let r = along back in-back f q in rw (not-moved f (r .0)) (r .1))
+    ];
+  }

@@ -10,23 +10,23 @@ use borrow.Author.Tests.{eq-eqb, ne-eqb}
 use Rattle.disk.specs.Blocks.{blockOf}
 use Rattle.rules.specs.Anodes.{Anodes, limit, anodesOf}
 use Rattle.rules.specs.Chains.{chainOf}
-use Rattle.rules.specs.Walk.{Dir, Entered, entriesIn, isBlockOf, blocksFor, brokenItem, itemsFor, itemsAt, itemsBy, reachedDirs}
-use Rattle.rules.specs.Accepted.{lastReserved}
-use Rattle.rules.specs.Plans.{Slotted, tableOf, Plan, noGrowth}
+use Rattle.rules.specs.Walk.{Dir, Entered, entriesIn, isBlockOf, blocksFor, itemsFor, itemsAt, itemsBy, reachedDirs}
+use Rattle.rules.specs.Accepted.{diskSize, lastReserved}
+use Rattle.rules.specs.Plans.{Slotted, tableOf, Plan, Growth}
 use Rattle.rules.specs.Changes.{resizePlan, resizedImage, resized}
 use Rattle.laws.specs.Tests.{same?}
 use Rattle.laws.specs.Resize as Laws
-use Rattle.laws.specs.Whole.{whole-good}
+use Rattle.laws.specs.Moves.{Grows}
 use Rattle.laws.specs.Members.{Member, member-occurrences, gather-congr, map-kept}
 use Rattle.change_laws.specs.Answers.{StepsAnswer}
-use Rattle.change_laws.specs.Image.{WholeWith, WholeOn, StillAccepted, accepted-whole, whole-accepted, ReachedDir}
+use Rattle.change_laws.specs.Image.{WholeWith, WholeOn, StillAccepted, accepted-whole, diskAt, disk-right, disk-whole, whole-accepted, ReachedDir}
 use Rattle.change_laws.specs.Reached.{member-reached, EntryIn, entry-not-1, dir-block, entry-facts}
 use Rattle.change_laws.specs.NamedOnce.{only-here, only-this}
 use Rattle.change_laws.specs.SameItems.{whole-same}
 use Rattle.change_laws.specs.NewSize.{sized, head-sized, entries-sized}
 use Rattle.change_laws.specs.ResizePlan.{plan-refused}
 use Rattle.change_laws.specs.PlannedChange.{left-cases, image, w, facts}
-use Rattle.change_laws.specs.ResizeStores.{PlannedResize, steps, steps-good, dir-same, other-block, this-block, resized-disk}
+use Rattle.change_laws.specs.ResizeStores.{PlannedResize, steps, table, dir-same, other-block, this-block, resized-disk}
 
 -- ---- the entries
 
@@ -114,36 +114,37 @@ module _ {img : List ℕ} {e : Entered} {new : ℕ} {u : Slotted} {ys : List ℕ
     items-left = rw (dir-same p r .same-extents a (member-occurrences a (chainOf (s .next) limit (d .head)) on) .1, marks-left, block-left)
 
   -- the state after the steps is whole where the entries have the new size
-  sizes-whole : WholeWith img t (steps p .moves .hd′) (steps p .moves .sd′) (λ y. map (resizedEntry (e .anode) new) (entriesIn img y)) (isBlockOf img) dirs
-  sizes-whole = whole-good (steps-good p) (Laws.resized (w p) (e .anode) (facts p .file (p .plan .file)) (steps p .moves) (steps p .has) (resizedEntry (e .anode) new) (λ y. map (resizedEntry (e .anode) new) (entriesIn img y)) (isBlockOf img)
+  sizes-whole : WholeWith (diskAt img u) t (steps p .moves .hd′) (steps p .moves .sd′) (λ y. map (resizedEntry (e .anode) new) (entriesIn img y)) (isBlockOf img) dirs
+  sizes-whole = disk-whole (image p) (table p) (Laws.resized (w p) (e .anode) (facts p .file (p .plan .file)) (steps p .moves) (steps p .has) (resizedEntry (e .anode) new) (λ y. map (resizedEntry (e .anode) new) (entriesIn img y)) (isBlockOf img)
       (record { keeps = resized-fields (e .anode) new; other = λ x n. ap (λ (c : Entered). c .size) (resized-other (e .anode) new x n); there = λ a c q r. (refl, λ d. refl) })
       (λ x i. ap (λ (c : Entered). blocksFor (c .size)) (resized-it (e .anode) new x i)))
 
-  pub still-whole : WholeOn img j (u .anodes) (steps p .moves .hd′) (steps p .moves .sd′) dirs
+  pub still-whole : WholeOn (diskAt img u) j (u .anodes) (steps p .moves .hd′) (steps p .moves .sd′) dirs
   unfolding itemsBy
   still-whole = whole-same sizes-whole (entriesIn j) (isBlockOf j) (λ d m.
       gather-congr (itemsAt (entriesIn j) (isBlockOf j) t d) (itemsAt (λ y. map (resizedEntry (e .anode) new) (entriesIn img y)) (isBlockOf img) t d) (chainOf (t .next) limit (d .head))
       (λ a on. items-left d m a (rw (dir-same p (member-reached (image p) d m) .same-anodes) at on)))
 
   resized-accepted : StillAccepted (image p) j
-  resized-accepted = whole-accepted (image p) (resized-disk p) still-whole
+  resized-accepted = whole-accepted (resized-disk p) still-whole (disk-right (image p) (table p))
 
-module _ {img : List ℕ} {h : ℕ} {e : Entered} (m : EntryIn img h e) (new : ℕ) where
+-- growth: how slots grow
+module _ {img : List ℕ} {growth : Growth} (grows : Grows limit (diskSize img) (lastReserved img) growth) {h : ℕ} {e : Entered} (m : EntryIn img h e) (new : ℕ) where
   abbrev plan : Plan Slotted
-  plan = resizePlan noGrowth (lastReserved img) (tableOf img) (e .anode) (blocksFor new)
+  plan = resizePlan growth (lastReserved img) (tableOf img) (e .anode) (blocksFor new)
 
   -- what a resize leaves of an accepted image is accepted
-  pub resize-accepted : e .dir ≡ false → StillAccepted (m .directory .image) (resized noGrowth img (tableOf img) e new .image)
+  pub resize-accepted : e .dir ≡ false → StillAccepted (m .directory .image) (resized growth img (tableOf img) e new .image)
   unfolding resized
   resize-accepted file =
       let a = m .directory .image in
       left-cases (λ l. StillAccepted a (l .image)) img (resizedImage img (anodesOf img) e new) plan (λ k q. a .accepted)
-      (λ t ys q. resized-accepted (record { home = h; entry = m; plan = record { file = file; steps = q } }))
+      (λ t ys q. resized-accepted (record { home = h; entry = m; plan = record { file = file; growth = growth; grows = grows; steps = q } }))
 
   -- it answers 0, 27 or 28
-  pub resize-answers : StepsAnswer (resized noGrowth img (tableOf img) e new .answer)
+  pub resize-answers : StepsAnswer (resized growth img (tableOf img) e new .answer)
   unfolding resized
   resize-answers =
       let f = entry-facts m in
       left-cases (λ l. StepsAnswer (l .answer)) img (resizedImage img (anodesOf img) e new) plan
-      (λ k q. inr (plan-refused img (accepted-whole (m .directory .image) .good) (e .anode) (f .head) (entry-not-1 f) (blocksFor new) k q)) (λ t ys q. inl refl)
+      (λ k q. inr (plan-refused img grows (accepted-whole (m .directory .image) .good) (e .anode) (f .head) (entry-not-1 f) (blocksFor new) k q)) (λ t ys q. inl refl)

@@ -13,13 +13,14 @@ use Rattle.endian.proofs.Laws.{cleared-rest, take-zeros}
 use Rattle.disk.specs.Blocks.{blockOf}
 use Rattle.disk.proofs.Laws.{length-blockOf}
 use Rattle.rules.specs.Counting.{occurrences, gather}
-use Rattle.rules.specs.Anodes.{Anodes, anodesOf, withAnodes}
-use Rattle.rules.specs.Chains.{blocksOf, blockCount}
+use Rattle.rules.specs.Anodes.{Anodes, anodesOf}
+use Rattle.rules.specs.Chains.{blocksOf}
 use Rattle.rules.specs.Walk.{Entered, blocksFor}
 use Rattle.rules.specs.Plans.{Slotted}
 use Rattle.rules.specs.Lookup.{bytesOf, contents}
 use Rattle.rules.specs.Format.{zeroBlock}
-use Rattle.rules.specs.Changes.{inBlock, zeroTail, zeroTaken, resizedImage}
+use Rattle.rules.specs.Table.{inBlock, withTable}
+use Rattle.rules.specs.Changes.{zeroTail, zeroTaken, resizedImage}
 use Rattle.laws.specs.Chains.{Inside}
 use Rattle.laws.specs.Tests.{same?}
 use Rattle.laws.specs.Sums.{oneAt-same}
@@ -34,9 +35,10 @@ use Rattle.change_laws.specs.Reached.{EntryIn, entry-data}
 use Rattle.change_laws.specs.KeptChains.{contents-left}
 use Rattle.change_laws.specs.Read.{bytes-long, file-long}
 use Rattle.change_laws.specs.NewSize.{sized}
-use Rattle.change_laws.specs.ResizePlan.{handed-data, plan-longer, plan-shorter}
-use Rattle.change_laws.specs.PlannedChange.{w, facts, not-1}
-use Rattle.change_laws.specs.ResizeStores.{PlannedResize, steps, steps-good, zeroed, stored, taken-kept, oldLast, tailCleared, tail-in, tail-long, tail-kept, size-kept, others-left, home-alone}
+use Rattle.change_laws.specs.Image.{disk-long}
+use Rattle.change_laws.specs.ResizePlan.{plan-shorter}
+use Rattle.change_laws.specs.PlannedChange.{image, w, facts, not-1, off-chain}
+use Rattle.change_laws.specs.ResizeStores.{PlannedResize, steps, table, steps-good, file-data, longer, head-not-file, home-apart, zeroed, stored, taken-kept, oldLast, tailCleared, tail-in, tail-long, tail-kept, size-kept, others-left}
 
 gather-zeros : (f : ℕ → List ℕ) (l : List ℕ) → ((y : ℕ) → 0 < occurrences y l → f y ≡ zeroBlock) → gather f l ≡ replicate (length l * 512) 0
 unfolding gather
@@ -69,7 +71,7 @@ module _ {img : List ℕ} {e : Entered} {new : ℕ} {u : Slotted} {ys : List ℕ
 
   -- no block of it has its entry
   off-home : (y : ℕ) → 0 < occurrences y chain → y ≢ e .start / 512
-  off-home y q i = omega (arith, rw i at q, home-alone p .1)
+  off-home y q = off-chain p (e .anode) (facts p .head) (λ i. head-not-file p (p .entry .directory) (sym i)) y q
 
   inside : Inside img chain
   inside y q = entry-data (p .entry) y q .inside
@@ -78,7 +80,7 @@ module _ {img : List ℕ} {e : Entered} {new : ℕ} {u : Slotted} {ys : List ℕ
     shorter : (rest : List ℕ) × (chain ≡ blocksOf t (e .anode) ++ rest)
     unfolding blocksFor
     shorter =
-        let q = plan-shorter img (w p .good) (e .anode) (facts p .head) (not-1 p) (blocksFor new) u ys (p .plan .steps) (omega (arith, facts p .sized (p .plan .file))) in
+        let q = plan-shorter img (p .plan .grows) (w p .good) (e .anode) (facts p .head) (not-1 p) (blocksFor new) u ys (p .plan .steps) (omega (arith, facts p .sized (p .plan .file))) in
         (q .0, q .1)
 
     abbrev left-blocks : List ℕ
@@ -93,7 +95,7 @@ module _ {img : List ℕ} {e : Entered} {new : ℕ} {u : Slotted} {ys : List ℕ
     block-left y q =
         let small = le-ltb (e .size) new less in
         let c = still-in y q in
-        size-kept p .block-kept y (off-home y c) ∙ rw (small) (stored p .block-kept y (entry-data (p .entry) y c .unheld))
+        size-kept p .block-kept y (off-home y c) ∙ rw (small) (stored p .block-kept y (file-data p y q))
 
     -- a file that shrinks has its bytes up to the new size
     pub contents-shrunk : contents j t (sized new e) ≡ take new (contents img s e)
@@ -112,10 +114,6 @@ module _ {img : List ℕ} {e : Entered} {new : ℕ} {u : Slotted} {ys : List ℕ
         ∙ sym (take-take new (e .size) (gather (blockOf img) chain) less)
 
   module _ (more : e .size < new) where
-    longer : (blocksOf t (e .anode) ≡ chain ++ ys) × (length ys ≡ blocksFor new - blockCount s (e .anode))
-    unfolding blocksFor
-    longer = plan-longer img (w p .good) (e .anode) (facts p .head) (not-1 p) (blocksFor new) u ys (p .plan .steps) (omega (arith, facts p .sized (p .plan .file)))
-
     big : ltb (e .size) new ≡ true
     big = lt-ltb (e .size) new more
 
@@ -124,22 +122,29 @@ module _ {img : List ℕ} {e : Entered} {new : ℕ} {u : Slotted} {ys : List ℕ
     once y = omega (
       arith,
       occurrences-append y chain ys,
-      rw (longer .0) at (chain-once (steps-good p) (e .anode) (steps p .moves .shift .stays (e .anode) (facts p .head)) y),
+      rw (longer p more .0) at (chain-once (steps-good p) (e .anode) (steps p .moves .shift .stays (e .anode) (facts p .head)) y),
     )
+
+    -- a block that was taken is one of the file's then, and so is one that it had
+    now-in : (y : ℕ) → 0 < occurrences y chain + occurrences y ys → 0 < occurrences y (blocksOf t (e .anode))
+    now-in y q = rw (longer p more .0) (omega (arith, q, occurrences-append y chain ys))
+
+    taken-inside : (y : ℕ) → 0 < occurrences y ys → y * 512 + 512 ≤ length img
+    taken-inside y q = rw (← disk-long (image p) (table p)) (file-data p y (now-in y (omega (arith, q))) .inside)
 
     -- a block that was taken is zeroed
     taken-zero : (y : ℕ) → 0 < occurrences y ys → blockOf j y ≡ zeroBlock
     unfolding resizedImage zeroTaken
     taken-zero y q =
-        size-kept p .block-kept y (λ i. omega (arith, rw i at q, home-alone p .0))
-        ∙ tail-kept p .block-kept y (omega (arith, once y, q))
-        ∙ rw big (blockOf-withBlocks (withAnodes img t) ys zeroBlock y (length-replicate {A = ℕ} 512 0) q
-        (rw (stored p .length-kept) (handed-data img (w p .good) (e .anode) (facts p .head) (not-1 p) (steps p) y q .inside)))
+        size-kept p .block-kept y (λ i. omega (arith, rw i at (now-in y (omega (arith, q))), home-apart p))
+        ∙ tail-kept p .block-kept y (λ m. omega (arith, once y, q))
+        ∙ rw big (blockOf-withBlocks (withTable img u) ys zeroBlock y (length-replicate {A = ℕ} 512 0) q
+        (rw (stored p .length-kept) (taken-inside y q)))
 
     -- the others keep their bytes, up to the clearing of the last one's end
     before-tail : (y : ℕ) → 0 < occurrences y chain → blockOf (zeroed p) y ≡ blockOf img y
     before-tail y q =
-        taken-kept p .block-kept y (omega (arith, once y, q)) ∙ stored p .block-kept y (entry-data (p .entry) y q .unheld)
+        taken-kept p .block-kept y (λ m. omega (arith, once y, q)) ∙ stored p .block-kept y (file-data p y (now-in y (omega (arith, q))))
 
     zeros : gather (blockOf j) ys ≡ replicate (length ys * 512) 0
     zeros = gather-zeros (blockOf j) ys taken-zero
@@ -227,8 +232,8 @@ module _ {img : List ℕ} {e : Entered} {new : ℕ} {u : Slotted} {ys : List ℕ
         let b = length ys * 512 in
         let c = contents img s e in
         let all : gather (blockOf j) (blocksOf t (e .anode)) ≡ c ++ replicate (a + b) 0 =
-        ap (gather (blockOf j)) (longer .0) ∙ gather-append (blockOf j) chain ys ∙ ap₂ _++_ old-bytes zeros ∙ append-assoc c (replicate a 0) (replicate b 0)
+        ap (gather (blockOf j)) (longer p more .0) ∙ gather-append (blockOf j) chain ys ∙ ap₂ _++_ old-bytes zeros ∙ append-assoc c (replicate a 0) (replicate b 0)
         ∙ ap (λ (l : List ℕ). c ++ l) (replicate-append-replicate {A = ℕ} a b 0) in
         let up-to : new ≡ length c + (new - e .size) = omega (arith, file-long (p .entry) (p .plan .file)) in
         ap (take new) all ∙ ap (λ (n : ℕ). take n (c ++ replicate (a + b) 0)) up-to ∙ take-append-add c (replicate (a + b) 0) (new - e .size)
-        ∙ ap (λ (l : List ℕ). c ++ l) (take-zeros (new - e .size) (a + b) (omega (arith, longer .1, facts p .sized (p .plan .file))))
+        ∙ ap (λ (l : List ℕ). c ++ l) (take-zeros (new - e .size) (a + b) (omega (arith, longer p more .1, facts p .sized (p .plan .file))))

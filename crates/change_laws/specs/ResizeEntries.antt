@@ -41,7 +41,7 @@ module _ {img : List ℕ} {e : Entered} {new : ℕ} {u : Slotted} {ys : List ℕ
 
   -- the same directories are reached
   pub resized-reached : (k : ℕ) → noDirectory j t k ≡ noDirectory img s k
-  resized-reached k = headed-same img j s t k (rw (resized-disk p .anodes) at (reached-sum (image p) (resized-disk p) (still-whole p) (λ d. oneAt (d .head) k)))
+  resized-reached k = headed-same img j s t k (rw (resized-disk p .anodes) at (reached-sum (resized-disk p) (still-whole p) (λ d. oneAt (d .head) k)))
 
   -- the directory k
   module _ {k : ℕ} (r : ReachedDir img k) where

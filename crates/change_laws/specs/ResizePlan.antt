@@ -1,28 +1,26 @@
 -- The steps that a resize plans: from the chain of 1 to the file's, or back, and which blocks change hands.
-use Prim.Native.Nat.{ℕ, _+_, _-_, _≤_, _<_}
+use Prim.Native.Nat.{ℕ, _+_, _-_, _≤_}
 use mathlib.Core.Path.{_≡_, refl, sym, ap, _∙_}
 use mathlib.Core.Logic.{_≢_, _⊎_, inl, inr}
 use mathlib.Core.Bool.{false, cond}
 use mathlib.Core.List.{List, [], _++_, append-nil}
 use native.Mathlib.Omega.{arith}
-use lib.Dec.{T, leb}
+use lib.Dec.{leb}
 use lib.ListN.{length, drop, drop-of-length-le}
 use borrow.Author.Tests.{le-leb, lt-leb}
 use Rattle.disk.specs.Root.{slotOf}
 use Rattle.rules.specs.Counting.{occurrences}
-use Rattle.rules.specs.Anodes.{Anodes, limit, existsBy}
+use Rattle.rules.specs.Anodes.{Anodes, limit}
 use Rattle.rules.specs.Chains.{systemOwns, blocksOf, blockCount}
 use Rattle.rules.specs.Accepted.{diskSize, lastReserved}
-use Rattle.rules.specs.Plans.{Slotted, slotted, refused, planned, noGrowth}
+use Rattle.rules.specs.Plans.{Slotted, slotted, refused, planned, Growth}
 use Rattle.rules.specs.Changes.{resizePlan}
-use Rattle.laws.specs.Tests.{less?, not-above}
+use Rattle.laws.specs.Tests.{less?}
 use Rattle.laws.specs.Sums.{oneAt-same, oneAt-other}
 use Rattle.laws.specs.Heads.{Head}
 use Rattle.laws.specs.Blocks.{blocks}
-use Rattle.laws.specs.Held.{held}
-use Rattle.laws.specs.Space.{good-more, head-1}
-use Rattle.laws.specs.Moves.{none-grows, Moved}
-use Rattle.laws.specs.FixedSlots.{start-owned, none-grown, takes-slots, runs-slots}
+use Rattle.laws.specs.Moves.{Grows, Moved}
+use Rattle.laws.specs.FixedSlots.{start-owned}
 use Rattle.laws.specs.Whole.{blocks-count}
 use Rattle.laws.specs.GiveRuns.{runs-moved}
 use Rattle.laws.specs.Resize.{takes-moved}
@@ -30,8 +28,6 @@ use Rattle.laws.specs.RefusedSteps.{takes-refused}
 use Rattle.laws.specs.RefusedRuns.{runs-refused}
 use Rattle.laws.specs.TakenBlocks.{takes-blocks}
 use Rattle.laws.specs.GivenBlocks.{runs-blocks}
-use Rattle.laws.specs.OwnerTable.{held-data}
-use Rattle.frames.specs.DisjointBlocks.{DataBlock, occurrences-held, chains-apart, chain-block}
 use Rattle.change_laws.specs.Image.{GoodOn}
 
 -- the head whose chain the moved blocks come to: h where it does not shrink, else the free list's
@@ -52,18 +48,10 @@ pub record Resizing (img : List ℕ) (s : Anodes) (hd : ℕ → ℕ) (h size : �
   pub gs : List ℕ
   pub moves : Moved limit (diskSize img) (lastReserved img) (slotted s (slotOf img)) (systemOwns img) hd from to h ys gs t
   pub has : blocks limit (moves .hd′) (t .anodes .count) h ≡ size
-  pub same-slots : t .slots ≡ slotOf img
+  -- the free blocks, those that the system got and those of the chain are the free ones and the chain's of before
+  pub sum : blocks limit (moves .hd′) (t .anodes .count) 1 + length gs + size ≡ blocks limit hd (s .count) 1 + blockCount s h
 
--- anodes that exist by some slots exist by the same slots
-pub exist-same : (slots slots′ : ℕ → ℕ) → slots ≡ slots′ → (a : ℕ) → T (existsBy slots a) → T (existsBy slots′ a)
-exist-same slots slots′ e a t = rw e at t
-
--- steps that leave the slots leave a good state of the disk
-pub moves-good : (img : List ℕ) {s t : Slotted} {hd : ℕ → ℕ} {from to h : ℕ} {ys gs : List ℕ} → (w : Moved limit (diskSize img) (lastReserved img) s (systemOwns img) hd from to h ys gs t) →
-    s .slots ≡ slotOf img → t .slots ≡ s .slots → GoodOn img (t .anodes) (w .hd′) (w .sd′)
-moves-good img {s} {t} w e f = good-more (w .good) (exist-same (t .slots) (slotOf img) (f ∙ e)) (λ x. omega (arith, none-grown w f x))
-
-module _ (img : List ℕ) {s : Anodes} {hd sd : ℕ → ℕ} (g : GoodOn img s hd sd)
+module _ (img : List ℕ) {growth : Growth} (grows : Grows limit (diskSize img) (lastReserved img) growth) {s : Anodes} {hd sd : ℕ → ℕ} (g : GoodOn img s hd sd)
     (h : ℕ) (d : Head (s .next) (s .block) h) (h1 : h ≢ 1) where
   abbrev S : Slotted
   S = slotted s (slotOf img)
@@ -71,11 +59,11 @@ module _ (img : List ℕ) {s : Anodes} {hd sd : ℕ → ℕ} (g : GoodOn img s h
   abbrev last : ℕ
   last = lastReserved img
 
-  pub plan-runs : (size : ℕ) (t : Slotted) (ys : List ℕ) → resizePlan noGrowth (lastReserved img) (slotted s (slotOf img)) h size ≡ planned t ys → Resizing img s hd h size t ys
+  pub plan-runs : (size : ℕ) (t : Slotted) (ys : List ℕ) → resizePlan growth (lastReserved img) (slotted s (slotOf img)) h size ≡ planned t ys → Resizing img s hd h size t ys
   unfolding resizePlan
   plan-runs size t ys plan = elim (less? size (blockCount s h)) [
     | inl l ↦ (let gives = rw (lt-leb (blockCount s h) size l) at plan in
-        let (gs, w, len) = runs-moved (none-grows limit (diskSize img) last) h h1 (blockCount s h - size) t ys S (systemOwns img) hd sd (start-owned (slotOf img)) g d (omega (arith, blocks-count g h d)) gives in
+        let (gs, w, len) = runs-moved grows h h1 (blockCount s h - size) t ys S (systemOwns img) hd sd (start-owned (slotOf img)) g d (omega (arith, blocks-count g h d)) gives in
         record {
           from = h;
           to = 1;
@@ -85,10 +73,10 @@ module _ (img : List ℕ) {s : Anodes} {hd sd : ℕ → ℕ} (g : GoodOn img s h
           gs = gs;
           moves = w;
           has = omega (arith, l, len, blocks-count g h d, rw (oneAt-same h h refl, oneAt-other 1 h (λ e. h1 (sym e))) at (w .moved h));
-          same-slots = runs-slots limit last (blockCount s h - size) h S t ys gives;
+          sum = omega (arith, l, len, blocks-count g h d, rw (oneAt-same 1 1 refl, oneAt-other h 1 h1) at (w .moved 1));
         })
     | inr l ↦ (let takes = rw (le-leb (blockCount s h) size l) at plan in
-        let (gs, w, len) = takes-moved (none-grows limit (diskSize img) last) (size - blockCount s h) h h1 false t ys S (systemOwns img) hd sd (start-owned (slotOf img)) g d takes in
+        let (gs, w, len) = takes-moved grows (size - blockCount s h) h h1 false t ys S (systemOwns img) hd sd (start-owned (slotOf img)) g d takes in
         record {
           from = 1;
           to = h;
@@ -98,48 +86,27 @@ module _ (img : List ℕ) {s : Anodes} {hd sd : ℕ → ℕ} (g : GoodOn img s h
           gs = gs;
           moves = w;
           has = omega (arith, l, len, blocks-count g h d, rw (oneAt-same h h refl, oneAt-other 1 h (λ e. h1 (sym e))) at (w .moved h));
-          same-slots = takes-slots limit false (size - blockCount s h) h S t ys takes;
+          sum = omega (arith, l, len, blocks-count g h d, rw (oneAt-same 1 1 refl, oneAt-other h 1 h1) at (w .moved 1));
         })
   ]
 
-  pub plan-refused : (size k : ℕ) → resizePlan noGrowth (lastReserved img) (slotted s (slotOf img)) h size ≡ refused k → (k ≡ 27) ⊎ (k ≡ 28)
+  pub plan-refused : (size k : ℕ) → resizePlan growth (lastReserved img) (slotted s (slotOf img)) h size ≡ refused k → (k ≡ 27) ⊎ (k ≡ 28)
   unfolding resizePlan
   plan-refused size k plan = elim (less? size (blockCount s h)) [
-    | inl l ↦ inr (runs-refused limit noGrowth last (blockCount s h - size) h k S (rw (lt-leb (blockCount s h) size l) at plan))
-    | inr l ↦ takes-refused limit noGrowth false (size - blockCount s h) h k S (rw (le-leb (blockCount s h) size l) at plan)
+    | inl l ↦ inr (runs-refused limit growth last (blockCount s h - size) h k S (rw (lt-leb (blockCount s h) size l) at plan))
+    | inr l ↦ takes-refused limit growth false (size - blockCount s h) h k S (rw (le-leb (blockCount s h) size l) at plan)
   ]
 
   -- the list of blocks of the chain: more of them behind, or fewer
-  module _ (size : ℕ) (t : Slotted) (ys : List ℕ) (plan : resizePlan noGrowth (lastReserved img) (slotted s (slotOf img)) h size ≡ planned t ys) where
+  module _ (size : ℕ) (t : Slotted) (ys : List ℕ) (plan : resizePlan growth (lastReserved img) (slotted s (slotOf img)) h size ≡ planned t ys) where
     pub plan-longer : blockCount s h ≤ size → (blocksOf (t .anodes) h ≡ blocksOf s h ++ ys) × (length ys ≡ size - blockCount s h)
     unfolding resizePlan
-    plan-longer l = takes-blocks (none-grows limit (diskSize img) last) (size - blockCount s h) h h1 false t ys S (systemOwns img) hd sd (start-owned (slotOf img)) g d (rw (le-leb (blockCount s h) size l) at plan)
+    plan-longer l = takes-blocks grows (size - blockCount s h) h h1 false t ys S (systemOwns img) hd sd (start-owned (slotOf img)) g d (rw (le-leb (blockCount s h) size l) at plan)
 
     pub plan-shorter : size ≤ blockCount s h → (rest : List ℕ) × (blocksOf s h ≡ blocksOf (t .anodes) h ++ rest) × ((x : ℕ) → occurrences x rest ≡ occurrences x ys)
     unfolding resizePlan
     plan-shorter l = elim (less? size (blockCount s h)) [
-      | inl m ↦ (let b = runs-blocks (none-grows limit (diskSize img) last) h h1 (blockCount s h - size) t ys S (systemOwns img) hd sd (start-owned (slotOf img)) g d (omega (arith, blocks-count g h d)) (rw (lt-leb (blockCount s h) size m) at plan) in (b .0, b .1, b .3))
+      | inl m ↦ (let b = runs-blocks grows h h1 (blockCount s h - size) t ys S (systemOwns img) hd sd (start-owned (slotOf img)) g d (omega (arith, blocks-count g h d)) (rw (lt-leb (blockCount s h) size m) at plan) in (b .0, b .1, b .3))
       | inr m ↦ (let q = plan-longer m in let none : ys ≡ [] = drop-of-length-le ys {i = 0} (omega (arith, q .1)) in
           ([], sym (append-nil (blocksOf s h)) ∙ ap (λ (l : List ℕ). blocksOf s h ++ l) (sym none) ∙ sym (q .0) ∙ sym (append-nil (blocksOf (t .anodes) h)), λ x. ap (occurrences x) (sym none)))
     ]
-
-  module _ {size : ℕ} {t : Slotted} {ys : List ℕ} (r : Resizing img s hd h size t ys) where
-    from-head : Head (s .next) (s .block) (r .from)
-    from-head = elim (r .from-is) [ inl e ↦ rw e (head-1 g) | inr e ↦ rw e d ]
-
-    -- what changed hands was a block of the chain that it left
-    was-there : (y : ℕ) → 0 < occurrences y ys → 0 < occurrences y (blocksOf s (r .from))
-    was-there y p =
-        let held-there : 0 < held limit hd (s .count) (s .block) (r .from) y = omega (arith, p, rw (oneAt-same (r .from) (r .from) refl, oneAt-other (r .to) (r .from) (λ e. r .apart (sym e)), none-grown (r .moves) (r .same-slots) y) at (r .moves .passed (r .from) y)) in
-        rw (occurrences-held g (r .from) from-head y (held-data g (r .from) y held-there .0)) held-there
-
-    pub handed-data : (y : ℕ) → 0 < occurrences y ys → DataBlock img y
-    handed-data y p = chain-block img g (r .from) from-head y (was-there y p)
-
-    -- so no block of a chain but 1's and h's did
-    pub handed-apart : (k : ℕ) → Head (s .next) (s .block) k → k ≢ 1 → k ≢ h → (y : ℕ) → 0 < occurrences y (blocksOf s k) → occurrences y ys ≡ 0
-    handed-apart k c k1 kh y p = not-above (occurrences y ys) (λ q. omega (arith, was-there y q, chains-apart g k (r .from) c from-head (other (r .from-is)) y p))
-      where
-        other : (r .from ≡ 1) ⊎ (r .from ≡ h) → k ≢ r .from
-        other (inl e) q = k1 (q ∙ e)
-        other (inr e) q = kh (q ∙ e)

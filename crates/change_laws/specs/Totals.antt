@@ -1,33 +1,36 @@
 -- In every accepted image the blocks of all kinds make the disk's size.
-use Prim.Native.Nat.{ℕ, _+_, _≤_, _<_}
-use mathlib.Core.Path.{_≡_, refl, sym, ap, _∙_}
+use Prim.Native.Nat.{ℕ, _+_, _*_, _≤_, _<_}
+use mathlib.Core.Path.{_≡_, refl, sym, ap, _∙_, fun-ext}
 use mathlib.Core.Logic.{_≢_, inl, inr}
-use mathlib.Core.Bool.{false, cond}
+use mathlib.Core.Bool.{Bool, false, cond}
 use mathlib.Core.List.{List}
 use native.Mathlib.Omega.{arith}
 use lib.Dec.{eqb}
+use lib.ListN.{length}
 use borrow.Author.Tests.{lt-ltb, le-ltb, eq-eqb, ne-eqb}
 use Rattle.disk.specs.Root.{slotOf}
-use Rattle.rules.specs.Counting.{oneAt, sumBelow, sumList}
+use Rattle.rules.specs.Counting.{oneAt, sumBelow, sumList, occurrences}
 use Rattle.rules.specs.Anodes.{Anodes, limit, anodesOf}
 use Rattle.rules.specs.Chains.{oneIfCovers, oneIfHolds, systemBy, systemOwns, blockCount}
 use Rattle.rules.specs.Walk.{Dir, Item, entriesIn, isBlockOf, itemsBy, reachedDirs}
 use Rattle.rules.specs.Accepted.{diskSize, wrongSlots}
+use Rattle.rules.specs.Plans.{Slotted}
 use Rattle.rules.specs.Totals.{freeBlocks, fileBlocks, directoryBlocks, chainBlocks, anodeBlocks, totalIn, total}
 use Rattle.laws.specs.Tests.{same?, less?}
 use Rattle.laws.specs.Sums.{oneAt-same, oneAt-other, sum-congr, sum-zero, sum-add, sum-swap, sum-oneAt}
-use Rattle.laws.specs.Bags.{gather-sum}
+use Rattle.laws.specs.Bags.{gather-sum, list-length, sum-by-occurrences}
 use Rattle.laws.specs.Acceptance.{size-bounds}
 use Rattle.laws.specs.Blocks.{blocks}
 use Rattle.laws.specs.Owners.{blocks-none}
 use Rattle.laws.specs.Ownership.{covers-in, covers-over, covers-sum}
-use Rattle.laws.specs.Space.{head-1, head-5}
+use Rattle.laws.specs.Space.{Good, head-1, head-5}
 use Rattle.laws.specs.Items.{giving, below, namedIn, names-sum, below-items}
 use Rattle.laws.specs.Totals.{file-size, filesOf, dirsOf}
 use Rattle.laws.specs.Whole.{blocks-count, named-heads, whole-total}
 use Rattle.laws.specs.TestsPassed.{right-slot}
 use Rattle.laws.specs.Members.{Member, member-sum, member-congr}
-use Rattle.change_laws.specs.Image.{AcceptedWhole, headIn, AcceptedImage, image-passed, accepted-slots, accepted-reached, accepted-whole}
+use Rattle.frames.specs.Kept.{slotOf-kept}
+use Rattle.change_laws.specs.Image.{AcceptedWhole, headIn, AcceptedImage, image-passed, accepted-slots, accepted-reached, accepted-whole, DiskWith, diskAt, TableFor, disk-right, disk-size, disk-slots}
 
 -- ---- the system's blocks
 
@@ -63,6 +66,42 @@ module _ (img : List ℕ) (right : wrongSlots img ≡ false) where
         covers-sum 3 0 (diskSize img) l,
         sum-swap (λ x s. oneIfHolds (slotOf img) x s) (diskSize img) 42,
         sum-congr (λ s. sumBelow (λ x. oneIfHolds (slotOf img) x s) (diskSize img)) (λ s. cond (eqb (slotOf img s) 0) 0 1) 42 (λ s q. slot-once s),
+      )
+
+-- the free blocks of a good state, as the table of heads has them
+pub free-count : {ex : ℕ → Bool} {n last : ℕ} {s : Anodes} {system hd sd : ℕ → ℕ} → Good limit ex n last s system hd sd → blocks limit hd (s .count) 1 ≡ freeBlocks s
+unfolding freeBlocks
+free-count g = blocks-count g 1 (head-1 g)
+
+-- ---- the anode blocks where slots have grown
+
+module _ {img : List ℕ} (a : AcceptedImage img) {t : Slotted} {hd sd : ℕ → ℕ} (p : TableFor img t hd sd) (gs : List ℕ) (got : (x : ℕ) → systemBy (t .slots) x ≡ systemOwns img x + occurrences x gs) where
+  -- the system has no block past the disk
+  got-below : (x : ℕ) → diskSize img ≤ x → occurrences x gs ≡ 0
+  unfolding systemBy oneIfHolds
+  got-below x l =
+      let none = sum-zero (oneIfHolds (t .slots) x) 42 (λ k q. elim (same? (t .slots k) 0) [
+        | inl z ↦ rw z
+        | inr u ↦ rw (ne-eqb (t .slots k) 0 u) (oneAt-other (t .slots k) x (λ e. omega (arith, e, l, p .slots-for .placed k u .1)))
+      ]) in
+      omega (arith, rw (le-ltb x 3 (omega (arith, l, size-bounds img (image-passed a .size-right) .0))) at (got x), none)
+
+  -- they are those that were, and those that slots got
+  pub anode-blocks-grown : {j : List ℕ} → DiskWith (diskAt img t) (t .anodes) j → anodeBlocks j ≡ anodeBlocks img + length gs
+  anode-blocks-grown {j} d =
+      let n = diskSize img in
+      let five = size-bounds img (image-passed a .size-right) .0 in
+      let now : sumBelow (systemBy (t .slots)) n ≡ anodeBlocks (diskAt img t) + 3 = rw (disk-slots a p, disk-size a p) at (system-blocks (diskAt img t) (disk-right a p .slots-right) (rw (disk-size a p) (omega (arith, five)))) in
+      let same : anodeBlocks j ≡ anodeBlocks (diskAt img t) = unfold anodeBlocks in ap (λ (f : ℕ → ℕ). sumBelow f 42) (fun-ext (λ k. rw (slotOf-kept (d .same .kept) refl k))) in
+      omega (
+        arith,
+        same,
+        now,
+        sum-congr (systemBy (t .slots)) (λ x. systemOwns img x + occurrences x gs * 1) n (λ x l. got x ∙ omega arith),
+        sum-add (systemOwns img) (λ x. occurrences x gs * 1) n,
+        system-blocks img (accepted-slots a) (omega (arith, five)),
+        sum-by-occurrences (λ x. 1) gs n got-below,
+        list-length gs,
       )
 
 -- ---- the chains
@@ -124,12 +163,12 @@ module _ {img : List ℕ} (image : AcceptedImage img) where
 
   -- the kinds of blocks add up to the disk's size
   pub accepted-total : total img ≡ diskSize img
-  unfolding total totalIn freeBlocks
+  unfolding total totalIn
   accepted-total = omega (
     arith,
     whole-total w,
     system-blocks img (accepted-slots image) (omega (arith, size-bounds img (image-passed image .size-right) .0)),
-    blocks-count (w .good) 1 (head-1 (w .good)),
+    free-count (w .good),
     files,
     directories,
     maybe 3 (omega arith) (w .good .first 3 (inr (inl refl))),

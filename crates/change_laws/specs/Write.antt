@@ -18,7 +18,7 @@ use Rattle.laws.specs.Walks.{walk-same}
 use Rattle.frames.specs.Kept.{Kept}
 use Rattle.frames.specs.DisjointBlocks.{chains-apart}
 use Rattle.frames.specs.StoredBytes.{BlocksKept, written-kept, bytesOf-written, bytesOf-written-other}
-use Rattle.change_laws.specs.Image.{WholeOn, AcceptedWhole, headIn, sideIn, AcceptedImage, StillAccepted, accepted-whole, accepted-walk, DiskWith, disk-own, not-among, disk-then, whole-accepted, ReachedDir}
+use Rattle.change_laws.specs.Image.{WholeOn, AcceptedWhole, headIn, sideIn, AcceptedImage, StillAccepted, accepted-whole, accepted-walk, accepted-right, DiskWith, disk-own, not-among, disk-then, whole-accepted, ReachedDir}
 use Rattle.change_laws.specs.SameItems.{whole-same}
 use Rattle.change_laws.specs.EntryBytes.{entryBytes}
 use Rattle.change_laws.specs.KeptChains.{same-chain-own, block-same, entries-same, entry-bytes-same}
@@ -82,7 +82,7 @@ module _ {img : List ℕ} {h : ℕ} {e : Entered} (m : EntryIn img h e) (file : 
 
   -- what a write leaves of an accepted image is accepted
   pub write-accepted : StillAccepted image j
-  write-accepted = whole-accepted image written-disk still-whole
+  write-accepted = whole-accepted written-disk still-whole (accepted-right image)
 
   -- ---- what the files hold
 

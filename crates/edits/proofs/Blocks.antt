@@ -25,7 +25,8 @@ use Rattle.rules.specs.Anodes.{Anodes, sameAnode, storeChanged}
 use Rattle.rules.specs.Chains.{run, blocksOf}
 use Rattle.rules.specs.Walk.{Entered}
 use Rattle.rules.specs.Format.{zeroBlock, newDirectoryBlock}
-use Rattle.rules.specs.Changes.{inBlock, withBlocks, zeroTail}
+use Rattle.rules.specs.Table.{inBlock}
+use Rattle.rules.specs.Changes.{withBlocks, zeroTail}
 use Rattle.laws.specs.Chains.{run-step}
 use Rattle.laws.specs.OwnerTable.{setAll}
 use Rattle.tables.specs.Held.{HeldBelow}

@@ -11,7 +11,8 @@ ghost use Rattle.rules.specs.Anodes.{anodesOf, sameAnode, storeChanged, withAno
 ghost use Rattle.rules.specs.Chains.{run, blocksOf};
 ghost use Rattle.rules.specs.Walk.{Entered};
 ghost use Rattle.rules.specs.Format.{zeroBlock, newDirectoryBlock};
-ghost use Rattle.rules.specs.Changes.{inBlock, withBlocks, zeroTail, withSize, entriesEnd, firstRoom, newEntry, entryOf, gapClosed, withoutEntry};
+ghost use Rattle.rules.specs.Table.{inBlock};
+ghost use Rattle.rules.specs.Changes.{withBlocks, zeroTail, withSize, entriesEnd, firstRoom, newEntry, entryOf, gapClosed, withoutEntry};
 ghost use Rattle.laws.specs.OwnerTable.{setAll};
 ghost use Rattle.anodes.specs.Loaded.{anodesFrom};
 ghost use Rattle.edits.specs.Entries.{roomOf, orRest, movedDown, EntryStands, ExtentsFit, OneBlockEach};

@@ -21,7 +21,8 @@ use Rattle.counting.specs.Laws.{neither}
 use Rattle.rules.specs.Accepted.{diskSize, wrongSize}
 use Rattle.rules.specs.Format.{wrongFormat, zeroBlock, rootBlock, lowerAnode, upperAnode, listHead, firstAnodes, emptyAnodeBlock, anodeBlock, withAnodeBlocks, newDirectoryBlock, formatted, rootMade}
 use Rattle.laws.specs.NewDirectory.{length-new}
-use Rattle.format.proofs.Parts.{length-zeroBlock, blockOf-zeros, length-stored, blockOf-other, blockOf-same, block-lent, block-stored, block-over, length-rootBlock, rootIn-rootBlock, slotIn-rootBlock-some, slotIn-rootBlock-none, anodeIn-emptyAnodeBlock, empty-long, anodeBlock-first, anodeBlock-later, first-0, first-1, first-2, first-5, first-6, first-other, length-withAnodeBlocks, blockOf-withAnodeBlocks-other, blockOf-withAnodeBlocks-same}
+use Rattle.laws.specs.NewAnodeBlock.{length-zeroBlock, anodeIn-emptyAnodeBlock}
+use Rattle.format.proofs.Parts.{blockOf-zeros, length-stored, blockOf-other, blockOf-same, block-lent, block-stored, block-over, length-rootBlock, rootIn-rootBlock, slotIn-rootBlock-some, slotIn-rootBlock-none, empty-long, anodeBlock-first, anodeBlock-later, first-0, first-1, first-2, first-5, first-6, first-other, length-withAnodeBlocks, blockOf-withAnodeBlocks-other, blockOf-withAnodeBlocks-same}
 
 -- ---- arguments that are taken
 

@@ -10,14 +10,15 @@ use lib.ListN.{length, take, drop, replicate, length-replicate}
 use lib.Seq.{take-all, ext-getD}
 use borrow.Rule.Slice.PartMut.{putMid}
 use borrow.Author.Tests.{ne-eqb, eq-eqb}
-use Rattle.endian.specs.Bytes.{be16, cleared}
+use Rattle.endian.specs.Bytes.{cleared}
 use Rattle.endian.proofs.Laws.{same?, length-put16, cleared-front, getD-zeros}
 use Rattle.disk.specs.Blocks.{blockOf, withBlock}
 use Rattle.disk.specs.Root.{rootIn, putRoot, slotByte, slotIn, putSlot}
 use Rattle.disk.specs.AnodeBlocks.{anodeMade, anodeIn, putAnode}
 use Rattle.disk.proofs.Laws.{length-blockOf, length-blockOf-min, part-block, block-back, length-putAnode}
-use Rattle.disk.proofs.Store.{anodeIn-putAnode-same, anodeIn-putAnode-other, length-putAnodeHeader, anodeIn-putAnodeHeader, length-putRoot, rootIn-putRoot, slotIn-putRoot, slotIn-putSlot-same, slotIn-putSlot-other, rootIn-putSlot, getD-blockOf, length-withBlock, blockOf-withBlock-same, blockOf-withBlock-other}
+use Rattle.disk.proofs.Store.{anodeIn-putAnode-same, anodeIn-putAnode-other, length-putRoot, rootIn-putRoot, slotIn-putRoot, slotIn-putSlot-same, slotIn-putSlot-other, rootIn-putSlot, getD-blockOf, length-withBlock, blockOf-withBlock-same, blockOf-withBlock-other}
 use Rattle.rules.specs.Format.{zeroBlock, withSlots, rootBlock, lowerAnode, upperAnode, listHead, firstAnodes, emptyAnodeBlock, anodeBlock, withAnodeBlocks, rootMade}
+use Rattle.laws.specs.NewAnodeBlock.{be16-zeros, length-zeroBlock, length-emptyAnodeBlock}
 
 -- ---- zeros
 
@@ -25,20 +26,9 @@ use Rattle.rules.specs.Format.{zeroBlock, withSlots, rootBlock, lowerAnode, upp
 pub all-cleared : (l : List ℕ) → cleared l 0 (length l) ≡ replicate (length l) 0
 all-cleared l = cleared-front l (length l) (omega arith) ∙ take-all (length l) (replicate (length l) 0) (le-of-eq (length-replicate {A = ℕ} (length l) 0))
 
-be16-zeros : (n k : ℕ) → be16 (replicate n 0) k ≡ 0
-unfolding be16
-be16-zeros n k = rw (getD-zeros n k, getD-zeros n (k + 1))
-
-pub length-zeroBlock : length zeroBlock ≡ 512
-length-zeroBlock = length-replicate {A = ℕ} 512 0
-
 slotIn-zeroBlock : (s : ℕ) → slotIn zeroBlock s ≡ 0
 unfolding slotIn
 slotIn-zeroBlock s = be16-zeros 512 (96 + 2 * s)
-
-anodeIn-zeroBlock : (p : ℕ) → anodeIn zeroBlock p ≡ anodeMade 0 0 0
-unfolding anodeIn
-anodeIn-zeroBlock p = rw (be16-zeros 512 (16 + 6 * p), be16-zeros 512 (16 + 6 * p + 2), be16-zeros 512 (16 + 6 * p + 4))
 
 pub blockOf-zeros : (n b : ℕ) → b * 512 + 512 ≤ n → blockOf (replicate n 0) b ≡ zeroBlock
 blockOf-zeros n b h =
@@ -141,14 +131,6 @@ module _ (last k : ℕ) (name : List ℕ) (day minute tick protection : ℕ) whe
       slotIn-withSlots-none bare k s h ∙ slotIn-putRoot zeroBlock (rootMade last name day minute tick protection) name s short ∙ slotIn-zeroBlock s
 
 -- ---- anode blocks
-
-length-emptyAnodeBlock : (s : ℕ) → length (emptyAnodeBlock s) ≡ 512
-unfolding emptyAnodeBlock
-length-emptyAnodeBlock s = length-putAnodeHeader zeroBlock _ ∙ length-zeroBlock
-
-pub anodeIn-emptyAnodeBlock : (s p : ℕ) → anodeIn (emptyAnodeBlock s) p ≡ anodeMade 0 0 0
-unfolding emptyAnodeBlock
-anodeIn-emptyAnodeBlock s p = anodeIn-putAnodeHeader zeroBlock _ p ∙ anodeIn-zeroBlock p
 
 -- the first anode block has room for all its places
 pub empty-long : 512 ≤ length (emptyAnodeBlock 0)

@@ -6,36 +6,29 @@ use mathlib.Core.Bool.{false, not}
 use mathlib.Core.List.{List}
 use native.Mathlib.Omega.{arith}
 use lib.Dec.{eqb}
-use lib.ListN.{length, length-replicate}
+use lib.ListN.{length}
 use borrow.Author.Tests.{le-ltb, lt-leb, ne-eqb}
 use Rattle.disk.specs.Blocks.{blockOf}
 use Rattle.disk.specs.Root.{slotOf}
 use Rattle.disk.specs.AnodeBlocks.{anodeMark, anodeHeaderIn}
 use Rattle.disk.specs.declared.Root.{Root}
 use Rattle.disk.specs.declared.AnodeHeader.{AnodeHeader}
-use Rattle.disk.proofs.Store.{anodeHeaderIn-putAnode, anodeHeaderIn-putAnodeHeader}
+use Rattle.disk.proofs.Store.{anodeHeaderIn-putAnode}
 use Rattle.rules.specs.Anodes.{limit}
 use Rattle.rules.specs.Accepted.{diskSize, wrongSize, shortTables, wrongType, lastReserved, wrongRoot, wrongSlot, wrongSlots}
-use Rattle.rules.specs.Format.{zeroBlock, firstAnodes, emptyAnodeBlock, anodeBlock, formatted}
+use Rattle.rules.specs.Format.{firstAnodes, emptyAnodeBlock, anodeBlock, formatted}
 use Rattle.counting.specs.Laws.{none-or, none-and, anyBelow-all}
 use Rattle.laws.specs.Tests.{less?, same}
+use Rattle.laws.specs.NewAnodeBlock.{headerMade, anodeHeaderIn-emptyAnodeBlock}
 use Rattle.format.proofs.Parts.{anodeBlock-both}
 use Rattle.format.proofs.Laws.{Taken, length-formatted, rootIn-formatted, slotOf-formatted-some, slotOf-formatted-none, blockOf-formatted-anodes}
-
--- the head of anode block s
-abbrev headerMade : ℕ → AnodeHeader
-headerMade s = record { mark = anodeMark; sequence = s }
-
-head-empty : (s : ℕ) → anodeHeaderIn (emptyAnodeBlock s) ≡ headerMade s
-unfolding emptyAnodeBlock
-head-empty s = anodeHeaderIn-putAnodeHeader zeroBlock (headerMade s) (omega (arith, length-replicate {A = ℕ} 512 0))
 
 head-first : (b : List ℕ) (n last k : ℕ) → anodeHeaderIn (firstAnodes b n last k) ≡ anodeHeaderIn b
 unfolding firstAnodes
 head-first b n last k = simp anodeHeaderIn-putAnode
 
 head-block : (n last k s : ℕ) → anodeHeaderIn (anodeBlock n last k s) ≡ headerMade s
-head-block n last k s = anodeBlock-both n last k (λ b. anodeHeaderIn b ≡ headerMade s) s (head-first (emptyAnodeBlock s) n last k ∙ head-empty s) (head-empty s)
+head-block n last k s = anodeBlock-both n last k (λ b. anodeHeaderIn b ≡ headerMade s) s (head-first (emptyAnodeBlock s) n last k ∙ anodeHeaderIn-emptyAnodeBlock s) (anodeHeaderIn-emptyAnodeBlock s)
 
 module _ (img : List ℕ) (last k : ℕ) (name : List ℕ) (day minute tick protection : ℕ) where
   abbrev disk : List ℕ

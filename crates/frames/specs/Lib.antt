@@ -4,3 +4,4 @@ pub mod StoredBlocks
 pub mod StoredAnodes
 pub mod DisjointBlocks
 pub mod StoredBytes
+pub mod StoredSlots

@@ -10,7 +10,8 @@ use Rattle.disk.specs.Blocks.{blockOf, withBlock}
 use Rattle.disk.proofs.Laws.{length-blockOf-min}
 use Rattle.disk.proofs.Store.{length-withBlock, blockOf-withBlock-same, blockOf-withBlock-other}
 use Rattle.rules.specs.Counting.{occurrences}
-use Rattle.rules.specs.Changes.{inBlock, withBlocks, spread}
+use Rattle.rules.specs.Table.{inBlock}
+use Rattle.rules.specs.Changes.{withBlocks, spread}
 use Rattle.laws.specs.Sums.{oneAt-same}
 use Rattle.laws.specs.Bags.{occurrences-cons}
 use Rattle.frames.specs.Kept.{Kept, kept-all, kept-both}

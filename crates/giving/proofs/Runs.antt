@@ -15,13 +15,13 @@ use Rattle.disk.specs.Refusals.{numberOf}
 use Rattle.rules.specs.Counting.{occurrences, lastOf}
 use Rattle.rules.specs.Anodes.{Anodes, limit, existsBy}
 use Rattle.rules.specs.Chains.{chainOf, run, cut, side, blockCount}
-use Rattle.rules.specs.Plans.{Slotted, slotted, Plan, refused, planned, after, _andThen_, atSlots, noGrowth}
+use Rattle.rules.specs.Plans.{Slotted, slotted, Plan, refused, planned, after, _andThen_, atSlots, Growth}
 use Rattle.rules.specs.Space.{lowerRun, sideOf, sideEnd, joinWith, onChain, dropped, moveBack, headBack, beforeHead, giveRuns, giveBlocks, giveAll}
 use Rattle.laws.specs.Tests.{less?, T-false}
 use Rattle.laws.specs.Bags.{list-nil}
 use Rattle.laws.specs.Space.{Good, on-chain}
 use Rattle.laws.specs.Owners.{full-inside}
-use Rattle.laws.specs.Moves.{none-grows, withThese}
+use Rattle.laws.specs.Moves.{Grows, withThese}
 use Rattle.laws.specs.Whole.{blocks-count}
 use Rattle.laws.specs.Plans.{after-none, after-both, then-stop}
 use Rattle.laws.specs.Give.{sideOf-head, side-end-used, side-end-head}
@@ -63,20 +63,20 @@ module _ (next : ℕ → ℕ) where
 
 -- ---- the runs up to a turn
 
--- the runs of the chain of h have come to s with the rest of the whole plan to go
-pub record RunsGo (last h : ℕ) (chain : List ℕ) (whole : Plan Slotted) (g : Going) (s : Slotted) : Type 0 where
+-- the runs of the chain of h, where slots may grow, have come to s with the rest of the whole plan to go
+pub record RunsGo (growth : Growth) (last h : ℕ) (chain : List ℕ) (whole : Plan Slotted) (g : Going) (s : Slotted) : Type 0 where
   pub carries : Carries last h chain g s
   pub fuel : ℕ
   pub enough : g .left ≤ fuel
   pub done : List ℕ
-  pub same : after done (giveRuns 3444 noGrowth last fuel (g .left) h s) ≡ whole
+  pub same : after done (giveRuns 3444 growth last fuel (g .left) h s) ≡ whole
 
 -- at first all is to go
-pub go-first : (last h : ℕ) (chain : List ℕ) (k : ℕ) (g : Going) (s : Anodes) (slots : ℕ → ℕ) → Ready last (slotted s slots) h → k ≤ blockCount s h → length chain ≡ 3444 → g .left ≡ k → g .at ≤ 3444 →
+pub go-first : (growth : Growth) (last h : ℕ) (chain : List ℕ) (k : ℕ) (g : Going) (s : Anodes) (slots : ℕ → ℕ) → Ready last (slotted s slots) h → k ≤ blockCount s h → length chain ≡ 3444 → g .left ≡ k → g .at ≤ 3444 →
     take (g .at) chain ≡ chainOf (s .next) 3444 h → g .upper .0 ≡ lastOf 1 (chainOf (cut (s .next)) 3444 1) → g .lower .0 ≡ lastOf 2 (chainOf (cut (s .next)) 3444 2) →
-    RunsGo last h chain (giveBlocks 3444 noGrowth last k h (slotted s slots)) g (slotted s slots)
+    RunsGo growth last h chain (giveBlocks 3444 growth last k h (slotted s slots)) g (slotted s slots)
 unfolding giveBlocks side
-go-first last h chain k g s slots ready fits room left inside listed upper lower = record {
+go-first growth last h chain k g s slots ready fits room left inside listed upper lower = record {
   carries = record {
     ready = ready;
     enough = omega (arith, fits, left);
@@ -91,21 +91,21 @@ go-first last h chain k g s slots ready fits room left inside listed upper lower
   fuel = k;
   enough = omega (arith, left);
   done = [];
-  same = after-none (giveRuns 3444 noGrowth last k (g .left) h (slotted s slots)) ∙ ap (λ (i : ℕ). giveRuns 3444 noGrowth last k i h (slotted s slots)) left;
+  same = after-none (giveRuns 3444 growth last k (g .left) h (slotted s slots)) ∙ ap (λ (i : ℕ). giveRuns 3444 growth last k i h (slotted s slots)) left;
 }
 
-runs-none : (last f h : ℕ) (s : Slotted) → giveRuns 3444 noGrowth last f 0 h s ≡ planned s []
+runs-none : (growth : Growth) (last f h : ℕ) (s : Slotted) → giveRuns 3444 growth last f 0 h s ≡ planned s []
 unfolding giveRuns
-runs-none last zero h s = refl
-runs-none last (suc f) h s = refl
+runs-none growth last zero h s = refl
+runs-none growth last (suc f) h s = refl
 
-module _ {last h : ℕ} {chain : List ℕ} {whole : Plan Slotted} {g : Going} {s : Slotted} (r : RunsGo last h chain whole g s) where
+module _ {growth : Growth} {last h : ℕ} {chain : List ℕ} {whole : Plan Slotted} {g : Going} {s : Slotted} (r : RunsGo growth last h chain whole g s) where
   -- nothing is left to go
   pub go-done : g .left ≡ 0 → (ys : List ℕ) × (whole ≡ planned s ys)
   unfolding after
-  go-done e = (r .done, sym (r .same) ∙ ap (after (r .done)) (ap (λ (k : ℕ). giveRuns 3444 noGrowth last (r .fuel) k h s) e ∙ runs-none last (r .fuel) h s) ∙ ap (planned s) (append-nil (r .done)))
+  go-done e = (r .done, sym (r .same) ∙ ap (after (r .done)) (ap (λ (k : ℕ). giveRuns 3444 growth last (r .fuel) k h s) e ∙ runs-none growth last (r .fuel) h s) ∙ ap (planned s) (append-nil (r .done)))
 
-  module _ (some : 0 < g .left) (t : Slotted) (turn : Turn) (turns : Turns turn last h chain (g .left) s t) where
+  module _ (some : 0 < g .left) (t : Slotted) (turn : Turn) (turns : Turns turn growth last h chain (g .left) s t) where
     more : r .fuel ≡ suc (r .fuel - 1)
     more = omega (arith, some, r .enough)
 
@@ -113,21 +113,21 @@ module _ {last h : ℕ} {chain : List ℕ} {whole : Plan Slotted} {g : Going} {s
     pub go-stop : (why : Refusal) → turn ≡ Stops why → whole ≡ refused (numberOf why)
     unfolding after
     go-stop why e =
-        let w : Turns (Stops why) last h chain (g .left) s t = rw e at turns in
-        sym (r .same) ∙ ap (after (r .done)) (ap (λ (f : ℕ). giveRuns 3444 noGrowth last f (g .left) h s) more ∙ w (r .fuel - 1))
+        let w : Turns (Stops why) growth last h chain (g .left) s t = rw e at turns in
+        sym (r .same) ∙ ap (after (r .done)) (ap (λ (f : ℕ). giveRuns 3444 growth last f (g .left) h s) more ∙ w (r .fuel - 1))
 
     -- a turn is done
-    pub go-next : (g′ : Going) → turn ≡ Goes g′ → (g′ .left < g .left) × RunsGo last h chain whole g′ t
+    pub go-next : (g′ : Going) → turn ≡ Goes g′ → (g′ .left < g .left) × RunsGo growth last h chain whole g′ t
     go-next g′ e =
-        let w : Turns (Goes g′) last h chain (g .left) s t = rw e at turns in (
+        let w : Turns (Goes g′) growth last h chain (g .left) s t = rw e at turns in (
           w .0,
           record {
             carries = w .1;
             fuel = r .fuel - 1;
             enough = omega (arith, w .0, r .enough);
             done = r .done ++ w .2 .0;
-            same = sym (after-both (r .done) (w .2 .0) (giveRuns 3444 noGrowth last (r .fuel - 1) (g′ .left) h t))
-                ∙ ap (after (r .done)) (sym (ap (λ (f : ℕ). giveRuns 3444 noGrowth last f (g .left) h s) more ∙ w .2 .1 (r .fuel - 1))) ∙ r .same;
+            same = sym (after-both (r .done) (w .2 .0) (giveRuns 3444 growth last (r .fuel - 1) (g′ .left) h t))
+                ∙ ap (after (r .done)) (sym (ap (λ (f : ℕ). giveRuns 3444 growth last f (g .left) h s) more ∙ w .2 .1 (r .fuel - 1))) ∙ r .same;
           },
         )
 
@@ -201,27 +201,27 @@ module _ (last : ℕ) (s : Anodes) (slots : ℕ → ℕ) (h : ℕ) (ready : Read
 
   -- ---- the whole chain
 
-  -- blocks that have gone back leave a good state
-  pub blocks-ready : (k : ℕ) (t : Anodes) (ys : List ℕ) → k ≤ blockCount s h → giveBlocks 3444 noGrowth last k h (slotted s slots) ≡ planned (slotted t slots) ys → Ready last (slotted t slots) h
-  blocks-ready k t ys few e =
-      let (gs, w, long) = runs-moved (none-grows limit (ready .0 .n) last) h (ready .1 .1) k (slotted t slots) ys (slotted s slots) (ready .0 .system) (ready .0 .hd) (ready .0 .sd) (ready .0 .start) good (ready .1 .0) (rw (blocks-count good h (ready .1 .0)) few) e in
-      (record { n = ready .0 .n; system = withThese (ready .0 .system) gs; hd = w .hd′; sd = w .sd′; small = ready .0 .small; start = λ y l. omega (arith, ready .0 .start y l); good = w .good }, (w .shift .stays h (ready .1 .0), ready .1 .1))
+  module _ (growth : Growth) where
+    -- blocks that have gone back leave a good state
+    pub blocks-ready : ((n : ℕ) → Grows limit n last growth) → (k : ℕ) (t : Slotted) (ys : List ℕ) → k ≤ blockCount s h → giveBlocks 3444 growth last k h (slotted s slots) ≡ planned t ys → Ready last t h
+    blocks-ready grows k t ys few e =
+        let (gs, w, long) = runs-moved (grows (ready .0 .n)) h (ready .1 .1) k t ys (slotted s slots) (ready .0 .system) (ready .0 .hd) (ready .0 .sd) (ready .0 .start) good (ready .1 .0) (rw (blocks-count good h (ready .1 .0)) few) e in
+        (record { n = ready .0 .n; system = withThese (ready .0 .system) gs; hd = w .hd′; sd = w .sd′; small = ready .0 .small; start = λ y l. omega (arith, ready .0 .start y l); good = w .good }, (w .shift .stays h (ready .1 .0), ready .1 .1))
 
-  module _ (k : ℕ) (is : k ≡ blockCount s h - lowerRun last (s .count h) (s .block h)) where
-    before-is : beforeHead 3444 last s h ≡ k
-    unfolding beforeHead blockCount
-    before-is = sym is
+    module _ (k : ℕ) (is : k ≡ blockCount s h - lowerRun last (s .count h) (s .block h)) where
+      before-is : beforeHead 3444 last s h ≡ k
+      unfolding beforeHead blockCount
+      before-is = sym is
 
-    -- refused before the head
-    pub all-stop : (j : ℕ) → giveBlocks 3444 noGrowth last k h (slotted s slots) ≡ refused j → giveAll 3444 noGrowth last h (slotted s slots) ≡ refused j
-    unfolding giveAll
-    all-stop j e = rw before-is (then-stop (giveBlocks 3444 noGrowth last k h (slotted s slots)) (headBack 3444 last h) j e)
+      -- refused before the head
+      pub all-stop : (j : ℕ) → giveBlocks 3444 growth last k h (slotted s slots) ≡ refused j → giveAll 3444 growth last h (slotted s slots) ≡ refused j
+      unfolding giveAll
+      all-stop j e = rw before-is (then-stop (giveBlocks 3444 growth last k h (slotted s slots)) (headBack 3444 last h) j e)
 
-    -- done, and then the head
-    pub all-done : (t r : Anodes) (ys zs : List ℕ) → giveBlocks 3444 noGrowth last k h (slotted s slots) ≡ planned (slotted t slots) ys → headBack 3444 last h (slotted t slots) ≡ planned (slotted r slots) zs →
-        giveAll 3444 noGrowth last h (slotted s slots) ≡ planned (slotted r slots) (ys ++ zs)
-    unfolding giveAll _andThen_ after
-    all-done t r ys zs e b = rw (before-is, e, _andThen_, b, after)
+      -- done, and then the head
+      pub all-done : (t r : Slotted) (ys zs : List ℕ) → giveBlocks 3444 growth last k h (slotted s slots) ≡ planned t ys → headBack 3444 last h t ≡ planned r zs → giveAll 3444 growth last h (slotted s slots) ≡ planned r (ys ++ zs)
+      unfolding giveAll _andThen_ after
+      all-done t r ys zs e b = rw (before-is, e, _andThen_, b, after)
 
 -- ---- what a run of steps that is done, or stopped, has come to
 

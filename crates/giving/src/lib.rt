@@ -4,11 +4,12 @@ ghost use mathlib.Core.Path.{_≡_};
 ghost use Prim.Native.Nat.{ℕ, _≤_};
 ghost use lib.ListN.{length, getD, take};
 ghost use Rattle.rules.specs.Chains.{chainOf, blockCount};
-ghost use Rattle.rules.specs.Plans.{slotted, planned, noGrowth};
+ghost use Rattle.rules.specs.Plans.{slotted, planned};
 ghost use Rattle.rules.specs.Space.{dropped, headBack, giveBlocks, giveAll};
 ghost use Rattle.anodes.specs.Loaded.{anodesFrom, tableFrom, AnodeTables};
 ghost use Rattle.placing.specs.Steps.{EndsIn};
 ghost use Rattle.placing.specs.States.{Ready};
+ghost use Rattle.growing.specs.Grown.{growthIf};
 ghost use Rattle.giving.specs.Steps.{LinkedFrom, stoppedTurn};
 use disk::AnodeNo;
 use disk::BlockNo;
@@ -82,9 +83,10 @@ fn stopped_turn(turn: Turn) -> Moves
     }
 }
 
-// Gives back the last `k` blocks of the chain of `head`, run by run; `last`: last reserved. The chain's anodes are noted once, and the ends of both sides of the free list are carried.
+// Gives back the last `k` blocks of the chain of `head`, run by run; `last`: last reserved, `growing`: whether slots may grow for them. The chain's anodes are noted once, and the ends of both sides of the free list are carried.
 pub fn give_blocks(
-    slots: &[u16],
+    growing: bool,
+    slots: &mut [u16],
     last: BlockNo,
     k: u64,
     head: AnodeNo,
@@ -92,10 +94,10 @@ pub fn give_blocks(
     firsts: &mut [u16],
     nexts: &mut [u16],
 ) -> Moves
-    requires { ⌜ AnodeTables (now counts) (now firsts) (now nexts) ⌝ }
+    requires { ⌜ AnodeTables (now counts) (now firsts) (now nexts) × (length (now slots) ≡ 42) ⌝ }
     requires { ⌜ Ready (last .0) (tableFrom (now counts) (now firsts) (now nexts) (now slots)) (head .0) ⌝ }
     requires { ⌜ k ≤ blockCount (anodesFrom (now counts) (now firsts) (now nexts)) (head .0) ⌝ }
-    ensures { λ r. ⌜ EndsIn r (tableFrom (now (counts .exit)) (now (firsts .exit)) (now (nexts .exit)) (now (slots .entry))) (giveBlocks 3444 noGrowth (last .0) k (head .0) (tableFrom (now (counts .entry)) (now (firsts .entry)) (now (nexts .entry)) (now (slots .entry)))) ⌝ }
+    ensures { λ r. ⌜ EndsIn r (tableFrom (now (counts .exit)) (now (firsts .exit)) (now (nexts .exit)) (now (slots .exit))) (giveBlocks 3444 (growthIf growing) (last .0) k (head .0) (tableFrom (now (counts .entry)) (now (firsts .entry)) (now (nexts .entry)) (now (slots .entry)))) ⌝ }
 {
     let mut chain = [0u16; 3444];
     let at = list_chain(nexts, head, &mut chain);
@@ -108,7 +110,7 @@ pub fn give_blocks(
         lower,
     };
     while 0 < g.left {
-        let turn = give_turn(slots, last, head, &chain, g, counts, firsts, nexts);
+        let turn = give_turn(growing, slots, last, head, &chain, g, counts, firsts, nexts);
         let Turn::Goes(rest) = turn else {
             return stopped_turn(turn);
         };
@@ -139,9 +141,10 @@ fn head_back(
     join_with(head, z, count, first, counts, firsts, nexts);
 }
 
-// Gives back the whole chain of `head`, which has `have` blocks, as a removal does; `last`: last reserved.
+// Gives back the whole chain of `head`, which has `have` blocks, as a removal does; `last`: last reserved, `growing`: whether slots may grow for it.
 pub fn give_all(
-    slots: &[u16],
+    growing: bool,
+    slots: &mut [u16],
     last: BlockNo,
     have: u64,
     head: AnodeNo,
@@ -149,15 +152,15 @@ pub fn give_all(
     firsts: &mut [u16],
     nexts: &mut [u16],
 ) -> Moves
-    requires { ⌜ AnodeTables (now counts) (now firsts) (now nexts) ⌝ }
+    requires { ⌜ AnodeTables (now counts) (now firsts) (now nexts) × (length (now slots) ≡ 42) ⌝ }
     requires { ⌜ Ready (last .0) (tableFrom (now counts) (now firsts) (now nexts) (now slots)) (head .0) ⌝ }
     requires { ⌜ have ≡ blockCount (anodesFrom (now counts) (now firsts) (now nexts)) (head .0) ⌝ }
-    ensures { λ r. ⌜ EndsIn r (tableFrom (now (counts .exit)) (now (firsts .exit)) (now (nexts .exit)) (now (slots .entry))) (giveAll 3444 noGrowth (last .0) (head .0) (tableFrom (now (counts .entry)) (now (firsts .entry)) (now (nexts .entry)) (now (slots .entry)))) ⌝ }
+    ensures { λ r. ⌜ EndsIn r (tableFrom (now (counts .exit)) (now (firsts .exit)) (now (nexts .exit)) (now (slots .exit))) (giveAll 3444 (growthIf growing) (last .0) (head .0) (tableFrom (now (counts .entry)) (now (firsts .entry)) (now (nexts .entry)) (now (slots .entry)))) ⌝ }
 {
     let count = entry(counts, head.0 as usize);
     let first = BlockNo(entry(firsts, head.0 as usize));
     let k = have - lower_run(last, count, first) as u64;
-    let moves = give_blocks(slots, last, k, head, counts, firsts, nexts);
+    let moves = give_blocks(growing, slots, last, k, head, counts, firsts, nexts);
     let Moves::Done = moves else {
         return moves;
     };

@@ -1,5 +1,5 @@
 -- What the gives of whole runs look for, answer, and carry from one run to the next.
-use Prim.Native.Nat.{ℕ, zero, suc, _≤_, _<_}
+use Prim.Native.Nat.{ℕ, zero, suc, _+_, _-_, _≤_, _<_}
 use mathlib.Core.Path.{_≡_}
 use mathlib.Core.Bool.{Bool, cond, not, _&&_}
 use mathlib.Core.List.{List, _++_}
@@ -9,11 +9,9 @@ use Rattle.disk.specs.Refusals.{numberOf}
 use Rattle.rules.specs.Counting.{sumList, lastOf}
 use Rattle.rules.specs.Anodes.{Anodes}
 use Rattle.rules.specs.Chains.{chainOf, side, blockCount}
-use Rattle.rules.specs.Plans.{Slotted, Plan, refused, after, noGrowth}
+use Rattle.rules.specs.Plans.{Slotted, Plan, refused, planned, after, Growth}
 use Rattle.rules.specs.Space.{runLength, withoutTail, tailStart, joinWith, join, giveRuns}
-use Rattle.placing.specs.declared.Step.{Step}
-use Rattle.placing.specs.declared.Step.the-variants.{Moved, Refused}
-use Rattle.placing.specs.States.{Ready}
+use Rattle.placing.specs.States.{GoodState, Ready}
 use Rattle.giving_runs.specs.declared.Run.{Run}
 use Rattle.giving_runs.specs.declared.Going.{Going}
 use Rattle.giving_runs.specs.declared.Turn.{Turn}
@@ -54,12 +52,24 @@ pub record Carries (last h : ℕ) (chain : List ℕ) (g : Going) (s : Slotted) :
   pub upper-end : g .upper .0 ≡ lastOf 1 (side 3444 (s .anodes) 1)
   pub lower-end : g .lower .0 ≡ lastOf 2 (side 3444 (s .anodes) 2)
 
--- the answer of a turn that a refused run stops, where g was carried to it
-abbrev pub stoppedRun : Step → Going → Turn
-stoppedRun (Moved y) g = Goes g
-stoppedRun (Refused why) g = Stops why
+-- the state once a run is out of its chain, and the run fits
+pub record RunOff (last : ℕ) (g : Going) (r : Run) (s : Slotted) : Type 0 where
+  pub state : GoodState last s
+  pub inside : r .first .0 + r .length ≤ 65535
+  pub fits : r .length ≤ g .left
+  pub placed : r .place < 3444
+
+-- what a give with growth answers: the plan is done and has left t, where the last anodes of both sides are known, or it is refused
+abbrev pub GivenGrown : Turn → Going → Run → Slotted → Plan Slotted → Type 0
+GivenGrown (Goes g′) g r t p =
+    ((ys : List ℕ) × (p ≡ planned t ys))
+    × (g′ .left ≡ g .left - r .length)
+    × (g′ .at ≡ cond (r .whole) (r .place) (r .place + 1))
+    × (g′ .upper .0 ≡ lastOf 1 (side 3444 (t .anodes) 1))
+    × (g′ .lower .0 ≡ lastOf 2 (side 3444 (t .anodes) 2))
+GivenGrown (Stops why) g r t p = p ≡ refused (numberOf why)
 
 -- a turn: a run is given and t is left, where fewer blocks are to go, or it is refused, and so is all
-abbrev pub Turns : Turn → ℕ → ℕ → List ℕ → ℕ → Slotted → Slotted → Type 0
-Turns (Goes g) last h chain left s t = (g .left < left) × Carries last h chain g t × ((ys : List ℕ) × ((f : ℕ) → giveRuns 3444 noGrowth last (suc f) left h s ≡ after ys (giveRuns 3444 noGrowth last f (g .left) h t)))
-Turns (Stops r) last h chain left s t = (f : ℕ) → giveRuns 3444 noGrowth last (suc f) left h s ≡ refused (numberOf r)
+abbrev pub Turns : Turn → Growth → ℕ → ℕ → List ℕ → ℕ → Slotted → Slotted → Type 0
+Turns (Goes g) growth last h chain left s t = (g .left < left) × Carries last h chain g t × ((ys : List ℕ) × ((f : ℕ) → giveRuns 3444 growth last (suc f) left h s ≡ after ys (giveRuns 3444 growth last f (g .left) h t)))
+Turns (Stops r) growth last h chain left s t = (f : ℕ) → giveRuns 3444 growth last (suc f) left h s ≡ refused (numberOf r)

@@ -5,22 +5,27 @@ ghost use mathlib.Core.Logic.{_≢_};
 ghost use mathlib.Core.Path.{_≡_};
 ghost use Prim.Native.Nat.{ℕ, _+_, _-_, _<_, _≤_};
 ghost use lib.Dec.{eqb};
-ghost use lib.ListN.{getD};
+ghost use lib.ListN.{length, getD};
 ghost use Rattle.rules.specs.Anodes.{existsBy};
 ghost use Rattle.rules.specs.Chains.{cut};
-ghost use Rattle.rules.specs.Space.{upperRun, lowerRun, runLength, tailStart};
+ghost use Rattle.rules.specs.Plans.{regrown};
+ghost use Rattle.rules.specs.Space.{upperRun, lowerRun, runLength, withoutTail, tailStart, sideEnd, join};
 ghost use Rattle.laws.specs.Carried.{endAfter};
 ghost use Rattle.anodes.specs.Loaded.{anodesFrom, slotsFrom, tableFrom, AnodeTables};
-ghost use Rattle.placing.specs.Steps.{stepPlan};
-ghost use Rattle.giving_runs.specs.Runs.{lastFull, anodeBefore, runTo, stoppedRun, Picked, Carries, Turns};
+ghost use Rattle.placing.specs.Steps.{stepPlan, UnlessMoved};
+ghost use Rattle.growing.specs.Grown.{growthIf};
+ghost use Rattle.giving_runs.specs.Runs.{lastFull, anodeBefore, runTo, Picked, Carries, RunOff, GivenGrown, Turns};
 use disk::AnodeNo;
 use disk::BlockNo;
 use disk::Refusal;
+use growing::grow_slots;
 use placing::Step;
 use placing::join;
 use placing::join_with;
 use placing::without_run;
+use searches::last_anode;
 use searches::next_before_two;
+use searches::side_of;
 use tables::entry;
 
 // A run at the end of a chain: `length` blocks from `first` on, the last of `anode`, which stands after `before` and at `place` among the chain's anodes; `whole`: all that it has.
@@ -168,7 +173,8 @@ fn give_run(
     requires { ⌜ AnodeTables (now counts) (now firsts) (now nexts) × (run .before .0 < 3444) × (run .anode .0 < 3444) × (z .0 < 3444) × (z .0 ≢ run .anode .0) ⌝ }
     requires { ⌜ (run .length ≤ getD (now counts) (run .anode .0) 0) × (run .first .0 + run .length ≤ 65535) × (0 < getD (now counts) (z .0) 0 → getD (now firsts) (z .0) 0 + getD (now counts) (z .0) 0 ≤ 65535) ⌝ }
     requires { ⌜ (run .first .0 ≡ tailStart (anodesFrom (now counts) (now firsts) (now nexts)) (run .anode .0) (run .length)) × (run .whole ≡ eqb (getD (now counts) (run .anode .0) 0) (run .length)) ⌝ }
-    ensures { λ r. ⌜ stepPlan r (run .length) (anodesFrom (now (counts .exit)) (now (firsts .exit)) (now (nexts .exit))) ≡ runTo (existsBy (slotsFrom (now (slots .entry)))) (head .0) (run .before .0) (run .anode .0) (run .length) (z .0) (anodesFrom (now (counts .entry)) (now (firsts .entry)) (now (nexts .entry))) ⌝ }
+    ensures plan { λ r. ⌜ stepPlan r (run .length) (anodesFrom (now (counts .exit)) (now (firsts .exit)) (now (nexts .exit))) ≡ runTo (existsBy (slotsFrom (now (slots .entry)))) (head .0) (run .before .0) (run .anode .0) (run .length) (z .0) (anodesFrom (now (counts .entry)) (now (firsts .entry)) (now (nexts .entry))) ⌝ }
+    ensures unmoved { λ r. ⌜ UnlessMoved r (withoutTail (anodesFrom (now (counts .entry)) (now (firsts .entry)) (now (nexts .entry))) (head .0) (run .before .0) (run .anode .0) (run .length)) (anodesFrom (now (counts .exit)) (now (firsts .exit)) (now (nexts .exit))) ⌝ }
 {
     let p = run.before;
     let x = run.anode;
@@ -239,19 +245,41 @@ fn carry_on(nexts: &[u16], above: bool, g: Going, run: Run) -> Going
     }
 }
 
-// The answer of a turn that a refused run stops; `g`: what was carried to it.
-fn stopped_run(step: Step, g: Going) -> Turn
-    ensures { λ r. ⌜ r ≡ stoppedRun step g ⌝ }
+// What is carried on once the slots have grown for a run, now nobody's, and it has joined its side, whose last anode is looked for anew; `last`: last reserved.
+fn give_grown(
+    growing: bool,
+    slots: &mut [u16],
+    last: BlockNo,
+    g: Going,
+    run: Run,
+    counts: &mut [u16],
+    firsts: &mut [u16],
+    nexts: &mut [u16],
+) -> Turn
+    requires { ⌜ AnodeTables (now counts) (now firsts) (now nexts) × (length (now slots) ≡ 42) ⌝ }
+    requires { ⌜ RunOff (last .0) g run (tableFrom (now counts) (now firsts) (now nexts) (now slots)) ⌝ }
+    ensures { λ r. ⌜ GivenGrown r g run (tableFrom (now (counts .exit)) (now (firsts .exit)) (now (nexts .exit)) (now (slots .exit))) (regrown (λ ex t. join 3444 (sideEnd 3444 (last .0) t (run .first .0)) (run .length) (run .first .0) ex t) 28 (growthIf growing (tableFrom (now (counts .entry)) (now (firsts .entry)) (now (nexts .entry)) (now (slots .entry))))) ⌝ }
 {
-    match step {
-        Step::Moved(_) => Turn::Goes(g),
-        Step::Refused(why) => Turn::Stops(why),
+    if !grow_slots(growing, slots, counts, firsts, nexts) {
+        return Turn::Stops(Refusal::NoFreeAnode);
     }
+    let z = last_anode(nexts, side_of(last, run.first));
+    let step = join(slots, z, run.length, run.first, counts, firsts, nexts);
+    let Step::Moved(_) = step else {
+        return Turn::Stops(Refusal::NoFreeAnode);
+    };
+    Turn::Goes(Going {
+        left: g.left - run.length as u64,
+        at: anodes_left(run),
+        upper: last_anode(nexts, AnodeNo(1)),
+        lower: last_anode(nexts, AnodeNo(2)),
+    })
 }
 
-// Gives back the last run of the chain of `head`, whose anodes are in `chain`, by what is carried; `last`: last reserved.
+// Gives back the last run of the chain of `head`, whose anodes are in `chain`, by what is carried; `last`: last reserved, `growing`: whether slots may grow for it.
 pub fn give_turn(
-    slots: &[u16],
+    growing: bool,
+    slots: &mut [u16],
     last: BlockNo,
     head: AnodeNo,
     chain: &[u16],
@@ -260,16 +288,16 @@ pub fn give_turn(
     firsts: &mut [u16],
     nexts: &mut [u16],
 ) -> Turn
-    requires { ⌜ AnodeTables (now counts) (now firsts) (now nexts) × (0 < g .left) ⌝ }
+    requires { ⌜ AnodeTables (now counts) (now firsts) (now nexts) × (length (now slots) ≡ 42) × (0 < g .left) ⌝ }
     requires { ⌜ Carries (last .0) (head .0) (now chain) g (tableFrom (now counts) (now firsts) (now nexts) (now slots)) ⌝ }
-    ensures { λ r. ⌜ Turns r (last .0) (head .0) (now (chain .entry)) (g .left) (tableFrom (now (counts .entry)) (now (firsts .entry)) (now (nexts .entry)) (now (slots .entry))) (tableFrom (now (counts .exit)) (now (firsts .exit)) (now (nexts .exit)) (now (slots .entry))) ⌝ }
+    ensures { λ r. ⌜ Turns r (growthIf growing) (last .0) (head .0) (now (chain .entry)) (g .left) (tableFrom (now (counts .entry)) (now (firsts .entry)) (now (nexts .entry)) (now (slots .entry))) (tableFrom (now (counts .exit)) (now (firsts .exit)) (now (nexts .exit)) (now (slots .exit))) ⌝ }
 {
     let run = pick_run(last, g.left, chain, g.at, counts, firsts);
     let above = last.0 < run.first.0;
     let z = side_end(above, g);
     let step = give_run(slots, head, z, run, counts, firsts, nexts);
     let Step::Moved(_) = step else {
-        return stopped_run(step, g);
+        return give_grown(growing, slots, last, g, run, counts, firsts, nexts);
     };
     Turn::Goes(carry_on(nexts, above, g, run))
 }

@@ -13,7 +13,7 @@ use Rattle.directory.specs.Entries.{goodName, goodComment}
 use Rattle.rules.specs.Counting.{_if_else_, firstOf}
 use Rattle.rules.specs.Anodes.{Anodes, limit, anodesOf}
 use Rattle.rules.specs.Walk.{Entered}
-use Rattle.rules.specs.Accepted.{diskSize, wrongSize, checkAnswer, Damage}
+use Rattle.rules.specs.Accepted.{diskSize, wrongSize, lastReserved, checkAnswer, Damage}
 use Rattle.rules.specs.Lookup.{noDirectory, entryNamed, ofEntry, isThere, notEmpty}
 use Rattle.rules.specs.Format.{wrongFormat, formatAnswer, formatted}
 use Rattle.rules.specs.Plans.{tableOf}
@@ -28,6 +28,8 @@ use Rattle.history.specs.History.{Call, check, summary, format, read, li
 use Rattle.report.specs.Report.{isFull, reported, takenOutcome, reportOutcome}
 use Rattle.counting.specs.Laws.{neither}
 use Rattle.laws.specs.Tests.{if-zero, firstOf-zero}
+use Rattle.laws.specs.Moves.{Grows}
+use Rattle.laws.specs.Grown.{grown-grows}
 use Rattle.format_laws.specs.Accepted.{formatted-accepted}
 use Rattle.change_laws.specs.Answers.{Late, StepsAnswer, step-late, own-tables, any-tables, span-late, list-late, resize-late, remove-late, make-late, not-there, file-found, span-found, removable-found}
 use Rattle.change_laws.specs.Image.{AcceptedImage, accepted-own}
@@ -62,6 +64,10 @@ module _ (img : List ℕ) (ok : checkAnswer img (diskSize img) limit ≡ 0) wher
 
   abbrev image : AcceptedImage img
   image = accepted-own img ok
+
+  -- slots grow in these changes as the laws ask
+  grows : Grows limit (diskSize img) (lastReserved img) usualGrowth
+  grows = grown-grows (diskSize img) (lastReserved img)
 
   -- the image stays
   stays : (n : ℕ) → Harmless n → AcceptedAfter (left n img)
@@ -162,7 +168,7 @@ module _ (img : List ℕ) (ok : checkAnswer img (diskSize img) limit ≡ 0) wher
       (λ z e q.
       let f = file-found img s h name e q z in
       let m = named-in h name e (f .0) q in
-      becomes (resized usualGrowth img (tableOf img) e new) (resize-accepted m new (f .1)) (steps-harmless _ (resize-answers m new)))
+      becomes (resized usualGrowth img (tableOf img) e new) (resize-accepted grows m new (f .1)) (steps-harmless _ (resize-answers grows m new)))
 
   remove-kept : (blocks anodes : List ℕ) (h : ℕ) (name : List ℕ) →
       AcceptedAfter (changeNamed (checkedFirst img blocks anodes (removeRefusal img s h name)) img (entryNamed img s h name) (λ e. removed usualGrowth img (tableOf img) e))
@@ -172,8 +178,8 @@ module _ (img : List ℕ) (ok : checkAnswer img (diskSize img) limit ≡ 0) wher
       (λ z e q.
       let f = removable-found img s h name e q z in
       let m = named-in h name e (f .0) q in
-      becomes (removed usualGrowth img (tableOf img) e) (remove-accepted m (λ d. rw d at (f .1)))
-      (steps-harmless _ (elim (remove-answers m) [ inl z ↦ inl z | inr k ↦ inr (inr k) ])))
+      becomes (removed usualGrowth img (tableOf img) e) (remove-accepted grows m (λ d. rw d at (f .1)))
+      (steps-harmless _ (elim (remove-answers grows m) [ inl z ↦ inl z | inr k ↦ inr (inr k) ])))
 
   make-kept : (blocks anodes : List ℕ) (h type : ℕ) (name comment : List ℕ) (new : NewEntry) → new .name ≡ name → new .comment ≡ comment →
       AcceptedAfter (leftAfter (checkedFirst img blocks anodes (makeRefusal img s h type name comment)) img (made usualGrowth img (tableOf img) h new))
@@ -185,7 +191,7 @@ module _ (img : List ℕ) (ok : checkAnswer img (diskSize img) limit ≡ 0) wher
       let r = if-zero 21 (noDirectory img s h) _ (omega arith) (w .1) in
       let free = not-there (entryNamed img s h name) (if-zero 23 (isThere (entryNamed img s h name)) 0 (omega arith) (r .1) .0) in
       let n = neither (not (goodName name)) (not (goodComment comment)) (neither (not (eqb type 253 || eqb type 2)) (not (goodName name) || not (goodComment comment)) (w .0) .1) in
-      becomes (made usualGrowth img (tableOf img) h new) (make-accepted (record { image = image; reached = r .0 }) new (rw en (not-false _ (n .0))) (rw ec (not-false _ (n .1))) (rw en free)) (steps-harmless _ (made-answer usualGrowth img (tableOf img) h new)))
+      becomes (made usualGrowth img (tableOf img) h new) (make-accepted grows (record { image = image; reached = r .0 }) new (rw en (not-false _ (n .0))) (rw ec (not-false _ (n .1))) (rw en free)) (steps-harmless _ (made-answer usualGrowth img (tableOf img) h new)))
 
   -- every call leaves an accepted image and reports no damage
   call-kept : (c : Call) → AcceptedAfter (left (outcome img c .answer) (outcome img c .image))

@@ -27,7 +27,7 @@ use Rattle.laws.specs.Space.{Alike, alike-trans, Good, good-same, FreeAn
 use Rattle.laws.specs.Owners.{full-inside, blocks-chain, blocks-none, holder}
 use Rattle.laws.specs.Searches.{lastExtent-split}
 use Rattle.laws.specs.Plans.{planned-same, then-planned}
-use Rattle.laws.specs.Moves.{Passed, Shift, shift-trans, shift-into, withThese, Grows, RunOut, Moved}
+use Rattle.laws.specs.Moves.{Passed, Shift, shift-trans, shift-into, withThese, SlotsGrew, slots-grown-trans, Grows, RunOut, Moved}
 use Rattle.laws.specs.Leaving.{run-emptied, withoutRun-cases, withoutRun-out}
 use Rattle.laws.specs.Take.{StartOwned}
 use Rattle.laws.specs.Give.{OneSide, released-moved}
@@ -63,6 +63,7 @@ pub record ChainGone (A n last : ℕ) (s : Slotted) (system hd : ℕ → ℕ) (h
   pub moved : (m : ℕ) → blocks A hd′ (t .anodes .count) m + oneAt h m * length ys + oneAt 1 m * length gs ≡ blocks A hd (s .anodes .count) m + oneAt 1 m * length ys
   pub passed : Passed A (s .anodes) hd (t .anodes) hd′ h 1 ys gs
   pub system-got : (x : ℕ) → systemBy (t .slots) x ≡ systemBy (s .slots) x + occurrences x gs
+  pub slots-grew : SlotsGrew n (s .slots) (t .slots)
 
 module _ {A n last : ℕ} {s : Slotted} {system hd : ℕ → ℕ} {h : ℕ} {ys gs : List ℕ} {t : Slotted} (w : ChainGone A n last s system hd h ys gs t) (h1 : h ≢ 1) where
   no-head : Head (t .anodes .next) (t .anodes .block) h → ⊥
@@ -318,6 +319,7 @@ module _ {A n last : ℕ} {s r : Slotted} {system hd : ℕ → ℕ} (h : ℕ) (h
     moved = λ m. omega (arith, dropped-count (w .good) h h6 d (w .shift) none m, w .moved m);
     passed = λ m x. omega (arith, dropped-held (w .good) h h6 d (w .shift) none m x, w .passed m x);
     system-got = w .system-got;
+    slots-grew = w .slots-grew;
   }
 
   -- the head's run, the last that the chain has, goes back with the head
@@ -405,6 +407,7 @@ module _ {A n last : ℕ} {s r : Slotted} {system hd : ℕ → ℕ} (h : ℕ) (h
               ap (λ (k : ℕ). oneAt 1 m * k) (occurrences-append x gs (back .gs)),
             );
             system-got = λ x. omega (arith, w .system-got x, back .system-got x, occurrences-append x gs (back .gs));
+            slots-grew = slots-grown-trans (w .slots-grew) (back .slots-grew);
           },
         )
 

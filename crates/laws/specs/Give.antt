@@ -22,7 +22,7 @@ use Rattle.laws.specs.Space.{Good, good-same, on-chain}
 use Rattle.laws.specs.Owners.{full-used}
 use Rattle.laws.specs.Sides.{SideHead, side-free, side-last, side-last-used, side-last-0}
 use Rattle.laws.specs.Searches.{FoundIn, found-after, lastExtent-found}
-use Rattle.laws.specs.Moves.{Shift, shift-trans, shift-into, RunOut, RunIn, withThese, Grows, InHand, Moved, hand-none, afresh-hand}
+use Rattle.laws.specs.Moves.{Shift, shift-trans, shift-into, RunOut, RunIn, withThese, Grows, SlotsGrew, InHand, Moved, hand-none, afresh-hand}
 use Rattle.laws.specs.Leaving.{last-gone, withoutRun-out}
 use Rattle.laws.specs.Arriving.{join-in}
 use Rattle.laws.specs.Take.{StartOwned}
@@ -107,6 +107,7 @@ pub record Released (A n last : ℕ) (r : Slotted) (system hd : ℕ → ℕ) (c 
   pub more : (h : ℕ) → blocks A hd′ (t .anodes .count) h + oneAt 1 h * length gs ≡ blocks A hd (r .anodes .count) h + oneAt 1 h * c
   pub got : (h x : ℕ) → held A hd′ (t .anodes .count) (t .anodes .block) h x + oneAt 1 h * occurrences x gs ≡ held A hd (r .anodes .count) (r .anodes .block) h x + oneAt 1 h * oneIfCovers c b x
   pub system-got : (x : ℕ) → systemBy (t .slots) x ≡ systemBy (r .slots) x + occurrences x gs
+  pub slots-grew : SlotsGrew n (r .slots) (t .slots)
   pub handed-are : ys ≡ run b c
 
 module _ {A n last : ℕ} {growth : Growth} (grows : Grows A n last growth) {r : Slotted} {system hd sd : ℕ → ℕ} (start : StartOwned system) (c b : ℕ)
@@ -125,6 +126,7 @@ module _ {A n last : ℕ} {growth : Growth} (grows : Grows A n last growth) {r :
         more = λ h. omega (arith, i .fewer h, w .0 .more h);
         got = λ h x. omega (arith, i .lost h x, w .0 .got h x, ap (λ (k : ℕ). oneAt 1 h * k) (covers-none 0 x));
         system-got = λ x. rw same (i .system-got x);
+        slots-grew = rw same (i .slots-grew);
         handed-are = w .1;
       }
 
@@ -146,6 +148,7 @@ released-moved {m = m} {c} {b} o w = record {
   moved = λ h. rw (w .handed-are, length-run b c) (omega (arith, o .fewer h, w .more h));
   passed = λ h x. rw (w .handed-are, occurrences-run b c x) (omega (arith, o .lost h x, w .got h x));
   system-got = w .system-got;
+  slots-grew = w .slots-grew;
 }
 
 -- ---- the last extent of a chain

@@ -22,7 +22,7 @@ use Rattle.laws.specs.Space.{Good, good-same, FreeAnode, on-chain}
 use Rattle.laws.specs.Owners.{full-used, full-inside, blocks-chain}
 use Rattle.laws.specs.Searches.{FoundIn, found-after, lastExtent-none, lastExtent-full}
 use Rattle.laws.specs.Plans.{planned-same, then-planned, slots-planned}
-use Rattle.laws.specs.Moves.{withThese, Grows, RunOut, RunIn, Moved, moved-none, moved-after}
+use Rattle.laws.specs.Moves.{withThese, slots-stay, Grows, RunOut, RunIn, Moved, moved-none, moved-after}
 use Rattle.laws.specs.Leaving.{full-6, run-unlinked}
 use Rattle.laws.specs.Arriving.{inserted-in, joins-in, placed-by}
 use Rattle.laws.specs.Take.{StartOwned}
@@ -101,7 +101,7 @@ back-in {A} {last = last} {s} system c b g b0 bn one x xA is-free t ys e =
 -- a run that has come to the free list at fixed slots is released
 in-released : {A n last : ℕ} {r t : Slotted} {system hd : ℕ → ℕ} {c b : ℕ} {ys : List ℕ} → RunIn A (existsBy (r .slots)) n last (r .anodes) system hd 1 c b (t .anodes) → t .slots ≡ r .slots → ys ≡ run b c →
     Released A n last r system hd c b t ys
-in-released w e z = record {
+in-released {r = r} w e z = record {
   gs = [];
   hd′ = w .hd′;
   sd′ = w .sd′;
@@ -110,6 +110,7 @@ in-released w e z = record {
   more = λ h. omega (arith, w .more h);
   got = λ h y. rw (occurrences-nil y) (omega (arith, w .got h y));
   system-got = λ y. rw e (omega (arith, occurrences-nil y));
+  slots-grew = rw e (slots-stay (r .slots));
   handed-are = z;
 }
 

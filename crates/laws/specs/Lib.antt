@@ -27,6 +27,7 @@ pub mod Leaving
 pub mod Arriving
 pub mod FreeExtent
 pub mod Take
+pub mod Spare
 pub mod Give
 pub mod GiveRuns
 pub mod FixedSlots
@@ -39,6 +40,7 @@ pub mod TreeChanges
 pub mod Totals
 pub mod Entries
 pub mod NewDirectory
+pub mod NewAnodeBlock
 pub mod ChainBlocks
 pub mod Whole
 pub mod Resize
@@ -50,12 +52,14 @@ pub mod GivenBlocks
 pub mod ChainGone
 pub mod RefusedRuns
 pub mod RefusedTakes
+pub mod Grown
 pub mod OwnBlock
 pub mod Orphan
 pub mod DirectoryTakes
 pub mod Make
 pub mod Remove
 pub mod OwnerTable
+pub mod GotSlots
 pub mod Accepted
 pub mod Acceptance
 pub mod ImageAnodes

@@ -1,5 +1,5 @@
 -- A run of blocks changes hands: out of a chain into the hand, and out of the hand into a chain, with no other chain touched but the free list, whose blocks may become the system's where slots grow.
-use Prim.Native.Nat.{ℕ, _+_, _*_, _<_}
+use Prim.Native.Nat.{ℕ, _+_, _*_, _≤_, _<_}
 use mathlib.Core.Path.{_≡_, refl, sym, ap, _∙_}
 use mathlib.Core.Logic.{_≢_, _⊎_, inl, inr}
 use mathlib.Core.Bool.{Bool}
@@ -12,6 +12,7 @@ use Rattle.rules.specs.Anodes.{Anodes, existsBy}
 use Rattle.rules.specs.Chains.{oneIfCovers, run, systemBy}
 use Rattle.rules.specs.Plans.{Slotted, slotted, Plan, planned, Growth, noGrowth, afresh}
 use Rattle.rules.specs.Space.{rewritten}
+use Rattle.laws.specs.Tests.{same?}
 use Rattle.laws.specs.Sums.{changed-other, changed-pos}
 use Rattle.laws.specs.Bags.{occurrences-nil, occurrences-cons, occurrences-append}
 use Rattle.laws.specs.Chains.{occurrences-run, length-run}
@@ -108,6 +109,24 @@ Passed A s hd t hd′ from to ys gs = (m x : ℕ) →
     held A hd′ (t .count) (t .block) m x + oneAt from m * occurrences x ys + oneAt 1 m * occurrences x gs
     ≡ held A hd (s .count) (s .block) m x + oneAt to m * occurrences x ys
 
+-- the slots of a disk of n blocks have grown: a used one keeps its block, and one that holds another is among the 42 and holds a block of the disk behind the first three
+pub record SlotsGrew (n : ℕ) (slots slots′ : ℕ → ℕ) : Type 0 where
+  pub used-kept : (k : ℕ) → slots k ≢ 0 → slots′ k ≡ slots k
+  pub none-past : (k : ℕ) → 42 ≤ k → slots′ k ≡ slots k
+  pub new-placed : (k : ℕ) → slots′ k ≢ slots k → (3 ≤ slots′ k) × (slots′ k < n)
+
+-- slots that stay have grown by nothing
+pub slots-stay : {n : ℕ} (slots : ℕ → ℕ) → SlotsGrew n slots slots
+slots-stay slots = record { used-kept = λ k u. refl; none-past = λ k l. refl; new-placed = λ k u. absurd (u refl) }
+
+-- one growth after another
+pub slots-grown-trans : {n : ℕ} {slots slots′ slots″ : ℕ → ℕ} → SlotsGrew n slots slots′ → SlotsGrew n slots′ slots″ → SlotsGrew n slots slots″
+slots-grown-trans {slots = slots} {slots′} {slots″} a b = record {
+  used-kept = λ k u. b .used-kept k (λ z. u (sym (a .used-kept k u) ∙ z)) ∙ a .used-kept k u;
+  none-past = λ k l. b .none-past k l ∙ a .none-past k l;
+  new-placed = λ k u. elim (same? (slots″ k) (slots′ k)) [ inl e ↦ rw e (a .new-placed k (λ z. u (e ∙ z))) | inr e ↦ b .new-placed k e ];
+}
+
 module _ (A n last : ℕ) where
   -- from s to r slots have grown by the block w of the free list, which is the system's now
   pub record Grew (s : Slotted) (system hd : ℕ → ℕ) (w : ℕ) (r : Slotted) : Type 0 where
@@ -118,6 +137,7 @@ module _ (A n last : ℕ) where
     pub fewer : (h : ℕ) → blocks A hd′ (r .anodes .count) h + oneAt 1 h ≡ blocks A hd (s .anodes .count) h
     pub lost : (h x : ℕ) → held A hd′ (r .anodes .count) (r .anodes .block) h x + oneAt 1 h * oneAt w x ≡ held A hd (s .anodes .count) (s .anodes .block) h x
     pub system-got : (x : ℕ) → systemBy (r .slots) x ≡ systemBy (s .slots) x + oneAt w x
+    pub slots-grew : SlotsGrew n (s .slots) (r .slots)
 
   -- what the laws ask of a growth, where blocks 0 to 2 are the system's
   abbrev pub Grows : Growth → Type 0
@@ -136,6 +156,7 @@ module _ (A n last : ℕ) where
     pub fewer : (h : ℕ) → blocks A hd′ (r .anodes .count) h + oneAt m h * c + oneAt 1 h * length gs ≡ blocks A hd (s .anodes .count) h
     pub lost : (h x : ℕ) → held A hd′ (r .anodes .count) (r .anodes .block) h x + oneAt m h * oneIfCovers c b x + oneAt 1 h * occurrences x gs ≡ held A hd (s .anodes .count) (s .anodes .block) h x
     pub system-got : (x : ℕ) → systemBy (r .slots) x ≡ systemBy (s .slots) x + occurrences x gs
+    pub slots-grew : SlotsGrew n (s .slots) (r .slots)
 
   -- from s to t the blocks of ys have gone from one head's chain to another's, and those of gs from the free list to the system; only 1's chain and that of h are touched
   pub record Moved (s : Slotted) (system hd : ℕ → ℕ) (from to h : ℕ) (ys gs : List ℕ) (t : Slotted) : Type 0 where
@@ -146,11 +167,12 @@ module _ (A n last : ℕ) where
     pub moved : (m : ℕ) → blocks A hd′ (t .anodes .count) m + oneAt from m * length ys + oneAt 1 m * length gs ≡ blocks A hd (s .anodes .count) m + oneAt to m * length ys
     pub passed : Passed A (s .anodes) hd (t .anodes) hd′ from to ys gs
     pub system-got : (x : ℕ) → systemBy (t .slots) x ≡ systemBy (s .slots) x + occurrences x gs
+    pub slots-grew : SlotsGrew n (s .slots) (t .slots)
 
 module _ {A n last : ℕ} where
   -- a run that is out at fixed slots is in hand
   pub out-hand : {s : Slotted} {t : Anodes} {system hd : ℕ → ℕ} {m c b : ℕ} → RunOut A (existsBy (s .slots)) n last (s .anodes) system hd m c b t → InHand A n last s system hd m c b [] (slotted t (s .slots))
-  out-hand {m = m} w = record {
+  out-hand {s} {m = m} w = record {
     hd′ = w .hd′;
     sd′ = w .sd′;
     good = good-same (w .good) (λ x. omega (arith, occurrences-nil x));
@@ -158,6 +180,7 @@ module _ {A n last : ℕ} where
     fewer = λ h. omega (arith, w .fewer h);
     lost = λ h x. rw (occurrences-nil x) (omega (arith, w .lost h x));
     system-got = λ x. omega (arith, occurrences-nil x);
+    slots-grew = slots-stay (s .slots);
   }
 
   -- with nothing in hand
@@ -170,6 +193,7 @@ module _ {A n last : ℕ} where
     fewer = λ h. omega arith;
     lost = λ h x. rw (occurrences-nil x, covers-none 0 x) (omega arith);
     system-got = λ x. omega (arith, occurrences-nil x);
+    slots-grew = slots-stay (s .slots);
   }
 
   -- and stays there while slots grow
@@ -183,6 +207,7 @@ module _ {A n last : ℕ} where
     fewer = λ h. let more : length (w ∷ gs) ≡ length gs + 1 = omega arith in omega (arith, i .fewer h, k .fewer h, ap (λ (l : ℕ). oneAt 1 h * l) more);
     lost = λ h x. omega (arith, i .lost h x, k .lost h x, ap (λ (l : ℕ). oneAt 1 h * l) (occurrences-cons x w gs));
     system-got = λ x. omega (arith, i .system-got x, k .system-got x, occurrences-cons x w gs);
+    slots-grew = slots-grown-trans (i .slots-grew) (k .slots-grew);
   }
 
   -- a step made afresh on a state with a run in hand is made on such a state, at its slots
@@ -205,6 +230,7 @@ module _ {A n last : ℕ} where
     moved = λ m. rw (r, length-run b c) (omega (arith, i .fewer m, w .more m));
     passed = λ m x. rw (r, occurrences-run b c x) (omega (arith, i .lost m x, w .got m x));
     system-got = λ x. rw e (i .system-got x);
+    slots-grew = rw e (i .slots-grew);
   }
 
   -- no step at all
@@ -217,6 +243,7 @@ module _ {A n last : ℕ} where
     moved = λ m. omega arith;
     passed = λ m x. rw (occurrences-nil x) (omega arith);
     system-got = λ x. omega (arith, occurrences-nil x);
+    slots-grew = slots-stay (s .slots);
   }
 
   -- a step, and the steps after it
@@ -230,6 +257,7 @@ module _ {A n last : ℕ} where
     moved = λ m. omega (arith, w .moved m, v .moved m, ap (λ (k : ℕ). oneAt from m * k) long, ap (λ (k : ℕ). oneAt to m * k) long, ap (λ (k : ℕ). oneAt 1 m * k) (length-append gs hs));
     passed = λ m x. omega (arith, w .passed m x, v .passed m x, ap (λ (k : ℕ). oneAt from m * k) (all x), ap (λ (k : ℕ). oneAt to m * k) (all x), ap (λ (k : ℕ). oneAt 1 m * k) (occurrences-append x gs hs));
     system-got = λ x. omega (arith, w .system-got x, v .system-got x, occurrences-append x gs hs);
+    slots-grew = slots-grown-trans (w .slots-grew) (v .slots-grew);
   }
     where
       long : length zs ≡ length ys + length xs

@@ -1,9 +1,9 @@
 -- The block table and the anode table of a good state, and what steps do to them.
-use Prim.Native.Nat.{ℕ, _*_, _≤_, _<_}
+use Prim.Native.Nat.{ℕ, _+_, _*_, _≤_, _<_}
 use mathlib.Core.Path.{_≡_, refl, sym, ap, _∙_}
 use mathlib.Core.Logic.{_≢_, inl, inr}
 use mathlib.Core.Bool.{Bool, cond}
-use mathlib.Core.List.{List, [], _∷_, _++_}
+use mathlib.Core.List.{List, [], _∷_, _++_, append-nil}
 use native.Mathlib.Omega.{arith}
 use native.Mathlib.Nat.{zero-add}
 use borrow.Author.Tests.{le-leb, lt-leb, eq-eqb, ne-eqb, lt-ltb, le-ltb}
@@ -139,17 +139,20 @@ same-owner {s = s} {t = t} {hd = hd} {hd′ = hd′} g g′ x same =
     ∙ sym (owner-sum g x)
 
 module _ {ex : ℕ → Bool} {n last : ℕ} {s : Anodes} {system hd sd : ℕ → ℕ} (g : Good limit ex n last s system hd sd) where
-  -- the blocks of ys have gone from one head's chain to another's, and x is none of those that became the system's
-  module _ {ex′ : ℕ → Bool} {t : Anodes} {hd′ sd′ : ℕ → ℕ} (from to : ℕ) (ys gs : List ℕ) (g′ : Good limit ex′ n last t (withThese system gs) hd′ sd′) (passed : Passed limit s hd t hd′ from to ys gs) (apart : from ≢ to)
-      (x : ℕ) (none : occurrences x gs ≡ 0) where
-    -- a block of ys is held by the other head
-    arrived : 0 < occurrences x ys → 0 < held limit hd′ (t .count) (t .block) to x
-    arrived p = omega (arith, rw (oneAt-other from to apart, oneAt-same to to refl, none) at (passed to x), p)
+  -- the blocks of ys have gone from one head's chain to another's, and those of gs from the free list to the system
+  module _ {ex′ : ℕ → Bool} {t : Anodes} {hd′ sd′ : ℕ → ℕ} (from to : ℕ) (ys gs : List ℕ) (g′ : Good limit ex′ n last t (withThese system gs) hd′ sd′) (passed : Passed limit s hd t hd′ from to ys gs) (apart : from ≢ to) (x : ℕ) where
+    -- a block of ys was on the disk, and not the system's
+    pub moved-data : 0 < occurrences x ys → (x < n) × (system x ≡ 0)
+    moved-data p = held-data g from x (omega (arith, p, rw (oneAt-same from from refl, oneAt-other to from (λ e. apart (sym e))) at (passed from x)))
+
+    -- and is held by the other head, unless it became the system's
+    arrived : occurrences x gs ≡ 0 → 0 < occurrences x ys → 0 < held limit hd′ (t .count) (t .block) to x
+    arrived none p = omega (arith, rw (oneAt-other from to apart, oneAt-same to to refl, none) at (passed to x), p)
 
     -- the owner of a block of ys is now `to`, and that of any other block is as before
-    pub moved-owner : ownerHead t x ≡ cond (leb 1 (occurrences x ys)) to (ownerHead s x)
-    moved-owner = elim (less? 0 (occurrences x ys)) [
-      | inl p ↦ rw (le-leb 1 (occurrences x ys) p) (ownerHead-is g′ to x (arrived p))
+    pub moved-owner : occurrences x gs ≡ 0 → ownerHead t x ≡ cond (leb 1 (occurrences x ys)) to (ownerHead s x)
+    moved-owner none = elim (less? 0 (occurrences x ys)) [
+      | inl p ↦ rw (le-leb 1 (occurrences x ys) p) (ownerHead-is g′ to x (arrived none p))
       | inr p ↦ rw (lt-leb 1 (occurrences x ys) (omega arith)) (same-owner g g′ x
           (λ m. (let z : occurrences x ys ≡ 0 = omega arith in omega (arith, rw (z, none) at (passed m x)))))
     ]
@@ -184,12 +187,21 @@ getD-setAll l (y ∷ ys) v x p = getD-setAll (set l y v) ys v x (rw (length-set 
 ]
 
 -- what stands behind the table is left
-pub setAll-front : (l r ys : List ℕ) (v : ℕ) → ((y : ℕ) → 0 < occurrences y ys → y < length l) → setAll (l ++ r) ys v ≡ setAll l ys v ++ r
+setAll-front : (l r ys : List ℕ) (v : ℕ) → ((y : ℕ) → 0 < occurrences y ys → y < length l) → setAll (l ++ r) ys v ≡ setAll l ys v ++ r
 unfolding setAll
 setAll-front l r [] v below = refl
 setAll-front l r (y ∷ ys) v below =
     rw (set-append-left l r y v (below y (occurrences-here y ys)))
     (setAll-front (set l y v) r ys v (λ x p. rw (length-set l y v) (below x (occurrences-later x y ys p))))
+
+-- a table that listed f and has v at each place of ys
+setAll-listed : (f f′ : ℕ → ℕ) (n v : ℕ) (ys : List ℕ) → ((y : ℕ) → 0 < occurrences y ys → y < n) → ((x : ℕ) → f′ x ≡ cond (leb 1 (occurrences x ys)) v (f x)) → (r : List ℕ) → setAll (listed f 0 n ++ r) ys v ≡ listed f′ 0 n ++ r
+setAll-listed f f′ n v ys inside is r =
+    let old = listed f 0 n in
+    let long : length old ≡ n = length-listed f 0 n in
+    setAll-front old r ys v (λ y q. rw long (inside y q))
+    ∙ ap (λ (l : List ℕ). l ++ r) (sym (listed-is f′ n (setAll old ys v) (length-setAll old ys v ∙ long)
+    (λ x l. is x ∙ sym (getD-setAll old ys v x (rw long l) ∙ ap (cond (leb 1 (occurrences x ys)) v) (listed-at f n x l)))))
 
 -- blocks 0 to 2 are the system's
 pub not-system : (img : List ℕ) (x : ℕ) → systemOwns img x ≡ 0 → 3 ≤ x
@@ -202,26 +214,69 @@ module _ (img j : List ℕ) (same-size : diskSize j ≡ diskSize img) (same-syst
   unfolding blockTable blockEntry entryOr
   kept-table same = rw same-size (listed-same (blockEntry j t) (blockEntry img s) (diskSize img) (λ x l. rw (same-system, same x)))
 
-  -- where blocks have gone from one head's chain to another's and none became the system's, the block table has that head at each of them, in whatever order they are listed
-  module _ {ex ex′ : ℕ → Bool} {last : ℕ} {hd sd hd′ sd′ : ℕ → ℕ} (g : Good limit ex (diskSize img) last s (systemOwns img) hd sd) (from to : ℕ) (ys gs : List ℕ)
-      (g′ : Good limit ex′ (diskSize img) last t (withThese (systemOwns img) gs) hd′ sd′) (passed : Passed limit s hd t hd′ from to ys gs) (apart : from ≢ to) (none : (x : ℕ) → occurrences x gs ≡ 0)
-      (zs : List ℕ) (listed-all : (x : ℕ) → occurrences x zs ≡ occurrences x ys) where
-    -- they are on the disk, and none is the system's
-    pub moved-data : (x : ℕ) → 0 < occurrences x zs → (x < diskSize img) × (systemOwns img x ≡ 0)
-    moved-data x p = let d = held-data g′ to x (arrived g from to ys gs g′ passed apart x (none x) (rw (listed-all x) at p)) in (d .0, omega (arith, d .1))
+-- the block table where the head `own x` owns block x
+abbrev pub ownerTable : List ℕ → (ℕ → ℕ) → List ℕ
+ownerTable img own = listed (λ x. entryOr img (own x) x) 0 (diskSize img)
 
-    moved-entry : (x : ℕ) → blockEntry j t x ≡ cond (leb 1 (occurrences x zs)) to (blockEntry img s x)
-    unfolding blockEntry entryOr
-    moved-entry x = elim (less? 0 (occurrences x zs)) [
-      | inl p ↦ (let z = moved-data x p .1 in rw (same-system, le-leb 1 (occurrences x zs) p, le-ltb x 3 (not-system img x z), z) (ownerHead-is g′ to x (arrived g from to ys gs g′ passed apart x (none x) (rw (listed-all x) at p))))
-      | inr p ↦ rw (same-system, lt-leb 1 (occurrences x zs) (omega arith), moved-owner g from to ys gs g′ passed apart x (none x), lt-leb 1 (occurrences x ys) (omega (arith, listed-all x)))
-    ]
+pub block-owners : (img : List ℕ) (s : Anodes) → blockTable img s ≡ ownerTable img (ownerHead s)
+unfolding blockTable blockEntry
+block-owners img s = refl
 
-    pub moved-table : blockTable j t ≡ setAll (blockTable img s) zs to
-    unfolding blockTable
-    moved-table =
-        let n = diskSize img in
-        let old = listed (blockEntry img s) 0 n in
-        let long : length old ≡ n = length-listed (blockEntry img s) 0 n in
-        rw same-size (listed-is (blockEntry j t) n (setAll old zs to) (length-setAll old zs to ∙ long)
-        (λ x l. moved-entry x ∙ sym (getD-setAll old zs to x (rw long l) ∙ ap (cond (leb 1 (occurrences x zs)) to) (listed-at (blockEntry img s) n x l))))
+-- the owners where the blocks of ys have come to a head
+abbrev pub handedTo : ℕ → List ℕ → (ℕ → ℕ) → ℕ → ℕ
+handedTo to ys own x = cond (leb 1 (occurrences x ys)) to (own x)
+
+module _ (img : List ℕ) (own : ℕ → ℕ) where
+  -- blocks of the disk that are not the system's have come to a head
+  pub owners-handed : (to : ℕ) (ys : List ℕ) → ((x : ℕ) → 0 < occurrences x ys → (x < diskSize img) × (systemOwns img x ≡ 0)) → (r : List ℕ) → setAll (ownerTable img own ++ r) ys to ≡ ownerTable img (handedTo to ys own) ++ r
+  unfolding entryOr
+  owners-handed to ys there r = setAll-listed (λ x. entryOr img (own x) x) (λ x. entryOr img (handedTo to ys own x) x) (diskSize img) to ys (λ y p. there y p .0)
+      (λ x. elim (less? 0 (occurrences x ys)) [
+        | inl p ↦ (let z = there x p .1 in rw (le-leb 1 (occurrences x ys) p, le-ltb x 3 (not-system img x z), z))
+        | inr p ↦ rw (lt-leb 1 (occurrences x ys) (omega arith))
+      ])
+      r
+
+  -- blocks of hs have become the system's, in an image j of the same size; every other has the owner that it had
+  module _ (j : List ℕ) (same-size : diskSize j ≡ diskSize img) (hs : List ℕ) (inside : (x : ℕ) → 0 < occurrences x hs → x < diskSize img) (got : (x : ℕ) → systemOwns j x ≡ systemOwns img x + occurrences x hs)
+      (own′ : ℕ → ℕ) (same : (x : ℕ) → occurrences x hs ≡ 0 → own′ x ≡ own x) where
+    -- none of them is one of the first three
+    got-above : (x : ℕ) → 0 < occurrences x hs → 3 ≤ x
+    unfolding systemBy
+    got-above x p = elim (less? x 3) [ inl l ↦ absurd (omega (arith, p, rw (lt-ltb x 3 l) at (got x))) | inr l ↦ l ]
+
+    pub owners-got : (r : List ℕ) → setAll (ownerTable img own ++ r) hs 65534 ≡ ownerTable j own′ ++ r
+    unfolding entryOr
+    owners-got r = rw same-size (setAll-listed (λ x. entryOr img (own x) x) (λ x. entryOr j (own′ x) x) (diskSize img) 65534 hs inside
+        (λ x. elim (less? 0 (occurrences x hs)) [
+          | inl p ↦ rw (le-leb 1 (occurrences x hs) p, le-ltb x 3 (got-above x p), ne-eqb (systemOwns j x) 0 (λ z. omega (arith, z, p, got x)))
+          | inr p ↦ (let none : occurrences x hs ≡ 0 = omega arith in
+              let stays : systemOwns j x ≡ systemOwns img x = omega (arith, got x, none) in
+              rw (lt-leb 1 (occurrences x hs) (omega arith), stays, same x none))
+        ])
+        r)
+
+-- blocks of ys have gone from one head's chain to another's, and those of gs from the free list to the system; j is an image of the same size whose system has those too
+module _ (img j : List ℕ) (same-size : diskSize j ≡ diskSize img) (gs : List ℕ) (got : (x : ℕ) → systemOwns j x ≡ systemOwns img x + occurrences x gs) (s t : Anodes)
+    {ex ex′ : ℕ → Bool} {last : ℕ} {hd sd hd′ sd′ : ℕ → ℕ} (g : Good limit ex (diskSize img) last s (systemOwns img) hd sd) (from to : ℕ) (ys : List ℕ)
+    (g′ : Good limit ex′ (diskSize img) last t (withThese (systemOwns img) gs) hd′ sd′) (passed : Passed limit s hd t hd′ from to ys gs) (apart : from ≢ to) where
+  -- a block that became the system's was on the disk
+  got-data : (x : ℕ) → 0 < occurrences x gs → x < diskSize img
+  got-data x p = elim (less? 0 (occurrences x ys)) [
+    | inl q ↦ moved-data g from to ys gs g′ passed apart x q .0
+    | inr q ↦ (let none : occurrences x ys ≡ 0 = omega arith in held-data g 1 x (omega (arith, p, rw (none, oneAt-same 1 1 refl) at (passed 1 x))) .0)
+  ]
+
+  -- both in whatever order they are listed
+  module _ (zs : List ℕ) (listed-all : (x : ℕ) → occurrences x zs ≡ occurrences x ys) (hs : List ℕ) (listed-got : (x : ℕ) → occurrences x hs ≡ occurrences x gs) where
+    -- an anode block's owner is 65534, and else that of a block of ys is now `to`; in the front of a longer table that showed it
+    pub moved-front : (r : List ℕ) → setAll (setAll (blockTable img s ++ r) zs to) hs 65534 ≡ blockTable j t ++ r
+    unfolding blockTable blockEntry
+    moved-front r =
+        ap (λ (l : List ℕ). setAll l hs 65534) (owners-handed img (ownerHead s) to zs (λ x p. moved-data g from to ys gs g′ passed apart x (rw (listed-all x) at p)) r)
+        ∙ owners-got img (handedTo to zs (ownerHead s)) j same-size hs (λ x p. got-data x (rw (listed-got x) at p)) (λ x. omega (arith, got x, listed-got x)) (ownerHead t)
+        (λ x z. rw (listed-all x) (moved-owner g from to ys gs g′ passed apart x (omega (arith, z, listed-got x)))) r
+
+    -- so is the block table
+    pub moved-table : blockTable j t ≡ setAll (setAll (blockTable img s) zs to) hs 65534
+    moved-table = sym (rw (append-nil (blockTable img s), append-nil (blockTable j t)) at (moved-front []))

@@ -118,7 +118,7 @@ unfolding atSlots
 slots-planned slots (refused n) t ys e = absurd (refused≢planned n t ys e)
 slots-planned slots (planned r zs) t ys e = let q = planned-same (slotted r slots) t zs ys e in (rw (← (q .0), q .1), rw (← (q .0)))
 
-slots-refused : (slots : ℕ → ℕ) (p : Plan Anodes) (k : ℕ) → atSlots slots p ≡ refused k → p ≡ refused k
+pub slots-refused : (slots : ℕ → ℕ) (p : Plan Anodes) (k : ℕ) → atSlots slots p ≡ refused k → p ≡ refused k
 unfolding atSlots
 slots-refused slots (refused n) k e = rw (refused-same n k e)
 slots-refused slots (planned r zs) k e = absurd (planned≢refused (slotted r slots) zs k e)
@@ -165,10 +165,15 @@ module _ (growth : Growth) (step : (ℕ → Bool) → Anodes → Plan Anodes) (s
   unfolding afresh
   afresh-done t ys e = rw (e, afresh)
 
+  -- refused at these slots: made afresh on what growth gives
+  pub afresh-again : (k : ℕ) → step (existsBy (s .slots)) (s .anodes) ≡ refused k → afresh growth step s ≡ regrown step k (growth s)
+  unfolding afresh
+  afresh-again k e = rw (e, afresh)
+
   -- refused at these slots, which cannot grow
   pub afresh-stuck : (k : ℕ) → step (existsBy (s .slots)) (s .anodes) ≡ refused k → growth s ≡ none → afresh growth step s ≡ refused k
-  unfolding afresh regrown
-  afresh-stuck k e f = rw (e, f, afresh, regrown)
+  unfolding regrown
+  afresh-stuck k e f = afresh-again k e ∙ rw f
 
 -- without growth the step is the one at these slots
 pub afresh-fixed : (step : (ℕ → Bool) → Anodes → Plan Anodes) (s : Slotted) → afresh noGrowth step s ≡ atSlots (s .slots) (step (existsBy (s .slots)) (s .anodes))

@@ -44,7 +44,7 @@ module _ (A : ℕ) (ex : ℕ → Bool) (s : Anodes) where
   ]
 
   -- a put, if the taker's last anode cannot have the block besides
-  put-28 : (dir : Bool) (z y k : ℕ) → (put A dir z y ex s ≡ refused k) ↔ ((k ≡ 28) × NeedsAnode dir s z y × NoneFree A ex s)
+  pub put-28 : (dir : Bool) (z y k : ℕ) → (put A dir z y ex s ≡ refused k) ↔ ((k ≡ 28) × NeedsAnode dir s z y × NoneFree A ex s)
   put-28 dir z y k = elim (put-cases A ex dir s z y) [
     | first c ↦ (λ e. absurd (planned≢refused (rewritten s z 1 y) (run y 1) k (sym (c .1) ∙ e)), λ n. absurd (n .1 .0 (c .0)))
     | second c ↦ (
@@ -55,7 +55,7 @@ module _ (A : ℕ) (ex : ℕ → Bool) (s : Anodes) where
   ]
 
   -- a join, if the run can join the last anode of its side in no way
-  join-28 : (z c b k : ℕ) → (join A z c b ex s ≡ refused k) ↔ ((k ≡ 28) × JoinsNone s z c b × NoneFree A ex s)
+  pub join-28 : (z c b k : ℕ) → (join A z c b ex s ≡ refused k) ↔ ((k ≡ 28) × JoinsNone s z c b × NoneFree A ex s)
   unfolding join
   join-28 z c b k = elim (join-cases s z c b (append A ex s z c b)) [
     | fills q ↦ (λ e. absurd (planned≢refused (rewritten s z c b) (run b c) k (sym (q .2) ∙ e)), λ n. absurd (elim (n .1) [ inl i ↦ q .0 i | inr i ↦ i .0 (q .1) ]))

@@ -37,11 +37,11 @@ module _ (slots : ℕ → ℕ) (s : Anodes) (n k : ℕ) where
   used-looked h = used-by (slots k) refl h
 
 -- the anodes of an empty slot are missing, those of a used one exist
-none-exists : (slots : ℕ → ℕ) (j : ℕ) → slots (j / 82) ≡ 0 → existsBy slots j ≡ false
+pub none-exists : (slots : ℕ → ℕ) (j : ℕ) → slots (j / 82) ≡ 0 → existsBy slots j ≡ false
 unfolding existsBy
 none-exists slots j e = rw (eq-eqb (slots (j / 82)) 0 e)
 
-one-exists : (slots : ℕ → ℕ) (j : ℕ) → slots (j / 82) ≢ 0 → existsBy slots j ≡ true
+pub one-exists : (slots : ℕ → ℕ) (j : ℕ) → slots (j / 82) ≢ 0 → existsBy slots j ≡ true
 unfolding existsBy
 one-exists slots j e = rw (ne-eqb (slots (j / 82)) 0 e)
 

@@ -2,7 +2,7 @@
 use Prim.Native.Nat.{ℕ, zero, suc, _+_, _*_, _≤_, _<_}
 use mathlib.Core.Path.{_≡_, refl, sym, _∙_, fun-ext}
 use mathlib.Core.Logic.{_≢_, _⊎_, inl, inr}
-use mathlib.Core.Bool.{Bool, cond}
+use mathlib.Core.Bool.{Bool, true, false, cond}
 use native.Mathlib.Omega.{arith}
 use lib.Dec.{T, ltb, leb→le, le→leb}
 use Rattle.rules.specs.Counting.{oneAt, sumBelow, least, changed}
@@ -82,6 +82,23 @@ least-cases t (suc k) = go (cond-cases (ltb (least t k) k) (least t k) (cond (t 
     go (inr a) b (inl r) = absurd (a .0 (le→leb (suc (least t k)) k (r .0)))
     go (inr a) (inl b) (inr r) = rw (a .1, b .1) (inl (omega arith, b .0, r .1))
     go (inr a) (inr b) (inr r) = rw (a .1, b .1) (inr (refl, λ i l. elim (same? i k) [ inl e ↦ rw e (b .0) | inr e ↦ r .1 i (omega arith) ]))
+
+-- the least is i, where i passes and none below it does
+pub least-found : (test : ℕ → Bool) (i n : ℕ) → i < n → ((j : ℕ) → j < i → test j ≡ false) → test i ≡ true → least test n ≡ i
+least-found test i n l none here = elim (least-cases test n) [
+  | inl d ↦ elim (less? (least test n) i) [
+    | inl q ↦ absurd (rw (none (least test n) q) at (d .1))
+    | inr q ↦ elim (less? i (least test n)) [ inl p ↦ absurd (d .2 i p (rw here tt)) | inr p ↦ omega arith ]
+  ]
+  | inr d ↦ absurd (d .1 i l (rw here tt))
+]
+
+-- and the bound, where none passes
+pub least-none : (test : ℕ → Bool) (n : ℕ) → ((j : ℕ) → j < n → test j ≡ false) → least test n ≡ n
+least-none test n none = elim (least-cases test n) [
+  | inl d ↦ absurd (rw (none (least test n) (d .0)) at (d .1))
+  | inr d ↦ d .0
+]
 
 -- ---- sums below a bound
 

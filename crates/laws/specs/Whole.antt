@@ -3,7 +3,7 @@ use Prim.Native.Nat.{ℕ, _+_, _*_, _≤_, _<_}
 use mathlib.Core.Path.{_≡_, refl, sym, ap, _∙_}
 use mathlib.Core.Logic.{_≢_, _⊎_, inl, inr}
 use mathlib.Core.Bool.{Bool, cond, _&&_}
-use mathlib.Core.List.{List, map}
+use mathlib.Core.List.{List, map, map-id}
 use native.Mathlib.Omega.{arith}
 use lib.Dec.{eqb, leb}
 use Rattle.rules.specs.Counting.{oneAt, sumBelow, sumList, occurrences}
@@ -185,19 +185,12 @@ module _ {ex : ℕ → Bool} {n last : ℕ} {s : Anodes} {system hd sd : ℕ →
       + blocks limit hd (s .count) 3 + blocks limit hd (s .count) 4) ≡ n
   whole-total = tree-total (w .good) (itemsBy entries marked s) root dirs (w .tree) refl named-heads (w .all-named)
 
-  -- h is a file's: some reached entry of a file names it
-  module _ (h : ℕ) (file : 1 ≤ namedByFiles (itemsBy entries marked s) h dirs) where
-    pub file-head : (6 ≤ h) × (h < limit) × Head (s .next) (s .block) h
-    file-head = named-heads h (omega (arith, named-by-kind items h dirs, file))
-
-    pub not-dir : Each (λ d. d .head ≢ h) dirs
-    not-dir = none-headed h dirs (omega (arith, w .tree .exact (λ d. oneAt (d .head) h), oneAt-other 5 h (λ e. omega (arith, e, file-head .0)), w .tree .once h, file, named-by-kind items h dirs))
-
-    -- a file's chain is changed, by takes or gives, its entry's size with it, and nothing else of the directories
-    pub change-file : {t : Anodes} {ex′ : ℕ → Bool} {system′ hd′ sd′ : ℕ → ℕ} → Good limit ex′ n last t system′ hd′ sd′ → Shift s hd t hd′ 1 h →
+  -- the chain of h, which is no directory's, is changed, by takes or gives, the sizes of the entries that name it with it, and nothing else of the directories
+  module _ (h : ℕ) (not-h : Each (λ d. d .head ≢ h) dirs) where
+    pub change-chain : {t : Anodes} {ex′ : ℕ → Bool} {system′ hd′ sd′ : ℕ → ℕ} → Good limit ex′ n last t system′ hd′ sd′ → Shift s hd t hd′ 1 h →
         (φ : Entered → Entered) (entries′ : ℕ → List Entered) (marked′ : Dir → ℕ → Bool) → SizesChanged s hd h φ entries entries′ marked marked′ →
-        ((e : Entered) → e .anode ≡ h → blockCount t h ≡ blocksFor (φ e .size)) → Whole ex′ n last t system′ hd′ sd′ entries′ marked′ dirs
-    change-file {t} {hd′ = hd′} {sd′ = sd′} g′ sh φ entries′ marked′ c mine = record {
+        ((e : Entered) → 6 ≤ e .anode → e .anode ≡ h → blockCount t h ≡ blocksFor (φ e .size)) → Whole ex′ n last t system′ hd′ sd′ entries′ marked′ dirs
+    change-chain {t} {hd′ = hd′} {sd′ = sd′} g′ sh φ entries′ marked′ c mine = record {
       good = g′;
       tree = alike-tree items items′ root dirs alikes (w .tree);
       all-named = λ x l d. omega (arith, w .all-named x l (sh .no-new x d), alike-named items items′ dirs alikes x);
@@ -210,7 +203,7 @@ module _ {ex : ℕ → Bool} {n last : ℕ} {s : Anodes} {system hd sd : ℕ →
         size : (e : Entered) → 6 ≤ e .anode → Head (s .next) (s .block) (e .anode) → Sized s e → Sized t (φ e)
         size e l d (inl q) = inl (c .keeps e .1 ∙ q)
         size e l d (inr q) = elim (same? (e .anode) h) [
-          | inl i ↦ inr (ap (blockCount t) (c .keeps e .2 ∙ i) ∙ mine e i)
+          | inl i ↦ inr (ap (blockCount t) (c .keeps e .2 ∙ i) ∙ mine e l i)
           | inr i ↦ inr (ap (blockCount t) (c .keeps e .2) ∙ shift-count (w .good) g′ sh (e .anode) d (omega arith) i ∙ q ∙ ap blocksFor (sym (c .other e i)))
         ]
 
@@ -224,4 +217,23 @@ module _ {ex : ℕ → Bool} {n last : ℕ} {s : Anodes} {system hd sd : ℕ →
 
         alikes : Each (AlikeItems items items′) dirs
         alikes = each-both (DirHead s) (λ d. (d .head ≢ h) × (faults items d ≡ 0)) (AlikeItems items items′) dirs one dir-heads
-            (each-pair (λ d. d .head ≢ h) (λ d. faults items d ≡ 0) dirs not-dir (each-zero (faults items) dirs (w .tree .faultless)))
+            (each-pair (λ d. d .head ≢ h) (λ d. faults items d ≡ 0) dirs not-h (each-zero (faults items) dirs (w .tree .faultless)))
+
+  -- h is a file's: some reached entry of a file names it
+  module _ (h : ℕ) (file : 1 ≤ namedByFiles (itemsBy entries marked s) h dirs) where
+    pub file-head : (6 ≤ h) × (h < limit) × Head (s .next) (s .block) h
+    file-head = named-heads h (omega (arith, named-by-kind items h dirs, file))
+
+    pub not-dir : Each (λ d. d .head ≢ h) dirs
+    not-dir = none-headed h dirs (omega (arith, w .tree .exact (λ d. oneAt (d .head) h), oneAt-other 5 h (λ e. omega (arith, e, file-head .0)), w .tree .once h, file, named-by-kind items h dirs))
+
+    -- a file's chain is changed, by takes or gives, its entry's size with it, and nothing else of the directories
+    pub change-file : {t : Anodes} {ex′ : ℕ → Bool} {system′ hd′ sd′ : ℕ → ℕ} → Good limit ex′ n last t system′ hd′ sd′ → Shift s hd t hd′ 1 h →
+        (φ : Entered → Entered) (entries′ : ℕ → List Entered) (marked′ : Dir → ℕ → Bool) → SizesChanged s hd h φ entries entries′ marked marked′ →
+        ((e : Entered) → e .anode ≡ h → blockCount t h ≡ blocksFor (φ e .size)) → Whole ex′ n last t system′ hd′ sd′ entries′ marked′ dirs
+    change-file g′ sh φ entries′ marked′ c mine = change-chain h not-dir g′ sh φ entries′ marked′ c (λ e l. mine e)
+
+  -- the free list alone is changed
+  pub change-free : {t : Anodes} {ex′ : ℕ → Bool} {system′ hd′ sd′ : ℕ → ℕ} → Good limit ex′ n last t system′ hd′ sd′ → Shift s hd t hd′ 1 1 → Whole ex′ n last t system′ hd′ sd′ entries marked dirs
+  change-free g′ sh = change-chain 1 (each-map (DirHead s) (λ d. d .head ≢ 1) dirs (λ d p. p .1) dir-heads) g′ sh (λ e. e) entries marked
+      (record { keeps = λ e. (refl, refl, refl, refl); other = λ e q. refl; there = λ a i q r. (sym (map-id (entries (s .block a))), λ d. refl) }) (λ e l i. absurd (omega (arith, l, i)))

@@ -91,7 +91,7 @@ pub fn resize_named(
         Search::Found(e) => e,
         Search::Refused(r) => return number(r),
     };
-    resize_entry(image, blocks, heads, counts, firsts, nexts, e, size)
+    resize_entry(true, image, blocks, heads, counts, firsts, nexts, e, size)
 }
 
 // Removes a file or an empty directory; 21, 22, 25, then 28.
@@ -115,7 +115,7 @@ pub fn remove_named(
         Search::Found(e) => e,
         Search::Refused(r) => return number(r),
     };
-    remove_entry(image, blocks, heads, counts, firsts, nexts, e)
+    remove_entry(true, image, blocks, heads, counts, firsts, nexts, e)
 }
 
 // 20: name or comment against the entry rules.
@@ -167,6 +167,7 @@ pub fn make_named(
     }
     let parent = parent_of(queue, parents, dirs, head);
     make_entry(
+        true,
         image,
         blocks,
         heads,

@@ -12,7 +12,7 @@ use Rattle.laws.specs.Sums.{changed-cases}
 use Rattle.anodes.specs.Loaded.{anodesFrom}
 
 -- a table with another number at i
-set-changed : (l : List ℕ) (i v : ℕ) → i < length l → (λ a. getD (set l i v) a 0) ≡ changed (λ a. getD l a 0) i v
+pub set-changed : (l : List ℕ) (i v : ℕ) → i < length l → (λ a. getD (set l i v) a 0) ≡ changed (λ a. getD l a 0) i v
 set-changed l i v h = fun-ext (λ a. elim (changed-cases (λ x. getD l x 0) i v a) [
   | inl c ↦ rw (c .0) (getD-set-same l i v 0 h) ∙ sym (c .1)
   | inr c ↦ getD-set-other l i a v 0 (c .0) ∙ sym (c .1)

@@ -1,70 +1,91 @@
 -- A removal by its plan: what it leaves of an accepted image and of its two tables.
 use Prim.Native.Nat.{ℕ, _/_}
-use mathlib.Core.Path.{_≡_, refl, sym, _∙_}
-use mathlib.Core.Bool.{false}
+use mathlib.Core.Path.{_≡_}
+use mathlib.Core.Bool.{Bool}
 use mathlib.Core.List.{List, _++_}
 use native.Mathlib.Omega.{arith}
 use lib.ListN.{drop}
 use Rattle.disk.specs.Root.{slotOf}
-use Rattle.rules.specs.Anodes.{Anodes, limit, anodesOf, withAnodes}
+use Rattle.rules.specs.Anodes.{limit, anodesOf}
 use Rattle.rules.specs.Walk.{Entered}
 use Rattle.rules.specs.Tables.{anodeTable}
-use Rattle.rules.specs.Accepted.{lastReserved}
+use Rattle.rules.specs.Accepted.{diskSize, lastReserved}
 use Rattle.rules.specs.Chains.{blocksOf}
-use Rattle.rules.specs.Plans.{Slotted, slotted, tableOf, Plan, refused, planned, noGrowth}
+use Rattle.rules.specs.Plans.{Slotted, tableOf, Plan, refused, planned}
 use Rattle.rules.specs.Space.{giveAll}
-use Rattle.rules.specs.Changes.{removedImage, removed, removePlan}
+use Rattle.rules.specs.Table.{withSlotTable, withTable}
+use Rattle.rules.specs.Changes.{left, removedImage, removed, removePlan}
 use Rattle.laws.specs.Links.{Linked}
-use Rattle.laws.specs.FixedSlots.{none-got}
+use Rattle.laws.specs.Moves.{SlotsGrew}
+use Rattle.laws.specs.GotSlots.{slotsGot}
 use Rattle.laws.specs.OwnerTable.{setAll}
-use Rattle.frames.specs.StoredAnodes.{withAnodes-stored}
-use Rattle.change_laws.specs.Image.{accepted-slots}
+use Rattle.change_laws.specs.Image.{stored-kept}
 use Rattle.change_laws.specs.FoundEntries.{block-standing, end-within}
-use Rattle.change_laws.specs.Reached.{entry-not-1, block-data, block-entry}
+use Rattle.change_laws.specs.Reached.{block-data}
+use Rattle.change_laws.specs.PlannedChange.{image, facts, not-1}
 use Rattle.change_laws.specs.Remove.{remove-refused}
-use Rattle.change_laws.specs.RemoveStores.{PlannedRemove, gave, goes, given-all, end-good, removed-disk}
-use Rattle.anodes.specs.Loaded.{slotsFrom, tableFrom, Loaded}
+use Rattle.change_laws.specs.RemoveStores.{EntryPlan, PlannedRemove, here, gave, goes, given-all, table, end-good, home-data, removed-disk}
+use Rattle.anodes.specs.Loaded.{anodesFrom, slotsFrom, tableFrom, Loaded}
 use Rattle.edits.specs.Entries.{EntryStands}
+use Rattle.growing.specs.Grown.{growthIf}
+use Rattle.growing.proofs.States.{growth-if-grows}
 use Rattle.change_tables.specs.Leaves.{Leaves, ReachedEntry}
-use Rattle.change_tables.specs.Laws.{leaves-refused, shows-moved, leaves-done}
-use Rattle.change_tables.specs.Chains.{loaded-image, image-good, reached-entry, entry-known, loaded-copies, planned-change}
+use Rattle.change_tables.specs.Laws.{leaves-refused, leaves-moved}
+use Rattle.change_tables.specs.Chains.{slots-loaded, reached-entry, loaded-copies, planned-change}
 
 module _ {img counts firsts nexts : List ℕ} (l : Loaded img counts firsts nexts) (e : Entered) (r : ReachedEntry img e) where
-  abbrev s : Anodes
-  s = anodesOf img
+  -- ---- the plan; b: whether slots may grow
 
-  abbrev plan : Plan Slotted
-  plan = removePlan noGrowth (lastReserved img) (tableOf img) (e .anode)
+  module _ (b : Bool) where
+    abbrev plan : Plan Slotted
+    plan = removePlan (growthIf b) (lastReserved img) (tableOf img) (e .anode)
 
-  -- the plan on copies of the tables is that of the image
-  pub gives-made : (nc nf nn : List ℕ) → nc ≡ counts → nf ≡ firsts → nn ≡ nexts → (slots : List ℕ) → slotsFrom slots ≡ slotOf img → (last : ℕ) → last ≡ lastReserved img →
-      giveAll limit noGrowth last (e .anode) (tableFrom nc nf nn slots) ≡ plan
-  gives-made nc nf nn c f n slots held last is = rw (loaded-copies l nc nf nn c f n .is-loaded, held, is)
+    -- on copies of the tables it is that of the image
+    pub gives-made : (nc nf nn : List ℕ) → nc ≡ counts → nf ≡ firsts → nn ≡ nexts → (slots : List ℕ) → slotsFrom slots ≡ slotOf img → (last : ℕ) → last ≡ lastReserved img →
+        giveAll limit (growthIf b) last (e .anode) (tableFrom nc nf nn slots) ≡ plan
+    gives-made nc nf nn c f n slots held last is = rw (loaded-copies l nc nf nn c f n .is-loaded, held, is)
 
-  -- refused it leaves everything
-  pub refused-leaves : (k : ℕ) → plan ≡ refused k → (b a : List ℕ) → Leaves k img b a img b a (removed noGrowth img (tableOf img) e)
-  unfolding removed
-  refused-leaves k gives b a = rw gives (leaves-refused k (omega (arith, remove-refused (reached-entry l e r) k gives)) img b a)
+    -- refused it leaves everything
+    pub refused-leaves : (k : ℕ) → plan ≡ refused k → (blocks heads : List ℕ) → Leaves k img blocks heads img blocks heads (removed (growthIf b) img (tableOf img) e)
+    unfolding removed
+    refused-leaves k gives blocks heads =
+        rw gives (leaves-refused k (omega (arith, remove-refused (growth-if-grows b (diskSize img) (lastReserved img)) (reached-entry l e r) k gives)) img blocks heads)
 
-  module _ (t : Anodes) (ys : List ℕ) (gives : plan ≡ planned (slotted t (slotOf img)) ys) where
-    p : PlannedRemove img e (slotted t (slotOf img)) ys
-    p = planned-change l e r gives
+    -- else it is one of a removal
+    pub entry-planned : {t : Slotted} {ys : List ℕ} → plan ≡ planned t ys → EntryPlan img e t ys
+    entry-planned gives = record { growth = growthIf b; grows = growth-if-grows b (diskSize img) (lastReserved img); steps = gives }
+
+    -- which leaves that image
+    pub removed-is : {t : Slotted} {ys : List ℕ} → plan ≡ planned t ys → removed (growthIf b) img (tableOf img) e ≡ left 0 (removedImage img e t)
+    unfolding removed
+    removed-is gives = rw gives
+
+  -- ---- the state t that its steps left
+
+  module _ {t : Slotted} {ys : List ℕ} (steps : EntryPlan img e t ys) where
+    p : PlannedRemove img e t ys
+    p = planned-change l e r steps
+
+    -- its slots have grown, or are the image's
+    pub removed-slots : SlotsGrew (diskSize img) (slotOf img) (t .slots)
+    removed-slots = goes p .slots-grew
+
+    -- the anodes in the tables are those of the image with these slots
+    pub removed-anodes : anodesFrom counts firsts nexts ≡ anodesOf (withSlotTable img (t .slots))
+    removed-anodes = slots-loaded l (table p)
 
     -- the links that show_heads asks for
-    pub removed-links : Linked limit (t .next) (t .block)
+    pub removed-links : Linked limit (t .anodes .next) (t .anodes .block)
     removed-links = end-good p .linked
 
-    -- the entry stands where it did, after the anodes are stored
-    pub stands : EntryStands (withAnodes img t) (e .start)
+    -- the entry stands where it did, after slots and anodes are stored
+    pub stands : EntryStands (withTable img t) (e .start)
     stands =
-        let facts = entry-known l e r in
-        let kept = withAnodes-stored img (accepted-slots (loaded-image l)) t .kept in
-        rw (kept .length-kept, kept .block-kept (e .start / 512) (block-data facts .unheld)) (block-data facts .inside, block-standing (block-entry facts) .before, end-within (block-entry facts))
+        let kept = stored-kept (image p) (table p) in
+        let same = kept .block-kept (e .start / 512) (rw (facts p .in-block) (home-data p (facts p .a₀) (facts p .member-chain))) in
+        rw (kept .length-kept, same) (block-data (facts p) .inside, block-standing (here p) .before, end-within (here p))
 
     -- what it leaves of the image and the tables
-    pub done-leaves : (b a : List ℕ) → Leaves 0 img b a (removedImage img e (slotted t (slotOf img))) (setAll b (blocksOf s (e .anode)) 1) (anodeTable t ++ drop limit a) (removed noGrowth img (tableOf img) e)
-    unfolding removed
-    done-leaves b a =
-        let given = blocksOf s (e .anode) in
-        rw gives (leaves-done img (removedImage img e (slotted t (slotOf img))) (removed-disk p) b a (setAll b given 1) (anodeTable t ++ drop limit a)
-        (shows-moved img s t (image-good l) (e .anode) 1 ys (gave p .0) (goes p .good) (goes p .passed) (entry-not-1 (entry-known l e r)) (none-got (slotOf img) (slotOf img) (gave p .0) (goes p .system-got) refl) given (given-all p) b) refl)
+    pub done-leaves : (blocks heads : List ℕ) →
+        Leaves 0 img blocks heads (removedImage img e t) (setAll (setAll blocks (blocksOf (anodesOf img) (e .anode)) 1) (slotsGot (slotOf img) (t .slots) 42) 65534) (anodeTable (t .anodes) ++ drop limit heads) (left 0 (removedImage img e t))
+    done-leaves blocks heads = leaves-moved (image p) (gave p .0) (goes p .good) (goes p .system-got) (goes p .slots-grew) (e .anode) 1 ys (goes p .passed) (not-1 p) (removed-disk p) (blocksOf (anodesOf img) (e .anode)) (given-all p) blocks heads

@@ -3,13 +3,15 @@ ghost use mathlib.Core.List.{List};
 ghost use mathlib.Core.Path.{_≡_};
 ghost use Prim.Native.Nat.{ℕ, _≤_};
 ghost use lib.ListN.{length};
-ghost use Rattle.disk.specs.Root.{slotOf};
-ghost use Rattle.rules.specs.Accepted.{lastReserved};
-ghost use Rattle.rules.specs.Plans.{slotted, tableOf, planned, noGrowth};
-ghost use Rattle.rules.specs.Changes.{removePlan, removed};
-ghost use Rattle.anodes.specs.Loaded.{anodesFrom, Loaded};
+ghost use Rattle.rules.specs.Plans.{tableOf};
+ghost use Rattle.rules.specs.Changes.{left, removedImage, removed};
+ghost use Rattle.change_laws.specs.RemoveStores.{EntryPlan};
+ghost use Rattle.anodes.specs.Loaded.{tableFrom, Loaded};
+ghost use Rattle.growing.specs.Grown.{growthIf};
 ghost use Rattle.lookup.specs.Answers.{entered};
 ghost use Rattle.change_tables.specs.Leaves.{Leaves, ReachedEntry};
+use anode_blocks::show_slots;
+use anode_blocks::store_slots;
 use chains::show_heads;
 use disk::AnodeNo;
 use edits::set_behind;
@@ -35,14 +37,17 @@ fn commit_remove(
     new_counts: &[u16],
     new_firsts: &[u16],
     new_nexts: &[u16],
+    slots: &[u16],
     e: EntryAt,
 )
     requires { ⌜ Loaded (now image) (now counts) (now firsts) (now nexts) × ReachedEntry (now image) (entered (now image) e) ⌝ }
     requires { ⌜ (3444 ≤ length (now anodes)) × (length (now «new_nexts») ≡ 3444) ⌝ }
-    requires { ⌜ ((ys : List ℕ) × (removePlan noGrowth (lastReserved (now image)) (tableOf (now image)) (e .anode .0) ≡ planned (slotted (anodesFrom (now «new_counts») (now «new_firsts») (now «new_nexts»)) (slotOf (now image))) ys)) ⌝ }
-    ensures { λ _. ⌜ Leaves 0 (now (image .entry)) (now (blocks .entry)) (now (anodes .entry)) (now (image .exit)) (now (blocks .exit)) (now (anodes .exit)) (removed noGrowth (now (image .entry)) (tableOf (now (image .entry))) (entered (now (image .entry)) e)) ⌝ }
+    requires { ⌜ ((ys : List ℕ) × EntryPlan (now image) (entered (now image) e) (tableFrom (now «new_counts») (now «new_firsts») (now «new_nexts») (now slots)) ys) ⌝ }
+    ensures { λ _. ⌜ Leaves 0 (now (image .entry)) (now (blocks .entry)) (now (anodes .entry)) (now (image .exit)) (now (blocks .exit)) (now (anodes .exit)) (left 0 (removedImage (now (image .entry)) (entered (now (image .entry)) e) (tableFrom (now («new_counts» .entry)) (now («new_firsts» .entry)) (now («new_nexts» .entry)) (now (slots .entry))))) ⌝ }
 {
     set_behind(blocks, counts, firsts, nexts, e.anode, 0, AnodeNo(1));
+    show_slots(image, slots, blocks);
+    store_slots(image, slots);
     store_anodes(
         image,
         counts,
@@ -56,8 +61,9 @@ fn commit_remove(
     show_heads(new_firsts, new_nexts, anodes);
 }
 
-// Removes an entry with its chain; 28 leaves everything as it was.
+// Removes an entry with its chain; 28 leaves everything as it was. `growing`: whether slots may grow for it.
 pub fn remove_entry(
+    growing: bool,
     image: &mut [u8],
     blocks: &mut [u16],
     anodes: &mut [u16],
@@ -68,14 +74,16 @@ pub fn remove_entry(
 ) -> u32
     requires { ⌜ Loaded (now image) (now counts) (now firsts) (now nexts) × ReachedEntry (now image) (entered (now image) e) ⌝ }
     requires { ⌜ 3444 ≤ length (now anodes) ⌝ }
-    ensures { λ r. ⌜ Leaves r (now (image .entry)) (now (blocks .entry)) (now (anodes .entry)) (now (image .exit)) (now (blocks .exit)) (now (anodes .exit)) (removed noGrowth (now (image .entry)) (tableOf (now (image .entry))) (entered (now (image .entry)) e)) ⌝ }
+    ensures { λ r. ⌜ Leaves r (now (image .entry)) (now (blocks .entry)) (now (anodes .entry)) (now (image .exit)) (now (blocks .exit)) (now (anodes .exit)) (removed (growthIf growing) (now (image .entry)) (tableOf (now (image .entry))) (entered (now (image .entry)) e)) ⌝ }
 {
     let have = chain_sum(counts, nexts, e.anode) as u64;
     let mut new_counts = copied(counts);
     let mut new_firsts = copied(firsts);
     let mut new_nexts = copied(nexts);
+    let mut slots = slots_of(image);
     let plan = give_all(
-        &slots_of(image),
+        growing,
+        &mut slots,
         last_reserved(image),
         have,
         e.anode,
@@ -96,6 +104,7 @@ pub fn remove_entry(
         &new_counts,
         &new_firsts,
         &new_nexts,
+        &slots,
         e,
     );
     0

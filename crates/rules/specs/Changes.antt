@@ -10,14 +10,16 @@ use Rattle.disk.specs.Blocks.{blockOf, withBlock}
 use Rattle.directory.specs.declared.Entry.{Entry}
 use Rattle.directory.specs.declared.Kind.the-variants.{File, Directory}
 use Rattle.directory.specs.Entries.{entryLength, putEntry}
-use Rattle.rules.specs.Anodes.{Anodes, limit, existsBy, withAnodes}
+use Rattle.rules.specs.Anodes.{Anodes, limit, existsBy}
 use Rattle.rules.specs.Chains.{blocksOf, blockCount}
 use Rattle.rules.specs.Walk.{Dir, Entered, blocksFor, reachedDirs}
 use Rattle.rules.specs.Accepted.{lastReserved}
 use Rattle.rules.specs.Lookup.{bytesOf}
-use Rattle.rules.specs.Plans.{Slotted, slotted, Plan, refused, planned, Growth, noGrowth}
+use Rattle.rules.specs.Plans.{Slotted, slotted, Plan, refused, planned, Growth}
 use Rattle.rules.specs.Space.{rewritten, lowestFree, withSpare, takeBlock, takeMany, giveBlocks, giveAll}
 use Rattle.rules.specs.Format.{zeroBlock, newDirectoryBlock}
+use Rattle.rules.specs.Table.{inBlock, withTable}
+use Rattle.rules.specs.Growth.{grown}
 
 -- what a change answers, and the image that it leaves
 pub record Left : Type 0 where
@@ -32,10 +34,6 @@ left answer image = record { answer = answer; image = image }
 abbrev pub leftBy : Plan Slotted → List ℕ → (Slotted → List ℕ → Left) → Left
 leftBy (refused n) img f = left n img
 leftBy (planned t ys) img f = f t ys
-
--- the image with one block of it changed by f
-unfoldable pub inBlock : List ℕ → ℕ → (List ℕ → List ℕ) → List ℕ
-inBlock img y f = withBlock img y (f (blockOf img y))
 
 -- the image with the same bytes in each of some blocks
 unfoldable pub withBlocks : List ℕ → List ℕ → List ℕ → List ℕ
@@ -61,7 +59,7 @@ zeroTaken img e new ys = cond (ltb (e .size) new) (withBlocks img ys zeroBlock) 
 
 -- the image after a resize whose steps left the state t and moved the blocks ys
 unfoldable pub resizedImage : List ℕ → Anodes → Entered → ℕ → Slotted → List ℕ → List ℕ
-resizedImage img s e new t ys = withSize (zeroTail (zeroTaken (withAnodes img (t .anodes)) e new ys) s e new) (e .start) new
+resizedImage img s e new t ys = withSize (zeroTail (zeroTaken (withTable img t) e new ys) s e new) (e .start) new
 
 module _ (growth : Growth) where
   -- takes one block at a time, or gives back run by run, until the count fits (last: last reserved)
@@ -142,7 +140,7 @@ unfoldable pub madeImage : List ℕ → Anodes → ℕ → NewEntry → ℕ → 
 madeImage img s h new f room ys t zs =
     inBlock
     (withBlocks
-    (withBlocks (withAnodes img (t .anodes))
+    (withBlocks (withTable img t)
     ys (newDirectoryBlock f h))
     zs (newDirectoryBlock h (parentOf (reachedDirs img s) h)))
     (entryStart room zs / 512)
@@ -199,9 +197,9 @@ entryClosed b at = gapClosed b at (getD b at 0) (entriesEnd b)
 unfoldable pub withoutEntry : List ℕ → ℕ → List ℕ
 withoutEntry img start = inBlock img (start / 512) (λ b. entryClosed b (start % 512))
 
--- the image after a removal whose steps left the state t: its anodes are stored, and the entry goes
+-- the image after a removal whose steps left the state t: its slots and anodes are stored, and the entry goes
 unfoldable pub removedImage : List ℕ → Entered → Slotted → List ℕ
-removedImage img e t = withoutEntry (withAnodes img (t .anodes)) (e .start)
+removedImage img e t = withoutEntry (withTable img t) (e .start)
 
 module _ (growth : Growth) where
   -- gives back the whole chain (last: last reserved)
@@ -212,6 +210,6 @@ module _ (growth : Growth) where
   unfoldable pub removed : List ℕ → Slotted → Entered → Left
   removed img s e = leftBy (removePlan (lastReserved img) s (e .anode)) img (λ t ys. left 0 (removedImage img e t))
 
--- ---- how slots grow in these changes: not at all
+-- ---- how slots grow in these changes: as No. 6 says
 abbrev pub usualGrowth : Growth
-usualGrowth = noGrowth
+usualGrowth = grown limit

@@ -9,8 +9,10 @@ pub mod Tables
 pub mod Lookup
 pub mod Plans
 pub mod Space
+pub mod Growth
 pub mod Searched
 pub mod Format
+pub mod Table
 pub mod Changes
 pub mod Calls
 pub mod Totals

@@ -1,6 +1,6 @@
 -- Laws of the definitions: numbers of any width, the places and lengths of records, the first record that is too long, and the four ways out of a conversion.
 use mathlib.Core.Path.{_≡_, refl, sym, ap, _∙_}
-use mathlib.Core.Bool.{Bool, true, false, not}
+use mathlib.Core.Bool.{true, false, not}
 use mathlib.Core.List.{List, [], _∷_, _++_}
 use mathlib.Core.Logic.{inl, inr}
 use Prim.Native.Nat.{ℕ, zero, suc, _+_, _*_, _/_, _%_, _-_, _^_, _<_, _≤_}
@@ -12,11 +12,11 @@ use lib.Seq.{set-comm}
 use lib.Dec.{eqb, leb, ltb}
 use borrow.Author.Tests.{ltb-false, lt-ltb, le-ltb, le-leb, lt-leb, eq-eqb, ne-eqb}
 use Rattle.endian.specs.Bytes.{be16, be32, stored}
-use Rattle.endian.proofs.Laws.{less?, same?, run-on, stored-none}
+use Rattle.endian.proofs.Laws.{same?, run-on, stored-none}
 use Rattle.rules.specs.Counting.{anyBelow, least, gather}
 use Rattle.rules.specs.Calls.{doneOr}
 use Rattle.counting.specs.Laws.{neither}
-use Rattle.laws.specs.Sums.{least-cases}
+use Rattle.laws.specs.Sums.{least-found, least-none}
 use Rattle.settings.specs.declared.Form.{Form}
 use Rattle.settings.specs.declared.Setting.{Setting}
 use Rattle.settings.specs.Files.{settingOf, numberAt, numberBytes, recordLength, recordPlace, recordCount, markAt, keyAt, secondsAt, wrongRecord, notOfForm, settingsFrom, settingsIn, recordBytes, fileOf}
@@ -190,23 +190,6 @@ record-stored form s at l l₁ l₂ l₃ p q r =
     r
     ∙ run-on l₁ (at + 2) (numberBytes 2 (s .key)) l₂ q (at + 4) _ (omega (arith, length-bytes 2 (s .key)))
     ∙ run-on l at (numberBytes 2 (form .mark)) l₁ p (at + 2) _ (omega (arith, length-bytes 2 (form .mark)))
-
--- ---- the least number that passes
-
-pub least-found : (test : ℕ → Bool) (i n : ℕ) → i < n → ((j : ℕ) → j < i → test j ≡ false) → test i ≡ true → least test n ≡ i
-least-found test i n l none here = elim (least-cases test n) [
-  | inl d ↦ elim (less? (least test n) i) [
-    | inl q ↦ absurd (rw (none (least test n) q) at (d .1))
-    | inr q ↦ elim (less? i (least test n)) [ inl p ↦ absurd (d .2 i p (rw here tt)) | inr p ↦ omega arith ]
-  ]
-  | inr d ↦ absurd (d .1 i l (rw here tt))
-]
-
-pub least-none : (test : ℕ → Bool) (n : ℕ) → ((j : ℕ) → j < n → test j ≡ false) → least test n ≡ n
-least-none test n none = elim (least-cases test n) [
-  | inl d ↦ absurd (rw (none (least test n) (d .0)) at (d .1))
-  | inr d ↦ d .0
-]
 
 -- ---- the first record that is too long
 

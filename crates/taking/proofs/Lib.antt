@@ -1,2 +1,3 @@
 -- Laws of a take and of many.
-pub mod Taking
+pub mod OneTake
+pub mod ManyTakes

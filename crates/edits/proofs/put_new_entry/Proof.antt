@@ -6,7 +6,8 @@ use borrow.Author.Tests.{leb-true}
 use Rattle.directory.specs.Entries.{goodComment, isDir, putEntry}
 use Rattle.directory.proofs.Laws.{goodName-length}
 use Rattle.disk.proofs.Laws.{withBlock-none, block-changed}
-use Rattle.rules.specs.Changes.{inBlock, newEntry, entryOf}
+use Rattle.rules.specs.Table.{inBlock}
+use Rattle.rules.specs.Changes.{newEntry, entryOf}
 use Rattle.edits.proofs.Blocks.{kind-back}
 use borrow.Author.Needs.{needs}
 use Rattle.edits.proofs.put_new_entry.Statement.{statement}

@@ -3,7 +3,8 @@ use Prim.Native.Nat.{ℕ, _+_, _%_}
 use native.Mathlib.Omega.{arith}
 use Rattle.endian.specs.Bytes.{put32}
 use Rattle.disk.proofs.Laws.{withBlock-none, block-changed}
-use Rattle.rules.specs.Changes.{inBlock, withSize}
+use Rattle.rules.specs.Table.{inBlock}
+use Rattle.rules.specs.Changes.{withSize}
 use borrow.Author.Needs.{needs}
 use Rattle.edits.proofs.put_size.Statement.{statement}
 use Rattle.edits.proofs.put_size.Tie as tie

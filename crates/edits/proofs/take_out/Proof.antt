@@ -4,7 +4,8 @@ use mathlib.Core.List.{List}
 use Prim.Native.Nat.{ℕ, _+_, _*_, _/_, _%_}
 use native.Mathlib.Omega.{arith}
 use Rattle.disk.proofs.Laws.{length-blockOf, part-block, block-changed}
-use Rattle.rules.specs.Changes.{inBlock, entriesEnd, gapClosed, withoutEntry}
+use Rattle.rules.specs.Table.{inBlock}
+use Rattle.rules.specs.Changes.{entriesEnd, gapClosed, withoutEntry}
 use borrow.Author.Needs.{needs}
 use Rattle.edits.proofs.take_out.Statement.{statement}
 use Rattle.edits.proofs.take_out.Tie as tie

@@ -4,7 +4,7 @@ use Prim.Native.Nat.{ℕ, _-_, _%_}
 use native.Mathlib.Omega.{arith}
 use Rattle.endian.specs.Bytes.{cleared}
 use Rattle.disk.proofs.Laws.{withBlock-none, block-changed}
-use Rattle.rules.specs.Changes.{inBlock}
+use Rattle.rules.specs.Table.{inBlock}
 use Rattle.edits.proofs.Blocks.{tail-kept, tail-none, tail-zeroed}
 use borrow.Author.Needs.{needs}
 use Rattle.edits.proofs.zero_tail.Statement.{statement}

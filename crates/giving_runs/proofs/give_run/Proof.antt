@@ -1,7 +1,7 @@
 use mathlib.Core.Path.{ap, _∙_}
 use Rattle.rules.specs.Anodes.{Anodes}
 use Rattle.anodes.specs.Loaded.{anodesFrom}
-use Rattle.giving_runs.proofs.Turning.{other-kept, goes-with, goes-without}
+use Rattle.giving_runs.proofs.Turning.{other-kept, goes-with, goes-without, stays-out}
 use borrow.Author.Needs.{needs}
 use Rattle.giving_runs.proofs.give_run.Statement.{statement}
 use Rattle.giving_runs.proofs.give_run.Tie as tie
@@ -41,7 +41,7 @@ returns : tie.Need-returns
 unfolding anodesFrom
 returns c =
     let s = c .before .before .before .before .before .before .before .before .before .before .before .before .before .before .before .before .before .before .before .before .before .before .before .before .before .before .before .before .before .before .before .before in
-    c .before .before .before .before .before .before .join-with .ensures ∙ goes-with _ _ _ _ _ _ _ _ _ _ (c .before .before .before .before .before .before .before .before .before .before .before .before .before .before .before .before .before .before .without-run .ensures) (c .before .before .before .before .before .before .before .before .before .before .before .before .before .before .before .before .before .before .before .before .before .before .entry .ensures) (s .pre .1 .1 .0) _ _ (s .pre .1 .1 .1) (c .before .before .before .before .before .before .before .before .before .before .before .goes-along .ensures) (c .before .before .before .before .before .before .before .before .before .before .if1 .taken)
+    (c .before .before .before .before .before .before .join-with .ensures ∙ goes-with _ _ _ _ _ _ _ _ _ _ (c .before .before .before .before .before .before .before .before .before .before .before .before .before .before .before .before .before .before .without-run .ensures) (c .before .before .before .before .before .before .before .before .before .before .before .before .before .before .before .before .before .before .before .before .before .before .entry .ensures) (s .pre .1 .1 .0) _ _ (s .pre .1 .1 .1) (c .before .before .before .before .before .before .before .before .before .before .before .goes-along .ensures) (c .before .before .before .before .before .before .before .before .before .before .if1 .taken), tt)
 
 join-requires : tie.Need-join-requires
 unfolding anodesFrom
@@ -66,7 +66,13 @@ returns-2 : tie.Need-returns-2
 unfolding anodesFrom
 returns-2 c =
     let s = c .before .before .before .before .before .before .before .before .before .before .before .before .before .before .before .before .before .before .before .before .before .before .before .before .before .before .before .before .before .before .before .before in
-    c .before .before .before .before .before .before .join .ensures .0 ∙ goes-without _ _ _ _ _ _ _ _ _ _ (c .before .before .before .before .before .before .before .before .before .before .before .before .before .before .before .before .before .before .without-run .ensures) (c .before .before .before .before .before .before .before .before .before .before .before .before .before .before .before .before .before .before .before .before .before .before .entry .ensures) (s .pre .1 .1 .0) _ _ (s .pre .1 .1 .1) (c .before .before .before .before .before .before .before .before .before .before .before .goes-along .ensures) (c .before .before .before .before .before .before .before .before .before .before .if1 .left)
+    let j = c .before .before .before .before .before .before .join in
+    let o = c .before .before .before .before .before .before .before .before .before .before .before .before .before .before .before .before .before .before .without-run .ensures in
+    let b = c .before .before .before .before .before .before .before .before .before .before .before .before .before .before .before .before .before .before .before .before .before .before .entry .ensures in
+    let a = c .before .before .before .before .before .before .before .before .before .before .before .goes-along .ensures in (
+      j .ensures .0 ∙ goes-without _ _ _ _ _ _ _ _ _ _ o b (s .pre .1 .1 .0) _ _ (s .pre .1 .1 .1) a (c .before .before .before .before .before .before .before .before .before .before .if1 .left),
+      stays-out _ _ _ _ _ _ _ o b (j .result) (anodesFrom (j .last .1 .1 .1 .1 .0) (j .last .1 .1 .1 .1 .1 .0) (j .last .1 .1 .1 .1 .1 .1 .0)) (j .ensures .1),
+    )
 
 pub give-run-spec : {M : Type 1} → statement M
 give-run-spec =

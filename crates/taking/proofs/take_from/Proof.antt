@@ -1,10 +1,12 @@
-use lib.ListN.{getD}
 use Prim.Native.Nat.{ℕ, _+_}
-use mathlib.Core.Path.{sym, ap, _∙_}
+use mathlib.Core.Path.{_≡_, sym, ap, subst, _∙_}
+use lib.ListN.{getD}
 use Rattle.rules.specs.Anodes.{Anodes, existsBy}
-use Rattle.rules.specs.Space.{put}
+use Rattle.rules.specs.Space.{withoutFirst, put}
 use Rattle.anodes.specs.Loaded.{anodesFrom, slotsFrom}
-use Rattle.taking.proofs.Taking.{first-out, other-block}
+use Rattle.placing.specs.Steps.{UnlessMoved}
+use Rattle.placing.proofs.Found.{first-out}
+use Rattle.taking.proofs.OneTake.{other-block}
 use borrow.Author.Needs.{needs}
 use Rattle.taking.proofs.take_from.Statement.{statement}
 use Rattle.taking.proofs.take_from.Tie as tie
@@ -46,8 +48,11 @@ returns c =
     let first = c .before .before .before .before .before .before .before .before .before .before .before .before .before .before .before .before .before .before .before .before .before .entry .ensures in
     let s = anodesFrom (a .counts .now) (a .firsts .now) (a .nexts .now) in
     let ex = existsBy (slotsFrom (a .slots .now)) in
-    c .before .before .before .before .before .before .put .ensures .0 ∙ ap (λ (y : ℕ). put 3444 (a .dir) (a .z .0) y ex (anodesFrom (w .last .0) (w .last .1 .0) (w .last .1 .1 .0))) first
-    ∙ ap (λ (t : Anodes). put 3444 (a .dir) (a .z .0) (getD (a .firsts .now) (a .x .0) 0) ex t) (w .ensures ∙ first-out s _ _ _ (ap (λ (b : ℕ). b + 1) first))
+    let out : anodesFrom (w .last .0) (w .last .1 .0) (w .last .1 .1 .0) ≡ withoutFirst s (a .p .0) (a .x .0) = w .ensures ∙ first-out s _ _ _ (ap (λ (b : ℕ). b + 1) first) in
+    let step = c .before .before .before .before .before .before .put in (
+      step .ensures .0 ∙ ap (λ (y : ℕ). put 3444 (a .dir) (a .z .0) y ex (anodesFrom (w .last .0) (w .last .1 .0) (w .last .1 .1 .0))) first ∙ ap (λ (t : Anodes). put 3444 (a .dir) (a .z .0) (getD (a .firsts .now) (a .x .0) 0) ex t) out,
+      subst (λ (t : Anodes). UnlessMoved (step .result) t (anodesFrom (step .last .1 .1 .1 .1 .0) (step .last .1 .1 .1 .1 .1 .0) (step .last .1 .1 .1 .1 .1 .1 .0))) out (step .ensures .1),
+    )
 
 pub take-from-spec : {M : Type 1} → statement M
 take-from-spec =

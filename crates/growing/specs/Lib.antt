@@ -1,0 +1,2 @@
+-- How slots grow on tables.
+pub mod Grown
