@@ -69,7 +69,7 @@
  *   25  the directory is not empty
  *   26  offset + length is above the file's size
  *   27  no free block
- *   28  no free anode
+ *   28  no free anode, and the anode table cannot grow: its 42 blocks are there, or no block is free for another
  *   40  the buffer has not exactly as many bytes as the disk's bitmap
  *
  *   Settings files:
@@ -233,7 +233,7 @@ static inline const char *pfs_words(uint32_t number)
     case PFS_NO_FREE_BLOCK:
         return "not enough blocks are free";
     case PFS_NO_FREE_ANODE:
-        return "no anode is free";
+        return "no anode is free, and the anode table cannot grow";
     case PFS_REPORT_FULL:
         return "the report takes no further disk: it has 100,000, or a sum above 10,000,000,000,000";
     case PFS_BITMAP_LENGTH:
@@ -261,7 +261,7 @@ uint32_t pfs_summary(const uint8_t *image, size_t image_len, uint16_t *blocks, s
 /* Makes an empty disk of the whole image; all that it held is lost. It is lent no tables.
  *
  * last_reserved  the last block of the part where directories are put first, and data last
- * anode_blocks   how many blocks hold anodes, 82 in each
+ * anode_blocks   how many blocks hold anodes at first, 82 in each; changes take more where they need them
  * name           the disk's name, bytes of any value
  * day, minute, tick, protection  the disk's stamp (days since 1 January 1978, minutes, ticks of 1/50 s) and protection bits
  *
@@ -309,15 +309,18 @@ uint32_t pfs_label(const uint8_t *image, size_t image_len, uint16_t *blocks, siz
  * comment  0 to 79 bytes of any value
  * day, minute, tick, protection  the entry's stamp and protection bits, taken as they are
  *
+ * Where no anode is free, the anode table grows by a block, which may be the one that a later step needs (27).
+ *
  * Answers also 20, 21, 23, 27, 28. */
 uint32_t pfs_make(uint8_t *image, size_t image_len, uint16_t *blocks, size_t blocks_len, uint16_t *anodes, size_t anodes_len,
                   uint16_t directory, uint8_t type, const uint8_t *name, size_t name_len, const uint8_t *comment,
                   size_t comment_len, uint16_t day, uint16_t minute, uint16_t tick, uint8_t protection);
 
 /* Gives a file a size in bytes. Bytes that come new are 0; the stamp stays. Answers also 21, 22, 24, 27, 28. A size that no
- * disk can hold is refused by 27 or 28, whichever step fails first. Blocks go back in whole runs; 28 comes to a smaller size
- * only where a run that the file's own anodes cannot carry (part of an extent, or the blocks of its first anode) joins
- * nothing on the free list, and no anode is free. */
+ * disk can hold is refused by 27 or 28, whichever step fails first. Where an anode is needed and none is free, the anode
+ * table grows by a block. Blocks go back in whole runs; 28 comes to a smaller size only where a run that the file's own
+ * anodes cannot carry (part of an extent, or the blocks of its first anode) joins nothing on the free list, no anode is free,
+ * and the table cannot grow. */
 uint32_t pfs_resize(uint8_t *image, size_t image_len, uint16_t *blocks, size_t blocks_len, uint16_t *anodes,
                     size_t anodes_len, uint16_t directory, const uint8_t *name, size_t name_len, uint64_t size);
 
@@ -326,8 +329,9 @@ uint32_t pfs_write(uint8_t *image, size_t image_len, uint16_t *blocks, size_t bl
                    uint16_t directory, const uint8_t *name, size_t name_len, uint64_t offset, const uint8_t *data,
                    size_t data_len);
 
-/* Removes a file or an empty directory. Answers also 21, 22, 25, 28. Its blocks go back with its own anodes; 28 comes only
- * where an extent of it lies across the last reserved block and no anode is free for the upper part. */
+/* Removes a file or an empty directory. Answers also 21, 22, 25, 28. Its blocks go back with its own anodes; only where an
+ * extent of it lies across the last reserved block and no anode is free for the upper part, the anode table grows by a block,
+ * or 28 comes if it cannot. */
 uint32_t pfs_remove(uint8_t *image, size_t image_len, uint16_t *blocks, size_t blocks_len, uint16_t *anodes,
                     size_t anodes_len, uint16_t directory, const uint8_t *name, size_t name_len);
 

@@ -4,8 +4,8 @@
 use std::collections::BTreeMap;
 
 use crate::calls::{run, Call, Library, Outcome, ANODES, BLOCK};
-use crate::histories::{follow, random_call, Trend};
-use crate::met::{Met, NamesMet};
+use crate::histories::{every_change, follow, random_call, Trend};
+use crate::met::{GrowthMet, Met, NamesMet};
 use crate::model::{self, Model, Totals};
 use crate::rng::Rng;
 use crate::shapes::Shaped;
@@ -112,12 +112,13 @@ pub struct History<'a> {
     pub answers: Histogram,
     pub met: Met,
     pub names: NamesMet,
+    pub growth: GrowthMet,
 }
 
 impl<'a> History<'a> {
     pub fn new(disk: Shaped, rng: &'a mut Rng) -> Self {
-        let (answers, met, names) = (Histogram::default(), Met::default(), NamesMet::default());
-        History { disk, rng, answers, met, names }
+        let (answers, met) = (Histogram::default(), Met::default());
+        History { disk, rng, answers, met, names: NamesMet::default(), growth: GrowthMet::default() }
     }
 
     /// Makes random calls. After each one the disk is accepted, and its seven kinds of blocks add up to its size.
@@ -126,23 +127,33 @@ impl<'a> History<'a> {
         let mut free = self.free_blocks();
         for _ in 0..calls {
             trend = trend.next(self.rng);
-            let Shaped { image, tree } = &self.disk;
-            let call = random_call(image, tree, trend, free, self.rng);
-            self.met.note(image, tree, &call);
-            self.names.note(tree, &call);
+            let call = random_call(&self.disk.image, &self.disk.tree, trend, free, self.rng);
             self.call::<L>(&call);
             free = self.free_blocks();
         }
     }
 
+    /// Makes every change of every entry, each from the disk as it is now.
+    pub fn make_each<L: Library>(&mut self) {
+        let disk = self.disk.clone();
+        for call in every_change(&disk.tree) {
+            self.call::<L>(&call);
+            totals(&self.disk.image, &self.disk.tree);
+            self.disk.clone_from(&disk);
+        }
+    }
+
     fn call<L: Library>(&mut self, call: &Call) {
-        let image = &mut self.disk.image;
+        let Shaped { image, tree } = &mut self.disk;
+        self.met.note(image, tree, call);
+        self.names.note(tree, call);
+        self.growth.note(image, tree, call);
         let short = self.rng.percent(2);
         let (mut block_table, mut anode_table) = junk_tables(image.len() / BLOCK, short, self.rng);
         let answer = compare::<L>(call, image, &mut block_table, &mut anode_table).answer;
         self.answers.add(answer, call.label());
         if answer == 0 && call.changes() {
-            follow(&mut self.disk.tree, call, image);
+            follow(tree, call, image);
         }
     }
 

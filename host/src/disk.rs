@@ -52,7 +52,7 @@ pub struct Disk<L: Library> {
 pub struct Format<'a> {
     /// The last block of the part where directories are put first.
     pub last_reserved: u16,
-    /// How many blocks hold anodes, 1 to 42; each holds 82.
+    /// How many blocks hold anodes at first, 1 to 42; each holds 82, and more come as they are needed.
     pub anode_blocks: u16,
     /// The disk's name, 1 to 31 bytes.
     pub name: &'a [u8],

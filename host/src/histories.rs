@@ -4,7 +4,7 @@
 use std::ops::RangeInclusive;
 
 use crate::bitmap::{length, BITMAP_BLOCK};
-use crate::calls::{Call, BLOCK, DIRECTORY, FILE, ROOT, TOTALS};
+use crate::calls::{Call, Stamp, BLOCK, DIRECTORY, FILE, ROOT, TOTALS};
 use crate::disk::{Disk, Kind};
 use crate::model::layout::{last_reserved, AnodeTable};
 use crate::model::Model;
@@ -361,6 +361,30 @@ fn random_format(blocks: usize, rng: &mut Rng) -> Call {
     call
 }
 
+/// Every change of every entry that blocks and anodes can stop: sizes by whole blocks up to some more than it has, its
+/// removal, and in every directory a file and a directory with a short name and with the longest one and comment.
+pub fn every_change(tree: &Tree) -> Vec<Call> {
+    let mut calls = Vec::new();
+    for (&directory, entries) in &tree.directories {
+        for node in entries.nodes() {
+            let name = node.entry.name.clone();
+            let held = node.content.len().div_ceil(BLOCK);
+            if node.entry.kind == Kind::File {
+                let sizes = (0..=held + 3).map(|blocks| (blocks * BLOCK) as u64);
+                calls.extend(sizes.map(|size| Call::Resize { directory, name: name.clone(), size }));
+            }
+            calls.push(Call::Remove { directory, name });
+        }
+        for kind in [FILE, DIRECTORY] {
+            for (name, comment) in [(vec![b'@'], Vec::new()), (vec![b'@'; 107], vec![b'c'; 79])] {
+                let stamp = Stamp::default();
+                calls.push(Call::Make { directory, kind, name, comment, stamp, protection: 0 });
+            }
+        }
+    }
+    calls
+}
+
 /// The anode of the entry of this name in an accepted image, by the model; 0 if there is none.
 pub fn head_of(image: &[u8], directory: u16, name: &[u8]) -> u16 {
     Disk::<Model>::new(image.to_vec()).find(directory, name).map_or(0, |entry| entry.anode)
@@ -374,37 +398,3 @@ pub fn follow(tree: &mut Tree, call: &Call, image: &[u8]) {
     };
     tree.apply(call, made);
 }
-
-/// Every refusal from 20 up but 28, by every call that can give it.
-pub const REFUSALS: [(u32, &str); 27] = [
-    (20, "format"),
-    (20, "make"),
-    (21, "read"),
-    (21, "list"),
-    (21, "find"),
-    (21, "make"),
-    (21, "resize"),
-    (21, "write"),
-    (21, "remove"),
-    (22, "read"),
-    (22, "list"),
-    (22, "find"),
-    (22, "resize"),
-    (22, "write"),
-    (22, "remove"),
-    (23, "make"),
-    (24, "read"),
-    (24, "resize"),
-    (24, "write"),
-    (25, "remove"),
-    (26, "read"),
-    (26, "write"),
-    (27, "make"),
-    (27, "resize"),
-    (31, "report"),
-    (40, "bitmap"),
-    (40, "bitmap_differs"),
-];
-
-/// The same for 28.
-pub const NO_ANODE: [(u32, &str); 3] = [(28, "make"), (28, "resize"), (28, "remove")];

@@ -5,6 +5,7 @@
 //! * [`stack`]: how much stack its calls need.
 //! * [`refusals`], [`disk`]: the numbers in words, and a disk with its tables behind safe methods.
 //! * [`names`]: which names a disk takes for one.
+//! * [`anodes`]: how many anodes a disk has, and how many more it can get.
 //! * [`report`]: the totals of a shift report.
 //! * [`bitmap`]: where the bytes of the hard disk edition's bitmap belong.
 //! * [`settings`]: settings files, and the trait of whoever converts them.
@@ -17,11 +18,12 @@
 //! documentation: `rng`, the small deterministic generator behind all that is random; `tree`, what a disk should hold, as
 //! a plain tree in memory; `shapes`, generators of disk images: formatted ones, accepted ones that format never makes, and
 //! damaged ones; `starts` and `histories`, the disks that histories start from, and random calls, often at the very edge;
-//! `met`, what the shrinks, removals and names among them met; `compare`, a library against the model, call by call.
+//! `met`, what the changes and names among them met; `compare`, a library against the model, call by call.
 
 #[cfg(feature = "proved")]
 pub mod ffi;
 
+pub mod anodes;
 pub mod bitmap;
 pub mod calls;
 pub mod cli;

@@ -1,16 +1,23 @@
-//! What the shrinks and removals of histories met of 02, No. 3, counted; in `names` what their names met of No. 5.
+//! What the shrinks and removals of histories met of 02, No. 3, counted; in `names` what their names met of No. 5, in
+//! `growth` what their changes met of No. 6. In `answers` the refusals that they must meet.
 
+mod answers;
+mod growth;
 mod names;
 
+pub use answers::{NO_ANODE, REFUSALS};
+pub use growth::GrowthMet;
 pub use names::NamesMet;
 
 use std::collections::BTreeMap;
 
-use crate::calls::Call;
+use crate::calls::{Call, DIRECTORY};
 use crate::disk::Kind;
 use crate::model::layout::{Anode, AnodeTable, BLOCK, FIRST_USER};
-use crate::model::naive::giving::{dissolve, shorten, Given, Outcome, Part, Step, Way};
-use crate::tree::{Node, Tree};
+use crate::model::naive::giving::{dissolve, shorten, Given, Part, Step, Way};
+use crate::model::naive::lists::Outcome;
+use crate::model::naive::taking::{enlarge, make};
+use crate::tree::{entry_length, Node, Tree};
 
 /// What a run is, and where it goes.
 type Case = (Given, Part, Way);
@@ -114,25 +121,41 @@ impl Met {
     }
 }
 
-/// What a call that passes 20 to 26 gives back of which entry, worked out on lists; nothing if it is another call.
-pub fn given_back<'a>(image: &[u8], tree: &'a Tree, call: &Call) -> Option<(&'a Node, Outcome)> {
-    let blocks_on_disk = image.len() / BLOCK;
-    if tree.refusal(call, blocks_on_disk).is_some() {
+/// What a make, resize or remove that passes 20 to 26 takes and gives back, worked out on lists; nothing for another call.
+pub fn worked_out(image: &[u8], tree: &Tree, call: &Call) -> Option<Outcome> {
+    if tree.refusal(call, image.len() / BLOCK).is_some() {
         return None;
     }
     match call {
-        Call::Remove { directory, name } => {
-            let node = tree.find(*directory, name)?;
-            Some((node, dissolve(image, node.entry.anode)))
+        Call::Make { directory, kind, name, comment, .. } => {
+            let room = tree.directories.get(directory)?.has_room(entry_length(name.len(), comment.len()));
+            Some(make(image, *directory, *kind == DIRECTORY, !room))
         }
         Call::Resize { directory, name, size } => {
             let node = tree.find(*directory, name)?;
-            let old = node.content.len().div_ceil(BLOCK);
-            let new = usize::try_from(size.div_ceil(BLOCK as u64)).ok()?;
-            (new < old).then(|| (node, shorten(image, node.entry.anode, old - new)))
+            let old = node.content.len().div_ceil(BLOCK) as u64;
+            let new = size.div_ceil(BLOCK as u64);
+            Some(match new < old {
+                true => shorten(image, node.entry.anode, (old - new) as usize),
+                false => enlarge(image, node.entry.anode, new - old),
+            })
         }
+        Call::Remove { directory, name } => Some(dissolve(image, tree.find(*directory, name)?.entry.anode)),
         _ => None,
     }
+}
+
+/// The same of a call that gives back, and of which entry.
+fn given_back<'a>(image: &[u8], tree: &'a Tree, call: &Call) -> Option<(&'a Node, Outcome)> {
+    let (directory, name) = match call {
+        Call::Remove { directory, name } => (directory, name),
+        Call::Resize { directory, name, size } => {
+            let held = tree.size(*directory, name).div_ceil(BLOCK) as u64;
+            (held > size.div_ceil(BLOCK as u64)).then_some((directory, name))?
+        }
+        _ => return None,
+    };
+    Some((tree.find(*directory, name)?, worked_out(image, tree, call)?))
 }
 
 /// Where the new end of a chain lies.

@@ -84,7 +84,7 @@ pub const REFUSALS: [(Error, u32, &str); 31] = [
     (Error::NotEmpty, 25, "the directory is not empty"),
     (Error::PastEnd, 26, "the bytes asked for reach past the file's size"),
     (Error::NoFreeBlock, 27, "not enough blocks are free"),
-    (Error::NoFreeAnode, 28, "no anode is free"),
+    (Error::NoFreeAnode, 28, "no anode is free, and the anode table cannot grow"),
     (Error::ReportFull, 31, "the report takes no further disk: it has 100,000, or a sum above 10,000,000,000,000"),
     (Error::BitmapLength, 40, "the bitmap has not as many blocks as the disk needs"),
     (Error::NotOfForm, 50, "not a settings file of the form asked for"),

@@ -5,7 +5,7 @@
 //!   says what such a disk should be like, `outline` and `chains` are parts of the plan, `writer` writes it.
 //! * [`accepted`]: one or the other.
 //! * [`grown_in_turn`]: a long file in many extents.
-//! * [`one_free_anode`]: a disk whose only free anode is the last of all.
+//! * [`one_free_anode`], [`no_free_anode`]: disks whose only free anode is the last of all, or none.
 //! * [`random_bytes`]: junk, mostly with a root block that may pass.
 //! * [`Damager`]: accepted disks with a fault aimed at one refusal number, and disks with random damage.
 
@@ -84,20 +84,17 @@ fn grow_in_turn() -> Result<Vec<u8>, Error> {
     Ok(disk.into_image())
 }
 
-/// A disk of 1,760 blocks with anodes in slots 0 and 41 alone, of which only the last is free. The others that hold
-/// nothing hang on the chain of bad blocks.
-pub fn one_free_anode() -> Vec<u8> {
-    let formatted = Disk::<Model>::format(1_760, &Format::new(63, 2, b"disk"));
-    let mut image = formatted.expect("the disk can be formatted").into_image();
-    let number = slots(&image)[1];
-    let root = block_mut(&mut image, ROOT_BLOCK);
-    put_word(root, ROOT_SLOTS + 2, 0);
-    put_word(root, ROOT_SLOTS + 2 * (SLOTS - 1), number);
-    put_word(block_mut(&mut image, number), ANODE_SEQUENCE, SLOTS as u16 - 1);
-    let mut table = AnodeTable::read(&image);
-    let last = ANODES as u16 - 1;
+/// An empty disk of 1,760 blocks with so many anode blocks.
+fn small_disk(anode_blocks: u16) -> Vec<u8> {
+    let formatted = Disk::<Model>::format(1_760, &Format::new(63, anode_blocks, b"disk"));
+    formatted.expect("the disk can be formatted").into_image()
+}
+
+/// Hangs the free anodes from 6 up to this one on the chain of bad blocks, without blocks.
+fn hang_free_anodes(image: &mut [u8], last: u16) {
+    let mut table = AnodeTable::read(image);
     let unused: Vec<u16> =
-        table.existing().filter(|&a| (FIRST_USER..last).contains(&a) && !table.in_use(a)).collect();
+        table.existing().filter(|&a| (FIRST_USER..=last).contains(&a) && !table.in_use(a)).collect();
     let mut before = BAD_BLOCKS;
     table[before] = Anode::empty(0);
     for number in unused {
@@ -105,7 +102,25 @@ pub fn one_free_anode() -> Vec<u8> {
         table[number] = Anode::empty(0);
         before = number;
     }
-    table.write(&mut image);
+    table.write(image);
+}
+
+/// A disk of 1,760 blocks with anodes in slots 0 and 41 alone, of which only the last is free.
+pub fn one_free_anode() -> Vec<u8> {
+    let mut image = small_disk(2);
+    let number = slots(&image)[1];
+    let root = block_mut(&mut image, ROOT_BLOCK);
+    put_word(root, ROOT_SLOTS + 2, 0);
+    put_word(root, ROOT_SLOTS + 2 * (SLOTS - 1), number);
+    put_word(block_mut(&mut image, number), ANODE_SEQUENCE, SLOTS as u16 - 1);
+    hang_free_anodes(&mut image, ANODES as u16 - 2);
+    image
+}
+
+/// A disk of 1,760 blocks with anodes in slot 0 alone, of which none is free.
+pub fn no_free_anode() -> Vec<u8> {
+    let mut image = small_disk(1);
+    hang_free_anodes(&mut image, ANODES as u16 - 1);
     image
 }
 

@@ -1,5 +1,6 @@
 //! The disks that histories start from.
 
+use crate::model::layout::SLOTS;
 use crate::rng::Rng;
 use crate::shapes::{disk_blocks, formatted, shaped, Recipe, Shaped};
 use crate::tree::Tree;
@@ -15,8 +16,11 @@ pub enum Start {
     FullAnodes,
     /// No block is free, or next to none.
     FullBlocks,
-    /// Files with empty anodes and across last reserved, and at most three anodes to spare.
+    /// Files with empty anodes and across last reserved, and at most three anodes to spare. The table has one block or two,
+    /// and grows as long as blocks are free.
     FewAnodes,
+    /// The same with at most one to spare, and with all slots used, so that the table cannot grow.
+    FullSlots,
     /// 1,000 to 3,000 blocks.
     Larger,
     /// Up to 65,535 blocks.
@@ -25,8 +29,14 @@ pub enum Start {
 
 impl Start {
     /// Those of at most 400 blocks.
-    pub const SMALL: [Start; 5] =
-        [Start::Formatted, Start::Shaped, Start::FullAnodes, Start::FullBlocks, Start::FewAnodes];
+    pub const SMALL: [Start; 6] = [
+        Start::Formatted,
+        Start::Shaped,
+        Start::FullAnodes,
+        Start::FullBlocks,
+        Start::FewAnodes,
+        Start::FullSlots,
+    ];
 
     pub fn disk(self, rng: &mut Rng) -> Shaped {
         match self {
@@ -40,7 +50,11 @@ impl Start {
             }
             Start::FullAnodes => shaped(&full_anodes(rng), rng),
             Start::FullBlocks => shaped(&full_blocks(rng), rng),
-            Start::FewAnodes => shaped(&few_anodes(rng), rng),
+            Start::FewAnodes => {
+                let slots = if rng.percent(80) { 1 } else { 2 };
+                shaped(&few_anodes(slots, 3, rng), rng)
+            }
+            Start::FullSlots => shaped(&few_anodes(SLOTS, 1, rng), rng),
             Start::Larger => {
                 let blocks = rng.within(1_000..=3_000);
                 shaped(&many_files(blocks, rng), rng)
@@ -68,18 +82,21 @@ fn full_blocks(rng: &mut Rng) -> Recipe {
     Recipe { files: 1 + rng.below(8), free_percent: rng.below(6), ..Recipe::random(blocks, rng) }
 }
 
-/// Long extents, so that one of a file often crosses last reserved.
-fn few_anodes(rng: &mut Rng) -> Recipe {
-    let blocks = rng.within(12..=60);
+/// Long extents, so that one of a file often crosses last reserved. Many anode blocks are mostly beside each other and up to
+/// there, for they would cut all others short.
+fn few_anodes(slots: usize, spare: usize, rng: &mut Rng) -> Recipe {
+    let others = rng.within(11..=59);
+    let blocks = slots + others;
     Recipe {
-        last_reserved: rng.within16(blocks as u16 / 4..=blocks as u16 * 3 / 4),
-        slots: 1,
+        last_reserved: (slots + rng.within(others / 4..=others * 3 / 4)) as u16,
+        slots,
         directories: rng.below(4),
         files: 1 + rng.below(3),
         cuts: rng.below(12),
         empties: rng.below(8),
-        spare: Some(rng.below(4)),
+        spare: Some(rng.within(0..=spare)),
         free_percent: [10, 30, 50][rng.below(3)],
+        scattered: rng.percent(if slots == SLOTS { 10 } else { 70 }),
         ..Recipe::random(blocks, rng)
     }
 }

@@ -7,8 +7,9 @@ use std::env;
 use ovenknit_host::calls::{tables, Call, Stamp, BLOCK, FILE, ROOT};
 use ovenknit_host::compare::{compare, junk_tables, Histogram, History};
 use ovenknit_host::ffi::Proved;
-use ovenknit_host::histories::{random_call, Trend, NO_ANODE, REFUSALS};
-use ovenknit_host::met::{Met, NamesMet};
+use ovenknit_host::histories::{random_call, Trend};
+use ovenknit_host::met::{GrowthMet, Met, NamesMet, NO_ANODE, REFUSALS};
+use ovenknit_host::model::layout::slots;
 use ovenknit_host::rng::{seeded, Rng};
 use ovenknit_host::shapes::{
     accepted, formatted, grown_in_turn, one_free_anode, random_bytes, shaped, Damager, Mixed, Place, Recipe,
@@ -157,21 +158,29 @@ fn histories_equal_the_model() {
     names.assert_all_met();
 }
 
-/// Short histories where shrinks and removals go back every way that there is (02, No. 3).
+/// Short histories, and single changes of every entry, where runs go back every way that there is (02, No. 3), and the table
+/// grows for every need (No. 6) or cannot.
 #[test]
-fn giving_back_equals_the_model() {
-    let (mut answers, mut met) = (Histogram::default(), Met::default());
-    for mut case in seeded("giving_back_equals_the_model", 0..3_000) {
-        let rng = &mut case.rng;
-        let mut history = History::new(Start::FewAnodes.disk(rng), rng);
-        history.run::<Proved>(30);
-        answers.merge(&history.answers);
-        met.merge(&history.met);
+fn taking_and_giving_back_equal_the_model() {
+    let mut answers = Histogram::default();
+    let (mut met, mut growth) = (Met::default(), GrowthMet::default());
+    for (start, seeds) in [(Start::FewAnodes, 1_000), (Start::FullSlots, 300)] {
+        for mut case in seeded("taking_and_giving_back_equal_the_model", 0..seeds) {
+            let rng = &mut case.rng;
+            let mut history = History::new(start.disk(rng), rng);
+            history.make_each::<Proved>();
+            history.run::<Proved>(30);
+            answers.merge(&history.answers);
+            met.merge(&history.met);
+            growth.merge(&history.growth);
+        }
     }
     answers.print("short histories");
     met.print("short histories");
+    growth.print("short histories");
     answers.assert_met(&NO_ANODE);
     met.assert_all_met();
+    growth.assert_all_met();
 }
 
 /// The long file of the benchmark, shrunk inside an extent, at its end and over many, and removed.
@@ -194,17 +203,20 @@ fn a_long_file_goes_back_like_the_model() {
     }
 }
 
-/// The search for a free anode finds the last of all behind 40 empty slots, and then none.
+/// The search for a free anode finds the last of all behind 40 empty slots, and then none, so that slot 1 grows.
 #[test]
 fn the_only_free_anode_is_found_like_the_model() {
     let mut image = one_free_anode();
     let (mut blocks, mut anodes) = tables(&image);
-    for (name, answer) in [(b"one", 0), (b"two", 28)] {
+    for (name, head) in [(b"one", 3_443), (b"two", 82)] {
         let (name, comment, stamp) = (name.to_vec(), Vec::new(), Stamp::default());
         let call = Call::Make { directory: ROOT, kind: FILE, name, comment, stamp, protection: 0 };
-        assert_eq!(compare::<Proved>(&call, &mut image, &mut blocks, &mut anodes).answer, answer, "{call:?}");
+        assert_eq!(slots(&image)[1], 0);
+        assert_eq!(anodes[head], 0);
+        assert_eq!(compare::<Proved>(&call, &mut image, &mut blocks, &mut anodes).answer, 0, "{call:?}");
+        assert_eq!(usize::from(anodes[head]), head, "the new head");
     }
-    assert_eq!(anodes[3_443], 3_443, "the new head is the last anode");
+    assert_ne!(slots(&image)[1], 0);
 }
 
 /// Every call on images that are damaged or too small: the check's number, and tables to match.

@@ -13,7 +13,7 @@ use ovenknit_host::disk;
 use ovenknit_host::ffi::Proved;
 use ovenknit_host::model::Model;
 use ovenknit_host::rng::Rng;
-use ovenknit_host::shapes::{grown_in_turn, one_free_anode, shaped, Recipe, LONG_FILE};
+use ovenknit_host::shapes::{grown_in_turn, no_free_anode, one_free_anode, shaped, Recipe, LONG_FILE};
 
 const RUNS: usize = 1_001;
 /// Of a change that may take as long as thousands of checks.
@@ -192,6 +192,12 @@ fn measure_far_anode() {
     Disk::new(one_free_anode()).medians(&make(b"new"), RUNS).print("make a file");
 }
 
+/// A file made where no anode is free, so that the anode table grows (02, No. 6).
+fn measure_growth() {
+    println!("1,760 blocks, no anode free, slots 1 to 41 empty");
+    Disk::new(no_free_anode()).medians(&make(b"new"), RUNS).print("make a file, and grow");
+}
+
 /// A name that the check's index cannot tell from any other of these without comparing all its bytes up to the last
 /// ones: those are pairs that weigh the same in the hash, as often as the bits of the number ask.
 fn colliding_name(number: usize) -> Vec<u8> {
@@ -256,6 +262,7 @@ fn print_all(rng: &mut Rng) {
     println!();
     measure_long_file();
     measure_far_anode();
+    measure_growth();
     measure_colliding_names();
 }
 

@@ -5,6 +5,7 @@ use std::collections::{HashMap, HashSet};
 use super::paths::Path;
 use super::text::Charset;
 use super::{refused, stamps, walk, Failure};
+use crate::anodes::Anodes;
 use crate::calls::{Library, BLOCK, ROOT};
 use crate::disk::{Disk, Kind, Label, Owner};
 
@@ -59,6 +60,7 @@ pub struct BlockMap {
     pub last_reserved: u16,
     /// The disk's name, date and size.
     pub title: String,
+    pub anodes: Anodes,
 }
 
 /// A run of blocks with one owner.
@@ -90,7 +92,7 @@ impl BlockMap {
         let Label { last_reserved, stamp, name, .. } = disk.label().map_err(refused(Path::root(charset)))?;
         let (name, date) = (charset.quoted(&name), stamps::show(stamp));
         let title = format!("{name}, {} UTC, {} blocks", date.trim_end(), disk.image().len() / BLOCK);
-        Ok(BlockMap { blocks, paths, last_reserved, title })
+        Ok(BlockMap { blocks, paths, last_reserved, title, anodes: disk.anodes() })
     }
 
     pub fn count(&self, used: Use) -> usize {

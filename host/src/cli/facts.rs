@@ -3,6 +3,7 @@
 use std::fmt::Display;
 
 use super::Failure;
+use crate::anodes::MOST_ANODE_BLOCKS;
 use crate::calls::{Library, BLOCK};
 use crate::disk::{Disk, Error, Format, Kind, New, Owner};
 
@@ -54,9 +55,10 @@ pub fn make<L: Library>(disk: &mut Disk<L>, directory: u16, new: &New) -> Result
                 }
                 Kind::File => "the directory needs 1 block more for the entry",
             };
-            Told::new(error, format!("{needed}; {} free", free_blocks(disk)))
+            let growth = if disk.anodes().free == 0 { ", and 1 for more anodes" } else { "" };
+            Told::new(error, format!("{needed}{growth}; {} free", free_blocks(disk)))
         }
-        Error::NoFreeAnode => Told::new(error, NO_ANODE),
+        Error::NoFreeAnode => Told::new(error, no_anode(disk)),
         _ => error.into(),
     })
 }
@@ -68,16 +70,24 @@ pub fn resize<L: Library>(disk: &mut Disk<L>, directory: u16, name: &[u8], size:
         Error::NoFreeBlock => {
             let held = disk.find(directory, name).map_or(0, |entry| entry.size.div_ceil(BLOCK as u32));
             let more = size.div_ceil(BLOCK as u64).saturating_sub(u64::from(held));
-            Told::new(error, format!("{} more needed, {} free", blocks(more), free_blocks(disk)))
+            let free = free_blocks(disk);
+            // There were enough, but the anode table took one.
+            let growth = if more <= free as u64 { " and 1 for more anodes" } else { "" };
+            Told::new(error, format!("{} more needed{growth}, {free} free", blocks(more)))
         }
-        Error::NoFreeAnode => Told::new(error, NO_ANODE),
+        Error::NoFreeAnode => Told::new(error, no_anode(disk)),
         _ => error.into(),
     })
 }
 
-/// What is known of a disk that has no anode left.
-const NO_ANODE: &str =
-    "each file, each directory and each piece of one needs an anode, and all of the disk's are in use";
+/// What is known of a disk that has no anode left, as the last call left the tables.
+fn no_anode<L: Library>(disk: &Disk<L>) -> String {
+    let why = match disk.anodes().blocks {
+        MOST_ANODE_BLOCKS => format!("all {MOST_ANODE_BLOCKS} anode blocks are there"),
+        _ => String::from("no block is left for more of them"),
+    };
+    format!("each file, each directory and each piece of one needs an anode, all are in use, and {why}")
+}
 
 /// Which rule of the entry's name or comment is broken.
 fn wrong_entry(new: &New) -> String {

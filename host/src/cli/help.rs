@@ -45,6 +45,17 @@ macro_rules! json {
     };
 }
 
+/// What is said of the numbers of anodes.
+macro_rules! anodes {
+    () => {
+        "
+  in use          all but anode 0
+  free            those that files and directories can have now; 3 and 4 are kept for blocks to be freed and bad blocks
+  to come         those that anode blocks can still bring, as far as blocks are free
+"
+    };
+}
+
 /// The options of commands that make an entry.
 pub const NEW_ENTRY: &[&str] = &["--comment", "--protection", "--date"];
 
@@ -64,10 +75,11 @@ pub const COMMANDS: &[Syntax] = &[
         operands: &["DISK.."],
         flags: &[JSON],
         options: &[],
-        short: "name, date, size, free blocks, files and directories",
-        long: concat!("Prints each disk's name, date and protection, its blocks and bytes, its free blocks, files and directories (with the root), and its anodes in use
-(anode 0 not counted).
-", json!()),
+        short: "name, date, size, free blocks, files, directories and anodes",
+        long: concat!("Prints each disk's name, date and protection, its blocks and bytes, its free blocks, files and directories (with the
+root), and its anodes: each file, each directory and each piece of one needs an anode. They are kept in up to 42 anode
+blocks of 82 anodes, and where none is free the disk takes another anode block by itself, as long as a block is free:
+", anodes!(), json!()),
     },
     Syntax {
         name: "check",
@@ -210,7 +222,7 @@ are 0.",
 
   --blocks N        512-byte blocks, 5 to 65535; 1760 if not given, or as many as DISK has
   --reserved L      last block of the part where directories go first; 63 of 1760 blocks, and that share of others
-  --anode-blocks K  1 to 42; one for each 880 blocks if not given
+  --anode-blocks K  1 to 42 to begin with; one for each 880 blocks if not given, and more come as they are needed
   --name NAME       1 to 31 bytes; the file's name without its ending if not given
   --protection P    the disk's protection bits, as letters or a number up to 65535; 0 if not given
   --date D          as YYYY-MM-DD or YYYY-MM-DDTHH:MM:SS; the clock's date and time (UTC) if not given
@@ -221,10 +233,10 @@ are 0.",
         operands: &["DISK"],
         flags: &[JSON],
         options: &[],
-        short: "how many blocks are used for what",
+        short: "how many blocks and anodes are used for what",
         long: concat!("Prints how many blocks, bytes and percent of the disk are free, in files, in directories, anode blocks, start
-blocks, to be freed, and bad.
-", json!()),
+blocks, to be freed, and bad. Then how many anodes there are; each file, each directory and each piece of one needs one:
+", anodes!(), json!()),
     },
     Syntax {
         name: "map",

@@ -12,6 +12,7 @@ use super::store::{self, load};
 use super::text::{self, Charset};
 use super::walk::{self, Found};
 use super::{refused, stamps, Done, Failure};
+use crate::anodes::{Anodes, MOST_ANODE_BLOCKS};
 use crate::calls::{Library, BLOCK, ROOT};
 use crate::disk::{Disk, Entry, Error, Kind, Label, Summary};
 use crate::model;
@@ -27,12 +28,17 @@ pub fn write_json(value: Json, out: &mut dyn Write) -> Done {
 }
 
 /// What is told of a disk.
-fn about<L: Library>(name: &OsStr) -> Result<(Summary, Label, usize), Failure> {
+struct About {
+    summary: Summary,
+    label: Label,
+    anodes: Anodes,
+}
+
+fn about<L: Library>(name: &OsStr) -> Result<About, Failure> {
     store::look(name, |disk: &mut Disk<L>| {
         let told = disk.summary().and_then(|summary| Ok((summary, disk.label()?)));
         let (summary, label) = told.map_err(refused("its label"))?;
-        let anodes = disk.heads().iter().filter(|&&head| head != 0).count();
-        Ok((summary, label, anodes))
+        Ok(About { summary, label, anodes: disk.anodes() })
     })
 }
 
@@ -41,9 +47,21 @@ fn disk_protection(bits: u16) -> String {
     format!("{} ({bits})", protection(bits as u8))
 }
 
-fn told_object(name: &OsStr, told: &(Summary, Label, usize), charset: Charset) -> Json {
-    let (summary, label, anodes) = told;
-    Json::Object(vec![
+/// How many anodes there are, for programs.
+pub fn anode_fields(anodes: &Anodes) -> Vec<(&'static str, Json)> {
+    vec![
+        ("anode_blocks", anodes.blocks.into()),
+        ("most_anode_blocks", MOST_ANODE_BLOCKS.into()),
+        ("anodes", anodes.existing().into()),
+        ("anodes_in_use", anodes.in_use.into()),
+        ("anodes_free", anodes.free.into()),
+        ("anodes_to_come", anodes.to_come().into()),
+    ]
+}
+
+fn told_object(name: &OsStr, told: &About, charset: Charset) -> Json {
+    let About { summary, label, anodes } = told;
+    let mut fields = vec![
         ("disk", text::os(name).into()),
         ("name", charset.show(&label.name).into()),
         ("date_utc", stamps::iso(label.stamp).into()),
@@ -54,12 +72,13 @@ fn told_object(name: &OsStr, told: &(Summary, Label, usize), charset: Charset) -
         ("free_blocks", summary.free.into()),
         ("files", summary.files.into()),
         ("directories", summary.directories.into()),
-        ("anodes_in_use", (*anodes).into()),
-    ])
+    ];
+    fields.extend(anode_fields(anodes));
+    Json::Object(fields)
 }
 
-fn write_told(name: &OsStr, told: &(Summary, Label, usize), charset: Charset, out: &mut dyn Write) -> Done {
-    let (summary, label, anodes) = told;
+fn write_told(name: &OsStr, told: &About, charset: Charset, out: &mut dyn Write) -> Done {
+    let About { summary, label, anodes } = told;
     writeln!(out, "disk            {}", text::show_os(name))?;
     writeln!(out, "name            {}", charset.quoted(&label.name))?;
     writeln!(out, "date            {} UTC", stamps::show(label.stamp))?;
@@ -70,7 +89,11 @@ fn write_told(name: &OsStr, told: &(Summary, Label, usize), charset: Charset, ou
     writeln!(out, "free blocks     {}", summary.free)?;
     writeln!(out, "files           {}", summary.files)?;
     writeln!(out, "directories     {}", summary.directories)?;
-    writeln!(out, "anodes in use   {anodes}")?;
+    writeln!(out, "anode blocks    {} of {MOST_ANODE_BLOCKS}", anodes.blocks)?;
+    writeln!(out, "anodes          {}", anodes.existing())?;
+    writeln!(out, "anodes in use   {}", anodes.in_use)?;
+    writeln!(out, "anodes free     {}", anodes.free)?;
+    writeln!(out, "anodes to come  {}", anodes.to_come())?;
     Ok(())
 }
 

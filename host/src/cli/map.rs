@@ -6,10 +6,11 @@ use super::arguments::Arguments;
 use super::drawing::{BlockMap, Run, USES};
 use super::help::JSON;
 use super::json::Json;
-use super::looks::write_json;
+use super::looks::{anode_fields, write_json};
 use super::paths::Path;
 use super::store;
 use super::{svg, text, Done, Failure};
+use crate::anodes::{Anodes, MOST_ANODE_BLOCKS};
 use crate::calls::{Library, BLOCK};
 use crate::disk::Disk;
 
@@ -32,8 +33,9 @@ pub fn df<L: Library>(arguments: &Arguments, out: &mut dyn Write) -> Done {
             Json::Object(vec![("use", name.into()), ("blocks", blocks), ("bytes", bytes)])
         });
         let disk = text::os(name);
-        let fields =
+        let mut fields =
             vec![("disk", disk.into()), ("blocks", all.into()), ("uses", Json::List(uses.collect()))];
+        fields.extend(anode_fields(&map.anodes));
         return write_json(Json::Object(fields), out);
     }
     writeln!(out, "{:<14}{:>7}{:>11}{:>8}", "", "blocks", "bytes", "share")?;
@@ -43,7 +45,17 @@ pub fn df<L: Library>(arguments: &Arguments, out: &mut dyn Write) -> Done {
         let share = (blocks * 1_000 + all / 2) / all;
         writeln!(out, "{name:<14}{blocks:>7}{:>11}{:>5}.{}%", blocks * BLOCK, share / 10, share % 10)?;
     }
-    Ok(())
+    write_anodes(&map.anodes, out)
+}
+
+/// How many anodes there are and how many more can come, with the blocks that hold them.
+fn write_anodes(anodes: &Anodes, out: &mut dyn Write) -> Done {
+    writeln!(out, "\n{:<14}{:>7}", "", "anodes")?;
+    writeln!(out, "{:<14}{:>7}", "in use", anodes.in_use)?;
+    writeln!(out, "{:<14}{:>7}", "free", anodes.free)?;
+    let (existing, blocks) = (anodes.existing(), anodes.blocks);
+    writeln!(out, "{:<14}{existing:>7} in {blocks} of {MOST_ANODE_BLOCKS} anode blocks", "all")?;
+    Ok(writeln!(out, "{:<14}{:>7} in {} more", "to come", anodes.to_come(), anodes.more_blocks)?)
 }
 
 pub fn map<L: Library>(arguments: &Arguments, out: &mut dyn Write) -> Done {

@@ -62,12 +62,7 @@ pub fn format(
     root[ROOT_NAME + 1..ROOT_NAME + 1 + name.len()].copy_from_slice(name);
     put_word(root, ROOT_LAST_RESERVED, last_reserved);
     for slot in 0..anode_blocks {
-        put_word(root, ROOT_SLOTS + 2 * usize::from(slot), 3 + slot);
-    }
-    for slot in 0..anode_blocks {
-        let bytes = block_mut(image, 3 + slot);
-        bytes[..2].copy_from_slice(&ANODE_MARK);
-        put_word(bytes, ANODE_SEQUENCE, slot);
+        put_anode_block(image, usize::from(slot), 3 + slot);
     }
     format_anodes(image, size, last_reserved, 3 + anode_blocks);
     head_directory_block(image, 3 + anode_blocks, ROOT_DIRECTORY, 0);
@@ -327,7 +322,7 @@ pub fn make(image: &mut [u8], blocks: &mut [u16], anodes: &mut [u16], directory:
         let place = room(image, &survey.table, directory, length);
 
         let mut space = Space::new(survey.table, survey.last_reserved);
-        let head = space.free_anode()?;
+        let head = space.needed_anode()?;
         space.table[head] = Anode::empty(0);
         let own = match new.kind {
             DIRECTORY => Some(space.take(head, Purpose::Directory)?),

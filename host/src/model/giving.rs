@@ -1,11 +1,11 @@
-//! Giving back whole runs (02, No. 3). It works on the same draft as taking.
+//! Giving back whole runs (02, No. 3), for which the anode table may grow (No. 6). It works on the same draft as taking.
 
 use super::layout::*;
 use super::space::Space;
 
 impl Space {
     /// Gives back the last blocks of a chain that stays with its file, extents last first. The head and all empty anodes
-    /// stay in the chain. 28 if a run needs an anode and none is free.
+    /// stay in the chain. 28 if a run needs an anode, none is free and the table cannot grow.
     pub fn shorten(&mut self, head: u16, blocks: usize) -> Result<(), u32> {
         let chain = self.numbers(head);
         let mut giver = Giver::new(self);
@@ -74,14 +74,19 @@ struct Giver<'a> {
 
 impl<'a> Giver<'a> {
     fn new(space: &'a mut Space) -> Self {
-        let (mut upper_last, mut lower_last) = (FREE_LIST, RESERVED);
-        for (number, anode) in space.table.chain(FREE_LIST) {
+        let mut giver = Giver { space, upper_last: FREE_LIST, lower_last: RESERVED };
+        giver.look_for_ends();
+        giver
+    }
+
+    /// Looks for the last anodes of both sides.
+    fn look_for_ends(&mut self) {
+        for (number, anode) in self.space.table.chain(FREE_LIST) {
             if anode.next == RESERVED {
-                upper_last = number;
+                self.upper_last = number;
             }
-            lower_last = number;
+            self.lower_last = number;
         }
-        Giver { space, upper_last, lower_last }
     }
 
     /// Takes an anode that keeps its blocks out of its chain.
@@ -130,11 +135,16 @@ impl<'a> Giver<'a> {
         (Some(upper), Run { count: below, ..run })
     }
 
-    /// Gives back a run without an anode of its own: where it neither joins nor fills, the lowest free one serves it.
+    /// Gives back a run without an anode of its own: where it neither joins nor fills, the lowest free one serves it. If none
+    /// is free the table grows, which the run in hand cannot serve, and the place is looked for afresh.
     fn give_run(&mut self, run: Run) -> Result<(), u32> {
-        if !self.join_or_fill(run) {
-            let fresh = self.space.free_anode()?;
-            self.append(fresh, run);
+        while !self.join_or_fill(run) {
+            if let Some(fresh) = self.space.free_anode() {
+                self.append(fresh, run);
+                break;
+            }
+            self.space.grow()?;
+            self.look_for_ends();
         }
         Ok(())
     }

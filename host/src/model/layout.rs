@@ -112,6 +112,15 @@ pub fn slots(image: &[u8]) -> [u16; SLOTS] {
     std::array::from_fn(|slot| word(root, ROOT_SLOTS + 2 * slot))
 }
 
+/// Puts a block in a slot, zeroed, marked and numbered: anodes that are all free.
+pub fn put_anode_block(image: &mut [u8], slot: usize, number: u16) {
+    put_word(block_mut(image, ROOT_BLOCK), ROOT_SLOTS + 2 * slot, number);
+    let bytes = block_mut(image, number);
+    bytes.fill(0);
+    bytes[..2].copy_from_slice(&ANODE_MARK);
+    put_word(bytes, ANODE_SEQUENCE, slot as u16);
+}
+
 /// The slots with anodes, and the block that each holds.
 pub fn used_slots(slots: &[u16; SLOTS]) -> impl Iterator<Item = (usize, u16)> + '_ {
     slots.iter().copied().enumerate().filter(|&(_, number)| number != 0)
@@ -185,9 +194,14 @@ impl AnodeTable {
         AnodeTable { slots, anodes }
     }
 
-    /// Writes every existing anode; the bytes of those that were not changed stay as they are.
+    /// Writes every existing anode; the bytes of those that were not changed stay as they are. A slot that the image has
+    /// empty gets its block first.
     pub fn write(&self, image: &mut [u8]) {
+        let before = slots(image);
         for (slot, number) in used_slots(&self.slots) {
+            if before[slot] == 0 {
+                put_anode_block(image, slot, number);
+            }
             let bytes = block_mut(image, number);
             for place in 0..ANODES_IN_BLOCK {
                 let anode = self.anodes[slot * ANODES_IN_BLOCK + place];
@@ -198,6 +212,16 @@ impl AnodeTable {
 
     pub fn slots(&self) -> &[u16; SLOTS] {
         &self.slots
+    }
+
+    /// The lowest slot without anodes.
+    pub fn empty_slot(&self) -> Option<usize> {
+        self.slots.iter().position(|&number| number == 0)
+    }
+
+    /// Gives an empty slot a block: its anodes exist from now on, and are free.
+    pub fn fill_slot(&mut self, slot: usize, number: u16) {
+        self.slots[slot] = number;
     }
 
     pub fn exists(&self, number: u16) -> bool {

@@ -5,10 +5,10 @@
 //!
 //! * `layout`: where the fields are.
 //! * `check`: the check, linear in blocks, anodes and entries.
-//! * `space`: taking a block.
+//! * `space`: taking a block, and growing the anode table.
 //! * `giving`: giving back whole runs.
-//! * [`naive`]: the check by the words of the table, row by row and quadratic, and giving back on plain lists; it
-//!   shares no code with the others.
+//! * [`naive`]: the check by the words of the table, row by row and quadratic, and what a change takes and gives back on
+//!   plain lists; it shares no code with the others.
 //! * `calls`: the calls.
 //! * `bitmap`: free space as the hard disk edition's bitmap.
 //! * `report`: the shift report over many disks.

@@ -1,5 +1,5 @@
-//! Taking a block. The steps of a change work on a draft of the anode table, which is written to the image only when
-//! all of them are done; a refused change throws the draft away.
+//! Taking a block, and growing the anode table (02, No. 6). The steps of a change work on a draft of the anode table, which
+//! is written to the image only when all of them are done; a refused change throws the draft away.
 
 use super::layout::*;
 
@@ -30,23 +30,46 @@ impl Space {
         Space { table, last_reserved }
     }
 
-    /// The lowest free anode from 6 up, or 28.
-    pub fn free_anode(&self) -> Result<u16, u32> {
+    /// The lowest free anode from 6 up.
+    pub(super) fn free_anode(&self) -> Option<u16> {
         let free = |&number: &u16| number >= FIRST_USER && !self.table[number].in_use();
-        self.table.existing().find(free).ok_or(28)
+        self.table.existing().find(free)
     }
 
-    /// Takes a block for the chain of `head`: 27 if none is free, 28 if an anode is needed and none is free.
+    /// The lowest empty slot gets a block, taken as a directory's is, which no anode owns. 28 if no slot is empty or no
+    /// block is free.
+    pub(super) fn grow(&mut self) -> Result<(), u32> {
+        let slot = self.table.empty_slot().ok_or(28u32)?;
+        let block = self.free_block(Purpose::Directory).ok_or(28u32)?;
+        self.table.fill_slot(slot, block);
+        Ok(())
+    }
+
+    /// The lowest free anode from 6 up, for which the table grows if need be, or 28.
+    pub fn needed_anode(&mut self) -> Result<u16, u32> {
+        if self.free_anode().is_none() {
+            self.grow()?;
+        }
+        self.free_anode().ok_or(28)
+    }
+
+    /// Takes a block for the chain of `head`: 27 if none is free, 28 if an anode is needed, none is free and the table
+    /// cannot grow.
     pub fn take(&mut self, head: u16, purpose: Purpose) -> Result<u16, u32> {
+        let block = self.free_block(purpose).ok_or(27u32)?;
+        self.append(head, block, purpose)?;
+        Ok(block)
+    }
+
+    /// Takes the first block of the first extent with blocks off the free list, on the side where its purpose looks first,
+    /// else on the other.
+    fn free_block(&mut self, purpose: Purpose) -> Option<u16> {
         let (first, second) = match purpose {
             Purpose::Data => (Side::Upper, Side::Lower),
             Purpose::Directory => (Side::Lower, Side::Upper),
         };
-        let found = self.first_extent(first).or_else(|| self.first_extent(second));
-        let (before, extent) = found.ok_or(27u32)?;
-        let block = self.cut_first(before, extent);
-        self.append(head, block, purpose)?;
-        Ok(block)
+        let (before, extent) = self.first_extent(first).or_else(|| self.first_extent(second))?;
+        Some(self.cut_first(before, extent))
     }
 
     /// The first extent with blocks on a side of the free list, with its predecessor.
@@ -92,7 +115,8 @@ impl Space {
         } else if purpose == Purpose::Data && anode.end() == usize::from(block) {
             self.table[last].count += 1;
         } else {
-            let fresh = self.free_anode()?;
+            // Growth changes the free list alone, so that the last anode of this chain is still the same.
+            let fresh = self.needed_anode()?;
             self.table[fresh] = Anode::new(1, block, 0);
             self.table[last].next = fresh;
         }

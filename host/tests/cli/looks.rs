@@ -16,7 +16,11 @@ last reserved   63
 free blocks     1752
 files           1
 directories     2
-anodes in use   6";
+anode blocks    2 of 42
+anodes          164
+anodes in use   6
+anodes free     155
+anodes to come  3280";
     assert!(
         disk.starts_with("disk            disk.adf\nname            \"bench 4\"\ndate            20"),
         "{disk}"
@@ -32,7 +36,11 @@ last reserved   4
 free blocks     15
 files           0
 directories     1
+anode blocks    1 of 42
+anodes          82
 anodes in use   4
+anodes free     75
+anodes to come  1230
 ";
     assert_eq!(other, numbers);
     assert_eq!(folder.done(&["info", "other.adf"]), numbers);
@@ -181,7 +189,7 @@ fn looks_for_programs() {
     assert_eq!(folder.done(&["ls", "disk.adf", "recipes/pack7", "--json"]), entries(&[pack7]));
     assert_eq!(folder.done(&["tree", "disk.adf", "--json"]), entries(&[recipes, pack7, odd]));
     let info = folder.done(&["info", "disk.adf", "disk.adf", "--json"]);
-    let numbers = "\"protection\": 0, \"last_reserved\": 63, \"blocks\": 1760, \"bytes\": 901120, \"free_blocks\": 1751, \"files\": 2, \"directories\": 2, \"anodes_in_use\": 7}";
+    let numbers = "\"protection\": 0, \"last_reserved\": 63, \"blocks\": 1760, \"bytes\": 901120, \"free_blocks\": 1751, \"files\": 2, \"directories\": 2, \"anode_blocks\": 2, \"most_anode_blocks\": 42, \"anodes\": 164, \"anodes_in_use\": 7, \"anodes_free\": 154, \"anodes_to_come\": 3280}";
     assert!(
         info.starts_with("[{\"disk\": \"disk.adf\", \"name\": \"bench 4\", \"date_utc\": \"20"),
         "{info}"
@@ -193,7 +201,7 @@ fn looks_for_programs() {
     );
     let df = folder.done(&["df", "disk.adf", "--json"]);
     assert!(df.starts_with("{\"disk\": \"disk.adf\", \"blocks\": 1760, \"uses\": [{\"use\": \"free\", \"blocks\": 1751, \"bytes\": 896512}, "));
-    assert!(df.ends_with("{\"use\": \"bad\", \"blocks\": 0, \"bytes\": 0}]}\n"), "{df}");
+    assert!(df.ends_with("{\"use\": \"bad\", \"blocks\": 0, \"bytes\": 0}], \"anode_blocks\": 2, \"most_anode_blocks\": 42, \"anodes\": 164, \"anodes_in_use\": 7, \"anodes_free\": 154, \"anodes_to_come\": 3280}\n"), "{df}");
     let map = folder.done(&["map", "disk.adf", "--json"]);
     assert!(map.starts_with("{\"disk\": \"disk.adf\", \"blocks\": 1760, \"last_reserved\": 63, \"runs\": [{\"first\": 0, \"last\": 2, \"use\": \"start blocks\", \"path\": null}, "));
     assert!(map.contains(r#"{"first": 65, "last": 65, "use": "files", "path": "a\\xff\\x22b"}"#), "{map}");
@@ -265,6 +273,12 @@ start blocks        3       1536    0.2%
 to be freed         0          0    0.0%
 bad                 0          0    0.0%
 all              1760     901120  100.0%
+
+               anodes
+in use              6
+free              155
+all               164 in 2 of 42 anode blocks
+to come          3280 in 40 more
 ";
     assert_eq!(folder.done(&["df", "disk.adf"]), table);
 }

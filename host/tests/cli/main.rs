@@ -1,6 +1,7 @@
 //! The command line `pfs`, run as a program.
 
 mod alike;
+mod anodes;
 mod changes;
 mod daily;
 mod faults;

@@ -3,4 +3,5 @@
 
 mod checks;
 mod histories;
+mod history;
 mod shapes;

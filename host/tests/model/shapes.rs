@@ -3,12 +3,14 @@
 use std::collections::BTreeMap;
 
 use ovenknit_host::calls::ROOT;
-use ovenknit_host::disk::{Disk, Kind};
+use ovenknit_host::disk::{Disk, Kind, New};
 use ovenknit_host::model::layout::{self, Anode, AnodeTable, ANODES};
 use ovenknit_host::model::{self, Model};
 use ovenknit_host::names::{first_alike, folded, is_near};
 use ovenknit_host::rng::{seeded, Rng};
-use ovenknit_host::shapes::{disk_blocks, grown_in_turn, shaped, Recipe, Shaped, LONG_FILE};
+use ovenknit_host::shapes::{
+    disk_blocks, grown_in_turn, no_free_anode, one_free_anode, shaped, Recipe, Shaped, LONG_FILE,
+};
 use ovenknit_host::tree::Directory;
 
 /// A count of what a few hundred shapes have.
@@ -101,6 +103,26 @@ fn the_disks_of_the_bench_are_what_they_say() {
     let table = AnodeTable::read(&image);
     let pieces = table.existing().filter(|&number| table[number].count > 0).count();
     assert!(pieces > 2_500, "only {pieces} pieces");
+}
+
+#[test]
+fn the_disks_with_few_anodes_are_what_they_say() {
+    for (image, used, free) in
+        [(one_free_anode(), vec![0, 41], vec![3_443]), (no_free_anode(), vec![0], vec![])]
+    {
+        let (mut blocks, mut anodes) = (vec![0; 1_760], vec![0; ANODES]);
+        assert_eq!(model::check(&image, &mut blocks, &mut anodes), 0);
+        let table = AnodeTable::read(&image);
+        let slots: Vec<usize> = layout::used_slots(table.slots()).map(|(slot, _)| slot).collect();
+        let free_anodes: Vec<u16> =
+            table.existing().filter(|&number| number >= 6 && !table.in_use(number)).collect();
+        // A file takes the anode that is free, or the first one of a new block.
+        let head = free.first().copied().unwrap_or(82);
+        assert_eq!((slots, free_anodes), (used, free));
+        let mut disk = Disk::<Model>::new(image);
+        disk.make(ROOT, &New::file(b"f")).expect("it is made");
+        assert_eq!(disk.find(ROOT, b"f").map(|entry| entry.anode), Ok(head));
+    }
 }
 
 #[test]

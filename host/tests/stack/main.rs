@@ -6,10 +6,12 @@ mod threads;
 use ovenknit_host::calls::{tables, Call, Library, Stamp, BLOCK, DIRECTORY, FILE, ROOT, TOTALS};
 use ovenknit_host::compare::{compare, History};
 use ovenknit_host::disk::Disk;
+use ovenknit_host::histories::every_change;
+use ovenknit_host::met::{worked_out, GrowthMet};
 use ovenknit_host::model::Model;
 use ovenknit_host::rng::Rng;
 use ovenknit_host::settings::{Conversion, Converter, Form, Setting, MOST_RECORDS};
-use ovenknit_host::shapes::{formatted, shaped, Recipe};
+use ovenknit_host::shapes::{formatted, shaped, Recipe, Shaped};
 use ovenknit_host::stack::{needed, NEEDED};
 use ovenknit_host::starts::Start;
 
@@ -51,6 +53,22 @@ fn run_every_call<L: Library>(mut image: Vec<u8>, size: u64) {
     }
 }
 
+/// Changes of every kind for which the anode table grows.
+fn run_growth<L: Library>(rng: &mut Rng) {
+    let mut met = GrowthMet::default();
+    for _ in 0..150 {
+        let Shaped { image, tree } = Start::FewAnodes.disk(rng);
+        let (mut blocks, mut anodes) = tables(&image);
+        for call in every_change(&tree) {
+            if worked_out(&image, &tree, &call).is_some_and(|outcome| !outcome.growths.is_empty()) {
+                met.note(&image, &tree, &call);
+                compare::<L>(&call, &mut image.clone(), &mut blocks, &mut anodes);
+            }
+        }
+    }
+    met.assert_met(&["make: grew, done", "resize: grew, done", "remove: grew, done"]);
+}
+
 /// Both conversions of a file with as many records as one may have, into buffers that just hold the result.
 fn run_conversions<C: Converter>() {
     let records =
@@ -63,8 +81,8 @@ fn run_conversions<C: Converter>() {
     }
 }
 
-/// Every call on small and on large disks, empty, full of files and in many pieces; then random calls, which are refused
-/// at times. Each is compared with the model.
+/// Every call on small and on large disks, empty, full of files and in many pieces; then changes for which the anode table
+/// grows, and random calls, which are refused at times. Each is compared with the model.
 fn run_calls<L: Library + Converter>() {
     let rng = &mut Rng::new(1);
     run_every_call::<L>(include_bytes!("../../../crates/pfsinfo_files/stdin").to_vec(), 5_000);
@@ -76,6 +94,7 @@ fn run_calls<L: Library + Converter>() {
     run_every_call::<L>(shaped(&pieces, rng).image, 50_000);
 
     run_conversions::<L>();
+    run_growth::<L>(rng);
     for start in Start::SMALL {
         History::new(start.disk(rng), rng).run::<L>(100);
     }

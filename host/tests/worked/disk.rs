@@ -126,6 +126,17 @@ impl<L: Library> Disk<L> {
         layout::block_mut(&mut self.image, number)
     }
 
+    /// Adds a block for every empty slot, so that the anode table cannot grow.
+    pub fn fill_slots(&mut self) {
+        while let Some(slot) = self.table().empty_slot() {
+            let number = self.image.len() / BLOCK;
+            self.image.resize((number + 1) * BLOCK, 0);
+            layout::put_anode_block(&mut self.image, slot, number as u16);
+        }
+        (self.blocks, self.anodes) = tables(&self.image);
+        assert_eq!(self.check(), 0);
+    }
+
     /// Takes all free anodes from 6 up but these, as empty ones before anode 2.
     pub fn use_up_anodes(&mut self, but: &[u16]) {
         let table = self.table();

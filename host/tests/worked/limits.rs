@@ -61,7 +61,8 @@ fn sizes_of_two_to_the_32_and_above<L: Library>() {
         assert_eq!(disk.write(b"f", size, &[1]), 26);
         assert_eq!(disk.list(ROOT, size).0, 22);
     }
-    // With no anode left it is 27 if every free block can be joined, and 28 once one needs an anode.
+    // With no anode left, and no slot for more, it is 27 if every free block can be joined, and 28 once one needs an anode.
+    disk.fill_slots();
     disk.set(&[(6, (1, 12, 8)), (8, (7, 13, 2))]);
     disk.use_up_anodes(&[]);
     assert_eq!(disk.make(ROOT, FILE, b"g"), 28);

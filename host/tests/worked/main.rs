@@ -24,6 +24,7 @@ macro_rules! both {
 mod alike;
 mod bytes;
 mod disk;
+mod growth;
 mod half_cleared;
 mod limits;
 mod looks;
@@ -31,5 +32,6 @@ mod paper;
 mod report;
 mod runs;
 mod settings;
+mod small;
 mod space;
 mod stored;

@@ -1,106 +1,11 @@
-//! Whole runs go back (02, No. 3), by hand. The disks have L 9 and one anode block in block 3, and block 4 is the root
-//! directory. Its only entry, f, has the head 20. Blocks that a case does not mention are on the chain of 3. A full disk
-//! has no free anode: those that a case does not mention hang empty on the chain of 4.
+//! Whole runs go back (02, No. 3), by hand, on the small disks with the entry f. Where 28 is to come, the anode table cannot
+//! grow (No. 6).
 
-use std::collections::BTreeSet;
-
-use ovenknit_host::calls::{Call, Library, BLOCK, DIRECTORY, FILE, ROOT};
-use ovenknit_host::model::layout::{
-    put_word, Anode, DIRECTORY_MARK, DIRECTORY_OWNER, DIRECTORY_PARENT, ENTRY_ANODE, FIRST_ENTRY,
-};
+use ovenknit_host::calls::{Call, Library, BLOCK, DIRECTORY, FILE};
+use ovenknit_host::model::layout::Anode;
 
 use crate::disk::Disk;
-
-/// Count, block and next of an anode, behind its number.
-type Numbered = (u16, (u16, u16, u16));
-
-const HEAD: u16 = 20;
-
-const FREE: (u16, u16, u16) = (0, 0, 0);
-/// A head that stays without blocks.
-const EMPTIED: (u16, u16, u16) = (0, 65_535, 0);
-
-/// A disk of so many blocks with these anodes besides 5, where f is of this kind. Of the anodes that are not mentioned only
-/// the spare ones are free.
-fn disk_of<L: Library>(kind: u8, blocks: usize, spare: &[u16], anodes: &[Numbered]) -> Disk<L> {
-    let mut disk = Disk::<L>::format(blocks, 9, 1);
-    assert_eq!(disk.make(ROOT, kind, b"f"), 0);
-    put_word(disk.block_mut(4), FIRST_ENTRY + ENTRY_ANODE, HEAD);
-    disk.set(&[(6, FREE), (7, FREE)]);
-    disk.set(anodes);
-    let chain: Vec<u16> = disk.table().chain_blocks(HEAD).collect();
-    match kind {
-        DIRECTORY => chain.iter().for_each(|&block| head_directory_block(disk.block_mut(block))),
-        _ => disk.set_size((chain.len() * BLOCK) as u32),
-    }
-    hang_blocks(&mut disk);
-    hang_anodes(&mut disk, spare);
-    assert_eq!(disk.check(), 0, "{anodes:?}");
-    disk
-}
-
-/// Makes a block one of the directory f, without entries.
-fn head_directory_block(block: &mut [u8]) {
-    block.fill(0);
-    block[..2].copy_from_slice(&DIRECTORY_MARK);
-    put_word(block, DIRECTORY_OWNER, HEAD);
-    put_word(block, DIRECTORY_PARENT, ROOT);
-}
-
-/// The disk of 20 blocks where f is a file.
-fn with_spare<L: Library>(spare: &[u16], anodes: &[Numbered]) -> Disk<L> {
-    disk_of(FILE, 20, spare, anodes)
-}
-
-/// The same on which no anode is free.
-fn full<L: Library>(anodes: &[Numbered]) -> Disk<L> {
-    with_spare(&[], anodes)
-}
-
-/// Puts the blocks that nobody owns on the chain of 3, in 3 itself and in the highest free anodes.
-fn hang_blocks<L: Library>(disk: &mut Disk<L>) {
-    let mut table = disk.table();
-    let owned: BTreeSet<usize> = (0..4)
-        .chain((1..82).flat_map(|number| usize::from(table[number].block)..table[number].end()))
-        .collect();
-    let mut runs: Vec<Anode> = Vec::new();
-    for block in (0..disk.image.len() / BLOCK).filter(|block| !owned.contains(block)) {
-        match runs.last_mut() {
-            Some(run) if run.end() == block => run.count += 1,
-            _ => runs.push(Anode::new(1, block as u16, 0)),
-        }
-    }
-    let highest = (6..82).rev().filter(|&number| table[number].is_free());
-    let numbers: Vec<u16> = [3].into_iter().chain(highest).take(runs.len()).collect();
-    for (place, &run) in runs.iter().enumerate() {
-        let next = numbers.get(place + 1).copied().unwrap_or(0);
-        table[numbers[place]] = Anode { next, ..run };
-    }
-    table.write(&mut disk.image);
-}
-
-/// Hangs the free anodes but these on the chain of 4.
-fn hang_anodes<L: Library>(disk: &mut Disk<L>, spare: &[u16]) {
-    let mut table = disk.table();
-    let mut before = 4;
-    table[before] = Anode::empty(0);
-    for number in 6..82 {
-        if table[number].is_free() && !spare.contains(&number) {
-            table[before].next = number;
-            table[number] = Anode::empty(0);
-            before = number;
-        }
-    }
-    table.write(&mut disk.image);
-}
-
-fn shrink(blocks: u64) -> Call {
-    Call::Resize { directory: ROOT, name: b"f".to_vec(), size: blocks * 512 }
-}
-
-fn remove() -> Call {
-    Call::Remove { directory: ROOT, name: b"f".to_vec() }
-}
+use crate::small::{disk_of, full, remove, resize_to, stuck, with_spare, Numbered, EMPTIED, FREE};
 
 /// Runs a call that must be done and leave these anodes, all others as they were, and every byte outside the anodes and the
 /// root directory.
@@ -117,7 +22,7 @@ fn done<L: Library>(mut disk: Disk<L>, call: Call, anodes: &[Numbered]) {
     assert!(others(&disk.image) == others(&image), "bytes changed by {call:?}");
 }
 
-/// Runs a call that must be refused with 28. That nothing changes, `run` sees to.
+/// Runs a call that must be refused with 28, since the table cannot grow. That nothing changes, `run` sees to.
 fn refused<L: Library>(mut disk: Disk<L>, call: Call) {
     assert_eq!(disk.run(call.clone()).answer, 28, "{call:?}");
 }
@@ -146,7 +51,7 @@ fn a_long_file_is_removed_without_a_spare_anode<L: Library>() {
     ];
     done(full::<L>(&anodes), remove(), &after);
     // Shrunk instead, the head's run needs an anode more.
-    refused(full::<L>(&anodes), shrink(0));
+    refused(stuck::<L>(&[], &anodes), resize_to(0));
     let after = [
         (1, (0, 65_535, 25)),
         (2, (1, 5, 22)),
@@ -157,7 +62,7 @@ fn a_long_file_is_removed_without_a_spare_anode<L: Library>() {
         (24, (1, 19, 23)),
         (25, (1, 17, 24)),
     ];
-    done(full::<L>(&anodes), shrink(1), &after);
+    done(full::<L>(&anodes), resize_to(1), &after);
 }
 
 /// Reading 1: last first is chain order, and empty anodes of a chain that is only shortened stay.
@@ -165,16 +70,16 @@ fn extents_go_last_first_and_empty_anodes_stay<L: Library>() {
     let free = [(1, (0, 65_535, 6)), (6, (1, 19, 2)), (2, (5, 5, 0))];
     let chain = [(20, (1, 10, 21)), (21, (1, 16, 22)), (22, (1, 13, 0))];
     let after = [(6, (1, 19, 22)), (20, (1, 10, 0)), (21, (1, 16, 2)), (22, (1, 13, 21))];
-    done(full::<L>(&[&free[..], &chain].concat()), shrink(1), &after);
+    done(full::<L>(&[&free[..], &chain].concat()), resize_to(1), &after);
 
     let chain =
         [(20, (1, 12, 21)), (21, (0, 300, 22)), (22, (2, 15, 23)), (23, (0, 17, 24)), (24, (0, 65_535, 0))];
     let after = [(6, (1, 19, 22)), (21, (0, 300, 23)), (22, (2, 15, 2))];
-    done(full::<L>(&[&free[..], &chain].concat()), shrink(1), &after);
+    done(full::<L>(&[&free[..], &chain].concat()), resize_to(1), &after);
     // An empty head stays as it is, and so do the others.
     let chain = [(20, (0, 77, 21)), (21, (1, 12, 22)), (22, (0, 300, 23)), (23, (2, 15, 0))];
     let after = [(6, (1, 19, 23)), (20, (0, 77, 22)), (21, (1, 12, 2)), (22, (0, 300, 0)), (23, (2, 15, 21))];
-    done(full::<L>(&[&free[..], &chain].concat()), shrink(0), &after);
+    done(full::<L>(&[&free[..], &chain].concat()), resize_to(0), &after);
 }
 
 /// Reading 1: in a removal they are zeroed after all runs have gone back, an empty head with them.
@@ -189,7 +94,7 @@ fn empty_anodes_of_a_removed_chain_are_zeroed_last<L: Library>() {
         (24, (0, 65_535, 0)),
     ];
     // 15 goes behind 1 in 23; then 10 and 11 find no anode, for 20, 22 and 24 are still in use.
-    refused(full::<L>(&anodes), remove());
+    refused(stuck::<L>(&[], &anodes), remove());
     let after = [
         (1, (0, 65_535, 23)),
         (2, (5, 5, 0)),
@@ -221,16 +126,16 @@ fn a_run_joins_or_fills_the_last_anode_of_its_side<L: Library>() {
         ((1, 16, 2), (3, 14, 2)),
     ] {
         let anodes = [(1, (0, 65_535, 6)), (6, six), (2, (5, 5, 0)), (20, (1, 10, 21)), (21, (2, 14, 0))];
-        done(full::<L>(&anodes), shrink(1), &[(6, after), (20, (1, 10, 0)), (21, FREE)]);
+        done(full::<L>(&anodes), resize_to(1), &[(6, after), (20, (1, 10, 0)), (21, FREE)]);
     }
     // 7 and 8 go back to the last one below: 2 itself, or one behind it.
     for (two, after) in [((2, 5, 0), (4, 5, 0)), ((1, 9, 0), (3, 7, 0)), ((0, 65_535, 0), (2, 7, 0))] {
         let anodes = [(1, (0, 65_535, 2)), (2, two), (20, (1, 10, 21)), (21, (2, 7, 0))];
-        done(full::<L>(&anodes), shrink(1), &[(2, after), (20, (1, 10, 0)), (21, FREE)]);
+        done(full::<L>(&anodes), resize_to(1), &[(2, after), (20, (1, 10, 0)), (21, FREE)]);
     }
     for (six, after) in [((1, 6, 0), (3, 6, 0)), ((1, 9, 0), (3, 7, 0)), ((0, 2, 0), (2, 7, 0))] {
         let anodes = [(1, (0, 65_535, 2)), (2, (1, 5, 6)), (6, six), (20, (1, 10, 21)), (21, (2, 7, 0))];
-        done(full::<L>(&anodes), shrink(1), &[(6, after), (20, (1, 10, 0)), (21, FREE)]);
+        done(full::<L>(&anodes), resize_to(1), &[(6, after), (20, (1, 10, 0)), (21, FREE)]);
     }
 }
 
@@ -240,7 +145,7 @@ fn only_the_last_anode_of_the_side_is_looked_at<L: Library>() {
         let anodes =
             [(1, (0, 65_535, 6)), (6, six), (7, seven), (2, (5, 5, 0)), (20, (1, 10, 21)), (21, (2, 14, 0))];
         let after = [(7, (seven.0, seven.1, 21)), (20, (1, 10, 0)), (21, (2, 14, 2))];
-        done(full::<L>(&anodes), shrink(1), &after);
+        done(full::<L>(&anodes), resize_to(1), &after);
     }
     let anodes = [
         (1, (0, 65_535, 2)),
@@ -250,21 +155,21 @@ fn only_the_last_anode_of_the_side_is_looked_at<L: Library>() {
         (20, (1, 10, 21)),
         (21, (2, 7, 0)),
     ];
-    done(full::<L>(&anodes), shrink(1), &[(7, (1, 5, 21)), (20, (1, 10, 0)), (21, (2, 7, 0))]);
+    done(full::<L>(&anodes), resize_to(1), &[(7, (1, 5, 21)), (20, (1, 10, 0)), (21, (2, 7, 0))]);
 }
 
 /// Reading 2: the last anode of the run's own side. What touches across last reserved is not joined.
 fn no_run_joins_across_last_reserved<L: Library>() {
     let anodes = [(1, (0, 65_535, 2)), (2, (5, 5, 0)), (20, (1, 13, 21)), (21, (2, 10, 0))];
     let after = [(1, (0, 65_535, 21)), (20, (1, 13, 0)), (21, (2, 10, 2))];
-    done(full::<L>(&anodes), shrink(1), &after);
+    done(full::<L>(&anodes), resize_to(1), &after);
     let anodes = [(1, (0, 65_535, 6)), (6, (2, 10, 2)), (2, (1, 5, 0)), (20, (1, 13, 21)), (21, (2, 8, 0))];
-    done(full::<L>(&anodes), shrink(1), &[(2, (1, 5, 21)), (20, (1, 13, 0)), (21, (2, 8, 0))]);
+    done(full::<L>(&anodes), resize_to(1), &[(2, (1, 5, 21)), (20, (1, 13, 0)), (21, (2, 8, 0))]);
     // An empty anode of the other side is not filled either.
     let anodes = [(1, (0, 65_535, 6)), (6, (0, 300, 2)), (2, (1, 5, 0)), (20, (1, 13, 21)), (21, (2, 7, 0))];
-    done(full::<L>(&anodes), shrink(1), &[(2, (1, 5, 21)), (20, (1, 13, 0)), (21, (2, 7, 0))]);
+    done(full::<L>(&anodes), resize_to(1), &[(2, (1, 5, 21)), (20, (1, 13, 0)), (21, (2, 7, 0))]);
     let anodes = [(1, (0, 65_535, 2)), (2, (0, 65_535, 0)), (20, (1, 13, 21)), (21, (2, 10, 0))];
-    done(full::<L>(&anodes), shrink(1), &[(1, (0, 65_535, 21)), (20, (1, 13, 0)), (21, (2, 10, 2))]);
+    done(full::<L>(&anodes), resize_to(1), &[(1, (0, 65_535, 21)), (20, (1, 13, 0)), (21, (2, 10, 2))]);
 }
 
 /// Reading 3: a whole extent that is exactly what a resize gives back goes with its anode, a cut piece with the lowest free
@@ -272,32 +177,32 @@ fn no_run_joins_across_last_reserved<L: Library>() {
 fn a_whole_extent_takes_its_anode_along_and_a_cut_piece_needs_one<L: Library>() {
     let anodes = [(1, (0, 65_535, 2)), (2, (5, 5, 0)), (20, (2, 10, 21)), (21, (3, 14, 0))];
     let after = [(1, (0, 65_535, 21)), (20, (2, 10, 0)), (21, (3, 14, 2))];
-    done(full::<L>(&anodes), shrink(2), &after);
+    done(full::<L>(&anodes), resize_to(2), &after);
     // 21 itself goes, not the lower 7, which is free.
-    done(with_spare::<L>(&[7], &anodes), shrink(2), &after);
+    done(with_spare::<L>(&[7], &anodes), resize_to(2), &after);
     for blocks in [1, 3, 4] {
-        refused(full::<L>(&anodes), shrink(blocks));
+        refused(stuck::<L>(&[], &anodes), resize_to(blocks));
     }
     let spare = || with_spare::<L>(&[50, 60], &anodes);
     let after = [(1, (0, 65_535, 50)), (21, (2, 14, 0)), (50, (1, 16, 2))];
-    done(spare(), shrink(4), &after);
+    done(spare(), resize_to(4), &after);
     let after = [(1, (0, 65_535, 50)), (21, (1, 14, 0)), (50, (2, 15, 2))];
-    done(spare(), shrink(3), &after);
+    done(spare(), resize_to(3), &after);
     let after = [(1, (0, 65_535, 21)), (20, (1, 10, 0)), (21, (3, 14, 50)), (50, (1, 11, 2))];
-    done(spare(), shrink(1), &after);
+    done(spare(), resize_to(1), &after);
     // A cut piece joins and fills like any run.
     for (six, after) in [((3, 17, 2), (5, 15, 2)), ((0, 300, 2), (2, 15, 2))] {
         let anodes = [(1, (0, 65_535, 6)), (6, six), (2, (5, 5, 0)), (20, (5, 12, 0))];
-        done(full::<L>(&anodes), shrink(3), &[(6, after), (20, (3, 12, 0))]);
+        done(full::<L>(&anodes), resize_to(3), &[(6, after), (20, (3, 12, 0))]);
     }
 }
 
 /// Reading 3: a head that stays is emptied, and its run needs the lowest free anode; in a removal the head itself moves.
 fn the_head_stays_in_a_resize_and_moves_in_a_removal<L: Library>() {
     let anodes = [(1, (0, 65_535, 2)), (2, (5, 5, 0)), (20, (2, 12, 0))];
-    refused(full::<L>(&anodes), shrink(0));
+    refused(stuck::<L>(&[], &anodes), resize_to(0));
     let after = [(1, (0, 65_535, 50)), (20, EMPTIED), (50, (2, 12, 2))];
-    done(with_spare::<L>(&[50, 60], &anodes), shrink(0), &after);
+    done(with_spare::<L>(&[50, 60], &anodes), resize_to(0), &after);
     done(full::<L>(&anodes), remove(), &[(1, (0, 65_535, 20)), (20, (2, 12, 2))]);
     // 7 is free and lower, but it is the head that moves.
     let after = [(1, (0, 65_535, 20)), (20, (2, 12, 2))];
@@ -308,7 +213,7 @@ fn the_head_stays_in_a_resize_and_moves_in_a_removal<L: Library>() {
     // Where the run joins or fills, no anode is needed, and a head that moves is zeroed.
     for (six, after) in [((1, 14, 2), (3, 12, 2)), ((1, 11, 2), (3, 11, 2)), ((0, 300, 2), (2, 12, 2))] {
         let anodes = [(1, (0, 65_535, 6)), (6, six), (2, (5, 5, 0)), (20, (2, 12, 21)), (21, (0, 300, 0))];
-        done(full::<L>(&anodes), shrink(0), &[(6, after), (20, (0, 65_535, 21))]);
+        done(full::<L>(&anodes), resize_to(0), &[(6, after), (20, (0, 65_535, 21))]);
         done(full::<L>(&anodes), remove(), &[(6, after), (20, FREE), (21, FREE)]);
     }
 }
@@ -316,7 +221,7 @@ fn the_head_stays_in_a_resize_and_moves_in_a_removal<L: Library>() {
 /// Reading 4: while the upper part looks for an anode, the extent's own is still in use, though it is zeroed then.
 fn the_upper_part_of_a_crossing_extent_needs_an_anode<L: Library>() {
     let anodes = [(1, (0, 65_535, 2)), (2, (3, 5, 0)), (20, (4, 8, 0))];
-    refused(full::<L>(&anodes), remove());
+    refused(stuck::<L>(&[], &anodes), remove());
     let after = [(1, (0, 65_535, 50)), (2, (5, 5, 0)), (20, FREE), (50, (2, 10, 2))];
     done(with_spare::<L>(&[50], &anodes), remove(), &after);
     // With none to spare it goes where the upper part joins or fills; the anode serves the lower part, or is zeroed.
@@ -331,51 +236,53 @@ fn the_upper_part_of_a_crossing_extent_needs_an_anode<L: Library>() {
     // The same for an extent that is not the head's, in a resize.
     let anodes =
         [(1, (0, 65_535, 2)), (2, (2, 5, 0)), (20, (1, 13, 21)), (21, (4, 8, 22)), (22, (0, 300, 0))];
-    refused(full::<L>(&anodes), shrink(1));
+    refused(stuck::<L>(&[], &anodes), resize_to(1));
     let after = [(1, (0, 65_535, 50)), (2, (2, 5, 21)), (20, (1, 13, 22)), (21, (2, 8, 0)), (50, (2, 10, 2))];
-    done(with_spare::<L>(&[50, 60], &anodes), shrink(1), &after);
+    done(with_spare::<L>(&[50, 60], &anodes), resize_to(1), &after);
 }
 
 /// Reading 4: a cut piece or a kept head's run that crosses needs up to two anodes, the upper part's first.
 fn a_run_without_an_anode_that_crosses_needs_two<L: Library>() {
     let anodes = [(1, (0, 65_535, 2)), (2, (1, 5, 0)), (20, (5, 7, 0))];
     for blocks in [0, 1] {
-        refused(full::<L>(&anodes), shrink(blocks));
-        refused(with_spare::<L>(&[50], &anodes), shrink(blocks));
+        refused(stuck::<L>(&[], &anodes), resize_to(blocks));
+        refused(stuck::<L>(&[50], &anodes), resize_to(blocks));
     }
     let spare = || with_spare::<L>(&[50, 60], &anodes);
     let free_list = [(1, (0, 65_535, 50)), (2, (1, 5, 60))];
     let after = [&free_list[..], &[(20, EMPTIED), (50, (2, 10, 2)), (60, (3, 7, 0))]].concat();
-    done(spare(), shrink(0), &after);
+    done(spare(), resize_to(0), &after);
     let after = [&free_list[..], &[(20, (1, 7, 0)), (50, (2, 10, 2)), (60, (2, 8, 0))]].concat();
-    done(spare(), shrink(1), &after);
+    done(spare(), resize_to(1), &after);
     let after = [&free_list[..], &[(20, (2, 7, 0)), (50, (2, 10, 2)), (60, (1, 9, 0))]].concat();
-    done(spare(), shrink(2), &after);
+    done(spare(), resize_to(2), &after);
     // A cut at last reserved, or above it, is no crossing.
     let after = [(1, (0, 65_535, 50)), (20, (3, 7, 0)), (50, (2, 10, 2))];
-    done(with_spare::<L>(&[50], &anodes), shrink(3), &after);
+    done(with_spare::<L>(&[50], &anodes), resize_to(3), &after);
     let after = [(1, (0, 65_535, 50)), (20, (4, 7, 0)), (50, (1, 11, 2))];
-    done(with_spare::<L>(&[50], &anodes), shrink(4), &after);
+    done(with_spare::<L>(&[50], &anodes), resize_to(4), &after);
     // One anode is enough where one of the two joins or fills.
     let anodes = [(1, (0, 65_535, 6)), (6, (2, 12, 2)), (2, (1, 5, 0)), (20, (5, 7, 0))];
     let after = [(2, (1, 5, 50)), (6, (4, 10, 2)), (20, (1, 7, 0)), (50, (2, 8, 0))];
-    refused(full::<L>(&anodes), shrink(1));
-    done(with_spare::<L>(&[50], &anodes), shrink(1), &after);
+    refused(stuck::<L>(&[], &anodes), resize_to(1));
+    done(with_spare::<L>(&[50], &anodes), resize_to(1), &after);
     let anodes = [(1, (0, 65_535, 2)), (2, (2, 5, 0)), (20, (5, 7, 0))];
     let after = [(1, (0, 65_535, 50)), (2, (5, 5, 0)), (20, EMPTIED), (50, (2, 10, 2))];
-    refused(full::<L>(&anodes), shrink(0));
-    done(with_spare::<L>(&[50], &anodes), shrink(0), &after);
+    refused(stuck::<L>(&[], &anodes), resize_to(0));
+    done(with_spare::<L>(&[50], &anodes), resize_to(0), &after);
 }
 
 /// Reading 5: on 65,535 blocks the end of the last block's run is anode 1's block field, but anode 1 is never joined.
 fn anode_1_is_never_joined<L: Library>() {
-    let anodes = [(1, (0, 65_535, 2)), (2, (5, 5, 0)), (20, (2, 65_533, 0))];
+    let mut anodes = [(1, (0, 65_535, 2)), (2, (0, 65_535, 0)), (20, (2, 65_533, 0))];
+    // No block is free, so that the table cannot grow.
+    refused(disk_of::<L>(FILE, 65_535, &[], &anodes), resize_to(1));
+    anodes[1].1 = (5, 5, 0);
     let disk = |spare: &[u16]| disk_of::<L>(FILE, 65_535, spare, &anodes);
-    refused(disk(&[]), shrink(1));
     let after = [(1, (0, 65_535, 6)), (6, (1, 65_534, 2)), (20, (1, 65_533, 0))];
-    done(disk(&[6, 7]), shrink(1), &after);
+    done(disk(&[6, 7]), resize_to(1), &after);
     let after = [(1, (0, 65_535, 6)), (6, (2, 65_533, 2)), (20, EMPTIED)];
-    done(disk(&[6, 7]), shrink(0), &after);
+    done(disk(&[6, 7]), resize_to(0), &after);
     done(disk(&[]), remove(), &[(1, (0, 65_535, 20)), (20, (2, 65_533, 2))]);
 }
 
@@ -384,14 +291,14 @@ fn an_anode_zeroed_by_the_call_serves_a_later_run<L: Library>() {
     // 9 fills 2, and 11, its anode, serves the cut piece, 21.
     let anodes = [(1, (0, 65_535, 2)), (2, (0, 65_535, 0)), (20, (2, 20, 11)), (11, (1, 9, 0))];
     let after = [(1, (0, 65_535, 11)), (2, (1, 9, 0)), (11, (1, 21, 2)), (20, (1, 20, 0))];
-    done(disk_of::<L>(FILE, 24, &[], &anodes), shrink(1), &after);
+    done(disk_of::<L>(FILE, 24, &[], &anodes), resize_to(1), &after);
     // 14 joins 6, and 21, its anode, serves the upper part of the extent before it.
     let anodes = [(1, (0, 65_535, 6)), (6, (1, 15, 2)), (2, (3, 5, 0)), (20, (4, 8, 21)), (21, (1, 14, 0))];
     let after = [(2, (5, 5, 0)), (6, (2, 14, 21)), (20, FREE), (21, (2, 10, 2))];
     done(full::<L>(&anodes), remove(), &after);
     // In the other order the need comes first.
     let anodes = [(1, (0, 65_535, 6)), (6, (1, 15, 2)), (2, (3, 5, 0)), (20, (1, 14, 21)), (21, (4, 8, 0))];
-    refused(full::<L>(&anodes), remove());
+    refused(stuck::<L>(&[], &anodes), remove());
     // The lowest free anode is one that the call has zeroed, or another.
     for (spare, fresh) in [(12, 12), (30, 21)] {
         let anodes =
@@ -402,7 +309,7 @@ fn an_anode_zeroed_by_the_call_serves_a_later_run<L: Library>() {
             after.push((21, FREE));
         }
         after.sort();
-        done(disk, shrink(1), &after);
+        done(disk, resize_to(1), &after);
     }
 }
 

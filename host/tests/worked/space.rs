@@ -1,5 +1,5 @@
 //! Taking and giving back blocks, by hand. On 20 blocks with L 9 and one anode block, block 3 holds the anodes, 4 the
-//! root directory, 5 to 9 are free below, 10 to 19 above.
+//! root directory, 5 to 9 are free below, 10 to 19 above. Where 28 is to come though blocks are free, all slots are used.
 
 use ovenknit_host::calls::{Library, DIRECTORY, FILE, ROOT};
 
@@ -123,6 +123,7 @@ fn shrinking_from_before_an_empty_tail<L: Library>() {
 
 fn the_anode_just_emptied_counts_as_free<L: Library>() {
     let mut disk = Disk::<L>::format(20, 9, 1);
+    disk.fill_slots();
     assert_eq!(disk.make(ROOT, FILE, b"a"), 0);
     // The file has 12; above, 10 is in 6, 13 to 19 in 8, 11 in 9.
     disk.set(&[(6, (1, 10, 8)), (8, (7, 13, 9)), (9, (1, 11, 2)), (7, (1, 12, 0))]);
@@ -135,7 +136,7 @@ fn the_anode_just_emptied_counts_as_free<L: Library>() {
     assert_eq!((disk.anode(7), disk.anode(6), disk.anode(1)), ((1, 12, 6), (1, 10, 0), (0, 65_535, 8)));
     // 10 given back empties 6 again; the last upper anode is empty and is filled.
     assert_eq!(disk.resize(b"a", 512), 0);
-    assert_eq!((disk.anode(7), disk.anode(6), disk.anode(81)), ((1, 12, 0), (0, 0, 0), (1, 10, 2)));
+    assert_eq!((disk.anode(7), disk.anode(6), disk.anode(3_443)), ((1, 12, 0), (0, 0, 0), (1, 10, 2)));
 }
 
 fn no_block_comes_before_no_anode<L: Library>() {
@@ -179,9 +180,10 @@ fn make_with_a_full_parent<L: Library>() {
     full(&mut disk);
     assert_eq!(disk.make(ROOT, DIRECTORY, b"1"), 27);
     assert_eq!(disk.make(ROOT, FILE, b"1"), 0);
-    // Blocks enough, but one anode only: the parent's block has none.
+    // Blocks enough, but one anode only, and no slot for more: the parent's block has none.
     let mut disk = Disk::<L>::format(20, 9, 1);
     full(&mut disk);
+    disk.fill_slots();
     disk.use_up_anodes(&[50]);
     assert_eq!(disk.make(ROOT, FILE, b"1"), 28);
     assert_eq!(disk.make(ROOT, DIRECTORY, b"1"), 28);
@@ -205,6 +207,7 @@ fn remove_needs_no_anode_though_its_head_is_in_use<L: Library>() {
     assert_eq!(disk.resize(b"b", 512), 0);
     // Upper: 12 to 17 in 6, 18 and 19 in 9, which is the last. 10 is beside neither.
     disk.set(&[(6, (6, 12, 9)), (9, (2, 18, 2))]);
+    disk.fill_slots();
     disk.use_up_anodes_at_the_end();
     assert_eq!(disk.resize(b"a", 0), 28);
     assert_eq!(disk.resize(b"a", 1), 0);
