@@ -31,8 +31,8 @@ use owners::mark_owners;
 use owners::no_owner;
 use tables::zero_first;
 use tree::TreeRead;
-use walk_steps::chain_sum;
 use tree::walk_tree;
+use walk_steps::chain_sum;
 
 // Free blocks, files, and directories with the root.
 pub struct Tally {
