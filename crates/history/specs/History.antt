@@ -8,6 +8,7 @@ use Rattle.rules.specs.Calls.{Outcome, outcomeOf, checkOutcome, summaryOutcome,
 use Rattle.bitmap.specs.Calls.{bitmapOutcome, bitmapDiffersOutcome}
 use Rattle.looks.specs.Calls.{findOutcome, labelOutcome}
 use Rattle.report.specs.Report.{reportOutcome}
+use Rattle.differences.specs.Calls.{Compared, compareOutcome, differencesOutcome, answerOfImage}
 
 -- a call with all that it is lent or handed but the image; tables and buffers may have any length and content
 pub data Call : Type 0 where
@@ -25,10 +26,22 @@ pub data Call : Type 0 where
   find : (blocks anodes : List ℕ) (directory : ℕ) (name : List ℕ) → Call
   label : (blocks anodes : List ℕ) → Call
   report : (blocks anodes totals disk : List ℕ) → Call
+  -- with any other image as the second, or as the first
+  compare : (blocks anodes second secondBlocks secondAnodes : List ℕ) (place : ℕ) → Call
+  compareAsSecond : (first firstBlocks firstAnodes blocks anodes : List ℕ) (place : ℕ) → Call
+  differences : (blocks anodes second secondBlocks secondAnodes : List ℕ) (place : ℕ) (out : List ℕ) → Call
+  differencesAsSecond : (first firstBlocks firstAnodes blocks anodes : List ℕ) (place : ℕ) (out : List ℕ) → Call
 
 -- format is lent no tables and hands nothing out
 abbrev pub ofLeft : Left → Outcome
 ofLeft l = outcomeOf (l .answer) (l .image) [] [] [] []
+
+-- a comparison for its first image, and for its second: neither changes, and a number that refuses the other one says nothing of it
+abbrev pub forFirst : List ℕ → Compared → Outcome
+forFirst img c = outcomeOf (answerOfImage 1 c) img (c .blocks) (c .anodes) (c .output) []
+
+abbrev pub forSecond : List ℕ → Compared → Outcome
+forSecond img c = outcomeOf (answerOfImage 2 c) img (c .secondBlocks) (c .secondAnodes) (c .output) []
 
 -- each call's outcome is the one that its contract equals
 unfoldable pub outcome : List ℕ → Call → Outcome
@@ -47,6 +60,10 @@ outcome img (bitmapDiffers blocks anodes bytes) = bitmapDiffersOutcome img block
 outcome img (find blocks anodes h name) = findOutcome img blocks anodes h name
 outcome img (label blocks anodes) = labelOutcome img blocks anodes
 outcome img (report blocks anodes totals disk) = reportOutcome img blocks anodes totals disk .outcome
+outcome img (compare blocks anodes j secondBlocks secondAnodes place) = forFirst img (compareOutcome img blocks anodes j secondBlocks secondAnodes place)
+outcome img (compareAsSecond j firstBlocks firstAnodes blocks anodes place) = forSecond img (compareOutcome j firstBlocks firstAnodes img blocks anodes place)
+outcome img (differences blocks anodes j secondBlocks secondAnodes place out) = forFirst img (differencesOutcome img blocks anodes j secondBlocks secondAnodes place out)
+outcome img (differencesAsSecond j firstBlocks firstAnodes blocks anodes place out) = forSecond img (differencesOutcome j firstBlocks firstAnodes img blocks anodes place out)
 
 -- sound at the start and after every call, and no call reports damage; only the image passes from call to call
 abbrev pub SoundThroughout : List ℕ → List Call → Type 0

@@ -1,7 +1,7 @@
 -- DEMAND 3: from any accepted image, through any list of calls with any arguments, the check accepts after every call, no call reports damage, and the kinds of blocks add up to the disk's size.
 use Prim.Native.Nat.{ℕ, zero, suc}
 use mathlib.Core.Path.{_≡_, refl}
-use mathlib.Core.Logic.{inl, inr}
+use mathlib.Core.Logic.{_⊎_, inl, inr}
 use mathlib.Core.Bool.{Bool, true, false, cond, not, _||_}
 use mathlib.Core.List.{List, [], _∷_}
 use mathlib.Core.Option.{Option, none, some}
@@ -24,8 +24,10 @@ use Rattle.bitmap.specs.Bitmap.{bitmapLength}
 use Rattle.bitmap.specs.Calls.{bitmapRefusal, bitmapAnswer, bitmapOutcome, bitmapDiffersOutcome}
 use Rattle.looks.specs.Calls.{findAnswer, findOutcome, labelOutcome}
 use Rattle.looks.specs.Laws.{find-late}
-use Rattle.history.specs.History.{Call, check, summary, format, read, list, make, resize, write, remove, bitmap, bitmapDiffers, find, label, report, outcome, SoundThroughout}
+use Rattle.history.specs.History.{Call, check, summary, format, read, list, make, resize, write, remove, bitmap, bitmapDiffers, find, label, report, compare, compareAsSecond, differences, differencesAsSecond, outcome, SoundThroughout}
 use Rattle.report.specs.Report.{isFull, reported, takenOutcome, reportOutcome}
+use Rattle.differences.specs.Differences.{Difference}
+use Rattle.differences.specs.Calls.{answerFor, placeAnswer, nthDifference, refusedImage, compared, compareOutcome, differencesOutcome, answerOfImage}
 use Rattle.counting.specs.Laws.{neither}
 use Rattle.laws.specs.Tests.{if-zero, firstOf-zero}
 use Rattle.laws.specs.Moves.{Grows}
@@ -52,6 +54,23 @@ late-harmless n (inr l) d = omega (arith, l, d .1)
 steps-harmless : (n : ℕ) → StepsAnswer n → Harmless n
 steps-harmless n (inl e) d = omega (arith, e, d .0)
 steps-harmless n (inr k) d = omega (arith, step-late n k, d .1)
+
+-- what a comparison answers of an accepted image, whose check with any tables answers 0 or 2: of its first image
+harmless-first : (a b n : ℕ) → (a ≡ 0) ⊎ (a ≡ 2) → Late n → Harmless (cond (eqb (doneOr a (doneOr b 0 2) 1) 2) 0 (firstOf a (firstOf b n)))
+unfolding doneOr firstOf
+harmless-first a b n (inl e) late = rw e (second b)
+  where
+    second : (b : ℕ) → Harmless (cond (eqb (doneOr b 0 2) 2) 0 (firstOf b n))
+    second zero = late-harmless n late
+    second (suc b) = λ d. omega (arith, d .0)
+harmless-first a b n (inr e) late = rw e (λ d. omega (arith, d .0))
+
+-- and of its second
+harmless-second : (a b n : ℕ) → (b ≡ 0) ⊎ (b ≡ 2) → Late n → Harmless (cond (eqb (doneOr a (doneOr b 0 2) 1) 1) 0 (firstOf a (firstOf b n)))
+unfolding doneOr firstOf
+harmless-second zero b n (inl e) late = rw e (late-harmless n late)
+harmless-second zero b n (inr e) late = rw e (λ d. omega (arith, d .0))
+harmless-second (suc a) b n own late = λ d. omega (arith, d .0)
 
 -- what a call leaves: an accepted image, and an answer that reports no damage
 record AcceptedAfter (l : Left) : Type 0 where
@@ -116,6 +135,21 @@ module _ (img : List ℕ) (ok : checkAnswer img (diskSize img) limit ≡ 0) wher
           AcceptedAfter (left (o .outcome .answer) (o .outcome .image))
       go true = stays 31 (λ d. omega (arith, d .1))
       go false = check-kept (length blocks) (length anodes)
+
+  -- a comparison with another image, as its first or as its second: of this one it answers 0, 2 or the call's own number
+  module _ (blocks anodes j otherBlocks otherAnodes : List ℕ) (n : ℕ) (late : Late n) (numbers output : List ℕ) where
+    compared-first : AcceptedAfter (left (answerOfImage 1 (compared img blocks anodes j otherBlocks otherAnodes n numbers output)) img)
+    unfolding compared answerOfImage refusedImage
+    compared-first = stays _ (harmless-first (answerFor img blocks anodes) (answerFor j otherBlocks otherAnodes) n (any-tables img ok (length blocks) (length anodes)) late)
+
+    compared-second : AcceptedAfter (left (answerOfImage 2 (compared j otherBlocks otherAnodes img blocks anodes n numbers output)) img)
+    unfolding compared answerOfImage refusedImage
+    compared-second = stays _ (harmless-second (answerFor j otherBlocks otherAnodes) (answerFor img blocks anodes) n (any-tables img ok (length blocks) (length anodes)) late)
+
+  -- 0 or 22
+  place-late : (d : Option Difference) → Late (placeAnswer d)
+  place-late none = inr (omega arith)
+  place-late (some d) = inl refl
 
   -- format leaves the image, or a formatted one
   format-kept : (last k : ℕ) (name : List ℕ) (day minute tick protection : ℕ) → AcceptedAfter (formatOutcome img last k name day minute tick protection)
@@ -195,7 +229,7 @@ module _ (img : List ℕ) (ok : checkAnswer img (diskSize img) limit ≡ 0) wher
 
   -- every call leaves an accepted image and reports no damage
   call-kept : (c : Call) → AcceptedAfter (left (outcome img c .answer) (outcome img c .image))
-  unfolding outcome settled checkOutcome summaryOutcome readOutcome listOutcome makeOutcome resizeOutcome writeOutcome removeOutcome bitmapOutcome bitmapDiffersOutcome findOutcome labelOutcome
+  unfolding outcome settled checkOutcome summaryOutcome readOutcome listOutcome makeOutcome resizeOutcome writeOutcome removeOutcome bitmapOutcome bitmapDiffersOutcome findOutcome labelOutcome compareOutcome differencesOutcome
   call-kept (check blocks anodes) = check-kept (length blocks) (length anodes)
   call-kept (summary blocks anodes) = check-kept (length blocks) (length anodes)
   call-kept (format last k name day minute tick protection) = format-kept last k name day minute tick protection
@@ -210,6 +244,10 @@ module _ (img : List ℕ) (ok : checkAnswer img (diskSize img) limit ≡ 0) wher
   call-kept (find blocks anodes h name) = find-kept blocks anodes h name
   call-kept (label blocks anodes) = check-kept (length blocks) (length anodes)
   call-kept (report blocks anodes totals disk) = report-kept blocks anodes totals disk
+  call-kept (compare blocks anodes j secondBlocks secondAnodes place) = compared-first blocks anodes j secondBlocks secondAnodes _ (place-late (nthDifference _ place)) _ _
+  call-kept (compareAsSecond j firstBlocks firstAnodes blocks anodes place) = compared-second blocks anodes j firstBlocks firstAnodes _ (place-late (nthDifference _ place)) _ _
+  call-kept (differences blocks anodes j secondBlocks secondAnodes place out) = compared-first blocks anodes j secondBlocks secondAnodes 0 (inl refl) _ _
+  call-kept (differencesAsSecond j firstBlocks firstAnodes blocks anodes place out) = compared-second blocks anodes j firstBlocks firstAnodes 0 (inl refl) _ _
 
 sound-of : (img : List ℕ) → checkAnswer img (diskSize img) limit ≡ 0 → Sound img
 sound-of img ok = record { accepted = ok; adds-up = accepted-total (accepted-own img ok) }

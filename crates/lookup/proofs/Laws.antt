@@ -118,7 +118,7 @@ first-append name (e ∷ xs) ys =
 
 module _ (img firsts nexts : List ℕ) (k m a : ℕ) (fuel : k ≡ m + 1) (some-anode : a ≡ 0 → ⊥) where
   -- the entries of anode a's block, and those behind it
-  along : entriesAlong img firsts nexts k a ≡ entriesIn img (getD firsts a 0) ++ entriesAlong img firsts nexts m (getD nexts a 0)
+  pub along : entriesAlong img firsts nexts k a ≡ entriesIn img (getD firsts a 0) ++ entriesAlong img firsts nexts m (getD nexts a 0)
   unfolding entriesAlong
   along = gathered-step (λ x. entriesIn img (getD firsts x 0)) (λ x. getD nexts x 0) k m a fuel some-anode
 

@@ -83,7 +83,7 @@ pub fn parent_of(queue: &[u16], parents: &[u16], dirs: u16, head: AnodeNo) -> An
 }
 
 // An entry at a place of block `b`, as a lookup answers it.
-fn entry_in_image(b: BlockNo, at: usize, e: Entry) -> EntryAt
+pub fn entry_in_image(b: BlockNo, at: usize, e: Entry) -> EntryAt
     requires { ⌜ at ≤ 65535 ⌝ }
     ensures { λ r. ⌜ r ≡ placed e (b .0 * 512 + at) ⌝ }
 {

@@ -1,6 +1,6 @@
 -- The index: chains by bucket, the entry that joins, and what a search comes to. Assumes nothing.
 use mathlib.Core.Path.{_≡_, refl, sym, ap, _∙_}
-use mathlib.Core.Bool.{Bool, true, false, cond, _||_, and-false, or-false, or-true}
+use mathlib.Core.Bool.{Bool, true, false, cond, not, _||_, and-false, or-false, or-true}
 use mathlib.Core.Logic.{⊎-elim, _≢_}
 use Prim.Native.Nat.{ℕ, zero, suc, _+_, _*_, _-_, _/_, _%_, _<_, _≤_}
 use mathlib.Core.List.{List, _∷_}
@@ -10,62 +10,107 @@ use native.Mathlib.Numerals.{add-one}
 use lib.Dec.{eqb, leb}
 use lib.ListN.{length, length-set, length-replicate, getD, set, drop, replicate, drop-of-length-le}
 use lib.Seq.{drop-cons, getD-set-same, getD-set-other}
-use borrow.Author.Tests.{le-leb, lt-leb, eq-eqb, ne-eqb, eqb-false}
+use borrow.Author.Tests.{le-leb, lt-leb, eq-eqb, ne-eqb, eqb-true, eqb-false}
 use Rattle.endian.proofs.Laws.{same?, getD-zeros}
+use Rattle.tables.specs.Held.{zeroedFirst}
+use Rattle.tables.proofs.Laws.{zeroed-below}
 use Rattle.rules.specs.Counting.{anyBelow, anyIn, sameBytes}
 use Rattle.rules.specs.Folding.{fold, folded}
 use Rattle.laws.specs.Apart.{same-name}
-use Rattle.names.specs.Index.{foldedIn, nameOf, seenIn, hashFrom, hashOf, bucketOf, printOf, bucketAt, latest, isSame, Linked, Chain, Indexed, joined}
+use Rattle.names.specs.Index.{foldedIn, nameOf, seenIn, hashFrom, hashOf, bucketOf, printOf, bucketAt, lastBelow, latest, isSame, startOf, InBlock, Linked, Chain, Indexed, joined}
+
+-- ---- the last number below n that passes
+
+module _ (test : ℕ → Bool) where
+  last-hit : (n : ℕ) → test n ≡ true → lastBelow test (n + 1) ≡ n + 1
+  unfolding lastBelow
+  last-hit n e = rw (add-one n, e)
+
+  last-not : (n : ℕ) → test n ≡ false → lastBelow test (n + 1) ≡ lastBelow test n
+  unfolding lastBelow
+  last-not n e = rw (add-one n, e)
+
+  pub last-none : lastBelow test 0 ≡ 0
+  unfolding lastBelow
+  last-none = refl
+
+  pub last-le : (n : ℕ) → lastBelow test n ≤ n
+  unfolding lastBelow
+  last-le zero = omega arith
+  last-le (suc n) = go (last-le n) (test n) refl where
+    go : lastBelow test n ≤ n → (b : Bool) → test n ≡ b → cond (test n) (suc n) (lastBelow test n) ≤ suc n
+    go ih true e = rw e (omega arith)
+    go ih false e = rw e (omega arith)
+
+  -- there is one where any passes
+  pub any-last : (n : ℕ) → anyBelow test n ≡ not (eqb (lastBelow test n) 0)
+  unfolding anyBelow lastBelow
+  any-last zero = refl
+  any-last (suc n) = go (any-last n) (test n) refl where
+    go : anyBelow test n ≡ not (eqb (lastBelow test n) 0) → (b : Bool) → test n ≡ b → anyBelow test n || test n ≡ not (eqb (cond (test n) (suc n) (lastBelow test n)) 0)
+    go ih true e = rw (e, ne-eqb (suc n) 0 (omega arith)) (or-true (anyBelow test n))
+    go ih false e = rw e (or-false (anyBelow test n) ∙ ih)
+
+  -- it passes
+  last-again : (n : ℕ) → lastBelow test (lastBelow test n) ≡ lastBelow test n
+  unfolding lastBelow
+  last-again zero = refl
+  last-again (suc n) = go (last-again n) (test n) refl where
+    go : lastBelow test (lastBelow test n) ≡ lastBelow test n → (b : Bool) → test n ≡ b
+        → lastBelow test (cond (test n) (suc n) (lastBelow test n)) ≡ cond (test n) (suc n) (lastBelow test n)
+    go ih true e = rw (e, e)
+    go ih false e = rw e ih
+
+  last-of : (n : ℕ) → lastBelow test (n + 1) ≡ n + 1 → test n ≡ true
+  last-of n e = go (test n) refl where
+    go : (b : Bool) → test n ≡ b → test n ≡ true
+    go true p = p
+    go false p = absurd (let q = last-not n p in let l = last-le n in omega arith)
+
+  pub last-passes : (n j : ℕ) → lastBelow test n ≡ j + 1 → test j ≡ true
+  last-passes n j e = last-of j (rw e at (last-again n))
 
 -- ---- the last number below n of a bucket
 
 module _ (f : ℕ → ℕ) (h : ℕ) where
   latest-here : (n : ℕ) → f n ≡ h → latest f h (n + 1) ≡ n + 1
   unfolding latest
-  latest-here n e = rw (add-one n, eq-eqb (f n) h e)
+  latest-here n e = last-hit (λ j. eqb (f j) h) n (eq-eqb (f n) h e)
 
   latest-other : (n : ℕ) → f n ≢ h → latest f h (n + 1) ≡ latest f h n
   unfolding latest
-  latest-other n e = rw (add-one n, ne-eqb (f n) h e)
+  latest-other n e = last-not (λ j. eqb (f j) h) n (ne-eqb (f n) h e)
 
   latest-none : latest f h 0 ≡ 0
   unfolding latest
-  latest-none = refl
+  latest-none = last-none (λ j. eqb (f j) h)
 
   latest-le : (n : ℕ) → latest f h n ≤ n
   unfolding latest
-  latest-le zero = omega arith
-  latest-le (suc n) = go (latest-le n) (eqb (f n) h) refl where
-    go : latest f h n ≤ n → (b : Bool) → eqb (f n) h ≡ b → cond (eqb (f n) h) (suc n) (latest f h n) ≤ suc n
-    go ih true e = rw e (omega arith)
-    go ih false e = rw e (omega arith)
+  latest-le n = last-le (λ j. eqb (f j) h) n
 
   -- it is of the bucket
   latest-again : (n : ℕ) → latest f h (latest f h n) ≡ latest f h n
   unfolding latest
-  latest-again zero = refl
-  latest-again (suc n) = go (latest-again n) (eqb (f n) h) refl where
-    go : latest f h (latest f h n) ≡ latest f h n → (b : Bool) → eqb (f n) h ≡ b
-        → latest f h (cond (eqb (f n) h) (suc n) (latest f h n)) ≡ cond (eqb (f n) h) (suc n) (latest f h n)
-    go ih true e = rw (e, e)
-    go ih false e = rw e ih
+  latest-again n = last-again (λ j. eqb (f j) h) n
 
   latest-of : (n : ℕ) → latest f h (n + 1) ≡ n + 1 → f n ≡ h
-  latest-of n e = ⊎-elim (λ p. p) (λ d. absurd (let q = latest-other n d in let b = latest-le n in omega arith)) (same? (f n) h)
+  unfolding latest
+  latest-of n e = eqb-true (f n) h (last-passes (λ j. eqb (f j) h) (n + 1) n e)
 
   -- a test that only numbers of the bucket pass need not be tried behind its last
-  any-latest : (test : ℕ → Bool) → ((j : ℕ) → f j ≢ h → test j ≡ false) → (n : ℕ) → anyBelow test n ≡ anyBelow test (latest f h n)
-  unfolding latest anyBelow
-  any-latest test only zero = refl
-  any-latest test only (suc n) = go (any-latest test only n) (eqb (f n) h) refl where
-    go : anyBelow test n ≡ anyBelow test (latest f h n) → (b : Bool) → eqb (f n) h ≡ b
-        → anyBelow test n || test n ≡ anyBelow test (cond (eqb (f n) h) (suc n) (latest f h n))
+  last-latest : (test : ℕ → Bool) → ((j : ℕ) → f j ≢ h → test j ≡ false) → (n : ℕ) → lastBelow test n ≡ lastBelow test (latest f h n)
+  unfolding latest lastBelow
+  last-latest test only zero = refl
+  last-latest test only (suc n) = go (last-latest test only n) (eqb (f n) h) refl where
+    go : lastBelow test n ≡ lastBelow test (latest f h n) → (b : Bool) → eqb (f n) h ≡ b
+        → cond (test n) (suc n) (lastBelow test n) ≡ lastBelow test (cond (eqb (f n) h) (suc n) (latest f h n))
     go ih true e = rw e
-    go ih false e = rw (e, only n (eqb-false (f n) h e)) (or-false (anyBelow test n) ∙ ih)
+    go ih false e = rw (e, only n (eqb-false (f n) h e)) ih
 
 -- it goes by the numbers below n alone
 latest-same : (f g : ℕ → ℕ) (h n : ℕ) → ((j : ℕ) → j < n → f j ≡ g j) → latest f h n ≡ latest g h n
-unfolding latest
+unfolding latest lastBelow
 latest-same f g h zero e = refl
 latest-same f g h (suc n) e = rw (e n (omega arith), latest-same f g h n (λ j k. e j (omega arith)))
 
@@ -100,35 +145,35 @@ module _ (img index : List ℕ) (from : ℕ) (name : List ℕ) where
   same-bucket j n = rw (other-name name (nameOf img index j) (λ e. n (ap bucketOf (sym e)))) (and-false (leb from j))
 
   -- entries before `from` are passed over
-  pub same-early : (n : ℕ) → n ≤ from → anyBelow (isSame img index from name) n ≡ false
-  unfolding anyBelow isSame
+  pub same-early : (n : ℕ) → n ≤ from → lastBelow (isSame img index from name) n ≡ 0
+  unfolding lastBelow isSame
   same-early zero h = refl
-  same-early (suc n) h = rw (same-early n (omega arith), lt-leb from n (omega arith))
+  same-early (suc n) h = rw (lt-leb from n (omega arith)) (same-early n (omega arith))
 
   -- the chain's first entry has the name
-  pub same-hit : (x j : ℕ) → x ≡ j + 1 → from < x → sameBytes name (nameOf img index j) ≡ true → anyBelow (isSame img index from name) x ≡ true
-  unfolding anyBelow isSame
-  same-hit x j p h e = rw (p, add-one j, le-leb from j (omega arith), e) (or-true (anyBelow (isSame img index from name) j))
+  pub same-hit : (x j : ℕ) → x ≡ j + 1 → from < x → sameBytes name (nameOf img index j) ≡ true → lastBelow (isSame img index from name) x ≡ x
+  unfolding isSame
+  same-hit x j p h e = rw p (last-hit (isSame img index from name) j (rw (le-leb from j (omega arith)) e))
 
-  same-not : (j : ℕ) → sameBytes name (nameOf img index j) ≡ false → anyBelow (isSame img index from name) (j + 1) ≡ anyBelow (isSame img index from name) j
-  unfolding anyBelow isSame
-  same-not j e = rw (add-one j, e, and-false (leb from j)) (or-false (anyBelow (isSame img index from name) j))
+  same-not : (j : ℕ) → sameBytes name (nameOf img index j) ≡ false → lastBelow (isSame img index from name) (j + 1) ≡ lastBelow (isSame img index from name) j
+  unfolding isSame
+  same-not j e = last-not (isSame img index from name) j (rw e (and-false (leb from j)))
 
   -- it has not: what is left is the chain behind it
   pub same-next : (x j : ℕ) → x ≡ j + 1 → Chain img index (bucketOf name) x → sameBytes name (nameOf img index j) ≡ false
-      → anyBelow (isSame img index from name) (getD index (4096 + j) 0) ≡ anyBelow (isSame img index from name) x
+      → lastBelow (isSame img index from name) (getD index (4096 + j) 0) ≡ lastBelow (isSame img index from name) x
   same-next x j p b e =
       let own = latest-of (bucketAt img index) (bucketOf name) j (rw p at (b .starts)) in
-      rw (b .linked .links j (omega arith), own, ← any-latest (bucketAt img index) (bucketOf name) (isSame img index from name) same-bucket j, p) (sym (same-not j e))
+      rw (b .linked .links j (omega arith), own, ← last-latest (bucketAt img index) (bucketOf name) (isSame img index from name) same-bucket j, p) (sym (same-not j e))
 
-  -- a search by number finds what one among the names finds
-  pub same-list : (k : ℕ) → anyBelow (isSame img index from name) (from + k) ≡ anyIn (sameBytes name) (seenIn img index from k)
+  -- a search by number finds one where a search among the names does
+  pub same-list : (k : ℕ) → not (eqb (lastBelow (isSame img index from name) (from + k)) 0) ≡ anyIn (sameBytes name) (seenIn img index from k)
   unfolding anyIn seenIn
-  same-list zero = same-early (from + 0) (omega arith)
+  same-list zero = rw (same-early (from + 0) (omega arith))
   same-list (suc k) = more (same-list k) (sameBytes name (nameOf img index (from + k))) refl where
-    more : anyBelow (isSame img index from name) (from + k) ≡ anyIn (sameBytes name) (seenIn img index from k) → (b : Bool) → sameBytes name (nameOf img index (from + k)) ≡ b
-        → anyBelow (isSame img index from name) (from + suc k) ≡ sameBytes name (nameOf img index (from + k)) || anyIn (sameBytes name) (seenIn img index from k)
-    more ih true e = same-hit (from + suc k) (from + k) (omega arith) (omega arith) e ∙ sym (rw e)
+    more : not (eqb (lastBelow (isSame img index from name) (from + k)) 0) ≡ anyIn (sameBytes name) (seenIn img index from k) → (b : Bool) → sameBytes name (nameOf img index (from + k)) ≡ b
+        → not (eqb (lastBelow (isSame img index from name) (from + suc k)) 0) ≡ sameBytes name (nameOf img index (from + k)) || anyIn (sameBytes name) (seenIn img index from k)
+    more ih true e = rw (same-hit (from + suc k) (from + k) (omega arith) (omega arith) e, ne-eqb (from + suc k) 0 (omega arith), e)
     more ih false e =
         let p : from + suc k ≡ from + k + 1 = omega arith in
         rw (p, same-not (from + k) e, e) ih
@@ -149,13 +194,20 @@ chain-next img index h x j p b =
 -- ---- the index
 
 -- with no entry, where every bucket is empty
-pub indexed-none : (img : List ℕ) → Indexed img (replicate 17872 0) 0
-indexed-none img = record {
-  whole = length-replicate {A = ℕ} 17872 0;
+indexed-empty : (img index : List ℕ) → length index ≡ 17872 → ((h : ℕ) → h < 4096 → getD index h 0 ≡ 0) → Indexed img index 0
+indexed-empty img index whole empty = record {
+  whole = whole;
   few = omega arith;
   linked = record { prints = λ j k. absurd (not-suc-le-zero k); links = λ j k. absurd (not-suc-le-zero k) };
-  last = λ h k. getD-zeros 17872 h ∙ sym (latest-none (bucketAt img (replicate 17872 0)) h);
+  last = λ h k. empty h k ∙ sym (latest-none (bucketAt img index) h);
 }
+
+pub indexed-none : (img : List ℕ) → Indexed img (replicate 17872 0) 0
+indexed-none img = indexed-empty img (replicate 17872 0) (length-replicate {A = ℕ} 17872 0) (λ h k. getD-zeros 17872 h)
+
+-- begun anew: its buckets are zeroed
+pub indexed-anew : (img old index : List ℕ) → index ≡ zeroedFirst 4096 old → length index ≡ 17872 → Indexed img index 0
+indexed-anew img old index is whole = indexed-empty img index whole (zeroed-below 4096 old index is)
 
 module _ (img index : List ℕ) (n : ℕ) (t : Indexed img index n) where
   -- the chain of a bucket
@@ -169,12 +221,16 @@ module _ (img index : List ℕ) (n : ℕ) (t : Indexed img index n) where
       record { few = omega arith; linked = linked-fewer img index n (getD index h 0) l (t .linked); starts = rw e (latest-again f h n) }
 
   -- the chain of a name's bucket has all entries with that name
-  pub indexed-all : (from : ℕ) (name : List ℕ) → bucketOf name < 4096 → from ≤ n
-      → anyBelow (isSame img index from name) (getD index (bucketOf name) 0) ≡ anyIn (sameBytes name) (seenIn img index from (n - from))
-  indexed-all from name k l =
-      let e : from + (n - from) ≡ n = omega arith in
-      let s : anyBelow (isSame img index from name) n ≡ anyIn (sameBytes name) (seenIn img index from (n - from)) = rw e at (same-list img index from name (n - from)) in
-      rw (t .last (bucketOf name) k) (sym (any-latest (bucketAt img index) (bucketOf name) (isSame img index from name) (same-bucket img index from name) n) ∙ s)
+  pub indexed-last : (from : ℕ) (name : List ℕ) → bucketOf name < 4096
+      → lastBelow (isSame img index from name) (getD index (bucketOf name) 0) ≡ lastBelow (isSame img index from name) n
+  indexed-last from name k = rw (t .last (bucketOf name) k) (sym (last-latest (bucketAt img index) (bucketOf name) (isSame img index from name) (same-bucket img index from name) n))
+
+-- among the names seen is one that a search by number finds
+pub same-seen : (img index : List ℕ) (from : ℕ) (name : List ℕ) (n : ℕ) → from ≤ n
+    → not (eqb (lastBelow (isSame img index from name) n) 0) ≡ anyIn (sameBytes name) (seenIn img index from (n - from))
+same-seen img index from name n l =
+    let e : from + (n - from) ≡ n = omega arith in
+    rw e at (same-list img index from name (n - from))
 
 -- ---- one entry more
 
@@ -251,6 +307,23 @@ module _ (index : List ℕ) (h i first print b at : ℕ) (room : i < 3444) (low 
       ∙ getD-set-other one (14428 + i) k at 0 e
       ∙ getD-set-other index (10984 + i) k b 0 f
 
+  -- its start
+  pub start-more : startOf (joined index h i first print b at) i ≡ b * 512 + at
+  unfolding startOf
+  start-more = rw (joined-block, joined-place)
+
+  -- and those of the others
+  pub start-kept : (j : ℕ) → j < i → startOf (joined index h i first print b at) j ≡ startOf index j
+  unfolding startOf
+  start-kept j l = rw (joined-other (10984 + j) (omega arith) (omega arith) (omega arith) (omega arith) (omega arith), joined-other (14428 + j) (omega arith) (omega arith) (omega arith) (omega arith) (omega arith))
+
+  -- all begin within their blocks where the others do
+  pub within-more : at < 512 → (j : ℕ) → j ≤ i → (j < i → InBlock index j) → InBlock (joined index h i first print b at) j
+  within-more place j l others = ⊎-elim
+      (λ (e : j ≡ i). rw (e, joined-place) place)
+      (λ d. rw (joined-other (14428 + j) (omega arith) (omega arith) (omega arith) (omega arith) (omega arith)) (others (omega arith)))
+      (same? j i)
+
   module _ (img : List ℕ) where
     name-more : nameOf img (joined index h i first print b at) i ≡ foldedIn img b at
     unfolding nameOf
@@ -311,34 +384,39 @@ module _ (index : List ℕ) (h i first print b at : ℕ) (room : i < 3444) (low 
         last = last-more;
       }
 
--- ---- the step: the entry at a place of block b, whose name has this hash, is looked for, and joins as entry i
+-- ---- the steps: a name that has this hash is looked for; the entry with that name at a place of block b joins as entry i
 
-module _ (img index : List ℕ) (i b at : ℕ) (name : List ℕ) (hash : ℕ) (t : Indexed img index i) (is : folded name ≡ foldedIn img b at) (own : hash ≡ hashOf (folded name)) where
+module _ (img index : List ℕ) (i : ℕ) (name : List ℕ) (hash : ℕ) (t : Indexed img index i) (own : hash ≡ hashOf name) where
   step-low : hash % 4096 < 4096
   step-low = omega arith
 
-  step-bucket : hash % 4096 ≡ bucketOf (folded name)
+  step-bucket : hash % 4096 ≡ bucketOf name
   unfolding bucketOf
   step-bucket = rw own
 
-  pub step-print : hash / 4096 ≡ printOf (folded name)
+  pub step-print : hash / 4096 ≡ printOf name
   unfolding printOf
   step-print = rw own
 
-  pub step-chain : Chain img index (bucketOf (folded name)) (getD index (hash % 4096) 0)
+  pub step-chain : Chain img index (bucketOf name) (getD index (hash % 4096) 0)
   step-chain = rw (← step-bucket) (indexed-chain img index i t (hash % 4096) step-low)
 
-  pub step-found : (from : ℕ) (found : Bool) → from ≤ i → found ≡ anyBelow (isSame img index from (folded name)) (getD index (hash % 4096) 0)
-      → found ≡ anyIn (sameBytes (foldedIn img b at)) (seenIn img index from (i - from))
-  step-found from found l e =
-      e
-      ∙ ap (λ (g : ℕ). anyBelow (isSame img index from (folded name)) (getD index g 0)) step-bucket
-      ∙ indexed-all img index i t from (folded name) (rw step-bucket at step-low) l
-      ∙ ap (λ (n : List ℕ). anyIn (sameBytes n) (seenIn img index from (i - from))) is
+  pub step-last : (from : ℕ) → lastBelow (isSame img index from name) (getD index (hash % 4096) 0) ≡ lastBelow (isSame img index from name) i
+  step-last from = ap (λ (g : ℕ). lastBelow (isSame img index from name) (getD index g 0)) step-bucket ∙ indexed-last img index i t from name (rw step-bucket at step-low)
 
-  pub step-joins : i < 3444 → Indexed img (joined index (hash % 4096) i (getD index (hash % 4096) 0) (hash / 4096) b at) (i + 1)
-  step-joins room = indexed-more index (hash % 4096) i (getD index (hash % 4096) 0) (hash / 4096) b at room step-low (t .whole) img t (step-bucket ∙ ap bucketOf is) (step-print ∙ ap printOf is) refl
+  module _ (b at : ℕ) (is : name ≡ foldedIn img b at) (room : i < 3444) where
+    pub step-joins : Indexed img (joined index (hash % 4096) i (getD index (hash % 4096) 0) (hash / 4096) b at) (i + 1)
+    step-joins = indexed-more index (hash % 4096) i (getD index (hash % 4096) 0) (hash / 4096) b at room step-low (t .whole) img t (step-bucket ∙ ap bucketOf is) (step-print ∙ ap printOf is) refl
 
-  pub step-seen : (from : ℕ) → i < 3444 → from ≤ i
-      → seenIn img (joined index (hash % 4096) i (getD index (hash % 4096) 0) (hash / 4096) b at) from (i + 1 - from) ≡ foldedIn img b at ∷ seenIn img index from (i - from)
-  step-seen from room l = seen-more index (hash % 4096) i (getD index (hash % 4096) 0) (hash / 4096) b at room step-low (t .whole) img from l
+    pub step-seen : (from : ℕ) → from ≤ i
+        → seenIn img (joined index (hash % 4096) i (getD index (hash % 4096) 0) (hash / 4096) b at) from (i + 1 - from) ≡ foldedIn img b at ∷ seenIn img index from (i - from)
+    step-seen from l = seen-more index (hash % 4096) i (getD index (hash % 4096) 0) (hash / 4096) b at room step-low (t .whole) img from l
+
+    pub step-start : startOf (joined index (hash % 4096) i (getD index (hash % 4096) 0) (hash / 4096) b at) i ≡ b * 512 + at
+    step-start = start-more index (hash % 4096) i (getD index (hash % 4096) 0) (hash / 4096) b at room step-low (t .whole)
+
+    pub step-others : (k : ℕ) → k < i → startOf (joined index (hash % 4096) i (getD index (hash % 4096) 0) (hash / 4096) b at) k ≡ startOf index k
+    step-others k l = start-kept index (hash % 4096) i (getD index (hash % 4096) 0) (hash / 4096) b at room step-low (t .whole) k l
+
+    pub step-within : at < 512 → (k : ℕ) → k ≤ i → (k < i → InBlock index k) → InBlock (joined index (hash % 4096) i (getD index (hash % 4096) 0) (hash / 4096) b at) k
+    step-within place k l others = within-more index (hash % 4096) i (getD index (hash % 4096) 0) (hash / 4096) b at room step-low (t .whole) place k l others

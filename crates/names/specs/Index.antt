@@ -45,14 +45,26 @@ printOf name = hashOf name / 4096
 unfoldable pub bucketAt : List ℕ → List ℕ → ℕ → ℕ
 bucketAt img index j = bucketOf (nameOf img index j)
 
+-- one more than the last number below a bound that passes; 0 if none does
+unfoldable pub lastBelow : (ℕ → Bool) → ℕ → ℕ
+lastBelow test zero = 0
+lastBelow test (suc n) = cond (test n) (suc n) (lastBelow test n)
+
 -- one more than the last number below n that f sends to h; 0 if there is none
 unfoldable pub latest : (ℕ → ℕ) → ℕ → ℕ → ℕ
-latest f h zero = 0
-latest f h (suc n) = cond (eqb (f n) h) (suc n) (latest f h n)
+latest f h n = lastBelow (λ j. eqb (f j) h) n
 
 -- entry j is one from `from` on, and has that folded name
 unfoldable pub isSame : List ℕ → List ℕ → ℕ → List ℕ → ℕ → Bool
 isSame img index from name j = leb from j && sameBytes name (nameOf img index j)
+
+-- the place in the image of the first byte of entry k
+unfoldable pub startOf : List ℕ → ℕ → ℕ
+startOf index k = getD index (10984 + k) 0 * 512 + getD index (14428 + k) 0
+
+-- entry k begins within its block
+abbrev pub InBlock : List ℕ → ℕ → Type 0
+InBlock index k = getD index (14428 + k) 0 < 512
 
 -- each of the first n entries has the rest of its hash and is linked to the one before it in its bucket
 pub record Linked (img index : List ℕ) (n : ℕ) : Type 0 where

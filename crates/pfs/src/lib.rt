@@ -6,6 +6,7 @@ ghost use Rattle.rules.specs.Calls.{outcomeOf, checkOutcome, summaryOutcome, fo
 ghost use Rattle.bitmap.specs.Calls.{bitmapOutcome, bitmapDiffersOutcome};
 ghost use Rattle.looks.specs.Calls.{findOutcome, labelOutcome};
 ghost use Rattle.report.specs.Report.{reported, reportOutcome};
+ghost use Rattle.differences.specs.Calls.{comparedOf, compareOutcome, differencesOutcome};
 ghost use Rattle.settings.specs.Conversions.{conversionOf, widenOutcome, narrowOutcome};
 ghost use Rattle.pfs.specs.Listed.{nameGiven};
 
@@ -249,4 +250,58 @@ pub extern "C" fn pfs_narrow(file: &[u8], out: &mut [u8], fields: &mut [u32; 2])
     ensures { λ r. ⌜ conversionOf r (now (out .exit)) (now (fields .exit)) ≡ narrowOutcome (now (file .entry)) (now (out .entry)) ⌝ }
 {
     settings::narrow(file, out, fields)
+}
+
+// Compares two images: the difference at a place from 0, or 22 past the last; the second is checked only after the first is accepted.
+#[no_mangle]
+pub extern "C" fn pfs_compare(
+    image: &[u8],
+    blocks: &mut [u16],
+    anodes: &mut [u16],
+    other: &[u8],
+    other_blocks: &mut [u16],
+    other_anodes: &mut [u16],
+    place: u64,
+    fields: &mut [u32; 7],
+) -> u32
+    ensures { λ r. ⌜ comparedOf r (now (fields .exit)) [] (now (blocks .exit)) (now (anodes .exit)) (now («other_blocks» .exit)) (now («other_anodes» .exit)) ≡ compareOutcome (now (image .entry)) (now (blocks .entry)) (now (anodes .entry)) (now (other .entry)) (now («other_blocks» .entry)) (now («other_anodes» .entry)) place ⌝ }
+{
+    compare_calls::compare(
+        image,
+        blocks,
+        anodes,
+        other,
+        other_blocks,
+        other_anodes,
+        place,
+        fields,
+    )
+}
+
+// Compares two images: as many differences from a place on as the buffer holds, six numbers for each; a refusal leaves the buffer.
+#[no_mangle]
+pub extern "C" fn pfs_differences(
+    image: &[u8],
+    blocks: &mut [u16],
+    anodes: &mut [u16],
+    other: &[u8],
+    other_blocks: &mut [u16],
+    other_anodes: &mut [u16],
+    place: u64,
+    out: &mut [u32],
+    fields: &mut [u32; 2],
+) -> u32
+    ensures { λ r. ⌜ comparedOf r (now (fields .exit)) (now (out .exit)) (now (blocks .exit)) (now (anodes .exit)) (now («other_blocks» .exit)) (now («other_anodes» .exit)) ≡ differencesOutcome (now (image .entry)) (now (blocks .entry)) (now (anodes .entry)) (now (other .entry)) (now («other_blocks» .entry)) (now («other_anodes» .entry)) place (now (out .entry)) ⌝ }
+{
+    compare_calls::differences(
+        image,
+        blocks,
+        anodes,
+        other,
+        other_blocks,
+        other_anodes,
+        place,
+        out,
+        fields,
+    )
 }

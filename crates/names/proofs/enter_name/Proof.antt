@@ -1,15 +1,13 @@
-use mathlib.Core.Path.{_≡_, ap}
 use Rattle.rules.specs.Folding.{folded}
-use Rattle.names.specs.Index.{foldedIn}
-use Rattle.names.proofs.Laws.{step-print, step-chain, step-found, step-joins, step-seen}
+use Rattle.names.specs.Index.{foldedIn, seenIn}
+use Rattle.rules.specs.Counting.{anyIn, sameBytes}
+use mathlib.Core.List.{List}
+use Prim.Native.Nat.{ℕ, _-_}
+use Rattle.names.proofs.Laws.{same-seen, step-joins, step-seen}
+use mathlib.Core.Path.{ap, _∙_}
 use borrow.Author.Needs.{needs}
 use Rattle.names.proofs.enter_name.Statement.{statement}
 use Rattle.names.proofs.enter_name.Tie as tie
-
--- its folded name
-named : (c : tie.After-name-at) → let g = c .before .before .before .args in folded (c .name-at .result .now) ≡ foldedIn (g .image .now) (g .b .0) (g .at)
-unfolding foldedIn
-named c = ap folded (c .name-at .ensures)
 
 cast-place : tie.Need-cast-place
 cast-place c = search needs
@@ -20,17 +18,8 @@ name-at-requires c κs = search needs
 hash-requires : tie.Need-hash-requires
 hash-requires c κs = search needs
 
-cast-print : tie.Need-cast-print
-cast-print c = search needs
-
-entry-requires : tie.Need-entry-requires
-entry-requires c κs = search needs
-
-same-in-chain-requires : tie.Need-same-in-chain-requires
-same-in-chain-requires c κs =
-    let g = c .before .before .before .before .before .before .before .args in
-    let s = named (c .before .before .before .before) in
-    rw (c .before .entry .ensures) (step-chain _ _ (g .i) (g .b .0) (g .at) _ _ (c .before .before .before .before .before .before .before .pre .0) s (c .before .before .before .hash .ensures .0), step-print _ _ (g .i) (g .b .0) (g .at) _ _ (c .before .before .before .before .before .before .before .pre .0) s (c .before .before .before .hash .ensures .0))
+last-named-requires : tie.Need-last-named-requires
+last-named-requires c κs = search needs
 
 join-requires : tie.Need-join-requires
 join-requires c κs = search needs
@@ -39,13 +28,13 @@ same-length : tie.Need-same-length
 same-length c = search needs
 
 returns : tie.Need-returns
+unfolding foldedIn
 returns c =
-    let g = c .before .before .before .before .before .before .before .before .before .before .before .before .args in
-    let p = c .before .before .before .before .before .before .before .before .before .before .before .before .pre in
-    let s = named (c .before .before .before .before .before .before .before .before .before) in
-    let h = c .before .before .before .before .before .before .before .before .hash .ensures .0 in
-    rw (c .before .before .join .ensures, c .before .before .before .before .before .before .entry .ensures)
-    (step-found _ _ (g .i) (g .b .0) (g .at) _ _ (p .0) s h (g .from) _ (p .2) (rw (c .before .before .before .before .before .before .entry .ensures) at (c .before .before .before .before .same-in-chain .ensures)), (step-joins _ _ (g .i) (g .b .0) (g .at) _ _ (p .0) s h (p .1), step-seen _ _ (g .i) (g .b .0) (g .at) _ _ (p .0) s h (g .from) (p .1) (p .2)))
+    let g = c .before .before .before .before .before .before .before .before .before .before .args in
+    let p = c .before .before .before .before .before .before .before .before .before .before .pre in
+    let s = ap folded (c .before .before .before .before .before .before .before .name-at .ensures) in
+    let h = c .before .before .before .before .before .before .hash .ensures .0 in
+    rw (c .before .before .join .ensures) (rw (c .before .before .before .before .last-named .ensures) (same-seen (g .image .now) (g .index .now) (g .from) _ (g .i) (p .2)) ∙ ap (λ (n : List ℕ). anyIn (sameBytes n) (seenIn (g .image .now) (g .index .now) (g .from) (g .i - g .from))) s, (step-joins _ _ (g .i) _ _ (p .0) h (g .b .0) (g .at) s (p .1), step-seen _ _ (g .i) _ _ (p .0) h (g .b .0) (g .at) s (p .1) (g .from) (p .2)))
 
 pub enter-name-spec : {M : Type 1} → statement M
 enter-name-spec =
@@ -54,9 +43,7 @@ enter-name-spec =
     cast-place
     name-at-requires
     hash-requires
-    cast-print
-    entry-requires
-    same-in-chain-requires
+    last-named-requires
     join-requires
     same-length
     returns)

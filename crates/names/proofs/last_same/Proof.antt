@@ -1,16 +1,15 @@
 use mathlib.Core.Path.{_≡_, sym, _∙_}
 use Prim.Native.Nat.{_-_}
 use native.Mathlib.Omega.{arith}
-use Rattle.rules.specs.Counting.{anyBelow}
 use Rattle.rules.specs.Folding.{folded}
-use Rattle.names.specs.Index.{isSame, bucketOf, Chain}
+use Rattle.names.specs.Index.{lastBelow, isSame, bucketOf, Chain}
 use Rattle.names.proofs.Laws.{same-early, same-hit, same-next, chain-next}
 use borrow.Author.Needs.{needs}
-use Rattle.names.proofs.same_in_chain.Statement.{statement}
-use Rattle.names.proofs.same_in_chain.Tie as tie
+use Rattle.names.proofs.last_same.Statement.{statement}
+use Rattle.names.proofs.last_same.Tie as tie
 
 abbrev Inv-loop : tie.InvT-loop
-Inv-loop image index name print from first x₀ x = Chain image index (bucketOf (folded name)) x × (anyBelow (isSame image index from (folded name)) x ≡ anyBelow (isSame image index from (folded name)) first)
+Inv-loop image index name print from first x₀ x = Chain image index (bucketOf (folded name)) x × (lastBelow (isSame image index from (folded name)) x ≡ lastBelow (isSame image index from (folded name)) first)
 
 abbrev μ-loop : tie.MeasureT-loop
 μ-loop image index name print from first x₀ x = x
@@ -26,6 +25,9 @@ same-at-requires c κs =
     let l = c .before .loop in
     let few = l .inv .0 .few in
     (l .inv .0 .linked .prints (l .x - 1) (omega arith), c .before .before .before .before .before .pre .1, omega arith)
+
+cast-result : tie.Need-cast-result Inv-loop μ-loop
+cast-result c = let few = c .before .before .before .loop .inv .0 .few in omega arith
 
 returns : tie.Need-returns Inv-loop μ-loop
 returns c =
@@ -55,8 +57,8 @@ loop-again c =
 returns-2 : tie.Need-returns-2 Inv-loop μ-loop
 returns-2 c = sym (same-early _ _ _ _ _ (omega arith)) ∙ c .before .loop .inv .1
 
-pub same-in-chain-spec : {M : Type 1} → statement M
-same-in-chain-spec =
+pub last-same-spec : {M : Type 1} → statement M
+last-same-spec =
     tie.close
     (tie.spec
     Inv-loop
@@ -64,6 +66,7 @@ same-in-chain-spec =
     loop-holds
     sub-j
     same-at-requires
+    cast-result
     returns
     add-entry
     entry-requires

@@ -1,0 +1,3 @@
+-- Laws of the comparison, and of places in a chain.
+pub mod Comparing
+pub mod Places

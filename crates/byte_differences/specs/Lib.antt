@@ -1,0 +1,3 @@
+-- The bytes in which two files differ.
+pub mod Differing
+pub mod BytesCompared

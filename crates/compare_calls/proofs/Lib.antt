@@ -1,0 +1,2 @@
+-- Laws of the outcomes of the two calls that compare.
+pub mod Outcomes

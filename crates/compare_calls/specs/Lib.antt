@@ -1,0 +1,2 @@
+-- A comparison whose first image is accepted.
+pub mod Second

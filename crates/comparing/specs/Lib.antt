@@ -1,0 +1,2 @@
+-- What a comparison goes over.
+pub mod Walked

@@ -1,0 +1,2 @@
+-- The entries of a directory in the index.
+pub mod Spans

@@ -1,0 +1,1 @@
+// Laws alone: what the list of differences says of two trees.

@@ -1,0 +1,2 @@
+-- Laws of bytes compared and of the fields that differ.
+pub mod Laws

@@ -1,0 +1,3 @@
+-- Laws of two entries of one path.
+pub mod Laws
+pub mod ReadableIn

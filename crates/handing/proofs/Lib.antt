@@ -1,0 +1,2 @@
+-- Laws of a buffer's room and of six numbers stored in it.
+pub mod Laws

@@ -1,0 +1,3 @@
+-- Differences as they are handingWith out into a lent buffer.
+pub mod Differs
+pub mod HandLaws

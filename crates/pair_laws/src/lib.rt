@@ -1,0 +1,1 @@
+// Laws alone: the differences worked out directory by directory are those of the paths.

@@ -1,0 +1,1 @@
+// Definitions and laws alone: the tree of an image, by paths.

@@ -1,0 +1,2 @@
+-- What is handingWith out along entries, one after the other.
+pub mod Along
