@@ -34,6 +34,7 @@
  *    32 KiB  pfs_format, pfs_widen, pfs_narrow
  *    96 KiB  pfs_check, pfs_summary, pfs_read, pfs_list, pfs_find, pfs_label, pfs_write, pfs_bitmap, pfs_bitmap_differs, pfs_report
  *   128 KiB  pfs_make, pfs_resize, pfs_remove
+ *   192 KiB  pfs_compare, pfs_differences
  *
  * The numbers, in the order in which they are tried
  *
@@ -77,7 +78,8 @@
  *   51  seconds that two bytes cannot hold
  *   52  the output buffer is too short
  *
- * Every call that is lent tables may answer 1 to 17; what else it may answer stands with it.
+ * Every call that is lent tables may answer 1 to 17; what else it may answer stands with it. The two calls that compare are
+ * lent two images, each with its own tables, and say which of the two was refused.
  */
 #ifndef PFS_H
 #define PFS_H
@@ -162,6 +164,36 @@ enum pfs_label_field {
 };
 
 enum pfs_bitmap_field { PFS_BITMAP_DIFFERS, PFS_BITMAP_PLACE, PFS_BITMAP_FIELDS };
+
+/* Of pfs_compare. */
+enum pfs_compare_field {
+    PFS_COMPARE_REFUSED,
+    PFS_COMPARE_KIND,
+    PFS_COMPARE_FIRST,
+    PFS_COMPARE_SECOND,
+    PFS_COMPARE_DIFFERING,
+    PFS_COMPARE_BYTE,
+    PFS_COMPARE_BYTES,
+    PFS_COMPARE_FIELDS
+};
+
+enum pfs_differences_field { PFS_DIFFERENCES_REFUSED, PFS_DIFFERENCES_COUNT, PFS_DIFFERENCES_FIELDS };
+
+/* Kinds of differences. */
+enum pfs_kind { PFS_ONLY_FIRST = 1, PFS_ONLY_SECOND = 2, PFS_BOTH = 3 };
+
+/* What can differ in an entry that both have; the numbers are added up. */
+enum pfs_differing {
+    PFS_DIFFERING_TYPE = 1,
+    PFS_DIFFERING_NAME = 2,
+    PFS_DIFFERING_COMMENT = 4,
+    PFS_DIFFERING_STAMPS = 8,
+    PFS_DIFFERING_PROTECTION = 16,
+    PFS_DIFFERING_SIZE = 32
+};
+
+/* The numbers of a difference in the buffer of pfs_differences: fields 1 to 6 of pfs_compare. */
+#define PFS_DIFFERENCE 6
 
 /* Of pfs_widen and pfs_narrow. */
 enum pfs_settings_field { PFS_SETTINGS_BYTES, PFS_SETTINGS_KEY, PFS_SETTINGS_FIELDS };
@@ -370,6 +402,50 @@ uint32_t pfs_bitmap_differs(const uint8_t *image, size_t image_len, uint16_t *bl
  * order they give the same totals. */
 uint32_t pfs_report(const uint8_t *image, size_t image_len, uint16_t *blocks, size_t blocks_len, uint16_t *anodes,
                     size_t anodes_len, uint64_t totals[24], uint64_t disk[5]);
+
+/* How two disks differ. Both calls are lent two images, each with its own tables. The first is checked, and only if it is
+ * accepted the second; else the second's tables stay as they came. Neither image changes.
+ *
+ * Entries are matched by their paths, where the capitals A to Z are the same as small letters. An entry is in the list of
+ * differences if only one of the disks has it, or if both have it and a field or a byte differs. First come the entries of
+ * the first disk, directories breadth first from the root and entries in the order of their blocks; then those that only the
+ * second has, in its own such order. A directory that one disk lacks is listed with everything below it. A path that is a
+ * file here and a directory there is one difference with the type, without size and bytes; what lies below is in one disk
+ * only.
+ *
+ * The list is empty exactly if both disks hold the same tree with the same fields and bytes. Not compared are the disk's name
+ * and other root fields, its size, where things lie and their anodes, the order within a directory, bytes behind a file's
+ * size, the size field of a directory, and pad bytes. */
+
+/* The difference at a place of the list, from 0. In fields:
+ *
+ *    0 the image that was refused: 1, 2, or 0 for neither
+ *    1 1 only in the first, 2 only in the second, 3 in both
+ *    2 the byte of the first image where its entry begins, which is 16 before its name; 0 if it has none
+ *    3 the same of the second image
+ *    4 what differs, added up: 1 type, 2 name bytes, 4 comment, 8 stamps, 16 protection, 32 size (if both are files)
+ *    5 of two files, the first byte that differs, from 0; past the end of the shorter one every byte does
+ *    6 of two files, how many bytes differ; 5 is 0 where this is
+ *
+ * All seven are written by every call, 0 where they have no meaning. Answers what the check answers of the image that is
+ * refused; else 22 past the last difference. */
+uint32_t pfs_compare(const uint8_t *image, size_t image_len, uint16_t *blocks, size_t blocks_len, uint16_t *anodes,
+                     size_t anodes_len, const uint8_t *second_image, size_t second_image_len, uint16_t *second_blocks,
+                     size_t second_blocks_len, uint16_t *second_anodes, size_t second_anodes_len, uint64_t place,
+                     uint32_t fields[7]);
+
+/* The differences from a place of the list on, as many as out has room for, so that each image is checked once and not for
+ * each of them. Each has six numbers, those of fields 1 to 6 of pfs_compare; only whole ones are put there. In fields:
+ *
+ *    0 the image that was refused: 1, 2, or 0 for neither
+ *    1 how many differences were put into out: fewer than it has room for if these were the last
+ *
+ * Two disks have at most 6,876 differences. A refusal leaves out as it was, and what lies behind the differences always stays.
+ * Answers what the check answers of the image that is refused, else 0. */
+uint32_t pfs_differences(const uint8_t *image, size_t image_len, uint16_t *blocks, size_t blocks_len, uint16_t *anodes,
+                         size_t anodes_len, const uint8_t *second_image, size_t second_image_len, uint16_t *second_blocks,
+                         size_t second_blocks_len, uint16_t *second_anodes, size_t second_anodes_len, uint64_t place,
+                         uint32_t *out, size_t out_len, uint32_t fields[2]);
 
 /* Settings files. They stand outside any disk: these two calls are lent the file's bytes, and neither image nor tables.
  *

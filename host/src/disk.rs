@@ -3,7 +3,7 @@
 use std::marker::PhantomData;
 
 use crate::bitmap;
-use crate::calls::{run, tables, Call, Library, Output, Stamp, BLOCK, DIRECTORY, FILE, ROOT};
+use crate::calls::{run, tables, Call, Lent, Library, Output, Stamp, BLOCK, DIRECTORY, FILE, ROOT};
 pub use crate::refusals::Error;
 use crate::report::{Figures, Report};
 
@@ -168,6 +168,9 @@ impl Owner {
     }
 }
 
+/// The bytes of an entry before its name.
+const BEFORE_NAME: u32 = 16;
+
 /// An entry of a directory.
 #[derive(Clone, Debug, PartialEq, Eq)]
 pub struct Entry {
@@ -220,6 +223,11 @@ impl<L: Library> Disk<L> {
         Error::of(outcome.answer).map(|()| outcome.output)
     }
 
+    /// The image and both tables, for a call that is lent more than one disk.
+    pub(crate) fn lent(&mut self) -> Lent<'_> {
+        Lent { image: &mut self.image, blocks: &mut self.blocks, anodes: &mut self.anodes }
+    }
+
     /// Free space as the hard disk edition's bitmap.
     pub fn bitmap(&mut self) -> Result<Vec<u8>, Error> {
         let length = bitmap::length(self.image.len() / BLOCK, self.label()?.last_reserved);
@@ -259,8 +267,13 @@ impl<L: Library> Disk<L> {
 
     /// The entry at a place of a directory, from 0.
     pub fn entry(&mut self, directory: u16, place: u64) -> Result<Entry, Error> {
-        let output = self.call(&Call::List { directory, place })?;
-        Ok(Entry::of(&self.image, &output.entry))
+        self.placed_entry(directory, place).map(|placed| placed.1)
+    }
+
+    /// The same, behind the byte of the image where the entry begins.
+    pub fn placed_entry(&mut self, directory: u16, place: u64) -> Result<(u32, Entry), Error> {
+        let fields = self.call(&Call::List { directory, place })?.entry;
+        Ok((fields[7] - BEFORE_NAME, Entry::of(&self.image, &fields)))
     }
 
     /// The entry of that name, where the capitals A to Z are the same as small letters.

@@ -1,6 +1,7 @@
 //! The proved library, called through its C interface.
 
 use crate::calls::{Call, Lent, Library, Output};
+use crate::differences::{Comparer, NUMBERS};
 use crate::settings::{Conversion, Converter};
 
 /// The C interface, as in `pfs.h`.
@@ -39,6 +40,34 @@ mod c {
         pfs_bitmap(*const u8, bitmap: *mut u8, bitmap_len: usize);
         pfs_bitmap_differs(*const u8, bitmap: *const u8, bitmap_len: usize, fields: *mut u32);
         pfs_report(*const u8, totals: *mut u64, disk: *mut u64);
+    }
+
+    /// Declares calls that are lent two images, each with its tables, before their own arguments.
+    macro_rules! declare_of_two {
+        ($($name:ident($($argument:ident: $type:ty),*);)*) => {
+            extern "C" {
+                $(pub fn $name(
+                    image: *const u8,
+                    image_len: usize,
+                    blocks: *mut u16,
+                    blocks_len: usize,
+                    anodes: *mut u16,
+                    anodes_len: usize,
+                    second_image: *const u8,
+                    second_image_len: usize,
+                    second_blocks: *mut u16,
+                    second_blocks_len: usize,
+                    second_anodes: *mut u16,
+                    second_anodes_len: usize
+                    $(, $argument: $type)*
+                ) -> u32;)*
+            }
+        };
+    }
+
+    declare_of_two! {
+        pfs_compare(place: u64, fields: *mut u32);
+        pfs_differences(place: u64, out: *mut u32, out_len: usize, fields: *mut u32);
     }
 
     extern "C" {
@@ -163,5 +192,40 @@ impl Converter for Proved {
         // SAFETY: the slices are handed on as pointer and length, there are two fields, and the borrows say that
         // nothing that is written shares a byte with the rest.
         unsafe { call(file.as_ptr(), file.len(), out.as_mut_ptr(), out.len(), fields.as_mut_ptr()) }
+    }
+}
+
+/// A call with both images and their tables lent to it.
+macro_rules! lend_two {
+    ($name:ident, $first:ident, $second:ident $(, $argument:expr)*) => {
+        // SAFETY: the slices are handed on as pointer and length, and the fields have the lengths that `pfs.h` asks. The
+        // borrows say that nothing that is written shares a byte with the rest.
+        unsafe {
+            c::$name(
+                $first.image.as_ptr(),
+                $first.image.len(),
+                $first.blocks.as_mut_ptr(),
+                $first.blocks.len(),
+                $first.anodes.as_mut_ptr(),
+                $first.anodes.len(),
+                $second.image.as_ptr(),
+                $second.image.len(),
+                $second.blocks.as_mut_ptr(),
+                $second.blocks.len(),
+                $second.anodes.as_mut_ptr(),
+                $second.anodes.len()
+                $(, $argument)*
+            )
+        }
+    };
+}
+
+impl Comparer for Proved {
+    fn compare(first: Lent, second: Lent, place: u64, fields: &mut [u32; 1 + NUMBERS]) -> u32 {
+        lend_two!(pfs_compare, first, second, place, fields.as_mut_ptr())
+    }
+
+    fn differences(first: Lent, second: Lent, place: u64, out: &mut [u32], fields: &mut [u32; 2]) -> u32 {
+        lend_two!(pfs_differences, first, second, place, out.as_mut_ptr(), out.len(), fields.as_mut_ptr())
     }
 }

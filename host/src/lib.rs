@@ -8,6 +8,7 @@
 //! * [`anodes`]: how many anodes a disk has, and how many more it can get.
 //! * [`report`]: the totals of a shift report.
 //! * [`bitmap`]: where the bytes of the hard disk edition's bitmap belong.
+//! * [`differences`]: how two disks differ, and the trait of whoever compares them.
 //! * [`settings`]: settings files, and the trait of whoever converts them.
 //! * [`cli`]: the command line `pfs`.
 //!
@@ -18,7 +19,8 @@
 //! documentation: `rng`, the small deterministic generator behind all that is random; `tree`, what a disk should hold, as
 //! a plain tree in memory; `shapes`, generators of disk images: formatted ones, accepted ones that format never makes, and
 //! damaged ones; `starts` and `histories`, the disks that histories start from, and random calls, often at the very edge;
-//! `met`, what the changes and names among them met; `compare`, a library against the model, call by call.
+//! `met`, what the changes and names among them met; `compare`, a library against the model, call by call; `pairs`,
+//! the same for two disks at a time.
 
 #[cfg(feature = "proved")]
 pub mod ffi;
@@ -29,6 +31,7 @@ pub mod calls;
 pub mod cli;
 #[doc(hidden)]
 pub mod compare;
+pub mod differences;
 pub mod disk;
 #[doc(hidden)]
 pub mod histories;
@@ -36,6 +39,8 @@ pub mod histories;
 pub mod met;
 pub mod model;
 pub mod names;
+#[doc(hidden)]
+pub mod pairs;
 pub mod refusals;
 pub mod report;
 #[doc(hidden)]

@@ -6,6 +6,7 @@ use std::fs;
 use std::path::Path;
 use std::process::{self, Command};
 
+use ovenknit_host::differences::{COMMENT, NAME, NUMBERS, PROTECTION, SIZE, STAMPS, TYPE};
 use ovenknit_host::refusals::{Error, REFUSALS};
 
 #[path = "../examples/demo.rs"]
@@ -90,12 +91,17 @@ fn the_header_names_what_calls_answer() {
     source.extend(REFUSALS.iter().map(|row| line(&header_name(row.0))));
     source += "    printf(\"%s\\n\", pfs_words(99));\n";
     source += "    printf(\"%d %d %d %d %d\\n\", PFS_SUMMARY_FIELDS, PFS_LIST_FIELDS, PFS_LABEL_FIELDS, PFS_BITMAP_FIELDS, PFS_SETTINGS_FIELDS);\n";
+    source += "    printf(\"%d %d %d\\n\", PFS_COMPARE_FIELDS, PFS_DIFFERENCES_FIELDS, PFS_DIFFERENCE);\n";
+    source += "    printf(\"%d %d %d %d %d %d\\n\", PFS_DIFFERING_TYPE, PFS_DIFFERING_NAME, PFS_DIFFERING_COMMENT, PFS_DIFFERING_STAMPS, PFS_DIFFERING_PROTECTION, PFS_DIFFERING_SIZE);\n";
     source += "    return 0;\n}\n";
     let include = Path::new(env!("CARGO_MANIFEST_DIR")).join("../include");
     let printed = run_c("words", &source, &["-I".into(), include.into()]);
     let mut expected = String::from("0 done\n");
     expected.extend(REFUSALS.iter().map(|(_, number, words)| format!("{number} {words}\n")));
-    assert_eq!(printed, expected + "unknown number\n4 11 7 2 2\n");
+    expected += "unknown number\n4 11 7 2 2\n";
+    expected +=
+        &format!("{} 2 {NUMBERS}\n{TYPE} {NAME} {COMMENT} {STAMPS} {PROTECTION} {SIZE}\n", 1 + NUMBERS);
+    assert_eq!(printed, expected);
 }
 
 /// What is installed is enough to build the example and to run the program.

@@ -9,6 +9,7 @@ use std::process::ExitCode;
 use std::time::{Duration, Instant};
 
 use ovenknit_host::calls::{run, tables, Call, Lent, Library, Output, Stamp, BLOCK, FILE, ROOT, TOTALS};
+use ovenknit_host::differences::{Comparer, NUMBERS};
 use ovenknit_host::disk;
 use ovenknit_host::ffi::Proved;
 use ovenknit_host::model::Model;
@@ -18,6 +19,10 @@ use ovenknit_host::shapes::{grown_in_turn, no_free_anode, one_free_anode, shaped
 const RUNS: usize = 1_001;
 /// Of a change that may take as long as thousands of checks.
 const LONG_RUNS: usize = 101;
+/// Of a comparison of all bytes of two large disks.
+const COMPARISONS: usize = 51;
+/// As many entries as two disks can have.
+const MOST_DIFFERENCES: usize = 6_876;
 /// Of a check that takes as long as a thousand others.
 const SLOW_RUNS: usize = 11;
 /// Of a check whose least time is asked for.
@@ -53,6 +58,10 @@ impl Disk {
         self
     }
 
+    fn lent(&mut self) -> Lent<'_> {
+        Lent { image: &mut self.image, blocks: &mut self.blocks, anodes: &mut self.anodes }
+    }
+
     fn must(&mut self, call: &Call) {
         let outcome = run::<Model>(call, &mut self.image, &mut self.blocks, &mut self.anodes);
         assert_eq!(outcome.answer, 0, "a call of the bench is refused: {}", call.label());
@@ -70,7 +79,7 @@ impl Disk {
     }
 
     fn time<L: Library>(&mut self, call: &Call, output: &mut Output) -> Duration {
-        let lent = Lent { image: &mut self.image, blocks: &mut self.blocks, anodes: &mut self.anodes };
+        let lent = self.lent();
         let start = Instant::now();
         let answer = L::answer(black_box(call), black_box(lent), output);
         let elapsed = start.elapsed();
@@ -106,6 +115,49 @@ impl Disk {
         let mut unused = Output::for_call(&Call::Check);
         let times = (0..LEAST_RUNS).map(|_| self.time::<Proved>(&Call::Check, &mut unused));
         times.min().unwrap_or_default()
+    }
+}
+
+/// A call that compares two disks.
+#[derive(Clone, Copy)]
+enum Comparison {
+    /// The first difference; 22 where there is none.
+    First,
+    /// As many as two disks can have.
+    All,
+}
+
+/// Two disks that are compared.
+struct Pair {
+    first: Disk,
+    second: Disk,
+}
+
+impl Pair {
+    fn time<C: Comparer>(&mut self, comparison: Comparison, out: &mut [u32]) -> Duration {
+        let (first, second) = black_box((self.first.lent(), self.second.lent()));
+        let start = Instant::now();
+        let answer = match comparison {
+            Comparison::First => C::compare(first, second, 0, &mut [0; 1 + NUMBERS]),
+            Comparison::All => C::differences(first, second, 0, out, &mut [0; 2]),
+        };
+        let elapsed = start.elapsed();
+        assert!([0, 22].contains(&black_box(answer)), "a disk of the bench is refused");
+        elapsed
+    }
+
+    /// The medians of a comparison by the model and by the proved library and of a proved check of the first disk, the three
+    /// in turn.
+    fn medians(&mut self, comparison: Comparison, runs: usize) -> Medians {
+        let mut out = vec![0; MOST_DIFFERENCES * NUMBERS];
+        let mut unused = Output::for_call(&Call::Check);
+        let (mut by_model, mut by_proved, mut by_check) = (Vec::new(), Vec::new(), Vec::new());
+        for _ in 0..runs {
+            by_model.push(self.time::<Model>(comparison, &mut out));
+            by_proved.push(self.time::<Proved>(comparison, &mut out));
+            by_check.push(self.first.time::<Proved>(&Call::Check, &mut unused));
+        }
+        Medians { model: median(by_model), proved: median(by_proved), check: median(by_check) }
     }
 }
 
@@ -198,6 +250,32 @@ fn measure_growth() {
     Disk::new(no_free_anode()).medians(&make(b"new"), RUNS).print("make a file, and grow");
 }
 
+/// The median time of comparing as many bytes as a disk has with those of another in one run of bytes.
+fn plain_comparison(pair: &Pair) -> f64 {
+    let times = (0..COMPARISONS).map(|_| {
+        let (one, other) = black_box((&pair.first.image, &pair.second.image));
+        let start = Instant::now();
+        assert!(black_box(one == other), "the disks of the bench are the same");
+        start.elapsed()
+    });
+    median(times.collect())
+}
+
+/// A disk of small files compared with itself and with an empty one (02, No. 7). Comparing takes a check of each.
+fn measure_comparisons(rng: &mut Rng) {
+    for (blocks, size) in [(1_760, "1,760"), (65_535, "65,535")] {
+        println!("{size} blocks, small files, compared");
+        let image = shaped(&small_files(blocks), rng).image;
+        let mut itself = Pair { first: Disk::new(image.clone()), second: Disk::new(image.clone()) };
+        itself.medians(Comparison::First, COMPARISONS).print("with itself: the first difference");
+        itself.medians(Comparison::All, COMPARISONS).print("with itself: all differences");
+        println!("  {:<45} {:>20.1}", "as many bytes as the disk has, compared", plain_comparison(&itself));
+        let mut other = Pair { first: Disk::new(image), second: Disk::empty(1_760, 63, 2) };
+        other.medians(Comparison::First, COMPARISONS).print("with an empty disk: the first difference");
+        other.medians(Comparison::All, COMPARISONS).print("with an empty disk: all differences");
+    }
+}
+
 /// A name that the check's index cannot tell from any other of these without comparing all its bytes up to the last
 /// ones: those are pairs that weigh the same in the hash, as often as the bits of the number ask.
 fn colliding_name(number: usize) -> Vec<u8> {
@@ -263,6 +341,7 @@ fn print_all(rng: &mut Rng) {
     measure_long_file();
     measure_far_anode();
     measure_growth();
+    measure_comparisons(rng);
     measure_colliding_names();
 }
 

@@ -265,6 +265,32 @@ then 2. At most 100,000 disks are taken.
   --json          the same for programs, as JSON",
     },
     Syntax {
+        name: "diff",
+        operands: &["DISK", "DISK"],
+        flags: &[JSON],
+        options: &[],
+        short: "how two disks differ",
+        long: concat!("Prints a line for each file or directory that only one of the disks has, or that both have and that differs, and nothing
+for two disks that hold the same. A to Z are the same as a to z in what is one path; the first disk's path is shown. First
+come the entries of the first disk, directory by directory from the root, then those that only the second has. What differs
+is said in this order, with the values of the first disk and of the second:
+
+  type            as file, directory: one is a file, the other a directory; what is below it is only in one of them
+  size            of two files, in bytes
+  bytes           how many bytes of two files differ, and from which byte on, counted from 0; past the end of the shorter
+                  one every byte differs
+  name            the same but for capitals
+  date            date and time
+  protection      the letters of ls
+  comment         both texts
+
+Where files lie on the disk, the order in a directory, and the name and size of the disk are not compared.
+
+As with the program diff, the exit status is 0 if the disks are the same, 1 if they differ, and 2 after any trouble: bad
+usage, a file that cannot be read, or a disk that is damaged.
+", json!()),
+    },
+    Syntax {
         name: "bitmap",
         operands: &["DISK"],
         flags: &[],

@@ -235,12 +235,12 @@ fn write_verdicts(verdicts: &[(&OsString, Verdict)], out: &mut dyn Write) -> Don
 }
 
 /// The protection bits as letters. The lowest four forbid what their letter allows.
-fn protection(bits: u8) -> String {
+pub fn protection(bits: u8) -> String {
     let letters = "hsparwed".chars().zip((0..8).rev());
     letters.map(|(letter, bit)| if ((bits ^ 0x0F) >> bit) & 1 == 1 { letter } else { '-' }).collect()
 }
 
-fn kind(entry: &Entry) -> &'static str {
+pub fn kind(entry: &Entry) -> &'static str {
     match entry.kind {
         Kind::File => "file",
         Kind::Directory => "dir",

@@ -2,7 +2,7 @@
 //! all that is told of a disk comes from the calls' answers and tables. Where a fault is comes from the model.
 //!
 //! * `arguments`, `help`, `manual`: the words of a command line, and what is said about them.
-//! * `looks`, `get`, `put`, `change`, `map`, `report`, `bitmap`: the commands.
+//! * `looks`, `get`, `put`, `change`, `map`, `report`, `bitmap`, `diff`: the commands.
 //! * `settings`: settings files, the one thing that is no disk.
 //! * `items`: files and directories on their way from one place to another.
 //! * `facts`: refusals with what explains them.
@@ -15,6 +15,7 @@
 mod arguments;
 mod bitmap;
 mod change;
+mod diff;
 mod drawing;
 mod facts;
 mod get;
@@ -41,6 +42,7 @@ use std::fmt::Display;
 use std::io::{self, Write};
 
 use crate::calls::Library;
+use crate::differences::Comparer;
 use crate::refusals::Error;
 use crate::settings::Converter;
 use arguments::Arguments;
@@ -114,8 +116,12 @@ fn refused_with(about: impl Display, error: Error, facts: &str) -> Failure {
 }
 
 /// Runs a command line (without the program's name) and answers its exit status: 0 done, 1 refused, 2 bad usage
-/// or a file that cannot be read or written, 3 a damaged disk.
-pub fn run<L: Library + Converter>(words: &[OsString], out: &mut dyn Write, errors: &mut dyn Write) -> u8 {
+/// or a file that cannot be read or written, 3 a damaged disk. Of `diff` 1 says that the disks differ, and 2 any trouble.
+pub fn run<L: Library + Converter + Comparer>(
+    words: &[OsString],
+    out: &mut dyn Write,
+    errors: &mut dyn Write,
+) -> u8 {
     let done = command::<L>(words, out).and_then(|()| Ok(out.flush()?));
     let Err(failure) = done else {
         return 0;
@@ -128,7 +134,7 @@ pub fn run<L: Library + Converter>(words: &[OsString], out: &mut dyn Write, erro
     failure.status()
 }
 
-fn command<L: Library + Converter>(words: &[OsString], out: &mut dyn Write) -> Done {
+fn command<L: Library + Converter + Comparer>(words: &[OsString], out: &mut dyn Write) -> Done {
     let Some((first, rest)) = words.split_first() else {
         return Err(Failure::Trouble("no command; see pfs --help".into()));
     };
@@ -151,7 +157,11 @@ fn syntax(name: &OsStr) -> Result<&'static help::Syntax, Failure> {
     found.ok_or_else(|| Failure::Trouble(format!("{}: no such command; see pfs --help", text::show_os(name))))
 }
 
-fn dispatch<L: Library + Converter>(name: &str, arguments: &Arguments, out: &mut dyn Write) -> Done {
+fn dispatch<L: Library + Converter + Comparer>(
+    name: &str,
+    arguments: &Arguments,
+    out: &mut dyn Write,
+) -> Done {
     match name {
         "info" => looks::info::<L>(arguments, out),
         "check" => looks::check::<L>(arguments, out),
@@ -169,6 +179,7 @@ fn dispatch<L: Library + Converter>(name: &str, arguments: &Arguments, out: &mut
         "df" => map::df::<L>(arguments, out),
         "report" => report::report::<L>(arguments, out),
         "bitmap" => bitmap::bitmap::<L>(arguments, out),
+        "diff" => diff::diff::<L>(arguments, out),
         "settings" => settings::settings_file::<L>(arguments, out),
         "man" => manual::man(out),
         "completion" => manual::completion(arguments, out),

@@ -28,6 +28,11 @@ impl Path {
         Path { names: Vec::new(), charset }
     }
 
+    /// The path of these names, to be read so.
+    pub fn of(names: Vec<Vec<u8>>, charset: Charset) -> Path {
+        Path { names, charset }
+    }
+
     /// The path of a name in this directory.
     pub fn join(&self, name: &[u8]) -> Path {
         let mut names = self.names.clone();

@@ -10,6 +10,7 @@
 //! * [`naive`]: the check by the words of the table, row by row and quadratic, and what a change takes and gives back on
 //!   plain lists; it shares no code with the others.
 //! * `calls`: the calls.
+//! * `compare`: how two disks differ.
 //! * `bitmap`: free space as the hard disk edition's bitmap.
 //! * `report`: the shift report over many disks.
 //! * `totals`: the seven kinds of blocks.
@@ -20,6 +21,7 @@
 mod bitmap;
 mod calls;
 mod check;
+mod compare;
 mod giving;
 pub mod layout;
 mod library;

@@ -4,6 +4,7 @@ mod alike;
 mod anodes;
 mod changes;
 mod daily;
+mod diff;
 mod faults;
 mod folder;
 mod looks;

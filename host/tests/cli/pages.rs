@@ -7,6 +7,7 @@ use crate::folder::Folder;
 
 const TECHNICIAN: &str = include_str!("../../../docs/TECHNICIAN.md");
 const INSPECTOR: &str = include_str!("../../../docs/INSPECTOR.md");
+const FRONT: &str = include_str!("../../../README.md");
 const EXPORTS: &str = include_str!("../../../crates/pfs/src/lib.rt");
 
 /// The command lines of a page: those that begin with the program's name, without what is said about them.
@@ -43,10 +44,12 @@ fn every_command_of_the_technicians_page_works() {
     let mut run = 0;
     for line in command_lines(TECHNICIAN) {
         let (status, text) = shell(&folder, line);
-        assert_eq!(status, Some(0), "{line}: {text}");
+        // The disks of the page differ.
+        let expected = if line.starts_with("pfs diff ") { 1 } else { 0 };
+        assert_eq!(status, Some(expected), "{line}: {text}");
         run += 1;
     }
-    assert!(run >= 22, "{run} command lines");
+    assert!(run >= 23, "{run} command lines");
     assert!(folder.read("bench4.svg").ends_with(b"</svg>\n") && folder.path("recipes/old").is_dir());
 
     // The refusal and the damage that the page shows.
@@ -63,6 +66,23 @@ fn every_command_of_the_technicians_page_works() {
     assert!(status == Some(3) && TECHNICIAN.contains(&shown), "{damage}");
 }
 
+/// The front page shows what its commands print, one after the other.
+#[test]
+fn the_front_page_shows_a_session() {
+    let folder = Folder::new("front_page");
+    let (_, page) = FRONT.split_once("## The command line\n\n").expect("the page has the section");
+    let shown: Vec<&str> = page.lines().take_while(|line| !line.starts_with("docs/")).collect();
+    let lines = shown.iter().map(|line| line.strip_prefix("    ").unwrap_or(line));
+    let lines = lines.collect::<Vec<_>>().join("\n");
+    let mut run = 0;
+    for part in lines.trim_end().split("$ ").skip(1) {
+        let (line, printed) = part.split_once('\n').unwrap_or((part, ""));
+        assert_eq!(shell(&folder, line).1.trim_end(), printed.trim_end(), "{line}");
+        run += 1;
+    }
+    assert!(run >= 12, "{run} command lines");
+}
+
 #[test]
 fn the_pages_are_short_and_true() {
     for (page, text) in [("TECHNICIAN.md", TECHNICIAN), ("INSPECTOR.md", INSPECTOR)] {
@@ -70,7 +90,7 @@ fn the_pages_are_short_and_true() {
     }
     assert!(!EXPORTS.contains("requires") && EXPORTS.matches("ensures").count() >= 15);
     // Both say what accepted does not cover, and so does the front page.
-    for text in [TECHNICIAN, INSPECTOR, include_str!("../../../README.md")] {
+    for text in [TECHNICIAN, INSPECTOR, FRONT] {
         assert!(text.contains("bytes inside files"));
     }
 }

@@ -5,10 +5,12 @@ mod threads;
 
 use ovenknit_host::calls::{tables, Call, Library, Stamp, BLOCK, DIRECTORY, FILE, ROOT, TOTALS};
 use ovenknit_host::compare::{compare, History};
+use ovenknit_host::differences::Comparer;
 use ovenknit_host::disk::Disk;
 use ovenknit_host::histories::every_change;
 use ovenknit_host::met::{worked_out, GrowthMet};
 use ovenknit_host::model::Model;
+use ovenknit_host::pairs::{Pair, Side, Twin};
 use ovenknit_host::rng::Rng;
 use ovenknit_host::settings::{Conversion, Converter, Form, Setting, MOST_RECORDS};
 use ovenknit_host::shapes::{formatted, shaped, Recipe, Shaped};
@@ -69,6 +71,25 @@ fn run_growth<L: Library>(rng: &mut Rng) {
     met.assert_met(&["make: grew, done", "resize: grew, done", "remove: grew, done"]);
 }
 
+/// Comparisons of disks of every kind: small pairs, large ones with many differences, and damaged ones.
+fn run_comparisons<C: Comparer>(rng: &mut Rng) {
+    for start in Start::SMALL {
+        let first = start.disk(rng);
+        for twin in Twin::ALL {
+            let second = twin.of(&first, rng);
+            Pair::new(first.image.clone(), second.image).both_ways::<C>(rng).expect("both are accepted");
+        }
+        let short = Side::with_junk(first.image.clone(), true, rng);
+        assert_eq!(Pair { first: Side::new(first.image), second: short }.all::<C>(rng), Err((2, 2)));
+    }
+    let [full, other, pieces] =
+        [Recipe::small_files(65_535), Recipe::many_names(65_535), Recipe::fragmented(65_535)]
+            .map(|recipe| shaped(&recipe, rng).image);
+    for (first, second) in [(&full, &full), (&full, &other), (&other, &pieces), (&pieces, &full)] {
+        Pair::new(first.clone(), second.clone()).all::<C>(rng).expect("both are accepted");
+    }
+}
+
 /// Both conversions of a file with as many records as one may have, into buffers that just hold the result.
 fn run_conversions<C: Converter>() {
     let records =
@@ -82,8 +103,8 @@ fn run_conversions<C: Converter>() {
 }
 
 /// Every call on small and on large disks, empty, full of files and in many pieces; then changes for which the anode table
-/// grows, and random calls, which are refused at times. Each is compared with the model.
-fn run_calls<L: Library + Converter>() {
+/// grows, random calls, which are refused at times, and pairs of disks. Each is compared with the model.
+fn run_calls<L: Library + Converter + Comparer>() {
     let rng = &mut Rng::new(1);
     run_every_call::<L>(include_bytes!("../../../crates/pfsinfo_files/stdin").to_vec(), 5_000);
     run_every_call::<L>(formatted(1_760, rng), 5_000);
@@ -95,6 +116,7 @@ fn run_calls<L: Library + Converter>() {
 
     run_conversions::<L>();
     run_growth::<L>(rng);
+    run_comparisons::<L>(rng);
     for start in Start::SMALL {
         History::new(start.disk(rng), rng).run::<L>(100);
     }

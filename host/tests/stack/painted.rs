@@ -6,6 +6,7 @@ use std::ptr::null_mut;
 use std::sync::Mutex;
 
 use ovenknit_host::calls::{Call, Lent, Library, Output};
+use ovenknit_host::differences::{Comparer, NUMBERS};
 use ovenknit_host::ffi::Proved;
 use ovenknit_host::settings::{Conversion, Converter};
 
@@ -82,6 +83,16 @@ impl Library for Painted {
 impl Converter for Painted {
     fn answer(conversion: Conversion, file: &[u8], out: &mut [u8], fields: &mut [u32; 2]) -> u32 {
         measured(conversion.word(), || <Proved as Converter>::answer(conversion, file, out, fields))
+    }
+}
+
+impl Comparer for Painted {
+    fn compare(first: Lent, second: Lent, place: u64, fields: &mut [u32; 1 + NUMBERS]) -> u32 {
+        measured("compare", || Proved::compare(first, second, place, fields))
+    }
+
+    fn differences(first: Lent, second: Lent, place: u64, out: &mut [u32], fields: &mut [u32; 2]) -> u32 {
+        measured("differences", || Proved::differences(first, second, place, out, fields))
     }
 }
 

@@ -3,6 +3,7 @@
 use std::thread;
 
 use ovenknit_host::calls::{Call, Lent, Library, Output};
+use ovenknit_host::differences::{Comparer, NUMBERS};
 use ovenknit_host::ffi::Proved;
 use ovenknit_host::settings::{Conversion, Converter};
 use ovenknit_host::stack::needed;
@@ -22,6 +23,16 @@ impl Library for Threads {
 impl Converter for Threads {
     fn answer(conversion: Conversion, file: &[u8], out: &mut [u8], fields: &mut [u32; 2]) -> u32 {
         in_thread(conversion.word(), || <Proved as Converter>::answer(conversion, file, out, fields))
+    }
+}
+
+impl Comparer for Threads {
+    fn compare(first: Lent, second: Lent, place: u64, fields: &mut [u32; 1 + NUMBERS]) -> u32 {
+        in_thread("compare", || Proved::compare(first, second, place, fields))
+    }
+
+    fn differences(first: Lent, second: Lent, place: u64, out: &mut [u32], fields: &mut [u32; 2]) -> u32 {
+        in_thread("differences", || Proved::differences(first, second, place, out, fields))
     }
 }
 

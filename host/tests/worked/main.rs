@@ -23,6 +23,7 @@ macro_rules! both {
 
 mod alike;
 mod bytes;
+mod differences;
 mod disk;
 mod growth;
 mod half_cleared;
