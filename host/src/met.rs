@@ -1,11 +1,14 @@
 //! What the shrinks and removals of histories met of 02, No. 3, counted; in `names` what their names met of No. 5, in
-//! `growth` what their changes met of No. 6. In `answers` the refusals that they must meet.
+//! `growth` what their changes met of No. 6. In `answers` the refusals that they must meet, in `differences` what comparisons
+//! met of No. 7.
 
 mod answers;
+mod differences;
 mod growth;
 mod names;
 
 pub use answers::{NO_ANODE, REFUSALS};
+pub use differences::DifferencesMet;
 pub use growth::GrowthMet;
 pub use names::NamesMet;
 

@@ -5,46 +5,32 @@
 use std::collections::BTreeMap;
 
 use ovenknit_host::calls::{BLOCK, ROOT};
-use ovenknit_host::differences::{Difference, Refused, COMMENT, NAME, PROTECTION, SIZE, STAMPS, TYPE};
+use ovenknit_host::differences::{Difference, Refused};
 use ovenknit_host::disk::{Disk, Error, Format, New};
 use ovenknit_host::ffi::Proved;
+use ovenknit_host::met::DifferencesMet;
 use ovenknit_host::model::Model;
-use ovenknit_host::pairs::{changed, Compared, Numbers, Pair, Side, Twin};
+use ovenknit_host::pairs::{changed, Compared, Pair, Side, Twin};
 use ovenknit_host::rng::{seeded, Rng};
 use ovenknit_host::shapes::{random_bytes, shaped, Damager, Recipe, Shaped};
 use ovenknit_host::starts::Start;
 
-/// How often each refusal of each image was met, and each kind of difference and field.
+/// How often each refusal of each image was met, how often two disks were the same, and what else was met.
 #[derive(Default)]
 struct Met {
     refusals: BTreeMap<(u32, u32), usize>,
-    kinds: BTreeMap<&'static str, usize>,
+    same: usize,
+    differences: DifferencesMet,
 }
 
 impl Met {
     fn note(&mut self, compared: &Compared) {
         match compared {
             Err(refusal) => *self.refusals.entry(*refusal).or_default() += 1,
-            Ok(differences) if differences.is_empty() => *self.kinds.entry("the same").or_default() += 1,
-            Ok(differences) => differences.iter().for_each(|difference| self.note_one(difference)),
-        }
-    }
-
-    fn note_one(&mut self, difference: &Numbers) {
-        let [kind, _, _, fields, _, many] = *difference;
-        for (what, met) in [
-            ("only in the first", kind == 1),
-            ("only in the second", kind == 2),
-            ("type", fields & TYPE != 0),
-            ("name", fields & NAME != 0),
-            ("comment", fields & COMMENT != 0),
-            ("stamps", fields & STAMPS != 0),
-            ("protection", fields & PROTECTION != 0),
-            ("size", fields & SIZE != 0),
-            ("bytes alone", kind == 3 && fields == 0),
-            ("fields alone", kind == 3 && many == 0),
-        ] {
-            *self.kinds.entry(what).or_default() += usize::from(met);
+            Ok(differences) => {
+                self.same += usize::from(differences.is_empty());
+                differences.iter().for_each(|difference| self.differences.note(difference));
+            }
         }
     }
 }
@@ -68,9 +54,9 @@ fn random_pairs_equal_the_model() {
             met.note(&compared);
         }
     }
-    println!("{:?}", met.kinds);
-    assert!(met.refusals.is_empty() && met.kinds.len() == 11, "{:?}", met.refusals);
-    assert!(met.kinds.values().all(|&count| count > 20), "{:?}", met.kinds);
+    println!("the same: {}, {:?}", met.same, met.differences.counts);
+    assert!(met.refusals.is_empty() && met.same > 20, "{:?}", met.refusals);
+    met.differences.assert_each(20);
 }
 
 /// An accepted disk, a damaged one, or no disk, at times with a table that is too short.
@@ -104,7 +90,7 @@ fn damaged_disks_and_short_tables_equal_the_model() {
             met.note(&pair.all::<Proved>(rng));
         }
     }
-    println!("{:?}\n{:?}", met.refusals, met.kinds);
+    println!("{:?}\n{:?}", met.refusals, met.differences.counts);
     for number in 1..=17 {
         for image in [1, 2] {
             assert!(met.refusals.contains_key(&(image, number)), "{number} of image {image} was never met");

@@ -5,6 +5,7 @@ use std::collections::{BTreeMap, HashMap, VecDeque};
 use ovenknit_host::calls::ROOT;
 use ovenknit_host::differences::{COMMENT, NAME, PROTECTION, SIZE, STAMPS, TYPE};
 use ovenknit_host::disk::Kind;
+use ovenknit_host::met::DifferencesMet;
 use ovenknit_host::model::Model;
 use ovenknit_host::names::folded;
 use ovenknit_host::pairs::{place_of, Numbers, Pair, Side, Twin};
@@ -81,36 +82,9 @@ fn expected(first: &Shaped, second: &Shaped) -> Vec<Numbers> {
     all
 }
 
-/// How often each field differed, and each kind of difference was met.
-#[derive(Default)]
-struct Met {
-    counts: BTreeMap<&'static str, usize>,
-}
-
-impl Met {
-    fn note(&mut self, difference: &Numbers) {
-        let [kind, _, _, fields, byte, many] = *difference;
-        for (what, met) in [
-            ("only in the first", kind == 1),
-            ("only in the second", kind == 2),
-            ("type", fields & TYPE != 0),
-            ("name", fields & NAME != 0),
-            ("comment", fields & COMMENT != 0),
-            ("stamps", fields & STAMPS != 0),
-            ("protection", fields & PROTECTION != 0),
-            ("size", fields & SIZE != 0),
-            ("bytes alone", fields == 0 && many > 0),
-            ("bytes from the first on", byte == 0 && many > 0),
-            ("bytes behind the first", byte > 0),
-        ] {
-            *self.counts.entry(what).or_default() += usize::from(met);
-        }
-    }
-}
-
 #[test]
 fn differences_are_those_of_the_trees() {
-    let (mut met, mut same) = (Met::default(), BTreeMap::new());
+    let (mut met, mut same) = (DifferencesMet::default(), BTreeMap::new());
     for mut case in seeded("differences_are_those_of_the_trees", 0..200) {
         let rng = &mut case.rng;
         let first = Start::SMALL[rng.below(Start::SMALL.len())].disk(rng);
@@ -125,6 +99,6 @@ fn differences_are_those_of_the_trees() {
         }
     }
     println!("{:?}\nthe same: {same:?}", met.counts);
-    assert!(met.counts.values().all(|&count| count > 20), "{:?}", met.counts);
+    met.assert_each(20);
     assert!(same[&Twin::Rebuilt] == 200 && same[&Twin::Changed] < 100, "{same:?}");
 }
