@@ -2,20 +2,25 @@
 use Prim.Native.Nat.{ℕ, zero, suc, _+_, _-_, _*_, _/_, _%_, _≤_, _<_}
 use mathlib.Core.Path.{_≡_, refl, sym, ap, _∙_}
 use mathlib.Core.Logic.{_≢_}
-use mathlib.Core.Bool.{Bool, true, false, true≢false}
+use mathlib.Core.Bool.{Bool, true, false, cond, true≢false}
 use mathlib.Core.List.{List, [], _∷_}
 use mathlib.Core.Option.{Option, none, some}
 use native.Mathlib.Nat.{not-suc-le-zero}
 use native.Mathlib.Omega.{arith}
-use lib.Dec.{leb}
+use lib.Dec.{eqb, leb}
 use lib.ListN.{length, length-append, getD}
 use lib.Seq.{getD-at}
-use borrow.Author.Tests.{le-leb, leb-true}
-use Rattle.disk.specs.declared.Refusal.{Refusal}
+use borrow.Author.Tests.{eqb-true, le-leb, leb-true}
+use Rattle.endian.specs.Bytes.{be16, be32}
+use Rattle.disk.specs.declared.Refusal.the-variants.{DirectoryBlock}
 use Rattle.disk.specs.Blocks.{blockOf}
 use Rattle.directory.specs.declared.Entry.{Entry}
+use Rattle.directory.specs.declared.Kind.{Kind}
+use Rattle.directory.specs.declared.Kind.the-variants.{File, Directory}
+use Rattle.directory.specs.declared.KindRead.the-variants.{Is, Neither}
+use Rattle.directory.specs.declared.Walked.{Walked}
 use Rattle.directory.specs.declared.Walked.the-variants.{Found, End, Fault}
-use Rattle.directory.specs.Entries.{walkedAt}
+use Rattle.directory.specs.Entries.{isDir, kindRead, entryShaped, entryIn, walkedKind, walkedAt}
 use Rattle.rules.specs.Counting.{sameBytes}
 use Rattle.rules.specs.Folding.{folded}
 use Rattle.rules.specs.Anodes.{anodesOf}
@@ -28,12 +33,49 @@ use Rattle.laws.specs.Apart.{same-name, name-same, oneSame, oneSame-same}
 use Rattle.laws.specs.NamesApart.{accepted-names-apart, none-counted}
 use Rattle.names.specs.Index.{foldedIn, nameOf, lastBelow, isSame, startOf, InBlock}
 use Rattle.names.proofs.Laws.{last-le, any-last, last-passes}
-use Rattle.lookup.specs.Answers.{placed, entered}
+use Rattle.lookup.specs.declared.EntryAt.{EntryAt}
+use Rattle.lookup.specs.Answers.{entered}
 use Rattle.change_laws.specs.Reached.{EntryIn, entry-facts, entry-name}
 use Rattle.counterparts.specs.declared.Span.{Span}
 use Rattle.counterparts.specs.Spans.{HeadsDirectory, startsOf, SpanOf, StandsAt}
 use Rattle.counterparts.proofs.Laws.{starts-append, length-starts, starts-at}
 use Rattle.counterparts.proofs.Fits.{headed-entry}
+
+-- ---- the fields of an entry
+
+-- an entry of a block at a place of the image, by the fields that stand there
+abbrev pub fieldsRead : Kind → List ℕ → ℕ → ℕ → EntryAt
+fieldsRead k b at start = record { kind = k; anode = record { 0 = be16 b (at + 2) }; size = be32 b (at + 4); start = start }
+
+-- an entry has the kind of its type byte, and the anode and size that stand behind it
+abbrev HasFields : List ℕ → ℕ → Entry → Type 0
+HasFields b at x = (isDir (x .kind) ≡ eqb (getD b (at + 1) 0) 2) × (x .anode .0 ≡ be16 b (at + 2)) × (x .size ≡ be32 b (at + 4))
+
+-- whether an entry is found
+abbrev isEntry : Walked → Bool
+isEntry (Found x) = true
+isEntry End = false
+isEntry (Fault r) = false
+
+-- so where its type byte is read
+kind-fields : (b : List ℕ) (at : ℕ) (x : Entry) → walkedKind (kindRead (getD b (at + 1) 0)) (entryIn b at) ≡ Found x → HasFields b at x
+unfolding kindRead entryIn
+kind-fields b at x h = go (eqb (getD b (at + 1) 0) 253) (eqb (getD b (at + 1) 0) 2) refl refl h
+  where
+    go : (p q : Bool) → eqb (getD b (at + 1) 0) 253 ≡ p → eqb (getD b (at + 1) 0) 2 ≡ q → walkedKind (cond p (Is File) (cond q (Is Directory) Neither)) (entryIn b at) ≡ Found x → HasFields b at x
+    go true q e d f = let i : entryIn b at File ≡ x = cc in rw (← i) (sym (ap (λ (z : ℕ). eqb z 2) (eqb-true (getD b (at + 1) 0) 253 e)), refl, refl)
+    go false true e d f = let i : entryIn b at Directory ≡ x = cc in rw (← i) (sym d, refl, refl)
+    go false false e d f = absurd (true≢false (sym (ap isEntry f)))
+
+-- and so where it is found
+fields-found : (b : List ℕ) (at : ℕ) (x : Entry) → walkedAt b at ≡ Found x → HasFields b at x
+unfolding walkedAt
+fields-found b at x h = go (eqb (getD b at 0) 0) (entryShaped b at) h
+  where
+    go : (p q : Bool) → cond p End (cond q (walkedKind (kindRead (getD b (at + 1) 0)) (entryIn b at)) (Fault DirectoryBlock)) ≡ Found x → HasFields b at x
+    go true q f = absurd (true≢false (sym (ap isEntry f)))
+    go false true f = kind-fields b at x f
+    go false false f = absurd (true≢false (sym (ap isEntry f)))
 
 -- ---- what stands where the index has an entry
 
@@ -50,28 +92,14 @@ module _ (img index : List ℕ) (j : ℕ) (e : Entered) (w : InBlock index j) (s
     stands-there : walkedAt (blockOf img (getD index (10984 + j) 0)) (getD index (14428 + j) 0) ≡ Found (t .entry)
     stands-there = rw (its-block, its-place) (t .walked)
 
-    -- the entry that is read there is e
-    pub stands-found : (x : Entry) → Found x ≡ walkedAt (blockOf img (getD index (10984 + j) 0)) (getD index (14428 + j) 0)
-        → entered img (placed x (getD index (10984 + j) 0 * 512 + getD index (14428 + j) 0)) ≡ e
+    -- the entry whose fields are read there is e
+    pub stands-read : (k : Kind) → isDir k ≡ eqb (getD (blockOf img (getD index (10984 + j) 0)) (getD index (14428 + j) 0 + 1) 0) 2
+        → entered img (fieldsRead k (blockOf img (getD index (10984 + j) 0)) (getD index (14428 + j) 0) (getD index (10984 + j) 0 * 512 + getD index (14428 + j) 0)) ≡ e
     unfolding startOf nameAt
-    stands-found x read =
-        let p : Found x ≡ Found (t .entry) = read ∙ stands-there in
-        let q : x ≡ t .entry = cc in
+    stands-read k said =
+        let f = fields-found _ _ _ stands-there in
         let z : e .start / 512 * 512 + e .start % 512 ≡ e .start = omega arith in
-        rw (q, s) (sym (rw z at (t .is)))
-
-    -- and no end or fault
-    pub stands-no-end : End ≡ walkedAt (blockOf img (getD index (10984 + j) 0)) (getD index (14428 + j) 0) → ⊥
-    stands-no-end read =
-        let p : End ≡ Found (t .entry) = read ∙ stands-there in
-        let z : _≡_ {A = ℕ} 0 1 = cc in
-        omega arith
-
-    pub stands-no-fault : (r : Refusal) → Fault r ≡ walkedAt (blockOf img (getD index (10984 + j) 0)) (getD index (14428 + j) 0) → ⊥
-    stands-no-fault r read =
-        let p : Fault r ≡ Found (t .entry) = read ∙ stands-there in
-        let z : _≡_ {A = ℕ} 0 1 = cc in
-        omega arith
+        rw (said, ← (f .0), ← (f .1), ← (f .2), s) (sym (rw z at (t .is)))
 
   -- its folded name
   name-there : {h : ℕ} → EntryIn img h e → nameOf img index j ≡ folded (e .name)

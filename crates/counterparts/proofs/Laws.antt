@@ -1,18 +1,22 @@
 -- Entries that are put into the index, block by block and one by one. Assumes nothing.
-use Prim.Native.Nat.{ℕ, zero, suc, _+_, _≤_, _<_}
+use Prim.Native.Nat.{ℕ, zero, suc, _+_, _*_, _≤_, _<_}
 use mathlib.Core.Path.{_≡_, refl, sym, ap, _∙_}
-use mathlib.Core.Logic.{⊎-elim, _≢_}
+use mathlib.Core.Logic.{⊎-elim, _≢_, inl, inr}
 use mathlib.Core.List.{List, [], _∷_, _++_, append-nil, append-assoc}
 use native.Mathlib.Nat.{not-suc-le-zero, add-zero}
+use native.Mathlib.Numerals.{add-one}
 use native.Mathlib.Omega.{arith}
 use lib.ListN.{length, length-append, length-map, getD, List·getD-append}
 use lib.Seq.{getD-at}
 use Rattle.endian.proofs.Laws.{same?}
-use Rattle.rules.specs.Walk.{Entered, entriesIn}
+use Rattle.directory.specs.Entries.{nameIn}
+use Rattle.directory.proofs.Laws.{found-at, end-at}
+use Rattle.rules.specs.Walk.{Entered, entriesFrom, entriesIn}
 use Rattle.laws.specs.Chains.{gathered-none, gathered-end}
-use Rattle.laws.specs.Entries.{Unbroken}
+use Rattle.laws.specs.Entries.{enteredAt, entries-more, entries-end, Unbroken}
 use Rattle.lookup.proofs.Laws.{entriesAlong}
 use Rattle.names.specs.Index.{Indexed, startOf, InBlock}
+use Rattle.change_laws.specs.FoundEntries.{EndOrEntry, unbroken-cases}
 use Rattle.counterparts.specs.Spans.{startsOf, startsIn, Added, SpanOf}
 
 -- ---- starts
@@ -124,6 +128,43 @@ module _ {img old new : List ℕ} {i n : ℕ} {rest whole : List Entered} (f : F
   pub filling-one : {newer : List ℕ} (e : Entered) (behind : List Entered) → rest ≡ e ∷ behind → Unbroken behind → Indexed img newer (n + 1) → startOf newer n ≡ e .start
       → ((k : ℕ) → k < n → startOf newer k ≡ startOf new k) → ((k : ℕ) → k ≤ n → (k < n → InBlock new k) → InBlock newer k) → Filling img old newer i (n + 1) behind whole
   filling-one {newer} e behind is u t start kept within = filling-next (e ∷ []) behind is u (added-one img new newer n e t start kept within)
+
+-- ---- the entries of a block from a place on, by the length byte there
+
+-- an entry stands there, and none behind it is broken
+pub record EntryHere (b : List ℕ) (y k m at : ℕ) : Type 0 where
+  pub entry : Entered
+  pub start : entry .start ≡ y * 512 + at
+  pub more : entriesFrom k b y at ≡ entry ∷ entriesFrom m b y (at + getD b at 0)
+  pub unbroken : Unbroken (entriesFrom m b y (at + getD b at 0))
+  pub within : at < 512
+  pub room : at + getD b at 0 ≤ 510
+
+module _ (b : List ℕ) (y k m at : ℕ) (fuel : k ≡ m + 1) (u : Unbroken (entriesFrom k b y at)) where
+  cases-here : EndOrEntry b y m at
+  cases-here = unbroken-cases b y m at (rw (fuel, add-one m) at u)
+
+  -- 0 ends them
+  pub end-here : getD b at 0 ≡ 0 → entriesFrom k b y at ≡ []
+  end-here z = elim cases-here [
+    | inl e ↦ entries-end b y k at e
+    | inr e ↦ absurd (omega (arith, z, found-at b at (e .0) (e .1) .long))
+  ]
+
+  -- any other is an entry's
+  pub entry-here : getD b at 0 ≢ 0 → EntryHere b y k m at
+  entry-here some = elim cases-here [
+    | inl e ↦ absurd (some (end-at b at e))
+    | inr e ↦ (let g = found-at b at (e .0) (e .1) in
+        record {
+          entry = enteredAt (e .0) (nameIn b at) (y * 512 + at);
+          start = refl;
+          more = rw (fuel, add-one m) (entries-more b y m at (e .0) (e .1));
+          unbroken = e .2;
+          within = omega (arith, g .room);
+          room = g .room;
+        })
+  ]
 
 -- ---- the entries along a chain, where none is left
 

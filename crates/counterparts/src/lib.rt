@@ -4,7 +4,9 @@ ghost use mathlib.Core.Logic.{_⊎_};
 ghost use mathlib.Core.Option.{some};
 ghost use mathlib.Core.Path.{_≡_};
 ghost use Prim.Native.Nat.{ℕ, _+_, _*_, _<_, _≤_};
+ghost use lib.Dec.{eqb};
 ghost use lib.ListN.{length, getD};
+ghost use Rattle.directory.specs.Entries.{isDir};
 ghost use Rattle.rules.specs.Anodes.{anodesOf};
 ghost use Rattle.rules.specs.Chains.{chainOf};
 ghost use Rattle.rules.specs.Walk.{Entered, entriesIn};
@@ -14,15 +16,17 @@ ghost use Rattle.names.specs.Index.{Indexed, startOf, InBlock};
 ghost use Rattle.anodes.specs.Loaded.{anodesFrom};
 ghost use Rattle.lookup.specs.Answers.{entryOf};
 ghost use Rattle.counterparts.specs.Spans.{LoadedFor, HeadsDirectory, Added, SpanOf, SpanFor, StandsAt};
-use directory::Walked;
+use directory::Kind;
 use disk::AnodeNo;
 use disk::BlockNo;
 use disk::block_part;
+use endian::read8;
+use endian::read16;
+use endian::read32;
+use lookup::EntryAt;
 use lookup::Lookup;
-use lookup::entry_in_image;
 use names::add_name;
 use names::find_name;
-use reader::read_entry;
 use tables::entry;
 use tables::zero_first;
 
@@ -72,18 +76,13 @@ fn index_block(image: &[u8], index: &mut [u16], i: usize, b: BlockNo) -> usize
     let mut at: usize = 16;
     let mut fuel: usize = 28;
     while fuel > 0 {
-        let read = read_entry(block, at);
-        let walked = read.walked;
-        match walked {
-            Walked::Found(_) => {
-                add_name(image, index, n, b, at);
-            }
-            Walked::End => return n,
-            Walked::Fault(_) => return n,
+        let len = read8(block, at) as usize;
+        if len == 0 {
+            return n;
         }
-        ;
+        add_name(image, index, n, b, at);
         n += 1;
-        at = read.after;
+        at += len;
         fuel -= 1;
     }
     n
@@ -132,6 +131,16 @@ pub fn open_directory(
     Span { from, upto }
 }
 
+// The kind of an entry that keeps the rules, by its type byte: 2 is a directory's.
+fn kind_said(byte: u8) -> Kind
+    ensures { λ r. ⌜ isDir r ≡ eqb byte 2 ⌝ }
+{
+    if byte == 2 {
+        return Kind::Directory;
+    }
+    Kind::File
+}
+
 // The entry that stands where the index has entry `j`.
 fn indexed_entry(image: &[u8], index: &[u16], j: usize) -> Lookup
     requires { ⌜ j < 3444 ⌝ }
@@ -139,13 +148,13 @@ fn indexed_entry(image: &[u8], index: &[u16], j: usize) -> Lookup
 {
     let b = BlockNo(entry(index, 10984 + j));
     let at = entry(index, 14428 + j) as usize;
-    let read = read_entry(block_part(image, b), at);
-    let walked = read.walked;
-    match walked {
-        Walked::Found(e) => Lookup::Found(entry_in_image(b, at, e)),
-        Walked::End => Lookup::Missing,
-        Walked::Fault(_) => Lookup::Missing,
-    }
+    let block = block_part(image, b);
+    Lookup::Found(EntryAt {
+        kind: kind_said(read8(block, at + 1)),
+        anode: AnodeNo(read16(block, at + 2)),
+        size: read32(block, at + 4),
+        start: (b.0 as usize) * 512 + at,
+    })
 }
 
 // The entry of that name in the directory that the span is of.

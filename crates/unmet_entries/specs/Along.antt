@@ -2,7 +2,7 @@
 use Prim.Native.Nat.{ℕ, suc, _+_}
 use mathlib.Core.Path.{_≡_, sym, ap, _∙_}
 use mathlib.Core.Logic.{_≢_}
-use mathlib.Core.List.{List, [], _++_}
+use mathlib.Core.List.{List, [], _∷_, _++_}
 use native.Mathlib.Numerals.{add-one}
 use lib.ListN.{getD}
 use Rattle.directory.specs.declared.Entry.{Entry}
@@ -31,11 +31,16 @@ module _ (f : Entered → List Difference) (h : Handing) where
   pub hand-join : (xs ys : List Entered) → handAll h (gather f (xs ++ ys)) ≡ handAll (handAll h (gather f xs)) (gather f ys)
   hand-join xs ys = ap (handAll h) (gather-append f xs ys) ∙ hand-append h (gather f xs) (gather f ys)
 
+  -- the first of some entries, then those behind it
+  pub hand-first : (es : List Entered) (e : Entered) (rest : List Entered) (r : Handing) → es ≡ e ∷ rest → r ≡ handAll h (f e) →
+      handAll r (gather f rest) ≡ handAll h (gather f es)
+  unfolding gather
+  hand-first es e rest r is here = rw (is, here) (sym (hand-append h (f e) (gather f rest)))
+
   -- what is read at a place, with the entries behind it
   pub hand-found : (w : Walked) (name : List ℕ) (start : ℕ) (rest : List Entered) (e : Entry) (r : Handing) → w ≡ Found e → r ≡ handAll h (f (enteredAt e name start)) →
       handAll r (gather f rest) ≡ handAll h (gather f (withRest w name start rest))
-  unfolding gather
-  hand-found w name start rest e r is here = rw (is, here) (sym (hand-append h (f (enteredAt e name start)) (gather f rest)))
+  hand-found w name start rest e r is here = hand-first (withRest w name start rest) (enteredAt e name start) rest r (rw is) here
 
   module _ (img firsts nexts : List ℕ) where
     -- a chain that is at its end

@@ -4,38 +4,44 @@ ghost use mathlib.Core.Path.{_≡_};
 ghost use Prim.Native.Nat.{ℕ, _+_, _*_, _<_, _≤_};
 ghost use lib.ListN.{getD};
 ghost use Rattle.rules.specs.Counting.{gather};
-ghost use Rattle.rules.specs.Walk.{entriesIn};
+ghost use Rattle.rules.specs.Walk.{Entered, entriesIn};
 ghost use Rattle.rules.specs.Lookup.{entriesOf};
-ghost use Rattle.laws.specs.Entries.{enteredAt, Unbroken};
+ghost use Rattle.laws.specs.Entries.{Unbroken};
 ghost use Rattle.anodes.specs.Loaded.{anodesFrom};
 ghost use Rattle.walk_steps.specs.Steps.{queueOf};
 ghost use Rattle.differences.specs.Pairs.{unmet};
 ghost use Rattle.differences.specs.Handing.{handAll};
 ghost use Rattle.handing.specs.Differs.{handingWith};
-use directory::Entry;
-use directory::Walked;
 use disk::AnodeNo;
 use disk::BlockNo;
 use disk::block_part;
+use endian::read8;
+use endian::read16;
 use handing::Differs;
 use handing::Handed;
 use handing::hand_out;
-use reader::read_entry;
 use tables::entry;
 
 // Hands out the entry at a place of block `b`, unless it was met.
-fn unmet_entry(met: &[u16], b: BlockNo, at: usize, e: Entry, out: &mut [u32], c: Handed) -> Handed
+fn unmet_entry(
+    met: &[u16],
+    b: BlockNo,
+    at: usize,
+    anode: AnodeNo,
+    out: &mut [u32],
+    c: Handed,
+) -> Handed
     requires { ⌜ at ≤ 65535 ⌝ }
-    ensures { λ r. ⌜ ((name : List ℕ) → handingWith (now (out .exit)) r ≡ handAll (handingWith (now (out .entry)) c) (unmet (now (met .entry)) (enteredAt e name (b .0 * 512 + at)))) ⌝ }
+    ensures { λ r. ⌜ ((f : Entered) → f .anode ≡ anode .0 → f .start ≡ b .0 * 512 + at → handingWith (now (out .exit)) r ≡ handAll (handingWith (now (out .entry)) c) (unmet (now (met .entry)) f)) ⌝ }
 {
-    if entry(met, e.anode.0 as usize) != 0 {
+    if entry(met, anode.0 as usize) != 0 {
         return c;
     }
     let start = (b.0 as u32) * 512 + (at as u32);
     hand_out(out, c, Differs::OnlySecond(start))
 }
 
-// Those of block `b`.
+// Those of block `b`, whose entries are right: the length byte and the anode are all that is read of one.
 fn unmet_block(image: &[u8], met: &[u16], b: BlockNo, out: &mut [u32], c: Handed) -> Handed
     requires { ⌜ Unbroken (entriesIn (now image) (b .0)) ⌝ }
     ensures { λ r. ⌜ handingWith (now (out .exit)) r ≡ handAll (handingWith (now (out .entry)) c) (gather (unmet (now (met .entry))) (entriesIn (now (image .entry)) (b .0))) ⌝ }
@@ -45,16 +51,14 @@ fn unmet_block(image: &[u8], met: &[u16], b: BlockNo, out: &mut [u32], c: Handed
     let mut at: usize = 16;
     let mut fuel: usize = 28;
     while fuel > 0 {
-        let read = read_entry(block, at);
-        let walked = read.walked;
-        let e = match walked {
-            Walked::Found(e) => e,
-            Walked::End => return so_far,
-            Walked::Fault(_) => return so_far,
-        };
-        let after = unmet_entry(met, b, at, e, out, so_far);
+        let len = read8(block, at) as usize;
+        if len == 0 {
+            return so_far;
+        }
+        let anode = AnodeNo(read16(block, at + 2));
+        let after = unmet_entry(met, b, at, anode, out, so_far);
         so_far = after;
-        at = read.after;
+        at += len;
         fuel -= 1;
     }
     so_far

@@ -1,5 +1,4 @@
 use mathlib.Core.Path.{sym, _∙_}
-use Rattle.laws.specs.Entries.{enteredAt}
 use Rattle.unmet_entries.proofs.Laws.{hand-met, hand-not-met}
 use borrow.Author.Needs.{needs}
 use Rattle.unmet_entries.proofs.unmet_entry.Statement.{statement}
@@ -12,7 +11,7 @@ entry-requires : tie.Need-entry-requires
 entry-requires c κs = search needs
 
 returns : tie.Need-returns
-returns c = λ name. sym (hand-met _ (enteredAt (c .before .before .before .before .before .args .e) name _) _ (rw (c .before .entry .ensures) at (c .if1 .taken)))
+returns c = λ f a s. sym (hand-met _ f _ (rw a (rw (c .before .entry .ensures) at (c .if1 .taken))))
 
 cast-start : tie.Need-cast-start
 cast-start c = search needs
@@ -33,7 +32,7 @@ same-length : tie.Need-same-length
 same-length c = search needs
 
 returns-2 : tie.Need-returns-2
-returns-2 c = λ name. c .before .before .hand-out .ensures ∙ sym (hand-not-met _ (enteredAt (c .before .before .before .before .before .before .before .before .before .before .args .e) name _) _ (sym (c .before .before .before .before .before .before .entry .ensures) ∙ c .before .before .before .before .before .if1 .left))
+returns-2 c = λ f a s. c .before .before .hand-out .ensures ∙ sym (hand-not-met _ f _ (rw a (sym (c .before .before .before .before .before .before .entry .ensures) ∙ c .before .before .before .before .before .if1 .left)) ∙ rw s)
 
 pub unmet-entry-spec : {M : Type 1} → statement M
 unmet-entry-spec =
