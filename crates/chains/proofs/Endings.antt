@@ -2,14 +2,14 @@
 use Prim.Native.Nat.{ℕ, zero, suc, _+_, _≤_, _<_}
 use mathlib.Core.Path.{_≡_, refl, sym, ap, _∙_}
 use mathlib.Core.Logic.{_≢_, inl, inr}
-use mathlib.Core.Bool.{Bool, true, false, not, _&&_}
+use mathlib.Core.Bool.{Bool, true, false, not, _&&_, _||_}
 use mathlib.Core.List.{List}
 use native.Mathlib.Omega.{arith}
 use native.Mathlib.Numerals.{add-one}
 use lib.ListN.{length, getD, set, replicate, length-set, length-replicate}
 use lib.Seq.{getD-set-same, getD-set-other}
 use lib.Dec.{eqb, eqb→eq, T-not}
-use borrow.Author.Tests.{eqb-false}
+use borrow.Author.Tests.{ne-eqb, eqb-false}
 use Rattle.endian.proofs.Laws.{getD-zeros}
 use Rattle.rules.specs.Counting.{anyBelow}
 use Rattle.rules.specs.Chains.{followed}
@@ -105,6 +105,17 @@ module _ (t n : List ℕ) (w : PredTable t n) (first : getD n 0 0 ≡ 0) where
 
       before-in : before < length m
       before-in = rw (← whole) (entry-below n before (λ z. omega (arith, sym leads ∙ z)))
+
+-- ---- unmarked anodes, without a test for anode 0
+
+module _ (b m : List ℕ) where
+  pub unmarked-first : anyBelow (unmarked b m) 1 ≡ false
+  unfolding anyBelow unmarked
+  unmarked-first = refl
+
+  pub unmarked-more : (a : ℕ) → 0 < a → (anyBelow (unmarked b m) a || (not (eqb (getD b a 0) 0) && eqb (getD m a 0) 0)) ≡ anyBelow (unmarked b m) (a + 1)
+  unfolding anyBelow unmarked
+  unmarked-more a l = rw (add-one a, ne-eqb a 0 (λ e. omega arith))
 
 -- ---- the ends, one anode after the other
 

@@ -12,6 +12,7 @@ use Rattle.rules.specs.Anodes.{Anodes, limit, isFree}
 use Rattle.rules.specs.Chains.{oneIfHead}
 use Rattle.rules.specs.Accepted.{wrongFixed, halfCleared, wrongExtent, outOfRange}
 use Rattle.rules.specs.Tables.{chainHead, anodeEntry, anodeTable}
+use Rattle.anodes.specs.Loaded.{anodesFrom}
 use Rattle.counting.specs.Laws.{none-and}
 use Rattle.laws.specs.Tests.{same?}
 use Rattle.laws.specs.Chains.{HeadTable}
@@ -48,6 +49,12 @@ cleared-range s n a z = rw (eq-eqb (s .block a) 0 z) (go (same? (s .count a) 0) 
 pub used-range : (s : Anodes) (n a : ℕ) → s .block a ≢ 0 → outOfRange s n a ≡ wrongExtent s n a
 unfolding outOfRange halfCleared
 used-range s n a u = rw (ne-eqb (s .block a) 0 u)
+
+-- a free anode is not out of range
+pub zeros-range : (c b n : List ℕ) (size a : ℕ) → getD c a 0 ≡ 0 → getD b a 0 ≡ 0 → getD n a 0 ≡ 0 → outOfRange (anodesFrom c b n) size a ≡ false
+unfolding anodesFrom isFree
+zeros-range c b n size a p q r =
+    cleared-range (anodesFrom c b n) size a q ∙ rw (eq-eqb (getD c a 0) 0 p, eq-eqb (getD b a 0) 0 q, eq-eqb (getD n a 0) 0 r)
 
 -- ---- the table of heads
 

@@ -6,3 +6,4 @@ pub mod Endings
 pub mod Links
 pub mod Filling
 pub mod Laws
+pub mod Runs

@@ -1,5 +1,5 @@
 // Refusals 6 to 9 and the heads of chains, over the anodes in three lent tables.
-ghost use mathlib.Core.Bool.{_&&_, false, not};
+ghost use mathlib.Core.Bool.{_&&_, true, false, not};
 ghost use mathlib.Core.List.{List, _++_};
 ghost use mathlib.Core.Path.{_≡_};
 ghost use Prim.Native.Nat.{ℕ, _+_, _≤_, _<_};
@@ -11,7 +11,7 @@ ghost use Rattle.rules.specs.Chains.{chainOf};
 ghost use Rattle.rules.specs.Accepted.{wrongFixed, wrongExtent, outOfRange, wrongLinks, notUpTo, wrongFreeList};
 ghost use Rattle.rules.specs.Tables.{anodeTable};
 ghost use Rattle.laws.specs.Links.{View, Closed, Linked};
-ghost use Rattle.tables.specs.Held.{ZeroBelow};
+ghost use Rattle.tables.specs.Held.{ZeroBelow, ZeroFrom};
 ghost use Rattle.anodes.specs.Loaded.{anodesFrom};
 ghost use Rattle.chains.specs.Predecessors.{PredTable, NotedBelow, Noted, fixedNoted};
 ghost use Rattle.chains.specs.Storing.{storedAlong};
@@ -21,6 +21,7 @@ ghost use Rattle.chains.specs.Filling.{FilledBelow};
 use tables::entry;
 use tables::set_entry;
 use tables::zero_first;
+use tables::zeros_from;
 
 // Anode `a` is not an empty one in use: its count is not 0, or its block not 65535.
 fn not_empty(counts: &[u16], firsts: &[u16], a: usize) -> bool
@@ -102,12 +103,62 @@ fn anode_out_of_range(counts: &[u16], firsts: &[u16], nexts: &[u16], size: usize
     wrong_extent(counts, firsts, nexts, size, a)
 }
 
+// Whether all three fields of the 82 anodes from `from` on are there and 0.
+fn all_cleared(counts: &[u16], firsts: &[u16], nexts: &[u16], from: usize) -> bool
+    ensures { λ r. ⌜ (r ≡ true → ZeroFrom (now (counts .entry)) from (from + 82) × ZeroFrom (now (firsts .entry)) from (from + 82) × ZeroFrom (now (nexts .entry)) from (from + 82)) ⌝ }
+{
+    if !zeros_from(counts, from) {
+        return false;
+    }
+    if !zeros_from(firsts, from) {
+        return false;
+    }
+    zeros_from(nexts, from)
+}
+
+// 7 for the anodes below `end`, where it holds for none below `from`.
+fn run_out_of_range(
+    counts: &[u16],
+    firsts: &[u16],
+    nexts: &[u16],
+    size: usize,
+    from: usize,
+    end: usize,
+) -> bool
+    requires { ⌜ (from ≤ end) × (anyBelow (outOfRange (anodesFrom (now counts) (now firsts) (now nexts)) size) from ≡ false) ⌝ }
+    ensures { λ r. ⌜ r ≡ anyBelow (outOfRange (anodesFrom (now (counts .entry)) (now (firsts .entry)) (now (nexts .entry))) size) end ⌝ }
+{
+    for a in from..end {
+        if anode_out_of_range(counts, firsts, nexts, size, a) {
+            return true;
+        }
+    }
+    false
+}
+
+// The same for the 82 anodes from `from` on, which are passed over where all are free.
+fn chunk_out_of_range(
+    counts: &[u16],
+    firsts: &[u16],
+    nexts: &[u16],
+    size: usize,
+    from: usize,
+) -> bool
+    requires { ⌜ (from < 3444) × (anyBelow (outOfRange (anodesFrom (now counts) (now firsts) (now nexts)) size) from ≡ false) ⌝ }
+    ensures { λ r. ⌜ r ≡ anyBelow (outOfRange (anodesFrom (now (counts .entry)) (now (firsts .entry)) (now (nexts .entry))) size) (from + 82) ⌝ }
+{
+    if all_cleared(counts, firsts, nexts, from) {
+        return false;
+    }
+    run_out_of_range(counts, firsts, nexts, size, from, from + 82)
+}
+
 // 7: a half-cleared anode, an extent past the disk's end, or a next that is not in use.
 pub fn out_of_range(counts: &[u16], firsts: &[u16], nexts: &[u16], size: usize) -> bool
     ensures { λ r. ⌜ r ≡ anyBelow (outOfRange (anodesFrom (now (counts .entry)) (now (firsts .entry)) (now (nexts .entry))) size) 3444 ⌝ }
 {
-    for a in 0..3444 {
-        if anode_out_of_range(counts, firsts, nexts, size, a) {
+    for k in 0..42 {
+        if chunk_out_of_range(counts, firsts, nexts, size, k * 82) {
             return true;
         }
     }
@@ -130,13 +181,37 @@ fn note_pred(nexts: &[u16], preds: &mut [u16], a: u16) -> bool
     false
 }
 
+// Notes the anodes from `from` up to `end`; true if a next of theirs has a predecessor already.
+fn note_run(nexts: &[u16], preds: &mut [u16], from: u16, end: u16) -> bool
+    requires { ⌜ (from ≤ end) × (end ≤ 3444) × (length (now preds) ≡ 3444) × (getD (now nexts) 0 0 ≡ 0) × ((x : ℕ) → getD (now nexts) x 0 < 3444) × NotedBelow (now preds) (now nexts) from ⌝ }
+    ensures { λ r. ⌜ Noted r (now (preds .exit)) (now (nexts .entry)) end ⌝ }
+{
+    for a in from..end {
+        if note_pred(nexts, preds, a) {
+            return true;
+        }
+    }
+    false
+}
+
+// The same for the 82 anodes from `from` on, which are passed over where none has a next.
+fn note_chunk(nexts: &[u16], preds: &mut [u16], from: u16) -> bool
+    requires { ⌜ (from + 82 ≤ 3444) × (length (now preds) ≡ 3444) × (getD (now nexts) 0 0 ≡ 0) × ((x : ℕ) → getD (now nexts) x 0 < 3444) × NotedBelow (now preds) (now nexts) from ⌝ }
+    ensures { λ r. ⌜ Noted r (now (preds .exit)) (now (nexts .entry)) (from + 82) ⌝ }
+{
+    if zeros_from(nexts, from as usize) {
+        return false;
+    }
+    note_run(nexts, preds, from, from + 82)
+}
+
 // Notes each anode's predecessor; true if one has two.
 fn note_preds(nexts: &[u16], preds: &mut [u16]) -> bool
     requires { ⌜ (now preds ≡ replicate 3444 0) × (getD (now nexts) 0 0 ≡ 0) × ((x : ℕ) → getD (now nexts) x 0 < 3444) ⌝ }
     ensures { λ r. ⌜ Noted r (now (preds .exit)) (now (nexts .entry)) 3444 ⌝ }
 {
-    for a in 0..3444 {
-        if note_pred(nexts, preds, a) {
+    for k in 0..42 {
+        if note_chunk(nexts, preds, k * 82) {
             return true;
         }
     }
@@ -189,13 +264,41 @@ fn mark_end(firsts: &[u16], nexts: &[u16], preds: &[u16], marks: &mut [u16], a: 
     store_along(preds, marks, 1, a);
 }
 
+// Marks the chains whose last anode is one from `from` up to `end`.
+fn mark_run(
+    firsts: &[u16],
+    nexts: &[u16],
+    preds: &[u16],
+    marks: &mut [u16],
+    from: usize,
+    end: usize,
+)
+    requires { ⌜ (from ≤ end) × (end ≤ 3444) × (length (now nexts) ≡ 3444) × (getD (now nexts) 0 0 ≡ 0) × PredTable (now preds) (now nexts) × EndsBelow (now marks) (now nexts) (now firsts) from ⌝ }
+    ensures { λ _. ⌜ EndsBelow (now (marks .exit)) (now (nexts .entry)) (now (firsts .entry)) end ⌝ }
+{
+    for a in from..end {
+        mark_end(firsts, nexts, preds, marks, a);
+    }
+}
+
+// The same for the 82 anodes from `from` on, which are passed over where all are free.
+fn mark_chunk(firsts: &[u16], nexts: &[u16], preds: &[u16], marks: &mut [u16], from: usize)
+    requires { ⌜ (from + 82 ≤ 3444) × (length (now nexts) ≡ 3444) × (getD (now nexts) 0 0 ≡ 0) × PredTable (now preds) (now nexts) × EndsBelow (now marks) (now nexts) (now firsts) from ⌝ }
+    ensures { λ _. ⌜ EndsBelow (now (marks .exit)) (now (nexts .entry)) (now (firsts .entry)) (from + 82) ⌝ }
+{
+    if zeros_from(firsts, from) {
+        return;
+    }
+    mark_run(firsts, nexts, preds, marks, from, from + 82);
+}
+
 // Marks the anodes whose chains end.
 fn mark_ends(firsts: &[u16], nexts: &[u16], preds: &[u16], marks: &mut [u16])
     requires { ⌜ (now marks ≡ replicate 3444 0) × (length (now nexts) ≡ 3444) × (getD (now nexts) 0 0 ≡ 0) × PredTable (now preds) (now nexts) ⌝ }
     ensures { λ _. ⌜ EndsBelow (now (marks .exit)) (now (nexts .entry)) (now (firsts .entry)) 3444 ⌝ }
 {
-    for a in 0..3444 {
-        mark_end(firsts, nexts, preds, marks, a);
+    for k in 0..42 {
+        mark_chunk(firsts, nexts, preds, marks, k * 82);
     }
 }
 
@@ -212,8 +315,8 @@ fn is_unmarked(firsts: &[u16], marks: &[u16], a: usize) -> bool
     entry(marks, a) == 0
 }
 
-// Some anode in use, not 0, is not marked.
-fn some_unmarked(firsts: &[u16], marks: &[u16]) -> bool
+// Some anode in use, not 0, is not marked: one after the other, in tables that may be short.
+fn search_unmarked(firsts: &[u16], marks: &[u16]) -> bool
     ensures { λ r. ⌜ r ≡ anyBelow (unmarked (now (firsts .entry)) (now (marks .entry))) 3444 ⌝ }
 {
     for a in 0..3444 {
@@ -222,6 +325,31 @@ fn some_unmarked(firsts: &[u16], marks: &[u16]) -> bool
         }
     }
     false
+}
+
+// The same in tables with a number for each anode: no early way out, so that many are tested at once.
+fn any_unmarked(firsts: &[u16], marks: &[u16]) -> bool
+    requires { ⌜ (3444 ≤ length (now firsts)) × (3444 ≤ length (now marks)) ⌝ }
+    ensures { λ r. ⌜ r ≡ anyBelow (unmarked (now (firsts .entry)) (now (marks .entry))) 3444 ⌝ }
+{
+    let mut any = false;
+    for a in 1..3444 {
+        any = any | ((firsts[a] != 0) & (marks[a] == 0));
+    }
+    any
+}
+
+// Some anode in use, not 0, is not marked.
+fn some_unmarked(firsts: &[u16], marks: &[u16]) -> bool
+    ensures { λ r. ⌜ r ≡ anyBelow (unmarked (now (firsts .entry)) (now (marks .entry))) 3444 ⌝ }
+{
+    if firsts.len() < 3444 {
+        return search_unmarked(firsts, marks);
+    }
+    if marks.len() < 3444 {
+        return search_unmarked(firsts, marks);
+    }
+    any_unmarked(firsts, marks)
 }
 
 // Some anode's chain never ends.
@@ -264,13 +392,35 @@ fn fill_head(firsts: &[u16], nexts: &[u16], preds: &[u16], heads: &mut [u16], a:
     store_along(nexts, heads, a, from);
 }
 
+// Stores each head from `from` up to `end` along its chain.
+fn fill_run(firsts: &[u16], nexts: &[u16], preds: &[u16], heads: &mut [u16], from: u16, end: u16)
+    requires { ⌜ (0 < from) × (from ≤ end) × Linked 3444 (λ x. getD (now nexts) x 0) (λ x. getD (now firsts) x 0) × PredTable (now preds) (now nexts) × FilledBelow (now heads) (now nexts) (now firsts) from ⌝ }
+    ensures { λ _. ⌜ (drop 3444 (now (heads .exit)) ≡ drop 3444 (now (heads .entry))) × FilledBelow (now (heads .exit)) (now (nexts .entry)) (now (firsts .entry)) end ⌝ }
+{
+    for a in from..end {
+        fill_head(firsts, nexts, preds, heads, a);
+    }
+}
+
+// The same for the 82 anodes from `from` on, which are passed over where all are free.
+fn fill_chunk(firsts: &[u16], nexts: &[u16], preds: &[u16], heads: &mut [u16], from: u16)
+    requires { ⌜ (0 < from) × (from < 3444) × Linked 3444 (λ x. getD (now nexts) x 0) (λ x. getD (now firsts) x 0) × PredTable (now preds) (now nexts) × FilledBelow (now heads) (now nexts) (now firsts) from ⌝ }
+    ensures { λ _. ⌜ (drop 3444 (now (heads .exit)) ≡ drop 3444 (now (heads .entry))) × FilledBelow (now (heads .exit)) (now (nexts .entry)) (now (firsts .entry)) (from + 82) ⌝ }
+{
+    if zeros_from(firsts, from as usize) {
+        return;
+    }
+    fill_run(firsts, nexts, preds, heads, from, from + 82);
+}
+
 // The head of each anode's chain, or 0 for anode 0 and free ones, in the first 3,444 entries of the lent table.
 pub fn fill_heads(firsts: &[u16], nexts: &[u16], preds: &[u16], heads: &mut [u16])
     requires { ⌜ (3444 ≤ length (now heads)) × ZeroBelow (now heads) 3444 × Linked 3444 (λ a. getD (now nexts) a 0) (λ a. getD (now firsts) a 0) × PredTable (now preds) (now nexts) ⌝ }
     ensures { λ _. ⌜ ((c : List ℕ) → now (heads .exit) ≡ anodeTable (anodesFrom c (now (firsts .entry)) (now (nexts .entry))) ++ drop 3444 (now (heads .entry))) ⌝ }
 {
-    for a in 1..3444 {
-        fill_head(firsts, nexts, preds, heads, a);
+    fill_run(firsts, nexts, preds, heads, 1, 82);
+    for k in 1..42 {
+        fill_chunk(firsts, nexts, preds, heads, k * 82);
     }
 }
 

@@ -6,8 +6,9 @@ use mathlib.Core.List.{List}
 use native.Mathlib.Omega.{arith}
 use native.Mathlib.Nat.{eq-or-lt-of-le}
 use lib.ListN.{length, getD, set, drop, replicate, length-replicate, List·getD-append, getD-replicate}
+use lib.Bits.{bitOr, or-add-and, and-le-l, and-le-r}
 use lib.Seq.{getD-set-same, getD-set-other, drop-at}
-use Rattle.tables.specs.Held.{HeldBelow, ZeroBelow, zeroedFirst}
+use Rattle.tables.specs.Held.{HeldBelow, ZeroBelow, ZeroFrom, zeroedFirst}
 
 -- the number at k too
 pub held-next : (f : ℕ → ℕ) (l : List ℕ) (k : ℕ) → HeldBelow f l k → getD l k 0 ≡ f k → HeldBelow f l (k + 1)
@@ -25,3 +26,14 @@ module _ (n : ℕ) (old t : List ℕ) (is : t ≡ zeroedFirst n old) where
   -- the numbers behind them are kept
   pub zeroed-past : drop n t ≡ drop n old
   zeroed-past = ap (λ (l : List ℕ). drop n l) is ∙ drop-at (replicate n 0) (drop n old) n (length-replicate {A = ℕ} n 0)
+
+-- the number behind them is 0 too, where all joined by "or" are 0
+pub zeros-more : (l : List ℕ) (from i any : ℕ) → (any ≡ 0 → ZeroFrom l from (from + i)) → bitOr any (getD l (from + i) 0) ≡ 0
+    → ZeroFrom l from (from + (i + 1))
+zeros-more l from i any old e = λ a p q.
+    let x = getD l (from + i) 0 in
+    let both = or-add-and any x in
+    let none : any ≡ 0 = omega (arith, both, e, and-le-r any x) in
+    let last : getD l (from + i) 0 ≡ 0 = omega (arith, both, e, and-le-l any x) in
+    let m : a ≤ from + i = omega arith in
+    ⊎-elim (λ h. rw h last) (old none a p) (eq-or-lt-of-le m)

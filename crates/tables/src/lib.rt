@@ -1,8 +1,9 @@
 // Tables of two-byte numbers in lent memory. Reading past the end gives 0 and writing past it changes nothing.
 ghost use mathlib.Core.Path.{_≡_};
-ghost use Prim.Native.Nat.{_≤_};
+ghost use mathlib.Core.Bool.{true};
+ghost use Prim.Native.Nat.{_+_, _≤_};
 ghost use lib.ListN.{length, getD, set};
-ghost use Rattle.tables.specs.Held.{zeroedFirst};
+ghost use Rattle.tables.specs.Held.{zeroedFirst, ZeroFrom};
 
 // The number at `i`.
 pub fn entry(table: &[u16], i: usize) -> u16
@@ -47,4 +48,21 @@ pub fn copy_entries(source: &[u16], table: &mut [u16])
         table[i] = source[i];
         i += 1;
     }
+}
+
+// Whether the 82 numbers from `from` on, as many as an anode block holds, are all there and 0: no early way out, so that many are tested at once.
+pub fn zeros_from(table: &[u16], from: usize) -> bool
+    ensures { λ r. ⌜ (r ≡ true → ZeroFrom (now (table .entry)) from (from + 82)) ⌝ }
+{
+    if table.len() < 82 {
+        return false;
+    }
+    if table.len() - 82 < from {
+        return false;
+    }
+    let mut any: u16 = 0;
+    for i in 0..82 {
+        any = any | table[from + i];
+    }
+    any == 0
 }

@@ -6,8 +6,8 @@ use borrow.Author.Needs.{needs}
 use Rattle.rules.specs.Counting.{anyBelow}
 use Rattle.counting.specs.Laws.{anyBelow-none, anyBelow-more, anyBelow-hit}
 use Rattle.chains.specs.Endings.{unmarked}
-use Rattle.chains.proofs.some_unmarked.Statement.{statement}
-use Rattle.chains.proofs.some_unmarked.Tie as tie
+use Rattle.chains.proofs.search_unmarked.Statement.{statement}
+use Rattle.chains.proofs.search_unmarked.Tie as tie
 
 abbrev Inv-loop : tie.InvT-loop
 Inv-loop firsts marks a₀ a = (a ≤ 3444) × (anyBelow (unmarked firsts marks) a ≡ false)
@@ -36,8 +36,8 @@ loop-again c = (search needs, anyBelow-more _ _ (c .before .before .before .loop
 returns-2 : tie.Need-returns-2 Inv-loop μ-loop
 returns-2 c = let e : c .before .loop .a ≡ 3444 = omega arith in sym (rw e at (c .before .loop .inv .1))
 
-pub some-unmarked-spec : {M : Type 1} → statement M
-some-unmarked-spec =
+pub search-unmarked-spec : {M : Type 1} → statement M
+search-unmarked-spec =
     tie.close
     (tie.spec
     Inv-loop
