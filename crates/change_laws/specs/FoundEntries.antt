@@ -55,7 +55,7 @@ module _ (b b′ : List ℕ) (at at′ : ℕ) (whole : length b ≡ 512) (whole�
       (part-same b′ b (at′ + 16) (at + 16) (nameLength b at) (omega (arith, f .exact)) (omega (arith, f .exact, f .room))
       (λ i l. rw (add-assoc at′ 16 i, add-assoc at 16 i) (same (16 + i) (omega (arith, f .exact)))))
 
-  same-fields : (k : Kind) → entryIn b′ at′ k ≡ entryIn b at k
+  pub same-fields : (k : Kind) → entryIn b′ at′ k ≡ entryIn b at k
   unfolding entryIn
   same-fields k = rw (
     same16 2 (omega arith),

@@ -1,6 +1,6 @@
 -- Make: the image that it leaves of an accepted one is accepted.
 use Prim.Native.Nat.{ℕ, _+_, _*_, _<_}
-use mathlib.Core.Path.{_≡_, refl, sym, ap, _∙_}
+use mathlib.Core.Path.{_≡_, refl, sym, ap, subst, _∙_}
 use mathlib.Core.Logic.{_≢_, _⊎_, inl, inr}
 use mathlib.Core.Bool.{Bool, true, false, cond}
 use mathlib.Core.List.{List, [], _∷_}
@@ -77,16 +77,22 @@ module _ {img : List ℕ} {h : ℕ} {new : NewEntry} {f : ℕ} {room : Option �
   ]
 
   -- the block that gains it is not the new chain's
-  not-spot : f ≢ spot m .anode
+  pub not-spot : f ≢ spot m .anode
   not-spot e = not-fresh m h (reached-head (parent m)) (reached-not-1 (parent m)) (sym (its-head m) ∙ ap (plan m .hd′) (sym e) ∙ orphan m .good .heads .at-head f (orphan m .head))
+
+  -- the new directory has one block
+  pub own-one : new .dir ≡ true → u .anodes .count f ≡ 1
+  own-one d = plan m .own-count ∙ ap (λ (b : Bool). cond {A = ℕ} b 1 0) d
+
+  -- which is new
+  pub own-stored : new .dir ≡ true → blockOf (madeImage img (anodesOf img) h new f room ys u zs) (u .anodes .block f) ≡ newDirectoryBlock f h
+  own-stored d =
+      let p : 0 < occurrences (t .block f) ys = first-in (t .block f) ys (plan m .own-blocks ∙ ap (λ (b : Bool). cond b (t .block f ∷ []) []) d) in
+      entry-other m f (own-one d) not-spot ∙ own-new m (t .block f) p
 
   -- the new directory has no entry
   own-empty : new .dir ≡ true → itemsBy (entriesIn j) (isBlockOf j) t newDir ≡ []
-  own-empty d =
-      let one : t .count f ≡ 1 = plan m .own-count ∙ ap (λ (b : Bool). cond {A = ℕ} b 1 0) d in
-      let p : 0 < occurrences (t .block f) ys = first-in (t .block f) ys (plan m .own-blocks ∙ ap (λ (b : Bool). cond b (t .block f ∷ []) []) d) in
-      let block : blockOf j (t .block f) ≡ newDirectoryBlock f h = entry-other m f one not-spot ∙ own-new m (t .block f) p in
-      none-new j t newDir (plan m .own-chain) one block
+  own-empty d = none-new j t newDir (plan m .own-chain) (own-one d) (own-stored d)
 
   -- a new file has no block
   none-yet : new .dir ≡ false → blockCount t f ≡ blocksFor 0
@@ -115,7 +121,8 @@ module _ {img : List ℕ} {h : ℕ} {new : NewEntry} {f : ℕ} {room : Option �
       (ap (λ (k : ℕ). firstNamed (new .name) (gather (λ a. entriesIn img (m .ready .anodes .block a)) (chainOf (m .ready .anodes .next) limit k))) i ∙ ap (firstNamed (new .name)) (entries-along (ready-chain m) img) ∙ unused))
       (each-zero (faults items) (dirs m) (ready-whole m .tree .faultless))
 
-  made-whole : WholeOn (diskAt img u) (j m) (t m) (plan m .hd′) (plan m .sd′) (grown m (new .dir))
+  -- the state that a make leaves is whole
+  pub made-whole : WholeOn (diskAt img u) (madeImage img (anodesOf img) h new f room ys u zs) (u .anodes) (plan m .hd′) (plan m .sd′) (cond (new .dir) (dirMade f h ∷ reachedDirs img (anodesOf img)) (reachedDirs img (anodesOf img)))
   unfolding entryOf
   made-whole = go (new .dir) refl
     where
@@ -182,16 +189,14 @@ module _ (growth : Growth) (img : List ℕ) (s : Slotted) (h : ℕ) (new : NewEn
   made-answer = made-cases (λ o. StepsAnswer (o .answer)) (inr (inl refl)) (inr (inr refl)) (λ q xs e r ys f t zs i. inl refl)
 
 -- growth: how slots grow
-module _ {img : List ℕ} {growth : Growth} (grows : Grows limit (diskSize img) (lastReserved img) growth) {h : ℕ} (r : ReachedDir img h) (new : NewEntry) (named : goodName (new .name) ≡ true) (commented : goodComment (new .comment) ≡ true)
-    (unused : entryNamed img (anodesOf img) h (new .name) ≡ none) where
-  -- what a make leaves of an accepted image is accepted, where the directory has no entry of that name
-  pub make-accepted : StillAccepted (r .image) (made growth img (tableOf img) h new .image)
+module _ {img : List ℕ} {growth : Growth} (grows : Grows limit (diskSize img) (lastReserved img) growth) {h : ℕ} (r : ReachedDir img h) (new : NewEntry) (named : goodName (new .name) ≡ true) (commented : goodComment (new .comment) ≡ true) where
+  -- of an accepted image it is refused with 27 or 28, or planned
+  pub planned-cases : (P : Left → Type 0) → P (left 27 img) → P (left 28 img) →
+      ((f : ℕ) (room : Option ℕ) (ys : List ℕ) (t : Slotted) (zs : List ℕ) (m : Making img h new f room ys t zs) → m .fresh .parent ≡ r → P (left 0 (madeImage img (anodesOf img) h new f room ys t zs))) → P (made growth img (tableOf img) h new)
   unfolding roomFor
-  make-accepted =
-      let a = r .image in
-      made-cases growth img (tableOf img) h new (λ o. StillAccepted a (o .image)) (a .accepted) (a .accepted) (λ q xs e between ys f t zs i.
-      let (gs, v, free, empty) = spare-moved grows (start-owned (slotOf img)) (accepted-whole a .good) q xs e in
-      image-accepted (record {
+  planned-cases P full no-anode done = made-cases growth img (tableOf img) h new P full no-anode (λ q xs e between ys f t zs i.
+      let (gs, v, free, empty) = spare-moved grows (start-owned (slotOf img)) (accepted-whole (r .image) .good) q xs e in
+      done (lowestFree limit (existsBy (q .slots)) (q .anodes)) (roomFor img (anodesOf img) h new) ys t zs (record {
         growth = growth;
         grows = grows;
         ready = q;
@@ -199,8 +204,13 @@ module _ {img : List ℕ} {growth : Growth} (grows : Grows limit (diskSize img) 
         steps = record { between = between; own = f; roomy = refl; parent = i };
         named = named;
         commented = commented;
-      }) unused)
+      }) refl)
 
-  -- and so its names are apart: a make keeps them so
-  pub make-names-apart : NamesApart (made growth img (tableOf img) h new .image)
-  make-names-apart = accepted-names-apart _ (r .image .blocks) (r .image .anodes) make-accepted
+  module _ (unused : entryNamed img (anodesOf img) h (new .name) ≡ none) where
+    -- what a make leaves of an accepted image is accepted, where the directory has no entry of that name
+    pub make-accepted : StillAccepted (r .image) (made growth img (tableOf img) h new .image)
+    make-accepted = planned-cases (λ o. StillAccepted (r .image) (o .image)) (r .image .accepted) (r .image .accepted) (λ f room ys t zs m is. subst (λ (d : ReachedDir img h). StillAccepted (d .image) (madeImage img (anodesOf img) h new f room ys t zs)) is (image-accepted m unused))
+
+    -- and so its names are apart: a make keeps them so
+    pub make-names-apart : NamesApart (made growth img (tableOf img) h new .image)
+    make-names-apart = accepted-names-apart _ (r .image .blocks) (r .image .anodes) make-accepted

@@ -250,7 +250,8 @@ module _ {img : List ℕ} {h : ℕ} {new : NewEntry} {f : ℕ} {room : Option �
         | inr q ↦ rw (ap (blockOf j) (sym (kept .1)) ∙ entry-other m a (kept .0 ∙ g .block-facts .one) q ∙ ap (blockOf (before m)) (kept .1) ∙ old)
       ] ∙ sym (bytes-at img (e .start) (s .block a) at start (omega arith))
 
-  new-whole : length (blockOf (before m) (t .block (spot m .anode))) ≡ 512
+  -- the block that gets the entry is a whole one
+  pub new-whole : length (blockOf (before m) (t .block (spot m .anode))) ≡ 512
   new-whole = length-blockOf (before m) (t .block (spot m .anode)) (inside-before m (t .block (spot m .anode)) (spot-data m))
 
   -- the new one is found there with its fields

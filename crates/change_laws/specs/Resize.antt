@@ -34,15 +34,15 @@ use Rattle.change_laws.specs.ResizeStores.{PlannedResize, steps, table, 
 unfoldable pub resizedEntry : ℕ → ℕ → Entered → Entered
 resizedEntry h new x = cond (eqb (x .anode) h) (sized new x) x
 
-resized-it : (h new : ℕ) (x : Entered) → x .anode ≡ h → resizedEntry h new x ≡ sized new x
+pub resized-it : (h new : ℕ) (x : Entered) → x .anode ≡ h → resizedEntry h new x ≡ sized new x
 unfolding resizedEntry
 resized-it h new x e = rw (eq-eqb (x .anode) h e)
 
-resized-other : (h new : ℕ) (x : Entered) → x .anode ≢ h → resizedEntry h new x ≡ x
+pub resized-other : (h new : ℕ) (x : Entered) → x .anode ≢ h → resizedEntry h new x ≡ x
 unfolding resizedEntry
 resized-other h new x n = rw (ne-eqb (x .anode) h n)
 
-resized-fields : (h new : ℕ) (x : Entered) → (resizedEntry h new x .broken ≡ x .broken) × (resizedEntry h new x .dir ≡ x .dir) × (resizedEntry h new x .anode ≡ x .anode) × (resizedEntry h new x .name ≡ x .name)
+pub resized-fields : (h new : ℕ) (x : Entered) → (resizedEntry h new x .broken ≡ x .broken) × (resizedEntry h new x .dir ≡ x .dir) × (resizedEntry h new x .anode ≡ x .anode) × (resizedEntry h new x .name ≡ x .name)
 unfolding resizedEntry
 resized-fields h new x = go (eqb (x .anode) h)
   where
@@ -51,7 +51,7 @@ resized-fields h new x = go (eqb (x .anode) h)
     go false = (refl, refl, refl, refl)
 
 -- entries that do not name h stay
-others-stay : (h new : ℕ) (l : List Entered) → ((x : Entered) → Member x l → x .anode ≢ h) → map (resizedEntry h new) l ≡ l
+pub others-stay : (h new : ℕ) (l : List Entered) → ((x : Entered) → Member x l → x .anode ≢ h) → map (resizedEntry h new) l ≡ l
 others-stay h new l n = map-kept (resizedEntry h new) l (λ x m. resized-other h new x (n x m))
 
 pub one-resized : (h new : ℕ) (before : List Entered) (e : Entered) (after : List Entered) → e .anode ≡ h → ((x : Entered) → Member x before ⊎ Member x after → x .anode ≢ h) →

@@ -7,7 +7,7 @@ use mathlib.Core.List.{List, [], _∷_, _++_, append-nil, append-assoc}
 use native.Mathlib.Omega.{arith}
 use lib.Dec.{ltb}
 use lib.ListN.{length, take, replicate, length-replicate, replicate-append-replicate, drop-of-length-le}
-use lib.Seq.{take-all, take-take, take-append-le, take-append-add, split-at, length-take-le}
+use lib.Seq.{take-all, take-take, take-at, take-append-add, split-at, length-take-le}
 use borrow.Author.Tests.{lt-ltb, le-ltb, ne-eqb}
 use Rattle.endian.proofs.Laws.{cleared-rest, take-zeros}
 use Rattle.disk.specs.Blocks.{blockOf}
@@ -97,21 +97,27 @@ module _ {img : List ℕ} {e : Entered} {new : ℕ} {u : Slotted} {ys : List ℕ
         let c = still-in y q in
         size-kept p .block-kept y (off-home y c) ∙ rw (small) (stored p .block-kept y (file-data p y q))
 
-    -- a file that shrinks has its bytes up to the new size
-    pub contents-shrunk : contents j t (sized new e) ≡ take new (contents img s e)
-    unfolding contents bytesOf blocksFor
-    contents-shrunk =
-        let kept : gather (blockOf j) left-blocks ≡ gather (blockOf img) left-blocks = gather-kept (blockOf img) (blockOf j) left-blocks block-left in
-        let enough : new ≤ length (gather (blockOf img) left-blocks) = omega (
+    -- a file that shrinks has the bytes of the blocks that it keeps
+    pub bytes-shrunk : bytesOf j t (e .anode) ≡ take (blocksFor new * 512) (bytesOf img s (e .anode))
+    unfolding bytesOf
+    bytes-shrunk =
+        let room = blocksFor new * 512 in
+        let long : length (gather (blockOf img) left-blocks) ≡ room = omega (
           arith,
           length-gather img left-blocks (λ y q. inside y (still-in y q)),
           length-blocksOf t (e .anode),
           blocks-count (steps-good p) (e .anode) (steps p .moves .shift .stays (e .anode) (facts p .head)),
           steps p .has,
         ) in
-        ap (take new) kept ∙ sym (take-append-le new (gather (blockOf img) left-blocks) (gather (blockOf img) (shorter .0)) enough)
-        ∙ ap (take new) (sym (gather-append (blockOf img) left-blocks (shorter .0))) ∙ ap (λ (l : List ℕ). take new (gather (blockOf img) l)) (sym (shorter .1))
-        ∙ sym (take-take new (e .size) (gather (blockOf img) chain) less)
+        gather-kept (blockOf img) (blockOf j) left-blocks block-left ∙ sym (take-at (gather (blockOf img) left-blocks) (gather (blockOf img) (shorter .0)) room long)
+        ∙ ap (take room) (sym (gather-append (blockOf img) left-blocks (shorter .0))) ∙ ap (λ (l : List ℕ). take room (gather (blockOf img) l)) (sym (shorter .1))
+
+    -- and as contents those up to the new size
+    pub contents-shrunk : contents j t (sized new e) ≡ take new (contents img s e)
+    unfolding contents blocksFor
+    contents-shrunk =
+        let held = bytesOf img s (e .anode) in
+        ap (take new) bytes-shrunk ∙ take-take new (blocksFor new * 512) held (omega arith) ∙ sym (take-take new (e .size) held less)
 
   module _ (more : e .size < new) where
     big : ltb (e .size) new ≡ true
@@ -224,16 +230,23 @@ module _ {img : List ℕ} {e : Entered} {new : ℕ} {u : Slotted} {ys : List ℕ
           ∙ sym (append-nil (take (e .size) (gather (blockOf img) chain))) ∙ ap (λ (n : ℕ). take (e .size) (gather (blockOf img) chain) ++ replicate n 0) (sym none))
     ]
 
-    -- a file that grows has its bytes, and zeros behind them
-    pub contents-grown : contents j t (sized new e) ≡ contents img s e ++ replicate (new - e .size) 0
-    unfolding contents bytesOf blocksFor
-    contents-grown =
+    -- a file that grows has its bytes, and zeros behind them, up to the end of its blocks
+    pub bytes-grown : bytesOf j t (e .anode) ≡ contents img s e ++ replicate (blocksFor new * 512 - e .size) 0
+    unfolding bytesOf blocksFor
+    bytes-grown =
         let a = blocksFor (e .size) * 512 - e .size in
         let b = length ys * 512 in
         let c = contents img s e in
-        let all : gather (blockOf j) (blocksOf t (e .anode)) ≡ c ++ replicate (a + b) 0 =
+        let all : a + b ≡ blocksFor new * 512 - e .size = omega (arith, longer p more .1, facts p .sized (p .plan .file)) in
         ap (gather (blockOf j)) (longer p more .0) ∙ gather-append (blockOf j) chain ys ∙ ap₂ _++_ old-bytes zeros ∙ append-assoc c (replicate a 0) (replicate b 0)
-        ∙ ap (λ (l : List ℕ). c ++ l) (replicate-append-replicate {A = ℕ} a b 0) in
+        ∙ ap (λ (l : List ℕ). c ++ l) (replicate-append-replicate {A = ℕ} a b 0) ∙ ap (λ (n : ℕ). c ++ replicate n 0) all
+
+    -- and as contents those up to the new size
+    pub contents-grown : contents j t (sized new e) ≡ contents img s e ++ replicate (new - e .size) 0
+    unfolding contents blocksFor
+    contents-grown =
+        let c = contents img s e in
+        let rest = blocksFor new * 512 - e .size in
         let up-to : new ≡ length c + (new - e .size) = omega (arith, file-long (p .entry) (p .plan .file)) in
-        ap (take new) all ∙ ap (λ (n : ℕ). take n (c ++ replicate (a + b) 0)) up-to ∙ take-append-add c (replicate (a + b) 0) (new - e .size)
-        ∙ ap (λ (l : List ℕ). c ++ l) (take-zeros (new - e .size) (a + b) (omega (arith, longer p more .1, facts p .sized (p .plan .file))))
+        ap (take new) bytes-grown ∙ ap (λ (n : ℕ). take n (c ++ replicate rest 0)) up-to ∙ take-append-add c (replicate rest 0) (new - e .size)
+        ∙ ap (λ (l : List ℕ). c ++ l) (take-zeros (new - e .size) rest (omega arith))

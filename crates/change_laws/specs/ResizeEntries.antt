@@ -28,6 +28,37 @@ use Rattle.change_laws.specs.PlannedChange.{image, facts}
 use Rattle.change_laws.specs.ResizeStores.{PlannedResize, others-left, head-not-file, dir-same, other-block, this-block, resized-disk}
 use Rattle.change_laws.specs.Resize.{resizedEntry, one-resized, block-left, still-whole}
 
+-- of two entries of one block the one ends before the other or starts behind its size
+module _ {img : List ℕ} {h k : ℕ} {e f : Entered} (of-e : EntryFacts img h e) (of-f : EntryFacts img k f) (apart : f .anode ≢ e .anode) where
+  pub block-order : of-f .a₀ ≡ of-e .a₀ → (f .start % 512 + getD (blockOf img (e .start / 512)) (f .start % 512) 0 ≤ e .start % 512) ⊎ (e .start % 512 + 8 ≤ f .start % 512)
+  unfolding entriesIn
+  block-order i =
+      let y = e .start / 512 in
+      let pos = e .start % 512 in
+      let at = f .start % 512 in
+      let same : f .start / 512 ≡ y = of-f .in-block ∙ ap (anodesOf img .block) i ∙ sym (of-e .in-block) in
+      let its-own : anodesOf img .block (of-f .a₀) ≡ y = sym (of-f .in-block) ∙ same in
+      let here = block-entry of-e in
+      let e-in = here .parted in
+      let n : Member f (e-in .0 ++ (e ∷ e-in .1)) = rw (its-own, e-in .2) at (of-f .member) in
+      elim (member-append f (e-in .0) (e ∷ e-in .1) n) [
+        | inl q ↦ inl (omega (
+          arith,
+          same,
+          start-order (blockOf img y) y at f e (omega arith) (q .1) (e-in .1) (q .0) 28 16
+              (e-in .2 ∙ ap (λ (l : List Entered). l ++ (e ∷ e-in .1)) (q .2) ∙ append-assoc (q .0) (f ∷ q .1) (e ∷ e-in .1)) (here .unbroken),
+        ))
+        | inr q ↦ elim (member-cons f e (e-in .1) q) [
+          | inl c ↦ absurd (apart (ap (λ (x : Entered). x .anode) c))
+          | inr c ↦ inr (omega (
+            arith,
+            same,
+            standing-found (of-e .stands) .long,
+            start-order (blockOf img y) y pos e f (omega arith) (c .0) (c .1) (e-in .0) 28 16 (e-in .2 ∙ ap (λ (l : List Entered). e-in .0 ++ (e ∷ l)) (c .2)) (here .unbroken),
+          ))
+        ]
+      ]
+
 module _ {img : List ℕ} {e : Entered} {new : ℕ} {u : Slotted} {ys : List ℕ} (p : PlannedResize img e new u ys) where
   abbrev t : Anodes
   t = u .anodes
@@ -72,7 +103,8 @@ module _ {img : List ℕ} {e : Entered} {new : ℕ} {u : Slotted} {ys : List ℕ
   abbrev pos : ℕ
   pos = e .start % 512
 
-  home-block : blockOf j y ≡ put32 (blockOf img y) (pos + 4) new
+  -- its block has the new size
+  pub home-block : blockOf j y ≡ put32 (blockOf img y) (pos + 4) new
   home-block = rw (facts p .in-block)
       (this-block p (p .entry .directory) (facts p .a₀) (facts p .member-chain) refl)
 
@@ -98,31 +130,7 @@ module _ {img : List ℕ} {e : Entered} {new : ℕ} {u : Slotted} {ys : List ℕ
 
     -- in the same block it ends before the entry or starts behind it
     order : g .a₀ ≡ facts p .a₀ → (f .start % 512 + getD (blockOf img y) (f .start % 512) 0 ≤ pos) ⊎ (pos + 8 ≤ f .start % 512)
-    unfolding entriesIn
-    order i =
-        let at = f .start % 512 in
-        let same = in-y i in
-        let its-own : s .block (g .a₀) ≡ y = sym (g .in-block) ∙ same in
-        let here = block-entry (facts p) in
-        let e-in = here .parted in
-        let n : Member f (e-in .0 ++ (e ∷ e-in .1)) = rw (its-own, e-in .2) at (g .member) in
-        elim (member-append f (e-in .0) (e ∷ e-in .1) n) [
-          | inl q ↦ inl (omega (
-            arith,
-            same,
-            start-order (blockOf img y) y at f e (omega arith) (q .1) (e-in .1) (q .0) 28 16
-                (e-in .2 ∙ ap (λ (l : List Entered). l ++ (e ∷ e-in .1)) (q .2) ∙ append-assoc (q .0) (f ∷ q .1) (e ∷ e-in .1)) (here .unbroken),
-          ))
-          | inr q ↦ elim (member-cons f e (e-in .1) q) [
-            | inl c ↦ absurd (apart (ap (λ (x : Entered). x .anode) c))
-            | inr c ↦ inr (omega (
-              arith,
-              same,
-              long,
-              start-order (blockOf img y) y pos e f (omega arith) (c .0) (c .1) (e-in .0) 28 16 (e-in .2 ∙ ap (λ (l : List Entered). e-in .0 ++ (e ∷ l)) (c .2)) (here .unbroken),
-            ))
-          ]
-        ]
+    order = block-order (facts p) g apart
 
     -- other entries keep all their bytes
     pub bytes-resized-other : entryBytes j (f .start) ≡ entryBytes img (f .start)

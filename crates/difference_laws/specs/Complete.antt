@@ -24,6 +24,7 @@ use Rattle.laws.specs.Members.{Member, member-first, member-later, member-left,
 use Rattle.change_laws.specs.Image.{AcceptedImage, accepted-whole, ReachedDir, reached-headed}
 use Rattle.change_laws.specs.Reached.{EntryIn, entry-facts, reached-dir}
 use Rattle.change_laws.specs.NamedOnce.{only-home}
+use Rattle.paths.specs.FoundNames.{named-name}
 use Rattle.paths.specs.Paths.{Path, Site, site, siteFrom, ofSite, entryFrom, entryAt}
 use Rattle.paths.specs.Reached.{found-in, root-reached, sub-reached, sub-lower, dir-weight, site-reached}
 use Rattle.differences.specs.Listed.{directoryName, directoryPath, entryPath, paths}
@@ -96,21 +97,6 @@ walk-length items (suc k) (d ∷ q) named = go (scan d (items d) q named) (walk-
 pub few-dirs : (img : List ℕ) → length (reachedDirs img (anodesOf img)) ≤ limit
 unfolding reachedDirs walkOf
 few-dirs img = walk-length (itemsOf img (anodesOf img)) limit _ _
-
--- the name that was looked for, after folding
-found-name : (img name : List ℕ) (l : List Entered) (e : Entered) → firstNamed name l ≡ some e → folded (e .name) ≡ folded name
-unfolding firstNamed isNamed
-found-name img name [] e is = absurd (Option·none-ne-some e is)
-found-name img name (x ∷ l) e is = go (sameBytes (folded (x .name)) (folded name)) refl is (found-name img name l e)
-  where
-    go : (t : Bool) → sameBytes (folded (x .name)) (folded name) ≡ t → elim t [ true ↦ some x | false ↦ firstNamed name l ] ≡ some e →
-        (firstNamed name l ≡ some e → folded (e .name) ≡ folded name) → folded (e .name) ≡ folded name
-    go true same is rest = rw (sym (Option·some-injective x e is)) (bytes-same (folded (x .name)) (folded name) (rw same tt))
-    go false same is rest = rest is
-
-named-name : (img : List ℕ) (s : Anodes) (h : ℕ) (name : List ℕ) (e : Entered) → entryNamed img s h name ≡ some e → folded (e .name) ≡ folded name
-unfolding entryNamed
-named-name img s h name e is = found-name img name (entriesOf img s h) e is
 
 -- ---- along a path
 

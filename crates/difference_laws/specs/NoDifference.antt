@@ -17,6 +17,7 @@ use Rattle.laws.specs.Tests.{cond-cases, both, T-true, eq→eqb}
 use Rattle.laws.specs.Sums.{sum-none}
 use Rattle.laws.specs.Members.{Member, member-cons, no-member}
 use Rattle.paths.specs.Paths.{Path, siteFrom, ofSite, entryFrom, entryAt}
+use Rattle.paths.specs.FoundNames.{named-folded}
 use Rattle.paths.specs.Facts.{Facts, factsOf, factsAt, SameTree}
 use Rattle.differences.specs.Listed.{paths}
 use Rattle.differences.specs.Fields.{unlessSame, sameStamps, fieldsDiffering, longerLength, byteDiffers, bytesDiffering, firstByteDiffering, comparedBytes}
@@ -124,27 +125,16 @@ abbrev pub Complete : List ℕ → Type 0
 Complete img = (path : Path) (e : Entered) → entryAt img path ≡ some e → (p : Path) × Member p (paths img) × SamePath p path
 
 module _ (img : List ℕ) (s : Anodes) where
-  first-folded : (name other : List ℕ) → folded name ≡ folded other → (l : List Entered) → firstNamed name l ≡ firstNamed other l
-  unfolding firstNamed isNamed
-  first-folded name other e [] = refl
-  first-folded name other e (x ∷ l) =
-      ap₂ (λ (b : Bool) (o : Option Entered). elim b [ true ↦ some x | false ↦ o ])
-      (ap (λ (n : List ℕ). sameBytes (folded (x .name)) n) e) (first-folded name other e l)
-
-  named-folded : (h : ℕ) (name other : List ℕ) → folded name ≡ folded other → entryNamed img s h name ≡ entryNamed img s h other
-  unfolding entryNamed
-  named-folded h name other e = first-folded name other e (entriesOf img s h)
-
   -- what a path names depends on its folded names alone
   pub entry-folded : (p q : Path) (h : ℕ) → SamePath p q → entryFrom img s h p ≡ entryFrom img s h q
   unfolding entryFrom siteFrom
   entry-folded [] [] h e = refl
   entry-folded [] (y ∷ q) h e = absurd (not-nil _ _ (sym e))
   entry-folded (x ∷ p) [] h e = absurd (not-nil _ _ e)
-  entry-folded (x ∷ []) (y ∷ []) h e = named-folded h x y (head-eq-of-cons-eq e)
+  entry-folded (x ∷ []) (y ∷ []) h e = named-folded img s h x y (head-eq-of-cons-eq e)
   entry-folded (x ∷ []) (y ∷ z ∷ q) h e = absurd (not-nil _ _ (sym (tail-eq-of-cons-eq e)))
   entry-folded (x ∷ w ∷ p) (y ∷ []) h e = absurd (not-nil _ _ (tail-eq-of-cons-eq e))
-  entry-folded (x ∷ w ∷ p) (y ∷ z ∷ q) h e = rw (named-folded h x y (head-eq-of-cons-eq e)) (go (entryNamed img s h y) (λ k. entry-folded (w ∷ p) (z ∷ q) k (tail-eq-of-cons-eq e)))
+  entry-folded (x ∷ w ∷ p) (y ∷ z ∷ q) h e = rw (named-folded img s h x y (head-eq-of-cons-eq e)) (go (entryNamed img s h y) (λ k. entry-folded (w ∷ p) (z ∷ q) k (tail-eq-of-cons-eq e)))
     where
       go : (o : Option Entered) → ((k : ℕ) → entryFrom img s k (w ∷ p) ≡ entryFrom img s k (z ∷ q)) →
           ofSite (ofEntry o (λ e. cond (e .dir) (siteFrom img s (e .anode) (w ∷ p)) none) none) (λ r. entryNamed img s (r .directory) (r .name)) none

@@ -54,7 +54,7 @@ blockOf-withBlocks img (z ∷ ys) new y long p i =
     here (inr e) q = absurd (omega (arith, p, q, occurrences-cons y z ys, e .1))
 
 -- bytes spread over some blocks, each of which stands among them once, are the bytes of those blocks
-gather-spread : (img ys bytes : List ℕ) → length bytes ≡ length ys * 512 → Inside img ys → ((y : ℕ) → occurrences y ys ≤ 1) → gather (blockOf (spread img ys bytes)) ys ≡ bytes
+pub gather-spread : (img ys bytes : List ℕ) → length bytes ≡ length ys * 512 → Inside img ys → ((y : ℕ) → occurrences y ys ≤ 1) → gather (blockOf (spread img ys bytes)) ys ≡ bytes
 unfolding gather spread
 gather-spread img [] bytes long i once = sym (drop-of-length-le bytes {i = 0} (omega arith))
 gather-spread img (y ∷ ys) bytes long i once =

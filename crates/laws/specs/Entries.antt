@@ -241,31 +241,44 @@ module _ (s t : Anodes) (φ : Entered → Entered) (guard : Item → ℕ) (guard
       ∙ list-zero {X = Entered} (λ e. 0) l (λ e. refl)
 
   module _ (entries entries′ : ℕ → List Entered) (marked marked′ : Dir → ℕ → Bool) (d : Dir) where
-    -- one anode of the directory
+    -- one anode of the directory, whose block may be another
+    at-moved : (a : ℕ) → t .count a ≡ s .count a → (s .count a ≡ 1 → (entries′ (t .block a) ≡ map φ (entries (s .block a))) × (marked′ d (t .block a) ≡ marked d (s .block a))) →
+        sumList guard (itemsAt entries marked s d a) ≡ 0 →
+        ((w : Bool → ℕ → List ℕ → ℕ) → sumList (weighNamed w) (itemsAt entries′ marked′ t d a) ≡ sumList (weighNamed w) (itemsAt entries marked s d a))
+        × (sumList wrong (itemsAt entries′ marked′ t d a) ≡ 0)
+    at-moved a e cont z =
+        let q = itemsAt-fine entries marked s d guard guard-broken a z in
+        let k = cont (q .0) in
+        let there : itemsAt entries′ marked′ t d a ≡ map (itemOf t) (map φ (entries (s .block a)))
+        = itemsAt-whole entries′ marked′ t d a (e ∙ q .0) (rw (k .1) (q .1)) ∙ ap (map (itemOf t)) (k .0) in
+        let fine : sumList guard (map (itemOf s) (entries (s .block a))) ≡ 0 = rw (q .2) at z in
+        rw (there, q .2) (entries-alike (entries (s .block a)) fine, entries-fine (entries (s .block a)) fine)
+
+    -- or is the same
     pub at-alike : (a : ℕ) → t .count a ≡ s .count a → t .block a ≡ s .block a → (s .count a ≡ 1 → (entries′ (s .block a) ≡ map φ (entries (s .block a))) × (marked′ d (s .block a) ≡ marked d (s .block a))) →
         sumList guard (itemsAt entries marked s d a) ≡ 0 →
         ((w : Bool → ℕ → List ℕ → ℕ) → sumList (weighNamed w) (itemsAt entries′ marked′ t d a) ≡ sumList (weighNamed w) (itemsAt entries marked s d a))
         × (sumList wrong (itemsAt entries′ marked′ t d a) ≡ 0)
-    at-alike a e b cont z =
-        let q = itemsAt-fine entries marked s d guard guard-broken a z in
-        let k = cont (q .0) in
-        let there : itemsAt entries′ marked′ t d a ≡ map (itemOf t) (map φ (entries (s .block a)))
-        = itemsAt-whole entries′ marked′ t d a (e ∙ q .0) (rw (b, k .1) (q .1)) ∙ ap (map (itemOf t)) (ap entries′ b ∙ k .0) in
-        let fine : sumList guard (map (itemOf s) (entries (s .block a))) ≡ 0 = rw (q .2) at z in
-        rw (there, q .2) (entries-alike (entries (s .block a)) fine, entries-fine (entries (s .block a)) fine)
+    at-alike a e b cont = at-moved a e (λ i. rw b (cont i))
 
     -- the whole directory, its chain kept
-    pub items-alike : chainOf (t .next) limit (d .head) ≡ chainOf (s .next) limit (d .head) → ((a : ℕ) → 0 < occurrences a (chainOf (s .next) limit (d .head)) → Alike s t a) →
-        ((a : ℕ) → 0 < occurrences a (chainOf (s .next) limit (d .head)) → s .count a ≡ 1 → (entries′ (s .block a) ≡ map φ (entries (s .block a))) × (marked′ d (s .block a) ≡ marked d (s .block a))) →
+    pub items-moved : chainOf (t .next) limit (d .head) ≡ chainOf (s .next) limit (d .head) → ((a : ℕ) → 0 < occurrences a (chainOf (s .next) limit (d .head)) → t .count a ≡ s .count a) →
+        ((a : ℕ) → 0 < occurrences a (chainOf (s .next) limit (d .head)) → s .count a ≡ 1 → (entries′ (t .block a) ≡ map φ (entries (s .block a))) × (marked′ d (t .block a) ≡ marked d (s .block a))) →
         sumList guard (itemsBy entries marked s d) ≡ 0 → AlikeItems (itemsBy entries marked s) (itemsBy entries′ marked′ t) d
-    items-alike same on cont z = (
+    items-moved same on cont z = (
       λ w. items-sum entries′ marked′ t d (weighNamed w) ∙ ap (sumList (λ a. sumList (weighNamed w) (itemsAt entries′ marked′ t d a))) same
           ∙ kept-sum-where (λ a. sumList guard (itemsAt entries marked s d a)) (λ a. sumList (weighNamed w) (itemsAt entries marked s d a))
           (λ a. sumList (weighNamed w) (itemsAt entries′ marked′ t d a)) (chainOf (s .next) limit (d .head)) (sym (items-sum entries marked s d guard) ∙ z)
-          (λ a k q. at-alike a (on a k .same-count) (on a k .same-block) (cont a k) q .0 w)
+          (λ a k q. at-moved a (on a k) (cont a k) q .0 w)
           ∙ sym (items-sum entries marked s d (weighNamed w)),
       items-sum entries′ marked′ t d wrong ∙ ap (sumList (λ a. sumList wrong (itemsAt entries′ marked′ t d a))) same
           ∙ kept-sum-where (λ a. sumList guard (itemsAt entries marked s d a)) (λ a. 0) (λ a. sumList wrong (itemsAt entries′ marked′ t d a)) (chainOf (s .next) limit (d .head))
-          (sym (items-sum entries marked s d guard) ∙ z) (λ a k q. at-alike a (on a k .same-count) (on a k .same-block) (cont a k) q .1)
+          (sym (items-sum entries marked s d guard) ∙ z) (λ a k q. at-moved a (on a k) (cont a k) q .1)
           ∙ list-zero {X = ℕ} (λ a. 0) (chainOf (s .next) limit (d .head)) (λ a. refl),
     )
+
+    -- and its anodes too
+    pub items-alike : chainOf (t .next) limit (d .head) ≡ chainOf (s .next) limit (d .head) → ((a : ℕ) → 0 < occurrences a (chainOf (s .next) limit (d .head)) → Alike s t a) →
+        ((a : ℕ) → 0 < occurrences a (chainOf (s .next) limit (d .head)) → s .count a ≡ 1 → (entries′ (s .block a) ≡ map φ (entries (s .block a))) × (marked′ d (s .block a) ≡ marked d (s .block a))) →
+        sumList guard (itemsBy entries marked s d) ≡ 0 → AlikeItems (itemsBy entries marked s) (itemsBy entries′ marked′ t) d
+    items-alike same on cont = items-moved same (λ a k. on a k .same-count) (λ a k i. rw (on a k .same-block) (cont a k i))

@@ -26,6 +26,11 @@ module _ {ℓ} {X : Type ℓ} where
   pub member-later : (x y : X) (l : List X) → Member x l → Member x (y ∷ l)
   member-later x y l (before, after, e) = (y ∷ before, after, ap (λ (m : List X). y ∷ m) e)
 
+  -- what holds of every member holds of each
+  pub each-of : (P : X → Type 0) (l : List X) → ((x : X) → Member x l → P x) → Each P l
+  each-of P [] f = tt
+  each-of P (x ∷ l) f = (f x (member-first x l), each-of P l (λ y m. f y (member-later y x l m)))
+
   pub member-cons : (x y : X) (l : List X) → Member x (y ∷ l) → (x ≡ y) ⊎ Member x l
   member-cons x y l ([], after, e) = inl (cc)
   member-cons x y l (z ∷ before, after, e) = inr (before, after, cc)

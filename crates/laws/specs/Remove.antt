@@ -142,18 +142,9 @@ module _ {ex : ℕ → Bool} {n last : ℕ} {s : Anodes} {system hd sd : ℕ →
 
   -- ---- the chain goes, which nothing names
 
-  module _ {slots : ℕ → ℕ} {ys gs : List ℕ} {u : Slotted} (goes : ChainGone limit n last (slotted s slots) system hd h ys gs u) (marked′ : Dir → ℕ → Bool) (same-marks : SameMarks s hd marked marked′) where
-    abbrev end : Anodes
-    end = u .anodes
-
+  module _ {end : Anodes} {ex′ : ℕ → Bool} {system′ hd′ sd′ : ℕ → ℕ} (good : Good limit ex′ n last end system′ hd′ sd′) (gone : Gone s hd end h) (marked′ : Dir → ℕ → Bool) (same-marks : SameMarks s hd marked marked′) where
     abbrev items′ : Dir → List Item
     items′ = itemsBy entries′ marked′ end
-
-    good : Good limit (existsBy (u .slots)) n last end (withThese system gs) (goes .hd′) (goes .sd′)
-    good = goes .good
-
-    gone : Gone s hd end h
-    gone = goes .gone
 
     -- what is wrong, or names h
     guard : Item → ℕ
@@ -188,8 +179,8 @@ module _ {ex : ℕ → Bool} {n last : ℕ} {s : Anodes} {system hd sd : ℕ →
         (each-pair (λ d. d .head ≢ h) (λ d. namedIn between h d ≡ 0) (rest .dirs′) not-h (each-zero (namedIn between h) (rest .dirs′) unnamed)))
 
     -- the directories that are left are those that were, but for one with the head h
-    pub removed : (dirs′ : List Dir) × Whole (existsBy (u .slots)) n last (u .anodes) (withThese system gs) (goes .hd′) (goes .sd′) entries′ marked′ dirs′ × ((x : ℕ) → x ≢ h → headed x dirs′ ≡ headed x dirs)
-    removed = (
+    pub removed-chain : (dirs′ : List Dir) × Whole ex′ n last end system′ hd′ sd′ entries′ marked′ dirs′ × ((x : ℕ) → x ≢ h → headed x dirs′ ≡ headed x dirs)
+    removed-chain = (
       rest .dirs′,
       record {
         good = good;
@@ -207,3 +198,8 @@ module _ {ex : ℕ → Bool} {n last : ℕ} {s : Anodes} {system hd sd : ℕ →
       },
       rest .heads,
     )
+
+  -- as where its blocks were given back
+  pub removed : {slots : ℕ → ℕ} {ys gs : List ℕ} {u : Slotted} (goes : ChainGone limit n last (slotted s slots) system hd h ys gs u) (marked′ : Dir → ℕ → Bool) → SameMarks s hd marked marked′ →
+      (dirs′ : List Dir) × Whole (existsBy (u .slots)) n last (u .anodes) (withThese system gs) (goes .hd′) (goes .sd′) entries′ marked′ dirs′ × ((x : ℕ) → x ≢ h → headed x dirs′ ≡ headed x dirs)
+  removed goes marked′ same-marks = removed-chain (goes .good) (goes .gone) marked′ same-marks

@@ -13,21 +13,22 @@ use Rattle.rules.specs.Walk.{Dir, dirMade, root, Entered, Item, blocksFor, item
 use Rattle.laws.specs.Tests.{same?, less?, tested-from}
 use Rattle.laws.specs.Sums.{oneAt-cases, oneAt-same, oneAt-other, oneAt-le}
 use Rattle.laws.specs.Bags.{list-mono}
-use Rattle.laws.specs.Heads.{Head, heads-cases, occurrences-on-chain}
+use Rattle.laws.specs.Heads.{Head, head-while, heads-cases, occurrences-on-chain}
 use Rattle.laws.specs.Blocks.{blocks}
 use Rattle.laws.specs.Held.{held, chain-blocks}
 use Rattle.laws.specs.Space.{Good, head-5}
 use Rattle.laws.specs.Owners.{blocks-chain}
 use Rattle.laws.specs.Moves.{Shift}
-use Rattle.laws.specs.Frame.{on-other, shift-alike, shift-chain}
+use Rattle.laws.specs.Frame.{kept-count, on-other, shift-alike, shift-chain}
 use Rattle.laws.specs.ChainBlocks.{shift-count}
+use Rattle.laws.specs.Members.{Member, member-each, each-of}
 use Rattle.laws.specs.Each.{Each, each-map, each-both, each-pair, each-zero}
 use Rattle.laws.specs.Items.{wrong, names-sum, giving, giving-le, below, namedIn, faults, below-items}
 use Rattle.laws.specs.Trees.{Tree}
 use Rattle.laws.specs.Apart.{Apart}
 use Rattle.laws.specs.TreeChanges.{none-headed, AlikeItems, alike-named, alike-apart, alike-tree}
 use Rattle.laws.specs.Totals.{namedByFiles, named-by-kind, filesOf, dirsOf, tree-total}
-use Rattle.laws.specs.Entries.{broken-wrong, Sized, item-fine, fine-item, item-anode, items-mono, items-alike}
+use Rattle.laws.specs.Entries.{broken-wrong, Sized, item-fine, fine-item, item-anode, items-mono, items-moved, items-alike}
 
 -- 1 for a directory whose head is below 5 or heads no chain
 unfoldable odd : Anodes → Dir → ℕ
@@ -187,9 +188,12 @@ module _ {ex : ℕ → Bool} {n last : ℕ} {s : Anodes} {system hd sd : ℕ →
 
   -- the chain of h, which is no directory's, is changed, by takes or gives, the sizes of the entries that name it with it, and nothing else of the directories
   module _ (h : ℕ) (not-h : Each (λ d. d .head ≢ h) dirs) where
+    pub same-sizes : SizesChanged s hd h (λ e. e) entries entries marked marked
+    same-sizes = record { keeps = λ e. (refl, refl, refl, refl); other = λ e q. refl; there = λ a i q r. (sym (map-id (entries (s .block a))), λ d. refl) }
+
     pub change-chain : {t : Anodes} {ex′ : ℕ → Bool} {system′ hd′ sd′ : ℕ → ℕ} → Good limit ex′ n last t system′ hd′ sd′ → Shift s hd t hd′ 1 h →
         (φ : Entered → Entered) (entries′ : ℕ → List Entered) (marked′ : Dir → ℕ → Bool) → SizesChanged s hd h φ entries entries′ marked marked′ →
-        ((e : Entered) → 6 ≤ e .anode → e .anode ≡ h → blockCount t h ≡ blocksFor (φ e .size)) → Whole ex′ n last t system′ hd′ sd′ entries′ marked′ dirs
+        ((e : Entered) → 6 ≤ e .anode → e .anode ≡ h → blockCount s h ≡ blocksFor (e .size) → blockCount t h ≡ blocksFor (φ e .size)) → Whole ex′ n last t system′ hd′ sd′ entries′ marked′ dirs
     change-chain {t} {hd′ = hd′} {sd′ = sd′} g′ sh φ entries′ marked′ c mine = record {
       good = g′;
       tree = alike-tree items items′ root dirs alikes (w .tree);
@@ -203,7 +207,7 @@ module _ {ex : ℕ → Bool} {n last : ℕ} {s : Anodes} {system hd sd : ℕ →
         size : (e : Entered) → 6 ≤ e .anode → Head (s .next) (s .block) (e .anode) → Sized s e → Sized t (φ e)
         size e l d (inl q) = inl (c .keeps e .1 ∙ q)
         size e l d (inr q) = elim (same? (e .anode) h) [
-          | inl i ↦ inr (ap (blockCount t) (c .keeps e .2 ∙ i) ∙ mine e l i)
+          | inl i ↦ inr (ap (blockCount t) (c .keeps e .2 ∙ i) ∙ mine e l i (ap (blockCount s) (sym i) ∙ q))
           | inr i ↦ inr (ap (blockCount t) (c .keeps e .2) ∙ shift-count (w .good) g′ sh (e .anode) d (omega arith) i ∙ q ∙ ap blocksFor (sym (c .other e i)))
         ]
 
@@ -231,9 +235,51 @@ module _ {ex : ℕ → Bool} {n last : ℕ} {s : Anodes} {system hd sd : ℕ →
     pub change-file : {t : Anodes} {ex′ : ℕ → Bool} {system′ hd′ sd′ : ℕ → ℕ} → Good limit ex′ n last t system′ hd′ sd′ → Shift s hd t hd′ 1 h →
         (φ : Entered → Entered) (entries′ : ℕ → List Entered) (marked′ : Dir → ℕ → Bool) → SizesChanged s hd h φ entries entries′ marked marked′ →
         ((e : Entered) → e .anode ≡ h → blockCount t h ≡ blocksFor (φ e .size)) → Whole ex′ n last t system′ hd′ sd′ entries′ marked′ dirs
-    change-file g′ sh φ entries′ marked′ c mine = change-chain h not-dir g′ sh φ entries′ marked′ c (λ e l. mine e)
+    change-file g′ sh φ entries′ marked′ c mine = change-chain h not-dir g′ sh φ entries′ marked′ c (λ e l i q. mine e i)
+
+    -- a file's chain has other blocks, as many as it had, and nothing of the directories is changed
+    pub renew-file : {t : Anodes} {ex′ : ℕ → Bool} {system′ hd′ sd′ : ℕ → ℕ} → Good limit ex′ n last t system′ hd′ sd′ → Shift s hd t hd′ 1 h → blockCount t h ≡ blockCount s h → Whole ex′ n last t system′ hd′ sd′ entries marked dirs
+    renew-file g′ sh same = change-chain h not-dir g′ sh (λ e. e) entries marked (same-sizes h not-dir) (λ e l i q. same ∙ q)
 
   -- the free list alone is changed
   pub change-free : {t : Anodes} {ex′ : ℕ → Bool} {system′ hd′ sd′ : ℕ → ℕ} → Good limit ex′ n last t system′ hd′ sd′ → Shift s hd t hd′ 1 1 → Whole ex′ n last t system′ hd′ sd′ entries marked dirs
-  change-free g′ sh = change-chain 1 (each-map (DirHead s) (λ d. d .head ≢ 1) dirs (λ d p. p .1) dir-heads) g′ sh (λ e. e) entries marked
-      (record { keeps = λ e. (refl, refl, refl, refl); other = λ e q. refl; there = λ a i q r. (sym (map-id (entries (s .block a))), λ d. refl) }) (λ e l i. absurd (omega (arith, l, i)))
+  change-free g′ sh = let not-1 = each-map (DirHead s) (λ d. d .head ≢ 1) dirs (λ d p. p .1) dir-heads in
+      change-chain 1 not-1 g′ sh (λ e. e) entries marked (same-sizes 1 not-1) (λ e l i q. absurd (omega (arith, l, i)))
+
+  -- directory blocks have new places: every anode has the extent's length and successor that it had, one in use stays so, and the new block has the entries of the old one, their places apart
+  pub blocks-moved : {t : Anodes} {ex′ : ℕ → Bool} {system′ hd′ sd′ : ℕ → ℕ} → Good limit ex′ n last t system′ hd′ sd′ → t .next ≡ s .next → ((a : ℕ) → t .count a ≡ s .count a) → ((a : ℕ) → s .block a ≢ 0 → t .block a ≢ 0) → ((a : ℕ) → t .block a ≢ 0 → s .block a ≢ 0) →
+      (φ : Entered → Entered) → ((e : Entered) → (φ e .broken ≡ e .broken) × (φ e .dir ≡ e .dir) × (φ e .anode ≡ e .anode) × (φ e .name ≡ e .name) × (φ e .size ≡ e .size)) →
+      (entries′ : ℕ → List Entered) (marked′ : Dir → ℕ → Bool) → ((d : Dir) → Member d dirs → (a : ℕ) → 0 < occurrences a (chainOf (s .next) limit (d .head)) → s .count a ≡ 1 → (entries′ (t .block a) ≡ map φ (entries (s .block a))) × (marked′ d (t .block a) ≡ marked d (s .block a))) →
+      Whole ex′ n last t system′ hd′ sd′ entries′ marked′ dirs
+  blocks-moved {t} g′ next count used was φ keeps entries′ marked′ there = record {
+    good = g′;
+    tree = alike-tree items items′ root dirs alikes (w .tree);
+    all-named = λ x l d. omega (arith, w .all-named x l (before x d), alike-named items items′ dirs alikes x);
+    apart = alike-apart items items′ dirs alikes (w .apart);
+  }
+    where
+      items′ : Dir → List Item
+      items′ = itemsBy entries′ marked′ t
+
+      still : (m : ℕ) → Head (s .next) (s .block) m → Head (t .next) (t .block) m
+      still m d = rw next (head-while d (used m (d .in-use)))
+
+      before : (m : ℕ) → Head (t .next) (t .block) m → Head (s .next) (s .block) m
+      before m d = rw (← next) (head-while d (was m (d .in-use)))
+
+      chain : (m : ℕ) → chainOf (t .next) limit m ≡ chainOf (s .next) limit m
+      chain m = ap (λ (f : ℕ → ℕ). chainOf f limit m) next
+
+      size : (e : Entered) → Sized s e → Sized t (φ e)
+      size e (inl q) = inl (keeps e .1 ∙ q)
+      size e (inr q) = inr (ap (blockCount t) (keeps e .2) ∙ kept-count s t (e .anode) (chain (e .anode)) (λ a p. count a) ∙ q ∙ ap blocksFor (sym (keeps e .4)))
+
+      like : (e : Entered) → wrong (itemOf s e) ≡ 0 → (φ e .dir ≡ e .dir) × (φ e .anode ≡ e .anode) × (φ e .name ≡ e .name) × (wrong (itemOf t (φ e)) ≡ 0)
+      like e z = (keeps e .1, keeps e .2, keeps e .3, fine-still (w .good) g′ e (φ e) (keeps e .0) (keeps e .2) z (λ l d q. (still (e .anode) d, size e q)))
+
+      one : (d : Dir) → Member d dirs → AlikeItems items items′ d
+      one d m = items-moved s t φ wrong (λ z. omega (arith, z, broken-wrong)) like entries entries′ marked marked′ d (chain (d .head)) (λ a k. count a) (there d m)
+          (member-each (λ d. faults items d ≡ 0) d dirs m (each-zero (faults items) dirs (w .tree .faultless)))
+
+      alikes : Each (AlikeItems items items′) dirs
+      alikes = each-of (AlikeItems items items′) dirs one

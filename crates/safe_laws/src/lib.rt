@@ -1,0 +1,1 @@
+// Laws alone: what holds of a safe update that is cut off.
