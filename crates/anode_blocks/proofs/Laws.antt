@@ -31,7 +31,7 @@ use Rattle.frames.specs.StoredSlots.{block-inside, slot-kept, slot-other}
 
 -- the root block is back with slot k in it, and then block y, zeroed and headed
 module _ (img : List ℕ) (k y : ℕ) (rooted : 1536 ≤ length img) (inside : y * 512 + 512 ≤ length img) where
-  root-back : (root : List ℕ) → root ≡ putSlot (take 512 (drop 1024 img)) k y → putMid 1024 512 img root ≡ inBlock img 2 (λ b. putSlot b k y)
+  pub root-back : (root : List ℕ) → root ≡ putSlot (take 512 (drop 1024 img)) k y → putMid 1024 512 img root ≡ inBlock img 2 (λ b. putSlot b k y)
   unfolding inBlock
   root-back root is =
       block-changed img 2 1536 (omega arith) (omega arith) root (ap length is ∙ length-put16 (take 512 (drop 1024 img)) (slotByte k) y) (λ b. putSlot b k y) is
@@ -55,42 +55,44 @@ module _ (img : List ℕ) (k y : ℕ) (rooted : 1536 ≤ length img) (inside : y
 
 -- ---- the slots below a bound
 
-module _ (img : List ℕ) (slots : ℕ → ℕ) (w : SlotsGrew (diskSize img) (slotOf img) slots) where
-  -- a slot that comes to hold another block was empty, and so its block is new
-  new-block : (k : ℕ) → slots k ≢ slotOf img k → slotBlock img k ≡ emptyAnodeBlock k
-  unfolding slotBlock
-  new-block k o = rw (eq-eqb (slotOf img k) 0 (was-empty w k o))
-
-  -- what the image keeps where the slots below k are stored: its length, and every slot from k on
-  record KeptFrom (k : ℕ) (j : List ℕ) : Type 0 where
-    length-same : length j ≡ length img
-    slot-same : (i : ℕ) → k ≤ i → slotOf j i ≡ slotOf img i
+-- each slot that comes to hold another block has a place for it, and a whole block of bytes
+module _ (img : List ℕ) (slots : ℕ → ℕ) (placed : (k : ℕ) → slots k ≢ slotOf img k → (3 ≤ slots k) × (slots k < diskSize img)) (whole : (k : ℕ) → slots k ≢ slotOf img k → length (slotBlock img k) ≡ 512) where
+  -- what the image keeps where the slots below k are stored: its length, every slot from k on, and each block but the root and those that a slot comes to hold
+  pub record KeptFrom (k : ℕ) (j : List ℕ) : Type 0 where
+    pub length-same : length j ≡ length img
+    pub slot-same : (i : ℕ) → k ≤ i → slotOf j i ≡ slotOf img i
+    pub block-same : (d : ℕ) → d ≢ 2 → ((i : ℕ) → slots i ≢ slotOf img i → d ≢ slots i) → blockOf j d ≡ blockOf img d
 
   kept-from : (k : ℕ) → k ≤ 42 → KeptFrom k (storeSlots img slots k)
   unfolding storeSlots
-  kept-from zero l = record { length-same = refl; slot-same = λ i m. refl }
+  kept-from zero l = record { length-same = refl; slot-same = λ i m. refl; block-same = λ d n o. refl }
   kept-from (suc k) l =
       let j = storeSlots img slots k in
       let y = slots k in
       let p = kept-from k (omega arith) in
       elim (eqb-cases y (slotOf img k) j (withSlot j k y (slotBlock img k))) [
-        | inl (e, i) ↦ rw i (record { length-same = p .length-same; slot-same = λ i m. p .slot-same i (omega arith) })
-        | inr (o, i) ↦ (let here = w .new-placed k o in
+        | inl (e, i) ↦ rw i (record { length-same = p .length-same; slot-same = λ i m. p .slot-same i (omega arith); block-same = p .block-same })
+        | inr (o, i) ↦ (let here = placed k o in
             let inside : y * 512 + 512 ≤ length j = rw (p .length-same) (block-inside img y (here .1)) in
-            let whole = ap length (new-block k o) ∙ length-emptyAnodeBlock k in
-            let stored = withSlot j k y (slotBlock img k) in
-            let long : length stored ≡ length img = slot-kept j k y (slotBlock img k) (omega arith) (here .0) inside whole .length-kept ∙ p .length-same in
-            rw i (record { length-same = long; slot-same = λ i m. slot-other j k y (slotBlock img k) (omega arith) (here .0) inside whole i (omega arith) ∙ p .slot-same i (omega arith) }))
+            let kept = slot-kept j k y (slotBlock img k) (omega arith) (here .0) inside (whole k o) in
+            rw i (record {
+              length-same = kept .length-kept ∙ p .length-same;
+              slot-same = λ i m. slot-other j k y (slotBlock img k) (omega arith) (here .0) inside (whole k o) i (omega arith) ∙ p .slot-same i (omega arith);
+              block-same = λ d n q. kept .block-kept d (n, q k o) ∙ p .block-same d n q;
+            }))
       ]
 
   -- j is img with the slots below k stored, and y is the block of slot k
   module _ (right : wrongSize img ≡ false) (k y : ℕ) (j : List ℕ) (low : k < 42) (is : j ≡ storeSlots img slots k) (now : y ≡ slots k) where
+    pub kept-below : KeptFrom k j
+    kept-below = rw is (kept-from k (omega arith))
+
     -- slot k holds what it held
-    slot-before : slotOf j k ≡ slotOf img k
-    slot-before = ap (λ (i : List ℕ). slotOf i k) is ∙ kept-from k (omega arith) .slot-same k (omega arith)
+    pub slot-before : slotOf j k ≡ slotOf img k
+    slot-before = kept-below .slot-same k (omega arith)
 
     length-below : length j ≡ length img
-    length-below = ap length is ∙ kept-from k (omega arith) .length-same
+    length-below = kept-below .length-same
 
     -- it holds y already
     pub slot-stays : slotOf j k ≡ y → j ≡ storeSlots img slots (k + 1)
@@ -107,12 +109,21 @@ module _ (img : List ℕ) (slots : ℕ → ℕ) (w : SlotsGrew (diskSize img) (s
       unfolding diskSize
       slot-room =
           let size = size-bounds img right .0 in
-          let there = block-inside img (slots k) (w .new-placed k differs .1) in
+          let there = block-inside img (slots k) (placed k differs .1) in
           rw (length-below, now) (omega arith, there)
 
-      pub slot-comes : withSlot j k y (emptyAnodeBlock k) ≡ storeSlots img slots (k + 1)
+      pub slot-comes : (new : List ℕ) → (slots k ≢ slotOf img k → new ≡ slotBlock img k) → withSlot j k y new ≡ storeSlots img slots (k + 1)
       unfolding storeSlots
-      slot-comes = rw (add-one k, ne-eqb (slots k) (slotOf img k) differs, new-block k differs, is, now)
+      slot-comes new full = rw (add-one k, ne-eqb (slots k) (slotOf img k) differs, full differs, is, now)
+
+-- a slot that comes to hold another block was empty, and so its block is new
+module _ (img : List ℕ) (slots : ℕ → ℕ) (w : SlotsGrew (diskSize img) (slotOf img) slots) where
+  pub new-block : (k : ℕ) → slots k ≢ slotOf img k → slotBlock img k ≡ emptyAnodeBlock k
+  unfolding slotBlock
+  new-block k o = rw (eq-eqb (slotOf img k) 0 (was-empty w k o))
+
+  pub new-whole : (k : ℕ) → slots k ≢ slotOf img k → length (slotBlock img k) ≡ 512
+  new-whole k o = ap length (new-block k o) ∙ length-emptyAnodeBlock k
 
 pub no-slot-stored : (img : List ℕ) (slots : ℕ → ℕ) → storeSlots img slots 0 ≡ img
 unfolding storeSlots

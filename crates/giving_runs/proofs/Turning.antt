@@ -85,7 +85,7 @@ stays-out s h p x d t b left start r t′ u = rw (← start, ← left) u
 -- ---- the end of a side
 
 -- the anode behind z, if there is one, else z
-end-is : (next : ℕ → ℕ) (z r : ℕ) → ((next z ≡ 0) × (r ≡ z)) ⊎ ((next z ≢ 0) × (r ≡ next z)) → r ≡ endAfter next z
+pub end-is : (next : ℕ → ℕ) (z r : ℕ) → ((next z ≡ 0) × (r ≡ z)) ⊎ ((next z ≢ 0) × (r ≡ next z)) → r ≡ endAfter next z
 unfolding endAfter
 end-is next z r (inl c) = rw (eq-eqb (next z) 0 (c .0)) (c .1)
 end-is next z r (inr c) = rw (ne-eqb (next z) 0 (c .0)) (c .1)

@@ -199,7 +199,7 @@ fn side_end(above: bool, g: Going) -> AnodeNo
 }
 
 // The anode behind `z` before 2, if there is one, else `z`.
-fn end_after(nexts: &[u16], z: AnodeNo) -> AnodeNo
+pub fn end_after(nexts: &[u16], z: AnodeNo) -> AnodeNo
     ensures { λ r. ⌜ r .0 ≡ endAfter (cut (λ a. getD (now (nexts .entry)) a 0)) (z .0) ⌝ }
 {
     let next = next_before_two(nexts, z);

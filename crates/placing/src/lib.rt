@@ -51,7 +51,7 @@ pub fn moves_number(moves: Moves) -> u32
 }
 
 // Makes anode `a` hold `count` blocks from `first` on; its next stays.
-fn rewrite(counts: &mut [u16], firsts: &mut [u16], a: AnodeNo, count: u16, first: BlockNo)
+pub fn rewrite(counts: &mut [u16], firsts: &mut [u16], a: AnodeNo, count: u16, first: BlockNo)
     requires { ⌜ (a .0 < 3444) × (length (now counts) ≡ 3444) × (length (now firsts) ≡ 3444) ⌝ }
     ensures { λ _. ⌜ ((n : List ℕ) → anodesFrom (now (counts .exit)) (now (firsts .exit)) n ≡ rewritten (anodesFrom (now (counts .entry)) (now (firsts .entry)) n) (a .0) count (first .0)) ⌝ }
 {

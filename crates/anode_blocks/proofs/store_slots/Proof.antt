@@ -6,7 +6,7 @@ use lib.ListN.{length}
 use borrow.Author.Needs.{needs}
 use Rattle.rules.specs.Table.{storeSlots}
 use Rattle.anodes.specs.Loaded.{slotsFrom}
-use Rattle.anode_blocks.proofs.Laws.{no-slot-stored, slot-room, slot-stays, slot-comes}
+use Rattle.anode_blocks.proofs.Laws.{no-slot-stored, slot-room, slot-stays, slot-comes, new-block, new-whole}
 use Rattle.anode_blocks.proofs.store_slots.Statement.{statement}
 use Rattle.anode_blocks.proofs.store_slots.Tie as tie
 
@@ -30,7 +30,7 @@ unfolding slotsFrom
 store-slot-requires c κs =
     let p = c .before .before .before .before .before .before .before .before .before .before .pre in
     let l = c .before .before .before .before .before .before .before .loop in
-    let room = slot-room _ _ (p .1) (p .0) (l .k) _ (l .image) (search needs) (l .inv .2) (c .before .before .before .before .before .entry .ensures) (λ e. c .before .if1 .taken (c .before .before .before .slot-of .ensures ∙ e)) in
+    let room = slot-room _ _ (p .1 .new-placed) (new-whole _ _ (p .1)) (p .0) (l .k) _ (l .image) (search needs) (l .inv .2) (c .before .before .before .before .before .entry .ensures) (λ e. c .before .if1 .taken (c .before .before .before .slot-of .ensures ∙ e)) in
     (search needs, room .0, room .1)
 
 add-k : tie.Need-add-k Inv-loop μ-loop
@@ -49,8 +49,8 @@ loop-again c =
       search needs,
       ⊎-elim (λ w. ap length (w .5) ∙ w .2 .kept .0 ∙ l .inv .1) (λ w. ap length (w .1) ∙ l .inv .1) (c .if1 .came),
       ⊎-elim
-          (λ w. w .5 ∙ w .2 .ensures ∙ slot-comes _ _ (p .1) (p .0) (l .k) _ (l .image) (search needs) (l .inv .2) y (λ e. w .0 .taken (held ∙ e)))
-          (λ w. w .1 ∙ slot-stays _ _ (p .1) (p .0) (l .k) _ (l .image) (search needs) (l .inv .2) y (sym held ∙ w .0 .left))
+          (λ w. w .5 ∙ w .2 .ensures ∙ slot-comes _ _ (p .1 .new-placed) (new-whole _ _ (p .1)) (p .0) (l .k) _ (l .image) (search needs) (l .inv .2) y (λ e. w .0 .taken (held ∙ e)) _ (λ n. sym (new-block _ _ (p .1) (l .k) n)))
+          (λ w. w .1 ∙ slot-stays _ _ (p .1 .new-placed) (new-whole _ _ (p .1)) (p .0) (l .k) _ (l .image) (search needs) (l .inv .2) y (sym held ∙ w .0 .left))
           (c .if1 .came),
     )
 

@@ -1,0 +1,2 @@
+-- What moved anode blocks ask.
+pub mod Moved

@@ -1,0 +1,2 @@
+-- A new place on the tables.
+pub mod NewPlaces

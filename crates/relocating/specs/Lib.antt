@@ -1,0 +1,2 @@
+-- What a block in a new place asks of the free list.
+pub mod Places

@@ -1,0 +1,2 @@
+-- The slots in use, a file emptied, and plans one after the other.
+pub mod Steps

@@ -1,0 +1,2 @@
+-- What the last steps of a safe change ask.
+pub mod Ready

@@ -1,0 +1,3 @@
+-- What the stores of a safe change ask, and what it leaves.
+pub mod Stored
+pub mod Leaves

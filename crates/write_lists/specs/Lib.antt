@@ -1,0 +1,2 @@
+-- Block writes at a place of a buffer.
+pub mod Puts
