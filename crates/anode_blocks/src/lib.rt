@@ -1,4 +1,6 @@
 // The anode blocks that a change has added: stored in the image with their slots, and shown in the block table.
+#![tactic(auto)]
+
 ghost use Rattle.std.specs.Prelude.{false, ◌≡◌, ◌*◌, ◌+◌, ◌≤◌, ◌<◌, length};
 ghost use Rattle.disk.specs.Root.{slot_of};
 ghost use Rattle.rules.specs.Accepted.{disk_size, wrong_size};

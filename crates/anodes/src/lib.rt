@@ -1,4 +1,6 @@
 // Loads the anodes of an image into three lent tables.
+#![tactic(auto)]
+
 ghost use Rattle.std.specs.Prelude.{◌≡◌, ◌≢◌, ◌+◌, ◌*◌, ◌<◌};
 ghost use Rattle.disk.specs.Root.{slot_of};
 ghost use Rattle.rules.specs.Anodes.{anodes_of};

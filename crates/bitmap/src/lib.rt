@@ -1,4 +1,6 @@
 // The bytes of the hard disk edition's bitmap, from a block table: made in a buffer, or compared with it.
+#![tactic(auto)]
+
 ghost use Rattle.std.specs.Prelude.{◌≡◌, ◌+◌, ◌*◌, ◌/◌, ◌%◌, ◌<◌, ◌≤◌, length};
 ghost use Rattle.bitmap.specs.Bits.{with_bit, bits_from, byte_of};
 ghost use Rattle.bitmap.specs.Bitmap.{bitmap_word, bitmap_byte, tabulate, first_differing};

@@ -1,4 +1,6 @@
 // The two calls of the hard disk edition's bitmap: made into a lent buffer, or compared with a buffer. None asks anything of its caller; each contract settles the answer, the image, both tables and the output for every input.
+#![tactic(auto)]
+
 ghost use Rattle.std.specs.Prelude.{[], ◌≡◌, ◌+◌, ◌*◌, ◌-◌, ◌/◌, ◌≤◌, length, replicate};
 ghost use Rattle.rules.specs.Calls.{outcome_of, done_or};
 ghost use Rattle.bitmap.specs.Bitmap.{first_data, block_bit, bitmap_of, first_differing};

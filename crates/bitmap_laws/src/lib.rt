@@ -1,1 +1,3 @@
 // Theorems about the bitmap, and the laws that its code is proved with; specs/ has them all.
+#![tactic(auto)]
+

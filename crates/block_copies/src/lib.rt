@@ -1,4 +1,6 @@
 // Copies blocks of an image to their new places: a directory block, and every anode block with its slot.
+#![tactic(auto)]
+
 ghost use Rattle.std.specs.Prelude.{false, ◌≢◌, ◌≡◌, ◌*◌, ◌+◌, ◌≤◌, ◌<◌, length};
 ghost use Rattle.disk.specs.Blocks.{block_of, with_block};
 ghost use Rattle.rules.specs.Accepted.{wrong_size};

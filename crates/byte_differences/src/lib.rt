@@ -1,4 +1,6 @@
 // The bytes in which two files differ: the first of them, and how many; bytes past the shorter one's end count.
+#![tactic(auto)]
+
 ghost use Rattle.std.specs.Prelude.{◌≡◌, cond, ◌+◌, ◌-◌, ◌≤◌, length, eqb, ltb};
 ghost use Rattle.rules.specs.Counting.{any_below};
 ghost use Rattle.rules.specs.Lookup.{bytes_of};
@@ -12,14 +14,14 @@ use endian::{part, smaller};
 use tables::entry;
 
 // The first byte that differs, 0 where none does, and how many differ.
-#[derive(Drop)]
+#[derive(Clone, Copy)]
 pub struct Differing {
     pub first: u32,
     pub many: u32,
 }
 
 // A place in a chain: where in the image the rest of an extent starts, how many bytes are left of it, the anode behind it, and how many anodes may still come.
-#[derive(Drop)]
+#[derive(Clone, Copy)]
 struct Place {
     from: usize,
     left: usize,

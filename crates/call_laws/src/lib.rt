@@ -1,1 +1,3 @@
 // Laws of the calls' outcomes; they stand in specs/.
+#![tactic(auto)]
+

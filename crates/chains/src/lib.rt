@@ -1,4 +1,6 @@
 // Refusals 6 to 9 and the heads of chains, over the anodes in three lent tables.
+#![tactic(auto)]
+
 ghost use Rattle.std.specs.Prelude.{◌&&◌, true, false, not, List, ◌++◌, ◌≡◌, ℕ, ◌+◌, ◌≤◌, ◌<◌, eqb, leb, ltb, length, get_or, drop, replicate};
 ghost use Rattle.rules.specs.Counting.{any_below, any_in};
 ghost use Rattle.rules.specs.Anodes.{is_free};

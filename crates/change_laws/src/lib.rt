@@ -1,1 +1,3 @@
 // Theorems about the changes on an accepted image; they stand in specs/.
+#![tactic(auto)]
+

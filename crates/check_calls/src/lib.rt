@@ -1,4 +1,6 @@
 // The calls that only check an image. None asks anything of its caller; each contract settles the answer, the image, both tables and the output for every input.
+#![tactic(auto)]
+
 ghost use Rattle.std.specs.Prelude.{[], ◌≡◌};
 ghost use Rattle.rules.specs.Calls.{outcome_of, check_outcome, summary_outcome};
 

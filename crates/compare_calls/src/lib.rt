@@ -1,4 +1,6 @@
 // The two calls that compare. They ask nothing of their caller; each contract settles the answer, the fields, the buffer and the tables of both images for every input.
+#![tactic(auto)]
+
 ghost use Rattle.std.specs.Prelude.{◌∷◌, [], ◌≡◌};
 ghost use Rattle.differences.specs.Calls.{compared_of, compare_outcome, differences_outcome};
 ghost use Rattle.comparing.specs.Walked.{OpenWalk};
@@ -9,7 +11,7 @@ use disk::number;
 use fsck::{Checked, open_disk};
 
 // How a comparison went: its answer, which image was refused, and how many differences were handed out.
-#[derive(Drop)]
+#[derive(Clone, Copy)]
 struct Comparison {
     answer: u32,
     refused: u32,

@@ -1,4 +1,6 @@
 // The differences of two accepted images, handing_with out one after the other: the first's directories with their partners in the second, then what only the second has.
+#![tactic(auto)]
+
 ghost use Rattle.std.specs.Prelude.{List, [], ◌≡◌};
 ghost use Rattle.rules.specs.Counting.{gather};
 ghost use Rattle.rules.specs.Anodes.{anodes_of};

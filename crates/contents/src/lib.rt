@@ -1,4 +1,6 @@
 // Copies the bytes of a chain out, and writes bytes along a chain.
+#![tactic(auto)]
+
 ghost use Rattle.std.specs.Prelude.{List, [], ◌∷◌, ◌++◌, ◌≡◌, ℕ, ◌+◌, ◌*◌, ◌<◌, ◌≤◌, length, take, drop};
 ghost use Rattle.disk.specs.Blocks.{block_of};
 ghost use Rattle.rules.specs.Counting.{gather};
@@ -16,7 +18,7 @@ use endian::{part, store};
 use tables::entry;
 
 // How many bytes are still to be skipped, and how many are done.
-#[derive(Drop)]
+#[derive(Clone, Copy)]
 struct Cursor {
     skip: u64,
     done: usize,

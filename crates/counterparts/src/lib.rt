@@ -1,4 +1,6 @@
 // The entries of one directory of an accepted image in the index of names, and the entry of a name among them.
+#![tactic(auto)]
+
 ghost use Rattle.std.specs.Prelude.{List, [], ◌⊎◌, ◌≡◌, ℕ, ◌+◌, ◌*◌, ◌<◌, ◌≤◌, eqb, length, get_or};
 ghost use Rattle.std.proofs.Math.Option.{some};
 ghost use Rattle.directory.specs.Entries.{is_dir};
@@ -20,7 +22,7 @@ use names::{add_name, find_name};
 use tables::{entry, zero_first};
 
 // The entries that are in the index for one directory: from one number up to another.
-#[derive(Drop)]
+#[derive(Clone, Copy)]
 pub struct Span {
     pub from: usize,
     pub upto: usize,

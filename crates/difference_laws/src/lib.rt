@@ -1,1 +1,3 @@
 // Laws alone: what the list of differences says of two trees.
+#![tactic(auto)]
+

@@ -1,4 +1,6 @@
 // Directory blocks and their entries: readers and writers of one lent block.
+#![tactic(auto)]
+
 ghost use Rattle.std.specs.Prelude.{◌≡◌, ◌+◌, ◌*◌, ◌<◌, ◌≤◌, length};
 ghost use Rattle.directory.specs.Entries.{kind_read, type_of, is_dir, good_name, good_name_byte, directory_header_in, put_directory_header, entry_length, entry_shaped, entry_in, walked_at, put_entry};
 
@@ -6,21 +8,21 @@ use disk::{AnodeNo, Refusal};
 use endian::{clear, part, read8, read16, read32, store, write8, write16, write32};
 
 // What an entry names.
-#[derive(Drop)]
+#[derive(Clone, Copy)]
 pub enum Kind {
     File,
     Directory,
 }
 
 // What an entry's type byte says.
-#[derive(Drop)]
+#[derive(Clone, Copy)]
 pub enum KindRead {
     Is(Kind),
     Neither,
 }
 
 // An entry's fields; of its name and its comment the lengths.
-#[derive(Drop)]
+#[derive(Clone, Copy)]
 pub struct Entry {
     pub kind: Kind,
     pub anode: AnodeNo,
@@ -34,7 +36,7 @@ pub struct Entry {
 }
 
 // What stands at a place of a directory block.
-#[derive(Drop)]
+#[derive(Clone, Copy)]
 pub enum Walked {
     Found(Entry),
     End,
@@ -42,7 +44,7 @@ pub enum Walked {
 }
 
 // A directory block's mark, its directory's head anode and the parent directory's.
-#[derive(Drop)]
+#[derive(Clone, Copy)]
 pub struct DirectoryHeader {
     pub mark: u16,
     pub owner: AnodeNo,

@@ -1,4 +1,6 @@
 // The vocabulary of a PFS disk: the two kinds of number, anodes and refusals, and readers and writers of the root block and of an anode block.
+#![tactic(auto)]
+
 ghost use Rattle.std.specs.Prelude.{◌≡◌, ◌+◌, ◌<◌, min};
 ghost use Rattle.disk.specs.Refusals.{number_of};
 ghost use Rattle.disk.specs.Blocks.{block_of};
@@ -8,15 +10,15 @@ ghost use Rattle.disk.specs.AnodeBlocks.{anode_made, anode_header_in, put_anode_
 use endian::{part, read8, read16, read32, store, write8, write16, write32};
 
 // A block's number.
-#[derive(Drop)]
+#[derive(Clone, Copy)]
 pub struct BlockNo(pub u16);
 
 // An anode's number.
-#[derive(Drop)]
+#[derive(Clone, Copy)]
 pub struct AnodeNo(pub u16);
 
 // How many blocks, the first of them, and the next anode of the chain.
-#[derive(Drop)]
+#[derive(Clone, Copy)]
 pub struct Anode {
     pub count: u16,
     pub block: BlockNo,
@@ -24,7 +26,7 @@ pub struct Anode {
 }
 
 // One case for each refusal number of the rules.
-#[derive(Drop)]
+#[derive(Clone, Copy)]
 pub enum Refusal {
     ImageSize,
     TableSize,
@@ -55,7 +57,7 @@ pub enum Refusal {
 }
 
 // The root block's fixed fields: the disk type, the stamp, the length of the disk's name, first and last reserved.
-#[derive(Drop)]
+#[derive(Clone, Copy)]
 pub struct Root {
     pub signature: u32,
     pub day: u16,
@@ -68,7 +70,7 @@ pub struct Root {
 }
 
 // An anode block's mark and sequence number.
-#[derive(Drop)]
+#[derive(Clone, Copy)]
 pub struct AnodeHeader {
     pub mark: u16,
     pub sequence: u16,

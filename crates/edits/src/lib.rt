@@ -1,4 +1,6 @@
 // What a change writes into the image, and the block table after it.
+#![tactic(auto)]
+
 ghost use Rattle.std.specs.Prelude.{◌&&◌, true, List, [], ◌∷◌, ◌≡◌, ℕ, ◌+◌, ◌/◌, ◌%◌, ◌<◌, ◌≤◌, eqb, length, get_or, take, drop};
 ghost use Rattle.disk.specs.AnodeBlocks.{anode_made};
 ghost use Rattle.directory.specs.Entries.{good_name, good_comment, is_dir, put_entry};
@@ -18,7 +20,7 @@ use endian::{clear, read8, write32};
 use tables::{entry, set_entry};
 
 // A place for a new entry, or none.
-#[derive(Drop)]
+#[derive(Clone, Copy)]
 pub enum Room {
     At(usize),
     Nowhere,

@@ -1,4 +1,6 @@
 // Big-endian numbers in lent bytes. Reading past the end gives 0 and writing past it changes nothing.
+#![tactic(auto)]
+
 ghost use Rattle.std.specs.Prelude.{◌≡◌, ◌+◌, ◌*◌, ◌<◌, min, get_or, set, take, drop};
 ghost use Rattle.endian.specs.Bytes.{be16, be32, put16, put32, stored, cleared};
 

@@ -1,4 +1,6 @@
 // The fields in which two entries differ.
+#![tactic(auto)]
+
 ghost use Rattle.std.specs.Prelude.{cond, [], ◌≡◌, ◌/◌, ◌<◌, ◌≤◌, eqb};
 ghost use Rattle.disk.specs.Blocks.{block_of};
 ghost use Rattle.directory.specs.Entries.{is_dir, name_in};

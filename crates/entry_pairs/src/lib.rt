@@ -1,4 +1,6 @@
 // An entry of the first image with its counterpart in the second: what is noted of the pair, and the difference that is handing_with out.
+#![tactic(auto)]
+
 ghost use Rattle.std.specs.Prelude.{◌&&◌, List, ◌∷◌, [], ◌≡◌, ℕ, eqb, set};
 ghost use Rattle.std.proofs.Math.Option.{some};
 ghost use Rattle.rules.specs.Walk.{Entered};

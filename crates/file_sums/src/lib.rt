@@ -1,4 +1,6 @@
 // What the files of an accepted image add up to: their bytes, and how many are in more than one run, in one pass over the entries.
+#![tactic(auto)]
+
 ghost use Rattle.std.specs.Prelude.{List, [], ◌∷◌, ◌≡◌, ℕ, ◌<◌, ◌≤◌, get_or};
 ghost use Rattle.rules.specs.Counting.{gather};
 ghost use Rattle.rules.specs.Walk.{entries_in};
@@ -15,7 +17,7 @@ use reader::read_entry;
 use tables::entry;
 
 // The bytes of files, and how many files are in more than one run.
-#[derive(Drop)]
+#[derive(Clone, Copy)]
 pub struct FileSums {
     pub bytes: u64,
     pub split: u32,

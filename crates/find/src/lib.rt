@@ -1,4 +1,6 @@
 // Finds an entry, by its name or by its place, in a directory of an accepted image, and tries the refusals 21, 22 and 24 to 26 of the call that asks for it.
+#![tactic(auto)]
+
 ghost use Rattle.std.specs.Prelude.{cond, false, not, List, ◌≡◌, ℕ, ◌+◌, ltb};
 ghost use Rattle.directory.specs.Entries.{is_dir};
 ghost use Rattle.rules.specs.Anodes.{anodes_of};
@@ -18,7 +20,7 @@ use reader::read_entry;
 use tables::entry;
 
 // What a search answers.
-#[derive(Drop)]
+#[derive(Clone, Copy)]
 pub enum Search {
     Found(EntryAt),
     Refused(Refusal),

@@ -1,4 +1,6 @@
 // Names compared with A to Z folded onto a to z.
+#![tactic(auto)]
+
 ghost use Rattle.std.specs.Prelude.{◌≡◌};
 ghost use Rattle.rules.specs.Counting.{same_bytes};
 ghost use Rattle.rules.specs.Folding.{fold as fold_of, folded};

@@ -1,4 +1,6 @@
 // Format: makes an empty disk in the lent image.
+#![tactic(auto)]
+
 ghost use Rattle.std.specs.Prelude.{◌≡◌, false, ℕ, ◌+◌, ◌*◌, ◌<◌, ◌≤◌, length, replicate};
 ghost use Rattle.endian.specs.Bytes.{put32};
 ghost use Rattle.disk.specs.Blocks.{block_of, with_block};

@@ -1,1 +1,3 @@
 // Theorems about a formatted image; they stand in specs/.
+#![tactic(auto)]
+

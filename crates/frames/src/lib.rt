@@ -1,1 +1,3 @@
 // Theorems about what a store changes and what it leaves; they stand in specs/.
+#![tactic(auto)]
+

@@ -1,4 +1,6 @@
 // The check: every refusal of the rules in order, both tables, and what it loaded.
+#![tactic(auto)]
+
 ghost use Rattle.std.specs.Prelude.{false, [], ◌≡◌, ◌≤◌, length};
 ghost use Rattle.rules.specs.Counting.{◌if◌else◌};
 ghost use Rattle.rules.specs.Anodes.{anodes_of};
@@ -17,7 +19,7 @@ use tree::{TreeRead, walk_tree};
 use walk_steps::chain_sum;
 
 // Free blocks, files, and directories with the root.
-#[derive(Drop)]
+#[derive(Clone, Copy)]
 pub struct Tally {
     pub free: u32,
     pub files: u16,
@@ -25,14 +27,14 @@ pub struct Tally {
 }
 
 // What the check answers.
-#[derive(Drop)]
+#[derive(Clone, Copy)]
 pub enum Checked {
     Accepted(Tally),
     Refused(Refusal),
 }
 
 // What a group of tests answers.
-#[derive(Drop)]
+#[derive(Clone, Copy)]
 enum Test {
     Passed,
     Failed(Refusal),

@@ -1,4 +1,6 @@
 // Gives blocks of a chain back to the free list, run by run, and zeroes a chain, on the anodes in three lent tables and the slots in a fourth.
+#![tactic(auto)]
+
 ghost use Rattle.std.specs.Prelude.{List, ◌≡◌, ℕ, ◌≤◌, length, get_or, take};
 ghost use Rattle.rules.specs.Chains.{chain_of, block_count};
 ghost use Rattle.rules.specs.Plans.{slotted, planned};

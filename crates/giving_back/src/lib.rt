@@ -1,4 +1,6 @@
 // Gives the old blocks of a safe change back to the free list one by one, in rising order, on the anodes in three lent tables and the slots in a fourth; the block table tells which they are.
+#![tactic(auto)]
+
 ghost use Rattle.std.specs.Prelude.{List, ◌∷◌, ◌≡◌, ℕ, ◌+◌, ◌-◌, ◌≤◌, ◌<◌, length, get_or, true, false, cond};
 ghost use Rattle.rules.specs.Chains.{cut};
 ghost use Rattle.laws.specs.Carried.{end_after};
@@ -15,21 +17,21 @@ use searches::last_anode;
 use tables::entry;
 
 // The last anodes of the sides of the free list above last reserved and up to it.
-#[derive(Drop)]
+#[derive(Clone, Copy)]
 pub struct Ends {
     pub upper: AnodeNo,
     pub lower: AnodeNo,
 }
 
 // What giving one block back answers: the ends of both sides then, or the refusal.
-#[derive(Drop)]
+#[derive(Clone, Copy)]
 pub enum Back {
     Goes(Ends),
     Stops(Refusal),
 }
 
 // Which blocks are old: those of the chain of `head`, the anode blocks, and block `moved`.
-#[derive(Drop)]
+#[derive(Clone, Copy)]
 pub struct Old {
     pub head: AnodeNo,
     pub moved: BlockNo,

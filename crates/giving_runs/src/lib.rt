@@ -1,4 +1,6 @@
 // Gives the last run of a chain back to the free list, on the anodes in three lent tables and the slots in a fourth, and carries what the next run needs.
+#![tactic(auto)]
+
 ghost use Rattle.std.specs.Prelude.{cond, not, ◌&&◌, List, ◌≢◌, ◌≡◌, ℕ, ◌+◌, ◌-◌, ◌<◌, ◌≤◌, eqb, length, get_or};
 ghost use Rattle.rules.specs.Anodes.{exists_by};
 ghost use Rattle.rules.specs.Chains.{cut};
@@ -17,7 +19,7 @@ use searches::{last_anode, next_before_two, side_of};
 use tables::entry;
 
 // A run at the end of a chain: `length` blocks from `first` on, the last of `anode`, which stands after `before` and at `place` among the chain's anodes; `whole`: all that it has.
-#[derive(Drop)]
+#[derive(Clone, Copy)]
 pub struct Run {
     pub before: AnodeNo,
     pub anode: AnodeNo,
@@ -28,7 +30,7 @@ pub struct Run {
 }
 
 // What one run leaves to the next: how many blocks are still to go, how many of the chain's anodes may have any, and the last anodes of the sides of the free list above last reserved and up to it.
-#[derive(Drop)]
+#[derive(Clone, Copy)]
 pub struct Going {
     pub left: u64,
     pub at: usize,
@@ -37,7 +39,7 @@ pub struct Going {
 }
 
 // What a turn answers: what it leaves to the next, or the refusal.
-#[derive(Drop)]
+#[derive(Clone, Copy)]
 pub enum Turn {
     Goes(Going),
     Stops(Refusal),

@@ -1,4 +1,6 @@
 // Grows the anode table on the anodes in three lent tables and the slots in a fourth: the lowest empty slot gets a free block.
+#![tactic(auto)]
+
 ghost use Rattle.std.specs.Prelude.{◌≡◌, ℕ, length};
 ghost use Rattle.rules.specs.Growth.{empty_slot};
 ghost use Rattle.anodes.specs.Loaded.{slots_from, table_from, AnodeTables};

@@ -1,4 +1,6 @@
 // Hands differences out into a lent buffer, six numbers for each.
+#![tactic(auto)]
+
 ghost use Rattle.std.specs.Prelude.{◌≡◌, ◌+◌, ◌≤◌, ltb, length};
 ghost use Rattle.differences.specs.Differences.{numbers_of};
 ghost use Rattle.differences.specs.Handing.{hand_out};
@@ -6,7 +8,7 @@ ghost use Rattle.endian.specs.Bytes.{stored};
 ghost use Rattle.handing.specs.Differs.{difference_of, handing_with, numbers_both, only_places};
 
 // Two entries of one path that differ: their places, the fields, the first differing byte and how many differ.
-#[derive(Drop)]
+#[derive(Clone, Copy)]
 pub struct Both {
     pub first: u32,
     pub second: u32,
@@ -16,7 +18,7 @@ pub struct Both {
 }
 
 // A difference, with the byte place of its entry in each image that has it.
-#[derive(Drop)]
+#[derive(Clone, Copy)]
 pub enum Differs {
     OnlyFirst(u32),
     OnlySecond(u32),
@@ -24,7 +26,7 @@ pub enum Differs {
 }
 
 // How many differences are still to be passed, and how many numbers are there so far.
-#[derive(Drop)]
+#[derive(Clone, Copy)]
 pub struct Handed {
     pub skip: u64,
     pub done: usize,

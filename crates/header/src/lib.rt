@@ -1,4 +1,6 @@
 // Refusals 1 to 5: the image's size, the tables' lengths, the root block and the slots.
+#![tactic(auto)]
+
 ghost use Rattle.std.specs.Prelude.{◌≡◌};
 ghost use Rattle.rules.specs.Accepted.{disk_size, wrong_size, short_tables, wrong_type, wrong_root, wrong_slot, wrong_slots};
 

@@ -1,4 +1,6 @@
 // One line about the disk image on standard input.
+#![tactic(auto)]
+
 use disk::number;
 use fsck::{Checked, check_disk};
 use header::disk_size;

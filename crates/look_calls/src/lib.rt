@@ -1,4 +1,6 @@
 // The calls that find an entry by its name and read the disk's label. None asks anything of its caller; each contract settles the answer, the image, both tables and the output for every input.
+#![tactic(auto)]
+
 ghost use Rattle.std.specs.Prelude.{[], ◌≡◌};
 ghost use Rattle.rules.specs.Calls.{outcome_of};
 ghost use Rattle.looks.specs.Calls.{find_outcome, label_of, label_outcome};

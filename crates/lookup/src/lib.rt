@@ -1,4 +1,6 @@
 // Looks up the entries of a directory in an accepted image.
+#![tactic(auto)]
+
 ghost use Rattle.std.specs.Prelude.{not, List, [], ◌++◌, ◌≡◌, ℕ, ◌+◌, ◌*◌, ◌<◌, ◌≤◌};
 ghost use Rattle.directory.specs.Entries.{name_in};
 ghost use Rattle.rules.specs.Counting.{same_bytes};
@@ -20,7 +22,7 @@ use reader::read_entry;
 use tables::entry;
 
 // An entry of a directory: what it names, and the place of its first byte in the image.
-#[derive(Drop)]
+#[derive(Clone, Copy)]
 pub struct EntryAt {
     pub kind: Kind,
     pub anode: AnodeNo,
@@ -29,14 +31,14 @@ pub struct EntryAt {
 }
 
 // What a lookup answers.
-#[derive(Drop)]
+#[derive(Clone, Copy)]
 pub enum Lookup {
     Found(EntryAt),
     Missing,
 }
 
 // What a block gives when entries are counted down: the one asked for, or how many are still to be passed after the block.
-#[derive(Drop)]
+#[derive(Clone, Copy)]
 enum Passed {
     Found(EntryAt),
     Left(u64),

@@ -1,4 +1,6 @@
 // Makes an entry in a directory: a fresh head, a block of its own for a directory, a block for the parent where it has no room, then the entry.
+#![tactic(auto)]
+
 ghost use Rattle.std.specs.Prelude.{true, false, List, [], ◌∷◌, ◌≡◌, ℕ, ◌≤◌, length};
 ghost use Rattle.disk.specs.Root.{slot_of};
 ghost use Rattle.directory.specs.Entries.{good_name, good_comment, is_dir, entry_length};
@@ -32,7 +34,7 @@ use tables::set_entry;
 use taking::take_block;
 
 // A planned make: the fresh head, the entry's place, and the blocks that it takes, 0 for none: the new directory's own and its parent's.
-#[derive(Drop)]
+#[derive(Clone, Copy)]
 pub struct MakePlan {
     pub fresh: AnodeNo,
     pub start: usize,
@@ -41,7 +43,7 @@ pub struct MakePlan {
 }
 
 // What the planning of a make answers.
-#[derive(Drop)]
+#[derive(Clone, Copy)]
 pub enum Planned {
     Make(MakePlan),
     Stopped(Refusal),

@@ -1,4 +1,6 @@
 // Changes what a name stands for in an accepted image: first the refusals, then the change.
+#![tactic(auto)]
+
 ghost use Rattle.std.specs.Prelude.{not, ◌||◌, List, ◌≡◌, ℕ, ◌≤◌, eqb, length};
 ghost use Rattle.rules.specs.Anodes.{anodes_of};
 ghost use Rattle.rules.specs.Lookup.{entry_named};
@@ -18,7 +20,7 @@ use removing::remove_entry;
 use resizing::resize_entry;
 
 // What a call asks for under a name, where one function serves all changes; a make's comment and the bytes of a write are lent beside it.
-#[derive(Drop)]
+#[derive(Clone, Copy)]
 pub enum Asked {
     Make {
         kind: u8,

@@ -1,4 +1,6 @@
 // The names that a walk has met: each is looked for among the earlier ones of its directory by an index.
+#![tactic(auto)]
+
 ghost use Rattle.std.specs.Prelude.{◌≡◌, ℕ, ◌+◌, ◌*◌, ◌-◌, ◌/◌, ◌%◌, ◌<◌, ◌≤◌, ◌∷◌, get_or};
 ghost use Rattle.disk.specs.Blocks.{block_of};
 ghost use Rattle.directory.specs.Entries.{name_in};

@@ -1,4 +1,6 @@
 // Refusals 10 and 11: marks in the lent block table the owner of each block of the disk.
+#![tactic(auto)]
+
 ghost use Rattle.std.specs.Prelude.{◌≡◌, List, false, ◌≢◌, ℕ, ◌+◌, ◌<◌, ◌≤◌, length, get_or, drop, eqb};
 ghost use Rattle.rules.specs.Counting.{any_below};
 ghost use Rattle.rules.specs.Anodes.{limit};

@@ -1,1 +1,3 @@
 // Definitions and laws alone: the tree of an image, by paths.
+#![tactic(auto)]
+

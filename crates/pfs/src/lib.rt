@@ -1,4 +1,6 @@
 // The calls for a host program in C or Rust: a slice is a pointer and a length.
+#![tactic(auto)]
+
 ghost use Rattle.std.specs.Prelude.{[], ◌≡◌, get_or};
 ghost use Rattle.rules.specs.Changes.{left};
 ghost use Rattle.rules.specs.Calls.{outcome_of, check_outcome, summary_outcome, format_outcome, read_outcome, list_outcome, make_outcome, resize_outcome, write_outcome, remove_outcome};

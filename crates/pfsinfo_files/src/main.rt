@@ -1,4 +1,6 @@
 // Writes one line about the disk image on standard input; its stored input has two files, two directories below the root and free blocks on both sides of last reserved.
+#![tactic(auto)]
+
 fn main() {
     info_line::run();
 }

@@ -1,4 +1,6 @@
 // Puts a run of blocks into an anode and takes one out of it, on the anodes in three lent tables, at the slots of a fourth. A refused step leaves the tables.
+#![tactic(auto)]
+
 ghost use Rattle.std.specs.Prelude.{List, ◌≢◌, ◌≡◌, ℕ, ◌+◌, ◌<◌, ◌≤◌, length, get_or};
 ghost use Rattle.rules.specs.Anodes.{exists_by};
 ghost use Rattle.rules.specs.Chains.{run};
@@ -12,14 +14,14 @@ use searches::lowest_free;
 use tables::{entry, set_entry};
 
 // What a step answers: the first of the blocks that changed hands, or the refusal.
-#[derive(Drop)]
+#[derive(Clone, Copy)]
 pub enum Step {
     Moved(BlockNo),
     Refused(Refusal),
 }
 
 // What a run of steps answers: done, or the refusal that stopped it.
-#[derive(Drop)]
+#[derive(Clone, Copy)]
 pub enum Moves {
     Done,
     Stopped(Refusal),

@@ -1,4 +1,6 @@
 // The calls that read a file and list an entry. None asks anything of its caller; each contract settles the answer, the image, both tables and the output for every input.
+#![tactic(auto)]
+
 ghost use Rattle.std.specs.Prelude.{[], ◌≡◌, get_or};
 ghost use Rattle.rules.specs.Calls.{outcome_of, read_outcome, list_outcome};
 ghost use Rattle.reading.specs.Parts.{StartsAt};

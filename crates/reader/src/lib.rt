@@ -1,4 +1,6 @@
 // A reader holds a directory block and a place in it together, and steps from entry to entry.
+#![tactic(auto)]
+
 ghost use Rattle.std.specs.Prelude.{◌≡◌};
 ghost use Rattle.directory.specs.Entries.{walked_at};
 ghost use Rattle.reader.specs.Reads.{place_after, entry_read};
@@ -6,14 +8,14 @@ ghost use Rattle.reader.specs.Reads.{place_after, entry_read};
 use directory::{Walked, entry_at};
 
 // A directory block and a place in it.
-#[derive(Drop)]
+#[derive(Clone, Copy)]
 pub struct Reader<'a> {
     block: &'a [u8],
     at: usize,
 }
 
 // What a reader reads: what stands at its place, and the place behind it.
-#[derive(Drop)]
+#[derive(Clone, Copy)]
 pub struct EntryRead {
     pub walked: Walked,
     pub after: usize,

@@ -1,4 +1,6 @@
 // Reads a file, lists an entry and finds one by name in an accepted image.
+#![tactic(auto)]
+
 ghost use Rattle.std.specs.Prelude.{◌≡◌, ◌+◌, ◌*◌, ◌<◌, length, get_or};
 ghost use Rattle.rules.specs.Anodes.{anodes_of};
 ghost use Rattle.rules.specs.Lookup.{entry_named, entries_of, name_at, nth};

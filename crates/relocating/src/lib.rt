@@ -1,4 +1,6 @@
 // Gives old blocks new places, on the anodes in three lent tables and the slots in a fourth: a directory block keeps its anode, an anode block its slot.
+#![tactic(auto)]
+
 ghost use Rattle.std.specs.Prelude.{◌≡◌, ℕ, ◌<◌, length};
 ghost use Rattle.rules.specs.Plans.{slotted};
 ghost use Rattle.safe_rules.specs.SafePlans.{owner_of, relocated, reslotted_from};

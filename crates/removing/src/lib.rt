@@ -1,4 +1,6 @@
 // Removes an entry of an accepted image: its blocks go back to the free list, its anodes become free, and its directory block closes the gap.
+#![tactic(auto)]
+
 ghost use Rattle.std.specs.Prelude.{List, ◌≡◌, ℕ, ◌≤◌, length};
 ghost use Rattle.rules.specs.Plans.{table_of};
 ghost use Rattle.rules.specs.Changes.{left, removed_image, removed};

@@ -1,4 +1,6 @@
 // The runs that a block table shows, and the totals of a shift report.
+#![tactic(auto)]
+
 ghost use Rattle.std.specs.Prelude.{false, List, ◌++◌, ◌≡◌, ℕ, ◌+◌, ◌<◌, ◌≤◌, max, leb, ltb, length, get_or};
 ghost use Rattle.rules.specs.Counting.{any_in};
 ghost use Rattle.report.specs.Runs.{longest_run};
@@ -7,7 +9,7 @@ ghost use Rattle.report.specs.Room.{CountsLow, SumsLow, Modest};
 ghost use Rattle.report.specs.Table.{owned_by, RunsCounted, free_end, Surveyed};
 
 // How far a pass over a block table is: the owner of the last block passed, where its run started, and the longest free run before that one.
-#[derive(Drop)]
+#[derive(Clone, Copy)]
 struct Survey {
     owner: u16,
     start: usize,

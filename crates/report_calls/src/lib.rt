@@ -1,4 +1,6 @@
 // The shift report. It asks nothing of its caller; its contract settles the answer, the image, both tables, the five numbers and the totals for every input.
+#![tactic(auto)]
+
 ghost use Rattle.std.specs.Prelude.{false, [], ◌≡◌, take};
 ghost use Rattle.rules.specs.Anodes.{anodes_of};
 ghost use Rattle.rules.specs.Calls.{outcome_of};

@@ -1,4 +1,6 @@
 // Resizes a file of an accepted image: takes or gives back blocks, and stores the new size.
+#![tactic(auto)]
+
 ghost use Rattle.std.specs.Prelude.{false, List, ◌≡◌, ℕ, ◌≤◌, length};
 ghost use Rattle.directory.specs.Entries.{is_dir};
 ghost use Rattle.rules.specs.Anodes.{anodes_of};

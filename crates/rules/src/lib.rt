@@ -1,1 +1,2 @@
 // The rules are definitions alone; they stand in specs/.
+#![tactic(auto)]

@@ -1,4 +1,6 @@
 // The calls that change an image safely. None asks anything of its caller; each contract settles the answer, the image, both tables, the buffer of writes and their count for every input.
+#![tactic(auto)]
+
 ghost use Rattle.std.specs.Prelude.{get_or, ◌≡◌};
 ghost use Rattle.fsck.specs.Answers.{Sized};
 ghost use Rattle.safe_rules.specs.SafeCalls.{safe_make, safe_resize, safe_write, safe_remove, safe_outcome};

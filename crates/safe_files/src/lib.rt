@@ -1,4 +1,6 @@
 // Writes a file of an accepted image safely: its blocks are new, and the list of writes is in the buffer.
+#![tactic(auto)]
+
 ghost use Rattle.std.specs.Prelude.{false, List, [], ◌∷◌, ◌++◌, ◌≡◌, ℕ, ◌+◌, ◌*◌, ◌≤◌, length, take, drop};
 ghost use Rattle.endian.specs.Bytes.{stored};
 ghost use Rattle.directory.specs.Entries.{is_dir};

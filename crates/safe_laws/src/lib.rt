@@ -1,1 +1,3 @@
 // Laws alone: what holds of a safe update that is cut off.
+#![tactic(auto)]
+

@@ -1,4 +1,6 @@
 // Makes an entry safely: every block that changes takes a new place, and the writes go to a list, the root last.
+#![tactic(auto)]
+
 ghost use Rattle.std.specs.Prelude.{true, false, cond, List, [], ◌∷◌, ◌++◌, ◌≡◌, ℕ, ◌+◌, ◌*◌, ◌/◌, ◌≤◌, ◌<◌, length, get_or};
 ghost use Rattle.disk.specs.Root.{slot_of};
 ghost use Rattle.disk.specs.Blocks.{with_block};
@@ -37,14 +39,14 @@ use walk_steps::chain_sum;
 use write_lists::put_write;
 
 // A make that is planned safely: as in place, and the block that gets the entry.
-#[derive(Drop)]
+#[derive(Clone, Copy)]
 struct SafePlan {
     plan: MakePlan,
     to: BlockNo,
 }
 
 // What the planning of a safe make answers.
-#[derive(Drop)]
+#[derive(Clone, Copy)]
 enum SafePlanned {
     Make(SafePlan),
     Stopped(Refusal),

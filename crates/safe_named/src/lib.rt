@@ -1,4 +1,6 @@
 // Changes safely what a name stands for in an accepted image: first the refusals, then the change and its list of writes.
+#![tactic(auto)]
+
 ghost use Rattle.safe_rules.specs.SafeCalls.{safe_make, safe_resize, safe_write, safe_remove};
 ghost use Rattle.find.specs.Open.{Open, OpenAnodes};
 ghost use Rattle.safe_plans.specs.Planned.{ShowsBlocks};

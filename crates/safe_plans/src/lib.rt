@@ -1,4 +1,6 @@
 // Plans the safe changes of files and entries on the anodes in three lent tables and the slots in a fourth: a change's own steps, then what every one ends with.
+#![tactic(auto)]
+
 ghost use Rattle.std.specs.Prelude.{◌≡◌, ℕ, ◌<◌, ◌≤◌, length, get_or};
 ghost use Rattle.rules.specs.Chains.{chain_of};
 ghost use Rattle.rules.specs.Plans.{◌and_then◌};

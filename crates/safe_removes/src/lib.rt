@@ -1,4 +1,6 @@
 // Removes an entry of an accepted image safely: its directory block and the anode blocks take new places, and the writes of the new blocks, the root last, stand in a lent buffer.
+#![tactic(auto)]
+
 ghost use Rattle.std.specs.Prelude.{false, ◌∷◌, ◌≡◌, ◌/◌, ◌≤◌, length};
 ghost use Rattle.disk.specs.Root.{slot_of};
 ghost use Rattle.rules.specs.Anodes.{anodes_of};

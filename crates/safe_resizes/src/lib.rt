@@ -1,4 +1,6 @@
 // Gives a file of an accepted image another size safely: its blocks are new, its directory block and the anode blocks take new places, and the writes of the new blocks, the root last, stand in a lent buffer.
+#![tactic(auto)]
+
 ghost use Rattle.std.specs.Prelude.{false, [], ◌∷◌, ◌++◌, ◌≢◌, ◌≡◌, ℕ, ◌+◌, ◌*◌, ◌/◌, ◌≤◌, ◌<◌, length, get_or};
 ghost use Rattle.disk.specs.Root.{slot_of};
 ghost use Rattle.directory.specs.Entries.{is_dir};

@@ -1,4 +1,6 @@
 // The steps of a safe change on the anodes in three lent tables and the slots in a fourth: a file's blocks taken anew, and what every change ends with.
+#![tactic(auto)]
+
 ghost use Rattle.std.specs.Prelude.{cond, ◌≡◌, ℕ, ◌≤◌, eqb, length};
 ghost use Rattle.rules.specs.Plans.{◌and_then◌};
 ghost use Rattle.safe_rules.specs.SafePlans.{taken_anew, reslotted_from, given_back, slot_blocks};

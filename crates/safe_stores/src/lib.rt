@@ -1,4 +1,6 @@
 // What every safe change stores in the image: the anode table in its new blocks and a file's bytes in its new ones; and the end of every list of writes.
+#![tactic(auto)]
+
 ghost use Rattle.std.specs.Prelude.{◌∷◌, [], ◌++◌, ◌≡◌, ℕ, ◌+◌, ◌*◌, ◌≤◌, length, get_or};
 ghost use Rattle.disk.specs.Refusals.{number_of};
 ghost use Rattle.rules.specs.Chains.{blocks_of};
@@ -17,7 +19,7 @@ use edits::store_anodes;
 use write_lists::{put_slots, put_write};
 
 // What a safe change answers: its number, and how many writes stand in the buffer.
-#[derive(Drop)]
+#[derive(Clone, Copy)]
 pub struct Listed {
     pub number: u32,
     pub count: u32,

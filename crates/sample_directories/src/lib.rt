@@ -1,1 +1,3 @@
 // Facts that the checker computes of calls on directories; they stand in specs/.
+#![tactic(auto)]
+

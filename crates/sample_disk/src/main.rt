@@ -1,4 +1,6 @@
 // Writes a formatted disk of 8 blocks to standard output.
+#![tactic(auto)]
+
 fn main() {
     let mut image = [0u8; 4096];
     format::format(&mut image, 5, 1, b"bench", 0, 0, 0, 0);

@@ -1,1 +1,3 @@
 // Facts that the checker computes of damaged disks; they stand in specs/.
+#![tactic(auto)]
+

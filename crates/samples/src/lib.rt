@@ -1,1 +1,3 @@
 // Small disks, and facts that the checker computes of a formatted one; they stand in specs/.
+#![tactic(auto)]
+

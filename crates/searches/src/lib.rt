@@ -1,4 +1,6 @@
 // Searches among the anodes in lent tables: the extent that a block is taken from, the last anode of a chain, the side of a block, and the lowest free anode.
+#![tactic(auto)]
+
 ghost use Rattle.std.specs.Prelude.{cond, List, ◌≡◌, ℕ, ◌-◌, ◌≤◌, ◌<◌, get_or};
 ghost use Rattle.rules.specs.Counting.{last_of};
 ghost use Rattle.disk.specs.Root.{slot_of};
@@ -14,14 +16,14 @@ use disk::{AnodeNo, BlockNo, block_part, root_in, slot_of};
 use tables::entry;
 
 // Where a search along a chain ends: the anode before the one that was found, and that one.
-#[derive(Drop)]
+#[derive(Clone, Copy)]
 pub enum Extent {
     Nowhere,
     At(AnodeNo, AnodeNo),
 }
 
 // Where the search for a free anode stops, and how many anodes it has read.
-#[derive(Drop)]
+#[derive(Clone, Copy)]
 pub struct Searched {
     pub anode: AnodeNo,
     pub read: u16,

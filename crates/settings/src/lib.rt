@@ -1,4 +1,6 @@
 // Settings files: records of a key and its seconds in an old and a new form, and the conversions between them.
+#![tactic(auto)]
+
 ghost use Rattle.std.specs.Prelude.{◌≡◌, ◌+◌, ◌<◌, ◌≤◌, ◌^◌};
 ghost use Rattle.endian.specs.Bytes.{stored};
 ghost use Rattle.rules.specs.Counting.{least};
@@ -8,14 +10,14 @@ ghost use Rattle.settings.specs.Conversions.{conversion_of, too_long, convert_ou
 use endian::{read8, read16, write8};
 
 // How a record is stored: its mark, and how many bytes its seconds have.
-#[derive(Drop)]
+#[derive(Clone, Copy)]
 pub struct Form {
     pub mark: u16,
     pub width: usize,
 }
 
 // A key with its seconds.
-#[derive(Drop)]
+#[derive(Clone, Copy)]
 pub struct Setting {
     pub key: u16,
     pub seconds: u32,

@@ -1,1 +1,3 @@
 // Laws alone: what holds of shared calls.
+#![tactic(auto)]
+

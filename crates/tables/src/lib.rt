@@ -1,4 +1,6 @@
 // Tables of two-byte numbers in lent memory. Reading past the end gives 0 and writing past it changes nothing.
+#![tactic(auto)]
+
 ghost use Rattle.std.specs.Prelude.{◌≡◌, true, ◌+◌, ◌≤◌, length, get_or, set};
 ghost use Rattle.tables.specs.Held.{zeroed_first, ZeroFrom};
 

@@ -1,4 +1,6 @@
 // Takes blocks of the free list for a chain, on the anodes in three lent tables and the slots in a fourth.
+#![tactic(auto)]
+
 ghost use Rattle.std.specs.Prelude.{false, cond, List, ◌≢◌, ◌≡◌, ℕ, ◌+◌, ◌<◌, eqb, length, get_or};
 ghost use Rattle.rules.specs.Anodes.{exists_by};
 ghost use Rattle.rules.specs.Plans.{regrown};
@@ -19,7 +21,7 @@ use searches::{Extent, free_extent, last_anode};
 use tables::entry;
 
 // What one take leaves to the next: the last anode of the chain that it is for, and the extent that has more blocks, `from` after `before`; `from` is 0 where it is not known.
-#[derive(Drop)]
+#[derive(Clone, Copy)]
 pub struct Taking {
     pub end: AnodeNo,
     pub before: AnodeNo,
@@ -27,7 +29,7 @@ pub struct Taking {
 }
 
 // What a take of many answers: what it leaves to the next, or the refusal.
-#[derive(Drop)]
+#[derive(Clone, Copy)]
 pub enum TakeTurn {
     Goes(Taking),
     Stops(Refusal),

@@ -1,4 +1,6 @@
 // Refusals 12 to 17: the walk over the directories, breadth first from the root.
+#![tactic(auto)]
+
 ghost use Rattle.std.specs.Prelude.{◌≡◌, [], length};
 ghost use Rattle.rules.specs.Accepted.{tree_fault};
 ghost use Rattle.rules.specs.Counting.{any_below};
@@ -15,7 +17,7 @@ use tables::entry;
 use walk_steps::{Tally, WalkStep, enter_anode};
 
 // What the walk finds: the files and the directories with the root, or the first fault.
-#[derive(Drop)]
+#[derive(Clone, Copy)]
 pub enum TreeRead {
     Counted(u16, u16),
     Fault(Refusal),

@@ -1,4 +1,6 @@
 // Hands out the entries of the second image that are no counterpart of one of the first, in the order of its walk.
+#![tactic(auto)]
+
 ghost use Rattle.std.specs.Prelude.{List, [], ◌≡◌, ℕ, ◌+◌, ◌*◌, ◌<◌, ◌≤◌, get_or};
 ghost use Rattle.rules.specs.Counting.{gather};
 ghost use Rattle.rules.specs.Walk.{Entered, entries_in};

@@ -1,4 +1,6 @@
 // The steps of the walk over the directories: an entry, a block, an anode of a directory; refusals 12 to 15 and 17.
+#![tactic(auto)]
+
 ghost use Rattle.std.specs.Prelude.{◌≡◌, ℕ, ◌+◌, ◌<◌, ◌≤◌, List, map};
 ghost use Rattle.rules.specs.Walk.{blocks_for, is_block_of, entries_in, twins, dir_made};
 ghost use Rattle.laws.specs.Apart.{seen_after};
@@ -13,14 +15,14 @@ use reader::read_entry;
 use tables::{entry, set_entry};
 
 // How many directories were queued and how many files met.
-#[derive(Drop)]
+#[derive(Clone, Copy)]
 pub struct Tally {
     pub last: usize,
     pub files: u16,
 }
 
 // What a part of the walk comes to: the tally after it, or the first fault.
-#[derive(Drop)]
+#[derive(Clone, Copy)]
 pub enum WalkStep {
     Go(Tally),
     Fault(Refusal),

@@ -1,4 +1,6 @@
 // Puts a list of block writes into a lent buffer: each a two-byte block number and the 512 bytes that an image has there.
+#![tactic(auto)]
+
 ghost use Rattle.std.specs.Prelude.{◌∷◌, [], ◌≡◌, ℕ, ◌+◌, ◌*◌, ◌<◌, ◌≤◌, length, get_or};
 ghost use Rattle.rules.specs.Chains.{run, blocks_of};
 ghost use Rattle.laws.specs.Chains.{Inside};

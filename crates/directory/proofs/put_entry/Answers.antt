@@ -1,0 +1,63 @@
+use mathlib.Core.Path.{ap, ◌∙◌}
+use Prim.Native.Nat.{◌+◌, ◌≤◌}
+use native.Mathlib.Omega.{arith}
+use lib.ListN.{length}
+use Rattle.directory.specs.Entries.{entry_length}
+use Rattle.directory.proofs.Laws.{put_entry_stores, length-put_entry}
+use borrow.Author.Rules.{rules}
+use Rattle.directory.proofs.put_entry.Goals as goal
+
+pub overflow_add-at-7 : goal.overflow_add-at-7
+overflow_add-at-7 c = omega (arith, c.requires)
+
+pub overflow_add-at-8 : goal.overflow_add-at-8
+overflow_add-at-8 c = omega (arith, c.requires)
+
+pub overflow_add-at-9 : goal.overflow_add-at-9
+overflow_add-at-9 c = omega (arith, c.requires)
+
+pub overflow_add-name_end-3 : goal.overflow_add-name_end-3
+overflow_add-name_end-3 c = omega (arith, c.requires, c.struct_known-1.given)
+
+pub overflow_add-at-10 : goal.overflow_add-at-10
+unfolding entry_length
+overflow_add-at-10 c = let small-end : let k = c in k.args.at + k.entry_len-len.result ≤ 1040 = let k = c in omega (arith, k.requires, k.entry_len-len.ensures, k.struct_known-1.given, k.struct_known-2-1.given) in
+    omega (arith, small-end)
+
+pub overflow_add-at-11 : goal.overflow_add-at-11
+unfolding entry_length
+overflow_add-at-11 c = let small-end : let k = c in k.args.at + k.entry_len-len.result ≤ 1040 = let k = c in omega (arith, k.requires, k.entry_len-len.ensures, k.struct_known-1.given, k.struct_known-2-1.given) in
+    omega (arith, small-end)
+
+pub overflow_sub-at : goal.overflow_sub-at
+unfolding entry_length
+overflow_sub-at c = let k = c in omega (arith, k.requires, k.entry_len-len.ensures)
+
+pub returns : goal.returns
+returns c = let c13 = c in
+    let c12 = c13 in
+    let c11 = c12 in
+    let c10 = c11 in
+    let c9 = c10 in
+    let c8 = c9 in
+    let c7 = c8 in
+    let c6 = c7 in
+    let c5 = c6 in
+    let c4 = c5 in
+    let c3 = c4 in
+    let c2 = c3 in
+    let c1 = c2 in
+    put_entry_stores _ _ _ _ _ _ _ c1.entry_len-len.ensures c2.type_of.ensures _ _ _ _ _ _ _ _ _ _ _ _ _
+    c1.write8.ensures
+    c2.write8-2.ensures
+    c3.write16.ensures
+    c4.write32.ensures
+    c5.write16-2.ensures
+    c6.write16-3.ensures
+    c7.write16-4.ensures
+    c8.write8-3.ensures
+    c9.write8-4.ensures
+    c10.store.ensures
+    c11.write8-5.ensures
+    c12.store-2.ensures
+    c13.clear.ensures
