@@ -1,3 +1,2 @@
 // The laws of the rules' sums and searches; they stand in specs/.
 #![tactic(auto)]
-

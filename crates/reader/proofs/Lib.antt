@@ -1,2 +1,1 @@
 -- Rules for walks of code by hand.
-pub mod Walking

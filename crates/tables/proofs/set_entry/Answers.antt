@@ -1,0 +1,7 @@
+use mathlib.Core.Path.{sym}
+use lib.Seq.{set_out}
+use borrow.Author.Rules.{rules}
+use Rattle.tables.proofs.set_entry.Goals as goal
+
+pub returns-then-table-i : goal.returns-then-table-i
+returns-then-table-i c = sym (set_out _ _ _ c.if-table-i.true)
