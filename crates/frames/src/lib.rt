@@ -1,3 +1,2 @@
 // Theorems about what a store changes and what it leaves; they stand in specs/.
 #![tactic(auto)]
-

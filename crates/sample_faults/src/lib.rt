@@ -1,3 +1,2 @@
 // Facts that the checker computes of damaged disks; they stand in specs/.
 #![tactic(auto)]
-

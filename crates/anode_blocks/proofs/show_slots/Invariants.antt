@@ -1,0 +1,18 @@
+use mathlib.Core.Path.{◌≡◌, sym, ap, ◌∙◌}
+use native.Mathlib.Omega.{arith}
+use Prim.Native.Nat.{ℕ, ◌-◌, ◌≤◌}
+use mathlib.Core.List.{List}
+use lib.ListN.{length}
+use borrow.Author.Rules.{rules}
+use Rattle.disk.specs.Root.{slot_of}
+use Rattle.laws.specs.GotSlots.{slots_got}
+use Rattle.laws.specs.OwnerTable.{set_all}
+use Rattle.anodes.specs.Loaded.{slots_from}
+use Rattle.anode_blocks.proofs.Laws.{none_shown, shown_same, shown_other}
+use Rattle.anode_blocks.proofs.show_slots.Given as goal
+
+abbrev pub invariant-loop-k : goal.invariant-loop-k
+invariant-loop-k l = (l.k ≤ 42) × (length l.blocks ≡ length l.initial.blocks) × (set_all l.blocks (slots_got (slot_of l.image) (slots_from l.slots) l.k) 65534 ≡ set_all l.initial.blocks (slots_got (slot_of l.image) (slots_from l.slots) 42) 65534)
+
+abbrev pub decreases-loop-k : goal.decreases-loop-k
+decreases-loop-k l = l.k

@@ -1,0 +1,23 @@
+use mathlib.Core.Path.{◌≡◌, sym, ap, ◌∙◌}
+use mathlib.Core.Logic.{⊎_elim}
+use native.Mathlib.Omega.{arith}
+use Prim.Native.Nat.{◌≤◌, ◌-◌}
+use lib.ListN.{length}
+use borrow.Author.Rules.{rules}
+use Rattle.rules.specs.Table.{store_slots}
+use Rattle.anodes.specs.Loaded.{slots_from}
+use Rattle.anode_blocks.proofs.Laws.{no_slot_stored, slot_room, slot_stays, slot_comes, new_block, new_whole}
+use Rattle.anode_blocks.proofs.store_slots.Goals as goal
+
+pub loop-k-init : goal.loop-k-init
+loop-k-init c = (search rules, search rules, sym (no_slot_stored _ _))
+
+pub store_slot-requires : goal.store_slot-requires
+unfolding slots_from
+store_slot-requires c = let p = c.requires in
+    let l = c.loop-k in
+    let room = slot_room _ _ p.1.new-placed (new_whole _ _ p.1) p.0 l.k _ l.image (search rules) l.invariant.2 c.entry-y.ensures (λ e. c.if-slot_of-y.true (c.slot_of.ensures ∙ e)) in
+    (search rules, room.0, room.1)
+
+pub returns : goal.returns
+returns c = let e : c.loop-k.k ≡ 42 = omega arith in rw e at c.loop-k.invariant.2

@@ -1,0 +1,17 @@
+use mathlib.Core.Path.{◌≡◌, ◌∙◌, ap}
+use mathlib.Core.Logic.{⊎_elim}
+use Prim.Native.Nat.{ℕ, ◌+◌, ◌*◌, ◌-◌, ◌^◌, ◌≤◌}
+use native.Mathlib.Omega.{arith}
+use lib.ListN.{length}
+use Rattle.bitmap.specs.Bits.{bits_from, with_bit}
+use Rattle.bitmap.specs.Table.{free_at}
+use Rattle.bitmap.proofs.Laws.{bits_none, bit_clear, bit_set, bits_rest, free-set, free_clear, free_past}
+use borrow.Author.Rules.{rules}
+use Rattle.bitmap.proofs.bits_in.Goals as goal
+
+pub loop-i-init : goal.loop-i-init
+loop-i-init c = (search rules, rw (bits_none (free_at _) 0) (omega arith))
+
+pub returns : goal.returns
+returns c = let i = c.loop-i.i in
+    c.loop-i.invariant.1 ∙ bits_rest _ 0 (32 - i) i (search rules) (λ j l. free_past _ (0 + j) (search rules))

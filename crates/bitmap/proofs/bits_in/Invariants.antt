@@ -1,0 +1,16 @@
+use mathlib.Core.Path.{◌≡◌, ◌∙◌, ap}
+use mathlib.Core.Logic.{⊎_elim}
+use Prim.Native.Nat.{ℕ, ◌+◌, ◌*◌, ◌-◌, ◌^◌, ◌≤◌}
+use native.Mathlib.Omega.{arith}
+use lib.ListN.{length}
+use Rattle.bitmap.specs.Bits.{bits_from, with_bit}
+use Rattle.bitmap.specs.Table.{free_at}
+use Rattle.bitmap.proofs.Laws.{bits_none, bit_clear, bit_set, bits_rest, free-set, free_clear, free_past}
+use borrow.Author.Rules.{rules}
+use Rattle.bitmap.proofs.bits_in.Given as goal
+
+abbrev pub invariant-loop-i : goal.invariant-loop-i
+invariant-loop-i l = (l.i ≤ length l.part) × (l.w ≡ bits_from (free_at l.part) 0 l.i * 2 ^ (32 - l.i))
+
+abbrev pub decreases-loop-i : goal.decreases-loop-i
+decreases-loop-i l = length l.part - l.i

@@ -1,0 +1,13 @@
+use Prim.Native.Nat.{◌≤◌, ◌<◌, ◌-◌}
+use mathlib.Core.Path.{◌≡◌, refl, ◌∙◌}
+use native.Mathlib.Omega.{arith}
+use lib.ListN.{length, drop}
+use borrow.Author.Rules.{rules}
+use Rattle.chains.specs.Filling.{FilledBelow}
+use Rattle.chains.proofs.fill_run.Given as goal
+
+abbrev pub invariant-loop-a : goal.invariant-loop-a
+invariant-loop-a l = (0 < l.a) × (l.a ≤ l.end) × (length l.heads ≡ length l.initial.heads) × (drop 3444 l.heads ≡ drop 3444 l.initial.heads) × FilledBelow l.heads l.nexts l.firsts l.a
+
+abbrev pub decreases-loop-a : goal.decreases-loop-a
+decreases-loop-a l = l.end - l.a

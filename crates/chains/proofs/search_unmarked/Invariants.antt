@@ -1,0 +1,15 @@
+use Prim.Native.Nat.{◌≤◌, ◌-◌}
+use mathlib.Core.Path.{◌≡◌, sym, ◌∙◌}
+use mathlib.Core.Bool.{false}
+use native.Mathlib.Omega.{arith}
+use borrow.Author.Rules.{rules}
+use Rattle.rules.specs.Counting.{any_below}
+use Rattle.counting.specs.Laws.{any_below-none, any_below_more, any_below_hit}
+use Rattle.chains.specs.Endings.{unmarked}
+use Rattle.chains.proofs.search_unmarked.Given as goal
+
+abbrev pub invariant-loop-a : goal.invariant-loop-a
+invariant-loop-a l = (l.a ≤ 3444) × (any_below (unmarked l.firsts l.marks) l.a ≡ false)
+
+abbrev pub decreases-loop-a : goal.decreases-loop-a
+decreases-loop-a l = 3444 - l.a

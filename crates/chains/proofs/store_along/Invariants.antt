@@ -1,0 +1,14 @@
+use Prim.Native.Nat.{◌-◌}
+use mathlib.Core.Path.{◌≡◌, sym, ◌∙◌}
+use native.Mathlib.Omega.{arith}
+use lib.ListN.{length}
+use borrow.Author.Rules.{rules}
+use Rattle.chains.specs.Storing.{stored_along}
+use Rattle.chains.proofs.Storing.{stored-none, stored-end, stored_step}
+use Rattle.chains.proofs.store_along.Given as goal
+
+abbrev pub invariant-loop-fuel : goal.invariant-loop-fuel
+invariant-loop-fuel l = (length l.table ≡ length l.initial.table) × (stored_along l.fuel l.links l.table l.v l.at ≡ stored_along 3444 l.links l.initial.table l.v l.from)
+
+abbrev pub decreases-loop-fuel : goal.decreases-loop-fuel
+decreases-loop-fuel l = l.fuel

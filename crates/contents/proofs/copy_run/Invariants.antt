@@ -1,0 +1,21 @@
+use mathlib.Core.Path.{◌≡◌, refl, ◌∙◌}
+use mathlib.Core.List.{List, ◌++◌, append_assoc}
+use Prim.Native.Nat.{ℕ, ◌+◌, ◌-◌, ◌≤◌}
+use native.Mathlib.Omega.{arith}
+use lib.ListN.{length, drop}
+use Rattle.disk.specs.Blocks.{block_of}
+use Rattle.rules.specs.Counting.{gather}
+use Rattle.rules.specs.Chains.{run}
+use Rattle.contents.specs.Copied.{filled}
+use Rattle.laws.specs.Chains.{run_none, run_step}
+use Rattle.contents.proofs.Copying.{filled_any}
+use borrow.Author.Rules.{rules}
+use Rattle.contents.proofs.copy_run.Given as goal
+
+abbrev pub invariant-loop-i : goal.invariant-loop-i
+invariant-loop-i l = (length l.out ≡ length l.initial.out)
+    × (l.i ≤ l.count)
+    × ((rest : List ℕ) → filled l.out l.cursor.done (drop l.cursor.skip (gather (block_of l.image) (run (l.first.0 + l.i) (l.count - l.i)) ++ rest)) ≡ filled l.initial.out l.initial.cursor.done (drop l.initial.cursor.skip (gather (block_of l.image) (run l.first.0 l.count) ++ rest)))
+
+abbrev pub decreases-loop-i : goal.decreases-loop-i
+decreases-loop-i l = l.count - l.i

@@ -1,0 +1,5 @@
+use borrow.Author.Rules.{rules}
+use Rattle.edits.proofs.anode_from.Goals as goal
+
+pub returns : goal.returns
+returns c = rw (c.entry-3.ensures, c.entry-2.ensures, c.entry.ensures)

@@ -1,0 +1,17 @@
+use mathlib.Core.Path.{◌≡◌, refl, sym, ◌∙◌}
+use Prim.Native.Nat.{◌-◌}
+use Rattle.laws.specs.Chains.{gathered_none, gathered_end}
+use Rattle.laws.specs.ChainBlocks.{blocks_of_extents, blocks_from}
+use Rattle.anodes.specs.Loaded.{anodes_from}
+use Rattle.edits.proofs.Along.{nth-none, nth_here, nth-later}
+use borrow.Author.Rules.{rules}
+use native.Mathlib.Omega.{arith}
+use lib.ListN.{get_or}
+use Rattle.edits.proofs.nth_block.Given as goal
+
+abbrev pub invariant-loop-fuel : goal.invariant-loop-fuel
+invariant-loop-fuel l = let s = anodes_from l.counts l.firsts l.nexts in
+    get_or (blocks_from s l.fuel l.at) l.left 0 ≡ get_or (blocks_from s l.initial.fuel l.initial.at) l.initial.left 0
+
+abbrev pub decreases-loop-fuel : goal.decreases-loop-fuel
+decreases-loop-fuel l = l.fuel

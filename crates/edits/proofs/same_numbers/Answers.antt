@@ -1,0 +1,21 @@
+use Prim.Native.Nat.{◌+◌, ◌-◌, ◌≤◌}
+use borrow.Author.Rules.{rules}
+use borrow.Author.Tests.{eqb-true}
+use mathlib.Core.Bool.{true≢false}
+use mathlib.Core.Logic.{⊎_elim}
+use mathlib.Core.Path.{◌≡◌, sym, ◌∙◌}
+use native.Mathlib.Omega.{arith}
+use lib.ListN.{get_or, take, drop}
+use Rattle.tables.specs.Held.{HeldBelow}
+use Rattle.tables.proofs.Laws.{held_next}
+use Rattle.edits.proofs.Blocks.{part_same}
+use Rattle.edits.proofs.same_numbers.Goals as goal
+
+pub returns-then-old-end : goal.returns-then-old-end
+returns-then-old-end c = λ e. absurd (true≢false (sym e))
+
+pub returns-then-new-end : goal.returns-then-new-end
+returns-then-new-end c = λ e. absurd (true≢false (sym e))
+
+pub loop-i-init : goal.loop-i-init
+loop-i-init c = (search rules, λ e j h. absurd (omega arith))

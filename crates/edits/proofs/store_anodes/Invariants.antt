@@ -1,0 +1,17 @@
+use mathlib.Core.Logic.{⊎_elim}
+use Rattle.rules.specs.Anodes.{Anodes, store_changed, with_anodes}
+use Rattle.edits.proofs.Blocks.{store_changed-none, run-kept}
+use borrow.Author.Tests.{not-false}
+use mathlib.Core.Path.{◌≡◌, sym, ap, ◌∙◌}
+use Prim.Native.Nat.{◌≤◌, ◌-◌, ◌+◌, ◌*◌}
+use native.Mathlib.Omega.{arith}
+use lib.ListN.{length}
+use Rattle.anodes.specs.Loaded.{anodes_from}
+use borrow.Author.Rules.{rules}
+use Rattle.edits.proofs.store_anodes.Given as goal
+
+abbrev pub invariant-loop-slot : goal.invariant-loop-slot
+invariant-loop-slot l = (l.slot ≤ 42) × (length l.image ≡ length l.initial.image) × (l.image ≡ store_changed (anodes_from l.counts l.firsts l.nexts) (anodes_from l.new_counts l.new_firsts l.new_nexts) l.initial.image (l.slot * 82))
+
+abbrev pub decreases-loop-slot : goal.decreases-loop-slot
+decreases-loop-slot l = 42 - l.slot

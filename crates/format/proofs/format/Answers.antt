@@ -1,0 +1,16 @@
+use mathlib.Core.Path.{◌≡◌, sym, ◌∙◌}
+use mathlib.Core.Bool.{false}
+use Rattle.rules.specs.Accepted.{wrong_size}
+use Rattle.rules.specs.Format.{wrong_format, format_answer}
+use Rattle.rules.specs.Calls.{format_outcome, done_or}
+use borrow.Author.Rules.{rules}
+use Rattle.format.proofs.format.Goals as goal
+
+pub returns-then-wrong_size : goal.returns-then-wrong_size
+unfolding format_outcome format_answer done_or
+returns-then-wrong_size c = rw (sym c.wrong_size.ensures ∙ c.if-wrong_size.true, c.number.ensures)
+
+pub returns-then-wrong_format : goal.returns-then-wrong_format
+unfolding format_outcome format_answer done_or
+returns-then-wrong_format c = let right_size : wrong_size c.args.image.now ≡ false = sym c.wrong_size.ensures ∙ c.if-wrong_size.false in
+    rw (right_size, sym c.wrong_format.ensures ∙ c.if-wrong_format.true, c.number-then-wrong_format.ensures)

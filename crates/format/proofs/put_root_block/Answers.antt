@@ -1,0 +1,7 @@
+use Rattle.rules.specs.Format.{root_block}
+use borrow.Author.Rules.{rules}
+use Rattle.format.proofs.put_root_block.Goals as goal
+
+pub returns : goal.returns
+unfolding root_block
+returns c = rw (c.put_slots.ensures, c.put_root.ensures, c.requires.0)

@@ -1,0 +1,12 @@
+use borrow.Author.Rules.{rules}
+use Rattle.owners.proofs.Laws.{Summed, summed_none, summed_more, summed_tested}
+use native.Mathlib.Omega.{arith}
+use Prim.Native.Nat.{◌+◌, ◌*◌, ◌-◌, ◌≤◌}
+use mathlib.Core.Path.{◌≡◌}
+use Rattle.owners.proofs.any_marked.Given as goal
+
+abbrev pub invariant-loop-i : goal.invariant-loop-i
+invariant-loop-i l = (l.initial.i ≤ l.i) × (l.i ≤ l.initial.i + l.count) × (l.sum + 65535 * l.initial.i ≤ 65535 * l.i) × Summed l.sum l.blocks l.initial.i l.i
+
+abbrev pub decreases-loop-i : goal.decreases-loop-i
+decreases-loop-i l = l.initial.i + l.count - l.i

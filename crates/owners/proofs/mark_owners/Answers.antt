@@ -1,0 +1,34 @@
+use mathlib.Core.Path.{◌≡◌, sym, ◌∙◌}
+use mathlib.Core.Bool.{true≢false}
+use Prim.Native.Nat.{◌+◌, ◌-◌, ◌<◌, ◌≤◌}
+use native.Mathlib.Omega.{arith}
+use lib.ListN.{length, get_or, drop}
+use Rattle.rules.specs.Accepted.{disk_size}
+use Rattle.anodes.specs.Loaded.{anodes_from}
+use Rattle.laws.specs.TestsPassed.{zero_anode, extent_inside}
+use Rattle.owners.specs.Marks.{Marked}
+use Rattle.owners.proofs.Laws.{kept-drop}
+use Rattle.owners.proofs.Owners.{size_some, owners_below, entry_below, anode_first, anode_more, head_some, anode_hit, system_twice, two-owners, one_owner, anode_done}
+use borrow.Author.Rules.{rules}
+use Rattle.owners.proofs.mark_owners.Goals as goal
+
+pub returns-then-mark_system : goal.returns-then-mark_system
+returns-then-mark_system c = let o = rw c.if-mark_system.true at c.mark_system.ensures.answer in
+    record { two = λ n. sym (two-owners _ _ _ n (system_twice _ _ _ _ o)); marked = λ e. absurd (true≢false e); kept = c.mark_system.ensures.kept; }
+
+pub loop-a-init : goal.loop-a-init
+loop-a-init c = (search rules, search rules, search rules, anode_first _ _ _ _ _ _ (rw c.if-mark_system.false at c.mark_system.ensures.answer))
+
+pub mark_run-requires : goal.mark_run-requires
+unfolding anodes_from
+mark_run-requires c = let within : let g = c.args in let a = c.loop-a.a in 0 < get_or g.counts.now a 0 → get_or g.firsts.now a 0 + get_or g.counts.now a 0 ≤ disk_size g.image.now = let s = c.requires.by_index in extent_inside _ s.1 _ s.2 c.loop-a.a c.loop-a-test.true in
+    λ z. let w = within z in search rules
+
+pub returns-then-mark_run : goal.returns-then-mark_run
+unfolding anodes_from
+returns-then-mark_run c = let within : let g = c.args in let a = c.loop-a.a in 0 < get_or g.counts.now a 0 → get_or g.firsts.now a 0 + get_or g.counts.now a 0 ≤ disk_size g.image.now = let s = c.requires.by_index in extent_inside _ s.1 _ s.2 c.loop-a.a c.loop-a-test.true in
+    let kept_run : let k = disk_size c.args.image.now in drop k c.mark_run.new.blocks ≡ drop k c.mark_system.new.blocks = kept-drop _ _ _ _ _ c.mark_run.ensures.kept within (search rules) ∙ c.loop-a.invariant.2 in
+    let l = c.loop-a in
+    let m = c.mark_run in
+    let whole = let o = anode_hit _ _ _ _ _ l.a _ l.invariant.3 c.loop-a-test.true (rw c.if-mark_run.true at m.ensures.run) within
+    (λ n. sym (two-owners _ _ _ n o), (λ e. absurd (true≢false e), kept_run ∙ c.mark_system.ensures.kept)) in record { two = whole.0; marked = whole.1.0; kept = whole.1.1; }

@@ -1,0 +1,15 @@
+use Prim.Native.Nat.{◌-◌}
+use mathlib.Core.Path.{◌≡◌, sym, ◌∙◌}
+use native.Mathlib.Omega.{arith}
+use lib.ListN.{get_or}
+use borrow.Author.Rules.{rules}
+use Rattle.rules.specs.Chains.{chain_of, cut}
+use Rattle.rules.specs.Space.{first_extent}
+use Rattle.searches.proofs.Searches.{first-none, first-end, first_hit, first_step}
+use Rattle.searches.proofs.first_extent.Given as goal
+
+abbrev pub invariant-loop-fuel : goal.invariant-loop-fuel
+invariant-loop-fuel l = first_extent (λ a. get_or l.counts a 0) l.before.0 (chain_of (cut (λ a. get_or l.nexts a 0)) l.fuel l.at.0) ≡ first_extent (λ a. get_or l.counts a 0) 0 (chain_of (cut (λ a. get_or l.nexts a 0)) 3444 l.initial.at.0)
+
+abbrev pub decreases-loop-fuel : goal.decreases-loop-fuel
+decreases-loop-fuel l = l.fuel

@@ -1,0 +1,17 @@
+use Prim.Native.Nat.{ℕ, ◌+◌, ◌*◌, ◌-◌, ◌≤◌}
+use mathlib.Core.Path.{◌≡◌, refl, ◌∙◌}
+use mathlib.Core.List.{List, []}
+use native.Mathlib.Omega.{arith}
+use borrow.Author.Rules.{rules}
+use Rattle.rules.specs.Anodes.{exists_by}
+use Rattle.rules.specs.Searched.{searched, after_read, through_slots}
+use Rattle.anodes.specs.Loaded.{anodes_from, slots_from}
+use Rattle.searches.proofs.Searches.{few_read, slot_found, slot_passed, slots_start, slots_end}
+use Rattle.searches.proofs.lowest_free.Given as goal
+
+abbrev pub invariant-loop-k : goal.invariant-loop-k
+invariant-loop-k l = (l.k ≤ 42) × (l.read ≤ 82 * l.k)
+    × ((c n : List ℕ) → after_read l.read (through_slots (slots_from l.slots) (anodes_from c l.firsts n) (42 - l.k) l.k) ≡ searched 3444 (exists_by (slots_from l.slots)) (anodes_from c l.firsts n))
+
+abbrev pub decreases-loop-k : goal.decreases-loop-k
+decreases-loop-k l = 42 - l.k
