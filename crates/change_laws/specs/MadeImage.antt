@@ -62,7 +62,8 @@ parents_right h (d ∷ l) e = elim (one_at_cases d.head h) [
   )
   | inr c ↦ (
     λ q. absurd (c.0 q),
-    rw (ne_eqb d.head h c.0) (parents_right h l (omega (arith, e, c.1, list_cons {X = Dir} (λ x. one_at x.head h) d l))),
+    let later : parent_of (d ∷ l) h ≡ parent_of l h = rw (ne_eqb d.head h c.0) in
+        subst (λ (p : ℕ). Each (λ x. x.head ≡ h → x.parent ≡ p) l) (sym later) (parents_right h l (omega (arith, e, c.1, list_cons {X = Dir} (λ x. one_at x.head h) d l))),
   )
 ]
 

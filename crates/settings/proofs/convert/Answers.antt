@@ -7,11 +7,6 @@ use Rattle.settings.proofs.convert.Goals as goal
 pub returns-then-not_of_form : goal.returns-then-not_of_form
 returns-then-not_of_form c = convert_50 _ _ _ _ (sym c.not_of_form.ensures ∙ c.if-not_of_form.true)
 
--- UNMATCHED
-record-count-requires : tie.Need-record-count-requires
-
-record-count-requires c κs = search rules
-
 pub first_too_long-long-requires : goal.first_too_long-long-requires
 first_too_long-long-requires c = (search rules, search rules, omega (arith, c.record_count-n.ensures, few_records _ _ (sym c.not_of_form.ensures ∙ c.if-not_of_form.false)))
 
@@ -21,10 +16,8 @@ key_at-requires c = (search rules, omega (arith, c.record_count-n.ensures, few_r
 pub returns-then-long-n : goal.returns-then-long-n
 returns-then-long-n c = convert_51 _ _ _ _ (sym c.not_of_form.ensures ∙ c.if-not_of_form.false) _ _ c.record_count-n.ensures c.first_too_long-long.ensures _ c.if-long-n.true c.key_at.ensures
 
--- UNMATCHED
-record-place-requires : tie.Need-record-place-requires
-
-record-place-requires c κs = (search rules, omega (arith, c.before.before.record-count.ensures, few_records _ _ (sym c.before.before.before.before.not_of_form_lem.ensures ∙ c.before.before.before.if1.false)))
+pub record_place-len-requires : goal.record_place-len-requires
+record_place-len-requires c = (search rules, omega (arith, c.record_count-n.ensures, few_records _ _ (sym c.not_of_form.ensures ∙ c.if-not_of_form.false)))
 
 pub returns-then-out-len : goal.returns-then-out-len
 returns-then-out-len c = convert_52 _ _ _ _ (sym c.not_of_form.ensures ∙ c.if-not_of_form.false) _ _ c.record_count-n.ensures c.first_too_long-long.ensures c.if-long-n.false _ c.record_place-len.ensures.0 c.if-out-len.true

@@ -13,11 +13,6 @@ pub returns-then-file-form-ne0 : goal.returns-then-file-form-ne0
 unfolding record_length
 returns-then-file-form-ne0 c = sym (form_part _ _ c.if-file-form-ne0.true)
 
--- UNMATCHED
-record-count-requires : tie.Need-record-count-requires invariant-loop decreases-loop
-
-record-count-requires c κs = search rules
-
 pub returns-then-n-gt512 : goal.returns-then-n-gt512
 unfolding record_length
 returns-then-n-gt512 c = sym (form_many _ _ c.if-file-form-ne0.false (rw c.record_count-n.ensures at c.if-n-gt512.true))

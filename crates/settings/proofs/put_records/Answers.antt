@@ -13,11 +13,6 @@ loop-i-init c = let n = c.args.n in
     let e : n - 0 ≡ n = omega arith in
     (search rules, search rules, rw (place_start c.args.to, e))
 
--- UNMATCHED
-record-place-requires : tie.Need-record-place-requires invariant-loop decreases-loop
-
-record-place-requires c κs = search rules
-
 pub loop-i-preserved : goal.loop-i-preserved
 loop-i-preserved c = let l = c.loop-i in
     let a = c.args in

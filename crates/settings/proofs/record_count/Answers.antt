@@ -5,5 +5,3 @@ use Rattle.settings.proofs.record_count.Goals as goal
 pub returns : goal.returns
 unfolding record_count record_length
 returns c = search rules
-
-record-count-spec = goal.close (goal.spec add-result div-result returns)

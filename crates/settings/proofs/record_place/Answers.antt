@@ -11,5 +11,3 @@ overflow_mul-result c = omega (arith, place_small c.args.form c.args.i c.require
 pub returns : goal.returns
 unfolding record_place record_length
 returns c = (search rules, place_small c.args.form c.args.i c.requires.0 c.requires.1)
-
-record-place-spec = goal.close (goal.spec add-result mul-result returns)

@@ -2,11 +2,6 @@ use Rattle.settings.specs.Files.{seconds_at}
 use borrow.Author.Rules.{rules}
 use Rattle.settings.proofs.seconds_at.Goals as goal
 
--- UNMATCHED
-record-place-requires : tie.Need-record-place-requires
-
-record-place-requires c κs = search rules
-
 pub returns : goal.returns
 unfolding seconds_at
 returns c = cc

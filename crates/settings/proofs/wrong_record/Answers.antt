@@ -4,11 +4,6 @@ use Rattle.settings.specs.Laws.{record_mark, record_first, record_later}
 use borrow.Author.Rules.{rules}
 use Rattle.settings.proofs.wrong_record.Goals as goal
 
--- UNMATCHED
-record-place-requires : tie.Need-record-place-requires
-
-record-place-requires c κs = search rules
-
 pub returns-then-read16-form : goal.returns-then-read16-form
 unfolding mark_at
 returns-then-read16-form c = sym (record_mark _ _ _ (λ e. c.if-read16-form.true (cc)))
