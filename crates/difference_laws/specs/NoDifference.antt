@@ -26,6 +26,8 @@ use Rattle.differences.specs.Differences.{Difference, only_first, only_second, d
 pub bytes_same : (l m : List ℕ) → T (same_bytes l m) → l ≡ m
 unfolding same_bytes
 bytes_same [] [] t = refl
+bytes_same [] (y ∷ m) t = elim t [ ]
+bytes_same (x ∷ l) [] t = elim t [ ]
 bytes_same (x ∷ l) (y ∷ m) t = let b = both (eqb x y) (same_bytes l m) t in λ i. eqb→eq x y b.0 i ∷ bytes_same l m b.1 i
 
 longer_is : (l m : List ℕ) → (length l ≤ longer_length l m) × (length m ≤ longer_length l m) × ((longer_length l m ≡ length l) ⊎ (longer_length l m ≡ length m))

@@ -1,3 +1,2 @@
 // Laws alone: what the list of differences says of two trees.
 #![tactic(auto)]
-

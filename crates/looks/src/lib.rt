@@ -1,3 +1,2 @@
 // Definitions alone: what the calls answer that find an entry by name and read the disk's label.
 #![tactic(auto)]
-

@@ -1,3 +1,2 @@
 // Theorems about settings files and their conversions; specs/ has them all.
 #![tactic(auto)]
-

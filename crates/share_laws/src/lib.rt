@@ -1,3 +1,2 @@
 // Laws alone: what holds of shared calls.
 #![tactic(auto)]
-

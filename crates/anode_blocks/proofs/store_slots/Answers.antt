@@ -8,6 +8,7 @@ use Rattle.rules.specs.Table.{store_slots}
 use Rattle.anodes.specs.Loaded.{slots_from}
 use Rattle.anode_blocks.proofs.Laws.{no_slot_stored, slot_room, slot_stays, slot_comes, new_block, new_whole}
 use Rattle.anode_blocks.proofs.store_slots.Goals as goal
+use Rattle.anode_blocks.proofs.store_slots.Goals.{then-slot_of-y, else-slot_of-y}
 
 pub loop-k-init : goal.loop-k-init
 loop-k-init c = (search rules, search rules, sym (no_slot_stored _ _))
@@ -21,3 +22,17 @@ store_slot-requires c = let p = c.requires in
 
 pub returns : goal.returns
 returns c = let e : c.loop-k.k ≡ 42 = omega arith in rw e at c.loop-k.invariant.2
+
+pub loop-k-preserved : goal.loop-k-preserved
+unfolding slots_from
+loop-k-preserved c = let p = c.requires in
+    let l = c.loop-k in
+    let y = c.entry-y.ensures in
+    let held = c.slot_of.ensures in (
+      search rules,
+      search rules,
+      elim c.if-slot_of-y.branch [
+        | then-slot_of-y w ↦ w.image-is ∙ w.store_slot.ensures ∙ slot_comes _ _ p.1.new-placed (new_whole _ _ p.1) p.0 l.k _ l.image (search rules) l.invariant.2 y (λ e. w.if-slot_of-y.true (held ∙ e)) _ (λ n. sym (new_block _ _ p.1 l.k n))
+        | else-slot_of-y w ↦ w.image-is ∙ slot_stays _ _ p.1.new-placed (new_whole _ _ p.1) p.0 l.k _ l.image (search rules) l.invariant.2 y (sym held ∙ w.if-slot_of-y.false)
+      ],
+    )

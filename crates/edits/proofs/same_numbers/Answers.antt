@@ -19,3 +19,8 @@ returns-then-new-end c = λ e. absurd (true≢false (sym e))
 
 pub loop-i-init : goal.loop-i-init
 loop-i-init c = (search rules, λ e j h. absurd (omega arith))
+
+pub returns : goal.returns
+returns c = λ r a low high.
+    let g = c.args in
+    part_same g.old.now g.new.now g.from (g.from + 82 - g.from) (λ j h. c.loop-i.invariant.1 (eqb-true _ _ r) j (omega arith)) a low (omega arith)

@@ -13,6 +13,7 @@ use Rattle.anodes.specs.Loaded.{anodes_from}
 use Rattle.edits.proofs.Blocks.{owners-set}
 use Rattle.edits.proofs.Along.{set_here, behind-later}
 use Rattle.edits.proofs.set_behind.Goals as goal
+use Rattle.edits.proofs.set_behind.Goals.{then-before-count, else-before-count}
 
 pub loop-fuel-init : goal.loop-fuel-init
 loop-fuel-init c = (search rules, refl)
@@ -29,3 +30,20 @@ pub returns : goal.returns
 returns c = let l = c.loop-fuel in
     let o = c.args in
     rw (blocks_of_extents _ _) (owners-set _ _ o.owner.0 (rw (gathered_none _ _ l.fuel _ (omega arith)) (drop-nil l.before)) ∙ l.invariant.1)
+
+pub loop-fuel-preserved : goal.loop-fuel-preserved
+unfolding anodes_from
+loop-fuel-preserved c = let l = c.loop-fuel in
+    let a = c.args in
+    let s = anodes_from a.counts.now a.firsts.now a.nexts.now in
+    let n = c.entry-count.ensures in
+    elim c.if-before-count.branch [
+      | then-before-count w ↦
+          let e : c.if-before-count.blocks ≡ set_all l.blocks (run (s.block l.at + l.before) (s.count l.at - l.before)) a.owner.0 = w.blocks-is ∙ rw (w.entry.ensures, n) at w.set_run.ensures in
+          let z : c.if-before-count.before ≡ 0 = w.before-is in
+          (search rules, rw (z, c.entry-at.ensures) (set_here s l.fuel (l.fuel - 1) l.at (omega arith) c.if-at-eq0.false l.before (omega (arith, w.if-before-count.true, n)) a.owner.0 l.blocks c.if-before-count.blocks e) ∙ l.invariant.1)
+      | else-before-count w ↦
+          let z : c.if-before-count.before ≡ l.before - s.count l.at = w.before-is ∙ rw n in
+          let e : c.if-before-count.blocks ≡ l.blocks = w.blocks-is in
+          (search rules, rw (e, z, c.entry-at.ensures, ← behind-later s l.fuel (l.fuel - 1) l.at (omega arith) c.if-at-eq0.false l.before (omega (arith, w.if-before-count.false, n))) l.invariant.1)
+    ]

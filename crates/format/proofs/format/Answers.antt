@@ -14,3 +14,14 @@ pub returns-then-wrong_format : goal.returns-then-wrong_format
 unfolding format_outcome format_answer done_or
 returns-then-wrong_format c = let right_size : wrong_size c.args.image.now ≡ false = sym c.wrong_size.ensures ∙ c.if-wrong_size.false in
     rw (right_size, sym c.wrong_format.ensures ∙ c.if-wrong_format.true, c.number-then-wrong_format.ensures)
+
+pub make-requires : goal.make-requires
+make-requires c = let right_size : wrong_size c.args.image.now ≡ false = sym c.wrong_size.ensures ∙ c.if-wrong_size.false in
+    let right-format : let g = c.args in wrong_format g.image.now g.last g.anode_blocks g.name.now ≡ false = sym c.wrong_format.ensures ∙ c.if-wrong_format.false in
+    (right_size, right-format)
+
+pub returns : goal.returns
+unfolding format_outcome format_answer done_or
+returns c = let right_size : wrong_size c.args.image.now ≡ false = sym c.wrong_size.ensures ∙ c.if-wrong_size.false in
+    let right-format : let g = c.args in wrong_format g.image.now g.last g.anode_blocks g.name.now ≡ false = sym c.wrong_format.ensures ∙ c.if-wrong_format.false in
+    rw (right_size, right-format, c.make.ensures)

@@ -27,4 +27,4 @@ loop-i-preserved c = let l = c.loop-i in
 pub returns : goal.returns
 returns c = let l = c.loop-i in
     let e : l.i ≡ c.args.first.0 + c.args.count = omega arith in
-    record { run = rw e at l.invariant.3; kept = rw e at l.invariant.4; }
+    record { run = rw e at l.invariant.3; kept = rw e at l.invariant.4 }

@@ -28,8 +28,27 @@ pub mark_run-requires-in-loop-s : goal.mark_run-requires-in-loop-s
 mark_run-requires-in-loop-s c = let within : (3 ≤ c.slot_of-slot.result.0) × (c.slot_of-slot.result.0 + 1 ≤ disk_size c.args.image.now) = slot_within _ _ _ c.requires.image_value.1 (sym c.slot_of-slot.ensures) c.if-slot-eq0.false in
     λ z. let w = within in search rules
 
+pub returns-then-mark_run-2 : goal.returns-then-mark_run-2
+returns-then-mark_run-2 c = let within : (3 ≤ c.slot_of-slot.result.0) × (c.slot_of-slot.result.0 + 1 ≤ disk_size c.args.image.now) = slot_within _ _ _ c.requires.image_value.1 (sym c.slot_of-slot.ensures) c.if-slot-eq0.false in
+    let kept-first : let g = c.args in drop (disk_size g.image.now) c.mark_run.new.blocks ≡ drop (disk_size g.image.now) g.blocks.now = kept-drop _ _ 0 3 _ c.mark_run.ensures.kept (λ z. size_some _ c.requires.image_value.0) (search rules) in
+    let kept_slot : let k = disk_size c.args.image.now in drop k c.mark_run-in-loop-s.new.blocks ≡ drop k c.mark_run.new.blocks = kept-drop _ _ _ 1 _ c.mark_run-in-loop-s.ensures.kept (λ z. within.1) (search rules) ∙ c.loop-s.invariant.2 in
+    let l = c.loop-s in
+    let m = c.mark_run-in-loop-s in
+    let w = within in record { answer = system_hit _ _ _ _ l.invariant.3 _ c.loop-s-test.true (sym c.slot_of-slot.ensures) c.if-slot-eq0.false w.0 w.1 (rw c.if-mark_run-2.true at m.ensures.run); kept = kept_slot ∙ kept-first }
+
+pub loop-s-preserved : goal.loop-s-preserved
+loop-s-preserved c = let within : (3 ≤ c.slot_of-slot.result.0) × (c.slot_of-slot.result.0 + 1 ≤ disk_size c.args.image.now) = slot_within _ _ _ c.requires.image_value.1 (sym c.slot_of-slot.ensures) c.if-slot-eq0.false in
+    let kept_slot : let k = disk_size c.args.image.now in drop k c.mark_run-in-loop-s.new.blocks ≡ drop k c.mark_run.new.blocks = kept-drop _ _ _ 1 _ c.mark_run-in-loop-s.ensures.kept (λ z. within.1) (search rules) ∙ c.loop-s.invariant.2 in
+    let l = c.loop-s in
+    let m = c.mark_run-in-loop-s in (
+      search rules,
+      search rules,
+      kept_slot,
+      system_more _ _ _ _ l.invariant.3 _ _ (sym c.slot_of-slot.ensures) c.if-slot-eq0.false (rw c.if-mark_run-2.false at m.ensures.run) m.ensures.kept,
+    )
+
 pub returns : goal.returns
 returns c = let kept-first : let g = c.args in drop (disk_size g.image.now) c.mark_run.new.blocks ≡ drop (disk_size g.image.now) g.blocks.now = kept-drop _ _ 0 3 _ c.mark_run.ensures.kept (λ z. size_some _ c.requires.image_value.0) (search rules) in
     let l = c.loop-s in
     let e : l.s ≡ 42 = omega arith in
-    record { answer = system_done _ _ _ (rw e at l.invariant.3); kept = l.invariant.2 ∙ kept-first; }
+    record { answer = system_done _ _ _ (rw e at l.invariant.3); kept = l.invariant.2 ∙ kept-first }
