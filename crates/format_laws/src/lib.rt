@@ -1,3 +1,2 @@
 // Theorems about a formatted image; they stand in specs/.
 #![tactic(auto)]
-

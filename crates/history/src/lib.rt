@@ -1,3 +1,2 @@
 // The theorem about any list of calls; it stands in specs/.
 #![tactic(auto)]
-

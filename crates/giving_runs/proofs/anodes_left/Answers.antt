@@ -1,0 +1,8 @@
+use borrow.Author.Rules.{rules}
+use Rattle.giving_runs.proofs.anodes_left.Goals as goal
+
+pub returns-then-run : goal.returns-then-run
+returns-then-run c = rw c.if-run.true
+
+pub returns : goal.returns
+returns c = rw c.if-run.false

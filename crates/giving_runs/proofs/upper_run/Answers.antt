@@ -1,0 +1,13 @@
+use mathlib.Core.Path.{sym}
+use Rattle.giving_runs.proofs.Picking.{upper_above, upper_below, upper_crossing}
+use borrow.Author.Rules.{rules}
+use Rattle.giving_runs.proofs.upper_run.Goals as goal
+
+pub returns-then-last-first : goal.returns-then-last-first
+returns-then-last-first c = sym (upper_above _ _ _ c.if-last-first.true)
+
+pub returns-then-end-above : goal.returns-then-end-above
+returns-then-end-above c = sym (upper_below _ _ _ c.if-last-first.false c.if-end-above.true)
+
+pub returns : goal.returns
+returns c = sym (upper_crossing _ _ _ c.if-last-first.false c.if-end-above.false)

@@ -1,0 +1,17 @@
+use Rattle.relocating.proofs.NewPlaces.{relocate_stops, relocate_done}
+use mathlib.Core.Path.{◌≡◌, refl, sym, ap, ◌∙◌}
+use Rattle.disk.specs.Refusals.{number_of}
+use Rattle.rules.specs.Plans.{Plan, refused, slotted}
+use Rattle.anodes.specs.Loaded.{anodes_from}
+use Rattle.placing.specs.declared.Step.{Step}
+use Rattle.placing.specs.Steps.{step_plan}
+use Rattle.relocating.specs.Places.{PlaceTaken}
+use Rattle.relocating.proofs.NewPlaces.{nowhere_relocated, found-relocated}
+use borrow.Author.Rules.{rules}
+use Rattle.relocating.proofs.relocate.Goals as goal
+
+pub returns-in_default : goal.returns-in_default
+returns-in_default c = λ y slots own. relocate_stops _ _ _ c.new_place-place.ensures _ c.in_default.is y slots
+
+pub returns : goal.returns
+returns c = λ y slots own. relocate_done _ _ _ c.new_place-place.ensures _ c.in-Moved.is _ _ (c.rewrite.ensures _) y slots own

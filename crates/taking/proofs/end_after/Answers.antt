@@ -1,0 +1,13 @@
+use mathlib.Core.Path.{sym, ◌∙◌}
+use borrow.Author.Tests.{eq-eqb, ne_eqb}
+use Rattle.laws.specs.Carried.{end_after}
+use borrow.Author.Rules.{rules}
+use Rattle.taking.proofs.end_after.Goals as goal
+
+pub returns-then-next-eq0 : goal.returns-then-next-eq0
+unfolding end_after
+returns-then-next-eq0 c = rw (eq-eqb _ 0 (sym c.entry-next.ensures ∙ c.if-next-eq0.true))
+
+pub returns : goal.returns
+unfolding end_after
+returns c = rw (ne_eqb _ 0 (rw c.entry-next.ensures at c.if-next-eq0.false)) c.entry-next.ensures
