@@ -9,6 +9,7 @@ use Rattle.anode_blocks.proofs.Laws.{no_slot_stored, slot_stays}
 use Rattle.block_copies.proofs.Laws.{old_whole, move_room, slot_moves}
 use borrow.Author.Rules.{rules}
 use Rattle.block_copies.proofs.move_slots.Goals as goal
+use Rattle.block_copies.proofs.move_slots.Goals.{then-from-to, else-from-to}
 
 pub loop-k-init : goal.loop-k-init
 loop-k-init c = (search rules, search rules, sym (no_slot_stored _ _))
@@ -20,6 +21,9 @@ move_slot-requires c = let p = c.requires in
     let room = move_room _ _ p.1 p.0 l.k _ _ l.image (search rules) l.invariant.2 c.entry-to.ensures c.slot_of-from.ensures c.if-from-to.true in
     (search rules, room.0, room.1, room.2, room.3)
 
+pub returns : goal.returns
+returns c = let e : c.loop-k.k ≡ 42 = omega arith in rw e at c.loop-k.invariant.2
+
 pub loop-k-preserved : goal.loop-k-preserved
 unfolding slots_from
 loop-k-preserved c = let p = c.requires in
@@ -27,12 +31,9 @@ loop-k-preserved c = let p = c.requires in
     let y = c.entry-to.ensures in
     let held = c.slot_of-from.ensures in (
       search rules,
-      ⊎_elim (λ w. ap length w.5 ∙ w.2.kept.0 ∙ l.invariant.1) (λ w. ap length w.1 ∙ l.invariant.1) c.if-from-to.branch,
-      ⊎_elim
-          (λ w. w.5 ∙ w.2.ensures ∙ slot_moves _ _ p.1 p.0 l.k _ _ l.image (search rules) l.invariant.2 y held w.0.taken)
-          (λ w. w.1 ∙ slot_stays _ _ p.1.new-placed (old_whole _ _ p.1) p.0 l.k _ l.image (search rules) l.invariant.2 y (sym held ∙ w.0.left))
-          c.if-from-to.branch,
+      search rules,
+      elim c.if-from-to.branch [
+        | then-from-to w ↦ w.image-is ∙ w.move_slot.ensures ∙ slot_moves _ _ p.1 p.0 l.k _ _ l.image (search rules) l.invariant.2 y held w.if-from-to.true
+        | else-from-to w ↦ w.image-is ∙ slot_stays _ _ p.1.new-placed (old_whole _ _ p.1) p.0 l.k _ l.image (search rules) l.invariant.2 y (sym held ∙ w.if-from-to.false)
+      ],
     )
-
-pub returns : goal.returns
-returns c = let e : c.loop-k.k ≡ 42 = omega arith in rw e at c.loop-k.invariant.2

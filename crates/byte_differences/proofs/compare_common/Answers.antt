@@ -27,7 +27,7 @@ with_behind-after-requires c = let l = c.loop-at.invariant in
     let own = read_long _ _ _ _ _ _ l.3 c.next_bytes-one.ensures _ n.own _ c.part.ensures in
     let so_far = compared-most _ _ _ _ l.5 in
     let behind = compared-most _ _ _ _ c.compare_parts-behind.ensures in
-    λ u. (omega (arith, n.asked, own, so_far, behind, l.0, c.loop-at-test.true, c.ranges.common), omega (arith, n.asked, own, so_far, behind, l.0, c.loop-at-test.true, c.ranges.common))
+    (omega (arith, n.asked, own, so_far, behind, l.0, c.loop-at-test.true, c.ranges.common), omega (arith, n.asked, own, so_far, behind, l.0, c.loop-at-test.true, c.ranges.common))
 
 pub moved_on-here-requires : goal.moved_on-here-requires
 moved_on-here-requires c = (c.part_length-n.ensures.own, c.next_bytes-one.ensures.within.small)

@@ -46,6 +46,6 @@ returns c = let s = c in
       joins_grown s.args.last.0 s.args.run.length s.args.run.first.0 (growth_if c.args.growing) (table_from c.args.counts.now c.args.firsts.now c.args.nexts.now c.args.slots.now) (anodes_from w.new.counts w.new.firsts w.new.nexts) (slots_from w.new.slots) (has-grown w.result (growth_if c.args.growing) (table_from c.args.counts.now c.args.firsts.now c.args.nexts.now c.args.slots.now) _ w.ensures c.if-not-grow_slots.false) _ _ c.side_of.ensures c.last_anode-z.ensures j.result (anodes_from j.new.counts j.new.firsts j.new.nexts) j.ensures.plan _ c.in-Moved.is,
       refl,
       c.anodes_left.ensures,
-      c.last_anode-z.ensures,
+      c.last_anode.ensures,
       c.last_anode-2.ensures,
     )

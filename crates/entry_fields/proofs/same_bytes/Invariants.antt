@@ -1,0 +1,14 @@
+use mathlib.Core.Path.{◌≡◌, sym, ◌∙◌}
+use Prim.Native.Nat.{◌-◌, ◌≤◌}
+use native.Mathlib.Omega.{arith}
+use lib.ListN.{length, drop}
+use Rattle.rules.specs.Counting.{same_bytes}
+use Rattle.entry_fields.proofs.Laws.{same_length, same_end, same_not, same_step}
+use borrow.Author.Rules.{rules}
+use Rattle.entry_fields.proofs.same_bytes.Given as goal
+
+abbrev pub invariant-loop-i : goal.invariant-loop-i
+invariant-loop-i l = (l.i ≤ length l.one) × (same_bytes (drop l.i l.one) (drop l.i l.other) ≡ same_bytes l.one l.other)
+
+abbrev pub decreases-loop-i : goal.decreases-loop-i
+decreases-loop-i l = length l.one - l.i

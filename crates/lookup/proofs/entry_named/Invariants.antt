@@ -1,0 +1,17 @@
+use mathlib.Core.Path.{◌≡◌, refl, sym, ◌∙◌}
+use mathlib.Core.Option.{none}
+use Prim.Native.Nat.{◌-◌}
+use native.Mathlib.Omega.{arith}
+use Rattle.rules.specs.Lookup.{first_named}
+use Rattle.lookup.proofs.Laws.{entries_along, along_whole, unbroken_along, named_along, named_none, named_whole}
+use Rattle.laws.specs.Chains.{gathered_none, gathered_end}
+use Rattle.laws.specs.Entries.{Unbroken}
+use borrow.Author.Rules.{rules}
+use Rattle.lookup.proofs.entry_named.Given as goal
+
+abbrev pub invariant-loop-fuel : goal.invariant-loop-fuel
+invariant-loop-fuel l = Unbroken (entries_along l.image l.firsts l.nexts l.fuel l.at)
+    × (first_named l.name (entries_along l.image l.firsts l.nexts l.fuel l.at) ≡ first_named l.name (entries_along l.image l.firsts l.nexts l.initial.fuel l.initial.at))
+
+abbrev pub decreases-loop-fuel : goal.decreases-loop-fuel
+decreases-loop-fuel l = l.fuel

@@ -1,0 +1,43 @@
+use mathlib.Core.Path.{◌≡◌, sym, ◌∙◌}
+use Prim.Native.Nat.{◌+◌, ◌-◌, ◌≤◌}
+use native.Mathlib.Omega.{arith}
+use mathlib.Core.List.{[]}
+use lib.ListN.{length, get_or, take, drop}
+use Rattle.anodes.specs.Loaded.{anodes_from}
+use Rattle.rules.specs.Walk.{dir_made}
+use Rattle.walk_steps.specs.Steps.{item_in, items_with, run_from, queue_of, entering, progress, tally_made, WalkRoom, number_in, Numbered}
+use Rattle.walk_steps.proofs.Tallies.{SameLengths, same-lengths}
+use Rattle.walk_steps.proofs.Laws.{marked-most, run_end, run_stop, run_step}
+use borrow.Author.Rules.{rules}
+use Rattle.tree.proofs.walk_queue.Goals as goal
+
+pub loop-first-init : goal.loop-first-init
+loop-first-init c = (c.requires.0, (c.requires.1, omega arith, omega arith), search rules, search rules)
+
+pub enter_directory-step-requires : goal.enter_directory-step-requires
+enter_directory-step-requires c = (c.loop-first.invariant.0, c.loop-first.invariant.1)
+
+pub returns-in-Fault : goal.returns-in-Fault
+returns-in-Fault c = let entered : let g = c.args in let l = c.loop-first in let r = c.enter_directory-step in let head = get_or l.queue l.first 0 in entering l.tally l.marks l.queue l.parents head (items_with (item_in g.counts.now g.nexts.now g.heads.now) g.image.now (anodes_from g.counts.now g.firsts.now g.nexts.now) (dir_made head (get_or l.parents l.first 0))) ≡ progress r.result r.new.marks r.new.queue r.new.parents = rw (c.entry.ensures, c.entry-in-loop-first.ensures) at (sym c.enter_directory-step.ensures.entered.0) in
+    let l = c.loop-first in
+    let room = marked-most l.marks in
+    let e = rw c.in-Fault.is at entered in
+    sym (run_stop _ _ _ _ _ _ _ _ (3444 - (l.first + 1)) (omega arith) c.loop-first-test.true _ e) ∙ l.invariant.3
+
+pub loop-first-smaller : goal.loop-first-smaller
+loop-first-smaller c = let room = marked-most c.loop-first.marks in
+    omega arith
+
+pub loop-first-preserved : goal.loop-first-preserved
+loop-first-preserved c = let entered : let g = c.args in let l = c.loop-first in let r = c.enter_directory-step in let head = get_or l.queue l.first 0 in entering l.tally l.marks l.queue l.parents head (items_with (item_in g.counts.now g.nexts.now g.heads.now) g.image.now (anodes_from g.counts.now g.firsts.now g.nexts.now) (dir_made head (get_or l.parents l.first 0))) ≡ progress r.result r.new.marks r.new.queue r.new.parents = rw (c.entry.ensures, c.entry-in-loop-first.ensures) at (sym c.enter_directory-step.ensures.entered.0) in
+    let l = c.loop-first in
+    let room = marked-most l.marks in
+    let e = rw c.in-Go.is at entered in (
+      (search rules, search rules, search rules, rw c.in-Go.is at c.enter_directory-step.ensures.entered.1),
+      rw c.in-Go.is at c.enter_directory-step.ensures.numbered,
+      omega arith,
+      sym (run_step _ _ _ _ _ _ _ _ (3444 - (l.first + 1)) (omega arith) c.loop-first-test.true _ _ _ e) ∙ l.invariant.3,
+    )
+
+pub returns : goal.returns
+returns c = sym (run_end _ _ _ _ _ _ _ _ c.loop-first-test.false) ∙ c.loop-first.invariant.3

@@ -1,0 +1,20 @@
+use Prim.Native.Nat.{ℕ, ◌+◌, ◌-◌, ◌≤◌}
+use mathlib.Core.Path.{◌≡◌, refl, sym, ◌∙◌}
+use mathlib.Core.List.{List, []}
+use native.Mathlib.Omega.{arith}
+use lib.ListN.{length}
+use Rattle.rules.specs.Counting.{gather}
+use Rattle.rules.specs.Lookup.{entries_of}
+use Rattle.anodes.specs.Loaded.{anodes_from}
+use Rattle.walk_steps.specs.Steps.{queue_of}
+use Rattle.differences.specs.Differences.{Difference}
+use Rattle.differences.specs.Pairs.{unmet}
+use Rattle.differences.specs.Handing.{hand_all}
+use Rattle.handing.specs.Differs.{handing_with}
+use Rattle.unmet_entries.specs.Along.{along_queue, hand_queue_none, hand_queue_step, hand_queue_all}
+use borrow.Author.Rules.{rules}
+use Rattle.unmet_entries.proofs.hand_unmet.Goals as goal
+
+-- the differences of the directory that h heads
+abbrev unmet_of : List ℕ → List ℕ → List ℕ → List ℕ → ℕ → List Difference
+unmet_of image firsts nexts met h = gather (unmet met) (entries_of image (anodes_from [] firsts nexts) h)

@@ -1,0 +1,22 @@
+use Prim.Native.Nat.{ℕ, ◌+◌, ◌-◌, ◌≤◌}
+use mathlib.Core.Path.{◌≡◌, refl, sym, ◌∙◌}
+use mathlib.Core.List.{List, []}
+use native.Mathlib.Omega.{arith}
+use lib.ListN.{length}
+use Rattle.rules.specs.Counting.{gather}
+use Rattle.rules.specs.Lookup.{entries_of}
+use Rattle.anodes.specs.Loaded.{anodes_from}
+use Rattle.walk_steps.specs.Steps.{queue_of}
+use Rattle.differences.specs.Differences.{Difference}
+use Rattle.differences.specs.Pairs.{unmet}
+use Rattle.differences.specs.Handing.{hand_all}
+use Rattle.handing.specs.Differs.{handing_with}
+use Rattle.unmet_entries.specs.Along.{along_queue, hand_queue_none, hand_queue_step, hand_queue_all}
+use borrow.Author.Rules.{rules}
+use Rattle.unmet_entries.proofs.hand_unmet.Given as goal
+
+abbrev pub invariant-loop-i : goal.invariant-loop-i
+invariant-loop-i l = (l.i ≤ l.dirs) × (length l.out ≡ length l.initial.out) × ((parents : List ℕ) → hand_all (handing_with l.out l.so_far) (along_queue (unmet_of l.image l.firsts l.nexts l.met) l.queue parents l.i (l.dirs - l.i)) ≡ hand_all (handing_with l.initial.out l.initial.so_far) (gather (λ d. unmet_of l.image l.firsts l.nexts l.met d.head) (queue_of l.queue parents l.dirs)))
+
+abbrev pub decreases-loop-i : goal.decreases-loop-i
+decreases-loop-i l = l.dirs - l.i

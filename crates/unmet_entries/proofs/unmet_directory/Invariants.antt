@@ -1,0 +1,22 @@
+use Prim.Native.Nat.{◌-◌}
+use mathlib.Core.Path.{◌≡◌, refl, sym, ◌∙◌}
+use mathlib.Core.List.{[]}
+use native.Mathlib.Omega.{arith}
+use lib.ListN.{length}
+use Rattle.rules.specs.Counting.{gather}
+use Rattle.rules.specs.Lookup.{entries_of}
+use Rattle.laws.specs.Entries.{Unbroken}
+use Rattle.anodes.specs.Loaded.{anodes_from}
+use Rattle.lookup.proofs.Laws.{entries_along, along_whole, unbroken_along}
+use Rattle.differences.specs.Pairs.{unmet}
+use Rattle.differences.specs.Handing.{hand_all}
+use Rattle.handing.specs.Differs.{handing_with}
+use Rattle.unmet_entries.specs.Along.{hand_chain-end, hand_chain-none, hand_chain_step}
+use borrow.Author.Rules.{rules}
+use Rattle.unmet_entries.proofs.unmet_directory.Given as goal
+
+abbrev pub invariant-loop-fuel : goal.invariant-loop-fuel
+invariant-loop-fuel l = (length l.out ≡ length l.initial.out) × Unbroken (entries_along l.image l.firsts l.nexts l.fuel l.at) × (hand_all (handing_with l.out l.so_far) (gather (unmet l.met) (entries_along l.image l.firsts l.nexts l.fuel l.at)) ≡ hand_all (handing_with l.initial.out l.initial.so_far) (gather (unmet l.met) (entries_of l.image (anodes_from [] l.firsts l.nexts) l.initial.at)))
+
+abbrev pub decreases-loop-fuel : goal.decreases-loop-fuel
+decreases-loop-fuel l = l.fuel
