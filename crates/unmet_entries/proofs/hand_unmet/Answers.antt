@@ -13,8 +13,25 @@ use Rattle.differences.specs.Handing.{hand_all}
 use Rattle.handing.specs.Differs.{handing_with}
 use Rattle.unmet_entries.specs.Along.{along_queue, hand_queue_none, hand_queue_step, hand_queue_all}
 use borrow.Author.Rules.{rules}
+use Rattle.unmet_entries.proofs.hand_unmet.Invariants.{unmet_of}
 use Rattle.unmet_entries.proofs.hand_unmet.Goals as goal
 
--- the differences of the directory that h heads
-abbrev unmet_of : List ℕ → List ℕ → List ℕ → List ℕ → ℕ → List Difference
-unmet_of image firsts nexts met h = gather (unmet met) (entries_of image (anodes_from [] firsts nexts) h)
+pub loop-i-init : goal.loop-i-init
+loop-i-init c = let a = c.args in
+    (search rules, refl, λ parents. hand_queue_all (unmet_of a.image.now a.firsts.now a.nexts.now a.met.now) _ _ parents _ _ (omega arith))
+
+pub unmet_directory-after-requires : goal.unmet_directory-after-requires
+unmet_directory-after-requires c = rw c.entry.ensures (c.requires c.loop-i.i c.loop-i-test.true)
+
+pub loop-i-preserved : goal.loop-i-preserved
+loop-i-preserved c = let l = c.loop-i in
+    let a = c.args in (
+      search rules,
+      search rules,
+      λ parents. hand_queue_step (unmet_of a.image.now a.firsts.now a.nexts.now a.met.now) _ _ parents l.i (a.dirs - l.i) (a.dirs - (l.i + 1)) (omega arith) _ (rw c.entry.ensures at c.unmet_directory-after.ensures) ∙ l.invariant.2 parents,
+    )
+
+pub returns : goal.returns
+returns c = let l = c.loop-i in
+    let a = c.args in
+    λ parents. sym (hand_queue_none (unmet_of a.image.now a.firsts.now a.nexts.now a.met.now) _ _ parents l.i (a.dirs - l.i) (omega arith)) ∙ l.invariant.2 parents

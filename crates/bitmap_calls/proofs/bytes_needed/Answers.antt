@@ -1,0 +1,6 @@
+use mathlib.Core.Path.{refl}
+use borrow.Author.Rules.{rules}
+use Rattle.bitmap_calls.proofs.bytes_needed.Goals as goal
+
+pub returns : goal.returns
+returns c = refl

@@ -1,0 +1,15 @@
+use Prim.Native.Nat.{◌-◌, ◌+◌, ◌≤◌}
+use mathlib.Core.Path.{◌≡◌, refl, sym, ◌∙◌}
+use mathlib.Core.List.{◌++◌, append-nil}
+use native.Mathlib.Omega.{arith}
+use lib.ListN.{length, get_or, take}
+use borrow.Author.Rules.{rules}
+use Rattle.rules.specs.Chains.{chain_of}
+use Rattle.giving.proofs.Runs.{listed-none, listed-end, listed_more}
+use Rattle.giving.proofs.list_chain.Given as goal
+
+abbrev pub invariant-loop-n : goal.invariant-loop-n
+invariant-loop-n l = (l.n ≤ 3444) × (length l.chain ≡ 3444) × (take l.n l.chain ++ chain_of (λ a. get_or l.nexts a 0) (3444 - l.n) l.at.0 ≡ chain_of (λ a. get_or l.nexts a 0) 3444 l.initial.at.0)
+
+abbrev pub decreases-loop-n : goal.decreases-loop-n
+decreases-loop-n l = 3444 - l.n

@@ -1,0 +1,16 @@
+use mathlib.Core.Path.{◌≡◌, refl, sym, ap, ◌∙◌}
+use Prim.Native.Nat.{ℕ, ◌-◌, ◌+◌}
+use native.Mathlib.Omega.{arith}
+use Rattle.rules.specs.Chains.{side}
+use Rattle.anodes.specs.Loaded.{anodes_from, table_from, AnodeTables}
+use Rattle.giving_back.specs.OldTable.{old_from, NextOld}
+use Rattle.giving_back.specs.Backs.{stopped_back}
+use Rattle.giving_back.proofs.Giving.{GoesBack, goes_first, goes_as, goes_next, goes_stop, goes-all}
+use borrow.Author.Rules.{rules}
+use Rattle.giving_back.proofs.give_old.Given as goal
+
+abbrev pub invariant-loop-y : goal.invariant-loop-y
+invariant-loop-y l = AnodeTables l.counts l.firsts l.nexts × ((from : ℕ) × NextOld l.blocks l.old.head.0 l.old.moved.0 from l.size l.y × GoesBack l.last.0 (old_from l.blocks l.old.head.0 l.old.moved.0 l.size 0) (table_from l.initial.counts l.initial.firsts l.initial.nexts l.slots) (old_from l.blocks l.old.head.0 l.old.moved.0 (l.size - from) from) l.ends (table_from l.counts l.firsts l.nexts l.slots))
+
+abbrev pub decreases-loop-y : goal.decreases-loop-y
+decreases-loop-y l = l.size - l.y
