@@ -1,7 +1,7 @@
 #!/bin/sh
 # Installs the proved library, its header, the program, its manual page and its completion.
 #
-#   rt staticlib pfs && (cd host && cargo build --release --offline --features proved --bin pfs)
+#   tools/staticlib && (cd host && cargo build --release --offline --features proved --bin pfs)
 #   ./install.sh PREFIX
 #
 # DESTDIR stands before PREFIX, as in other installations. PFS_LIB_DIR and PFS_PROGRAM name the library's folder and the
@@ -19,7 +19,7 @@ program=${PFS_PROGRAM:-$here/host/target/release/pfs}
 for file in "$library" "$program"; do
     if [ ! -f "$file" ]; then
         echo "install.sh: $file is not there; run first:" >&2
-        echo "  rt staticlib pfs && (cd host && cargo build --release --offline --features proved --bin pfs)" >&2
+        echo "  tools/staticlib && (cd host && cargo build --release --offline --features proved --bin pfs)" >&2
         exit 1
     fi
 done

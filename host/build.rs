@@ -27,7 +27,7 @@ fn main() {
     if !library.exists() {
         println!("cargo::error=the proved library is not there: {}", library.display());
         println!(
-            "cargo::error=run `rt staticlib pfs` in the repository's root, or name its folder in PFS_LIB_DIR"
+            "cargo::error=run `tools/staticlib` in the repository's root, or name its folder in PFS_LIB_DIR"
         );
         println!("cargo::error=without the proofs, `cargo run --example pfs_model` tries the command line on the model");
     }

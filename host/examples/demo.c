@@ -1,5 +1,5 @@
 /* A disk made, filled and read back by the proved library, from C. demo.rs does the same from Rust and prints
- * the same lines. From the repository's root, after `rt staticlib pfs`:
+ * the same lines. From the repository's root, after `tools/staticlib`:
  *
  *     cc -I include host/examples/demo.c target/staticlib/libpfs.a -o target/demo && target/demo
  */

@@ -1,0 +1,23 @@
+use Prim.Native.Nat.{ℕ, ◌-◌, ◌≤◌}
+use mathlib.Core.Path.{◌≡◌, refl, sym, ap, ◌∙◌}
+use mathlib.Core.List.{List}
+use native.Mathlib.Omega.{arith}
+use lib.ListN.{length, get_or}
+use Rattle.rules.specs.Anodes.{anodes_of}
+use Rattle.rules.specs.Walk.{reached_dirs}
+use Rattle.names.specs.Index.{Indexed}
+use Rattle.change_laws.specs.Image.{accepted_own}
+use Rattle.walk_steps.specs.Steps.{queue_of}
+use Rattle.differences.specs.Pairs.{pairs_of}
+use Rattle.handing.specs.Differs.{handing_with}
+use Rattle.comparing.proofs.Laws.{directory_readable}
+use Rattle.comparing.proofs.WalkedTo.{WalkedTo, walked_none, walked_reached, walked_partner, walked_more, walked_pairs, walked_rest}
+use borrow.Author.Rules.{rules}
+use Rattle.comparing.proofs.compare_walk.Given as goal
+
+abbrev pub invariant-loop-i : goal.invariant-loop-i
+invariant-loop-i l = (l.i ≤ l.dirs) × (length l.index ≡ length l.initial.index) × (length l.partners ≡ length l.initial.partners) × (length l.met ≡ length l.initial.met) × (length l.out ≡ length l.initial.out) × Indexed l.other l.index l.indexed
+    × ((parents : List ℕ) → queue_of l.queue parents l.dirs ≡ reached_dirs l.image (anodes_of l.image) → WalkedTo l.image l.other l.queue parents l.dirs l.i (pairs_of l.partners l.met) (handing_with l.out l.so_far) (handing_with l.initial.out l.initial.so_far))
+
+abbrev pub decreases-loop-i : goal.decreases-loop-i
+decreases-loop-i l = l.dirs - l.i

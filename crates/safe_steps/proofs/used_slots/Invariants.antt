@@ -1,0 +1,17 @@
+use mathlib.Core.Path.{◌≡◌, refl, sym, ap, ◌∙◌}
+use Prim.Native.Nat.{ℕ, ◌+◌, ◌-◌, ◌≤◌}
+use mathlib.Core.Bool.{cond}
+use native.Mathlib.Omega.{arith}
+use lib.Dec.{eqb}
+use lib.ListN.{length}
+use Rattle.safe_rules.specs.SafePlans.{slot_blocks}
+use Rattle.anodes.specs.Loaded.{slots_from}
+use Rattle.safe_steps.proofs.Steps.{none_used, more_used, slot_few}
+use borrow.Author.Rules.{rules}
+use Rattle.safe_steps.proofs.used_slots.Given as goal
+
+abbrev pub invariant-loop-k : goal.invariant-loop-k
+invariant-loop-k l = (l.k ≤ 42) × (l.used ≤ l.k) × (l.used ≡ length (slot_blocks (slots_from l.slots) l.k))
+
+abbrev pub decreases-loop-k : goal.decreases-loop-k
+decreases-loop-k l = 42 - l.k
