@@ -6,7 +6,7 @@ use Rattle.directory.specs.Entries.{name_length}
 
 -- a part of the lent bytes that starts at byte k of them
 abbrev pub StartsAt : Bor (List ℕ) → Bor (List ℕ) → ℕ → Type 0
-StartsAt lent part k = (part.ptr.0 ≡ lent.ptr.0) × (part.ptr.1 ≡ lent.ptr.1 + k)
+StartsAt lent part k = (part.ref_ptr.0 ≡ lent.ref_ptr.0) × (part.ref_ptr.1 ≡ lent.ref_ptr.1 + k)
 
 -- the name of the entry that starts at a byte of the image ends within its block and within the image
 pub record NameStands (img : List ℕ) (start : ℕ) : Type 0 where

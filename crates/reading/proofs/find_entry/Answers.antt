@@ -16,8 +16,8 @@ put_fields-requires c = let standing : let g = c.args in EntryIn g.image.now g.h
 pub returns-in-Found : goal.returns-in-Found
 unfolding done_or
 returns-in-Found c = let f = rw c.in-Found.is at c.find_named-found.ensures in
-    record { answer = sym (find_search _ _ _ _ ∙ f.0); fields = rw f.1 c.put_fields.ensures; }
+    record { answer = sym (find_search _ _ _ _ ∙ f.0); fields = rw f.1 c.put_fields.ensures }
 
 pub returns-in-Refused : goal.returns-in-Refused
 returns-in-Refused c = let n = c.number.ensures in
-    record { answer = n ∙ sym (find_search _ _ _ _ ∙ rw c.in-Refused.is at c.find_named-found.ensures); fields = sym (not_done _ (refused_some c.in-Refused.r _ n) _ _); }
+    record { answer = n ∙ sym (find_search _ _ _ _ ∙ rw c.in-Refused.is at c.find_named-found.ensures); fields = sym (not_done _ (refused_some c.in-Refused.r _ n) _ _) }

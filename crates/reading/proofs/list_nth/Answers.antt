@@ -21,9 +21,9 @@ name_part-requires c = let standing : let g = c.args in EntryIn g.image.now g.he
 pub returns-in-Found : goal.returns-in-Found
 unfolding done_or fields_at field_list
 returns-in-Found c = let f = rw c.in-Found.is at c.find_nth-found.ensures in
-    record { answer = sym f.0; fields = rw f.1 c.put_fields.ensures; name = rw f.1 c.name_part.ensures.name; part = rw c.put_fields.ensures c.name_part.ensures.part; }
+    record { answer = sym f.0; fields = rw f.1 c.put_fields.ensures; name = rw f.1 c.name_part.ensures.name; part = rw c.put_fields.ensures c.name_part.ensures.part }
 
 pub returns-in-Refused : goal.returns-in-Refused
 returns-in-Refused c = let n = c.number.ensures in
     let some = refused_some c.in-Refused.r _ n in
-    record { answer = n ∙ sym (rw c.in-Refused.is at c.find_nth-found.ensures); fields = sym (not_done _ some _ _); name = sym (not_done _ some _ _); part = search rules; }
+    record { answer = n ∙ sym (rw c.in-Refused.is at c.find_nth-found.ensures); fields = sym (not_done _ some _ _); name = sym (not_done _ some _ _); part = search rules }

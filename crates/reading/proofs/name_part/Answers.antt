@@ -17,4 +17,4 @@ unfolding name_length
 returns c = let long : let g = c.args in c.read8.result ≡ name_length (block_of g.image.now (g.start / 512)) (g.start % 512) = rw (c.read8.ensures, c.block_part-block.ensures) in
     let g = c.args in
     let e : g.start + 16 + c.read8.result - (g.start + 16) ≡ name_length (block_of g.image.now (g.start / 512)) (g.start % 512) = omega (arith, long) in
-    record { name = rw e (sym (named-part _ _ c.requires.1)); part = search rules; }
+    record { name = rw e (sym (named-part _ _ c.requires.1)); part = search rules }

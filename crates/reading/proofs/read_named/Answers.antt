@@ -13,7 +13,7 @@ find_span-found-requires c = let p = c.requires in (_, p.0, p.1)
 
 pub returns-in-Refused : goal.returns-in-Refused
 returns-in-Refused c = let n = c.number.ensures in
-    record { answer = n ∙ sym (rw c.in-Refused.is at c.find_span-found.ensures); output = sym (not_done _ (refused_some c.in-Refused.r _ n) _ _); }
+    record { answer = n ∙ sym (rw c.in-Refused.is at c.find_span-found.ensures); output = sym (not_done _ (refused_some c.in-Refused.r _ n) _ _) }
 
 pub copy_out-requires : goal.copy_out-requires
 copy_out-requires c = let f = rw c.in-Found.is at c.find_span-found.ensures in
@@ -24,4 +24,4 @@ copy_out-requires c = let f = rw c.in-Found.is at c.find_span-found.ensures in
 pub returns : goal.returns
 returns c = let a = c.args in
     let f = rw c.in-Found.is at c.find_span-found.ensures in
-    record { answer = sym f.0; output = bytes-done a.image.now (anodes_of a.image.now) _ _ f.1 _ a.out.now _ (span_found _ _ _ _ _ f.1 _ _ f.0).2 (rw c.requires.1.loaded.is_loaded at c.copy_out.ensures); }
+    record { answer = sym f.0; output = bytes-done a.image.now (anodes_of a.image.now) _ _ f.1 _ a.out.now _ (span_found _ _ _ _ _ f.1 _ _ f.0).2 (rw c.requires.1.loaded.is_loaded at c.copy_out.ensures) }
