@@ -1,8 +1,10 @@
 // Writes a formatted disk of 8 blocks to standard output.
 #![tactic(auto)]
 
-fn main() {
+use std::io;
+
+fn main(rt: HostRuntime) -> io::Result<()> {
     let mut image = [0u8; 4096];
     format::format(&mut image, 5, 1, b"bench", 0, 0, 0, 0);
-    io::write_all(1, &image);
+    rt.write_all(&image)
 }
