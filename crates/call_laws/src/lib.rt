@@ -1,3 +1,2 @@
 // Laws of the calls' outcomes; they stand in specs/.
 #![tactic(auto)]
-

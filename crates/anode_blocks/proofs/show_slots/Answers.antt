@@ -1,8 +1,7 @@
 use mathlib.Core.Path.{◌≡◌, sym, ap, ◌∙◌}
 use native.Mathlib.Omega.{arith}
-use Prim.Native.Nat.{ℕ, ◌-◌, ◌≤◌}
+use Prim.Native.Nat.{ℕ, ◌-◌}
 use mathlib.Core.List.{List}
-use lib.ListN.{length}
 use borrow.Author.Rules.{rules}
 use Rattle.disk.specs.Root.{slot_of}
 use Rattle.laws.specs.GotSlots.{slots_got}

@@ -1,14 +1,10 @@
-use mathlib.Core.Path.{◌≡◌, sym, ap, ◌∙◌}
-use native.Mathlib.Omega.{arith}
-use Prim.Native.Nat.{ℕ, ◌-◌, ◌≤◌}
-use mathlib.Core.List.{List}
+use mathlib.Core.Path.{◌≡◌}
+use Prim.Native.Nat.{◌-◌, ◌≤◌}
 use lib.ListN.{length}
-use borrow.Author.Rules.{rules}
 use Rattle.disk.specs.Root.{slot_of}
 use Rattle.laws.specs.GotSlots.{slots_got}
 use Rattle.laws.specs.OwnerTable.{set_all}
 use Rattle.anodes.specs.Loaded.{slots_from}
-use Rattle.anode_blocks.proofs.Laws.{none_shown, shown_same, shown_other}
 use Rattle.anode_blocks.proofs.show_slots.Given as goal
 
 abbrev pub invariant-loop-k : goal.invariant-loop-k

@@ -1,5 +1,4 @@
 use Rattle.anode_blocks.proofs.Laws.{slot_back}
-use borrow.Author.Rules.{rules}
 use Rattle.anode_blocks.proofs.store_slot.Goals as goal
 
 pub returns : goal.returns

@@ -1,10 +1,7 @@
-use mathlib.Core.Path.{◌≡◌, sym, ap, ◌∙◌}
-use mathlib.Core.Logic.{⊎_elim}
+use mathlib.Core.Path.{◌≡◌, sym, ◌∙◌}
 use native.Mathlib.Omega.{arith}
-use Prim.Native.Nat.{◌≤◌, ◌-◌}
-use lib.ListN.{length}
+use Prim.Native.Nat.{◌-◌}
 use borrow.Author.Rules.{rules}
-use Rattle.rules.specs.Table.{store_slots}
 use Rattle.anodes.specs.Loaded.{slots_from}
 use Rattle.anode_blocks.proofs.Laws.{no_slot_stored, slot_room, slot_stays, slot_comes, new_block, new_whole}
 use Rattle.anode_blocks.proofs.store_slots.Goals as goal

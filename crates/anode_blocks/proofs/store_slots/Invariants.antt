@@ -1,12 +1,8 @@
-use mathlib.Core.Path.{◌≡◌, sym, ap, ◌∙◌}
-use mathlib.Core.Logic.{⊎_elim}
-use native.Mathlib.Omega.{arith}
+use mathlib.Core.Path.{◌≡◌}
 use Prim.Native.Nat.{◌≤◌, ◌-◌}
 use lib.ListN.{length}
-use borrow.Author.Rules.{rules}
 use Rattle.rules.specs.Table.{store_slots}
 use Rattle.anodes.specs.Loaded.{slots_from}
-use Rattle.anode_blocks.proofs.Laws.{no_slot_stored, slot_room, slot_stays, slot_comes, new_block, new_whole}
 use Rattle.anode_blocks.proofs.store_slots.Given as goal
 
 abbrev pub invariant-loop-k : goal.invariant-loop-k

@@ -1,9 +1,6 @@
 use mathlib.Core.Path.{◌≡◌}
-use Prim.Native.Nat.{◌*◌, ◌+◌, ◌-◌, ◌≤◌}
+use Prim.Native.Nat.{◌*◌, ◌+◌, ◌-◌}
 use native.Mathlib.Omega.{arith}
-use lib.ListN.{length}
-use Rattle.rules.specs.Anodes.{anodes_of}
-use Rattle.anodes.specs.Loaded.{LoadedBelow}
 use Rattle.anodes.proofs.Laws.{loaded_none, loaded_all}
 use borrow.Author.Rules.{rules}
 use Rattle.anodes.proofs.load.Goals as goal

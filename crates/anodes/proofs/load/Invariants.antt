@@ -1,11 +1,8 @@
 use mathlib.Core.Path.{◌≡◌}
-use Prim.Native.Nat.{◌*◌, ◌+◌, ◌-◌, ◌≤◌}
-use native.Mathlib.Omega.{arith}
+use Prim.Native.Nat.{◌*◌, ◌-◌, ◌≤◌}
 use lib.ListN.{length}
 use Rattle.rules.specs.Anodes.{anodes_of}
 use Rattle.anodes.specs.Loaded.{LoadedBelow}
-use Rattle.anodes.proofs.Laws.{loaded_none, loaded_all}
-use borrow.Author.Rules.{rules}
 use Rattle.anodes.proofs.load.Given as goal
 
 abbrev pub invariant-loop-s : goal.invariant-loop-s

@@ -1,9 +1,7 @@
 use mathlib.Core.Path.{◌≡◌, ◌∙◌}
-use Prim.Native.Nat.{◌+◌, ◌*◌, ◌-◌, ◌≤◌}
+use Prim.Native.Nat.{◌+◌, ◌*◌, ◌-◌}
 use native.Mathlib.Omega.{arith}
-use lib.ListN.{length, length-set}
-use Rattle.rules.specs.Anodes.{anodes_of}
-use Rattle.anodes.specs.Loaded.{LoadedBelow}
+use lib.ListN.{length-set}
 use Rattle.anodes.proofs.Laws.{read_fields, loaded_more, in_block_lem}
 use borrow.Author.Rules.{rules}
 use Rattle.anodes.proofs.load_block.Goals as goal

@@ -1,11 +1,8 @@
-use mathlib.Core.Path.{◌≡◌, ◌∙◌}
+use mathlib.Core.Path.{◌≡◌}
 use Prim.Native.Nat.{◌+◌, ◌*◌, ◌-◌, ◌≤◌}
-use native.Mathlib.Omega.{arith}
-use lib.ListN.{length, length-set}
+use lib.ListN.{length}
 use Rattle.rules.specs.Anodes.{anodes_of}
 use Rattle.anodes.specs.Loaded.{LoadedBelow}
-use Rattle.anodes.proofs.Laws.{read_fields, loaded_more, in_block_lem}
-use borrow.Author.Rules.{rules}
 use Rattle.anodes.proofs.load_block.Given as goal
 
 abbrev pub invariant-loop-p : goal.invariant-loop-p

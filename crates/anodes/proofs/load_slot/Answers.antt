@@ -1,7 +1,6 @@
 use mathlib.Core.Path.{sym, ◌∙◌}
 use native.Mathlib.Omega.{arith}
 use Rattle.anodes.proofs.Laws.{loaded_missing}
-use borrow.Author.Rules.{rules}
 use Rattle.anodes.proofs.load_slot.Goals as goal
 
 pub load_block-requires : goal.load_block-requires

@@ -1,7 +1,5 @@
-use mathlib.Core.Path.{◌∙◌}
 use borrow.Author.Tests.{eq-eqb, ne_eqb}
 use Rattle.bitmap.specs.Bitmap.{bitmap_word}
-use borrow.Author.Rules.{rules}
 use Rattle.bitmap.proofs.bitmap_word.Goals as goal
 
 pub returns-then-q-eq0 : goal.returns-then-q-eq0

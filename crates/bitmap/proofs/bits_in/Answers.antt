@@ -1,9 +1,7 @@
 use mathlib.Core.Path.{◌≡◌, ◌∙◌, ap}
-use mathlib.Core.Logic.{⊎_elim}
-use Prim.Native.Nat.{ℕ, ◌+◌, ◌*◌, ◌-◌, ◌^◌, ◌≤◌}
+use Prim.Native.Nat.{ℕ, ◌+◌, ◌-◌}
 use native.Mathlib.Omega.{arith}
-use lib.ListN.{length}
-use Rattle.bitmap.specs.Bits.{bits_from, with_bit}
+use Rattle.bitmap.specs.Bits.{with_bit}
 use Rattle.bitmap.specs.Table.{free_at}
 use Rattle.bitmap.proofs.Laws.{bits_none, bit_clear, bit_set, bits_rest, free-set, free_clear, free_past}
 use borrow.Author.Rules.{rules}

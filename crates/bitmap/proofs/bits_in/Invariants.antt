@@ -1,12 +1,8 @@
-use mathlib.Core.Path.{◌≡◌, ◌∙◌, ap}
-use mathlib.Core.Logic.{⊎_elim}
-use Prim.Native.Nat.{ℕ, ◌+◌, ◌*◌, ◌-◌, ◌^◌, ◌≤◌}
-use native.Mathlib.Omega.{arith}
+use mathlib.Core.Path.{◌≡◌}
+use Prim.Native.Nat.{◌*◌, ◌-◌, ◌^◌, ◌≤◌}
 use lib.ListN.{length}
-use Rattle.bitmap.specs.Bits.{bits_from, with_bit}
+use Rattle.bitmap.specs.Bits.{bits_from}
 use Rattle.bitmap.specs.Table.{free_at}
-use Rattle.bitmap.proofs.Laws.{bits_none, bit_clear, bit_set, bits_rest, free-set, free_clear, free_past}
-use borrow.Author.Rules.{rules}
 use Rattle.bitmap.proofs.bits_in.Given as goal
 
 abbrev pub invariant-loop-i : goal.invariant-loop-i

@@ -1,6 +1,5 @@
 use mathlib.Core.Path.{refl}
 use Rattle.bitmap.specs.Bits.{byte_of}
-use borrow.Author.Rules.{rules}
 use Rattle.bitmap.proofs.byte_of.Goals as goal
 
 pub returns : goal.returns

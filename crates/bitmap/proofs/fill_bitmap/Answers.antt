@@ -1,10 +1,7 @@
-use mathlib.Core.Path.{◌≡◌, ◌∙◌}
-use mathlib.Core.List.{◌++◌}
-use Prim.Native.Nat.{◌-◌, ◌≤◌}
+use mathlib.Core.Path.{◌∙◌}
+use Prim.Native.Nat.{◌-◌}
 use native.Mathlib.Omega.{arith}
-use lib.ListN.{length, drop, length-set}
-use Rattle.bitmap.specs.Bitmap.{bitmap_byte, tabulate}
-use Rattle.bitmap.specs.Table.{free_bit, Carried}
+use lib.ListN.{length-set}
 use Rattle.bitmap.proofs.Laws.{fill_none, fill_more, fill_whole, carried_none, carried_more, byte_is}
 use borrow.Author.Rules.{rules}
 use Rattle.bitmap.proofs.fill_bitmap.Goals as goal

@@ -1,12 +1,9 @@
-use mathlib.Core.Path.{◌≡◌, ◌∙◌}
+use mathlib.Core.Path.{◌≡◌}
 use mathlib.Core.List.{◌++◌}
 use Prim.Native.Nat.{◌-◌, ◌≤◌}
-use native.Mathlib.Omega.{arith}
-use lib.ListN.{length, drop, length-set}
+use lib.ListN.{length, drop}
 use Rattle.bitmap.specs.Bitmap.{bitmap_byte, tabulate}
 use Rattle.bitmap.specs.Table.{free_bit, Carried}
-use Rattle.bitmap.proofs.Laws.{fill_none, fill_more, fill_whole, carried_none, carried_more, byte_is}
-use borrow.Author.Rules.{rules}
 use Rattle.bitmap.proofs.fill_bitmap.Given as goal
 
 abbrev pub invariant-loop-p : goal.invariant-loop-p

@@ -1,9 +1,7 @@
-use mathlib.Core.Path.{◌≡◌, sym, ◌∙◌}
-use Prim.Native.Nat.{◌-◌, ◌≤◌}
+use mathlib.Core.Path.{sym, ◌∙◌}
+use Prim.Native.Nat.{◌-◌}
 use native.Mathlib.Omega.{arith}
-use lib.ListN.{length}
-use Rattle.bitmap.specs.Table.{free_bit, Carried}
-use Rattle.bitmap.proofs.Laws.{SameBelow, same_none, same_more, first_is, first-none, carried_none, carried_more, byte_is}
+use Rattle.bitmap.proofs.Laws.{same_more, first_is, first-none, carried_none, carried_more, byte_is}
 use borrow.Author.Rules.{rules}
 use Rattle.bitmap.proofs.first_differing.Goals as goal
 

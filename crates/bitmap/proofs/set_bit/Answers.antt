@@ -1,5 +1,4 @@
 use Rattle.bitmap.proofs.Laws.{set_by_or}
-use borrow.Author.Rules.{rules}
 use Rattle.bitmap.proofs.set_bit.Goals as goal
 
 pub returns : goal.returns

@@ -1,4 +1,3 @@
-use borrow.Author.Rules.{rules}
 use Rattle.bitmap.proofs.word_at.Goals as goal
 
 pub returns-then-p-ne0 : goal.returns-then-p-ne0

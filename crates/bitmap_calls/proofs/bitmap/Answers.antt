@@ -1,5 +1,4 @@
 use Rattle.bitmap_laws.specs.Outcomes.{table_shown, bitmap_answered, bitmap_refused}
-use borrow.Author.Rules.{rules}
 use Rattle.bitmap_calls.proofs.bitmap.Goals as goal
 
 pub make_bitmap-requires : goal.make_bitmap-requires

@@ -1,5 +1,4 @@
 use mathlib.Core.Path.{refl}
-use borrow.Author.Rules.{rules}
 use Rattle.bitmap_calls.proofs.bytes_needed.Goals as goal
 
 pub returns : goal.returns

@@ -1,6 +1,5 @@
 use mathlib.Core.Path.{◌∙◌}
 use Rattle.block_copies.proofs.Laws.{slot_moved}
-use borrow.Author.Rules.{rules}
 use Rattle.block_copies.proofs.move_slot.Goals as goal
 
 pub returns : goal.returns

@@ -1,9 +1,6 @@
-use mathlib.Core.Path.{◌≡◌, sym, ap, ◌∙◌}
-use mathlib.Core.Logic.{⊎_elim}
+use mathlib.Core.Path.{◌≡◌, sym, ◌∙◌}
 use native.Mathlib.Omega.{arith}
-use Prim.Native.Nat.{◌≤◌, ◌-◌}
-use lib.ListN.{length}
-use Rattle.rules.specs.Table.{store_slots}
+use Prim.Native.Nat.{◌-◌}
 use Rattle.anodes.specs.Loaded.{slots_from}
 use Rattle.anode_blocks.proofs.Laws.{no_slot_stored, slot_stays}
 use Rattle.block_copies.proofs.Laws.{old_whole, move_room, slot_moves}

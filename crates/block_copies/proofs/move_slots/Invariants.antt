@@ -1,13 +1,8 @@
-use mathlib.Core.Path.{◌≡◌, sym, ap, ◌∙◌}
-use mathlib.Core.Logic.{⊎_elim}
-use native.Mathlib.Omega.{arith}
+use mathlib.Core.Path.{◌≡◌}
 use Prim.Native.Nat.{◌≤◌, ◌-◌}
 use lib.ListN.{length}
 use Rattle.rules.specs.Table.{store_slots}
 use Rattle.anodes.specs.Loaded.{slots_from}
-use Rattle.anode_blocks.proofs.Laws.{no_slot_stored, slot_stays}
-use Rattle.block_copies.proofs.Laws.{old_whole, move_room, slot_moves}
-use borrow.Author.Rules.{rules}
 use Rattle.block_copies.proofs.move_slots.Given as goal
 
 abbrev pub invariant-loop-k : goal.invariant-loop-k

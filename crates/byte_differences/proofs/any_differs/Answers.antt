@@ -1,11 +1,9 @@
 use Rattle.byte_differences.proofs.Comparing.{any_tested}
 use mathlib.Core.Path.{◌≡◌, sym}
-use Prim.Native.Nat.{◌-◌, ◌≤◌}
+use Prim.Native.Nat.{◌-◌}
 use native.Mathlib.Omega.{arith}
 use lib.ListN.{length}
-use Rattle.rules.specs.Counting.{any_below}
 use Rattle.counting.specs.Laws.{any_below-none}
-use Rattle.differences.specs.Fields.{byte_differs}
 use borrow.Author.Rules.{rules}
 use Rattle.byte_differences.proofs.any_differs.Goals as goal
 

@@ -1,12 +1,8 @@
-use Rattle.byte_differences.proofs.Comparing.{any_tested}
-use mathlib.Core.Path.{◌≡◌, sym}
+use mathlib.Core.Path.{◌≡◌}
 use Prim.Native.Nat.{◌-◌, ◌≤◌}
-use native.Mathlib.Omega.{arith}
 use lib.ListN.{length}
 use Rattle.rules.specs.Counting.{any_below}
-use Rattle.counting.specs.Laws.{any_below-none}
 use Rattle.differences.specs.Fields.{byte_differs}
-use borrow.Author.Rules.{rules}
 use Rattle.byte_differences.proofs.any_differs.Given as goal
 
 abbrev pub invariant-loop-i : goal.invariant-loop-i

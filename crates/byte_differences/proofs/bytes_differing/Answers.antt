@@ -3,9 +3,8 @@ use lib.Dec.{eqb}
 use lib.ListN.{length, get_or}
 use Rattle.byte_differences.proofs.Comparing.{many_counted, many_none, one-most}
 use mathlib.Core.Path.{◌≡◌, sym}
-use Prim.Native.Nat.{◌-◌, ◌≤◌}
+use Prim.Native.Nat.{◌-◌}
 use native.Mathlib.Omega.{arith}
-use Rattle.byte_differences.specs.BytesCompared.{many_in}
 use borrow.Author.Rules.{rules}
 use Rattle.byte_differences.proofs.bytes_differing.Goals as goal
 

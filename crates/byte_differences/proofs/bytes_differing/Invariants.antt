@@ -1,12 +1,7 @@
-use mathlib.Core.Bool.{not}
-use lib.Dec.{eqb}
-use lib.ListN.{length, get_or}
-use Rattle.byte_differences.proofs.Comparing.{many_counted, many_none, one-most}
-use mathlib.Core.Path.{◌≡◌, sym}
+use lib.ListN.{length}
+use mathlib.Core.Path.{◌≡◌}
 use Prim.Native.Nat.{◌-◌, ◌≤◌}
-use native.Mathlib.Omega.{arith}
 use Rattle.byte_differences.specs.BytesCompared.{many_in}
-use borrow.Author.Rules.{rules}
 use Rattle.byte_differences.proofs.bytes_differing.Given as goal
 
 abbrev pub invariant-loop-i : goal.invariant-loop-i

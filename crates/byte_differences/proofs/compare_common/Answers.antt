@@ -1,9 +1,6 @@
 use mathlib.Core.Path.{◌≡◌, sym, ◌∙◌}
-use Prim.Native.Nat.{◌-◌, ◌≤◌}
+use Prim.Native.Nat.{◌-◌}
 use native.Mathlib.Omega.{arith}
-use lib.ListN.{length}
-use Rattle.anodes.specs.Loaded.{anodes_from}
-use Rattle.byte_differences.specs.BytesCompared.{BytesCompared, to_come, At}
 use Rattle.byte_differences.proofs.Comparing.{compared-none, compared-joined, compared-most}
 use Rattle.byte_differences.proofs.Places.{start-bytes, start-at, settled_some, read_long, read_part, at-passed}
 use borrow.Author.Rules.{rules}

@@ -1,12 +1,7 @@
-use mathlib.Core.Path.{◌≡◌, sym, ◌∙◌}
 use Prim.Native.Nat.{◌-◌, ◌≤◌}
-use native.Mathlib.Omega.{arith}
 use lib.ListN.{length}
 use Rattle.anodes.specs.Loaded.{anodes_from}
 use Rattle.byte_differences.specs.BytesCompared.{BytesCompared, to_come, At}
-use Rattle.byte_differences.proofs.Comparing.{compared-none, compared-joined, compared-most}
-use Rattle.byte_differences.proofs.Places.{start-bytes, start-at, settled_some, read_long, read_part, at-passed}
-use borrow.Author.Rules.{rules}
 use Rattle.byte_differences.proofs.compare_common.Given as goal
 
 abbrev pub invariant-loop-at : goal.invariant-loop-at

@@ -1,6 +1,5 @@
 use mathlib.Core.Path.{sym, ◌∙◌}
 use Rattle.byte_differences.proofs.Comparing.{first-all, many_all}
-use borrow.Author.Rules.{rules}
 use Rattle.byte_differences.proofs.compare_parts.Goals as goal
 
 pub returns : goal.returns

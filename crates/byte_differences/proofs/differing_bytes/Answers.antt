@@ -1,7 +1,6 @@
 use mathlib.Core.Path.{◌∙◌}
 use native.Mathlib.Omega.{arith}
 use Rattle.byte_differences.proofs.Comparing.{compared-most, whole}
-use borrow.Author.Rules.{rules}
 use Rattle.byte_differences.proofs.differing_bytes.Goals as goal
 
 pub with_past-requires : goal.with_past-requires

@@ -1,7 +1,6 @@
 use native.Mathlib.Omega.{arith}
 use Rattle.anodes.specs.Loaded.{anodes_from}
 use Rattle.byte_differences.proofs.Places.{entering_is}
-use borrow.Author.Rules.{rules}
 use Rattle.byte_differences.proofs.extent_start.Goals as goal
 
 pub returns : goal.returns

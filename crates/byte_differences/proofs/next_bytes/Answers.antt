@@ -1,10 +1,7 @@
-use mathlib.Core.Path.{◌≡◌, refl, ◌∙◌}
+use mathlib.Core.Path.{refl, ◌∙◌}
 use Prim.Native.Nat.{◌-◌}
 use native.Mathlib.Omega.{arith}
-use Rattle.anodes.specs.Loaded.{anodes_from}
-use Rattle.byte_differences.specs.BytesCompared.{to_come, PlaceWithin}
 use Rattle.byte_differences.proofs.Places.{come_end, come_last, come_next}
-use borrow.Author.Rules.{rules}
 use Rattle.byte_differences.proofs.next_bytes.Goals as goal
 
 pub loop-place-init : goal.loop-place-init

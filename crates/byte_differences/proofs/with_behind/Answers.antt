@@ -1,5 +1,4 @@
 use borrow.Author.Tests.{lt-ltb, le-ltb}
-use borrow.Author.Rules.{rules}
 use Rattle.byte_differences.proofs.with_behind.Goals as goal
 
 pub returns-then-d-at : goal.returns-then-d-at

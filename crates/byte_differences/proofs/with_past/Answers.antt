@@ -1,5 +1,4 @@
 use borrow.Author.Tests.{eq-eqb, ne_eqb}
-use borrow.Author.Rules.{rules}
 use Rattle.byte_differences.proofs.with_past.Goals as goal
 
 pub returns-then-many-eq0 : goal.returns-then-many-eq0

@@ -1,8 +1,5 @@
 use mathlib.Core.Path.{sym}
 use mathlib.Core.Bool.{true≢false}
-use borrow.Author.Tests.{not-false}
-use borrow.Author.Rules.{rules}
-use borrow.Author.Rules.{rules}
 use Rattle.chains.proofs.all_cleared.Goals as goal
 
 pub returns-then-not-zeros_from : goal.returns-then-not-zeros_from

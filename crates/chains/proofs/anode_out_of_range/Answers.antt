@@ -2,7 +2,6 @@ use mathlib.Core.Path.{sym, ap, ◌∙◌}
 use mathlib.Core.Bool.{not}
 use Rattle.anodes.specs.Loaded.{anodes_from}
 use Rattle.chains.proofs.Laws.{cleared_range, used_range}
-use borrow.Author.Rules.{rules}
 use Rattle.chains.proofs.anode_out_of_range.Goals as goal
 
 pub returns-then-entry-eq0 : goal.returns-then-entry-eq0

@@ -1,9 +1,7 @@
-use Prim.Native.Nat.{◌≤◌, ◌<◌, ◌-◌}
+use Prim.Native.Nat.{◌-◌}
 use mathlib.Core.Path.{◌≡◌, sym}
 use native.Mathlib.Omega.{arith}
 use borrow.Author.Rules.{rules}
-use Rattle.rules.specs.Counting.{any_below}
-use Rattle.chains.specs.Endings.{unmarked}
 use Rattle.chains.proofs.Endings.{unmarked-first, unmarked_more}
 use Rattle.chains.proofs.any_unmarked.Goals as goal
 

@@ -1,10 +1,7 @@
 use Prim.Native.Nat.{◌≤◌, ◌<◌, ◌-◌}
-use mathlib.Core.Path.{◌≡◌, sym}
-use native.Mathlib.Omega.{arith}
-use borrow.Author.Rules.{rules}
+use mathlib.Core.Path.{◌≡◌}
 use Rattle.rules.specs.Counting.{any_below}
 use Rattle.chains.specs.Endings.{unmarked}
-use Rattle.chains.proofs.Endings.{unmarked-first, unmarked_more}
 use Rattle.chains.proofs.any_unmarked.Given as goal
 
 abbrev pub invariant-loop-a : goal.invariant-loop-a

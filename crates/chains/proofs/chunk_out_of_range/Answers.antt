@@ -1,7 +1,5 @@
 use mathlib.Core.Path.{sym}
-use borrow.Author.Rules.{rules}
 use Rattle.chains.proofs.Runs.{range_run}
-use borrow.Author.Rules.{rules}
 use Rattle.chains.proofs.chunk_out_of_range.Goals as goal
 
 pub returns-then-all_cleared : goal.returns-then-all_cleared

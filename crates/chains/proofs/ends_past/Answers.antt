@@ -1,6 +1,5 @@
 use native.Mathlib.Omega.{arith}
 use borrow.Author.Tests.{le-ltb, lt-ltb}
-use borrow.Author.Rules.{rules}
 use Rattle.chains.proofs.ends_past.Goals as goal
 
 pub returns-then-count-eq0 : goal.returns-then-count-eq0

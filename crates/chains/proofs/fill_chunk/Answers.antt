@@ -1,7 +1,5 @@
 use mathlib.Core.Path.{refl}
-use borrow.Author.Rules.{rules}
 use Rattle.chains.proofs.Runs.{filled-run}
-use borrow.Author.Rules.{rules}
 use Rattle.chains.proofs.fill_chunk.Goals as goal
 
 pub returns-then-zeros_from : goal.returns-then-zeros_from

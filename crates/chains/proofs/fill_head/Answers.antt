@@ -1,6 +1,5 @@
 use mathlib.Core.Path.{refl, sym, ◌∙◌}
 use native.Mathlib.Omega.{arith}
-use borrow.Author.Rules.{rules}
 use Rattle.chains.proofs.Filling.{head_at, fill_skip, fill_rest, fill_more}
 use Rattle.chains.proofs.fill_head.Goals as goal
 

@@ -1,10 +1,7 @@
-use Prim.Native.Nat.{◌+◌, ◌*◌, ◌≤◌, ◌<◌, ◌-◌}
-use mathlib.Core.Path.{◌≡◌, refl, ◌∙◌}
-use native.Mathlib.Omega.{arith}
+use Prim.Native.Nat.{◌*◌, ◌≤◌, ◌<◌, ◌-◌}
+use mathlib.Core.Path.{◌≡◌}
 use lib.ListN.{length, drop}
-use borrow.Author.Rules.{rules}
 use Rattle.chains.specs.Filling.{FilledBelow}
-use Rattle.chains.proofs.Filling.{fill_none, fill_done}
 use Rattle.chains.proofs.fill_heads.Given as goal
 
 abbrev pub invariant-loop-k : goal.invariant-loop-k

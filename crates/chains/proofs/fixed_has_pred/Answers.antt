@@ -3,7 +3,6 @@ use mathlib.Core.Bool.{not, ◌||◌}
 use lib.Dec.{eqb}
 use lib.ListN.{get_or}
 use borrow.Author.Tests.{eq-eqb, ne_eqb}
-use borrow.Author.Rules.{rules}
 use Rattle.chains.specs.Predecessors.{fixed_noted}
 use Rattle.chains.proofs.fixed_has_pred.Goals as goal
 

@@ -2,7 +2,6 @@ use mathlib.Core.Path.{sym}
 use borrow.Author.Tests.{eq-eqb, ne_eqb}
 use Rattle.rules.specs.Anodes.{is_free}
 use Rattle.anodes.specs.Loaded.{anodes_from}
-use borrow.Author.Rules.{rules}
 use Rattle.chains.proofs.is_cleared.Goals as goal
 
 pub returns-then-entry-ne0 : goal.returns-then-entry-ne0

@@ -1,6 +1,5 @@
 use mathlib.Core.Path.{sym}
 use borrow.Author.Tests.{eq-eqb, ne_eqb}
-use borrow.Author.Rules.{rules}
 use Rattle.chains.specs.Endings.{unmarked}
 use Rattle.chains.proofs.is_unmarked.Goals as goal
 

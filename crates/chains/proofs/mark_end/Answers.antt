@@ -1,5 +1,4 @@
 use mathlib.Core.Path.{sym, ◌∙◌}
-use borrow.Author.Rules.{rules}
 use Rattle.chains.proofs.Endings.{ends_skip, ends_more}
 use Rattle.chains.proofs.mark_end.Goals as goal
 

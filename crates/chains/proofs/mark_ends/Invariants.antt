@@ -1,10 +1,7 @@
-use Prim.Native.Nat.{◌+◌, ◌*◌, ◌≤◌, ◌-◌}
+use Prim.Native.Nat.{◌*◌, ◌≤◌, ◌-◌}
 use mathlib.Core.Path.{◌≡◌}
-use native.Mathlib.Omega.{arith}
 use lib.ListN.{length}
-use borrow.Author.Rules.{rules}
 use Rattle.chains.specs.Endings.{EndsBelow}
-use Rattle.chains.proofs.Endings.{ends_none}
 use Rattle.chains.proofs.mark_ends.Given as goal
 
 abbrev pub invariant-loop-k : goal.invariant-loop-k

@@ -1,9 +1,7 @@
-use Prim.Native.Nat.{◌≤◌, ◌-◌}
+use Prim.Native.Nat.{◌-◌}
 use mathlib.Core.Path.{◌≡◌}
 use native.Mathlib.Omega.{arith}
-use lib.ListN.{length}
 use borrow.Author.Rules.{rules}
-use Rattle.chains.specs.Endings.{EndsBelow}
 use Rattle.chains.proofs.mark_run.Goals as goal
 
 pub loop-a-init : goal.loop-a-init

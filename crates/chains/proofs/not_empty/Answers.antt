@@ -1,6 +1,5 @@
 use mathlib.Core.Path.{sym}
 use borrow.Author.Tests.{eq-eqb, ne_eqb}
-use borrow.Author.Rules.{rules}
 use Rattle.chains.proofs.not_empty.Goals as goal
 
 pub returns-then-entry-ne0 : goal.returns-then-entry-ne0

@@ -1,6 +1,4 @@
-use borrow.Author.Rules.{rules}
 use Rattle.chains.proofs.Runs.{noted_run}
-use borrow.Author.Rules.{rules}
 use Rattle.chains.proofs.note_chunk.Goals as goal
 
 pub returns-then-zeros_from : goal.returns-then-zeros_from

@@ -2,7 +2,6 @@ use Prim.Native.Nat.{◌<◌}
 use mathlib.Core.Path.{sym, ◌∙◌}
 use native.Mathlib.Omega.{arith}
 use lib.ListN.{length}
-use borrow.Author.Rules.{rules}
 use Rattle.chains.proofs.Predecessors.{noted_skip, noted_twice, noted_set}
 use Rattle.chains.proofs.note_pred.Goals as goal
 

@@ -1,13 +1,9 @@
-use Prim.Native.Nat.{◌+◌, ◌*◌, ◌≤◌, ◌-◌}
-use mathlib.Core.Path.{◌≡◌, sym, ◌∙◌}
+use Prim.Native.Nat.{◌*◌, ◌≤◌, ◌-◌}
+use mathlib.Core.Path.{◌≡◌}
 use mathlib.Core.Bool.{false}
-use native.Mathlib.Omega.{arith}
-use borrow.Author.Rules.{rules}
 use Rattle.rules.specs.Counting.{any_below}
 use Rattle.rules.specs.Accepted.{out_of_range}
 use Rattle.anodes.specs.Loaded.{anodes_from}
-use Rattle.counting.specs.Laws.{any_below-none}
-use Rattle.chains.proofs.Runs.{any_later}
 use Rattle.chains.proofs.out_of_range.Given as goal
 
 abbrev pub invariant-loop-k : goal.invariant-loop-k

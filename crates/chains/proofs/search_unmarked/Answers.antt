@@ -1,11 +1,9 @@
-use Prim.Native.Nat.{◌≤◌, ◌-◌}
+use Prim.Native.Nat.{◌-◌}
 use mathlib.Core.Path.{◌≡◌, sym, ◌∙◌}
 use mathlib.Core.Bool.{false}
 use native.Mathlib.Omega.{arith}
 use borrow.Author.Rules.{rules}
-use Rattle.rules.specs.Counting.{any_below}
 use Rattle.counting.specs.Laws.{any_below-none, any_below_more, any_below_hit}
-use Rattle.chains.specs.Endings.{unmarked}
 use Rattle.chains.proofs.search_unmarked.Goals as goal
 
 pub loop-a-init : goal.loop-a-init

@@ -1,4 +1,3 @@
-use borrow.Author.Rules.{rules}
 use Rattle.chains.proofs.Endings.{ends_of}
 use Rattle.chains.proofs.some_endless.Goals as goal
 

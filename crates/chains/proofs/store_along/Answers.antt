@@ -1,9 +1,7 @@
 use Prim.Native.Nat.{◌-◌}
-use mathlib.Core.Path.{◌≡◌, sym, ◌∙◌}
+use mathlib.Core.Path.{sym, ◌∙◌}
 use native.Mathlib.Omega.{arith}
-use lib.ListN.{length}
 use borrow.Author.Rules.{rules}
-use Rattle.chains.specs.Storing.{stored_along}
 use Rattle.chains.proofs.Storing.{stored-none, stored-end, stored_step}
 use Rattle.chains.proofs.store_along.Goals as goal
 

@@ -1,10 +1,7 @@
 use Prim.Native.Nat.{◌-◌}
-use mathlib.Core.Path.{◌≡◌, sym, ◌∙◌}
-use native.Mathlib.Omega.{arith}
+use mathlib.Core.Path.{◌≡◌}
 use lib.ListN.{length}
-use borrow.Author.Rules.{rules}
 use Rattle.chains.specs.Storing.{stored_along}
-use Rattle.chains.proofs.Storing.{stored-none, stored-end, stored_step}
 use Rattle.chains.proofs.store_along.Given as goal
 
 abbrev pub invariant-loop-fuel : goal.invariant-loop-fuel

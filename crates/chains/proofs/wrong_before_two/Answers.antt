@@ -1,10 +1,8 @@
 use Prim.Native.Nat.{◌-◌}
 use mathlib.Core.Path.{◌≡◌, sym, ◌∙◌}
 use native.Mathlib.Omega.{arith}
-use borrow.Author.Rules.{rules}
 use Rattle.rules.specs.Accepted.{not_above}
 use Rattle.anodes.specs.Loaded.{anodes_from}
-use Rattle.chains.specs.FreeList.{wrong_before}
 use Rattle.chains.proofs.FreeList.{before-none, before-end, before-two, before_hit, before_step}
 use Rattle.chains.proofs.wrong_before_two.Goals as goal
 

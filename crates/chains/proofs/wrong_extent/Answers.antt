@@ -3,7 +3,6 @@ use mathlib.Core.Bool.{not, ◌&&◌, ◌||◌}
 use lib.Dec.{eqb}
 use lib.ListN.{get_or}
 use borrow.Author.Tests.{eq-eqb, ne_eqb}
-use borrow.Author.Rules.{rules}
 use Rattle.rules.specs.Accepted.{wrong_extent}
 use Rattle.anodes.specs.Loaded.{anodes_from}
 use Rattle.chains.proofs.wrong_extent.Goals as goal

@@ -1,7 +1,6 @@
 use mathlib.Core.Path.{◌≡◌, sym, ◌∙◌}
 use mathlib.Core.Bool.{◌||◌}
 use borrow.Author.Tests.{eq-eqb, ne_eqb}
-use borrow.Author.Rules.{rules}
 use Rattle.rules.specs.Anodes.{is_free}
 use Rattle.rules.specs.Accepted.{wrong_fixed}
 use Rattle.anodes.specs.Loaded.{anodes_from}

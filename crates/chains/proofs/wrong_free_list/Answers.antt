@@ -1,5 +1,4 @@
 use mathlib.Core.Path.{sym, ◌∙◌}
-use borrow.Author.Rules.{rules}
 use Rattle.chains.proofs.FreeList.{free_list}
 use Rattle.chains.proofs.wrong_free_list.Goals as goal
 

@@ -1,13 +1,9 @@
 use Prim.Native.Nat.{◌-◌}
-use mathlib.Core.Path.{◌≡◌, sym, ◌∙◌}
-use mathlib.Core.Bool.{true, false}
-use native.Mathlib.Omega.{arith}
-use borrow.Author.Rules.{rules}
+use mathlib.Core.Path.{◌≡◌}
 use Rattle.rules.specs.Counting.{any_in}
 use Rattle.rules.specs.Chains.{chain_of}
 use Rattle.rules.specs.Accepted.{not_up_to}
 use Rattle.anodes.specs.Loaded.{anodes_from}
-use Rattle.chains.proofs.FreeList.{any_none, any_end, any_step}
 use Rattle.chains.proofs.wrong_from_two.Given as goal
 
 abbrev pub invariant-loop-fuel : goal.invariant-loop-fuel

@@ -6,21 +6,12 @@ use Prim.Native.Nat.{ℕ, ◌+◌, ◌-◌, ◌*◌}
 use mathlib.Core.Path.{◌≡◌, refl, sym, ◌∙◌}
 use mathlib.Core.List.{List}
 use native.Mathlib.Omega.{arith}
-use lib.ListN.{length}
 use Rattle.directory.specs.Entries.{name_in}
-use Rattle.rules.specs.Counting.{gather}
 use Rattle.rules.specs.Anodes.{anodes_of}
-use Rattle.rules.specs.Walk.{Entered, with_rest, entries_from, entries_in}
-use Rattle.rules.specs.Lookup.{entries_of}
+use Rattle.rules.specs.Walk.{with_rest, entries_from}
 use Rattle.laws.specs.Entries.{entries_none, block_whole, entries_read, read_within}
 use Rattle.lookup.proofs.Laws.{unbroken_no_fault}
-use Rattle.counterparts.specs.declared.Span.{Span}
-use Rattle.counterparts.specs.Spans.{SpanOf, HeadsDirectory}
-use Rattle.differences.specs.Pairs.{Pairs, pairs_of, paired_all, entry_difference}
-use Rattle.differences.specs.Handing.{Handing, hand_all}
-use Rattle.handing.specs.Differs.{handing_with}
 use Rattle.unmet_entries.specs.Along.{hand_no_entries, hand_found}
-use Rattle.comparing.specs.Walked.{ReadableEntries}
 use Rattle.comparing.proofs.Laws.{pair_step, difference_step, entry_here, found_readable, readable_here, readable_rest, pairs_none, pairs_found}
 use borrow.Author.Rules.{rules}
 use Rattle.comparing.proofs.compare_block.Goals as goal
@@ -31,7 +22,7 @@ loop-fuel-init c = let whole = block_whole _ _ _ c.block_part-block.ensures in (
 pub returns-in-End : goal.returns-in-End
 returns-in-End c = let read : let l = c.loop-fuel in let block = c.block_part-block.result.now in let y = c.args.b.0 in entries_from l.fuel block y l.at ≡ with_rest c.read_entry-read.result.walked (name_in block l.at) (y * 512 + l.at) (entries_from (l.fuel - 1) block y c.read_entry-read.result.after) = entries_read _ _ _ c.read_entry-read.ensures _ c.loop-fuel.fuel (c.loop-fuel.fuel - 1) (omega arith) in
     let i = c.loop-fuel.invariant.4 c.args.p.0 c.requires.span_of c.requires.loaded_2.1 in
-    record { pairs = sym (pairs_none _ _ _ _ (read ∙ rw c.in-End.is)) ∙ i.0; differences = sym (hand_no_entries _ _ _ (read ∙ rw c.in-End.is)) ∙ i.1; }
+    record { pairs = sym (pairs_none _ _ _ _ (read ∙ rw c.in-End.is)) ∙ i.0; differences = sym (hand_no_entries _ _ _ (read ∙ rw c.in-End.is)) ∙ i.1 }
 
 pub returns-in-Fault : goal.returns-in-Fault
 returns-in-Fault c = let read : let l = c.loop-fuel in let block = c.block_part-block.result.now in let y = c.args.b.0 in entries_from l.fuel block y l.at ≡ with_rest c.read_entry-read.result.walked (name_in block l.at) (y * 512 + l.at) (entries_from (l.fuel - 1) block y c.read_entry-read.result.after) = entries_read _ _ _ c.read_entry-read.ensures _ c.loop-fuel.fuel (c.loop-fuel.fuel - 1) (omega arith) in
@@ -54,7 +45,7 @@ compare_entry-after-requires c = let read : let l = c.loop-fuel in let block = c
     let e = c.in-Found.e in
     let here = c.entry_in_image-here.ensures in
     let same = entry_here a.image.now a.b.0 _ l.at e c.block_part-block.ensures within in
-    record { loaded = (c.requires.loaded.0, rw here (rw same (readable_here _ _ _ _ _ e c.in-Found.is (rw read at l.invariant.3)))); loaded_2 = (c.requires.loaded_2.0, λ x is. found_readable a.other.now a.p.0 c.requires.loaded_2.1 _ x (sym (c.find_counterpart-found.ensures a.p.0 c.requires.span_of c.requires.loaded_2.1) ∙ is)); }
+    record { loaded = (c.requires.loaded.0, rw here (rw same (readable_here _ _ _ _ _ e c.in-Found.is (rw read at l.invariant.3)))); loaded_2 = (c.requires.loaded_2.0, λ x is. found_readable a.other.now a.p.0 c.requires.loaded_2.1 _ x (sym (c.find_counterpart-found.ensures a.p.0 c.requires.span_of c.requires.loaded_2.1) ∙ is)) }
 
 pub overflow_sub-fuel : goal.overflow_sub-fuel
 overflow_sub-fuel c = omega (arith, c.loop-fuel-test.true)
@@ -88,4 +79,4 @@ loop-fuel-preserved c = let read : let l = c.loop-fuel in let block = c.block_pa
 pub returns : goal.returns
 returns c = let i = c.loop-fuel.invariant.4 c.args.p.0 c.requires.span_of c.requires.loaded_2.1 in
     let done = entries_none _ _ c.loop-fuel.fuel _ (omega arith) in
-    record { pairs = sym (pairs_none _ _ _ _ done) ∙ i.0; differences = sym (hand_no_entries _ _ _ done) ∙ i.1; }
+    record { pairs = sym (pairs_none _ _ _ _ done) ∙ i.0; differences = sym (hand_no_entries _ _ _ done) ∙ i.1 }

@@ -1,28 +1,15 @@
-use mathlib.Core.Path.{ap}
-use Rattle.rules.specs.Lookup.{entry_named}
-use Rattle.lookup.specs.Answers.{entered}
-use Rattle.laws.specs.Entries.{entered_at}
-use Prim.Native.Nat.{ℕ, ◌+◌, ◌-◌, ◌*◌}
-use mathlib.Core.Path.{◌≡◌, refl, sym, ◌∙◌}
-use mathlib.Core.List.{List}
-use native.Mathlib.Omega.{arith}
+use Prim.Native.Nat.{ℕ, ◌-◌}
+use mathlib.Core.Path.{◌≡◌}
 use lib.ListN.{length}
-use Rattle.directory.specs.Entries.{name_in}
 use Rattle.rules.specs.Counting.{gather}
 use Rattle.rules.specs.Anodes.{anodes_of}
-use Rattle.rules.specs.Walk.{Entered, with_rest, entries_from, entries_in}
+use Rattle.rules.specs.Walk.{entries_from, entries_in}
 use Rattle.rules.specs.Lookup.{entries_of}
-use Rattle.laws.specs.Entries.{entries_none, block_whole, entries_read, read_within}
-use Rattle.lookup.proofs.Laws.{unbroken_no_fault}
-use Rattle.counterparts.specs.declared.Span.{Span}
 use Rattle.counterparts.specs.Spans.{SpanOf, HeadsDirectory}
-use Rattle.differences.specs.Pairs.{Pairs, pairs_of, paired_all, entry_difference}
-use Rattle.differences.specs.Handing.{Handing, hand_all}
+use Rattle.differences.specs.Pairs.{pairs_of, paired_all, entry_difference}
+use Rattle.differences.specs.Handing.{hand_all}
 use Rattle.handing.specs.Differs.{handing_with}
-use Rattle.unmet_entries.specs.Along.{hand_no_entries, hand_found}
 use Rattle.comparing.specs.Walked.{ReadableEntries}
-use Rattle.comparing.proofs.Laws.{pair_step, difference_step, entry_here, found_readable, readable_here, readable_rest, pairs_none, pairs_found}
-use borrow.Author.Rules.{rules}
 use Rattle.comparing.proofs.compare_block.Given as goal
 
 abbrev pub invariant-loop-fuel : goal.invariant-loop-fuel

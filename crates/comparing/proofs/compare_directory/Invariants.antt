@@ -1,16 +1,12 @@
 use Prim.Native.Nat.{◌-◌}
-use mathlib.Core.Path.{◌≡◌, refl, sym, ◌∙◌}
-use native.Mathlib.Omega.{arith}
+use mathlib.Core.Path.{◌≡◌}
 use lib.ListN.{length}
 use Rattle.rules.specs.Counting.{gather}
 use Rattle.lookup.proofs.Laws.{entries_along}
 use Rattle.differences.specs.Pairs.{pairs_of, paired_all, entry_difference}
 use Rattle.differences.specs.Handing.{hand_all}
 use Rattle.handing.specs.Differs.{handing_with}
-use Rattle.unmet_entries.specs.Along.{hand_chain-end, hand_chain-none, hand_chain_step}
 use Rattle.comparing.specs.Walked.{ReadableEntries}
-use Rattle.comparing.proofs.Laws.{readable_block, readable_behind, along_loaded, pairs_chain-end, pairs_chain-none, pairs_chain_step}
-use borrow.Author.Rules.{rules}
 use Rattle.comparing.proofs.compare_directory.Given as goal
 
 abbrev pub invariant-loop-fuel : goal.invariant-loop-fuel

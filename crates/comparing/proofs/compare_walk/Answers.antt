@@ -1,17 +1,10 @@
-use Prim.Native.Nat.{ℕ, ◌-◌, ◌≤◌}
-use mathlib.Core.Path.{◌≡◌, refl, sym, ap, ◌∙◌}
-use mathlib.Core.List.{List}
+use Prim.Native.Nat.{ℕ, ◌-◌}
+use mathlib.Core.Path.{refl, ap, ◌∙◌}
 use native.Mathlib.Omega.{arith}
-use lib.ListN.{length, get_or}
-use Rattle.rules.specs.Anodes.{anodes_of}
-use Rattle.rules.specs.Walk.{reached_dirs}
-use Rattle.names.specs.Index.{Indexed}
+use lib.ListN.{get_or}
 use Rattle.change_laws.specs.Image.{accepted_own}
-use Rattle.walk_steps.specs.Steps.{queue_of}
-use Rattle.differences.specs.Pairs.{pairs_of}
-use Rattle.handing.specs.Differs.{handing_with}
 use Rattle.comparing.proofs.Laws.{directory_readable}
-use Rattle.comparing.proofs.WalkedTo.{WalkedTo, walked_none, walked_reached, walked_partner, walked_more, walked_pairs, walked_rest}
+use Rattle.comparing.proofs.WalkedTo.{walked_none, walked_reached, walked_partner, walked_more, walked_pairs, walked_rest}
 use borrow.Author.Rules.{rules}
 use Rattle.comparing.proofs.compare_walk.Goals as goal
 
@@ -27,7 +20,7 @@ pub compare_directory-after-requires : goal.compare_directory-after-requires
 compare_directory-after-requires c = let g = c.loop-i.invariant.6 c.requires.open_walk.0 c.requires.open_walk.2.queued in
     let l = c.loop-i-test.true in
     let a = accepted_own _ c.requires.open_walk.2.loaded.accepted in
-    record { loaded = (c.requires.open_walk.2.loaded, rw c.entry.ensures (directory_readable (walked_reached g l a))); loaded_2 = (c.requires.loaded.0, rw (c.entry-in-loop-i.ensures, c.entry.ensures) (walked_partner g l a (accepted_own _ c.requires.loaded.0.accepted))); span_of = c.open_directory-span.ensures; }
+    record { loaded = (c.requires.open_walk.2.loaded, rw c.entry.ensures (directory_readable (walked_reached g l a))); loaded_2 = (c.requires.loaded.0, rw (c.entry-in-loop-i.ensures, c.entry.ensures) (walked_partner g l a (accepted_own _ c.requires.loaded.0.accepted))); span_of = c.open_directory-span.ensures }
 
 pub overflow_add-i : goal.overflow_add-i
 overflow_add-i c = omega (arith, c.loop-i-test.true, c.ranges.dirs)
@@ -50,4 +43,4 @@ loop-i-preserved c = let l = c.loop-i in
 
 pub returns : goal.returns
 returns c = let g = c.loop-i.invariant.6 c.requires.open_walk.0 c.requires.open_walk.2.queued in
-    record { pairs = walked_pairs g (omega (arith, c.loop-i-test.false)); differences = walked_rest g (omega (arith, c.loop-i-test.false)); }
+    record { pairs = walked_pairs g (omega (arith, c.loop-i-test.false)); differences = walked_rest g (omega (arith, c.loop-i-test.false)) }

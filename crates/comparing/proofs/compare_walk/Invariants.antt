@@ -1,18 +1,14 @@
 use Prim.Native.Nat.{ℕ, ◌-◌, ◌≤◌}
-use mathlib.Core.Path.{◌≡◌, refl, sym, ap, ◌∙◌}
+use mathlib.Core.Path.{◌≡◌}
 use mathlib.Core.List.{List}
-use native.Mathlib.Omega.{arith}
-use lib.ListN.{length, get_or}
+use lib.ListN.{length}
 use Rattle.rules.specs.Anodes.{anodes_of}
 use Rattle.rules.specs.Walk.{reached_dirs}
 use Rattle.names.specs.Index.{Indexed}
-use Rattle.change_laws.specs.Image.{accepted_own}
 use Rattle.walk_steps.specs.Steps.{queue_of}
 use Rattle.differences.specs.Pairs.{pairs_of}
 use Rattle.handing.specs.Differs.{handing_with}
-use Rattle.comparing.proofs.Laws.{directory_readable}
-use Rattle.comparing.proofs.WalkedTo.{WalkedTo, walked_none, walked_reached, walked_partner, walked_more, walked_pairs, walked_rest}
-use borrow.Author.Rules.{rules}
+use Rattle.comparing.proofs.WalkedTo.{WalkedTo}
 use Rattle.comparing.proofs.compare_walk.Given as goal
 
 abbrev pub invariant-loop-i : goal.invariant-loop-i

@@ -1,14 +1,11 @@
-use Prim.Native.Nat.{ℕ}
-use mathlib.Core.Path.{◌≡◌, refl, sym, ap, ◌∙◌}
-use mathlib.Core.List.{List}
+use mathlib.Core.Path.{refl}
 use Rattle.names.proofs.Laws.{indexed_none}
 use Rattle.find.proofs.Laws.{queued-reached, open_unbroken}
 use Rattle.comparing.proofs.Whole.{handed_whole}
-use borrow.Author.Rules.{rules}
 use Rattle.comparing.proofs.hand_differences.Goals as goal
 
 pub compare_walk-c-requires : goal.compare_walk-c-requires
-compare_walk-c-requires c = record { open_walk = c.requires.open_walk; loaded = (c.requires.open_walk_2.2.loaded, indexed_none _); met_value = refl; }
+compare_walk-c-requires c = record { open_walk = c.requires.open_walk; loaded = (c.requires.open_walk_2.2.loaded, indexed_none _); met_value = refl }
 
 pub hand_unmet-requires : goal.hand_unmet-requires
 hand_unmet-requires c = λ i l. let o = c.requires.open_walk_2.2 in open_unbroken o _ (queued-reached o i l)

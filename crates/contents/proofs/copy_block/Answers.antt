@@ -1,6 +1,5 @@
 use Rattle.disk.specs.Blocks.{block_of}
 use Rattle.contents.proofs.Copying.{block_skipped, block_behind}
-use borrow.Author.Rules.{rules}
 use Rattle.contents.proofs.copy_block.Goals as goal
 
 pub returns-then-len-c : goal.returns-then-len-c

@@ -1,8 +1,6 @@
-use mathlib.Core.Path.{◌≡◌, refl, ◌∙◌}
-use mathlib.Core.List.{List, ◌++◌}
-use Prim.Native.Nat.{ℕ, ◌-◌}
-use lib.ListN.{length, drop, length-set}
-use Rattle.contents.specs.Copied.{filled}
+use mathlib.Core.Path.{refl, ◌∙◌}
+use Prim.Native.Nat.{◌-◌}
+use lib.ListN.{length-set}
 use Rattle.contents.proofs.Copying.{filled_any, filled_byte, filled-done}
 use borrow.Author.Rules.{rules}
 use Rattle.contents.proofs.copy_bytes.Goals as goal

@@ -1,10 +1,8 @@
-use mathlib.Core.Path.{◌≡◌, refl, ◌∙◌}
+use mathlib.Core.Path.{◌≡◌}
 use mathlib.Core.List.{List, ◌++◌}
 use Prim.Native.Nat.{ℕ, ◌-◌}
-use lib.ListN.{length, drop, length-set}
+use lib.ListN.{length, drop}
 use Rattle.contents.specs.Copied.{filled}
-use Rattle.contents.proofs.Copying.{filled_any, filled_byte, filled-done}
-use borrow.Author.Rules.{rules}
 use Rattle.contents.proofs.copy_bytes.Given as goal
 
 abbrev pub invariant-loop-j : goal.invariant-loop-j

@@ -2,7 +2,7 @@ use mathlib.Core.List.{◌++◌}
 use mathlib.Core.Path.{◌≡◌, refl, sym, ◌∙◌}
 use Prim.Native.Nat.{◌-◌}
 use native.Mathlib.Omega.{arith}
-use lib.ListN.{length, get_or, take, drop}
+use lib.ListN.{get_or}
 use Rattle.disk.specs.Blocks.{block_of}
 use Rattle.rules.specs.Counting.{gather}
 use Rattle.rules.specs.Chains.{run}
@@ -11,7 +11,6 @@ use Rattle.anodes.specs.Loaded.{anodes_from}
 use Rattle.laws.specs.Chains.{gathered_none, gathered_end, gathered_step}
 use Rattle.laws.specs.Bags.{gather_append}
 use Rattle.laws.specs.ChainBlocks.{extent, blocks_of_extents, blocks_from}
-use Rattle.contents.specs.Copied.{filled}
 use Rattle.contents.proofs.Copying.{part_length, filled-start, filled-full, filled-end}
 use borrow.Author.Rules.{rules}
 use Rattle.contents.proofs.copy_out.Goals as goal

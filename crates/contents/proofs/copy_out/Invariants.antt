@@ -1,19 +1,12 @@
-use mathlib.Core.List.{◌++◌}
-use mathlib.Core.Path.{◌≡◌, refl, sym, ◌∙◌}
+use mathlib.Core.Path.{◌≡◌}
 use Prim.Native.Nat.{◌-◌}
-use native.Mathlib.Omega.{arith}
-use lib.ListN.{length, get_or, take, drop}
+use lib.ListN.{length, take, drop}
 use Rattle.disk.specs.Blocks.{block_of}
 use Rattle.rules.specs.Counting.{gather}
-use Rattle.rules.specs.Chains.{run}
 use Rattle.rules.specs.Lookup.{bytes_of}
 use Rattle.anodes.specs.Loaded.{anodes_from}
-use Rattle.laws.specs.Chains.{gathered_none, gathered_end, gathered_step}
-use Rattle.laws.specs.Bags.{gather_append}
-use Rattle.laws.specs.ChainBlocks.{extent, blocks_of_extents, blocks_from}
+use Rattle.laws.specs.ChainBlocks.{blocks_from}
 use Rattle.contents.specs.Copied.{filled}
-use Rattle.contents.proofs.Copying.{part_length, filled-start, filled-full, filled-end}
-use borrow.Author.Rules.{rules}
 use Rattle.contents.proofs.copy_out.Given as goal
 
 abbrev pub invariant-loop-fuel : goal.invariant-loop-fuel

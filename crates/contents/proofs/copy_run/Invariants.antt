@@ -1,15 +1,11 @@
-use mathlib.Core.Path.{◌≡◌, refl, ◌∙◌}
-use mathlib.Core.List.{List, ◌++◌, append_assoc}
+use mathlib.Core.Path.{◌≡◌}
+use mathlib.Core.List.{List, ◌++◌}
 use Prim.Native.Nat.{ℕ, ◌+◌, ◌-◌, ◌≤◌}
-use native.Mathlib.Omega.{arith}
 use lib.ListN.{length, drop}
 use Rattle.disk.specs.Blocks.{block_of}
 use Rattle.rules.specs.Counting.{gather}
 use Rattle.rules.specs.Chains.{run}
 use Rattle.contents.specs.Copied.{filled}
-use Rattle.laws.specs.Chains.{run_none, run_step}
-use Rattle.contents.proofs.Copying.{filled_any}
-use borrow.Author.Rules.{rules}
 use Rattle.contents.proofs.copy_run.Given as goal
 
 abbrev pub invariant-loop-i : goal.invariant-loop-i

@@ -1,15 +1,12 @@
-use mathlib.Core.Path.{◌≡◌, refl, sym, ◌∙◌}
-use Prim.Native.Nat.{◌+◌, ◌-◌}
-use native.Mathlib.Omega.{arith}
-use lib.ListN.{length, get_or, drop}
+use mathlib.Core.Path.{◌≡◌}
+use Prim.Native.Nat.{◌-◌}
+use lib.ListN.{length, drop}
 use Rattle.rules.specs.Walk.{Entered}
 use Rattle.rules.specs.Changes.{written}
 use Rattle.anodes.specs.Loaded.{anodes_from}
-use Rattle.laws.specs.Chains.{gathered_none, gathered_end, gathered_step, Inside}
-use Rattle.laws.specs.ChainBlocks.{extent, blocks_of_extents, blocks_from}
+use Rattle.laws.specs.Chains.{Inside}
+use Rattle.laws.specs.ChainBlocks.{blocks_from}
 use Rattle.contents.specs.Written.{written_over}
-use Rattle.contents.proofs.Writing.{over_empty, over_done, over_written, along_inside}
-use borrow.Author.Rules.{rules}
 use Rattle.contents.proofs.write_along.Given as goal
 
 abbrev pub invariant-loop-fuel : goal.invariant-loop-fuel

@@ -1,5 +1,4 @@
 use Rattle.contents.proofs.Writing.{over_skipped, over_stored}
-use borrow.Author.Rules.{rules}
 use Rattle.contents.proofs.write_block.Goals as goal
 
 pub returns-then-c-ge512 : goal.returns-then-c-ge512

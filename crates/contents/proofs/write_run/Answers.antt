@@ -1,11 +1,9 @@
 use mathlib.Core.Path.{◌≡◌, refl, sym, ◌∙◌}
-use mathlib.Core.List.{List, ◌++◌}
-use Prim.Native.Nat.{ℕ, ◌+◌, ◌-◌, ◌≤◌}
+use mathlib.Core.List.{◌++◌}
+use Prim.Native.Nat.{◌+◌, ◌-◌}
 use native.Mathlib.Omega.{arith}
-use lib.ListN.{length, drop}
 use Rattle.rules.specs.Chains.{run}
-use Rattle.laws.specs.Chains.{run_none, run_step, Inside}
-use Rattle.contents.specs.Written.{written_over}
+use Rattle.laws.specs.Chains.{run_none, run_step}
 use Rattle.contents.proofs.Writing.{over_done, first_inside, rest_inside}
 use borrow.Author.Rules.{rules}
 use Rattle.contents.proofs.write_run.Goals as goal

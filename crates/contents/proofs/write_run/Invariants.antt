@@ -1,13 +1,10 @@
-use mathlib.Core.Path.{◌≡◌, refl, sym, ◌∙◌}
+use mathlib.Core.Path.{◌≡◌}
 use mathlib.Core.List.{List, ◌++◌}
 use Prim.Native.Nat.{ℕ, ◌+◌, ◌-◌, ◌≤◌}
-use native.Mathlib.Omega.{arith}
 use lib.ListN.{length, drop}
 use Rattle.rules.specs.Chains.{run}
-use Rattle.laws.specs.Chains.{run_none, run_step, Inside}
+use Rattle.laws.specs.Chains.{Inside}
 use Rattle.contents.specs.Written.{written_over}
-use Rattle.contents.proofs.Writing.{over_done, first_inside, rest_inside}
-use borrow.Author.Rules.{rules}
 use Rattle.contents.proofs.write_run.Given as goal
 
 abbrev pub invariant-loop-i : goal.invariant-loop-i

@@ -1,10 +1,7 @@
 use Prim.Native.Nat.{◌+◌, ◌-◌}
-use mathlib.Core.Path.{◌≡◌, ap}
-use native.Mathlib.Omega.{arith}
+use mathlib.Core.Path.{◌≡◌}
 use lib.ListN.{length, get_or}
 use Rattle.rules.specs.Chains.{chain_of}
-use Rattle.laws.specs.Chains.{chain-none, chain-end, chain_step}
-use borrow.Author.Rules.{rules}
 use Rattle.counterparts.proofs.chain_length.Given as goal
 
 abbrev pub invariant-loop-fuel : goal.invariant-loop-fuel

@@ -1,6 +1,5 @@
 use mathlib.Core.Path.{sym, ◌∙◌}
 use Rattle.counterparts.proofs.Found.{named_missing, number_found}
-use borrow.Author.Rules.{rules}
 use Rattle.counterparts.proofs.find_counterpart.Goals as goal
 
 pub returns-then-last-eq0 : goal.returns-then-last-eq0

@@ -3,8 +3,7 @@ use Rattle.rules.specs.Walk.{entries_in}
 use Prim.Native.Nat.{◌-◌}
 use native.Mathlib.Omega.{arith}
 use Rattle.lookup.proofs.Laws.{entries_along, along_whole, along, unbroken_along}
-use Rattle.counterparts.proofs.Laws.{Filling, filling_start, filling_done, filling_room, filling_next, along_none, along_end}
-use borrow.Author.Rules.{rules}
+use Rattle.counterparts.proofs.Laws.{filling_start, filling_done, filling_room, filling_next, along_none, along_end}
 use Rattle.counterparts.proofs.index_directory.Goals as goal
 
 pub loop-fuel-init : goal.loop-fuel-init

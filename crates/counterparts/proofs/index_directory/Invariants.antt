@@ -1,10 +1,6 @@
-use lib.ListN.{get_or}
-use Rattle.rules.specs.Walk.{entries_in}
 use Prim.Native.Nat.{◌-◌}
-use native.Mathlib.Omega.{arith}
-use Rattle.lookup.proofs.Laws.{entries_along, along_whole, along, unbroken_along}
-use Rattle.counterparts.proofs.Laws.{Filling, filling_start, filling_done, filling_room, filling_next, along_none, along_end}
-use borrow.Author.Rules.{rules}
+use Rattle.lookup.proofs.Laws.{entries_along}
+use Rattle.counterparts.proofs.Laws.{Filling}
 use Rattle.counterparts.proofs.index_directory.Given as goal
 
 abbrev pub invariant-loop-fuel : goal.invariant-loop-fuel

@@ -2,7 +2,6 @@ use mathlib.Core.Path.{ap}
 use mathlib.Core.Option.{some}
 use Rattle.rules.specs.Walk.{Entered}
 use Rattle.counterparts.proofs.Found.{stands_read}
-use borrow.Author.Rules.{rules}
 use Rattle.counterparts.proofs.indexed_entry.Goals as goal
 
 pub returns : goal.returns

@@ -1,6 +1,5 @@
 use Rattle.counterparts.proofs.Laws.{added_span}
 use Rattle.counterparts.proofs.Fits.{headed_unbroken, loaded_entries, room_for}
-use borrow.Author.Rules.{rules}
 use Rattle.counterparts.proofs.open_directory.Goals as goal
 
 pub index_directory-upto-requires : goal.index_directory-upto-requires

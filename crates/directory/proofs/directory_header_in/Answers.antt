@@ -1,5 +1,4 @@
 use Rattle.directory.specs.Entries.{directory_header_in}
-use borrow.Author.Rules.{rules}
 use Rattle.directory.proofs.directory_header_in.Goals as goal
 
 pub returns : goal.returns

@@ -1,8 +1,7 @@
 use mathlib.Core.Path.{◌≡◌, sym, ◌∙◌}
-use borrow.Author.Tests.{eq-eqb, ne_eqb, not-true, not-false}
+use borrow.Author.Tests.{eq-eqb, ne_eqb}
 use lib.ListN.{get_or-eq_default}
 use Rattle.directory.specs.Entries.{entry_in, walked_kind, walked_at}
-use borrow.Author.Rules.{rules}
 use Rattle.directory.proofs.entry_at.Goals as goal
 
 pub returns-then-block-at : goal.returns-then-block-at

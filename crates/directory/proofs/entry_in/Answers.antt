@@ -1,5 +1,4 @@
 use Rattle.directory.specs.Entries.{name_length, comment_length, entry_in}
-use borrow.Author.Rules.{rules}
 use Rattle.directory.proofs.entry_in.Goals as goal
 
 pub returns : goal.returns

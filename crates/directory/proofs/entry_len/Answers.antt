@@ -1,6 +1,5 @@
 use mathlib.Core.Path.{refl}
 use Rattle.directory.specs.Entries.{entry_length}
-use borrow.Author.Rules.{rules}
 use Rattle.directory.proofs.entry_len.Goals as goal
 
 pub returns : goal.returns

@@ -6,7 +6,6 @@ use lib.ListN.{get_or, take, drop}
 use native.Mathlib.Omega.{arith}
 use borrow.Author.Tests.{le-leb, lt-leb, eq-eqb, ne_eqb}
 use Rattle.directory.specs.Entries.{good_name, name_length, comment_length, name_in, entry_shaped}
-use borrow.Author.Rules.{rules}
 use Rattle.directory.proofs.entry_ok.Goals as goal
 
 pub overflow_cast-len : goal.overflow_cast-len

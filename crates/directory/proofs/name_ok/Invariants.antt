@@ -1,11 +1,7 @@
-use mathlib.Core.Path.{◌≡◌, sym, ◌∙◌}
-use mathlib.Core.Bool.{◌&&◌}
-use Prim.Native.Nat.{◌+◌, ◌-◌, ◌≤◌}
-use borrow.Author.Tests.{le-leb, lt-leb, not-true, not-false}
+use mathlib.Core.Path.{◌≡◌}
+use Prim.Native.Nat.{◌-◌, ◌≤◌}
 use lib.ListN.{length, drop}
 use Rattle.directory.specs.Entries.{good_name_byte, all_bytes, good_name}
-use Rattle.directory.proofs.Laws.{all_bytes_step, all_bytes-end, good_name-bytes}
-use borrow.Author.Rules.{rules}
 use Rattle.directory.proofs.name_ok.Given as goal
 
 abbrev pub invariant-loop-i : goal.invariant-loop-i

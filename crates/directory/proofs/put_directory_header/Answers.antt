@@ -1,5 +1,4 @@
 use Rattle.directory.specs.Entries.{put_directory_header}
-use borrow.Author.Rules.{rules}
 use Rattle.directory.proofs.put_directory_header.Goals as goal
 
 pub returns : goal.returns

@@ -1,10 +1,7 @@
-use mathlib.Core.Path.{ap, ◌∙◌}
 use Prim.Native.Nat.{◌+◌, ◌≤◌}
 use native.Mathlib.Omega.{arith}
-use lib.ListN.{length}
 use Rattle.directory.specs.Entries.{entry_length}
-use Rattle.directory.proofs.Laws.{put_entry_stores, length-put_entry}
-use borrow.Author.Rules.{rules}
+use Rattle.directory.proofs.Laws.{put_entry_stores}
 use Rattle.directory.proofs.put_entry.Goals as goal
 
 pub overflow_add-at-7 : goal.overflow_add-at-7

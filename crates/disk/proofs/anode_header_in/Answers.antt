@@ -1,5 +1,4 @@
 use Rattle.disk.specs.AnodeBlocks.{anode_header_in}
-use borrow.Author.Rules.{rules}
 use Rattle.disk.proofs.anode_header_in.Goals as goal
 
 pub returns : goal.returns

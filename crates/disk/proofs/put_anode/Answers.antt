@@ -1,5 +1,4 @@
 use Rattle.disk.specs.AnodeBlocks.{put_anode}
-use borrow.Author.Rules.{rules}
 use Rattle.disk.proofs.put_anode.Goals as goal
 
 pub returns : goal.returns

@@ -1,5 +1,4 @@
 use Rattle.disk.specs.Root.{put_root}
-use borrow.Author.Rules.{rules}
 use Rattle.disk.proofs.put_root.Goals as goal
 
 pub returns : goal.returns

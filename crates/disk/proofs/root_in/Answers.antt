@@ -1,5 +1,4 @@
 use Rattle.disk.specs.Root.{root_in}
-use borrow.Author.Rules.{rules}
 use Rattle.disk.proofs.root_in.Goals as goal
 
 pub returns : goal.returns

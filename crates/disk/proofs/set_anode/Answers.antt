@@ -4,7 +4,6 @@ use Prim.Native.Nat.{ℕ, ◌%◌}
 use native.Mathlib.Omega.{arith}
 use Rattle.disk.specs.AnodeBlocks.{put_anode}
 use Rattle.disk.proofs.Laws.{with_block-none, block_changed, set_anode_missing, set_anode-there}
-use borrow.Author.Rules.{rules}
 use Rattle.disk.proofs.set_anode.Goals as goal
 
 pub returns-then-slot-eq0 : goal.returns-then-slot-eq0

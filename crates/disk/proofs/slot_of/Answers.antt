@@ -1,6 +1,5 @@
 use mathlib.Core.Path.{sym}
 use Rattle.disk.proofs.Laws.{slot_of_high, slot_of-there}
-use borrow.Author.Rules.{rules}
 use Rattle.disk.proofs.slot_of.Goals as goal
 
 pub returns-then-s-ge42 : goal.returns-then-s-ge42

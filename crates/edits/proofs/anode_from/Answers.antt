@@ -1,4 +1,3 @@
-use borrow.Author.Rules.{rules}
 use Rattle.edits.proofs.anode_from.Goals as goal
 
 pub returns : goal.returns

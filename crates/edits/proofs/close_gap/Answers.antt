@@ -1,5 +1,4 @@
 use Rattle.edits.proofs.Gap.{moved-cleared}
-use borrow.Author.Rules.{rules}
 use Rattle.edits.proofs.close_gap.Goals as goal
 
 pub returns : goal.returns

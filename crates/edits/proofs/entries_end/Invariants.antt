@@ -1,9 +1,6 @@
-use borrow.Author.Rules.{rules}
-use mathlib.Core.Path.{◌≡◌, refl, sym, ◌∙◌}
+use mathlib.Core.Path.{◌≡◌}
 use Prim.Native.Nat.{◌+◌, ◌*◌, ◌-◌, ◌≤◌}
-use native.Mathlib.Omega.{arith}
 use Rattle.rules.specs.Changes.{end_from}
-use Rattle.edits.proofs.Along.{end_none, end-here, end_later, end_whole}
 use Rattle.edits.proofs.entries_end.Given as goal
 
 abbrev pub invariant-loop-fuel : goal.invariant-loop-fuel

@@ -1,11 +1,7 @@
-use lib.ListN.{get_or}
-use mathlib.Core.Path.{◌≡◌, refl, ◌∙◌}
+use mathlib.Core.Path.{◌≡◌}
 use Prim.Native.Nat.{◌-◌}
-use native.Mathlib.Omega.{arith}
 use Rattle.rules.specs.Changes.{first_room}
-use Rattle.laws.specs.Chains.{gathered_none, gathered_end}
-use Rattle.edits.proofs.Along.{firsts_along, room-none, room_step, room_whole}
-use borrow.Author.Rules.{rules}
+use Rattle.edits.proofs.Along.{firsts_along}
 use Rattle.edits.proofs.first_room.Given as goal
 
 abbrev pub invariant-loop-fuel : goal.invariant-loop-fuel

@@ -1,9 +1,8 @@
 use borrow.Author.Rules.{rules}
 use mathlib.Core.Path.{◌≡◌}
-use Prim.Native.Nat.{◌≤◌, ◌-◌}
+use Prim.Native.Nat.{◌-◌}
 use native.Mathlib.Omega.{arith}
-use lib.ListN.{length, length-set}
-use Rattle.edits.specs.Entries.{moved_down}
+use lib.ListN.{length-set}
 use Rattle.edits.proofs.Gap.{moved_none, moved_more}
 use Rattle.edits.proofs.move_down.Goals as goal
 

@@ -1,10 +1,7 @@
-use borrow.Author.Rules.{rules}
 use mathlib.Core.Path.{◌≡◌}
 use Prim.Native.Nat.{◌≤◌, ◌-◌}
-use native.Mathlib.Omega.{arith}
-use lib.ListN.{length, length-set}
+use lib.ListN.{length}
 use Rattle.edits.specs.Entries.{moved_down}
-use Rattle.edits.proofs.Gap.{moved_none, moved_more}
 use Rattle.edits.proofs.move_down.Given as goal
 
 abbrev pub invariant-loop-j : goal.invariant-loop-j

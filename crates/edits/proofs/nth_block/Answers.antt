@@ -1,12 +1,10 @@
-use mathlib.Core.Path.{◌≡◌, refl, sym, ◌∙◌}
+use mathlib.Core.Path.{refl, sym, ◌∙◌}
 use Prim.Native.Nat.{◌-◌}
 use Rattle.laws.specs.Chains.{gathered_none, gathered_end}
-use Rattle.laws.specs.ChainBlocks.{blocks_of_extents, blocks_from}
+use Rattle.laws.specs.ChainBlocks.{blocks_of_extents}
 use Rattle.anodes.specs.Loaded.{anodes_from}
 use Rattle.edits.proofs.Along.{nth-none, nth_here, nth-later}
-use borrow.Author.Rules.{rules}
 use native.Mathlib.Omega.{arith}
-use lib.ListN.{get_or}
 use Rattle.edits.proofs.nth_block.Goals as goal
 
 pub loop-fuel-init : goal.loop-fuel-init

@@ -6,7 +6,6 @@ use lib.ListN.{length, take}
 use Rattle.disk.proofs.Laws.{with_block-none, block_changed}
 use Rattle.rules.specs.Format.{new_directory_block}
 use Rattle.edits.proofs.Blocks.{with_block-take, with_blocks-one}
-use borrow.Author.Rules.{rules}
 use Rattle.edits.proofs.put_header.Goals as goal
 
 pub returns-then-end-from : goal.returns-then-end-from

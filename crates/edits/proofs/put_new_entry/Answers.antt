@@ -9,7 +9,6 @@ use Rattle.disk.proofs.Laws.{with_block-none, block_changed}
 use Rattle.rules.specs.Table.{in_block}
 use Rattle.rules.specs.Changes.{new_entry, entry_of}
 use Rattle.edits.proofs.Blocks.{kind_back}
-use borrow.Author.Rules.{rules}
 use Rattle.edits.proofs.put_new_entry.Goals as goal
 
 pub returns-then-end-from : goal.returns-then-end-from

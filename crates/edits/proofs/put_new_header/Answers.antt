@@ -1,6 +1,5 @@
 use Rattle.edits.proofs.Blocks.{new_head}
 use mathlib.Core.Path.{◌∙◌}
-use borrow.Author.Rules.{rules}
 use Rattle.edits.proofs.put_new_header.Goals as goal
 
 pub returns : goal.returns

@@ -5,7 +5,6 @@ use Rattle.endian.specs.Bytes.{put32}
 use Rattle.disk.proofs.Laws.{with_block-none, block_changed}
 use Rattle.rules.specs.Table.{in_block}
 use Rattle.rules.specs.Changes.{with_size}
-use borrow.Author.Rules.{rules}
 use Rattle.edits.proofs.put_size.Goals as goal
 
 pub returns-then-end-from : goal.returns-then-end-from

@@ -1,7 +1,6 @@
 use mathlib.Core.Path.{sym}
 use native.Mathlib.Omega.{arith}
 use Rattle.edits.proofs.Along.{room-here, room-later}
-use borrow.Author.Rules.{rules}
 use Rattle.edits.proofs.room_in.Goals as goal
 
 pub returns-then-end-gt510 : goal.returns-then-end-gt510

@@ -1,8 +1,6 @@
-use borrow.Author.Tests.{not-false}
 use mathlib.Core.Bool.{true≢false}
 use mathlib.Core.Path.{sym}
 use Rattle.edits.proofs.Blocks.{fields_same}
-use borrow.Author.Rules.{rules}
 use Rattle.edits.proofs.same_run.Goals as goal
 
 pub returns-then-not-same_numbers : goal.returns-then-not-same_numbers

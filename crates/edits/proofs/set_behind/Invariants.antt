@@ -1,17 +1,9 @@
-use borrow.Author.Rules.{rules}
-use native.Mathlib.Omega.{arith}
-use mathlib.Core.Path.{◌≡◌, refl, ap, ◌∙◌}
-use mathlib.Core.Logic.{⊎_elim}
-use Prim.Native.Nat.{◌+◌, ◌-◌}
+use mathlib.Core.Path.{◌≡◌}
+use Prim.Native.Nat.{◌-◌}
 use lib.ListN.{length, drop}
-use lib.Seq.{drop-nil}
-use Rattle.rules.specs.Chains.{run}
 use Rattle.laws.specs.OwnerTable.{set_all}
-use Rattle.laws.specs.Chains.{gathered_none, gathered_end}
-use Rattle.laws.specs.ChainBlocks.{blocks_of_extents, blocks_from}
+use Rattle.laws.specs.ChainBlocks.{blocks_from}
 use Rattle.anodes.specs.Loaded.{anodes_from}
-use Rattle.edits.proofs.Blocks.{owners-set}
-use Rattle.edits.proofs.Along.{set_here, behind-later}
 use Rattle.edits.proofs.set_behind.Given as goal
 
 abbrev pub invariant-loop-fuel : goal.invariant-loop-fuel

@@ -1,12 +1,8 @@
-use borrow.Author.Rules.{rules}
-use native.Mathlib.Omega.{arith}
-use mathlib.Core.Path.{◌≡◌, refl, ◌∙◌}
-use Prim.Native.Nat.{◌≤◌, ◌+◌, ◌-◌}
+use mathlib.Core.Path.{◌≡◌}
+use Prim.Native.Nat.{◌≤◌, ◌-◌}
 use lib.ListN.{length}
 use Rattle.rules.specs.Chains.{run}
-use Rattle.laws.specs.Chains.{run_none}
 use Rattle.laws.specs.OwnerTable.{set_all}
-use Rattle.edits.proofs.Blocks.{owners-set, set_next}
 use Rattle.edits.proofs.set_run.Given as goal
 
 abbrev pub invariant-loop-i : goal.invariant-loop-i

@@ -1,12 +1,7 @@
-use mathlib.Core.Logic.{⊎_elim}
-use Rattle.rules.specs.Anodes.{store_changed}
 use Rattle.edits.proofs.Blocks.{anode_kept, anode_stored}
-use mathlib.Core.List.{List}
-use mathlib.Core.Path.{◌≡◌, ap, ◌∙◌}
-use Prim.Native.Nat.{ℕ, ◌≤◌, ◌-◌, ◌+◌}
+use mathlib.Core.Path.{◌≡◌, ◌∙◌}
+use Prim.Native.Nat.{◌-◌, ◌+◌}
 use native.Mathlib.Omega.{arith}
-use lib.ListN.{length}
-use Rattle.anodes.specs.Loaded.{anodes_from}
 use borrow.Author.Rules.{rules}
 use Rattle.edits.proofs.store_run.Goals as goal
 use Rattle.edits.proofs.store_run.Goals.{then-not-same_anode, else-not-same_anode}

@@ -1,13 +1,9 @@
-use mathlib.Core.Logic.{⊎_elim}
 use Rattle.rules.specs.Anodes.{store_changed}
-use Rattle.edits.proofs.Blocks.{anode_kept, anode_stored}
 use mathlib.Core.List.{List}
-use mathlib.Core.Path.{◌≡◌, ap, ◌∙◌}
+use mathlib.Core.Path.{◌≡◌}
 use Prim.Native.Nat.{ℕ, ◌≤◌, ◌-◌, ◌+◌}
-use native.Mathlib.Omega.{arith}
 use lib.ListN.{length}
 use Rattle.anodes.specs.Loaded.{anodes_from}
-use borrow.Author.Rules.{rules}
 use Rattle.edits.proofs.store_run.Given as goal
 
 abbrev pub invariant-loop-a : goal.invariant-loop-a

@@ -6,7 +6,6 @@ use native.Mathlib.Omega.{arith}
 use Rattle.disk.proofs.Laws.{length-block_of, part_block, block_changed}
 use Rattle.rules.specs.Table.{in_block}
 use Rattle.rules.specs.Changes.{entries_end, gap_closed, without_entry}
-use borrow.Author.Rules.{rules}
 use Rattle.edits.proofs.take_out.Goals as goal
 
 pub close_gap-requires : goal.close_gap-requires

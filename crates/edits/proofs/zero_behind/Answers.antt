@@ -1,15 +1,13 @@
 use borrow.Author.Rules.{rules}
 use native.Mathlib.Omega.{arith}
 use mathlib.Core.Path.{◌≡◌, refl, ◌∙◌}
-use mathlib.Core.Logic.{⊎_elim}
 use Prim.Native.Nat.{◌+◌, ◌-◌}
-use lib.ListN.{length, drop}
 use lib.Seq.{drop-nil}
 use Rattle.rules.specs.Chains.{run}
 use Rattle.rules.specs.Format.{zero_block}
 use Rattle.rules.specs.Changes.{with_blocks}
 use Rattle.laws.specs.Chains.{gathered_none, gathered_end}
-use Rattle.laws.specs.ChainBlocks.{blocks_of_extents, blocks_from}
+use Rattle.laws.specs.ChainBlocks.{blocks_of_extents}
 use Rattle.anodes.specs.Loaded.{anodes_from}
 use Rattle.edits.proofs.Blocks.{blocks-stored}
 use Rattle.edits.proofs.Along.{zero-here, behind-later}

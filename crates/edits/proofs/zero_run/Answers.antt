@@ -1,6 +1,5 @@
 use mathlib.Core.Path.{◌∙◌}
 use Rattle.edits.proofs.Blocks.{run-zeroed}
-use borrow.Author.Rules.{rules}
 use Rattle.edits.proofs.zero_run.Goals as goal
 
 pub returns : goal.returns

@@ -6,7 +6,6 @@ use Rattle.endian.specs.Bytes.{cleared}
 use Rattle.disk.proofs.Laws.{with_block-none, block_changed}
 use Rattle.rules.specs.Table.{in_block}
 use Rattle.edits.proofs.Blocks.{tail-kept, tail_none, tail-zeroed}
-use borrow.Author.Rules.{rules}
 use Rattle.edits.proofs.zero_tail.Goals as goal
 
 pub returns-then-new-size : goal.returns-then-new-size

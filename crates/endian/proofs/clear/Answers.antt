@@ -2,8 +2,7 @@ use mathlib.Core.Path.{◌≡◌, sym, ◌∙◌}
 use Prim.Native.Nat.{◌-◌}
 use native.Mathlib.Omega.{arith}
 use borrow.Author.Rules.{rules}
-use lib.ListN.{length, length-set}
-use Rattle.endian.specs.Bytes.{cleared}
+use lib.ListN.{length-set}
 use Rattle.endian.proofs.Laws.{cleared-out, cleared-none, cleared_step}
 use Rattle.endian.proofs.clear.Goals as goal
 

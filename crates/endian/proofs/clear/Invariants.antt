@@ -1,10 +1,7 @@
-use mathlib.Core.Path.{◌≡◌, sym, ◌∙◌}
+use mathlib.Core.Path.{◌≡◌}
 use Prim.Native.Nat.{◌-◌}
-use native.Mathlib.Omega.{arith}
-use borrow.Author.Rules.{rules}
-use lib.ListN.{length, length-set}
+use lib.ListN.{length}
 use Rattle.endian.specs.Bytes.{cleared}
-use Rattle.endian.proofs.Laws.{cleared-out, cleared-none, cleared_step}
 use Rattle.endian.proofs.clear.Given as goal
 
 abbrev pub invariant-loop-left : goal.invariant-loop-left

@@ -1,6 +1,5 @@
 use mathlib.Core.Path.{sym}
 use lib.ListN.{get_or-eq_default}
-use borrow.Author.Rules.{rules}
 use Rattle.endian.proofs.read8.Goals as goal
 
 pub returns-then-bytes-at : goal.returns-then-bytes-at

@@ -1,9 +1,8 @@
 use mathlib.Core.Path.{◌≡◌, sym, ◌∙◌}
-use Prim.Native.Nat.{◌+◌, ◌-◌, ◌<◌, ◌≤◌}
+use Prim.Native.Nat.{◌+◌, ◌-◌, ◌<◌}
 use native.Mathlib.Omega.{arith}
 use borrow.Author.Rules.{rules}
-use lib.ListN.{length, drop}
-use Rattle.endian.specs.Bytes.{stored}
+use lib.ListN.{length}
 use Rattle.endian.proofs.Laws.{stored-out, stored_step, stored-end}
 use Rattle.endian.proofs.store.Goals as goal
 

@@ -1,10 +1,7 @@
-use mathlib.Core.Path.{◌≡◌, sym, ◌∙◌}
-use Prim.Native.Nat.{◌+◌, ◌-◌, ◌<◌, ◌≤◌}
-use native.Mathlib.Omega.{arith}
-use borrow.Author.Rules.{rules}
+use mathlib.Core.Path.{◌≡◌}
+use Prim.Native.Nat.{◌+◌, ◌-◌, ◌≤◌}
 use lib.ListN.{length, drop}
 use Rattle.endian.specs.Bytes.{stored}
-use Rattle.endian.proofs.Laws.{stored-out, stored_step, stored-end}
 use Rattle.endian.proofs.store.Given as goal
 
 abbrev pub invariant-loop-j : goal.invariant-loop-j

@@ -1,4 +1,3 @@
-use lib.ListN.{length-set}
 use mathlib.Core.Path.{sym}
 use Rattle.endian.proofs.Laws.{put16-out}
 use Rattle.endian.specs.Bytes.{put16}

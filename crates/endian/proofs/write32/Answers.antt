@@ -1,7 +1,6 @@
 use mathlib.Core.Path.{sym}
 use Rattle.endian.proofs.Laws.{put32-out}
 use Rattle.endian.specs.Bytes.{put32}
-use borrow.Author.Rules.{rules}
 use Rattle.endian.proofs.write32.Goals as goal
 
 pub returns-then-bytes-at : goal.returns-then-bytes-at

@@ -1,6 +1,5 @@
 use mathlib.Core.Path.{sym}
 use lib.Seq.{set_out}
-use borrow.Author.Rules.{rules}
 use Rattle.endian.proofs.write8.Goals as goal
 
 pub returns-then-bytes-at : goal.returns-then-bytes-at

@@ -1,6 +1,5 @@
 use Rattle.directory.specs.Entries.{name_length, comment_length}
 use Rattle.paths.specs.Facts.{comment_in}
-use borrow.Author.Rules.{rules}
 use Rattle.entry_fields.proofs.comment_part.Goals as goal
 
 pub returns : goal.returns

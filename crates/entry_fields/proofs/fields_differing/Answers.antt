@@ -1,6 +1,5 @@
 use Rattle.paths.specs.Facts.{facts_of}
 use Rattle.entry_fields.proofs.Laws.{fields_apart}
-use borrow.Author.Rules.{rules}
 use Rattle.entry_fields.proofs.fields_differing.Goals as goal
 
 pub returns : goal.returns

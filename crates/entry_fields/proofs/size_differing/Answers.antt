@@ -1,4 +1,3 @@
-use borrow.Author.Rules.{rules}
 use Rattle.entry_fields.proofs.size_differing.Goals as goal
 
 pub returns-then-alike : goal.returns-then-alike

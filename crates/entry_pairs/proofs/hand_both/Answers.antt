@@ -2,7 +2,6 @@ use Rattle.entry_pairs.proofs.Laws.{hand_empty, hand_single, both_same, both_dif
 use Rattle.handing.specs.HandLaws.{hand_full}
 use mathlib.Core.Path.{sym, ◌∙◌}
 use native.Mathlib.Omega.{arith}
-use borrow.Author.Rules.{rules}
 use Rattle.entry_pairs.proofs.hand_both.Goals as goal
 
 pub returns-then-has_no_room : goal.returns-then-has_no_room

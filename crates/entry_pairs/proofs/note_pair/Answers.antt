@@ -1,10 +1,9 @@
 use Prim.Native.Nat.{ℕ}
-use mathlib.Core.Path.{◌≡◌, refl, sym, ap, ◌∙◌}
+use mathlib.Core.Path.{refl, sym, ap, ◌∙◌}
 use lib.ListN.{set}
 use Rattle.lookup.specs.declared.Lookup.{Lookup}
 use Rattle.lookup.specs.Answers.{entry_of}
 use Rattle.differences.specs.Pairs.{pairs_of, met_by}
-use borrow.Author.Rules.{rules}
 use Rattle.entry_pairs.proofs.note_pair.Goals as goal
 
 pub returns-in-Found : goal.returns-in-Found

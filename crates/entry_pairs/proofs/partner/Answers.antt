@@ -1,10 +1,8 @@
 use Rattle.entry_pairs.proofs.Laws.{partner_both, partner_none, partner_missing}
 use mathlib.Core.Path.{sym, ap, ◌∙◌}
 use mathlib.Core.Logic.{inl, inr}
-use borrow.Author.Tests.{not-true, not-false}
 use Rattle.directory.specs.Entries.{is_dir}
 use Rattle.lookup.specs.Answers.{entered}
-use borrow.Author.Rules.{rules}
 use Rattle.entry_pairs.proofs.partner.Goals as goal
 
 pub returns-in_default : goal.returns-in_default

@@ -1,11 +1,8 @@
 use Prim.Native.Nat.{◌-◌, ◌*◌, ◌≤◌}
-use mathlib.Core.Path.{◌≡◌, refl, sym, ◌∙◌}
-use native.Mathlib.Omega.{arith}
+use mathlib.Core.Path.{◌≡◌}
 use Rattle.laws.specs.Entries.{Unbroken}
-use Rattle.lookup.proofs.Laws.{entries_along, along_whole, unbroken_along}
+use Rattle.lookup.proofs.Laws.{entries_along}
 use Rattle.file_sums.specs.Sums.{sums_with, Within}
-use Rattle.file_sums.proofs.Laws.{along_ended, along_none, along_more, within_none, within_join, within_wider, fit_within}
-use borrow.Author.Rules.{rules}
 use Rattle.file_sums.proofs.add_directory.Given as goal
 
 abbrev pub invariant-loop-fuel : goal.invariant-loop-fuel

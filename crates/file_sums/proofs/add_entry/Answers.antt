@@ -1,14 +1,9 @@
 use native.Mathlib.Omega.{arith}
 use Rattle.file_sums.proofs.Laws.{entry-file, entry_directory, within_none, within_wider, within_file}
-use borrow.Author.Rules.{rules}
 use Rattle.file_sums.proofs.add_entry.Goals as goal
 
 pub overflow_add-result : goal.overflow_add-result
 overflow_add-result c = omega (arith, c.requires.bytes, c.file_bytes.ensures)
-
--- UNMATCHED
--- add-t9 : tie.Need-overflow-add-t9
--- add-t9 c = omega (arith, c.before.before.before.before.before.before.before.requires.split, c.before.one-if-many.ensures.1)
 
 pub returns-in-File : goal.returns-in-File
 returns-in-File c = (λ name start. entry-file _ c.args.e name start _ c.in-File.is _ _ c.file_bytes.ensures c.one_if_many.ensures.0, within_file _ _ _ (omega (arith, c.file_bytes.ensures)) c.one_if_many.ensures.1)

@@ -1,12 +1,10 @@
-use Prim.Native.Nat.{◌+◌, ◌-◌, ◌*◌, ◌≤◌, ℕ}
-use mathlib.Core.Path.{◌≡◌, ap, sym, ◌∙◌}
-use mathlib.Core.List.{List, []}
+use Prim.Native.Nat.{◌+◌, ◌-◌, ◌*◌}
+use mathlib.Core.Path.{ap, sym, ◌∙◌}
+use mathlib.Core.List.{[]}
 use native.Mathlib.Omega.{arith}
-use Rattle.rules.specs.Counting.{gather}
 use Rattle.rules.specs.Lookup.{entries_of}
 use Rattle.anodes.specs.Loaded.{anodes_from}
-use Rattle.walk_steps.specs.Steps.{dirs_from, queue_of}
-use Rattle.file_sums.specs.Sums.{sums_made, sums_with, Within}
+use Rattle.file_sums.specs.Sums.{sums_made, sums_with}
 use Rattle.file_sums.proofs.Laws.{queued-none, queued_more, queued-all, within_none, within_join, fit_within, fit_all}
 use borrow.Author.Rules.{rules}
 use Rattle.file_sums.proofs.sum_files.Goals as goal

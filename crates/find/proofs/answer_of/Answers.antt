@@ -1,6 +1,5 @@
 use Rattle.find.proofs.Laws.{search_is, search-there}
 use mathlib.Core.Path.{refl}
-use borrow.Author.Rules.{rules}
 use Rattle.find.proofs.answer_of.Goals as goal
 
 pub returns-in-Found : goal.returns-in-Found

@@ -2,7 +2,6 @@ use Rattle.change_laws.specs.Answers.{file-row}
 use Rattle.find.proofs.Laws.{refused_before, refused_now, passed-now}
 use Rattle.rules.specs.Lookup.{names_dir}
 use mathlib.Core.Path.{sym}
-use borrow.Author.Rules.{rules}
 use Rattle.find.proofs.find_file.Goals as goal
 
 pub returns-in-Refused : goal.returns-in-Refused

@@ -4,7 +4,6 @@ use Rattle.rules.specs.Lookup.{no_directory, entries_of, nth}
 use Rattle.rules.specs.Anodes.{Anodes, anodes_of}
 use Rattle.change_laws.specs.Answers.{list_search}
 use Rattle.find.proofs.Laws.{reached-queued, own_heads, open_unbroken, search_answered}
-use borrow.Author.Rules.{rules}
 use mathlib.Core.Path.{ap}
 use Rattle.find.proofs.find_nth.Goals as goal
 

@@ -5,7 +5,6 @@ use Rattle.find.proofs.Laws.{nonempty_by, refused_before, refused_now, passed-no
 use Rattle.rules.specs.Anodes.{anodes_of}
 use Rattle.rules.specs.Lookup.{not_empty_dir}
 use Rattle.lookup.specs.Answers.{entered}
-use borrow.Author.Rules.{rules}
 use Rattle.find.proofs.find_removable.Goals as goal
 
 pub returns-in-Refused : goal.returns-in-Refused

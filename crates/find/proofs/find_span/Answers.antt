@@ -2,7 +2,6 @@ use Rattle.change_laws.specs.Answers.{span_row}
 use Rattle.find.proofs.Laws.{refused_before, refused_now, passed-now}
 use Rattle.rules.specs.Lookup.{past_end}
 use mathlib.Core.Path.{sym}
-use borrow.Author.Rules.{rules}
 use Rattle.find.proofs.find_span.Goals as goal
 
 pub returns-in-Refused : goal.returns-in-Refused

@@ -1,7 +1,6 @@
 use mathlib.Core.Path.{refl}
 use Rattle.rules.specs.Lookup.{nth}
 use Rattle.laws.specs.Entries.{entries_read}
-use borrow.Author.Rules.{rules}
 use Rattle.find.proofs.has_entry.Goals as goal
 
 pub returns-in-Found : goal.returns-in-Found

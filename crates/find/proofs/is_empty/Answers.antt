@@ -1,11 +1,10 @@
-use mathlib.Core.Path.{◌≡◌, refl, sym, ap, ◌∙◌}
+use mathlib.Core.Path.{refl, sym, ap, ◌∙◌}
 use Prim.Native.Nat.{◌-◌}
 use native.Mathlib.Omega.{arith}
-use Rattle.rules.specs.Lookup.{is_there, nth}
+use Rattle.rules.specs.Lookup.{is_there}
 use Rattle.lookup.proofs.Laws.{entries_along, along_whole, nth_empty}
 use Rattle.find.proofs.FirstEntry.{there_along, none_along}
 use Rattle.laws.specs.Chains.{gathered_none, gathered_end}
-use borrow.Author.Rules.{rules}
 use Rattle.find.proofs.is_empty.Goals as goal
 
 pub loop-fuel-init : goal.loop-fuel-init

@@ -1,11 +1,7 @@
-use mathlib.Core.Path.{◌≡◌, refl, sym, ap, ◌∙◌}
+use mathlib.Core.Path.{◌≡◌}
 use Prim.Native.Nat.{◌-◌}
-use native.Mathlib.Omega.{arith}
-use Rattle.rules.specs.Lookup.{is_there, nth}
-use Rattle.lookup.proofs.Laws.{entries_along, along_whole, nth_empty}
-use Rattle.find.proofs.FirstEntry.{there_along, none_along}
-use Rattle.laws.specs.Chains.{gathered_none, gathered_end}
-use borrow.Author.Rules.{rules}
+use Rattle.rules.specs.Lookup.{nth}
+use Rattle.lookup.proofs.Laws.{entries_along}
 use Rattle.find.proofs.is_empty.Given as goal
 
 abbrev pub invariant-loop-fuel : goal.invariant-loop-fuel

@@ -1,6 +1,4 @@
 use mathlib.Core.Path.{sym, ◌∙◌}
-use borrow.Author.Tests.{not-true, not-false}
-use borrow.Author.Rules.{rules}
 use Rattle.find.proofs.is_nonempty_dir.Goals as goal
 
 pub returns-then-not-is_directory : goal.returns-then-not-is_directory

@@ -4,7 +4,6 @@ use mathlib.Core.Logic.{inl, inr}
 use native.Mathlib.Omega.{arith}
 use borrow.Author.Tests.{lt-ltb, le-ltb}
 use Rattle.endian.proofs.Laws.{less?}
-use borrow.Author.Rules.{rules}
 use Rattle.find.proofs.past_end.Goals as goal
 
 pub returns-then-end-len : goal.returns-then-end-len

@@ -1,6 +1,5 @@
 use mathlib.Core.Path.{sym}
 use Rattle.folding.proofs.Laws.{fold_low, fold_high, fold_letter}
-use borrow.Author.Rules.{rules}
 use Rattle.folding.proofs.fold.Goals as goal
 
 pub returns-then-b-lt65 : goal.returns-then-b-lt65

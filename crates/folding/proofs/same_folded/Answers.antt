@@ -1,9 +1,6 @@
-use mathlib.Core.Path.{◌≡◌, sym, ◌∙◌}
-use Prim.Native.Nat.{◌-◌, ◌≤◌}
+use mathlib.Core.Path.{sym, ◌∙◌}
+use Prim.Native.Nat.{◌-◌}
 use native.Mathlib.Omega.{arith}
-use lib.ListN.{length, drop}
-use Rattle.rules.specs.Counting.{same_bytes}
-use Rattle.rules.specs.Folding.{folded}
 use Rattle.folding.proofs.Laws.{same_length, same_end, same_not, same_step}
 use borrow.Author.Rules.{rules}
 use Rattle.folding.proofs.same_folded.Goals as goal

@@ -1,11 +1,8 @@
-use mathlib.Core.Path.{◌≡◌, sym, ◌∙◌}
+use mathlib.Core.Path.{◌≡◌}
 use Prim.Native.Nat.{◌-◌, ◌≤◌}
-use native.Mathlib.Omega.{arith}
 use lib.ListN.{length, drop}
 use Rattle.rules.specs.Counting.{same_bytes}
 use Rattle.rules.specs.Folding.{folded}
-use Rattle.folding.proofs.Laws.{same_length, same_end, same_not, same_step}
-use borrow.Author.Rules.{rules}
 use Rattle.folding.proofs.same_folded.Given as goal
 
 abbrev pub invariant-loop-i : goal.invariant-loop-i

@@ -3,7 +3,6 @@ use mathlib.Core.Bool.{false}
 use Rattle.rules.specs.Accepted.{wrong_size}
 use Rattle.rules.specs.Format.{wrong_format, format_answer}
 use Rattle.rules.specs.Calls.{format_outcome, done_or}
-use borrow.Author.Rules.{rules}
 use Rattle.format.proofs.format.Goals as goal
 
 pub returns-then-wrong_size : goal.returns-then-wrong_size

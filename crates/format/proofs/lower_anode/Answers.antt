@@ -1,6 +1,5 @@
 use borrow.Author.Tests.{eq-eqb, ne_eqb}
 use Rattle.rules.specs.Format.{lower_anode}
-use borrow.Author.Rules.{rules}
 use Rattle.format.proofs.lower_anode.Goals as goal
 
 pub returns-then-last-slots : goal.returns-then-last-slots

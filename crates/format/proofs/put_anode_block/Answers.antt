@@ -1,6 +1,5 @@
 use borrow.Author.Tests.{eq-eqb, ne_eqb}
 use Rattle.rules.specs.Format.{empty_anode_block, anode_block}
-use borrow.Author.Rules.{rules}
 use Rattle.format.proofs.put_anode_block.Goals as goal
 
 pub returns-then-s-ne0 : goal.returns-then-s-ne0

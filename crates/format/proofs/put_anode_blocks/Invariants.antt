@@ -1,12 +1,7 @@
-use mathlib.Core.Path.{◌≡◌, sym, ap, ◌∙◌}
-use mathlib.Core.List.{List}
-use Prim.Native.Nat.{ℕ, ◌+◌, ◌≤◌, ◌-◌}
-use native.Mathlib.Omega.{arith}
+use mathlib.Core.Path.{◌≡◌}
+use Prim.Native.Nat.{◌≤◌, ◌-◌}
 use lib.ListN.{length}
-use borrow.Author.Rules.{rules}
-use Rattle.disk.specs.Blocks.{block_of}
 use Rattle.rules.specs.Format.{with_anode_blocks}
-use Rattle.format.proofs.Parts.{block_lent, with_anode_blocks-none, with_anode_blocks_next, block_of-with_anode_blocks_other}
 use Rattle.format.proofs.put_anode_blocks.Given as goal
 
 abbrev pub invariant-loop-s : goal.invariant-loop-s

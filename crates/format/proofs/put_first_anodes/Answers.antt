@@ -1,5 +1,4 @@
 use Rattle.rules.specs.Format.{first_anodes}
-use borrow.Author.Rules.{rules}
 use Rattle.format.proofs.put_first_anodes.Goals as goal
 
 pub returns : goal.returns

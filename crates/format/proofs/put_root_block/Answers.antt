@@ -1,5 +1,4 @@
 use Rattle.rules.specs.Format.{root_block}
-use borrow.Author.Rules.{rules}
 use Rattle.format.proofs.put_root_block.Goals as goal
 
 pub returns : goal.returns

@@ -1,9 +1,7 @@
 use mathlib.Core.Path.{◌≡◌, sym}
-use Prim.Native.Nat.{◌≤◌, ◌-◌}
+use Prim.Native.Nat.{◌-◌}
 use native.Mathlib.Omega.{arith}
-use lib.ListN.{length}
 use borrow.Author.Rules.{rules}
-use Rattle.rules.specs.Format.{with_slots}
 use Rattle.format.proofs.Parts.{with_slots-none, with_slots_more}
 use Rattle.format.proofs.put_slots.Goals as goal
 

@@ -1,10 +1,7 @@
-use mathlib.Core.Path.{◌≡◌, sym}
+use mathlib.Core.Path.{◌≡◌}
 use Prim.Native.Nat.{◌≤◌, ◌-◌}
-use native.Mathlib.Omega.{arith}
 use lib.ListN.{length}
-use borrow.Author.Rules.{rules}
 use Rattle.rules.specs.Format.{with_slots}
-use Rattle.format.proofs.Parts.{with_slots-none, with_slots_more}
 use Rattle.format.proofs.put_slots.Given as goal
 
 abbrev pub invariant-loop-s : goal.invariant-loop-s

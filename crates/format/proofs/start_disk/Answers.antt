@@ -1,7 +1,6 @@
 use mathlib.Core.Path.{◌∙◌}
 use Rattle.format.proofs.Parts.{all-cleared}
 use Rattle.format.proofs.Laws.{start-stored}
-use borrow.Author.Rules.{rules}
 use Rattle.format.proofs.start_disk.Goals as goal
 
 pub returns : goal.returns

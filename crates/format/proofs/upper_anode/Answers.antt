@@ -1,6 +1,5 @@
 use borrow.Author.Tests.{eq-eqb, ne_eqb}
 use Rattle.rules.specs.Format.{upper_anode}
-use borrow.Author.Rules.{rules}
 use Rattle.format.proofs.upper_anode.Goals as goal
 
 pub returns-then-last-n : goal.returns-then-last-n

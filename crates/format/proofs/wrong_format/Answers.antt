@@ -4,7 +4,6 @@ use lib.Dec.{eqb, leb, ltb}
 use lib.ListN.{length}
 use borrow.Author.Tests.{lt-ltb, le-ltb, le-leb, lt-leb, ne_eqb, eq-eqb}
 use Rattle.rules.specs.Format.{wrong_format}
-use borrow.Author.Rules.{rules}
 use Rattle.format.proofs.wrong_format.Goals as goal
 
 pub returns-then-slots-lt1 : goal.returns-then-slots-lt1

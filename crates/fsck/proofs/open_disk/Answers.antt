@@ -3,7 +3,6 @@ use native.Mathlib.Omega.{arith}
 use Rattle.tables.proofs.Laws.{zeroed-below}
 use Rattle.fsck.specs.Answers.{Headed}
 use Rattle.fsck.proofs.Laws.{headed, Examined, outcome_header, outcome-accepted, outcome_refused}
-use borrow.Author.Rules.{rules}
 use Rattle.fsck.proofs.open_disk.Goals as goal
 
 pub returns-in-Failed : goal.returns-in-Failed

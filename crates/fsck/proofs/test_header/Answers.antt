@@ -3,7 +3,6 @@ use mathlib.Core.Bool.{false}
 use native.Mathlib.Omega.{arith}
 use Rattle.rules.specs.Accepted.{wrong_size, short_tables, wrong_type}
 use Rattle.fsck.proofs.Laws.{header_1, header_2, header_3, header_4, header_none}
-use borrow.Author.Rules.{rules}
 use Rattle.fsck.proofs.test_header.Goals as goal
 
 pub returns-then-wrong_size : goal.returns-then-wrong_size

@@ -1,7 +1,6 @@
 use mathlib.Core.Bool.{true, false}
-use mathlib.Core.List.{List, []}
+use mathlib.Core.List.{[]}
 use mathlib.Core.Path.{◌≡◌, refl, sym, ◌∙◌}
-use Prim.Native.Nat.{ℕ}
 use native.Mathlib.Omega.{arith}
 use lib.ListN.{drop}
 use Rattle.rules.specs.Counting.{any_below}
@@ -10,7 +9,6 @@ use Rattle.anodes.specs.Loaded.{anodes_from}
 use Rattle.laws.specs.OwnerTable.{heads_past}
 use Rattle.fsck.proofs.Laws.{kept-all}
 use Rattle.fsck.proofs.Space.{Passed6, Passed7, Passed8, Passed9, Passed10, space-6, space-7, space-8, view, closed, links, space-9, space-10, space-11, heads_some, shown, last_of, none_of, zero-end}
-use borrow.Author.Rules.{rules}
 use Rattle.fsck.proofs.test_space.Goals as goal
 
 pub returns-then-wrong_fixed : goal.returns-then-wrong_fixed

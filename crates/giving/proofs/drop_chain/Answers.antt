@@ -1,11 +1,8 @@
 use Prim.Native.Nat.{◌-◌}
 use mathlib.Core.Path.{◌≡◌, refl, sym, ◌∙◌}
 use native.Mathlib.Omega.{arith}
-use lib.ListN.{length}
 use borrow.Author.Rules.{rules}
-use Rattle.rules.specs.Space.{dropped}
-use Rattle.anodes.specs.Loaded.{anodes_from}
-use Rattle.giving.proofs.Dropping.{zeroed_from, zeroed-none, zeroed-end, zeroed_tables, zeroed-chain}
+use Rattle.giving.proofs.Dropping.{zeroed-none, zeroed-end, zeroed_tables, zeroed-chain}
 use Rattle.giving.proofs.drop_chain.Goals as goal
 
 pub loop-fuel-init : goal.loop-fuel-init

@@ -1,11 +1,9 @@
 use Prim.Native.Nat.{◌-◌}
-use mathlib.Core.Path.{◌≡◌, refl, sym, ◌∙◌}
-use native.Mathlib.Omega.{arith}
+use mathlib.Core.Path.{◌≡◌}
 use lib.ListN.{length}
-use borrow.Author.Rules.{rules}
 use Rattle.rules.specs.Space.{dropped}
 use Rattle.anodes.specs.Loaded.{anodes_from}
-use Rattle.giving.proofs.Dropping.{zeroed_from, zeroed-none, zeroed-end, zeroed_tables, zeroed-chain}
+use Rattle.giving.proofs.Dropping.{zeroed_from}
 use Rattle.giving.proofs.drop_chain.Given as goal
 
 abbrev pub invariant-loop-fuel : goal.invariant-loop-fuel

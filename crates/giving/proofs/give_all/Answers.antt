@@ -1,8 +1,7 @@
-use Prim.Native.Nat.{ℕ, ◌+◌, ◌-◌}
+use Prim.Native.Nat.{◌+◌, ◌-◌}
 use mathlib.Core.Path.{◌≡◌, ◌∙◌}
 use mathlib.Core.List.{◌++◌}
 use native.Mathlib.Omega.{arith}
-use Rattle.rules.specs.Anodes.{Anodes}
 use Rattle.rules.specs.Chains.{block_count}
 use Rattle.rules.specs.Space.{lower_run}
 use Rattle.anodes.specs.Loaded.{anodes_from, slots_from}
@@ -22,7 +21,7 @@ overflow_sub-k c = let lower_is : c.lower_run.result ≡ lower_run c.args.last.0
     let s = c in omega (arith, lower_is, s.requires.have_value, lower_some _ (anodes_from c.args.counts.now c.args.firsts.now c.args.nexts.now) (slots_from c.args.slots.now) _ s.requires.ready)
 
 pub give_blocks-moves-requires : goal.give_blocks-moves-requires
-give_blocks-moves-requires c = let s = c in record { anode_tables = s.requires.anode_tables; ready = s.requires.ready; k_bound = omega (arith, s.requires.have_value); }
+give_blocks-moves-requires c = let s = c in record { anode_tables = s.requires.anode_tables; ready = s.requires.ready; k_bound = omega (arith, s.requires.have_value) }
 
 pub returns-in_default : goal.returns-in_default
 unfolding anodes_from
@@ -36,7 +35,7 @@ pub head_back-requires : goal.head_back-requires
 head_back-requires c = let s = c in
     let w = c.give_blocks-moves in
     let e = ended _ _ _ c.in-Done.is w.ensures in
-    record { anode_tables = (w.auto.counts ∙ s.requires.anode_tables.0.0, w.auto.firsts ∙ s.requires.anode_tables.0.1, w.auto.nexts ∙ s.requires.anode_tables.0.2); by_index = (slots_from w.new.slots, blocks_ready _ (anodes_from c.args.counts.now c.args.firsts.now c.args.nexts.now) (slots_from c.args.slots.now) _ s.requires.ready (growth_if s.args.growing) (λ n. growth-if_grows s.args.growing n _) _ _ e.0 (omega (arith, s.requires.have_value)) e.1); }
+    record { anode_tables = (w.auto.counts ∙ s.requires.anode_tables.0.0, w.auto.firsts ∙ s.requires.anode_tables.0.1, w.auto.nexts ∙ s.requires.anode_tables.0.2); by_index = (slots_from w.new.slots, blocks_ready _ (anodes_from c.args.counts.now c.args.firsts.now c.args.nexts.now) (slots_from c.args.slots.now) _ s.requires.ready (growth_if s.args.growing) (λ n. growth-if_grows s.args.growing n _) _ _ e.0 (omega (arith, s.requires.have_value)) e.1) }
 
 pub returns : goal.returns
 unfolding anodes_from

@@ -1,12 +1,9 @@
-use mathlib.Core.Path.{◌≡◌, refl, sym, ap, ◌∙◌}
-use native.Mathlib.Omega.{arith}
-use borrow.Author.Rules.{rules}
+use mathlib.Core.Path.{◌≡◌}
 use lib.ListN.{length}
 use Rattle.rules.specs.Space.{give_blocks}
-use Rattle.anodes.specs.Loaded.{anodes_from, table_from, AnodeTables}
+use Rattle.anodes.specs.Loaded.{table_from, AnodeTables}
 use Rattle.growing.specs.Grown.{growth_if}
-use Rattle.giving.specs.Steps.{stopped_turn}
-use Rattle.giving.proofs.Runs.{RunsGo, go_first, go_done, go_stop, go_next}
+use Rattle.giving.proofs.Runs.{RunsGo}
 use Rattle.giving.proofs.give_blocks.Given as goal
 
 abbrev pub invariant-loop-g : goal.invariant-loop-g

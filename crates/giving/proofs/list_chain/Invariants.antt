@@ -1,11 +1,8 @@
 use Prim.Native.Nat.{◌-◌, ◌+◌, ◌≤◌}
-use mathlib.Core.Path.{◌≡◌, refl, sym, ◌∙◌}
-use mathlib.Core.List.{◌++◌, append-nil}
-use native.Mathlib.Omega.{arith}
+use mathlib.Core.Path.{◌≡◌}
+use mathlib.Core.List.{◌++◌}
 use lib.ListN.{length, get_or, take}
-use borrow.Author.Rules.{rules}
 use Rattle.rules.specs.Chains.{chain_of}
-use Rattle.giving.proofs.Runs.{listed-none, listed-end, listed_more}
 use Rattle.giving.proofs.list_chain.Given as goal
 
 abbrev pub invariant-loop-n : goal.invariant-loop-n

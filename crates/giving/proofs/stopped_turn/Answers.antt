@@ -1,6 +1,5 @@
 use mathlib.Core.Path.{sym, ap}
 use Rattle.giving.specs.Steps.{stopped_turn}
-use borrow.Author.Rules.{rules}
 use Rattle.giving.proofs.stopped_turn.Goals as goal
 
 pub returns-in-Stops : goal.returns-in-Stops

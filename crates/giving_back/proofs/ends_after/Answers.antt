@@ -1,4 +1,3 @@
-use borrow.Author.Rules.{rules}
 use Rattle.giving_back.proofs.ends_after.Goals as goal
 
 pub returns-then-above : goal.returns-then-above

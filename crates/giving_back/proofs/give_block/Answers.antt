@@ -1,14 +1,12 @@
-use mathlib.Core.Path.{◌≡◌, refl, sym, ap, ◌∙◌}
 use Rattle.anodes.specs.Loaded.{anodes_from}
 use Rattle.giving_back.proofs.Giving.{end_fits, back_stops, back-goes}
-use borrow.Author.Rules.{rules}
 use Rattle.giving_back.proofs.give_block.Goals as goal
 
 pub join-step-requires : goal.join-step-requires
 unfolding anodes_from
 join-step-requires c = let s = c in
     let w = end_fits _ _ _ _ _ _ s.requires.ends_of.0 s.requires.ends_of.1.1 _ c.end_of-z.ensures in
-    record { z_bound = (w.0, s.requires.anode_tables.0); z_bound_2 = (w.1, w.2); }
+    record { z_bound = (w.0, s.requires.anode_tables.0); z_bound_2 = (w.1, w.2) }
 
 pub returns-in_default : goal.returns-in_default
 unfolding anodes_from

@@ -1,12 +1,11 @@
-use mathlib.Core.Path.{◌≡◌, refl, sym, ap, ◌∙◌}
-use Prim.Native.Nat.{ℕ, ◌-◌, ◌+◌}
+use mathlib.Core.Path.{◌≡◌, ap, ◌∙◌}
+use Prim.Native.Nat.{ℕ, ◌-◌}
 use native.Mathlib.Omega.{arith}
 use Rattle.rules.specs.Chains.{side}
-use Rattle.anodes.specs.Loaded.{anodes_from, table_from, AnodeTables}
-use Rattle.giving_back.specs.OldTable.{old_from, NextOld}
+use Rattle.anodes.specs.Loaded.{anodes_from}
+use Rattle.giving_back.specs.OldTable.{old_from}
 use Rattle.giving_back.specs.Backs.{stopped_back}
-use Rattle.giving_back.proofs.Giving.{GoesBack, goes_first, goes_as, goes_next, goes_stop, goes-all}
-use borrow.Author.Rules.{rules}
+use Rattle.giving_back.proofs.Giving.{goes_first, goes_as, goes_next, goes_stop, goes-all}
 use Rattle.giving_back.proofs.give_old.Goals as goal
 
 pub loop-y-init : goal.loop-y-init
@@ -18,7 +17,7 @@ loop-y-init c = let s = c in
 pub give_block-back-requires : goal.give_block-back-requires
 give_block-back-requires c = let l = c.loop-y in
     let g = goes_as l.invariant.1.2 _ (l.invariant.1.1.here c.loop-y-test.true) in
-    record { anode_tables = (l.invariant.0, c.requires.anode_tables.1); ends_of = (g.ends_of, (_, g.limbo)); }
+    record { anode_tables = (l.invariant.0, c.requires.anode_tables.1); ends_of = (g.ends_of, (_, g.limbo)) }
 
 pub returns-in_default : goal.returns-in_default
 returns-in_default c = let l = c.loop-y in

@@ -1,12 +1,7 @@
-use mathlib.Core.Path.{◌≡◌, refl, sym, ap, ◌∙◌}
-use Prim.Native.Nat.{ℕ, ◌-◌, ◌+◌}
-use native.Mathlib.Omega.{arith}
-use Rattle.rules.specs.Chains.{side}
-use Rattle.anodes.specs.Loaded.{anodes_from, table_from, AnodeTables}
+use Prim.Native.Nat.{ℕ, ◌-◌}
+use Rattle.anodes.specs.Loaded.{table_from, AnodeTables}
 use Rattle.giving_back.specs.OldTable.{old_from, NextOld}
-use Rattle.giving_back.specs.Backs.{stopped_back}
-use Rattle.giving_back.proofs.Giving.{GoesBack, goes_first, goes_as, goes_next, goes_stop, goes-all}
-use borrow.Author.Rules.{rules}
+use Rattle.giving_back.proofs.Giving.{GoesBack}
 use Rattle.giving_back.proofs.give_old.Given as goal
 
 abbrev pub invariant-loop-y : goal.invariant-loop-y

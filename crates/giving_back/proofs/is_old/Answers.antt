@@ -1,5 +1,4 @@
 use Rattle.giving_back.proofs.OldTable.{old-chain, old_slot, old-moved}
-use borrow.Author.Rules.{rules}
 use Rattle.giving_back.proofs.is_old.Goals as goal
 
 pub returns-then-owner-old : goal.returns-then-owner-old

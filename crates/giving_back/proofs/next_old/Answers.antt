@@ -1,9 +1,8 @@
-use mathlib.Core.Path.{◌≡◌, refl, sym, ap, ◌∙◌}
+use mathlib.Core.Path.{refl, sym, ◌∙◌}
 use Prim.Native.Nat.{◌-◌}
 use native.Mathlib.Omega.{arith}
 use Rattle.giving_back.specs.OldTable.{is_old}
-use Rattle.giving_back.proofs.OldTable.{Searched, search_past, search-found, search-none}
-use borrow.Author.Rules.{rules}
+use Rattle.giving_back.proofs.OldTable.{search_past, search-found, search-none}
 use Rattle.giving_back.proofs.next_old.Goals as goal
 
 pub loop-y-init : goal.loop-y-init

@@ -1,8 +1,7 @@
-use Prim.Native.Nat.{◌+◌, ◌-◌, ◌≤◌}
+use Prim.Native.Nat.{◌-◌}
 use mathlib.Core.Path.{◌≡◌, sym}
 use mathlib.Core.Bool.{false, true≢false}
 use native.Mathlib.Omega.{arith}
-use Rattle.giving_back.specs.OldTable.{NoneOwned}
 use borrow.Author.Tests.{not-true}
 use Rattle.giving_back.proofs.OldTable.{none_more}
 use borrow.Author.Rules.{rules}

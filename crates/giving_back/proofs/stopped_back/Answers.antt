@@ -1,6 +1,5 @@
 use mathlib.Core.Path.{sym, ap}
 use Rattle.giving_back.specs.Backs.{stopped_back}
-use borrow.Author.Rules.{rules}
 use Rattle.giving_back.proofs.stopped_back.Goals as goal
 
 pub returns-in-Stops : goal.returns-in-Stops

@@ -2,7 +2,6 @@ use Prim.Native.Nat.{◌-◌}
 use mathlib.Core.Path.{sym, ◌∙◌}
 use native.Mathlib.Omega.{arith}
 use Rattle.giving_runs.proofs.Picking.{before-first, before-later}
-use borrow.Author.Rules.{rules}
 use Rattle.giving_runs.proofs.anode_before.Goals as goal
 
 pub returns-then-i-eq0 : goal.returns-then-i-eq0

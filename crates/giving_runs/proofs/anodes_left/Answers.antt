@@ -1,4 +1,3 @@
-use borrow.Author.Rules.{rules}
 use Rattle.giving_runs.proofs.anodes_left.Goals as goal
 
 pub returns-then-run : goal.returns-then-run

@@ -1,7 +1,6 @@
 use mathlib.Core.Path.{sym, ◌∙◌}
 use borrow.Author.Tests.{eq-eqb, ne_eqb}
 use Rattle.laws.specs.Carried.{end_after}
-use borrow.Author.Rules.{rules}
 use Rattle.giving_runs.proofs.end_after.Goals as goal
 
 pub returns-then-next-eq0 : goal.returns-then-next-eq0

@@ -1,12 +1,9 @@
-use borrow.Author.Tests.{not-true, not-false}
 use mathlib.Core.Path.{refl, ◌∙◌}
 use Rattle.rules.specs.Chains.{side}
-use Rattle.rules.specs.Plans.{Slotted, Growth}
 use Rattle.anodes.specs.Loaded.{anodes_from, slots_from, table_from}
 use Rattle.growing.specs.Grown.{growth_if}
 use Rattle.growing.proofs.States.{has-grown, has-not-grown, grown_state}
 use Rattle.giving_runs.proofs.Afresh.{joins_nowhere, end_fits, joins_grown, joins_refused}
-use borrow.Author.Rules.{rules}
 use Rattle.giving_runs.proofs.give_grown.Goals as goal
 
 pub grow_slots-requires : goal.grow_slots-requires
@@ -30,10 +27,6 @@ returns-in_default c = let s = c in
     let w = c.grow_slots in
     let j = c.join-step in
     joins_refused s.args.last.0 s.args.run.length s.args.run.first.0 (growth_if c.args.growing) (table_from c.args.counts.now c.args.firsts.now c.args.nexts.now c.args.slots.now) (anodes_from w.new.counts w.new.firsts w.new.nexts) (slots_from w.new.slots) (has-grown w.result (growth_if c.args.growing) (table_from c.args.counts.now c.args.firsts.now c.args.nexts.now c.args.slots.now) _ w.ensures c.if-not-grow_slots.false) _ _ c.side_of.ensures c.last_anode-z.ensures j.result (anodes_from j.new.counts j.new.firsts j.new.nexts) j.ensures.plan _ c.in_default.is
-
--- UNMATCHED
--- sub-t35 : tie.Need-overflow-sub-t35
--- sub-t35 c = c.before.before.before.before.before.before.before.before.before.before.before.before.before.before.before.before.before.before.before.before.before.before.before.before.before.before.before.before.before.before.before.before.before.before.before.before.requires.1.fits
 
 pub anodes_left-requires : goal.anodes_left-requires
 anodes_left-requires c = c.requires.run_off.placed

@@ -2,7 +2,6 @@ use mathlib.Core.Path.{ap, ◌∙◌}
 use Rattle.rules.specs.Anodes.{Anodes}
 use Rattle.anodes.specs.Loaded.{anodes_from}
 use Rattle.giving_runs.proofs.Turning.{other_kept, goes_with, goes-without, stays_out}
-use borrow.Author.Rules.{rules}
 use Rattle.giving_runs.proofs.give_run.Goals as goal
 
 pub join_with-requires : goal.join_with-requires

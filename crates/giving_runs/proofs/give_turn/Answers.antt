@@ -1,6 +1,4 @@
-use Prim.Native.Nat.{ℕ}
 use mathlib.Core.Path.{sym, ap, ◌∙◌}
-use Rattle.rules.specs.Anodes.{Anodes}
 use Rattle.anodes.specs.Loaded.{anodes_from, slots_from}
 use Rattle.placing.specs.declared.Step.{Step}
 use Rattle.placing.specs.Steps.{step_plan}
@@ -8,7 +6,6 @@ use Rattle.placing.proofs.Found.{left_so}
 use Rattle.growing.specs.Grown.{growth_if}
 use Rattle.growing.proofs.States.{growth-if_grows}
 use Rattle.giving_runs.proofs.Turning.{fits_all, picked_full, picked_fits, picked_some, picked_off, picked_goes, picked_grown}
-use borrow.Author.Rules.{rules}
 use Rattle.giving_runs.proofs.give_turn.Goals as goal
 
 pub pick_run-run-requires : goal.pick_run-run-requires

@@ -1,10 +1,7 @@
 use Prim.Native.Nat.{◌-◌}
-use mathlib.Core.Path.{◌≡◌, refl, sym, ◌∙◌}
-use native.Mathlib.Omega.{arith}
+use mathlib.Core.Path.{◌≡◌}
 use lib.ListN.{get_or}
-use borrow.Author.Rules.{rules}
 use Rattle.giving_runs.specs.Runs.{last_full}
-use Rattle.giving_runs.proofs.Picking.{full-none, full-here, full-before}
 use Rattle.giving_runs.proofs.last_full.Given as goal
 
 abbrev pub invariant-loop-i : goal.invariant-loop-i

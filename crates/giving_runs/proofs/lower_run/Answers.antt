@@ -1,6 +1,5 @@
 use mathlib.Core.Path.{sym}
 use Rattle.giving_runs.proofs.Picking.{lower_above, lower_below, lower_crossing}
-use borrow.Author.Rules.{rules}
 use Rattle.giving_runs.proofs.lower_run.Goals as goal
 
 pub returns-then-last-first : goal.returns-then-last-first

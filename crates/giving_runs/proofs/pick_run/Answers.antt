@@ -4,7 +4,6 @@ use native.Mathlib.Omega.{arith}
 use lib.ListN.{get_or}
 use Rattle.anodes.specs.Loaded.{anodes_from}
 use Rattle.laws.specs.GiveRuns.{run-most}
-use borrow.Author.Rules.{rules}
 use Rattle.giving_runs.proofs.pick_run.Goals as goal
 
 pub run_length-length-requires : goal.run_length-length-requires

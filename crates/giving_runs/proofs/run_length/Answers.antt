@@ -1,5 +1,4 @@
 use Rattle.giving_runs.proofs.Picking.{run-all, run-part}
-use borrow.Author.Rules.{rules}
 use Rattle.giving_runs.proofs.run_length.Goals as goal
 
 pub returns-then-k-upper : goal.returns-then-k-upper

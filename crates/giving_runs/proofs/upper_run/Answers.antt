@@ -1,6 +1,5 @@
 use mathlib.Core.Path.{sym}
 use Rattle.giving_runs.proofs.Picking.{upper_above, upper_below, upper_crossing}
-use borrow.Author.Rules.{rules}
 use Rattle.giving_runs.proofs.upper_run.Goals as goal
 
 pub returns-then-last-first : goal.returns-then-last-first

@@ -1,9 +1,8 @@
-use Prim.Native.Nat.{◌≤◌, ◌-◌}
+use Prim.Native.Nat.{◌-◌}
 use mathlib.Core.Path.{sym, ◌∙◌}
 use native.Mathlib.Omega.{arith}
 use Rattle.anodes.specs.Loaded.{slots_from}
-use Rattle.growing.proofs.Growing.{UsedBelow, used_more, empty_here, empty_none}
-use borrow.Author.Rules.{rules}
+use Rattle.growing.proofs.Growing.{used_more, empty_here, empty_none}
 use Rattle.growing.proofs.empty_slot.Goals as goal
 
 pub loop-k-init : goal.loop-k-init

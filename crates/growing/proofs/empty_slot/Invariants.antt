@@ -1,9 +1,6 @@
 use Prim.Native.Nat.{◌≤◌, ◌-◌}
-use mathlib.Core.Path.{sym, ◌∙◌}
-use native.Mathlib.Omega.{arith}
 use Rattle.anodes.specs.Loaded.{slots_from}
-use Rattle.growing.proofs.Growing.{UsedBelow, used_more, empty_here, empty_none}
-use borrow.Author.Rules.{rules}
+use Rattle.growing.proofs.Growing.{UsedBelow}
 use Rattle.growing.proofs.empty_slot.Given as goal
 
 abbrev pub invariant-loop-k : goal.invariant-loop-k

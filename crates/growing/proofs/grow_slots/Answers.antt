@@ -3,15 +3,12 @@ use mathlib.Core.Path.{◌≡◌, refl, sym, ap, ◌∙◌}
 use mathlib.Core.Bool.{true}
 use native.Mathlib.Omega.{arith}
 use lib.ListN.{get_or}
-use borrow.Author.Tests.{not-true, not-false}
-use Rattle.rules.specs.Anodes.{Anodes}
-use Rattle.rules.specs.Plans.{Slotted, slotted}
+use Rattle.rules.specs.Plans.{slotted}
 use Rattle.rules.specs.Space.{nowhere, found, free_extent}
 use Rattle.anodes.specs.Loaded.{anodes_from, slots_from}
 use Rattle.searches.specs.Found.{found_of}
 use Rattle.placing.proofs.Found.{extent-at}
 use Rattle.growing.proofs.Growing.{grows_not, grows_full, grows_out, grows_tables}
-use borrow.Author.Rules.{rules}
 use Rattle.growing.proofs.grow_slots.Goals as goal
 
 pub returns-then-not-growing : goal.returns-then-not-growing

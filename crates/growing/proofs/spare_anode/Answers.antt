@@ -1,11 +1,8 @@
-use borrow.Author.Tests.{not-true, not-false}
-use Rattle.rules.specs.Plans.{Slotted, Growth}
 use Rattle.anodes.specs.Loaded.{table_from}
 use Rattle.searches.proofs.Searches.{anode_found_lem}
 use Rattle.growing.specs.Grown.{growth_if}
 use Rattle.growing.proofs.States.{has-grown, has-not-grown}
 use Rattle.growing.proofs.Spares.{spare-there, spare_nowhere, spare-grown}
-use borrow.Author.Rules.{rules}
 use Rattle.growing.proofs.spare_anode.Goals as goal
 
 pub returns-then-found-lt3444 : goal.returns-then-found-lt3444

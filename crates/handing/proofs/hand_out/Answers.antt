@@ -6,7 +6,6 @@ use Rattle.differences.specs.Handing.{handing_of}
 use native.Mathlib.Omega.{arith}
 use borrow.Author.Tests.{ltb-false}
 use Rattle.handing.specs.HandLaws.{hand_nothing, hand_passing, hand_storing}
-use borrow.Author.Rules.{rules}
 use Rattle.handing.proofs.hand_out.Goals as goal
 
 pub returns-then-has_no_room : goal.returns-then-has_no_room

@@ -1,5 +1,4 @@
 use mathlib.Core.Path.{◌∙◌}
-use borrow.Author.Rules.{rules}
 use Rattle.handing.proofs.put_difference.Goals as goal
 
 pub returns-in-OnlyFirst : goal.returns-in-OnlyFirst

@@ -1,7 +1,6 @@
 use native.Mathlib.Omega.{arith}
 use lib.ListN.{length-set}
 use Rattle.handing.proofs.Laws.{six_run}
-use borrow.Author.Rules.{rules}
 use Rattle.handing.proofs.put_numbers.Goals as goal
 
 pub bounds-out-at-2 : goal.bounds-out-at-2

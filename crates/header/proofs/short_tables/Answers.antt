@@ -1,6 +1,5 @@
 use Rattle.rules.specs.Accepted.{short_tables}
 use borrow.Author.Tests.{lt-ltb, le-ltb}
-use borrow.Author.Rules.{rules}
 use Rattle.header.proofs.short_tables.Goals as goal
 
 pub returns-then-blocks-disk_size : goal.returns-then-blocks-disk_size

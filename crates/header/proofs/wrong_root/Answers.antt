@@ -3,7 +3,6 @@ use mathlib.Core.Bool.{◌||◌}
 use lib.Dec.{eqb, leb, ltb}
 use Rattle.rules.specs.Accepted.{last_reserved, wrong_root}
 use borrow.Author.Tests.{lt-ltb, le-ltb, ne_eqb, eq-eqb, le-leb, lt-leb}
-use borrow.Author.Rules.{rules}
 use Rattle.header.proofs.wrong_root.Goals as goal
 
 pub returns-then-root-ne0 : goal.returns-then-root-ne0

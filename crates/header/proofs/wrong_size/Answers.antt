@@ -1,6 +1,5 @@
 use Rattle.rules.specs.Accepted.{wrong_size}
 use borrow.Author.Tests.{lt-ltb, le-ltb, ne_eqb, eq-eqb}
-use borrow.Author.Rules.{rules}
 use Rattle.header.proofs.wrong_size.Goals as goal
 
 pub returns-then-image-ne0 : goal.returns-then-image-ne0

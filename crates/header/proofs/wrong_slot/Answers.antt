@@ -5,7 +5,6 @@ use Rattle.disk.specs.Blocks.{block_of}
 use Rattle.disk.specs.AnodeBlocks.{anode_mark, anode_header_in}
 use Rattle.rules.specs.Accepted.{wrong_slot}
 use borrow.Author.Tests.{lt-ltb, le-ltb, ne_eqb, eq-eqb, le-leb, lt-leb}
-use borrow.Author.Rules.{rules}
 use Rattle.header.proofs.wrong_slot.Goals as goal
 
 pub returns-then-slot-eq0 : goal.returns-then-slot-eq0

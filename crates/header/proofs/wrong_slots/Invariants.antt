@@ -1,12 +1,8 @@
-use borrow.Author.Rules.{rules}
-use mathlib.Core.Path.{◌≡◌, sym, ◌∙◌}
+use mathlib.Core.Path.{◌≡◌}
 use mathlib.Core.Bool.{false}
 use Prim.Native.Nat.{◌≤◌, ◌-◌}
-use native.Mathlib.Omega.{arith}
-use borrow.Author.Tests.{ne_eqb, eq-eqb}
 use Rattle.rules.specs.Counting.{any_below}
-use Rattle.rules.specs.Accepted.{wrong_slot, wrong_slots}
-use Rattle.counting.specs.Laws.{any_below-none, any_below_more, any_below_hit}
+use Rattle.rules.specs.Accepted.{wrong_slot}
 use Rattle.header.proofs.wrong_slots.Given as goal
 
 abbrev pub invariant-loop-s : goal.invariant-loop-s

@@ -1,5 +1,4 @@
 use Rattle.rules.specs.Accepted.{wrong_type}
-use borrow.Author.Rules.{rules}
 use Rattle.header.proofs.wrong_type.Goals as goal
 
 pub returns : goal.returns

@@ -1,12 +1,9 @@
-use mathlib.Core.Path.{◌≡◌, refl, sym, ◌∙◌}
+use mathlib.Core.Path.{refl, sym, ◌∙◌}
 use mathlib.Core.Option.{none}
 use Prim.Native.Nat.{◌-◌}
 use native.Mathlib.Omega.{arith}
-use Rattle.rules.specs.Lookup.{first_named}
 use Rattle.lookup.proofs.Laws.{entries_along, along_whole, unbroken_along, named_along, named_none, named_whole}
 use Rattle.laws.specs.Chains.{gathered_none, gathered_end}
-use Rattle.laws.specs.Entries.{Unbroken}
-use borrow.Author.Rules.{rules}
 use Rattle.lookup.proofs.entry_named.Goals as goal
 
 pub loop-fuel-init : goal.loop-fuel-init
@@ -26,11 +23,10 @@ returns-in-Found c = let l = c.loop-fuel in
     λ counts. rw c.in-Found.is (named_along _ _ _ _ (l.fuel - 1) _ (omega arith) c.if-at-eq0.false _ _ (rw (c.in-Found.is, c.entry.ensures) at c.named_in-found.ensures) ∙ l.invariant.1 ∙ sym (named_whole _ _ _ counts _ _))
 
 pub loop-fuel-preserved : goal.loop-fuel-preserved
-loop-fuel-preserved c = let l = c.loop-fuel in
-    (
-      rw c.entry-at.ensures (unbroken_along _ _ _ _ (l.fuel - 1) _ (omega arith) c.if-at-eq0.false l.invariant.0).1,
-      rw c.entry-at.ensures (named_along _ _ _ _ (l.fuel - 1) _ (omega arith) c.if-at-eq0.false _ none (rw (c.in_default.is, c.entry.ensures) at c.named_in-found.ensures) ∙ l.invariant.1),
-    )
+loop-fuel-preserved c = let l = c.loop-fuel in (
+  rw c.entry-at.ensures (unbroken_along _ _ _ _ (l.fuel - 1) _ (omega arith) c.if-at-eq0.false l.invariant.0).1,
+  rw c.entry-at.ensures (named_along _ _ _ _ (l.fuel - 1) _ (omega arith) c.if-at-eq0.false _ none (rw (c.in_default.is, c.entry.ensures) at c.named_in-found.ensures) ∙ l.invariant.1),
+)
 
 pub returns : goal.returns
 unfolding entries_along

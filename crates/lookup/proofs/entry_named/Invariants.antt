@@ -1,12 +1,8 @@
-use mathlib.Core.Path.{◌≡◌, refl, sym, ◌∙◌}
-use mathlib.Core.Option.{none}
+use mathlib.Core.Path.{◌≡◌}
 use Prim.Native.Nat.{◌-◌}
-use native.Mathlib.Omega.{arith}
 use Rattle.rules.specs.Lookup.{first_named}
-use Rattle.lookup.proofs.Laws.{entries_along, along_whole, unbroken_along, named_along, named_none, named_whole}
-use Rattle.laws.specs.Chains.{gathered_none, gathered_end}
+use Rattle.lookup.proofs.Laws.{entries_along}
 use Rattle.laws.specs.Entries.{Unbroken}
-use borrow.Author.Rules.{rules}
 use Rattle.lookup.proofs.entry_named.Given as goal
 
 abbrev pub invariant-loop-fuel : goal.invariant-loop-fuel

@@ -1,4 +1,3 @@
-use borrow.Author.Rules.{rules}
 use Rattle.lookup.proofs.first_of.Goals as goal
 
 pub returns-in-Found : goal.returns-in-Found

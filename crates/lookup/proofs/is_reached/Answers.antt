@@ -2,7 +2,6 @@ use mathlib.Core.Path.{sym, ap, ◌∙◌}
 use mathlib.Core.Bool.{not}
 use borrow.Author.Tests.{le-ltb}
 use Rattle.lookup.proofs.Queue.{place_out, place_occurrences}
-use borrow.Author.Rules.{rules}
 use Rattle.lookup.proofs.is_reached.Goals as goal
 
 pub returns-then-entry-head : goal.returns-then-entry-head

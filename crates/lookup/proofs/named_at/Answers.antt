@@ -1,4 +1,3 @@
-use borrow.Author.Rules.{rules}
 use Rattle.lookup.proofs.named_at.Goals as goal
 
 pub returns-then-has_name : goal.returns-then-has_name

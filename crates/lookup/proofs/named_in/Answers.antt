@@ -2,12 +2,10 @@ use mathlib.Core.Path.{◌≡◌, sym, ◌∙◌}
 use Prim.Native.Nat.{◌+◌, ◌-◌, ◌*◌}
 use native.Mathlib.Omega.{arith}
 use Rattle.directory.specs.Entries.{name_in}
-use Rattle.rules.specs.Walk.{with_rest, entries_from, entries_in}
-use Rattle.rules.specs.Lookup.{first_named}
-use Rattle.lookup.specs.Answers.{entry_of, or_else}
-use Rattle.laws.specs.Entries.{entries_none, block_whole, entries_read, read_within, Unbroken}
+use Rattle.rules.specs.Walk.{with_rest, entries_from}
+use Rattle.lookup.specs.Answers.{entry_of}
+use Rattle.laws.specs.Entries.{entries_none, block_whole, entries_read, read_within}
 use Rattle.lookup.proofs.Laws.{unbroken_no_fault, unbroken_rest, name_at_lem, named-passed, named_ended}
-use borrow.Author.Rules.{rules}
 use Rattle.lookup.proofs.named_in.Goals as goal
 
 pub loop-fuel-init : goal.loop-fuel-init

@@ -1,12 +1,8 @@
-use lib.ListN.{get_or}
-use mathlib.Core.Path.{◌≡◌, refl, sym, ◌∙◌}
+use mathlib.Core.Path.{◌≡◌}
 use Prim.Native.Nat.{◌-◌}
-use native.Mathlib.Omega.{arith}
 use Rattle.rules.specs.Lookup.{nth}
-use Rattle.lookup.proofs.Laws.{entries_along, along_whole, unbroken_along, nth_along, nth_empty}
-use Rattle.laws.specs.Chains.{gathered_none, gathered_end}
+use Rattle.lookup.proofs.Laws.{entries_along}
 use Rattle.laws.specs.Entries.{Unbroken}
-use borrow.Author.Rules.{rules}
 use Rattle.lookup.proofs.nth_entry.Given as goal
 
 abbrev pub invariant-loop-fuel : goal.invariant-loop-fuel

@@ -1,13 +1,10 @@
 use mathlib.Core.Path.{◌≡◌, sym, ◌∙◌}
-use mathlib.Core.List.{List, ◌++◌}
 use Prim.Native.Nat.{◌+◌, ◌-◌, ◌*◌}
 use native.Mathlib.Omega.{arith}
 use Rattle.directory.specs.Entries.{name_in}
-use Rattle.rules.specs.Walk.{Entered, with_rest, entries_from, entries_in}
-use Rattle.rules.specs.Lookup.{nth}
-use Rattle.laws.specs.Entries.{entries_none, block_whole, entries_read, read_within, Unbroken}
+use Rattle.rules.specs.Walk.{with_rest, entries_from}
+use Rattle.laws.specs.Entries.{entries_none, block_whole, entries_read, read_within}
 use Rattle.lookup.proofs.Laws.{unbroken_no_fault, unbroken_rest, name_at_lem, nth-none, nth_here, nth-behind}
-use borrow.Author.Rules.{rules}
 use Rattle.lookup.proofs.nth_in.Goals as goal
 
 pub loop-fuel-init : goal.loop-fuel-init

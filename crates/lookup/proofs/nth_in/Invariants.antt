@@ -1,13 +1,9 @@
-use mathlib.Core.Path.{◌≡◌, sym, ◌∙◌}
+use mathlib.Core.Path.{◌≡◌}
 use mathlib.Core.List.{List, ◌++◌}
-use Prim.Native.Nat.{◌+◌, ◌-◌, ◌*◌}
-use native.Mathlib.Omega.{arith}
-use Rattle.directory.specs.Entries.{name_in}
-use Rattle.rules.specs.Walk.{Entered, with_rest, entries_from, entries_in}
+use Prim.Native.Nat.{◌+◌, ◌-◌}
+use Rattle.rules.specs.Walk.{Entered, entries_from, entries_in}
 use Rattle.rules.specs.Lookup.{nth}
-use Rattle.laws.specs.Entries.{entries_none, block_whole, entries_read, read_within, Unbroken}
-use Rattle.lookup.proofs.Laws.{unbroken_no_fault, unbroken_rest, name_at_lem, nth-none, nth_here, nth-behind}
-use borrow.Author.Rules.{rules}
+use Rattle.laws.specs.Entries.{Unbroken}
 use Rattle.lookup.proofs.nth_in.Given as goal
 
 abbrev pub invariant-loop-fuel : goal.invariant-loop-fuel

@@ -1,6 +1,5 @@
 use borrow.Author.Tests.{lt-ltb, le-ltb}
 use Rattle.lookup.proofs.Queue.{place_parent}
-use borrow.Author.Rules.{rules}
 use Rattle.lookup.proofs.parent_of.Goals as goal
 
 pub returns-then-i-dirs : goal.returns-then-i-dirs

@@ -1,8 +1,7 @@
-use mathlib.Core.Path.{◌≡◌, refl, sym, ◌∙◌}
-use Prim.Native.Nat.{◌-◌, ◌≤◌}
+use mathlib.Core.Path.{refl, sym, ◌∙◌}
+use Prim.Native.Nat.{◌-◌}
 use native.Mathlib.Numerals.{unary_clauses}
 use native.Mathlib.Omega.{arith}
-use Rattle.lookup.specs.Queued.{place_of}
 use Rattle.lookup.proofs.Queue.{place_hit, place_pass, place_none}
 use borrow.Author.Rules.{rules}
 use Rattle.lookup.proofs.place_in_queue.Goals as goal

@@ -1,10 +1,6 @@
-use mathlib.Core.Path.{◌≡◌, refl, sym, ◌∙◌}
+use mathlib.Core.Path.{◌≡◌}
 use Prim.Native.Nat.{◌-◌, ◌≤◌}
-use native.Mathlib.Numerals.{unary_clauses}
-use native.Mathlib.Omega.{arith}
 use Rattle.lookup.specs.Queued.{place_of}
-use Rattle.lookup.proofs.Queue.{place_hit, place_pass, place_none}
-use borrow.Author.Rules.{rules}
 use Rattle.lookup.proofs.place_in_queue.Given as goal
 
 abbrev pub invariant-loop-i : goal.invariant-loop-i

@@ -1,10 +1,8 @@
-use Rattle.rules.specs.Changes.{NewEntry, new_entry}
+use Rattle.rules.specs.Changes.{new_entry}
 use Rattle.anodes.specs.Loaded.{anodes_from}
 use Rattle.directory.specs.Entries.{is_dir}
 use Rattle.change_tables.specs.Chains.{loaded_size}
 use Rattle.making.proofs.Done.{new_slots, new_anodes, new_links, stored-image, done_leaves}
-use mathlib.Core.Path.{◌∙◌}
-use borrow.Author.Rules.{rules}
 use Rattle.making.proofs.commit_make.Goals as goal
 
 pub store_slots-requires : goal.store_slots-requires

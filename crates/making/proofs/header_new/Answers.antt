@@ -1,6 +1,5 @@
 use Rattle.rules.specs.Changes.{with_blocks}
 use Rattle.making.proofs.Steps.{no_block, one_block}
-use borrow.Author.Rules.{rules}
 use Rattle.making.proofs.header_new.Goals as goal
 
 pub returns-then-b-eq0 : goal.returns-then-b-eq0

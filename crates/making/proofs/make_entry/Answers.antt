@@ -3,7 +3,7 @@ use lib.ListN.{length}
 use borrow.Author.Tests.{leb-true}
 use Rattle.directory.specs.Entries.{good_comment, is_dir}
 use Rattle.directory.proofs.Laws.{good_name-length}
-use Rattle.rules.specs.Changes.{NewEntry, new_entry}
+use Rattle.rules.specs.Changes.{new_entry}
 use Rattle.growing.specs.Grown.{growth_if}
 use Rattle.growing.proofs.States.{growth-if_grows}
 use Rattle.change_tables.specs.Chains.{loaded_copies}
@@ -20,7 +20,7 @@ overflow_cast-comment c = omega (arith, leb-true (length c.args.comment.now) 79 
 
 pub plan_make-planned-requires : goal.plan_make-planned-requires
 plan_make-planned-requires c = let s = c in
-    record { loaded = (loaded_copies s.requires.loaded.0 _ _ _ c.copied-new_counts.ensures c.copied-new_firsts.ensures c.copied-new_nexts.ensures, s.requires.head_value.0); slots_value = (c.slots_of-slots.ensures, search rules); }
+    record { loaded = (loaded_copies s.requires.loaded.0 _ _ _ c.copied-new_counts.ensures c.copied-new_firsts.ensures c.copied-new_nexts.ensures, s.requires.head_value.0); slots_value = (c.slots_of-slots.ensures, search rules) }
 
 pub returns-in-Stopped : goal.returns-in-Stopped
 returns-in-Stopped c = let s = c in
@@ -28,7 +28,7 @@ returns-in-Stopped c = let s = c in
 
 pub commit_make-requires : goal.commit_make-requires
 commit_make-requires c = let s = c in
-    record { loaded = (s.requires.loaded.0, s.requires.loaded.1, search rules); head_value = s.requires.head_value; name_value = s.requires.name_value; grows = (growth_if s.args.growing, growth-if_grows s.args.growing _ _, rw (c.in-Make.is, c.entry_len.ensures) at c.plan_make-planned.ensures); }
+    record { loaded = (s.requires.loaded.0, s.requires.loaded.1, search rules); head_value = s.requires.head_value; name_value = s.requires.name_value; grows = (growth_if s.args.growing, growth-if_grows s.args.growing _ _, rw (c.in-Make.is, c.entry_len.ensures) at c.plan_make-planned.ensures) }
 
 pub returns : goal.returns
 returns c = let s = c in

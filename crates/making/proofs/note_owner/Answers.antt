@@ -1,6 +1,5 @@
 use Rattle.laws.specs.OwnerTable.{set_all}
 use Rattle.making.proofs.Steps.{no_block, one_block}
-use borrow.Author.Rules.{rules}
 use Rattle.making.proofs.note_owner.Goals as goal
 
 pub returns-then-b-eq0 : goal.returns-then-b-eq0

@@ -9,7 +9,7 @@ use Rattle.making.proofs.plan_make.Goals as goal
 
 pub spare_anode-fresh-requires : goal.spare_anode-fresh-requires
 spare_anode-fresh-requires c = let s = c in
-    record { anode_tables = (s.requires.loaded.0.tables, s.requires.slots_value.1); by_index = (last_reserved s.args.image.now, loaded_state s.requires.loaded.0 s.args.slots.now s.requires.slots_value.0); }
+    record { anode_tables = (s.requires.loaded.0.tables, s.requires.slots_value.1); by_index = (last_reserved s.args.image.now, loaded_state s.requires.loaded.0 s.args.slots.now s.requires.slots_value.0) }
 
 pub returns-then-fresh-ge3444 : goal.returns-then-fresh-ge3444
 returns-then-fresh-ge3444 c = let s = c in
@@ -22,7 +22,7 @@ take_blocks-requires c = let begun : let s = c in let w = c.spare_anode-fresh in
     (begun_is s.requires.loaded.0 s.args.slots.now s.requires.slots_value.0 (growth_if s.args.growing) _ _ _ _ _ w.ensures _ s.requires.loaded.1 c.if-fresh-ge3444.false (w.auto.counts ∙ s.requires.loaded.0.tables.0) (w.auto.firsts ∙ s.requires.loaded.0.tables.1)) in
     let s = c in
     let w = c.spare_anode-fresh in
-    record { anode_tables = ((search rules, search rules, search rules), search rules); by_index = (s.args.image.now, begun); }
+    record { anode_tables = ((search rules, search rules, search rules), search rules); by_index = (s.args.image.now, begun) }
 
 pub returns : goal.returns
 returns c = let begun : let s = c in let w = c.spare_anode-fresh in Begun s.args.image.now (growth_if s.args.growing) s.args.head.0 w.result.0 (table_from c.set_entry.new.table c.set_entry-2.new.table w.new.nexts w.new.slots) = let s = c in

@@ -1,4 +1,3 @@
-use borrow.Author.Rules.{rules}
 use Rattle.making.proofs.start_for.Goals as goal
 
 pub returns-in-Nowhere : goal.returns-in-Nowhere

@@ -16,7 +16,7 @@ pub take_needed-first-requires : goal.take_needed-first-requires
 take_needed-first-requires c = let grows : (img : List ℕ) → Grows limit (disk_size img) (last_reserved img) (growth_if c.args.growing) = λ img. growth-if_grows c.args.growing (disk_size img) (last_reserved img) in
     let s = c in
     let (img, begun) = s.requires.by_index in
-    record { anode_tables = s.requires.anode_tables; by_index = (last_reserved img, subst (λ (t : Slotted). Ready (last_reserved img) t s.args.fresh.0) (sym begun.state) (first_ready (grows img) begun.fresh)); }
+    record { anode_tables = s.requires.anode_tables; by_index = (last_reserved img, subst (λ (t : Slotted). Ready (last_reserved img) t s.args.fresh.0) (sym begun.state) (first_ready (grows img) begun.fresh)) }
 
 pub returns-in-Refused : goal.returns-in-Refused
 returns-in-Refused c = λ img len begun found.
@@ -26,7 +26,7 @@ pub take_needed-second-requires : goal.take_needed-second-requires
 take_needed-second-requires c = let grows : (img : List ℕ) → Grows limit (disk_size img) (last_reserved img) (growth_if c.args.growing) = λ img. growth-if_grows c.args.growing (disk_size img) (last_reserved img) in
     let s = c in
     let (img, begun) = s.requires.by_index in
-    record { anode_tables = ((search rules, search rules, search rules), search rules); by_index = (_, next_ready (grows img) begun.fresh _ _ _ (sym (rw (c.in-Moved.is, begun.state) at c.take_needed-first.ensures))); }
+    record { anode_tables = ((search rules, search rules, search rules), search rules); by_index = (_, next_ready (grows img) begun.fresh _ _ _ (sym (rw (c.in-Moved.is, begun.state) at c.take_needed-first.ensures))) }
 
 pub returns-in-Refused-second : goal.returns-in-Refused-second
 returns-in-Refused-second c = λ img len begun found.

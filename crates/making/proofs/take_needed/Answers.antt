@@ -1,5 +1,4 @@
 use Rattle.making.proofs.Steps.{step_none, step_taken}
-use borrow.Author.Rules.{rules}
 use Rattle.making.proofs.take_needed.Goals as goal
 
 pub returns-then-needed : goal.returns-then-needed

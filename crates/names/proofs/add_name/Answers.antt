@@ -2,7 +2,6 @@ use Rattle.rules.specs.Folding.{folded}
 use Rattle.names.specs.Index.{folded_in}
 use Rattle.names.proofs.Laws.{step_joins, step_start, step_others, step_within}
 use mathlib.Core.Path.{ap}
-use borrow.Author.Rules.{rules}
 use Rattle.names.proofs.add_name.Goals as goal
 
 pub returns : goal.returns

@@ -5,7 +5,6 @@ use mathlib.Core.List.{List}
 use Prim.Native.Nat.{ℕ, ◌-◌}
 use Rattle.names.proofs.Laws.{same_seen, step_joins, step_seen}
 use mathlib.Core.Path.{ap, ◌∙◌}
-use borrow.Author.Rules.{rules}
 use Rattle.names.proofs.enter_name.Goals as goal
 
 pub returns : goal.returns

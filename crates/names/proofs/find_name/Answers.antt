@@ -1,5 +1,4 @@
 use Rattle.names.proofs.Laws.{last-le}
-use borrow.Author.Rules.{rules}
 use Rattle.names.proofs.find_name.Goals as goal
 
 pub returns : goal.returns

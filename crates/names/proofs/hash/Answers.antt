@@ -1,9 +1,6 @@
-use mathlib.Core.Path.{◌≡◌, sym, ◌∙◌}
-use Prim.Native.Nat.{◌-◌, ◌≤◌, ◌<◌}
+use mathlib.Core.Path.{sym, ◌∙◌}
+use Prim.Native.Nat.{◌-◌}
 use native.Mathlib.Omega.{arith}
-use lib.ListN.{length, drop}
-use Rattle.rules.specs.Folding.{folded}
-use Rattle.names.specs.Index.{hash_from, hash_of}
 use Rattle.names.proofs.Laws.{hash_whole, hash_step, hash_end}
 use borrow.Author.Rules.{rules}
 use Rattle.names.proofs.hash.Goals as goal

@@ -1,11 +1,8 @@
-use mathlib.Core.Path.{◌≡◌, sym, ◌∙◌}
+use mathlib.Core.Path.{◌≡◌}
 use Prim.Native.Nat.{◌-◌, ◌≤◌, ◌<◌}
-use native.Mathlib.Omega.{arith}
 use lib.ListN.{length, drop}
 use Rattle.rules.specs.Folding.{folded}
 use Rattle.names.specs.Index.{hash_from, hash_of}
-use Rattle.names.proofs.Laws.{hash_whole, hash_step, hash_end}
-use borrow.Author.Rules.{rules}
 use Rattle.names.proofs.hash.Given as goal
 
 abbrev pub invariant-loop-i : goal.invariant-loop-i

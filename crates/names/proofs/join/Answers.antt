@@ -1,7 +1,6 @@
 use Prim.Native.Nat.{ℕ, ◌/◌, ◌%◌}
 use mathlib.Core.Path.{ap}
 use Rattle.names.specs.Index.{joined}
-use borrow.Author.Rules.{rules}
 use Rattle.names.proofs.join.Goals as goal
 
 pub returns : goal.returns

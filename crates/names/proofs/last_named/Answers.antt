@@ -1,7 +1,6 @@
 use Rattle.rules.specs.Folding.{folded}
 use Rattle.names.proofs.Laws.{step_print, step_chain, step_last}
 use mathlib.Core.Path.{◌∙◌}
-use borrow.Author.Rules.{rules}
 use Rattle.names.proofs.last_named.Goals as goal
 
 pub last_same-requires : goal.last_same-requires

@@ -1,10 +1,7 @@
-use mathlib.Core.Path.{◌≡◌, sym, ◌∙◌}
+use mathlib.Core.Path.{◌≡◌}
 use Prim.Native.Nat.{◌-◌}
-use native.Mathlib.Omega.{arith}
 use Rattle.rules.specs.Folding.{folded}
 use Rattle.names.specs.Index.{last_below, is_same, bucket_of, Chain}
-use Rattle.names.proofs.Laws.{same_early, same_hit, same_next, chain_next}
-use borrow.Author.Rules.{rules}
 use Rattle.names.proofs.last_same.Given as goal
 
 abbrev pub invariant-loop-x : goal.invariant-loop-x

@@ -1,5 +1,4 @@
 use Rattle.directory.specs.Entries.{name_in, name_length}
-use borrow.Author.Rules.{rules}
 use Rattle.names.proofs.name_at.Goals as goal
 
 pub returns : goal.returns

@@ -1,7 +1,6 @@
 use mathlib.Core.Path.{sym, ap, ◌∙◌}
 use Rattle.names.specs.Index.{folded_in, name_of, print_of}
 use Rattle.names.proofs.Laws.{other_name}
-use borrow.Author.Rules.{rules}
 use Rattle.names.proofs.same_at.Goals as goal
 
 pub returns-then-entry-print : goal.returns-then-entry-print

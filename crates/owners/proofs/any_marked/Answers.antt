@@ -1,7 +1,7 @@
 use borrow.Author.Rules.{rules}
-use Rattle.owners.proofs.Laws.{Summed, summed_none, summed_more, summed_tested}
+use Rattle.owners.proofs.Laws.{summed_none, summed_more, summed_tested}
 use native.Mathlib.Omega.{arith}
-use Prim.Native.Nat.{◌+◌, ◌*◌, ◌-◌, ◌≤◌}
+use Prim.Native.Nat.{◌+◌, ◌-◌}
 use mathlib.Core.Path.{◌≡◌}
 use Rattle.owners.proofs.any_marked.Goals as goal
 

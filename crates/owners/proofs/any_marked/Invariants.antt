@@ -1,8 +1,5 @@
-use borrow.Author.Rules.{rules}
-use Rattle.owners.proofs.Laws.{Summed, summed_none, summed_more, summed_tested}
-use native.Mathlib.Omega.{arith}
+use Rattle.owners.proofs.Laws.{Summed}
 use Prim.Native.Nat.{◌+◌, ◌*◌, ◌-◌, ◌≤◌}
-use mathlib.Core.Path.{◌≡◌}
 use Rattle.owners.proofs.any_marked.Given as goal
 
 abbrev pub invariant-loop-i : goal.invariant-loop-i

@@ -1,9 +1,8 @@
 use borrow.Author.Rules.{rules}
 use Rattle.owners.proofs.Laws.{run_none, run_more, kept-none, kept_more}
-use Rattle.owners.specs.Marks.{KeptOutside, RunHolds}
 use lib.ListN.{length, length-set}
 use native.Mathlib.Omega.{arith}
-use Prim.Native.Nat.{◌+◌, ◌-◌, ◌<◌, ◌≤◌}
+use Prim.Native.Nat.{◌+◌, ◌-◌, ◌<◌}
 use mathlib.Core.Path.{◌≡◌}
 use Rattle.owners.proofs.fill_run.Goals as goal
 

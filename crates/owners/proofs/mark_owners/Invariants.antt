@@ -1,15 +1,9 @@
-use mathlib.Core.Path.{◌≡◌, sym, ◌∙◌}
-use mathlib.Core.Bool.{true≢false}
-use Prim.Native.Nat.{◌+◌, ◌-◌, ◌<◌, ◌≤◌}
-use native.Mathlib.Omega.{arith}
-use lib.ListN.{length, get_or, drop}
+use mathlib.Core.Path.{◌≡◌}
+use Prim.Native.Nat.{◌-◌, ◌≤◌}
+use lib.ListN.{length, drop}
 use Rattle.rules.specs.Accepted.{disk_size}
-use Rattle.anodes.specs.Loaded.{anodes_from}
-use Rattle.laws.specs.TestsPassed.{zero_anode, extent_inside}
 use Rattle.owners.specs.Marks.{Marked}
-use Rattle.owners.proofs.Laws.{kept-drop}
-use Rattle.owners.proofs.Owners.{size_some, owners_below, entry_below, anode_first, anode_more, head_some, anode_hit, system_twice, two-owners, one_owner, anode_done}
-use borrow.Author.Rules.{rules}
+use Rattle.owners.proofs.Owners.{owners_below, entry_below}
 use Rattle.owners.proofs.mark_owners.Given as goal
 
 abbrev pub invariant-loop-a : goal.invariant-loop-a

@@ -1,5 +1,4 @@
 use Rattle.owners.proofs.Laws.{kept-none}
-use borrow.Author.Rules.{rules}
 use Rattle.owners.proofs.mark_run.Goals as goal
 
 pub returns-then-any_marked : goal.returns-then-any_marked

@@ -1,11 +1,10 @@
 use mathlib.Core.Path.{◌≡◌, sym, ◌∙◌}
 use Prim.Native.Nat.{◌+◌, ◌-◌, ◌≤◌}
 use native.Mathlib.Omega.{arith}
-use lib.ListN.{length, drop}
+use lib.ListN.{drop}
 use Rattle.rules.specs.Accepted.{disk_size}
-use Rattle.owners.specs.Marks.{Marked}
 use Rattle.owners.proofs.Laws.{kept-drop}
-use Rattle.owners.proofs.Owners.{size_some, slot_within, system_below, system_entry_below, system_first, system_skip, system_more, system_hit, system_done}
+use Rattle.owners.proofs.Owners.{size_some, slot_within, system_first, system_skip, system_more, system_hit, system_done}
 use borrow.Author.Rules.{rules}
 use Rattle.owners.proofs.mark_system.Goals as goal
 

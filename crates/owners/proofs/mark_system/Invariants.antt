@@ -1,12 +1,9 @@
-use mathlib.Core.Path.{◌≡◌, sym, ◌∙◌}
-use Prim.Native.Nat.{◌+◌, ◌-◌, ◌≤◌}
-use native.Mathlib.Omega.{arith}
+use mathlib.Core.Path.{◌≡◌}
+use Prim.Native.Nat.{◌-◌, ◌≤◌}
 use lib.ListN.{length, drop}
 use Rattle.rules.specs.Accepted.{disk_size}
 use Rattle.owners.specs.Marks.{Marked}
-use Rattle.owners.proofs.Laws.{kept-drop}
-use Rattle.owners.proofs.Owners.{size_some, slot_within, system_below, system_entry_below, system_first, system_skip, system_more, system_hit, system_done}
-use borrow.Author.Rules.{rules}
+use Rattle.owners.proofs.Owners.{system_below, system_entry_below}
 use Rattle.owners.proofs.mark_system.Given as goal
 
 abbrev pub invariant-loop-s : goal.invariant-loop-s

@@ -1,7 +1,6 @@
 use mathlib.Core.Path.{refl, sym}
 use Rattle.searches.proofs.Searches.{anode_found_lem}
 use Rattle.placing.proofs.Cases.{append-none, append_some}
-use borrow.Author.Rules.{rules}
 use Rattle.placing.proofs.append.Goals as goal
 
 pub returns-then-f-ge3444 : goal.returns-then-f-ge3444

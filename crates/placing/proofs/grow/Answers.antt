@@ -1,7 +1,6 @@
 use mathlib.Core.Path.{refl, sym, ◌∙◌}
 use native.Mathlib.Omega.{arith}
 use Rattle.placing.proofs.Cases.{grow_empty, grow_end, grow_start, grow_not}
-use borrow.Author.Rules.{rules}
 use Rattle.placing.proofs.grow.Goals as goal
 
 pub returns-then-has-eq0 : goal.returns-then-has-eq0

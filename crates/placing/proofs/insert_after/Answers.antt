@@ -1,7 +1,6 @@
 use mathlib.Core.Path.{◌∙◌}
 use native.Mathlib.Omega.{arith}
 use Rattle.placing.proofs.Tables.{inserted_tables}
-use borrow.Author.Rules.{rules}
 use Rattle.placing.proofs.insert_after.Goals as goal
 
 pub returns : goal.returns

@@ -2,9 +2,7 @@ use mathlib.Core.Path.{sym, ap, ◌∙◌}
 use Rattle.rules.specs.Anodes.{Anodes, exists_by}
 use Rattle.rules.specs.Space.{append}
 use Rattle.anodes.specs.Loaded.{slots_from}
-use Rattle.placing.specs.Steps.{UnlessMoved}
 use Rattle.placing.proofs.Cases.{join_one, join_other, could, could_not}
-use borrow.Author.Rules.{rules}
 use Rattle.placing.proofs.join.Goals as goal
 
 pub returns-then-z-eq1 : goal.returns-then-z-eq1

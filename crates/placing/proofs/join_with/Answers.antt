@@ -4,7 +4,6 @@ use Rattle.rules.specs.Chains.{run}
 use Rattle.rules.specs.Plans.{planned}
 use Rattle.rules.specs.Space.{inserted_after}
 use Rattle.placing.proofs.Cases.{with-one, with_other, could, could_not}
-use borrow.Author.Rules.{rules}
 use borrow.Author.Tests.{eq-eqb, ne_eqb}
 use Rattle.placing.proofs.join_with.Goals as goal
 

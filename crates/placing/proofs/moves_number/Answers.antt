@@ -1,6 +1,5 @@
 use mathlib.Core.Path.{sym, ap, ◌∙◌}
 use Rattle.placing.specs.Steps.{moves_number}
-use borrow.Author.Rules.{rules}
 use Rattle.placing.proofs.moves_number.Goals as goal
 
 pub returns-in-Stopped : goal.returns-in-Stopped

@@ -1,11 +1,9 @@
 use Prim.Native.Nat.{◌+◌}
 use lib.ListN.{get_or}
 use mathlib.Core.Path.{◌≡◌, sym, ◌∙◌}
-use mathlib.Core.Logic.{◌≢◌, ⊎_elim}
-use borrow.Author.Tests.{eqb-true, eqb-false, not-true, not-false}
+use mathlib.Core.Logic.{◌≢◌}
 use native.Mathlib.Omega.{arith}
 use Rattle.placing.proofs.Cases.{put_empty, put-grown, put_own, put_apart}
-use borrow.Author.Rules.{rules}
 use Rattle.placing.proofs.put.Goals as goal
 use Rattle.placing.proofs.put.Goals.{else-not-dir-via-then-not-dir+else-end-y, else-not-dir-via-else-not-dir}
 

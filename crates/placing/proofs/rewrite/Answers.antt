@@ -1,6 +1,5 @@
 use native.Mathlib.Omega.{arith}
 use Rattle.placing.proofs.Tables.{rewritten_tables}
-use borrow.Author.Rules.{rules}
 use Rattle.placing.proofs.rewrite.Goals as goal
 
 pub returns : goal.returns

@@ -1,6 +1,5 @@
 use mathlib.Core.Path.{sym, ap}
 use Rattle.placing.specs.Steps.{stopped_by}
-use borrow.Author.Rules.{rules}
 use Rattle.placing.proofs.stopped.Goals as goal
 
 pub returns-in-Refused : goal.returns-in-Refused

@@ -1,7 +1,6 @@
 use mathlib.Core.Path.{◌∙◌}
 use native.Mathlib.Omega.{arith}
 use Rattle.placing.proofs.Tables.{unlinked_tables}
-use borrow.Author.Rules.{rules}
 use Rattle.placing.proofs.unlink.Goals as goal
 
 pub returns : goal.returns

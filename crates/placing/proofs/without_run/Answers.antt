@@ -1,7 +1,6 @@
 use mathlib.Core.Path.{sym, ◌∙◌}
 use Rattle.laws.specs.Leaving.{run_shrunk, run-emptied, run-unlinked}
 use Rattle.anodes.specs.Loaded.{anodes_from}
-use borrow.Author.Rules.{rules}
 use Rattle.placing.proofs.without_run.Goals as goal
 
 pub returns-then-count-d : goal.returns-then-count-d

@@ -1,4 +1,3 @@
-use Rattle.std.proofs.Common.{rules}
 use Rattle.reader.specs.Reads.{entry_read}
 use Rattle.reader.proofs.read_entry.Goals as goal
 

@@ -1,11 +1,10 @@
 use Rattle.looks.specs.Laws.{find_search, find_reached}
-use Rattle.rules.specs.Calls.{done_or, fields_at, field_list}
+use Rattle.rules.specs.Calls.{done_or}
 use Rattle.find.proofs.Laws.{refused_some, not_done}
 use mathlib.Core.Path.{sym, ◌∙◌}
 use Rattle.lookup.specs.Answers.{entered}
 use Rattle.change_laws.specs.Reached.{EntryIn, named-member}
 use Rattle.reading.proofs.Laws.{open_entry, start_low}
-use borrow.Author.Rules.{rules}
 use Rattle.reading.proofs.find_entry.Goals as goal
 
 pub put_fields-requires : goal.put_fields-requires

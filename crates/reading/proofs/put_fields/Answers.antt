@@ -1,6 +1,5 @@
 use Rattle.directory.specs.Entries.{entry_in, name_length, comment_length}
 use Rattle.rules.specs.Calls.{fields_at, field_list}
-use borrow.Author.Rules.{rules}
 use Rattle.reading.proofs.put_fields.Goals as goal
 
 pub returns : goal.returns

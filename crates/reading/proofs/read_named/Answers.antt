@@ -5,7 +5,6 @@ use Rattle.find.proofs.Laws.{refused_some, not_done}
 use Rattle.change_laws.specs.Reached.{named-member}
 use native.Mathlib.Omega.{arith}
 use mathlib.Core.Path.{sym, ◌∙◌}
-use borrow.Author.Rules.{rules}
 use Rattle.reading.proofs.read_named.Goals as goal
 
 pub find_span-found-requires : goal.find_span-found-requires

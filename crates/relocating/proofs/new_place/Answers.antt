@@ -3,12 +3,10 @@ use native.Mathlib.Omega.{arith}
 use Prim.Native.Nat.{ℕ, ◌+◌, ◌<◌}
 use lib.ListN.{get_or}
 use mathlib.Core.Bool.{true}
-use Rattle.rules.specs.Anodes.{Anodes}
 use Rattle.rules.specs.Space.{found, free_extent}
 use Rattle.anodes.specs.Loaded.{anodes_from}
 use Rattle.searches.specs.Found.{found_of}
 use Rattle.placing.proofs.Found.{extent-at, first_out}
-use borrow.Author.Rules.{rules}
 use Rattle.relocating.proofs.new_place.Goals as goal
 
 pub returns-in_default : goal.returns-in_default

@@ -1,13 +1,4 @@
 use Rattle.relocating.proofs.NewPlaces.{relocate_stops, relocate_done}
-use mathlib.Core.Path.{◌≡◌, refl, sym, ap, ◌∙◌}
-use Rattle.disk.specs.Refusals.{number_of}
-use Rattle.rules.specs.Plans.{Plan, refused, slotted}
-use Rattle.anodes.specs.Loaded.{anodes_from}
-use Rattle.placing.specs.declared.Step.{Step}
-use Rattle.placing.specs.Steps.{step_plan}
-use Rattle.relocating.specs.Places.{PlaceTaken}
-use Rattle.relocating.proofs.NewPlaces.{nowhere_relocated, found-relocated}
-use borrow.Author.Rules.{rules}
 use Rattle.relocating.proofs.relocate.Goals as goal
 
 pub returns-in_default : goal.returns-in_default

@@ -1,12 +1,8 @@
-use mathlib.Core.Path.{◌≡◌, refl, sym, ap, ◌∙◌}
+use mathlib.Core.Path.{◌≡◌}
 use Prim.Native.Nat.{◌-◌, ◌≤◌}
-use native.Mathlib.Omega.{arith}
 use lib.ListN.{length}
 use Rattle.anodes.specs.Loaded.{table_from, AnodeTables}
-use Rattle.placing.specs.declared.Moves.TheVariants.{Done}
-use Rattle.placing.specs.Steps.{EndsIn}
-use Rattle.relocating.proofs.NewPlaces.{Reslots, reslots_first, reslots_next, reslots_stop, reslots_all}
-use borrow.Author.Rules.{rules}
+use Rattle.relocating.proofs.NewPlaces.{Reslots}
 use Rattle.relocating.proofs.reslot_all.Given as goal
 
 abbrev pub invariant-loop-k : goal.invariant-loop-k

@@ -1,8 +1,8 @@
-use Prim.Native.Nat.{◌-◌, ◌≤◌}
-use mathlib.Core.Path.{◌≡◌, ◌∙◌}
+use Prim.Native.Nat.{◌-◌}
+use mathlib.Core.Path.{◌∙◌}
 use native.Mathlib.Omega.{arith}
-use lib.ListN.{length, length-set}
-use Rattle.report.proofs.Totals.{totals_to, figures_none, figures_next, figures_more, figures_all}
+use lib.ListN.{length-set}
+use Rattle.report.proofs.Totals.{figures_none, figures_next, figures_more, figures_all}
 use borrow.Author.Rules.{rules}
 use Rattle.report.proofs.add_figures.Goals as goal
 

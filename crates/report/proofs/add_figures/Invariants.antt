@@ -1,9 +1,7 @@
 use Prim.Native.Nat.{◌-◌, ◌≤◌}
-use mathlib.Core.Path.{◌≡◌, ◌∙◌}
-use native.Mathlib.Omega.{arith}
-use lib.ListN.{length, length-set}
-use Rattle.report.proofs.Totals.{totals_to, figures_none, figures_next, figures_more, figures_all}
-use borrow.Author.Rules.{rules}
+use mathlib.Core.Path.{◌≡◌}
+use lib.ListN.{length}
+use Rattle.report.proofs.Totals.{totals_to}
 use Rattle.report.proofs.add_figures.Given as goal
 
 abbrev pub invariant-loop-i : goal.invariant-loop-i

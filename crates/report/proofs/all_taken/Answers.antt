@@ -1,8 +1,5 @@
-use Prim.Native.Nat.{◌*◌, ◌-◌, ◌≤◌}
-use mathlib.Core.Path.{◌≡◌}
+use Prim.Native.Nat.{◌-◌}
 use native.Mathlib.Omega.{arith}
-use lib.ListN.{take}
-use Rattle.rules.specs.Counting.{sum_list}
 use Rattle.report.proofs.Totals.{taken_large, taken_none, taken_more, taken-all}
 use borrow.Author.Rules.{rules}
 use Rattle.report.proofs.all_taken.Goals as goal

@@ -1,10 +1,7 @@
 use Prim.Native.Nat.{◌*◌, ◌-◌, ◌≤◌}
 use mathlib.Core.Path.{◌≡◌}
-use native.Mathlib.Omega.{arith}
 use lib.ListN.{take}
 use Rattle.rules.specs.Counting.{sum_list}
-use Rattle.report.proofs.Totals.{taken_large, taken_none, taken_more, taken-all}
-use borrow.Author.Rules.{rules}
 use Rattle.report.proofs.all_taken.Given as goal
 
 abbrev pub invariant-loop-i : goal.invariant-loop-i

@@ -1,6 +1,5 @@
 use native.Mathlib.Omega.{arith}
 use Rattle.report.proofs.Totals.{count_in, count-out}
-use borrow.Author.Rules.{rules}
 use Rattle.report.proofs.count_answer.Goals as goal
 
 pub overflow_add-totals : goal.overflow_add-totals

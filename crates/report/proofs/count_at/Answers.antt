@@ -1,7 +1,6 @@
 use mathlib.Core.Path.{refl, sym}
 use Rattle.report.specs.Report.{one_more_at}
 use Rattle.report.proofs.Passes.{one_more_out}
-use borrow.Author.Rules.{rules}
 use Rattle.report.proofs.count_at.Goals as goal
 
 pub returns-then-i-starts : goal.returns-then-i-starts

@@ -1,8 +1,6 @@
-use Rattle.report.specs.Table.{Surveyed}
-use Prim.Native.Nat.{◌+◌, ◌-◌, ◌≤◌}
-use mathlib.Core.Path.{◌≡◌}
+use Prim.Native.Nat.{◌-◌}
 use native.Mathlib.Omega.{arith}
-use lib.ListN.{length, get_or}
+use lib.ListN.{get_or}
 use Rattle.report.proofs.Passes.{surveyed_first, surveyed_longest, counted-all}
 use borrow.Author.Rules.{rules}
 use Rattle.report.proofs.count_runs.Goals as goal
@@ -17,7 +15,7 @@ pub loop-x-init : goal.loop-x-init
 loop-x-init c = (search rules, search rules, rw c.count_at.ensures (surveyed_first _ _ c.requires.by_index))
 
 pub pass_block-s-requires : goal.pass_block-s-requires
-pass_block-s-requires c = record { x_in_bounds = (search rules, search rules); surveyed = c.loop-x.invariant.2; }
+pass_block-s-requires c = record { x_in_bounds = (search rules, search rules); surveyed = c.loop-x.invariant.2 }
 
 pub loop-x-preserved : goal.loop-x-preserved
 loop-x-preserved c = (search rules, search rules, c.pass_block-s.ensures)
@@ -26,4 +24,4 @@ pub overflow_sub-n : goal.overflow_sub-n
 overflow_sub-n c = omega (arith, c.loop-x.invariant.2.begun)
 
 pub returns : goal.returns
-returns c = record { longest = surveyed_longest _ c.loop-x.x _ _ c.loop-x.invariant.2 _ (omega arith) _ c.longer.ensures; counted = counted-all _ c.loop-x.starts _ c.loop-x.x (omega arith) c.loop-x.invariant.2.counts; }
+returns c = record { longest = surveyed_longest _ c.loop-x.x _ _ c.loop-x.invariant.2 _ (omega arith) _ c.longer.ensures; counted = counted-all _ c.loop-x.starts _ c.loop-x.x (omega arith) c.loop-x.invariant.2.counts }

@@ -1,10 +1,7 @@
 use Rattle.report.specs.Table.{Surveyed}
 use Prim.Native.Nat.{◌+◌, ◌-◌, ◌≤◌}
 use mathlib.Core.Path.{◌≡◌}
-use native.Mathlib.Omega.{arith}
-use lib.ListN.{length, get_or}
-use Rattle.report.proofs.Passes.{surveyed_first, surveyed_longest, counted-all}
-use borrow.Author.Rules.{rules}
+use lib.ListN.{length}
 use Rattle.report.proofs.count_runs.Given as goal
 
 abbrev pub invariant-loop-x : goal.invariant-loop-x

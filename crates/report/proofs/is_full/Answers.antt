@@ -1,6 +1,5 @@
 use mathlib.Core.Path.{sym, ◌∙◌}
 use Rattle.report.proofs.Totals.{full_by_count, full_by_sums}
-use borrow.Author.Rules.{rules}
 use Rattle.report.proofs.is_full.Goals as goal
 
 pub returns-then-all_taken : goal.returns-then-all_taken

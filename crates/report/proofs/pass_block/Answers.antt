@@ -3,7 +3,6 @@ use native.Mathlib.Omega.{arith}
 use native.Mathlib.Numerals.{add-one}
 use lib.ListN.{get_or}
 use Rattle.report.proofs.Passes.{counted_few, surveyed_same, surveyed_start}
-use borrow.Author.Rules.{rules}
 use Rattle.report.proofs.pass_block.Goals as goal
 
 pub returns-then-owner-s : goal.returns-then-owner-s

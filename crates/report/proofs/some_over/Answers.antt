@@ -1,9 +1,6 @@
-use Prim.Native.Nat.{◌-◌, ◌≤◌}
-use mathlib.Core.Path.{◌≡◌, refl, ◌∙◌}
+use Prim.Native.Nat.{◌-◌}
+use mathlib.Core.Path.{refl, ◌∙◌}
 use native.Mathlib.Omega.{arith}
-use lib.Dec.{ltb}
-use lib.ListN.{drop}
-use Rattle.rules.specs.Counting.{any_in}
 use Rattle.report.specs.Report.{sums_in}
 use Rattle.report.proofs.Totals.{any_over, any_next, any_ended}
 use borrow.Author.Rules.{rules}

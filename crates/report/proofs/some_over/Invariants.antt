@@ -1,12 +1,9 @@
 use Prim.Native.Nat.{◌-◌, ◌≤◌}
-use mathlib.Core.Path.{◌≡◌, refl, ◌∙◌}
-use native.Mathlib.Omega.{arith}
+use mathlib.Core.Path.{◌≡◌}
 use lib.Dec.{ltb}
 use lib.ListN.{drop}
 use Rattle.rules.specs.Counting.{any_in}
 use Rattle.report.specs.Report.{sums_in}
-use Rattle.report.proofs.Totals.{any_over, any_next, any_ended}
-use borrow.Author.Rules.{rules}
 use Rattle.report.proofs.some_over.Given as goal
 
 abbrev pub invariant-loop-i : goal.invariant-loop-i

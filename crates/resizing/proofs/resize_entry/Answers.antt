@@ -18,4 +18,31 @@ plan_resize-plan-requires c = let s = c in
     let slots = c.slots_of-slots in
     let w = plan_ready s.requires.loaded.0 (entered s.args.image.now s.args.e) s.requires.loaded.1 _ _ _ c.copied-new_counts.ensures c.copied-new_firsts.ensures c.copied-new_nexts.ensures slots.result slots.ensures _ c.chain_sum-have.ensures in
     let t = s.requires.loaded.0.tables in
-    record { anode_tables = ((ap length c.copied-new_counts.ensures ∙ t.0, ap length c.copied-new_firsts.ensures ∙ t.1, ap length c.copied-new_nexts.ensures ∙ t.2), search rules); ready = rw c.last_reserved.ensures w.0; have_value = w.1; }
+    record { anode_tables = ((ap length c.copied-new_counts.ensures ∙ t.0, ap length c.copied-new_firsts.ensures ∙ t.1, ap length c.copied-new_nexts.ensures ∙ t.2), search rules); ready = rw c.last_reserved.ensures w.0; have_value = w.1 }
+
+pub returns-in_default : goal.returns-in_default
+returns-in_default c = let planned-as : let g = c.args in let p = c.plan_resize-plan in EndsIn p.result (table_from p.new.counts p.new.firsts p.new.nexts p.new.slots) (resize_plan (growth_if g.growing) (last_reserved g.image.now) (table_of g.image.now) g.e.anode.0 (blocks_for g.size)) = let s = c in
+    let slots = c.slots_of-slots in
+    let made = plan-made s.requires.loaded.0 (entered s.args.image.now s.args.e) s.requires.loaded.1 s.args.size s.args.growing _ _ _ c.copied-new_counts.ensures c.copied-new_firsts.ensures c.copied-new_nexts.ensures slots.result slots.ensures _ c.blocks_for-want.ensures _ c.last_reserved.ensures in
+    rw made at c.plan_resize-plan.ensures in
+    let s = c in
+    rw (c.moves_number.ensures ∙ ap moves_number c.in_default.is) (refused_leaves s.requires.loaded.0 (entered s.args.image.now s.args.e) s.requires.loaded.1 s.args.size s.args.growing _ (rw c.in_default.is at planned-as) _ _)
+
+pub commit_resize-requires : goal.commit_resize-requires
+commit_resize-requires c = let planned-as : let g = c.args in let p = c.plan_resize-plan in EndsIn p.result (table_from p.new.counts p.new.firsts p.new.nexts p.new.slots) (resize_plan (growth_if g.growing) (last_reserved g.image.now) (table_of g.image.now) g.e.anode.0 (blocks_for g.size)) = let s = c in
+    let slots = c.slots_of-slots in
+    let made = plan-made s.requires.loaded.0 (entered s.args.image.now s.args.e) s.requires.loaded.1 s.args.size s.args.growing _ _ _ c.copied-new_counts.ensures c.copied-new_firsts.ensures c.copied-new_nexts.ensures slots.result slots.ensures _ c.blocks_for-want.ensures _ c.last_reserved.ensures in
+    rw made at c.plan_resize-plan.ensures in
+    let s = c in
+    let done = rw c.in-Done.is at planned-as in record { loaded = s.requires.loaded; in_bounds = (s.requires.kind_value.1, search rules); by_index = (done.0, file_planned s.requires.loaded.0 (entered s.args.image.now s.args.e) s.requires.loaded.1 s.args.size s.args.growing s.requires.kind_value.0 done.1); have_value = (chain-counted s.requires.loaded.0 _ _ c.chain_sum-have.ensures, c.blocks_for-want.ensures) }
+
+pub returns : goal.returns
+returns c = let planned-as : let g = c.args in let p = c.plan_resize-plan in EndsIn p.result (table_from p.new.counts p.new.firsts p.new.nexts p.new.slots) (resize_plan (growth_if g.growing) (last_reserved g.image.now) (table_of g.image.now) g.e.anode.0 (blocks_for g.size)) = let s = c in
+    let slots = c.slots_of-slots in
+    let made = plan-made s.requires.loaded.0 (entered s.args.image.now s.args.e) s.requires.loaded.1 s.args.size s.args.growing _ _ _ c.copied-new_counts.ensures c.copied-new_firsts.ensures c.copied-new_nexts.ensures slots.result slots.ensures _ c.blocks_for-want.ensures _ c.last_reserved.ensures in
+    rw made at c.plan_resize-plan.ensures in
+    let s = c in
+    let e = entered s.args.image.now s.args.e in
+    let done = rw c.in-Done.is at planned-as in
+    rw (resized_is s.requires.loaded.0 e s.requires.loaded.1 s.args.size s.args.growing done.1)
+    (c.commit_resize.ensures done.0 (file_planned s.requires.loaded.0 e s.requires.loaded.1 s.args.size s.args.growing s.requires.kind_value.0 done.1))

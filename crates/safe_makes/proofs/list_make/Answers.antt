@@ -2,7 +2,6 @@ use native.Mathlib.Omega.{arith}
 use Rattle.safe_makes.proofs.Made.{list_made}
 use Rattle.anodes.specs.Loaded.{slots_from}
 use Rattle.safe_rules.specs.SafePlans.{slot_blocks}
-use borrow.Author.Rules.{rules}
 use Rattle.safe_makes.proofs.list_make.Goals as goal
 
 pub put_own-behind-requires : goal.put_own-behind-requires
@@ -12,7 +11,7 @@ pub put_write-end-requires : goal.put_write-end-requires
 put_write-end-requires c = let s = c in (s.requires.own_in_bounds.1, omega (arith, s.requires.slots_in_bounds, c.put_own-behind.ensures.1, c.put_own-behind.auto.out))
 
 pub put_end-requires : goal.put_end-requires
-put_end-requires c = let s = c in record { by_index = (s.requires.own_in_bounds.3, s.requires.own_in_bounds.2); slots_in_bounds = omega (arith, s.requires.slots_in_bounds, c.put_write-end.ensures.1, c.put_own-behind.ensures.1, c.put_own-behind.auto.out, c.put_write-end.auto.out); }
+put_end-requires c = let s = c in record { by_index = (s.requires.own_in_bounds.3, s.requires.own_in_bounds.2); slots_in_bounds = omega (arith, s.requires.slots_in_bounds, c.put_write-end.ensures.1, c.put_own-behind.ensures.1, c.put_own-behind.auto.out, c.put_write-end.auto.out) }
 
 pub returns : goal.returns
 returns c = let s = c in

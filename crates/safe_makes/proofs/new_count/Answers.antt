@@ -2,7 +2,6 @@ use mathlib.Core.Path.{◌≡◌, sym, ◌∙◌}
 use mathlib.Core.Bool.{true, false}
 use native.Mathlib.Omega.{arith}
 use Rattle.directory.specs.Entries.{is_dir}
-use borrow.Author.Rules.{rules}
 use Rattle.safe_makes.proofs.new_count.Goals as goal
 
 pub returns-then-is_directory : goal.returns-then-is_directory

@@ -27,7 +27,7 @@ unfolding good_comment
 overflow_cast-comment c = omega (arith, leb-true (length c.args.comment.now) 79 c.requires.name_value.1)
 
 pub plan_make-planned-requires : goal.plan_make-planned-requires
-plan_make-planned-requires c = let s = c in record { loaded = (s.requires.loaded.0, s.requires.loaded.2); slots_value = s.requires.slots_value; }
+plan_make-planned-requires c = let s = c in record { loaded = (s.requires.loaded.0, s.requires.loaded.2); slots_value = s.requires.slots_value }
 
 pub returns-in-Stopped : goal.returns-in-Stopped
 returns-in-Stopped c = let new : ℕ → ℕ → ℕ → ℕ → NewEntry = λ day minute tick protection. let a = c.args in new_entry (is_dir a.kind) a.name.now a.comment.now day minute tick protection in
@@ -43,7 +43,7 @@ entry_block-step-requires c = let new : ℕ → ℕ → ℕ → ℕ → NewEntry
     let p = rw (c.in-Make.is, c.entry_len-len.ensures) at w.ensures in
     let u = table_from w.new.counts w.new.firsts w.new.nexts w.new.slots in
     let ns = new 0 0 0 0 in
-    record { anode_tables = ((search rules, search rules, search rules), λ z. room_small home ns c.in-Make.plan u p s.requires.name_value.0 s.requires.name_value.1 z); by_index = (last_reserved s.args.image.now, slots_from w.new.slots, λ z. room_ready home ns c.in-Make.plan u p s.requires.name_value.0 s.requires.name_value.1 z); }
+    record { anode_tables = ((search rules, search rules, search rules), λ z. room_small home ns c.in-Make.plan u p s.requires.name_value.0 s.requires.name_value.1 z); by_index = (last_reserved s.args.image.now, slots_from w.new.slots, λ z. room_ready home ns c.in-Make.plan u p s.requires.name_value.0 s.requires.name_value.1 z) }
 
 pub returns-in-Refused : goal.returns-in-Refused
 returns-in-Refused c = let new : ℕ → ℕ → ℕ → ℕ → NewEntry = λ day minute tick protection. let a = c.args in new_entry (is_dir a.kind) a.name.now a.comment.now day minute tick protection in
@@ -78,7 +78,7 @@ settle-moves-requires c = let new : ℕ → ℕ → ℕ → ℕ → NewEntry = �
     let b = c.entry_block-step in
     let q = table_from b.new.counts b.new.firsts b.new.nexts w.new.slots in
     let entry : entry_plan c.in-Make.plan.parents.0 (c.in-Make.plan.start / 512) u ≡ planned q (c.in-Moved.z.0 ∷ []) = sym (rw c.in-Moved.is at (b.ensures (slots_from w.new.slots))) in
-    record { anode_tables = ((b.auto.counts ∙ w.auto.counts ∙ s.requires.loaded.0.tables.0, b.auto.firsts ∙ w.auto.firsts ∙ s.requires.loaded.0.tables.1, b.auto.nexts ∙ w.auto.nexts ∙ s.requires.loaded.0.tables.2), w.auto.slots ∙ s.requires.slots_value.1); settle_ready = settles_made home (new 0 0 0 0) c.in-Make.plan u p s.requires.name_value.0 s.requires.name_value.1 q c.in-Moved.z.0 entry s.args.blocks.now s.requires.loaded.1 _ _ _ c.last_reserved-last.ensures c.room_block.ensures c.disk_size-size.ensures; }
+    record { anode_tables = ((b.auto.counts ∙ w.auto.counts ∙ s.requires.loaded.0.tables.0, b.auto.firsts ∙ w.auto.firsts ∙ s.requires.loaded.0.tables.1, b.auto.nexts ∙ w.auto.nexts ∙ s.requires.loaded.0.tables.2), w.auto.slots ∙ s.requires.slots_value.1); settle_ready = settles_made home (new 0 0 0 0) c.in-Make.plan u p s.requires.name_value.0 s.requires.name_value.1 q c.in-Moved.z.0 entry s.args.blocks.now s.requires.loaded.1 _ _ _ c.last_reserved-last.ensures c.room_block.ensures c.disk_size-size.ensures }
 
 pub returns-in-Done : goal.returns-in-Done
 unfolding run

@@ -3,7 +3,6 @@ use lib.ListN.{length}
 use Rattle.write_lists.proofs.Laws.{no_write}
 use native.Mathlib.Omega.{arith}
 use Rattle.making.proofs.Steps.{no_block, one_block}
-use borrow.Author.Rules.{rules}
 use Rattle.safe_makes.proofs.put_own.Goals as goal
 
 pub returns-then-own-eq0 : goal.returns-then-own-eq0

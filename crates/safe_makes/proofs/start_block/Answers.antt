@@ -2,7 +2,6 @@ use native.Mathlib.Omega.{arith}
 use borrow.Author.Tests.{eq-eqb, ne_eqb}
 use Rattle.rules.specs.Changes.{with_blocks}
 use Rattle.safe_makes.specs.SafePlanned.{start_bytes}
-use borrow.Author.Rules.{rules}
 use Rattle.safe_makes.proofs.start_block.Goals as goal
 
 pub returns-then-plan-ne0 : goal.returns-then-plan-ne0

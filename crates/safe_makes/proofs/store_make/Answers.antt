@@ -1,11 +1,10 @@
 use native.Mathlib.Omega.{arith}
 use mathlib.Core.Path.{◌∙◌}
 use Rattle.directory.specs.Entries.{is_dir}
-use Rattle.rules.specs.Changes.{NewEntry, new_entry}
+use Rattle.rules.specs.Changes.{new_entry}
 use Rattle.change_laws.specs.Image.{ReachedDir}
 use Rattle.change_tables.specs.Chains.{loaded_image}
 use Rattle.safe_makes.proofs.Made.{moves_table, room_inside, to_inside, image-made}
-use borrow.Author.Rules.{rules}
 use Rattle.safe_makes.proofs.store_make.Goals as goal
 
 pub store_table-requires : goal.store_table-requires

@@ -1,11 +1,10 @@
-use mathlib.Core.Path.{◌≡◌, refl, sym, ap, ◌∙◌}
+use mathlib.Core.Path.{refl, sym, ap, ◌∙◌}
 use Prim.Native.Nat.{ℕ, ◌-◌}
 use native.Mathlib.Omega.{arith}
 use lib.ListN.{get_or}
 use Rattle.rules.specs.Chains.{chain_of}
 use Rattle.safe_plans.specs.Planned.{anode_with}
 use Rattle.safe_plans.proofs.Parts.{with_none, with-end, with_first, with-later}
-use borrow.Author.Rules.{rules}
 use Rattle.safe_plans.proofs.anode_with.Goals as goal
 
 pub loop-fuel-init : goal.loop-fuel-init

@@ -1,11 +1,8 @@
-use mathlib.Core.Path.{◌≡◌, refl, sym, ap, ◌∙◌}
-use Prim.Native.Nat.{ℕ, ◌-◌}
-use native.Mathlib.Omega.{arith}
+use mathlib.Core.Path.{◌≡◌}
+use Prim.Native.Nat.{◌-◌}
 use lib.ListN.{get_or}
 use Rattle.rules.specs.Chains.{chain_of}
 use Rattle.safe_plans.specs.Planned.{anode_with}
-use Rattle.safe_plans.proofs.Parts.{with_none, with-end, with_first, with-later}
-use borrow.Author.Rules.{rules}
 use Rattle.safe_plans.proofs.anode_with.Given as goal
 
 abbrev pub invariant-loop-fuel : goal.invariant-loop-fuel

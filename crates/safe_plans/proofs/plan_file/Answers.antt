@@ -1,15 +1,14 @@
-use mathlib.Core.Path.{◌≡◌, refl, sym, ap, ◌∙◌}
+use mathlib.Core.Path.{◌∙◌}
 use Rattle.anodes.specs.Loaded.{table_from}
 use Rattle.safe_rules.specs.SafePlans.{taken_anew}
 use Rattle.giving_back.specs.OldTable.{old_from}
 use Rattle.safe_plans.specs.Planned.{rest_from}
 use Rattle.safe_steps.proofs.Steps.{ends_stopped, ends_then, ends_done}
 use Rattle.safe_plans.proofs.Parts.{rest_ends}
-use borrow.Author.Rules.{rules}
 use Rattle.safe_plans.proofs.plan_file.Goals as goal
 
 pub take_anew-moves-requires : goal.take_anew-moves-requires
-take_anew-moves-requires c = let s = c in record { anode_tables = (s.requires.anode_tables.0, s.requires.anode_tables.1, s.requires.file_ready.from_6); by_index = (s.args.last.0, s.requires.file_ready.ready); }
+take_anew-moves-requires c = let s = c in record { anode_tables = (s.requires.anode_tables.0, s.requires.anode_tables.1, s.requires.file_ready.from_6); by_index = (s.args.last.0, s.requires.file_ready.ready) }
 
 pub returns-in_default : goal.returns-in_default
 returns-in_default c = ends_stopped _ _ _ _ _ _ c.in_default.is c.take_anew-moves.ensures
@@ -18,7 +17,7 @@ pub settle-requires : goal.settle-requires
 settle-requires c = let s = c in
     let w = c.take_anew-moves in
     let (us, e) = ends_done _ _ _ c.in-Done.is w.ensures in
-    record { anode_tables = ((w.auto.counts ∙ s.requires.anode_tables.0.0, w.auto.firsts ∙ s.requires.anode_tables.0.1, w.auto.nexts ∙ s.requires.anode_tables.0.2), w.auto.slots ∙ s.requires.anode_tables.1); settle_ready = s.requires.file_ready.settles _ us e; }
+    record { anode_tables = ((w.auto.counts ∙ s.requires.anode_tables.0.0, w.auto.firsts ∙ s.requires.anode_tables.0.1, w.auto.nexts ∙ s.requires.anode_tables.0.2), w.auto.slots ∙ s.requires.anode_tables.1); settle_ready = s.requires.file_ready.settles _ us e }
 
 pub returns : goal.returns
 returns c = let s = c in

@@ -1,15 +1,14 @@
-use mathlib.Core.Path.{◌≡◌, refl, sym, ap, ◌∙◌}
+use mathlib.Core.Path.{◌∙◌}
 use Rattle.anodes.specs.Loaded.{table_from, slots_from}
 use Rattle.safe_rules.specs.SafePlans.{relocated}
 use Rattle.giving_back.specs.OldTable.{old_from}
 use Rattle.safe_plans.specs.Planned.{rest_from}
 use Rattle.safe_steps.proofs.Steps.{ends_then}
 use Rattle.safe_plans.proofs.Parts.{rest_ends, step_stops, step_planned}
-use borrow.Author.Rules.{rules}
 use Rattle.safe_plans.proofs.plan_move.Goals as goal
 
 pub relocate-step-requires : goal.relocate-step-requires
-relocate-step-requires c = let s = c in record { anode_tables = (s.requires.anode_tables.0, s.requires.move_ready.below); by_index = (s.args.last.0, slots_from s.args.slots.now, s.requires.move_ready.state); }
+relocate-step-requires c = let s = c in record { anode_tables = (s.requires.anode_tables.0, s.requires.move_ready.below); by_index = (s.args.last.0, slots_from s.args.slots.now, s.requires.move_ready.state) }
 
 pub returns-in_default : goal.returns-in_default
 returns-in_default c = let s = c in
@@ -19,7 +18,7 @@ pub settle-requires : goal.settle-requires
 settle-requires c = let s = c in
     let w = c.relocate-step in
     let e = step_planned _ _ _ (w.ensures _ (slots_from s.args.slots.now) s.requires.move_ready.owns) (rest_from s.args.last.0 (old_from s.args.blocks.now s.args.old.head.0 s.args.old.moved.0 s.args.size 0)) _ c.in-Moved.is in
-    record { anode_tables = ((w.auto.counts ∙ s.requires.anode_tables.0.0, w.auto.firsts ∙ s.requires.anode_tables.0.1, w.auto.nexts ∙ s.requires.anode_tables.0.2), s.requires.anode_tables.1); settle_ready = s.requires.move_ready.settles _ _ e; }
+    record { anode_tables = ((w.auto.counts ∙ s.requires.anode_tables.0.0, w.auto.firsts ∙ s.requires.anode_tables.0.1, w.auto.nexts ∙ s.requires.anode_tables.0.2), s.requires.anode_tables.1); settle_ready = s.requires.move_ready.settles _ _ e }
 
 pub returns : goal.returns
 returns c = let s = c in

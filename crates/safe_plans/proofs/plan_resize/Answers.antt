@@ -1,4 +1,4 @@
-use mathlib.Core.Path.{◌≡◌, refl, sym, ap, ◌∙◌}
+use mathlib.Core.Path.{◌∙◌}
 use Rattle.rules.specs.Plans.{◌and_then◌}
 use Rattle.anodes.specs.Loaded.{table_from}
 use Rattle.safe_rules.specs.SafePlans.{relocated, taken_anew}
@@ -6,11 +6,10 @@ use Rattle.giving_back.specs.OldTable.{old_from}
 use Rattle.safe_plans.specs.Planned.{rest_from}
 use Rattle.safe_steps.proofs.Steps.{ends_stopped, ends_done}
 use Rattle.safe_plans.proofs.Parts.{ends_twice}
-use borrow.Author.Rules.{rules}
 use Rattle.safe_plans.proofs.plan_resize.Goals as goal
 
 pub take_anew-moves-requires : goal.take_anew-moves-requires
-take_anew-moves-requires c = let s = c in record { anode_tables = (s.requires.anode_tables.0, s.requires.anode_tables.1, s.requires.resize_ready.from_6); by_index = (s.args.last.0, s.requires.resize_ready.ready); }
+take_anew-moves-requires c = let s = c in record { anode_tables = (s.requires.anode_tables.0, s.requires.anode_tables.1, s.requires.resize_ready.from_6); by_index = (s.args.last.0, s.requires.resize_ready.ready) }
 
 pub returns-in_default : goal.returns-in_default
 returns-in_default c = let s = c in
@@ -24,7 +23,7 @@ pub plan_move-requires : goal.plan_move-requires
 plan_move-requires c = let s = c in
     let w = c.take_anew-moves in
     let (us, e) = ends_done _ _ _ c.in-Done.is w.ensures in
-    record { anode_tables = ((w.auto.counts ∙ s.requires.anode_tables.0.0, w.auto.firsts ∙ s.requires.anode_tables.0.1, w.auto.nexts ∙ s.requires.anode_tables.0.2), w.auto.slots ∙ s.requires.anode_tables.1); move_ready = s.requires.resize_ready.moves _ us e; }
+    record { anode_tables = ((w.auto.counts ∙ s.requires.anode_tables.0.0, w.auto.firsts ∙ s.requires.anode_tables.0.1, w.auto.nexts ∙ s.requires.anode_tables.0.2), w.auto.slots ∙ s.requires.anode_tables.1); move_ready = s.requires.resize_ready.moves _ us e }
 
 pub returns : goal.returns
 returns c = let s = c in

@@ -4,7 +4,6 @@ use Rattle.anodes.specs.Loaded.{slots_from}
 use Rattle.lookup.specs.Answers.{entered}
 use Rattle.change_tables.specs.Chains.{reached-entry}
 use Rattle.safe_removes.proofs.Images.{place_whole, slots_whole, root_whole, short_leaves, done_leaves}
-use borrow.Author.Rules.{rules}
 use Rattle.safe_removes.proofs.finish_removal.Goals as goal
 
 pub returns-then-out-count : goal.returns-then-out-count
@@ -20,7 +19,7 @@ pub put_end-requires : goal.put_end-requires
 unfolding slots_from
 put_end-requires c = let s = c in
     let m = reached-entry s.requires.loaded.0 (entered s.args.image.now s.args.e) s.requires.loaded.1 in
-    let long = c.store_removal.auto in record { by_index = (λ k. let w = slots_whole m _ _ s.requires.e_value k in omega (arith, w, long), let w = root_whole m _ _ s.requires.e_value in omega (arith, w, long)); slots_in_bounds = omega (arith, c.if-out-count.false, c.used_slots-count.ensures.0, c.put_write-at.ensures.1, c.put_write-at.auto); }
+    let long = c.store_removal.auto in record { by_index = (λ k. let w = slots_whole m _ _ s.requires.e_value k in omega (arith, w, long), let w = root_whole m _ _ s.requires.e_value in omega (arith, w, long)); slots_in_bounds = omega (arith, c.if-out-count.false, c.used_slots-count.ensures.0, c.put_write-at.ensures.1, c.put_write-at.auto) }
 
 pub returns : goal.returns
 returns c = let s = c in

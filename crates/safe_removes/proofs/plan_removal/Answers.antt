@@ -4,7 +4,6 @@ use Rattle.lookup.specs.Answers.{entered}
 use Rattle.change_tables.specs.Chains.{loaded_image, reached-entry}
 use Rattle.safe_plans.proofs.Counts.{disk_small}
 use Rattle.safe_removes.proofs.Plans.{block_small, remove_ready, remove_ends}
-use borrow.Author.Rules.{rules}
 use Rattle.safe_removes.proofs.plan_removal.Goals as goal
 
 pub entry_block-moved-requires : goal.entry_block-moved-requires
@@ -14,7 +13,7 @@ pub overflow_cast-disk_size : goal.overflow_cast-disk_size
 overflow_cast-disk_size c = let s = c in omega (arith, c.disk_size.ensures, disk_small (loaded_image s.requires.loaded.0))
 
 pub plan_remove-requires : goal.plan_remove-requires
-plan_remove-requires c = let s = c in record { anode_tables = (s.requires.loaded.0.tables, s.requires.slots_len.0); linked_from = remove_ready (reached-entry s.requires.loaded.0 (entered s.args.image.now s.args.e) s.requires.reached_entry.0) s.requires.loaded.0 s.args.slots.now s.requires.slots_len.1 s.args.blocks.now s.requires.loaded.1 _ _ _ c.entry_block-moved.ensures c.last_reserved.ensures c.disk_size.ensures _ s.requires.reached_entry.1; }
+plan_remove-requires c = let s = c in record { anode_tables = (s.requires.loaded.0.tables, s.requires.slots_len.0); linked_from = remove_ready (reached-entry s.requires.loaded.0 (entered s.args.image.now s.args.e) s.requires.reached_entry.0) s.requires.loaded.0 s.args.slots.now s.requires.slots_len.1 s.args.blocks.now s.requires.loaded.1 _ _ _ c.entry_block-moved.ensures c.last_reserved.ensures c.disk_size.ensures _ s.requires.reached_entry.1 }
 
 pub returns : goal.returns
 returns c = let s = c in

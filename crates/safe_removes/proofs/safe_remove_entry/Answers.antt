@@ -22,7 +22,7 @@ pub plan_removal-moves-requires : goal.plan_removal-moves-requires
 plan_removal-moves-requires c = let slots-long : length c.slots_of-slots.result ≡ 42 = search rules in
     let s = c in
     let m = reached-entry s.requires.loaded.0 (entered s.args.image.now s.args.e) (s.args.home.0, s.requires.home_value.0, s.requires.home_value.1) in
-    record { loaded = (loaded_copies s.requires.loaded.0 _ _ _ c.copied-new_counts.ensures c.copied-new_firsts.ensures c.copied-new_nexts.ensures, s.requires.loaded.1); slots_len = (slots-long, c.slots_of-slots.ensures); reached_entry = ((s.args.home.0, s.requires.home_value.0, s.requires.home_value.1), owner_found m s.requires.loaded.0 _ c.entry_block.ensures _ c.anode_with-owner.ensures); }
+    record { loaded = (loaded_copies s.requires.loaded.0 _ _ _ c.copied-new_counts.ensures c.copied-new_firsts.ensures c.copied-new_nexts.ensures, s.requires.loaded.1); slots_len = (slots-long, c.slots_of-slots.ensures); reached_entry = ((s.args.home.0, s.requires.home_value.0, s.requires.home_value.1), owner_found m s.requires.loaded.0 _ c.entry_block.ensures _ c.anode_with-owner.ensures) }
 
 pub returns-in-Stopped : goal.returns-in-Stopped
 returns-in-Stopped c = let s = c in
@@ -34,4 +34,4 @@ unfolding anodes_from
 finish_removal-requires c = let s = c in
     let m = reached-entry s.requires.loaded.0 (entered s.args.image.now s.args.e) (s.args.home.0, s.requires.home_value.0, s.requires.home_value.1) in
     let (ys, plan) = ends_done _ _ _ c.in_default.is c.plan_removal-moves.ensures in
-    record { loaded = (s.requires.loaded.0, (s.args.home.0, s.requires.home_value.0, s.requires.home_value.1)); e_bound = enough_free _ _ _ _ (chain-counted s.requires.loaded.0 1 _ c.chain_sum.ensures) (new-counted m c.slots_of-slots.result c.slots_of-slots.ensures _ c.used_slots-need.ensures.0) c.if-chain_sum-need.false; e_value = plan-placed m _ ys plan _ (owner_found m s.requires.loaded.0 _ c.entry_block.ensures _ c.anode_with-owner.ensures) _ c.entry.ensures; }
+    record { loaded = (s.requires.loaded.0, (s.args.home.0, s.requires.home_value.0, s.requires.home_value.1)); e_bound = enough_free _ _ _ _ (chain-counted s.requires.loaded.0 1 _ c.chain_sum.ensures) (new-counted m c.slots_of-slots.result c.slots_of-slots.ensures _ c.used_slots-need.ensures.0) c.if-chain_sum-need.false; e_value = plan-placed m _ ys plan _ (owner_found m s.requires.loaded.0 _ c.entry_block.ensures _ c.anode_with-owner.ensures) _ c.entry.ensures }

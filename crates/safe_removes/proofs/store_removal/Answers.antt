@@ -2,7 +2,6 @@ use Rattle.lookup.specs.Answers.{entered}
 use Rattle.change_tables.specs.Chains.{reached-entry}
 use Rattle.safe_removes.proofs.Plans.{block_small}
 use Rattle.safe_removes.proofs.Images.{moves_table, both_whole, entry_stands, stores_leave}
-use borrow.Author.Rules.{rules}
 use Rattle.safe_removes.proofs.store_removal.Goals as goal
 
 pub store_table-requires : goal.store_table-requires

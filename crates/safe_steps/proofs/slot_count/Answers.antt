@@ -1,6 +1,4 @@
-use mathlib.Core.Path.{sym}
 use borrow.Author.Tests.{eq-eqb, ne_eqb}
-use borrow.Author.Rules.{rules}
 use Rattle.safe_steps.proofs.slot_count.Goals as goal
 
 pub returns-then-y-eq0 : goal.returns-then-y-eq0

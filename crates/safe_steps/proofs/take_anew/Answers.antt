@@ -1,15 +1,9 @@
 use Rattle.anodes.specs.Loaded.{table_from}
-use mathlib.Core.Path.{◌≡◌, refl, sym, ap, ◌∙◌}
-use native.Mathlib.Omega.{arith}
-use Rattle.rules.specs.Space.{dropped}
+use mathlib.Core.Path.{ap, ◌∙◌}
 use Rattle.rules.specs.Anodes.{Anodes}
-use Rattle.rules.specs.Plans.{slotted}
 use Rattle.rules.specs.Space.{rewritten}
-use Rattle.anodes.specs.Loaded.{anodes_from, slots_from}
-use Rattle.safe_rules.specs.SafePlans.{taken_anew}
-use Rattle.placing.specs.Steps.{EndsIn}
+use Rattle.anodes.specs.Loaded.{anodes_from}
 use Rattle.safe_steps.proofs.Steps.{emptied_ready, ends_anew}
-use borrow.Author.Rules.{rules}
 use Rattle.safe_steps.proofs.take_anew.Goals as goal
 
 pub drop_chain-requires : goal.drop_chain-requires
@@ -25,7 +19,7 @@ unfolding anodes_from
 take_many-requires c = let s = c in
     let w = c.drop_chain in
     let v = c.rewrite in
-    record { anode_tables = ((v.auto.counts ∙ w.auto.counts ∙ s.requires.anode_tables.0.0, v.auto.firsts ∙ w.auto.firsts ∙ s.requires.anode_tables.0.1, w.auto.nexts ∙ s.requires.anode_tables.0.2), s.requires.anode_tables.1); by_index = (s.requires.by_index.0, emptied_ready _ _ _ s.requires.anode_tables.2 s.requires.by_index.1 _ (v.ensures w.new.nexts ∙ ap (λ (x : Anodes). rewritten x s.args.head.0 0 65535) w.ensures)); }
+    record { anode_tables = ((v.auto.counts ∙ w.auto.counts ∙ s.requires.anode_tables.0.0, v.auto.firsts ∙ w.auto.firsts ∙ s.requires.anode_tables.0.1, w.auto.nexts ∙ s.requires.anode_tables.0.2), s.requires.anode_tables.1); by_index = (s.requires.by_index.0, emptied_ready _ _ _ s.requires.anode_tables.2 s.requires.by_index.1 _ (v.ensures w.new.nexts ∙ ap (λ (x : Anodes). rewritten x s.args.head.0 0 65535) w.ensures)) }
 
 pub returns : goal.returns
 returns c = let s = c in

@@ -1,5 +1,5 @@
-use mathlib.Core.Path.{◌≡◌, refl, sym, ap, ◌∙◌}
-use Prim.Native.Nat.{ℕ, ◌+◌, ◌-◌, ◌≤◌}
+use mathlib.Core.Path.{◌≡◌, ap, ◌∙◌}
+use Prim.Native.Nat.{ℕ, ◌+◌, ◌-◌}
 use mathlib.Core.Bool.{cond}
 use native.Mathlib.Omega.{arith}
 use lib.Dec.{eqb}
@@ -7,7 +7,6 @@ use lib.ListN.{length}
 use Rattle.safe_rules.specs.SafePlans.{slot_blocks}
 use Rattle.anodes.specs.Loaded.{slots_from}
 use Rattle.safe_steps.proofs.Steps.{none_used, more_used, slot_few}
-use borrow.Author.Rules.{rules}
 use Rattle.safe_steps.proofs.used_slots.Goals as goal
 
 pub loop-k-init : goal.loop-k-init

@@ -1,13 +1,8 @@
-use mathlib.Core.Path.{◌≡◌, refl, sym, ap, ◌∙◌}
-use Prim.Native.Nat.{ℕ, ◌+◌, ◌-◌, ◌≤◌}
-use mathlib.Core.Bool.{cond}
-use native.Mathlib.Omega.{arith}
-use lib.Dec.{eqb}
+use mathlib.Core.Path.{◌≡◌}
+use Prim.Native.Nat.{◌-◌, ◌≤◌}
 use lib.ListN.{length}
 use Rattle.safe_rules.specs.SafePlans.{slot_blocks}
 use Rattle.anodes.specs.Loaded.{slots_from}
-use Rattle.safe_steps.proofs.Steps.{none_used, more_used, slot_few}
-use borrow.Author.Rules.{rules}
 use Rattle.safe_steps.proofs.used_slots.Given as goal
 
 abbrev pub invariant-loop-k : goal.invariant-loop-k

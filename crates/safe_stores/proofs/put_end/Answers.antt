@@ -1,11 +1,9 @@
 use Rattle.safe_rules.specs.SafePlans.{slot_blocks}
 use Rattle.safe_stores.proofs.Stores.{all_inside}
 use Rattle.anodes.specs.Loaded.{slots_from}
-use mathlib.Core.Path.{◌≡◌, refl, sym, ap, ◌∙◌}
+use mathlib.Core.Path.{◌∙◌}
 use native.Mathlib.Omega.{arith}
-use Rattle.write_lists.proofs.Laws.{length-with_writes, writes_on}
-use Rattle.safe_stores.proofs.Stores.{slots_inside}
-use borrow.Author.Rules.{rules}
+use Rattle.write_lists.proofs.Laws.{writes_on}
 use Rattle.safe_stores.proofs.put_end.Goals as goal
 
 pub put_slots-end-requires : goal.put_slots-end-requires

@@ -1,6 +1,5 @@
-use mathlib.Core.Path.{◌≡◌, refl, sym, ap, ◌∙◌}
+use mathlib.Core.Path.{refl, ◌∙◌}
 use Rattle.safe_stores.proofs.Stores.{entry_naming, file-stored}
-use borrow.Author.Rules.{rules}
 use Rattle.safe_stores.proofs.store_file.Goals as goal
 
 pub returns : goal.returns

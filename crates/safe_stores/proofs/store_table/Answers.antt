@@ -1,6 +1,4 @@
-use mathlib.Core.Path.{◌≡◌, refl, sym, ap, ◌∙◌}
 use Rattle.safe_stores.proofs.Stores.{loaded_size, anodes_kept, table-stored}
-use borrow.Author.Rules.{rules}
 use Rattle.safe_stores.proofs.store_table.Goals as goal
 
 pub move_slots-requires : goal.move_slots-requires

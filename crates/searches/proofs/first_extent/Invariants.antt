@@ -1,11 +1,8 @@
 use Prim.Native.Nat.{◌-◌}
-use mathlib.Core.Path.{◌≡◌, sym, ◌∙◌}
-use native.Mathlib.Omega.{arith}
+use mathlib.Core.Path.{◌≡◌}
 use lib.ListN.{get_or}
-use borrow.Author.Rules.{rules}
 use Rattle.rules.specs.Chains.{chain_of, cut}
 use Rattle.rules.specs.Space.{first_extent}
-use Rattle.searches.proofs.Searches.{first-none, first-end, first_hit, first_step}
 use Rattle.searches.proofs.first_extent.Given as goal
 
 abbrev pub invariant-loop-fuel : goal.invariant-loop-fuel

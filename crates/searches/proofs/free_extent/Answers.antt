@@ -1,6 +1,5 @@
 use mathlib.Core.Path.{sym, ◌∙◌}
 use Rattle.searches.proofs.Searches.{near-found, near_empty}
-use borrow.Author.Rules.{rules}
 use Rattle.searches.proofs.free_extent.Goals as goal
 
 pub returns-in-At : goal.returns-in-At

@@ -1,10 +1,6 @@
 use Prim.Native.Nat.{◌-◌}
-use mathlib.Core.Path.{◌≡◌, sym, ◌∙◌}
+use mathlib.Core.Path.{sym, ◌∙◌}
 use native.Mathlib.Omega.{arith}
-use lib.ListN.{get_or}
-use borrow.Author.Rules.{rules}
-use Rattle.rules.specs.Counting.{last_of}
-use Rattle.rules.specs.Chains.{chain_of, cut}
 use Rattle.searches.proofs.Searches.{end_none, end-at-zero, end_step}
 use Rattle.searches.proofs.last_anode.Goals as goal
 

@@ -2,7 +2,6 @@ use mathlib.Core.Path.{ap, ◌∙◌}
 use Rattle.disk.specs.declared.Root.{Root}
 use Rattle.disk.specs.Root.{root_in}
 use Rattle.rules.specs.Accepted.{last_reserved}
-use borrow.Author.Rules.{rules}
 use Rattle.searches.proofs.last_reserved.Goals as goal
 
 pub returns : goal.returns

@@ -1,11 +1,9 @@
-use Prim.Native.Nat.{ℕ, ◌+◌, ◌*◌, ◌-◌, ◌≤◌}
-use mathlib.Core.Path.{◌≡◌, refl, ◌∙◌}
-use mathlib.Core.List.{List, []}
+use Prim.Native.Nat.{◌+◌, ◌-◌}
+use mathlib.Core.Path.{refl, ◌∙◌}
+use mathlib.Core.List.{[]}
 use native.Mathlib.Omega.{arith}
 use borrow.Author.Rules.{rules}
-use Rattle.rules.specs.Anodes.{exists_by}
-use Rattle.rules.specs.Searched.{searched, after_read, through_slots}
-use Rattle.anodes.specs.Loaded.{anodes_from, slots_from}
+use Rattle.anodes.specs.Loaded.{anodes_from}
 use Rattle.searches.proofs.Searches.{few_read, slot_found, slot_passed, slots_start, slots_end}
 use Rattle.searches.proofs.lowest_free.Goals as goal
 

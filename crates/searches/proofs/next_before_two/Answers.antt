@@ -1,6 +1,5 @@
 use mathlib.Core.Path.{sym, ◌∙◌}
 use Rattle.laws.specs.Cut.{cut-two, cut_other}
-use borrow.Author.Rules.{rules}
 use Rattle.searches.proofs.next_before_two.Goals as goal
 
 pub returns-then-next-eq2 : goal.returns-then-next-eq2

@@ -1,6 +1,5 @@
 use mathlib.Core.Path.{refl, sym, ◌∙◌}
 use Rattle.anodes.specs.Loaded.{anodes_from, slots_from}
-use borrow.Author.Rules.{rules}
 use Rattle.searches.proofs.Searches.{start-below, empty_alone, used_alone}
 use Rattle.searches.proofs.search_slot.Goals as goal
 

@@ -1,10 +1,7 @@
-use Prim.Native.Nat.{ℕ, ◌-◌, ◌≤◌}
-use mathlib.Core.Path.{◌≡◌, refl, sym, ◌∙◌}
-use mathlib.Core.List.{List}
+use Prim.Native.Nat.{◌-◌}
+use mathlib.Core.Path.{refl, sym, ◌∙◌}
 use native.Mathlib.Omega.{arith}
 use borrow.Author.Rules.{rules}
-use Rattle.rules.specs.Searched.{searched_to, after_read, through_used}
-use Rattle.anodes.specs.Loaded.{anodes_from}
 use Rattle.searches.proofs.Searches.{used_from, used_found, used_next, used_end}
 use Rattle.searches.proofs.search_used.Goals as goal
 

@@ -1,11 +1,8 @@
 use Prim.Native.Nat.{ℕ, ◌-◌, ◌≤◌}
-use mathlib.Core.Path.{◌≡◌, refl, sym, ◌∙◌}
+use mathlib.Core.Path.{◌≡◌}
 use mathlib.Core.List.{List}
-use native.Mathlib.Omega.{arith}
-use borrow.Author.Rules.{rules}
 use Rattle.rules.specs.Searched.{searched_to, after_read, through_used}
 use Rattle.anodes.specs.Loaded.{anodes_from}
-use Rattle.searches.proofs.Searches.{used_from, used_found, used_next, used_end}
 use Rattle.searches.proofs.search_used.Given as goal
 
 abbrev pub invariant-loop-a : goal.invariant-loop-a

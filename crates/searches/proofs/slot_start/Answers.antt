@@ -1,5 +1,4 @@
 use Rattle.searches.proofs.Searches.{start_first, start-later}
-use borrow.Author.Rules.{rules}
 use Rattle.searches.proofs.slot_start.Goals as goal
 
 pub returns-then-k-eq0 : goal.returns-then-k-eq0

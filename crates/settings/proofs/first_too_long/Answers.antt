@@ -1,7 +1,6 @@
 use Rattle.settings.specs.Laws.{long_found, long_none, none_long}
-use lib.Dec.{leb}
 use Rattle.settings.specs.Files.{seconds_at}
-use Prim.Native.Nat.{ℕ, ◌-◌, ◌<◌, ◌≤◌}
+use Prim.Native.Nat.{◌-◌}
 use mathlib.Core.Bool.{false}
 use mathlib.Core.Path.{◌≡◌}
 use native.Mathlib.Omega.{arith}

@@ -1,12 +1,8 @@
-use Rattle.settings.specs.Laws.{long_found, long_none, none_long}
 use lib.Dec.{leb}
 use Rattle.settings.specs.Files.{seconds_at}
 use Prim.Native.Nat.{ℕ, ◌-◌, ◌<◌, ◌≤◌}
 use mathlib.Core.Bool.{false}
 use mathlib.Core.Path.{◌≡◌}
-use native.Mathlib.Omega.{arith}
-use Rattle.settings.specs.Conversions.{too_long}
-use borrow.Author.Rules.{rules}
 use Rattle.settings.proofs.first_too_long.Given as goal
 
 abbrev pub invariant-loop-i : goal.invariant-loop-i

@@ -1,5 +1,4 @@
 use Rattle.settings.specs.Files.{key_at}
-use borrow.Author.Rules.{rules}
 use Rattle.settings.proofs.key_at.Goals as goal
 
 pub returns : goal.returns

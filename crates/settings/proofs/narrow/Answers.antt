@@ -1,5 +1,4 @@
 use native.Mathlib.Omega.{arith}
-use borrow.Author.Rules.{rules}
 use Rattle.settings.proofs.narrow.Goals as goal
 
 pub convert-requires : goal.convert-requires

@@ -1,9 +1,8 @@
-use Prim.Native.Nat.{◌-◌, ◌≤◌}
+use Prim.Native.Nat.{◌-◌}
 use mathlib.Core.Bool.{false}
 use mathlib.Core.Path.{◌≡◌, sym, ◌∙◌}
 use native.Mathlib.Omega.{arith}
 use Rattle.counting.specs.Laws.{any_below-none, any_below_more, any_below_hit}
-use Rattle.rules.specs.Counting.{any_below}
 use Rattle.settings.specs.Files.{wrong_record, record_length}
 use Rattle.settings.specs.Laws.{form_part, form_many, form_records}
 use borrow.Author.Rules.{rules}

@@ -1,12 +1,8 @@
 use Prim.Native.Nat.{◌-◌, ◌≤◌}
 use mathlib.Core.Bool.{false}
-use mathlib.Core.Path.{◌≡◌, sym, ◌∙◌}
-use native.Mathlib.Omega.{arith}
-use Rattle.counting.specs.Laws.{any_below-none, any_below_more, any_below_hit}
+use mathlib.Core.Path.{◌≡◌}
 use Rattle.rules.specs.Counting.{any_below}
-use Rattle.settings.specs.Files.{wrong_record, record_length}
-use Rattle.settings.specs.Laws.{form_part, form_many, form_records}
-use borrow.Author.Rules.{rules}
+use Rattle.settings.specs.Files.{wrong_record}
 use Rattle.settings.proofs.not_of_form.Given as goal
 
 abbrev pub invariant-loop-i : goal.invariant-loop-i

@@ -1,8 +1,5 @@
 use Prim.Native.Nat.{◌-◌, ◌≤◌, ◌^◌}
 use mathlib.Core.Path.{◌≡◌}
-use native.Mathlib.Omega.{arith}
-use Rattle.settings.specs.Laws.{power_more, power_small}
-use borrow.Author.Rules.{rules}
 use Rattle.settings.proofs.past_width.Given as goal
 
 abbrev pub invariant-loop-i : goal.invariant-loop-i

@@ -1,12 +1,8 @@
 use Prim.Native.Nat.{◌-◌, ◌≤◌}
-use mathlib.Core.Path.{◌≡◌, sym, ◌∙◌}
-use native.Mathlib.Omega.{arith}
+use mathlib.Core.Path.{◌≡◌}
 use lib.ListN.{length}
 use Rattle.endian.specs.Bytes.{stored}
-use Rattle.endian.proofs.Laws.{stored-none}
 use Rattle.settings.specs.Files.{number_bytes}
-use Rattle.settings.specs.Laws.{bytes-none, number_step}
-use borrow.Author.Rules.{rules}
 use Rattle.settings.proofs.put_number.Given as goal
 
 abbrev pub invariant-loop-left : goal.invariant-loop-left

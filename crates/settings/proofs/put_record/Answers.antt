@@ -1,5 +1,4 @@
 use Rattle.settings.specs.Laws.{record_stored}
-use borrow.Author.Rules.{rules}
 use Rattle.settings.proofs.put_record.Goals as goal
 
 pub returns : goal.returns

@@ -1,9 +1,7 @@
-use Prim.Native.Nat.{◌+◌, ◌-◌, ◌≤◌}
+use Prim.Native.Nat.{◌+◌, ◌-◌}
 use mathlib.Core.Path.{◌≡◌, sym, ◌∙◌}
 use native.Mathlib.Omega.{arith}
-use lib.ListN.{length}
-use Rattle.endian.specs.Bytes.{stored}
-use Rattle.settings.specs.Files.{record_place, settings_from, file_of}
+use Rattle.settings.specs.Files.{record_place}
 use Rattle.settings.specs.Laws.{place_start, records_none, records_step}
 use borrow.Author.Rules.{rules}
 use Rattle.settings.proofs.put_records.Goals as goal

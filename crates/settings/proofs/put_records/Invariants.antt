@@ -1,11 +1,8 @@
-use Prim.Native.Nat.{◌+◌, ◌-◌, ◌≤◌}
-use mathlib.Core.Path.{◌≡◌, sym, ◌∙◌}
-use native.Mathlib.Omega.{arith}
+use Prim.Native.Nat.{◌-◌, ◌≤◌}
+use mathlib.Core.Path.{◌≡◌}
 use lib.ListN.{length}
 use Rattle.endian.specs.Bytes.{stored}
 use Rattle.settings.specs.Files.{record_place, settings_from, file_of}
-use Rattle.settings.specs.Laws.{place_start, records_none, records_step}
-use borrow.Author.Rules.{rules}
 use Rattle.settings.proofs.put_records.Given as goal
 
 abbrev pub invariant-loop-i : goal.invariant-loop-i

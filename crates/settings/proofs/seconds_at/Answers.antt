@@ -1,5 +1,4 @@
 use Rattle.settings.specs.Files.{seconds_at}
-use borrow.Author.Rules.{rules}
 use Rattle.settings.proofs.seconds_at.Goals as goal
 
 pub returns : goal.returns

@@ -1,7 +1,6 @@
 use mathlib.Core.Path.{sym}
 use Rattle.settings.specs.Files.{mark_at}
 use Rattle.settings.specs.Laws.{record_mark, record_first, record_later}
-use borrow.Author.Rules.{rules}
 use Rattle.settings.proofs.wrong_record.Goals as goal
 
 pub returns-then-read16-form : goal.returns-then-read16-form

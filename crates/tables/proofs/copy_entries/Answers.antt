@@ -1,9 +1,8 @@
 use mathlib.Core.Path.{◌≡◌, refl}
-use Prim.Native.Nat.{◌-◌, ◌≤◌}
+use Prim.Native.Nat.{◌-◌}
 use native.Mathlib.Omega.{arith}
-use lib.ListN.{length, get_or, length-set}
+use lib.ListN.{length, length-set}
 use lib.Seq.{ext_get_or}
-use Rattle.tables.specs.Held.{HeldBelow}
 use Rattle.tables.proofs.Laws.{held_more}
 use borrow.Author.Rules.{rules}
 use Rattle.tables.proofs.copy_entries.Goals as goal

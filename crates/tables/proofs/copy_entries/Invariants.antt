@@ -1,11 +1,7 @@
-use mathlib.Core.Path.{◌≡◌, refl}
+use mathlib.Core.Path.{◌≡◌}
 use Prim.Native.Nat.{◌-◌, ◌≤◌}
-use native.Mathlib.Omega.{arith}
-use lib.ListN.{length, get_or, length-set}
-use lib.Seq.{ext_get_or}
+use lib.ListN.{length, get_or}
 use Rattle.tables.specs.Held.{HeldBelow}
-use Rattle.tables.proofs.Laws.{held_more}
-use borrow.Author.Rules.{rules}
 use Rattle.tables.proofs.copy_entries.Given as goal
 
 abbrev pub invariant-loop-i : goal.invariant-loop-i

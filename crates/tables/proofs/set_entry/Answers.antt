@@ -1,6 +1,5 @@
 use mathlib.Core.Path.{sym}
 use lib.Seq.{set_out}
-use borrow.Author.Rules.{rules}
 use Rattle.tables.proofs.set_entry.Goals as goal
 
 pub returns-then-table-i : goal.returns-then-table-i

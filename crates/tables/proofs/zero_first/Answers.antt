@@ -1,10 +1,9 @@
 use mathlib.Core.Path.{◌≡◌}
-use Prim.Native.Nat.{◌-◌, ◌≤◌, ◌<◌}
+use Prim.Native.Nat.{◌-◌, ◌<◌}
 use native.Mathlib.Omega.{arith}
 use lib.ListN.{length, length-set}
 use borrow.Author.Rules.{rules}
 use borrow.Author.Fill.{fill_none, fill_more}
-use Rattle.tables.specs.Held.{zeroed_first}
 use Rattle.tables.proofs.zero_first.Goals as goal
 
 pub loop-i-init : goal.loop-i-init

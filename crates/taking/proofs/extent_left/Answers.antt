@@ -1,7 +1,6 @@
 use mathlib.Core.Path.{◌∙◌}
 use borrow.Author.Tests.{eq-eqb, ne_eqb}
 use Rattle.taking.specs.Extents.{extent_left}
-use borrow.Author.Rules.{rules}
 use Rattle.taking.proofs.extent_left.Goals as goal
 
 pub returns-then-x-ne0 : goal.returns-then-x-ne0

@@ -1,6 +1,5 @@
 use mathlib.Core.Path.{sym, ap, ◌∙◌}
-use borrow.Author.Tests.{not-true, not-false}
-use Rattle.rules.specs.Plans.{Slotted, at_slots}
+use Rattle.rules.specs.Plans.{at_slots}
 use Rattle.anodes.specs.Loaded.{anodes_from, table_from}
 use Rattle.placing.proofs.Found.{step_slots}
 use Rattle.growing.specs.Grown.{growth_if}

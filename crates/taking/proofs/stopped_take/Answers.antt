@@ -1,6 +1,5 @@
 use mathlib.Core.Path.{sym, ap}
 use Rattle.taking.specs.Turns.{stopped_take}
-use borrow.Author.Rules.{rules}
 use Rattle.taking.proofs.stopped_take.Goals as goal
 
 pub returns-in-Stops : goal.returns-in-Stops

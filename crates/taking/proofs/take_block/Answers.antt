@@ -1,5 +1,5 @@
 use mathlib.Core.Path.{◌≡◌, sym, ap, ◌∙◌}
-use Rattle.rules.specs.Plans.{Slotted, slotted}
+use Rattle.rules.specs.Plans.{slotted}
 use Rattle.rules.specs.Space.{nowhere, found, free_extent, chain_end}
 use Rattle.laws.specs.FreeExtent.{take_nowhere}
 use Rattle.anodes.specs.Loaded.{anodes_from, table_from}

@@ -1,12 +1,11 @@
 use mathlib.Core.Path.{refl, sym, ap, ◌∙◌}
 use mathlib.Core.Bool.{false}
-use Rattle.rules.specs.Plans.{Slotted, refused}
+use Rattle.rules.specs.Plans.{refused}
 use Rattle.anodes.specs.Loaded.{anodes_from, table_from}
 use Rattle.placing.specs.declared.Step.{Step}
 use Rattle.placing.specs.Steps.{step_plan}
 use Rattle.growing.specs.Grown.{growth_if}
 use Rattle.taking.proofs.OneTake.{puts_28}
-use borrow.Author.Rules.{rules}
 use Rattle.taking.proofs.take_grown.Goals as goal
 
 pub returns-in_default : goal.returns-in_default

@@ -1,15 +1,12 @@
 use Prim.Native.Nat.{ℕ}
 use mathlib.Core.Bool.{false}
-use mathlib.Core.Path.{◌≡◌, refl, ap, ◌∙◌}
-use native.Mathlib.Omega.{arith}
+use mathlib.Core.Path.{◌≡◌}
 use lib.ListN.{length}
 use Rattle.rules.specs.Space.{take_many}
-use Rattle.anodes.specs.Loaded.{anodes_from, table_from, AnodeTables}
+use Rattle.anodes.specs.Loaded.{table_from, AnodeTables}
 use Rattle.growing.specs.Grown.{growth_if}
-use Rattle.taking.specs.Turns.{TakeCarries, stopped_take}
-use Rattle.taking.proofs.OneTake.{end-found}
-use Rattle.taking.proofs.ManyTakes.{TakeRun, run-first, run-done, run_stop, run_next}
-use borrow.Author.Rules.{rules}
+use Rattle.taking.specs.Turns.{TakeCarries}
+use Rattle.taking.proofs.ManyTakes.{TakeRun}
 use Rattle.taking.proofs.take_many.Given as goal
 
 abbrev pub invariant-loop-left : goal.invariant-loop-left

@@ -2,7 +2,6 @@ use Prim.Native.Nat.{ℕ}
 use mathlib.Core.Path.{◌≡◌, refl, sym, ap, ◌∙◌}
 use mathlib.Core.Bool.{false, cond}
 use lib.Dec.{eqb}
-use Rattle.rules.specs.Plans.{Slotted}
 use Rattle.rules.specs.Space.{nowhere, found, free_extent}
 use Rattle.laws.specs.FreeExtent.{take_nowhere}
 use Rattle.anodes.specs.Loaded.{anodes_from, table_from}

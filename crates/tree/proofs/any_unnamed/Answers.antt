@@ -1,9 +1,7 @@
 use mathlib.Core.Path.{◌≡◌, sym, ◌∙◌}
 use mathlib.Core.Bool.{false}
-use Prim.Native.Nat.{◌-◌, ◌≤◌}
+use Prim.Native.Nat.{◌-◌}
 use native.Mathlib.Omega.{arith}
-use Rattle.rules.specs.Counting.{any_below}
-use Rattle.walk_steps.specs.Steps.{unnamed_at}
 use Rattle.counting.specs.Laws.{any_below-none, any_below_more, any_below_hit}
 use borrow.Author.Rules.{rules}
 use Rattle.tree.proofs.any_unnamed.Goals as goal

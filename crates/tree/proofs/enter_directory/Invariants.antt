@@ -1,15 +1,8 @@
-use mathlib.Core.Path.{◌≡◌, refl, sym, ◌∙◌}
-use mathlib.Core.List.{[]}
+use mathlib.Core.Path.{◌≡◌}
 use Prim.Native.Nat.{◌-◌}
-use native.Mathlib.Omega.{arith}
-use lib.ListN.{length}
-use Rattle.laws.specs.Chains.{gathered_none, gathered_end}
 use Rattle.anodes.specs.Loaded.{anodes_from}
 use Rattle.rules.specs.Walk.{dir_made, twins}
-use Rattle.walk_steps.specs.Steps.{item_in, items_along, items_with, entering, WalkRoom, number_in, seen_by, Numbered}
-use Rattle.walk_steps.proofs.Tallies.{SameLengths, same-lengths, number_room, seen_start}
-use Rattle.walk_steps.proofs.Laws.{enter_none, along_stop, along_step, twins-none}
-use borrow.Author.Rules.{rules}
+use Rattle.walk_steps.specs.Steps.{item_in, items_along, entering, WalkRoom, number_in, seen_by, Numbered}
 use Rattle.tree.proofs.enter_directory.Given as goal
 
 abbrev pub invariant-loop-fuel : goal.invariant-loop-fuel

@@ -1,6 +1,5 @@
 use borrow.Author.Tests.{le-leb, lt-leb, eq-eqb, ne_eqb}
 use Rattle.walk_steps.specs.Steps.{unnamed_at}
-use borrow.Author.Rules.{rules}
 use Rattle.tree.proofs.is_unnamed.Goals as goal
 
 pub returns-then-x-lt6 : goal.returns-then-x-lt6

@@ -1,12 +1,10 @@
 use mathlib.Core.Path.{◌≡◌, sym, ◌∙◌}
-use Prim.Native.Nat.{◌+◌, ◌-◌, ◌≤◌}
+use Prim.Native.Nat.{◌+◌, ◌-◌}
 use native.Mathlib.Omega.{arith}
-use mathlib.Core.List.{[]}
-use lib.ListN.{length, get_or, take, drop}
+use lib.ListN.{get_or}
 use Rattle.anodes.specs.Loaded.{anodes_from}
 use Rattle.rules.specs.Walk.{dir_made}
-use Rattle.walk_steps.specs.Steps.{item_in, items_with, run_from, queue_of, entering, progress, tally_made, WalkRoom, number_in, Numbered}
-use Rattle.walk_steps.proofs.Tallies.{SameLengths, same-lengths}
+use Rattle.walk_steps.specs.Steps.{item_in, items_with, entering, progress}
 use Rattle.walk_steps.proofs.Laws.{marked-most, run_end, run_stop, run_step}
 use borrow.Author.Rules.{rules}
 use Rattle.tree.proofs.walk_queue.Goals as goal

@@ -1,17 +1,7 @@
-use Prim.Native.Nat.{ℕ, ◌+◌, ◌-◌, ◌≤◌}
-use mathlib.Core.Path.{◌≡◌, refl, sym, ◌∙◌}
-use mathlib.Core.List.{List, []}
+use Prim.Native.Nat.{◌+◌, ◌-◌}
+use mathlib.Core.Path.{refl, sym, ◌∙◌}
 use native.Mathlib.Omega.{arith}
-use lib.ListN.{length}
-use Rattle.rules.specs.Counting.{gather}
-use Rattle.rules.specs.Lookup.{entries_of}
-use Rattle.anodes.specs.Loaded.{anodes_from}
-use Rattle.walk_steps.specs.Steps.{queue_of}
-use Rattle.differences.specs.Differences.{Difference}
-use Rattle.differences.specs.Pairs.{unmet}
-use Rattle.differences.specs.Handing.{hand_all}
-use Rattle.handing.specs.Differs.{handing_with}
-use Rattle.unmet_entries.specs.Along.{along_queue, hand_queue_none, hand_queue_step, hand_queue_all}
+use Rattle.unmet_entries.specs.Along.{hand_queue_none, hand_queue_step, hand_queue_all}
 use borrow.Author.Rules.{rules}
 use Rattle.unmet_entries.proofs.hand_unmet.Invariants.{unmet_of}
 use Rattle.unmet_entries.proofs.hand_unmet.Goals as goal

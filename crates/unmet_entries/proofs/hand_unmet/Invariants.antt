@@ -1,7 +1,6 @@
-use Prim.Native.Nat.{ℕ, ◌+◌, ◌-◌, ◌≤◌}
-use mathlib.Core.Path.{◌≡◌, refl, sym, ◌∙◌}
+use Prim.Native.Nat.{ℕ, ◌-◌, ◌≤◌}
+use mathlib.Core.Path.{◌≡◌}
 use mathlib.Core.List.{List, []}
-use native.Mathlib.Omega.{arith}
 use lib.ListN.{length}
 use Rattle.rules.specs.Counting.{gather}
 use Rattle.rules.specs.Lookup.{entries_of}
@@ -11,8 +10,7 @@ use Rattle.differences.specs.Differences.{Difference}
 use Rattle.differences.specs.Pairs.{unmet}
 use Rattle.differences.specs.Handing.{hand_all}
 use Rattle.handing.specs.Differs.{handing_with}
-use Rattle.unmet_entries.specs.Along.{along_queue, hand_queue_none, hand_queue_step, hand_queue_all}
-use borrow.Author.Rules.{rules}
+use Rattle.unmet_entries.specs.Along.{along_queue}
 use Rattle.unmet_entries.proofs.hand_unmet.Given as goal
 
 -- the differences of the directory that h heads

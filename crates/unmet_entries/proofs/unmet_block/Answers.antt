@@ -1,13 +1,7 @@
-use Prim.Native.Nat.{◌-◌, ◌≤◌}
-use mathlib.Core.Path.{◌≡◌, refl, sym, ◌∙◌}
+use Prim.Native.Nat.{◌-◌}
+use mathlib.Core.Path.{refl, sym, ◌∙◌}
 use native.Mathlib.Omega.{arith}
-use lib.ListN.{length}
-use Rattle.rules.specs.Counting.{gather}
-use Rattle.rules.specs.Walk.{entries_from, entries_in}
-use Rattle.laws.specs.Entries.{entries_none, block_whole, Unbroken}
-use Rattle.differences.specs.Pairs.{unmet}
-use Rattle.differences.specs.Handing.{hand_all}
-use Rattle.handing.specs.Differs.{handing_with}
+use Rattle.laws.specs.Entries.{entries_none, block_whole}
 use Rattle.unmet_entries.specs.Along.{hand_no_entries, hand_first}
 use Rattle.unmet_entries.proofs.Laws.{none-at-end, first-at}
 use borrow.Author.Rules.{rules}

@@ -1,16 +1,12 @@
 use Prim.Native.Nat.{◌-◌, ◌≤◌}
-use mathlib.Core.Path.{◌≡◌, refl, sym, ◌∙◌}
-use native.Mathlib.Omega.{arith}
+use mathlib.Core.Path.{◌≡◌}
 use lib.ListN.{length}
 use Rattle.rules.specs.Counting.{gather}
 use Rattle.rules.specs.Walk.{entries_from, entries_in}
-use Rattle.laws.specs.Entries.{entries_none, block_whole, Unbroken}
+use Rattle.laws.specs.Entries.{Unbroken}
 use Rattle.differences.specs.Pairs.{unmet}
 use Rattle.differences.specs.Handing.{hand_all}
 use Rattle.handing.specs.Differs.{handing_with}
-use Rattle.unmet_entries.specs.Along.{hand_no_entries, hand_first}
-use Rattle.unmet_entries.proofs.Laws.{none-at-end, first-at}
-use borrow.Author.Rules.{rules}
 use Rattle.unmet_entries.proofs.unmet_block.Given as goal
 
 abbrev pub invariant-loop-fuel : goal.invariant-loop-fuel

@@ -1,16 +1,7 @@
 use Prim.Native.Nat.{◌-◌}
-use mathlib.Core.Path.{◌≡◌, refl, sym, ◌∙◌}
-use mathlib.Core.List.{[]}
+use mathlib.Core.Path.{refl, sym, ◌∙◌}
 use native.Mathlib.Omega.{arith}
-use lib.ListN.{length}
-use Rattle.rules.specs.Counting.{gather}
-use Rattle.rules.specs.Lookup.{entries_of}
-use Rattle.laws.specs.Entries.{Unbroken}
-use Rattle.anodes.specs.Loaded.{anodes_from}
-use Rattle.lookup.proofs.Laws.{entries_along, along_whole, unbroken_along}
-use Rattle.differences.specs.Pairs.{unmet}
-use Rattle.differences.specs.Handing.{hand_all}
-use Rattle.handing.specs.Differs.{handing_with}
+use Rattle.lookup.proofs.Laws.{along_whole, unbroken_along}
 use Rattle.unmet_entries.specs.Along.{hand_chain-end, hand_chain-none, hand_chain_step}
 use borrow.Author.Rules.{rules}
 use Rattle.unmet_entries.proofs.unmet_directory.Goals as goal

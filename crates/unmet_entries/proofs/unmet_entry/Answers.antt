@@ -1,6 +1,5 @@
 use mathlib.Core.Path.{sym, ◌∙◌}
 use Rattle.unmet_entries.proofs.Laws.{hand_met, hand_not_met}
-use borrow.Author.Rules.{rules}
 use Rattle.unmet_entries.proofs.unmet_entry.Goals as goal
 
 pub returns-then-entry-ne0 : goal.returns-then-entry-ne0

@@ -1,7 +1,5 @@
-use mathlib.Core.Path.{◌≡◌}
-use Prim.Native.Nat.{◌+◌, ◌-◌, ◌*◌, ◌≤◌}
+use Prim.Native.Nat.{◌-◌}
 use native.Mathlib.Omega.{arith}
-use Rattle.walk_steps.specs.Steps.{sum_from}
 use Rattle.walk_steps.proofs.Laws.{sum-none, sum-end, sum_step}
 use borrow.Author.Rules.{rules}
 use Rattle.walk_steps.proofs.chain_sum.Goals as goal

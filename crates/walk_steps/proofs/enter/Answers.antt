@@ -3,7 +3,6 @@ use mathlib.Core.Bool.{true}
 use Prim.Native.Nat.{◌+◌, ◌<◌, ◌≤◌}
 use native.Mathlib.Omega.{arith}
 use lib.ListN.{get_or, set}
-use borrow.Author.Tests.{not-true, not-false}
 use Rattle.walk_steps.specs.Steps.{head_at, marked}
 use Rattle.walk_steps.proofs.Laws.{marked-room, queue_push, enter_no_head, enter_twice, enter_size, enter_file, enter_dir}
 use borrow.Author.Rules.{rules}

@@ -3,11 +3,9 @@ use Rattle.rules.specs.Walk.{entries_in}
 use Rattle.walk_steps.specs.Steps.{item_in, items_from}
 use mathlib.Core.Path.{◌≡◌, sym, ◌∙◌}
 use lib.ListN.{get_or}
-use borrow.Author.Tests.{not-true, not-false}
 use Rattle.rules.specs.Walk.{is_block_of, dir_made}
 use Rattle.anodes.specs.Loaded.{anodes_from}
 use Rattle.walk_steps.proofs.Laws.{anode_count, anode_mark, anode_block}
-use borrow.Author.Rules.{rules}
 use Rattle.walk_steps.proofs.enter_anode.Goals as goal
 
 pub returns-then-entry-ne1 : goal.returns-then-entry-ne1

@@ -1,19 +1,9 @@
-use mathlib.Core.Path.{◌≡◌, sym, ap, ◌∙◌}
-use mathlib.Core.List.{[], ◌∷◌, map}
-use Prim.Native.Nat.{◌+◌, ◌-◌, ◌*◌, ◌<◌, ◌≤◌}
-use native.Mathlib.Omega.{arith}
-use lib.ListN.{length}
-use Rattle.directory.specs.Entries.{name_in}
-use Rattle.rules.specs.Counting.{any_in, same_bytes}
-use Rattle.rules.specs.Folding.{folded}
-use Rattle.rules.specs.Walk.{with_rest, entries_from, entries_in, twins}
-use Rattle.names.specs.Index.{folded_in, seen_in, Indexed}
+use mathlib.Core.Path.{◌≡◌}
+use mathlib.Core.List.{map}
+use Prim.Native.Nat.{◌-◌}
+use Rattle.rules.specs.Walk.{entries_from, twins}
 use Rattle.laws.specs.Apart.{seen_after}
-use Rattle.laws.specs.Entries.{entries_none, block_whole, entries_read, read_within, read_fault}
-use Rattle.walk_steps.specs.Steps.{item_in, entering, queue_of, WalkRoom, number_in, seen_by, Numbered}
-use Rattle.walk_steps.proofs.Laws.{enter_none, enter_end, seen_end, enter_fault, enter_alike, enter_stop, enter_step, seen_step, twins-none, seen_none}
-use Rattle.walk_steps.proofs.Tallies.{SameLengths, same-lengths, number_more, numbered_more, seen_more, number_room}
-use borrow.Author.Rules.{rules}
+use Rattle.walk_steps.specs.Steps.{item_in, entering, WalkRoom, seen_by, Numbered}
 use Rattle.walk_steps.proofs.enter_block.Given as goal
 
 abbrev pub invariant-loop-fuel : goal.invariant-loop-fuel

@@ -1,6 +1,5 @@
 use borrow.Author.Tests.{le-ltb, lt-ltb, le-leb, lt-leb}
 use Rattle.walk_steps.specs.Steps.{head_at}
-use borrow.Author.Rules.{rules}
 use Rattle.walk_steps.proofs.head_at.Goals as goal
 
 pub returns-then-i-lt6 : goal.returns-then-i-lt6

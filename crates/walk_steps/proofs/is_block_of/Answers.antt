@@ -4,7 +4,6 @@ use lib.Dec.{eqb}
 use borrow.Author.Tests.{eq-eqb, ne_eqb}
 use Rattle.directory.specs.Entries.{directory_mark}
 use Rattle.rules.specs.Walk.{is_block_of, dir_made}
-use borrow.Author.Rules.{rules}
 use Rattle.walk_steps.proofs.is_block_of.Goals as goal
 
 pub returns-then-found-ne17474 : goal.returns-then-found-ne17474

@@ -1,14 +1,11 @@
-use mathlib.Core.Path.{◌≡◌, refl, sym, ap, ◌∙◌}
+use mathlib.Core.Path.{◌≡◌}
 use Prim.Native.Nat.{◌+◌, ◌*◌, ◌-◌}
-use native.Mathlib.Omega.{arith}
 use lib.ListN.{length}
 use Rattle.rules.specs.Chains.{blocks_of}
 use Rattle.anodes.specs.Loaded.{anodes_from}
-use Rattle.laws.specs.Chains.{gathered_none, gathered_end, Inside}
-use Rattle.laws.specs.ChainBlocks.{extent, blocks_of_extents, blocks_from}
+use Rattle.laws.specs.Chains.{Inside}
+use Rattle.laws.specs.ChainBlocks.{blocks_from}
 use Rattle.write_lists.specs.Puts.{with_writes}
-use Rattle.write_lists.proofs.Laws.{no_write, run_low, anode_inside, behind_inside, anode_length, anode_put}
-use borrow.Author.Rules.{rules}
 use Rattle.write_lists.proofs.put_chain.Given as goal
 
 abbrev pub invariant-loop-fuel : goal.invariant-loop-fuel

@@ -1,11 +1,8 @@
 use mathlib.Core.Path.{◌≡◌, refl, sym, ◌∙◌}
-use Prim.Native.Nat.{◌+◌, ◌*◌, ◌-◌, ◌≤◌}
+use Prim.Native.Nat.{◌+◌, ◌-◌}
 use native.Mathlib.Omega.{arith}
-use lib.ListN.{length}
-use Rattle.rules.specs.Chains.{run}
-use Rattle.laws.specs.Chains.{run_none, Inside}
+use Rattle.laws.specs.Chains.{run_none}
 use Rattle.contents.proofs.Writing.{first_inside, rest_inside}
-use Rattle.write_lists.specs.Puts.{with_writes}
 use Rattle.write_lists.proofs.Laws.{no_write, run_on_write}
 use borrow.Author.Rules.{rules}
 use Rattle.write_lists.proofs.put_run.Goals as goal

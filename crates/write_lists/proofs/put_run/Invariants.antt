@@ -1,13 +1,9 @@
-use mathlib.Core.Path.{◌≡◌, refl, sym, ◌∙◌}
+use mathlib.Core.Path.{◌≡◌}
 use Prim.Native.Nat.{◌+◌, ◌*◌, ◌-◌, ◌≤◌}
-use native.Mathlib.Omega.{arith}
 use lib.ListN.{length}
 use Rattle.rules.specs.Chains.{run}
-use Rattle.laws.specs.Chains.{run_none, Inside}
-use Rattle.contents.proofs.Writing.{first_inside, rest_inside}
+use Rattle.laws.specs.Chains.{Inside}
 use Rattle.write_lists.specs.Puts.{with_writes}
-use Rattle.write_lists.proofs.Laws.{no_write, run_on_write}
-use borrow.Author.Rules.{rules}
 use Rattle.write_lists.proofs.put_run.Given as goal
 
 abbrev pub invariant-loop-i : goal.invariant-loop-i

@@ -3,7 +3,6 @@ use native.Mathlib.Omega.{arith}
 use lib.ListN.{length}
 use Rattle.anodes.specs.Loaded.{slots_from}
 use Rattle.write_lists.proofs.Laws.{no_write, held_none, held_one}
-use borrow.Author.Rules.{rules}
 use Rattle.write_lists.proofs.put_slot_write.Goals as goal
 
 pub returns-then-y-eq0 : goal.returns-then-y-eq0

@@ -1,10 +1,8 @@
 use mathlib.Core.Path.{◌≡◌, refl, sym, ap}
-use Prim.Native.Nat.{◌+◌, ◌*◌, ◌-◌, ◌≤◌}
+use Prim.Native.Nat.{◌-◌}
 use native.Mathlib.Omega.{arith}
 use lib.ListN.{length}
 use Rattle.anodes.specs.Loaded.{slots_from}
-use Rattle.safe_rules.specs.SafePlans.{slot_blocks}
-use Rattle.write_lists.specs.Puts.{with_writes}
 use Rattle.write_lists.proofs.Laws.{no_write, no_slot, slot_length, slot_room, slot_put}
 use borrow.Author.Rules.{rules}
 use Rattle.write_lists.proofs.put_slots.Goals as goal

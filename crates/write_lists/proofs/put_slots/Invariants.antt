@@ -1,12 +1,9 @@
-use mathlib.Core.Path.{◌≡◌, refl, sym, ap}
+use mathlib.Core.Path.{◌≡◌}
 use Prim.Native.Nat.{◌+◌, ◌*◌, ◌-◌, ◌≤◌}
-use native.Mathlib.Omega.{arith}
 use lib.ListN.{length}
 use Rattle.anodes.specs.Loaded.{slots_from}
 use Rattle.safe_rules.specs.SafePlans.{slot_blocks}
 use Rattle.write_lists.specs.Puts.{with_writes}
-use Rattle.write_lists.proofs.Laws.{no_write, no_slot, slot_length, slot_room, slot_put}
-use borrow.Author.Rules.{rules}
 use Rattle.write_lists.proofs.put_slots.Given as goal
 
 abbrev pub invariant-loop-k : goal.invariant-loop-k

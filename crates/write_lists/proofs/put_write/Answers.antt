@@ -1,6 +1,5 @@
 use mathlib.Core.Path.{refl}
 use Rattle.write_lists.proofs.Laws.{one_write}
-use borrow.Author.Rules.{rules}
 use Rattle.write_lists.proofs.put_write.Goals as goal
 
 pub returns : goal.returns
