@@ -1,6 +1,5 @@
 -- Laws of bits, of lists by a rule and of the first byte that differs. Assumes nothing.
 use mathlib.Core.Path.{◌≡◌, refl, sym, ap, ◌∙◌}
-use mathlib.Core.Bool.{Bool, true, false, cond, not}
 use mathlib.Core.Logic.{◌≢◌, inl, inr, ⊎_elim}
 use Prim.Native.Nat.{ℕ, zero, suc, ◌+◌, ◌*◌, ◌-◌, ◌/◌, ◌%◌, ◌^◌, ◌<◌, ◌≤◌}
 use mathlib.Core.List.{List, [], ◌∷◌, ◌++◌, append_assoc, append-nil}
@@ -9,10 +8,10 @@ use native.Mathlib.Nat.{not-suc-le-zero, mod-lt, pow-suc, add-mul, mul_assoc}
 use native.Mathlib.Numerals.{add-one}
 use lib.Bits.{bit_or, bit_and, or_add_and, and_high}
 use lib.Pow.{pow-add, shl_exact, shl-shr}
-use lib.Dec.{T, eqb, ltb}
+use lib.Dec.{T}
 use lib.ListN.{length, length-append, get_or, set, take, drop, length-drop, drop_of_length-le, get_or-append, get_or-eq_default}
 use lib.Seq.{drop-cons, set_at, get_or_at, get_or-take, get_or-drop, length-take-le}
-use borrow.Author.Tests.{le-ltb, lt-ltb, eq-eqb, ne_eqb, eqb-true, eqb-false}
+use borrow.Author.Tests.{le-ltb, lt-ltb, eq-eqb, ne_eqb}
 use Rattle.rules.specs.Counting.{least}
 use Rattle.laws.specs.Tests.{same?, less?}
 use Rattle.laws.specs.Sums.{least_cases}

@@ -1,15 +1,14 @@
 -- The outcome of the two calls, from the check's.
-use Rattle.std.specs.Prelude.{ℕ, zero, suc, ◌≤◌, ◌<◌, ◌≡◌, refl, ◌≢◌, Bool, true, false, not, List, [], ◌∷◌, eqb, ltb, length, drop, replicate}
-use Rattle.std.proofs.Common.{sym, ◌∙◌, inl, inr, arith, eq-eqb, ne_eqb, lt-ltb, le-ltb}
+use Rattle.std.specs.Prelude.{ℕ, zero, suc, ◌≤◌, ◌<◌, ◌≡◌, refl, ◌≢◌, Bool, true, false, not, List, [], ◌∷◌, eqb, length, drop, replicate}
+use Rattle.std.proofs.Common.{sym, ◌∙◌, arith, eq-eqb, ne_eqb, lt-ltb, le-ltb}
 use Rattle.std.proofs.Math.Path.{ap}
 use Rattle.disk.specs.declared.Refusal.{Refusal}
 use Rattle.disk.specs.Refusals.{number_of}
 use Rattle.disk.proofs.Laws.{number_some}
 use Rattle.rules.specs.Counting.{◌if◌else◌}
-use Rattle.rules.specs.Anodes.{anodes_of}
 use Rattle.rules.specs.Accepted.{disk_size, check_answer}
 use Rattle.rules.specs.Changes.{left}
-use Rattle.rules.specs.Tables.{table_left, blocks_left, anodes_left, block_table}
+use Rattle.rules.specs.Tables.{table_left, blocks_left, anodes_left}
 use Rattle.rules.specs.Calls.{Outcome, outcome_of, settled, check_outcome, done_or, checked_first}
 use Rattle.fsck.specs.declared.Tally.{Tally}
 use Rattle.fsck.specs.declared.Checked.{Checked}

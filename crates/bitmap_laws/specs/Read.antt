@@ -1,6 +1,6 @@
 -- The bitmap by what the code reads of an accepted image: its size, its first data block and the block table.
 use Rattle.std.specs.Prelude.{ℕ, ◌+◌, ◌*◌, ◌-◌, ◌/◌, ◌≤◌, ◌≡◌, List, length}
-use Rattle.std.proofs.Common.{sym, ap, ◌∙◌, arith}
+use Rattle.std.proofs.Common.{◌∙◌, arith}
 use Rattle.disk.specs.Blocks.{block_of}
 use Rattle.disk.specs.Root.{root_in}
 use Rattle.disk.specs.declared.Root.{Root}

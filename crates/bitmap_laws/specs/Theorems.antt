@@ -1,21 +1,21 @@
 -- 02, No. 11: the theorems about the bitmap.
-use Rattle.std.specs.Prelude.{ℕ, ◌+◌, ◌*◌, ◌-◌, ◌/◌, ◌%◌, ◌<◌, ◌≤◌, ◌≡◌, refl, ◌≢◌, ◌⊎◌, Bool, true, false, cond, not, List, [], ◌∷◌, T, eqb, ltb, length, get_or, replicate}
+use Rattle.std.specs.Prelude.{ℕ, ◌+◌, ◌*◌, ◌-◌, ◌/◌, ◌%◌, ◌<◌, ◌≤◌, ◌≡◌, refl, ◌≢◌, ◌⊎◌, cond, not, List, [], ◌∷◌, T, eqb, length, get_or}
 use Rattle.std.proofs.Math.Path.{sym}
-use Rattle.std.proofs.Common.{ap, ◌∙◌, arith}
+use Rattle.std.proofs.Common.{◌∙◌, arith}
 use Rattle.std.proofs.Math.Logic.{inl, inr}
 use Rattle.std.proofs.Math.Seq.{ext_get_or}
 use borrow.Author.Tests.{eq-eqb, ne_eqb, lt-ltb, le-ltb, eqb-true, not-false}
-use Rattle.endian.specs.Bytes.{be16, be32}
-use Rattle.rules.specs.Counting.{◌if◌else◌, least}
+use Rattle.endian.specs.Bytes.{be32}
+use Rattle.rules.specs.Counting.{◌if◌else◌}
 use Rattle.rules.specs.Anodes.{anodes_of}
-use Rattle.rules.specs.Accepted.{disk_size, check_answer}
-use Rattle.rules.specs.Calls.{Outcome, settled, done_or}
-use Rattle.laws.specs.Tests.{same?, less?, first_of-zero, if-zero}
+use Rattle.rules.specs.Accepted.{check_answer}
+use Rattle.rules.specs.Calls.{settled, done_or}
+use Rattle.laws.specs.Tests.{same?, first_of-zero, if-zero}
 use Rattle.laws.specs.Sums.{least_cases}
 use Rattle.bitmap.specs.Bits.{bit_of}
-use Rattle.bitmap.specs.Bitmap.{first_data, data_blocks, available, block_bit, bitmap_word, bitmap_byte, bitmap_length, bitmap_of, differs_from, first_differing}
+use Rattle.bitmap.specs.Bitmap.{first_data, data_blocks, available, block_bit, bitmap_byte, bitmap_length, bitmap_of, differs_from, first_differing}
 use Rattle.bitmap.specs.Calls.{bitmap_refusal, bitmap_answer, bitmap_outcome, differs_fields, bitmap_differs_outcome}
-use Rattle.bitmap.proofs.Laws.{length-tabulate, tabulate-at, first-none}
+use Rattle.bitmap.proofs.Laws.{length-tabulate, tabulate-at}
 use Rattle.bitmap_laws.specs.Words.{bit_two, bit_there, word_there, mark_word, blank_word, sequence_word}
 
 -- the bitmap's length in bytes is that of the blocks needed

@@ -1,12 +1,12 @@
 -- The longwords and the single bits of a bitmap, read back from its bytes.
 use Prim.Native.Nat.{ℕ, zero, suc, ◌+◌, ◌*◌, ◌-◌, ◌/◌, ◌%◌, ◌^◌, ◌<◌, ◌≤◌}
-use Rattle.std.specs.Prelude.{◌≡◌, refl, Bool, true, false, cond, List, eqb, ltb}
-use Rattle.std.proofs.Common.{sym, ◌∙◌, inl, inr, not-suc-le-zero, pow-suc, shr-shr}
+use Rattle.std.specs.Prelude.{◌≡◌, refl, Bool, true, false, cond, List, ltb}
+use Rattle.std.proofs.Common.{◌∙◌, not-suc-le-zero, pow-suc, shr-shr}
 use Rattle.std.proofs.Math.Path.{ap}
 use Rattle.std.proofs.Math.Logic.{⊎_elim}
 use native.Mathlib.Omega.{arith}
 use Rattle.std.proofs.Math.ListN.{get_or}
-use borrow.Author.Tests.{eq-eqb, ne_eqb}
+use borrow.Author.Tests.{ne_eqb}
 use Rattle.endian.specs.Bytes.{be16, be32}
 use Rattle.rules.specs.Anodes.{anodes_of}
 use Rattle.laws.specs.Tests.{same?}

@@ -12,7 +12,7 @@ use Rattle.disk.proofs.Laws.{length-block_of}
 use Rattle.rules.specs.Counting.{one_at, sum_list, occurrences, gather}
 use Rattle.rules.specs.Anodes.{Anodes, limit, anodes_of}
 use Rattle.rules.specs.Chains.{chain_of, one_if_head, run, blocks_of, block_count}
-use Rattle.rules.specs.Walk.{Dir, dir_made, root, Entered, Item, entries_in, is_block_of, blocks_for, item_of, broken_item, items_at, items_by, items_of, sub_dirs, walk_of, reached_dirs}
+use Rattle.rules.specs.Walk.{Dir, dir_made, root, Entered, Item, entries_in, is_block_of, blocks_for, item_of, broken_item, items_at, items_by, sub_dirs, reached_dirs}
 use Rattle.rules.specs.Lookup.{no_directory, entries_of, name_at, is_named, first_named, entry_named, nth}
 use Rattle.laws.specs.Tests.{T_true}
 use Rattle.laws.specs.Sums.{one_at_cases, one_at-same, one_below, one_below_cases}

@@ -8,9 +8,8 @@ use native.Mathlib.Omega.{arith}
 use lib.ListN.{length, get_or, replicate, take, drop, length-take, length-drop}
 use Rattle.rules.specs.Counting.{first_of, gather}
 use Rattle.rules.specs.Tables.{blocks_left, anodes_left}
-use Rattle.rules.specs.Changes.{left}
 use Rattle.rules.specs.Calls.{Outcome, outcome_of, settled, done_or, check_outcome}
-use Rattle.differences.specs.Differences.{Difference, only_first, only_second, differing, numbers_of, differences}
+use Rattle.differences.specs.Differences.{Difference, only_first, only_second, differing, differences}
 use Rattle.differences.specs.Calls.{answer_for, Compared, compared_of, compared, refused_image, nth_difference, place_answer, numbers_listed, fitting, with_numbers, compare_outcome, differences_outcome}
 use Rattle.differences.specs.Handing.{Handing, hand_all, handing_of}
 use Rattle.difference_laws.specs.Few.{few_differences}

@@ -1,10 +1,9 @@
 -- Laws of the pairs and differences along entries, a chain and the queue. Assumes nothing.
-use Prim.Native.Nat.{ℕ, zero, suc, ◌+◌, ◌*◌, ◌-◌, ◌<◌}
+use Prim.Native.Nat.{ℕ, ◌+◌, ◌*◌, ◌-◌, ◌<◌}
 use mathlib.Core.Path.{◌≡◌, refl, sym, ap, ◌∙◌}
 use mathlib.Core.Logic.{◌≢◌, ◌⊎◌, inl, inr}
-use mathlib.Core.List.{List, [], ◌∷◌, ◌++◌, append_assoc}
-use mathlib.Core.Option.{Option, none, some, none-ne-some}
-use native.Mathlib.Omega.{arith}
+use mathlib.Core.List.{List, [], ◌∷◌, ◌++◌}
+use mathlib.Core.Option.{Option, some, none-ne-some}
 use native.Mathlib.Numerals.{add-one}
 use lib.ListN.{get_or, set}
 use Rattle.disk.specs.Blocks.{block_of}
@@ -12,22 +11,22 @@ use Rattle.directory.specs.declared.Entry.{Entry}
 use Rattle.directory.specs.declared.Walked.{Walked}
 use Rattle.directory.specs.declared.Walked.TheVariants.{Found}
 use Rattle.directory.specs.Entries.{name_in}
-use Rattle.rules.specs.Counting.{any_in, gather}
+use Rattle.rules.specs.Counting.{gather}
 use Rattle.rules.specs.Anodes.{limit, anodes_of}
 use Rattle.rules.specs.Chains.{chain_of}
-use Rattle.rules.specs.Walk.{Dir, dir_made, Entered, with_rest, entries_in, reached_dirs}
-use Rattle.rules.specs.Lookup.{entries_of, first_named, entry_named, of_entry, name_at}
+use Rattle.rules.specs.Walk.{Dir, dir_made, Entered, with_rest, entries_in}
+use Rattle.rules.specs.Lookup.{entries_of, first_named, entry_named, of_entry}
 use Rattle.laws.specs.Chains.{gathered_none, gathered_end, gathered_step}
-use Rattle.laws.specs.Entries.{entered_at, Unbroken}
-use Rattle.laws.specs.Members.{Member, member-first, member-later, member-left, member_right}
-use Rattle.anodes.specs.Loaded.{anodes_from, Loaded}
-use Rattle.change_laws.specs.Image.{AcceptedImage, ReachedDir}
-use Rattle.change_laws.specs.Reached.{EntryIn, reached_unbroken, named-member}
+use Rattle.laws.specs.Entries.{entered_at}
+use Rattle.laws.specs.Members.{member-first, member-later, member-left, member_right}
+use Rattle.anodes.specs.Loaded.{Loaded}
+use Rattle.change_laws.specs.Image.{ReachedDir}
+use Rattle.change_laws.specs.Reached.{reached_unbroken}
 use Rattle.lookup.specs.Answers.{entered, placed}
 use Rattle.lookup.proofs.Laws.{name_at_lem, entries_along, along_whole, along, unbroken_rest, unbroken_along}
-use Rattle.walk_steps.specs.Steps.{dirs_from, queue_of}
+use Rattle.walk_steps.specs.Steps.{dirs_from}
 use Rattle.paths.specs.Reached.{found_in}
-use Rattle.differences.specs.Differences.{Difference, only_first, in_both}
+use Rattle.differences.specs.Differences.{only_first, in_both}
 use Rattle.differences.specs.Pairs.{Pairs, pairs_of, counterpart, partner_of, met_by, paired, paired_all, partner_in, entry_difference, pairs_behind, differences_along, pairs_along}
 use Rattle.differences.specs.Handing.{Handing, hand_all}
 use Rattle.handing.specs.HandLaws.{hand_append}

@@ -1,6 +1,6 @@
 -- How far the walk over the first image's directories has come. Assumes nothing.
 use Prim.Native.Nat.{ℕ, ◌+◌, ◌-◌, ◌<◌, ◌≤◌}
-use mathlib.Core.Path.{◌≡◌, refl, sym, ap, ◌∙◌}
+use mathlib.Core.Path.{◌≡◌, sym, ap, ◌∙◌}
 use mathlib.Core.Logic.{◌⊎◌}
 use mathlib.Core.List.{List, [], ◌∷◌, ◌++◌, append_assoc}
 use native.Mathlib.Omega.{arith}
@@ -9,11 +9,11 @@ use Rattle.rules.specs.Counting.{gather}
 use Rattle.rules.specs.Anodes.{anodes_of}
 use Rattle.rules.specs.Walk.{Dir, dir_made, reached_dirs}
 use Rattle.rules.specs.Lookup.{entries_of}
-use Rattle.laws.specs.Members.{Member, member-first, member_right}
+use Rattle.laws.specs.Members.{member-first, member_right}
 use Rattle.change_laws.specs.Image.{AcceptedImage, ReachedDir}
 use Rattle.change_laws.specs.Reached.{member-reached}
 use Rattle.walk_steps.specs.Steps.{dirs_from, queue_of}
-use Rattle.differences.specs.Pairs.{Pairs, first_pairs, paired_all, partner_in, entry_difference, pairs_behind, pairs_along, differences_along}
+use Rattle.differences.specs.Pairs.{Pairs, first_pairs, paired_all, entry_difference, pairs_behind, pairs_along, differences_along}
 use Rattle.differences.specs.Handing.{Handing, hand_all}
 use Rattle.pair_laws.specs.Partners.{partner_reached}
 use Rattle.comparing.proofs.Laws.{along_one, along_pairs, along_differences, along_done, dirs-none, dirs_step}

@@ -7,11 +7,11 @@ use mathlib.Core.List.{List, [], ◌∷◌, ◌++◌, map, map-append, append_as
 use Rattle.std.proofs.Math.Option.{Option, none, some, none-ne-some, some-injective}
 use native.Mathlib.Omega.{arith}
 use Rattle.std.proofs.Math.Dec.{eqb_refl}
-use Rattle.rules.specs.Counting.{one_at, sum_list, gather, same_bytes}
+use Rattle.rules.specs.Counting.{one_at, sum_list, gather}
 use Rattle.rules.specs.Anodes.{Anodes, limit, anodes_of}
 use Rattle.rules.specs.Walk.{Dir, dir_made, Entered, Item, Scanned, faulty, fine, scan, Walk, fault, done, visited, walk, walk_of, items_of, dirs_in, reached_dirs}
 use Rattle.rules.specs.Folding.{folded}
-use Rattle.rules.specs.Lookup.{no_directory, entries_of, is_named, first_named, entry_named, of_entry}
+use Rattle.rules.specs.Lookup.{no_directory, entries_of, entry_named, of_entry}
 use Rattle.rules.specs.Changes.{parent_of}
 use Rattle.laws.specs.Tests.{eqb_cases, T_true}
 use Rattle.laws.specs.Sums.{one_at-same, one_at_cases, one_below, one_below_cases}
@@ -25,7 +25,7 @@ use Rattle.paths.specs.FoundNames.{named_name}
 use Rattle.paths.specs.Paths.{Path, Site, site, site_from, of_site, entry_from, entry_at}
 use Rattle.paths.specs.Reached.{found_in, root-reached, sub-reached, sub_lower, dir_weight, site-reached}
 use Rattle.differences.specs.Listed.{directory_name, directory_path, entry_path, paths}
-use Rattle.difference_laws.specs.NoDifference.{bytes_same, SamePath, Complete}
+use Rattle.difference_laws.specs.NoDifference.{SamePath, Complete}
 
 -- ---- lists
 

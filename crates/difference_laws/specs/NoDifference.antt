@@ -1,7 +1,7 @@
 -- No. 7, the other half: no difference at a path means the same facts there, and what a path names depends on its folded names alone.
 use Rattle.std.specs.Prelude.{ℕ, suc, ◌+◌, ◌≤◌, ◌<◌, ◌≡◌, ◌⊎◌, Bool, not, ◌&&◌, length, T, eqb, leb}
 use Rattle.std.proofs.Math.Path.{refl, ap}
-use Rattle.std.proofs.Common.{sym, ap₂, ◌∙◌, inl, inr, true≢false, arith, eqb→eq, leb→le}
+use Rattle.std.proofs.Common.{sym, ◌∙◌, inl, inr, true≢false, arith, eqb→eq, leb→le}
 use Rattle.std.proofs.Math.Bool.{true, false, cond}
 use mathlib.Core.List.{List, [], ◌∷◌, ◌++◌, map, head-eq_of_cons-eq, tail-eq_of_cons-eq}
 use Rattle.std.proofs.Math.Option.{Option, none, some}
@@ -10,7 +10,7 @@ use Rattle.rules.specs.Counting.{gather, same_bytes}
 use Rattle.rules.specs.Anodes.{Anodes, anodes_of}
 use Rattle.rules.specs.Walk.{Entered}
 use Rattle.rules.specs.Folding.{folded}
-use Rattle.rules.specs.Lookup.{entries_of, is_named, first_named, entry_named, of_entry}
+use Rattle.rules.specs.Lookup.{entry_named, of_entry}
 use Rattle.laws.specs.Tests.{cond_cases, both, T_true, eq→eqb}
 use Rattle.laws.specs.Sums.{sum-none}
 use Rattle.laws.specs.Members.{Member, member-cons, no_member}

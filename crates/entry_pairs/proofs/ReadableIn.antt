@@ -2,23 +2,19 @@
 use Prim.Native.Nat.{ℕ, ◌+◌, ◌*◌, ◌/◌, ◌%◌, ◌<◌}
 use mathlib.Core.Path.{◌≡◌, refl, sym, ap, ◌∙◌}
 use mathlib.Core.Bool.{Bool, true, false, cond, true≢false}
-use mathlib.Core.List.{List, []}
+use mathlib.Core.List.{List}
 use native.Mathlib.Omega.{arith}
 use lib.ListN.{get_or}
 use lib.Dec.{eqb}
 use borrow.Author.Tests.{eqb-true}
-use Rattle.disk.specs.Blocks.{block_of}
 use Rattle.disk.specs.declared.Refusal.TheVariants.{DirectoryBlock}
 use Rattle.directory.specs.declared.Entry.{Entry}
 use Rattle.directory.specs.declared.Kind.TheVariants.{File, Directory}
-use Rattle.directory.specs.declared.KindRead.{KindRead}
 use Rattle.directory.specs.declared.KindRead.TheVariants.{Is, Neither}
 use Rattle.directory.specs.declared.Walked.{Walked}
 use Rattle.directory.specs.declared.Walked.TheVariants.{Found, End, Fault}
 use Rattle.directory.specs.Entries.{is_dir, kind_read, entry_shaped, entry_in, walked_kind, walked_at}
-use Rattle.rules.specs.Anodes.{anodes_of}
 use Rattle.rules.specs.Walk.{Entered, blocks_for}
-use Rattle.rules.specs.Accepted.{disk_size}
 use Rattle.laws.specs.Acceptance.{size_bounds}
 use Rattle.change_laws.specs.Image.{image-passed}
 use Rattle.change_laws.specs.Reached.{EntryIn, entry-facts, block_data}

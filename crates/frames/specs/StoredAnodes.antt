@@ -9,7 +9,7 @@ use Rattle.disk.specs.Blocks.{block_of}
 use Rattle.disk.specs.Root.{slot_of}
 use Rattle.disk.specs.AnodeBlocks.{anode_made, anode_header_in, anode_of, set_anode}
 use Rattle.disk.specs.declared.Anode.{Anode}
-use Rattle.disk.proofs.Laws.{slot_of_high, anode_of_missing, set_anode_missing}
+use Rattle.disk.proofs.Laws.{slot_of_high, set_anode_missing}
 use Rattle.disk.proofs.Store.{anode_header_in-put_anode, length-set_anode, block_of-set_anode-same, block_of-set_anode_other, anode_of-set_anode-same, anode_of-set_anode_other}
 use Rattle.rules.specs.Anodes.{Anodes, limit, exists, fields_of, anodes_of, same_anode, store_changed, with_anodes}
 use Rattle.rules.specs.Accepted.{wrong_slots}

@@ -1,8 +1,8 @@
 -- A block that goes back to the carried end of its side, and what is carried then.
-use Prim.Native.Nat.{ℕ, suc, ◌+◌, ◌-◌, ◌≤◌, ◌<◌}
+use Prim.Native.Nat.{ℕ, ◌+◌, ◌-◌, ◌≤◌, ◌<◌}
 use mathlib.Core.Path.{◌≡◌, refl, sym, ap, ◌∙◌}
 use mathlib.Core.Logic.{◌≢◌, inl, inr}
-use mathlib.Core.Bool.{Bool, cond}
+use mathlib.Core.Bool.{cond}
 use mathlib.Core.List.{List, [], ◌∷◌, ◌++◌}
 use native.Mathlib.Omega.{arith}
 use lib.Dec.{ltb}
@@ -10,7 +10,7 @@ use borrow.Author.Tests.{lt-ltb, le-ltb}
 use Rattle.disk.specs.declared.BlockNo.{BlockNo}
 use Rattle.disk.specs.declared.Refusal.{Refusal}
 use Rattle.disk.specs.Refusals.{number_of}
-use Rattle.rules.specs.Counting.{occurrences, last_of}
+use Rattle.rules.specs.Counting.{last_of}
 use Rattle.rules.specs.Anodes.{Anodes, limit, exists_by}
 use Rattle.rules.specs.Chains.{run, cut, side}
 use Rattle.rules.specs.Plans.{Slotted, slotted, Plan, refused, planned, after, ◌and_then◌, at_slots, no_growth}
@@ -19,7 +19,7 @@ use Rattle.laws.specs.Tests.{less?}
 use Rattle.laws.specs.Sums.{one_at-same}
 use Rattle.laws.specs.Bags.{occurrences-cons}
 use Rattle.laws.specs.Ownership.{covers_one}
-use Rattle.laws.specs.Space.{Good, good-same}
+use Rattle.laws.specs.Space.{good-same}
 use Rattle.laws.specs.Sides.{SideHead}
 use Rattle.laws.specs.Owners.{full_inside}
 use Rattle.laws.specs.Plans.{after_none, after_both, then_stop, afresh_fixed}
@@ -38,7 +38,6 @@ use Rattle.giving_runs.proofs.Turning.{end_is}
 use Rattle.giving_back.specs.declared.Ends.{Ends}
 use Rattle.giving_back.specs.declared.Back.{Back}
 use Rattle.giving_back.specs.declared.Back.TheVariants.{Goes, Stops}
-use Rattle.giving_back.specs.OldTable.{old_from, NextOld}
 use Rattle.giving_back.specs.Backs.{InLimbo, EndsOf, Backs}
 
 -- ---- one block

@@ -12,7 +12,7 @@ use borrow.Author.Tests.{eq-eqb, ne_eqb, lt-ltb, le-ltb}
 use Rattle.disk.specs.Refusals.{number_of}
 use Rattle.rules.specs.Counting.{sum_list, occurrences, last_of, changed}
 use Rattle.rules.specs.Anodes.{Anodes, limit, exists_by}
-use Rattle.rules.specs.Chains.{chain_of, run, cut, side, block_count}
+use Rattle.rules.specs.Chains.{chain_of, cut, side, block_count}
 use Rattle.rules.specs.Plans.{Slotted, slotted, refused, planned, after, ◌and_then◌, at_slots, Growth, no_growth, regrown}
 use Rattle.rules.specs.Space.{rewritten, unlinked, without_run, without_tail, tail_start, run_length, found, last_extent, side_of, side_end, join_with, join, move_back, release, give_run, give_runs}
 use Rattle.laws.specs.Tests.{same?, less?}

@@ -1,15 +1,15 @@
 -- What a take may carry to the next one: the last anode of the taker's chain, and the extent that the next block comes from.
-use Rattle.std.specs.Prelude.{ℕ, suc, ◌+◌, ◌-◌, ◌<◌, ◌≡◌, ◌≢◌, Bool, cond, List, [], ◌∷◌, ◌++◌, eqb}
+use Rattle.std.specs.Prelude.{ℕ, ◌+◌, ◌-◌, ◌<◌, ◌≡◌, ◌≢◌, Bool, cond, List, [], ◌∷◌, ◌++◌, eqb}
 use Rattle.std.proofs.Math.Path.{refl, ap}
 use Rattle.std.proofs.Common.{sym, ◌∙◌, inl, inr, arith}
 use borrow.Author.Tests.{eq-eqb, ne_eqb}
 use Rattle.rules.specs.Counting.{occurrences, last_of}
-use Rattle.rules.specs.Anodes.{Anodes, exists_by}
+use Rattle.rules.specs.Anodes.{Anodes}
 use Rattle.rules.specs.Chains.{chain_of, run, side}
-use Rattle.rules.specs.Plans.{Slotted, slotted, planned}
-use Rattle.rules.specs.Space.{rewritten, inserted_after, without_first, Found, first_extent, extent_at, first_found, free_extent, found, chain_end, lowest_free, put}
+use Rattle.rules.specs.Plans.{planned}
+use Rattle.rules.specs.Space.{rewritten, inserted_after, without_first, first_extent, extent_at, free_extent, chain_end, lowest_free, put}
 use Rattle.laws.specs.Tests.{same?}
-use Rattle.laws.specs.Sums.{changed-same, changed_other, changed_cases}
+use Rattle.laws.specs.Sums.{changed-same, changed_cases}
 use Rattle.laws.specs.Bags.{occurrences-here, occurrences-later}
 use Rattle.laws.specs.Segments.{seg_last}
 use Rattle.laws.specs.LinkChanges.{first, second, third}
@@ -17,7 +17,6 @@ use Rattle.laws.specs.Heads.{Head, head_chain}
 use Rattle.laws.specs.Space.{Alike, Good, FreeAnode, free-pos}
 use Rattle.laws.specs.Sides.{SideHead}
 use Rattle.laws.specs.SideEnds.{side_on, side-kept, last_cons}
-use Rattle.laws.specs.Owners.{last-0, last_used}
 use Rattle.laws.specs.Searches.{full_at, nowhere_at}
 use Rattle.laws.specs.Moves.{Shift}
 use Rattle.laws.specs.Leaving.{run_shrunk}

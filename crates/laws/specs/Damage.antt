@@ -4,7 +4,7 @@ use Rattle.std.proofs.Common.{inl, inr, arith}
 use Rattle.rules.specs.Counting.{◌if◌else◌, first_of, occurrences, any_below, any_in, same_bytes}
 use Rattle.rules.specs.Anodes.{Anodes, limit}
 use Rattle.rules.specs.Chains.{chain_of, one_if_head, block_count}
-use Rattle.rules.specs.Walk.{Dir, Entered, Item, Scanned, faulty, fine, Walk, fault, done, walk, walk_of, visited, fault_in, scan, fault_of, sub_dirs, item_of, items_at, items_by, as_twin, twins, items_of, broken_item, wrong_anode, wrong_file_size, blocks_for, entries_in, is_block_of, root}
+use Rattle.rules.specs.Walk.{Dir, Entered, Item, Scanned, faulty, fine, Walk, fault, done, walk, walk_of, visited, fault_in, scan, fault_of, sub_dirs, item_of, items_at, items_by, as_twin, twins, items_of, wrong_anode, wrong_file_size, blocks_for, entries_in, is_block_of, root}
 use Rattle.rules.specs.Accepted.{disk_size, last_reserved, wrong_fixed, out_of_range, wrong_links, wrong_free_list, two_owners, no_owner, unnamed_chain, tree_fault, damage_in}
 use Rattle.laws.specs.Each.{Each, each_gather}
 use Rattle.laws.specs.Items.{each_item}

@@ -6,7 +6,7 @@ use Rattle.rules.specs.Counting.{one_at, sum_list, occurrences, changed}
 use Rattle.rules.specs.Folding.{folded}
 use Rattle.rules.specs.Anodes.{limit, Anodes}
 use Rattle.rules.specs.Chains.{chain_of}
-use Rattle.rules.specs.Walk.{Dir, dir_made, root, Entered, Item, item_of, broken_item, items_at, items_by}
+use Rattle.rules.specs.Walk.{Dir, dir_made, root, Entered, Item, item_of, items_at, items_by}
 use Rattle.rules.specs.Space.{rewritten}
 use Rattle.laws.specs.Tests.{same?, not_above}
 use Rattle.laws.specs.Sums.{one_at-same, changed-same, changed_other}

@@ -1,5 +1,5 @@
 -- The block table and the anode table of a good state, and what steps do to them.
-use Rattle.std.specs.Prelude.{ℕ, ◌+◌, ◌*◌, ◌≤◌, ◌<◌, ◌≡◌, refl, ◌≢◌, Bool, cond, T, leb, length, get_or, set, take, drop}
+use Rattle.std.specs.Prelude.{ℕ, ◌+◌, ◌*◌, ◌≤◌, ◌<◌, ◌≡◌, refl, ◌≢◌, Bool, cond, leb, length, get_or, set, take, drop}
 use Rattle.std.proofs.Math.Path.{sym, ap}
 use Rattle.std.proofs.Common.{◌∙◌, zero-add, length-set, take-append-drop, drop_at, get_or-set_same, get_or-set_other, get_or-take, length-take-le, ext_get_or}
 use Rattle.std.proofs.Math.Logic.{inl, inr}
@@ -14,14 +14,14 @@ use Rattle.rules.specs.Counting.{one_at, sum_below, occurrences}
 use Rattle.rules.specs.Anodes.{Anodes, limit}
 use Rattle.rules.specs.Chains.{head_of, one_if_covers, owners, system_by, system_owns}
 use Rattle.rules.specs.Accepted.{disk_size}
-use Rattle.rules.specs.Space.{rewritten, on_chain, dropped}
+use Rattle.rules.specs.Space.{rewritten}
 use Rattle.rules.specs.Tables.{chain_head, anode_entry, anode_table, head_where, owner_head, block_entry, block_table, entry_or}
-use Rattle.laws.specs.Tests.{same?, less?, not_above}
+use Rattle.laws.specs.Tests.{same?, less?}
 use Rattle.laws.specs.Sums.{one_at_cases, one_at-same, one_at_other, sum_congr, sum_factor, sum_swap, sum-member, sum_single, sum_pick}
 use Rattle.laws.specs.Bags.{occurrences-nil, occurrences-cons, occurrences-here, occurrences-later}
 use Rattle.laws.specs.Ownership.{covers_cases, covers_in, covers_none}
 use Rattle.laws.specs.Links.{Linked}
-use Rattle.laws.specs.Heads.{Head, heads_one, head_of_heads}
+use Rattle.laws.specs.Heads.{heads_one, head_of_heads}
 use Rattle.laws.specs.Blocks.{blocks}
 use Rattle.laws.specs.Held.{held, held_some, held_fresh}
 use Rattle.laws.specs.Space.{Good, head_good, FreeAnode}

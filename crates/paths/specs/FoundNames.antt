@@ -1,7 +1,7 @@
 -- What a name finds in a directory: it has that name after folding, and names that fold alike find the same.
 use Rattle.std.specs.Prelude.{ℕ, ◌≡◌, refl, Bool, true, false, List, [], ◌∷◌}
 use Rattle.std.proofs.Common.{sym, ap, ap₂}
-use Rattle.std.proofs.Math.Option.{Option, none, some, none-ne-some, some-injective}
+use Rattle.std.proofs.Math.Option.{Option, some, none-ne-some, some-injective}
 use Rattle.rules.specs.Counting.{same_bytes}
 use Rattle.rules.specs.Anodes.{Anodes}
 use Rattle.rules.specs.Walk.{Entered}

@@ -1,6 +1,6 @@
 -- The state that the steps start from.
 use Rattle.std.specs.Prelude.{ℕ, ◌≤◌, ◌≢◌}
-use Rattle.rules.specs.Anodes.{Anodes, limit, exists_by}
+use Rattle.rules.specs.Anodes.{limit, exists_by}
 use Rattle.rules.specs.Plans.{Slotted}
 use Rattle.laws.specs.Heads.{Head}
 use Rattle.laws.specs.Space.{Good}

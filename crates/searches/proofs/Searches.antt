@@ -10,7 +10,7 @@ use borrow.Author.Tests.{eq-eqb, ne_eqb}
 use Rattle.rules.specs.Counting.{last_of}
 use Rattle.rules.specs.Anodes.{Anodes, exists_by}
 use Rattle.rules.specs.Chains.{chain_of, cut, side}
-use Rattle.rules.specs.Space.{Found, nowhere, found, first_found, first_extent, free_extent, lowest_free}
+use Rattle.rules.specs.Space.{nowhere, found, first_found, first_extent, free_extent, lowest_free}
 use Rattle.rules.specs.Searched.{Searched, searched_to, searched, after_read, slot_start, slot_end, through_used, through_slots, searched_by_slots}
 use Rattle.laws.specs.Chains.{chain-none, chain-end, chain_step}
 use Rattle.laws.specs.Tests.{same?}

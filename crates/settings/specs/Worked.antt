@@ -3,7 +3,7 @@ use Rattle.std.specs.Prelude.{ℕ, ◌≡◌, refl, List, [], ◌∷◌, ◌++�
 use Rattle.endian.specs.Bytes.{be16, stored}
 use Rattle.rules.specs.Counting.{any_below, least, gather}
 use Rattle.rules.specs.Calls.{done_or}
-use Rattle.settings.specs.Files.{old_form, new_form, setting_of, number_at, number_bytes, record_length, record_place, record_count, mark_at, key_at, seconds_at, wrong_record, not_of_form, settings_from, settings_in, record_bytes, file_of}
+use Rattle.settings.specs.Files.{number_at, number_bytes, record_length, record_place, record_count, mark_at, key_at, seconds_at, wrong_record, not_of_form, settings_from, settings_in, record_bytes, file_of}
 use Rattle.settings.specs.Conversions.{Conversion, conversion_of, too_long, first_too_long, converted, convert_answer, conversion_by, convert_outcome, widen_outcome, narrow_outcome}
 
 -- key 7 with 65,535 s, in the old form and in the new one

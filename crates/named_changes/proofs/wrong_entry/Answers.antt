@@ -1,0 +1,14 @@
+use Rattle.named_changes.proofs.Laws.{long_comment}
+use Rattle.directory.specs.Entries.{good_comment}
+use borrow.Author.Tests.{not-true, not-false}
+use lib.ListN.{length}
+use mathlib.Core.Path.{sym, ◌∙◌}
+use borrow.Author.Rules.{rules}
+use Rattle.named_changes.proofs.wrong_entry.Goals as goal
+
+pub returns-then-not-name_ok : goal.returns-then-not-name_ok
+returns-then-not-name_ok c = rw (sym c.name_ok.ensures ∙ c.if-not-name_ok.true)
+
+pub returns : goal.returns
+unfolding good_comment
+returns c = rw (sym c.name_ok.ensures ∙ c.if-not-name_ok.false) (sym (long_comment (length c.args.comment.now)))
