@@ -84,7 +84,7 @@ fn commands_shown(name: &str, heading: &str, end: &str) -> usize {
 }
 
 #[test]
-fn the_front_page_shows_the_command_line() {
+fn the_front_page_shows_a_session() {
     assert!(commands_shown("front_page", "The command line", "docs/") >= 12);
 }
 
