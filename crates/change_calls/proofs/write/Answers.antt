@@ -1,6 +1,5 @@
 use Rattle.call_laws.specs.Opened.{opened}
 use Rattle.call_laws.specs.Changed.{write_answered, write_refused}
-use borrow.Author.Rules.{rules}
 use Rattle.change_calls.proofs.write.Goals as goal
 
 pub write_named-requires : goal.write_named-requires

@@ -1,7 +1,6 @@
 use Rattle.named_changes.proofs.Laws.{leaves_unchanged, leaves_named}
 use Rattle.change_laws.specs.Answers.{remove_late, removable_found}
 use Rattle.change_laws.specs.Reached.{named-member}
-use borrow.Author.Rules.{rules}
 use Rattle.named_changes.proofs.remove_named.Goals as goal
 
 pub find_removable-found-requires : goal.find_removable-found-requires
@@ -13,7 +12,7 @@ returns-in-Refused c = leaves_unchanged _ _ _ (remove_late _ _ _ _) c.in-Refused
 pub remove_entry-requires : goal.remove_entry-requires
 remove_entry-requires c = let f = rw c.in-Found.is at c.find_removable-found.ensures in
     let p = c.requires in
-    record { loaded = (p.0.1.loaded, (_, (removable_found _ _ _ _ _ f.1 f.0).0, named-member _ _ _ _ _ f.1)); in_bounds = p.1; }
+    record { loaded = (p.0.1.loaded, (_, (removable_found _ _ _ _ _ f.1 f.0).0, named-member _ _ _ _ _ f.1)); in_bounds = p.1 }
 
 pub returns : goal.returns
 returns c = let f = rw c.in-Found.is at c.find_removable-found.ensures in

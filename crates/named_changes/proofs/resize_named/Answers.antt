@@ -1,7 +1,6 @@
 use Rattle.named_changes.proofs.Laws.{leaves_unchanged, leaves_named}
 use Rattle.change_laws.specs.Answers.{resize_late, file-found}
 use Rattle.change_laws.specs.Reached.{named-member}
-use borrow.Author.Rules.{rules}
 use Rattle.named_changes.proofs.resize_named.Goals as goal
 
 pub find_file-found-requires : goal.find_file-found-requires
@@ -14,7 +13,7 @@ pub resize_entry-requires : goal.resize_entry-requires
 resize_entry-requires c = let f = rw c.in-Found.is at c.find_file-found.ensures in
     let p = c.requires in
     let d = file-found _ _ _ _ _ f.1 f.0 in
-    record { loaded = (p.0.1.loaded, (_, d.0, named-member _ _ _ _ _ f.1)); kind_value = (d.1, p.1); }
+    record { loaded = (p.0.1.loaded, (_, d.0, named-member _ _ _ _ _ f.1)); kind_value = (d.1, p.1) }
 
 pub returns : goal.returns
 returns c = let f = rw c.in-Found.is at c.find_file-found.ensures in

@@ -5,7 +5,6 @@ use Rattle.lookup.specs.Answers.{entered}
 use Rattle.rules.specs.Changes.{written}
 use Rattle.rules.specs.Anodes.{Anodes}
 use mathlib.Core.Path.{refl, ap, ◌∙◌}
-use borrow.Author.Rules.{rules}
 use Rattle.named_changes.proofs.write_named.Goals as goal
 
 pub find_span-found-requires : goal.find_span-found-requires

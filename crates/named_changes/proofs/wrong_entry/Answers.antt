@@ -1,9 +1,7 @@
 use Rattle.named_changes.proofs.Laws.{long_comment}
 use Rattle.directory.specs.Entries.{good_comment}
-use borrow.Author.Tests.{not-true, not-false}
 use lib.ListN.{length}
 use mathlib.Core.Path.{sym, ◌∙◌}
-use borrow.Author.Rules.{rules}
 use Rattle.named_changes.proofs.wrong_entry.Goals as goal
 
 pub returns-then-not-name_ok : goal.returns-then-not-name_ok

@@ -1,4 +1,3 @@
-use borrow.Author.Rules.{rules}
 use Rattle.safe_calls.proofs.change_shown.Goals as goal
 
 pub show_again-requires : goal.show_again-requires

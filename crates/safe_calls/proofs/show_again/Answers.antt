@@ -1,5 +1,4 @@
 use Rattle.safe_calls.proofs.Outcomes.{shown_kept, shown_checked}
-use borrow.Author.Rules.{rules}
 use Rattle.safe_calls.proofs.show_again.Goals as goal
 
 pub returns-then-n-ne0 : goal.returns-then-n-ne0

@@ -1,4 +1,3 @@
-use borrow.Author.Rules.{rules}
 use Rattle.safe_named.proofs.safe_change_named.Goals as goal
 
 pub returns-in-Make : goal.returns-in-Make

@@ -14,7 +14,6 @@ use native.Mathlib.Omega.{arith}
 use mathlib.Core.List.{List}
 use mathlib.Core.Bool.{Bool, not}
 use mathlib.Core.Path.{◌≡◌, sym, ap, ◌∙◌}
-use borrow.Author.Rules.{rules}
 use Rattle.safe_named.proofs.safe_make_named.Goals as goal
 
 pub returns-in_default : goal.returns-in_default
@@ -59,7 +58,7 @@ safe_make_entry-requires c = let reached-as : let g = c.args in no_directory g.i
     let p = c.requires in
     let a = c.args in
     let g = right_entry _ _ (sym r.wrong_entry.ensures ∙ r.if-wrong_entry.false) in
-    record { loaded = (p.0.loaded, p.1); head_value = (reached-as ∙ ap not c.if-not-is_reached.false, c.parent_of-parent.ensures ∙ ap (λ (l : List Dir). parent_of l a.head.0) p.0.queued); name_value = g; }
+    record { loaded = (p.0.loaded, p.1); head_value = (reached-as ∙ ap not c.if-not-is_reached.false, c.parent_of-parent.ensures ∙ ap (λ (l : List Dir). parent_of l a.head.0) p.0.queued); name_value = g }
 
 pub returns : goal.returns
 returns c = let read_as : kind_read c.args.kind ≡ Is c.in-Is.k = sym c.kind_of-read.ensures ∙ c.in-Is.is in

@@ -5,7 +5,6 @@ use Rattle.change_tables.specs.Chains.{reached-entry}
 use Rattle.safe_laws.specs.SameSize.{same_change}
 use Rattle.lookup.specs.Answers.{entered}
 use mathlib.Core.Path.{sym, ◌∙◌}
-use borrow.Author.Rules.{rules}
 use Rattle.safe_named.proofs.safe_resize_named.Goals as goal
 
 pub find_file-found-requires : goal.find_file-found-requires
@@ -18,7 +17,7 @@ pub safe_write_entry-requires : goal.safe_write_entry-requires
 safe_write_entry-requires c = let f = rw c.in-Found.is at c.find_file-found.ensures in
     let p = c.requires in
     let d = file-found _ _ _ _ _ f.1 f.0 in
-    record { loaded = (p.0.1.loaded, p.1); reached_entry = ((_, d.0, named-member _ _ _ _ _ f.1), d.1); }
+    record { loaded = (p.0.1.loaded, p.1); reached_entry = ((_, d.0, named-member _ _ _ _ _ f.1), d.1) }
 
 pub returns-then-e-size : goal.returns-then-e-size
 returns-then-e-size c = let f = rw c.in-Found.is at c.find_file-found.ensures in
@@ -31,7 +30,7 @@ pub safe_resize_entry-requires : goal.safe_resize_entry-requires
 safe_resize_entry-requires c = let f = rw c.in-Found.is at c.find_file-found.ensures in
     let p = c.requires in
     let d = file-found _ _ _ _ _ f.1 f.0 in
-    record { loaded = (p.0.1.loaded, p.1); home_value = (d.0, named-member _ _ _ _ _ f.1); kind_value = (d.1, c.if-e-size.false); }
+    record { loaded = (p.0.1.loaded, p.1); home_value = (d.0, named-member _ _ _ _ _ f.1); kind_value = (d.1, c.if-e-size.false) }
 
 pub returns : goal.returns
 returns c = let f = rw c.in-Found.is at c.find_file-found.ensures in

@@ -1,7 +1,6 @@
 use Rattle.safe_named.proofs.Laws.{call_not-found, call_changes, found_change}
 use Rattle.change_laws.specs.Answers.{span_found}
 use Rattle.change_laws.specs.Reached.{named-member}
-use borrow.Author.Rules.{rules}
 use Rattle.safe_named.proofs.safe_write_named.Goals as goal
 
 pub find_span-found-requires : goal.find_span-found-requires
@@ -14,7 +13,7 @@ pub safe_write_entry-requires : goal.safe_write_entry-requires
 safe_write_entry-requires c = let f = rw c.in-Found.is at c.find_span-found.ensures in
     let p = c.requires in
     let d = span_found _ _ _ _ _ f.1 _ _ f.0 in
-    record { loaded = (p.0.1.loaded, p.1); reached_entry = ((_, d.0, named-member _ _ _ _ _ f.1), d.1); }
+    record { loaded = (p.0.1.loaded, p.1); reached_entry = ((_, d.0, named-member _ _ _ _ _ f.1), d.1) }
 
 pub returns : goal.returns
 returns c = let f = rw c.in-Found.is at c.find_span-found.ensures in
